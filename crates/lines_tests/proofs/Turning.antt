@@ -14,7 +14,7 @@ use Rattle.partial_words.specs.Step.{answer_of, word_of, words_after}
 use Rattle.partial_machine.specs.declared.stage.Reply.TheVariants as reply
 use Rattle.partial_machine.specs.declared.stage.Stage.{Stage}
 use Rattle.partial_machine.specs.declared.stage.Stage.TheVariants.{Idle, ReadBegun, UpdateBegun, ScanBegun, Finished}
-use Rattle.partial_machine.specs.Calls.{begin_scan, is_at_rest, is_begun, scan_refusal, update_refusal}
+use Rattle.partial_machine.specs.Calls.{begin_scan, is_at_rest, is_begun, core_scan_refusal, core_update_refusal}
 use Rattle.partial_machine.specs.Machine.{CoreState, advance, at_stage, fresh, reply_at, step_at, step_of}
 use Rattle.partial_machine.specs.Lines.{asking, scan_asked}
 use Rattle.partial_machine.specs.Possible.{IsPossible}
@@ -23,7 +23,7 @@ use Rattle.partial_core.specs.Lawful.{Lawful}
 use Rattle.partial_core.specs.Part.{Part, fresh_part, port_of, HasBegun, IsBetween, IsLedTo, IsMachineOf, IsMarkedLike}
 use Rattle.partial_core.specs.Steps.{added_by}
 use Rattle.partial_core.proofs.Laws.{calls_begin_between, lawful_machines_are_ready, opens_lawful, ports_come_between, steps_stay_lawful}
-use Rattle.lines_tests.specs.Plain.{Begins, Begun, IsOfPort, IsPlain, MayTurn, Turned}
+use Rattle.lines_tests.specs.Plain.{BeginsOn, Begun, IsOfPort, IsPlain, MayTurn, Turned}
 use Rattle.lines_tests.specs.Plain.Turned.{Stepped, Taken, Started, Stayed}
 
 -- a call that has begun is not at rest
@@ -126,7 +126,7 @@ module _ (words words' : List ℕ) (beside left right d : CoreState) (w : IsPlai
 
 -- words as they open, and a first call that is begun
 pub opens : (sizes : Layout) (initial words : List ℕ) (beside left right : CoreState) → IsLayout sizes → length initial ≡ sizes.m → AreOpeningWords sizes initial words →
-    Begins (fresh sizes 0) beside → left ≡ fresh sizes 1 → right ≡ fresh sizes 2 → IsPlain words beside left right
+    BeginsOn (fresh sizes 0) beside → left ≡ fresh sizes 1 → right ≡ fresh sizes 2 → IsPlain words beside left right
 opens sizes initial words beside left right layout values all b second third =
     let o : Opening = record { values = initial; first = pool_base sizes } in
     let lawful = opens_lawful sizes o words 3 (record { sizes = layout; values = values; stamps = refl; words = all }) (omega arith) in
@@ -148,25 +148,25 @@ opens sizes initial words beside left right layout values all b second third =
     }
 
 -- a machine that begins an update
-pub update_begins : (c d : CoreState) (j : ℕ) (e : Option ℕ) (v : ℕ) → update_refusal c j ≡ None → d ≡ at_stage c (UpdateBegun (record { component = j; expected = e; value = v })) → Begins c d
+pub update_begins : (c d : CoreState) (j : ℕ) (e : Option ℕ) (v : ℕ) → core_update_refusal c j ≡ None → d ≡ at_stage c (UpdateBegun (record { component = j; expected = e; value = v })) → BeginsOn c d
 update_begins c d j None v none is = record { call = call.Update j v; served = tt; allowed = none; steps = refl; is = is }
 update_begins c d j (Some e) v none is = record { call = call.UpdateIf j e v; served = tt; allowed = none; steps = refl; is = is }
 
 -- a machine that begins a scan of some positions
-pub scan_begins : (c d : CoreState) (which : List ℕ) → length which ≤ c.sizes.m → (length which ≡ 0 → ⊥) → scan_refusal c which ≡ None → d ≡ begin_scan c which → Begins c d
+pub scan_begins : (c d : CoreState) (which : List ℕ) → length which ≤ c.sizes.m → (length which ≡ 0 → ⊥) → core_scan_refusal c which ≡ None → d ≡ begin_scan c which → BeginsOn c d
 scan_begins c d [] few some none is = absurd (some refl)
 scan_begins c d (j ∷ js) few some none is = record { call = call.Scan (j ∷ js); served = few; allowed = none; steps = refl; is = is }
 
 -- a machine that was asked to begin an update or a scan
 pub asked_update : {A : Type 0} (c d : CoreState) (j v : ℕ) (r : Result A Refused) →
-    OnOk r ((update_refusal c j ≡ None) × (d ≡ at_stage c (UpdateBegun (record { component = j; expected = None; value = v })))) →
-    IfErr r (λ cause. (update_refusal c j ≡ Some cause) × (d ≡ c)) → Begun c d
+    OnOk r ((core_update_refusal c j ≡ None) × (d ≡ at_stage c (UpdateBegun (record { component = j; expected = None; value = v })))) →
+    IfErr r (λ cause. (core_update_refusal c j ≡ Some cause) × (d ≡ c)) → Begun c d
 asked_update {A} c d j v (Ok u) ok err = inr (update_begins c d j None v ok.0 ok.1)
 asked_update {A} c d j v (Err e) ok err = inl err.1
 
 pub asked_scan : {A : Type 0} (c d : CoreState) (which : List ℕ) (r : Result A Refused) → length which ≤ c.sizes.m → (length which ≡ 0 → ⊥) →
-    OnOk r ((scan_refusal c which ≡ None) × (d ≡ begin_scan c which)) →
-    IfErr r (λ cause. (scan_refusal c which ≡ Some cause) × (d ≡ c)) → Begun c d
+    OnOk r ((core_scan_refusal c which ≡ None) × (d ≡ begin_scan c which)) →
+    IfErr r (λ cause. (core_scan_refusal c which ≡ Some cause) × (d ≡ c)) → Begun c d
 asked_scan {A} c d which (Ok u) few some ok err = inr (scan_begins c d which few some ok.0 ok.1)
 asked_scan {A} c d which (Err e) few some ok err = inl err.1
 

@@ -34,7 +34,7 @@ pub record IsPlain (words : List ℕ) (beside left right : CoreState) : Type 0 w
   pub third : IsOfPort right z
 
 -- the second machine has begun a call on the first
-pub record Begins (c d : CoreState) : Type 0 where
+pub record BeginsOn (c d : CoreState) : Type 0 where
   pub call : Call
   pub served : IsServed c.sizes.m call
   pub allowed : refusal_of c call ≡ None
@@ -43,7 +43,7 @@ pub record Begins (c d : CoreState) : Type 0 where
 
 -- an idle machine has begun a call, or was refused
 abbrev pub Begun : CoreState → CoreState → Type 0
-Begun c d = (d ≡ c) ⊎ Begins c d
+Begun c d = (d ≡ c) ⊎ BeginsOn c d
 
 -- the due step of the machine, if there is one, is about one of the words, and its answer is possible
 abbrev pub MayTurn : CoreState → List ℕ → Type 0
@@ -53,5 +53,5 @@ MayTurn c words = (s : Step) → step_of c ≡ Some s → (word_of s < length wo
 pub data Turned (c : CoreState) (words : List ℕ) (d : CoreState) (words' : List ℕ) : Type 0 where
   Stepped : (s : Step) → step_of c ≡ Some s → d ≡ advance c (answer_of words s) → words' ≡ words_after words s → Turned c words d words'
   Taken : (r : Reply) → reply_of c ≡ Some r → d ≡ at_stage c Idle → words' ≡ words → Turned c words d words'
-  Started : c.stage ≡ Idle → Begins c d → words' ≡ words → Turned c words d words'
+  Started : c.stage ≡ Idle → BeginsOn c d → words' ≡ words → Turned c words d words'
   Stayed : d ≡ c → words' ≡ words → Turned c words d words'

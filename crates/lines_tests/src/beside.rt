@@ -3,7 +3,7 @@
 
 ghost use Rattle.std.specs.Prelude.{◌≡◌, ◌<◌, ◌≤◌, length, None, OnOk};
 ghost use Rattle.partial_machine.specs.declared.stage.Stage.TheVariants.{Idle, UpdateBegun};
-ghost use Rattle.partial_machine.specs.Calls.{update_refusal};
+ghost use Rattle.partial_machine.specs.Calls.{core_update_refusal};
 ghost use Rattle.partial_machine.specs.Machine.{at_stage, expects};
 ghost use Rattle.partial_words.specs.Layout.{IsLayout};
 
@@ -50,7 +50,7 @@ fn is_met(change: Change, stamp: u64) -> bool
 // Begins an update on its port's machine.
 fn begin(core: &mut Core, change: Change) -> Result<(), Refused>
     requires { core.old.stage ≡ Idle }
-    ensures { OnOk result ((update_refusal core.old change.component ≡ None) ×
+    ensures { OnOk result ((core_update_refusal core.old change.component ≡ None) ×
         (core.new ≡ at_stage core.old (UpdateBegun change))) }
 {
     match change.expected {

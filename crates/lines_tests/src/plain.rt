@@ -5,7 +5,7 @@ ghost use Rattle.partial_words.specs.Chain.{AreOpeningWords};
 ghost use Rattle.partial_words.specs.Layout.{IsLayout};
 ghost use Rattle.partial_machine.specs.Machine.{advance, fresh, step_of};
 ghost use Rattle.partial_machine.specs.Possible.{IsPossible};
-ghost use Rattle.lines_tests.specs.Plain.{Begins, IsPlain};
+ghost use Rattle.lines_tests.specs.Plain.{BeginsOn, IsPlain};
 
 use crate::turns::turn;
 use partial_core::{Core, Reply};
@@ -80,7 +80,7 @@ impl Plain {
     ) -> Result<Plain, AllocError>
         requires sizes { IsLayout sizes }
         requires values { length initial.now ≡ sizes.m }
-        requires begins { Begins (fresh sizes 0) beside }
+        requires begins { BeginsOn (fresh sizes 0) beside }
         ensures going { IfOk result (λ l. IsPlain l.words.items l.beside l.left l.right) }
         ensures machine { IfOk result (λ l. l.beside ≡ beside) }
     {

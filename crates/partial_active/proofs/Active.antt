@@ -1,5 +1,5 @@
 -- A getSet that is answered from orderly words: its answers are possible, it makes few steps, and it misses no announcement.
-use Rattle.partial_active.proofs.Common.{ℕ, ◌≡◌, ◌+◌, ◌*◌, ◌<◌, ◌≤◌, ◌⊎◌, Bool, Some, is_some, List, [], ◌∷◌, ◌++◌, length, slice_index, inl, inr, refl, sym, ap, subst, ◌∙◌, arith, Step, Load, Add, Layout, IsLayout, slot_counter, list_head, list_counter, slot_word, answer_of, Stage, Head, ListLen, ListLow, ListHigh, Counter, Slot, Len, Index, Claim, Write, Publish, Done, Buffers, IsFor, Pair, fresh, step_at, step_of, advance, left_of, goes_at, IsPossible, GoTogether, Facts, knows_by, Orderly, OnEach, AtSome, words_behind, own_moments, GetSetsMakeFewSteps, OrderlyAnswersArePossible}
+use Rattle.partial_active.proofs.Common.{ℕ, ◌≡◌, ◌+◌, ◌*◌, ◌<◌, ◌≤◌, ◌⊎◌, Bool, Some, is_some, List, [], ◌∷◌, ◌++◌, length, slice_index, inl, inr, refl, sym, ap, subst, ◌∙◌, arith, Step, Load, Add, Layout, IsLayout, slot_counter, list_head, list_counter, slot_word, answer_of, Stage, Head, ListLen, ListLow, ListHigh, Counter, Slot, Len, Index, Claim, Write, Publish, Done, Buffers, AreFoundFor, SetPair, fresh_set, set_step_at, set_step_due, advance_set, set_left, set_goes_at, IsPossibleInSet, SetGoesTogether, Facts, knows_by, Orderly, OnEach, AtSome, words_behind, own_moments, GetSetsMakeFewSteps, OrderlyAnswersArePossible}
 use Rattle.partial_active.proofs.Answered.{keeps_at}
 use Rattle.partial_active.proofs.Sizes.{sizes_at}
 use Rattle.partial_active.proofs.Orders.{Past, ComesFrom, IsPairwiseOrderly, LeadsTo, comes_at_once, own_leads, moments_of, moments_to_end}
@@ -7,14 +7,14 @@ use Rattle.partial_active.proofs.Knowledge.{AreFacts, tells_at, ends_below, lead
 use Rattle.partial_active.proofs.Known.{facts_of_moments, never_named, knows_later, facts_of_moments_hold, Knows}
 
 -- what the words of the last moment answer
-module _ (p : Pair) (first : List ℕ) (past : Past) (now : List ℕ) (orderly : Orderly p.0.sizes now) (hold : AreFacts p.0.sizes now (facts_of_moments p.0.sizes first (now ∷ past))) where
+module _ (p : SetPair) (first : List ℕ) (past : Past) (now : List ℕ) (orderly : Orderly p.0.sizes now) (hold : AreFacts p.0.sizes now (facts_of_moments p.0.sizes first (now ∷ past))) where
   abbrev Here : Facts
   Here = facts_of_moments p.0.sizes first (now ∷ past)
 
   loaded : (n : ℕ) (step : Step) → Some (Load n) ≡ Some step → answer_of now step ≡ slice_index now n
   loaded n step e = let same : Load n ≡ step = cc in ap (answer_of now) (sym same)
 
-  told_at : (stage : Stage) (step : Step) → step_at p.0.sizes p.0.head stage ≡ Some step → goes_at stage p → knows_by Here stage p → tells_at now Here stage p (answer_of now step)
+  told_at : (stage : Stage) (step : Step) → set_step_at p.0.sizes p.0.head stage ≡ Some step → set_goes_at stage p → knows_by Here stage p → tells_at now Here stage p (answer_of now step)
   told_at Head step e goes knows = subst (tells_at now Here Head p) (sym (loaded (list_head p.0.sizes) step e)) (elim orderly.head [
     | inl none ↦ inl none
     | inr there ↦ inr (there.0, inl (refl, there.1))
@@ -44,20 +44,21 @@ module _ (p : Pair) (first : List ℕ) (past : Past) (now : List ℕ) (orderly :
   told_at Done step e goes knows = absurd cc
 
 -- the machine and its buffers behind these moments
-pub record Reached (s : Layout) (first : List ℕ) (past : Past) (q : Pair) : Type 0 where
+pub record Reached (s : Layout) (first : List ℕ) (past : Past) (q : SetPair) : Type 0 where
   pub sizes : q.0.sizes ≡ s
-  pub together : GoTogether q
+  pub together : SetGoesTogether q
   pub knows : Knows s first past q
   pub first_in : AtSome (λ w. w ≡ first) past
 
 -- what one step more comes to
-abbrev pub StepsOn : Layout → List ℕ → Past → List ℕ → Pair → Step → Type 0
-StepsOn s first past now p step = IsPossible p (answer_of now step) × Reached s first (now ∷ past) (advance p (answer_of now step)) × (left_of (advance p (answer_of now step)).0 < left_of p.0)
+abbrev pub StepsOn : Layout → List ℕ → Past → List ℕ → SetPair → Step → Type 0
+StepsOn s first past now p step = IsPossibleInSet p (answer_of now step) × Reached s first (now ∷ past) (advance_set p (answer_of now step)) ×
+    (set_left (advance_set p (answer_of now step)).0 < set_left p.0)
 
-step_on : (s : Layout) (p : Pair) → p.0.sizes ≡ s → IsLayout s → (first : List ℕ) (past : Past) (now : List ℕ) → Orderly s now → OnEach (λ v. ComesFrom s v now) past →
-    AtSome (λ w. w ≡ first) (now ∷ past) → GoTogether p → Knows s first past p → (step : Step) → step_of p.0 ≡ Some step → StepsOn s first past now p step
+step_on : (s : Layout) (p : SetPair) → p.0.sizes ≡ s → IsLayout s → (first : List ℕ) (past : Past) (now : List ℕ) → Orderly s now → OnEach (λ v. ComesFrom s v now) past →
+    AtSome (λ w. w ≡ first) (now ∷ past) → SetGoesTogether p → Knows s first past p → (step : Step) → set_step_due p.0 ≡ Some step → StepsOn s first past now p step
 step_on s p same = subst (λ t. IsLayout t → (first : List ℕ) (past : Past) (now : List ℕ) → Orderly t now → OnEach (λ v. ComesFrom t v now) past →
-    AtSome (λ w. w ≡ first) (now ∷ past) → GoTogether p → Knows t first past p → (step : Step) → step_of p.0 ≡ Some step → StepsOn t first past now p step) same
+    AtSome (λ w. w ≡ first) (now ∷ past) → SetGoesTogether p → Knows t first past p → (step : Step) → set_step_due p.0 ≡ Some step → StepsOn t first past now p step) same
     (λ layout first past now orderly comes first_in together before step e.
     let x = answer_of now step in
     let here : Facts = facts_of_moments p.0.sizes first (now ∷ past) in
@@ -68,14 +69,14 @@ step_on s p same = subst (λ t. IsLayout t → (first : List ℕ) (past : Past) 
     (known.0, record { sizes = sizes_at p.0.stage p x; together = keeps.together; knows = known.1; first_in = first_in }, keeps.fewer))
 
 -- one step more, and the first one
-pub step_from : (s : Layout) → IsLayout s → (first : List ℕ) (past : Past) (p : Pair) → Reached s first past p → (now : List ℕ) → Orderly s now → OnEach (λ v. ComesFrom s v now) past →
-    (step : Step) → step_of p.0 ≡ Some step → StepsOn s first past now p step
+pub step_from : (s : Layout) → IsLayout s → (first : List ℕ) (past : Past) (p : SetPair) → Reached s first past p → (now : List ℕ) → Orderly s now → OnEach (λ v. ComesFrom s v now) past →
+    (step : Step) → set_step_due p.0 ≡ Some step → StepsOn s first past now p step
 step_from s layout first past p reached now orderly comes step e =
     step_on s p reached.sizes layout first past now orderly comes (inr reached.first_in) reached.together reached.knows step e
 
-first_step : (s : Layout) → IsLayout s → (spent : Bool) (f : Buffers) → IsFor s f → (first : List ℕ) → Orderly s first → (step : Step) → step_of (fresh s spent) ≡ Some step →
-    StepsOn s first [] first (fresh s spent, f) step
-first_step s layout spent f sizes first orderly step e = step_on s (fresh s spent, f) refl layout first [] first orderly tt (inl refl) (record { sizes = sizes; stage = tt }) tt step e
+first_step : (s : Layout) → IsLayout s → (spent : Bool) (f : Buffers) → AreFoundFor s f → (first : List ℕ) → Orderly s first → (step : Step) → set_step_due (fresh_set s spent) ≡ Some step →
+    StepsOn s first [] first (fresh_set s spent, f) step
+first_step s layout spent f sizes first orderly step e = step_on s (fresh_set s spent, f) refl layout first [] first orderly tt (inl refl) (record { sizes = sizes; stage = tt }) tt step e
 
 -- the moments of a list put behind, one after another
 unfoldable pub onto : Past → Past → Past
@@ -83,14 +84,14 @@ onto [] past = past
 onto (w ∷ ws) past = onto ws (w ∷ past)
 
 -- a run goes where it leads, and makes no more steps than were left
-run : (s : Layout) → IsLayout s → (first : List ℕ) (ms past : Past) (p q : Pair) → IsPairwiseOrderly s past ms → Reached s first past p → LeadsTo p ms q →
-    Reached s first (onto ms past) q × (length ms + left_of q.0 ≤ left_of p.0)
+run : (s : Layout) → IsLayout s → (first : List ℕ) (ms past : Past) (p q : SetPair) → IsPairwiseOrderly s past ms → Reached s first past p → LeadsTo p ms q →
+    Reached s first (onto ms past) q × (length ms + set_left q.0 ≤ set_left p.0)
 unfolding onto
 run s layout first [] past p q orderly reached leads =
-    (subst (Reached s first past) (sym leads) reached, let same : left_of q.0 ≡ left_of p.0 = ap (λ (r : Pair). left_of r.0) leads in omega (arith, same))
+    (subst (Reached s first past) (sym leads) reached, let same : set_left q.0 ≡ set_left p.0 = ap (λ (r : SetPair). set_left r.0) leads in omega (arith, same))
 run s layout first (w ∷ ws) past p q orderly reached leads =
     let next = step_from s layout first past p reached w orderly.0 orderly.1 leads.0 leads.1 in
-    let rest = run s layout first ws (w ∷ past) (advance p (answer_of w leads.0)) q orderly.2 next.1 leads.2 in
+    let rest = run s layout first ws (w ∷ past) (advance_set p (answer_of w leads.0)) q orderly.2 next.1 leads.2 in
     let fewer = next.2 in
     let few = rest.1 in
     (rest.0, omega (arith, fewer, few))
@@ -116,30 +117,30 @@ run_split s (w ∷ ws) past now orderly =
     let rest = run_split s ws (w ∷ past) now orderly.2 in
     ((orderly.0, orderly.1, rest.0), rest.1, rest.2)
 
-module _ (s : Layout) (spent : Bool) (f : Buffers) (layout : IsLayout s) (sizes : IsFor s f) where
+module _ (s : Layout) (spent : Bool) (f : Buffers) (layout : IsLayout s) (sizes : AreFoundFor s f) where
   -- a run from a fresh machine, wherever it has come to
-  from_fresh : (first : List ℕ) (ms : Past) (q : Pair) → IsPairwiseOrderly s [] (first ∷ ms) → LeadsTo (fresh s spent, f) (first ∷ ms) q →
-      Reached s first (onto ms (first ∷ [])) q × (length (first ∷ ms) + left_of q.0 ≤ left_of (fresh s spent))
+  from_fresh : (first : List ℕ) (ms : Past) (q : SetPair) → IsPairwiseOrderly s [] (first ∷ ms) → LeadsTo (fresh_set s spent, f) (first ∷ ms) q →
+      Reached s first (onto ms (first ∷ [])) q × (length (first ∷ ms) + set_left q.0 ≤ set_left (fresh_set s spent))
   from_fresh first ms q orderly leads =
       let begun = first_step s layout spent f sizes first orderly.0 leads.0 leads.1 in
-      let rest = run s layout first ms (first ∷ []) (advance (fresh s spent, f) (answer_of first leads.0)) q orderly.2 begun.1 leads.2 in
+      let rest = run s layout first ms (first ∷ []) (advance_set (fresh_set s spent, f) (answer_of first leads.0)) q orderly.2 begun.1 leads.2 in
       let fewer = begun.2 in
       let few = rest.1 in
       (rest.0, omega (arith, fewer, few))
 
-  pub reached_from : (first : List ℕ) (ms : Past) (q : Pair) → IsPairwiseOrderly s [] (first ∷ ms) → LeadsTo (fresh s spent, f) (first ∷ ms) q → Reached s first (onto ms (first ∷ [])) q
+  pub reached_from : (first : List ℕ) (ms : Past) (q : SetPair) → IsPairwiseOrderly s [] (first ∷ ms) → LeadsTo (fresh_set s spent, f) (first ∷ ms) q → Reached s first (onto ms (first ∷ [])) q
   reached_from first ms q orderly leads = (from_fresh first ms q orderly leads).0
 
-  few_steps : (ms : Past) (q : Pair) → IsPairwiseOrderly s [] ms → LeadsTo (fresh s spent, f) ms q → length ms ≤ s.slots * (s.m + 3) + s.lists + 6
+  few_steps : (ms : Past) (q : SetPair) → IsPairwiseOrderly s [] ms → LeadsTo (fresh_set s spent, f) ms q → length ms ≤ s.slots * (s.m + 3) + s.lists + 6
   few_steps [] q orderly leads = omega arith
   few_steps (first ∷ ms) q orderly leads = let few = (from_fresh first ms q orderly leads).1 in omega (arith, few)
 
   -- orderly words give possible answers
-  possible_next : (ms : Past) (now : List ℕ) (q : Pair) (step : Step) → IsPairwiseOrderly s [] (ms ++ now ∷ []) → LeadsTo (fresh s spent, f) ms q → step_of q.0 ≡ Some step →
-      IsPossible q (answer_of now step)
+  possible_next : (ms : Past) (now : List ℕ) (q : SetPair) (step : Step) → IsPairwiseOrderly s [] (ms ++ now ∷ []) → LeadsTo (fresh_set s spent, f) ms q → set_step_due q.0 ≡ Some step →
+      IsPossibleInSet q (answer_of now step)
   possible_next [] now q step orderly leads e =
-      let due : step_of (fresh s spent) ≡ Some step = ap (λ (r : Pair). step_of r.0) (sym leads) ∙ e in
-      subst (λ r. IsPossible r (answer_of now step)) (sym leads) (first_step s layout spent f sizes now orderly.0 step due).0
+      let due : set_step_due (fresh_set s spent) ≡ Some step = ap (λ (r : SetPair). set_step_due r.0) (sym leads) ∙ e in
+      subst (λ r. IsPossibleInSet r (answer_of now step)) (sym leads) (first_step s layout spent f sizes now orderly.0 step due).0
   possible_next (first ∷ ms) now q step orderly leads e =
       let split = run_split s ms (first ∷ []) now orderly.2 in
       let reached = reached_from first ms q (orderly.0, orderly.1, split.0) leads in
@@ -148,8 +149,8 @@ module _ (s : Layout) (spent : Bool) (f : Buffers) (layout : IsLayout s) (sizes 
 pub possible_by_events : OrderlyAnswersArePossible
 possible_by_events s spent f own words events q step layout sizes orderly makes =
     possible_next s spent f layout sizes (own_moments own words events) (words_behind words events) q step (moments_to_end s own words events orderly)
-    (own_leads own (fresh s spent, f) q words events makes)
+    (own_leads own (fresh_set s spent, f) q words events makes)
 
 pub steps_by_events : GetSetsMakeFewSteps
 steps_by_events s spent f own words events q layout sizes orderly makes =
-    few_steps s spent f layout sizes (own_moments own words events) q (moments_of s own words events orderly) (own_leads own (fresh s spent, f) q words events makes)
+    few_steps s spent f layout sizes (own_moments own words events) q (moments_of s own words events orderly) (own_leads own (fresh_set s spent, f) q words events makes)

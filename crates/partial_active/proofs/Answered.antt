@@ -1,5 +1,5 @@
 -- What an answer keeps: the machine and its buffers go together, and the steps left fall.
-use Rattle.partial_active.proofs.Common.{ℕ, ◌≡◌, ◌+◌, ◌-◌, ◌<◌, ◌≤◌, min, true, false, eqb, ltb, [], ◌∷◌, ◌++◌, length, cond, IsSome, slice_index, inl, inr, refl, sym, ap, subst, arith, false≢true, cond_both, ltb-false, eqb-true, eqb-false, length_push, IsNormal, Layout, IsLayout, list_end, list_base, pool_base, pool_end, list_block, IsFor, IsBehind, with_index, Stage, Head, ListLen, ListLow, ListHigh, Counter, Slot, Len, Index, Claim, Write, Publish, Done, Pair, step_at, step_of, advance_at, come_to, note_slot, in_stage, left_at, left_of, walk_left, EndsBelow, IsListHead, IsListLen, IsNextLow, IsSlotWord, IsAnnouncedLen, IsListClaim, is_possible_at, IsPossible, HasRead, IsWalking, IsAtSlot, goes_at, GoTogether, next_word, indices_word, intervals_word}
+use Rattle.partial_active.proofs.Common.{ℕ, ◌≡◌, ◌+◌, ◌-◌, ◌<◌, ◌≤◌, min, true, false, eqb, ltb, [], ◌∷◌, ◌++◌, length, cond, IsSome, slice_index, inl, inr, refl, sym, ap, subst, arith, false≢true, cond_both, ltb-false, eqb-true, eqb-false, length_push, IsNormal, Layout, IsLayout, list_end, list_base, pool_base, pool_end, list_block, AreFoundFor, LiesBehind, with_index, Stage, Head, ListLen, ListLow, ListHigh, Counter, Slot, Len, Index, Claim, Write, Publish, Done, SetPair, set_step_at, set_step_due, advance_set_at, come_to, note_slot, in_stage, set_left_at, set_left, walk_left, EndsBelow, IsListHead, IsListLen, IsNextLow, IsSlotWord, IsAnnouncedLen, IsListClaim, is_possible_at, IsPossibleInSet, HasRead, IsWalking, IsAtSlot, set_goes_at, SetGoesTogether, next_word, indices_word, intervals_word}
 use Rattle.std.proofs.Math.Nat.{mul-le-mul_right}
 use Rattle.partial_active.proofs.Extended.{normal-extended, below-extended, normal_push, below_push}
 use Rattle.partial_active.proofs.Walk.{come_to_goes, come_to_left}
@@ -16,12 +16,12 @@ below_nil : (n : ℕ) → EndsBelow [] n
 below_nil n k lt = absurd (omega arith)
 
 -- what is kept of the machine and its buffers once a step was answered
-pub record Keeps (q : Pair) (left : ℕ) : Type 0 where
-  pub together : GoTogether q
-  pub fewer : left_of q.0 < left
+pub record Keeps (q : SetPair) (left : ℕ) : Type 0 where
+  pub together : SetGoesTogether q
+  pub fewer : set_left q.0 < left
 
 -- the first step of the walk
-pub walk_begins : (p : Pair) (x : ℕ) → HasRead p.0.sizes p.1.read → EndsBelow p.1.read x → p.1.next ≡ [] → IsWalking (record p.0 { end = min x p.0.sizes.slots; passed = 0 }, p.1) 0
+pub walk_begins : (p : SetPair) (x : ℕ) → HasRead p.0.sizes p.1.read → EndsBelow p.1.read x → p.1.next ≡ [] → IsWalking (record p.0 { end = min x p.0.sizes.slots; passed = 0 }, p.1) 0
 walk_begins p x list below empty = record {
   list = list;
   end_within = omega arith;
@@ -35,7 +35,7 @@ walk_begins p x list below empty = record {
 }
 
 -- a slot that is left behind
-pub walk_next : (p : Pair) (slot : ℕ) → IsAtSlot p slot → IsWalking p (slot + 1)
+pub walk_next : (p : SetPair) (slot : ℕ) → IsAtSlot p slot → IsWalking p (slot + 1)
 walk_next p slot here = record {
   list = here.walking.list;
   end_within = here.walking.end_within;
@@ -49,7 +49,7 @@ walk_next p slot here = record {
 }
 
 -- a slot that is noted lies behind the next list
-pub slot_behind : (s : Layout) (p : Pair) (slot : ℕ) → IsLayout s → p.0.sizes ≡ s → IsAtSlot p slot → IsBehind p.1.next slot slot
+pub slot_behind : (s : Layout) (p : SetPair) (slot : ℕ) → IsLayout s → p.0.sizes ≡ s → IsAtSlot p slot → LiesBehind p.1.next slot slot
 slot_behind s p slot layout same here =
     let slots : p.0.sizes.slots ≡ s.slots = ap (λ (l : Layout). l.slots) same in
     record {
@@ -58,7 +58,7 @@ slot_behind s p slot layout same here =
       beyond = here.walking.next_below;
     }
 
-pub walk_noted : (p : Pair) (slot : ℕ) → IsLayout p.0.sizes → IsAtSlot p slot → IsWalking (note_slot p slot) (slot + 1)
+pub walk_noted : (p : SetPair) (slot : ℕ) → IsLayout p.0.sizes → IsAtSlot p slot → IsWalking (note_slot p slot) (slot + 1)
 walk_noted p slot layout here =
     let behind = slot_behind p.0.sizes p slot layout refl here in
     record {
@@ -79,16 +79,17 @@ slot_steps s slot lt =
     let one_more : s.slots - (slot + 1) + 1 ≤ s.slots - slot = omega arith in
     omega (arith, mul-le-mul_right (s.m + 2) one_more)
 
-module _ (p : Pair) (layout : IsLayout p.0.sizes) (sizes : IsFor p.0.sizes p.1) where
+module _ (p : SetPair) (layout : IsLayout p.0.sizes) (sizes : AreFoundFor p.0.sizes p.1) where
   -- all steps but those for the list
-  walk_whole : walk_left p.0.sizes 0 + p.0.sizes.lists + 2 ≡ left_at p.0.sizes Head
+  walk_whole : walk_left p.0.sizes 0 + p.0.sizes.lists + 2 ≡ set_left_at p.0.sizes Head
   walk_whole = let all : p.0.sizes.slots - 0 ≡ p.0.sizes.slots = omega arith in rw all (omega arith)
 
   head_word : (x : ℕ) → IsListHead p.0.sizes x → eqb x 0 ≡ false → (list_base p.0.sizes ≤ x) × (x < list_end p.0.sizes)
   head_word x possible e = elim possible [ inl none ↦ absurd (eqb-false x 0 e none) | inr some ↦ some ]
 
-  pub keeps_head : (x : ℕ) → IsListHead p.0.sizes x → Keeps (advance_at Head p x) (left_at p.0.sizes Head)
-  keeps_head x possible = cond_both (eqb x 0) Counter (ListLen x) (λ stage. Keeps (record p.0 { head = x; stage = stage }, record p.1 { indices = []; read = []; next = [] }) (left_at p.0.sizes Head))
+  pub keeps_head : (x : ℕ) → IsListHead p.0.sizes x → Keeps (advance_set_at Head p x) (set_left_at p.0.sizes Head)
+  keeps_head x possible = cond_both (eqb x 0) Counter (ListLen x) (λ stage. Keeps (record p.0 { head = x; stage = stage }, record p.1 { indices = []; read = []; next = [] })
+      (set_left_at p.0.sizes Head))
       (λ e. record {
         together = record { sizes = record { limit = sizes.limit; room = sizes.room }; stage = (record { normal = normal_nil; within = below_nil p.0.sizes.slots }, refl) };
         fewer = omega (arith, walk_whole);
@@ -98,11 +99,11 @@ module _ (p : Pair) (layout : IsLayout p.0.sizes) (sizes : IsFor p.0.sizes p.1) 
         fewer = omega (arith, walk_whole, head_word x possible e);
       })
 
-  pub keeps_list_len : (at x : ℕ) → goes_at (ListLen at) p → IsListLen p.0.sizes at x → Keeps (advance_at (ListLen at) p x) (left_at p.0.sizes (ListLen at))
+  pub keeps_list_len : (at x : ℕ) → set_goes_at (ListLen at) p → IsListLen p.0.sizes at x → Keeps (advance_set_at (ListLen at) p x) (set_left_at p.0.sizes (ListLen at))
   keeps_list_len at x goes possible =
       let none : length p.1.read ≡ 0 = ap length goes.0 in
       let list : HasRead p.0.sizes p.1.read = rw goes.0 (record { normal = normal_nil; within = below_nil p.0.sizes.slots }) in
-      cond_both (eqb x 0) Counter (ListLow (intervals_word at) x) (λ stage. Keeps (in_stage p stage) (left_at p.0.sizes (ListLen at)))
+      cond_both (eqb x 0) Counter (ListLow (intervals_word at) x) (λ stage. Keeps (in_stage p stage) (set_left_at p.0.sizes (ListLen at)))
       (λ e. record {
         together = record { sizes = sizes; stage = (list, goes.1) };
         fewer = omega (arith, goes.3);
@@ -123,7 +124,7 @@ module _ (p : Pair) (layout : IsLayout p.0.sizes) (sizes : IsFor p.0.sizes p.1) 
         fewer = omega (arith, possible.0);
       })
 
-  pub keeps_list_low : (at left x : ℕ) → goes_at (ListLow at left) p → IsNextLow p.0.sizes p.1.read x → Keeps (advance_at (ListLow at left) p x) (left_at p.0.sizes (ListLow at left))
+  pub keeps_list_low : (at left x : ℕ) → set_goes_at (ListLow at left) p → IsNextLow p.0.sizes p.1.read x → Keeps (advance_set_at (ListLow at left) p x) (set_left_at p.0.sizes (ListLow at left))
   keeps_list_low at left x goes possible = record {
     together = record {
       sizes = sizes;
@@ -141,7 +142,8 @@ module _ (p : Pair) (layout : IsLayout p.0.sizes) (sizes : IsFor p.0.sizes p.1) 
     fewer = omega arith;
   }
 
-  pub keeps_list_high : (at left lo x : ℕ) → goes_at (ListHigh at left lo) p → (lo ≤ x) × (x < p.0.sizes.slots) → Keeps (advance_at (ListHigh at left lo) p x) (left_at p.0.sizes (ListHigh at left lo))
+  pub keeps_list_high : (at left lo x : ℕ) → set_goes_at (ListHigh at left lo) p → (lo ≤ x) × (x < p.0.sizes.slots) →
+      Keeps (advance_set_at (ListHigh at left lo) p x) (set_left_at p.0.sizes (ListHigh at left lo))
   keeps_list_high at left lo x goes possible =
       let list : HasRead p.0.sizes (p.1.read ++ (lo, x) ∷ []) = record {
         normal = normal_push p.1.read lo x goes.0.list.normal (record { closed = possible.0; bounded = omega (arith, possible.1, layout.slots.1); beyond = goes.2.1 });
@@ -149,7 +151,7 @@ module _ (p : Pair) (layout : IsLayout p.0.sizes) (sizes : IsFor p.0.sizes p.1) 
       } in
       let longer = length_push p.1.read (lo, x) in
       cond_both (eqb left 1) Counter (ListLow (next_word at) (left - 1)) (λ stage. Keeps (record p.0 { stage = stage }, record p.1 { read = p.1.read ++ (lo, x) ∷ [] })
-      (left_at p.0.sizes (ListHigh at left lo)))
+      (set_left_at p.0.sizes (ListHigh at left lo)))
       (λ e. record {
         together = record { sizes = record { limit = sizes.limit; room = sizes.room }; stage = (list, goes.0.next) };
         fewer = omega (arith, eqb-true left 1 e);
@@ -172,9 +174,9 @@ module _ (p : Pair) (layout : IsLayout p.0.sizes) (sizes : IsFor p.0.sizes p.1) 
         fewer = omega (arith, more);
       })
 
-  pub keeps_counter : (x : ℕ) → goes_at Counter p → EndsBelow p.1.read x → Keeps (advance_at Counter p x) (left_at p.0.sizes Counter)
+  pub keeps_counter : (x : ℕ) → set_goes_at Counter p → EndsBelow p.1.read x → Keeps (advance_set_at Counter p x) (set_left_at p.0.sizes Counter)
   keeps_counter x goes possible =
-      let q : Pair = (record p.0 { end = min x p.0.sizes.slots; passed = 0 }, p.1) in
+      let q : SetPair = (record p.0 { end = min x p.0.sizes.slots; passed = 0 }, p.1) in
       let walking = walk_begins p x goes.0 possible goes.1 in
       record {
         together = come_to_goes q 0 walking sizes;
@@ -208,17 +210,17 @@ module _ (p : Pair) (layout : IsLayout p.0.sizes) (sizes : IsFor p.0.sizes p.1) 
   fewer_at : (slot : ℕ) → IsAtSlot p slot → walk_left p.0.sizes (slot + 1) + p.0.sizes.m + 2 ≤ walk_left p.0.sizes slot
   fewer_at slot here = slot_steps p.0.sizes slot (omega (arith, here.below, here.walking.end_within))
 
-  pub keeps_len : (slot at x : ℕ) → goes_at (Len slot at) p → IsAnnouncedLen p.0.sizes at x → Keeps (advance_at (Len slot at) p x) (left_at p.0.sizes (Len slot at))
-  keeps_len slot at x goes possible = cond_both (eqb x 0) (come_to p (slot + 1)) (in_stage p (Index slot (indices_word at) x)) (λ q. Keeps q (left_at p.0.sizes (Len slot at)))
-      (λ e. keeps_next slot (left_at p.0.sizes (Len slot at)) (walk_next p slot goes.0) (omega arith))
+  pub keeps_len : (slot at x : ℕ) → set_goes_at (Len slot at) p → IsAnnouncedLen p.0.sizes at x → Keeps (advance_set_at (Len slot at) p x) (set_left_at p.0.sizes (Len slot at))
+  keeps_len slot at x goes possible = cond_both (eqb x 0) (come_to p (slot + 1)) (in_stage p (Index slot (indices_word at) x)) (λ q. Keeps q (set_left_at p.0.sizes (Len slot at)))
+      (λ e. keeps_next slot (set_left_at p.0.sizes (Len slot at)) (walk_next p slot goes.0) (omega arith))
       (λ e. record {
         together = record { sizes = sizes; stage = (at_in_stage slot (Index slot (indices_word at) x) goes.0, omega (arith, eqb-false x 0 e), possible.1, omega (arith, possible.0)) };
         fewer = omega (arith, possible.1);
       })
 
-  pub keeps_claim : (words x : ℕ) → goes_at (Claim words) p → IsListClaim p.0.sizes x → Keeps (advance_at (Claim words) p x) (left_at p.0.sizes (Claim words))
+  pub keeps_claim : (words x : ℕ) → set_goes_at (Claim words) p → IsListClaim p.0.sizes x → Keeps (advance_set_at (Claim words) p x) (set_left_at p.0.sizes (Claim words))
   keeps_claim words x goes possible = cond_both (ltb (list_end p.0.sizes) (x + words)) (record p.0 { lists_spent = true; stage = Done }, p.1) (in_stage p (Write x 0 words (length p.1.next)))
-      (λ q. Keeps q (left_at p.0.sizes (Claim words)))
+      (λ q. Keeps q (set_left_at p.0.sizes (Claim words)))
       (λ e. record { together = record { sizes = record { limit = sizes.limit; room = sizes.room }; stage = tt }; fewer = omega arith })
       (λ e. record {
         together = record {
@@ -233,20 +235,20 @@ module _ (p : Pair) (layout : IsLayout p.0.sizes) (sizes : IsFor p.0.sizes p.1) 
         fewer = omega arith;
       })
 
-  pub keeps_write : (at k words word x : ℕ) → goes_at (Write at k words word) p → Keeps (advance_at (Write at k words word) p x) (left_at p.0.sizes (Write at k words word))
+  pub keeps_write : (at k words word x : ℕ) → set_goes_at (Write at k words word) p → Keeps (advance_set_at (Write at k words word) p x) (set_left_at p.0.sizes (Write at k words word))
   keeps_write at k words word x goes = cond_both (eqb (k + 1) words) (Publish at) (Write at (k + 1) words (slice_index (list_block p.1.next) (k + 1)))
-      (λ stage. Keeps (in_stage p stage) (left_at p.0.sizes (Write at k words word)))
+      (λ stage. Keeps (in_stage p stage) (set_left_at p.0.sizes (Write at k words word)))
       (λ e. record { together = record { sizes = sizes; stage = (goes.0.next, goes.0.within) }; fewer = omega (arith, goes.1) })
       (λ e. record {
         together = record { sizes = sizes; stage = (record { next = goes.0.next; within = goes.0.within; count = goes.0.count }, omega (arith, goes.1, eqb-false (k + 1) words e), goes.2, refl) };
         fewer = omega (arith, goes.1);
       })
 
-  pub keeps_publish : (at x : ℕ) → Keeps (advance_at (Publish at) p x) (left_at p.0.sizes (Publish at))
+  pub keeps_publish : (at x : ℕ) → Keeps (advance_set_at (Publish at) p x) (set_left_at p.0.sizes (Publish at))
   keeps_publish at x = record { together = record { sizes = sizes; stage = tt }; fewer = omega arith }
 
 -- an index that is put at the end changes nothing else
-pub at_with : (p : Pair) (slot index : ℕ) → IsAtSlot p slot → IsAtSlot (p.0, record p.1 { indices = with_index p.1.indices index }) slot
+pub at_with : (p : SetPair) (slot index : ℕ) → IsAtSlot p slot → IsAtSlot (p.0, record p.1 { indices = with_index p.1.indices index }) slot
 at_with p slot index here = record {
   walking = record {
     list = here.walking.list;
@@ -263,14 +265,14 @@ at_with p slot index here = record {
   outside = here.outside;
 }
 
-module _ (p : Pair) (layout : IsLayout p.0.sizes) (sizes : IsFor p.0.sizes p.1) where
-  pub keeps_index : (slot at left x : ℕ) → goes_at (Index slot at left) p → x < p.0.sizes.m → Keeps (advance_at (Index slot at left) p x) (left_at p.0.sizes (Index slot at left))
+module _ (p : SetPair) (layout : IsLayout p.0.sizes) (sizes : AreFoundFor p.0.sizes p.1) where
+  pub keeps_index : (slot at left x : ℕ) → set_goes_at (Index slot at left) p → x < p.0.sizes.m → Keeps (advance_set_at (Index slot at left) p x) (set_left_at p.0.sizes (Index slot at left))
   keeps_index slot at left x goes possible =
-      let q : Pair = (p.0, record p.1 { indices = with_index p.1.indices x }) in
-      let q_sizes : IsFor p.0.sizes q.1 = record { limit = sizes.limit; room = sizes.room } in
+      let q : SetPair = (p.0, record p.1 { indices = with_index p.1.indices x }) in
+      let q_sizes : AreFoundFor p.0.sizes q.1 = record { limit = sizes.limit; room = sizes.room } in
       let here = at_with p slot x goes.0 in
-      cond_both (eqb left 1) (come_to q (slot + 1)) (in_stage q (Index slot (next_word at) (left - 1))) (λ r. Keeps r (left_at p.0.sizes (Index slot at left)))
-      (λ e. keeps_next q layout q_sizes slot (left_at p.0.sizes (Index slot at left)) (walk_next q slot here) (omega (arith, goes.1)))
+      cond_both (eqb left 1) (come_to q (slot + 1)) (in_stage q (Index slot (next_word at) (left - 1))) (λ r. Keeps r (set_left_at p.0.sizes (Index slot at left)))
+      (λ e. keeps_next q layout q_sizes slot (set_left_at p.0.sizes (Index slot at left)) (walk_next q slot here) (omega (arith, goes.1)))
       (λ e.
       let more : 1 < left = omega (arith, eqb-false left 1 e, goes.1) in
       record {
@@ -286,15 +288,15 @@ module _ (p : Pair) (layout : IsLayout p.0.sizes) (sizes : IsFor p.0.sizes p.1) 
         fewer = omega (arith, more);
       })
 
-  pub keeps_slot : (slot x : ℕ) → goes_at (Slot slot) p → IsSlotWord p.0.sizes x → Keeps (advance_at (Slot slot) p x) (left_at p.0.sizes (Slot slot))
+  pub keeps_slot : (slot x : ℕ) → set_goes_at (Slot slot) p → IsSlotWord p.0.sizes x → Keeps (advance_set_at (Slot slot) p x) (set_left_at p.0.sizes (Slot slot))
   keeps_slot slot x goes possible =
       let fewer = fewer_at p layout sizes slot goes in
       let noted = note_slot p slot in
-      let noted_sizes : IsFor p.0.sizes noted.1 = record { limit = sizes.limit; room = sizes.room } in
-      cond_both (eqb x 0) (come_to p (slot + 1)) (cond (eqb x 1) (come_to noted (slot + 1)) (in_stage p (Len slot x))) (λ q. Keeps q (left_at p.0.sizes (Slot slot)))
-      (λ e. keeps_next p layout sizes slot (left_at p.0.sizes (Slot slot)) (walk_next p slot goes) (omega (arith, fewer)))
-      (λ not_empty. cond_both (eqb x 1) (come_to noted (slot + 1)) (in_stage p (Len slot x)) (λ q. Keeps q (left_at p.0.sizes (Slot slot)))
-      (λ e. keeps_next noted layout noted_sizes slot (left_at p.0.sizes (Slot slot)) (walk_noted p slot layout goes) (omega (arith, fewer)))
+      let noted_sizes : AreFoundFor p.0.sizes noted.1 = record { limit = sizes.limit; room = sizes.room } in
+      cond_both (eqb x 0) (come_to p (slot + 1)) (cond (eqb x 1) (come_to noted (slot + 1)) (in_stage p (Len slot x))) (λ q. Keeps q (set_left_at p.0.sizes (Slot slot)))
+      (λ e. keeps_next p layout sizes slot (set_left_at p.0.sizes (Slot slot)) (walk_next p slot goes) (omega (arith, fewer)))
+      (λ not_empty. cond_both (eqb x 1) (come_to noted (slot + 1)) (in_stage p (Len slot x)) (λ q. Keeps q (set_left_at p.0.sizes (Slot slot)))
+      (λ e. keeps_next noted layout noted_sizes slot (set_left_at p.0.sizes (Slot slot)) (walk_noted p slot layout goes) (omega (arith, fewer)))
       (λ not_vacated.
       let word : (pool_base p.0.sizes ≤ x) × (x < pool_end p.0.sizes) = elim possible [
         | inl empty ↦ absurd (eqb-false x 0 not_empty empty)
@@ -306,8 +308,8 @@ module _ (p : Pair) (layout : IsLayout p.0.sizes) (sizes : IsFor p.0.sizes p.1) 
       }))
 
 -- a due step with a possible answer keeps the machine and its buffers together, and leaves fewer steps
-pub keeps_at : (stage : Stage) (p : Pair) (x : ℕ) → IsLayout p.0.sizes → IsFor p.0.sizes p.1 → IsSome (step_at p.0.sizes p.0.head stage) → goes_at stage p → is_possible_at stage p x →
-    Keeps (advance_at stage p x) (left_at p.0.sizes stage)
+pub keeps_at : (stage : Stage) (p : SetPair) (x : ℕ) → IsLayout p.0.sizes → AreFoundFor p.0.sizes p.1 → IsSome (set_step_at p.0.sizes p.0.head stage) → set_goes_at stage p → is_possible_at stage p x →
+    Keeps (advance_set_at stage p x) (set_left_at p.0.sizes stage)
 keeps_at Head p x layout sizes due goes possible = keeps_head p layout sizes x possible
 keeps_at (ListLen at) p x layout sizes due goes possible = keeps_list_len p layout sizes at x goes possible
 keeps_at (ListLow at left) p x layout sizes due goes possible = keeps_list_low p layout sizes at left x goes possible
@@ -322,6 +324,7 @@ keeps_at (Publish at) p x layout sizes due goes possible = keeps_publish p layou
 keeps_at Done p x layout sizes due goes possible = absurd (false≢true due)
 
 -- the same for the next machine and its buffers, whatever the stage is called
-pub kept : (p q : Pair) (x : ℕ) (stage : Stage) → p.0.stage ≡ stage → q ≡ advance_at stage p x → IsLayout p.0.sizes → GoTogether p → IsPossible p x → IsSome (step_of p.0) → Keeps q (left_of p.0)
+pub kept : (p q : SetPair) (x : ℕ) (stage : Stage) → p.0.stage ≡ stage → q ≡ advance_set_at stage p x → IsLayout p.0.sizes → SetGoesTogether p → IsPossibleInSet p x → IsSome (set_step_due p.0) →
+    Keeps q (set_left p.0)
 kept p q x stage is same layout together possible due =
-    subst (λ r. Keeps r (left_of p.0)) (sym same) (subst (λ s. Keeps (advance_at s p x) (left_of p.0)) is (keeps_at p.0.stage p x layout together.sizes due together.stage possible))
+    subst (λ r. Keeps r (set_left p.0)) (sym same) (subst (λ s. Keeps (advance_set_at s p x) (set_left p.0)) is (keeps_at p.0.stage p x layout together.sizes due together.stage possible))

@@ -15,9 +15,9 @@ pub use Rattle.partial_words.specs.Announcement.{announcement_block, announced_w
 pub use Rattle.partial_words.proofs.BlockLemmas.{announcement_reads_back, list_reads_back}
 pub use Rattle.partial_active.specs.declared.get_set.Stage.{Stage}
 pub use Rattle.partial_active.specs.declared.get_set.Stage.TheVariants.{Head, ListLen, ListLow, ListHigh, Counter, Slot, Len, Index, Claim, Write, Publish, Done}
-pub use Rattle.partial_active.specs.Found.{Buffers, IsFor, IsBehind, begins_at, extended, touches, last_place}
-pub use Rattle.partial_active.specs.GetSet.{Pair, fresh, step_at, step_of, advance, left_of, advance_at, come_to, note_slot, in_stage, left_at, walk_left, after_walk, at_slot, pass_interval, next_words, publish_left, GetSetState}
-pub use Rattle.partial_active.specs.GetSetAnswers.{goes_at, IsPossible, GoTogether, EndsBelow, IsListHead, IsListLen, IsNextLow, IsSlotWord, IsAnnouncedLen, IsListClaim, is_possible_at, HasRead, IsWalking, IsAtSlot}
+pub use Rattle.partial_active.specs.Found.{Buffers, AreFoundFor, LiesBehind, begins_at, extended_list, touches, last_place}
+pub use Rattle.partial_active.specs.GetSet.{SetPair, fresh_set, set_step_at, set_step_due, advance_set, set_left, advance_set_at, come_to, note_slot, in_stage, set_left_at, walk_left, after_walk, at_slot, pass_interval, next_words, publish_left, GetSetState}
+pub use Rattle.partial_active.specs.GetSetAnswers.{set_goes_at, IsPossibleInSet, SetGoesTogether, EndsBelow, IsListHead, IsListLen, IsNextLow, IsSlotWord, IsAnnouncedLen, IsListClaim, is_possible_at, HasRead, IsWalking, IsAtSlot}
 pub use Rattle.partial_active.specs.Knowledge.{Facts, knows_by, HasFirst, AreVacated, HasEach, walks, has_found, KnowsBy, HasReadSo}
 pub use Rattle.partial_active.specs.Orderly.{Orderly, slot_at, IsAnnouncement, IsVacatedList, head_at, Publishes}
 pub use Rattle.partial_active.specs.Moments.{OnEach, AtSome, words_behind, own_moments, AtSomeStep, answered_from, IsOrderlyEvent, AreOrderly, IsOrderlyRun, MakesOwn}

@@ -1,5 +1,5 @@
 -- The list that a walk makes: it stays a normal form, and gains the numbers that were put behind it.
-use Rattle.partial_active.proofs.Common.{ℕ, zero, suc, ◌≡◌, ◌+◌, ◌-◌, ◌*◌, ◌<◌, ◌≤◌, ◌⊎◌, true, false, eqb, ltb, [], ◌∷◌, ◌++◌, length, set, inl, inr, refl, sym, ap, arith, cases_eq, cases_lt, cond_both, and_parts, and_cases, ltb-true, ltb-false, eqb-true, eqb-false, length_push, get_or_append_left, get_or_push, length-set, Ranges, lowest, highest, Holds, IsNormal, GoesOn, extended, touches, last_place, IsBehind, EndsBelow}
+use Rattle.partial_active.proofs.Common.{ℕ, zero, suc, ◌≡◌, ◌+◌, ◌-◌, ◌*◌, ◌<◌, ◌≤◌, ◌⊎◌, true, false, eqb, ltb, [], ◌∷◌, ◌++◌, length, set, inl, inr, refl, sym, ap, arith, cases_eq, cases_lt, cond_both, and_parts, and_cases, ltb-true, ltb-false, eqb-true, eqb-false, length_push, get_or_append_left, get_or_push, length-set, Ranges, lowest, highest, Holds, IsNormal, GoesOn, extended_list, touches, last_place, LiesBehind, EndsBelow}
 use Rattle.partial_intervals.proofs.Edits.{normal_set, highest_here, highest_other, lowest_here, lowest_other}
 
 -- intervals that lie apart take two numbers each, but for the last
@@ -61,7 +61,7 @@ module _ (list : Ranges) (lo hi : ℕ) where
       let both = and_parts (ltb 0 (length list)) (eqb (highest list (last_place list) + 1) lo) e in
       (ltb-true 0 (length list) both.0, eqb-true (highest list (last_place list) + 1) lo both.1)
 
-  apart_from : IsNormal list → IsBehind list lo hi → touches list lo ≡ false → GoesOn list lo hi
+  apart_from : IsNormal list → LiesBehind list lo hi → touches list lo ≡ false → GoesOn list lo hi
   apart_from normal behind e = record {
     closed = behind.closed;
     bounded = behind.bounded;
@@ -77,8 +77,8 @@ module _ (list : Ranges) (lo hi : ℕ) where
     ];
   }
 
-module _ (list : Ranges) (lo hi : ℕ) (normal : IsNormal list) (behind : IsBehind list lo hi) where
-  pub normal-extended : IsNormal (extended list lo hi)
+module _ (list : Ranges) (lo hi : ℕ) (normal : IsNormal list) (behind : LiesBehind list lo hi) where
+  pub normal-extended : IsNormal (extended_list list lo hi)
   normal-extended = cond_both (touches list lo) (set list (last_place list) (lowest list (last_place list), hi)) (list ++ (lo, hi) ∷ []) (λ l. IsNormal l)
       (λ e.
       let t = touching list lo hi e in
@@ -90,7 +90,7 @@ module _ (list : Ranges) (lo hi : ℕ) (normal : IsNormal list) (behind : IsBehi
       (λ k lt inside. absurd (omega arith)))
       (λ e. normal_push list lo hi normal (apart_from list lo hi normal behind e))
 
-  pub below-extended : (n : ℕ) → EndsBelow list n → hi < n → EndsBelow (extended list lo hi) n
+  pub below-extended : (n : ℕ) → EndsBelow list n → hi < n → EndsBelow (extended_list list lo hi) n
   below-extended n below last_below = cond_both (touches list lo) (set list (last_place list) (lowest list (last_place list), hi)) (list ++ (lo, hi) ∷ []) (λ l. EndsBelow l n)
       (λ e k lt.
       let t = touching list lo hi e in
@@ -106,7 +106,7 @@ module _ (list : Ranges) (lo hi : ℕ) (normal : IsNormal list) (behind : IsBehi
       (λ e. below_push list lo hi n below last_below)
 
 -- it holds what the list held, and the new numbers
-pub held_extended : (list : Ranges) (lo hi : ℕ) → IsNormal list → (x : ℕ) → Holds (extended list lo hi) x → Holds list x ⊎ ((lo ≤ x) × (x ≤ hi))
+pub held_extended : (list : Ranges) (lo hi : ℕ) → IsNormal list → (x : ℕ) → Holds (extended_list list lo hi) x → Holds list x ⊎ ((lo ≤ x) × (x ≤ hi))
 held_extended list lo hi normal x = cond_both (touches list lo) (set list (last_place list) (lowest list (last_place list), hi)) (list ++ (lo, hi) ∷ [])
     (λ l. Holds l x → Holds list x ⊎ ((lo ≤ x) × (x ≤ hi)))
     (λ e h.
@@ -134,7 +134,7 @@ held_extended list lo hi normal x = cond_both (touches list lo) (set list (last_
     ])
 
 -- and it holds what the list held and the new numbers
-pub holds_extended : (list : Ranges) (lo hi : ℕ) → IsNormal list → IsBehind list lo hi → (x : ℕ) → Holds list x ⊎ ((lo ≤ x) × (x ≤ hi)) → Holds (extended list lo hi) x
+pub holds_extended : (list : Ranges) (lo hi : ℕ) → IsNormal list → LiesBehind list lo hi → (x : ℕ) → Holds list x ⊎ ((lo ≤ x) × (x ≤ hi)) → Holds (extended_list list lo hi) x
 holds_extended list lo hi normal behind x = cond_both (touches list lo) (set list (last_place list) (lowest list (last_place list), hi)) (list ++ (lo, hi) ∷ [])
     (λ l. Holds list x ⊎ ((lo ≤ x) × (x ≤ hi)) → Holds l x)
     (λ e.

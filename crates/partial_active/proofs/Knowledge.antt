@@ -1,5 +1,5 @@
 -- What a getSet knows by facts leads on, from stage to stage.
-use Rattle.partial_active.proofs.Common.{ℕ, ◌≡◌, ◌+◌, ◌-◌, ◌<◌, ◌≤◌, ◌⊎◌, min, Bool, true, false, ◌&&◌, not, eqb, ltb, None, List, [], ◌∷◌, ◌++◌, length, take, get_or, slice_index, cond, inl, inr, refl, sym, ap, subst, ◌∙◌, arith, false≢true, and_parts, cases_eq, cases_lt, cond_both, ltb-false, eqb-true, eqb-false, take_more, take_all, get_or-take, length_push, Ranges, lowest, highest, Holds, IsNormal, Layout, IsLayout, list_end, list_block, announcement_reads_back, list_reads_back, Stage, Head, ListLen, ListLow, ListHigh, Counter, Slot, Len, Index, Claim, Write, Publish, Done, with_index, begins_at, Pair, step_at, advance_at, after_walk, at_slot, come_to, pass_interval, note_slot, in_stage, next_words, EndsBelow, IsListClaim, is_possible_at, IsWalking, goes_at, Facts, AreVacated, HasEach, walks, has_found, knows_by, KnowsBy, slot_at, IsAnnouncement, IsVacatedList, next_word, indices_word, intervals_word}
+use Rattle.partial_active.proofs.Common.{ℕ, ◌≡◌, ◌+◌, ◌-◌, ◌<◌, ◌≤◌, ◌⊎◌, min, Bool, true, false, ◌&&◌, not, eqb, ltb, None, List, [], ◌∷◌, ◌++◌, length, take, get_or, slice_index, cond, inl, inr, refl, sym, ap, subst, ◌∙◌, arith, false≢true, and_parts, cases_eq, cases_lt, cond_both, ltb-false, eqb-true, eqb-false, take_more, take_all, get_or-take, length_push, Ranges, lowest, highest, Holds, IsNormal, Layout, IsLayout, list_end, list_block, announcement_reads_back, list_reads_back, Stage, Head, ListLen, ListLow, ListHigh, Counter, Slot, Len, Index, Claim, Write, Publish, Done, with_index, begins_at, SetPair, set_step_at, advance_set_at, after_walk, at_slot, come_to, pass_interval, note_slot, in_stage, next_words, EndsBelow, IsListClaim, is_possible_at, IsWalking, set_goes_at, Facts, AreVacated, HasEach, walks, has_found, knows_by, KnowsBy, slot_at, IsAnnouncement, IsVacatedList, next_word, indices_word, intervals_word}
 use Rattle.partial_active.proofs.Extended.{length_normal, held_extended}
 use Rattle.partial_active.proofs.Walk.{begun}
 use Rattle.partial_active.proofs.Answered.{walk_begins, walk_next, walk_noted, at_with}
@@ -17,7 +17,7 @@ pub record AreFacts (s : Layout) (words : List ℕ) (t : Facts) : Type 0 where
 
 -- What an answer tells at a stage: at the list head and at a slot a fact, and of a block its word; at the slot counter that
 -- the list read ends below it, and that nothing is missing from there on.
-abbrev pub tells_at : List ℕ → Facts → Stage → Pair → ℕ → Type 0
+abbrev pub tells_at : List ℕ → Facts → Stage → SetPair → ℕ → Type 0
 tells_at words t Head p x = (x ≡ 0) ⊎ ((list : Ranges) × t.lists x list)
 tells_at words t (ListLen at) p x = x ≡ slice_index words at
 tells_at words t (ListLow at left) p x = x ≡ slice_index words at
@@ -42,7 +42,7 @@ module _ (s : Layout) (words : List ℕ) (t : Facts) (w : AreFacts s words t) wh
         absurd (omega (arith, empty, one))
   ]
 
-  known_after_walk : (p : Pair) (slot : ℕ) → p.0.end ≤ slot → walks t p slot → KnowsBy t (after_walk p)
+  known_after_walk : (p : SetPair) (slot : ℕ) → p.0.end ≤ slot → walks t p slot → KnowsBy t (after_walk p)
   known_after_walk p slot over k =
       let found : has_found t p = (k.noted, λ l. elim (cases_lt l slot) [ inl below ↦ k.below l below | inr from ↦ k.beyond l (omega (arith, over, from)) ]) in
       cond_both (p.0.noted && not p.0.lists_spent) (Claim (next_words p.1)) Done (λ stage. KnowsBy t (record p.0 { stage = stage }, p.1))
@@ -53,13 +53,13 @@ module _ (s : Layout) (words : List ℕ) (t : Facts) (w : AreFacts s words t) wh
       unmarked true e = absurd (false≢true e)
       unmarked false e = refl
 
-  known_at_slot : (p : Pair) (slot : ℕ) → walks t p slot → KnowsBy t (at_slot p slot)
+  known_at_slot : (p : SetPair) (slot : ℕ) → walks t p slot → KnowsBy t (at_slot p slot)
   known_at_slot p slot k = cond_both (ltb slot p.0.end) (record p.0 { stage = Slot slot }, p.1) (after_walk p) (KnowsBy t)
       (λ e. k)
       (λ e. known_after_walk p slot (ltb-false slot p.0.end e) k)
 
   -- the walk comes to a slot, and may pass an interval
-  known_come_to : (p : Pair) (slot : ℕ) → IsWalking p slot → walks t p slot → KnowsBy t (come_to p slot)
+  known_come_to : (p : SetPair) (slot : ℕ) → IsWalking p slot → walks t p slot → KnowsBy t (come_to p slot)
   known_come_to p slot walking k = cond_both (begins_at p.1.read p.0.passed slot) (at_slot (pass_interval p) (highest p.1.read p.0.passed + 1)) (at_slot p slot) (KnowsBy t)
       (λ e.
       let b = begun p slot walking e in
@@ -78,7 +78,7 @@ module _ (s : Layout) (words : List ℕ) (t : Facts) (w : AreFacts s words t) wh
       (λ e. known_at_slot p slot k)
 
   -- the walk goes on behind a slot that is done
-  walks_next : (p : Pair) (slot : ℕ) → walks t p slot → t.complete p.1.indices slot → walks t p (slot + 1)
+  walks_next : (p : SetPair) (slot : ℕ) → walks t p slot → t.complete p.1.indices slot → walks t p (slot + 1)
   walks_next p slot k here = record {
     listed = k.listed;
     noted = k.noted;
@@ -86,13 +86,13 @@ module _ (s : Layout) (words : List ℕ) (t : Facts) (w : AreFacts s words t) wh
     beyond = k.beyond;
   }
 
-module _ (p : Pair) (layout : IsLayout p.0.sizes) (words : List ℕ) (t : Facts) (w : AreFacts p.0.sizes words t) where
+module _ (p : SetPair) (layout : IsLayout p.0.sizes) (words : List ℕ) (t : Facts) (w : AreFacts p.0.sizes words t) where
   -- the number is possible at the stage, and what is known then
   Leads : Stage → ℕ → Type 0
-  Leads stage x = is_possible_at stage p x × KnowsBy t (advance_at stage p x)
+  Leads stage x = is_possible_at stage p x × KnowsBy t (advance_set_at stage p x)
 
   -- the walk goes on to the next slot
-  goes_on : (q : Pair) (slot : ℕ) → IsWalking q (slot + 1) → walks t q slot → t.complete q.1.indices slot → KnowsBy t (come_to q (slot + 1))
+  goes_on : (q : SetPair) (slot : ℕ) → IsWalking q (slot + 1) → walks t q slot → t.complete q.1.indices slot → KnowsBy t (come_to q (slot + 1))
   goes_on q slot walking k here = known_come_to p.0.sizes words t w q (slot + 1) walking (walks_next p.0.sizes words t w q slot k here)
 
   step_head : (x : ℕ) → tells_at words t Head p x → Leads Head x
@@ -108,7 +108,7 @@ module _ (p : Pair) (layout : IsLayout p.0.sizes) (words : List ℕ) (t : Facts)
             (λ e. there),
       )
 
-  step_list_len : (at x : ℕ) → goes_at (ListLen at) p → knows_by t (ListLen at) p → tells_at words t (ListLen at) p x → Leads (ListLen at) x
+  step_list_len : (at x : ℕ) → set_goes_at (ListLen at) p → knows_by t (ListLen at) p → tells_at words t (ListLen at) p x → Leads (ListLen at) x
   unfolding Leads
   step_list_len at x goes knows told =
       let list = knows.0 in
@@ -125,7 +125,7 @@ module _ (p : Pair) (layout : IsLayout p.0.sizes) (words : List ℕ) (t : Facts)
       nothing_read : (read list : Ranges) → read ≡ [] → read ≡ take (length read) list
       nothing_read read list e = rw e refl
 
-  step_list_low : (at left x : ℕ) → goes_at (ListLow at left) p → knows_by t (ListLow at left) p → tells_at words t (ListLow at left) p x → Leads (ListLow at left) x
+  step_list_low : (at left x : ℕ) → set_goes_at (ListLow at left) p → knows_by t (ListLow at left) p → tells_at words t (ListLow at left) p x → Leads (ListLow at left) x
   unfolding Leads
   step_list_low at left x goes knows told =
       let from = knows.0 in
@@ -150,7 +150,7 @@ module _ (p : Pair) (layout : IsLayout p.0.sizes) (words : List ℕ) (t : Facts)
       read_high : (list : Ranges) (k : ℕ) → p.1.read ≡ take (length p.1.read) list → k < length p.1.read → highest p.1.read k ≡ highest list k
       read_high list k is lt = ap (λ (l : Ranges). highest l k) is ∙ ap (λ (v : ℕ × ℕ). v.1) (get_or-take (length p.1.read) list k (0, 0) lt)
 
-  step_list_high : (at left lo x : ℕ) → goes_at (ListHigh at left lo) p → knows_by t (ListHigh at left lo) p → tells_at words t (ListHigh at left lo) p x → Leads (ListHigh at left lo) x
+  step_list_high : (at left lo x : ℕ) → set_goes_at (ListHigh at left lo) p → knows_by t (ListHigh at left lo) p → tells_at words t (ListHigh at left lo) p x → Leads (ListHigh at left lo) x
   unfolding Leads
   step_list_high at left lo x goes knows told =
       let from = knows.0 in
@@ -181,10 +181,10 @@ module _ (p : Pair) (layout : IsLayout p.0.sizes) (words : List ℕ) (t : Facts)
             (from, list, record { stands = r.stands; read_is = so_far ∙ ap (λ n. take n list) (sym longer); sum = omega (arith, sum, longer, more, some) }, omega (arith, place, longer))),
       )
 
-  step_counter : (x : ℕ) → goes_at Counter p → knows_by t Counter p → tells_at words t Counter p x → Leads Counter x
+  step_counter : (x : ℕ) → set_goes_at Counter p → knows_by t Counter p → tells_at words t Counter p x → Leads Counter x
   unfolding Leads
   step_counter x goes knows told =
-      let q : Pair = (record p.0 { end = min x p.0.sizes.slots; passed = 0 }, p.1) in (
+      let q : SetPair = (record p.0 { end = min x p.0.sizes.slots; passed = 0 }, p.1) in (
         told.0,
         known_come_to p.0.sizes words t w q 0 (walk_begins p x goes.0 told.0 goes.1) (record {
           listed = knows;
@@ -194,7 +194,7 @@ module _ (p : Pair) (layout : IsLayout p.0.sizes) (words : List ℕ) (t : Facts)
         }),
       )
 
-  step_slot : (slot x : ℕ) → goes_at (Slot slot) p → knows_by t (Slot slot) p → tells_at words t (Slot slot) p x → Leads (Slot slot) x
+  step_slot : (slot x : ℕ) → set_goes_at (Slot slot) p → knows_by t (Slot slot) p → tells_at words t (Slot slot) p x → Leads (Slot slot) x
   unfolding Leads
   step_slot slot x goes k (inl none) = rw none.0 (inl refl, goes_on p slot (walk_next p slot goes) k none.1)
   step_slot slot x goes k (inr (inl vacated)) =
@@ -222,7 +222,7 @@ module _ (p : Pair) (layout : IsLayout p.0.sizes) (words : List ℕ) (t : Facts)
             (λ f. (k, there))),
       )
 
-  step_len : (slot at x : ℕ) → goes_at (Len slot at) p → knows_by t (Len slot at) p → tells_at words t (Len slot at) p x → Leads (Len slot at) x
+  step_len : (slot at x : ℕ) → set_goes_at (Len slot at) p → knows_by t (Len slot at) p → tells_at words t (Len slot at) p x → Leads (Len slot at) x
   unfolding Leads
   step_len slot at x goes knows told =
       let named = knows.1.0 in
@@ -240,7 +240,7 @@ module _ (p : Pair) (layout : IsLayout p.0.sizes) (words : List ℕ) (t : Facts)
             (λ e. (knows.0, (at, named, 0, record { shown = shown; place = omega arith; sum = omega arith; so_far = λ i lt. absurd (omega (arith, lt)) }))),
       )
 
-  step_index : (slot at left x : ℕ) → goes_at (Index slot at left) p → knows_by t (Index slot at left) p → tells_at words t (Index slot at left) p x → Leads (Index slot at left) x
+  step_index : (slot at left x : ℕ) → set_goes_at (Index slot at left) p → knows_by t (Index slot at left) p → tells_at words t (Index slot at left) p x → Leads (Index slot at left) x
   unfolding Leads
   step_index slot at left x goes knows told =
       let from = knows.1.0 in
@@ -257,7 +257,7 @@ module _ (p : Pair) (layout : IsLayout p.0.sizes) (words : List ℕ) (t : Facts)
       let lt : i < length named = omega (arith, sum, some) in
       let word : x ≡ slice_index named i = told ∙ ap (slice_index words) place ∙ (announcement_reads_back words from named whole.stands).each i lt in
       let y = slice_index named i in
-      let q : Pair = (p.0, record p.1 { indices = with_index p.1.indices y }) in
+      let q : SetPair = (p.0, record p.1 { indices = with_index p.1.indices y }) in
       let walked : walks t q slot = record {
         listed = knows.0.listed;
         noted = knows.0.noted;
@@ -276,7 +276,7 @@ module _ (p : Pair) (layout : IsLayout p.0.sizes) (words : List ℕ) (t : Facts)
       )
 
   -- an answer is possible, and leads to what is known next
-  pub leads_at : (stage : Stage) (x : ℕ) → goes_at stage p → knows_by t stage p → tells_at words t stage p x → is_possible_at stage p x × KnowsBy t (advance_at stage p x)
+  pub leads_at : (stage : Stage) (x : ℕ) → set_goes_at stage p → knows_by t stage p → tells_at words t stage p x → is_possible_at stage p x × KnowsBy t (advance_set_at stage p x)
   unfolding Leads
   leads_at Head x goes knows told = step_head x told
   leads_at (ListLen at) x goes knows told = step_list_len at x goes knows told
@@ -298,6 +298,6 @@ module _ (p : Pair) (layout : IsLayout p.0.sizes) (words : List ℕ) (t : Facts)
   leads_at Done x goes knows told = absurd told
 
 -- a getSet without a due step is finished
-pub finished : (t : Facts) (y : Layout) (head : ℕ) (stage : Stage) (p : Pair) → step_at y head stage ≡ None → knows_by t stage p → has_found t p
+pub finished : (t : Facts) (y : Layout) (head : ℕ) (stage : Stage) (p : SetPair) → set_step_at y head stage ≡ None → knows_by t stage p → has_found t p
 finished t y head Done p e knows = knows
 finished t y head stage p e knows = absurd cc

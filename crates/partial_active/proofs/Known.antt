@@ -1,5 +1,5 @@
 -- What the moments behind a getSet that is answered from orderly words tell it.
-use Rattle.partial_active.proofs.Common.{ℕ, ◌≡◌, ◌<◌, ◌≤◌, true, List, [], ◌∷◌, slice_index, inl, inr, sym, subst, ◌∙◌, arith, Ranges, Layout, StandsAt, announcement_block, list_block, has_index, Pair, Facts, HasEach, HasReadSo, walks, has_found, knows_by, KnowsBy, Stage, Head, ListLen, ListLow, ListHigh, Counter, Slot, Len, Index, Claim, Write, Publish, Done, slot_at, head_at, IsAnnouncement, IsVacatedList, OnEach, AtSome}
+use Rattle.partial_active.proofs.Common.{ℕ, ◌≡◌, ◌<◌, ◌≤◌, true, List, [], ◌∷◌, slice_index, inl, inr, sym, subst, ◌∙◌, arith, Ranges, Layout, StandsAt, announcement_block, list_block, has_index, SetPair, Facts, HasEach, HasReadSo, walks, has_found, knows_by, KnowsBy, Stage, Head, ListLen, ListLow, ListHigh, Counter, Slot, Len, Index, Claim, Write, Publish, Done, slot_at, head_at, IsAnnouncement, IsVacatedList, OnEach, AtSome}
 use Rattle.partial_active.proofs.Orders.{Past, ComesFrom}
 use Rattle.partial_active.proofs.Indices.{with_index_keeps, same_named}
 use Rattle.partial_active.proofs.Knowledge.{AreFacts}
@@ -38,7 +38,7 @@ facts_of_moments s first past = record {
 }
 
 -- it is so one moment later too
-module _ (s : Layout) (first : List ℕ) (past : Past) (now : List ℕ) (p : Pair) where
+module _ (s : Layout) (first : List ℕ) (past : Past) (now : List ℕ) (p : SetPair) where
   abbrev Before : Facts
   Before = facts_of_moments s first past
 
@@ -140,5 +140,5 @@ facts_of_moments_hold s first past now comes first_in = record {
 }
 
 -- what a getSet knows by the moments behind it
-abbrev pub Knows : Layout → List ℕ → Past → Pair → Type 0
+abbrev pub Knows : Layout → List ℕ → Past → SetPair → Type 0
 Knows s first past p = KnowsBy (facts_of_moments s first past) p

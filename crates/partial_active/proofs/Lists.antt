@@ -1,5 +1,5 @@
 -- What a getSet that is answered from orderly words knows of the list that it reads and of the one that it makes.
-use Rattle.partial_active.proofs.Common.{ℕ, ◌≡◌, ◌+◌, ◌-◌, ◌<◌, ◌≤◌, ◌⊎◌, ◌↔◌, min, Bool, true, false, ◌&&◌, not, eqb, ltb, cond, Some, None, List, [], ◌∷◌, ◌++◌, length, take, get_or, slice_index, inl, inr, refl, sym, ap, subst, ◌∙◌, arith, false≢true, cases_eq, cases_lt, cond_both, ltb-false, eqb-true, eqb-false, take_more, take_all, length_push, Ranges, lowest, highest, Holds, IsNormal, Step, Load, Store, Exchange, Add, Layout, IsLayout, list_head, list_counter, slot_word, list_end, StandsAt, list_block, low_word, high_word, answer_of, list_reads_back, Stage, Head, ListLen, ListLow, ListHigh, Counter, Slot, Len, Index, Claim, Write, Publish, Done, with_index, Buffers, IsFor, begins_at, Pair, fresh, step_at, step_of, advance, advance_at, after_walk, at_slot, come_to, pass_interval, note_slot, in_stage, next_words, EndsBelow, is_possible_at, IsPossible, IsWalking, IsAtSlot, goes_at, GoTogether, AreVacated, knows_by, slot_at, head_at, IsVacatedList, Orderly, AtSome, AtSomeStep, own_moments, next_word, indices_word, intervals_word}
+use Rattle.partial_active.proofs.Common.{ℕ, ◌≡◌, ◌+◌, ◌-◌, ◌<◌, ◌≤◌, ◌⊎◌, ◌↔◌, min, Bool, true, false, ◌&&◌, not, eqb, ltb, cond, Some, None, List, [], ◌∷◌, ◌++◌, length, take, get_or, slice_index, inl, inr, refl, sym, ap, subst, ◌∙◌, arith, false≢true, cases_eq, cases_lt, cond_both, ltb-false, eqb-true, eqb-false, take_more, take_all, length_push, Ranges, lowest, highest, Holds, IsNormal, Step, Load, Store, Exchange, Add, Layout, IsLayout, list_head, list_counter, slot_word, list_end, StandsAt, list_block, low_word, high_word, answer_of, list_reads_back, Stage, Head, ListLen, ListLow, ListHigh, Counter, Slot, Len, Index, Claim, Write, Publish, Done, with_index, Buffers, AreFoundFor, begins_at, SetPair, fresh_set, set_step_at, set_step_due, advance_set, advance_set_at, after_walk, at_slot, come_to, pass_interval, note_slot, in_stage, next_words, EndsBelow, is_possible_at, IsPossibleInSet, IsWalking, IsAtSlot, set_goes_at, SetGoesTogether, AreVacated, knows_by, slot_at, head_at, IsVacatedList, Orderly, AtSome, AtSomeStep, own_moments, next_word, indices_word, intervals_word}
 use Rattle.partial_words.proofs.RecordLemmas.{length-pairs}
 use Rattle.partial_active.specs.VacatedLists.{GetSetsKeepLists, WasVacated, IsListOf, FindsVacated, ClaimsWords, StoresWord, IsStored, KeepsLists, is_reading}
 use Rattle.partial_active.proofs.Extended.{held_extended, holds_extended}
@@ -15,32 +15,32 @@ abbrev HoldsFirst : Ranges → ℕ → ℕ → Type 0
 HoldsFirst list n x = (k : ℕ) × (k < n) × (lowest list k ≤ x) × (x ≤ highest list k)
 
 -- a slot that the machine has found VACATED
-abbrev Noted : Layout → Pair → Past → ℕ → Type 0
+abbrev Noted : Layout → SetPair → Past → ℕ → Type 0
 Noted s start ms x = AtSomeStep (FindsVacated s x) start ms
 
 -- the next list holds the intervals that the walk has passed, and the slots that it has noted
-abbrev Gathered : (ℕ → Type 0) → Pair → Type 0
+abbrev Gathered : (ℕ → Type 0) → SetPair → Type 0
 Gathered N p = (x : ℕ) → Holds p.1.next x ↔ (HoldsFirst p.1.read p.0.passed x ⊎ N x)
 
 -- it holds the whole list read, and the slots that were noted
-abbrev Whole : (ℕ → Type 0) → Pair → Type 0
+abbrev Whole : (ℕ → Type 0) → SetPair → Type 0
 Whole N p = (x : ℕ) → Holds p.1.next x ↔ (Holds p.1.read x ⊎ N x)
 
 -- so much of the list at the list head is read
-record ReadsSo (s : Layout) (first : List ℕ) (p : Pair) (left : ℕ) (list : Ranges) : Type 0 where
+record ReadsSo (s : Layout) (first : List ℕ) (p : SetPair) (left : ℕ) (list : Ranges) : Type 0 where
   head : p.0.head ≡ head_at s first
   whole : IsVacatedList s first (head_at s first) list
   read_is : p.1.read ≡ take (length p.1.read) list
   count : length p.1.read + left ≡ length list
 
 -- that list is read
-record HasReadFirst (s : Layout) (first : List ℕ) (p : Pair) : Type 0 where
+record HasReadFirst (s : Layout) (first : List ℕ) (p : SetPair) : Type 0 where
   head : p.0.head ≡ head_at s first
   list : IsListOf s first p.1.read
 
-module _ (s : Layout) (start : Pair) (first : List ℕ) (ms : Past) where
+module _ (s : Layout) (start : SetPair) (first : List ℕ) (ms : Past) where
   -- what is known of the lists at a stage behind the first one
-  abbrev lists_at : Stage → Pair → Type 0
+  abbrev lists_at : Stage → SetPair → Type 0
   lists_at Head p = ⊥
   lists_at (ListLen at) p = ((x : ℕ) → Noted s start ms x → ⊥) × (at ≡ head_at s first) × (p.0.head ≡ head_at s first) × ((list : Ranges) × IsVacatedList s first (head_at s first) list)
   lists_at (ListLow at left) p = ((x : ℕ) → Noted s start ms x → ⊥) × (at ≡ low_word (head_at s first) (length p.1.read)) × ((list : Ranges) × ReadsSo s first p left list)
@@ -55,11 +55,11 @@ module _ (s : Layout) (start : Pair) (first : List ℕ) (ms : Past) where
   lists_at (Publish at) p = HasReadFirst s first p × Whole (Noted s start ms) p × IsStored s start ms p at (length (list_block p.1.next))
   lists_at Done p = HasReadFirst s first p × Whole (Noted s start ms) p
 
-  abbrev ListsOf : Pair → Type 0
+  abbrev ListsOf : SetPair → Type 0
   ListsOf p = lists_at p.0.stage p
 
   -- the walk is over: all of the list read is passed
-  lists_after_walk : (p : Pair) (slot : ℕ) → p.0.end ≤ slot → IsWalking p slot → HasReadFirst s first p → Gathered (Noted s start ms) p → ListsOf (after_walk p)
+  lists_after_walk : (p : SetPair) (slot : ℕ) → p.0.end ≤ slot → IsWalking p slot → HasReadFirst s first p → Gathered (Noted s start ms) p → ListsOf (after_walk p)
   lists_after_walk p slot over walking read gathered =
       let all : Whole (Noted s start ms) p = λ x. (
         λ h. elim ((gathered x).0 h) [
@@ -83,13 +83,13 @@ module _ (s : Layout) (start : Pair) (first : List ℕ) (ms : Past) where
       (λ e. (record { head = read.head; list = read.list }, all))
       (λ e. (record { head = read.head; list = read.list }, all))
 
-  lists_at_slot : (p : Pair) (slot : ℕ) → IsWalking p slot → HasReadFirst s first p → Gathered (Noted s start ms) p → ListsOf (at_slot p slot)
+  lists_at_slot : (p : SetPair) (slot : ℕ) → IsWalking p slot → HasReadFirst s first p → Gathered (Noted s start ms) p → ListsOf (at_slot p slot)
   lists_at_slot p slot walking read gathered = cond_both (ltb slot p.0.end) (record p.0 { stage = Slot slot }, p.1) (after_walk p) ListsOf
       (λ e. (record { head = read.head; list = read.list }, gathered))
       (λ e. lists_after_walk p slot (ltb-false slot p.0.end e) walking read gathered)
 
   -- the walk comes to a slot, and may pass an interval
-  lists_come_to : (p : Pair) (slot : ℕ) → IsWalking p slot → HasReadFirst s first p → Gathered (Noted s start ms) p → ListsOf (come_to p slot)
+  lists_come_to : (p : SetPair) (slot : ℕ) → IsWalking p slot → HasReadFirst s first p → Gathered (Noted s start ms) p → ListsOf (come_to p slot)
   lists_come_to p slot walking read gathered = cond_both (begins_at p.1.read p.0.passed slot) (at_slot (pass_interval p) (highest p.1.read p.0.passed + 1)) (at_slot p slot) ListsOf
       (λ e.
       let lo = lowest p.1.read p.0.passed in
@@ -123,33 +123,33 @@ no_interval [] e = refl
 no_interval (r ∷ list) e = absurd (omega (arith, e))
 
 -- what the next moment tells
-module _ (s : Layout) (layout : IsLayout s) (spent : Bool) (f : Buffers) (first : List ℕ) (done : Past) (p : Pair) (now : List ℕ) (b : Behind s spent f (first ∷ done) p now) where
+module _ (s : Layout) (layout : IsLayout s) (spent : Bool) (f : Buffers) (first : List ℕ) (done : Past) (p : SetPair) (now : List ℕ) (b : Behind s spent f (first ∷ done) p now) where
   abbrev Old : ℕ → Type 0
-  Old = Noted s (fresh s spent, f) (first ∷ done)
+  Old = Noted s (fresh_set s spent, f) (first ∷ done)
 
   abbrev New : ℕ → Type 0
-  New = Noted s (fresh s spent, f) ((first ∷ done) ++ now ∷ [])
+  New = Noted s (fresh_set s spent, f) ((first ∷ done) ++ now ∷ [])
 
-  abbrev Before : Stage → Pair → Type 0
-  Before stage q = lists_at s (fresh s spent, f) first (first ∷ done) stage q
+  abbrev Before : Stage → SetPair → Type 0
+  Before stage q = lists_at s (fresh_set s spent, f) first (first ∷ done) stage q
 
-  abbrev After : Pair → Type 0
-  After q = ListsOf s (fresh s spent, f) first ((first ∷ done) ++ now ∷ []) q
+  abbrev After : SetPair → Type 0
+  After q = ListsOf s (fresh_set s spent, f) first ((first ∷ done) ++ now ∷ []) q
 
   -- no slot that is VACATED is loaded
   abbrev IsQuiet : Type 0
   IsQuiet = (x : ℕ) → p.0.stage ≡ Slot x → slot_at s now x ≡ 1 → ⊥
 
   noted_on : (x : ℕ) → Old x → New x
-  noted_on x h = at_later (FindsVacated s x) (fresh s spent, f) (first ∷ done) now h
+  noted_on x h = at_later (FindsVacated s x) (fresh_set s spent, f) (first ∷ done) now h
 
   noted_back : (x : ℕ) → (p.0.stage ≡ Slot x → slot_at s now x ≡ 1 → ⊥) → New x → Old x
-  noted_back x quiet h = elim (at_split (FindsVacated s x) (fresh s spent, f) p (first ∷ done) now b.leads h) [ inl t ↦ t | inr t ↦ absurd (quiet t.0 t.1) ]
+  noted_back x quiet h = elim (at_split (FindsVacated s x) (fresh_set s spent, f) p (first ∷ done) now b.leads h) [ inl t ↦ t | inr t ↦ absurd (quiet t.0 t.1) ]
 
   none_noted : IsQuiet → ((x : ℕ) → Old x → ⊥) → (x : ℕ) → New x → ⊥
   none_noted quiet none x h = none x (noted_back x (quiet x) h)
 
-  gathered_on : (q : Pair) → q.1.next ≡ p.1.next → q.1.read ≡ p.1.read → q.0.passed ≡ p.0.passed → IsQuiet → Gathered Old p → Gathered New q
+  gathered_on : (q : SetPair) → q.1.next ≡ p.1.next → q.1.read ≡ p.1.read → q.0.passed ≡ p.0.passed → IsQuiet → Gathered Old p → Gathered New q
   gathered_on q next read passed quiet gathered x = (
     λ h. elim ((gathered x).0 (subst (λ (l : Ranges). Holds l x) next h)) [
       | inl held ↦ inl (subst (λ (l : Ranges). HoldsFirst l q.0.passed x) (sym read) (subst (λ n. HoldsFirst p.1.read n x) (sym passed) held))
@@ -168,12 +168,12 @@ module _ (s : Layout) (layout : IsLayout s) (spent : Bool) (f : Buffers) (first 
   )
 
   -- what is stored stays so
-  stored_on : (at k : ℕ) → IsStored s (fresh s spent, f) (first ∷ done) p at k → IsStored s (fresh s spent, f) ((first ∷ done) ++ now ∷ []) p at k
+  stored_on : (at k : ℕ) → IsStored s (fresh_set s spent, f) (first ∷ done) p at k → IsStored s (fresh_set s spent, f) ((first ∷ done) ++ now ∷ []) p at k
   stored_on at k w = record {
-    claimed = at_later (ClaimsWords s (length (list_block p.1.next)) at) (fresh s spent, f) (first ∷ done) now w.claimed;
+    claimed = at_later (ClaimsWords s (length (list_block p.1.next)) at) (fresh_set s spent, f) (first ∷ done) now w.claimed;
     from = w.from;
     to = w.to;
-    stored = λ i below. at_later (StoresWord (at + i) (slice_index (list_block p.1.next) i)) (fresh s spent, f) (first ∷ done) now (w.stored i below);
+    stored = λ i below. at_later (StoresWord (at + i) (slice_index (list_block p.1.next) i)) (fresh_set s spent, f) (first ∷ done) now (w.stored i below);
   }
 
   -- the list that stood at the list head stands yet
@@ -181,9 +181,9 @@ module _ (s : Layout) (layout : IsLayout s) (spent : Bool) (f : Buffers) (first 
   list_stands list whole = b.comes.0.lists list whole
 
   Steps : Stage → ℕ → Type 0
-  Steps stage x = After (advance_at stage p x)
+  Steps stage x = After (advance_set_at stage p x)
 
-  step_list_len : (at : ℕ) → p.0.stage ≡ ListLen at → goes_at (ListLen at) p → Before (ListLen at) p → Steps (ListLen at) (slice_index now at)
+  step_list_len : (at : ℕ) → p.0.stage ≡ ListLen at → set_goes_at (ListLen at) p → Before (ListLen at) p → Steps (ListLen at) (slice_index now at)
   unfolding Steps
   step_list_len at stage goes knows =
       let list = knows.3.0 in
@@ -197,7 +197,7 @@ module _ (s : Layout) (layout : IsLayout s) (spent : Bool) (f : Buffers) (first 
       (unnoted, record { head = knows.2; list = inr (subst (IsVacatedList s first (head_at s first)) same whole) }))
       (λ e. (unnoted, omega (arith, knows.1, none), (list, record { head = knows.2; whole = whole; read_is = nothing_read p.1.read list goes.0; count = omega (arith, none) }))))
 
-  step_list_low : (at left : ℕ) → p.0.stage ≡ ListLow at left → goes_at (ListLow at left) p → Before (ListLow at left) p → Steps (ListLow at left) (slice_index now at)
+  step_list_low : (at left : ℕ) → p.0.stage ≡ ListLow at left → set_goes_at (ListLow at left) p → Before (ListLow at left) p → Steps (ListLow at left) (slice_index now at)
   unfolding Steps
   step_list_low at left stage goes knows =
       let list = knows.2.0 in
@@ -209,7 +209,7 @@ module _ (s : Layout) (layout : IsLayout s) (spent : Bool) (f : Buffers) (first 
       ∙ ap (λ (r : ℕ × ℕ). r.0) ((list_reads_back now (head_at s first) list (list_stands list k.whole)).each (length p.1.read) (0, 0) lt) in
       (none_noted (λ x at one. let never : ⊥ = cc in never) knows.0, omega (arith, knows.1), (list, record { head = k.head; whole = k.whole; read_is = k.read_is; count = k.count }, low))
 
-  step_list_high : (at left lo : ℕ) → p.0.stage ≡ ListHigh at left lo → goes_at (ListHigh at left lo) p → Before (ListHigh at left lo) p → Steps (ListHigh at left lo) (slice_index now at)
+  step_list_high : (at left lo : ℕ) → p.0.stage ≡ ListHigh at left lo → set_goes_at (ListHigh at left lo) p → Before (ListHigh at left lo) p → Steps (ListHigh at left lo) (slice_index now at)
   unfolding Steps
   step_list_high at left lo stage goes knows =
       let list = knows.2.0 in
@@ -234,38 +234,38 @@ module _ (s : Layout) (layout : IsLayout s) (spent : Bool) (f : Buffers) (first 
         (list, record { head = k.head; whole = k.whole; read_is = so_far ∙ ap (λ n. take n list) (sym longer); count = omega (arith, count, longer, eqb-false left 1 e, some) }),
       )))
 
-  step_counter : (x : ℕ) → p.0.stage ≡ Counter → goes_at Counter p → EndsBelow p.1.read x → Before Counter p → Steps Counter x
+  step_counter : (x : ℕ) → p.0.stage ≡ Counter → set_goes_at Counter p → EndsBelow p.1.read x → Before Counter p → Steps Counter x
   unfolding Steps
   step_counter x stage goes below knows =
-      let q : Pair = (record p.0 { end = min x p.0.sizes.slots; passed = 0 }, p.1) in
+      let q : SetPair = (record p.0 { end = min x p.0.sizes.slots; passed = 0 }, p.1) in
       let unnoted = none_noted (λ x at one. let never : ⊥ = cc in never) knows.0 in
       let empty : length p.1.next ≡ 0 = ap length goes.1 in
-      lists_come_to s (fresh s spent, f) first ((first ∷ done) ++ now ∷ []) q 0 (walk_begins p x goes.0 below goes.1) (record { head = knows.1.head; list = knows.1.list })
+      lists_come_to s (fresh_set s spent, f) first ((first ∷ done) ++ now ∷ []) q 0 (walk_begins p x goes.0 below goes.1) (record { head = knows.1.head; list = knows.1.list })
       (λ y. (
         λ h. let inside = h.1 in absurd (omega (arith, empty, inside)),
         λ h. absurd (elim h [ inl held ↦ let inside = held.1 in omega (arith, inside) | inr noted ↦ unnoted y noted ]),
       ))
 
-  step_slot : (slot : ℕ) → p.0.stage ≡ Slot slot → IsLayout p.0.sizes → goes_at (Slot slot) p → Before (Slot slot) p → Steps (Slot slot) (slot_at s now slot)
+  step_slot : (slot : ℕ) → p.0.stage ≡ Slot slot → IsLayout p.0.sizes → set_goes_at (Slot slot) p → Before (Slot slot) p → Steps (Slot slot) (slot_at s now slot)
   unfolding Steps
   step_slot slot stage good goes knows =
       let a = slot_at s now slot in
-      let read : (q : Pair) → q.0.head ≡ p.0.head → q.1.read ≡ p.1.read →
+      let read : (q : SetPair) → q.0.head ≡ p.0.head → q.1.read ≡ p.1.read →
       HasReadFirst s first q = λ q head same. record { head = head ∙ knows.0.head; list = subst (IsListOf s first) (sym same) knows.0.list } in
       let here : (x : ℕ) → p.0.stage ≡ Slot x → x ≡ slot = λ x is. let same : Slot x ≡ Slot slot = sym is ∙ stage in cc in
       let quiet : (a ≡ 1 → ⊥) → (x : ℕ) → p.0.stage ≡ Slot x → slot_at s now x ≡ 1 → ⊥ = λ other x is one. other (ap (slot_at s now) (sym (here x is)) ∙ one) in
-      let passes : (a ≡ 1 → ⊥) → Steps' = λ other. lists_come_to s (fresh s spent, f) first ((first ∷ done) ++ now ∷ []) p (slot + 1) (walk_next p slot goes) (read p refl refl)
+      let passes : (a ≡ 1 → ⊥) → Steps' = λ other. lists_come_to s (fresh_set s spent, f) first ((first ∷ done) ++ now ∷ []) p (slot + 1) (walk_next p slot goes) (read p refl refl)
       (gathered_on p refl refl refl (quiet other) knows.1) in
       let notes : a ≡ 1 → After (come_to (note_slot p slot) (slot + 1)) = λ one.
-      lists_come_to s (fresh s spent, f) first ((first ∷ done) ++ now ∷ []) (note_slot p slot) (slot + 1) (walk_noted p slot good goes) (read (note_slot p slot) refl refl) (λ x. (
+      lists_come_to s (fresh_set s spent, f) first ((first ∷ done) ++ now ∷ []) (note_slot p slot) (slot + 1) (walk_noted p slot good goes) (read (note_slot p slot) refl refl) (λ x. (
         λ h. elim (held_extended p.1.next slot slot goes.walking.next x h) [
           | inl old ↦ elim ((knows.1 x).0 old) [ inl held ↦ inl held | inr noted ↦ inr (noted_on x noted) ]
           | inr new ↦ let is : x ≡ slot = omega (arith, new.0, new.1) in inr
-              (at_here (FindsVacated s x) (fresh s spent, f) p (first ∷ done) now b.leads (stage ∙ ap Slot (sym is), ap (slot_at s now) is ∙ one))
+              (at_here (FindsVacated s x) (fresh_set s spent, f) p (first ∷ done) now b.leads (stage ∙ ap Slot (sym is), ap (slot_at s now) is ∙ one))
         ],
         λ h. holds_extended p.1.next slot slot goes.walking.next (slot_behind s p slot layout b.sizes goes) x (elim h [
           | inl held ↦ inl ((knows.1 x).1 (inl held))
-          | inr noted ↦ elim (at_split (FindsVacated s x) (fresh s spent, f) p (first ∷ done) now b.leads noted) [
+          | inr noted ↦ elim (at_split (FindsVacated s x) (fresh_set s spent, f) p (first ∷ done) now b.leads noted) [
             | inl old ↦ inl ((knows.1 x).1 (inr old))
             | inr new ↦ let is = here x new.0 in inr (omega (arith, is), omega (arith, is))
           ]
@@ -281,31 +281,31 @@ module _ (s : Layout) (layout : IsLayout s) (spent : Bool) (f : Buffers) (first 
       Steps' = After (come_to p (slot + 1))
 
   -- the walk goes on, or stays at the slot
-  step_on : (slot : ℕ) (q : Pair) (stage : Stage) → p.0.stage ≡ stage → ((x : ℕ) → stage ≡ Slot x → ⊥) → q.1.next ≡ p.1.next → q.1.read ≡ p.1.read → q.0.passed ≡ p.0.passed →
+  step_on : (slot : ℕ) (q : SetPair) (stage : Stage) → p.0.stage ≡ stage → ((x : ℕ) → stage ≡ Slot x → ⊥) → q.1.next ≡ p.1.next → q.1.read ≡ p.1.read → q.0.passed ≡ p.0.passed →
       q.0.head ≡ p.0.head → HasReadFirst s first p × Gathered Old p → HasReadFirst s first q × Gathered New q
   step_on slot q stage is other next read passed head knows = (
     record { head = head ∙ knows.0.head; list = subst (IsListOf s first) (sym read) knows.0.list },
     gathered_on q next read passed (λ x at one. other x (sym is ∙ at)) knows.1,
   )
 
-  step_len : (slot at x : ℕ) → p.0.stage ≡ Len slot at → goes_at (Len slot at) p → Before (Len slot at) p → Steps (Len slot at) x
+  step_len : (slot at x : ℕ) → p.0.stage ≡ Len slot at → set_goes_at (Len slot at) p → Before (Len slot at) p → Steps (Len slot at) x
   unfolding Steps
   step_len slot at x stage goes knows =
       let on = step_on slot p (Len slot at) stage (λ x is. let never : ⊥ = cc in never) refl refl refl refl knows in
       cond_both (eqb x 0) (come_to p (slot + 1)) (in_stage p (Index slot (indices_word at) x)) (After)
-      (λ e. lists_come_to s (fresh s spent, f) first ((first ∷ done) ++ now ∷ []) p (slot + 1) (walk_next p slot goes.0) on.0 on.1)
+      (λ e. lists_come_to s (fresh_set s spent, f) first ((first ∷ done) ++ now ∷ []) p (slot + 1) (walk_next p slot goes.0) on.0 on.1)
       (λ e. (record { head = on.0.head; list = on.0.list }, on.1))
 
-  step_index : (slot at left x : ℕ) → p.0.stage ≡ Index slot at left → goes_at (Index slot at left) p → Before (Index slot at left) p → Steps (Index slot at left) x
+  step_index : (slot at left x : ℕ) → p.0.stage ≡ Index slot at left → set_goes_at (Index slot at left) p → Before (Index slot at left) p → Steps (Index slot at left) x
   unfolding Steps
   step_index slot at left x stage goes knows =
-      let q : Pair = (p.0, record p.1 { indices = with_index p.1.indices x }) in
+      let q : SetPair = (p.0, record p.1 { indices = with_index p.1.indices x }) in
       let on = step_on slot q (Index slot at left) stage (λ x is. let never : ⊥ = cc in never) refl refl refl refl knows in
       cond_both (eqb left 1) (come_to q (slot + 1)) (in_stage q (Index slot (next_word at) (left - 1))) (After)
-      (λ e. lists_come_to s (fresh s spent, f) first ((first ∷ done) ++ now ∷ []) q (slot + 1) (walk_next q slot (at_with p slot x goes.0)) on.0 on.1)
+      (λ e. lists_come_to s (fresh_set s spent, f) first ((first ∷ done) ++ now ∷ []) q (slot + 1) (walk_next q slot (at_with p slot x goes.0)) on.0 on.1)
       (λ e. (record { head = on.0.head; list = on.0.list }, on.1))
 
-  step_claim : (count : ℕ) → p.0.stage ≡ Claim count → goes_at (Claim count) p → Before (Claim count) p → Steps (Claim count) (slice_index now (list_counter s))
+  step_claim : (count : ℕ) → p.0.stage ≡ Claim count → set_goes_at (Claim count) p → Before (Claim count) p → Steps (Claim count) (slice_index now (list_counter s))
   unfolding Steps
   step_claim count stage goes knows =
       let x = slice_index now (list_counter s) in
@@ -318,37 +318,37 @@ module _ (s : Layout) (layout : IsLayout s) (spent : Bool) (f : Buffers) (first 
         record { head = knows.0.head; list = knows.0.list },
         whole,
         record {
-          claimed = at_here (ClaimsWords s (length (list_block p.1.next)) x) (fresh s spent, f) p (first ∷ done) now b.leads (stage ∙ ap Claim (sym length_is), refl);
+          claimed = at_here (ClaimsWords s (length (list_block p.1.next)) x) (fresh_set s spent, f) p (first ∷ done) now b.leads (stage ∙ ap Claim (sym length_is), refl);
           from = b.orderly.lists_from;
           to = let within = ltb-false (list_end p.0.sizes) (x + count) e in omega (arith, within, end, length_is);
           stored = λ k below. absurd (omega (arith, below));
         },
       ))
 
-  step_write : (at k count word x : ℕ) → p.0.stage ≡ Write at k count word → goes_at (Write at k count word) p → Before (Write at k count word) p → Steps (Write at k count word) x
+  step_write : (at k count word x : ℕ) → p.0.stage ≡ Write at k count word → set_goes_at (Write at k count word) p → Before (Write at k count word) p → Steps (Write at k count word) x
   unfolding Steps
   step_write at k count word x stage goes knows =
       let whole = whole_on (λ x at one. let never : ⊥ = cc in never) knows.1 in
       let old = stored_on at k knows.2 in
-      let stores : step_of p.0 ≡ Some (Store (at + k) word) = ap (λ st. step_at p.0.sizes p.0.head st) stage in
-      let one_more : IsStored s (fresh s spent, f) ((first ∷ done) ++ now ∷ []) p at (k + 1) = record {
+      let stores : set_step_due p.0 ≡ Some (Store (at + k) word) = ap (λ st. set_step_at p.0.sizes p.0.head st) stage in
+      let one_more : IsStored s (fresh_set s spent, f) ((first ∷ done) ++ now ∷ []) p at (k + 1) = record {
         claimed = old.claimed;
         from = old.from;
         to = old.to;
         stored = λ i below. elim (cases_eq i k) [
-          | inl is ↦ at_here (StoresWord (at + i) (slice_index (list_block p.1.next) i)) (fresh s spent, f) p (first ∷ done) now b.leads
+          | inl is ↦ at_here (StoresWord (at + i) (slice_index (list_block p.1.next) i)) (fresh_set s spent, f) p (first ∷ done) now b.leads
               (stores ∙ ap (λ n. Some (Store (at + n) word)) (sym is) ∙ ap (λ v. Some (Store (at + i) v)) (goes.3 ∙ ap (slice_index (list_block p.1.next)) (sym is)))
           | inr other ↦ old.stored i (omega (arith, below, other))
         ];
       } in
       let length_is : length (list_block p.1.next) ≡ count = let c = goes.0.count in let size = length-pairs p.1.next in omega (arith, c, size) in
-      let read : (q : Pair) → q.0.head ≡ p.0.head → q.1.read ≡ p.1.read →
+      let read : (q : SetPair) → q.0.head ≡ p.0.head → q.1.read ≡ p.1.read →
       HasReadFirst s first q = λ q head same. record { head = head ∙ knows.0.head; list = subst (IsListOf s first) (sym same) knows.0.list } in
       cond_both (eqb (k + 1) count) (Publish at) (Write at (k + 1) count (slice_index (list_block p.1.next) (k + 1))) (λ stage. After (in_stage p stage))
       (λ e.
       let all : k + 1 ≡ length (list_block p.1.next) = eqb-true (k + 1) count e ∙ sym length_is in
-      let stored : IsStored s (fresh s spent, f) ((first ∷ done) ++ now ∷ []) p at (length (list_block p.1.next)) = subst
-      (IsStored s (fresh s spent, f) ((first ∷ done) ++ now ∷ []) p at) all one_more in
+      let stored : IsStored s (fresh_set s spent, f) ((first ∷ done) ++ now ∷ []) p at (length (list_block p.1.next)) = subst
+      (IsStored s (fresh_set s spent, f) ((first ∷ done) ++ now ∷ []) p at) all one_more in
       (read (in_stage p (Publish at)) refl refl, whole, record { claimed = stored.claimed; from = stored.from; to = stored.to; stored = stored.stored }))
       (λ e. (
         read (in_stage p (Write at (k + 1) count (slice_index (list_block p.1.next) (k + 1)))) refl refl,
@@ -360,7 +360,7 @@ module _ (s : Layout) (layout : IsLayout s) (spent : Bool) (f : Buffers) (first 
   answered : (C : ℕ → Type 0) (a c : Step) → Some a ≡ Some c → C (answer_of now a) → C (answer_of now c)
   answered C a c e h = let same : a ≡ c = cc in subst (λ step. C (answer_of now step)) same h
 
-  step_known : (stage : Stage) (step : Step) → p.0.stage ≡ stage → IsPossible p (answer_of now step) → step_at p.0.sizes p.0.head stage ≡ Some step → goes_at stage p → Before stage p →
+  step_known : (stage : Stage) (step : Step) → p.0.stage ≡ stage → IsPossibleInSet p (answer_of now step) → set_step_at p.0.sizes p.0.head stage ≡ Some step → set_goes_at stage p → Before stage p →
       Steps stage (answer_of now step)
   unfolding Steps
   step_known Head step is possible e goes knows = absurd knows
@@ -383,35 +383,35 @@ module _ (s : Layout) (layout : IsLayout s) (spent : Bool) (f : Buffers) (first 
   step_known Done step is possible e goes knows = let never : ⊥ = cc in absurd never
 
 -- behind the first step
-lists_begin : (s : Layout) (spent : Bool) (f : Buffers) (first : List ℕ) → Orderly s first → ListsOf s (fresh s spent, f) first (first ∷ []) (advance (fresh s spent, f) (head_at s first))
+lists_begin : (s : Layout) (spent : Bool) (f : Buffers) (first : List ℕ) → Orderly s first → ListsOf s (fresh_set s spent, f) first (first ∷ []) (advance_set (fresh_set s spent, f) (head_at s first))
 lists_begin s spent f first orderly =
     let x = head_at s first in
-    let p : Pair = (fresh s spent, f) in
+    let p : SetPair = (fresh_set s spent, f) in
     let none : (y : ℕ) → AtSomeStep (FindsVacated s y) p (first ∷ []) → ⊥ = λ y h. elim h [ inl now ↦ let bad : Head ≡ Slot y = now.0 in cc | inr never ↦ never ] in
     cond_both (eqb x 0) Counter (ListLen x) (λ stage. ListsOf s p first (first ∷ []) (record p.0 { head = x; stage = stage }, record p.1 { indices = []; read = []; next = [] }))
     (λ e. (none, record { head = refl; list = inl (eqb-true x 0 e, refl) }))
     (λ e. (none, refl, refl, elim orderly.head [ inl empty ↦ absurd (eqb-false x 0 e empty) | inr there ↦ there ]))
 
 -- wherever a run has come to
-lists_behind : (s : Layout) (spent : Bool) (f : Buffers) (first : List ℕ) (ms : Past) (q : Pair) → IsLayout s → IsFor s f → IsPairwiseOrderly s [] (first ∷ ms) →
-    LeadsTo (fresh s spent, f) (first ∷ ms) q → ListsOf s (fresh s spent, f) first (first ∷ ms) q
+lists_behind : (s : Layout) (spent : Bool) (f : Buffers) (first : List ℕ) (ms : Past) (q : SetPair) → IsLayout s → AreFoundFor s f → IsPairwiseOrderly s [] (first ∷ ms) →
+    LeadsTo (fresh_set s spent, f) (first ∷ ms) q → ListsOf s (fresh_set s spent, f) first (first ∷ ms) q
 unfolding Steps
 lists_behind s spent f first ms q layout sizes orderly leads =
-    holds_behind s layout spent f sizes first (λ past p. ListsOf s (fresh s spent, f) first past p)
+    holds_behind s layout spent f sizes first (λ past p. ListsOf s (fresh_set s spent, f) first past p)
     (λ done p now st b due knows. step_known s layout spent f first done p now b p.0.stage st refl (b.possible st due) due b.together.stage knows)
     ms q (lists_begin s spent f first orderly.0) orderly leads
 
 -- no interval of the list read has the slot at which the walk stands
-pub at_slot_outside : (p : Pair) (slot : ℕ) → IsAtSlot p slot → Holds p.1.read slot → ⊥
+pub at_slot_outside : (p : SetPair) (slot : ℕ) → IsAtSlot p slot → Holds p.1.read slot → ⊥
 at_slot_outside p slot here holds = elim (cases_lt holds.0 p.0.passed) [
   | inl passed ↦ omega (arith, here.walking.before holds.0 passed, holds.3)
   | inr ahead ↦ omega (arith, here.outside holds.0 ahead holds.1, holds.2)
 ]
 
-goes_in : (q : Pair) (stage : Stage) → GoTogether q → q.0.stage ≡ stage → goes_at stage q
-goes_in q stage together is = subst (λ st. goes_at st q) is together.stage
+goes_in : (q : SetPair) (stage : Stage) → SetGoesTogether q → q.0.stage ≡ stage → set_goes_at stage q
+goes_in q stage together is = subst (λ st. set_goes_at st q) is together.stage
 
-knows_in : (s : Layout) (first : List ℕ) (past : Past) (q : Pair) (stage : Stage) → Knows s first past q → q.0.stage ≡ stage → knows_by (facts_of_moments s first past) stage q
+knows_in : (s : Layout) (first : List ℕ) (past : Past) (q : SetPair) (stage : Stage) → Knows s first past q → q.0.stage ≡ stage → knows_by (facts_of_moments s first past) stage q
 knows_in s first past q stage knows is = subst (λ st. knows_by (facts_of_moments s first past) st q) is knows
 
 -- what is behind was at one of the moments of the run
@@ -421,7 +421,7 @@ from_onto P first ms some = elim (onto_some P ms (first ∷ []) some) [
   | inr ahead ↦ inr ahead
 ]
 
-module _ (s : Layout) (first : List ℕ) (ms : Past) (q : Pair) (reached : Reached s first (onto ms (first ∷ [])) q) where
+module _ (s : Layout) (first : List ℕ) (ms : Past) (q : SetPair) (reached : Reached s first (onto ms (first ∷ [])) q) where
   vacated_list : IsNormal q.1.next → EndsBelow q.1.next q.0.sizes.slots → AreVacated (facts_of_moments s first (onto ms (first ∷ []))) q.1.next → WasVacated s (first ∷ ms) q.1.next
   vacated_list normal below listed = record {
     normal = normal;
@@ -430,7 +430,7 @@ module _ (s : Layout) (first : List ℕ) (ms : Past) (q : Pair) (reached : Reach
   }
 
 -- the list read, once it is
-list_read : (s : Layout) (start : Pair) (first : List ℕ) (ms : Past) (stage : Stage) (q : Pair) → is_reading stage ≡ false → lists_at s start first ms stage q → IsListOf s first q.1.read
+list_read : (s : Layout) (start : SetPair) (first : List ℕ) (ms : Past) (stage : Stage) (q : SetPair) → is_reading stage ≡ false → lists_at s start first ms stage q → IsListOf s first q.1.read
 list_read s start first ms Head q e lists = absurd (false≢true (sym e))
 list_read s start first ms (ListLen at) q e lists = absurd (false≢true (sym e))
 list_read s start first ms (ListLow at left) q e lists = absurd (false≢true (sym e))
@@ -445,10 +445,10 @@ list_read s start first ms (Publish at) q e lists = lists.0.list
 list_read s start first ms Done q e lists = lists.0.list
 
 -- the lists of vacated slots, for each machine that a run has come to
-keeps_lists : (s : Layout) (spent : Bool) (f : Buffers) (moments : Past) (q : Pair) → IsLayout s → IsFor s f → IsPairwiseOrderly s [] moments → LeadsTo (fresh s spent, f) moments q →
-    KeepsLists s (fresh s spent, f) moments q
+keeps_lists : (s : Layout) (spent : Bool) (f : Buffers) (moments : Past) (q : SetPair) → IsLayout s → AreFoundFor s f → IsPairwiseOrderly s [] moments → LeadsTo (fresh_set s spent, f) moments q →
+    KeepsLists s (fresh_set s spent, f) moments q
 keeps_lists s spent f [] q layout sizes orderly leads =
-    let fresh_stage : q.0.stage ≡ Head = ap (λ (r : Pair). r.0.stage) leads in
+    let fresh_stage : q.0.stage ≡ Head = ap (λ (r : SetPair). r.0.stage) leads in
     record {
       reads = λ e. absurd (false≢true (sym e ∙ ap is_reading fresh_stage));
       loads_none = λ slot is holds. let never : ⊥ = cc in never;
@@ -462,9 +462,9 @@ keeps_lists s spent f (first ∷ ms) q layout sizes orderly leads =
     let reached = reached_from s spent f layout sizes first ms q orderly leads in
     let lists = lists_behind s spent f first ms q layout sizes orderly leads in
     let in_stage' : (stage : Stage) → q.0.stage ≡ stage →
-    lists_at s (fresh s spent, f) first (first ∷ ms) stage q = λ stage is. subst (λ st. lists_at s (fresh s spent, f) first (first ∷ ms) st q) is lists in
+    lists_at s (fresh_set s spent, f) first (first ∷ ms) stage q = λ stage is. subst (λ st. lists_at s (fresh_set s spent, f) first (first ∷ ms) st q) is lists in
     record {
-      reads = λ e. list_read s (fresh s spent, f) first (first ∷ ms) q.0.stage q e lists;
+      reads = λ e. list_read s (fresh_set s spent, f) first (first ∷ ms) q.0.stage q e lists;
       loads_none = λ slot is. at_slot_outside q slot (goes_in q (Slot slot) reached.together is);
       claims = λ count is.
           let goes = goes_in q (Claim count) reached.together is in
@@ -481,17 +481,17 @@ keeps_lists s spent f (first ∷ ms) q layout sizes orderly leads =
           let goes = goes_in q (Publish at) reached.together is in
           let knows = knows_in s first (onto ms (first ∷ [])) q (Publish at) reached.knows is in
           let here = in_stage' (Publish at) is in
-          let due : step_of q.0 ≡ Some (Exchange (list_head s) (head_at s first) at) = ap (λ st. step_at q.0.sizes q.0.head st) is
+          let due : set_step_due q.0 ≡ Some (Exchange (list_head s) (head_at s first) at) = ap (λ st. set_step_at q.0.sizes q.0.head st) is
           ∙ ap (λ (l : Layout). Some (Exchange (list_head l) q.0.head at)) reached.sizes ∙ ap (λ n. Some (Exchange (list_head s) n at)) here.0.head in
           (record { vacated = vacated_list s first ms q reached goes.0 goes.1 knows.0; slots = here.1 }, here.2, due);
-      exchange = λ at x y is. subst (λ st. advance_at st q x ≡ advance_at st q y) (sym is) refl;
-      refused = λ count x is past_end. subst (λ st. (step_of (advance_at st q x).0 ≡ None) × ((advance_at st q x).0.lists_spent ≡ true) × ((advance_at st q x).1 ≡ q.1)) (sym is)
+      exchange = λ at x y is. subst (λ st. advance_set_at st q x ≡ advance_set_at st q y) (sym is) refl;
+      refused = λ count x is past_end. subst (λ st. (set_step_due (advance_set_at st q x).0 ≡ None) × ((advance_set_at st q x).0.lists_spent ≡ true) × ((advance_set_at st q x).1 ≡ q.1)) (sym is)
           (cond_both (ltb (list_end q.0.sizes) (x + count)) (record q.0 { lists_spent = true; stage = Done }, q.1) (in_stage q (Write x 0 count (length q.1.next)))
-          (λ (r : Pair). (step_of r.0 ≡ None) × (r.0.lists_spent ≡ true) × (r.1 ≡ q.1))
+          (λ (r : SetPair). (set_step_due r.0 ≡ None) × (r.0.lists_spent ≡ true) × (r.1 ≡ q.1))
           (λ e. (refl, refl, refl))
           (λ e. absurd (omega (arith, ltb-false (list_end q.0.sizes) (x + count) e, past_end))));
     }
 
 pub lists_by_events : GetSetsKeepLists
 lists_by_events s spent f own words events q layout sizes orderly makes =
-    keeps_lists s spent f (own_moments own words events) q layout sizes (moments_of s own words events orderly) (own_leads own (fresh s spent, f) q words events makes)
+    keeps_lists s spent f (own_moments own words events) q layout sizes (moments_of s own words events orderly) (own_leads own (fresh_set s spent, f) q words events makes)

@@ -1,18 +1,19 @@
 -- What a step of a getSet leaves, where its answer comes from elsewhere.
-use Rattle.partial_active.proofs.Common.{ℕ, ◌≡◌, sym, ap, subst, ◌∙◌, AreIndices, Pair, advance, GoTogether, IsPossible, IsAt}
+use Rattle.partial_active.proofs.Common.{ℕ, ◌≡◌, sym, ap, subst, ◌∙◌, AreIndices, SetPair, advance_set, SetGoesTogether, IsPossibleInSet, IsAt}
 use Rattle.partial_active.proofs.Sizes.{sizes_at}
 use Rattle.partial_active.proofs.Distinct.{found_kept}
 
 -- the steps are at the getSet q, to which the answer x has led
-pub made_on : {A : Type 0} (goes : A → Type 0) (set : A → Pair) (old new : A) (p q : Pair) (x : ℕ) → IsAt goes set old p → goes new → IsPossible (set old) x → set new ≡ advance (set old) x →
-    q ≡ advance p x → GoTogether q → IsAt goes set new q
+pub made_on : {A : Type 0} (goes : A → Type 0) (set : A → SetPair) (old new : A) (p q : SetPair) (x : ℕ) → IsAt goes set old p → goes new → IsPossibleInSet (set old) x →
+    set new ≡ advance_set (set old) x →
+    q ≡ advance_set p x → SetGoesTogether q → IsAt goes set new q
 made_on goes set old new p q x at going possible then is together =
-    let may : IsPossible p x = subst (λ (r : Pair). IsPossible r x) at.there possible in
-    let named : AreIndices p.0.sizes.m (advance p x).1.indices = found_kept p.0.stage p x may at.indices in
-    let sizes : q.0.sizes ≡ p.0.sizes = ap (λ (r : Pair). r.0.sizes) is ∙ sizes_at p.0.stage p x in
+    let may : IsPossibleInSet p x = subst (λ (r : SetPair). IsPossibleInSet r x) at.there possible in
+    let named : AreIndices p.0.sizes.m (advance_set p x).1.indices = found_kept p.0.stage p x may at.indices in
+    let sizes : q.0.sizes ≡ p.0.sizes = ap (λ (r : SetPair). r.0.sizes) is ∙ sizes_at p.0.stage p x in
     record {
       going = going;
-      there = then ∙ ap (λ (r : Pair). advance r x) at.there ∙ sym is;
+      there = then ∙ ap (λ (r : SetPair). advance_set r x) at.there ∙ sym is;
       together = together;
-      indices = subst (λ z. AreIndices z.m q.1.indices) (sym sizes) (subst (λ (r : Pair). AreIndices p.0.sizes.m r.1.indices) (sym is) named);
+      indices = subst (λ z. AreIndices z.m q.1.indices) (sym sizes) (subst (λ (r : SetPair). AreIndices p.0.sizes.m r.1.indices) (sym is) named);
     }

@@ -1,6 +1,6 @@
 -- What a getSet that is answered from orderly words knows of the announcements that it has found, and in which order it
 -- names their indices.
-use Rattle.partial_active.proofs.Common.{ℕ, ◌≡◌, ◌+◌, ◌-◌, ◌<◌, ◌≤◌, ◌⊎◌, ◌↔◌, min, Bool, true, ◌||◌, ◌&&◌, not, eqb, ltb, cond, Some, None, List, [], ◌∷◌, ◌++◌, length, map, take, get_or, slice_index, inl, inr, refl, sym, ap, subst, ◌∙◌, arith, append-nil, flat_map, list_any, cases_lt, cond_both, eqb-true, eqb-false, take_more, take_all, length_push, ext_get_or, get_or_append_left, get_or_push, map-append, length-map, get_or-map, highest, Step, Load, Layout, IsLayout, list_head, slot_word, list_end, StandsAt, announcement_block, announced_word, list_block, answer_of, announcement_reads_back, Stage, Head, ListLen, ListLow, ListHigh, Counter, Slot, Len, Index, Claim, Write, Publish, Done, has_index, with_index, Buffers, IsFor, begins_at, Pair, fresh, step_at, step_of, advance, advance_at, after_walk, at_slot, come_to, pass_interval, note_slot, in_stage, next_words, EndsBelow, is_possible_at, IsPossible, IsWalking, IsAtSlot, goes_at, slot_at, head_at, IsAnnouncement, AtSome, AtSomeStep, own_moments, Announcement, FindsAnnouncement, with_all, each_once, AreRising, AreInOrder, GetSetsFindInOrder, next_word, indices_word, intervals_word}
+use Rattle.partial_active.proofs.Common.{ℕ, ◌≡◌, ◌+◌, ◌-◌, ◌<◌, ◌≤◌, ◌⊎◌, ◌↔◌, min, Bool, true, ◌||◌, ◌&&◌, not, eqb, ltb, cond, Some, None, List, [], ◌∷◌, ◌++◌, length, map, take, get_or, slice_index, inl, inr, refl, sym, ap, subst, ◌∙◌, arith, append-nil, flat_map, list_any, cases_lt, cond_both, eqb-true, eqb-false, take_more, take_all, length_push, ext_get_or, get_or_append_left, get_or_push, map-append, length-map, get_or-map, highest, Step, Load, Layout, IsLayout, list_head, slot_word, list_end, StandsAt, announcement_block, announced_word, list_block, answer_of, announcement_reads_back, Stage, Head, ListLen, ListLow, ListHigh, Counter, Slot, Len, Index, Claim, Write, Publish, Done, has_index, with_index, Buffers, AreFoundFor, begins_at, SetPair, fresh_set, set_step_at, set_step_due, advance_set, advance_set_at, after_walk, at_slot, come_to, pass_interval, note_slot, in_stage, next_words, EndsBelow, is_possible_at, IsPossibleInSet, IsWalking, IsAtSlot, set_goes_at, slot_at, head_at, IsAnnouncement, AtSome, AtSomeStep, own_moments, Announcement, FindsAnnouncement, with_all, each_once, AreRising, AreInOrder, GetSetsFindInOrder, next_word, indices_word, intervals_word}
 use Rattle.std.specs.Prelude.{nat_eq, Contains}
 use Rattle.std.specs.List.{IsDistinct}
 use Rattle.std.proofs.lemmas.Cmp.{nat_eq_equiv}
@@ -49,7 +49,7 @@ rising_push xs n rising below j k less inside =
     ]
 
 -- the announcements found so far, all in slots below
-pub record Named (s : Layout) (start : Pair) (ms : Past) (slot : ℕ) (indices : List ℕ) : Type 0 where
+pub record Named (s : Layout) (start : SetPair) (ms : Past) (slot : ℕ) (indices : List ℕ) : Type 0 where
   pub found : List Announcement
   pub rising : AreRising (map (λ (a : Announcement). a.slot) found)
   pub below : (a : Announcement) → Contains found a → a.slot < slot
@@ -57,7 +57,7 @@ pub record Named (s : Layout) (start : Pair) (ms : Past) (slot : ℕ) (indices :
   pub gathered : indices ≡ each_once (flat_map (λ (a : Announcement). a.named) found)
 
 -- the same, and one more announcement, of which i indices are read
-record Reading (s : Layout) (start : Pair) (ms : Past) (a : Announcement) (i : ℕ) (indices : List ℕ) : Type 0 where
+record Reading (s : Layout) (start : SetPair) (ms : Past) (a : Announcement) (i : ℕ) (indices : List ℕ) : Type 0 where
   found : List Announcement
   rising : AreRising (map (λ (b : Announcement). b.slot) found)
   below : (b : Announcement) → Contains found b → b.slot < a.slot
@@ -65,11 +65,11 @@ record Reading (s : Layout) (start : Pair) (ms : Past) (a : Announcement) (i : �
   gathered : indices ≡ with_all (each_once (flat_map (λ (b : Announcement). b.named) found)) (take i a.named)
 
 -- the announcements found in all slots
-abbrev NamedAll : Layout → Pair → Past → Pair → Type 0
+abbrev NamedAll : Layout → SetPair → Past → SetPair → Type 0
 NamedAll s start ms p = (n : ℕ) × (n ≤ p.0.sizes.slots) × Named s start ms n p.1.indices
 
 -- what is known of them at a stage behind the first one
-named_at : Layout → Pair → Past → Stage → Pair → Type 0
+named_at : Layout → SetPair → Past → Stage → SetPair → Type 0
 named_at s start ms Head p = ⊥
 named_at s start ms (ListLen at) p = (p.1.indices ≡ []) × ((a : Announcement) → AtSomeStep (FindsAnnouncement s a) start ms → ⊥)
 named_at s start ms (ListLow at left) p = (p.1.indices ≡ []) × ((a : Announcement) → AtSomeStep (FindsAnnouncement s a) start ms → ⊥)
@@ -85,25 +85,25 @@ named_at s start ms (Write at k count word) p = NamedAll s start ms p
 named_at s start ms (Publish at) p = NamedAll s start ms p
 named_at s start ms Done p = NamedAll s start ms p
 
-abbrev NamedBy : Layout → Pair → Past → Pair → Type 0
+abbrev NamedBy : Layout → SetPair → Past → SetPair → Type 0
 NamedBy s start ms p = named_at s start ms p.0.stage p
 
 -- the walk goes on
-named_higher : (s : Layout) (start : Pair) (ms : Past) (slot n : ℕ) (indices : List ℕ) → slot ≤ n → Named s start ms slot indices → Named s start ms n indices
+named_higher : (s : Layout) (start : SetPair) (ms : Past) (slot n : ℕ) (indices : List ℕ) → slot ≤ n → Named s start ms slot indices → Named s start ms n indices
 named_higher s start ms slot n indices le w =
     record { found = w.found; rising = w.rising; below = λ a h. let b = w.below a h in omega (arith, b, le); loaded = w.loaded; gathered = w.gathered }
 
-named_after_walk : (s : Layout) (start : Pair) (ms : Past) (p : Pair) (slot : ℕ) → slot ≤ p.0.sizes.slots → Named s start ms slot p.1.indices → NamedBy s start ms (after_walk p)
+named_after_walk : (s : Layout) (start : SetPair) (ms : Past) (p : SetPair) (slot : ℕ) → slot ≤ p.0.sizes.slots → Named s start ms slot p.1.indices → NamedBy s start ms (after_walk p)
 unfolding named_at
 named_after_walk s start ms p slot within w = cond_both (p.0.noted && not p.0.lists_spent) (Claim (next_words p.1)) Done (λ stage. NamedBy s start ms (record p.0 { stage = stage }, p.1))
     (λ e. (slot, within, w)) (λ e. (slot, within, w))
 
-named_at_slot : (s : Layout) (start : Pair) (ms : Past) (p : Pair) (slot : ℕ) → slot ≤ p.0.sizes.slots → Named s start ms slot p.1.indices → NamedBy s start ms (at_slot p slot)
+named_at_slot : (s : Layout) (start : SetPair) (ms : Past) (p : SetPair) (slot : ℕ) → slot ≤ p.0.sizes.slots → Named s start ms slot p.1.indices → NamedBy s start ms (at_slot p slot)
 unfolding named_at
 named_at_slot s start ms p slot within w = cond_both (ltb slot p.0.end) (record p.0 { stage = Slot slot }, p.1) (after_walk p) (NamedBy s start ms) (λ e. w)
     (λ e. named_after_walk s start ms p slot within w)
 
-named_come_to : (s : Layout) (start : Pair) (ms : Past) (p : Pair) (slot : ℕ) → IsWalking p slot → Named s start ms slot p.1.indices → NamedBy s start ms (come_to p slot)
+named_come_to : (s : Layout) (start : SetPair) (ms : Past) (p : SetPair) (slot : ℕ) → IsWalking p slot → Named s start ms slot p.1.indices → NamedBy s start ms (come_to p slot)
 named_come_to s start ms p slot walking w = cond_both (begins_at p.1.read p.0.passed slot) (at_slot (pass_interval p) (highest p.1.read p.0.passed + 1)) (at_slot p slot) (NamedBy s start ms)
     (λ e.
     let b = begun p slot walking e in
@@ -114,7 +114,7 @@ named_come_to s start ms p slot walking w = cond_both (begins_at p.1.read p.0.pa
     (λ e. named_at_slot s start ms p slot walking.slot_within w)
 
 -- an announcement that is read whole is one more that is found
-named_more : (s : Layout) (start : Pair) (ms : Past) (a : Announcement) (i : ℕ) (indices : List ℕ) → length a.named ≤ i → Reading s start ms a i indices →
+named_more : (s : Layout) (start : SetPair) (ms : Past) (a : Announcement) (i : ℕ) (indices : List ℕ) → length a.named ≤ i → Reading s start ms a i indices →
     Named s start ms (a.slot + 1) indices
 named_more s start ms a i indices whole w =
     let f : Announcement → List ℕ = λ b. b.named in
@@ -163,30 +163,30 @@ one_announcement s words a b slot there here =
     ap (λ n. record { slot = n; named = a.named }) slot ∙ ap (λ l. record { slot = b.slot; named = l }) named
 
 -- what the next moment tells
-module _ (s : Layout) (layout : IsLayout s) (spent : Bool) (f : Buffers) (first : List ℕ) (done : Past) (p : Pair) (now : List ℕ) (b : Behind s spent f (first ∷ done) p now) where
+module _ (s : Layout) (layout : IsLayout s) (spent : Bool) (f : Buffers) (first : List ℕ) (done : Past) (p : SetPair) (now : List ℕ) (b : Behind s spent f (first ∷ done) p now) where
   abbrev Old : Announcement → Type 0
-  Old a = AtSomeStep (FindsAnnouncement s a) (fresh s spent, f) (first ∷ done)
+  Old a = AtSomeStep (FindsAnnouncement s a) (fresh_set s spent, f) (first ∷ done)
 
   abbrev New : Announcement → Type 0
-  New a = AtSomeStep (FindsAnnouncement s a) (fresh s spent, f) ((first ∷ done) ++ now ∷ [])
+  New a = AtSomeStep (FindsAnnouncement s a) (fresh_set s spent, f) ((first ∷ done) ++ now ∷ [])
 
-  abbrev Before : Stage → Pair → Type 0
-  Before stage q = named_at s (fresh s spent, f) (first ∷ done) stage q
+  abbrev Before : Stage → SetPair → Type 0
+  Before stage q = named_at s (fresh_set s spent, f) (first ∷ done) stage q
 
-  abbrev After : Pair → Type 0
-  After q = NamedBy s (fresh s spent, f) ((first ∷ done) ++ now ∷ []) q
+  abbrev After : SetPair → Type 0
+  After q = NamedBy s (fresh_set s spent, f) ((first ∷ done) ++ now ∷ []) q
 
   -- no announcement is found
   abbrev IsQuiet : Type 0
   IsQuiet = (a : Announcement) → FindsAnnouncement s a p now → ⊥
 
   found_on : (a : Announcement) → Old a → New a
-  found_on a h = at_later (FindsAnnouncement s a) (fresh s spent, f) (first ∷ done) now h
+  found_on a h = at_later (FindsAnnouncement s a) (fresh_set s spent, f) (first ∷ done) now h
 
   found_back : IsQuiet → (a : Announcement) → New a → Old a
-  found_back quiet a h = elim (at_split (FindsAnnouncement s a) (fresh s spent, f) p (first ∷ done) now b.leads h) [ inl t ↦ t | inr t ↦ absurd (quiet a t) ]
+  found_back quiet a h = elim (at_split (FindsAnnouncement s a) (fresh_set s spent, f) p (first ∷ done) now b.leads h) [ inl t ↦ t | inr t ↦ absurd (quiet a t) ]
 
-  named_on : IsQuiet → (slot : ℕ) (indices : List ℕ) → Named s (fresh s spent, f) (first ∷ done) slot indices → Named s (fresh s spent, f) ((first ∷ done) ++ now ∷ []) slot indices
+  named_on : IsQuiet → (slot : ℕ) (indices : List ℕ) → Named s (fresh_set s spent, f) (first ∷ done) slot indices → Named s (fresh_set s spent, f) ((first ∷ done) ++ now ∷ []) slot indices
   named_on quiet slot indices w = record {
     found = w.found;
     rising = w.rising;
@@ -196,7 +196,7 @@ module _ (s : Layout) (layout : IsLayout s) (spent : Bool) (f : Buffers) (first 
   }
 
   reading_on : IsQuiet → (a : Announcement) (i j : ℕ) (indices more : List ℕ) → ((l : List ℕ) → indices ≡ with_all l (take i a.named) → more ≡ with_all l (take j a.named)) →
-      Reading s (fresh s spent, f) (first ∷ done) a i indices → Reading s (fresh s spent, f) ((first ∷ done) ++ now ∷ []) a j more
+      Reading s (fresh_set s spent, f) (first ∷ done) a i indices → Reading s (fresh_set s spent, f) ((first ∷ done) ++ now ∷ []) a j more
   reading_on quiet a i j indices more is w = record {
     found = w.found;
     rising = w.rising;
@@ -213,7 +213,7 @@ module _ (s : Layout) (layout : IsLayout s) (spent : Bool) (f : Buffers) (first 
   nothing_on quiet indices w same = (same ∙ w.0, λ a h. w.1 a (found_back quiet a h))
 
   Steps : Stage → ℕ → Type 0
-  Steps stage x = NamedBy s (fresh s spent, f) ((first ∷ done) ++ now ∷ []) (advance_at stage p x)
+  Steps stage x = NamedBy s (fresh_set s spent, f) ((first ∷ done) ++ now ∷ []) (advance_set_at stage p x)
 
   step_list_len : (at x : ℕ) → p.0.stage ≡ ListLen at → Before (ListLen at) p → Steps (ListLen at) x
   unfolding Steps named_at
@@ -227,12 +227,12 @@ module _ (s : Layout) (layout : IsLayout s) (spent : Bool) (f : Buffers) (first 
       let on = nothing_on (quiet_at (ListHigh at left lo) stage (λ slot is. let never : ⊥ = cc in never)) p.1.indices knows refl in
       cond_both (eqb left 1) Counter (ListLow (next_word at) (left - 1)) (λ stage. After (record p.0 { stage = stage }, record p.1 { read = p.1.read ++ (lo, x) ∷ [] })) (λ e. on) (λ e. on)
 
-  step_counter : (x : ℕ) → p.0.stage ≡ Counter → goes_at Counter p → EndsBelow p.1.read x → Before Counter p → Steps Counter x
+  step_counter : (x : ℕ) → p.0.stage ≡ Counter → set_goes_at Counter p → EndsBelow p.1.read x → Before Counter p → Steps Counter x
   unfolding Steps named_at IsDistinct
   step_counter x stage goes below knows =
-      let q : Pair = (record p.0 { end = min x p.0.sizes.slots; passed = 0 }, p.1) in
+      let q : SetPair = (record p.0 { end = min x p.0.sizes.slots; passed = 0 }, p.1) in
       let on = nothing_on (quiet_at Counter stage (λ slot is. let never : ⊥ = cc in never)) p.1.indices knows refl in
-      named_come_to s (fresh s spent, f) ((first ∷ done) ++ now ∷ []) q 0 (walk_begins p x goes.0 below goes.1) (record {
+      named_come_to s (fresh_set s spent, f) ((first ∷ done) ++ now ∷ []) q 0 (walk_begins p x goes.0 below goes.1) (record {
         found = [];
         rising = λ j k less inside. absurd (omega (arith, inside));
         below = λ a h. let inside = h.1 in absurd (omega (arith, inside));
@@ -241,8 +241,8 @@ module _ (s : Layout) (layout : IsLayout s) (spent : Bool) (f : Buffers) (first 
       })
 
   -- an announcement is found
-  announced : (slot : ℕ) (named : List ℕ) → p.0.stage ≡ Slot slot → IsAnnouncement s now (slot_at s now slot) named → Named s (fresh s spent, f) (first ∷ done) slot p.1.indices →
-      Reading s (fresh s spent, f) ((first ∷ done) ++ now ∷ []) (record { slot = slot; named = named }) 0 p.1.indices
+  announced : (slot : ℕ) (named : List ℕ) → p.0.stage ≡ Slot slot → IsAnnouncement s now (slot_at s now slot) named → Named s (fresh_set s spent, f) (first ∷ done) slot p.1.indices →
+      Reading s (fresh_set s spent, f) ((first ∷ done) ++ now ∷ []) (record { slot = slot; named = named }) 0 p.1.indices
   announced slot named stage there w =
       let a : Announcement = record { slot = slot; named = named } in
       let finds : FindsAnnouncement s a p now = (stage, there) in
@@ -253,9 +253,9 @@ module _ (s : Layout) (layout : IsLayout s) (spent : Bool) (f : Buffers) (first 
         loaded = λ c. (
           λ h. elim h [
             | inl old ↦ found_on c ((w.loaded c).0 old)
-            | inr same ↦ at_here (FindsAnnouncement s c) (fresh s spent, f) p (first ∷ done) now b.leads (subst (λ (d : Announcement). FindsAnnouncement s d p now) same finds)
+            | inr same ↦ at_here (FindsAnnouncement s c) (fresh_set s spent, f) p (first ∷ done) now b.leads (subst (λ (d : Announcement). FindsAnnouncement s d p now) same finds)
           ],
-          λ h. elim (at_split (FindsAnnouncement s c) (fresh s spent, f) p (first ∷ done) now b.leads h) [
+          λ h. elim (at_split (FindsAnnouncement s c) (fresh_set s spent, f) p (first ∷ done) now b.leads h) [
             | inl old ↦ inl ((w.loaded c).1 old)
             | inr new ↦
                 let same : Slot slot ≡ Slot c.slot = sym stage ∙ new.0 in
@@ -266,7 +266,7 @@ module _ (s : Layout) (layout : IsLayout s) (spent : Bool) (f : Buffers) (first 
         gathered = w.gathered;
       }
 
-  step_slot : (slot : ℕ) → p.0.stage ≡ Slot slot → IsLayout p.0.sizes → goes_at (Slot slot) p → Before (Slot slot) p → Steps (Slot slot) (slot_at s now slot)
+  step_slot : (slot : ℕ) → p.0.stage ≡ Slot slot → IsLayout p.0.sizes → set_goes_at (Slot slot) p → Before (Slot slot) p → Steps (Slot slot) (slot_at s now slot)
   unfolding Steps named_at
   step_slot slot stage good goes w =
       let a = slot_at s now slot in
@@ -277,10 +277,10 @@ module _ (s : Layout) (layout : IsLayout s) (spent : Bool) (f : Buffers) (first 
       let from = h.1.from in
       let word : slot_at s now c.slot ≡ a = ap (slot_at s now) (sym is) in
       omega (arith, from, word, small) in
-      let passes : (q : Pair) → IsWalking q (slot + 1) → q.1.indices ≡ p.1.indices → a ≤ 1 → After (come_to q (slot + 1)) = λ q walking same small.
-      named_come_to s (fresh s spent, f) ((first ∷ done) ++ now ∷ []) q (slot + 1) walking
-      (subst (Named s (fresh s spent, f) ((first ∷ done) ++ now ∷ []) (slot + 1)) (sym same)
-      (named_higher s (fresh s spent, f) ((first ∷ done) ++ now ∷ []) slot (slot + 1) p.1.indices (omega arith) (named_on (quiet small) slot p.1.indices w))) in
+      let passes : (q : SetPair) → IsWalking q (slot + 1) → q.1.indices ≡ p.1.indices → a ≤ 1 → After (come_to q (slot + 1)) = λ q walking same small.
+      named_come_to s (fresh_set s spent, f) ((first ∷ done) ++ now ∷ []) q (slot + 1) walking
+      (subst (Named s (fresh_set s spent, f) ((first ∷ done) ++ now ∷ []) (slot + 1)) (sym same)
+      (named_higher s (fresh_set s spent, f) ((first ∷ done) ++ now ∷ []) slot (slot + 1) p.1.indices (omega arith) (named_on (quiet small) slot p.1.indices w))) in
       cond_both (eqb a 0) (come_to p (slot + 1)) (cond (eqb a 1) (come_to (note_slot p slot) (slot + 1)) (in_stage p (Len slot a))) After
       (λ e. passes p (walk_next p slot goes) refl (let none = eqb-true a 0 e in omega (arith, none)))
       (λ not_empty. cond_both (eqb a 1) (come_to (note_slot p slot) (slot + 1)) (in_stage p (Len slot a)) After
@@ -301,7 +301,7 @@ module _ (s : Layout) (layout : IsLayout s) (spent : Bool) (f : Buffers) (first 
       let slots = ap (λ (l : Layout). l.slots) b.sizes in
       (announced_yet s (first ∷ done) now b.comes slot from named (omega (arith, below, end, slots)) was).stands
 
-  step_len : (slot at : ℕ) → p.0.stage ≡ Len slot at → goes_at (Len slot at) p → Before (Len slot at) p → Steps (Len slot at) (slice_index now at)
+  step_len : (slot at : ℕ) → p.0.stage ≡ Len slot at → set_goes_at (Len slot at) p → Before (Len slot at) p → Steps (Len slot at) (slice_index now at)
   unfolding Steps named_at
   step_len slot at stage goes knows =
       let a = knows.0 in
@@ -311,12 +311,12 @@ module _ (s : Layout) (layout : IsLayout s) (spent : Bool) (f : Buffers) (first 
       let quiet = quiet_at (Len slot at) stage (λ slot is. let never : ⊥ = cc in never) in
       let on = reading_on quiet a 0 0 p.1.indices p.1.indices (λ l e. e) knows.2 in
       rw count (cond_both (eqb (length a.named) 0) (come_to p (slot + 1)) (in_stage p (Index slot (indices_word at) (length a.named))) After
-      (λ e. let none = eqb-true (length a.named) 0 e in named_come_to s (fresh s spent, f) ((first ∷ done) ++ now ∷ []) p (slot + 1) (walk_next p slot goes.0)
-      (subst (λ n. Named s (fresh s spent, f) ((first ∷ done) ++ now ∷ []) (n + 1) p.1.indices) same
-      (named_more s (fresh s spent, f) ((first ∷ done) ++ now ∷ []) a 0 p.1.indices (omega (arith, none)) on)))
+      (λ e. let none = eqb-true (length a.named) 0 e in named_come_to s (fresh_set s spent, f) ((first ∷ done) ++ now ∷ []) p (slot + 1) (walk_next p slot goes.0)
+      (subst (λ n. Named s (fresh_set s spent, f) ((first ∷ done) ++ now ∷ []) (n + 1) p.1.indices) same
+      (named_more s (fresh_set s spent, f) ((first ∷ done) ++ now ∷ []) a 0 p.1.indices (omega (arith, none)) on)))
       (λ e. (a, same, at, 0, on, some_later (IsLoaded s slot at a.named) (first ∷ done) now was, omega arith, omega arith)))
 
-  step_index : (slot at left : ℕ) → p.0.stage ≡ Index slot at left → goes_at (Index slot at left) p → Before (Index slot at left) p → Steps (Index slot at left) (slice_index now at)
+  step_index : (slot at left : ℕ) → p.0.stage ≡ Index slot at left → set_goes_at (Index slot at left) p → Before (Index slot at left) p → Steps (Index slot at left) (slice_index now at)
   unfolding Steps named_at
   step_index slot at left stage goes knows =
       let a = knows.0 in
@@ -330,26 +330,27 @@ module _ (s : Layout) (layout : IsLayout s) (spent : Bool) (f : Buffers) (first 
       let lt : i < length a.named = omega (arith, count, some) in
       let word : slice_index now at ≡ slice_index a.named i = ap (slice_index now) place ∙ (announcement_reads_back now from a.named (stands slot from a.named goes.0 was)).each i lt in
       let x = slice_index a.named i in
-      let q : Pair = (p.0, record p.1 { indices = with_index p.1.indices x }) in
+      let q : SetPair = (p.0, record p.1 { indices = with_index p.1.indices x }) in
       let quiet = quiet_at (Index slot at left) stage (λ slot is. let never : ⊥ = cc in never) in
       let one_more : (l : List ℕ) → p.1.indices ≡ with_all l (take i a.named) → with_index p.1.indices x ≡ with_all l (take (i + 1) a.named) = λ l e.
       ap (λ (m : List ℕ). with_index m x) e ∙ sym (with_all-append l (take i a.named) (x ∷ [])) ∙ ap (with_all l) (sym (take_more a.named i 0 lt)) in
       let on = reading_on quiet a i (i + 1) p.1.indices (with_index p.1.indices x) one_more knows.4 in
       rw word (cond_both (eqb left 1) (come_to q (slot + 1)) (in_stage q (Index slot (next_word at) (left - 1))) After
-      (λ e. let last = eqb-true left 1 e in named_come_to s (fresh s spent, f) ((first ∷ done) ++ now ∷ []) q (slot + 1) (walk_next q slot (at_with p slot x goes.0))
-      (subst (λ n. Named s (fresh s spent, f) ((first ∷ done) ++ now ∷ []) (n + 1) (with_index p.1.indices x)) same
-      (named_more s (fresh s spent, f) ((first ∷ done) ++ now ∷ []) a (i + 1) (with_index p.1.indices x) (omega (arith, last, count)) on)))
+      (λ e. let last = eqb-true left 1 e in named_come_to s (fresh_set s spent, f) ((first ∷ done) ++ now ∷ []) q (slot + 1) (walk_next q slot (at_with p slot x goes.0))
+      (subst (λ n. Named s (fresh_set s spent, f) ((first ∷ done) ++ now ∷ []) (n + 1) (with_index p.1.indices x)) same
+      (named_more s (fresh_set s spent, f) ((first ∷ done) ++ now ∷ []) a (i + 1) (with_index p.1.indices x) (omega (arith, last, count)) on)))
       (λ e. let more = eqb-false left 1 e in
       (a, same, from, i + 1, on, some_later (IsLoaded s slot from a.named) (first ∷ done) now was, omega (arith, place), omega (arith, count, some, more))))
 
-  ended_on : (stage : Stage) → p.0.stage ≡ stage → ((slot : ℕ) → stage ≡ Slot slot → ⊥) → NamedAll s (fresh s spent, f) (first ∷ done) p → NamedAll s (fresh s spent, f) ((first ∷ done) ++ now ∷ []) p
+  ended_on : (stage : Stage) → p.0.stage ≡ stage → ((slot : ℕ) → stage ≡ Slot slot → ⊥) → NamedAll s (fresh_set s spent, f) (first ∷ done) p →
+      NamedAll s (fresh_set s spent, f) ((first ∷ done) ++ now ∷ []) p
   ended_on stage is other w = (w.0, w.1, named_on (quiet_at stage is other) w.0 p.1.indices w.2)
 
   -- the answer that the words give to a step that is known
   answered : (C : ℕ → Type 0) (c d : Step) → Some c ≡ Some d → C (answer_of now c) → C (answer_of now d)
   answered C c d e h = let same : c ≡ d = cc in subst (λ step. C (answer_of now step)) same h
 
-  step_known : (stage : Stage) (step : Step) → p.0.stage ≡ stage → IsPossible p (answer_of now step) → step_at p.0.sizes p.0.head stage ≡ Some step → goes_at stage p → Before stage p →
+  step_known : (stage : Stage) (step : Step) → p.0.stage ≡ stage → IsPossibleInSet p (answer_of now step) → set_step_at p.0.sizes p.0.head stage ≡ Some step → set_goes_at stage p → Before stage p →
       Steps stage (answer_of now step)
   unfolding Steps named_at
   step_known Head step is possible e goes knows = absurd knows
@@ -374,36 +375,36 @@ module _ (s : Layout) (layout : IsLayout s) (spent : Bool) (f : Buffers) (first 
   step_known Done step is possible e goes knows = let never : ⊥ = cc in absurd never
 
 -- behind the first step
-named_begin : (s : Layout) (spent : Bool) (f : Buffers) (first : List ℕ) → NamedBy s (fresh s spent, f) (first ∷ []) (advance (fresh s spent, f) (head_at s first))
+named_begin : (s : Layout) (spent : Bool) (f : Buffers) (first : List ℕ) → NamedBy s (fresh_set s spent, f) (first ∷ []) (advance_set (fresh_set s spent, f) (head_at s first))
 unfolding named_at
 named_begin s spent f first =
     let x = head_at s first in
-    let p : Pair = (fresh s spent, f) in
+    let p : SetPair = (fresh_set s spent, f) in
     let none : (a : Announcement) → AtSomeStep (FindsAnnouncement s a) p (first ∷ []) → ⊥ = λ a h. elim h [ inl here ↦ let bad : Head ≡ Slot a.slot = here.0 in cc | inr never ↦ never ] in
     cond_both (eqb x 0) Counter (ListLen x) (λ stage. NamedBy s p (first ∷ []) (record p.0 { head = x; stage = stage }, record p.1 { indices = []; read = []; next = [] }))
     (λ e. (refl, none)) (λ e. (refl, none))
 
 -- a finished getSet
-named_ended : (s : Layout) (start : Pair) (ms : Past) (stage : Stage) (q : Pair) → step_at q.0.sizes q.0.head stage ≡ None → named_at s start ms stage q → NamedAll s start ms q
+named_ended : (s : Layout) (start : SetPair) (ms : Past) (stage : Stage) (q : SetPair) → set_step_at q.0.sizes q.0.head stage ≡ None → named_at s start ms stage q → NamedAll s start ms q
 unfolding named_at
 named_ended s start ms Head q e w = absurd w
 named_ended s start ms Done q e w = w
 named_ended s start ms stage q e w = absurd cc
 
-module _ (s : Layout) (spent : Bool) (f : Buffers) (layout : IsLayout s) (sizes : IsFor s f) where
-  pub named_behind : (first : List ℕ) (ms : Past) (q : Pair) → IsPairwiseOrderly s [] (first ∷ ms) → LeadsTo (fresh s spent, f) (first ∷ ms) q → step_of q.0 ≡ None →
-      NamedAll s (fresh s spent, f) (first ∷ ms) q
+module _ (s : Layout) (spent : Bool) (f : Buffers) (layout : IsLayout s) (sizes : AreFoundFor s f) where
+  pub named_behind : (first : List ℕ) (ms : Past) (q : SetPair) → IsPairwiseOrderly s [] (first ∷ ms) → LeadsTo (fresh_set s spent, f) (first ∷ ms) q → set_step_due q.0 ≡ None →
+      NamedAll s (fresh_set s spent, f) (first ∷ ms) q
   unfolding Steps
   named_behind first ms q orderly leads done =
-      let known = holds_behind s layout spent f sizes first (λ past p. NamedBy s (fresh s spent, f) past p)
+      let known = holds_behind s layout spent f sizes first (λ past p. NamedBy s (fresh_set s spent, f) past p)
       (λ done p now st b due knows. step_known s layout spent f first done p now b p.0.stage st refl (b.possible st due) due b.together.stage knows)
       ms q (named_begin s spent f first) orderly leads in
-      named_ended s (fresh s spent, f) (first ∷ ms) q.0.stage q done known
+      named_ended s (fresh_set s spent, f) (first ∷ ms) q.0.stage q done known
 
   -- a finished getSet names the indices in order
-  names_in_order : (ms : Past) (q : Pair) → IsPairwiseOrderly s [] ms → LeadsTo (fresh s spent, f) ms q → step_of q.0 ≡ None → AreInOrder s (fresh s spent, f) ms q.1.indices
+  names_in_order : (ms : Past) (q : SetPair) → IsPairwiseOrderly s [] ms → LeadsTo (fresh_set s spent, f) ms q → set_step_due q.0 ≡ None → AreInOrder s (fresh_set s spent, f) ms q.1.indices
   names_in_order [] q orderly leads done =
-      let none : Some (Load (list_head s)) ≡ None = ap (λ (r : Pair). step_of r.0) (sym leads) ∙ done in
+      let none : Some (Load (list_head s)) ≡ None = ap (λ (r : SetPair). set_step_due r.0) (sym leads) ∙ done in
       let never : ⊥ = cc in absurd never
   names_in_order (first ∷ ms) q orderly leads done =
       let w = (named_behind first ms q orderly leads done).2 in
@@ -418,4 +419,4 @@ module _ (s : Layout) (spent : Bool) (f : Buffers) (layout : IsLayout s) (sizes 
 pub names_by_events : GetSetsFindInOrder
 names_by_events s spent f own words events q layout sizes orderly makes done =
     names_in_order s spent f layout sizes (own_moments own words events) q (moments_of s own words events orderly)
-    (own_leads own (fresh s spent, f) q words events makes) done
+    (own_leads own (fresh_set s spent, f) q words events makes) done

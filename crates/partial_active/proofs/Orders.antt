@@ -1,5 +1,5 @@
 -- The words of each two moments of an orderly run: the later ones come from the earlier ones.
-use Rattle.partial_active.proofs.Common.{ℕ, ◌≡◌, ◌<◌, ◌⊎◌, ◌++◌, eqb, Bool, true, false, cond, Some, MatchBool, List, [], ◌∷◌, inl, inr, refl, sym, ◌∙◌, arith, Ranges, Step, Layout, StandsAt, answer_of, words_after, announcement_block, list_block, Pair, step_of, advance, slot_at, head_at, IsAnnouncement, IsVacatedList, Orderly, Publishes, OnEach, AtSome, IsOrderlyEvent, AreOrderly, IsOrderlyRun, words_behind, own_moments, MakesOwn}
+use Rattle.partial_active.proofs.Common.{ℕ, ◌≡◌, ◌<◌, ◌⊎◌, ◌++◌, eqb, Bool, true, false, cond, Some, MatchBool, List, [], ◌∷◌, inl, inr, refl, sym, ◌∙◌, arith, Ranges, Step, Layout, StandsAt, answer_of, words_after, announcement_block, list_block, SetPair, set_step_due, advance_set, slot_at, head_at, IsAnnouncement, IsVacatedList, Orderly, Publishes, OnEach, AtSome, IsOrderlyEvent, AreOrderly, IsOrderlyRun, words_behind, own_moments, MakesOwn}
 use Rattle.partial_words.specs.declared.step.Event.{Event}
 
 -- the moments behind, the latest first
@@ -18,9 +18,9 @@ IsPairwiseOrderly s past [] = Unit {0}
 IsPairwiseOrderly s past (words ∷ more) = Orderly s words × OnEach (λ earlier. ComesFrom s earlier words) past × IsPairwiseOrderly s (words ∷ past) more
 
 -- the machine's steps, each answered from the words of its moment, lead it from p to q
-abbrev pub LeadsTo : Pair → Past → Pair → Type 0
+abbrev pub LeadsTo : SetPair → Past → SetPair → Type 0
 LeadsTo p [] q = q ≡ p
-LeadsTo p (words ∷ more) q = (step : Step) × (step_of p.0 ≡ Some step) × LeadsTo (advance p (answer_of words step)) more q
+LeadsTo p (words ∷ more) q = (step : Step) × (set_step_due p.0 ≡ Some step) × LeadsTo (advance_set p (answer_of words step)) more q
 
 pub comes_at_once : (s : Layout) (words : List ℕ) → ComesFrom s words words
 comes_at_once s words = record { slots = λ slot below. inl refl; announcements = λ slot named below there. there.stands; lists = λ list there. there.stands }
@@ -87,16 +87,16 @@ pub moments_of : (s : Layout) (own : ℕ) (words : List ℕ) (es : List Event) �
 moments_of s own words es run = run_front s [] (own_moments own words es) (words_behind words es ∷ []) (moments_to_end s own words es run)
 
 -- the port's events lead the machine through the moments before them
-pub own_leads : (own : ℕ) (p q : Pair) (words : List ℕ) (es : List Event) → MakesOwn own p words es q → LeadsTo p (own_moments own words es) q
+pub own_leads : (own : ℕ) (p q : SetPair) (words : List ℕ) (es : List Event) → MakesOwn own p words es q → LeadsTo p (own_moments own words es) q
 own_leads own p q words [] makes = makes
 own_leads own p q words (e ∷ es) makes =
     let after = words_after words e.step in
     let rest = own_moments own after es in
-    let Mine : Type 0 = (step_of p.0 ≡ Some e.step) × MakesOwn own (advance p (answer_of words e.step)) after es q in
+    let Mine : Type 0 = (set_step_due p.0 ≡ Some e.step) × MakesOwn own (advance_set p (answer_of words e.step)) after es q in
     let Other : Type 0 = MakesOwn own p after es q in
     let by_port : (b : Bool) → MatchBool b Mine Other → LeadsTo p (cond b (words ∷ rest) rest) q
     = λ b. elim b as (λ b. MatchBool b Mine Other → LeadsTo p (cond b (words ∷ rest) rest) q) [
-      | true ↦ λ h. (e.step, h.0, own_leads own (advance p (answer_of words e.step)) q after es h.1)
+      | true ↦ λ h. (e.step, h.0, own_leads own (advance_set p (answer_of words e.step)) q after es h.1)
       | false ↦ λ h. own_leads own p q after es h
     ] in
     by_port (eqb e.port own) makes

@@ -1,5 +1,5 @@
 -- The walk along the slots: the machine and its buffers go on together, and the steps left fall.
-use Rattle.partial_active.proofs.Common.{ℕ, ◌≡◌, ◌+◌, ◌-◌, ◌<◌, ◌≤◌, true, false, ◌&&◌, not, eqb, ltb, length, inl, inr, refl, arith, cases_eq, cond_both, and_parts, and_cases, ltb-true, ltb-false, eqb-true, eqb-false, lowest, highest, Layout, IsFor, begins_at, IsBehind, Slot, Claim, Done, Pair, after_walk, at_slot, come_to, pass_interval, next_words, left_of, walk_left, publish_left, EndsBelow, GoTogether, IsWalking}
+use Rattle.partial_active.proofs.Common.{ℕ, ◌≡◌, ◌+◌, ◌-◌, ◌<◌, ◌≤◌, true, false, ◌&&◌, not, eqb, ltb, length, inl, inr, refl, arith, cases_eq, cond_both, and_parts, and_cases, ltb-true, ltb-false, eqb-true, eqb-false, lowest, highest, Layout, AreFoundFor, begins_at, LiesBehind, Slot, Claim, Done, SetPair, after_walk, at_slot, come_to, pass_interval, next_words, set_left, walk_left, publish_left, EndsBelow, SetGoesTogether, IsWalking}
 use Rattle.std.proofs.Math.Nat.{mul-le-mul_right}
 use Rattle.partial_active.proofs.Extended.{length_normal, normal-extended, below-extended}
 
@@ -9,13 +9,13 @@ walk_left_mono s a b le =
     let fewer : s.slots - b ≤ s.slots - a = omega arith in
     omega (arith, mul-le-mul_right (s.m + 2) fewer)
 
-module _ (p : Pair) (slot : ℕ) (walking : IsWalking p slot) where
+module _ (p : SetPair) (slot : ℕ) (walking : IsWalking p slot) where
   -- the next list lies within the slots
   pub next_within : EndsBelow p.1.next p.0.sizes.slots
   next_within k lt = omega (arith, walking.next_below k lt, walking.slot_within)
 
   -- and it has room for one more interval
-  pub next_room : IsFor p.0.sizes p.1 → length p.1.next < p.1.room
+  pub next_room : AreFoundFor p.0.sizes p.1 → length p.1.next < p.1.room
   next_room sizes = omega (arith, sizes.room, length_normal p.1.next p.0.sizes.slots walking.next next_within)
 
   -- what begins at the slot
@@ -25,7 +25,7 @@ module _ (p : Pair) (slot : ℕ) (walking : IsWalking p slot) where
       (ltb-true p.0.passed (length p.1.read) both.0, eqb-true (lowest p.1.read p.0.passed) slot both.1)
 
   -- that interval lies behind the next list
-  pub interval_behind : begins_at p.1.read p.0.passed slot ≡ true → IsBehind p.1.next (lowest p.1.read p.0.passed) (highest p.1.read p.0.passed)
+  pub interval_behind : begins_at p.1.read p.0.passed slot ≡ true → LiesBehind p.1.next (lowest p.1.read p.0.passed) (highest p.1.read p.0.passed)
   interval_behind e =
       let b = begun e in
       record {
@@ -70,18 +70,18 @@ module _ (p : Pair) (slot : ℕ) (walking : IsWalking p slot) where
     ]
   ]
 
-  pub after_walk_goes : IsFor p.0.sizes p.1 → GoTogether (after_walk p)
-  after_walk_goes sizes = cond_both (p.0.noted && not p.0.lists_spent) (Claim (next_words p.1)) Done (λ stage. GoTogether (record p.0 { stage = stage }, p.1))
+  pub after_walk_goes : AreFoundFor p.0.sizes p.1 → SetGoesTogether (after_walk p)
+  after_walk_goes sizes = cond_both (p.0.noted && not p.0.lists_spent) (Claim (next_words p.1)) Done (λ stage. SetGoesTogether (record p.0 { stage = stage }, p.1))
       (λ e. record { sizes = sizes; stage = record { next = walking.next; within = next_within; count = refl } })
       (λ e. record { sizes = sizes; stage = tt })
 
-  pub after_walk_left : left_of (after_walk p).0 ≤ publish_left p.0.sizes
-  after_walk_left = cond_both (p.0.noted && not p.0.lists_spent) (Claim (next_words p.1)) Done (λ stage. left_of (record p.0 { stage = stage }) ≤ publish_left p.0.sizes)
+  pub after_walk_left : set_left (after_walk p).0 ≤ publish_left p.0.sizes
+  after_walk_left = cond_both (p.0.noted && not p.0.lists_spent) (Claim (next_words p.1)) Done (λ stage. set_left (record p.0 { stage = stage }) ≤ publish_left p.0.sizes)
       (λ e. omega (arith, length_normal p.1.next p.0.sizes.slots walking.next next_within))
       (λ e. omega arith)
 
-  pub at_slot_goes : IsFor p.0.sizes p.1 → ((k : ℕ) → p.0.passed ≤ k → k < length p.1.read → slot < lowest p.1.read k) → GoTogether (at_slot p slot)
-  at_slot_goes sizes outside = cond_both (ltb slot p.0.end) (record p.0 { stage = Slot slot }, p.1) (after_walk p) (λ q. GoTogether q)
+  pub at_slot_goes : AreFoundFor p.0.sizes p.1 → ((k : ℕ) → p.0.passed ≤ k → k < length p.1.read → slot < lowest p.1.read k) → SetGoesTogether (at_slot p slot)
+  at_slot_goes sizes outside = cond_both (ltb slot p.0.end) (record p.0 { stage = Slot slot }, p.1) (after_walk p) (λ q. SetGoesTogether q)
       (λ e. record {
         sizes = sizes;
         stage = record {
@@ -102,20 +102,20 @@ module _ (p : Pair) (slot : ℕ) (walking : IsWalking p slot) where
       })
       (λ e. after_walk_goes sizes)
 
-  pub at_slot_left : left_of (at_slot p slot).0 ≤ walk_left p.0.sizes slot
-  at_slot_left = cond_both (ltb slot p.0.end) (record p.0 { stage = Slot slot }, p.1) (after_walk p) (λ (q : Pair). left_of q.0 ≤ walk_left p.0.sizes slot)
+  pub at_slot_left : set_left (at_slot p slot).0 ≤ walk_left p.0.sizes slot
+  at_slot_left = cond_both (ltb slot p.0.end) (record p.0 { stage = Slot slot }, p.1) (after_walk p) (λ (q : SetPair). set_left q.0 ≤ walk_left p.0.sizes slot)
       (λ e. omega arith)
       (λ e. omega (arith, after_walk_left))
 
 -- wherever the walk comes to, the machine and its buffers go together
-pub come_to_goes : (p : Pair) (slot : ℕ) → IsWalking p slot → IsFor p.0.sizes p.1 → GoTogether (come_to p slot)
-come_to_goes p slot walking sizes = cond_both (begins_at p.1.read p.0.passed slot) (at_slot (pass_interval p) (highest p.1.read p.0.passed + 1)) (at_slot p slot) (λ q. GoTogether q)
+pub come_to_goes : (p : SetPair) (slot : ℕ) → IsWalking p slot → AreFoundFor p.0.sizes p.1 → SetGoesTogether (come_to p slot)
+come_to_goes p slot walking sizes = cond_both (begins_at p.1.read p.0.passed slot) (at_slot (pass_interval p) (highest p.1.read p.0.passed + 1)) (at_slot p slot) (λ q. SetGoesTogether q)
     (λ e. at_slot_goes (pass_interval p) (highest p.1.read p.0.passed + 1) (walking_on p slot walking e) (record { limit = sizes.limit; room = sizes.room }) (outside_on p slot walking e))
     (λ e. at_slot_goes p slot walking sizes (outside_here p slot walking e))
 
-pub come_to_left : (p : Pair) (slot : ℕ) → IsWalking p slot → left_of (come_to p slot).0 ≤ walk_left p.0.sizes slot
+pub come_to_left : (p : SetPair) (slot : ℕ) → IsWalking p slot → set_left (come_to p slot).0 ≤ walk_left p.0.sizes slot
 come_to_left p slot walking = cond_both (begins_at p.1.read p.0.passed slot) (at_slot (pass_interval p) (highest p.1.read p.0.passed + 1)) (at_slot p slot)
-    (λ (q : Pair). left_of q.0 ≤ walk_left p.0.sizes slot)
+    (λ (q : SetPair). set_left q.0 ≤ walk_left p.0.sizes slot)
     (λ e.
     let b = begun p slot walking e in
     omega (

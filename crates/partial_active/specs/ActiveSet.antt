@@ -7,9 +7,9 @@ use Rattle.partial_words.specs.Layout.{Layout, IsLayout}
 use Rattle.partial_words.specs.Step.{answer_of}
 use Rattle.partial_active.specs.declared.get_set.Stage.TheVariants.{Slot}
 use Rattle.partial_active.specs.IndexSet.{has_index, with_index}
-use Rattle.partial_active.specs.Found.{Buffers, IsFor}
-use Rattle.partial_active.specs.GetSet.{Pair, fresh, step_of}
-use Rattle.partial_active.specs.GetSetAnswers.{IsPossible}
+use Rattle.partial_active.specs.Found.{Buffers, AreFoundFor}
+use Rattle.partial_active.specs.GetSet.{SetPair, fresh_set, set_step_due}
+use Rattle.partial_active.specs.GetSetAnswers.{IsPossibleInSet}
 use Rattle.partial_active.specs.Orderly.{slot_at, IsAnnouncement}
 use Rattle.partial_active.specs.Moments.{OnEach, AtSome, AtSomeStep, IsOrderlyRun, MakesOwn, words_behind, own_moments}
 
@@ -42,7 +42,7 @@ pub record Announcement : Type 0 where
   pub named : List ℕ
 
 -- the machine loads the slot of the announcement, which stands there
-abbrev pub FindsAnnouncement : Layout → Announcement → Pair → List ℕ → Type 0
+abbrev pub FindsAnnouncement : Layout → Announcement → SetPair → List ℕ → Type 0
 FindsAnnouncement s a p words = (p.0.stage ≡ Slot a.slot) × IsAnnouncement s words (slot_at s words a.slot) a.named
 
 -- the indices with others behind them, each of which is put at the end unless it is there already
@@ -60,7 +60,7 @@ AreRising numbers = (j k : ℕ) → j < k → k < length numbers → slice_index
 
 -- the indices are those of the announcements that the machine found, in the order of their slots and then of the
 -- positions, each at its first appearance
-pub record AreInOrder (s : Layout) (start : Pair) (moments : List (List ℕ)) (indices : List ℕ) : Type 0 where
+pub record AreInOrder (s : Layout) (start : SetPair) (moments : List (List ℕ)) (indices : List ℕ) : Type 0 where
   pub found : List Announcement
   pub rising : AreRising (map (λ a. a.slot) found)
   pub loaded : (a : Announcement) → Contains found a ↔ AtSomeStep (FindsAnnouncement s a) start moments
@@ -69,25 +69,25 @@ pub record AreInOrder (s : Layout) (start : Pair) (moments : List (List ℕ)) (i
 
 -- a getSet finds the active set over the moments of its steps
 abbrev pub GetSetsFind : Type 0
-GetSetsFind = (s : Layout) (spent : Bool) (f : Buffers) (own : ℕ) (words : List ℕ) (events : List Event) (q : Pair) →
-    IsLayout s → IsFor s f → IsOrderlyRun s words events → MakesOwn own (fresh s spent, f) words events q →
-    step_of q.0 ≡ None → FindsActiveSet s (own_moments own words events) q.1.indices
+GetSetsFind = (s : Layout) (spent : Bool) (f : Buffers) (own : ℕ) (words : List ℕ) (events : List Event) (q : SetPair) →
+    IsLayout s → AreFoundFor s f → IsOrderlyRun s words events → MakesOwn own (fresh_set s spent, f) words events q →
+    set_step_due q.0 ≡ None → FindsActiveSet s (own_moments own words events) q.1.indices
 
 -- and names the indices in order
 abbrev pub GetSetsFindInOrder : Type 0
-GetSetsFindInOrder = (s : Layout) (spent : Bool) (f : Buffers) (own : ℕ) (words : List ℕ) (events : List Event) (q : Pair) →
-    IsLayout s → IsFor s f → IsOrderlyRun s words events → MakesOwn own (fresh s spent, f) words events q →
-    step_of q.0 ≡ None → AreInOrder s (fresh s spent, f) (own_moments own words events) q.1.indices
+GetSetsFindInOrder = (s : Layout) (spent : Bool) (f : Buffers) (own : ℕ) (words : List ℕ) (events : List Event) (q : SetPair) →
+    IsLayout s → AreFoundFor s f → IsOrderlyRun s words events → MakesOwn own (fresh_set s spent, f) words events q →
+    set_step_due q.0 ≡ None → AreInOrder s (fresh_set s spent, f) (own_moments own words events) q.1.indices
 
 -- it makes few steps
 abbrev pub GetSetsMakeFewSteps : Type 0
-GetSetsMakeFewSteps = (s : Layout) (spent : Bool) (f : Buffers) (own : ℕ) (words : List ℕ) (events : List Event) (q : Pair) →
-    IsLayout s → IsFor s f → IsOrderlyRun s words events → MakesOwn own (fresh s spent, f) words events q →
+GetSetsMakeFewSteps = (s : Layout) (spent : Bool) (f : Buffers) (own : ℕ) (words : List ℕ) (events : List Event) (q : SetPair) →
+    IsLayout s → AreFoundFor s f → IsOrderlyRun s words events → MakesOwn own (fresh_set s spent, f) words events q →
     length (own_moments own words events) ≤ s.slots * (s.m + 3) + s.lists + 6
 
 -- a run of orderly events gives possible answers
 abbrev pub OrderlyAnswersArePossible : Type 0
-OrderlyAnswersArePossible = (s : Layout) (spent : Bool) (f : Buffers) (own : ℕ) (words : List ℕ) (events : List Event) (q : Pair)
+OrderlyAnswersArePossible = (s : Layout) (spent : Bool) (f : Buffers) (own : ℕ) (words : List ℕ) (events : List Event) (q : SetPair)
     (step : Step) →
-    IsLayout s → IsFor s f → IsOrderlyRun s words events → MakesOwn own (fresh s spent, f) words events q →
-    step_of q.0 ≡ Some step → IsPossible q (answer_of (words_behind words events) step)
+    IsLayout s → AreFoundFor s f → IsOrderlyRun s words events → MakesOwn own (fresh_set s spent, f) words events q →
+    set_step_due q.0 ≡ Some step → IsPossibleInSet q (answer_of (words_behind words events) step)

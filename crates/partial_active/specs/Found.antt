@@ -12,7 +12,7 @@ pub record Buffers : Type 0 where
   pub next : Ranges
 
 -- the buffers were made for these sizes
-pub record IsFor (s : Layout) (f : Buffers) : Type 0 where
+pub record AreFoundFor (s : Layout) (f : Buffers) : Type 0 where
   pub limit : f.limit ≡ s.m
   pub room : f.room ≡ (s.slots + 1) / 2 + 1
 
@@ -29,12 +29,12 @@ abbrev pub touches : Ranges → ℕ → Bool
 touches list lo = nat_lt 0 (length list) && (highest list (last_place list) + 1 == lo)
 
 -- the list with the numbers from lo to hi behind it: the last interval grows where they touch it
-abbrev pub extended : Ranges → ℕ → ℕ → Ranges
-extended list lo hi =
+abbrev pub extended_list : Ranges → ℕ → ℕ → Ranges
+extended_list list lo hi =
     if touches list lo then slice_set list (last_place list) (lowest list (last_place list), hi) else list ++ (lo, hi) ∷ []
 
 -- the numbers from lo to hi lie behind the list
-pub record IsBehind (list : Ranges) (lo hi : ℕ) : Type 0 where
+pub record LiesBehind (list : Ranges) (lo hi : ℕ) : Type 0 where
   pub closed : lo ≤ hi
   pub bounded : hi < 4294967295
   pub beyond : (k : ℕ) → k < length list → highest list k < lo

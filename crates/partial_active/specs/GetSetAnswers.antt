@@ -9,8 +9,8 @@ use Rattle.partial_words.specs.VacatedList.{list_block, list_size}
 use Rattle.partial_words.specs.Record.{pairs_size}
 use Rattle.partial_active.specs.declared.get_set.Stage.{Stage}
 use Rattle.partial_active.specs.declared.get_set.Stage.TheVariants.{Head, ListLen, ListLow, ListHigh, Counter, Slot, Len, Index, Claim, Write, Publish, Done}
-use Rattle.partial_active.specs.Found.{IsFor}
-use Rattle.partial_active.specs.GetSet.{Pair, next_words, step_of}
+use Rattle.partial_active.specs.Found.{AreFoundFor}
+use Rattle.partial_active.specs.GetSet.{SetPair, next_words, set_step_due}
 
 -- each interval of the list ends below the number
 abbrev pub EndsBelow : Ranges → ℕ → Type 0
@@ -41,7 +41,7 @@ abbrev pub IsListClaim : Layout → ℕ → Type 0
 IsListClaim s x = (list_base s ≤ x) × (x ≤ list_end s + 64 * greatest_list s)
 
 -- an answer that orderly words may give to the due step at a stage
-abbrev pub is_possible_at : Stage → Pair → ℕ → Type 0
+abbrev pub is_possible_at : Stage → SetPair → ℕ → Type 0
 is_possible_at Head p x = IsListHead p.0.sizes x
 is_possible_at (ListLen at) p x = IsListLen p.0.sizes at x
 is_possible_at (ListLow at left) p x = IsNextLow p.0.sizes p.1.read x
@@ -56,15 +56,15 @@ is_possible_at (Publish at) p x = Unit {0}
 is_possible_at Done p x = Unit {0}
 
 -- an answer that orderly words may give to the due step
-abbrev pub IsPossible : Pair → ℕ → Type 0
-IsPossible p x = is_possible_at p.0.stage p x
+abbrev pub IsPossibleInSet : SetPair → ℕ → Type 0
+IsPossibleInSet p x = is_possible_at p.0.stage p x
 
 -- the step that is due is about one of the words, and they may give the answer that they give
-pub record MayPerform (p : Pair) (words : List ℕ) : Type 0 where
+pub record SetMayPerform (p : SetPair) (words : List ℕ) : Type 0 where
   pub step : Step
-  pub due : step_of p.0 ≡ Some step
+  pub due : set_step_due p.0 ≡ Some step
   pub within : word_of step < length words
-  pub possible : IsPossible p (answer_of words step)
+  pub possible : IsPossibleInSet p (answer_of words step)
 
 -- the list that was read: normal, and within the slots
 pub record HasRead (s : Layout) (read : Ranges) : Type 0 where
@@ -72,14 +72,14 @@ pub record HasRead (s : Layout) (read : Ranges) : Type 0 where
   pub within : EndsBelow read s.slots
 
 -- so many intervals of the list are left to be read
-pub record IsReading (p : Pair) (left : ℕ) : Type 0 where
+pub record IsReading (p : SetPair) (left : ℕ) : Type 0 where
   pub list : HasRead p.0.sizes p.1.read
   pub next : p.1.next ≡ []
   pub some : 0 < left
   pub room : 2 * (length p.1.read + left) ≤ p.0.sizes.slots + 1
 
 -- the walk stands at the slot: what it passed lies below, and the rest of the list read behind
-pub record IsWalking (p : Pair) (slot : ℕ) : Type 0 where
+pub record IsWalking (p : SetPair) (slot : ℕ) : Type 0 where
   pub list : HasRead p.0.sizes p.1.read
   pub end_within : p.0.end ≤ p.0.sizes.slots
   pub list_before_end : EndsBelow p.1.read p.0.end
@@ -91,33 +91,33 @@ pub record IsWalking (p : Pair) (slot : ℕ) : Type 0 where
   pub behind : (k : ℕ) → p.0.passed ≤ k → k < length p.1.read → slot ≤ lowest p.1.read k
 
 -- the walk is at a slot that is in no interval of the list read
-pub record IsAtSlot (p : Pair) (slot : ℕ) : Type 0 where
+pub record IsAtSlot (p : SetPair) (slot : ℕ) : Type 0 where
   pub walking : IsWalking p slot
   pub below : slot < p.0.end
   pub outside : (k : ℕ) → p.0.passed ≤ k → k < length p.1.read → slot < lowest p.1.read k
 
 -- the next list is whole, within the slots
-pub record HasNext (p : Pair) (words : ℕ) : Type 0 where
+pub record HasNext (p : SetPair) (words : ℕ) : Type 0 where
   pub next : IsNormal p.1.next
   pub within : EndsBelow p.1.next p.0.sizes.slots
   pub count : words ≡ next_words p.1
 
 -- the machine and its buffers go together
-abbrev pub goes_at : Stage → Pair → Type 0
-goes_at Head p = Unit {0}
-goes_at (ListLen at) p = (p.1.read ≡ []) × (p.1.next ≡ []) × (list_base p.0.sizes ≤ at) × (at < list_end p.0.sizes)
-goes_at (ListLow at left) p = IsReading p left × (at + pairs_size left ≤ list_end p.0.sizes)
-goes_at (ListHigh at left lo) p = IsReading p left × (at + pairs_size left ≤ list_end p.0.sizes + 1) × IsNextLow p.0.sizes p.1.read lo
-goes_at Counter p = HasRead p.0.sizes p.1.read × (p.1.next ≡ [])
-goes_at (Slot slot) p = IsAtSlot p slot
-goes_at (Len slot at) p = IsAtSlot p slot × (pool_base p.0.sizes ≤ at) × (at < pool_end p.0.sizes)
-goes_at (Index slot at left) p = IsAtSlot p slot × (0 < left) × (left ≤ p.0.sizes.m) × (at + left ≤ pool_end p.0.sizes)
-goes_at (Claim words) p = HasNext p words
-goes_at (Write at k words word) p =
+abbrev pub set_goes_at : Stage → SetPair → Type 0
+set_goes_at Head p = Unit {0}
+set_goes_at (ListLen at) p = (p.1.read ≡ []) × (p.1.next ≡ []) × (list_base p.0.sizes ≤ at) × (at < list_end p.0.sizes)
+set_goes_at (ListLow at left) p = IsReading p left × (at + pairs_size left ≤ list_end p.0.sizes)
+set_goes_at (ListHigh at left lo) p = IsReading p left × (at + pairs_size left ≤ list_end p.0.sizes + 1) × IsNextLow p.0.sizes p.1.read lo
+set_goes_at Counter p = HasRead p.0.sizes p.1.read × (p.1.next ≡ [])
+set_goes_at (Slot slot) p = IsAtSlot p slot
+set_goes_at (Len slot at) p = IsAtSlot p slot × (pool_base p.0.sizes ≤ at) × (at < pool_end p.0.sizes)
+set_goes_at (Index slot at left) p = IsAtSlot p slot × (0 < left) × (left ≤ p.0.sizes.m) × (at + left ≤ pool_end p.0.sizes)
+set_goes_at (Claim words) p = HasNext p words
+set_goes_at (Write at k words word) p =
     HasNext p words × (k < words) × (at + words ≤ list_end p.0.sizes) × (word ≡ slice_index (list_block p.1.next) k)
-goes_at (Publish at) p = IsNormal p.1.next × EndsBelow p.1.next p.0.sizes.slots
-goes_at Done p = Unit {0}
+set_goes_at (Publish at) p = IsNormal p.1.next × EndsBelow p.1.next p.0.sizes.slots
+set_goes_at Done p = Unit {0}
 
-pub record GoTogether (p : Pair) : Type 0 where
-  pub sizes : IsFor p.0.sizes p.1
-  pub stage : goes_at p.0.stage p
+pub record SetGoesTogether (p : SetPair) : Type 0 where
+  pub sizes : AreFoundFor p.0.sizes p.1
+  pub stage : set_goes_at p.0.stage p

@@ -6,7 +6,7 @@ use Rattle.partial_words.specs.VacatedList.{low_word, high_word}
 use Rattle.partial_active.specs.declared.get_set.Stage.{Stage}
 use Rattle.partial_active.specs.declared.get_set.Stage.TheVariants.{Head, ListLen, ListLow, ListHigh, Counter, Slot, Len, Index, Claim, Write, Publish, Done}
 use Rattle.partial_active.specs.IndexSet.{has_index}
-use Rattle.partial_active.specs.GetSet.{Pair}
+use Rattle.partial_active.specs.GetSet.{SetPair}
 
 -- What is told of slots and of blocks: a slot is VACATED; a list stands at a word; a slot refers to an announcement, of these
 -- indices, at a word; among these indices that were found is each one that a slot announces.
@@ -49,15 +49,15 @@ pub record HasWalked (t : Facts) (end : ℕ) (read next : Ranges) (indices : Lis
   pub beyond : (l : ℕ) → end ≤ l → t.complete indices l
 
 -- a getSet has walked the slots below that one
-abbrev pub walks : Facts → Pair → ℕ → Type 0
+abbrev pub walks : Facts → SetPair → ℕ → Type 0
 walks t p slot = HasWalked t p.0.end p.1.read p.1.next p.1.indices slot
 
 -- the slots are walked: what was noted is VACATED, and nothing is missing
-abbrev pub has_found : Facts → Pair → Type 0
+abbrev pub has_found : Facts → SetPair → Type 0
 has_found t p = AreVacated t p.1.next × ((l : ℕ) → t.complete p.1.indices l)
 
 -- what is known at a stage; a claim is made only when the port isn't marked
-abbrev pub knows_by : Facts → Stage → Pair → Type 0
+abbrev pub knows_by : Facts → Stage → SetPair → Type 0
 knows_by t Head p = Unit {0}
 knows_by t (ListLen at) p = (list : Ranges) × t.lists at list
 knows_by t (ListLow at left) p =
@@ -76,5 +76,5 @@ knows_by t (Publish at) p = has_found t p
 knows_by t Done p = has_found t p
 
 -- what a getSet knows at its stage
-abbrev pub KnowsBy : Facts → Pair → Type 0
+abbrev pub KnowsBy : Facts → SetPair → Type 0
 KnowsBy t p = knows_by t p.0.stage p

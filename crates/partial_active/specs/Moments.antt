@@ -5,7 +5,7 @@ use Rattle.partial_words.specs.declared.step.Event.{Event}
 use Rattle.partial_words.specs.Layout.{Layout}
 use Rattle.partial_words.specs.Record.{StandsAt}
 use Rattle.partial_words.specs.Step.{answer_of, words_after}
-use Rattle.partial_active.specs.GetSet.{Pair, step_of, advance}
+use Rattle.partial_active.specs.GetSet.{SetPair, set_step_due, advance_set}
 use Rattle.partial_active.specs.Orderly.{Orderly, Publishes, IsSlotMove}
 
 -- the property holds of the words at each of the moments
@@ -46,17 +46,17 @@ own_moments own words (e ∷ es) =
     if e.port == own then words ∷ own_moments own (words_after words e.step) es else own_moments own (words_after words e.step) es
 
 -- the events of the port are the machine's steps, and they lead it from p to q
-abbrev pub MakesOwn : ℕ → Pair → List ℕ → List Event → Pair → Type 0
+abbrev pub MakesOwn : ℕ → SetPair → List ℕ → List Event → SetPair → Type 0
 MakesOwn own p words [] q = q ≡ p
 MakesOwn own p words (e ∷ es) q = MatchBool (e.port == own)
-    ((step_of p.0 ≡ Some e.step) × MakesOwn own (advance p (answer_of words e.step)) (words_after words e.step) es q)
+    ((set_step_due p.0 ≡ Some e.step) × MakesOwn own (advance_set p (answer_of words e.step)) (words_after words e.step) es q)
     (MakesOwn own p (words_after words e.step) es q)
 
 -- the machine after its step is answered from the words
-abbrev pub answered_from : Pair → List ℕ → Pair
-answered_from p words = option_map_or (λ step. advance p (answer_of words step)) (step_of p.0) p
+abbrev pub answered_from : SetPair → List ℕ → SetPair
+answered_from p words = option_map_or (λ step. advance_set p (answer_of words step)) (set_step_due p.0) p
 
 -- P holds of the machine as it was at some of the moments, and of the words of that moment
-abbrev pub AtSomeStep : (Pair → List ℕ → Type 0) → Pair → List (List ℕ) → Type 0
+abbrev pub AtSomeStep : (SetPair → List ℕ → Type 0) → SetPair → List (List ℕ) → Type 0
 AtSomeStep P p [] = ⊥
 AtSomeStep P p (words ∷ more) = P p words ⊎ AtSomeStep P (answered_from p words) more

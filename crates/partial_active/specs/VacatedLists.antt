@@ -7,8 +7,8 @@ use Rattle.partial_words.specs.Layout.{Layout, IsLayout, list_head, list_counter
 use Rattle.partial_words.specs.VacatedList.{list_block}
 use Rattle.partial_active.specs.declared.get_set.Stage.{Stage}
 use Rattle.partial_active.specs.declared.get_set.Stage.TheVariants.{Head, ListLen, ListLow, ListHigh, Slot, Claim, Write, Publish}
-use Rattle.partial_active.specs.Found.{Buffers, IsFor}
-use Rattle.partial_active.specs.GetSet.{Pair, fresh, step_of, advance}
+use Rattle.partial_active.specs.Found.{Buffers, AreFoundFor}
+use Rattle.partial_active.specs.GetSet.{SetPair, fresh_set, set_step_due, advance_set}
 use Rattle.partial_active.specs.Orderly.{slot_at, head_at, IsVacatedList}
 use Rattle.partial_active.specs.Moments.{AtSome, AtSomeStep, IsOrderlyRun, MakesOwn, own_moments}
 
@@ -41,31 +41,31 @@ IsFirstList s [] list = ⊥
 IsFirstList s (first ∷ more) list = IsListOf s first list
 
 -- the machine loads the slot, which is VACATED
-abbrev pub FindsVacated : Layout → ℕ → Pair → List ℕ → Type 0
+abbrev pub FindsVacated : Layout → ℕ → SetPair → List ℕ → Type 0
 FindsVacated s slot p words = (p.0.stage ≡ Slot slot) × (slot_at s words slot ≡ 1)
 
 -- the machine claims so many list words, and gets those from that word on
-abbrev pub ClaimsWords : Layout → ℕ → ℕ → Pair → List ℕ → Type 0
+abbrev pub ClaimsWords : Layout → ℕ → ℕ → SetPair → List ℕ → Type 0
 ClaimsWords s count at p words = (p.0.stage ≡ Claim count) × (slice_index words (list_counter s) ≡ at)
 
 -- the machine stores the word
-abbrev pub StoresWord : ℕ → ℕ → Pair → List ℕ → Type 0
-StoresWord at word p words = step_of p.0 ≡ Some (Store at word)
+abbrev pub StoresWord : ℕ → ℕ → SetPair → List ℕ → Type 0
+StoresWord at word p words = set_step_due p.0 ≡ Some (Store at word)
 
 -- the next list is whole: it was vacated, and its slots are those of the list read and those that were found VACATED
-pub record IsNextList (s : Layout) (start : Pair) (moments : List (List ℕ)) (q : Pair) : Type 0 where
+pub record IsNextList (s : Layout) (start : SetPair) (moments : List (List ℕ)) (q : SetPair) : Type 0 where
   pub vacated : WasVacated s moments q.1.next
   pub slots : (x : ℕ) → Holds q.1.next x ↔ (Holds q.1.read x ⊎ AtSomeStep (FindsVacated s x) start moments)
 
 -- n words of its block are stored, from the word on which its claim gave; all of them lie within the list words
-pub record IsStored (s : Layout) (start : Pair) (moments : List (List ℕ)) (q : Pair) (at n : ℕ) : Type 0 where
+pub record IsStored (s : Layout) (start : SetPair) (moments : List (List ℕ)) (q : SetPair) (at n : ℕ) : Type 0 where
   pub claimed : AtSomeStep (ClaimsWords s (length (list_block q.1.next)) at) start moments
   pub from : list_base s ≤ at
   pub to : at + length (list_block q.1.next) ≤ list_end s
   pub stored : (k : ℕ) → k < n → AtSomeStep (StoresWord (at + k) (slice_index (list_block q.1.next) k)) start moments
 
 -- what a getSet does with lists of vacated slots on its way to the state q by these moments
-pub record KeepsLists (s : Layout) (start : Pair) (moments : List (List ℕ)) (q : Pair) : Type 0 where
+pub record KeepsLists (s : Layout) (start : SetPair) (moments : List (List ℕ)) (q : SetPair) : Type 0 where
   -- the list that it read is the one at the list head at its first step
   pub reads : is_reading q.0.stage ≡ false → IsFirstList s moments q.1.read
   -- a slot of the list that it read is not loaded
@@ -78,15 +78,15 @@ pub record KeepsLists (s : Layout) (start : Pair) (moments : List (List ℕ)) (q
   -- what it publishes is that list, whole, in the place of the one that it read
   pub publishes : (at : ℕ) → q.0.stage ≡ Publish at →
       IsNextList s start moments q × IsStored s start moments q at (length (list_block q.1.next))
-      × (step_of q.0 ≡ Some (Exchange (list_head s) (first_head s moments) at))
+      × (set_step_due q.0 ≡ Some (Exchange (list_head s) (first_head s moments) at))
   -- the answer of the exchange of the list head changes nothing
-  pub exchange : (at x y : ℕ) → q.0.stage ≡ Publish at → advance q x ≡ advance q y
+  pub exchange : (at x y : ℕ) → q.0.stage ≡ Publish at → advance_set q x ≡ advance_set q y
   -- a claim past the list words marks the port and ends the getSet, with all that it found
   pub refused : (count x : ℕ) → q.0.stage ≡ Claim count → list_end q.0.sizes < x + count →
-      (step_of (advance q x).0 ≡ None) × ((advance q x).0.lists_spent ≡ true) × ((advance q x).1 ≡ q.1)
+      (set_step_due (advance_set q x).0 ≡ None) × ((advance_set q x).0.lists_spent ≡ true) × ((advance_set q x).1 ≡ q.1)
 
 -- a getSet keeps the lists at each of its stages
 abbrev pub GetSetsKeepLists : Type 0
-GetSetsKeepLists = (s : Layout) (spent : Bool) (f : Buffers) (own : ℕ) (words : List ℕ) (events : List Event) (q : Pair) →
-    IsLayout s → IsFor s f → IsOrderlyRun s words events → MakesOwn own (fresh s spent, f) words events q →
-    KeepsLists s (fresh s spent, f) (own_moments own words events) q
+GetSetsKeepLists = (s : Layout) (spent : Bool) (f : Buffers) (own : ℕ) (words : List ℕ) (events : List Event) (q : SetPair) →
+    IsLayout s → AreFoundFor s f → IsOrderlyRun s words events → MakesOwn own (fresh_set s spent, f) words events q →
+    KeepsLists s (fresh_set s spent, f) (own_moments own words events) q

@@ -4,7 +4,7 @@ ghost use Rattle.std.specs.Prelude.{◌≡◌, ◌+◌, ◌/◌, ◌<◌, ◌≤
 ghost use Rattle.partial_intervals.specs.Intervals.{GoesOn, IsNormal, lowest, highest};
 ghost use Rattle.partial_words.specs.VacatedList.{list_block};
 ghost use Rattle.partial_active.specs.IndexSet.{with_index};
-ghost use Rattle.partial_active.specs.Found.{IsFor, begins_at, extended, IsBehind};
+ghost use Rattle.partial_active.specs.Found.{AreFoundFor, begins_at, extended_list, LiesBehind};
 ghost use Rattle.partial_active.specs.GetSetAnswers.{EndsBelow};
 
 use crate::index_set::IndexSet;
@@ -46,7 +46,7 @@ impl Found {
     /// # Errors
     /// [`AllocError`] when an allocation was refused.
     pub fn new(alloc: Global, sizes: Sizes) -> Result<Found, AllocError>
-        ensures sizes { IfOk result (λ found. IsFor sizes found) }
+        ensures sizes { IfOk result (λ found. AreFoundFor sizes found) }
         ensures indices { IfOk result (λ found. found.indices ≡ []) }
         ensures read { IfOk result (λ found. found.read ≡ []) }
         ensures next { IfOk result (λ found. found.next ≡ []) }
@@ -100,8 +100,8 @@ impl Found {
     #[inline(always)]
     pub(crate) fn note(&mut self, lo: u32, hi: u32)
         requires room { length self.old.next < self.old.room }
-        requires last { IsBehind self.old.next lo hi }
-        ensures { self.new ≡ record self.old { next = extended self.old.next lo hi } }
+        requires last { LiesBehind self.old.next lo hi }
+        ensures { self.new ≡ record self.old { next = extended_list self.old.next lo hi } }
     {
         let count = self.next.len();
         if count > 0 && self.next.get(count - 1).1 + 1 == lo {

@@ -103,17 +103,17 @@ impl Model for GetSet {
 }
 
 impl GetSet {
-    ghost use Rattle.partial_active.specs.Found.{Buffers, IsFor};
-    ghost use Rattle.partial_active.specs.GetSet.{step_of, advance, left_of, most_steps, fresh, after_walk, at_slot, come_to, after_head, after_list_len, after_interval, after_counter, after_slot, after_len, after_index, after_claim, after_write};
-    ghost use Rattle.partial_active.specs.GetSetAnswers.{IsPossible, GoTogether, IsWalking, IsAtSlot, IsReading, IsNextLow, IsListHead, IsListLen, IsSlotWord, IsAnnouncedLen, IsListClaim, EndsBelow, HasRead, HasNext};
+    ghost use Rattle.partial_active.specs.Found.{Buffers, AreFoundFor};
+    ghost use Rattle.partial_active.specs.GetSet.{set_step_due, advance_set, set_left, most_set_steps, fresh_set, after_walk, at_slot, come_to, after_head, after_list_len, after_interval, after_counter, after_slot, after_len, after_index, after_claim, after_write};
+    ghost use Rattle.partial_active.specs.GetSetAnswers.{IsPossibleInSet, SetGoesTogether, IsWalking, IsAtSlot, IsReading, IsNextLow, IsListHead, IsListLen, IsSlotWord, IsAnnouncedLen, IsListClaim, EndsBelow, HasRead, HasNext};
 
     /// Makes a getSet of a port. `lists_spent` says whether the port is marked for the list words. It takes
     /// no memory: the buffers for its answers were made for the same sizes.
     #[inline(always)]
     pub fn new(sizes: Sizes, lists_spent: bool) -> GetSet
-        ensures state { result ≡ fresh sizes lists_spent }
-        ensures together { (f : Buffers) → IsFor sizes f → GoTogether (result, f) }
-        ensures steps { left_of result ≡ most_steps sizes }
+        ensures state { result ≡ fresh_set sizes lists_spent }
+        ensures together { (f : Buffers) → AreFoundFor sizes f → SetGoesTogether (result, f) }
+        ensures steps { set_left result ≡ most_set_steps sizes }
     {
         // The contract of the getter says that the sizes are in their ranges.
         let _slots = sizes.slots();
@@ -131,7 +131,7 @@ impl GetSet {
     /// The step that is due. `None` when the getSet is finished.
     #[inline(always)]
     pub fn step(&self) -> Option<Step>
-        ensures { result ≡ step_of self.now }
+        ensures { result ≡ set_step_due self.now }
     {
         match self.stage {
             Stage::Head => Some(Step::Load(self.sizes.list_head())),
@@ -177,13 +177,13 @@ impl GetSet {
     /// them. When the getSet is finished, they have the indices that it found.
     #[inline(always)]
     pub fn answer(&mut self, found: &mut Found, x: u64)
-        requires due { IsSome (step_of self.old) }
-        requires together { GoTogether (self.old, found.old) }
-        requires possible { IsPossible (self.old, found.old) x }
-        ensures state { (self.new, found.new) ≡ advance (self.old, found.old) x }
-        ensures together { GoTogether (self.new, found.new) }
+        requires due { IsSome (set_step_due self.old) }
+        requires together { SetGoesTogether (self.old, found.old) }
+        requires possible { IsPossibleInSet (self.old, found.old) x }
+        ensures state { (self.new, found.new) ≡ advance_set (self.old, found.old) x }
+        ensures together { SetGoesTogether (self.new, found.new) }
         ensures sizes { self.new.sizes ≡ self.old.sizes }
-        ensures left { left_of self.new < left_of self.old }
+        ensures left { set_left self.new < set_left self.old }
     {
         match self.stage {
             Stage::Head => self.after_head(found, x),
@@ -248,7 +248,7 @@ impl GetSet {
         requires words { at + pairs_size left ≤ list_end self.old.sizes + 1 }
         requires low { IsNextLow self.old.sizes found.old.read lo }
         requires high { (lo ≤ x) × (x < self.old.sizes.slots) }
-        requires sizes { IsFor self.old.sizes found.old }
+        requires sizes { AreFoundFor self.old.sizes found.old }
         ensures { (self.new, found.new) ≡ after_interval (self.old, found.old) at left lo x }
     {
         found.read_interval(lo, x);
@@ -268,7 +268,7 @@ impl GetSet {
         requires list { HasRead self.old.sizes found.old.read }
         requires below { EndsBelow found.old.read x }
         requires next { found.old.next ≡ [] }
-        requires sizes { IsFor self.old.sizes found.old }
+        requires sizes { AreFoundFor self.old.sizes found.old }
         ensures { (self.new, found.new) ≡ after_counter (self.old, found.old) x }
     {
         self.end = x.min(u64::from(self.sizes.slots())) as u32;
@@ -282,7 +282,7 @@ impl GetSet {
         requires layout { IsLayout self.old.sizes }
         requires at_slot { IsAtSlot (self.old, found.old) slot }
         requires word { IsSlotWord self.old.sizes x }
-        requires sizes { IsFor self.old.sizes found.old }
+        requires sizes { AreFoundFor self.old.sizes found.old }
         ensures { (self.new, found.new) ≡ after_slot (self.old, found.old) slot x }
     {
         match x {
@@ -304,7 +304,7 @@ impl GetSet {
         requires layout { IsLayout self.old.sizes }
         requires at_slot { IsAtSlot (self.old, found.old) slot }
         requires len { IsAnnouncedLen self.old.sizes at x }
-        requires sizes { IsFor self.old.sizes found.old }
+        requires sizes { AreFoundFor self.old.sizes found.old }
         ensures { (self.new, found.new) ≡ after_len (self.old, found.old) slot at x }
     {
         if x == 0 {
@@ -326,7 +326,7 @@ impl GetSet {
         requires some { 0 < left }
         requires words { at + left ≤ pool_end self.old.sizes }
         requires index { x < self.old.sizes.m }
-        requires sizes { IsFor self.old.sizes found.old }
+        requires sizes { AreFoundFor self.old.sizes found.old }
         ensures { (self.new, found.new) ≡ after_index (self.old, found.old) slot at left x }
     {
         found.insert(x);
@@ -414,7 +414,7 @@ impl GetSet {
     #[inline(always)]
     fn come_to(&mut self, found: &mut Found, slot: u32)
         requires walking { IsWalking (self.old, found.old) slot }
-        requires sizes { IsFor self.old.sizes found.old }
+        requires sizes { AreFoundFor self.old.sizes found.old }
         ensures { (self.new, found.new) ≡ come_to (self.old, found.old) slot }
     {
         if found.begins_at(self.passed, slot) {
@@ -430,12 +430,12 @@ impl GetSet {
 
 #[cfg(test)]
 impl GetSet {
-    ghost use Rattle.partial_active.specs.GetSetAnswers.{IsPossible};
+    ghost use Rattle.partial_active.specs.GetSetAnswers.{IsPossibleInSet};
 
     // Whether the number is a possible answer of the step that is due. It asks for a little more than is
     // needed.
     pub(crate) fn may_answer(&self, found: &Found, x: u64) -> bool
-        ensures { IsTrue result → IsPossible (self.now, found.now) x }
+        ensures { IsTrue result → IsPossibleInSet (self.now, found.now) x }
     {
         match self.stage {
             Stage::Head => x == 0 || self.is_list_word(x),

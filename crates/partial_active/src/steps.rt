@@ -1,8 +1,8 @@
 //! What a getSet needs of the words on which it works.
 
 ghost use Rattle.std.specs.Prelude.{◌≡◌, Some};
-ghost use Rattle.partial_active.specs.GetSet.{Pair, advance, step_of};
-ghost use Rattle.partial_active.specs.GetSetAnswers.{IsPossible};
+ghost use Rattle.partial_active.specs.GetSet.{SetPair, advance_set, set_step_due};
+ghost use Rattle.partial_active.specs.GetSetAnswers.{IsPossibleInSet};
 
 use partial_words::Step;
 
@@ -13,7 +13,7 @@ pub trait Steps {
     ghost goes: { Self → Type 0 };
 
     /// The getSet and its buffers, after all answers so far.
-    ghost set: { Self → Pair };
+    ghost set: { Self → SetPair };
 
     /// From the first to the second only further steps of that getSet were made.
     ghost follows: { Self → Self → Type 0 };
@@ -21,10 +21,10 @@ pub trait Steps {
     /// Makes the step that is due, and returns its answer.
     fn make(&mut self, step: Step) -> u64
         requires goes { goes self.old }
-        requires due { step_of (set self.old).0 ≡ Some step }
+        requires due { set_step_due (set self.old).0 ≡ Some step }
         ensures goes { goes self.new }
-        ensures possible { IsPossible (set self.old) result }
-        ensures set { set self.new ≡ advance (set self.old) result }
+        ensures possible { IsPossibleInSet (set self.old) result }
+        ensures set { set self.new ≡ advance_set (set self.old) result }
         ensures follows { follows self.old self.new };
 
     /// Without a step it stays the same.

@@ -1,8 +1,8 @@
 //! The machines, driven over a plain list of words, and refused allocations.
 
 ghost use Rattle.std.specs.Prelude.{OnOk};
-ghost use Rattle.partial_active.specs.Found.{IsFor};
-ghost use Rattle.partial_active.specs.GetSetAnswers.{GoTogether};
+ghost use Rattle.partial_active.specs.Found.{AreFoundFor};
+ghost use Rattle.partial_active.specs.GetSetAnswers.{SetGoesTogether};
 
 use crate::{Found, GetSet, Join, Leave};
 use partial_words::{Sizes, Step};
@@ -34,8 +34,8 @@ fn drive(
     get: &mut GetSet,
     found: &mut Found,
 ) -> Result<Vec<Step>, AllocError>
-    requires { GoTogether (get.old, found.old) }
-    ensures { OnOk result (IsFor get.old.sizes found.new) }
+    requires { SetGoesTogether (get.old, found.old) }
+    ensures { OnOk result (AreFoundFor get.old.sizes found.new) }
 {
     drive_for(rt, alloc, words, get, found, usize::MAX)
 }
@@ -48,8 +48,8 @@ fn drive_new(
     sizes: Sizes,
     found: &mut Found,
 ) -> Result<Vec<Step>, AllocError>
-    requires { IsFor sizes found.old }
-    ensures { OnOk result (IsFor sizes found.new) }
+    requires { AreFoundFor sizes found.old }
+    ensures { OnOk result (AreFoundFor sizes found.new) }
 {
     let mut get = GetSet::new(sizes, false);
     drive(rt, alloc, words, &mut get, found)
@@ -64,9 +64,9 @@ fn drive_for(
     found: &mut Found,
     most: usize,
 ) -> Result<Vec<Step>, AllocError>
-    requires { GoTogether (get.old, found.old) }
-    ensures sizes { OnOk result (IsFor get.old.sizes found.new) }
-    ensures together { OnOk result (GoTogether (get.new, found.new)) }
+    requires { SetGoesTogether (get.old, found.old) }
+    ensures sizes { OnOk result (AreFoundFor get.old.sizes found.new) }
+    ensures together { OnOk result (SetGoesTogether (get.new, found.new)) }
 {
     let mut steps = Vec::new(alloc);
     for _ in 0..most {

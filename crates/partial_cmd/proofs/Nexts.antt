@@ -5,10 +5,10 @@ use Rattle.partial_text.specs.PlanText.{IsPlan, PlanView}
 use Rattle.partial_text.specs.declared.report.RunReport.{RunReport}
 use Rattle.partial_memory.specs.Reopening.{Continues, ContinuesAll}
 use Rattle.partial_cmd.specs.Next.{AreReports, next_opening}
-use Rattle.partial_cmd.specs.Reports.{IsReportFrom, IsReportOf, opening_of}
+use Rattle.partial_cmd.specs.Reports.{IsReportFrom, IsReportOf, run_opening}
 use Rattle.partial_cmd.proofs.Reported.{reported_of}
 
-pub both_reported : (p q : PlanView) (o next : Opening) (first second : RunReport) → o ≡ opening_of p → IsPlan p → IsReportFrom o p first → length first.values.items ≤ q.sizes.m →
+pub both_reported : (p q : PlanView) (o next : Opening) (first second : RunReport) → o ≡ run_opening p → IsPlan p → IsReportFrom o p first → length first.values.items ≤ q.sizes.m →
     next ≡ next_opening q first.values.items → ContinuesAll first.values.items next → IsReportFrom next q second → AreReports p q first second
 both_reported p q o next first second opening lawful one fits goes continues other =
     let here : IsReportOf p first = reported_of o p first opening one in
@@ -16,7 +16,7 @@ both_reported p q o next first second opening lawful one fits goes continues oth
       enough = omega (arith, here.values.count, lawful.initial, fits);
       one = here;
       other = subst (λ (x : Opening). IsReportFrom x q second) goes other;
-      continues = subst (Continues (opening_of p) here.log) goes (continues (opening_of p) here.log here.history here.values);
+      continues = subst (Continues (run_opening p) here.log) goes (continues (run_opening p) here.log here.history here.values);
     }
 
 -- the same of reports by other names

@@ -12,7 +12,7 @@ use Rattle.partial_replay.specs.OneOutcome.{TellTheSame}
 use Rattle.partial_replay.proofs.Laws.{plans_have_one_outcome}
 use Rattle.partial_cmd.specs.declared.command.Verb.{Verb}
 use Rattle.partial_cmd.specs.declared.command.Verb.TheVariants as verb
-use Rattle.partial_cmd.specs.Execution.{Answers, PlansHaveOneAnswer}
+use Rattle.partial_cmd.specs.Execution.{VerbWrites, PlansHaveOneAnswer}
 
 -- two plans of one text are the same
 same_plan : (p q : PlanView) → IsPlan p → IsPlan q → plan_text p ≡ plan_text q → p ≡ q
@@ -28,7 +28,7 @@ same_text a b t =
     ∙ ap (λ (l : List Called). outcome_text b.opening b.history.items l a.steps) t.calls
     ∙ ap (outcome_text b.opening b.history.items b.calls.items) t.steps
 
-same_answer : (v : Verb) (p : PlanView) (a b : List ℕ) → v ≢ verb.Run → Answers v p a → Answers v p b → a ≡ b
+same_answer : (v : Verb) (p : PlanView) (a b : List ℕ) → v ≢ verb.Run → VerbWrites v p a → VerbWrites v p b → a ≡ b
 same_answer verb.Replay p a b other x y = x.2 ∙ same_text (x.0) (y.0) (plans_have_one_outcome p (x.0) (y.0) x.1 y.1) ∙ sym y.2
 same_answer verb.Check p a b other x y = x.2 ∙ sym y.2
 same_answer verb.Run p a b other x y = absurd (other refl)
@@ -36,4 +36,4 @@ same_answer verb.Run p a b other x y = absurd (other refl)
 pub plans_have_one_answer : PlansHaveOneAnswer
 plans_have_one_answer v bytes a b other x y =
     let plan = same_plan (x.0) (y.0) (x.1).plan (y.1).plan (sym (x.1).read ∙ (y.1).read) in
-    same_answer v (x.0) a b other x.2 (subst (λ (p : PlanView). Answers v p b) (sym plan) y.2)
+    same_answer v (x.0) a b other x.2 (subst (λ (p : PlanView). VerbWrites v p b) (sym plan) y.2)

@@ -10,21 +10,21 @@ use Rattle.partial_text.specs.declared.report.RunReport.{RunReport}
 use Rattle.partial_text.proofs.Laws.{plans_have_few_calls}
 use Rattle.partial_workers.specs.declared.error.RunError.{RunError}
 use Rattle.partial_workers.specs.declared.workers.Ran.{Ran}
-use Rattle.partial_workers.specs.Answered.{AreMakable, AreRight, IsWithin}
-use Rattle.partial_cmd.specs.Reports.{IsReportFrom, IsReportOf, opening_of, report_of}
+use Rattle.partial_workers.specs.Answered.{AreMakable, AreRight, IsCallWithin}
+use Rattle.partial_cmd.specs.Reports.{IsReportFrom, IsReportOf, run_opening, report_of}
 
 -- a report over the opening's values is one over the same by another name
-pub reported_of : (o : Opening) (p : PlanView) (report : RunReport) → o ≡ opening_of p → IsReportFrom o p report → IsReportOf p report
+pub reported_of : (o : Opening) (p : PlanView) (report : RunReport) → o ≡ run_opening p → IsReportFrom o p report → IsReportOf p report
 reported_of o p report is w = subst (λ (x : Opening). IsReportFrom x p report) is w
 
 -- a memory of the plan's sizes can be asked for its calls
-call_within : (m : ℕ) (c : Call) → IsCall m c → IsWithin m c
+call_within : (m : ℕ) (c : Call) → IsCall m c → IsCallWithin m c
 call_within m (call.Update j v) w = tt
 call_within m (call.Scan js) w = w.0
 call_within m (call.Read j) w = tt
 call_within m (call.UpdateIf j s v) w = tt
 
-calls_within : (m : ℕ) (cs : List Call) → AllByRecursion (IsCall m) cs → AllByRecursion (IsWithin m) cs
+calls_within : (m : ℕ) (cs : List Call) → AllByRecursion (IsCall m) cs → AllByRecursion (IsCallWithin m) cs
 calls_within m [] w = tt
 calls_within m (c ∷ cs) w = (call_within m c w.0, calls_within m cs w.1)
 

@@ -21,18 +21,18 @@ use Rattle.partial_cmd.specs.declared.command.Verdict.{Verdict}
 use Rattle.partial_cmd.specs.declared.command.Verdict.TheVariants as verdict
 
 -- the number of a refusal
-abbrev pub code_of : Fault → ℕ
-code_of (fault.Plan e) = text.code_of e
-code_of (fault.Replay e) = 6
-code_of fault.Check = 6
-code_of fault.TooSmall = 13
-code_of (fault.Run e) = 6
-code_of (fault.Outcome e) = text.outcome_code_of e
+abbrev pub fault_code : Fault → ℕ
+fault_code (fault.Plan e) = text.plan_code e
+fault_code (fault.Replay e) = 6
+fault_code fault.Check = 6
+fault_code fault.TooSmall = 13
+fault_code (fault.Run e) = 6
+fault_code (fault.Outcome e) = text.outcome_code_of e
 
 -- the line and the cause of a refused line
-abbrev pub line_of : Fault → Option (ℕ × Cause)
-line_of (fault.Plan e) = text.line_of e
-line_of _ = None
+abbrev pub fault_line : Fault → Option (ℕ × Cause)
+fault_line (fault.Plan e) = text.line_of e
+fault_line _ = None
 
 -- the reader of the plan failed
 abbrev pub reader_fault : Fault
@@ -69,17 +69,17 @@ pub record IsTextOf (text : Option (List ℕ)) (p : PlanView) : Type 0 where
   pub read : IfSome text (λ bytes. bytes ≡ plan_text p)
 
 -- What a verb asks to be written of a plan: of an outcome of its replay its text or that it is lawful, and of a run its report.
-abbrev pub Answers : Verb → PlanView → List ℕ → Type 0
-Answers verb.Replay p answer =
+abbrev pub VerbWrites : Verb → PlanView → List ℕ → Type 0
+VerbWrites verb.Replay p answer =
     (outcome : Outcome) × IsReplayOf p outcome
     × (answer ≡ outcome_text outcome.opening outcome.history.items outcome.calls.items outcome.steps)
-Answers verb.Check p answer = (outcome : Outcome) × IsReplayOf p outcome × (answer ≡ codes "lawful" ++ 10 ∷ [])
-Answers verb.Run p answer =
+VerbWrites verb.Check p answer = (outcome : Outcome) × IsReplayOf p outcome × (answer ≡ codes "lawful" ++ 10 ∷ [])
+VerbWrites verb.Run p answer =
     (report : RunReport) × IsReportOf p report × (answer ≡ report_text report.answers.items report.values.items)
 
 -- the same of the plan with this text
 abbrev pub IsAnswer : Verb → Option (List ℕ) → List ℕ → Type 0
-IsAnswer verb text answer = (p : PlanView) × IsTextOf text p × Answers verb p answer
+IsAnswer verb text answer = (p : PlanView) × IsTextOf text p × VerbWrites verb p answer
 
 -- it was written
 abbrev pub WritesOutcome : Verb → Option (List ℕ) → Option (List ℕ) → Option (List ℕ) → Type 0

@@ -8,16 +8,16 @@ use Rattle.partial_text.specs.declared.report.RunReport.{RunReport}
 use Rattle.partial_text.specs.Fault as text
 use Rattle.partial_text.specs.PlanText.{PlanView}
 use Rattle.partial_text.specs.ReportText.{report_text}
-use Rattle.partial_memory.specs.Reopening.{Continues, extended}
+use Rattle.partial_memory.specs.Reopening.{Continues, extended_values}
 use Rattle.partial_cmd.specs.declared.command.Verdict.{Verdict}
 use Rattle.partial_cmd.specs.declared.fault.Fault.{Fault}
 use Rattle.partial_cmd.specs.declared.fault.Fault.TheVariants as fault
 use Rattle.partial_cmd.specs.Execution.{IsBehindReading, IsTextOf}
-use Rattle.partial_cmd.specs.Reports.{IsReportFrom, IsReportOf, opening_of}
+use Rattle.partial_cmd.specs.Reports.{IsReportFrom, IsReportOf, run_opening}
 
 -- what the components hold as a run of the second plan begins: the values that the first one left, and zeros for added ones
 abbrev pub next_opening : PlanView → List ℕ → Opening
-next_opening p values = record { values = extended p.sizes.m values; first = pool_base p.sizes }
+next_opening p values = record { values = extended_values p.sizes.m values; first = pool_base p.sizes }
 
 -- The reports of both plans. Whatever the second run applies, a component has the value that it would have behind both histories over
 -- the first plan's values, with zeros for added components.
@@ -25,7 +25,7 @@ pub record AreReports (p next : PlanView) (first second : RunReport) : Type 0 wh
   pub enough : p.sizes.m ≤ next.sizes.m
   pub one : IsReportOf p first
   pub other : IsReportFrom (next_opening next first.values.items) next second
-  pub continues : Continues (opening_of p) one.log (next_opening next first.values.items)
+  pub continues : Continues (run_opening p) one.log (next_opening next first.values.items)
 
 -- the text is that of two such reports, of the plans with these texts
 abbrev pub AreReportsText : Option (List ℕ) → Option (List ℕ) → List ℕ → Type 0

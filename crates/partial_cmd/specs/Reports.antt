@@ -7,8 +7,8 @@ use Rattle.partial_workers.specs.Answered.{AreRight}
 use Rattle.partial_workers.specs.declared.workers.Ran.{Ran}
 
 -- what the components hold as a run of the plan begins, each with a record's word number for its first stamp
-abbrev pub opening_of : PlanView → Opening
-opening_of p = record { values = p.initial; first = pool_base p.sizes }
+abbrev pub run_opening : PlanView → Opening
+run_opening p = record { values = p.initial; first = pool_base p.sizes }
 
 -- The report has one list for each port of the plan, with one answer for each of its calls, in order. There is one history over the
 -- opening's values, of distinct stamps and with entries by the plan's ports alone, in which all of them are right, and whose values are
@@ -18,7 +18,7 @@ IsReportFrom o p report = AreRight o p.ports report.answers.items report.values.
 
 -- the same over the plan's initial values
 abbrev pub IsReportOf : PlanView → RunReport → Type 0
-IsReportOf p report = IsReportFrom (opening_of p) p report
+IsReportOf p report = IsReportFrom (run_opening p) p report
 
 -- the report of workers
 abbrev pub report_of : Ran → RunReport

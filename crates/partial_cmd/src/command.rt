@@ -3,7 +3,7 @@
 ghost use Rattle.std.specs.Prelude.{ℕ, ◌≡◌, ◌↔◌, ◌≢◌, List, true, false, take, OnOk, IfOk, IfErr, IfSome, IsErrOf};
 ghost use Rattle.std.specs.Io.KnownBytes.{Appends};
 ghost use Rattle.partial_text.specs.Judging.{judged};
-ghost use Rattle.partial_cmd.specs.Execution.{Answers, IsBehindReading, IsJudged, WritesOutcome, WritesPart, reader_fault, verdict_of, writer_fault};
+ghost use Rattle.partial_cmd.specs.Execution.{VerbWrites, IsBehindReading, IsJudged, WritesOutcome, WritesPart, reader_fault, verdict_of, writer_fault};
 
 use crate::fault::Fault;
 use crate::workers::run_workers;
@@ -88,9 +88,9 @@ fn write_answer<H: Threads + Wait + Sync, W: Write>(
 ) -> Result<Verdict, Fault>
     requires out { out.old.failed ≡ false }
     ensures verdict { IfOk result (λ verdict. verdict ≡ verdict_of verb) }
-    ensures ok { OnOk result ((answer : List ℕ) × Answers verb plan.now answer
+    ensures ok { OnOk result ((answer : List ℕ) × VerbWrites verb plan.now answer
         × Appends (W.contents out.old.inner) (W.contents out.new.inner) answer) }
-    ensures part { IsErrOf result writer_fault → (answer : List ℕ) × (n : ℕ) × Answers verb plan.now answer
+    ensures part { IsErrOf result writer_fault → (answer : List ℕ) × (n : ℕ) × VerbWrites verb plan.now answer
         × Appends (W.contents out.old.inner) (W.contents out.new.inner) (take n answer) }
     ensures fault { IsErrOf result writer_fault ↔ (out.new.failed ≡ true) }
     ensures unwritten { IfErr result (λ fault. fault ≢ writer_fault → out.new ≡ out.old) }

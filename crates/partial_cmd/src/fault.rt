@@ -31,12 +31,12 @@ pub enum Fault {
 }
 
 impl Fault {
-    ghost use Rattle.partial_cmd.specs.Execution.{code_of, line_of};
+    ghost use Rattle.partial_cmd.specs.Execution.{fault_code, fault_line};
 
     /// The number of the refusal: 1 to 4 for a size, 5 for the number of ports, 6 for memory, 10 for a line
     /// of the plan, 11 for the reader, 12 for the writer, 13 for fewer components in a second plan.
     pub fn code(&self) -> u8
-        ensures { result ≡ code_of self.now }
+        ensures { result ≡ fault_code self.now }
     {
         match self {
             Fault::Plan(error) => error.code(),
@@ -51,7 +51,7 @@ impl Fault {
     /// The faulty line of the plan, counted from 1, and its cause. `None` when the fault isn't that of a
     /// line.
     pub fn at(&self) -> Option<(u32, Cause)>
-        ensures { result ≡ line_of self.now }
+        ensures { result ≡ fault_line self.now }
     {
         match self {
             Fault::Plan(error) => error.at(),

@@ -8,7 +8,7 @@ use Rattle.partial_model.specs.declared.history.Opening.{Opening}
 use Rattle.partial_words.specs.declared.step.Event.{Event}
 use Rattle.partial_words.specs.Layout.{Layout}
 use Rattle.partial_words.specs.Step.{answer_of, words_after}
-use Rattle.partial_active.specs.Found.{IsFor}
+use Rattle.partial_active.specs.Found.{AreFoundFor}
 use Rattle.partial_active.specs.GetSet as finding
 use Rattle.partial_active.specs.Moments.{AreOrderly, IsOrderlyRun, words_behind, MakesOwn}
 use Rattle.partial_active.specs.VacatedLists.{KeepsLists}
@@ -26,9 +26,9 @@ use Rattle.partial_machine.specs.Calls.{is_begun}
 use Rattle.partial_core.specs.Part.{Part, HasBegun, IsLedTo, core_of, port_of, with_seen}
 use Rattle.partial_core.specs.Held.{holdings, holding_of}
 use Rattle.partial_core.specs.Lawful.{Lawful}
-use Rattle.partial_core.specs.ActiveSet.{State, IsLawful, Move, HasPart, MakesStep, MakesLook, IsRun, events_of, LawfulRunsAreOrderly}
+use Rattle.partial_core.specs.ActiveSet.{MemoryState, IsLawfulMemory, PortMove, HasPart, MakesStep, MakesLook, IsRun, events_of, LawfulRunsAreOrderly}
 use Rattle.partial_core.specs.ActiveSet.{IsGetting, OnlyGets, RunsGetSet, moments_in, UpdatesFind, UpdatesFindInOrder, UpdatesKeepLists}
-use Rattle.partial_core.specs.ActiveSet.Move.{Makes, Looks}
+use Rattle.partial_core.specs.ActiveSet.PortMove.{Makes, Looks}
 use Rattle.partial_core.proofs.Parts.{all_at, all_changed, holdings_split}
 use Rattle.partial_core.proofs.Steps.{sizes_here, sound_at}
 use Rattle.partial_core.proofs.Ports.{others, looks_stay_lawful}
@@ -37,19 +37,19 @@ use Rattle.partial_core.proofs.Ordered.{lawful_is_orderly}
 use Rattle.partial_core.proofs.Published.{KeepsPublished, keeps_now, keeps_on, step_orderly}
 
 -- the state, with the port's part in its place
-lawful_at : (z : Layout) (o : Opening) (s : State) (own : ℕ) (p : HasPart own s.parts) → IsLawful z o s → Lawful z o s.words (p.before ++ p.part ∷ p.after) s.log
+lawful_at : (z : Layout) (o : Opening) (s : MemoryState) (own : ℕ) (p : HasPart own s.parts) → IsLawfulMemory z o s → Lawful z o s.words (p.before ++ p.part ∷ p.after) s.log
 lawful_at z o s own p w = subst (λ (ps : List Part). Lawful z o s.words ps s.log) p.is w
 
 -- what is published behind a state is so yet
-abbrev Keeps : Layout → List (List ℕ) → State → Type 0
+abbrev Keeps : Layout → List (List ℕ) → MemoryState → Type 0
 Keeps z past s = KeepsPublished z past s.words (holdings s.parts)
 
-module _ (z : Layout) (o : Opening) (e : Event) (s u : State) (m : MakesStep z o e s u) where
-  step_lawful : IsLawful z o u
-  step_lawful = subst (IsLawful z o) (sym m.next) m.leads.lawful
+module _ (z : Layout) (o : Opening) (e : Event) (s u : MemoryState) (m : MakesStep z o e s u) where
+  step_lawful : IsLawfulMemory z o u
+  step_lawful = subst (IsLawfulMemory z o) (sym m.next) m.leads.lawful
 
   step_words : u.words ≡ words_after s.words e.step
-  step_words = ap (λ (v : State). v.words) m.next
+  step_words = ap (λ (v : MemoryState). v.words) m.next
 
   step_keeps : (past : List (List ℕ)) → Keeps z past s → Keeps z past u
   step_keeps past keeps =
@@ -57,23 +57,23 @@ module _ (z : Layout) (o : Opening) (e : Event) (s u : State) (m : MakesStep z o
       = subst (λ (ps : List Part). KeepsPublished z past s.words (holdings ps)) m.own.is keeps in
       subst (Keeps z past) (sym m.next) (keeps_on z o s.words m.own.before m.own.part m.own.after s.log m.machine e.step m.leads past here)
 
-module _ (z : Layout) (o : Opening) (number : ℕ) (s u : State) (m : MakesLook number s u) where
-  look_lawful : IsLawful z o s → IsLawful z o u
-  look_lawful w = subst (IsLawful z o) (sym m.next) (looks_stay_lawful z o s.words m.own.before m.own.part m.own.after s.log (lawful_at z o s number m.own w)).lawful
+module _ (z : Layout) (o : Opening) (number : ℕ) (s u : MemoryState) (m : MakesLook number s u) where
+  look_lawful : IsLawfulMemory z o s → IsLawfulMemory z o u
+  look_lawful w = subst (IsLawfulMemory z o) (sym m.next) (looks_stay_lawful z o s.words m.own.before m.own.part m.own.after s.log (lawful_at z o s number m.own w)).lawful
 
   look_words : u.words ≡ s.words
-  look_words = ap (λ (v : State). v.words) m.next
+  look_words = ap (λ (v : MemoryState). v.words) m.next
 
   look_keeps : (past : List (List ℕ)) → Keeps z past s → Keeps z past u
   look_keeps past keeps =
-      let parts : u.parts ≡ m.own.before ++ with_seen s.log m.own.part ∷ m.own.after = ap (λ (v : State). v.parts) m.next in
+      let parts : u.parts ≡ m.own.before ++ with_seen s.log m.own.part ∷ m.own.after = ap (λ (v : MemoryState). v.parts) m.next in
       let split : holdings (m.own.before ++ with_seen s.log m.own.part ∷ m.own.after) ≡ holdings m.own.before ++ holding_of m.own.part ∷ holdings m.own.after
       = holdings_split m.own.before (with_seen s.log m.own.part) m.own.after in
       let same : holdings s.parts ≡ holdings u.parts = ap holdings m.own.is ∙ holdings_split m.own.before m.own.part m.own.after ∙ sym split ∙ sym (ap holdings parts) in
       subst (λ (ws : List ℕ). KeepsPublished z past ws (holdings u.parts)) (sym look_words) (subst (λ (hs : List Holding). KeepsPublished z past s.words hs) same keeps)
 
 -- the events of a run are orderly
-events_orderly : (z : Layout) (o : Opening) (moves : List Move) (s t : State) (past : List (List ℕ)) → IsLawful z o s → Keeps z past s → IsRun z o moves s t →
+events_orderly : (z : Layout) (o : Opening) (moves : List PortMove) (s t : MemoryState) (past : List (List ℕ)) → IsLawfulMemory z o s → Keeps z past s → IsRun z o moves s t →
     AreOrderly z past s.words (events_of moves)
 events_orderly z o [] s t past w keeps run = tt
 events_orderly z o (Makes e ∷ moves) s t past w keeps run =
@@ -93,8 +93,9 @@ events_orderly z o (Looks port ∷ moves) s t past w keeps run =
     (events_orderly z o moves u t past (look_lawful z o port s u m w) (look_keeps z o port s u m past keeps) run.2)
 
 -- where a run ends
-run_ends : (z : Layout) (o : Opening) (moves : List Move) (s t : State) → IsLawful z o s → IsRun z o moves s t → (t.words ≡ words_behind s.words (events_of moves)) × IsLawful z o t
-run_ends z o [] s t w run = (ap (λ (v : State). v.words) run, subst (IsLawful z o) (sym run) w)
+run_ends : (z : Layout) (o : Opening) (moves : List PortMove) (s t : MemoryState) → IsLawfulMemory z o s → IsRun z o moves s t → (t.words ≡ words_behind s.words (events_of moves)) ×
+    IsLawfulMemory z o t
+run_ends z o [] s t w run = (ap (λ (v : MemoryState). v.words) run, subst (IsLawfulMemory z o) (sym run) w)
 run_ends z o (Makes e ∷ moves) s t w run =
     let rest = run_ends z o moves run.0 t (step_lawful z o e s run.0 run.1) run.2 in
     (rest.0 ∙ ap (λ (ws : List ℕ). words_behind ws (events_of moves)) (step_words z o e s run.0 run.1), rest.1)
@@ -129,16 +130,16 @@ one_machine z o words before x after log w own is =
 
 -- the machine is at a getSet, or its getSet is finished
 abbrev IsAtGetSet : CoreState → Type 0
-IsAtGetSet c = IsGetting c ⊎ (finding.step_of c.get_set ≡ None)
+IsAtGetSet c = IsGetting c ⊎ (finding.set_step_due c.get_set ≡ None)
 
 -- an answer to the getSet goes to its machine
-answer_goes : (c : CoreState) (change : Change) (old a : ℕ) → c.stage ≡ GettingSet change old → (getting (advance c a) ≡ finding.advance (getting c) a) × IsAtGetSet (advance c a)
+answer_goes : (c : CoreState) (change : Change) (old a : ℕ) → c.stage ≡ GettingSet change old → (getting (advance c a) ≡ finding.advance_set (getting c) a) × IsAtGetSet (advance c a)
 answer_goes c change old a is =
-    let p : finding.Pair = finding.advance (getting c) a in
+    let p : finding.SetPair = finding.advance_set (getting c) a in
     subst (λ (v : Stage). (getting (advance_at c v a) ≡ p) × IsAtGetSet (advance_at c v a)) (sym is)
     (by_due (with_getting c p) change old is (λ (d : CoreState). (getting d ≡ p) × IsAtGetSet d) (refl, inl (change, old, is)) (λ v ended next. (refl, inr ended)))
 
-module _ (z : Layout) (o : Opening) (own : ℕ) (e : Event) (s u : State) (m : MakesStep z o e s u) (w : IsLawful z o s) (c : CoreState) (has : AllHave own c s.parts) where
+module _ (z : Layout) (o : Opening) (own : ℕ) (e : Event) (s u : MemoryState) (m : MakesStep z o e s u) (w : IsLawfulMemory z o s) (c : CoreState) (has : AllHave own c s.parts) where
   has_here : AllHave own c (m.own.before ++ m.own.part ∷ m.own.after)
   has_here = subst (AllHave own c) m.own.is has
 
@@ -148,7 +149,7 @@ module _ (z : Layout) (o : Opening) (own : ℕ) (e : Event) (s u : State) (m : M
       let port : port_of m.leads.y ≡ e.port = m.leads.tells.port ∙ m.own.port in
       let changed : AllHave own c (m.own.before ++ m.leads.y ∷ m.own.after)
       = all_changed (Has own c) (Has own c) (λ y h. h) m.own.before m.own.part m.leads.y m.own.after has_here (λ same. absurd (other (sym port ∙ same))) in
-      subst (λ (v : State). AllHave own c v.parts) (sym m.next) changed
+      subst (λ (v : MemoryState). AllHave own c v.parts) (sym m.next) changed
 
   -- its own step, which is one of a getSet
   module _ (mine : e.port ≡ own) (at : IsGetting m.machine) where
@@ -162,40 +163,40 @@ module _ (z : Layout) (o : Opening) (own : ℕ) (e : Event) (s u : State) (m : M
     at_stage : c.stage ≡ GettingSet at.0 at.1
     at_stage = ap (λ (d : CoreState). d.stage) (sym machine_is) ∙ at.2
 
-    own_due : finding.step_of (getting c).0 ≡ Some e.step
+    own_due : finding.set_step_due (getting c).0 ≡ Some e.step
     own_due = sym (ap (step_at c) at_stage) ∙ ap step_of (sym machine_is) ∙ m.due
 
-    own_goes : (getting (core_of m.leads.y) ≡ finding.advance (getting c) (answer_of s.words e.step)) × IsAtGetSet (core_of m.leads.y)
+    own_goes : (getting (core_of m.leads.y) ≡ finding.advance_set (getting c) (answer_of s.words e.step)) × IsAtGetSet (core_of m.leads.y)
     own_goes =
         let next : advance c (answer_of s.words e.step) ≡ core_of m.leads.y = ap (λ (d : CoreState). advance d (answer_of s.words e.step)) (sym machine_is) ∙ m.leads.tells.machine.is in
-        subst (λ (d : CoreState). (getting d ≡ finding.advance (getting c) (answer_of s.words e.step)) × IsAtGetSet d) next (answer_goes c at.0 at.1 (answer_of s.words e.step) at_stage)
+        subst (λ (d : CoreState). (getting d ≡ finding.advance_set (getting c) (answer_of s.words e.step)) × IsAtGetSet d) next (answer_goes c at.0 at.1 (answer_of s.words e.step) at_stage)
 
     own_has : AllHave own (core_of m.leads.y) u.parts
     own_has =
         let w' = m.leads.lawful in
-        subst (λ (v : State). AllHave own (core_of m.leads.y) v.parts) (sym m.next)
+        subst (λ (v : MemoryState). AllHave own (core_of m.leads.y) v.parts) (sym m.next)
         (one_machine z o (words_after s.words e.step) m.own.before m.leads.y m.own.after _ w' own (m.leads.tells.port ∙ m.own.port ∙ mine))
 
-look_has : (own number : ℕ) (s u : State) (m : MakesLook number s u) (c : CoreState) → AllHave own c s.parts → AllHave own c u.parts
+look_has : (own number : ℕ) (s u : MemoryState) (m : MakesLook number s u) (c : CoreState) → AllHave own c s.parts → AllHave own c u.parts
 look_has own number s u m c has =
     let here : AllHave own c (m.own.before ++ m.own.part ∷ m.own.after) = subst (AllHave own c) m.own.is has in
-    subst (λ (v : State). AllHave own c v.parts) (sym m.next)
+    subst (λ (v : MemoryState). AllHave own c v.parts) (sym m.next)
     (all_changed (Has own c) (Has own c) (λ y h. h) m.own.before m.own.part (with_seen s.log m.own.part) m.own.after here (all_at (Has own c) m.own.before m.own.part m.own.after here))
 
 -- the port's events are its getSet's steps
-makes_own : (z : Layout) (o : Opening) (own : ℕ) (moves : List Move) (s t : State) (run : IsRun z o moves s t) (c : CoreState) →
-    IsLawful z o s → AllHave own c s.parts → OnlyGets z o own moves s t run → IsAtGetSet c → (last : HasPart own t.parts) →
+makes_own : (z : Layout) (o : Opening) (own : ℕ) (moves : List PortMove) (s t : MemoryState) (run : IsRun z o moves s t) (c : CoreState) →
+    IsLawfulMemory z o s → AllHave own c s.parts → OnlyGets z o own moves s t run → IsAtGetSet c → (last : HasPart own t.parts) →
     MakesOwn own (getting c) s.words (events_of moves) (getting (core_of last.part)) × IsAtGetSet (core_of last.part)
 makes_own z o own [] s t run c w has only at last =
-    let there : s.parts ≡ last.before ++ last.part ∷ last.after = sym (ap (λ (v : State). v.parts) run) ∙ last.is in
+    let there : s.parts ≡ last.before ++ last.part ∷ last.after = sym (ap (λ (v : MemoryState). v.parts) run) ∙ last.is in
     let same : core_of last.part ≡ c = all_at (Has own c) last.before last.part last.after (subst (AllHave own c) there has) last.port in
     (ap getting same, subst IsAtGetSet (sym same) at)
 makes_own z o own (Makes e ∷ moves) s t run c w has only at last =
     let u = run.0 in
     let m = run.1 in
     let a = answer_of s.words e.step in
-    let Q : finding.Pair = getting (core_of last.part) in
-    let Mine : Type 0 = (finding.step_of (getting c).0 ≡ Some e.step) × MakesOwn own (finding.advance (getting c) a) (words_after s.words e.step) (events_of moves) Q in
+    let Q : finding.SetPair = getting (core_of last.part) in
+    let Mine : Type 0 = (finding.set_step_due (getting c).0 ≡ Some e.step) × MakesOwn own (finding.advance_set (getting c) a) (words_after s.words e.step) (events_of moves) Q in
     let Other : Type 0 = MakesOwn own (getting c) (words_after s.words e.step) (events_of moves) Q in
     let words = step_words z o e s u m in
     elim (eqb_tells e.port own) [
@@ -205,8 +206,8 @@ makes_own z o own (Makes e ∷ moves) s t run c w has only at last =
           let rest = makes_own z o own moves u t run.2 (core_of m.leads.y) (step_lawful z o e s u m) (own_has z o own e s u m w c has same.1 gets) only.1 goes.1 last in
           let there : MakesOwn own (getting (core_of m.leads.y)) (words_after s.words e.step) (events_of moves) Q
           = subst (λ (ws : List ℕ). MakesOwn own (getting (core_of m.leads.y)) ws (events_of moves) Q) words rest.0 in
-          let moved : MakesOwn own (finding.advance (getting c) a) (words_after s.words e.step) (events_of moves) Q
-          = subst (λ (p : finding.Pair). MakesOwn own p (words_after s.words e.step) (events_of moves) Q) goes.0 there in
+          let moved : MakesOwn own (finding.advance_set (getting c) a) (words_after s.words e.step) (events_of moves) Q
+          = subst (λ (p : finding.SetPair). MakesOwn own p (words_after s.words e.step) (events_of moves) Q) goes.0 there in
           let both : Mine = (own_due z o own e s u m w c has same.1 gets, moved) in
           (subst (λ (b : Bool). MatchBool b Mine Other) (sym same.0) both, rest.1)
       | inr other ↦
@@ -220,7 +221,7 @@ makes_own z o own (Looks port ∷ moves) s t run c w has only at last =
     let rest = makes_own z o own moves u t run.2 c (look_lawful z o port s u m w) (look_has own port s u m c has) only at last in
     (subst (λ (ws : List ℕ). MakesOwn own (getting c) ws (events_of moves) (getting (core_of last.part))) (look_words z o port s u m) rest.0, rest.1)
 
-module _ (z : Layout) (o : Opening) (own : ℕ) (moves : List Move) (s t : State) (gets : RunsGetSet z o own moves s t) where
+module _ (z : Layout) (o : Opening) (own : ℕ) (moves : List PortMove) (s t : MemoryState) (gets : RunsGetSet z o own moves s t) where
   abbrev c : CoreState
   c = core_of gets.first.part
 
@@ -238,19 +239,19 @@ module _ (z : Layout) (o : Opening) (own : ℕ) (moves : List Move) (s t : State
   sizes : c.sizes ≡ z
   sizes = sizes_here z o s.words gets.first.before gets.first.part gets.first.after s.log at_first
 
-  begun : getting c ≡ (finding.fresh z (lists_spent c), c.found)
-  begun = ap (λ (g : finding.GetSetState). (g, c.found)) (gets.begins.first ∙ ap (λ (y : Layout). finding.fresh y (lists_spent c)) sizes)
+  begun : getting c ≡ (finding.fresh_set z (lists_spent c), c.found)
+  begun = ap (λ (g : finding.GetSetState). (g, c.found)) (gets.begins.first ∙ ap (λ (y : Layout). finding.fresh_set y (lists_spent c)) sizes)
 
-  for_sizes : IsFor z c.found
+  for_sizes : AreFoundFor z c.found
   for_sizes =
       let at = gets.begins.getting in
       let sound = sound_at z o s.words gets.first.before gets.first.part gets.first.after s.log at_first (GettingSet at.0 at.1) at.2 in
-      subst (λ (y : Layout). IsFor y c.found) (sound.2 ∙ sizes) sound.1.sizes
+      subst (λ (y : Layout). AreFoundFor y c.found) (sound.2 ∙ sizes) sound.1.sizes
 
-  from_fresh : MakesOwn own (finding.fresh z (lists_spent c), c.found) s.words (events_of moves) (getting d)
-  from_fresh = subst (λ (p : finding.Pair). MakesOwn own p s.words (events_of moves) (getting d)) begun made.0
+  from_fresh : MakesOwn own (finding.fresh_set z (lists_spent c), c.found) s.words (events_of moves) (getting d)
+  from_fresh = subst (λ (p : finding.SetPair). MakesOwn own p s.words (events_of moves) (getting d)) begun made.0
 
-  done : ¬ IsGetting d → finding.step_of (getting d).0 ≡ None
+  done : ¬ IsGetting d → finding.set_step_due (getting d).0 ≡ None
   done ended = elim made.1 [ inl getting_yet ↦ absurd (ended getting_yet) | inr none ↦ none ]
 
   orderly : IsOrderlyRun z s.words (events_of moves)
@@ -260,11 +261,11 @@ module _ (z : Layout) (o : Opening) (own : ℕ) (moves : List Move) (s t : State
   found_here ended = finds_by_events z (lists_spent c) c.found own s.words (events_of moves) (getting d) gets.lawful.memory.sizes for_sizes orderly from_fresh (done ended)
 
   in_order_here : ¬ IsGetting d → AreInOrder z (getting c) (moments_in own moves s) d.found.indices
-  in_order_here ended = subst (λ (p : finding.Pair). AreInOrder z p (moments_in own moves s) d.found.indices) (sym begun)
+  in_order_here ended = subst (λ (p : finding.SetPair). AreInOrder z p (moments_in own moves s) d.found.indices) (sym begun)
       (names_by_events z (lists_spent c) c.found own s.words (events_of moves) (getting d) gets.lawful.memory.sizes for_sizes orderly from_fresh (done ended))
 
   lists_here : KeepsLists z (getting c) (moments_in own moves s) (getting d)
-  lists_here = subst (λ (p : finding.Pair). KeepsLists z p (moments_in own moves s) (getting d)) (sym begun)
+  lists_here = subst (λ (p : finding.SetPair). KeepsLists z p (moments_in own moves s) (getting d)) (sym begun)
       (lists_by_events z (lists_spent c) c.found own s.words (events_of moves) (getting d) gets.lawful.memory.sizes for_sizes orderly from_fresh)
 
 pub updates_find : UpdatesFind

@@ -7,7 +7,7 @@ use Rattle.partial_model.specs.declared.history.Applied.{Applied}
 use Rattle.partial_words.specs.declared.step.Step.{Step}
 use Rattle.partial_words.specs.declared.step.Step.TheVariants.{Load, Store, Exchange, Add}
 use Rattle.partial_words.specs.Layout.{Layout, slot_word}
-use Rattle.partial_words.specs.Record.{value_of, view_word}
+use Rattle.partial_words.specs.Record.{record_value, view_word}
 use Rattle.partial_words.specs.Step.{answer_of}
 use Rattle.partial_active.specs.Join.{join_step}
 use Rattle.partial_active.specs.declared.join.JoinStage.{JoinStage}
@@ -48,13 +48,13 @@ adds_quiet z port t words (Load w) quiet none = record { entries = sym (none (ge
 adds_quiet z port t words (Store w v) quiet none = record { entries = sym (none 0); within = tt }
 adds_quiet z port t words (Add w v) quiet none = record { entries = sym (none (get_or words w 0)); within = tt }
 adds_quiet z port t words (Exchange w old new) quiet none = record {
-  entries = ap (λ (c : Bool). cond c (cond (get_or words w 0 == old) (record { port = port; component = w; value = value_of words new; stamp = new } ∷ []) []) [])
+  entries = ap (λ (c : Bool). cond c (cond (get_or words w 0 == old) (record { port = port; component = w; value = record_value words new; stamp = new } ∷ []) []) [])
       (not_below w z.m quiet) ∙ sym (none (get_or words w 0));
   within = λ below. absurd (omega (arith, quiet, below));
 }
 
 -- a getSet exchanges the list head alone
-getting_at : (z : Layout) (head : ℕ) (t : SetStage) (step : Step) → finding.step_at z head t ≡ Some step → IsQuiet z step
+getting_at : (z : Layout) (head : ℕ) (t : SetStage) (step : Step) → finding.set_step_at z head t ≡ Some step → IsQuiet z step
 getting_at z head set.Head step e = subst (IsQuiet z) (some_same e) tt
 getting_at z head (set.ListLen at) step e = subst (IsQuiet z) (some_same e) tt
 getting_at z head (set.ListLow at left) step e = subst (IsQuiet z) (some_same e) tt
@@ -69,7 +69,7 @@ getting_at z head (set.Publish at) step e = subst (IsQuiet z) (some_same e) (ome
 getting_at z head set.Done step e = absurd cc
 
 -- an embedded scan exchanges nothing, and neither do joins and leaves
-viewing_at : (z y : Layout) (indices last : List ℕ) (t : ViewStage) (step : Step) → viewing.step_at y indices last t ≡ Some step → IsQuiet z step
+viewing_at : (z y : Layout) (indices last : List ℕ) (t : ViewStage) (step : Step) → viewing.view_step_at y indices last t ≡ Some step → IsQuiet z step
 viewing_at z y indices last t step e = let load = view_loads y indices last t (ap is_some e) in subst (IsQuiet z) (some_same (sym load.1 ∙ e)) tt
 
 joining_at : (z y : Layout) (at : ℕ) (t : JoinStage) (step : Step) → join_step y at t ≡ Some step → IsQuiet z step
@@ -85,14 +85,14 @@ leaving_at z y slot false step e = subst (IsQuiet z) (some_same e) tt
 -- a component's exchange that is due: its component is there, and its record stands within the words
 pub record IsExchange (z : Layout) (words : List ℕ) (c : Change) (at : ℕ) : Type 0 where
   pub component : c.component < z.m
-  pub value : value_of words at ≡ c.value
+  pub value : record_value words at ≡ c.value
   pub within : view_word at < length words
 
 exchange_adds : (z : Layout) (port : ℕ) (words : List ℕ) (c : Change) (old at : ℕ) → IsExchange z words c at → StepAdds z port (Exchanging c old at) words (Exchange c.component old at)
 exchange_adds z port words c old at x =
     let found = get_or words c.component 0 in
     record {
-      entries = ap (λ (b : Bool). cond b (cond (found == old) (record { port = port; component = c.component; value = value_of words at; stamp = at } ∷ []) []) [])
+      entries = ap (λ (b : Bool). cond b (cond (found == old) (record { port = port; component = c.component; value = record_value words at; stamp = at } ∷ []) []) [])
           (lt-ltb c.component z.m x.component)
           ∙ ap (λ v. cond (found == old) (record { port = port; component = c.component; value = v; stamp = at } ∷ []) []) x.value;
       within = λ _. x.within;

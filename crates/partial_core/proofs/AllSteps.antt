@@ -21,7 +21,7 @@ use Rattle.partial_machine.specs.Possible.{IsPossible}
 use Rattle.partial_machine.specs.Behind.{IsBehind}
 use Rattle.partial_machine.proofs.Sound.{size_few}
 use Rattle.partial_machine.proofs.Behind.{answers_lead_on}
-use Rattle.partial_state.specs.Holdings.{Holding, unpublished, others_of}
+use Rattle.partial_state.specs.Holdings.{Holding, unpublished, other_holdings}
 use Rattle.partial_state.specs.LawfulWords.{IsDue}
 use Rattle.partial_state.specs.Loads.{IsLoaded, IsPublished}
 use Rattle.partial_state.specs.Effects.{Keeps}
@@ -204,7 +204,7 @@ module _ (z : Layout) (o : Opening) (words : List ℕ) (before : List Part) (x :
       let memory = memory_at z o words before (started c x) after log w (Exchanging d old at) e in
       let held = holding_in (core_of (started c x)) (Exchanging d old at) (joined_since (started c x)) in
       let all = holdings before ++ held ∷ holdings after in
-      let here = all_at (λ (h : Holding). IfSome h.due (IsDue z o words h (others_of h.port all) log)) (holdings before) held (holdings after) memory.due in
+      let here = all_at (λ (h : Holding). IfSome h.due (IsDue z o words h (other_holdings h.port all) log)) (holdings before) held (holdings after) memory.due in
       let sound = sound_at z o words before (started c x) after log w (Exchanging d old at) e in
       let whole = sound_here z o words before (started c x) after log w in
       let size = (size_few (core_of (started c x)) whole.indices.few).0 in

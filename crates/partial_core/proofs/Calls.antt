@@ -14,25 +14,26 @@ use Rattle.partial_machine.specs.Possible.{IsPossibleAt}
 use Rattle.partial_machine.proofs.Sound.{Keeps, kept}
 use Rattle.partial_state.specs.Holdings.{Holding}
 use Rattle.partial_state.specs.LawfulWords.{LawfulWords}
-use Rattle.partial_state.specs.Loads.{Kept}
+use Rattle.partial_state.specs.Loads.{KeptAnswer}
 use Rattle.partial_core.specs.Part.{led_by}
 use Rattle.partial_core.specs.Held.{joins_at, joined_from}
-use Rattle.partial_core.specs.Known.{IsTrueYet, AreKept}
+use Rattle.partial_core.specs.Known.{IsTrueYet, AreAnswersKept}
 use Rattle.partial_core.specs.Part.{has_no_step}
 use Rattle.partial_machine.specs.Sound.{is_sound_at}
 use Rattle.partial_core.proofs.MidCalls.{Knows, on_at}
 
 -- how long the history was at the last of the answers
-pub last_at : ℕ → List Kept → ℕ
+pub last_at : ℕ → List KeptAnswer → ℕ
 last_at high [] = high
 last_at high (k ∷ ks) = last_at k.at ks
 
 -- one answer more leads on from where the answers led
-pub led_push : (s : CoreState) (ks : List Kept) (k : Kept) → led_by s (ks ++ k ∷ []) ≡ advance (led_by s ks) k.answer
+pub led_push : (s : CoreState) (ks : List KeptAnswer) (k : KeptAnswer) → led_by s (ks ++ k ∷ []) ≡ advance (led_by s ks) k.answer
 led_push s [] k = refl
 led_push s (x ∷ ks) k = led_push (advance s x.answer) ks k
 
-pub joined_push : (since : ℕ) (s : CoreState) (ks : List Kept) (k : Kept) → joined_from since s (ks ++ k ∷ []) ≡ cond (joins_at (led_by s ks) (led_by s ks).stage) k.at (joined_from since s ks)
+pub joined_push : (since : ℕ) (s : CoreState) (ks : List KeptAnswer) (k : KeptAnswer) →
+    joined_from since s (ks ++ k ∷ []) ≡ cond (joins_at (led_by s ks) (led_by s ks).stage) k.at (joined_from since s ks)
 joined_push since s [] k = refl
 joined_push since s (x ∷ ks) k = joined_push (cond (joins_at s s.stage) x.at since) (advance s x.answer) ks k
 
@@ -43,8 +44,8 @@ pub record IsLed (z : Layout) (s t : CoreState) : Type 0 where
   pub port : t.port ≡ s.port
   pub asked : t.asked ≡ s.asked
 
-pub led : (z : Layout) (o : Opening) (words : List ℕ) (hs : List Holding) (log : List Applied) (low : ℕ) (s : CoreState) (ks : List Kept) → IsLayout z → s.sizes ≡ z → IsSound s →
-    AreKept z o words hs log low s ks → IsLed z s (led_by s ks)
+pub led : (z : Layout) (o : Opening) (words : List ℕ) (hs : List Holding) (log : List Applied) (low : ℕ) (s : CoreState) (ks : List KeptAnswer) → IsLayout z → s.sizes ≡ z → IsSound s →
+    AreAnswersKept z o words hs log low s ks → IsLed z s (led_by s ks)
 led z o words hs log low s [] layout sizes sound w = record { sound = sound; sizes = sizes; port = refl; asked = refl }
 led z o words hs log low s (k ∷ ks) layout sizes sound w =
     let one : Keeps s (advance s k.answer) = kept s k.answer (subst IsLayout (sym sizes) layout) sound w.0.possible in
@@ -56,7 +57,7 @@ module _ (z : Layout) (o : Opening) (words : List ℕ) (hs : List Holding) (log 
   layout = w.sizes
 
   -- behind the first answer
-  first_on : (since : ℕ) (s : CoreState) (k : Kept) (t : Stage) → s ≡ begun → s.sizes ≡ z → s.stage ≡ t → has_no_step t ≡ true → is_sound_at s t → IsPossibleAt s t k.answer →
+  first_on : (since : ℕ) (s : CoreState) (k : KeptAnswer) (t : Stage) → s ≡ begun → s.sizes ≡ z → s.stage ≡ t → has_no_step t ≡ true → is_sound_at s t → IsPossibleAt s t k.answer →
       IsTrueYet z o words hs log (step_at s t) k → Knows z o words hs log begun k.at since k.at (advance_at s t k.answer)
   first_on since s k Idle is sizes e none may possible yet = absurd possible
   first_on since s k (ReadBegun j) is sizes e none may possible yet = (j, ap (λ (c : CoreState). c.stage) (sym is) ∙ e, yet.component (subst (λ (y : Layout). j < y.m) sizes may))
@@ -77,7 +78,8 @@ module _ (z : Layout) (o : Opening) (words : List ℕ) (hs : List Holding) (log 
     pub inside : high ≤ length log
     pub knows : Knows z o words hs log begun first since high s
 
-  led_on : (first since high : ℕ) (s : CoreState) (ks : List Kept) → s.sizes ≡ z → IsSound s → HasGone first since high s → AreKept z o words hs log high s ks → HasGone first (joined_from since s ks)
+  led_on : (first since high : ℕ) (s : CoreState) (ks : List KeptAnswer) → s.sizes ≡ z → IsSound s → HasGone first since high s → AreAnswersKept z o words hs log high s ks →
+      HasGone first (joined_from since s ks)
       (last_at high ks) (led_by s ks)
   unfolding last_at
   led_on first since high s [] sizes sound g kept_all = g
@@ -93,7 +95,7 @@ module _ (z : Layout) (o : Opening) (words : List ℕ) (hs : List Holding) (log 
       led_on first (cond (joins_at s s.stage) k.at since) k.at (advance s k.answer) ks (one.sizes ∙ sizes) one.sound next kept_all.1
 
   -- a call that has made a step
-  pub called_on : (low : ℕ) (k : Kept) (ks : List Kept) → begun.sizes ≡ z → IsSound begun → has_no_step begun.stage ≡ true → AreKept z o words hs log low begun (k ∷ ks) →
+  pub called_on : (low : ℕ) (k : KeptAnswer) (ks : List KeptAnswer) → begun.sizes ≡ z → IsSound begun → has_no_step begun.stage ≡ true → AreAnswersKept z o words hs log low begun (k ∷ ks) →
       HasGone k.at (joined_from 0 begun (k ∷ ks)) (last_at low (k ∷ ks)) (led_by begun (k ∷ ks))
   unfolding last_at
   called_on low k ks sizes sound may kept_all =

@@ -59,7 +59,7 @@ in_set s own spent = record {
 }
 
 -- a getSet that is finished writes no list
-done_owns : (y : Layout) (head : ℕ) (stage : SetStage) (next : Ranges) → finding.step_at y head stage ≡ None → own_list next stage ≡ None
+done_owns : (y : Layout) (head : ℕ) (stage : SetStage) (next : Ranges) → finding.set_step_at y head stage ≡ None → own_list next stage ≡ None
 done_owns y head Head next e = refl
 done_owns y head (ListLen at) next e = refl
 done_owns y head (ListLow at left) next e = refl
@@ -76,16 +76,16 @@ done_owns y head Done next e = refl
 module _ (u : CoreState) (c : Change) (old : ℕ) (e : u.stage ≡ GettingSet c old) where
   -- the machine with a finished getSet, at the next stage
   abbrev pub past : Stage → CoreState
-  past v = record u { embedded = viewing.fresh u.sizes true; stage = v }
+  past v = record u { embedded = viewing.fresh_view u.sizes true; stage = v }
 
   -- the machine behind an answer to its getSet
-  pub by_due : (P : CoreState → Type 0) → P u → ((v : Stage) → finding.step_of u.get_set ≡ None → (v ≡ ClaimingRecord c old) ⊎ (v ≡ Viewing c old) → P (past v)) → P (after_getting u c old)
-  by_due P goes ended = by_step (finding.step_of u.get_set) refl
+  pub by_due : (P : CoreState → Type 0) → P u → ((v : Stage) → finding.set_step_due u.get_set ≡ None → (v ≡ ClaimingRecord c old) ⊎ (v ≡ Viewing c old) → P (past v)) → P (after_getting u c old)
+  by_due P goes ended = by_step (finding.set_step_due u.get_set) refl
     where
       Case : Option Step → Type 0
       Case f = P (option_map_or (λ _. u) f (past (cond (length u.found.indices == 0) (ClaimingRecord c old) (Viewing c old))))
 
-      by_step : (f : Option Step) → finding.step_of u.get_set ≡ f → Case (finding.step_of u.get_set)
+      by_step : (f : Option Step) → finding.set_step_due u.get_set ≡ f → Case (finding.set_step_due u.get_set)
       by_step (Some step) is = subst Case (sym is) goes
       by_step None is = subst Case (sym is) (cond_both (length u.found.indices == 0) (ClaimingRecord c old) (Viewing c old) (λ (v : Stage). P (past v))
           (λ none. ended (ClaimingRecord c old) is (inl refl)) (λ some. ended (Viewing c old) is (inr refl)))
@@ -109,21 +109,21 @@ module _ (u : CoreState) (c : Change) (old : ℕ) (e : u.stage ≡ GettingSet c 
       at_next v (inr is) = ap reply_at is
 
 -- a getSet that writes no list, with the mark
-abbrev IsCalm : Bool → finding.Pair → Type 0
+abbrev IsCalm : Bool → finding.SetPair → Type 0
 IsCalm b p = (own_list p.1.next p.0.stage ≡ None) × (p.0.lists_spent ≡ b)
 
-calm_at_slot : (p : finding.Pair) (slot : ℕ) → IsCalm p.0.lists_spent (finding.at_slot p slot)
+calm_at_slot : (p : finding.SetPair) (slot : ℕ) → IsCalm p.0.lists_spent (finding.at_slot p slot)
 calm_at_slot p slot = cond_both (ltb slot p.0.end) (record p.0 { stage = Slot slot }, p.1) (finding.after_walk p) (IsCalm p.0.lists_spent) (λ f. (refl, refl))
     (λ f. cond_both (p.0.noted && not p.0.lists_spent) (Claim (finding.next_words p.1)) Done (λ stage. IsCalm p.0.lists_spent (record p.0 { stage = stage }, p.1))
     (λ g. (refl, refl)) (λ g. (refl, refl)))
 
-calm_come : (p : finding.Pair) (slot : ℕ) → IsCalm p.0.lists_spent (finding.come_to p slot)
+calm_come : (p : finding.SetPair) (slot : ℕ) → IsCalm p.0.lists_spent (finding.come_to p slot)
 calm_come p slot = cond_both (begins_at p.1.read p.0.passed slot) (finding.at_slot (finding.pass_interval p) (highest p.1.read p.0.passed + 1)) (finding.at_slot p slot) (IsCalm p.0.lists_spent)
     (λ f. calm_at_slot (finding.pass_interval p) (highest p.1.read p.0.passed + 1)) (λ f. calm_at_slot p slot)
 
 -- a load leads to no list that is written, and marks nothing
-calm_load : (y : Layout) (head n : ℕ) (stage : SetStage) (p : finding.Pair) (a : ℕ) → finding.step_at y head stage ≡ Some (Load n) → (own_list p.1.next stage ≡ None) ×
-    IsCalm p.0.lists_spent (finding.advance_at stage p a)
+calm_load : (y : Layout) (head n : ℕ) (stage : SetStage) (p : finding.SetPair) (a : ℕ) → finding.set_step_at y head stage ≡ Some (Load n) → (own_list p.1.next stage ≡ None) ×
+    IsCalm p.0.lists_spent (finding.advance_set_at stage p a)
 calm_load y head n Head p a e = (
   refl,
   cond_both (eqb a 0) Counter (ListLen a)
@@ -151,7 +151,7 @@ calm_load y head n (Len slot at) p a e = (
       (λ f. calm_come p (slot + 1)) (λ f. (refl, refl)),
 )
 calm_load y head n (Index slot at left) p a e =
-    let q : finding.Pair = (p.0, record p.1 { indices = with_index p.1.indices a }) in
+    let q : finding.SetPair = (p.0, record p.1 { indices = with_index p.1.indices a }) in
     (refl, cond_both (eqb left 1) (finding.come_to q (slot + 1)) (finding.in_stage q (Index slot (next_word at) (left - 1))) (IsCalm p.0.lists_spent) (λ f. calm_come q (slot + 1)) (λ f. (refl, refl)))
 calm_load y head n (Claim count) p a e = absurd cc
 calm_load y head n (Write at k count word) p a e = absurd cc
@@ -166,26 +166,26 @@ module _ (z : Layout) (o : Opening) (words : List ℕ) (before : List Part) (x :
   same_sizes : (core_of x).get_set.sizes ≡ z
   same_sizes = let h = gets in h.2 ∙ sizes_here z o words before x after log w
 
-  knows : sets.Knows z words (holdings (before ++ x ∷ after)) (first_at x.kept) (getting (core_of x))
+  knows : sets.SetKnows z words (holdings (before ++ x ∷ after)) (first_at x.kept) (getting (core_of x))
   knows = let g = going z o words before x after log w (GettingSet c old) e refl refl in g.knows.1
 
   -- it leads on
-  leads_on : sets.KnowsOn z o words (holdings (before ++ x ∷ after)) log (first_at x.kept) (getting (core_of x))
+  leads_on : sets.SetKnowsOn z o words (holdings (before ++ x ∷ after)) log (first_at x.kept) (getting (core_of x))
   leads_on =
       let h = gets in
-      subst (λ (y : Layout). LawfulWords y o words (holdings (before ++ x ∷ after)) log → sets.Knows y words (holdings (before ++ x ∷ after)) (first_at x.kept) (getting (core_of x)) →
-      sets.KnowsOn y o words (holdings (before ++ x ∷ after)) log (first_at x.kept) (getting (core_of x))) same_sizes
+      subst (λ (y : Layout). LawfulWords y o words (holdings (before ++ x ∷ after)) log → sets.SetKnows y words (holdings (before ++ x ∷ after)) (first_at x.kept) (getting (core_of x)) →
+      sets.SetKnowsOn y o words (holdings (before ++ x ∷ after)) log (first_at x.kept) (getting (core_of x))) same_sizes
       (λ v k. getsets_know o words (holdings (before ++ x ∷ after)) log (first_at x.kept) (getting (core_of x)) v h.1 k) w.memory knows
 
   -- nothing is noted
   silent : (a : ℕ) → AreNotesOf (gone x log a []) (reply_of (advance_at (core_of x) (GettingSet c old) a)) []
-  silent a = subst (λ (r : Option Reply). AreNotesOf (gone x log a []) r []) (sym (no_reply (with_getting (core_of x) (finding.advance (getting (core_of x)) a)) c old e)) refl
+  silent a = subst (λ (r : Option Reply). AreNotesOf (gone x log a []) r []) (sym (no_reply (with_getting (core_of x) (finding.advance_set (getting (core_of x)) a)) c old e)) refl
 
   -- what the port holds behind an answer
-  holds_then : (a : ℕ) (own : Option Own) (spent : Bool) → own_list (finding.advance (getting (core_of x)) a).1.next (finding.advance (getting (core_of x)) a).0.stage ≡ own →
-      (finding.advance (getting (core_of x)) a).0.lists_spent ≡ spent → holding_at (advance_at (core_of x) (GettingSet c old) a) (joined_since x) ≡ in_set (core_of x) own spent
+  holds_then : (a : ℕ) (own : Option Own) (spent : Bool) → own_list (finding.advance_set (getting (core_of x)) a).1.next (finding.advance_set (getting (core_of x)) a).0.stage ≡ own →
+      (finding.advance_set (getting (core_of x)) a).0.lists_spent ≡ spent → holding_at (advance_at (core_of x) (GettingSet c old) a) (joined_since x) ≡ in_set (core_of x) own spent
   holds_then a own spent owns marks =
-      let q : finding.Pair = finding.advance (getting (core_of x)) a in
+      let q : finding.SetPair = finding.advance_set (getting (core_of x)) a in
       after_holds (with_getting (core_of x) q) c old e (joined_since x)
       ∙ ap (λ (f : Option Own). in_set (core_of x) f q.0.lists_spent) owns
       ∙ ap (λ (b : Bool). in_set (core_of x) own b) marks
@@ -209,12 +209,12 @@ module _ (z : Layout) (o : Opening) (words : List ℕ) (before : List Part) (x :
   known_at : (stage : SetStage) → (core_of x).get_set.stage ≡ stage → knows_by (sets.facts_of_words z words (holdings (before ++ x ∷ after)) (first_at x.kept)) stage (getting (core_of x))
   known_at stage is = subst (λ (t : SetStage). knows_by (sets.facts_of_words z words (holdings (before ++ x ∷ after)) (first_at x.kept)) t (getting (core_of x))) is knows
 
-  goes_at : (stage : SetStage) → (core_of x).get_set.stage ≡ stage → finding_answers.goes_at stage (getting (core_of x))
-  goes_at stage is = let h = gets in let together = h.1.stage in subst (λ (t : SetStage). finding_answers.goes_at t (getting (core_of x))) is together
+  goes_at : (stage : SetStage) → (core_of x).get_set.stage ≡ stage → finding_answers.set_goes_at stage (getting (core_of x))
+  goes_at stage is = let h = gets in let together = h.1.stage in subst (λ (t : SetStage). finding_answers.set_goes_at t (getting (core_of x))) is together
 
   -- the step that is due at a stage of the getSet
-  due_at : (stage : SetStage) (step : Step) → (core_of x).get_set.stage ≡ stage → finding.step_at z (core_of x).get_set.head stage ≡ Some step → step_at (core_of x) (GettingSet c old) ≡ Some step
-  due_at stage step is due = ap (λ (y : Layout). finding.step_at y (core_of x).get_set.head (core_of x).get_set.stage) same_sizes ∙ ap (finding.step_at z (core_of x).get_set.head) is ∙ due
+  due_at : (stage : SetStage) (step : Step) → (core_of x).get_set.stage ≡ stage → finding.set_step_at z (core_of x).get_set.head stage ≡ Some step → step_at (core_of x) (GettingSet c old) ≡ Some step
+  due_at stage step is due = ap (λ (y : Layout). finding.set_step_at y (core_of x).get_set.head (core_of x).get_set.stage) same_sizes ∙ ap (finding.set_step_at z (core_of x).get_set.head) is ∙ due
 
   -- the words with what the port holds, as it is named
   memory_in : (own : Option Own) (spent : Bool) → own_list (core_of x).found.next (core_of x).get_set.stage ≡ own → (core_of x).get_set.lists_spent ≡ spent →
@@ -225,12 +225,12 @@ module _ (z : Layout) (o : Opening) (words : List ℕ) (before : List Part) (x :
       (memory_at z o words before x after log w (GettingSet c old) e))
 
   -- a step that isn't a load, from what it does to the words and to what the port holds
-  made : (stage : SetStage) (step : Step) (own own' : Option Own) (spent spent' : Bool) → (core_of x).get_set.stage ≡ stage → finding.step_at z (core_of x).get_set.head stage ≡ Some step →
+  made : (stage : SetStage) (step : Step) (own own' : Option Own) (spent spent' : Bool) → (core_of x).get_set.stage ≡ stage → finding.set_step_at z (core_of x).get_set.head stage ≡ Some step →
       word_of step < length words →
       own_list (core_of x).found.next stage ≡ own → (core_of x).get_set.lists_spent ≡ spent →
       finding_answers.is_possible_at stage (getting (core_of x)) (answer_of words step) →
-      own_list (finding.advance_at stage (getting (core_of x)) (answer_of words step)).1.next (finding.advance_at stage (getting (core_of x)) (answer_of words step)).0.stage ≡ own' →
-      (finding.advance_at stage (getting (core_of x)) (answer_of words step)).0.lists_spent ≡ spent' →
+      own_list (finding.advance_set_at stage (getting (core_of x)) (answer_of words step)).1.next (finding.advance_set_at stage (getting (core_of x)) (answer_of words step)).0.stage ≡ own' →
+      (finding.advance_set_at stage (getting (core_of x)) (answer_of words step)).0.lists_spent ≡ spent' →
       (LawfulWords z o words (holdings before ++ in_set (core_of x) own spent ∷ holdings after) log → IsKept z o words (holdings before) (in_set (core_of x) own spent) (holdings after) log
       (words_after words step) (in_set (core_of x) own' spent') log) →
       ((hs : List Holding) → IsTrueYet z o (words_after words step) hs log (Some step) (record { answer = answer_of words step; at = length log })) →
@@ -250,8 +250,8 @@ module _ (z : Layout) (o : Opening) (words : List ℕ) (before : List Part) (x :
       quiet z o words before x after log w (GettingSet c old) step (advance_at (core_of x) (GettingSet c old) (answer_of words step)) (in_set (core_of x) own' spent') e
       (due_at stage step is due) refl refl within
       (subst (λ (t : SetStage). finding_answers.is_possible_at t (getting (core_of x)) (answer_of words step)) (sym is) possible)
-      (holds_then a own' spent' (ap (λ (t : SetStage). own_list (finding.advance_at t (getting (core_of x)) a).1.next (finding.advance_at t (getting (core_of x)) a).0.stage) is ∙ owns')
-      (ap (λ (t : SetStage). (finding.advance_at t (getting (core_of x)) a).0.lists_spent) is ∙ marks'))
+      (holds_then a own' spent' (ap (λ (t : SetStage). own_list (finding.advance_set_at t (getting (core_of x)) a).1.next (finding.advance_set_at t (getting (core_of x)) a).0.stage) is ∙ owns')
+      (ap (λ (t : SetStage). (finding.advance_set_at t (getting (core_of x)) a).0.lists_spent) is ∙ marks'))
       keeps_here (λ hs same. yet hs) refl (silent a)
 
   -- how many words the next list has
@@ -300,16 +300,16 @@ module _ (z : Layout) (o : Opening) (words : List ℕ) (before : List Part) (x :
       by_room : (b : Bool) → ltb (list_end s.get_set.sizes) (n + count) ≡ b → LeadsAt z o words before x after log s (GettingSet c old) (Add (list_counter z) count)
       by_room true over =
           let beyond = ltb-true (list_end s.get_set.sizes) (n + count) over in
-          let p : finding.Pair = getting s in
-          let spent : Bool → finding.Pair = λ b. cond b (record p.0 { lists_spent = true; stage = Done }, p.1) (finding.in_stage p (Write n 0 count (length p.1.next))) in
+          let p : finding.SetPair = getting s in
+          let spent : Bool → finding.SetPair = λ b. cond b (record p.0 { lists_spent = true; stage = Done }, p.1) (finding.in_stage p (Write n 0 count (length p.1.next))) in
           made (Claim count) (Add (list_counter z) count) None None false true is refl within refl unmarked possible
           (ap (λ (b : Bool). own_list (spent b).1.next (spent b).0.stage) over) (ap (λ (b : Bool). (spent b).0.lists_spent) over)
           (λ m. list_refusals_are_kept z o words (holdings before) (in_set s None false) (holdings after) log count m refl few (omega (arith, beyond, end_is)))
           (λ hs. tt)
       by_room false fits =
           let room = ltb-false (list_end s.get_set.sizes) (n + count) fits in
-          let p : finding.Pair = getting s in
-          let claimed : Bool → finding.Pair = λ b. cond b (record p.0 { lists_spent = true; stage = Done }, p.1) (finding.in_stage p (Write n 0 count (length p.1.next))) in
+          let p : finding.SetPair = getting s in
+          let claimed : Bool → finding.SetPair = λ b. cond b (record p.0 { lists_spent = true; stage = Done }, p.1) (finding.in_stage p (Write n 0 count (length p.1.next))) in
           made (Claim count) (Add (list_counter z) count) None (listed n 0) false false is refl within refl unmarked possible
           (ap (λ (b : Bool). own_list (claimed b).1.next (claimed b).0.stage) fits) (ap (λ (b : Bool). (claimed b).0.lists_spent) fits ∙ unmarked)
           (λ m. subst (λ i. IsKept z o words (holdings before) (in_set s None false) (holdings after) log (words_after words (Add (list_counter z) i)) (in_set s (listed n 0) false) log) length_is
@@ -353,14 +353,15 @@ module _ (z : Layout) (o : Opening) (words : List ℕ) (before : List Part) (x :
       (λ hs. tt)
 
   -- the step that is due at a stage of the getSet
-  stage_leads : (stage : SetStage) (step : Step) → (core_of x).get_set.stage ≡ stage → finding.step_at z (core_of x).get_set.head stage ≡ Some step → LeadsAt z o words before x after log (core_of x)
+  stage_leads : (stage : SetStage) (step : Step) → (core_of x).get_set.stage ≡ stage → finding.set_step_at z (core_of x).get_set.head stage ≡ Some step →
+      LeadsAt z o words before x after log (core_of x)
       (GettingSet c old) step
   stage_leads stage step is due = by_step stage step is due (due_at stage step is due)
     where
       Led : Step → Type 0
       Led t = LeadsAt z o words before x after log (core_of x) (GettingSet c old) t
 
-      by_step : (u : SetStage) (t : Step) → (core_of x).get_set.stage ≡ u → finding.step_at z (core_of x).get_set.head u ≡ Some t → step_at (core_of x) (GettingSet c old) ≡ Some t → Led t
+      by_step : (u : SetStage) (t : Step) → (core_of x).get_set.stage ≡ u → finding.set_step_at z (core_of x).get_set.head u ≡ Some t → step_at (core_of x) (GettingSet c old) ≡ Some t → Led t
       by_step u (Load n) at due here = load_leads n here
       by_step (Claim count) t at due here = let same : Add (list_counter z) count ≡ t = cc in subst Led same (claim_leads count at)
       by_step (Write a k count word) t at due here = let same : Store (a + k) word ≡ t = cc in subst Led same (write_leads a k count word at)
@@ -373,4 +374,4 @@ pub getting_leads : (z : Layout) (o : Opening) (words : List ℕ) (before : List
     (old : ℕ) (step : Step) → (core_of x).stage ≡ GettingSet c old → step_at (core_of x) (GettingSet c old) ≡ Some step → LeadsAt z o words before x after log (core_of x) (GettingSet c old) step
 getting_leads z o words before x after log w c old step e due =
     stage_leads z o words before x after log w c old e (core_of x).get_set.stage step refl
-    (ap (λ (y : Layout). finding.step_at y (core_of x).get_set.head (core_of x).get_set.stage) (sym (same_sizes z o words before x after log w c old e)) ∙ due)
+    (ap (λ (y : Layout). finding.set_step_at y (core_of x).get_set.head (core_of x).get_set.stage) (sym (same_sizes z o words before x after log w c old e)) ∙ due)

@@ -16,7 +16,7 @@ use Rattle.partial_words.specs.Record.{view_of}
 use Rattle.partial_words.proofs.BlockLemmas.{list_reads_back}
 use Rattle.partial_machine.specs.declared.stage.Stage.TheVariants.{Leaving, Finished}
 use Rattle.partial_machine.specs.Machine.{CoreState, scanning, scanned_values, scanned_reply, advance_at, step_at}
-use Rattle.partial_state.specs.Views.{HasPairs, Covers, Names}
+use Rattle.partial_state.specs.Views.{HasPairs, Covers, ViewNames}
 use Rattle.partial_state.specs.Holdings.{Holding, IfJoined, unpublished}
 use Rattle.partial_state.specs.LawfulWords.{CoversAll}
 use Rattle.partial_state.specs.Effects.{IsKept}
@@ -97,7 +97,7 @@ module _ (z : Layout) (o : Opening) (words : List ℕ) (before : List Part) (x :
     together : SawTogether o log s.asked (scanned_values s) s.embedded.collects s.embedded.borrowed prefix
 
   -- the indices that the third record's view names, of this port's own announcement
-  names_own : (stamp : ℕ) → scans.IsThird words log s.asked (joined_since x) (scanning s) stamp → Names z words (unpublished hs) stamp s.asked
+  names_own : (stamp : ℕ) → scans.IsThird words log s.asked (joined_since x) (scanning s) stamp → ViewNames z words (unpublished hs) stamp s.asked
   names_own stamp third =
       let covers = AllByRecursion-get (λ (d : Applied). CoversAll z words hs log d.stamp) log third.place third.entry w.memory.covering third.stands in
       let split : AllByRecursion (λ (h : Holding). IfJoined h (λ l j. Covers z words (unpublished hs) log third.entry.stamp j)) (holdings before ++ holding_of x ∷ holdings after) =

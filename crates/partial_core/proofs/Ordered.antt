@@ -16,7 +16,7 @@ use Rattle.partial_words.specs.Record.{value_word}
 use Rattle.partial_active.specs.Orderly.{Orderly, IsSlotMove, IsSlotOf, IsHeadOf, slot_at}
 use Rattle.partial_state.specs.Views.{Joined, IsHead}
 use Rattle.partial_state.specs.Holdings.Space.{Pool, Lists}
-use Rattle.partial_state.specs.Holdings.{Holding, Claimed, Own, Space, first_of, unpublished}
+use Rattle.partial_state.specs.Holdings.{Holding, Claimed, Own, Space, space_begin, unpublished}
 use Rattle.partial_state.specs.LawfulWords.{LawfulWords, IsOwn, IsTied, IsClaim}
 use Rattle.partial_state.specs.Loads.{IsSlotAnswer}
 use Rattle.partial_state.proofs.LoadLaw.{loads_are_true}
@@ -26,7 +26,7 @@ use Rattle.partial_active.specs.Join.{join_step, fits_join}
 use Rattle.partial_active.specs.declared.join.JoinStage.{JoinStage}
 use Rattle.partial_active.specs.declared.join.JoinStage.TheVariants.{Claiming, Storing, Joined as JoinedIn, Spent}
 use Rattle.partial_active.specs.GetSet as finding
-use Rattle.partial_active.specs.GetSetAnswers.{goes_at}
+use Rattle.partial_active.specs.GetSetAnswers.{set_goes_at}
 use Rattle.partial_active.specs.declared.get_set.Stage.{Stage as SetStage}
 use Rattle.partial_active.specs.declared.get_set.Stage.TheVariants.{Head, ListLen, ListLow, ListHigh, Counter, Slot, Len as NamedLen, Index as NamedIndex, Claim, Write, Publish, Done as SetDone}
 use Rattle.partial_machine.specs.declared.stage.Stage.{Stage}
@@ -114,7 +114,7 @@ module _ (z : Layout) (o : Opening) (words : List ℕ) (before : List Holding) (
       let own : IsOwn z words b = if_some_at (IsOwn z words) h.own b is tied.own in
       far b.space own.above
     where
-      far : (s : Space) → first_of z s ≤ b.at → list_base z ≤ b.at
+      far : (s : Space) → space_begin z s ≤ b.at → list_base z ≤ b.at
       far Pool above = omega (arith, above)
       far Lists above = above
 
@@ -148,7 +148,7 @@ touches_same : (z : Layout) (words : List ℕ) (own : Option Own) (a b : Step) �
 touches_same z words own a b e w = let is : a ≡ b = cc in subst (Touches z words own) is w
 
 -- what a getSet's step touches
-set_touches : (z y : Layout) (words : List ℕ) (head : ℕ) (st : SetStage) (p : finding.Pair) (step : Step) → y ≡ z → goes_at st p → finding.step_at y head st ≡ Some step →
+set_touches : (z y : Layout) (words : List ℕ) (head : ℕ) (st : SetStage) (p : finding.SetPair) (step : Step) → y ≡ z → set_goes_at st p → finding.set_step_at y head st ≡ Some step →
     Touches z words (own_list p.1.next st) step
 set_touches z y words head Head p step e goes due = touches_same z words None (Load (list_head y)) step due (inl (list_head y, refl))
 set_touches z y words head (ListLen at) p step e goes due = touches_same z words None (Load at) step due (inl (at, refl))

@@ -15,14 +15,14 @@ use Rattle.partial_machine.specs.Machine.{CoreState, advance, step_of}
 use Rattle.partial_machine.specs.Possible.{IsPossible}
 use Rattle.partial_state.specs.Holdings.{Holding}
 use Rattle.partial_state.specs.LawfulWords.{LawfulWords}
-use Rattle.partial_state.specs.Loads.{Kept, IsLoaded}
+use Rattle.partial_state.specs.Loads.{KeptAnswer, IsLoaded}
 use Rattle.partial_state.specs.Effects.{Keeps}
 use Rattle.partial_state.proofs.ListLemmas.{all_weaker}
 use Rattle.partial_core.specs.Part.{Part, led_by, core_of, port_of}
 use Rattle.partial_core.specs.Lawful.{Lawful}
 use Rattle.partial_core.specs.Held.{holding_of, holdings}
 use Rattle.partial_machine.specs.Calls.{is_at_rest}
-use Rattle.partial_core.specs.Known.{IsTrueYet, AreKept, IsKnown, notes_by}
+use Rattle.partial_core.specs.Known.{IsTrueYet, AreAnswersKept, IsKnown, notes_by}
 use Rattle.partial_core.proofs.Calls.{led_push}
 
 -- a beginning of a list is no longer than the list
@@ -31,7 +31,8 @@ seen_within seen log e = let n : length seen ≡ min (length seen) (length log) 
 
 -- what a load answered goes on being true where loads stay true
 yet_grows : (z : Layout) (o : Opening) (words words' : List ℕ) (hs hs' : List Holding) (log log' : List Applied) →
-    ((n : ℕ) (k : Kept) → IsLoaded z o words hs log n k → IsLoaded z o words' hs' log' n k) → (f : Option Step) (k : Kept) → IsTrueYet z o words hs log f k → IsTrueYet z o words' hs' log' f k
+    ((n : ℕ) (k : KeptAnswer) → IsLoaded z o words hs log n k → IsLoaded z o words' hs' log' n k) → (f : Option Step) (k : KeptAnswer) → IsTrueYet z o words hs log f k →
+    IsTrueYet z o words' hs' log' f k
 yet_grows z o words words' hs hs' log log' loads None k w = w
 yet_grows z o words words' hs hs' log log' loads (Some (Load n)) k w = loads n k w
 yet_grows z o words words' hs hs' log log' loads (Some (Store n v)) k w = w
@@ -39,8 +40,8 @@ yet_grows z o words words' hs hs' log log' loads (Some (Exchange n a b)) k w = w
 yet_grows z o words words' hs hs' log log' loads (Some (Add n v)) k w = w
 
 kept_grows : (z : Layout) (o : Opening) (words words' : List ℕ) (hs hs' : List Holding) (log es : List Applied) →
-    ((n : ℕ) (k : Kept) → IsLoaded z o words hs log n k → IsLoaded z o words' hs' (log ++ es) n k) → (low : ℕ) (s : CoreState) (ks : List Kept) → AreKept z o words hs log low s ks →
-    AreKept z o words' hs' (log ++ es) low s ks
+    ((n : ℕ) (k : KeptAnswer) → IsLoaded z o words hs log n k → IsLoaded z o words' hs' (log ++ es) n k) → (low : ℕ) (s : CoreState) (ks : List KeptAnswer) → AreAnswersKept z o words hs log low s ks →
+    AreAnswersKept z o words' hs' (log ++ es) low s ks
 kept_grows z o words words' hs hs' log es loads low s [] w = tt
 kept_grows z o words words' hs hs' log es loads low s (k ∷ ks) w = (
   record {
@@ -55,7 +56,7 @@ kept_grows z o words words' hs hs' log es loads low s (k ∷ ks) w = (
 
 -- what a port knows it goes on knowing
 pub known_grows : (z : Layout) (o : Opening) (words words' : List ℕ) (hs hs' : List Holding) (log es : List Applied) →
-    ((n : ℕ) (k : Kept) → IsLoaded z o words hs log n k → IsLoaded z o words' hs' (log ++ es) n k) → (x : Part) → IsKnown z o words hs log x → IsKnown z o words' hs' (log ++ es) x
+    ((n : ℕ) (k : KeptAnswer) → IsLoaded z o words hs log n k → IsLoaded z o words' hs' (log ++ es) n k) → (x : Part) → IsKnown z o words hs log x → IsKnown z o words' hs' (log ++ es) x
 known_grows z o words words' hs hs' log es loads x w = record {
   port = w.port;
   sizes = w.sizes;
@@ -73,9 +74,10 @@ known_grows z o words words' hs hs' log es loads x w = record {
 }
 
 -- one kept answer more
-kept_push : (z : Layout) (o : Opening) (words : List ℕ) (hs : List Holding) (log : List Applied) (low : ℕ) (s : CoreState) (ks : List Kept) (k : Kept) → AreKept z o words hs log low s ks →
+kept_push : (z : Layout) (o : Opening) (words : List ℕ) (hs : List Holding) (log : List Applied) (low : ℕ) (s : CoreState) (ks : List KeptAnswer) (k : KeptAnswer) →
+    AreAnswersKept z o words hs log low s ks →
     low ≤ k.at → ((n : ℕ) → n ≤ length log → n ≤ k.at) → IsPossible (led_by s ks) k.answer → k.at ≤ length log → IsTrueYet z o words hs log (step_of (led_by s ks)) k →
-    AreKept z o words hs log low s (ks ++ k ∷ [])
+    AreAnswersKept z o words hs log low s (ks ++ k ∷ [])
 kept_push z o words hs log low s [] k w behind all possible within yet = (record { possible = possible; behind = behind; within = within; true_yet = yet }, tt)
 kept_push z o words hs log low s (x ∷ ks) k w behind all possible within yet =
     let inside = w.0.within in

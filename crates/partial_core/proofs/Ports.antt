@@ -16,14 +16,14 @@ use Rattle.partial_machine.specs.Steps.{Run}
 use Rattle.partial_machine.proofs.StepCounts.{makes_few_steps}
 use Rattle.partial_state.specs.Holdings.{Holding, HaveOtherPorts}
 use Rattle.partial_state.specs.LawfulWords.{LawfulWords, IsEntry}
-use Rattle.partial_state.specs.Loads.{Kept}
+use Rattle.partial_state.specs.Loads.{KeptAnswer}
 use Rattle.partial_state.proofs.ListLemmas.{all_unmap, all_before, all_after, all_weaker, two_before, two_after}
 use Rattle.partial_core.specs.Part.{Part, led_by, core_of, port_of, answers_of, with_seen}
 use Rattle.partial_core.specs.Held.{holding_of, holdings}
-use Rattle.partial_core.specs.Known.{AreKept, IsKnown, notes_by}
+use Rattle.partial_core.specs.Known.{AreAnswersKept, IsKnown, notes_by}
 use Rattle.partial_core.specs.Lawful.{Lawful}
-use Rattle.partial_core.specs.Steps.{Fits}
-use Rattle.partial_core.specs.Ports.{LawfulPortsFit, LawfulRecordsAreWithin, LooksStayLawful, MakesFewSteps, LawfulCallsAreBounded}
+use Rattle.partial_core.specs.Steps.{FitsHistory}
+use Rattle.partial_core.specs.Ports.{LawfulPortsFit, LawfulRecordsAreWithin, LooksStayLawful, HasFewSteps, LawfulCallsAreBounded}
 use Rattle.partial_core.proofs.Calls.{led}
 use Rattle.partial_core.proofs.Parts.{seen_within, legal_on, all_changed, holdings_split, once_same, once_own}
 use Rattle.partial_core.proofs.Steps.{known_here, memory_here, port_here}
@@ -52,7 +52,7 @@ module _ (z : Layout) (o : Opening) (words : List ℕ) (before : List Part) (x :
             (all_after (IsKnown z o words hs log) before x after w.known),
       )
 
-  pub fits_here : Fits o log x
+  pub fits_here : FitsHistory o log x
   fits_here =
       let k = known_here z o words before x after log w in
       let seen = seen_within x.seen log k.seen in
@@ -66,7 +66,7 @@ module _ (z : Layout) (o : Opening) (words : List ℕ) (before : List Part) (x :
       }
 
 -- each part in its place
-each_fits : (z : Layout) (o : Opening) (words : List ℕ) (before xs : List Part) (log : List Applied) → Lawful z o words (before ++ xs) log → AllByRecursion (Fits o log) xs
+each_fits : (z : Layout) (o : Opening) (words : List ℕ) (before xs : List Part) (log : List Applied) → Lawful z o words (before ++ xs) log → AllByRecursion (FitsHistory o log) xs
 each_fits z o words before [] log w = tt
 each_fits z o words before (x ∷ xs) log w = (
   fits_here z o words before x xs log w,
@@ -174,19 +174,19 @@ lawful_records_are_within z o words parts log w =
     }
 
 -- the answers that are kept lead to the part's machine
-pub kept_run : (z : Layout) (o : Opening) (words : List ℕ) (hs : List Holding) (log : List Applied) (low : ℕ) (s : CoreState) (ks : List Kept) → AreKept z o words hs log low s ks →
+pub kept_run : (z : Layout) (o : Opening) (words : List ℕ) (hs : List Holding) (log : List Applied) (low : ℕ) (s : CoreState) (ks : List KeptAnswer) → AreAnswersKept z o words hs log low s ks →
     Run s (answers_of ks) (led_by s ks)
 kept_run z o words hs log low s [] w = refl
 kept_run z o words hs log low s (k ∷ ks) w = (w.0.possible, kept_run z o words hs log k.at (advance s k.answer) ks w.1)
 
 pub lawful_calls_are_bounded : LawfulCallsAreBounded
-lawful_calls_are_bounded z o words parts log w = all_weaker (IsKnown z o words (holdings parts) log) (MakesFewSteps z) few parts w.known
+lawful_calls_are_bounded z o words parts log w = all_weaker (IsKnown z o words (holdings parts) log) (HasFewSteps z) few parts w.known
   where
-    few : (x : Part) → IsKnown z o words (holdings parts) log x → MakesFewSteps z x
+    few : (x : Part) → IsKnown z o words (holdings parts) log x → HasFewSteps z x
     few x k c made =
         let layout : IsLayout x.begun.sizes = subst IsLayout (sym k.sizes) w.memory.sizes in
         let run = kept_run z o words (holdings parts) log x.since x.begun x.kept k.kept in
         let counts = makes_few_steps x.begun (core_of x) c (answers_of x.kept) layout k.sound made run in
-        let long : length (answers_of x.kept) ≡ length x.kept = length-map x.kept (λ (k : Kept). k.answer) in
+        let long : length (answers_of x.kept) ≡ length x.kept = length-map x.kept (λ (k : KeptAnswer). k.answer) in
         let same : most_steps x.begun.sizes c ≡ most_steps z c = ap (λ (y : Layout). most_steps y c) k.sizes in
         omega (arith, counts, long, same)

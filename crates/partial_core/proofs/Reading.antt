@@ -24,7 +24,7 @@ use Rattle.partial_machine.specs.Machine.{CoreState, at_stage, scanning, with_sc
 use Rattle.partial_machine.specs.Sound.{is_sound_at, IsRecord}
 use Rattle.partial_state.specs.Views.{IsWithin}
 use Rattle.partial_state.specs.Holdings.{Holding}
-use Rattle.partial_state.specs.Loads.{Kept}
+use Rattle.partial_state.specs.Loads.{KeptAnswer}
 use Rattle.partial_state.proofs.LoadLaw.{loads_are_true}
 use Rattle.partial_knowledge.specs.Sets.{IsReadable}
 use Rattle.partial_knowledge.specs.Scans as scans
@@ -138,7 +138,8 @@ module _ (z : Layout) (o : Opening) (words : List ℕ) (before : List Part) (x :
         note = note.Saw (length log);
         is = refl;
         made = ap (call_at x.begun) (sym (ap (λ (d : CoreState). d.stage) begun) ∙ e) ∙ ap (λ (f : Option ℕ). Some (update_call c.component f c.value)) is;
-        behind = let first : first_at (x.kept ++ record { answer = a; at = length log } ∷ []) ≡ length log = ap (λ (l : List Kept). first_at (l ++ record { answer = a; at = length log } ∷ [])) kept
+        behind = let first : first_at (x.kept ++ record { answer = a; at = length log } ∷ []) ≡ length log =
+            ap (λ (l : List KeptAnswer). first_at (l ++ record { answer = a; at = length log } ∷ [])) kept
             in omega (arith, first);
         within = omega arith;
         placed = omega arith;
@@ -158,9 +159,11 @@ module _ (z : Layout) (o : Opening) (words : List ℕ) (before : List Part) (x :
       by_expected false is = stamp_changed c c.expected refl e is
 
   -- what an embedded scan is to load may be loaded, and what it answers is possible
-  view_now : (indices : List ℕ) (low high : ℕ) (step : Step) → (core_of x).embedded.sizes ≡ (core_of x).sizes → viewing.GoTogether indices (scanning (core_of x)) → low ≤ high → high ≤ length log →
-      scans.Knows z o words hs log indices low high (scanning (core_of x)) → viewing.step_of indices (scanning (core_of x)) ≡ Some step → (n : ℕ) × (step ≡ Load n) × IsReadable z words hs n ×
-      viewing.IsPossible (scanning (core_of x)) (get_or words n 0)
+  view_now : (indices : List ℕ) (low high : ℕ) (step : Step) → (core_of x).embedded.sizes ≡ (core_of x).sizes → viewing.ViewGoesTogether indices (scanning (core_of x)) → low ≤ high →
+      high ≤ length log →
+      scans.ScanKnows z o words hs log indices low high (scanning (core_of x)) → viewing.view_step_due indices (scanning (core_of x)) ≡ Some step → (n : ℕ) × (step ≡ Load n) ×
+      IsReadable z words hs n ×
+      viewing.IsPossibleInView (scanning (core_of x)) (get_or words n 0)
   view_now indices low high step same together order inside knows due =
       let s = core_of x in
       let load = view_loads s.embedded.sizes indices s.rows.last s.embedded.stage (subst (λ (f : Option Step). IsSome f) (sym due) refl) in
@@ -178,8 +181,8 @@ module _ (z : Layout) (o : Opening) (words : List ℕ) (before : List Part) (x :
       let sound = sound_at z o words before x after log w (Viewing c old) e in
       let now = view_now s.found.indices (first_at x.kept) g.high step sound.2 sound.1 g.order g.inside g.knows.2 due in
       let n = now.0 in
-      let t : CoreState = with_scanning s (viewing.advance s.found.indices (scanning s) (get_or words n 0)) in
-      let next = viewing.step_of s.found.indices (scanning t) in
+      let t : CoreState = with_scanning s (viewing.advance_view s.found.indices (scanning s) (get_or words n 0)) in
+      let next = viewing.view_step_due s.found.indices (scanning t) in
       subst (λ (f : Step). LeadsAt z o words before x after log s (Viewing c old) f) (sym now.1)
       (load_quiet z o words before x after log w (Viewing c old) n (after_scanning t s.found.indices (ClaimingRecord c old)) e (due ∙ ap (λ (f : Step). Some f) now.1) refl refl now.2 now.3
       (either next t (at_stage t (ClaimingRecord c old)) (λ u. holding_at u (joined_since x) ≡ holding_in s (Viewing c old) (joined_since x))
@@ -196,8 +199,8 @@ module _ (z : Layout) (o : Opening) (words : List ℕ) (before : List Part) (x :
       let sound = sound_at z o words before x after log w Scanning e in
       let now = view_now s.asked (joined_since x) g.high step sound.1 sound.0 g.knows.2 g.inside g.knows.4 due in
       let n = now.0 in
-      let t : CoreState = with_scanning s (viewing.advance s.asked (scanning s) (get_or words n 0)) in
-      let next = viewing.step_of s.asked (scanning t) in
+      let t : CoreState = with_scanning s (viewing.advance_view s.asked (scanning s) (get_or words n 0)) in
+      let next = viewing.view_step_due s.asked (scanning t) in
       subst (λ (f : Step). LeadsAt z o words before x after log s Scanning f) (sym now.1)
       (load_quiet z o words before x after log w Scanning n (after_scanning t s.asked Leaving) e (due ∙ ap (λ (f : Step). Some f) now.1) refl refl now.2 now.3
       (either next t (at_stage t Leaving) (λ u. holding_at u (joined_since x) ≡ holding_in s Scanning (joined_since x)) (ap (λ (u : Stage). holding_in t u (joined_since x)) e) refl)

@@ -18,7 +18,7 @@ use Rattle.partial_machine.specs.Sound.{IsSound, is_sound_at}
 use Rattle.partial_machine.specs.Possible.{IsPossible, IsPossibleAt}
 use Rattle.partial_state.specs.Holdings.{Holding}
 use Rattle.partial_state.specs.LawfulWords.{LawfulWords}
-use Rattle.partial_state.specs.Loads.{Kept, IsLoaded}
+use Rattle.partial_state.specs.Loads.{KeptAnswer, IsLoaded}
 use Rattle.partial_state.specs.Effects.{Keeps, IsKept as IsKeptBy}
 use Rattle.partial_state.proofs.LoadLaw.{loads_are_true}
 use Rattle.partial_knowledge.specs.Sets.{IsReadable}
@@ -27,7 +27,7 @@ use Rattle.partial_core.specs.Lawful.{Lawful}
 use Rattle.partial_core.proofs.Added.{added_at}
 use Rattle.partial_core.specs.Held.{holding_of, holding_at, holdings, joined_from, joined_since, joins_at, claimed_at, own_at, due_at}
 use Rattle.partial_machine.specs.Calls.{is_begun, is_at_rest}
-use Rattle.partial_core.specs.Known.{IsTrueYet, IsKnown, AreKept}
+use Rattle.partial_core.specs.Known.{IsTrueYet, IsKnown, AreAnswersKept}
 use Rattle.partial_core.specs.Steps.{AreNotesOf}
 use Rattle.partial_core.specs.Part.{has_no_step}
 use Rattle.partial_core.proofs.MidCalls.{knows_at, Knows}
@@ -42,7 +42,7 @@ pub record LeadsAt (z : Layout) (o : Opening) (words : List ℕ) (before : List 
   pub noted : AreNotesOf (gone x (log ++ added_at d.port s (answer_of words step)) (answer_of words step) new) (reply_of (advance_at d s (answer_of words step))) new
   pub lawful : Lawful z o (words_after words step) (before ++ gone x (log ++ added_at d.port s (answer_of words step)) (answer_of words step) new ∷ after)
       (log ++ added_at d.port s (answer_of words step))
-  pub loads : (n : ℕ) (k : Kept) → IsLoaded z o words (holdings (before ++ x ∷ after)) log n k → IsLoaded z o (words_after words step)
+  pub loads : (n : ℕ) (k : KeptAnswer) → IsLoaded z o words (holdings (before ++ x ∷ after)) log n k → IsLoaded z o (words_after words step)
       (holdings (before ++ gone x (log ++ added_at d.port s (answer_of words step)) (answer_of words step) new ∷ after)) (log ++ added_at d.port s (answer_of words step)) n k
 
 -- a machine with a due step isn't at rest
@@ -156,7 +156,7 @@ module _ (z : Layout) (o : Opening) (words : List ℕ) (before : List Part) (x :
         (subst (λ (m : List Applied). IsKnown z o (words_after words step) (holdings (before ++ y ∷ after)) m y) (sym nil) (known (holdings (before ++ y ∷ after)) here true_now)))
 
     -- what was loaded goes on being true
-    loads_then : (new : List Noted) (n : ℕ) (k : Kept) → IsLoaded z o words all_hold log n k → IsLoaded z o (words_after words step)
+    loads_then : (new : List Noted) (n : ℕ) (k : KeptAnswer) → IsLoaded z o words all_hold log n k → IsLoaded z o (words_after words step)
         (holdings (before ++ gone x log (answer_of words step) new ∷ after)) log n k
     loads_then new n k l =
         let split = holdings_split before (gone x log (answer_of words step) new) after ∙ ap (λ (h : Holding). holdings before ++ h ∷ holdings after) (holding_then new) in
@@ -232,17 +232,17 @@ pub record IsGoing (z : Layout) (o : Opening) (words : List ℕ) (hs : List Hold
   pub inside : high ≤ length log
   pub behind : x.since ≤ first_at x.kept
   pub low : seen_by 0 x.notes ≤ first_at x.kept
-  pub more : (k : Kept) → first_at (x.kept ++ k ∷ []) ≡ first_at x.kept
+  pub more : (k : KeptAnswer) → first_at (x.kept ++ k ∷ []) ≡ first_at x.kept
   pub knows : knows_at z o words hs log x.begun (first_at x.kept) (joined_since x) high (core_of x) s
 
-going_from : (z : Layout) (o : Opening) (words : List ℕ) (hs : List Holding) (log : List Applied) (x : Part) (ks : List Kept) (s : Stage) → x.kept ≡ ks → LawfulWords z o words hs log →
+going_from : (z : Layout) (o : Opening) (words : List ℕ) (hs : List Holding) (log : List Applied) (x : Part) (ks : List KeptAnswer) (s : Stage) → x.kept ≡ ks → LawfulWords z o words hs log →
     IsKnown z o words hs log x → (core_of x).stage ≡ s → is_begun s ≡ false → is_at_rest s ≡ false → IsGoing z o words hs log x s
 going_from z o words hs log x [] s is w k e begun rest =
     let same : core_of x ≡ x.begun = ap (led_by x.begun) is in
     absurd (no_begin x.begun x.begun.stage k.begun (ap (λ (c : CoreState). is_begun c.stage) (sym same) ∙ ap is_begun e ∙ begun)
     (ap (λ (c : CoreState). is_at_rest c.stage) (sym same) ∙ ap is_at_rest e ∙ rest))
 going_from z o words hs log x (f ∷ ks) s is w k e begun rest =
-    let kept : AreKept z o words hs log x.since x.begun (f ∷ ks) = subst (AreKept z o words hs log x.since x.begun) is k.kept in
+    let kept : AreAnswersKept z o words hs log x.since x.begun (f ∷ ks) = subst (AreAnswersKept z o words hs log x.since x.begun) is k.kept in
     let first : first_at x.kept ≡ f.at = ap first_at is in
     let gone_on = called_on z o words hs log w x.begun x.since f ks k.sizes k.sound k.begun kept in
     let order = gone_on.order in
@@ -251,14 +251,14 @@ going_from z o words hs log x (f ∷ ks) s is w k e begun rest =
     let earlier : seen_by 0 x.notes ≤ x.since = subst (λ (ns : List Noted). seen_by 0 ns ≤ x.since) (take_all x.past x.notes (omega (arith, past))) k.earlier in
     let knows : Knows z o words hs log x.begun f.at (joined_from 0 x.begun (f ∷ ks)) (last_at x.since (f ∷ ks)) (led_by x.begun (f ∷ ks)) = gone_on.knows in
     let knows_x : Knows z o words hs log x.begun f.at (joined_since x) (last_at x.since (f ∷ ks)) (core_of x) =
-    subst (λ (l : List Kept). Knows z o words hs log x.begun f.at (joined_from 0 x.begun l) (last_at x.since (f ∷ ks)) (led_by x.begun l)) (sym is) knows in
+    subst (λ (l : List KeptAnswer). Knows z o words hs log x.begun f.at (joined_from 0 x.begun l) (last_at x.since (f ∷ ks)) (led_by x.begun l)) (sym is) knows in
     record {
       high = last_at x.since (f ∷ ks);
       order = omega (arith, first, order);
       inside = gone_on.inside;
       behind = omega (arith, first, behind);
       low = omega (arith, first, behind, earlier);
-      more = λ n. ap (λ (l : List Kept). first_at (l ++ n ∷ [])) is ∙ sym first;
+      more = λ n. ap (λ (l : List KeptAnswer). first_at (l ++ n ∷ [])) is ∙ sym first;
       knows = subst (λ (n : ℕ). knows_at z o words hs log x.begun n (joined_since x) (last_at x.since (f ∷ ks)) (core_of x) s) (sym first)
           (subst (λ (t : Stage). knows_at z o words hs log x.begun f.at (joined_since x) (last_at x.since (f ∷ ks)) (core_of x) t) e knows_x);
     }
@@ -286,15 +286,15 @@ not_begun z o words hs log begun first since high s Scanning w = refl
 not_begun z o words hs log begun first since high s Leaving w = refl
 not_begun z o words hs log begun first since high s (Finished r) w = refl
 
-starting_from : (z : Layout) (o : Opening) (words : List ℕ) (hs : List Holding) (log : List Applied) (x : Part) (ks : List Kept) → x.kept ≡ ks → LawfulWords z o words hs log →
+starting_from : (z : Layout) (o : Opening) (words : List ℕ) (hs : List Holding) (log : List Applied) (x : Part) (ks : List KeptAnswer) → x.kept ≡ ks → LawfulWords z o words hs log →
     IsKnown z o words hs log x → is_begun (core_of x).stage ≡ true → x.kept ≡ []
 starting_from z o words hs log x [] is w k begun = is
 starting_from z o words hs log x (f ∷ ks) is w k begun =
-    let kept : AreKept z o words hs log x.since x.begun (f ∷ ks) = subst (AreKept z o words hs log x.since x.begun) is k.kept in
+    let kept : AreAnswersKept z o words hs log x.since x.begun (f ∷ ks) = subst (AreAnswersKept z o words hs log x.since x.begun) is k.kept in
     let gone_on = called_on z o words hs log w x.begun x.since f ks k.sizes k.sound k.begun kept in
     let no : is_begun (led_by x.begun (f ∷ ks)).stage ≡ false = not_begun z o words hs log x.begun f.at (joined_from 0 x.begun (f ∷ ks)) (last_at x.since (f ∷ ks)) (led_by x.begun (f ∷ ks))
     (led_by x.begun (f ∷ ks)).stage gone_on.knows in
-    absurd (false≢true (sym no ∙ ap (λ (l : List Kept). is_begun (led_by x.begun l).stage) (sym is) ∙ begun))
+    absurd (false≢true (sym no ∙ ap (λ (l : List KeptAnswer). is_begun (led_by x.begun l).stage) (sym is) ∙ begun))
 
 -- a port whose call has made no step keeps no answer
 pub starting : (z : Layout) (o : Opening) (words : List ℕ) (hs : List Holding) (log : List Applied) (x : Part) → LawfulWords z o words hs log → IsKnown z o words hs log x →

@@ -13,7 +13,7 @@ use Rattle.partial_machine.specs.declared.stage.Change.{Change}
 use Rattle.partial_machine.specs.declared.stage.Stage.{Stage}
 use Rattle.partial_machine.specs.declared.stage.Stage.TheVariants.{StoringRecord, Exchanging}
 use Rattle.partial_machine.specs.Machine.{CoreState, at_stage, record_words, record_size, scanning}
-use Rattle.partial_machine.specs.Sound.{AreComponents, is_sound_at}
+use Rattle.partial_machine.specs.Sound.{AreComponentIndices, is_sound_at}
 use Rattle.partial_state.specs.Views.{Joined, IsBegunSince}
 use Rattle.partial_state.specs.Holdings.{Claimed, Holding, Own, Due, IfJoined, unpublished}
 use Rattle.partial_state.specs.Holdings.Space.{Pool}
@@ -174,7 +174,7 @@ module _ (z : Layout) (o : Opening) (words : List ℕ) (before : List Part) (x :
         let sizes = sizes_here z o words before x after log w in
         let below : c.component < z.m = subst (λ (y : Layout). c.component < y.m) sizes sound.0.0 in
         let sound_part = sound_here z o words before x after log w in
-        let indices : AreComponents z s.found.indices = subst (λ (y : Layout). AreComponents y s.found.indices) sizes sound_part.indices in
+        let indices : AreComponentIndices z s.found.indices = subst (λ (y : Layout). AreComponentIndices y s.found.indices) sizes sound_part.indices in
         let viewed : HasViewed o words' log first s = viewed_then z o words words' (holdings (before ++ x ∷ after)) log first s inside entry_stays known.1 in
         let dues = dues_are_kept z o words' (holdings before) (record held { own = Some whole }) (holdings after) log due all_stored.lawful
         (record_due z o words' (holdings before) (record held { own = Some whole }) (holdings after) log all_stored.lawful s c old at refl first inside below known.0.stamp

@@ -15,9 +15,9 @@ use Rattle.partial_words.proofs.RecordLemmas.{length-record_block, reads_back}
 use Rattle.partial_active.specs.IndexSet.{has_index}
 use Rattle.partial_machine.specs.declared.stage.Change.{Change}
 use Rattle.partial_machine.specs.Machine.{CoreState, record_words, record_size, own_pairs, view_at, scanning}
-use Rattle.partial_machine.specs.Sound.{AreComponents}
-use Rattle.partial_state.specs.Views.{IsViewOf, Block, Joined, HasPairs, IsView, HasFreshView, IsWithin, IsBegunSince, Covers, Names, AreApart, IsApartFrom}
-use Rattle.partial_state.specs.Holdings.{Own, Holding, EachTwo, IfJoined, HaveOtherPorts, block_of, block_at, joined_in, others_of, unpublished}
+use Rattle.partial_machine.specs.Sound.{AreComponentIndices}
+use Rattle.partial_state.specs.Views.{IsViewOf, Block, Joined, HasPairs, IsView, HasFreshView, IsWithin, IsBegunSince, Covers, ViewNames, AreApart, IsApartFrom}
+use Rattle.partial_state.specs.Holdings.{Own, Holding, EachTwo, IfJoined, HaveOtherPorts, block_of, block_at, joined_in, other_holdings, unpublished}
 use Rattle.partial_state.specs.Holdings.Space.{Pool}
 use Rattle.partial_state.specs.LawfulWords.{LawfulWords, IsTied, IsOwn, IsDue, CoversAll}
 use Rattle.partial_state.proofs.ListLemmas.{all_weaker, all_at, all_before, all_after, all_append, all_front, all_back, all_map, two_before, two_after}
@@ -119,8 +119,8 @@ module _ (z : Layout) (o : Opening) (words : List ℕ) (before : List Holding) (
   abbrev gone : Holding
   gone = record h { own = None }
 
-  others_are : others_of h.port hs ≡ before ++ after
-  others_are = others_gone h.port before h after (eq-eqb h.port h.port refl) ∙ ap (λ (l : List Holding). l ++ others_of h.port after)
+  others_are : other_holdings h.port hs ≡ before ++ after
+  others_are = others_gone h.port before h after (eq-eqb h.port h.port refl) ∙ ap (λ (l : List Holding). l ++ other_holdings h.port after)
       (others_all h before (two_before HaveOtherPorts ports_turn before h after w.ports)) ∙ ap (λ (l : List Holding). before ++ l)
       (others_all h after (two_after HaveOtherPorts ports_turn before h after w.ports))
 
@@ -174,7 +174,7 @@ module _ (z : Layout) (o : Opening) (words : List ℕ) (before : List Holding) (
     fresh : HasFreshView z o words us log (length log) at
     covers : AllByRecursion (λ v. IfJoined v (λ l j. Covers z words us log at j)) (before ++ after)
 
-  due_of : joined_in h.claimed ≡ None → Shows → IsDue z o words h (others_of h.port hs) log (record { component = c.component; old = old; value = c.value; at = at })
+  due_of : joined_in h.claimed ≡ None → Shows → IsDue z o words h (other_holdings h.port hs) log (record { component = c.component; old = old; value = c.value; at = at })
   due_of free shows = subst (λ (l : List Holding). IsDue z o words h l log (record { component = c.component; old = old; value = c.value; at = at })) (sym others_are) (record {
     component = below;
     own = found_some (λ (b : Own). (b.space ≡ Pool) × (block_of b ≡ block_at words at) × (b.stored ≡ length b.words)) h.own block own (refl, ap (λ n. record { at = at; size = n }) shows.size, refl);
@@ -237,7 +237,7 @@ module _ (z : Layout) (o : Opening) (words : List ℕ) (before : List Holding) (
     shown : HasPairs z words us at pairs
     shown = shown_by (length s.found.indices == 0) refl
 
-    names_found : (j : Joined) → HasAll s.found.indices j → Names z words us at j.indices
+    names_found : (j : Joined) → HasAll s.found.indices j → ViewNames z words us at j.indices
     names_found j all = (
       pairs,
       shown,
@@ -352,7 +352,8 @@ module _ (z : Layout) (o : Opening) (words : List ℕ) (before : List Holding) (
         }
 
   -- the record's exchange may be due
-  pub record_due : joined_in h.claimed ≡ None → HasViewed o words log first s → AreComponents z s.found.indices → IsDistinct nat_eq s.found.indices → IsDue z o words h (others_of h.port hs) log
+  pub record_due : joined_in h.claimed ≡ None → HasViewed o words log first s → AreComponentIndices z s.found.indices → IsDistinct nat_eq s.found.indices →
+      IsDue z o words h (other_holdings h.port hs) log
       (record { component = c.component; old = old; value = c.value; at = at })
   record_due free viewed indices distinct = due_of free (by_borrowed s.embedded.borrowed refl)
     where

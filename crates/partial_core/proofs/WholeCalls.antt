@@ -23,7 +23,7 @@ use Rattle.partial_machine.specs.Behind.{IsMarkedFor, refuses_pool, refuses_slot
 use Rattle.partial_machine.proofs.Begins.{calls_begin, rests_are_sound}
 use Rattle.partial_machine.proofs.StepCounts.{makes_few_steps, reads_in_two}
 use Rattle.partial_machine.proofs.ScanCounts.{scans_make_their_steps}
-use Rattle.partial_state.specs.Loads.{Kept}
+use Rattle.partial_state.specs.Loads.{KeptAnswer}
 use Rattle.partial_core.specs.Part.{Part, core_of, answers_of, first_at, HasBegun, IsMarkedLike}
 use Rattle.partial_core.specs.Steps.{AreNotesOf, Tells}
 use Rattle.partial_core.specs.Calls.{IsRefusedLast, Made, FirstStepsMakeCalls, FurtherStepsMakeCalls, MadeCallsMakeTheirSteps, CallsBeginBetween, PortsComeBetween}
@@ -39,7 +39,7 @@ run_push : (s t : CoreState) (xs : List ℕ) (a : ℕ) → Run s xs t → IsPoss
 run_push s t [] a m possible = (subst (λ (v : CoreState). IsPossible v a) m possible, ap (λ (v : CoreState). advance v a) m)
 run_push s t (x ∷ xs) a m possible = (m.0, run_push (advance s x) t xs a m.1 possible)
 
-pub first_push : (ks : List Kept) (k : Kept) → 0 < length ks → first_at (ks ++ k ∷ []) ≡ first_at ks
+pub first_push : (ks : List KeptAnswer) (k : KeptAnswer) → 0 < length ks → first_at (ks ++ k ∷ []) ≡ first_at ks
 first_push [] k some = absurd (omega (arith, some))
 first_push (x ∷ ks) k some = refl
 
@@ -58,7 +58,7 @@ marked_for s a refused.PoolSpent b is = b.pool ∙ ap (λ (f : Option Reply). re
 
 -- a step of the machine c that came from the part y to the part v
 module _ (z : Layout) (o : Opening) (log entries : List Applied) (y : Part) (c : CoreState) (a : ℕ) (v : Part) (t : Tells z o log entries y c a v) where
-  abbrev k : Kept
+  abbrev k : KeptAnswer
   k = record { answer = a; at = length (log ++ entries) }
 
   then_seen : v.seen ≡ log ++ entries
@@ -116,7 +116,7 @@ module _ (z : Layout) (o : Opening) (log entries : List Applied) (y : Part) (c :
       let kept : v.kept ≡ y.kept ++ k ∷ [] = then_kept false m.machine.going in
       let count : length v.kept ≡ length y.kept + 1 = ap length kept ∙ length_push y.kept k in
       let at : first_at v.kept ≡ first_at y.kept = ap first_at kept ∙ first_push y.kept k m.some in
-      let answers : answers_of v.kept ≡ answers_of y.kept ++ a ∷ [] = ap answers_of kept ∙ map_push (λ (j : Kept). j.answer) y.kept k in
+      let answers : answers_of v.kept ≡ answers_of y.kept ++ a ∷ [] = ap answers_of kept ∙ map_push (λ (j : KeptAnswer). j.answer) y.kept k in
       let nothing : m.new ≡ [] = subst (λ (f : Option Reply). AreNotesOf y f m.new) (idle_none c c.stage a t.possible) m.noted in
       let before : y.notes ≡ x.notes = m.notes ∙ ap (λ (l : List Noted). x.notes ++ l) nothing ∙ append-nil x.notes in
       let first = m.first in
@@ -150,7 +150,7 @@ further_steps_make_calls z o log entries b x c y a v m t = made_next z o log ent
 
 pub made_calls_make_their_steps : MadeCallsMakeTheirSteps
 made_calls_make_their_steps z o b x c y layout m =
-    let long : length (answers_of y.kept) ≡ length y.kept = length-map y.kept (λ (k : Kept). k.answer) in
+    let long : length (answers_of y.kept) ≡ length y.kept = length-map y.kept (λ (k : KeptAnswer). k.answer) in
     let there : IsLayout b.sizes = subst IsLayout (sym m.begun_sizes) layout in
     record {
       few = λ call made.

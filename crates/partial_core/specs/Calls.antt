@@ -16,7 +16,7 @@ use Rattle.partial_machine.specs.Bounds.{most_steps, steps_left}
 use Rattle.partial_machine.specs.Behind.{IsRefusedBy, IsMarkedFor}
 use Rattle.partial_machine.specs.Steps.{Run, AreOfScan, pairs_loaded}
 use Rattle.partial_core.specs.Part.{Part, port_of, answers_of, first_at, HasBegun, IsLedTo, IsBetween, fresh_part}
-use Rattle.partial_core.specs.Steps.{AreNotesOf, Fits, Tells}
+use Rattle.partial_core.specs.Steps.{AreNotesOf, FitsHistory, Tells}
 
 -- why a call was refused behind some steps: the last of them was its claim, which went past the end of its region
 pub record IsRefusedLast (b : CoreState) (answers : List ℕ) (c : CoreState) (cause : Refused) : Type 0 where
@@ -52,7 +52,7 @@ pub record Made (z : Layout) (o : Opening) (b : CoreState) (x : Part) (c : CoreS
   pub new : List Noted
   pub notes : y.notes ≡ x.notes ++ new
   pub noted : AreNotesOf y (reply_of c) new
-  pub fits : Fits o y.seen y
+  pub fits : FitsHistory o y.seen y
   -- the machine rests exactly with a reply, and else a step is due
   pub rests : is_at_rest c.stage ≡ is_some (reply_of c)
   pub due : is_some (step_of c) ≡ not (is_some (reply_of c))

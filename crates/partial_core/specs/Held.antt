@@ -12,7 +12,7 @@ use Rattle.partial_machine.specs.declared.stage.Stage.TheVariants.{GettingSet, S
 use Rattle.partial_machine.specs.Machine.{CoreState, advance, lists_spent, record_words}
 use Rattle.partial_state.specs.Holdings.{Claimed, Own, Due, Holding}
 use Rattle.partial_state.specs.Holdings.Space.{Pool, Lists}
-use Rattle.partial_state.specs.Loads.{Kept}
+use Rattle.partial_state.specs.Loads.{KeptAnswer}
 use Rattle.partial_core.specs.Part.{Part, core_of}
 
 -- the step that is due stores the announcement in its slot
@@ -26,7 +26,7 @@ joins_at s Joining = is_storing s.join.stage
 joins_at s _ = false
 
 -- how long the history was when the port joined in this call, if it did
-abbrev pub joined_from : ℕ → CoreState → List Kept → ℕ
+abbrev pub joined_from : ℕ → CoreState → List KeptAnswer → ℕ
 joined_from since s [] = since
 joined_from since s (k ∷ ks) = joined_from (if joins_at s s.stage then k.at else since) (advance s k.answer) ks
 

@@ -11,26 +11,27 @@ use Rattle.partial_machine.specs.Calls.{is_at_rest}
 use Rattle.partial_machine.specs.Sound.{IsSound}
 use Rattle.partial_machine.specs.Possible.{IsPossible}
 use Rattle.partial_state.specs.Holdings.{Holding}
-use Rattle.partial_state.specs.Loads.{Kept, IsLoaded}
+use Rattle.partial_state.specs.Loads.{KeptAnswer, IsLoaded}
 use Rattle.partial_core.specs.Part.{Part, core_of, port_of, has_no_step}
 
 -- what a load returned stays true
-abbrev pub IsTrueYet : Layout → Opening → List ℕ → List Holding → List Applied → Option Step → Kept → Type 0
+abbrev pub IsTrueYet : Layout → Opening → List ℕ → List Holding → List Applied → Option Step → KeptAnswer → Type 0
 IsTrueYet z o words hs log (Some (Load w)) k = IsLoaded z o words hs log w k
 IsTrueYet z o words hs log _ k = ⊤
 
 -- an answer that a machine was given: the words may give it, the lengths of the history never fall, and a load's is true yet
-pub record IsKept (z : Layout) (o : Opening) (words : List ℕ) (hs : List Holding) (log : List Applied) (low : ℕ) (s : CoreState)
-    (k : Kept) : Type 0 where
+pub record IsAnswerKept (z : Layout) (o : Opening) (words : List ℕ) (hs : List Holding) (log : List Applied) (low : ℕ) (s : CoreState)
+    (k : KeptAnswer) : Type 0 where
   pub possible : IsPossible s k.answer
   pub behind : low ≤ k.at
   pub within : k.at ≤ length log
   pub true_yet : IsTrueYet z o words hs log (step_of s) k
 
 -- the answers of a call, from a machine on
-abbrev pub AreKept : Layout → Opening → List ℕ → List Holding → List Applied → ℕ → CoreState → List Kept → Type 0
-AreKept z o words hs log low s [] = ⊤
-AreKept z o words hs log low s (k ∷ ks) = IsKept z o words hs log low s k × AreKept z o words hs log k.at (advance s k.answer) ks
+abbrev pub AreAnswersKept : Layout → Opening → List ℕ → List Holding → List Applied → ℕ → CoreState → List KeptAnswer → Type 0
+AreAnswersKept z o words hs log low s [] = ⊤
+AreAnswersKept z o words hs log low s (k ∷ ks) = IsAnswerKept z o words hs log low s k ×
+    AreAnswersKept z o words hs log k.at (advance s k.answer) ks
 
 -- what a port knows
 pub record IsKnown (z : Layout) (o : Opening) (words : List ℕ) (hs : List Holding) (log : List Applied) (x : Part) : Type 0 where
@@ -52,7 +53,7 @@ pub record IsKnown (z : Layout) (o : Opening) (words : List ℕ) (hs : List Hold
   pub one : length x.notes ≤ x.past + 1
   pub going : is_at_rest (core_of x).stage ≡ false → x.past ≡ length x.notes
   -- each answer was possible when it was given, and what a load answered is true yet
-  pub kept : AreKept z o words hs log x.since x.begun x.kept
+  pub kept : AreAnswersKept z o words hs log x.since x.begun x.kept
 
 -- the notes of the part that has this port
 abbrev pub notes_by : ℕ → List Part → List Noted

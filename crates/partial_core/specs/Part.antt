@@ -8,7 +8,7 @@ use Rattle.partial_machine.specs.declared.stage.Stage.TheVariants.{Idle, ReadBeg
 use Rattle.partial_machine.specs.Machine.{CoreState, advance, fresh, lists_spent}
 use Rattle.partial_machine.specs.Calls.{is_begun, is_at_rest}
 use Rattle.partial_machine.specs.Sound.{IsSound}
-pub use Rattle.partial_state.specs.Loads.{Kept}
+pub use Rattle.partial_state.specs.Loads.{KeptAnswer}
 
 -- A port's part of the state. `since` and `past` are of the time at which its last call that made a step began.
 pub record Part : Type 0 where
@@ -18,13 +18,13 @@ pub record Part : Type 0 where
   pub notes : List Noted
   -- the machine as that call began, and the answers of the call
   pub begun : CoreState
-  pub kept : List Kept
+  pub kept : List KeptAnswer
   -- how many entries it had seen, and how many notes it had, as that call began
   pub since : ℕ
   pub past : ℕ
 
 -- the machine behind these answers
-abbrev pub led_by : CoreState → List Kept → CoreState
+abbrev pub led_by : CoreState → List KeptAnswer → CoreState
 led_by s [] = s
 led_by s (k ∷ ks) = led_by (advance s k.answer) ks
 
@@ -37,7 +37,7 @@ abbrev pub port_of : Part → ℕ
 port_of x = x.begun.port
 
 -- the answers alone
-abbrev pub answers_of : List Kept → List ℕ
+abbrev pub answers_of : List KeptAnswer → List ℕ
 answers_of ks = map (λ k. k.answer) ks
 
 -- a machine that has made no step since a call began, or since it was made
@@ -49,7 +49,7 @@ has_no_step ScanBegun = true
 has_no_step _ = false
 
 -- how long the history was at the first of the answers
-abbrev pub first_at : List Kept → ℕ
+abbrev pub first_at : List KeptAnswer → ℕ
 first_at [] = 0
 first_at (k ∷ ks) = k.at
 

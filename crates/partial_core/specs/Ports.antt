@@ -14,11 +14,11 @@ use Rattle.partial_machine.specs.Sound.{IsSound}
 use Rattle.partial_machine.specs.Bounds.{most_steps, steps_left}
 use Rattle.partial_core.specs.Part.{Part, core_of, port_of, IsMachineOf, with_seen}
 use Rattle.partial_core.specs.Lawful.{Lawful}
-use Rattle.partial_core.specs.Steps.{Fits}
+use Rattle.partial_core.specs.Steps.{FitsHistory}
 
 -- each port fits the whole history, with a machine of the memory's sizes, and each entry is by one of the ports
 pub record PortsFitHistory (z : Layout) (o : Opening) (parts : List Part) (log : List Applied) : Type 0 where
-  pub each : AllByRecursion (Fits o log) parts
+  pub each : AllByRecursion (FitsHistory o log) parts
   pub sizes : AllByRecursion (λ x. (core_of x).sizes ≡ z) parts
   pub others : AllByRecursion (λ e. Contains (map port_of parts) e.port) log
 
@@ -46,7 +46,7 @@ pub record Looks (z : Layout) (o : Opening) (words : List ℕ) (before : List Pa
     (log : List Applied) : Type 0 where
   pub there : 0 < length words
   pub seen : x.seen ≡ take (length x.seen) log
-  pub fits : Fits o log (with_seen log x)
+  pub fits : FitsHistory o log (with_seen log x)
   pub lawful : Lawful z o words (before ++ with_seen log x ∷ after) log
 
 -- a look leads to a lawful state
@@ -55,13 +55,13 @@ LooksStayLawful = (z : Layout) (o : Opening) (words : List ℕ) (before : List P
     (log : List Applied) → Lawful z o words (before ++ x ∷ after) log → Looks z o words before x after log
 
 -- the steps of the port's last call, with those that are left of it at most, are no more than such a call may make
-abbrev pub MakesFewSteps : Layout → Part → Type 0
-MakesFewSteps z x = (c : Call) → call_of x.begun ≡ Some c → length x.kept + steps_left (core_of x) ≤ most_steps z c
+abbrev pub HasFewSteps : Layout → Part → Type 0
+HasFewSteps z x = (c : Call) → call_of x.begun ≡ Some c → length x.kept + steps_left (core_of x) ≤ most_steps z c
 
 -- in a lawful state no call has made too many steps
 abbrev pub LawfulCallsAreBounded : Type 0
 LawfulCallsAreBounded = (z : Layout) (o : Opening) (words : List ℕ) (parts : List Part) (log : List Applied) →
-    Lawful z o words parts log → AllByRecursion (MakesFewSteps z) parts
+    Lawful z o words parts log → AllByRecursion (HasFewSteps z) parts
 
 -- what a lawful state says of the machine of a port, with a call begun or where the kept answers lead
 pub record IsReady (z : Layout) (c : CoreState) (x : Part) : Type 0 where

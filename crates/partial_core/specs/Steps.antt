@@ -12,7 +12,7 @@ use Rattle.partial_model.specs.Outcome.{places_by, places_written}
 use Rattle.partial_words.specs.declared.step.Step.{Step}
 use Rattle.partial_words.specs.declared.step.Step.TheVariants.{Exchange}
 use Rattle.partial_words.specs.Layout.{Layout, list_base, total}
-use Rattle.partial_words.specs.Record.{value_of, view_word}
+use Rattle.partial_words.specs.Record.{record_value, view_word}
 use Rattle.partial_words.specs.Step.{Answers, answer_of, words_after}
 use Rattle.partial_machine.specs.declared.stage.Reply.{Reply}
 use Rattle.partial_machine.specs.declared.stage.Reply.TheVariants as reply
@@ -21,7 +21,7 @@ use Rattle.partial_machine.specs.Calls.{is_begun, call_of, answer_for}
 use Rattle.partial_machine.specs.Possible.{IsPossible}
 use Rattle.partial_machine.specs.Behind.{IsBehind}
 use Rattle.partial_state.specs.Holdings.{unpublished}
-use Rattle.partial_state.specs.Loads.{Kept, IsPublished}
+use Rattle.partial_state.specs.Loads.{KeptAnswer, IsPublished}
 use Rattle.partial_core.specs.Part.{Part, port_of, core_of, first_at, IsLedTo, IsMachineOf}
 use Rattle.partial_core.specs.Held.{holdings}
 use Rattle.partial_core.specs.Lawful.{Lawful}
@@ -31,7 +31,7 @@ use Rattle.partial_core.specs.Lawful.{Lawful}
 abbrev pub added_by : Layout → ℕ → List ℕ → Step → List Applied
 added_by z port words (Exchange w old at) =
     if nat_lt w z.m then (if slice_index words w == old then record
-    { port = port; component = w; value = value_of words at; stamp = at } ∷ [] else []) else []
+    { port = port; component = w; value = record_value words at; stamp = at } ∷ [] else []) else []
 added_by z port words _ = []
 
 -- a record that the step would publish lies within the words
@@ -44,7 +44,7 @@ abbrev pub begun_with : CoreState → Part → CoreState
 begun_with c x = if is_begun c.stage then c else x.begun
 
 -- the answers that were kept before the machine's next one: none when the call makes its first step
-abbrev pub kept_with : CoreState → Part → List Kept
+abbrev pub kept_with : CoreState → Part → List KeptAnswer
 kept_with c x = if is_begun c.stage then [] else x.kept
 
 -- the length that the port had seen as its call began
@@ -100,7 +100,7 @@ AreNotesOf y (Some (reply.Refused cause)) new = IsRefusal y cause new
 AreNotesOf y (Some r) new = IsNoteOf y r new
 
 -- a port's notes are legal in that history, and its entries there are those of its notes, each once and in their order
-pub record Fits (o : Opening) (log : List Applied) (x : Part) : Type 0 where
+pub record FitsHistory (o : Opening) (log : List Applied) (x : Part) : Type 0 where
   pub history : IsHistory o log
   pub legal : LegalNotes o log (port_of x) 0 x.notes
   pub shown : seen_by 0 x.notes ≤ length log
@@ -123,7 +123,7 @@ pub record Tells (z : Layout) (o : Opening) (log entries : List Applied) (x : Pa
   pub port : port_of y ≡ port_of x
   -- what is noted, and what the port knows then
   pub noted : AreNotesOf y (reply_of (advance c a)) new
-  pub fits : Fits o y.seen y
+  pub fits : FitsHistory o y.seen y
 
 -- what the due step of a machine leads to, answered by the plain meaning of the step
 pub record LeadsOn (z : Layout) (o : Opening) (words : List ℕ) (before : List Part) (x : Part) (after : List Part)

@@ -40,4 +40,4 @@ pub use denote.Triple.Walked.{says, Stays, stay_dropped, walk_of, ends_at, Goes-
 pub use denote.Triple.Clauses.{Clauses, at_exit, Ended}
 pub use Rattle.core.proofs.result.Match.{if_ok_then}
 pub use Rattle.partial_door.specs.declared.held.Held.{Held}
-pub use Rattle.partial_door.specs.Inner.Kept.{IsUnclosed, IsKept}
+pub use Rattle.partial_door.specs.Inner.Kept.{IsUnclosed, IsMemoryKept}

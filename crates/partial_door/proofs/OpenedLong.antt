@@ -3,7 +3,7 @@ use Rattle.partial_door.proofs.Common.{◌≡◌, ◌∙◌, ℕ, length, sym, a
 use Rattle.std.proofs.Common.{List}
 use Rattle.partial_long_lived.specs.declared.options.Options.{Options}
 use Rattle.partial_long_lived.specs.Ports.{MemoryView}
-use Rattle.partial_door.specs.LongMemories.{IsNew, MayNotCloseLong}
+use Rattle.partial_door.specs.LongMemories.{IsNewMemory, MayNotCloseLong}
 use Rattle.partial_door.specs.LongExports.{ClosesLongAt}
 use Rattle.partial_door.specs.Inner.Long.{IsUnclosedLong}
 
@@ -13,9 +13,9 @@ count_of components m v count same = subst (λ (w : MemoryView). components ≡ 
 
 -- a memory that is held is as it opened
 pub still_new : (initial : List ℕ) (ports : ℕ) (o : Options) (v w : MemoryView) (all items : List PortView) → w ≡ v → all ≡ items
-    → IsNew initial ports o v items → IsNew initial ports o w all
+    → IsNewMemory initial ports o v items → IsNewMemory initial ports o w all
 still_new initial ports o v w all items same still new =
-    subst (λ (u : MemoryView). IsNew initial ports o u all) (sym same) (subst (λ (xs : List PortView). IsNew initial ports o v xs) (sym still) new)
+    subst (λ (u : MemoryView). IsNewMemory initial ports o u all) (sym same) (subst (λ (xs : List PortView). IsNewMemory initial ports o v xs) (sym still) new)
 
 -- what is held stays for the cause of what was taken out of it
 pub as_was : (g h k : Held) (room code : ℕ) → g ≡ h → k ≡ g → MayNotCloseLong g room code → IsUnclosedLong h k room code

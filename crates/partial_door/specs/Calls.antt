@@ -19,7 +19,7 @@ use Rattle.partial_door.specs.declared.held.Held.TheVariants as held
 use Rattle.partial_model.specs.Refusals.{refused_code}
 
 -- the port's reference of its memory stays
-pub record IsSame (p q : OwnedPort) : Type 0 where
+pub record IsSameReference (p q : OwnedPort) : Type 0 where
   pub opening : q.opening ≡ p.opening
   pub memory : arc_value q.memory ≡ arc_value p.memory
 
@@ -33,7 +33,7 @@ HoldsNoPort _ = Unit {0}
 abbrev pub AtPort : Type 0 → (PortView → ℕ → PortView → Type 0) → Held → ℕ → Held → Type 0
 AtPort stays done h code k =
     (HoldsNoPort h × (code ≡ 17) × (k ≡ h) × stays)
-    ⊎ ((p : OwnedPort) × (q : OwnedPort) × (h ≡ held.Port p) × (k ≡ held.Port q) × IsSame p q × done p.port code q.port)
+    ⊎ ((p : OwnedPort) × (q : OwnedPort) × (h ≡ held.Port p) × (k ≡ held.Port q) × IsSameReference p q × done p.port code q.port)
 
 -- what an update answers, as the caller sees it
 abbrev pub update_answer : Updated → UpdateAnswer

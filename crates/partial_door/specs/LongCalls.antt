@@ -8,7 +8,7 @@ use Rattle.partial_long_lived.specs.declared.answers.UpdatedIf.{UpdatedIf}
 use Rattle.partial_long_lived.specs.declared.answers.UpdatedIf.TheVariants as conditional
 use Rattle.partial_long_lived.specs.declared.error.Refused.{Refused}
 use Rattle.partial_long_lived.specs.declared.error.Refused.TheVariants.{Component}
-use Rattle.partial_long_lived.specs.Refusals.{refused_code}
+use Rattle.partial_long_lived.specs.Refusals.{refusal_code}
 use Rattle.partial_long_lived.specs.Ports.{PortView}
 use Rattle.partial_long_lived.specs.Calls.{Differ, Goes, IsRefused, Reads, Scanned, Scans, ScansStamped, StillStand, Updates, UpdatesIf}
 use Rattle.partial_door.specs.declared.answers.UpdateAnswer.{UpdateAnswer}
@@ -45,7 +45,7 @@ long_update_answer (Lost by) = record { stamp = by; applied = 0 }
 abbrev pub LongUpdateEnds : ℕ → ℕ → UpdateAnswer → UpdateAnswer → PortView → ℕ → PortView → Type 0
 LongUpdateEnds j v before after p code q =
     ((r : Updated) × (code ≡ 0) × (after ≡ long_update_answer r) × Updates p j v r q)
-    ⊎ ((cause : Refused) × (code ≡ refused_code cause) × (after ≡ before) × IsRefused p (call.Update j v) cause q)
+    ⊎ ((cause : Refused) × (code ≡ refusal_code cause) × (after ≡ before) × IsRefused p (call.Update j v) cause q)
 
 -- what a conditional update answers, as the caller sees it
 abbrev pub long_update_if_answer : UpdatedIf → UpdateAnswer
@@ -56,13 +56,13 @@ long_update_if_answer (conditional.Changed by) = record { stamp = by; applied = 
 abbrev pub LongUpdateIfEnds : ℕ → ℕ → ℕ → UpdateAnswer → UpdateAnswer → PortView → ℕ → PortView → Type 0
 LongUpdateIfEnds j expected v before after p code q =
     ((r : UpdatedIf) × (code ≡ 0) × (after ≡ long_update_if_answer r) × UpdatesIf p j expected v r q)
-    ⊎ ((cause : Refused) × (code ≡ refused_code cause) × (after ≡ before) × IsRefused p (call.UpdateIf j expected v) cause q)
+    ⊎ ((cause : Refused) × (code ≡ refusal_code cause) × (after ≡ before) × IsRefused p (call.UpdateIf j expected v) cause q)
 
 -- a read likewise
 abbrev pub LongReadEnds : ℕ → ReadAnswer → ReadAnswer → PortView → ℕ → PortView → Type 0
 LongReadEnds j before after p code q =
     ((code ≡ 0) × Reads p j after.value after.stamp q)
-    ⊎ ((cause : Refused) × (code ≡ refused_code cause) × (after ≡ before) × IsRefused p (call.Read j) cause q)
+    ⊎ ((cause : Refused) × (code ≡ refusal_code cause) × (after ≡ before) × IsRefused p (call.Read j) cause q)
 
 -- a scan was answered, or refused for its lengths or for a cause, and then the answer and the values stay
 abbrev pub LongScanEnds : List ℕ → List ℕ → List ℕ → ScanAnswer → ScanAnswer → PortView → ℕ → PortView → Type 0
@@ -70,13 +70,13 @@ LongScanEnds which before values old new p code q =
     ((s : Scanned) × (code ≡ 0) × (new ≡ scan_answer s) × Scans p which values s q)
     ⊎ ((values ≡ before) × (new ≡ old)
     × (((code ≡ 19) × IsMismatch p.memory.about.sizes.m which before × (q ≡ p))
-    ⊎ ((cause : Refused) × (code ≡ refused_code cause) × IsRefused p (call.Scan which) cause q)))
+    ⊎ ((cause : Refused) × (code ≡ refusal_code cause) × IsRefused p (call.Scan which) cause q)))
 
 -- why a scan with stamps makes no step: the lengths don't fit, of a memory of m components, or a component isn't there
 abbrev pub MayNotScanStamped : List ℕ → List ℕ → List ℕ → PortView → ℕ → PortView → Type 0
 MayNotScanStamped which values stamps p code q =
     ((code ≡ 19) × (IsMismatch p.memory.about.sizes.m which values ⊎ (length stamps ≡ length which → ⊥)) × (q ≡ p))
-    ⊎ ((code ≡ refused_code Component) × IsRefused p (call.Scan which) Component q)
+    ⊎ ((code ≡ refusal_code Component) × IsRefused p (call.Scan which) Component q)
 
 -- A scan gave values with their stamps, and the answer is 1; or it gave none, and the answer is 0; or it was refused, and the answer stays.
 -- Both arrays are as they were unless it gave values.

@@ -33,7 +33,7 @@ abbrev pub options_of : ArenaSizes → Options
 options_of a = record { lists = a.lists; pool = a.pool }
 
 -- a memory that has just opened with these values, so many ports, and these options, and its ports
-pub record IsNew (initial : List ℕ) (ports : ℕ) (o : Options) (v : MemoryView) (all : List PortView) : Type 0 where
+pub record IsNewMemory (initial : List ℕ) (ports : ℕ) (o : Options) (v : MemoryView) (all : List PortView) : Type 0 where
   pub sizes : v.about.sizes ≡ layout_for (length initial) ports o
   pub limit : v.about.limit ≡ first_free v.about.sizes + o.pool
   pub many : (v.about.ports ≡ ports) × (v.about.arenas ≡ 2 * ports)
@@ -45,13 +45,13 @@ pub record IsNew (initial : List ℕ) (ports : ℕ) (o : Options) (v : MemoryVie
 abbrev pub HoldsNew : ℕ → List ℕ → ℕ → Options → Held → Type 0
 HoldsNew number initial ports o h =
     (m : LongMemory) × (h ≡ held.LongMemory m) × (m.number ≡ number) × (m.count ≡ ports)
-    × IsNew initial ports o (arc_value m.memory) m.ports.items
+    × IsNewMemory initial ports o (arc_value m.memory) m.ports.items
 
 -- why no new memory is held: the cause of its opening, or it has opened, and an allocation for its handle was refused
 abbrev pub MayNotBeNew : List ℕ → ℕ → Options → ℕ → Type 0
 MayNotBeNew initial ports o code =
     ((e : OpenError) × (code ≡ open_code e) × MayNotOpen (length initial) ports o e)
-    ⊎ ((v : MemoryView) × (all : List PortView) × IsNew initial ports o v all × (code ≡ 6))
+    ⊎ ((v : MemoryView) × (all : List PortView) × IsNewMemory initial ports o v all × (code ≡ 6))
 
 -- an open memory, apart from the ports that it holds
 pub record IsSameLongMemory (m n : LongMemory) : Type 0 where
@@ -100,15 +100,15 @@ AreLongApart (held.LongMemory m) (held.LongPort p) = p.number ≡ m.number → a
 AreLongApart _ _ = Unit {0}
 
 -- what is held may be closed: an open memory with all its ports, and no other reference of it, or one whose close was refused
-abbrev pub IsReady : Held → LongClosing → Type 0
-IsReady (held.LongMemory m) c =
+abbrev pub IsReadyToClose : Held → LongClosing → Type 0
+IsReadyToClose (held.LongMemory m) c =
     (length m.ports.items ≡ m.count) × (m.ports.items ≡ c.rest.items ++ c.port ∷ []) × (c.memory ≡ arc_value m.memory)
-IsReady (held.LongClosing d) c = c ≡ d
-IsReady _ c = ⊥
+IsReadyToClose (held.LongClosing d) c = c ≡ d
+IsReadyToClose _ c = ⊥
 
 -- it is closed with all its ports, and these are its values
 abbrev pub ClosesLong : Held → List ℕ → Type 0
-ClosesLong h values = (c : LongClosing) × IsReady h c × Closes c.memory (c.port ∷ c.rest.items) values
+ClosesLong h values = (c : LongClosing) × IsReadyToClose h c × Closes c.memory (c.port ∷ c.rest.items) values
 
 -- a memory that was to be closed, with its ports
 pub record IsSameClosing (c d : LongClosing) : Type 0 where
@@ -118,7 +118,7 @@ pub record IsSameClosing (c d : LongClosing) : Type 0 where
 
 -- an allocation was refused: what is held is the memory with all its ports, for a later close
 abbrev pub KeepsLong : Held → Held → Type 0
-KeepsLong h k = (c : LongClosing) × (d : LongClosing) × IsReady h c × IsSameClosing c d × (k ≡ held.LongClosing d)
+KeepsLong h k = (c : LongClosing) × (d : LongClosing) × IsReadyToClose h c × IsSameClosing c d × (k ≡ held.LongClosing d)
 
 -- the room isn't that of the memory's values
 abbrev pub IsOtherRoom : Held → ℕ → Type 0

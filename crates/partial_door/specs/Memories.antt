@@ -3,20 +3,20 @@ use Rattle.std.specs.Prelude.{ℕ, ◌≡◌, ◌⊎◌, ◌<◌, ◌≤◌, ◌
 use Rattle.std.specs.Arc.{arc_value}
 use Rattle.partial_words.specs.Layout.{Layout, IsLayout, pool_base}
 use Rattle.partial_words.specs.declared.sizes.SizeError.{SizeError}
-use Rattle.partial_words.specs.SizeFault.{IsFirstFault, code_of}
+use Rattle.partial_words.specs.SizeFault.{IsFirstFault, size_code}
 use Rattle.partial_memory.specs.declared.error.OpenError.{OpenError}
 use Rattle.partial_memory.specs.declared.closed.Closed.{Closed}
 use Rattle.partial_memory.specs.Rule.{newcomers}
 use Rattle.partial_memory.specs.Ports.{MayNotOpen, PortView, new_ports, open_code}
 use Rattle.partial_memory.specs.Closing.{Closes}
-use Rattle.partial_memory.specs.Reopening.{ContinuesAll, MayNotReopen, extended}
+use Rattle.partial_memory.specs.Reopening.{ContinuesAll, MayNotReopen, extended_values}
 use Rattle.partial_memory.specs.Calls.{Meets}
 use Rattle.partial_door.specs.declared.answers.RoomSizes.{RoomSizes}
 use Rattle.partial_door.specs.declared.held.OpenMemory.{OpenMemory}
 use Rattle.partial_door.specs.declared.held.OwnedPort.{OwnedPort}
 use Rattle.partial_door.specs.declared.held.Held.{Held}
 use Rattle.partial_door.specs.declared.held.Held.TheVariants as held
-use Rattle.partial_door.specs.Calls.{HoldsNoPort, IsSame}
+use Rattle.partial_door.specs.Calls.{HoldsNoPort, IsSameReference}
 
 -- no open memory is held
 abbrev pub HoldsNoMemory : Held → Type 0
@@ -49,13 +49,13 @@ HoldsOpened opening z initial ports h = (m : OpenMemory) × (h ≡ held.Memory m
 -- why a memory may not open: the first size that is out of its range, then the number of ports, then want of memory
 abbrev pub MayNotOpenWith : Layout → ℕ → ℕ → Type 0
 MayNotOpenWith z ports code =
-    ((e : SizeError) × (code ≡ code_of e) × IsFirstFault z e)
+    ((e : SizeError) × (code ≡ size_code e) × IsFirstFault z e)
     ⊎ ((e : OpenError) × (code ≡ open_code e) × IsLayout z × MayNotOpen ports e)
 
 -- what is held is a memory that goes on with these values of a closed one, and zeros behind them
 abbrev pub GoesOnWith : ℕ → List ℕ → Layout → ℕ → Held → Type 0
 GoesOnWith opening values z ports h =
-    (m : OpenMemory) × (h ≡ held.Memory m) × (length values ≤ z.m) × HasOpened opening z (extended z.m values) ports m
+    (m : OpenMemory) × (h ≡ held.Memory m) × (length values ≤ z.m) × HasOpened opening z (extended_values z.m values) ports m
     × ContinuesAll values (arc_value m.memory).about.opening
 
 -- it goes on with those of what was held
@@ -65,7 +65,7 @@ HoldsReopened opening closed z ports h = (c : Closed) × (closed ≡ held.Closed
 -- why that many values may not go on in such a memory: the first size that is out of its range, then the cause of the reopening
 abbrev pub MayNotGoOn : ℕ → Layout → ℕ → ℕ → Type 0
 MayNotGoOn count z ports code =
-    ((e : SizeError) × (code ≡ code_of e) × IsFirstFault z e)
+    ((e : SizeError) × (code ≡ size_code e) × IsFirstFault z e)
     ⊎ ((e : OpenError) × (code ≡ open_code e) × IsLayout z × MayNotReopen ports count z.m e)
 
 -- why what is held may not be opened again: it is no closed memory, or its values may not go on
@@ -115,17 +115,17 @@ StaysHome h k =
     ⊎ ((m : OpenMemory) × (n : OpenMemory) × (h ≡ held.Memory m) × (k ≡ held.Memory n) × IsSameMemory m n × (n.ports.items ≡ m.ports.items))
 
 -- a port and a memory of one opening are of one memory: each opening has a number of its own
-abbrev pub AreApart : Held → Held → Type 0
-AreApart (held.Memory m) (held.Port p) = p.opening ≡ m.opening → arc_value p.memory ≡ arc_value m.memory
-AreApart (held.Port p) (held.Port q) = q.opening ≡ p.opening → arc_value q.memory ≡ arc_value p.memory
-AreApart _ _ = Unit {0}
+abbrev pub AreHeldApart : Held → Held → Type 0
+AreHeldApart (held.Memory m) (held.Port p) = p.opening ≡ m.opening → arc_value p.memory ≡ arc_value m.memory
+AreHeldApart (held.Port p) (held.Port q) = q.opening ≡ p.opening → arc_value q.memory ≡ arc_value p.memory
+AreHeldApart _ _ = Unit {0}
 
 -- two ports of one opening meet
 abbrev pub MeetPorts : Held → Held → Held → Held → Type 0
 MeetPorts g h k l =
     (a : OwnedPort) × (b : OwnedPort) × (c : OwnedPort) × (d : OwnedPort)
     × (g ≡ held.Port a) × (h ≡ held.Port b) × (k ≡ held.Port c) × (l ≡ held.Port d)
-    × (b.opening ≡ a.opening) × IsSame a c × IsSame b d × Meets a.port b.port c.port d.port
+    × (b.opening ≡ a.opening) × IsSameReference a c × IsSameReference b d × Meets a.port b.port c.port d.port
 
 -- why two don't meet: one is no port, or they are of two openings
 abbrev pub MayNotMeet : Held → Held → ℕ → Type 0

@@ -4,7 +4,7 @@
 
 ghost use Rattle.std.specs.Prelude.{◌≡◌, length, None, Some};
 ghost use Rattle.partial_door.specs.declared.held.Held.{Held as HeldType};
-ghost use Rattle.partial_door.specs.Memories.{AreApart, layout_of};
+ghost use Rattle.partial_door.specs.Memories.{AreHeldApart, layout_of};
 ghost use Rattle.partial_door.specs.Calls.{ReadEnds, ScanEnds, StateEnds, UpdateEnds, UpdateIfEnds};
 ghost use Rattle.partial_door.specs.Exports.{AtHandle, ClosesHandle, CopiesAt, GivesAt, MeetsHandles, OpensAt, ReopensAt, TakesAt};
 
@@ -213,7 +213,7 @@ pub extern "C" fn partial_door_give_port(
     memory: &mut Handle,
     port: &mut Handle,
 ) -> u32
-    requires { (h k : HeldType) → memory.old.held ≡ Some h → port.old.held ≡ Some k → AreApart h k }
+    requires { (h k : HeldType) → memory.old.held ≡ Some h → port.old.held ≡ Some k → AreHeldApart h k }
     ensures { GivesAt memory.old.held port.old.held result memory.new.held port.new.held }
 {
     let Some(home) = memory.held() else {
@@ -236,7 +236,7 @@ pub extern "C" fn partial_door_give_port(
 /// Returns 17 when a handle holds no port, and 20 when the ports are of two memories.
 #[unsafe(no_mangle)]
 pub extern "C" fn partial_door_meet(first: &mut Handle, second: &mut Handle) -> u32
-    requires { (h k : HeldType) → first.old.held ≡ Some h → second.old.held ≡ Some k → AreApart h k }
+    requires { (h k : HeldType) → first.old.held ≡ Some h → second.old.held ≡ Some k → AreHeldApart h k }
     ensures { MeetsHandles first.old.held second.old.held result first.new.held second.new.held }
 {
     let Some(one) = first.held() else {

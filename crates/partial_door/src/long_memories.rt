@@ -5,7 +5,7 @@ ghost use Rattle.partial_long_lived.specs.Closing.{Closes};
 ghost use Rattle.partial_door.specs.Home.{AreLongOf};
 ghost use Rattle.partial_door.specs.declared.held.Held.TheVariants as held;
 ghost use Rattle.partial_door.specs.Inner.Long.{IsLongOpenOf, IsUnclosedLong, IsUnready};
-ghost use Rattle.partial_door.specs.LongMemories.{AreLongApart, ClosesLong, GivesLongPort, HoldsNew, IsReady, IsSameClosing};
+ghost use Rattle.partial_door.specs.LongMemories.{AreLongApart, ClosesLong, GivesLongPort, HoldsNew, IsReadyToClose, IsSameClosing};
 ghost use Rattle.partial_door.specs.LongMemories.{MayNotBeNew, MayNotCloseLong, MayNotGiveLong, MayNotTakeLong, StaysLong, TakesLongPort, options_of};
 
 use crate::answers::ArenaSizes;
@@ -150,7 +150,7 @@ enum Unready {
 impl LongMemory {
     // Takes the memory apart when it holds all its ports and no other reference of it is in use.
     fn alone(self) -> Result<LongClosing, Unready>
-        ensures ok { IfOk result (λ c. IsReady (held.LongMemory self) c × (c.components ≡ self.components)) }
+        ensures ok { IfOk result (λ c. IsReadyToClose (held.LongMemory self) c × (c.components ≡ self.components)) }
         ensures err { IfErr result (IsUnready self) }
     {
         let all = self.count as usize;
@@ -218,7 +218,7 @@ impl LongClosing {
 
 // Takes a long-lived memory apart that is to be closed into room for so many values.
 fn ready(held: Held, room: usize) -> Result<LongClosing, (u32, Held)>
-    ensures ok { IfOk result (λ c. IsReady held c × (c.components ≡ room)) }
+    ensures ok { IfOk result (λ c. IsReadyToClose held c × (c.components ≡ room)) }
     ensures err { IfErr result (λ e. (e.1 ≡ held) × MayNotCloseLong held room e.0) }
 {
     match held {

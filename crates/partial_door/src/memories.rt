@@ -3,11 +3,11 @@
 ghost use Rattle.std.specs.Prelude.{◌≡◌, length, IfOk, IfErr};
 ghost use Rattle.partial_words.specs.Layout.{IsLayout};
 ghost use Rattle.partial_words.specs.declared.sizes.SizeError.{SizeError as SizeErrorType};
-ghost use Rattle.partial_words.specs.SizeFault.{IsFirstFault, code_of};
+ghost use Rattle.partial_words.specs.SizeFault.{IsFirstFault, size_code};
 ghost use Rattle.partial_door.specs.declared.held.Held.TheVariants as held;
-ghost use Rattle.partial_door.specs.Inner.Kept.{IsKept, IsOpenOf, IsUnclosed};
+ghost use Rattle.partial_door.specs.Inner.Kept.{IsMemoryKept, IsOpenOf, IsUnclosed};
 ghost use Rattle.partial_door.specs.Home.{AreOf};
-ghost use Rattle.partial_door.specs.Memories.{AreApart, ClosesAt, CopiesValues, GivesPort, GoesOnWith, HoldsOpened, HoldsReopened, IsClosedHome};
+ghost use Rattle.partial_door.specs.Memories.{AreHeldApart, ClosesAt, CopiesValues, GivesPort, GoesOnWith, HoldsOpened, HoldsReopened, IsClosedHome};
 ghost use Rattle.partial_door.specs.Memories.{MayNotGive, MayNotGoOn, MayNotOpenWith, MayNotReopenWith, MayNotTake, MeetsAt, StaysHome, TakesPort, layout_of};
 
 use crate::answers::RoomSizes;
@@ -24,7 +24,7 @@ use std::sync::Arc;
 // Checks the sizes. Returns the number of the first one that is out of its range.
 fn sizes_of(components: usize, room: &RoomSizes) -> Result<Sizes, u32>
     ensures ok { IfOk result (λ s. (s ≡ layout_of components room.now) × IsLayout s) }
-    ensures err { IfErr result (λ code. (e : SizeErrorType) × (code ≡ code_of e) ×
+    ensures err { IfErr result (λ code. (e : SizeErrorType) × (code ≡ size_code e) ×
         IsFirstFault (layout_of components room.now) e) }
 {
     if components > 65_536 {
@@ -186,7 +186,7 @@ impl Held {
     /// and 6 when an allocation was refused. The memory is as it was, and `given` comes back with the
     /// number.
     pub fn give_port(&mut self, given: Box<Held>) -> Result<(), (u32, Box<Held>)>
-        requires { AreApart self.old given.value }
+        requires { AreHeldApart self.old given.value }
         ensures ok { IfOk result (λ _. GivesPort self.old given.value self.new) }
         ensures err { IfErr result (λ e. (e.1.value ≡ given.value) × StaysHome self.old self.new ×
             MayNotGive self.old given.value e.0) }
@@ -223,7 +223,7 @@ impl OpenMemory {
     /// Closes the memory when it holds all its ports and no other reference of it is in use.
     fn close(self, alloc: Global) -> Result<Closed, Kept>
         ensures ok { IfOk result (λ c. IsClosedHome self c) }
-        ensures err { IfErr result (λ k. IsKept self k) }
+        ensures err { IfErr result (λ k. IsMemoryKept self k) }
     {
         let all = self.count as usize;
         if self.ports.is_empty() || self.ports.len() != all {
@@ -311,7 +311,7 @@ impl Held {
     /// Returns 17 when one of the two isn't a port, and 20 when they are of two memories. Both are as they
     /// were then.
     pub fn meet(&mut self, other: &mut Held) -> u32
-        requires { AreApart self.old other.old }
+        requires { AreHeldApart self.old other.old }
         ensures { MeetsAt self.old other.old result self.new other.new }
     {
         let Held::Port(first) = self else {

@@ -6,18 +6,18 @@ use Rattle.std.proofs.lemmas.List.{length_push}
 use Rattle.partial_words.specs.Record.{pairs_word, next_word}
 use Rattle.partial_embedded.specs.declared.embedded.Stage.{Stage}
 use Rattle.partial_embedded.specs.declared.embedded.Stage.TheVariants.{Collect, View, Len, Index, PairValue, Value, Done}
-use Rattle.partial_embedded.specs.Embedded.{Pair, GoTogether, goes_at, fresh, advance, advance_at, is_first, differs, was_changed, noted, borrow, after_view, at_stage, with_value, pairs_from, IsPossibleAt}
-use Rattle.partial_embedded.specs.Runs.{Run, LastTwoAreEqual, ShowsThirdRecord, written, LoadsValues, LoadsView, EndsWell, FinishedScansEndWell}
+use Rattle.partial_embedded.specs.Embedded.{ViewPair, ViewGoesTogether, view_goes_at, fresh_view, advance_view, advance_view_at, is_first, differs, was_changed, noted, borrow, after_view, view_at_stage, with_value, pairs_from, IsPossibleInViewAt}
+use Rattle.partial_embedded.specs.Runs.{ViewRun, LastTwoAreEqual, ShowsThirdRecord, written, LoadsValues, LoadsView, EndsWell, FinishedScansEndWell}
 use Rattle.partial_embedded.proofs.Keeps.{kept, fresh_together}
 use Rattle.partial_embedded.proofs.Traces.{trace_at, step_traced, fresh_traced}
 
 -- the loads of some view
-pub record Views (r : ℕ) (xs : List ℕ) (q : Pair) : Type 0 where
+pub record Views (r : ℕ) (xs : List ℕ) (q : ViewPair) : Type 0 where
   pub stamp : ℕ
   pub loads : LoadsView r xs q stamp
 
 -- what is known at a stage of how the scan ends
-abbrev ending_at : List ℕ → Pair → List ℕ → Stage → Type 0
+abbrev ending_at : List ℕ → ViewPair → List ℕ → Stage → Type 0
 ending_at indices p xs (Collect k) = p.0.borrowed ≡ None
 ending_at indices p xs (Value k) = LoadsValues indices xs p k × (p.0.borrowed ≡ None)
 ending_at indices p xs (View stamp) = (p.0.borrowed ≡ Some stamp) × ShowsThirdRecord (length indices) xs p.0.collects stamp
@@ -32,16 +32,16 @@ written_push (j ∷ js) [] values (suc k) x below long = absurd (omega (arith, l
 written_push (j ∷ js) (l ∷ loads) values zero x below long = absurd (omega (arith, long))
 written_push (j ∷ js) (l ∷ loads) values (suc k) x below long = written_push js loads (set values j l) k x (omega (arith, below)) (omega (arith, long))
 
-module _ (indices : List ℕ) (p : Pair) (x : ℕ) (xs : List ℕ) where
+module _ (indices : List ℕ) (p : ViewPair) (x : ℕ) (xs : List ℕ) where
   -- a scan that has loaded a view ends with it
-  view_ends : (q : Pair) (ys : List ℕ) → Views (length indices) ys q → EndsWell indices ys q
+  view_ends : (q : ViewPair) (ys : List ℕ) → Views (length indices) ys q → EndsWell indices ys q
   view_ends q ys v = let loads = v.loads in record {
     own = λ none. let bad : Some v.stamp ≡ None = sym loads.borrowed ∙ none in absurd cc;
     shared = λ stamp some. let same : v.stamp ≡ stamp = let e : Some v.stamp ≡ Some stamp = sym loads.borrowed ∙ some in cc in subst (LoadsView (length indices) ys q) same loads;
   }
 
   -- one more load of the view
-  more_view : (q : Pair) → Views (length indices) xs p → q.0.collects ≡ p.0.collects → q.0.borrowed ≡ p.0.borrowed → q.0.view ≡ p.0.view → Views (length indices) (xs ++ x ∷ []) q
+  more_view : (q : ViewPair) → Views (length indices) xs p → q.0.collects ≡ p.0.collects → q.0.borrowed ≡ p.0.borrowed → q.0.view ≡ p.0.view → Views (length indices) (xs ++ x ∷ []) q
   more_view q v collects borrowed view = let l = v.loads in record {
     stamp = v.stamp;
     loads = record {
@@ -54,7 +54,7 @@ module _ (indices : List ℕ) (p : Pair) (x : ℕ) (xs : List ℕ) where
   }
 
   -- the load of the reference of the view
-  first_view : (q : Pair) (stamp : ℕ) → p.0.borrowed ≡ Some stamp → ShowsThirdRecord (length indices) xs p.0.collects stamp → q.0.collects ≡ p.0.collects → q.0.borrowed ≡ p.0.borrowed →
+  first_view : (q : ViewPair) (stamp : ℕ) → p.0.borrowed ≡ Some stamp → ShowsThirdRecord (length indices) xs p.0.collects stamp → q.0.collects ≡ p.0.collects → q.0.borrowed ≡ p.0.borrowed →
       q.0.view ≡ x → Views (length indices) (xs ++ x ∷ []) q
   first_view q stamp some third collects borrowed view = record {
     stamp = stamp;
@@ -68,21 +68,21 @@ module _ (indices : List ℕ) (p : Pair) (x : ℕ) (xs : List ℕ) where
   }
 
   -- the view goes on, or it is whole
-  view_or : (q : Pair) (b : Bool) (s : Stage) → Views (length indices) (xs ++ x ∷ []) q → (Views (length indices) (xs ++ x ∷ []) q → ending_at indices q (xs ++ x ∷ []) s) →
+  view_or : (q : ViewPair) (b : Bool) (s : Stage) → Views (length indices) (xs ++ x ∷ []) q → (Views (length indices) (xs ++ x ∷ []) q → ending_at indices q (xs ++ x ∷ []) s) →
       ending_at indices q (xs ++ x ∷ []) (cond b Done s)
   view_or q true s v f = view_ends q (xs ++ x ∷ []) v
   view_or q false s v f = f v
 
   -- a whole view of so many pairs, or the next of them
-  pairs_end : (v : Pair) (at left : ℕ) (b : Bool) → Views (length indices) (xs ++ x ∷ []) (at_stage v (cond b Done (Index at left))) → let q =
-      at_stage v (cond b Done (Index at left)) in ending_at indices q (xs ++ x ∷ []) q.0.stage
-  pairs_end v at left true w = view_ends (at_stage v Done) (xs ++ x ∷ []) w
+  pairs_end : (v : ViewPair) (at left : ℕ) (b : Bool) → Views (length indices) (xs ++ x ∷ []) (view_at_stage v (cond b Done (Index at left))) → let q =
+      view_at_stage v (cond b Done (Index at left)) in ending_at indices q (xs ++ x ∷ []) q.0.stage
+  pairs_end v at left true w = view_ends (view_at_stage v Done) (xs ++ x ∷ []) w
   pairs_end v at left false w = w
 
   -- behind a load of a collect
   collect_ends : (k : ℕ) → p.0.borrowed ≡ None → (b c d : Bool) → let q =
-      cond b (borrow p x) (cond c (at_stage (noted p k x) (Collect (k + 1))) (cond d (record (noted p k x).0 { collects = p.0.collects + 1; moved = false; stage = Collect 0 }, (noted p k x).1)
-      (at_stage (noted p k x) (Value 0)))) in trace_at (length indices) q (xs ++ x ∷ []) q.0.stage → ending_at indices q (xs ++ x ∷ []) q.0.stage
+      cond b (borrow p x) (cond c (view_at_stage (noted p k x) (Collect (k + 1))) (cond d (record (noted p k x).0 { collects = p.0.collects + 1; moved = false; stage = Collect 0 }, (noted p k x).1)
+      (view_at_stage (noted p k x) (Value 0)))) in trace_at (length indices) q (xs ++ x ∷ []) q.0.stage → ending_at indices q (xs ++ x ∷ []) q.0.stage
   collect_ends k none true c d t = (refl, t)
   collect_ends k none false true d t = none
   collect_ends k none false false true t = none
@@ -101,10 +101,10 @@ module _ (indices : List ℕ) (p : Pair) (x : ℕ) (xs : List ℕ) where
 
   -- behind the load of a value
   value_ends : (k : ℕ) → k < length indices → LoadsValues indices xs p k → p.0.borrowed ≡ None → (b : Bool) → nat_lt (k + 1) (length indices) ≡ b → let q =
-      at_stage (with_value p (get_or indices k 0) x) (cond b (Value (k + 1)) Done) in ending_at indices q (xs ++ x ∷ []) q.0.stage
+      view_at_stage (with_value p (get_or indices k 0) x) (cond b (Value (k + 1)) Done) in ending_at indices q (xs ++ x ∷ []) q.0.stage
   value_ends k below l none b e = by b e
     where
-      next : (q : Pair) → q.0.collects ≡ p.0.collects → q.1.values ≡ set p.1.values (get_or indices k 0) x → LoadsValues indices (xs ++ x ∷ []) q (k + 1)
+      next : (q : ViewPair) → q.0.collects ≡ p.0.collects → q.1.values ≡ set p.1.values (get_or indices k 0) x → LoadsValues indices (xs ++ x ∷ []) q (k + 1)
       next q collects values =
           let one : suc k ≡ k + 1 = omega arith in
           let count = l.count in
@@ -120,41 +120,44 @@ module _ (indices : List ℕ) (p : Pair) (x : ℕ) (xs : List ℕ) where
             values = values ∙ ap (λ (vs : List ℕ). set vs (get_or indices k 0) x) l.values ∙ sym pushed;
           }
 
-      by : (b : Bool) → nat_lt (k + 1) (length indices) ≡ b → let q = at_stage (with_value p (get_or indices k 0) x) (cond b (Value (k + 1)) Done) in ending_at indices q (xs ++ x ∷ []) q.0.stage
-      by true e = (next (at_stage (with_value p (get_or indices k 0) x) (Value (k + 1))) refl refl, none)
+      by : (b : Bool) → nat_lt (k + 1) (length indices) ≡ b → let q = view_at_stage (with_value p (get_or indices k 0) x) (cond b (Value (k + 1)) Done) in ending_at indices q (xs ++ x ∷ []) q.0.stage
+      by true e = (next (view_at_stage (with_value p (get_or indices k 0) x) (Value (k + 1))) refl refl, none)
       by false e =
           let past = ltb-false (k + 1) (length indices) e in
           let last : k + 1 ≡ length indices = omega (arith, past, below) in
-          let q = at_stage (with_value p (get_or indices k 0) x) Done in
+          let q = view_at_stage (with_value p (get_or indices k 0) x) Done in
           record {
             own = λ _. subst (LoadsValues indices (xs ++ x ∷ []) q) last (next q refl refl);
             shared = λ stamp some. let bad : None ≡ Some stamp = sym none ∙ some in absurd cc;
           }
 
-  step_ends : (s : Stage) → goes_at indices p s → IsPossibleAt p.0.sizes s x → ending_at indices p xs s → let q = advance_at indices p s x in trace_at (length indices) q (xs ++ x ∷ []) q.0.stage →
+  step_ends : (s : Stage) → view_goes_at indices p s → IsPossibleInViewAt p.0.sizes s x → ending_at indices p xs s → let q = advance_view_at indices p s x in
+      trace_at (length indices) q (xs ++ x ∷ []) q.0.stage →
       ending_at indices q (xs ++ x ∷ []) q.0.stage
   step_ends (Collect k) goes possible none t = collect_ends k none (differs p k x && was_changed p k) (nat_lt (k + 1) (length indices)) (is_first p || (noted p k x).0.moved) t
   step_ends (View stamp) goes possible w t =
-      let q : Pair = (after_view p.0 x, p.1) in
+      let q : ViewPair = (after_view p.0 x, p.1) in
       view_or q ((x == 0) || p.0.shares) (Len x) (first_view q stamp w.0 w.1 refl refl refl) (λ v. v)
-  step_ends (Len at) goes possible w t = pairs_end p (pairs_word at) x (x == 0) (more_view (at_stage p (pairs_from (pairs_word at) x)) w refl refl refl)
-  step_ends (Index at left) goes possible w t = more_view (at_stage p (PairValue (next_word at) left x)) w refl refl refl
+  step_ends (Len at) goes possible w t = pairs_end p (pairs_word at) x (x == 0) (more_view (view_at_stage p (pairs_from (pairs_word at) x)) w refl refl refl)
+  step_ends (Index at left) goes possible w t = more_view (view_at_stage p (PairValue (next_word at) left x)) w refl refl refl
   step_ends (PairValue at left index) goes possible w t = pairs_end (with_value p index x) (next_word at) (left - 1) (left - 1 == 0)
-      (more_view (at_stage (with_value p index x) (pairs_from (next_word at) (left - 1))) w refl refl refl)
+      (more_view (view_at_stage (with_value p index x) (pairs_from (next_word at) (left - 1))) w refl refl refl)
   step_ends (Value k) goes possible w t = value_ends k goes.0 w.0 w.1 (nat_lt (k + 1) (length indices)) refl
   step_ends Done goes possible w t = absurd possible
 
 -- over a run
-run_ends : (indices : List ℕ) (p : Pair) (past xs : List ℕ) (q : Pair) → GoTogether indices p → trace_at (length indices) p past p.0.stage → ending_at indices p past p.0.stage → Run indices p xs q →
+run_ends : (indices : List ℕ) (p : ViewPair) (past xs : List ℕ) (q : ViewPair) → ViewGoesTogether indices p → trace_at (length indices) p past p.0.stage → ending_at indices p past p.0.stage →
+    ViewRun indices p xs q →
     ending_at indices q (past ++ xs) q.0.stage
 run_ends indices p past [] q w t n is =
-    subst (λ (l : List ℕ). ending_at indices q l q.0.stage) (sym (append-nil past)) (subst (λ (u : Pair). ending_at indices u past u.0.stage) (sym is) n)
+    subst (λ (l : List ℕ). ending_at indices q l q.0.stage) (sym (append-nil past)) (subst (λ (u : ViewPair). ending_at indices u past u.0.stage) (sym is) n)
 run_ends indices p past (x ∷ xs) q w t n run =
     let next = step_traced indices p x past w p.0.stage w.stage run.0 t in
     subst (λ (l : List ℕ). ending_at indices q l q.0.stage) (append_assoc past (x ∷ []) xs)
-    (run_ends indices (advance indices p x) (past ++ x ∷ []) xs q (kept indices p x w run.0).together next (step_ends indices p x past p.0.stage w.stage run.0 n next) run.1)
+    (run_ends indices (advance_view indices p x) (past ++ x ∷ []) xs q (kept indices p x w run.0).together next (step_ends indices p x past p.0.stage w.stage run.0 n next) run.1)
 
 pub finished_scans_end_well : FinishedScansEndWell
 finished_scans_end_well s shares indices rows xs q w done =
-    let n : ending_at indices q xs q.0.stage = run_ends indices (fresh s shares, rows) [] xs q (fresh_together s shares indices rows w.0 w.1) (fresh_traced s shares rows (length indices)) refl w.2 in
+    let n : ending_at indices q xs q.0.stage = run_ends indices (fresh_view s shares, rows) [] xs q (fresh_together s shares indices rows w.0 w.1) (fresh_traced s shares rows (length indices)) refl
+    w.2 in
     subst (ending_at indices q xs) done n

@@ -9,7 +9,7 @@ use Rattle.partial_words.specs.Layout.{Layout, pool_base, pool_end}
 use Rattle.partial_words.specs.Record.{pairs_word, next_word, view_size, pairs_size}
 use Rattle.partial_embedded.specs.declared.embedded.Stage.{Stage}
 use Rattle.partial_embedded.specs.declared.embedded.Stage.TheVariants.{Collect, View, Len, Index, PairValue, Value, Done}
-use Rattle.partial_embedded.specs.Embedded.{EmbeddedState, RowsState, Pair, IsFor, ArePositions, AreLoaded, IsRecord, GoTogether, IsPossible, IsPossibleAt, goes_at, left_at, left_of, count_true, changes, future, is_first, differs, was_changed, noted, borrow, go_on, after_collect, after_load, after_view, at_stage, with_value, pairs_from, advance, advance_at, most_steps, fresh}
+use Rattle.partial_embedded.specs.Embedded.{EmbeddedState, RowsState, ViewPair, AreRowsFor, ArePositions, AreLoaded, IsPlainRecord, ViewGoesTogether, IsPossibleInView, IsPossibleInViewAt, view_goes_at, view_left_at, view_left, count_true, changes, future, is_first, differs, was_changed, noted, borrow, go_on, after_collect, after_load, after_view, view_at_stage, with_value, pairs_from, advance_view, advance_view_at, most_view_steps, fresh_view}
 
 -- one position more has changed
 count_set : (l : List Bool) (r k : ℕ) → k < r → k < length l → get_or l k false ≡ false → count_true r (set l k true) ≡ count_true r l + 1
@@ -52,7 +52,7 @@ and_second true w e d = e
 and_second false w e d = absurd (false≢true d)
 
 -- what a load notes leaves no more collects
-module _ (r : ℕ) (p : Pair) (k x : ℕ) (below : k < r) (within : k < length p.1.changed) (both : (differs p k x && was_changed p k) ≡ false) where
+module _ (r : ℕ) (p : ViewPair) (k x : ℕ) (below : k < r) (within : k < length p.1.changed) (both : (differs p k x && was_changed p k) ≡ false) where
   newly : differs p k x ≡ true → (changes r (noted p k x).1 ≡ changes r p.1 + 1) × (changes r (noted p k x).1 ≤ r)
   newly d =
       let first : is_first p ≡ false = and_first (is_first p) (not (get_or p.1.last k 0 == x)) d in
@@ -72,16 +72,17 @@ module _ (r : ℕ) (p : Pair) (k x : ℕ) (below : k < r) (within : k < length p
   noted_future = future_noted r (changes r p.1) (changes r (noted p k x).1) (is_first p) p.0.moved (differs p k x) newly unmoved
 
 -- what an answer leaves: the machine, its positions and its buffers go together, and there are fewer steps
-pub record Keeps (indices : List ℕ) (p q : Pair) : Type 0 where
-  pub together : GoTogether indices q
-  pub fewer : left_of indices q < left_of indices p
+pub record Keeps (indices : List ℕ) (p q : ViewPair) : Type 0 where
+  pub together : ViewGoesTogether indices q
+  pub fewer : view_left indices q < view_left indices p
 
 -- the latest loads with one position more
-loaded_more : (s : Layout) (l : List ℕ) (n k x : ℕ) → k < length l → IsRecord s x → ((i : ℕ) → i < n → IsRecord s (get_or l i 0)) → (i : ℕ) → (i < n) ⊎ (i ≡ k) → IsRecord s (get_or (set l k x) i 0)
+loaded_more : (s : Layout) (l : List ℕ) (n k x : ℕ) → k < length l → IsPlainRecord s x → ((i : ℕ) → i < n → IsPlainRecord s (get_or l i 0)) → (i : ℕ) → (i < n) ⊎ (i ≡ k) →
+    IsPlainRecord s (get_or (set l k x) i 0)
 loaded_more s l n k x below rec all i w =
     elim (eqb_tells i k) [
-      | inl t ↦ subst (IsRecord s) (sym (ap (λ j. get_or (set l k x) j 0) t.1 ∙ get_or-set_same l k x 0 below)) rec
-      | inr t ↦ subst (IsRecord s) (sym (get_or-set_other l k i x 0 t.1)) (all i (elim w [ inl h ↦ h | inr h ↦ absurd (t.1 h) ]))
+      | inl t ↦ subst (IsPlainRecord s) (sym (ap (λ j. get_or (set l k x) j 0) t.1 ∙ get_or-set_same l k x 0 below)) rec
+      | inr t ↦ subst (IsPlainRecord s) (sym (get_or-set_other l k i x 0 t.1)) (all i (elim w [ inl h ↦ h | inr h ↦ absurd (t.1 h) ]))
     ]
 
 -- a position of the collect was loaded before, or is the one loaded now
@@ -99,15 +100,15 @@ one_fewer r d true moved e = omega arith
 one_fewer r d false true e = omega arith
 one_fewer r d false false e = absurd (false≢true e)
 
-module _ (indices : List ℕ) (p : Pair) (k x : ℕ) (w : GoTogether indices p) (stage : p.0.stage ≡ Collect k) (rec : IsRecord p.0.sizes x) where
+module _ (indices : List ℕ) (p : ViewPair) (k x : ℕ) (w : ViewGoesTogether indices p) (stage : p.0.stage ≡ Collect k) (rec : IsPlainRecord p.0.sizes x) where
   r : ℕ
   r = length indices
 
-  at_here : goes_at indices p (Collect k)
-  at_here = subst (goes_at indices p) stage w.stage
+  at_here : view_goes_at indices p (Collect k)
+  at_here = subst (view_goes_at indices p) stage w.stage
 
-  left_here : left_of indices p ≡ length indices - k + length indices * future (length indices) p + view_size p.0.sizes.m + 1
-  left_here = ap (left_at (length indices) p) stage
+  left_here : view_left indices p ≡ length indices - k + length indices * future (length indices) p + view_size p.0.sizes.m + 1
+  left_here = ap (view_left_at (length indices) p) stage
 
   within_last : k < length p.1.last
   within_last = let h = at_here in let k_r = h.0 in omega (arith, k_r, w.positions.few, w.rows.last)
@@ -115,7 +116,7 @@ module _ (indices : List ℕ) (p : Pair) (k x : ℕ) (w : GoTogether indices p) 
   within_changed : k < length p.1.changed
   within_changed = let h = at_here in let k_r = h.0 in omega (arith, k_r, w.positions.few, w.rows.changed)
 
-  rows_noted : IsFor p.0.sizes (noted p k x).1
+  rows_noted : AreRowsFor p.0.sizes (noted p k x).1
   rows_noted = record { last = length-set p.1.last k x ∙ w.rows.last; changed = length-set p.1.changed k (differs p k x || was_changed p k) ∙ w.rows.changed; values = w.rows.values }
 
   loaded_noted : (n : ℕ) → ((i : ℕ) → i < n → (i < cond (is_first p) k (length indices)) ⊎ (i ≡ k)) → AreLoaded p.0.sizes (noted p k x).1 n
@@ -129,7 +130,7 @@ module _ (indices : List ℕ) (p : Pair) (k x : ℕ) (w : GoTogether indices p) 
     fewer_collects : future (length indices) (noted p k x) ≤ future (length indices) p
     fewer_collects = noted_future (length indices) p k x (at_here.0) within_changed both
 
-    next_position : k + 1 < length indices → Keeps indices p (at_stage (noted p k x) (Collect (k + 1)))
+    next_position : k + 1 < length indices → Keeps indices p (view_at_stage (noted p k x) (Collect (k + 1)))
     next_position more =
         let f = fewer_collects in
         let h = at_here in
@@ -154,7 +155,7 @@ module _ (indices : List ℕ) (p : Pair) (k x : ℕ) (w : GoTogether indices p) 
         let l = left_here in
         let room = h.1 in
         let some = h.2 in
-        let q : Pair = (record (noted p k x).0 { collects = p.0.collects + 1; moved = false; stage = Collect 0 }, (noted p k x).1) in
+        let q : ViewPair = (record (noted p k x).0 { collects = p.0.collects + 1; moved = false; stage = Collect 0 }, (noted p k x).1) in
         let later : is_first q ≡ false = ne_eqb (p.0.collects + 1) 1 (λ same. omega (arith, some, same)) in
         let next : future (length indices) q ≡ length indices - changes (length indices) (noted p k x).1 =
         ap (λ (b : Bool). future_by (length indices) (changes (length indices) (noted p k x).1) b false) later in
@@ -168,7 +169,7 @@ module _ (indices : List ℕ) (p : Pair) (k x : ℕ) (w : GoTogether indices p) 
           fewer = omega (arith, times, l, last);
         }
 
-    values : length indices ≡ k + 1 → Keeps indices p (at_stage (noted p k x) (Value 0))
+    values : length indices ≡ k + 1 → Keeps indices p (view_at_stage (noted p k x) (Value 0))
     values last =
         let l = left_here in
         let few = w.positions.few in
@@ -183,11 +184,11 @@ module _ (indices : List ℕ) (p : Pair) (k x : ℕ) (w : GoTogether indices p) 
         }
 
     whole : length indices ≡ k + 1 → (b : Bool) → (is_first p || (noted p k x).0.moved) ≡ b →
-        Keeps indices p (cond b (record (noted p k x).0 { collects = p.0.collects + 1; moved = false; stage = Collect 0 }, (noted p k x).1) (at_stage (noted p k x) (Value 0)))
+        Keeps indices p (cond b (record (noted p k x).0 { collects = p.0.collects + 1; moved = false; stage = Collect 0 }, (noted p k x).1) (view_at_stage (noted p k x) (Value 0)))
     whole last true e = another last e
     whole last false e = values last
 
-    on_from : (b : Bool) → nat_lt (k + 1) (length indices) ≡ b → Keeps indices p (cond b (at_stage (noted p k x) (Collect (k + 1))) (after_collect (noted p k x)))
+    on_from : (b : Bool) → nat_lt (k + 1) (length indices) ≡ b → Keeps indices p (cond b (view_at_stage (noted p k x) (Collect (k + 1))) (after_collect (noted p k x)))
     on_from true e = next_position (ltb-true (k + 1) (length indices) e)
     on_from false e = let past = ltb-false (k + 1) (length indices) e in let h = at_here in let k_r = h.0 in whole (omega (arith, past, k_r)) (is_first p || (noted p k x).0.moved) refl
 
@@ -202,27 +203,27 @@ pub neither : (a b : Bool) → (a || b) ≡ false → (a ≡ false) × (b ≡ fa
 neither true b e = absurd (false≢true (sym e))
 neither false b e = (refl, e)
 
-module _ (indices : List ℕ) (p : Pair) (x : ℕ) (w : GoTogether indices p) where
+module _ (indices : List ℕ) (p : ViewPair) (x : ℕ) (w : ViewGoesTogether indices p) where
   -- the same buffers at a stage of which something is known
-  stays : (s t : Stage) (e : EmbeddedState) → p.0.stage ≡ s → e.sizes ≡ p.0.sizes → e.collects ≡ p.0.collects → e.stage ≡ t → goes_at indices (e, p.1) t →
-      left_at (length indices) (e, p.1) t < left_at (length indices) p s → Keeps indices p (e, p.1)
+  stays : (s t : Stage) (e : EmbeddedState) → p.0.stage ≡ s → e.sizes ≡ p.0.sizes → e.collects ≡ p.0.collects → e.stage ≡ t → view_goes_at indices (e, p.1) t →
+      view_left_at (length indices) (e, p.1) t < view_left_at (length indices) p s → Keeps indices p (e, p.1)
   stays s t e stage sizes collects next goes fewer =
-      let before : left_of indices p ≡ left_at (length indices) p s = ap (left_at (length indices) p) stage in
-      let after : left_of indices (e, p.1) ≡ left_at (length indices) (e, p.1) t = ap (left_at (length indices) (e, p.1)) next in
+      let before : view_left indices p ≡ view_left_at (length indices) p s = ap (view_left_at (length indices) p) stage in
+      let after : view_left indices (e, p.1) ≡ view_left_at (length indices) (e, p.1) t = ap (view_left_at (length indices) (e, p.1)) next in
       record {
         together = record {
           positions = subst (λ (l : Layout). ArePositions l indices) (sym sizes) w.positions;
-          rows = subst (λ (l : Layout). IsFor l p.1) (sym sizes) w.rows;
+          rows = subst (λ (l : Layout). AreRowsFor l p.1) (sym sizes) w.rows;
           collects = omega (arith, collects, w.collects);
-          stage = subst (goes_at indices (e, p.1)) (sym next) goes;
+          stage = subst (view_goes_at indices (e, p.1)) (sym next) goes;
         };
         fewer = omega (arith, before, after, fewer);
       }
 
-  here : (s : Stage) → p.0.stage ≡ s → goes_at indices p s
-  here s e = subst (goes_at indices p) e w.stage
+  here : (s : Stage) → p.0.stage ≡ s → view_goes_at indices p s
+  here s e = subst (view_goes_at indices p) e w.stage
 
-  view_kept : (stamp : ℕ) → p.0.stage ≡ View stamp → IsPossibleAt p.0.sizes (View stamp) x → Keeps indices p (after_view p.0 x, p.1)
+  view_kept : (stamp : ℕ) → p.0.stage ≡ View stamp → IsPossibleInViewAt p.0.sizes (View stamp) x → Keeps indices p (after_view p.0 x, p.1)
   view_kept stamp e possible = either ((x == 0) || p.0.shares) refl
     where
       either : (b : Bool) → ((x == 0) || p.0.shares) ≡ b → Keeps indices p (record p.0 { view = x; stage = cond b Done (Len x) }, p.1)
@@ -231,23 +232,23 @@ module _ (indices : List ℕ) (p : Pair) (x : ℕ) (w : GoTogether indices p) wh
           (elim possible [ inl zero' ↦ absurd (false≢true (sym (neither (x == 0) p.0.shares c).0 ∙ eq-eqb x 0 zero')) | inr h ↦ h ]) (omega arith)
 
   -- so many pairs left
-  pairs_kept : (s : Stage) (rows : RowsState) (at left : ℕ) → p.0.stage ≡ s → IsFor p.0.sizes rows → pool_base p.0.sizes ≤ at → left ≤ p.0.sizes.m → at + pairs_size left ≤ pool_end p.0.sizes →
-      pairs_size left < left_at (length indices) p s → Keeps indices p (at_stage (p.0, rows) (pairs_from at left))
+  pairs_kept : (s : Stage) (rows : RowsState) (at left : ℕ) → p.0.stage ≡ s → AreRowsFor p.0.sizes rows → pool_base p.0.sizes ≤ at → left ≤ p.0.sizes.m → at + pairs_size left ≤ pool_end p.0.sizes →
+      pairs_size left < view_left_at (length indices) p s → Keeps indices p (view_at_stage (p.0, rows) (pairs_from at left))
   pairs_kept s rows at left e for base few room fewer = either (left == 0) refl
     where
-      before : left_of indices p ≡ left_at (length indices) p s
-      before = ap (left_at (length indices) p) e
+      before : view_left indices p ≡ view_left_at (length indices) p s
+      before = ap (view_left_at (length indices) p) e
 
-      either : (b : Bool) → (left == 0) ≡ b → Keeps indices p (at_stage (p.0, rows) (cond b Done (Index at left)))
+      either : (b : Bool) → (left == 0) ≡ b → Keeps indices p (view_at_stage (p.0, rows) (cond b Done (Index at left)))
       either true c = let l = before in record { together = record { positions = w.positions; rows = for; collects = w.collects; stage = tt }; fewer = omega (arith, l, fewer) }
       either false c = let l = before in let some = eqb-false left 0 c in record
           { together = record { positions = w.positions; rows = for; collects = w.collects; stage = (omega (arith, some), few, room, base) }; fewer = omega (arith, l, fewer) }
 
-  len_kept : (at : ℕ) → p.0.stage ≡ Len at → IsPossibleAt p.0.sizes (Len at) x → Keeps indices p (at_stage p (pairs_from (pairs_word at) x))
+  len_kept : (at : ℕ) → p.0.stage ≡ Len at → IsPossibleInViewAt p.0.sizes (Len at) x → Keeps indices p (view_at_stage p (pairs_from (pairs_word at) x))
   len_kept at e possible = let few = possible.0 in let room = possible.1 in pairs_kept (Len at) p.1 (pairs_word at) x e w.rows (let base = (here (Len at) e).0 in omega (arith, base)) few
       (omega (arith, room)) (omega (arith, few))
 
-  index_kept : (at left : ℕ) → p.0.stage ≡ Index at left → x < p.0.sizes.m → Keeps indices p (at_stage p (PairValue (next_word at) left x))
+  index_kept : (at left : ℕ) → p.0.stage ≡ Index at left → x < p.0.sizes.m → Keeps indices p (view_at_stage p (PairValue (next_word at) left x))
   index_kept at left e below =
       let h = here (Index at left) e in
       let some = h.0 in
@@ -255,10 +256,10 @@ module _ (indices : List ℕ) (p : Pair) (x : ℕ) (w : GoTogether indices p) wh
       stays (Index at left) (PairValue (next_word at) left x) (record p.0 { stage = PairValue (next_word at) left x }) e refl refl refl
       (h.0, h.1, omega (arith, room), below, let base = h.3 in omega (arith, base)) (omega (arith, some))
 
-  values_for : (j : ℕ) → IsFor p.0.sizes (with_value p j x).1
+  values_for : (j : ℕ) → AreRowsFor p.0.sizes (with_value p j x).1
   values_for j = record { last = w.rows.last; changed = w.rows.changed; values = length-set p.1.values j x ∙ w.rows.values }
 
-  pair_kept : (at left index : ℕ) → p.0.stage ≡ PairValue at left index → Keeps indices p (at_stage (with_value p index x) (pairs_from (next_word at) (left - 1)))
+  pair_kept : (at left index : ℕ) → p.0.stage ≡ PairValue at left index → Keeps indices p (view_at_stage (with_value p index x) (pairs_from (next_word at) (left - 1)))
   pair_kept at left index e =
       let h = here (PairValue at left index) e in
       let some = h.0 in
@@ -267,22 +268,22 @@ module _ (indices : List ℕ) (p : Pair) (x : ℕ) (w : GoTogether indices p) wh
       pairs_kept (PairValue at left index) (with_value p index x).1 (next_word at) (left - 1) e (values_for index) (let base = h.4 in omega (arith, base)) (omega (arith, few))
       (omega (arith, some, room)) (omega (arith, some))
 
-  value_kept : (k : ℕ) → p.0.stage ≡ Value k → Keeps indices p (at_stage (with_value p (get_or indices k 0) x) (cond (nat_lt (k + 1) (length indices)) (Value (k + 1)) Done))
+  value_kept : (k : ℕ) → p.0.stage ≡ Value k → Keeps indices p (view_at_stage (with_value p (get_or indices k 0) x) (cond (nat_lt (k + 1) (length indices)) (Value (k + 1)) Done))
   value_kept k e = either (nat_lt (k + 1) (length indices)) refl
     where
-      q : EmbeddedState → Pair
+      q : EmbeddedState → ViewPair
       q f = (f, (with_value p (get_or indices k 0) x).1)
 
-      before : left_of indices p ≡ length indices - k
-      before = ap (left_at (length indices) p) e
+      before : view_left indices p ≡ length indices - k
+      before = ap (view_left_at (length indices) p) e
 
-      either : (b : Bool) → nat_lt (k + 1) (length indices) ≡ b → Keeps indices p (at_stage (with_value p (get_or indices k 0) x) (cond b (Value (k + 1)) Done))
+      either : (b : Bool) → nat_lt (k + 1) (length indices) ≡ b → Keeps indices p (view_at_stage (with_value p (get_or indices k 0) x) (cond b (Value (k + 1)) Done))
       either true c = let l = before in let more = ltb-true (k + 1) (length indices) c in record
           { together = record { positions = w.positions; rows = values_for (get_or indices k 0); collects = w.collects; stage = (more, (here (Value k) e).1) }; fewer = omega (arith, l, more) }
       either false c = let l = before in let below = (here (Value k) e).0 in record
           { together = record { positions = w.positions; rows = values_for (get_or indices k 0); collects = w.collects; stage = tt }; fewer = omega (arith, l, below) }
 
-  kept_at : (s : Stage) → p.0.stage ≡ s → IsPossibleAt p.0.sizes s x → Keeps indices p (advance_at indices p s x)
+  kept_at : (s : Stage) → p.0.stage ≡ s → IsPossibleInViewAt p.0.sizes s x → Keeps indices p (advance_view_at indices p s x)
   kept_at (Collect k) e possible = load_kept indices p k x w e possible
   kept_at (View stamp) e possible = view_kept stamp e possible
   kept_at (Len at) e possible = len_kept at e possible
@@ -291,30 +292,30 @@ module _ (indices : List ℕ) (p : Pair) (x : ℕ) (w : GoTogether indices p) wh
   kept_at (Value k) e possible = value_kept k e
   kept_at Done e possible = absurd possible
 
-  pub kept : IsPossible p x → Keeps indices p (advance indices p x)
+  pub kept : IsPossibleInView p x → Keeps indices p (advance_view indices p x)
   kept possible = kept_at p.0.stage refl possible
 
 -- a scan that has made no step goes together with its buffers and its positions
-pub fresh_together : (s : Layout) (shares : Bool) (indices : List ℕ) (rows : RowsState) → ArePositions s indices → IsFor s rows → GoTogether indices (fresh s shares, rows)
+pub fresh_together : (s : Layout) (shares : Bool) (indices : List ℕ) (rows : RowsState) → ArePositions s indices → AreRowsFor s rows → ViewGoesTogether indices (fresh_view s shares, rows)
 fresh_together s shares indices rows positions for =
     let some = positions.some in
     record { positions = positions; rows = for; collects = omega (arith, some); stage = (some, omega arith, omega arith, λ k below. absurd (omega (arith, below))) }
 
-pub fresh_left : (s : Layout) (shares : Bool) (indices : List ℕ) (rows : RowsState) → left_of indices (fresh s shares, rows) ≡ most_steps s (length indices)
+pub fresh_left : (s : Layout) (shares : Bool) (indices : List ℕ) (rows : RowsState) → view_left indices (fresh_view s shares, rows) ≡ most_view_steps s (length indices)
 fresh_left s shares indices rows = omega arith
 
 -- the sizes stay
-on_sizes : (r : ℕ) (p : Pair) (k : ℕ) (b c : Bool) → (cond b (at_stage p (Collect (k + 1)))
-    (cond c (record p.0 { collects = p.0.collects + 1; moved = false; stage = Collect 0 }, p.1) (at_stage p (Value 0)))).0.sizes ≡ p.0.sizes
+on_sizes : (r : ℕ) (p : ViewPair) (k : ℕ) (b c : Bool) → (cond b (view_at_stage p (Collect (k + 1)))
+    (cond c (record p.0 { collects = p.0.collects + 1; moved = false; stage = Collect 0 }, p.1) (view_at_stage p (Value 0)))).0.sizes ≡ p.0.sizes
 on_sizes r p k true c = refl
 on_sizes r p k false true = refl
 on_sizes r p k false false = refl
 
-load_sizes : (r : ℕ) (p : Pair) (k x : ℕ) (b : Bool) → (cond b (borrow p x) (go_on r (noted p k x) k)).0.sizes ≡ p.0.sizes
+load_sizes : (r : ℕ) (p : ViewPair) (k x : ℕ) (b : Bool) → (cond b (borrow p x) (go_on r (noted p k x) k)).0.sizes ≡ p.0.sizes
 load_sizes r p k x true = refl
 load_sizes r p k x false = on_sizes r (noted p k x) k (nat_lt (k + 1) r) (is_first p || (noted p k x).0.moved)
 
-sizes_at : (indices : List ℕ) (p : Pair) (s : Stage) (x : ℕ) → (advance_at indices p s x).0.sizes ≡ p.0.sizes
+sizes_at : (indices : List ℕ) (p : ViewPair) (s : Stage) (x : ℕ) → (advance_view_at indices p s x).0.sizes ≡ p.0.sizes
 sizes_at indices p (Collect k) x = load_sizes (length indices) p k x (differs p k x && was_changed p k)
 sizes_at indices p (View stamp) x = refl
 sizes_at indices p (Len at) x = refl
@@ -323,19 +324,19 @@ sizes_at indices p (PairValue at left index) x = refl
 sizes_at indices p (Value k) x = refl
 sizes_at indices p Done x = refl
 
-pub sizes_stay : (indices : List ℕ) (p : Pair) (x : ℕ) → (advance indices p x).0.sizes ≡ p.0.sizes
+pub sizes_stay : (indices : List ℕ) (p : ViewPair) (x : ℕ) → (advance_view indices p x).0.sizes ≡ p.0.sizes
 sizes_stay indices p x = sizes_at indices p p.0.stage x
 
 -- a load of a collect takes back none that was begun
-on_collects : (r : ℕ) (p : Pair) (k : ℕ) (b c : Bool) → p.0.collects ≤ (cond b (at_stage p (Collect (k + 1)))
-    (cond c (record p.0 { collects = p.0.collects + 1; moved = false; stage = Collect 0 }, p.1) (at_stage p (Value 0)))).0.collects
+on_collects : (r : ℕ) (p : ViewPair) (k : ℕ) (b c : Bool) → p.0.collects ≤ (cond b (view_at_stage p (Collect (k + 1)))
+    (cond c (record p.0 { collects = p.0.collects + 1; moved = false; stage = Collect 0 }, p.1) (view_at_stage p (Value 0)))).0.collects
 on_collects r p k true c = omega arith
 on_collects r p k false true = omega arith
 on_collects r p k false false = omega arith
 
-load_collects : (r : ℕ) (p : Pair) (k x : ℕ) (b : Bool) → p.0.collects ≤ (cond b (borrow p x) (go_on r (noted p k x) k)).0.collects
+load_collects : (r : ℕ) (p : ViewPair) (k x : ℕ) (b : Bool) → p.0.collects ≤ (cond b (borrow p x) (go_on r (noted p k x) k)).0.collects
 load_collects r p k x true = omega arith
 load_collects r p k x false = on_collects r (noted p k x) k (nat_lt (k + 1) r) (is_first p || (noted p k x).0.moved)
 
-pub collects_grow : (r : ℕ) (p : Pair) (k x : ℕ) → p.0.collects ≤ (after_load r p k x).0.collects
+pub collects_grow : (r : ℕ) (p : ViewPair) (k x : ℕ) → p.0.collects ≤ (after_load r p k x).0.collects
 collects_grow r p k x = load_collects r p k x (differs p k x && was_changed p k)

@@ -6,32 +6,32 @@ use Rattle.partial_words.specs.Layout.{Layout}
 use Rattle.partial_words.specs.Record.{view_word}
 use Rattle.partial_embedded.specs.declared.embedded.Stage.{Stage}
 use Rattle.partial_embedded.specs.declared.embedded.Stage.TheVariants.{Collect, View, Len, Index, PairValue, Value, Done}
-use Rattle.partial_embedded.specs.Embedded.{Pair, RowsState, GoTogether, goes_at, fresh, advance, step_at, left_of}
-use Rattle.partial_embedded.specs.Runs.{Run, RunsTo, IsOfPosition, LoadsItsPositionsAlone, MakesFewCollects}
+use Rattle.partial_embedded.specs.Embedded.{ViewPair, RowsState, ViewGoesTogether, view_goes_at, fresh_view, advance_view, view_step_at, view_left}
+use Rattle.partial_embedded.specs.Runs.{ViewRun, RunsTo, IsOfPosition, LoadsItsPositionsAlone, MakesFewCollects}
 use Rattle.partial_embedded.proofs.Keeps.{kept, sizes_stay, fresh_together, fresh_left}
 
 -- what holds behind a run
-record Ran (indices : List ℕ) (p : Pair) (xs : List ℕ) (q : Pair) : Type 0 where
-  together : GoTogether indices q
+record Ran (indices : List ℕ) (p : ViewPair) (xs : List ℕ) (q : ViewPair) : Type 0 where
+  together : ViewGoesTogether indices q
   sizes : q.0.sizes ≡ p.0.sizes
-  steps : length xs + left_of indices q ≤ left_of indices p
+  steps : length xs + view_left indices q ≤ view_left indices p
 
-ran : (indices : List ℕ) (p : Pair) (xs : List ℕ) (q : Pair) → GoTogether indices p → Run indices p xs q → Ran indices p xs q
+ran : (indices : List ℕ) (p : ViewPair) (xs : List ℕ) (q : ViewPair) → ViewGoesTogether indices p → ViewRun indices p xs q → Ran indices p xs q
 ran indices p [] q w is = record {
-  together = subst (GoTogether indices) (sym is) w;
-  sizes = ap (λ (t : Pair). t.0.sizes) is;
-  steps = let same : left_of indices q ≡ left_of indices p =
-      ap (left_of indices) is in omega (arith, same);
+  together = subst (ViewGoesTogether indices) (sym is) w;
+  sizes = ap (λ (t : ViewPair). t.0.sizes) is;
+  steps = let same : view_left indices q ≡ view_left indices p =
+      ap (view_left indices) is in omega (arith, same);
 }
 ran indices p (x ∷ xs) q w run =
     let k = kept indices p x w run.0 in
-    let rest = ran indices (advance indices p x) xs q k.together run.1 in
+    let rest = ran indices (advance_view indices p x) xs q k.together run.1 in
     let fewer = k.fewer in
     let steps = rest.steps in
     record { together = rest.together; sizes = rest.sizes ∙ sizes_stay indices p x; steps = omega (arith, fewer, steps) }
 
-ran_from : (s : Layout) (shares : Bool) (indices : List ℕ) (rows : RowsState) (xs : List ℕ) (q : Pair) → RunsTo s shares indices rows xs q → Ran indices (fresh s shares, rows) xs q
-ran_from s shares indices rows xs q w = ran indices (fresh s shares, rows) xs q (fresh_together s shares indices rows w.0 w.1) w.2
+ran_from : (s : Layout) (shares : Bool) (indices : List ℕ) (rows : RowsState) (xs : List ℕ) (q : ViewPair) → RunsTo s shares indices rows xs q → Ran indices (fresh_view s shares, rows) xs q
+ran_from s shares indices rows xs q w = ran indices (fresh_view s shares, rows) xs q (fresh_together s shares indices rows w.0 w.1) w.2
 
 pub makes_few_collects : MakesFewCollects
 makes_few_collects s shares indices rows xs q w =
@@ -41,7 +41,8 @@ makes_few_collects s shares indices rows xs q w =
     (r.together.collects, omega (arith, left, steps))
 
 -- the step at a stage
-loads_at : (s : Layout) (indices : List ℕ) (q : Pair) (stage : Stage) (step : Step) → q.0.sizes ≡ s → goes_at indices q stage → step_at q.0.sizes indices q.1.last stage ≡ Some step → (w : ℕ) ×
+loads_at : (s : Layout) (indices : List ℕ) (q : ViewPair) (stage : Stage) (step : Step) → q.0.sizes ≡ s → view_goes_at indices q stage → view_step_at q.0.sizes indices q.1.last stage ≡ Some step →
+    (w : ℕ) ×
     (step ≡ Load w) × (w < s.m → IsOfPosition indices w)
 loads_at s indices q (Collect k) step is goes due = (get_or indices k 0, cc, λ below. (k, goes.0, refl))
 loads_at s indices q (View stamp) step is goes due = let base = goes.0 in let same = ap (λ (l : Layout). l.m) is in (view_word stamp, cc, λ below. absurd (omega (arith, base, below, same)))

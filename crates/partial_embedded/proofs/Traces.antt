@@ -10,8 +10,8 @@ use Rattle.partial_words.specs.Layout.{Layout}
 use Rattle.partial_words.specs.Record.{pairs_word, next_word}
 use Rattle.partial_embedded.specs.declared.embedded.Stage.{Stage}
 use Rattle.partial_embedded.specs.declared.embedded.Stage.TheVariants.{Collect, View, Len, Index, PairValue, Value, Done}
-use Rattle.partial_embedded.specs.Embedded.{Pair, RowsState, GoTogether, goes_at, fresh, advance, advance_at, is_first, differs, was_changed, noted, borrow, go_on, after_collect, after_load, after_view, at_stage, with_value, pairs_from, IsPossibleAt}
-use Rattle.partial_embedded.specs.Runs.{Run, load_in, Changes, LastTwoAreEqual, ShowsThirdRecord, EndsInEqualCollectsOrAThirdRecord}
+use Rattle.partial_embedded.specs.Embedded.{ViewPair, RowsState, ViewGoesTogether, view_goes_at, fresh_view, advance_view, advance_view_at, is_first, differs, was_changed, noted, borrow, go_on, after_collect, after_load, after_view, view_at_stage, with_value, pairs_from, IsPossibleInViewAt}
+use Rattle.partial_embedded.specs.Runs.{ViewRun, load_in, Changes, LastTwoAreEqual, ShowsThirdRecord, EndsInEqualCollectsOrAThirdRecord}
 use Rattle.partial_embedded.proofs.Keeps.{kept, fresh_together, neither}
 
 -- one answer more
@@ -26,7 +26,7 @@ pub record HasChanged (r : ℕ) (xs : List ℕ) (c k i : ℕ) : Type 0 where
   changes : Changes r xs collect i
 
 -- in collect c, of which the first k positions were loaded
-pub record Traced (r : ℕ) (p : Pair) (k : ℕ) (xs : List ℕ) : Type 0 where
+pub record Traced (r : ℕ) (p : ViewPair) (k : ℕ) (xs : List ℕ) : Type 0 where
   c : ℕ
   collects : p.0.collects ≡ c + 1
   long : length xs ≡ r * c + k
@@ -37,7 +37,7 @@ pub record Traced (r : ℕ) (p : Pair) (k : ℕ) (xs : List ℕ) : Type 0 where
   unmoved : (b : ℕ) → c ≡ b + 1 → p.0.moved ≡ false → (i : ℕ) → i < k → load_in r xs c i ≡ load_in r xs b i
 
 -- what the answers so far tell at a stage
-abbrev pub trace_at : ℕ → Pair → List ℕ → Stage → Type 0
+abbrev pub trace_at : ℕ → ViewPair → List ℕ → Stage → Type 0
 trace_at r p xs (Collect k) = Traced r p k xs
 trace_at r p xs (View stamp) = ShowsThirdRecord r xs p.0.collects stamp
 trace_at r p xs (Value k) = k ≡ 0 → LastTwoAreEqual r xs p.0.collects
@@ -87,7 +87,7 @@ one_of : (a b : Bool) → (a || b) ≡ true → (a ≡ true) ⊎ (b ≡ true)
 one_of true b e = inl refl
 one_of false b e = inr e
 
-module _ (r : ℕ) (p : Pair) (k x : ℕ) (xs : List ℕ) (t : Traced r p k xs) (within : k < r) (last_room : k < length p.1.last) (changed_room : k < length p.1.changed) where
+module _ (r : ℕ) (p : ViewPair) (k x : ℕ) (xs : List ℕ) (t : Traced r p k xs) (within : k < r) (last_room : k < length p.1.last) (changed_room : k < length p.1.changed) where
   first_is : (b : ℕ) → t.c ≡ b + 1 → is_first p ≡ false
   first_is b e = let collects = t.collects in ne_eqb p.0.collects 1 (λ one. omega (arith, collects, one, e))
 
@@ -207,11 +207,11 @@ module _ (r : ℕ) (p : Pair) (k x : ℕ) (xs : List ℕ) (t : Traced r p k xs) 
   }
 
 -- the same at another stage
-retraced : (r : ℕ) (q : Pair) (s : Stage) (k : ℕ) (xs : List ℕ) → Traced r q k xs → Traced r (at_stage q s) k xs
+retraced : (r : ℕ) (q : ViewPair) (s : Stage) (k : ℕ) (xs : List ℕ) → Traced r q k xs → Traced r (view_at_stage q s) k xs
 retraced r q s k xs t = record { c = t.c; collects = t.collects; long = t.long; now = t.now; before = t.before; cleared = t.cleared; changed = t.changed; unmoved = t.unmoved }
 
 -- a whole collect that was the first or has shown a change: another one begins
-again_traced : (r : ℕ) (q : Pair) (k : ℕ) (xs : List ℕ) → r ≡ k + 1 → Traced r q (k + 1) xs → Traced r (record q.0 { collects = q.0.collects + 1; moved = false; stage = Collect 0 }, q.1) 0 xs
+again_traced : (r : ℕ) (q : ViewPair) (k : ℕ) (xs : List ℕ) → r ≡ k + 1 → Traced r q (k + 1) xs → Traced r (record q.0 { collects = q.0.collects + 1; moved = false; stage = Collect 0 }, q.1) 0 xs
 again_traced r q k xs last t =
     record {
       c = t.c + 1;
@@ -231,7 +231,7 @@ again_traced r q k xs last t =
     }
 
 -- a whole collect that was not the first and has shown no change: it equals the one before
-still_equal : (r : ℕ) (q : Pair) (k : ℕ) (xs : List ℕ) → r ≡ k + 1 → Traced r q (k + 1) xs → (is_first q || q.0.moved) ≡ false → LastTwoAreEqual r xs q.0.collects
+still_equal : (r : ℕ) (q : ViewPair) (k : ℕ) (xs : List ℕ) → r ≡ k + 1 → Traced r q (k + 1) xs → (is_first q || q.0.moved) ≡ false → LastTwoAreEqual r xs q.0.collects
 still_equal r q k xs last t e =
     let both = neither (is_first q) q.0.moved e in
     let collects = t.collects in
@@ -246,9 +246,9 @@ still_equal r q k xs last t e =
       equal = λ i inside. sym (t.unmoved (t.c - 1) later both.1 i (omega (arith, inside, last))) ∙ ap (λ n. load_in r xs n i) later;
     }
 
-module _ (indices : List ℕ) (p : Pair) (x : ℕ) (xs : List ℕ) (w : GoTogether indices p) where
+module _ (indices : List ℕ) (p : ViewPair) (x : ℕ) (xs : List ℕ) (w : ViewGoesTogether indices p) where
   -- what is known of a stage that tells nothing
-  done_or : (q : Pair) (ys : List ℕ) (b : Bool) (s : Stage) → trace_at (length indices) q ys s → trace_at (length indices) q ys (cond b Done s)
+  done_or : (q : ViewPair) (ys : List ℕ) (b : Bool) (s : Stage) → trace_at (length indices) q ys s → trace_at (length indices) q ys (cond b Done s)
   done_or q ys true s t = tt
   done_or q ys false s t = t
 
@@ -276,12 +276,12 @@ module _ (indices : List ℕ) (p : Pair) (x : ℕ) (xs : List ℕ) (w : GoTogeth
       ]
 
       whole : length indices ≡ k + 1 → (b : Bool) → (is_first p || (noted p k x).0.moved) ≡ b → let q =
-          cond b (record (noted p k x).0 { collects = p.0.collects + 1; moved = false; stage = Collect 0 }, (noted p k x).1) (at_stage (noted p k x) (Value 0)) in trace_at (length indices) q
+          cond b (record (noted p k x).0 { collects = p.0.collects + 1; moved = false; stage = Collect 0 }, (noted p k x).1) (view_at_stage (noted p k x) (Value 0)) in trace_at (length indices) q
           (xs ++ x ∷ []) q.0.stage
       whole last true e = again_traced (length indices) (noted p k x) k (xs ++ x ∷ []) last traced
       whole last false e = λ _. still_equal (length indices) (noted p k x) k (xs ++ x ∷ []) last traced e
 
-      on_from : (b : Bool) → nat_lt (k + 1) (length indices) ≡ b → let q = cond b (at_stage (noted p k x) (Collect (k + 1))) (after_collect (noted p k x)) in trace_at (length indices) q
+      on_from : (b : Bool) → nat_lt (k + 1) (length indices) ≡ b → let q = cond b (view_at_stage (noted p k x) (Collect (k + 1))) (after_collect (noted p k x)) in trace_at (length indices) q
           (xs ++ x ∷ []) q.0.stage
       on_from true e = retraced (length indices) (noted p k x) (Collect (k + 1)) (k + 1) (xs ++ x ∷ []) traced
       on_from false e = let past = ltb-false (k + 1) (length indices) e in whole (omega (arith, past, within)) (is_first p || (noted p k x).0.moved) refl
@@ -290,32 +290,33 @@ module _ (indices : List ℕ) (p : Pair) (x : ℕ) (xs : List ℕ) (w : GoTogeth
       either true e = third_here e
       either false e = on_from (nat_lt (k + 1) (length indices)) refl
 
-  value_traced : (q : Pair) (ys : List ℕ) (k : ℕ) (b : Bool) → trace_at (length indices) q ys (cond b (Value (k + 1)) Done)
+  value_traced : (q : ViewPair) (ys : List ℕ) (k : ℕ) (b : Bool) → trace_at (length indices) q ys (cond b (Value (k + 1)) Done)
   value_traced q ys k true = λ e. absurd (omega (arith, e))
   value_traced q ys k false = tt
 
-  pub step_traced : (s : Stage) → goes_at indices p s → IsPossibleAt p.0.sizes s x → trace_at (length indices) p xs s → trace_at (length indices) (advance_at indices p s x) (xs ++ x ∷ [])
-      (advance_at indices p s x).0.stage
+  pub step_traced : (s : Stage) → view_goes_at indices p s → IsPossibleInViewAt p.0.sizes s x → trace_at (length indices) p xs s →
+      trace_at (length indices) (advance_view_at indices p s x) (xs ++ x ∷ [])
+      (advance_view_at indices p s x).0.stage
   step_traced (Collect k) goes possible t = collect_traced k goes.0 t
   step_traced (View stamp) goes possible t = done_or (after_view p.0 x, p.1) (xs ++ x ∷ []) ((x == 0) || p.0.shares) (Len x) tt
-  step_traced (Len at) goes possible t = done_or (at_stage p (pairs_from (pairs_word at) x)) (xs ++ x ∷ []) (x == 0) (Index (pairs_word at) x) tt
+  step_traced (Len at) goes possible t = done_or (view_at_stage p (pairs_from (pairs_word at) x)) (xs ++ x ∷ []) (x == 0) (Index (pairs_word at) x) tt
   step_traced (Index at left) goes possible t = tt
-  step_traced (PairValue at left index) goes possible t = done_or (at_stage (with_value p index x) (pairs_from (next_word at) (left - 1))) (xs ++ x ∷ []) (left - 1 == 0)
+  step_traced (PairValue at left index) goes possible t = done_or (view_at_stage (with_value p index x) (pairs_from (next_word at) (left - 1))) (xs ++ x ∷ []) (left - 1 == 0)
       (Index (next_word at) (left - 1)) tt
-  step_traced (Value k) goes possible t = value_traced (at_stage (with_value p (get_or indices k 0) x) (cond (nat_lt (k + 1) (length indices)) (Value (k + 1)) Done)) (xs ++ x ∷ []) k
+  step_traced (Value k) goes possible t = value_traced (view_at_stage (with_value p (get_or indices k 0) x) (cond (nat_lt (k + 1) (length indices)) (Value (k + 1)) Done)) (xs ++ x ∷ []) k
       (nat_lt (k + 1) (length indices))
   step_traced Done goes possible t = absurd possible
 
 -- over a run
-pub run_traced : (indices : List ℕ) (p : Pair) (past xs : List ℕ) (q : Pair) → GoTogether indices p → trace_at (length indices) p past p.0.stage → Run indices p xs q →
+pub run_traced : (indices : List ℕ) (p : ViewPair) (past xs : List ℕ) (q : ViewPair) → ViewGoesTogether indices p → trace_at (length indices) p past p.0.stage → ViewRun indices p xs q →
     trace_at (length indices) q (past ++ xs) q.0.stage
 run_traced indices p past [] q w t is =
-    subst (λ (l : List ℕ). trace_at (length indices) q l q.0.stage) (sym (append-nil past)) (subst (λ (u : Pair). trace_at (length indices) u past u.0.stage) (sym is) t)
+    subst (λ (l : List ℕ). trace_at (length indices) q l q.0.stage) (sym (append-nil past)) (subst (λ (u : ViewPair). trace_at (length indices) u past u.0.stage) (sym is) t)
 run_traced indices p past (x ∷ xs) q w t run =
     subst (λ (l : List ℕ). trace_at (length indices) q l q.0.stage) (append_assoc past (x ∷ []) xs)
-    (run_traced indices (advance indices p x) (past ++ x ∷ []) xs q (kept indices p x w run.0).together (step_traced indices p x past w p.0.stage w.stage run.0 t) run.1)
+    (run_traced indices (advance_view indices p x) (past ++ x ∷ []) xs q (kept indices p x w run.0).together (step_traced indices p x past w p.0.stage w.stage run.0 t) run.1)
 
-pub fresh_traced : (s : Layout) (shares : Bool) (rows : RowsState) (r : ℕ) → Traced r (fresh s shares, rows) 0 []
+pub fresh_traced : (s : Layout) (shares : Bool) (rows : RowsState) (r : ℕ) → Traced r (fresh_view s shares, rows) 0 []
 fresh_traced s shares rows r = record {
   c = 0;
   collects = refl;
@@ -329,6 +330,6 @@ fresh_traced s shares rows r = record {
 
 pub ends_in_equal_collects_or_a_third_record : EndsInEqualCollectsOrAThirdRecord
 ends_in_equal_collects_or_a_third_record s shares indices rows xs q w =
-    let t : trace_at (length indices) q xs q.0.stage = run_traced indices (fresh s shares, rows) [] xs q (fresh_together s shares indices rows w.0 w.1)
+    let t : trace_at (length indices) q xs q.0.stage = run_traced indices (fresh_view s shares, rows) [] xs q (fresh_together s shares indices rows w.0 w.1)
     (fresh_traced s shares rows (length indices)) w.2 in
     (λ e. let v : trace_at (length indices) q xs (Value 0) = subst (trace_at (length indices) q xs) e t in v refl, λ stamp e. subst (trace_at (length indices) q xs) e t)

@@ -30,71 +30,71 @@ abbrev pub buffers : List ℕ → List Bool → List ℕ → RowsState
 buffers last changed values = record { last = last; changed = changed; values = values }
 
 -- the machine and its buffers
-abbrev pub Pair : Type 0
-Pair = EmbeddedState × RowsState
+abbrev pub ViewPair : Type 0
+ViewPair = EmbeddedState × RowsState
 
 -- the buffers were made for these sizes
-pub record IsFor (s : Layout) (r : RowsState) : Type 0 where
+pub record AreRowsFor (s : Layout) (r : RowsState) : Type 0 where
   pub last : length r.last ≡ s.m
   pub changed : length r.changed ≡ s.m
   pub values : length r.values ≡ s.m
 
 -- an embedded scan that has made no step
-abbrev pub fresh : Layout → Bool → EmbeddedState
-fresh s shares = record { sizes = s; shares = shares; collects = 1; moved = false; borrowed = None; view = 0; stage = Collect 0 }
+abbrev pub fresh_view : Layout → Bool → EmbeddedState
+fresh_view s shares = record { sizes = s; shares = shares; collects = 1; moved = false; borrowed = None; view = 0; stage = Collect 0 }
 
 -- the step that is due at a stage
-abbrev pub step_at : Layout → List ℕ → List ℕ → Stage → Option Step
-step_at s indices last (Collect k) = Some (Load (component_word s (slice_index indices k)))
-step_at s indices last (View stamp) = Some (Load (view_word stamp))
-step_at s indices last (Len at) = Some (Load at)
-step_at s indices last (Index at left) = Some (Load at)
-step_at s indices last (PairValue at left index) = Some (Load at)
-step_at s indices last (Value k) = Some (Load (value_word (slice_index last k)))
-step_at s indices last Done = None
+abbrev pub view_step_at : Layout → List ℕ → List ℕ → Stage → Option Step
+view_step_at s indices last (Collect k) = Some (Load (component_word s (slice_index indices k)))
+view_step_at s indices last (View stamp) = Some (Load (view_word stamp))
+view_step_at s indices last (Len at) = Some (Load at)
+view_step_at s indices last (Index at left) = Some (Load at)
+view_step_at s indices last (PairValue at left index) = Some (Load at)
+view_step_at s indices last (Value k) = Some (Load (value_word (slice_index last k)))
+view_step_at s indices last Done = None
 
 -- the step that is due
-abbrev pub step_of : List ℕ → Pair → Option Step
-step_of indices p = step_at p.0.sizes indices p.1.last p.0.stage
+abbrev pub view_step_due : List ℕ → ViewPair → Option Step
+view_step_due indices p = view_step_at p.0.sizes indices p.1.last p.0.stage
 
 -- the collect under way is the first
-abbrev pub is_first : Pair → Bool
+abbrev pub is_first : ViewPair → Bool
 is_first p = p.0.collects == 1
 
 -- the load of position k differs from the one in the collect before
-abbrev pub differs : Pair → ℕ → ℕ → Bool
+abbrev pub differs : ViewPair → ℕ → ℕ → Bool
 differs p k x = not (is_first p) && not (slice_index p.1.last k == x)
 
 -- position k has changed before
-abbrev pub was_changed : Pair → ℕ → Bool
+abbrev pub was_changed : ViewPair → ℕ → Bool
 was_changed p k = not (is_first p) && slice_index_or p.1.changed k false
 
 -- the machine at another stage
-abbrev pub at_stage : Pair → Stage → Pair
-at_stage p stage = (record p.0 { stage = stage }, p.1)
+abbrev pub view_at_stage : ViewPair → Stage → ViewPair
+view_at_stage p stage = (record p.0 { stage = stage }, p.1)
 
 -- the third record at a position: its view is borrowed
-abbrev pub borrow : Pair → ℕ → Pair
+abbrev pub borrow : ViewPair → ℕ → ViewPair
 borrow p x = (record p.0 { borrowed = Some x; stage = View x }, p.1)
 
 -- the load of position k is noted
-abbrev pub noted : Pair → ℕ → ℕ → Pair
+abbrev pub noted : ViewPair → ℕ → ℕ → ViewPair
 noted p k x =
     let changed : List Bool = slice_set p.1.changed k (differs p k x || was_changed p k) in
     (record p.0 { moved = p.0.moved || differs p k x }, record p.1 { last = slice_set p.1.last k x; changed = changed })
 
 -- the collect is whole: another one is made when it was the first or has shown a change
-abbrev pub after_collect : Pair → Pair
+abbrev pub after_collect : ViewPair → ViewPair
 after_collect p =
     if is_first p || p.0.moved then (record p.0 { collects = p.0.collects + 1; moved = false; stage = Collect 0 }, p.1)
-    else at_stage p (Value 0)
+    else view_at_stage p (Value 0)
 
 -- the position behind k, or the end of the collect
-abbrev pub go_on : ℕ → Pair → ℕ → Pair
-go_on r p k = if nat_lt (k + 1) r then at_stage p (Collect (k + 1)) else after_collect p
+abbrev pub go_on : ℕ → ViewPair → ℕ → ViewPair
+go_on r p k = if nat_lt (k + 1) r then view_at_stage p (Collect (k + 1)) else after_collect p
 
 -- a load of position k in a collect: when it differs from the last one and the position had changed before, a view is borrowed
-abbrev pub after_load : ℕ → Pair → ℕ → ℕ → Pair
+abbrev pub after_load : ℕ → ViewPair → ℕ → ℕ → ViewPair
 after_load r p k x = if differs p k x && was_changed p k then borrow p x else go_on r (noted p k x) k
 
 -- the view of the borrowed record: it is shared, empty, or loaded
@@ -106,27 +106,27 @@ abbrev pub pairs_from : ℕ → ℕ → Stage
 pairs_from at left = if left == 0 then Done else Index at left
 
 -- the value of a component, in the place of what was there
-abbrev pub with_value : Pair → ℕ → ℕ → Pair
+abbrev pub with_value : ViewPair → ℕ → ℕ → ViewPair
 with_value p j x = (p.0, record p.1 { values = slice_set p.1.values j x })
 
 -- what an answer makes of the machine at a stage
-abbrev pub advance_at : List ℕ → Pair → Stage → ℕ → Pair
-advance_at indices p (Collect k) x = after_load (length indices) p k x
-advance_at indices p (View stamp) x = (after_view p.0 x, p.1)
-advance_at indices p (Len at) x = at_stage p (pairs_from (pairs_word at) x)
-advance_at indices p (Index at left) x = at_stage p (PairValue (next_word at) left x)
-advance_at indices p (PairValue at left index) x = at_stage (with_value p index x) (pairs_from (next_word at) (left - 1))
-advance_at indices p (Value k) x =
-    at_stage (with_value p (slice_index indices k) x) (if nat_lt (k + 1) (length indices) then Value (k + 1) else Done)
-advance_at indices p Done x = p
+abbrev pub advance_view_at : List ℕ → ViewPair → Stage → ℕ → ViewPair
+advance_view_at indices p (Collect k) x = after_load (length indices) p k x
+advance_view_at indices p (View stamp) x = (after_view p.0 x, p.1)
+advance_view_at indices p (Len at) x = view_at_stage p (pairs_from (pairs_word at) x)
+advance_view_at indices p (Index at left) x = view_at_stage p (PairValue (next_word at) left x)
+advance_view_at indices p (PairValue at left index) x = view_at_stage (with_value p index x) (pairs_from (next_word at) (left - 1))
+advance_view_at indices p (Value k) x =
+    view_at_stage (with_value p (slice_index indices k) x) (if nat_lt (k + 1) (length indices) then Value (k + 1) else Done)
+advance_view_at indices p Done x = p
 
 -- what the answer x makes of an embedded scan and its rows
-abbrev pub advance : List ℕ → Pair → ℕ → Pair
-advance indices p x = advance_at indices p p.0.stage x
+abbrev pub advance_view : List ℕ → ViewPair → ℕ → ViewPair
+advance_view indices p x = advance_view_at indices p p.0.stage x
 
 -- the words of a record that begins at `at` are pool words
-abbrev pub IsRecord : Layout → ℕ → Type 0
-IsRecord s at = (pool_base s ≤ at) × (at + plain_record_size ≤ pool_end s)
+abbrev pub IsPlainRecord : Layout → ℕ → Type 0
+IsPlainRecord s at = (pool_base s ≤ at) × (at + plain_record_size ≤ pool_end s)
 
 -- how many of the first r are true
 abbrev pub count_true : ℕ → List Bool → ℕ
@@ -139,26 +139,26 @@ abbrev pub changes : ℕ → RowsState → ℕ
 changes r rows = count_true r rows.changed
 
 -- how many collects there may be behind the one under way: each but the last shows a position's first change
-abbrev pub future : ℕ → Pair → ℕ
+abbrev pub future : ℕ → ViewPair → ℕ
 future r p = if is_first p then r + 1 else if p.0.moved then r - changes r p.1 + 1 else r - changes r p.1
 
 -- the greatest number of steps of an embedded scan of r positions: its collects, and the loads of a view and of what refers to it
-abbrev pub most_steps : Layout → ℕ → ℕ
-most_steps s r = r * (r + 2) + view_size s.m + 1
+abbrev pub most_view_steps : Layout → ℕ → ℕ
+most_view_steps s r = r * (r + 2) + view_size s.m + 1
 
 -- how many steps are left at most at a stage
-abbrev pub left_at : ℕ → Pair → Stage → ℕ
-left_at r p (Collect k) = r - k + r * future r p + view_size p.0.sizes.m + 1
-left_at r p (View stamp) = view_size p.0.sizes.m + 1
-left_at r p (Len at) = view_size p.0.sizes.m
-left_at r p (Index at left) = pairs_size left
-left_at r p (PairValue at left index) = pairs_size left - 1
-left_at r p (Value k) = r - k
-left_at r p Done = 0
+abbrev pub view_left_at : ℕ → ViewPair → Stage → ℕ
+view_left_at r p (Collect k) = r - k + r * future r p + view_size p.0.sizes.m + 1
+view_left_at r p (View stamp) = view_size p.0.sizes.m + 1
+view_left_at r p (Len at) = view_size p.0.sizes.m
+view_left_at r p (Index at left) = pairs_size left
+view_left_at r p (PairValue at left index) = pairs_size left - 1
+view_left_at r p (Value k) = r - k
+view_left_at r p Done = 0
 
 -- how many steps are left at most
-abbrev pub left_of : List ℕ → Pair → ℕ
-left_of indices p = left_at (length indices) p p.0.stage
+abbrev pub view_left : List ℕ → ViewPair → ℕ
+view_left indices p = view_left_at (length indices) p p.0.stage
 
 -- the positions name components, at least one and at most m
 pub record ArePositions (s : Layout) (indices : List ℕ) : Type 0 where
@@ -168,39 +168,39 @@ pub record ArePositions (s : Layout) (indices : List ℕ) : Type 0 where
 
 -- the positions from one on up to another were loaded: their latest loads are records
 abbrev pub AreLoaded : Layout → RowsState → ℕ → Type 0
-AreLoaded s rows n = (k : ℕ) → k < n → IsRecord s (slice_index rows.last k)
+AreLoaded s rows n = (k : ℕ) → k < n → IsPlainRecord s (slice_index rows.last k)
 
 -- what is known at a stage
-abbrev pub goes_at : List ℕ → Pair → Stage → Type 0
-goes_at indices p (Collect k) =
+abbrev pub view_goes_at : List ℕ → ViewPair → Stage → Type 0
+view_goes_at indices p (Collect k) =
     (k < length indices) × (p.0.collects + future (length indices) p ≤ length indices + 2) × (1 ≤ p.0.collects)
     × AreLoaded p.0.sizes p.1 (if is_first p then k else length indices)
-goes_at indices p (View stamp) = IsRecord p.0.sizes stamp
-goes_at indices p (Len at) = (pool_base p.0.sizes ≤ at) × (at < pool_end p.0.sizes)
-goes_at indices p (Index at left) = (0 < left) × (left ≤ p.0.sizes.m) × (at + pairs_size left ≤ pool_end p.0.sizes)
+view_goes_at indices p (View stamp) = IsPlainRecord p.0.sizes stamp
+view_goes_at indices p (Len at) = (pool_base p.0.sizes ≤ at) × (at < pool_end p.0.sizes)
+view_goes_at indices p (Index at left) = (0 < left) × (left ≤ p.0.sizes.m) × (at + pairs_size left ≤ pool_end p.0.sizes)
     × (pool_base p.0.sizes ≤ at)
-goes_at indices p (PairValue at left index) =
+view_goes_at indices p (PairValue at left index) =
     (0 < left) × (left ≤ p.0.sizes.m) × (at + pairs_size left ≤ pool_end p.0.sizes + 1) × (index < p.0.sizes.m) × (pool_base p.0.sizes ≤ at)
-goes_at indices p (Value k) = (k < length indices) × AreLoaded p.0.sizes p.1 (length indices)
-goes_at indices p Done = ⊤
+view_goes_at indices p (Value k) = (k < length indices) × AreLoaded p.0.sizes p.1 (length indices)
+view_goes_at indices p Done = ⊤
 
 -- the machine, its positions and its buffers go together
-pub record GoTogether (indices : List ℕ) (p : Pair) : Type 0 where
+pub record ViewGoesTogether (indices : List ℕ) (p : ViewPair) : Type 0 where
   pub positions : ArePositions p.0.sizes indices
-  pub rows : IsFor p.0.sizes p.1
+  pub rows : AreRowsFor p.0.sizes p.1
   pub collects : p.0.collects ≤ length indices + 2
-  pub stage : goes_at indices p p.0.stage
+  pub stage : view_goes_at indices p p.0.stage
 
 -- the answers that words may give
-abbrev pub IsPossibleAt : Layout → Stage → ℕ → Type 0
-IsPossibleAt s (Collect k) x = IsRecord s x
-IsPossibleAt s (View stamp) x = (x ≡ 0) ⊎ ((pool_base s ≤ x) × (x < pool_end s))
-IsPossibleAt s (Len at) x = (x ≤ s.m) × (at + view_size x ≤ pool_end s)
-IsPossibleAt s (Index at left) x = x < s.m
-IsPossibleAt s (PairValue at left index) x = ⊤
-IsPossibleAt s (Value k) x = ⊤
-IsPossibleAt s Done x = ⊥
+abbrev pub IsPossibleInViewAt : Layout → Stage → ℕ → Type 0
+IsPossibleInViewAt s (Collect k) x = IsPlainRecord s x
+IsPossibleInViewAt s (View stamp) x = (x ≡ 0) ⊎ ((pool_base s ≤ x) × (x < pool_end s))
+IsPossibleInViewAt s (Len at) x = (x ≤ s.m) × (at + view_size x ≤ pool_end s)
+IsPossibleInViewAt s (Index at left) x = x < s.m
+IsPossibleInViewAt s (PairValue at left index) x = ⊤
+IsPossibleInViewAt s (Value k) x = ⊤
+IsPossibleInViewAt s Done x = ⊥
 
 -- an answer that lawful words may give to the due step
-abbrev pub IsPossible : Pair → ℕ → Type 0
-IsPossible p x = IsPossibleAt p.0.sizes p.0.stage x
+abbrev pub IsPossibleInView : ViewPair → ℕ → Type 0
+IsPossibleInView p x = IsPossibleInViewAt p.0.sizes p.0.stage x

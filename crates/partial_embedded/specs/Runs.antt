@@ -4,16 +4,16 @@ use Rattle.partial_words.specs.declared.step.Step.{Step}
 use Rattle.partial_words.specs.declared.step.Step.TheVariants.{Load}
 use Rattle.partial_words.specs.Layout.{Layout}
 use Rattle.partial_embedded.specs.declared.embedded.Stage.TheVariants.{View, Value, Done}
-use Rattle.partial_embedded.specs.Embedded.{Pair, RowsState, ArePositions, IsFor, IsPossible, fresh, advance, step_of, left_of, most_steps}
+use Rattle.partial_embedded.specs.Embedded.{ViewPair, RowsState, ArePositions, AreRowsFor, IsPossibleInView, fresh_view, advance_view, view_step_due, view_left, most_view_steps}
 
 -- these answers lead the machine from one state to the other, each a possible one
-abbrev pub Run : List ℕ → Pair → List ℕ → Pair → Type 0
-Run indices p [] q = q ≡ p
-Run indices p (x ∷ xs) q = IsPossible p x × Run indices (advance indices p x) xs q
+abbrev pub ViewRun : List ℕ → ViewPair → List ℕ → ViewPair → Type 0
+ViewRun indices p [] q = q ≡ p
+ViewRun indices p (x ∷ xs) q = IsPossibleInView p x × ViewRun indices (advance_view indices p x) xs q
 
 -- a run of the positions from its beginning
-abbrev pub RunsTo : Layout → Bool → List ℕ → RowsState → List ℕ → Pair → Type 0
-RunsTo s shares indices rows xs q = ArePositions s indices × IsFor s rows × Run indices (fresh s shares, rows) xs q
+abbrev pub RunsTo : Layout → Bool → List ℕ → RowsState → List ℕ → ViewPair → Type 0
+RunsTo s shares indices rows xs q = ArePositions s indices × AreRowsFor s rows × ViewRun indices (fresh_view s shares, rows) xs q
 
 -- the word is the component of one of the positions
 abbrev pub IsOfPosition : List ℕ → ℕ → Type 0
@@ -22,14 +22,14 @@ IsOfPosition indices w = (k : ℕ) × (k < length indices) × (slice_index indic
 -- each step is a load, and it loads no component word but those of its positions
 abbrev pub LoadsItsPositionsAlone : Type 0
 LoadsItsPositionsAlone =
-    (s : Layout) (shares : Bool) (indices : List ℕ) (rows : RowsState) (xs : List ℕ) (q : Pair) (step : Step) →
-    RunsTo s shares indices rows xs q → step_of indices q ≡ Some step → (w : ℕ) × (step ≡ Load w) × (w < s.m → IsOfPosition indices w)
+    (s : Layout) (shares : Bool) (indices : List ℕ) (rows : RowsState) (xs : List ℕ) (q : ViewPair) (step : Step) →
+    RunsTo s shares indices rows xs q → view_step_due indices q ≡ Some step → (w : ℕ) × (step ≡ Load w) × (w < s.m → IsOfPosition indices w)
 
 -- it makes r + 2 collects at most, and in all no more steps than its bound
 abbrev pub MakesFewCollects : Type 0
 MakesFewCollects =
-    (s : Layout) (shares : Bool) (indices : List ℕ) (rows : RowsState) (xs : List ℕ) (q : Pair) → RunsTo s shares indices rows xs q →
-    (q.0.collects ≤ length indices + 2) × (length xs + left_of indices q ≤ most_steps s (length indices))
+    (s : Layout) (shares : Bool) (indices : List ℕ) (rows : RowsState) (xs : List ℕ) (q : ViewPair) → RunsTo s shares indices rows xs q →
+    (q.0.collects ≤ length indices + 2) × (length xs + view_left indices q ≤ most_view_steps s (length indices))
 
 -- the load of position k in collect c, both counted from 0
 abbrev pub load_in : ℕ → List ℕ → ℕ → ℕ → ℕ
@@ -63,7 +63,7 @@ pub record ShowsThirdRecord (r : ℕ) (xs : List ℕ) (collects stamp : ℕ) : T
 -- it loads values only behind two equal collects, and borrows only from a third record at one position
 abbrev pub EndsInEqualCollectsOrAThirdRecord : Type 0
 EndsInEqualCollectsOrAThirdRecord =
-    (s : Layout) (shares : Bool) (indices : List ℕ) (rows : RowsState) (xs : List ℕ) (q : Pair) → RunsTo s shares indices rows xs q →
+    (s : Layout) (shares : Bool) (indices : List ℕ) (rows : RowsState) (xs : List ℕ) (q : ViewPair) → RunsTo s shares indices rows xs q →
     (q.0.stage ≡ Value 0 → LastTwoAreEqual (length indices) xs q.0.collects)
     × ((stamp : ℕ) → q.0.stage ≡ View stamp → ShowsThirdRecord (length indices) xs q.0.collects stamp)
 
@@ -74,7 +74,7 @@ written (j ∷ js) [] values = values
 written (j ∷ js) (x ∷ xs) values = written js xs (slice_set values j x)
 
 -- the answers are whole collects, the last two of them equal, and then the values of so many positions
-pub record LoadsValues (indices xs : List ℕ) (q : Pair) (k : ℕ) : Type 0 where
+pub record LoadsValues (indices xs : List ℕ) (q : ViewPair) (k : ℕ) : Type 0 where
   pub front : List ℕ
   pub loads : List ℕ
   pub is : xs ≡ front ++ loads
@@ -84,7 +84,7 @@ pub record LoadsValues (indices xs : List ℕ) (q : Pair) (k : ℕ) : Type 0 whe
   pub values : q.1.values ≡ written (take k indices) loads before
 
 -- the answers are collects up to a third record at one position, and then loads of its view, whose reference comes first
-pub record LoadsView (r : ℕ) (xs : List ℕ) (q : Pair) (stamp : ℕ) : Type 0 where
+pub record LoadsView (r : ℕ) (xs : List ℕ) (q : ViewPair) (stamp : ℕ) : Type 0 where
   pub front : List ℕ
   pub behind : List ℕ
   pub is : xs ≡ front ++ q.0.view ∷ behind
@@ -93,11 +93,11 @@ pub record LoadsView (r : ℕ) (xs : List ℕ) (q : Pair) (stamp : ℕ) : Type 0
 
 -- A finished scan has borrowed nothing, and then its values are those that it loaded behind two equal collects; or it has
 -- borrowed the view of the record that was the third one at some position.
-pub record EndsWell (indices xs : List ℕ) (q : Pair) : Type 0 where
+pub record EndsWell (indices xs : List ℕ) (q : ViewPair) : Type 0 where
   pub own : q.0.borrowed ≡ None → LoadsValues indices xs q (length indices)
   pub shared : (stamp : ℕ) → q.0.borrowed ≡ Some stamp → LoadsView (length indices) xs q stamp
 
 -- a finished scan ends in one of the two ways
 abbrev pub FinishedScansEndWell : Type 0
-FinishedScansEndWell = (s : Layout) (shares : Bool) (indices : List ℕ) (rows : RowsState) (xs : List ℕ) (q : Pair) →
+FinishedScansEndWell = (s : Layout) (shares : Bool) (indices : List ℕ) (rows : RowsState) (xs : List ℕ) (q : ViewPair) →
     RunsTo s shares indices rows xs q → q.0.stage ≡ Done → EndsWell indices xs q

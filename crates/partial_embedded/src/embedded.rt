@@ -1,7 +1,7 @@
 //! The machine of an embedded scan.
 
 ghost use Rattle.std.specs.Prelude.{◌≡◌, ◌+◌, ◌*◌, ◌^◌, ◌<◌, ℕ, List, Bool, length, slice_index};
-ghost use Rattle.partial_embedded.specs.Embedded.{RowsState, GoTogether, IsFor, IsPossible, buffers, pairs_from};
+ghost use Rattle.partial_embedded.specs.Embedded.{RowsState, ViewGoesTogether, AreRowsFor, IsPossibleInView, buffers, pairs_from};
 ghost use Rattle.partial_embedded.specs.declared.embedded.Stage.TheVariants.{Value, Done};
 
 mod collects;
@@ -68,17 +68,17 @@ impl Embedded {
     ghost use Rattle.std.specs.Prelude.{IfSome, IfNone, Some, ◌≤◌};
     ghost use Rattle.partial_words.specs.Layout.{pool_end};
     ghost use Rattle.partial_words.specs.declared.step.Step.TheVariants.{Load};
-    ghost use Rattle.partial_embedded.specs.Embedded.{ArePositions, fresh, step_of, step_at, advance, left_of, most_steps, after_view, advance_at};
+    ghost use Rattle.partial_embedded.specs.Embedded.{ArePositions, fresh_view, view_step_due, view_step_at, advance_view, view_left, most_view_steps, after_view, advance_view_at};
 
     /// Makes an embedded scan before its first step. When `shares` is true it takes the reference of
     /// another record's view and stops there; otherwise it loads the view's pairs.
     #[inline(always)]
     pub fn new(sizes: Sizes, shares: bool) -> Embedded
-        ensures state { result ≡ fresh sizes shares }
-        ensures together { (indices : List ℕ) (rows : RowsState) → ArePositions sizes indices → IsFor sizes rows →
-            GoTogether indices (result, rows) }
+        ensures state { result ≡ fresh_view sizes shares }
+        ensures together { (indices : List ℕ) (rows : RowsState) → ArePositions sizes indices → AreRowsFor sizes rows →
+            ViewGoesTogether indices (result, rows) }
         ensures steps { (indices : List ℕ) (rows : RowsState) →
-            left_of indices (result, rows) ≡ most_steps sizes (length indices) }
+            view_left indices (result, rows) ≡ most_view_steps sizes (length indices) }
     {
         // The contract of the getter says that the sizes are in their ranges.
         let _components = sizes.m();
@@ -96,8 +96,8 @@ impl Embedded {
     /// The step that is due. `None` when the scan is finished.
     #[inline(always)]
     pub fn step(&self, rows: &Rows, indices: &[u32]) -> Option<Step>
-        requires { GoTogether indices.now (self.now, rows.now) }
-        ensures { result ≡ step_of indices.now (self.now, rows.now) }
+        requires { ViewGoesTogether indices.now (self.now, rows.now) }
+        ensures { result ≡ view_step_due indices.now (self.now, rows.now) }
     {
         let Rows { last, .. } = rows;
         match self.due_word(last, indices) {
@@ -137,11 +137,11 @@ impl Embedded {
     /// scan is finished, the buffers have the values.
     #[inline(always)]
     pub fn answer(&mut self, rows: &mut Rows, indices: &[u32], x: u64)
-        requires together { GoTogether indices.now (self.old, rows.old) }
-        requires possible { IsPossible (self.old, rows.old) x }
-        ensures state { (self.new, rows.new) ≡ advance indices.now (self.old, rows.old) x }
-        ensures together { GoTogether indices.now (self.new, rows.new) }
-        ensures left { left_of indices.now (self.new, rows.new) < left_of indices.now (self.old, rows.old) }
+        requires together { ViewGoesTogether indices.now (self.old, rows.old) }
+        requires possible { IsPossibleInView (self.old, rows.old) x }
+        ensures state { (self.new, rows.new) ≡ advance_view indices.now (self.old, rows.old) x }
+        ensures together { ViewGoesTogether indices.now (self.new, rows.new) }
+        ensures left { view_left indices.now (self.new, rows.new) < view_left indices.now (self.old, rows.old) }
     {
         self.take_in(rows, indices, x);
     }
@@ -149,9 +149,9 @@ impl Embedded {
     // Changes the machine and its buffers by the answer.
     #[inline(always)]
     fn take_in(&mut self, rows: &mut Rows, indices: &[u32], x: u64)
-        requires together { GoTogether indices.now (self.old, rows.old) }
-        requires possible { IsPossible (self.old, rows.old) x }
-        ensures { (self.new, rows.new) ≡ advance indices.now (self.old, rows.old) x }
+        requires together { ViewGoesTogether indices.now (self.old, rows.old) }
+        requires possible { IsPossibleInView (self.old, rows.old) x }
+        ensures { (self.new, rows.new) ≡ advance_view indices.now (self.old, rows.old) x }
     {
         let Rows {
             last,
@@ -165,9 +165,9 @@ impl Embedded {
     #[inline(always)]
     fn due_word(&self, last: &[u64], indices: &[u32]) -> Option<u64>
         requires { ((changed : List Bool) × (values : List ℕ) ×
-            GoTogether indices.now (self.now, buffers last.now changed values)) }
+            ViewGoesTogether indices.now (self.now, buffers last.now changed values)) }
         ensures due { IfSome result (λ word.
-            step_at self.now.sizes indices.now last.now self.now.stage ≡ Some (Load word)) }
+            view_step_at self.now.sizes indices.now last.now self.now.stage ≡ Some (Load word)) }
         ensures fits { IfSome result (λ word. word < 2 ^ 32) }
         ensures done { IfNone result (self.now.stage ≡ Done) }
     {
@@ -194,10 +194,10 @@ impl Embedded {
         indices: &[u32],
         x: u64,
     )
-        requires together { GoTogether indices.now (self.old, buffers last.old changed.old values.old) }
-        requires possible { IsPossible (self.old, buffers last.old changed.old values.old) x }
+        requires together { ViewGoesTogether indices.now (self.old, buffers last.old changed.old values.old) }
+        requires possible { IsPossibleInView (self.old, buffers last.old changed.old values.old) x }
         ensures { (self.new, buffers last.new changed.new values.new) ≡
-            advance indices.now (self.old, buffers last.old changed.old values.old) x }
+            advance_view indices.now (self.old, buffers last.old changed.old values.old) x }
     {
         match self.stage {
             Stage::Collect { position } => self.after_load(
@@ -231,7 +231,7 @@ impl Embedded {
         requires position { position < length indices.now }
         requires component { slice_index indices.now position < length values.old }
         ensures { (last : List ℕ) (changed : List Bool) → (self.new, buffers last changed values.new) ≡
-            advance_at indices.now (self.old, buffers last changed values.old) (Value position) x }
+            advance_view_at indices.now (self.old, buffers last changed values.old) (Value position) x }
     {
         values[indices[position] as usize] = x;
         self.stage = if position + 1 < indices.len() {
@@ -261,11 +261,11 @@ impl Embedded {
 impl Embedded {
     ghost use Rattle.std.specs.Prelude.{IsTrue, ◌↔◌, ◌≤◌};
     ghost use Rattle.partial_words.specs.Layout.{pool_base, pool_end};
-    ghost use Rattle.partial_embedded.specs.Embedded.{IsPossibleAt};
+    ghost use Rattle.partial_embedded.specs.Embedded.{IsPossibleInViewAt};
 
     // Whether the number is a possible answer of the step that is due.
     pub(crate) fn may_answer(&self, x: u64) -> bool
-        ensures { IsTrue result → IsPossibleAt self.now.sizes self.now.stage x }
+        ensures { IsTrue result → IsPossibleInViewAt self.now.sizes self.now.stage x }
     {
         match self.stage {
             Stage::Collect { .. } => {

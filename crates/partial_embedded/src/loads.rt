@@ -2,7 +2,7 @@
 
 ghost use Rattle.std.specs.Prelude.{◌≡◌, ℕ, List, Some};
 ghost use Rattle.partial_words.specs.declared.step.Step.TheVariants.{Load};
-ghost use Rattle.partial_embedded.specs.Embedded.{Pair, IsPossible, advance, step_of};
+ghost use Rattle.partial_embedded.specs.Embedded.{ViewPair, IsPossibleInView, advance_view, view_step_due};
 
 /// The loads of one embedded scan. Other ports may make steps between them. To contracts it is the scan
 /// with its buffers and its positions, as its answers so far have left them.
@@ -11,7 +11,7 @@ pub trait Loads {
     ghost goes: { Self → Type 0 };
 
     /// The embedded scan and its buffers, after all answers so far.
-    ghost scan: { Self → Pair };
+    ghost scan: { Self → ViewPair };
 
     /// The positions of the embedded scan.
     ghost positions: { Self → List ℕ };
@@ -22,10 +22,10 @@ pub trait Loads {
     /// Loads the word that is due, and returns its value.
     fn load(&mut self, word: u64) -> u64
         requires goes { goes self.old }
-        requires due { step_of (positions self.old) (scan self.old) ≡ Some (Load word) }
+        requires due { view_step_due (positions self.old) (scan self.old) ≡ Some (Load word) }
         ensures goes { goes self.new }
-        ensures possible { IsPossible (scan self.old) result }
-        ensures scan { scan self.new ≡ advance (positions self.old) (scan self.old) result }
+        ensures possible { IsPossibleInView (scan self.old) result }
+        ensures scan { scan self.new ≡ advance_view (positions self.old) (scan self.old) result }
         ensures positions { positions self.new ≡ positions self.old }
         ensures follows { follows self.old self.new };
 

@@ -25,14 +25,14 @@ impl Model for Rows {
 }
 
 impl Rows {
-    ghost use Rattle.partial_embedded.specs.Embedded.{IsFor};
+    ghost use Rattle.partial_embedded.specs.Embedded.{AreRowsFor};
 
     /// Makes empty buffers for a memory of these sizes.
     ///
     /// # Errors
     /// [`AllocError`] when an allocation was refused.
     pub fn new(alloc: Global, sizes: Sizes) -> Result<Rows, AllocError>
-        ensures sizes { IfOk result (IsFor sizes) }
+        ensures sizes { IfOk result (AreRowsFor sizes) }
         ensures empty { IfOk result (λ rows.
             rows ≡ record {
               last = replicate sizes.m 0;

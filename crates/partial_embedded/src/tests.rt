@@ -1,7 +1,7 @@
 //! The machine driven over a plain list of words, which other ports change between its steps.
 
 ghost use Rattle.std.specs.Prelude.{◌≡◌, OnOk, IsTrue};
-ghost use Rattle.partial_embedded.specs.Embedded.{ArePositions, GoTogether, IsFor};
+ghost use Rattle.partial_embedded.specs.Embedded.{ArePositions, ViewGoesTogether, AreRowsFor};
 
 use crate::{Embedded, Rows};
 use partial_words::{Sizes, Step};
@@ -61,8 +61,8 @@ fn drive(
     indices: &[u32],
     changes: &[(usize, u32, u64)],
 ) -> Result<Vec<Step>, AllocError>
-    requires { GoTogether indices.now (scan.old, rows.old) }
-    ensures { OnOk result (IsFor scan.old.sizes rows.new) }
+    requires { ViewGoesTogether indices.now (scan.old, rows.old) }
+    ensures { OnOk result (AreRowsFor scan.old.sizes rows.new) }
 {
     let mut steps = Vec::new(alloc);
     while let Some(step) = scan.step(rows, indices) {
@@ -87,8 +87,8 @@ fn scan_into(
     changes: &[(usize, u32, u64)],
 ) -> Result<Scanned, AllocError>
     requires components { sizes.m ≡ 2 }
-    requires rows { IsFor sizes rows.old }
-    ensures { OnOk result (IsFor sizes rows.new) }
+    requires rows { AreRowsFor sizes rows.old }
+    ensures { OnOk result (AreRowsFor sizes rows.new) }
 {
     let mut words = opened(alloc, sizes)?;
     assert!(rt; are_positions(sizes, indices));

@@ -41,7 +41,7 @@ begun_apart s Scanning step b w e = absurd cc
 begun_apart s Leaving step b w e = absurd cc
 begun_apart s (Finished r) step b w e = absurd cc
 
-getting_apart : (y : Layout) (head : ℕ) (t : SetStage) (step : Step) → ((at k count word : ℕ) → t ≡ set.Write at k count word → list_base y ≤ at) → finding.step_at y head t ≡ Some step →
+getting_apart : (y : Layout) (head : ℕ) (t : SetStage) (step : Step) → ((at k count word : ℕ) → t ≡ set.Write at k count word → list_base y ≤ at) → finding.set_step_at y head t ≡ Some step →
     IsApart y step
 getting_apart y head set.Head step own e = subst (IsApart y) (some_same e) tt
 getting_apart y head (set.ListLen at) step own e = subst (IsApart y) (some_same e) tt
@@ -56,7 +56,7 @@ getting_apart y head (set.Write at k count word) step own e = let above = own at
 getting_apart y head (set.Publish at) step own e = subst (IsApart y) (some_same e) (inr refl)
 getting_apart y head set.Done step own e = absurd cc
 
-viewing_apart : (z y : Layout) (indices last : List ℕ) (t : ViewStage) (step : Step) → viewing.step_at y indices last t ≡ Some step → IsApart z step
+viewing_apart : (z y : Layout) (indices last : List ℕ) (t : ViewStage) (step : Step) → viewing.view_step_at y indices last t ≡ Some step → IsApart z step
 viewing_apart z y indices last t step e = let load = view_loads y indices last t (ap is_some e) in subst (IsApart z) (some_same (sym load.1 ∙ e)) tt
 
 joining_apart : (y : Layout) (at : ℕ) (t : JoinStage) (step : Step) → join_step y at t ≡ Some step → IsApart y step

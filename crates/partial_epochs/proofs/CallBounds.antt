@@ -1,5 +1,5 @@
 -- Each step of a call leaves fewer steps, so a call makes few.
-use Rattle.partial_epochs.proofs.Common.{ℕ, zero, suc, ◌≡◌, ◌+◌, ◌*◌, ◌-◌, ◌<◌, ◌≤◌, ◌==◌, Bool, true, false, cond, Option, Some, None, List, [], ◌∷◌, length, refl, sym, ap, subst, arith, inl, inr, ◌∙◌, nat_lt, list_all, Call, Noted, indices_of, IsLayout, Layout, first_free, Step, most_steps, steps_left, CoreState, reply_of, call_of, IsSound, Reply, Plan, Port, Beside, MayMove, Makes, LawfulMemory, Act, ChangeLeads, Changing, next_arena, next_component, next_load, next_pass, next_port, next_set, passes, CallStep, Doing, IsCallOf, IsUpdate, Leads, MayAct, Run, after_step, answered, begun, changed, ran, round, started, last_loads}
+use Rattle.partial_epochs.proofs.Common.{ℕ, zero, suc, ◌≡◌, ◌+◌, ◌*◌, ◌-◌, ◌<◌, ◌≤◌, ◌==◌, Bool, true, false, cond, Option, Some, None, List, [], ◌∷◌, length, refl, sym, ap, subst, arith, inl, inr, ◌∙◌, nat_lt, list_all, Call, Noted, indices_of, IsLayout, Layout, first_free, Step, most_steps, steps_left, CoreState, reply_of, call_of, IsSound, Reply, Plan, Port, Beside, MayMove, Makes, LawfulMemory, Act, ChangeLeads, Changing, next_arena, next_component, next_load, next_pass, next_port, next_set, passes, CallStep, Doing, IsCallOf, IsUpdate, CallLeads, MayAct, RunsCall, after_step, behind_answer, begun, changed, ran, round, started, last_loads}
 use Rattle.partial_model.specs.declared.call.Call.TheVariants as call
 use Rattle.partial_machine.proofs.Laws.{makes_few_steps}
 use Rattle.partial_machine.specs.declared.stage.Reply.TheVariants as reply
@@ -106,7 +106,7 @@ module _ (e : Plan) where
   changed_left c n (changing.Changing.Refuses cause) = omega arith
   changed_left c n _ = omega arith
 
-  answered_left : (c : Call) (n : ℕ) (fresh : Bool) → left e (answered c n fresh) ≤ behind e c n fresh
+  answered_left : (c : Call) (n : ℕ) (fresh : Bool) → left e (behind_answer c n fresh) ≤ behind e c n fresh
   answered_left (call.Scan js) n false = omega arith
   answered_left (call.Scan js) n true = omega arith
   answered_left (call.Read j) n fresh = omega arith
@@ -141,39 +141,39 @@ module _ (e : Plan) where
         let ready = machine_ready e words ports b k s step w.epochs below may.0 may.1 may.2 may.3 in
         most_same c s (subst IsLayout (sym ready.sizes) w.epochs.plan.sizes) ready.sound ready.sizes is
 
-    step_fewer : (d : Doing) (a : Act) (d' : Doing) → Leads e words (ports k) d a d' → MayAct e words ports b notes k a → left e d' < left e d
-    step_fewer _ _ _ (calls.Leads.ReadsWord j n true free) may = omega arith
-    step_fewer _ _ _ (calls.Leads.ReadsWord j n false free) may = omega arith
-    step_fewer _ _ _ (calls.Leads.ReadsSealed j n sealed) may = omega arith
-    step_fewer _ _ _ (calls.Leads.ReadsOn j n here) may = omega arith
-    step_fewer _ _ _ (calls.Leads.TellsOn c i) may = omega arith
-    step_fewer _ _ _ (calls.Leads.TellsAll c i n note is) may = omega arith
-    step_fewer _ _ _ (calls.Leads.LoadsStamp j x v n true) may = omega arith
-    step_fewer _ _ _ (calls.Leads.LoadsStamp j x v n false) may = omega arith
-    step_fewer _ _ _ (calls.Leads.FindsOther j x v n i true note is) may = omega arith
-    step_fewer _ _ _ (calls.Leads.FindsOther j x v n i false note is) may = omega arith
-    step_fewer _ _ _ (calls.Leads.LooksAtOther j x v n sealed) may = omega arith
-    step_fewer _ _ _ (calls.Leads.FindsExpected j x v n true) may = omega arith
-    step_fewer _ _ _ (calls.Leads.FindsExpected j x v n false) may = omega arith
-    step_fewer _ _ _ (calls.Leads.LooksAndAnswers c n i note is here) may = omega arith
-    step_fewer _ _ _ (calls.Leads.LooksAndEnters c n away) may = omega arith
-    step_fewer _ _ _ (calls.Leads.StartsSealed c n fresh update sealed) may = let some = update_some c n fresh update in let one = some.0 in let is = some.1 in omega (arith, one, is)
-    step_fewer _ _ _ (calls.Leads.MakesFirst c n fresh s step is free unmet) may =
+    step_fewer : (d : Doing) (a : Act) (d' : Doing) → CallLeads e words (ports k) d a d' → MayAct e words ports b notes k a → left e d' < left e d
+    step_fewer _ _ _ (calls.CallLeads.ReadsWord j n true free) may = omega arith
+    step_fewer _ _ _ (calls.CallLeads.ReadsWord j n false free) may = omega arith
+    step_fewer _ _ _ (calls.CallLeads.ReadsSealed j n sealed) may = omega arith
+    step_fewer _ _ _ (calls.CallLeads.ReadsOn j n here) may = omega arith
+    step_fewer _ _ _ (calls.CallLeads.TellsOn c i) may = omega arith
+    step_fewer _ _ _ (calls.CallLeads.TellsAll c i n note is) may = omega arith
+    step_fewer _ _ _ (calls.CallLeads.LoadsStamp j x v n true) may = omega arith
+    step_fewer _ _ _ (calls.CallLeads.LoadsStamp j x v n false) may = omega arith
+    step_fewer _ _ _ (calls.CallLeads.FindsOther j x v n i true note is) may = omega arith
+    step_fewer _ _ _ (calls.CallLeads.FindsOther j x v n i false note is) may = omega arith
+    step_fewer _ _ _ (calls.CallLeads.LooksAtOther j x v n sealed) may = omega arith
+    step_fewer _ _ _ (calls.CallLeads.FindsExpected j x v n true) may = omega arith
+    step_fewer _ _ _ (calls.CallLeads.FindsExpected j x v n false) may = omega arith
+    step_fewer _ _ _ (calls.CallLeads.LooksAndAnswers c n i note is here) may = omega arith
+    step_fewer _ _ _ (calls.CallLeads.LooksAndEnters c n away) may = omega arith
+    step_fewer _ _ _ (calls.CallLeads.StartsSealed c n fresh update sealed) may = let some = update_some c n fresh update in let one = some.0 in let is = some.1 in omega (arith, one, is)
+    step_fewer _ _ _ (calls.CallLeads.MakesFirst c n fresh s step is free unmet) may =
         let s' : CoreState = after_step e words (ports k) s step in
         let fewer = machine_fewer s step may in
         let few = first_few c s step is may in
         let rest = ran_left c n fresh s' (reply_of s') in
         omega (arith, fewer, few, rest)
-    step_fewer _ _ _ (calls.Leads.MakesNext c n fresh s step unmet) may =
+    step_fewer _ _ _ (calls.CallLeads.MakesNext c n fresh s step unmet) may =
         let s' : CoreState = after_step e words (ports k) s step in
         let fewer = machine_fewer s step may in
         let rest = ran_left c n fresh s' (reply_of s') in
         omega (arith, fewer, rest)
-    step_fewer _ _ _ (calls.Leads.MeetsTheSeal c n fresh s step update met) may =
+    step_fewer _ _ _ (calls.CallLeads.MeetsTheSeal c n fresh s step update met) may =
         let fewer = machine_fewer s step may in
         let is = (update_some c n fresh update).1 in
         omega (arith, fewer, is)
-    step_fewer _ _ _ (calls.Leads.ChangesOn c n d a d' leads) may =
+    step_fewer _ _ _ (calls.CallLeads.ChangesOn c n d a d' leads) may =
         let rest = changed_left c n d' in
         let fewer = change_fewer words ports b notes k d a d' leads may in
         omega (arith, rest, fewer)
@@ -181,9 +181,9 @@ module _ (e : Plan) where
 -- whatever other ports do between the steps of a call
 pub steps_leave_fewer : (e : Plan) (k : ℕ) (p : Port) (d : Doing) → k < e.ports → (s : CallStep e k p d) → left e s.next < left e d
 steps_leave_fewer e k p d below s =
-    step_fewer e s.words s.ports s.beside s.notes k s.lawful below d s.act s.next (subst (λ (q : Port). Leads e s.words q d s.act s.next) (sym s.same) s.leads) s.may
+    step_fewer e s.words s.ports s.beside s.notes k s.lawful below d s.act s.next (subst (λ (q : Port). CallLeads e s.words q d s.act s.next) (sym s.same) s.leads) s.may
 
-pub run_fewer : (e : Plan) (k n : ℕ) (p p' : Port) (d d' : Doing) → k < e.ports → Run e k n p d p' d' → n + left e d' ≤ left e d
+pub run_fewer : (e : Plan) (k n : ℕ) (p p' : Port) (d d' : Doing) → k < e.ports → RunsCall e k n p d p' d' → n + left e d' ≤ left e d
 run_fewer e k zero p p' d d' below r = let is = ap (left e) r.1 in omega (arith, is)
 run_fewer e k (suc n) p p' d d' below r =
     let one = steps_leave_fewer e k p d below r.0 in
@@ -216,7 +216,7 @@ begun_left e n over c = by (list_all (λ j. nat_lt j e.sizes.m) (indices_of c))
     by true = started_left e n over c
     by false = omega arith
 
-calls_are_bounded : (e : Plan) (k n rounds : ℕ) (over : Bool) (p p' : Port) (c : Call) (d : Doing) → k < e.ports → Run e k n p (begun e rounds over c) p' d → n ≤ most_of_call e rounds over c
+calls_are_bounded : (e : Plan) (k n rounds : ℕ) (over : Bool) (p p' : Port) (c : Call) (d : Doing) → k < e.ports → RunsCall e k n p (begun e rounds over c) p' d → n ≤ most_of_call e rounds over c
 calls_are_bounded e k n rounds over p p' c d below r =
     let all = run_fewer e k n p p' (begun e rounds over c) d below r in
     let first = begun_left e rounds over c in

@@ -1,5 +1,5 @@
 -- How a step of a call ends a change of epoch, and what it adds and where its port is then.
-use Rattle.partial_epochs.proofs.Common.{ℕ, zero, suc, ◌≡◌, ◌≢◌, ◌+◌, ◌*◌, ◌<◌, ◌≤◌, ◌==◌, ◌⊎◌, Bool, true, false, cond, Option, Some, None, List, [], refl, sym, ap, subst, ◌∙◌, inl, inr, arith, ⊤, nat_lt, Applied, Call, Noted, CoreState, reply_of, Reply, first_free, Place, Plan, epoch_limit, Port, Beside, MayAdd, Move, is_applied, Act, ChangeLeads, Changing, IsHere, Refusal, next_arena, next_component, next_load, next_pass, next_port, next_set, passes, CallsStayLawful, ActLeads, CallStep, Doing, IsUpdate, Leads, Run, after_step, answered, begun, changed, ran, round, started, Moves, Sees, Answered, Changes, Judges, LoadsWord, Looks, Refused, Runs, Starts, Tells, Arrived, EndsPass, LoadsComponent, LoadsLast, LoadsPort, LooksFirst, Publishes, Refuses, SetsWord, TakesArena, last_loads}
+use Rattle.partial_epochs.proofs.Common.{ℕ, zero, suc, ◌≡◌, ◌≢◌, ◌+◌, ◌*◌, ◌<◌, ◌≤◌, ◌==◌, ◌⊎◌, Bool, true, false, cond, Option, Some, None, List, [], refl, sym, ap, subst, ◌∙◌, inl, inr, arith, ⊤, nat_lt, Applied, Call, Noted, CoreState, reply_of, Reply, first_free, Place, Plan, epoch_limit, Port, Beside, MayAdd, Move, is_applied, Act, ChangeLeads, Changing, IsHere, Refusal, next_arena, next_component, next_load, next_pass, next_port, next_set, passes, CallsStayLawful, ActLeads, CallStep, Doing, IsUpdate, CallLeads, RunsCall, after_step, behind_answer, begun, changed, ran, round, started, Moves, Sees, Answered, Changes, Judges, LoadsWord, Looks, Refused, Runs, Starts, Tells, Arrived, EndsPass, LoadsComponent, LoadsLast, LoadsPort, LooksFirst, Publishes, Refuses, SetsWord, TakesArena, last_loads}
 use Rattle.partial_machine.specs.declared.stage.Reply.TheVariants as reply
 use Rattle.partial_epochs.specs.EveryStep as every
 use Rattle.partial_epochs.specs.Changing as changing
@@ -227,36 +227,36 @@ module _ (e : Plan) where
     ran_applied c n fresh s (Some _) is = absurd cc
 
     -- a step that adds an entry is the last one
-    pub step_none : 0 < e.ports → (d : Doing) (a : Act) (d' : Doing) → Leads e words (ports k) d a d' → (p : Port) (entries : List Applied) → ActLeads e words ports b notes k a p entries →
+    pub step_none : 0 < e.ports → (d : Doing) (a : Act) (d' : Doing) → CallLeads e words (ports k) d a d' → (p : Port) (entries : List Applied) → ActLeads e words ports b notes k a p entries →
         (d' ≡ Answered) ⊎ (entries ≡ [])
-    step_none some _ _ _ (calls.Leads.ReadsWord j n fresh free) p entries h = inr (plain_none Sees tt p entries h)
-    step_none some _ _ _ (calls.Leads.ReadsSealed j n sealed) p entries h = inr (plain_none Sees tt p entries h)
-    step_none some _ _ _ (calls.Leads.ReadsOn j n here) p entries h = inr (plain_none Sees tt p entries h)
-    step_none some _ _ _ (calls.Leads.TellsOn c i) p entries h = inr (plain_none Sees tt p entries h)
-    step_none some _ _ _ (calls.Leads.TellsAll c i n note is) p entries h = inr (plain_none (Moves (every.Move.Notes note n)) tt p entries h)
-    step_none some _ _ _ (calls.Leads.LoadsStamp j x v n fresh) p entries h = inr (plain_none Sees tt p entries h)
-    step_none some _ _ _ (calls.Leads.FindsOther j x v n i fresh note is) p entries h = inr (plain_none (Moves (every.Move.Notes note i)) tt p entries h)
-    step_none some _ _ _ (calls.Leads.LooksAtOther j x v n sealed) p entries h = inr (plain_none Sees tt p entries h)
-    step_none some _ _ _ (calls.Leads.FindsExpected j x v n fresh) p entries h = inr (plain_none Sees tt p entries h)
-    step_none some _ _ _ (calls.Leads.LooksAndAnswers c n i note is here) p entries h = inr (plain_none (Moves (every.Move.Notes note i)) tt p entries h)
-    step_none some _ _ _ (calls.Leads.LooksAndEnters c n away) p entries h = inr (plain_none (Moves every.Move.Looks) tt p entries h)
-    step_none some _ _ _ (calls.Leads.StartsSealed c n fresh update sealed) p entries h = inr (plain_none Sees tt p entries h)
-    step_none some _ _ _ (calls.Leads.MakesFirst c n fresh s step is free unmet) p entries h = elim h.0.adds [
+    step_none some _ _ _ (calls.CallLeads.ReadsWord j n fresh free) p entries h = inr (plain_none Sees tt p entries h)
+    step_none some _ _ _ (calls.CallLeads.ReadsSealed j n sealed) p entries h = inr (plain_none Sees tt p entries h)
+    step_none some _ _ _ (calls.CallLeads.ReadsOn j n here) p entries h = inr (plain_none Sees tt p entries h)
+    step_none some _ _ _ (calls.CallLeads.TellsOn c i) p entries h = inr (plain_none Sees tt p entries h)
+    step_none some _ _ _ (calls.CallLeads.TellsAll c i n note is) p entries h = inr (plain_none (Moves (every.Move.Notes note n)) tt p entries h)
+    step_none some _ _ _ (calls.CallLeads.LoadsStamp j x v n fresh) p entries h = inr (plain_none Sees tt p entries h)
+    step_none some _ _ _ (calls.CallLeads.FindsOther j x v n i fresh note is) p entries h = inr (plain_none (Moves (every.Move.Notes note i)) tt p entries h)
+    step_none some _ _ _ (calls.CallLeads.LooksAtOther j x v n sealed) p entries h = inr (plain_none Sees tt p entries h)
+    step_none some _ _ _ (calls.CallLeads.FindsExpected j x v n fresh) p entries h = inr (plain_none Sees tt p entries h)
+    step_none some _ _ _ (calls.CallLeads.LooksAndAnswers c n i note is here) p entries h = inr (plain_none (Moves (every.Move.Notes note i)) tt p entries h)
+    step_none some _ _ _ (calls.CallLeads.LooksAndEnters c n away) p entries h = inr (plain_none (Moves every.Move.Looks) tt p entries h)
+    step_none some _ _ _ (calls.CallLeads.StartsSealed c n fresh update sealed) p entries h = inr (plain_none Sees tt p entries h)
+    step_none some _ _ _ (calls.CallLeads.MakesFirst c n fresh s step is free unmet) p entries h = elim h.0.adds [
       | inl none ↦ inr (h.2 ∙ none)
       | inr adds ↦ inl (ran_applied c n fresh (after_step e words (ports k) s step) (reply_of (after_step e words (ports k) s step)) adds.1)
     ]
-    step_none some _ _ _ (calls.Leads.MakesNext c n fresh s step unmet) p entries h = elim h.0.adds [
+    step_none some _ _ _ (calls.CallLeads.MakesNext c n fresh s step unmet) p entries h = elim h.0.adds [
       | inl none ↦ inr (h.2 ∙ none)
       | inr adds ↦ inl (ran_applied c n fresh (after_step e words (ports k) s step) (reply_of (after_step e words (ports k) s step)) adds.1)
     ]
-    step_none some _ _ _ (calls.Leads.MeetsTheSeal c n fresh s step update met) p entries h = elim h.0.adds [
+    step_none some _ _ _ (calls.CallLeads.MeetsTheSeal c n fresh s step update met) p entries h = elim h.0.adds [
       | inl none ↦ inr (h.2 ∙ none)
       | inr adds ↦ absurd (adds.0 met)
     ]
-    step_none some _ _ _ (calls.Leads.ChangesOn c n g a g2 leads) p entries h = inr (plain_none a (change_plain words (ports k) some g a g2 leads) p entries h)
+    step_none some _ _ _ (calls.CallLeads.ChangesOn c n g a g2 leads) p entries h = inr (plain_none a (change_plain words (ports k) some g a g2 leads) p entries h)
 
-  pub leads_here : (k : ℕ) (p : Port) (d : Doing) (s : CallStep e k p d) → Leads e s.words (s.ports k) d s.act s.next
-  leads_here k p d s = subst (λ (q : Port). Leads e s.words q d s.act s.next) (sym s.same) s.leads
+  pub leads_here : (k : ℕ) (p : Port) (d : Doing) (s : CallStep e k p d) → CallLeads e s.words (s.ports k) d s.act s.next
+  leads_here k p d s = subst (λ (q : Port). CallLeads e s.words q d s.act s.next) (sym s.same) s.leads
 
 pub calls_stay_lawful : CallsStayLawful
 calls_stay_lawful e words ports b notes k Sees w below may = (ports k, [], (refl, refl))

@@ -1,5 +1,5 @@
 -- Why calls are refused, and that a refused call has applied nothing.
-use Rattle.partial_epochs.proofs.Common.{ℕ, zero, suc, ◌≡◌, ◌≢◌, ◌+◌, ◌<◌, ◌≤◌, Bool, true, false, cond, Option, Some, None, List, [], ◌∷◌, refl, sym, ap, subst, ◌∙◌, inl, inr, arith, ◌&&◌, nat_lt, AllByRecursion, list_all, cases_lt, lt-ltb, Applied, Call, Noted, indices_of, CoreState, reply_of, Reply, Plan, epoch_limit, Port, Beside, MayAdd, Move, is_applied, Act, Changing, IsHere, Refusal, ActLeads, CallStep, Doing, IsUpdate, Leads, Run, after_step, answered, begun, changed, ran, round, started, Moves, Sees, Answered, Changes, Judges, LoadsWord, Looks, Refused, Runs, Starts, Tells, Arrived, EndsPass, LooksFirst, Refuses, not_below}
+use Rattle.partial_epochs.proofs.Common.{ℕ, zero, suc, ◌≡◌, ◌≢◌, ◌+◌, ◌<◌, ◌≤◌, Bool, true, false, cond, Option, Some, None, List, [], ◌∷◌, refl, sym, ap, subst, ◌∙◌, inl, inr, arith, ◌&&◌, nat_lt, AllByRecursion, list_all, cases_lt, lt-ltb, Applied, Call, Noted, indices_of, CoreState, reply_of, Reply, Plan, epoch_limit, Port, Beside, MayAdd, Move, is_applied, Act, Changing, IsHere, Refusal, ActLeads, CallStep, Doing, IsUpdate, CallLeads, RunsCall, after_step, behind_answer, begun, changed, ran, round, started, Moves, Sees, Answered, Changes, Judges, LoadsWord, Looks, Refused, Runs, Starts, Tells, Arrived, EndsPass, LooksFirst, Refuses, not_below}
 use Rattle.partial_model.specs.declared.call.Call.TheVariants as call
 use Rattle.partial_machine.specs.declared.stage.Reply.TheVariants as reply
 use Rattle.partial_epochs.specs.EveryStep as every
@@ -11,16 +11,16 @@ use Rattle.partial_epochs.proofs.CallEnds.{Ends, IsGoing, arrive_place, change_c
 use Rattle.partial_epochs.proofs.Room.{not_true}
 
 module _ (e : Plan) where
-  none_behind : (k n : ℕ) (p p' : Port) (cause : Refusal) → k < e.ports → Run e k n p Answered p' (Refused cause) → ⊥
+  none_behind : (k n : ℕ) (p p' : Port) (cause : Refusal) → k < e.ports → RunsCall e k n p Answered p' (Refused cause) → ⊥
   none_behind k zero p p' cause below r = let bad : Refused cause ≡ Answered = r.1 in absurd cc
   none_behind k (suc n) p p' cause below r = let fewer = steps_leave_fewer e k p Answered below r.0 in absurd (omega (arith, fewer))
 
-  nothing_applied : (k n : ℕ) (p p' : Port) (d : Doing) (cause : Refusal) → k < e.ports → (r : Run e k n p d p' (Refused cause)) → AppliesNothing e k n p d p' (Refused cause) r
+  nothing_applied : (k n : ℕ) (p p' : Port) (d : Doing) (cause : Refusal) → k < e.ports → (r : RunsCall e k n p d p' (Refused cause)) → AppliesNothing e k n p d p' (Refused cause) r
   nothing_applied k zero p p' d cause below r = tt
   nothing_applied k (suc n) p p' d cause below r =
       let s : CallStep e k p d = r.0 in (
         elim (step_none e s.words s.ports s.beside s.notes k (omega (arith, below)) d s.act s.next (leads_here e k p d s) s.port s.entries s.ends) [
-          | inl ended ↦ absurd (none_behind k n s.port p' cause below (subst (λ (t : Doing). Run e k n s.port t p' (Refused cause)) ended r.1))
+          | inl ended ↦ absurd (none_behind k n s.port p' cause below (subst (λ (t : Doing). RunsCall e k n s.port t p' (Refused cause)) ended r.1))
           | inr none ↦ none
         ],
         nothing_applied k n r.0.port p' r.0.next cause below r.1,
@@ -47,7 +47,7 @@ module _ (e : Plan) where
   round_reaches (call.UpdateIf j x v) zero fresh a b h = (tt, omega (arith, h))
   round_reaches (call.UpdateIf j x v) (suc n) fresh a b h = h
 
-  answered_reaches : (c : Call) (n : ℕ) (fresh : Bool) (a b : ℕ) → Reaches (answered c n fresh) a b → IsUpdate c × (a + n ≤ b)
+  answered_reaches : (c : Call) (n : ℕ) (fresh : Bool) (a b : ℕ) → Reaches (behind_answer c n fresh) a b → IsUpdate c × (a + n ≤ b)
   answered_reaches (call.Scan js) n false a b h = h
   answered_reaches (call.Scan js) n true a b h = absurd h
   answered_reaches (call.Read j) n fresh a b h = absurd h
@@ -81,37 +81,39 @@ module _ (e : Plan) where
     change_reaches c n g a g' (inr (inr (inl none))) p entries h m r = absurd (subst (λ (u : Changing). Reaches (changed c n u) p.control.here.epoch m) none.2 r)
     change_reaches c n g a g' (inr (inr (inr last))) p entries h m r = absurd (subst (λ (u : Changing). Reaches (changed c n u) p.control.here.epoch m) last.3 r)
 
-    step_reaches : (d : Doing) (a : Act) (d' : Doing) → Leads e words (ports k) d a d' → (p : Port) (entries : List Applied) → ActLeads e words ports b notes k a p entries → (m : ℕ) →
+    step_reaches : (d : Doing) (a : Act) (d' : Doing) → CallLeads e words (ports k) d a d' → (p : Port) (entries : List Applied) → ActLeads e words ports b notes k a p entries → (m : ℕ) →
         Reaches d' p.control.here.epoch m → Reaches d (ports k).control.here.epoch m
-    step_reaches _ _ _ (calls.Leads.ReadsWord j n fresh free) p entries h m r = absurd r
-    step_reaches _ _ _ (calls.Leads.ReadsSealed j n sealed) p entries h m r = absurd r.0
-    step_reaches _ _ _ (calls.Leads.ReadsOn j n here) p entries h m r = absurd r
-    step_reaches _ _ _ (calls.Leads.TellsOn c i) p entries h m r = absurd r
-    step_reaches _ _ _ (calls.Leads.TellsAll c i n note is) p entries h m r = absurd r
-    step_reaches _ _ _ (calls.Leads.LoadsStamp j x v n fresh) p entries h m r = let is' = still_epoch e words ports b notes k Sees tt p entries h in let far = r.1 in (r.0, omega (arith, is', far))
-    step_reaches _ _ _ (calls.Leads.FindsOther j x v n i fresh note is) p entries h m r = absurd r
-    step_reaches _ _ _ (calls.Leads.LooksAtOther j x v n sealed) p entries h m r = let is' = still_epoch e words ports b notes k Sees tt p entries h in let far = r.1 in (r.0, omega (arith, is', far))
-    step_reaches _ _ _ (calls.Leads.FindsExpected j x v n fresh) p entries h m r = let is' = still_epoch e words ports b notes k Sees tt p entries h in let far = r.1 in (r.0, omega (arith, is', far))
-    step_reaches _ _ _ (calls.Leads.LooksAndAnswers c n i note is here) p entries h m r = absurd r
-    step_reaches _ _ _ (calls.Leads.LooksAndEnters c n away) p entries h m r = let is' = still_epoch e words ports b notes k (Moves every.Move.Looks) tt p entries h in let far = r.1 in
+    step_reaches _ _ _ (calls.CallLeads.ReadsWord j n fresh free) p entries h m r = absurd r
+    step_reaches _ _ _ (calls.CallLeads.ReadsSealed j n sealed) p entries h m r = absurd r.0
+    step_reaches _ _ _ (calls.CallLeads.ReadsOn j n here) p entries h m r = absurd r
+    step_reaches _ _ _ (calls.CallLeads.TellsOn c i) p entries h m r = absurd r
+    step_reaches _ _ _ (calls.CallLeads.TellsAll c i n note is) p entries h m r = absurd r
+    step_reaches _ _ _ (calls.CallLeads.LoadsStamp j x v n fresh) p entries h m r = let is' = still_epoch e words ports b notes k Sees tt p entries h in let far = r.1 in (r.0, omega (arith, is', far))
+    step_reaches _ _ _ (calls.CallLeads.FindsOther j x v n i fresh note is) p entries h m r = absurd r
+    step_reaches _ _ _ (calls.CallLeads.LooksAtOther j x v n sealed) p entries h m r = let is' = still_epoch e words ports b notes k Sees tt p entries h in let far = r.1 in
         (r.0, omega (arith, is', far))
-    step_reaches _ _ _ (calls.Leads.StartsSealed c n fresh update sealed) p entries h m r = let is' = still_epoch e words ports b notes k Sees tt p entries h in let far = r.1 in
+    step_reaches _ _ _ (calls.CallLeads.FindsExpected j x v n fresh) p entries h m r = let is' = still_epoch e words ports b notes k Sees tt p entries h in let far = r.1 in
         (r.0, omega (arith, is', far))
-    step_reaches _ _ _ (calls.Leads.MakesFirst c n fresh s step is free unmet) p entries h m r =
+    step_reaches _ _ _ (calls.CallLeads.LooksAndAnswers c n i note is here) p entries h m r = absurd r
+    step_reaches _ _ _ (calls.CallLeads.LooksAndEnters c n away) p entries h m r = let is' = still_epoch e words ports b notes k (Moves every.Move.Looks) tt p entries h in let far = r.1 in
+        (r.0, omega (arith, is', far))
+    step_reaches _ _ _ (calls.CallLeads.StartsSealed c n fresh update sealed) p entries h m r = let is' = still_epoch e words ports b notes k Sees tt p entries h in let far = r.1 in
+        (r.0, omega (arith, is', far))
+    step_reaches _ _ _ (calls.CallLeads.MakesFirst c n fresh s step is free unmet) p entries h m r =
         let is' = still_epoch e words ports b notes k (Moves (every.Move.Makes s step)) tt p entries h in
         let t = ran_reaches c n fresh (after_step e words (ports k) s step) (reply_of (after_step e words (ports k) s step)) p.control.here.epoch m r in
         let far = t.1 in
         (t.0, omega (arith, is', far))
-    step_reaches _ _ _ (calls.Leads.MakesNext c n fresh s step unmet) p entries h m r =
+    step_reaches _ _ _ (calls.CallLeads.MakesNext c n fresh s step unmet) p entries h m r =
         let is' = still_epoch e words ports b notes k (Moves (every.Move.Makes s step)) tt p entries h in
         let t = ran_reaches c n fresh (after_step e words (ports k) s step) (reply_of (after_step e words (ports k) s step)) p.control.here.epoch m r in
         let far = t.1 in
         (t.0, omega (arith, is', far))
-    step_reaches _ _ _ (calls.Leads.MeetsTheSeal c n fresh s step update met) p entries h m r = let is' = still_epoch e words ports b notes k (Moves (every.Move.Makes s step)) tt p entries h in
+    step_reaches _ _ _ (calls.CallLeads.MeetsTheSeal c n fresh s step update met) p entries h m r = let is' = still_epoch e words ports b notes k (Moves (every.Move.Makes s step)) tt p entries h in
         let far = r.1 in (r.0, omega (arith, is', far))
-    step_reaches _ _ _ (calls.Leads.ChangesOn c n g a g2 leads) p entries h m r = change_reaches c n g a g2 (change_ends e words (ports k) some g a g2 leads) p entries h m r
+    step_reaches _ _ _ (calls.CallLeads.ChangesOn c n g a g2 leads) p entries h m r = change_reaches c n g a g2 (change_ends e words (ports k) some g a g2 leads) p entries h m r
 
-  run_reaches : (k n : ℕ) (p p' : Port) (d : Doing) → k < e.ports → Run e k n p d p' (Refused Overtaken) → Reaches d p.control.here.epoch p'.control.here.epoch
+  run_reaches : (k n : ℕ) (p p' : Port) (d : Doing) → k < e.ports → RunsCall e k n p d p' (Refused Overtaken) → Reaches d p.control.here.epoch p'.control.here.epoch
   run_reaches k zero p p' d below r =
       let is = ap (λ (q : Port). q.control.here.epoch) r.0 in
       subst (λ (t : Doing). Reaches t p.control.here.epoch p'.control.here.epoch) r.1 (omega (arith, is))
@@ -145,7 +147,7 @@ module _ (e : Plan) where
   round_refused (call.UpdateIf j x v) zero fresh cause is = cc
   round_refused (call.UpdateIf j x v) (suc n) fresh cause is = absurd cc
 
-  answered_refused : (c : Call) (n : ℕ) (fresh : Bool) (cause : Refusal) → answered c n fresh ≢ Refused cause
+  answered_refused : (c : Call) (n : ℕ) (fresh : Bool) (cause : Refusal) → behind_answer c n fresh ≢ Refused cause
   answered_refused (call.Scan js) n false cause is = absurd cc
   answered_refused (call.Scan js) n true cause is = absurd cc
   answered_refused (call.Read j) n fresh cause is = absurd cc
@@ -168,46 +170,46 @@ module _ (e : Plan) where
   changed_refused c n _ cause ne is = absurd cc
 
   module _ (words : List ℕ) (p : Port) (some : 0 < e.ports) where
-    refused_by : (d : Doing) (a : Act) (d' : Doing) → Leads e words p d a d' → (cause : Refusal) → cause ≢ Overtaken → d' ≡ Refused cause →
+    refused_by : (d : Doing) (a : Act) (d' : Doing) → CallLeads e words p d a d' → (cause : Refusal) → cause ≢ Overtaken → d' ≡ Refused cause →
         (c : Call) × (n : ℕ) × (g : Changing) × (d ≡ Changes c n g) × Ends e words p some g a (Refuses cause)
-    refused_by _ _ _ (calls.Leads.ReadsWord j n fresh free) cause ne is' = absurd cc
-    refused_by _ _ _ (calls.Leads.ReadsSealed j n sealed) cause ne is' = absurd cc
-    refused_by _ _ _ (calls.Leads.ReadsOn j n here) cause ne is' = absurd cc
-    refused_by _ _ _ (calls.Leads.TellsOn c i) cause ne is' = absurd cc
-    refused_by _ _ _ (calls.Leads.TellsAll c i n note is) cause ne is' = absurd cc
-    refused_by _ _ _ (calls.Leads.LoadsStamp j x v n fresh) cause ne is' = absurd cc
-    refused_by _ _ _ (calls.Leads.FindsOther j x v n i fresh note is) cause ne is' = absurd cc
-    refused_by _ _ _ (calls.Leads.LooksAtOther j x v n sealed) cause ne is' = absurd cc
-    refused_by _ _ _ (calls.Leads.FindsExpected j x v n fresh) cause ne is' = absurd cc
-    refused_by _ _ _ (calls.Leads.LooksAndAnswers c n i note is here) cause ne is' = absurd cc
-    refused_by _ _ _ (calls.Leads.LooksAndEnters c n away) cause ne is' = absurd cc
-    refused_by _ _ _ (calls.Leads.StartsSealed c n fresh update sealed) cause ne is' = absurd cc
-    refused_by _ _ _ (calls.Leads.MakesFirst c n fresh s step is free unmet) cause ne is' =
+    refused_by _ _ _ (calls.CallLeads.ReadsWord j n fresh free) cause ne is' = absurd cc
+    refused_by _ _ _ (calls.CallLeads.ReadsSealed j n sealed) cause ne is' = absurd cc
+    refused_by _ _ _ (calls.CallLeads.ReadsOn j n here) cause ne is' = absurd cc
+    refused_by _ _ _ (calls.CallLeads.TellsOn c i) cause ne is' = absurd cc
+    refused_by _ _ _ (calls.CallLeads.TellsAll c i n note is) cause ne is' = absurd cc
+    refused_by _ _ _ (calls.CallLeads.LoadsStamp j x v n fresh) cause ne is' = absurd cc
+    refused_by _ _ _ (calls.CallLeads.FindsOther j x v n i fresh note is) cause ne is' = absurd cc
+    refused_by _ _ _ (calls.CallLeads.LooksAtOther j x v n sealed) cause ne is' = absurd cc
+    refused_by _ _ _ (calls.CallLeads.FindsExpected j x v n fresh) cause ne is' = absurd cc
+    refused_by _ _ _ (calls.CallLeads.LooksAndAnswers c n i note is here) cause ne is' = absurd cc
+    refused_by _ _ _ (calls.CallLeads.LooksAndEnters c n away) cause ne is' = absurd cc
+    refused_by _ _ _ (calls.CallLeads.StartsSealed c n fresh update sealed) cause ne is' = absurd cc
+    refused_by _ _ _ (calls.CallLeads.MakesFirst c n fresh s step is free unmet) cause ne is' =
         absurd (ran_refused c n fresh (after_step e words p s step) (reply_of (after_step e words p s step)) cause is')
-    refused_by _ _ _ (calls.Leads.MakesNext c n fresh s step unmet) cause ne is' = absurd (ran_refused c n fresh (after_step e words p s step) (reply_of (after_step e words p s step)) cause is')
-    refused_by _ _ _ (calls.Leads.MeetsTheSeal c n fresh s step update met) cause ne is' = absurd cc
-    refused_by _ _ _ (calls.Leads.ChangesOn c n g a g2 leads) cause ne is' =
+    refused_by _ _ _ (calls.CallLeads.MakesNext c n fresh s step unmet) cause ne is' = absurd (ran_refused c n fresh (after_step e words p s step) (reply_of (after_step e words p s step)) cause is')
+    refused_by _ _ _ (calls.CallLeads.MeetsTheSeal c n fresh s step update met) cause ne is' = absurd cc
+    refused_by _ _ _ (calls.CallLeads.ChangesOn c n g a g2 leads) cause ne is' =
         (c, n, g, refl, subst (Ends e words p some g a) (changed_refused c n g2 cause ne is') (change_ends e words p some g a g2 leads))
 
     -- where a cause holds
-    causes_of : (d : Doing) (a : Act) (d' : Doing) → Leads e words p d a d' → IsHere words p → (c : Call) (n : ℕ) (g : Changing) → d ≡ Changes c n g →
+    causes_of : (d : Doing) (a : Act) (d' : Doing) → CallLeads e words p d a d' → IsHere words p → (c : Call) (n : ℕ) (g : Changing) → d ≡ Changes c n g →
         (g ≡ EndsPass 0 → d' ≡ Refused NoArena) × (g ≡ LooksFirst → epoch_limit ≤ p.control.here.epoch + 1 → d' ≡ Refused EpochsSpent)
-    causes_of _ _ _ (calls.Leads.ReadsWord j n fresh free) here c0 n0 g is' = absurd cc
-    causes_of _ _ _ (calls.Leads.ReadsSealed j n sealed) here c0 n0 g is' = absurd cc
-    causes_of _ _ _ (calls.Leads.ReadsOn j n here2) here c0 n0 g is' = absurd cc
-    causes_of _ _ _ (calls.Leads.TellsOn c i) here c0 n0 g is' = absurd cc
-    causes_of _ _ _ (calls.Leads.TellsAll c i n note is) here c0 n0 g is' = absurd cc
-    causes_of _ _ _ (calls.Leads.LoadsStamp j x v n fresh) here c0 n0 g is' = absurd cc
-    causes_of _ _ _ (calls.Leads.FindsOther j x v n i fresh note is) here c0 n0 g is' = absurd cc
-    causes_of _ _ _ (calls.Leads.LooksAtOther j x v n sealed) here c0 n0 g is' = absurd cc
-    causes_of _ _ _ (calls.Leads.FindsExpected j x v n fresh) here c0 n0 g is' = absurd cc
-    causes_of _ _ _ (calls.Leads.LooksAndAnswers c n i note is here2) here c0 n0 g is' = absurd cc
-    causes_of _ _ _ (calls.Leads.LooksAndEnters c n away) here c0 n0 g is' = absurd cc
-    causes_of _ _ _ (calls.Leads.StartsSealed c n fresh update sealed) here c0 n0 g is' = absurd cc
-    causes_of _ _ _ (calls.Leads.MakesFirst c n fresh s step is free unmet) here c0 n0 g is' = absurd cc
-    causes_of _ _ _ (calls.Leads.MakesNext c n fresh s step unmet) here c0 n0 g is' = absurd cc
-    causes_of _ _ _ (calls.Leads.MeetsTheSeal c n fresh s step update met) here c0 n0 g is' = absurd cc
-    causes_of _ _ _ (calls.Leads.ChangesOn c2 n2 g0 a g2 leads) here c0 n0 g is' =
+    causes_of _ _ _ (calls.CallLeads.ReadsWord j n fresh free) here c0 n0 g is' = absurd cc
+    causes_of _ _ _ (calls.CallLeads.ReadsSealed j n sealed) here c0 n0 g is' = absurd cc
+    causes_of _ _ _ (calls.CallLeads.ReadsOn j n here2) here c0 n0 g is' = absurd cc
+    causes_of _ _ _ (calls.CallLeads.TellsOn c i) here c0 n0 g is' = absurd cc
+    causes_of _ _ _ (calls.CallLeads.TellsAll c i n note is) here c0 n0 g is' = absurd cc
+    causes_of _ _ _ (calls.CallLeads.LoadsStamp j x v n fresh) here c0 n0 g is' = absurd cc
+    causes_of _ _ _ (calls.CallLeads.FindsOther j x v n i fresh note is) here c0 n0 g is' = absurd cc
+    causes_of _ _ _ (calls.CallLeads.LooksAtOther j x v n sealed) here c0 n0 g is' = absurd cc
+    causes_of _ _ _ (calls.CallLeads.FindsExpected j x v n fresh) here c0 n0 g is' = absurd cc
+    causes_of _ _ _ (calls.CallLeads.LooksAndAnswers c n i note is here2) here c0 n0 g is' = absurd cc
+    causes_of _ _ _ (calls.CallLeads.LooksAndEnters c n away) here c0 n0 g is' = absurd cc
+    causes_of _ _ _ (calls.CallLeads.StartsSealed c n fresh update sealed) here c0 n0 g is' = absurd cc
+    causes_of _ _ _ (calls.CallLeads.MakesFirst c n fresh s step is free unmet) here c0 n0 g is' = absurd cc
+    causes_of _ _ _ (calls.CallLeads.MakesNext c n fresh s step unmet) here c0 n0 g is' = absurd cc
+    causes_of _ _ _ (calls.CallLeads.MeetsTheSeal c n fresh s step update met) here c0 n0 g is' = absurd cc
+    causes_of _ _ _ (calls.CallLeads.ChangesOn c2 n2 g0 a g2 leads) here c0 n0 g is' =
         let h = change_causes e words p some g0 a g2 leads here in
         let same : g0 ≡ g = ap change_of is' in
         (λ at. ap (changed c2 n2) (h.0 (same ∙ at)), λ at last. ap (changed c2 n2) (h.1 (same ∙ at) last))

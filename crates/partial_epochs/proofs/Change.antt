@@ -1,5 +1,5 @@
 -- What a step in the arena of an epoch leaves of all the others.
-use Rattle.partial_epochs.proofs.Common.{ℕ, ◌≡◌, ◌≢◌, ◌+◌, ◌<◌, ◌≤◌, ◌==◌, ◌⊎◌, ◌++◌, true, false, Option, Some, None, IfSome, List, [], ◌∷◌, length, refl, sym, ap, subst, ◌∙◌, inl, inr, arith, slice_index, option_map, append-nil, eqb_tells, Applied, some_same, total, put, IsAsked, Plan, IsSealed, packed, current_word, base, control_words, arena_words, component_words, carried_words, set_word, Control, Owned, Port, Epoch, LawfulControl, IsOwner, Beside, IsArena, IsFinished, IsNew, IsSetting, IsStanding, LawfulEpochs, controls, next_word, numbers, place_now, Stands}
+use Rattle.partial_epochs.proofs.Common.{ℕ, ◌≡◌, ◌≢◌, ◌+◌, ◌<◌, ◌≤◌, ◌==◌, ◌⊎◌, ◌++◌, true, false, Option, Some, None, IfSome, List, [], ◌∷◌, length, refl, sym, ap, subst, ◌∙◌, inl, inr, arith, slice_index, option_map, append-nil, eqb_tells, Applied, some_same, total, put, IsAsked, Plan, IsSealed, packed, current_word, base, control_words, arena_words, component_words, carried_words, set_word, Control, Owned, Port, Epoch, LawfulControl, IsOwner, Beside, IsArena, IsFinished, IsNewPart, IsSetting, IsStanding, LawfulEpochs, controls, next_epoch_word, numbers, place_now, Stands}
 use Rattle.partial_epochs.proofs.Lists.{at_of, put_all, put_other, put_same}
 use Rattle.partial_epochs.proofs.Places.{arena_same, carried_same, components_same, control_same, other_arena, packed_arena, set_place}
 use Rattle.partial_epochs.proofs.Present.{standing, numbered}
@@ -146,10 +146,10 @@ module _ (e : Plan) (words : List ℕ) (ports : ℕ → Port) (b : Beside) (k : 
     standing_then q inside = put_all (λ i (p : Port). i < e.ports → p.control.entering ≡ Stands → IsStanding b' i p) k p' ports q
         (λ _ _ _. own_stands) (λ apart inside is. other_stands q apart (w.standing q inside is)) inside
 
-    new_then : (q y : ℕ) (r : Epoch) → q < e.ports → b'.holds y ≡ Some r → (ports' q).control.here.epoch < length r.before → IsNew e q r
+    new_then : (q y : ℕ) (r : Epoch) → q < e.ports → b'.holds y ≡ Some r → (ports' q).control.here.epoch < length r.before → IsNewPart e q r
     new_then q y r inside is later =
         let later' : (ports q).control.here.epoch < length r.before = subst (λ (c : Control). c.here.epoch < length r.before) (same_control q) later in
-        held (λ r. (ports q).control.here.epoch < length r.before → IsNew e q r) y r is
+        held (λ r. (ports q).control.here.epoch < length r.before → IsNewPart e q r) y r is
         (λ same late.
         let late' : (ports q).control.here.epoch < length s.epoch.before = subst (λ (l : List (List Applied)). (ports q).control.here.epoch < length l) h.before late in
         elim (eqb_tells q k) [
@@ -211,11 +211,11 @@ module _ (e : Plan) (words : List ℕ) (ports : ℕ → Port) (b : Beside) (k : 
             let other = sets_other q o inside is (omega (arith, low)) in
             ap (slice_index words') at.2 ∙ h.outside (base e o.arena + at.0) (other_arena e x o.arena at.0 other at.1) ∙ ap (slice_index words) (sym at.2)
 
-        each : slice_index words' current_word ≡ packed p.control.here → (i : ℕ) → i < o.set → IsAsked e.sizes i → slice_index words' (set_word e o.arena i) ≡ next_word e b' i
+        each : slice_index words' current_word ≡ packed p.control.here → (i : ℕ) → i < o.set → IsAsked e.sizes i → slice_index words' (set_word e o.arena i) ≡ next_epoch_word e b' i
         each at i low asked = elim h.grows [
           | inl is ↦
               let log : b.log ≡ b.log ++ entries = sym (append-nil b.log) ∙ ap (λ (l : List Applied). b.log ++ l) (sym is) in
-              place i low ∙ t.each (sym first ∙ at ∙ ap (λ (c : Control). packed c.here) control) i low asked ∙ ap (λ (l : List Applied). next_word e (record b { log = l }) i) log
+              place i low ∙ t.each (sym first ∙ at ∙ ap (λ (c : Control). packed c.here) control) i low asked ∙ ap (λ (l : List Applied). next_epoch_word e (record b { log = l }) i) log
           | inr free ↦ absurd (free.2 (settled q o inside is t (omega (arith, low)) (sym first ∙ at ∙ ap (λ (c : Control). packed c.here) control) free.0 free.1 free.2))
         ]
 

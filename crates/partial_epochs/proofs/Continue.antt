@@ -1,5 +1,5 @@
 -- The history of all epochs goes on where an epoch ends.
-use Rattle.partial_epochs.proofs.Common.{ℕ, zero, suc, ◌≡◌, ◌+◌, ◌<◌, ◌≤◌, ◌==◌, ◌++◌, Bool, true, false, cond, Option, Some, None, IfSome, List, [], ◌∷◌, length, take, map, get_or, refl, sym, ap, subst, ◌∙◌, arith, option_map, option_map_or, AllByRecursion, lt-ltb, length-map, Applied, Opening, last_entry, initial_stamp, stamp_of, value_of, behind_both, some_same, all_weaker, first_free, list_of, Plan, arena_words, carried_word, carried_words, carried_after, carried_behind, history_of, opening_behind, public_entry, public_log, public_stamp, EpochsContinue, Port, Epoch, Stands, IsAt, Beside, IsStanding, LawfulEpochs, ReadsTellAllEpochs, read_stamp, IsEntry, not_below}
+use Rattle.partial_epochs.proofs.Common.{ℕ, zero, suc, ◌≡◌, ◌+◌, ◌<◌, ◌≤◌, ◌==◌, ◌++◌, Bool, true, false, cond, Option, Some, None, IfSome, List, [], ◌∷◌, length, take, map, get_or, refl, sym, ap, subst, ◌∙◌, arith, option_map, option_map_or, AllByRecursion, lt-ltb, length-map, Applied, Opening, last_entry, initial_stamp, stamp_of, value_of, behind_both, some_same, all_weaker, first_free, list_of, Plan, arena_words, carried_word, carried_words, carried_after, carried_behind, history_of, opening_behind, public_entry, public_log, public_stamp, EpochsContinue, Port, Epoch, Stands, IsPlaceWord, Beside, IsStanding, LawfulEpochs, ReadsTellAllEpochs, read_stamp, IsEntry, not_below}
 use Rattle.partial_model.specs.History.{last_from}
 use Rattle.partial_core.specs.Lawful as one
 use Rattle.partial_epochs.proofs.Lists.{at_of}
@@ -100,7 +100,7 @@ all_taken P (e ∷ h) (suc n) all = (all.0, all_taken P h n all.1)
 module _ (e : Plan) (words : List ℕ) (ports : ℕ → Port) (b : Beside) (k : ℕ) (w : LawfulEpochs e words ports b) (s : IsStanding b k (ports k)) where
   pub epoch_behind : k < e.ports → (ports k).control.entering ≡ Stands → length (ports k).before ≡ (ports k).control.here.epoch
   epoch_behind below stands =
-      let at = subst (IsAt e _ k (ports k).control.here) stands (w.control.at k below) in
+      let at = subst (IsPlaceWord e _ k (ports k).control.here) stands (w.control.at k below) in
       let held = w.control.stands k (ports k).control.here below (w.control.places k below) at in
       ap (λ (l : List (List Applied)). length l) (sym s.before) ∙ some_same (ap (option_map (λ (r : Epoch). length r.before)) (sym s.is) ∙ held)
 

@@ -1,5 +1,5 @@
 -- A step on the control words alone.
-use Rattle.partial_epochs.proofs.Common.{ℕ, ◌≡◌, ◌≢◌, ◌+◌, ◌<◌, ◌==◌, ◌⊎◌, true, false, Option, Some, None, IfSome, List, length, get_or, set, sym, ap, subst, ◌∙◌, inl, inr, arith, eqb_tells, get_or-set_same, get_or-set_other, put, Plan, Place, IsPlace, at_word, control_size, current_word, marked, packed, Control, Entering, Owned, IsAt, IsEarlier, IsMarked, IsOld, IsOut, IsOwner, LawfulControl, MayPut, NotInto, Stands, Marks, Loaded}
+use Rattle.partial_epochs.proofs.Common.{ℕ, ◌≡◌, ◌≢◌, ◌+◌, ◌<◌, ◌==◌, ◌⊎◌, true, false, Option, Some, None, IfSome, List, length, get_or, set, sym, ap, subst, ◌∙◌, inl, inr, arith, eqb_tells, get_or-set_same, get_or-set_other, put, Plan, Place, IsPlace, at_word, control_size, current_word, marked, packed, Control, Entering, Owned, IsPlaceWord, IsEarlier, IsStillMarked, IsOld, IsOut, IsOwner, LawfulControl, MayPut, NotInto, Stands, Marks, Loaded}
 use Rattle.partial_epochs.proofs.Lists.{put_all, put_other, put_same}
 
 -- port k, which owns no arena, changes what it does, and its word
@@ -45,7 +45,7 @@ module _ (e : Plan) (words : List ℕ) (cs : ℕ → Control) (now : Place) (hol
   -- what is asked of k
   pub record Goes : Type 0 where
     pub place : IsPlace e c.here
-    pub at : IsAt e words' k c.here c.entering
+    pub at : IsPlaceWord e words' k c.here c.entering
     pub old : IsOld e now.epoch c.here c.entering
     pub past : c.past ≡ true → c.here.epoch < now.epoch
     pub stands : (d : Place) → IsPlace e d → v ≡ packed d → holds d.arena ≡ Some d.epoch
@@ -94,19 +94,19 @@ module _ (e : Plan) (words : List ℕ) (cs : ℕ → Control) (now : Place) (hol
       earlier = w.earlier;
       within = w.within;
       places = λ q inside. put_all (λ i (d : Control). i < e.ports → IsPlace e d.here) k c cs q (λ _ _. g.place) (λ _ inside. w.places q inside) inside;
-      at = λ q inside. put_all (λ i (d : Control). i < e.ports → IsAt e words' i d.here d.entering) k c cs q (λ _ _. g.at)
+      at = λ q inside. put_all (λ i (d : Control). i < e.ports → IsPlaceWord e words' i d.here d.entering) k c cs q (λ _ _. g.at)
           (λ ne inside. at_other q (cs q).here (cs q).entering ne (w.at q inside)) inside;
       old = λ q inside. put_all (λ i (d : Control). i < e.ports → IsOld e now.epoch d.here d.entering) k c cs q (λ _ _. g.old) (λ _ inside. w.old q inside) inside;
       past = λ q inside. put_all (λ i (d : Control). i < e.ports → d.past ≡ true → d.here.epoch < now.epoch) k c cs q (λ _ _. g.past) (λ _ inside. w.past q inside) inside;
       stands = λ q d inside place at. stands (eqb_tells q k) d inside place at;
-      comes = λ q d inside. put_all (λ i (f : Control). i < e.ports → f.entering ≡ Loaded d → IsMarked words' f i → holds d.arena ≡ Some d.epoch) k c cs q
+      comes = λ q d inside. put_all (λ i (f : Control). i < e.ports → f.entering ≡ Loaded d → IsStillMarked words' f i → holds d.arena ≡ Some d.epoch) k c cs q
           (λ _ _ is at. g.comes d is (sym own ∙ at)) (λ ne inside is at. w.comes q d inside is (sym (other_at q ne) ∙ at)) inside;
       owners = λ q inside. put_all (λ i (d : Control). i < e.ports → IfSome d.owned (IsOwner e words' cs' now holds i)) k c cs q
           (λ _ _. subst (λ (o : Option Owned). IfSome o (IsOwner e words' cs' now holds k)) (sym free') tt)
           (λ ne inside. owners q (cs q).owned ne inside (w.owners q inside)) inside;
     }
       where
-        at_other : (q : ℕ) (here : Place) (t : Entering) → q ≢ k → IsAt e words q here t → IsAt e words' q here t
+        at_other : (q : ℕ) (here : Place) (t : Entering) → q ≢ k → IsPlaceWord e words q here t → IsPlaceWord e words' q here t
         at_other q here Stands ne h = other_at q ne ∙ h
         at_other q here Marks ne (inl h) = inl (other_at q ne ∙ h)
         at_other q here Marks ne (inr h) = inr (h.0, h.1, other_at q ne ∙ h.2, h.3)

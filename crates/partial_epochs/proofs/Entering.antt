@@ -1,5 +1,5 @@
 -- The steps by which a port comes to the present epoch.
-use Rattle.partial_epochs.proofs.Common.{ℕ, ◌≡◌, ◌≢◌, ◌+◌, ◌<◌, ◌≤◌, ◌==◌, ◌⊎◌, Bool, true, false, cond, Option, Some, None, IfSome, List, length, get_or, set, refl, sym, ap, subst, ◌∙◌, inl, inr, arith, option_map, eqb_tells, get_or-set_same, get_or-set_other, length-set, set-get_or, Applied, some_same, total, put, Plan, Place, IsPlace, at_word, arena_words, base, carried_word, carried_words, component_words, control_size, control_words, current_word, marked, packed, plain, set_word, arena_limit, Control, Owned, Port, Epoch, IsAt, IsEarlier, IsOld, IsOut, IsOwner, LawfulControl, MayPut, NotInto, Beside, IsArena, IsNew, IsSetting, IsStanding, LawfulEpochs, controls, numbers, place_now, IsPresent, Arrives, ArrivalsStayLawful, EntriesLoad, LooksAreTrue, MarksStayLawful, arrived, Stands, Marks, Loaded}
+use Rattle.partial_epochs.proofs.Common.{ℕ, ◌≡◌, ◌≢◌, ◌+◌, ◌<◌, ◌≤◌, ◌==◌, ◌⊎◌, Bool, true, false, cond, Option, Some, None, IfSome, List, length, get_or, set, refl, sym, ap, subst, ◌∙◌, inl, inr, arith, option_map, eqb_tells, get_or-set_same, get_or-set_other, length-set, set-get_or, Applied, some_same, total, put, Plan, Place, IsPlace, at_word, arena_words, base, carried_word, carried_words, component_words, control_size, control_words, current_word, marked, packed, plain, set_word, arena_limit, Control, Owned, Port, Epoch, IsPlaceWord, IsEarlier, IsOld, IsOut, IsOwner, LawfulControl, MayPut, NotInto, Beside, IsArena, IsNewPart, IsSetting, IsStanding, LawfulEpochs, controls, numbers, place_now, IsPresent, Arrives, ArrivalsStayLawful, EntriesLoad, LooksAreTrue, MarksStayLawful, arrived, Stands, Marks, Loaded}
 use Rattle.partial_epochs.proofs.ControlChange.{Goes, control_goes, own, putter}
 use Rattle.partial_epochs.proofs.Lists.{at_of, length_of, put_all, put_other, put_same, same_of, set_of}
 use Rattle.partial_epochs.proofs.Places.{packed_arena, set_place}
@@ -42,7 +42,7 @@ module _ (e : Plan) (words words' : List ℕ) (high : (i : ℕ) → control_size
     finished = w.finished;
     arenas = λ x r is. high_arenaed e words words' high x r (x ≢ b.arena) (w.arenas x r is);
     standing = λ q low. put_all (λ i (p : Port). i < e.ports → p.control.entering ≡ Stands → IsStanding b i p) k p' ports q (λ _ _. stand) (λ _ low. w.standing q low) low;
-    new = λ q x r low is. put_all (λ i (p : Port). i < e.ports → p.control.here.epoch < length r.before → IsNew e i r) k p' ports q
+    new = λ q x r low is. put_all (λ i (p : Port). i < e.ports → p.control.here.epoch < length r.before → IsNewPart e i r) k p' ports q
         (λ _ _ less. w.new k x r inside is (omega (arith, less, later))) (λ _ low. w.new q x r low is) low;
     setting = λ q low. put_all (λ i (p : Port). i < e.ports → IfSome p.control.owned (IsSetting e words' b p)) k p' ports q
         (λ _ _. settled)
@@ -155,7 +155,7 @@ module _ (e : Plan) (words : List ℕ) (ports : ℕ → Port) (b : Beside) (k : 
       here = (ports k).control.here
 
       placed_at : at_now ≡ packed (ports k).control.here
-      placed_at = subst (IsAt e (control_words e words) k (ports k).control.here) stands (w.control.at k inside)
+      placed_at = subst (IsPlaceWord e (control_words e words) k (ports k).control.here) stands (w.control.at k inside)
 
       older : get_or words current_word 0 ≢ packed (ports k).control.here → (ports k).control.here.epoch < length b.before
       older ne = elim (w.control.earlier (ports k).control.here.arena (ports k).control.here.epoch (w.control.stands k (ports k).control.here inside (w.control.places k inside) placed_at)) [
@@ -180,7 +180,7 @@ module _ (e : Plan) (words : List ℕ) (ports : ℕ → Port) (b : Beside) (k : 
             at_same (record (ports k) { control = c }) free free
                 (record {
                   place = w.control.places k inside;
-                  at = subst (IsAt e (set (control_words e words) (at_word k) v) k (ports k).control.here) (sym stands) (at ∙ placed_at);
+                  at = subst (IsPlaceWord e (set (control_words e words) (at_word k) v) k (ports k).control.here) (sym stands) (at ∙ placed_at);
                   old = w.control.old k inside;
                   past = λ _. less;
                   stands = λ d place is. w.control.stands k d inside place (at_is ∙ is);
@@ -238,7 +238,7 @@ module _ (e : Plan) (words : List ℕ) (ports : ℕ → Port) (b : Beside) (k : 
       at_same (record (ports k) { control = c }) free free
       (record {
         place = w.control.places k inside;
-        at = at_as v (subst (IsAt e (control_words e words) k (ports k).control.here) entering (w.control.at k inside)) at;
+        at = at_as v (subst (IsPlaceWord e (control_words e words) k (ports k).control.here) entering (w.control.at k inside)) at;
         old = (less, omega arith, w.control.place);
         past = w.control.past k inside;
         stands = λ d place is. w.control.stands k d inside place (at_is ∙ is);
@@ -257,8 +257,8 @@ module _ (e : Plan) (words : List ℕ) (ports : ℕ → Port) (b : Beside) (k : 
       owns_none None is h = is
       owns_none (Some o) is h = let stands = h.stands in absurd cc
 
-      at_as : (v : ℕ) → IsAt e (control_words e words) k (ports k).control.here Marks → get_or (set (control_words e words) (at_word k) v) (at_word k) 0 ≡ at_now →
-          IsAt e (set (control_words e words) (at_word k) v) k (ports k).control.here (Loaded (place_now b))
+      at_as : (v : ℕ) → IsPlaceWord e (control_words e words) k (ports k).control.here Marks → get_or (set (control_words e words) (at_word k) v) (at_word k) 0 ≡ at_now →
+          IsPlaceWord e (set (control_words e words) (at_word k) v) k (ports k).control.here (Loaded (place_now b))
       at_as v (inl h) at = inl (at ∙ h)
       at_as v (inr h) at = inr (h.0, h.1, at ∙ h.2, h.3)
 
@@ -321,9 +321,9 @@ module _ (e : Plan) (words : List ℕ) (ports : ℕ → Port) (b : Beside) (k : 
         )
 
   arrives : Arrives e words ports b k c
-  arrives = by (subst (IsAt e (control_words e words) k (ports k).control.here) entering (w.control.at k inside)) (at_is e words ports b k w inside)
+  arrives = by (subst (IsPlaceWord e (control_words e words) k (ports k).control.here) entering (w.control.at k inside)) (at_is e words ports b k w inside)
     where
-      by : IsAt e (control_words e words) k (ports k).control.here (Loaded c) → get_or (control_words e words) (at_word k) 0 ≡ get_or words (at_word k) 0 → Arrives e words ports b k c
+      by : IsPlaceWord e (control_words e words) k (ports k).control.here (Loaded c) → get_or (control_words e words) (at_word k) 0 ≡ get_or words (at_word k) 0 → Arrives e words ports b k c
       by (inl is) same =
           let raw : get_or words (at_word k) 0 ≡ mark = sym same ∙ is in
           let won : (get_or words (at_word k) 0 == mark) ≡ true = (elim (eqb_tells (get_or words (at_word k) 0) mark) [ inl t ↦ t.0 | inr f ↦ absurd (f.1 raw) ]) in

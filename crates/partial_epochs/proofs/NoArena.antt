@@ -1,5 +1,5 @@
 -- A change of epoch that finds no arena has found each one taken in each of its passes.
-use Rattle.partial_epochs.proofs.Common.{ℕ, zero, suc, ◌≡◌, ◌≢◌, ◌+◌, ◌*◌, ◌<◌, ◌≤◌, ◌==◌, ◌⊎◌, Bool, true, false, cond, Option, Some, None, List, refl, sym, ap, subst, ◌∙◌, inl, inr, arith, ⊤, nat_lt, cases_lt, eqb_tells, Call, CoreState, reply_of, Reply, first_free, Place, Plan, Port, Act, ChangeLeads, Changing, next_arena, next_component, next_load, next_pass, next_port, next_set, passes, Sees, Arrived, EndsPass, GivesBack, GivesUp, LoadsComponent, LoadsLast, LoadsPort, LooksAgain, LooksFirst, Publishes, PutsPort, Refuses, SealsComponent, SetsWord, TakesArena, CallStep, Doing, Leads, Run, after_step, answered, changed, ran, round, Answered, Changes, Judges, LoadsWord, Looks, Refused, Runs, Starts, Tells, last_loads}
+use Rattle.partial_epochs.proofs.Common.{ℕ, zero, suc, ◌≡◌, ◌≢◌, ◌+◌, ◌*◌, ◌<◌, ◌≤◌, ◌==◌, ◌⊎◌, Bool, true, false, cond, Option, Some, None, List, refl, sym, ap, subst, ◌∙◌, inl, inr, arith, ⊤, nat_lt, cases_lt, eqb_tells, Call, CoreState, reply_of, Reply, first_free, Place, Plan, Port, Act, ChangeLeads, Changing, next_arena, next_component, next_load, next_pass, next_port, next_set, passes, Sees, Arrived, EndsPass, GivesBack, GivesUp, LoadsComponent, LoadsLast, LoadsPort, LooksAgain, LooksFirst, Publishes, PutsPort, Refuses, SealsComponent, SetsWord, TakesArena, CallStep, Doing, CallLeads, RunsCall, after_step, behind_answer, changed, ran, round, Answered, Changes, Judges, LoadsWord, Looks, Refused, Runs, Starts, Tells, last_loads}
 use Rattle.partial_model.specs.declared.call.Call.TheVariants as call
 use Rattle.partial_machine.specs.declared.stage.Reply.TheVariants as reply
 use Rattle.partial_epochs.specs.Changing.Changing.{ExchangesMark, LoadsCurrent, LooksAsOwner, StoresMark}
@@ -94,7 +94,7 @@ module _ (e : Plan) where
   round_gone rounds (call.UpdateIf j x v) zero fresh few = tt
   round_gone rounds (call.UpdateIf j x v) (suc n) fresh few = few
 
-  answered_gone : (rounds : ℕ) (c : Call) (n : ℕ) (fresh : Bool) → n ≤ rounds → Gone rounds (answered c n fresh)
+  answered_gone : (rounds : ℕ) (c : Call) (n : ℕ) (fresh : Bool) → n ≤ rounds → Gone rounds (behind_answer c n fresh)
   answered_gone rounds (call.Scan js) n false few = few
   answered_gone rounds (call.Scan js) n true few = tt
   answered_gone rounds (call.Read j) n fresh few = tt
@@ -122,28 +122,29 @@ module _ (e : Plan) where
     | inr from ↦ inr (omega (arith, few, from), tt)
   ]
 
-  stays_gone : (rounds : ℕ) (words : List ℕ) (p : Port) (d : Doing) (a : Act) (d' : Doing) → Leads e words p d a d' → Gone rounds d → Gone rounds d'
-  stays_gone rounds words p _ _ _ (calls.Leads.ReadsWord j n fresh free) gone = tt
-  stays_gone rounds words p _ _ _ (calls.Leads.ReadsSealed j n sealed) gone = gone
-  stays_gone rounds words p _ _ _ (calls.Leads.ReadsOn j n here) gone = tt
-  stays_gone rounds words p _ _ _ (calls.Leads.TellsOn c i) gone = tt
-  stays_gone rounds words p _ _ _ (calls.Leads.TellsAll c i n note is) gone = tt
-  stays_gone rounds words p _ _ _ (calls.Leads.LoadsStamp j x v n fresh) gone = gone
-  stays_gone rounds words p _ _ _ (calls.Leads.FindsOther j x v n i fresh note is) gone = tt
-  stays_gone rounds words p _ _ _ (calls.Leads.LooksAtOther j x v n sealed) gone = gone
-  stays_gone rounds words p _ _ _ (calls.Leads.FindsExpected j x v n fresh) gone = gone
-  stays_gone rounds words p _ _ _ (calls.Leads.LooksAndAnswers c n i note is here) gone = tt
-  stays_gone rounds words p _ _ _ (calls.Leads.LooksAndEnters c n away) gone = enters_gone rounds c n gone
-  stays_gone rounds words p _ _ _ (calls.Leads.StartsSealed c n fresh update sealed) gone = inl (omega (arith, gone))
-  stays_gone rounds words p _ _ _ (calls.Leads.MakesFirst c n fresh s step is free unmet) gone = ran_gone rounds c n fresh (after_step e words p s step) (reply_of (after_step e words p s step)) gone
-  stays_gone rounds words p _ _ _ (calls.Leads.MakesNext c n fresh s step unmet) gone = ran_gone rounds c n fresh (after_step e words p s step) (reply_of (after_step e words p s step)) gone
-  stays_gone rounds words p _ _ _ (calls.Leads.MeetsTheSeal c n fresh s step update met) gone = inl (omega (arith, gone))
-  stays_gone rounds words p _ _ _ (calls.Leads.ChangesOn c n g a g2 leads) gone = elim gone [
+  stays_gone : (rounds : ℕ) (words : List ℕ) (p : Port) (d : Doing) (a : Act) (d' : Doing) → CallLeads e words p d a d' → Gone rounds d → Gone rounds d'
+  stays_gone rounds words p _ _ _ (calls.CallLeads.ReadsWord j n fresh free) gone = tt
+  stays_gone rounds words p _ _ _ (calls.CallLeads.ReadsSealed j n sealed) gone = gone
+  stays_gone rounds words p _ _ _ (calls.CallLeads.ReadsOn j n here) gone = tt
+  stays_gone rounds words p _ _ _ (calls.CallLeads.TellsOn c i) gone = tt
+  stays_gone rounds words p _ _ _ (calls.CallLeads.TellsAll c i n note is) gone = tt
+  stays_gone rounds words p _ _ _ (calls.CallLeads.LoadsStamp j x v n fresh) gone = gone
+  stays_gone rounds words p _ _ _ (calls.CallLeads.FindsOther j x v n i fresh note is) gone = tt
+  stays_gone rounds words p _ _ _ (calls.CallLeads.LooksAtOther j x v n sealed) gone = gone
+  stays_gone rounds words p _ _ _ (calls.CallLeads.FindsExpected j x v n fresh) gone = gone
+  stays_gone rounds words p _ _ _ (calls.CallLeads.LooksAndAnswers c n i note is here) gone = tt
+  stays_gone rounds words p _ _ _ (calls.CallLeads.LooksAndEnters c n away) gone = enters_gone rounds c n gone
+  stays_gone rounds words p _ _ _ (calls.CallLeads.StartsSealed c n fresh update sealed) gone = inl (omega (arith, gone))
+  stays_gone rounds words p _ _ _ (calls.CallLeads.MakesFirst c n fresh s step is free unmet) gone =
+      ran_gone rounds c n fresh (after_step e words p s step) (reply_of (after_step e words p s step)) gone
+  stays_gone rounds words p _ _ _ (calls.CallLeads.MakesNext c n fresh s step unmet) gone = ran_gone rounds c n fresh (after_step e words p s step) (reply_of (after_step e words p s step)) gone
+  stays_gone rounds words p _ _ _ (calls.CallLeads.MeetsTheSeal c n fresh s step update met) gone = inl (omega (arith, gone))
+  stays_gone rounds words p _ _ _ (calls.CallLeads.ChangesOn c n g a g2 leads) gone = elim gone [
     | inl less ↦ less_gone rounds c n g2 less
     | inr same ↦ late_gone rounds c n g2 same.0 (late_on words p g a g2 leads same.1)
   ]
 
-  never_back : (k m rounds : ℕ) (c : Call) (p p' : Port) (d : Doing) → Run e k m p d p' (Changes c rounds (EndsPass 0)) → Gone rounds d → ⊥
+  never_back : (k m rounds : ℕ) (c : Call) (p p' : Port) (d : Doing) → RunsCall e k m p d p' (Changes c rounds (EndsPass 0)) → Gone rounds d → ⊥
   never_back k zero rounds c p p' d r gone = elim (subst (Gone rounds) (sym r.1) gone) [
     | inl less ↦ omega (arith, less)
     | inr same ↦ same.1
@@ -151,24 +152,24 @@ module _ (e : Plan) where
   never_back k (suc m) rounds c p p' d r gone = never_back k m rounds c r.0.port p' r.0.next r.1 (stays_gone rounds r.0.words p d r.0.act r.0.next r.0.leads gone)
 
   -- a step of a call that is in a change of epoch
-  from_change : (words : List ℕ) (p : Port) (d : Doing) (a : Act) (d' : Doing) → Leads e words p d a d' → (c : Call) (n : ℕ) (g : Changing) → d ≡ Changes c n g →
+  from_change : (words : List ℕ) (p : Port) (d : Doing) (a : Act) (d' : Doing) → CallLeads e words p d a d' → (c : Call) (n : ℕ) (g : Changing) → d ≡ Changes c n g →
       (g' : Changing) × ChangeLeads e words p g a g' × (d' ≡ changed c n g')
-  from_change words p _ _ _ (calls.Leads.ReadsWord j n fresh free) c0 n0 u is' = absurd cc
-  from_change words p _ _ _ (calls.Leads.ReadsSealed j n sealed) c0 n0 u is' = absurd cc
-  from_change words p _ _ _ (calls.Leads.ReadsOn j n here) c0 n0 u is' = absurd cc
-  from_change words p _ _ _ (calls.Leads.TellsOn c i) c0 n0 u is' = absurd cc
-  from_change words p _ _ _ (calls.Leads.TellsAll c i n note is) c0 n0 u is' = absurd cc
-  from_change words p _ _ _ (calls.Leads.LoadsStamp j x v n fresh) c0 n0 u is' = absurd cc
-  from_change words p _ _ _ (calls.Leads.FindsOther j x v n i fresh note is) c0 n0 u is' = absurd cc
-  from_change words p _ _ _ (calls.Leads.LooksAtOther j x v n sealed) c0 n0 u is' = absurd cc
-  from_change words p _ _ _ (calls.Leads.FindsExpected j x v n fresh) c0 n0 u is' = absurd cc
-  from_change words p _ _ _ (calls.Leads.LooksAndAnswers c n i note is here) c0 n0 u is' = absurd cc
-  from_change words p _ _ _ (calls.Leads.LooksAndEnters c n away) c0 n0 u is' = absurd cc
-  from_change words p _ _ _ (calls.Leads.StartsSealed c n fresh update sealed) c0 n0 u is' = absurd cc
-  from_change words p _ _ _ (calls.Leads.MakesFirst c n fresh s step is free unmet) c0 n0 u is' = absurd cc
-  from_change words p _ _ _ (calls.Leads.MakesNext c n fresh s step unmet) c0 n0 u is' = absurd cc
-  from_change words p _ _ _ (calls.Leads.MeetsTheSeal c n fresh s step update met) c0 n0 u is' = absurd cc
-  from_change words p _ _ _ (calls.Leads.ChangesOn c2 n2 g0 a g2 leads) c0 n0 u is' =
+  from_change words p _ _ _ (calls.CallLeads.ReadsWord j n fresh free) c0 n0 u is' = absurd cc
+  from_change words p _ _ _ (calls.CallLeads.ReadsSealed j n sealed) c0 n0 u is' = absurd cc
+  from_change words p _ _ _ (calls.CallLeads.ReadsOn j n here) c0 n0 u is' = absurd cc
+  from_change words p _ _ _ (calls.CallLeads.TellsOn c i) c0 n0 u is' = absurd cc
+  from_change words p _ _ _ (calls.CallLeads.TellsAll c i n note is) c0 n0 u is' = absurd cc
+  from_change words p _ _ _ (calls.CallLeads.LoadsStamp j x v n fresh) c0 n0 u is' = absurd cc
+  from_change words p _ _ _ (calls.CallLeads.FindsOther j x v n i fresh note is) c0 n0 u is' = absurd cc
+  from_change words p _ _ _ (calls.CallLeads.LooksAtOther j x v n sealed) c0 n0 u is' = absurd cc
+  from_change words p _ _ _ (calls.CallLeads.FindsExpected j x v n fresh) c0 n0 u is' = absurd cc
+  from_change words p _ _ _ (calls.CallLeads.LooksAndAnswers c n i note is here) c0 n0 u is' = absurd cc
+  from_change words p _ _ _ (calls.CallLeads.LooksAndEnters c n away) c0 n0 u is' = absurd cc
+  from_change words p _ _ _ (calls.CallLeads.StartsSealed c n fresh update sealed) c0 n0 u is' = absurd cc
+  from_change words p _ _ _ (calls.CallLeads.MakesFirst c n fresh s step is free unmet) c0 n0 u is' = absurd cc
+  from_change words p _ _ _ (calls.CallLeads.MakesNext c n fresh s step unmet) c0 n0 u is' = absurd cc
+  from_change words p _ _ _ (calls.CallLeads.MeetsTheSeal c n fresh s step update met) c0 n0 u is' = absurd cc
+  from_change words p _ _ _ (calls.CallLeads.ChangesOn c2 n2 g0 a g2 leads) c0 n0 u is' =
       (g2, subst (λ (u : Changing). ChangeLeads e words p u a g2) (ap change_in is') leads, ap (λ (u : Call). changed u n2 g2) (ap call_in is') ∙ ap (λ i. changed c0 i g2) (ap rounds_in is'))
 
   module _ (own n x : ℕ) (few : n < passes e) (inside : x < e.arenas) (other : x ≢ own) where
@@ -283,15 +284,16 @@ module _ (e : Plan) where
     ahead_changes c rounds _ ahead = refl
 
     found : (k m rounds : ℕ) (c : Call) (p p' : Port) (d : Doing) (g : Changing) → k < e.ports → d ≡ Changes c rounds g → p.control.here.arena ≡ own → Ahead g →
-        (r : Run e k m p d p' (Changes c rounds (EndsPass 0))) → SomeFindsTaken e k m p d p' (Changes c rounds (EndsPass 0)) r n x
+        (r : RunsCall e k m p d p' (Changes c rounds (EndsPass 0))) → SomeFindsTaken e k m p d p' (Changes c rounds (EndsPass 0)) r n x
     found k zero rounds c p p' d g below is here ahead r =
         let last : EndsPass 0 ≡ g = ap change_in (r.1 ∙ is) in
         let bad : n < 0 = subst Ahead (sym last) ahead in
         absurd (omega (arith, bad))
     found k (suc m) rounds c p p' d g below is here ahead r = by r.0 r.1 (from_change r.0.words p d r.0.act r.0.next r.0.leads c rounds g is) (found k m rounds c r.0.port p' r.0.next)
       where
-        by : (s : CallStep e k p d) (rest : Run e k m s.port s.next p' (Changes c rounds (EndsPass 0))) (f : (g' : Changing) × ChangeLeads e s.words p g s.act g' × (s.next ≡ changed c rounds g')) →
-            ((g' : Changing) → k < e.ports → s.next ≡ Changes c rounds g' → s.port.control.here.arena ≡ own → Ahead g' → (r : Run e k m s.port s.next p' (Changes c rounds (EndsPass 0))) →
+        by : (s : CallStep e k p d) (rest : RunsCall e k m s.port s.next p' (Changes c rounds (EndsPass 0)))
+            (f : (g' : Changing) × ChangeLeads e s.words p g s.act g' × (s.next ≡ changed c rounds g')) →
+            ((g' : Changing) → k < e.ports → s.next ≡ Changes c rounds g' → s.port.control.here.arena ≡ own → Ahead g' → (r : RunsCall e k m s.port s.next p' (Changes c rounds (EndsPass 0))) →
             SomeFindsTaken e k m s.port s.next p' (Changes c rounds (EndsPass 0)) r n x) →
             FindsTaken e k p d s n x ⊎ SomeFindsTaken e k m s.port s.next p' (Changes c rounds (EndsPass 0)) rest n x
         by s rest f go = elim (step_ahead s.words p here g s.act f.0 f.1 ahead) [

@@ -1,9 +1,9 @@
 -- Each step of a machine keeps the notes lawful, over all epochs.
-use Rattle.partial_epochs.proofs.Common.{ℕ, suc, ◌≡◌, ◌≢◌, ◌+◌, ◌<◌, ◌≤◌, ◌==◌, ◌⊎◌, ◌++◌, Bool, true, false, cond, Option, Some, None, IfSome, List, [], ◌∷◌, length, map, refl, sym, ap, subst, ◌∙◌, inl, inr, arith, length-append, AllByRecursion, option_map, eqb_tells, append-nil, append_cancel_left, map-append, Applied, Opening, Note, Fits, IsLegal, IsTrueOf, LegalNotes, Noted, place_of, seen_by, shown_by, EachOnce, places_by, places_written, wrote, all_take, some_same, Step, Layout, first_free, answer_of, words_after, Reply, CoreState, advance, reply_of, answer_for, Holding, Part, core_of, first_at, port_of, holdings, AreKept, AreNotesOf, IsNoteOf, kept_with, since_with, list_of, put, Plan, arena_words, placed, history_of, opening_behind, public_log, Control, Epoch, Port, Stands, Beside, IsPresent, IsStanding, MachineLeads, MayAdd, is_applied, Makes, ExpectedOne, IsEpochHistory, LawfulMemory, LawfulNotes, MayNote, NotesStayLawful, Reached, noting, one_history, public_answer, public_call, public_note, public_noted, seen_of}
+use Rattle.partial_epochs.proofs.Common.{ℕ, suc, ◌≡◌, ◌≢◌, ◌+◌, ◌<◌, ◌≤◌, ◌==◌, ◌⊎◌, ◌++◌, Bool, true, false, cond, Option, Some, None, IfSome, List, [], ◌∷◌, length, map, refl, sym, ap, subst, ◌∙◌, inl, inr, arith, length-append, AllByRecursion, option_map, eqb_tells, append-nil, append_cancel_left, map-append, Applied, Opening, Note, Fits, IsLegal, IsTrueOf, LegalNotes, Noted, place_of, seen_by, shown_by, EachOnce, places_by, places_written, wrote, all_take, some_same, Step, Layout, first_free, answer_of, words_after, Reply, CoreState, advance, reply_of, answer_for, Holding, Part, core_of, first_at, port_of, holdings, AreAnswersKept, AreNotesOf, IsNoteOf, kept_with, since_with, list_of, put, Plan, arena_words, placed, history_of, opening_behind, public_log, Control, Epoch, Port, Stands, Beside, IsPresent, IsStanding, MachineLeads, MayAdd, is_applied, Makes, ExpectedOne, IsEpochHistory, LawfulMemory, LawfulNotes, MayNote, NotesStayLawful, Reached, noting, one_history, public_answer, public_call, public_note, public_noted, seen_of}
 use Rattle.partial_model.specs.declared.call.Note.TheVariants as note
 use Rattle.partial_model.proofs.NotesLemmas.{LegalNotes-grows, LegalNotes-last, LegalNotes-push, IsTrueOf-grows, places_written-append, seen_by-push}
 use Rattle.partial_machine.specs.declared.stage.Reply.TheVariants as reply
-use Rattle.partial_state.specs.Loads.{Kept}
+use Rattle.partial_state.specs.Loads.{KeptAnswer}
 use Rattle.partial_core.proofs.Parts.{seen_within as no_longer}
 use Rattle.partial_epochs.proofs.Lists.{put_all, put_other, put_same}
 use Rattle.partial_epochs.proofs.OneHistory.{held_history}
@@ -78,7 +78,8 @@ shown_public off (note.Wrote k) = omega arith
 shown_public off (note.Lost k) = omega arith
 shown_public off (note.Saw k) = refl
 
-first_behind : (z : Layout) (o : Opening) (words : List ℕ) (hs : List Holding) (log : List Applied) (low : ℕ) (s : CoreState) (ks : List Kept) → AreKept z o words hs log low s ks → 0 < length ks →
+first_behind : (z : Layout) (o : Opening) (words : List ℕ) (hs : List Holding) (log : List Applied) (low : ℕ) (s : CoreState) (ks : List KeptAnswer) → AreAnswersKept z o words hs log low s ks →
+    0 < length ks →
     low ≤ first_at ks
 first_behind z o words hs log low s [] w some = absurd (omega (arith, some))
 first_behind z o words hs log low s (k ∷ ks) w some = w.0.behind
@@ -240,9 +241,9 @@ module _ (e : Plan) (words : List ℕ) (ports : ℕ → Port) (b : Beside) (note
   since_low : since_with c (ports k).part ≤ first_at lead.port.part.kept
   since_low =
       let kn = known e words' ports' lead.beside lead.lawful k below lead.port s' in
-      let last : List Kept = record { answer = answer_of (arena_words e words (ports k).control.here.arena) step; at = length (lead.standing.epoch.log ++ lead.entries) } ∷ [] in
+      let last : List KeptAnswer = record { answer = answer_of (arena_words e words (ports k).control.here.arena) step; at = length (lead.standing.epoch.log ++ lead.entries) } ∷ [] in
       let kept : lead.port.part.kept ≡ kept_with c (ports k).part ++ last = ap (λ (p : Part). p.kept) lead.tells.part in
-      let long = ap (λ (l : List Kept). length l) kept in
+      let long = ap (λ (l : List KeptAnswer). length l) kept in
       let both = length-append (kept_with c (ports k).part) last in
       let one : length last ≡ 1 = refl in
       let low : lead.port.part.since ≤ first_at lead.port.part.kept =

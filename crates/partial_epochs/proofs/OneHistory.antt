@@ -1,5 +1,5 @@
 -- The histories of all epochs, one behind the other, are one history.
-use Rattle.partial_epochs.proofs.Common.{ℕ, zero, suc, ◌≡◌, ◌≢◌, ◌+◌, ◌*◌, ◌<◌, ◌≤◌, ◌++◌, Some, List, [], ◌∷◌, length, map, slice_get, Contains, get_or, refl, sym, ap, subst, ◌∙◌, inl, inr, arith, length-append, append_assoc, AllByRecursion, mul-le-mul_right, cases_lt, eqb_tells, length-map, Applied, HaveDistinctStamps, IsHistory, initial_stamp, all_append, all_map, all_weaker, distinct_at, first_free, total, IsEntry, Part, port_of, lawful_ports_fit, list_of, Plan, arena_words, epoch_limit, history_of, opening_behind, public_entry, public_log, stamp_limit, Epoch, Port, Beside, IsPlan, LawfulEpochs, EpochsFitOneHistory, IsEpochHistory, PublicStampsAreUnique, Reached, one_history, seen_of}
+use Rattle.partial_epochs.proofs.Common.{ℕ, zero, suc, ◌≡◌, ◌≢◌, ◌+◌, ◌*◌, ◌<◌, ◌≤◌, ◌++◌, Some, List, [], ◌∷◌, length, map, slice_get, Contains, get_or, refl, sym, ap, subst, ◌∙◌, inl, inr, arith, length-append, append_assoc, AllByRecursion, mul-le-mul_right, cases_lt, eqb_tells, length-map, Applied, HaveDistinctStamps, IsHistory, initial_stamp, all_append, all_map, all_weaker, distinct_at, first_free, total, IsEntry, Part, port_of, lawful_ports_fit, list_of, Plan, arena_words, epoch_limit, history_of, opening_behind, public_entry, public_log, stamp_limit, Epoch, Port, Beside, IsEpochPlan, LawfulEpochs, EpochsFitOneHistory, IsEpochHistory, PublicStampsAreUnique, Reached, one_history, seen_of}
 use Rattle.partial_words.specs.Record.{plain_record_size}
 
 -- two histories whose stamps lie apart
@@ -48,7 +48,7 @@ above_all : (e : Plan) (hs : List (List Applied)) → AllByRecursion (IsEpochHis
 above_all e hs all = each_entry e (λ (x : Applied). first_free e.sizes ≤ x.stamp) (λ g x h. omega (arith, h)) hs
     (all_weaker (IsEpochHistory e) (AllByRecursion (λ (x : Applied). first_free e.sizes ≤ x.stamp)) (λ h w. w.above) hs all)
 
-pub all_epochs_are_history : (e : Plan) → IsPlan e → (hs : List (List Applied)) → AllByRecursion (IsEpochHistory e) hs → IsHistory e.opening (history_of hs)
+pub all_epochs_are_history : (e : Plan) → IsEpochPlan e → (hs : List (List Applied)) → AllByRecursion (IsEpochHistory e) hs → IsHistory e.opening (history_of hs)
 all_epochs_are_history e p hs all = record {
   components = each_entry e (λ (x : Applied). x.component < length e.opening.values) (λ g x h. h) hs
       (all_weaker (IsEpochHistory e) (AllByRecursion (λ (x : Applied). x.component < length e.opening.values))

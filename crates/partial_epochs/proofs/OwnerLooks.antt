@@ -1,5 +1,5 @@
 -- A port that owns an arena looks; and the claims of a port that is within the limit have room.
-use Rattle.partial_epochs.proofs.Common.{ℕ, zero, suc, ◌≡◌, ◌≢◌, ◌+◌, ◌*◌, ◌<◌, ◌≤◌, ◌==◌, ◌⊎◌, Bool, true, false, cond, Option, Some, None, IfSome, List, get_or, refl, sym, ap, subst, ◌∙◌, inl, inr, arith, eqb_tells, mul-le-mul_left, greatest_record, count, put, Plan, Place, IsPlace, at_word, control_words, marked, Control, Entering, Owned, IsAt, IsEarlier, IsOld, IsOut, IsOwner, LawfulControl, MayPut, NotInto, IsSetting, controls, numbers, place_now, ClaimsHaveRoom, OwnersLook, having_looked, Stands, Marks, Loaded}
+use Rattle.partial_epochs.proofs.Common.{ℕ, zero, suc, ◌≡◌, ◌≢◌, ◌+◌, ◌*◌, ◌<◌, ◌≤◌, ◌==◌, ◌⊎◌, Bool, true, false, cond, Option, Some, None, IfSome, List, get_or, refl, sym, ap, subst, ◌∙◌, inl, inr, arith, eqb_tells, mul-le-mul_left, greatest_record, count, put, Plan, Place, IsPlace, at_word, control_words, marked, Control, Entering, Owned, IsPlaceWord, IsEarlier, IsOld, IsOut, IsOwner, LawfulControl, MayPut, NotInto, IsSetting, controls, numbers, place_now, ClaimsHaveRoom, OwnersLook, having_looked, Stands, Marks, Loaded}
 use Rattle.partial_epochs.proofs.Entering.{control_lifted, current_is}
 use Rattle.partial_epochs.proofs.Lists.{put_all, put_other}
 use Rattle.partial_epochs.proofs.Places.{packed_arena}
@@ -93,7 +93,7 @@ module _ (e : Plan) (words : List ℕ) (cs : ℕ → Control) (now : Place) (hol
     earlier = w.earlier;
     within = w.within;
     places = λ q low. subst (IsPlace e) (sym (same_here q)) (w.places q low);
-    at = λ q low. subst (λ (d : Place). IsAt e words q d (cs' q).entering) (sym (same_here q)) (subst (IsAt e words q (cs q).here) (sym (same_entering q)) (w.at q low));
+    at = λ q low. subst (λ (d : Place). IsPlaceWord e words q d (cs' q).entering) (sym (same_here q)) (subst (IsPlaceWord e words q (cs q).here) (sym (same_entering q)) (w.at q low));
     old = λ q low. subst (λ (d : Place). IsOld e now.epoch d (cs' q).entering) (sym (same_here q)) (subst (IsOld e now.epoch (cs q).here) (sym (same_entering q)) (w.old q low));
     past = λ q low. put_all (λ i (d : Control). i < e.ports → d.past ≡ true → d.here.epoch < now.epoch) k c cs q (λ _ low. w.past k low) (λ _ low. w.past q low) low;
     stands = w.stands;

@@ -1,5 +1,5 @@
 -- A port changes what it knows, and stays where it is.
-use Rattle.partial_epochs.proofs.Common.{ℕ, ◌≡◌, ◌≢◌, ◌<◌, true, Option, Some, None, IfSome, List, refl, sym, ap, subst, ◌∙◌, put, Plan, Place, IsPlace, marked, Control, Entering, Owned, IsAt, IsEarlier, IsOld, IsOut, IsOwner, LawfulControl, MayPut, NotInto}
+use Rattle.partial_epochs.proofs.Common.{ℕ, ◌≡◌, ◌≢◌, ◌<◌, true, Option, Some, None, IfSome, List, refl, sym, ap, subst, ◌∙◌, put, Plan, Place, IsPlace, marked, Control, Entering, Owned, IsPlaceWord, IsEarlier, IsOld, IsOut, IsOwner, LawfulControl, MayPut, NotInto}
 use Rattle.partial_epochs.proofs.Lists.{put_all}
 
 -- port k changes what it knows, and stays where it is
@@ -54,7 +54,7 @@ module _ (e : Plan) (words : List ℕ) (cs : ℕ → Control) (now : Place) (hol
     earlier = w.earlier;
     within = w.within;
     places = λ q low. subst (IsPlace e) (sym (same_here q)) (w.places q low);
-    at = λ q low. subst (λ (d : Place). IsAt e words q d (cs' q).entering) (sym (same_here q)) (subst (IsAt e words q (cs q).here) (sym (same_entering q)) (w.at q low));
+    at = λ q low. subst (λ (d : Place). IsPlaceWord e words q d (cs' q).entering) (sym (same_here q)) (subst (IsPlaceWord e words q (cs q).here) (sym (same_entering q)) (w.at q low));
     old = λ q low. subst (λ (d : Place). IsOld e now.epoch d (cs' q).entering) (sym (same_here q)) (subst (IsOld e now.epoch (cs q).here) (sym (same_entering q)) (w.old q low));
     past = λ q low. put_all (λ i (d : Control). i < e.ports → d.past ≡ true → d.here.epoch < now.epoch) k c cs q
         (λ _ _ is. subst (λ (d : Place). d.epoch < now.epoch) (sym here) (past is)) (λ _ low. w.past q low) low;

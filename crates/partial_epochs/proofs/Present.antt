@@ -1,5 +1,5 @@
 -- An unsealed word is one of the present epoch.
-use Rattle.partial_epochs.proofs.Common.{ℕ, ◌≡◌, ◌<◌, List, length, sym, ap, subst, ◌∙◌, inl, inr, slice_index, option_map, eqb_tells, some_same, Plan, Place, IsSealed, component_words, Port, Epoch, IsAt, Beside, place_now, IsStanding, LawfulEpochs, IsPresent, UnsealedIsPresent, Stands}
+use Rattle.partial_epochs.proofs.Common.{ℕ, ◌≡◌, ◌<◌, List, length, sym, ap, subst, ◌∙◌, inl, inr, slice_index, option_map, eqb_tells, some_same, Plan, Place, IsSealed, component_words, Port, Epoch, IsPlaceWord, Beside, place_now, IsStanding, LawfulEpochs, IsPresent, UnsealedIsPresent, Stands}
 
 pub same_place : (p q : Place) → p.epoch ≡ q.epoch → p.arena ≡ q.arena → p ≡ q
 same_place p q r s = ap (λ (n : ℕ). record p { epoch = n }) r ∙ ap (λ (n : ℕ). record q { arena = n }) s
@@ -15,7 +15,7 @@ module _ (e : Plan) (words : List ℕ) (ports : ℕ → Port) (b : Beside) (k : 
   -- the number of its epoch
   pub numbered : length standing.epoch.before ≡ here.epoch
   numbered =
-      let at = subst (IsAt e _ k here) stands (w.control.at k below) in
+      let at = subst (IsPlaceWord e _ k here) stands (w.control.at k below) in
       let held = w.control.stands k here below (w.control.places k below) at in
       some_same (ap (option_map (λ (r : Epoch). length r.before)) (sym standing.is) ∙ held)
 

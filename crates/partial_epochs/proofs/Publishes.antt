@@ -1,5 +1,5 @@
 -- The exchange of the current word opens the next epoch.
-use Rattle.partial_epochs.proofs.Common.{ℕ, zero, suc, ◌≡◌, ◌≢◌, ◌+◌, ◌-◌, ◌<◌, ◌≤◌, ◌==◌, ◌⊎◌, Bool, true, false, cond, Option, Some, None, IfSome, List, [], ◌∷◌, length, get_or, set, refl, sym, ap, subst, ◌∙◌, inl, inr, arith, option_map, cases_lt, lt-ltb, eqb_tells, get_or-set_same, get_or-set_other, length-set, set-get_or, Applied, Opening, value_of, some_same, Layout, total, first_free, pool_counter, slot_counter, Part, fresh_part, fresh_parts, list_of, put, IsAsked, Plan, Place, IsSealed, at_word, arena_words, base, carried_word, carried_words, component_words, control_size, control_words, current_word, packed, plain, seal, carried_behind, opening_behind, Control, Owned, Port, Epoch, IsAt, IsOut, IsOwner, LawfulControl, MayPut, Beside, IsArena, IsFinished, IsNew, IsSetting, IsStanding, LawfulEpochs, awaits_slot, controls, numbers, place_now, IsPresent, IsWhole, PublishesStayLawful, having_published, next_beside, next_place, next_epoch, resting, OpensOver, Stands, not_below}
+use Rattle.partial_epochs.proofs.Common.{ℕ, zero, suc, ◌≡◌, ◌≢◌, ◌+◌, ◌-◌, ◌<◌, ◌≤◌, ◌==◌, ◌⊎◌, Bool, true, false, cond, Option, Some, None, IfSome, List, [], ◌∷◌, length, get_or, set, refl, sym, ap, subst, ◌∙◌, inl, inr, arith, option_map, cases_lt, lt-ltb, eqb_tells, get_or-set_same, get_or-set_other, length-set, set-get_or, Applied, Opening, value_of, some_same, Layout, total, first_free, pool_counter, slot_counter, Part, fresh_part, fresh_parts, list_of, put, IsAsked, Plan, Place, IsSealed, at_word, arena_words, base, carried_word, carried_words, component_words, control_size, control_words, current_word, packed, plain, seal, carried_behind, opening_behind, Control, Owned, Port, Epoch, IsPlaceWord, IsOut, IsOwner, LawfulControl, MayPut, Beside, IsArena, IsFinished, IsNewPart, IsSetting, IsStanding, LawfulEpochs, awaits_slot, controls, numbers, place_now, IsPresent, IsWholeArena, PublishesStayLawful, having_published, next_beside, next_place, next_epoch, resting, OpensOver, Stands, not_below}
 use Rattle.partial_words.specs.Chain.{opening_word}
 use Rattle.partial_core.specs.Lawful as one
 use Rattle.partial_epochs.proofs.Entering.{control_lifted, current_is, cw_long, high_arenaed}
@@ -26,7 +26,7 @@ pub fresh_list : (z : Layout) (p n : ℕ) → list_of (fresh_part z) p n ≡ fre
 fresh_list z p zero = refl
 fresh_list z p (suc n) = ap (λ (l : List Part). fresh_part z p ∷ l) (fresh_list z (p + 1) n)
 
-module _ (e : Plan) (words : List ℕ) (ports : ℕ → Port) (b : Beside) (k : ℕ) (o : Owned) (w : LawfulEpochs e words ports b) (below : k < e.ports) (whole : IsWhole e (ports k) o) where
+module _ (e : Plan) (words : List ℕ) (ports : ℕ → Port) (b : Beside) (k : ℕ) (o : Owned) (w : LawfulEpochs e words ports b) (below : k < e.ports) (whole : IsWholeArena e (ports k) o) where
   abbrev cw : List ℕ
   cw = control_words e words
 
@@ -80,7 +80,7 @@ module _ (e : Plan) (words : List ℕ) (ports : ℕ → Port) (b : Beside) (k : 
   rests_setting l d p = record { few = omega arith; sealed = λ less. absurd (omega (arith, less)); each = λ at i less _. absurd (omega (arith, less)) }
 
   placed_here : get_or (control_words e words) (at_word k) 0 ≡ packed (ports k).control.here
-  placed_here = subst (IsAt e (control_words e words) k (ports k).control.here) own.stands (w.control.at k below)
+  placed_here = subst (IsPlaceWord e (control_words e words) k (ports k).control.here) own.stands (w.control.at k below)
 
   abbrev p' : Port
   p' = having_published (ports k) o
@@ -127,7 +127,7 @@ module _ (e : Plan) (words : List ℕ) (ports : ℕ → Port) (b : Beside) (k : 
     -- no port stands in the arena
     not_stood : (q : ℕ) → q < e.ports → (ports q).control.entering ≡ Stands → (ports q).control.here.arena ≢ o.arena
     not_stood q low stands =
-        let mine : get_or (control_words e words) (at_word q) 0 ≡ packed (ports q).control.here = subst (IsAt e (control_words e words) q (ports q).control.here) stands (w.control.at q low) in
+        let mine : get_or (control_words e words) (at_word q) 0 ≡ packed (ports q).control.here = subst (IsPlaceWord e (control_words e words) q (ports q).control.here) stands (w.control.at q low) in
         elim (eqb_tells q k) [
           | inl same ↦ λ is. looked (sym here_arena.1 ∙ ap (λ i. (ports i).control.here.arena) (sym same.1) ∙ is)
           | inr ne ↦ (out q low ne.1).unmarked (ports q).control.here (w.control.places q low) mine
@@ -322,10 +322,10 @@ module _ (e : Plan) (words : List ℕ) (ports : ℕ → Port) (b : Beside) (k : 
         (record { epoch = s.epoch; is = s.is; before = s.before; part = s.part; passed = s.passed; over = s.over }))
         (λ ne low stands. stands_then q (ports q) (not_stood q low stands) (w.standing q low stands)) low
 
-    new_then : (q y : ℕ) (r : Epoch) → q < e.ports → b'.holds y ≡ Some r → (put k p' ports q).control.here.epoch < length r.before → IsNew e q r
+    new_then : (q y : ℕ) (r : Epoch) → q < e.ports → b'.holds y ≡ Some r → (put k p' ports q).control.here.epoch < length r.before → IsNewPart e q r
     new_then q y r low is less =
         let same : (put k p' ports q).control.here ≡ (ports q).control.here = put_all (λ i (p : Port). p.control.here ≡ (ports i).control.here) k p' ports q (λ _. refl) (λ _. refl) in
-        held (λ r. (put k p' ports q).control.here.epoch < length r.before → IsNew e q r) y r is
+        held (λ r. (put k p' ports q).control.here.epoch < length r.before → IsNewPart e q r) y r is
         (λ _ _. record { part = refl; passed = refl; over = refl })
         (λ _ was less. w.new q y r low was (subst (λ (d : Place). d.epoch < length r.before) same less)) less
 

@@ -1,5 +1,5 @@
 -- The control words as the next epoch is published.
-use Rattle.partial_epochs.proofs.Common.{ℕ, ◌≡◌, ◌≢◌, ◌+◌, ◌<◌, ◌≤◌, ◌⊎◌, true, false, Option, Some, None, IfSome, List, length, get_or, set, refl, sym, ap, subst, ◌∙◌, inl, inr, arith, eqb_tells, get_or-set_same, get_or-set_other, some_same, put, Plan, Place, IsPlace, at_word, control_size, current_word, packed, arena_limit, epoch_limit, Control, Entering, Owned, IsAt, IsMarked, IsOld, IsOut, IsOwner, LawfulControl, NotInto, Stands, Marks, Loaded}
+use Rattle.partial_epochs.proofs.Common.{ℕ, ◌≡◌, ◌≢◌, ◌+◌, ◌<◌, ◌≤◌, ◌⊎◌, true, false, Option, Some, None, IfSome, List, length, get_or, set, refl, sym, ap, subst, ◌∙◌, inl, inr, arith, eqb_tells, get_or-set_same, get_or-set_other, some_same, put, Plan, Place, IsPlace, at_word, control_size, current_word, packed, arena_limit, epoch_limit, Control, Entering, Owned, IsPlaceWord, IsStillMarked, IsOld, IsOut, IsOwner, LawfulControl, NotInto, Stands, Marks, Loaded}
 use Rattle.partial_epochs.proofs.Places.{packed_arena}
 use Rattle.partial_epochs.proofs.Lists.{put_all, put_other, put_same}
 
@@ -30,7 +30,7 @@ module _ (e : Plan) (words : List ℕ) (cs : ℕ → Control) (now : Place) (hol
     where
       own : get_or words (at_word k) 0 ≡ packed d → d.arena ≢ x
       own at =
-          let mine : get_or words (at_word k) 0 ≡ packed (cs k).here = subst (IsAt e words k (cs k).here) stands (w.at k below) in
+          let mine : get_or words (at_word k) 0 ≡ packed (cs k).here = subst (IsPlaceWord e words k (cs k).here) stands (w.at k below) in
           let arena : (cs k).here.arena ≡ now.arena = ap (λ (d : Place). d.arena) here in
           let same = packed_arena e (cs k).here d few (w.places k below).arena place.arena (sym mine ∙ at) in
           λ is. apart (sym arena ∙ same.1 ∙ is)
@@ -68,7 +68,7 @@ module _ (e : Plan) (words : List ℕ) (cs : ℕ → Control) (now : Place) (hol
   owner_of q None low is h = tt
   owner_of q (Some o) low is h = owner_then q o low is h
 
-  at_then : (q : ℕ) (d : Place) (t : Entering) → IsAt e words q d t → IsAt e words' q d t
+  at_then : (q : ℕ) (d : Place) (t : Entering) → IsPlaceWord e words q d t → IsPlaceWord e words' q d t
   at_then q d Stands h = other (at_word q) (omega arith) ∙ h
   at_then q d Marks (inl h) = inl (other (at_word q) (omega arith) ∙ h)
   at_then q d Marks (inr h) = inr (h.0, h.1, other (at_word q) (omega arith) ∙ h.2, h.3)
@@ -81,7 +81,7 @@ module _ (e : Plan) (words : List ℕ) (cs : ℕ → Control) (now : Place) (hol
   old_then d (Loaded f) h = let less = h.1 in (h.0, omega (arith, less), h.2)
 
   -- where a port is about to come isn't the arena x
-  not_coming : (q : ℕ) (d : Place) → q < e.ports → (cs q).entering ≡ Loaded d → IsMarked words (cs q) q → d.arena ≢ x
+  not_coming : (q : ℕ) (d : Place) → q < e.ports → (cs q).entering ≡ Loaded d → IsStillMarked words (cs q) q → d.arena ≢ x
   not_coming q d low is at = elim (eqb_tells q k) [
     | inl same ↦ let bad : Stands ≡ Loaded d = sym stands ∙ sym (ap (λ i. (cs i).entering) same.1) ∙ is in absurd cc
     | inr ne ↦ subst (NotInto x) is ((out q low ne.1).loaded at)

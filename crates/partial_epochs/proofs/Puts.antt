@@ -1,5 +1,5 @@
 -- A port puts another one where it stands itself.
-use Rattle.partial_epochs.proofs.Common.{ℕ, ◌≡◌, ◌≢◌, ◌+◌, ◌<◌, ◌≤◌, ◌==◌, ◌⊎◌, Bool, true, false, cond, Option, Some, None, IfSome, List, length, get_or, set, refl, sym, ap, subst, ◌∙◌, inl, inr, arith, eqb_tells, get_or-set_same, get_or-set_other, length-set, put, Plan, Place, IsPlace, at_word, control_size, control_words, current_word, marked, packed, arena_limit, Control, Entering, Owned, Port, IsAt, IsEarlier, IsMarked, IsOut, IsOwner, LawfulControl, MayPut, Beside, LawfulEpochs, controls, numbers, place_now, PutsStayLawful, cleaner, having_put, Stands, Marks, Loaded}
+use Rattle.partial_epochs.proofs.Common.{ℕ, ◌≡◌, ◌≢◌, ◌+◌, ◌<◌, ◌≤◌, ◌==◌, ◌⊎◌, Bool, true, false, cond, Option, Some, None, IfSome, List, length, get_or, set, refl, sym, ap, subst, ◌∙◌, inl, inr, arith, eqb_tells, get_or-set_same, get_or-set_other, length-set, put, Plan, Place, IsPlace, at_word, control_size, control_words, current_word, marked, packed, arena_limit, Control, Entering, Owned, Port, IsPlaceWord, IsEarlier, IsStillMarked, IsOut, IsOwner, LawfulControl, MayPut, Beside, LawfulEpochs, controls, numbers, place_now, PutsStayLawful, cleaner, having_put, Stands, Marks, Loaded}
 use Rattle.partial_epochs.proofs.Entering.{control_lifted, cw_at, cw_long, marked_epoch, not_marked}
 use Rattle.partial_epochs.proofs.Lists.{set_of}
 use Rattle.partial_epochs.proofs.Owning.{knows_more}
@@ -26,7 +26,7 @@ module _ (e : Plan) (words : List ℕ) (cs : ℕ → Control) (now : Place) (hol
   place = w.places k below
 
   mine : get_or words (at_word k) 0 ≡ packed (cs k).here
-  mine = subst (IsAt e words k (cs k).here) own.stands (w.at k below)
+  mine = subst (IsPlaceWord e words k (cs k).here) own.stands (w.at k below)
 
   may : MayPut (cs k) o.clean a
   may = record { owned = o; is = owned; port = refl; mark = mark; again = again }
@@ -88,7 +88,7 @@ module _ (e : Plan) (words : List ℕ) (cs : ℕ → Control) (now : Place) (hol
   owner_of r None h = tt
   owner_of r (Some t) h = owner_then r t h
 
-  at_q : (t : Entering) → (cs o.clean).entering ≡ t → IsAt e words o.clean (cs o.clean).here t → IsAt e words' o.clean (cs o.clean).here t
+  at_q : (t : Entering) → (cs o.clean).entering ≡ t → IsPlaceWord e words o.clean (cs o.clean).here t → IsPlaceWord e words' o.clean (cs o.clean).here t
   at_q Stands is h = absurd (not_marked e (cs o.clean).here a few (w.places o.clean within) (sym h ∙ there))
   at_q Marks is (inl h) = let same = marked_epoch e a (cs o.clean).here few held.0 (w.places o.clean within) (sym there ∙ h) in let less = older in
       inr ((cs k).here, place, set_at, omega (arith, same, less))
@@ -97,16 +97,16 @@ module _ (e : Plan) (words : List ℕ) (cs : ℕ → Control) (now : Place) (hol
       inr ((cs k).here, place, set_at, omega (arith, same, less))
   at_q (Loaded d) is (inr h) = absurd (not_marked e h.0 a few h.1 (sym h.2 ∙ there))
 
-  at_other : (r : ℕ) (d : Place) (t : Entering) → r ≢ o.clean → IsAt e words r d t → IsAt e words' r d t
+  at_other : (r : ℕ) (d : Place) (t : Entering) → r ≢ o.clean → IsPlaceWord e words r d t → IsPlaceWord e words' r d t
   at_other r d Stands ne h = other_at r ne ∙ h
   at_other r d Marks ne (inl h) = inl (other_at r ne ∙ h)
   at_other r d Marks ne (inr h) = inr (h.0, h.1, other_at r ne ∙ h.2, h.3)
   at_other r d (Loaded f) ne (inl h) = inl (other_at r ne ∙ h)
   at_other r d (Loaded f) ne (inr h) = inr (h.0, h.1, other_at r ne ∙ h.2, h.3)
 
-  at_then : (r : ℕ) → r < e.ports → IsAt e words' r (cs r).here (cs r).entering
+  at_then : (r : ℕ) → r < e.ports → IsPlaceWord e words' r (cs r).here (cs r).entering
   at_then r low = elim (eqb_tells r o.clean) [
-    | inl same ↦ subst (λ i. IsAt e words' i (cs i).here (cs i).entering) (sym same.1) (at_q (cs o.clean).entering refl (w.at o.clean within))
+    | inl same ↦ subst (λ i. IsPlaceWord e words' i (cs i).here (cs i).entering) (sym same.1) (at_q (cs o.clean).entering refl (w.at o.clean within))
     | inr ne ↦ at_other r (cs r).here (cs r).entering ne.1 (w.at r low)
   ]
 
@@ -116,7 +116,7 @@ module _ (e : Plan) (words : List ℕ) (cs : ℕ → Control) (now : Place) (hol
     | inr ne ↦ w.stands r d low there (sym (other_at r ne.1) ∙ at)
   ]
 
-  comes_then : (r : ℕ) (d : Place) → r < e.ports → (cs r).entering ≡ Loaded d → IsMarked words' (cs r) r → holds d.arena ≡ Some d.epoch
+  comes_then : (r : ℕ) (d : Place) → r < e.ports → (cs r).entering ≡ Loaded d → IsStillMarked words' (cs r) r → holds d.arena ≡ Some d.epoch
   comes_then r d low is at = elim (eqb_tells r o.clean) [
     | inl same ↦ absurd (not_marked e (cs k).here (cs r).here few place (sym set_at ∙ sym (ap (λ i. get_or words' (at_word i) 0) same.1) ∙ at))
     | inr ne ↦ w.comes r d low is (sym (other_at r ne.1) ∙ at)

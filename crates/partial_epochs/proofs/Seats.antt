@@ -1,6 +1,6 @@
 -- What is known of a port that stands in an epoch, and what a port has seen of the one history.
 use Rattle.partial_epochs.proofs.Common.{ℕ, ◌≡◌, ◌≢◌, ◌<◌, ◌≤◌, ◌++◌, List, [], ◌∷◌, length, drop, sym, ap, subst, ◌∙◌, inl, inr, arith, length-append, append_assoc, AllByRecursion, eqb_tells, map-append, take-append-drop, Applied, all_at, all_back, some_same, Part, port_of, holdings, IsKnown, lawful_ports_fit, list_of, Plan, arena_words, carried_words, component_words, history_of, opening_behind, public_entry, public_log, Epoch, Port, Beside, IsArena, IsStanding, LawfulEpochs, IsEpochHistory, Reached, one_history}
-use Rattle.partial_core.specs.Steps.{Fits}
+use Rattle.partial_core.specs.Steps.{FitsHistory}
 use Rattle.partial_core.proofs.Parts.{seen_within as no_longer}
 use Rattle.partial_epochs.proofs.Lists.{Around, around_of}
 use Rattle.partial_epochs.proofs.OneHistory.{history_grows, present_history}
@@ -33,14 +33,14 @@ module _ (e : Plan) (words : List ℕ) (ports : ℕ → Port) (b : Beside) (w : 
   pub number : port_of p.part ≡ k
   number = ap port_of (sym s.part) ∙ arena.numbers k below
 
-  pub fits : Fits (opening_behind e.opening p.before) s.epoch.log p.part
+  pub fits : FitsHistory (opening_behind e.opening p.before) s.epoch.log p.part
   fits =
       let o = opening_behind e.opening s.epoch.before in
       let f = (lawful_ports_fit e.sizes (opening_behind e.opening s.epoch.before) (arena_words e words x) (list_of s.epoch.part 0 e.ports) s.epoch.log arena.lawful).each in
-      subst (λ (l : List (List Applied)). Fits (opening_behind e.opening l) s.epoch.log p.part) s.before
-      (subst (Fits (opening_behind e.opening s.epoch.before) s.epoch.log) s.part
-      (all_at (Fits (opening_behind e.opening s.epoch.before) s.epoch.log) around.before (s.epoch.part k) around.after
-      (subst (AllByRecursion (Fits (opening_behind e.opening s.epoch.before) s.epoch.log)) around.is f)))
+      subst (λ (l : List (List Applied)). FitsHistory (opening_behind e.opening l) s.epoch.log p.part) s.before
+      (subst (FitsHistory (opening_behind e.opening s.epoch.before) s.epoch.log) s.part
+      (all_at (FitsHistory (opening_behind e.opening s.epoch.before) s.epoch.log) around.before (s.epoch.part k) around.after
+      (subst (AllByRecursion (FitsHistory (opening_behind e.opening s.epoch.before) s.epoch.log)) around.is f)))
 
   -- its epoch is the current one or a finished one
   pub among : (later : List (List Applied)) × (b.log ∷ b.before ≡ later ++ s.epoch.log ∷ p.before)

@@ -1,5 +1,5 @@
 -- A word of an owned arena is set.
-use Rattle.partial_epochs.proofs.Common.{ℕ, ◌≡◌, ◌≢◌, ◌+◌, ◌-◌, ◌<◌, ◌≤◌, Bool, cond, Option, Some, None, IfSome, List, length, get_or, set, refl, sym, ap, subst, ◌∙◌, inl, inr, arith, option_map, cases_lt, lt-ltb, eqb_tells, get_or-set_same, get_or-set_other, length-set, first_free, total, put, IsAsked, Plan, Place, IsPlace, at_word, arena_words, base, carried_word, carried_words, component_words, control_size, control_words, current_word, packed, plain, span, set_word, Control, Owned, Port, Epoch, IsAt, IsMarked, IsOwner, LawfulControl, MayPut, NotInto, Beside, IsArena, IsNew, IsSetting, IsStanding, LawfulEpochs, controls, next_word, numbers, place_now, SetsStayLawful, having_set, vacated, Stands, Loaded, not_below}
+use Rattle.partial_epochs.proofs.Common.{ℕ, ◌≡◌, ◌≢◌, ◌+◌, ◌-◌, ◌<◌, ◌≤◌, Bool, cond, Option, Some, None, IfSome, List, length, get_or, set, refl, sym, ap, subst, ◌∙◌, inl, inr, arith, option_map, cases_lt, lt-ltb, eqb_tells, get_or-set_same, get_or-set_other, length-set, first_free, total, put, IsAsked, Plan, Place, IsPlace, at_word, arena_words, base, carried_word, carried_words, component_words, control_size, control_words, current_word, packed, plain, span, set_word, Control, Owned, Port, Epoch, IsPlaceWord, IsStillMarked, IsOwner, LawfulControl, MayPut, NotInto, Beside, IsArena, IsNewPart, IsSetting, IsStanding, LawfulEpochs, controls, next_epoch_word, numbers, place_now, SetsStayLawful, having_set, vacated, Stands, Loaded, not_below}
 use Rattle.partial_epochs.proofs.Lists.{put_all, put_other, put_same, same_of}
 use Rattle.partial_epochs.proofs.Owning.{knows_more}
 use Rattle.partial_epochs.proofs.Places.{bases_up, below_whole, packed_arena, set_place}
@@ -30,7 +30,7 @@ module _ (e : Plan) (words : List ℕ) (cs : ℕ → Control) (now : Place) (hol
       | inr ne ↦ not_stood q d low place at ne.1
     ]
 
-    coming : (q : ℕ) (d : Place) → q < e.ports → (cs q).entering ≡ Loaded d → IsMarked words (cs q) q → d.arena ≢ o.arena
+    coming : (q : ℕ) (d : Place) → q < e.ports → (cs q).entering ≡ Loaded d → IsStillMarked words (cs q) q → d.arena ≢ o.arena
     coming q d low is at = elim (eqb_tells q k) [
       | inl same ↦ let h = own in let bad : Stands ≡ Loaded d = sym h.stands ∙ sym (ap (λ i. (cs i).entering) same.1) ∙ is in absurd cc
       | inr ne ↦ let h = own in subst (NotInto o.arena) is ((h.out q (omega (arith, done, low)) low ne.1).loaded at)
@@ -109,7 +109,7 @@ module _ (e : Plan) (words : List ℕ) (ports : ℕ → Port) (b : Beside) (k : 
     (owned : (ports k).control.owned ≡ Some o)
     (done : o.clean ≡ e.ports) (goes : o.set < next) (most : next ≤ first_free e.sizes + e.sizes.m) (passed : e.sizes.m ≤ (ports k).passed)
     (value : get_or words current_word 0 ≡ packed (ports k).control.here → (i : ℕ) → o.set ≤ i → i < next → IsAsked e.sizes i →
-    get_or (set words (set_word e o.arena o.set) v) (set_word e o.arena i) 0 ≡ next_word e b i) where
+    get_or (set words (set_word e o.arena o.set) v) (set_word e o.arena i) 0 ≡ next_epoch_word e b i) where
   more : o.set < first_free e.sizes + e.sizes.m
   more = omega (arith, goes, most)
 
@@ -171,7 +171,7 @@ module _ (e : Plan) (words : List ℕ) (ports : ℕ → Port) (b : Beside) (k : 
   ]
 
   placed_word : (q : ℕ) → q < e.ports → (ports q).control.entering ≡ Stands → get_or (control_words e words) (at_word q) 0 ≡ packed (ports q).control.here
-  placed_word q low is = subst (IsAt e (control_words e words) q (ports q).control.here) is (w.control.at q low)
+  placed_word q low is = subst (IsPlaceWord e (control_words e words) q (ports q).control.here) is (w.control.at q low)
 
   own_place : (d : Place) → IsPlace e d → get_or (control_words e words) (at_word k) 0 ≡ packed d → d.arena ≢ o.arena
   own_place d there at =
@@ -276,7 +276,7 @@ module _ (e : Plan) (words : List ℕ) (ports : ℕ → Port) (b : Beside) (k : 
             (λ _ _ is. let s = w.standing k below is in stands_on k q' (not_here k below is)
             (record { epoch = s.epoch; is = s.is; before = s.before; part = s.part; passed = s.passed; over = s.over }))
             (λ _ low is. stands_on q (ports q) (not_here q low is) (w.standing q low is)) low;
-        new = λ q y r low is. put_all (λ i (p : Port). i < e.ports → p.control.here.epoch < length r.before → IsNew e i r) k q' ports q
+        new = λ q y r low is. put_all (λ i (p : Port). i < e.ports → p.control.here.epoch < length r.before → IsNewPart e i r) k q' ports q
             (λ _ low less. w.new k y r low (held y r is).1 less) (λ _ low less. w.new q y r low (held y r is).1 less) low;
         setting = setting_then;
       }

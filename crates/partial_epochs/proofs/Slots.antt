@@ -1,5 +1,5 @@
 -- Each slot that is claimed, or that a port has yet to claim, follows two words claimed of the pool.
-use Rattle.partial_epochs.proofs.Common.{ℕ, ◌≡◌, ◌+◌, ◌*◌, ◌%◌, ◌^◌, ◌<◌, ◌≤◌, ◌==◌, ◌⊎◌, Bool, true, false, cond, Option, Some, None, List, length, get_or, refl, sym, ap, subst, ◌∙◌, inl, inr, arith, ⊤, nat_lt, is_some, option_map_or, get_or-set_same, get_or-set_other, mul-le-mul_left, some_same, Step, Load, Store, Exchange, Add, Layout, IsLayout, list_counter, pool_counter, pool_end, slot_counter, slot_word, greatest_record, words_after, CoreState, advance, advance_at, after_joining, at_stage, begin_getting, expects, fits_pool, getting, pool_refused, record_size, scanning, step_at, step_of, with_getting, with_scanning, is_at_rest, is_begun, IsSound, is_sound_at, IsMachineOf, Part, core_of, Plan, count, Epoch, IsArena, IsPlan, awaits_at, awaits_slot, is_claiming}
+use Rattle.partial_epochs.proofs.Common.{ℕ, ◌≡◌, ◌+◌, ◌*◌, ◌%◌, ◌^◌, ◌<◌, ◌≤◌, ◌==◌, ◌⊎◌, Bool, true, false, cond, Option, Some, None, List, length, get_or, refl, sym, ap, subst, ◌∙◌, inl, inr, arith, ⊤, nat_lt, is_some, option_map_or, get_or-set_same, get_or-set_other, mul-le-mul_left, some_same, Step, Load, Store, Exchange, Add, Layout, IsLayout, list_counter, pool_counter, pool_end, slot_counter, slot_word, greatest_record, words_after, CoreState, advance, advance_at, after_joining, at_stage, begin_getting, expects, fits_pool, getting, pool_refused, record_size, scanning, step_at, step_of, with_getting, with_scanning, is_at_rest, is_begun, IsSound, is_sound_at, IsMachineOf, Part, core_of, Plan, count, Epoch, IsArena, IsEpochPlan, awaits_at, awaits_slot, is_claiming}
 use Rattle.partial_words.specs.Announcement.{announcement_size, least_announcement}
 use Rattle.partial_active.specs.Join.{join_after, join_step}
 use Rattle.partial_active.specs.declared.join.JoinStage.{JoinStage}
@@ -34,7 +34,7 @@ abbrev IsQuiet : Layout → Step → Type 0
 IsQuiet z (Add w n) = w ≡ list_counter z
 IsQuiet z _ = ⊤
 
-getting_quiet : (y : Layout) (head : ℕ) (t : SetStage) (step : Step) → finding.step_at y head t ≡ Some step → IsQuiet y step
+getting_quiet : (y : Layout) (head : ℕ) (t : SetStage) (step : Step) → finding.set_step_at y head t ≡ Some step → IsQuiet y step
 getting_quiet y head set_stage.Head step e = subst (IsQuiet y) (some_same e) tt
 getting_quiet y head (set_stage.ListLen at) step e = subst (IsQuiet y) (some_same e) tt
 getting_quiet y head (set_stage.ListLow at left) step e = subst (IsQuiet y) (some_same e) tt
@@ -48,7 +48,7 @@ getting_quiet y head (set_stage.Write at k count word) step e = subst (IsQuiet y
 getting_quiet y head (set_stage.Publish at) step e = subst (IsQuiet y) (some_same e) tt
 getting_quiet y head set_stage.Done step e = absurd cc
 
-viewing_quiet : (z y : Layout) (indices last : List ℕ) (t : ViewStage) (step : Step) → viewing.step_at y indices last t ≡ Some step → IsQuiet z step
+viewing_quiet : (z y : Layout) (indices last : List ℕ) (t : ViewStage) (step : Step) → viewing.view_step_at y indices last t ≡ Some step → IsQuiet z step
 viewing_quiet z y indices last t step e = let load = view_loads y indices last t (ap is_some e) in subst (IsQuiet z) (some_same (sym load.1 ∙ e)) tt
 
 -- a machine that begins a call, or is at rest, has no slot to claim
@@ -189,15 +189,15 @@ module _ (s : CoreState) (sizes : IsLayout s.sizes) (sound : IsSound s) (words :
   counted_at (UpdateBegun c) is here step due apart = silent (UpdateBegun c) step false (either_none (expects c x) (begin_getting s c x) (at_stage s (Finished (reply.Changed x))) refl refl) apart
       (subst (IsQuiet s.sizes) (some_same due) tt)
   counted_at (GettingSet c old) is here step due apart =
-      let t : CoreState = with_getting s (finding.advance (getting s) x) in
+      let t : CoreState = with_getting s (finding.advance_set (getting s) x) in
       silent (GettingSet c old) step false
-      (goes_on (finding.step_of t.get_set) t (record t { embedded = viewing.fresh t.sizes true; stage = cond (length t.found.indices == 0) (ClaimingRecord c old) (Viewing c old) })
+      (goes_on (finding.set_step_due t.get_set) t (record t { embedded = viewing.fresh_view t.sizes true; stage = cond (length t.found.indices == 0) (ClaimingRecord c old) (Viewing c old) })
       (ap (awaits_at t) is)
-      (stage_none (length t.found.indices == 0) (record t { embedded = viewing.fresh t.sizes true }) (ClaimingRecord c old) (Viewing c old) refl refl)) apart
+      (stage_none (length t.found.indices == 0) (record t { embedded = viewing.fresh_view t.sizes true }) (ClaimingRecord c old) (Viewing c old) refl refl)) apart
       (subst (λ (y : Layout). IsQuiet y step) here.2 (getting_quiet s.get_set.sizes s.get_set.head s.get_set.stage step due))
   counted_at (Viewing c old) is here step due apart =
-      let t : CoreState = with_scanning s (viewing.advance s.found.indices (scanning s) x) in
-      silent (Viewing c old) step false (goes_on (viewing.step_of s.found.indices (scanning t)) t (at_stage t (ClaimingRecord c old)) (ap (awaits_at t) is) refl) apart
+      let t : CoreState = with_scanning s (viewing.advance_view s.found.indices (scanning s) x) in
+      silent (Viewing c old) step false (goes_on (viewing.view_step_due s.found.indices (scanning t)) t (at_stage t (ClaimingRecord c old)) (ap (awaits_at t) is) refl) apart
       (viewing_quiet s.sizes s.embedded.sizes s.found.indices s.rows.last s.embedded.stage step due)
   counted_at (ClaimingRecord c old) is here step due apart =
       let size = size_few s sound.indices.few in
@@ -215,8 +215,8 @@ module _ (s : CoreState) (sizes : IsLayout s.sizes) (sound : IsSound s) (words :
   counted_at (StoringAnnouncement at k) is here step due apart = loud (StoringAnnouncement at k) step apart (subst (IsQuiet s.sizes) (some_same due) tt)
   counted_at Joining is here step due apart = joining s.join.stage refl is here.2 step due apart
   counted_at Scanning is here step due apart =
-      let t : CoreState = with_scanning s (viewing.advance s.asked (scanning s) x) in
-      silent Scanning step false (goes_on (viewing.step_of s.asked (scanning t)) t (at_stage t Leaving) (ap (awaits_at t) is) refl) apart
+      let t : CoreState = with_scanning s (viewing.advance_view s.asked (scanning s) x) in
+      silent Scanning step false (goes_on (viewing.view_step_due s.asked (scanning t)) t (at_stage t Leaving) (ap (awaits_at t) is) refl) apart
       (viewing_quiet s.sizes s.embedded.sizes s.asked s.rows.last s.embedded.stage step due)
   counted_at Leaving is here step due apart = silent Leaving step false refl apart (leaving_quiet s.leave.left (slot_word s.leave.sizes s.leave.slot) step due)
   counted_at (Finished r) is here step due apart = absurd cc
@@ -226,14 +226,15 @@ module _ (s : CoreState) (sizes : IsLayout s.sizes) (sound : IsSound s) (words :
   counted step due apart = counted_at s.stage refl sound.stage step due apart
 
 -- what is claimed of the pool lies within it
-pub pool_within : (e : Plan) (words components carried : List ℕ) (r : Epoch) (f : Type 0) → IsPlan e → IsArena e words components carried r f → get_or words (pool_counter e.sizes) 0 ≤ pool_end e.sizes
+pub pool_within : (e : Plan) (words components carried : List ℕ) (r : Epoch) (f : Type 0) → IsEpochPlan e → IsArena e words components carried r f →
+    get_or words (pool_counter e.sizes) 0 ≤ pool_end e.sizes
 pool_within e words components carried r f plan arena =
     let reserve = arena.reserve in
     let limit = plan.limit in
     let times : greatest_record e.sizes * count r.over 0 e.ports ≤ greatest_record e.sizes * e.ports = mul-le-mul_left (greatest_record e.sizes) (count_few r.over 0 e.ports) in
     omega (arith, reserve, limit, times)
 
-pub pool_small : (e : Plan) (words components carried : List ℕ) (r : Epoch) (f : Type 0) → IsPlan e → IsArena e words components carried r f → get_or words (pool_counter e.sizes) 0 < 2 ^ 32
+pub pool_small : (e : Plan) (words components carried : List ℕ) (r : Epoch) (f : Type 0) → IsEpochPlan e → IsArena e words components carried r f → get_or words (pool_counter e.sizes) 0 < 2 ^ 32
 pool_small e words components carried r f plan arena =
     let within = pool_within e words components carried r f plan arena in
     let m = plan.sizes.components.1 in

@@ -1,5 +1,5 @@
 -- A port takes an arena and gives it back, finds the others elsewhere, and loads their marks.
-use Rattle.partial_epochs.proofs.Common.{ℕ, ◌≡◌, ◌≢◌, ◌+◌, ◌<◌, ◌≤◌, ◌==◌, ◌⊎◌, Bool, true, false, cond, Option, Some, None, IfSome, List, length, get_or, set, refl, sym, ap, subst, ◌∙◌, inl, inr, arith, eqb_tells, get_or-set_same, get_or-set_other, length-set, put, Plan, Place, IsPlace, at_word, control_size, control_words, current_word, entering_mark, marked, own_word, packed, arena_limit, Control, Entering, Owned, Port, Stands, Marks, Loaded, IsAt, IsEarlier, IsOut, IsOwner, LawfulControl, MayPut, Beside, IsSetting, IsStanding, LawfulEpochs, controls, numbers, place_now, GivesStayLawful, MarksAreLoaded, OthersAreElsewhere, OwnersLookAway, TakesStayLawful, cleaner, having_given, having_loaded, having_put, just_taken, owning, having_passed}
+use Rattle.partial_epochs.proofs.Common.{ℕ, ◌≡◌, ◌≢◌, ◌+◌, ◌<◌, ◌≤◌, ◌==◌, ◌⊎◌, Bool, true, false, cond, Option, Some, None, IfSome, List, length, get_or, set, refl, sym, ap, subst, ◌∙◌, inl, inr, arith, eqb_tells, get_or-set_same, get_or-set_other, length-set, put, Plan, Place, IsPlace, at_word, control_size, control_words, current_word, entering_mark, marked, own_word, packed, arena_limit, Control, Entering, Owned, Port, Stands, Marks, Loaded, IsPlaceWord, IsEarlier, IsOut, IsOwner, LawfulControl, MayPut, Beside, IsSetting, IsStanding, LawfulEpochs, controls, numbers, place_now, GivesStayLawful, MarksAreLoaded, OthersAreElsewhere, OwnersLookAway, TakesStayLawful, cleaner, having_given, having_loaded, having_put, just_taken, owning, having_passed}
 use Rattle.partial_epochs.proofs.Entering.{control_lifted, current_is, cw_at, cw_long, not_marked}
 use Rattle.partial_epochs.proofs.Lists.{put_all, set_of}
 use Rattle.partial_epochs.proofs.Owning.{knows_more}
@@ -25,7 +25,7 @@ module _ (e : Plan) (words : List ℕ) (cs : ℕ → Control) (now : Place) (hol
     put = λ p a inside may at. h.put p a inside may (sym (at_same q low) ∙ at);
   }
 
-  at_then : (q : ℕ) (d : Place) (t : Entering) → q < e.ports → IsAt e words q d t → IsAt e words' q d t
+  at_then : (q : ℕ) (d : Place) (t : Entering) → q < e.ports → IsPlaceWord e words q d t → IsPlaceWord e words' q d t
   at_then q d Stands low h = at_same q low ∙ h
   at_then q d Marks low (inl h) = inl (at_same q low ∙ h)
   at_then q d Marks low (inr h) = inr (h.0, h.1, at_same q low ∙ h.2, h.3)
@@ -184,7 +184,7 @@ module _ (e : Plan) (words : List ℕ) (cs : ℕ → Control) (now : Place) (hol
         last p less low ne (inr apart) = let other = apart.1 in own_here.out p (omega (arith, less, other)) low ne
 
   -- a word with the mark is that of a port that is entering
-  mark_is : (t : Entering) → (cs o.clean).entering ≡ t → entering_mark ≤ get_or words (at_word o.clean) 0 → IsAt e words o.clean (cs o.clean).here t →
+  mark_is : (t : Entering) → (cs o.clean).entering ≡ t → entering_mark ≤ get_or words (at_word o.clean) 0 → IsPlaceWord e words o.clean (cs o.clean).here t →
       (get_or words (at_word o.clean) 0 ≡ marked (cs o.clean).here) × IsEarlier (cs o.clean).here (cs o.clean).here t
   mark_is Stands is high h = let place = w.places o.clean within in let r = place.epoch in let x = place.arena in absurd (omega (arith, high, h, few, r, x))
   mark_is Marks is high (inl h) = (h, omega arith)
@@ -310,7 +310,7 @@ owners_look_away e words ports b k o w below owned other =
     let own = owner_is e words ports b k o w below owned in
     let s = w.standing k below own.stands in
     let t = w.setting k below in
-    let at : get_or (control_words e words) (at_word k) 0 ≡ packed (ports k).control.here = subst (IsAt e (control_words e words) k (ports k).control.here) own.stands (w.control.at k below) in
+    let at : get_or (control_words e words) (at_word k) 0 ≡ packed (ports k).control.here = subst (IsPlaceWord e (control_words e words) k (ports k).control.here) own.stands (w.control.at k below) in
     let c : Control = record (ports k).control { past = true } in
     let earlier : (ports k).control.here.epoch < length b.before = (elim (w.control.earlier (ports k).control.here.arena (ports k).control.here.epoch
     (w.control.stands k (ports k).control.here below (w.control.places k below) at)) [

@@ -1,5 +1,5 @@
 -- An entering port comes to no older epoch than the one that was the current one as it stored its mark.
-use Rattle.partial_epochs.proofs.Common.{ℕ, ◌≡◌, ◌≢◌, ◌+◌, ◌%◌, ◌^◌, ◌<◌, ◌≤◌, ◌==◌, ◌⊎◌, Bool, true, false, cond, Some, None, List, get_or, set, refl, sym, ap, subst, ◌∙◌, inl, inr, arith, eqb_tells, get_or-set_same, get_or-set_other, some_same, words_after, Step, Load, Store, Exchange, Add, put, IsPlace, Place, Plan, at_word, base, control_words, current_word, marked, packed, placed, set_word, Control, Owned, Port, Marks, Loaded, IsAt, IsEarlier, MayPut, Beside, LawfulEpochs, place_now, arrived, having_loaded, having_looked, having_put, owning, having_published, next_place}
+use Rattle.partial_epochs.proofs.Common.{ℕ, ◌≡◌, ◌≢◌, ◌+◌, ◌%◌, ◌^◌, ◌<◌, ◌≤◌, ◌==◌, ◌⊎◌, Bool, true, false, cond, Some, None, List, get_or, set, refl, sym, ap, subst, ◌∙◌, inl, inr, arith, eqb_tells, get_or-set_same, get_or-set_other, some_same, words_after, Step, Load, Store, Exchange, Add, put, IsPlace, Place, Plan, at_word, base, control_words, current_word, marked, packed, placed, set_word, Control, Owned, Port, Marks, Loaded, IsPlaceWord, IsEarlier, MayPut, Beside, LawfulEpochs, place_now, arrived, having_loaded, having_looked, having_put, owning, having_published, next_place}
 use Rattle.partial_epochs.specs.Time.{ArrivalsKeepTime, AsidesKeepTime, EntriesKeepTime, IsBesideTime, KeepsTime, LoadedMarksKeepTime, LooksKeepTime, MarksKeepTime, OpeningsKeepTime, PublishesKeepTime, PutsKeepTime, StepsKeepPlaces}
 use Rattle.partial_epochs.proofs.Entering.{cw_at, current_is, held_mark, marked_epoch, not_marked}
 use Rattle.partial_epochs.proofs.Lists.{put_all, put_other, put_same}
@@ -199,7 +199,7 @@ arrivals_keep_time e words ports b k c since w below entering t a = (
 
     there : get_or words' (at_word k) 0 ≡ packed a.place
     there = sym (cw_at e words' (put k p ports) b k p 0 a.lawful below (at_word k) (omega (arith, below)))
-        ∙ subst (λ (q : Port). IsAt e (control_words e words') k q.control.here q.control.entering) (put_same k p ports) (a.lawful.control.at k below)
+        ∙ subst (λ (q : Port). IsPlaceWord e (control_words e words') k q.control.here q.control.entering) (put_same k p ports) (a.lawful.control.at k below)
 
     late : since k ≤ a.place.epoch
     late = elim a.is [

@@ -68,15 +68,15 @@ changed c n (Refuses cause) = Refused cause
 changed c n d = Changes c n d
 
 -- the machine has answered: a scan that isn't fresh looks before it answers
-abbrev pub answered : Call → ℕ → Bool → Doing
-answered (call.Scan js) n false = Looks (call.Scan js) n
-answered c n fresh = Answered
+abbrev pub behind_answer : Call → ℕ → Bool → Doing
+behind_answer (call.Scan js) n false = Looks (call.Scan js) n
+behind_answer c n fresh = Answered
 
 -- the machine goes on, or has answered: no machine is refused
 abbrev pub ran : Call → ℕ → Bool → CoreState → Option Reply → Doing
 ran c n fresh s None = Runs c n fresh s
 ran c n fresh s (Some (reply.Applied stamp)) = Answered
-ran c n fresh s (Some r) = answered c n fresh
+ran c n fresh s (Some r) = behind_answer c n fresh
 
 -- the call of its machine: a conditional update expects there the reference of the stamp
 abbrev pub IsCallOf : Call → Option Call → Type 0
@@ -101,47 +101,49 @@ abbrev pub after_step : Plan → List ℕ → Port → CoreState → Step → Co
 after_step e words p s step = advance s (answer_of (arena_words e words p.control.here.arena) step)
 
 -- how a step of a call leads on, by a port with that knowledge and these words
-pub data Leads (e : Plan) (words : List ℕ) (p : Port) : Doing → Act → Doing → Type 0 where
+pub data CallLeads (e : Plan) (words : List ℕ) (p : Port) : Doing → Act → Doing → Type 0 where
   -- a read loads a word that isn't sealed, or reads what was left behind where it has come in this call
   ReadsWord : (j n : ℕ) (fresh : Bool) → (¬ IsSealedFor e words p (call.Read j)) ⊎ (fresh ≡ true) →
-      Leads e words p (LoadsWord (call.Read j) n fresh) Sees (Tells (call.Read j) 1)
+      CallLeads e words p (LoadsWord (call.Read j) n fresh) Sees (Tells (call.Read j) 1)
   ReadsSealed : (j n : ℕ) → IsSealedFor e words p (call.Read j) →
-      Leads e words p (LoadsWord (call.Read j) n false) Sees (Looks (call.Read j) n)
-  ReadsOn : (j n : ℕ) → IsHere words p → Leads e words p (Looks (call.Read j) n) Sees (Tells (call.Read j) 1)
-  TellsOn : (c : Call) (i : ℕ) → Leads e words p (Tells c (suc i)) Sees (Tells c i)
-  TellsAll : (c : Call) (i n : ℕ) (note : Noted) → note.call ≡ c → Leads e words p (Tells c i) (Moves (every.Move.Notes note n)) Answered
+      CallLeads e words p (LoadsWord (call.Read j) n false) Sees (Looks (call.Read j) n)
+  ReadsOn : (j n : ℕ) → IsHere words p → CallLeads e words p (Looks (call.Read j) n) Sees (Tells (call.Read j) 1)
+  TellsOn : (c : Call) (i : ℕ) → CallLeads e words p (Tells c (suc i)) Sees (Tells c i)
+  TellsAll : (c : Call) (i n : ℕ) (note : Noted) → note.call ≡ c →
+      CallLeads e words p (Tells c i) (Moves (every.Move.Notes note n)) Answered
   -- a conditional update goes on to judge the stamp: it finds another one, and says so, or looks before; or it finds the one that it expects
   LoadsStamp : (j x v n : ℕ) (fresh : Bool) →
-      Leads e words p (LoadsWord (call.UpdateIf j x v) (suc n) fresh) Sees (Judges (call.UpdateIf j x v) (suc n) fresh)
+      CallLeads e words p (LoadsWord (call.UpdateIf j x v) (suc n) fresh) Sees (Judges (call.UpdateIf j x v) (suc n) fresh)
   FindsOther : (j x v n i : ℕ) (fresh : Bool) (note : Noted) → note.call ≡ call.UpdateIf j x v →
-      Leads e words p (Judges (call.UpdateIf j x v) (suc n) fresh) (Moves (every.Move.Notes note i)) Answered
+      CallLeads e words p (Judges (call.UpdateIf j x v) (suc n) fresh) (Moves (every.Move.Notes note i)) Answered
   LooksAtOther : (j x v n : ℕ) → IsSealedFor e words p (call.UpdateIf j x v) →
-      Leads e words p (Judges (call.UpdateIf j x v) (suc n) false) Sees (Looks (call.UpdateIf j x v) (suc n))
+      CallLeads e words p (Judges (call.UpdateIf j x v) (suc n) false) Sees (Looks (call.UpdateIf j x v) (suc n))
   FindsExpected : (j x v n : ℕ) (fresh : Bool) →
-      Leads e words p (Judges (call.UpdateIf j x v) (suc n) fresh) Sees (Starts (call.UpdateIf j x v) (suc n) fresh)
+      CallLeads e words p (Judges (call.UpdateIf j x v) (suc n) fresh) Sees (Starts (call.UpdateIf j x v) (suc n) fresh)
   -- a scan, or a conditional update that has found another stamp, looks: its epoch is the current one yet, or it enters and begins again
   LooksAndAnswers : (c : Call) (n i : ℕ) (note : Noted) → note.call ≡ c → IsHere words p →
-      Leads e words p (Looks c n) (Moves (every.Move.Notes note i)) Answered
-  LooksAndEnters : (c : Call) (n : ℕ) → (¬ IsHere words p) → Leads e words p (Looks c n) (Moves every.Move.Looks) (Changes c n StoresMark)
+      CallLeads e words p (Looks c n) (Moves (every.Move.Notes note i)) Answered
+  LooksAndEnters : (c : Call) (n : ℕ) → (¬ IsHere words p) →
+      CallLeads e words p (Looks c n) (Moves every.Move.Looks) (Changes c n StoresMark)
   -- an update finds its component sealed, or its port has made a claim past the limit: it changes the epoch
   StartsSealed : (c : Call) (n : ℕ) (fresh : Bool) → IsUpdate c → IsSealedFor e words p c ⊎ (p.over ≡ true) →
-      Leads e words p (Starts c (suc n) fresh) Sees (Changes c n LooksFirst)
+      CallLeads e words p (Starts c (suc n) fresh) Sees (Changes c n LooksFirst)
   -- the first step of the machine, and a further one
   MakesFirst : (c : Call) (n : ℕ) (fresh : Bool) (s : CoreState) (step : Step) → IsCallOf c (call_of s) → (¬ IsSealedFor e words p c) →
       (¬ MeetsSeal e (component_words e words p.control.here.arena) step) →
-      Leads e words p (Starts c n fresh) (Moves (every.Move.Makes s step))
+      CallLeads e words p (Starts c n fresh) (Moves (every.Move.Makes s step))
       (ran c n fresh (after_step e words p s step) (reply_of (after_step e words p s step)))
   MakesNext : (c : Call) (n : ℕ) (fresh : Bool) (s : CoreState) (step : Step) →
       (¬ MeetsSeal e (component_words e words p.control.here.arena) step) →
-      Leads e words p (Runs c n fresh s) (Moves (every.Move.Makes s step))
+      CallLeads e words p (Runs c n fresh s) (Moves (every.Move.Makes s step))
       (ran c n fresh (after_step e words p s step) (reply_of (after_step e words p s step)))
   -- the exchange of its component meets a seal: the update changes the epoch
   MeetsTheSeal : (c : Call) (n : ℕ) (fresh : Bool) (s : CoreState) (step : Step) → IsUpdate c →
       MeetsSeal e (component_words e words p.control.here.arena) step →
-      Leads e words p (Runs c (suc n) fresh s) (Moves (every.Move.Makes s step)) (Changes c n LooksFirst)
+      CallLeads e words p (Runs c (suc n) fresh s) (Moves (every.Move.Makes s step)) (Changes c n LooksFirst)
   -- a step of a change of epoch
   ChangesOn : (c : Call) (n : ℕ) (d : Changing) (a : Act) (d' : Changing) → ChangeLeads e words p d a d' →
-      Leads e words p (Changes c n d) a (changed c n d')
+      CallLeads e words p (Changes c n d) a (changed c n d')
 
 -- the step may be made where the words and the port are so
 abbrev pub MayAct : Plan → List ℕ → (ℕ → Port) → Beside → (ℕ → List Noted) → ℕ → Act → Type 0
@@ -173,13 +175,13 @@ pub record CallStep (e : Plan) (k : ℕ) (p : Port) (d : Doing) : Type 0 where
   pub act : Act
   pub may : MayAct e words ports beside notes k act
   pub next : Doing
-  pub leads : Leads e words p d act next
+  pub leads : CallLeads e words p d act next
   -- what the port knows then, and what the one history has gained by the step
   pub port : Port
   pub entries : List Applied
   pub ends : ActLeads e words ports beside notes k act port entries
 
 -- so many steps of a call of port k lead it from the one to the other
-abbrev pub Run : Plan → ℕ → ℕ → Port → Doing → Port → Doing → Type 0
-Run e k zero p d p' d' = (p' ≡ p) × (d' ≡ d)
-Run e k (suc n) p d p' d' = (s : CallStep e k p d) × Run e k n s.port s.next p' d'
+abbrev pub RunsCall : Plan → ℕ → ℕ → Port → Doing → Port → Doing → Type 0
+RunsCall e k zero p d p' d' = (p' ≡ p) × (d' ≡ d)
+RunsCall e k (suc n) p d p' d' = (s : CallStep e k p d) × RunsCall e k n s.port s.next p' d'

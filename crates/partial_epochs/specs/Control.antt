@@ -5,13 +5,13 @@ use Rattle.partial_epochs.specs.Ports.{Entering, Owned, Control}
 use Rattle.partial_epochs.specs.Ports.Entering.{Stands, Marks, Loaded}
 
 -- port k is entering, and the word where it stands is still marked
-abbrev pub IsMarked : List ℕ → Control → ℕ → Type 0
-IsMarked words c k = slice_index words (at_word k) ≡ marked c.here
+abbrev pub IsStillMarked : List ℕ → Control → ℕ → Type 0
+IsStillMarked words c k = slice_index words (at_word k) ≡ marked c.here
 
 -- the word where a port stands: while it is entering it is its mark, or a later place that another port has put
-abbrev pub IsAt : Plan → List ℕ → ℕ → Place → Entering → Type 0
-IsAt e words k here Stands = slice_index words (at_word k) ≡ packed here
-IsAt e words k here _ = (slice_index words (at_word k) ≡ marked here)
+abbrev pub IsPlaceWord : Plan → List ℕ → ℕ → Place → Entering → Type 0
+IsPlaceWord e words k here Stands = slice_index words (at_word k) ≡ packed here
+IsPlaceWord e words k here _ = (slice_index words (at_word k) ≡ marked here)
     ⊎ ((c : Place) × IsPlace e c × (slice_index words (at_word k) ≡ packed c) × (here.epoch < c.epoch))
 
 -- how a port that is entering stands to the current epoch
@@ -48,7 +48,7 @@ pub record IsOut (e : Plan) (words : List ℕ) (cs : ℕ → Control) (x k : ℕ
   -- its word names no place in that arena
   pub unmarked : (c : Place) → IsPlace e c → slice_index words (at_word k) ≡ packed c → c.arena ≢ x
   -- it hasn't loaded such a place, or its exchange of the mark will be lost
-  pub loaded : IsMarked words (cs k) k → NotInto x (cs k).entering
+  pub loaded : IsStillMarked words (cs k) k → NotInto x (cs k).entering
   -- no port that may put it stands in that arena
   pub put : (q : ℕ) (a : Place) → q < e.ports → MayPut (cs q) k a → slice_index words (at_word k) ≡ marked a →
       (cs q).here.arena ≢ x
@@ -97,7 +97,7 @@ pub record LawfulControl (e : Plan) (words : List ℕ) (cs : ℕ → Control) (n
   -- where a port stands, or from where it is entering, fits a word
   pub places : (k : ℕ) → k < e.ports → IsPlace e (cs k).here
   -- a port's word names where it stands; while it is entering, its mark or a later place where another port put it
-  pub at : (k : ℕ) → k < e.ports → IsAt e words k (cs k).here (cs k).entering
+  pub at : (k : ℕ) → k < e.ports → IsPlaceWord e words k (cs k).here (cs k).entering
   -- a port stands in no later epoch than the current one, and enters only from an earlier one
   pub old : (k : ℕ) → k < e.ports → IsOld e now.epoch (cs k).here (cs k).entering
   -- a port that has seen another current epoch stands in an earlier one
@@ -106,7 +106,7 @@ pub record LawfulControl (e : Plan) (words : List ℕ) (cs : ℕ → Control) (n
   pub stands : (k : ℕ) (c : Place) → k < e.ports → IsPlace e c → slice_index words (at_word k) ≡ packed c →
       holds c.arena ≡ Some c.epoch
   -- so does the arena into which an entering port is about to come
-  pub comes : (k : ℕ) (c : Place) → k < e.ports → (cs k).entering ≡ Loaded c → IsMarked words (cs k) k →
+  pub comes : (k : ℕ) (c : Place) → k < e.ports → (cs k).entering ≡ Loaded c → IsStillMarked words (cs k) k →
       holds c.arena ≡ Some c.epoch
   -- each port that owns an arena is its owner
   pub owners : (k : ℕ) → k < e.ports → IfSome (cs k).owned (IsOwner e words cs now holds k)

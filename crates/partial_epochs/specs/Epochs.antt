@@ -21,7 +21,7 @@ use Rattle.partial_epochs.specs.Control.{LawfulControl}
 use Rattle.partial_epochs.specs.Ports.Entering.{Stands}
 
 -- the sizes of a plan: above each port's greatest claim there is room behind the limit
-pub record IsPlan (e : Plan) : Type 0 where
+pub record IsEpochPlan (e : Plan) : Type 0 where
   -- an arena has the sizes of one memory
   pub sizes : IsLayout e.sizes
   -- there are 1 to 64 ports
@@ -114,14 +114,14 @@ pub record IsStanding (b : Beside) (k : ℕ) (p : Port) : Type 0 where
   pub over : epoch.over k ≡ p.over
 
 -- a port has a new part in an epoch to which it hasn't come
-pub record IsNew (e : Plan) (k : ℕ) (r : Epoch) : Type 0 where
+pub record IsNewPart (e : Plan) (k : ℕ) (r : Epoch) : Type 0 where
   pub part : r.part k ≡ fresh_part e.sizes k
   pub passed : r.passed k ≡ 0
   pub over : r.over k ≡ false
 
 -- the words of the next epoch are those of an opening, with the values and the stamps behind all epochs
-abbrev pub next_word : Plan → Beside → ℕ → ℕ
-next_word e b i =
+abbrev pub next_epoch_word : Plan → Beside → ℕ → ℕ
+next_epoch_word e b i =
     if nat_lt i (first_free e.sizes) then opening_word e.sizes (opening_behind e.opening (b.log ∷ b.before)).values i
     else carried_behind e.opening (b.log ∷ b.before) (i - first_free e.sizes)
 
@@ -133,12 +133,12 @@ pub record IsSetting (e : Plan) (words : List ℕ) (b : Beside) (p : Port) (w : 
   pub sealed : 0 < w.set → e.sizes.m ≤ p.passed
   -- while its epoch is the current one, the words that it has set are those of the next epoch
   pub each : slice_index words current_word ≡ packed p.control.here → (i : ℕ) → i < w.set → IsAsked e.sizes i →
-      slice_index words (set_word e w.arena i) ≡ next_word e b i
+      slice_index words (set_word e w.arena i) ≡ next_epoch_word e b i
 
 -- The lawful state of a memory over all epochs.
 pub record LawfulEpochs (e : Plan) (words : List ℕ) (ports : ℕ → Port) (b : Beside) : Type 0 where
   -- the sizes are in range
-  pub plan : IsPlan e
+  pub plan : IsEpochPlan e
   -- there are so many words
   pub count : length words ≡ whole e
   -- the control words are lawful
@@ -154,7 +154,7 @@ pub record LawfulEpochs (e : Plan) (words : List ℕ) (ports : ℕ → Port) (b 
   pub standing : (k : ℕ) → k < e.ports → (ports k).control.entering ≡ Stands → IsStanding b k (ports k)
   -- a port's part in an epoch to which it hasn't come is a new one
   pub new : (k x : ℕ) (r : Epoch) → k < e.ports → b.holds x ≡ Some r →
-      (ports k).control.here.epoch < length r.before → IsNew e k r
+      (ports k).control.here.epoch < length r.before → IsNewPart e k r
   -- what an owner has set in its arena is the beginning of the next epoch
   pub setting : (k : ℕ) → k < e.ports → IfSome (ports k).control.owned (IsSetting e words b (ports k))
 

@@ -15,9 +15,9 @@ use Rattle.partial_epochs.specs.Lists.{put}
 use Rattle.partial_epochs.specs.Layout.{IsAsked, IsPlace, IsSealed, Place, Plan, arena_words, at_word, base, component_words, current_word, entering_mark, marked, own_word, packed, placed, seal, set_word}
 use Rattle.partial_epochs.specs.Ports.{Owned, Port}
 use Rattle.partial_epochs.specs.Ports.Entering.{Stands, Marks, Loaded}
-use Rattle.partial_epochs.specs.Epochs.{Beside, IsStanding, next_word, place_now}
+use Rattle.partial_epochs.specs.Epochs.{Beside, IsStanding, next_epoch_word, place_now}
 use Rattle.partial_epochs.specs.MachineSteps.{MachineLeads, MayClaim, MeetsSeal}
-use Rattle.partial_epochs.specs.Publishing.{IsWhole, next_place}
+use Rattle.partial_epochs.specs.Publishing.{IsWholeArena, next_place}
 use Rattle.partial_epochs.specs.Opening.{OpensAll, first_beside, first_ports}
 use Rattle.partial_epochs.specs.Notes.{IsSight, LawfulMemory, MayNote, one_history}
 use Rattle.partial_epochs.specs.Time.{KeepsTime}
@@ -90,8 +90,8 @@ MayMove e words ports b notes k (Puts o a) = ((ports k).control.owned ≡ Some o
 MayMove e words ports b notes k (Sets o v next) = ((ports k).control.owned ≡ Some o) × (o.clean ≡ e.ports) × (o.set < next)
     × (next ≤ first_free e.sizes + e.sizes.m) × (e.sizes.m ≤ (ports k).passed)
     × (slice_index words current_word ≡ packed (ports k).control.here → (i : ℕ) → o.set ≤ i → i < next → IsAsked e.sizes i →
-    slice_index (words_after words (Store (set_word e o.arena o.set) v)) (set_word e o.arena i) ≡ next_word e b i)
-MayMove e words ports b notes k (Publishes o) = IsWhole e (ports k) o
+    slice_index (words_after words (Store (set_word e o.arena o.set) v)) (set_word e o.arena i) ≡ next_epoch_word e b i)
+MayMove e words ports b notes k (Publishes o) = IsWholeArena e (ports k) o
 MayMove e words ports b notes k (Notes n i) = ((ports k).control.entering ≡ Stands)
     × ((s : IsStanding b k (ports k)) × IsSight e k (ports k) s.epoch.log (notes k) n i)
 

@@ -9,7 +9,7 @@ use Rattle.partial_core.specs.Lawful.{Lawful}
 use Rattle.partial_epochs.specs.Lists.{put}
 use Rattle.partial_epochs.specs.Layout.{IsAsked, Plan, Place, base, carried_word, control_size, whole}
 use Rattle.partial_epochs.specs.Ports.{Port, Epoch}
-use Rattle.partial_epochs.specs.Epochs.{IsPlan, Beside, LawfulEpochs}
+use Rattle.partial_epochs.specs.Epochs.{IsEpochPlan, Beside, LawfulEpochs}
 use Rattle.partial_epochs.specs.Entering.{arrived}
 
 -- the words below the first free one are those of an opening, but for list words; behind it anything may stand
@@ -27,7 +27,7 @@ OpensOverLawful = (z : Layout) (o : Opening) (words : List ℕ) (n : ℕ) → Op
 
 -- the words at opening: no arena is owned, each port stands in epoch 0, and arena 0 is set; the other arenas may hold anything
 pub record OpensAll (e : Plan) (words : List ℕ) : Type 0 where
-  pub plan : IsPlan e
+  pub plan : IsEpochPlan e
   pub some : 0 < e.arenas
   pub count : length words ≡ whole e
   pub control : (i : ℕ) → i < control_size e → slice_index words i ≡ 0

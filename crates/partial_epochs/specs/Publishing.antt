@@ -7,7 +7,7 @@ use Rattle.partial_words.specs.Step.{words_after}
 use Rattle.partial_epochs.specs.Lists.{put}
 use Rattle.partial_epochs.specs.Layout.{IsAsked, epoch_limit, Plan, Place, packed, current_word, set_word}
 use Rattle.partial_epochs.specs.Ports.{Owned, Port, Epoch}
-use Rattle.partial_epochs.specs.Epochs.{Beside, next_word, LawfulEpochs, IsPresent}
+use Rattle.partial_epochs.specs.Epochs.{Beside, next_epoch_word, LawfulEpochs, IsPresent}
 
 -- a port that has set the words of its arena below that number
 abbrev pub having_set : Port → Owned → ℕ → Port
@@ -24,7 +24,7 @@ SetsStayLawful = (e : Plan) (words : List ℕ) (ports : ℕ → Port) (b : Besid
     LawfulEpochs e words ports b → k < e.ports → (ports k).control.owned ≡ Some o → o.clean ≡ e.ports → o.set < next →
     next ≤ first_free e.sizes + e.sizes.m → e.sizes.m ≤ (ports k).passed →
     (slice_index words current_word ≡ packed (ports k).control.here → (i : ℕ) → o.set ≤ i → i < next → IsAsked e.sizes i →
-    slice_index (words_after words (Store (set_word e o.arena o.set) v)) (set_word e o.arena i) ≡ next_word e b i) →
+    slice_index (words_after words (Store (set_word e o.arena o.set) v)) (set_word e o.arena i) ≡ next_epoch_word e b i) →
     LawfulEpochs e (words_after words (Store (set_word e o.arena o.set) v)) (put k (having_set (ports k) o next) ports) (vacated b o.arena)
 
 -- an arena that a port owns, as it was when it came to own it
@@ -48,7 +48,7 @@ abbrev pub next_place : Place → ℕ → Place
 next_place here x = record { epoch = here.epoch + 1; arena = x }
 
 -- port k has set all words of the arena that it owns, and its epoch isn't the last one that a word can name
-pub record IsWhole (e : Plan) (p : Port) (o : Owned) : Type 0 where
+pub record IsWholeArena (e : Plan) (p : Port) (o : Owned) : Type 0 where
   pub owned : p.control.owned ≡ Some o
   pub set : o.set ≡ first_free e.sizes + e.sizes.m
   pub room : p.control.here.epoch + 1 < epoch_limit
@@ -56,7 +56,7 @@ pub record IsWhole (e : Plan) (p : Port) (o : Owned) : Type 0 where
 -- The exchange of the current word is won, and opens the next epoch, where the port's epoch is the current one; else the epoch has passed.
 abbrev pub PublishesStayLawful : Type 0
 PublishesStayLawful = (e : Plan) (words : List ℕ) (ports : ℕ → Port) (b : Beside) (k : ℕ) (o : Owned) → LawfulEpochs e words ports b →
-    k < e.ports → IsWhole e (ports k) o →
+    k < e.ports → IsWholeArena e (ports k) o →
     ((slice_index words current_word ≡ packed (ports k).control.here) × IsPresent b k (ports k)
     × LawfulEpochs e (words_after words (Exchange current_word (packed (ports k).control.here)
     (packed (next_place (ports k).control.here o.arena))))

@@ -17,13 +17,13 @@ use Rattle.partial_words.proofs.BlockLemmas.{list_reads_back}
 use Rattle.partial_words.proofs.RecordLemmas.{length-pairs}
 use Rattle.partial_embedded.specs.declared.embedded.Stage.{Stage}
 use Rattle.partial_embedded.specs.declared.embedded.Stage.TheVariants.{Collect, View, Len, Index, PairValue, Value, Done}
-use Rattle.partial_embedded.specs.Embedded.{Pair, RowsState, GoTogether, IsPossibleAt, goes_at, is_first, differs, was_changed, borrow, noted, go_on, after_collect, after_load, after_view, at_stage, with_value, pairs_from, step_at, advance_at}
+use Rattle.partial_embedded.specs.Embedded.{ViewPair, RowsState, ViewGoesTogether, IsPossibleInViewAt, view_goes_at, is_first, differs, was_changed, borrow, noted, go_on, after_collect, after_load, after_view, view_at_stage, with_value, pairs_from, view_step_at, advance_view_at}
 use Rattle.partial_state.specs.Views.{IsWithin, IsBegunSince, HasPairs, IsView, HasFreshView}
 use Rattle.partial_state.specs.Holdings.{Holding, unpublished}
 use Rattle.partial_state.specs.LawfulWords.{LawfulWords}
-use Rattle.partial_state.specs.Loads.{Kept, IsLoaded}
+use Rattle.partial_state.specs.Loads.{KeptAnswer, IsLoaded}
 use Rattle.partial_knowledge.specs.Sets.{IsReadable}
-use Rattle.partial_knowledge.specs.Scans.{HasEntry, IsLatest, IsCollecting, HasValues, Agreed, IsThird, HasLoaded, Loads, knows_at, Knows, EmbeddedScansKnow}
+use Rattle.partial_knowledge.specs.Scans.{HasEntry, IsLatest, IsCollecting, HasValues, Agreed, IsThird, HasLoaded, Loads, knows_at, ScanKnows, EmbeddedScansKnow}
 use Rattle.partial_knowledge.proofs.Chains.{newer, begun_since, begun_within, stamp_within, standing, standing_word, IsStanding, apart_part}
 use Rattle.partial_embedded.proofs.Keeps.{neither}
 use Rattle.partial_model.proofs.Values.{element_at}
@@ -54,7 +54,7 @@ view_readable z words hs at i pairs view lt =
     )
 
 -- what a position's load tells where it differs from the latest one
-differs_tells : (p : Pair) (k x : ℕ) → differs p k x ≡ true → (is_first p ≡ false) × (get_or p.1.last k 0 ≢ x)
+differs_tells : (p : ViewPair) (k x : ℕ) → differs p k x ≡ true → (is_first p ≡ false) × (get_or p.1.last k 0 ≢ x)
 differs_tells p k x d =
     let both = and_parts (not (is_first p)) (not (get_or p.1.last k 0 == x)) d in
     (unless (is_first p) both.0, λ same. elim (eqb_tells (get_or p.1.last k 0) x) [ inl t ↦ false≢true (ap not (sym t.0) ∙ both.1) | inr t ↦ t.1 same ])
@@ -63,13 +63,13 @@ differs_tells p k x d =
     unless true e = absurd (false≢true e)
     unless false e = refl
 
-agrees_tells : (p : Pair) (k x : ℕ) → is_first p ≡ false → differs p k x ≡ false → get_or p.1.last k 0 ≡ x
+agrees_tells : (p : ViewPair) (k x : ℕ) → is_first p ≡ false → differs p k x ≡ false → get_or p.1.last k 0 ≡ x
 agrees_tells p k x first d = elim (eqb_tells (get_or p.1.last k 0) x) [
   | inl t ↦ t.1
   | inr t ↦ absurd (false≢true (sym d ∙ ap (λ b. not b && not (get_or p.1.last k 0 == x)) first ∙ ap not t.0))
 ]
 
-changed_tells : (p : Pair) (k : ℕ) → was_changed p k ≡ true → (is_first p ≡ false) × (slice_index_or p.1.changed k false ≡ true)
+changed_tells : (p : ViewPair) (k : ℕ) → was_changed p k ≡ true → (is_first p ≡ false) × (slice_index_or p.1.changed k false ≡ true)
 changed_tells p k c =
     let both = and_parts (not (is_first p)) (slice_index_or p.1.changed k false) c in
     (unless (is_first p) both.0, both.1)
@@ -78,11 +78,11 @@ changed_tells p k c =
     unless true e = absurd (false≢true e)
     unless false e = refl
 
-module _ (o : Opening) (words : List ℕ) (hs : List Holding) (log : List Applied) (indices : List ℕ) (low high : ℕ) (p : Pair) (w : LawfulWords p.0.sizes o words hs log)
-    (together : GoTogether indices p) (order : low ≤ high) where
+module _ (o : Opening) (words : List ℕ) (hs : List Holding) (log : List Applied) (indices : List ℕ) (low high : ℕ) (p : ViewPair) (w : LawfulWords p.0.sizes o words hs log)
+    (together : ViewGoesTogether indices p) (order : low ≤ high) where
   -- what is known once the answer given at length t leads to q
-  pub Known : ℕ → Pair → Type 0
-  Known t q = Knows p.0.sizes o words hs log indices low t q
+  pub Known : ℕ → ViewPair → Type 0
+  Known t q = ScanKnows p.0.sizes o words hs log indices low t q
 
   there_is : (i : ℕ) → i < length indices → slice_index indices i < length o.values
   there_is i lt = let below = together.positions.components i lt in let values = w.values in omega (arith, below, values)
@@ -90,10 +90,10 @@ module _ (o : Opening) (words : List ℕ) (hs : List Holding) (log : List Applie
   module _ (k : ℕ) (x t : ℕ) (stage : p.0.stage ≡ Collect k) (knows : IsCollecting o log indices low high p k) (after : high ≤ t) (inside : t ≤ length log)
       (is : x ≡ stamp_of o (take t log) (slice_index indices k)) where
     here : k < length indices
-    here = let g = subst (goes_at indices p) stage together.stage in g.0
+    here = let g = subst (view_goes_at indices p) stage together.stage in g.0
 
     begun : 1 ≤ p.0.collects
-    begun = let g = subst (goes_at indices p) stage together.stage in g.2
+    begun = let g = subst (view_goes_at indices p) stage together.stage in g.2
 
     in_last : k < length p.1.last
     in_last = let few = together.positions.few in let rows = together.rows.last in omega (arith, here, few, rows)
@@ -169,7 +169,7 @@ module _ (o : Opening) (words : List ℕ) (hs : List Holding) (log : List Applie
     ]
 
     -- the collect goes on
-    collects_on : k + 1 < length indices → Known t (at_stage (noted p k x) (Collect (k + 1)))
+    collects_on : k + 1 < length indices → Known t (view_at_stage (noted p k x) (Collect (k + 1)))
     unfolding Known
     collects_on more = record {
       none = knows.none;
@@ -199,7 +199,7 @@ module _ (o : Opening) (words : List ℕ) (hs : List Holding) (log : List Applie
     }
 
     -- two collects agreed
-    agreed : length indices ≤ k + 1 → is_first p ≡ false → (p.0.moved || differs p k x) ≡ false → Known t (at_stage (noted p k x) (Value 0))
+    agreed : length indices ≤ k + 1 → is_first p ≡ false → (p.0.moved || differs p k x) ≡ false → Known t (view_at_stage (noted p k x) (Value 0))
     unfolding Known
     agreed last first unmoved = record {
       none = knows.none;
@@ -243,14 +243,14 @@ module _ (o : Opening) (words : List ℕ) (hs : List Holding) (log : List Applie
 
     whole_collect : length indices ≤ k + 1 → Known t (after_collect (noted p k x))
     whole_collect last = cond_both (is_first p || (p.0.moved || differs p k x)) (record (noted p k x).0 { collects = p.0.collects + 1; moved = false; stage = Collect 0 }, (noted p k x).1)
-        (at_stage (noted p k x) (Value 0)) (λ q. Known t q)
+        (view_at_stage (noted p k x) (Value 0)) (λ q. Known t q)
         (λ e. collects_again last)
         (λ e. let none = neither (is_first p) (p.0.moved || differs p k x) e in agreed last none.0 none.1)
 
     pub step_collect : Known t (after_load (length indices) p k x)
     step_collect = cond_both (differs p k x && was_changed p k) (borrow p x) (go_on (length indices) (noted p k x) k) (λ q. Known t q)
         third
-        (λ e. cond_both (nat_lt (k + 1) (length indices)) (at_stage (noted p k x) (Collect (k + 1))) (after_collect (noted p k x)) (λ q. Known t q)
+        (λ e. cond_both (nat_lt (k + 1) (length indices)) (view_at_stage (noted p k x) (Collect (k + 1))) (after_collect (noted p k x)) (λ q. Known t q)
         (λ more. collects_on (ltb-true (k + 1) (length indices) more))
         (λ last. whole_collect (ltb-false (k + 1) (length indices) last)))
 
@@ -262,10 +262,10 @@ same_pairs words z hs at pairs i c v view stands =
     let is = back ∙ got pairs i (c, v) (0, 0) stands in
     (ap (λ (q : ℕ × ℕ). q.0) is, ap (λ (q : ℕ × ℕ). q.1) is)
 
-module _ (o : Opening) (words : List ℕ) (hs : List Holding) (log : List Applied) (indices : List ℕ) (low high : ℕ) (p : Pair) (w : LawfulWords p.0.sizes o words hs log)
-    (together : GoTogether indices p) (order : low ≤ high) where
-  pub Knows_at : ℕ → Pair → Type 0
-  Knows_at t q = Knows p.0.sizes o words hs log indices low t q
+module _ (o : Opening) (words : List ℕ) (hs : List Holding) (log : List Applied) (indices : List ℕ) (low high : ℕ) (p : ViewPair) (w : LawfulWords p.0.sizes o words hs log)
+    (together : ViewGoesTogether indices p) (order : low ≤ high) where
+  pub Knows_at : ℕ → ViewPair → Type 0
+  Knows_at t q = ScanKnows p.0.sizes o words hs log indices low t q
 
   -- a third record is one of the history
   third_stands : (stamp : ℕ) → IsThird words log indices low p stamp → IsStanding p.0.sizes words hs stamp
@@ -288,7 +288,7 @@ module _ (o : Opening) (words : List ℕ) (hs : List Holding) (log : List Applie
   }
 
   -- the third record's facts, for the machine at another stage
-  abbrev third_on : (stamp : ℕ) (q : Pair) → q.0.borrowed ≡ p.0.borrowed → q.0.collects ≡ p.0.collects → IsThird words log indices low p stamp → IsThird words log indices low q stamp
+  abbrev third_on : (stamp : ℕ) (q : ViewPair) → q.0.borrowed ≡ p.0.borrowed → q.0.collects ≡ p.0.collects → IsThird words log indices low p stamp → IsThird words log indices low q stamp
   third_on stamp q same count third = record {
     borrowed = same ∙ third.borrowed;
     three = let three = third.three in omega (arith, three, count);
@@ -313,7 +313,7 @@ module _ (o : Opening) (words : List ℕ) (hs : List Holding) (log : List Applie
 
   pub step_view : (stamp t x : ℕ) → IsThird words log indices low p stamp → x ≡ view_of words stamp → Knows_at t (after_view p.0 x, p.1)
   unfolding Knows_at
-  step_view stamp t x third is = cond_both ((x == 0) || p.0.shares) Done (Len x) (λ stage. Knows p.0.sizes o words hs log indices low t (record p.0 { view = x; stage = stage }, p.1))
+  step_view stamp t x third is = cond_both ((x == 0) || p.0.shares) Done (Len x) (λ stage. ScanKnows p.0.sizes o words hs log indices low t (record p.0 { view = x; stage = stage }, p.1))
       (λ e. (
         λ none. let bad : None ≡ Some stamp = sym none ∙ third.borrowed in absurd cc,
         λ s borrowed. subst (λ n. IsThird words log indices low (record p.0 { view = x; stage = Done }, p.1) n × (x ≡ view_of words n)) (one_stamp stamp s third.borrowed borrowed)
@@ -338,7 +338,7 @@ module _ (o : Opening) (words : List ℕ) (hs : List Holding) (log : List Applie
   view_here stamp pairs some (inr view) = view
 
   pub step_len : (at t x : ℕ) → knows_at p.0.sizes o words hs log indices low high (Len at) p → x ≡ get_or words at 0 → ((x ≤ p.0.sizes.m) × (at + view_size x ≤ pool_end p.0.sizes)) ×
-      Knows_at t (at_stage p (pairs_from (pairs_word at) x))
+      Knows_at t (view_at_stage p (pairs_from (pairs_word at) x))
   unfolding Knows_at
   step_len at t x knows is =
       let stamp = knows.0 in
@@ -352,20 +352,20 @@ module _ (o : Opening) (words : List ℕ) (hs : List Holding) (log : List Applie
       let within = view.within in
       let size = length-pairs f.pairs in (
         (omega (arith, count, few), omega (arith, count, within, size, at_is)),
-        cond_both (x == 0) Done (Index (pairs_word at) x) (λ stage. Knows p.0.sizes o words hs log indices low t (at_stage p stage))
+        cond_both (x == 0) Done (Index (pairs_word at) x) (λ stage. ScanKnows p.0.sizes o words hs log indices low t (view_at_stage p stage))
             (λ e.
             let none = eqb-true x 0 e in
-            let all : Loads p.0.sizes o words hs log indices low (at_stage p Done) 0 =
-            (stamp, third_on stamp (at_stage p Done) refl refl third, view_is, f.pairs, 0, omega (arith, none, count), none_loaded stamp p.1 third f) in (
+            let all : Loads p.0.sizes o words hs log indices low (view_at_stage p Done) 0 =
+            (stamp, third_on stamp (view_at_stage p Done) refl refl third, view_is, f.pairs, 0, omega (arith, none, count), none_loaded stamp p.1 third f) in (
               λ nothing. let bad : None ≡ Some stamp = sym nothing ∙ third.borrowed in absurd cc,
-              λ s borrowed. subst (λ n. IsThird words log indices low (at_stage p Done) n × (p.0.view ≡ view_of words n)) (one_stamp stamp s third.borrowed borrowed)
-                  (third_on stamp (at_stage p Done) refl refl third, view_is),
+              λ s borrowed. subst (λ n. IsThird words log indices low (view_at_stage p Done) n × (p.0.view ≡ view_of words n)) (one_stamp stamp s third.borrowed borrowed)
+                  (third_on stamp (view_at_stage p Done) refl refl third, view_is),
               λ s borrowed shares. all,
             ))
             (λ e.
             let some = eqb-false x 0 e in (
               knows.5,
-              (stamp, third_on stamp (at_stage p (Index (pairs_word at) x)) refl refl third, view_is, f.pairs, 0, omega (arith, count), none_loaded stamp p.1 third f),
+              (stamp, third_on stamp (view_at_stage p (Index (pairs_word at) x)) refl refl third, view_is, f.pairs, 0, omega (arith, count), none_loaded stamp p.1 third f),
               omega (arith, at_is, view_is),
               omega (arith, some),
             )),
@@ -391,7 +391,7 @@ module _ (o : Opening) (words : List ℕ) (hs : List Holding) (log : List Applie
   view_shown left l some none = let sum = l.5 in let no = no_pairs l.3 l.0 (sym l.2 ∙ none) l.6.shown in omega (arith, sum, some, no)
 
   pub step_index : (at left t x : ℕ) → knows_at p.0.sizes o words hs log indices low high (Index at left) p → x ≡ get_or words at 0 → (x < p.0.sizes.m) ×
-      Knows_at t (at_stage p (PairValue (next_word at) left x))
+      Knows_at t (view_at_stage p (PairValue (next_word at) left x))
   unfolding Knows_at
   step_index at left t x knows is =
       let l = knows.1 in
@@ -401,7 +401,7 @@ module _ (o : Opening) (words : List ℕ) (hs : List Holding) (log : List Applie
         subst (λ n. n < p.0.sizes.m) (sym index) next.4,
         (
           knows.0,
-          (l.0, third_on l.0 (at_stage p (PairValue (next_word at) left x)) refl refl l.1, l.2, l.3, l.4, l.5, l.6),
+          (l.0, third_on l.0 (view_at_stage p (PairValue (next_word at) left x)) refl refl l.1, l.2, l.3, l.4, l.5, l.6),
           omega (arith, at_is),
           knows.3,
           (next.0.1, next.1 ∙ ap (λ n. Some (n, next.0.1)) (sym index)),
@@ -409,7 +409,7 @@ module _ (o : Opening) (words : List ℕ) (hs : List Holding) (log : List Applie
       )
 
   pub step_pair : (at left index t x : ℕ) → index < length p.1.values → knows_at p.0.sizes o words hs log indices low high (PairValue at left index) p → x ≡ get_or words at 0 →
-      Knows_at t (at_stage (with_value p index x) (pairs_from (next_word at) (left - 1)))
+      Knows_at t (view_at_stage (with_value p index x) (pairs_from (next_word at) (left - 1)))
   unfolding Knows_at
   step_pair at left index t x room knows is =
       let l = knows.1 in
@@ -436,24 +436,24 @@ module _ (o : Opening) (words : List ℕ) (hs : List Holding) (log : List Applie
           ]
         ];
       } in
-      cond_both (left - 1 == 0) Done (Index (next_word at) (left - 1)) (λ stage. Knows p.0.sizes o words hs log indices low t (at_stage (with_value p index x) stage))
+      cond_both (left - 1 == 0) Done (Index (next_word at) (left - 1)) (λ stage. ScanKnows p.0.sizes o words hs log indices low t (view_at_stage (with_value p index x) stage))
       (λ e.
       let none = eqb-true (left - 1) 0 e in (
         λ nothing. let bad : None ≡ Some l.0 = sym nothing ∙ l.1.borrowed in absurd cc,
-        λ s borrowed. subst (λ n. IsThird words log indices low (at_stage (with_value p index x) Done) n × (p.0.view ≡ view_of words n)) (one_stamp l.0 s l.1.borrowed borrowed)
-            (third_on l.0 (at_stage (with_value p index x) Done) refl refl l.1, l.2),
-        λ s borrowed shares. (l.0, third_on l.0 (at_stage (with_value p index x) Done) refl refl l.1, l.2, l.3, l.4 + 1, omega (arith, sum, some, none), next),
+        λ s borrowed. subst (λ n. IsThird words log indices low (view_at_stage (with_value p index x) Done) n × (p.0.view ≡ view_of words n)) (one_stamp l.0 s l.1.borrowed borrowed)
+            (third_on l.0 (view_at_stage (with_value p index x) Done) refl refl l.1, l.2),
+        λ s borrowed shares. (l.0, third_on l.0 (view_at_stage (with_value p index x) Done) refl refl l.1, l.2, l.3, l.4 + 1, omega (arith, sum, some, none), next),
       ))
       (λ e.
       let more = eqb-false (left - 1) 0 e in (
         knows.0,
-        (l.0, third_on l.0 (at_stage (with_value p index x) (Index (next_word at) (left - 1))) refl refl l.1, l.2, l.3, l.4 + 1, omega (arith, sum, some), next),
+        (l.0, third_on l.0 (view_at_stage (with_value p index x) (Index (next_word at) (left - 1))) refl refl l.1, l.2, l.3, l.4 + 1, omega (arith, sum, some), next),
         omega (arith, at_is),
         omega (arith, more),
       ))
 
   pub step_value : (k t x : ℕ) → k < length indices → slice_index indices k < length p.1.values → high ≤ t → Agreed o log indices low high p k → x ≡ get_or words (slice_index p.1.last k + 1) 0 →
-      Knows_at t (at_stage (with_value p (slice_index indices k) x) (cond (nat_lt (k + 1) (length indices)) (Value (k + 1)) Done))
+      Knows_at t (view_at_stage (with_value p (slice_index indices k) x) (cond (nat_lt (k + 1) (length indices)) (Value (k + 1)) Done))
   unfolding Knows_at
   step_value k t x here room after knows is =
       let j = slice_index indices k in
@@ -470,7 +470,7 @@ module _ (o : Opening) (words : List ℕ) (hs : List Holding) (log : List Applie
           ]
         ];
       } in
-      cond_both (nat_lt (k + 1) (length indices)) (Value (k + 1)) Done (λ stage. Knows p.0.sizes o words hs log indices low t (at_stage (with_value p j x) stage))
+      cond_both (nat_lt (k + 1) (length indices)) (Value (k + 1)) Done (λ stage. ScanKnows p.0.sizes o words hs log indices low t (view_at_stage (with_value p j x) stage))
       (λ e. record { none = knows.none; two = knows.two; prefix = knows.prefix; stamps = knows.stamps; values = next })
       (λ e.
       let last = ltb-false (k + 1) (length indices) e in (
@@ -479,10 +479,10 @@ module _ (o : Opening) (words : List ℕ) (hs : List Holding) (log : List Applie
         λ s borrowed shares. let bad : None ≡ Some s = sym knows.none ∙ borrowed in absurd cc,
       ))
 
-module _ (o : Opening) (words : List ℕ) (hs : List Holding) (log : List Applied) (indices : List ℕ) (low high : ℕ) (p : Pair) (w : LawfulWords p.0.sizes o words hs log)
-    (together : GoTogether indices p) (order : low ≤ high) where
+module _ (o : Opening) (words : List ℕ) (hs : List Holding) (log : List Applied) (indices : List ℕ) (low high : ℕ) (p : ViewPair) (w : LawfulWords p.0.sizes o words hs log)
+    (together : ViewGoesTogether indices p) (order : low ≤ high) where
   -- the words that are to be loaded
-  readable_at : (stage : Stage) (n : ℕ) → step_at p.0.sizes indices p.1.last stage ≡ Some (Load n) → goes_at indices p stage → knows_at p.0.sizes o words hs log indices low high stage p →
+  readable_at : (stage : Stage) (n : ℕ) → view_step_at p.0.sizes indices p.1.last stage ≡ Some (Load n) → view_goes_at indices p stage → knows_at p.0.sizes o words hs log indices low high stage p →
       IsReadable p.0.sizes words hs n
   readable_at (Collect k) n e goes knows =
       let is : slice_index indices k ≡ n = cc in
@@ -528,17 +528,17 @@ module _ (o : Opening) (words : List ℕ) (hs : List Holding) (log : List Applie
   readable_at Done n e goes knows = absurd cc
 
   -- what a load of a block's word answered stands element_at
-  still : (n : ℕ) (k : Kept) → list_base p.0.sizes ≤ n → IsLoaded p.0.sizes o words hs log n k → k.answer ≡ get_or words n 0
+  still : (n : ℕ) (k : KeptAnswer) → list_base p.0.sizes ≤ n → IsLoaded p.0.sizes o words hs log n k → k.answer ≡ get_or words n 0
   still n k far l = (l.block far).0
 
   -- the reference of a view
-  view_reference : (stamp : ℕ) (pairs : List (ℕ × ℕ)) → HasPairs p.0.sizes words (unpublished hs) stamp pairs → IsPossibleAt p.0.sizes (View stamp) (view_of words stamp)
+  view_reference : (stamp : ℕ) (pairs : List (ℕ × ℕ)) → HasPairs p.0.sizes words (unpublished hs) stamp pairs → IsPossibleInViewAt p.0.sizes (View stamp) (view_of words stamp)
   view_reference stamp pairs (inl empty) = inl empty.0
   view_reference stamp pairs (inr view) = let above = view.above in let within = view.within in inr (omega (arith, above), omega (arith, within))
 
   -- and what they answer now is possible
-  possible_at : (stage : Stage) (n : ℕ) → step_at p.0.sizes indices p.1.last stage ≡ Some (Load n) → goes_at indices p stage → knows_at p.0.sizes o words hs log indices low high stage p →
-      IsLoaded p.0.sizes o words hs log n (record { answer = slice_index words n; at = length log }) → IsPossibleAt p.0.sizes stage (slice_index words n)
+  possible_at : (stage : Stage) (n : ℕ) → view_step_at p.0.sizes indices p.1.last stage ≡ Some (Load n) → view_goes_at indices p stage → knows_at p.0.sizes o words hs log indices low high stage p →
+      IsLoaded p.0.sizes o words hs log n (record { answer = slice_index words n; at = length log }) → IsPossibleInViewAt p.0.sizes stage (slice_index words n)
   possible_at (Collect k) n e goes knows l =
       let is : slice_index indices k ≡ n = cc in
       let here = goes.0 in
@@ -552,7 +552,7 @@ module _ (o : Opening) (words : List ℕ) (hs : List Holding) (log : List Applie
   possible_at (View stamp) n e goes knows l =
       let is : view_word stamp ≡ n = cc in
       let f = third_fresh o words hs log indices low high p w together order stamp knows in
-      subst (λ m. IsPossibleAt p.0.sizes (View stamp) (slice_index words m)) is (view_reference stamp f.pairs f.shown)
+      subst (λ m. IsPossibleInViewAt p.0.sizes (View stamp) (slice_index words m)) is (view_reference stamp f.pairs f.shown)
   possible_at (Len at) n e goes knows l = let is : n ≡ at = cc in (step_len o words hs log indices low high p w together order at high (slice_index words n) knows (ap (λ m. get_or words m 0) is)).0
   possible_at (Index at left) n e goes knows l = let is : n ≡ at = cc in
       (step_index o words hs log indices low high p w together order at left high (slice_index words n) knows (ap (λ m. get_or words m 0) is)).0
@@ -561,9 +561,9 @@ module _ (o : Opening) (words : List ℕ) (hs : List Holding) (log : List Applie
   possible_at Done n e goes knows l = absurd cc
 
   -- an answer leads to what is known next
-  on_at : (stage : Stage) (n : ℕ) (k : Kept) → p.0.stage ≡ stage → step_at p.0.sizes indices p.1.last stage ≡ Some (Load n) → goes_at indices p stage →
-      knows_at p.0.sizes o words hs log indices low high stage p → IsLoaded p.0.sizes o words hs log n k → high ≤ k.at → Knows p.0.sizes o words hs log indices low k.at
-      (advance_at indices p stage k.answer)
+  on_at : (stage : Stage) (n : ℕ) (k : KeptAnswer) → p.0.stage ≡ stage → view_step_at p.0.sizes indices p.1.last stage ≡ Some (Load n) → view_goes_at indices p stage →
+      knows_at p.0.sizes o words hs log indices low high stage p → IsLoaded p.0.sizes o words hs log n k → high ≤ k.at → ScanKnows p.0.sizes o words hs log indices low k.at
+      (advance_view_at indices p stage k.answer)
   unfolding Known Knows_at
   on_at (Collect i) n k at e goes knows l after =
       let is : slice_index indices i ≡ n = cc in

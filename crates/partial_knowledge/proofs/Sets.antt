@@ -14,15 +14,15 @@ use Rattle.partial_words.proofs.RecordLemmas.{length-pairs}
 use Rattle.partial_active.specs.declared.get_set.Stage.{Stage}
 use Rattle.partial_active.specs.declared.get_set.Stage.TheVariants.{Head, ListLen, ListLow, ListHigh, Counter, Slot, Len, Index, Claim, Write, Publish, Done}
 use Rattle.partial_active.specs.IndexSet.{has_index}
-use Rattle.partial_active.specs.GetSet.{Pair, step_at, step_of}
-use Rattle.partial_active.specs.GetSetAnswers.{EndsBelow, is_possible_at, IsPossible, goes_at}
+use Rattle.partial_active.specs.GetSet.{SetPair, set_step_at, set_step_due}
+use Rattle.partial_active.specs.GetSetAnswers.{EndsBelow, is_possible_at, IsPossibleInSet, set_goes_at}
 use Rattle.partial_active.specs.Knowledge.{Facts, HasReadSo, knows_by}
 use Rattle.partial_active.proofs.Indices.{with_index_keeps, same_named}
 use Rattle.partial_active.proofs.Knowledge.{AreFacts, tells_at, ends_below, leads_at}
 use Rattle.partial_state.specs.Views.{Joined, IsAnnounced, IsPublishedList, IsApartFrom, Block}
 use Rattle.partial_state.specs.Holdings.{Holding, unpublished}
 use Rattle.partial_state.specs.LawfulWords.{LawfulWords}
-use Rattle.partial_state.specs.Loads.{Kept, IsLoaded, IsSlotAnswer}
+use Rattle.partial_state.specs.Loads.{KeptAnswer, IsLoaded, IsSlotAnswer}
 use Rattle.partial_knowledge.specs.Joins.{Joins}
 use Rattle.partial_knowledge.specs.Sets.{FindsIn, facts_of_words, IsReadable, IsKeptAnswer, GetSetsKnow}
 use Rattle.partial_knowledge.proofs.Joined.{at_joined, shown, reference_above}
@@ -78,7 +78,7 @@ module _ (z : Layout) (o : Opening) (words : List ℕ) (hs : List Holding) (log 
       let below = p.below in
       (omega (arith, lt, to), λ far. record { claimed = inr (omega (arith, above), omega (arith, lt, below)); apart = apart_word (unpublished hs) at (announcement_size (length named)) i lt p.apart })
 
-module _ (o : Opening) (words : List ℕ) (hs : List Holding) (log : List Applied) (low : ℕ) (p : Pair) (w : LawfulWords p.0.sizes o words hs log) where
+module _ (o : Opening) (words : List ℕ) (hs : List Holding) (log : List Applied) (low : ℕ) (p : SetPair) (w : LawfulWords p.0.sizes o words hs log) where
   layout : IsLayout p.0.sizes
   layout = w.sizes
 
@@ -89,20 +89,20 @@ module _ (o : Opening) (words : List ℕ) (hs : List Holding) (log : List Applie
   hold = facts_of_words_hold p.0.sizes o words hs log low w
 
   -- what is known of a block's word is what the load answered
-  still : (n : ℕ) (k : Kept) → list_base p.0.sizes ≤ n → IsLoaded p.0.sizes o words hs log n k → k.answer ≡ slice_index words n
+  still : (n : ℕ) (k : KeptAnswer) → list_base p.0.sizes ≤ n → IsLoaded p.0.sizes o words hs log n k → k.answer ≡ slice_index words n
   still n k far l = (l.block far).0
 
   -- the answer is one of the load that is due at the stage
-  abbrev IsLoadAt : Stage → Kept → Type 0
-  IsLoadAt stage k = (n : ℕ) → step_at p.0.sizes p.0.head stage ≡ Some (Load n) → (low ≤ k.at) × IsLoaded p.0.sizes o words hs log n k
+  abbrev IsLoadAt : Stage → KeptAnswer → Type 0
+  IsLoadAt stage k = (n : ℕ) → set_step_at p.0.sizes p.0.head stage ≡ Some (Load n) → (low ≤ k.at) × IsLoaded p.0.sizes o words hs log n k
 
-  told_counter : (k : Kept) → low ≤ k.at → IsLoaded p.0.sizes o words hs log (slot_counter p.0.sizes) k → (l : ℕ) → min k.answer p.0.sizes.slots ≤ l → FindsIn hs low p.1.indices l
+  told_counter : (k : KeptAnswer) → low ≤ k.at → IsLoaded p.0.sizes o words hs log (slot_counter p.0.sizes) k → (l : ℕ) → min k.answer p.0.sizes.slots ≤ l → FindsIn hs low p.1.indices l
   told_counter k after loaded l from j joins since =
       let slot = (shown p.0.sizes o words hs log w l j joins).slot in
       let less = at_joined (λ n i. i.since < k.at → n < k.answer) hs l j (loaded.counter refl) joins (omega (arith, since, after)) in
       absurd (omega (arith, slot, less, from))
 
-  told_slot : (slot : ℕ) (k : Kept) → slot < p.0.sizes.slots → low ≤ k.at → IsLoaded p.0.sizes o words hs log (slot_word p.0.sizes slot) k → tells_at words Here (Slot slot) p k.answer
+  told_slot : (slot : ℕ) (k : KeptAnswer) → slot < p.0.sizes.slots → low ≤ k.at → IsLoaded p.0.sizes o words hs log (slot_word p.0.sizes slot) k → tells_at words Here (Slot slot) p k.answer
   told_slot slot k within after loaded = by_answer (loaded.slot slot within refl)
     where
       here : (j : Joined) → Joins hs slot j → j.since < low → j.at ≡ k.answer
@@ -114,7 +114,7 @@ module _ (o : Opening) (words : List ℕ) (hs : List Holding) (log : List Applie
       by_answer (inr (inr there)) = inr (inr (there.0, (there.1, here)))
 
   -- what a kept answer tells, where that of the slot counter and of a claim is a possible one
-  told_at : (stage : Stage) (k : Kept) → goes_at stage p → knows_by Here stage p → IsSome (step_at p.0.sizes p.0.head stage) → IsLoadAt stage k →
+  told_at : (stage : Stage) (k : KeptAnswer) → set_goes_at stage p → knows_by Here stage p → IsSome (set_step_at p.0.sizes p.0.head stage) → IsLoadAt stage k →
       ((stage ≡ Counter) ⊎ ((count : ℕ) × (stage ≡ Claim count)) → is_possible_at stage p k.answer) → tells_at words Here stage p k.answer
   told_at Head k goes knows due f possible = (f (list_head p.0.sizes) refl).1.head refl
   told_at (ListLen at) k goes knows due f possible = still at k goes.2 (f at refl).1
@@ -141,7 +141,7 @@ module _ (o : Opening) (words : List ℕ) (hs : List Holding) (log : List Applie
   unread from left list r some = let sum = r.sum in let pairs = length-pairs list in omega (arith, pairs, sum, some)
 
   -- the words that are to be loaded
-  readable_at : (stage : Stage) (n : ℕ) → step_at p.0.sizes p.0.head stage ≡ Some (Load n) → goes_at stage p → knows_by Here stage p → IsReadable p.0.sizes words hs n
+  readable_at : (stage : Stage) (n : ℕ) → set_step_at p.0.sizes p.0.head stage ≡ Some (Load n) → set_goes_at stage p → knows_by Here stage p → IsReadable p.0.sizes words hs n
   readable_at Head n e goes knows = let is : list_head p.0.sizes ≡ n = cc in let some = layout.slots.0 in (omega (arith, is, some), λ far. absurd (omega (arith, is, some, far)))
   readable_at (ListLen at) n e goes knows = let is : at ≡ n = cc in subst (IsReadable p.0.sizes words hs) (omega (arith, is))
       (list_word p.0.sizes o words hs log low w at 0 knows.0 knows.1 (omega arith))
@@ -171,16 +171,16 @@ module _ (o : Opening) (words : List ℕ) (hs : List Holding) (log : List Applie
   readable_at stage n e goes knows = absurd cc
 
   -- what the words answer now is possible
-  possible_now : (n : ℕ) → step_of p.0 ≡ Some (Load n) → goes_at p.0.stage p → knows_by Here p.0.stage p →
-      IsLoaded p.0.sizes o words hs log n (record { answer = slice_index words n; at = length log }) → low ≤ length log → IsPossible p (slice_index words n)
+  possible_now : (n : ℕ) → set_step_due p.0 ≡ Some (Load n) → set_goes_at p.0.stage p → knows_by Here p.0.stage p →
+      IsLoaded p.0.sizes o words hs log n (record { answer = slice_index words n; at = length log }) → low ≤ length log → IsPossibleInSet p (slice_index words n)
   possible_now n e goes knows loaded after =
-      let k : Kept = record { answer = slice_index words n; at = length log } in
+      let k : KeptAnswer = record { answer = slice_index words n; at = length log } in
       let f : IsLoadAt p.0.stage k = λ m is. let same : n ≡ m = cc in (after, subst (λ i. IsLoaded p.0.sizes o words hs log i k) same loaded) in
       (leads_at p layout words Here hold p.0.stage (slice_index words n) goes knows (told_at p.0.stage k goes knows (ap is_some e) f beside)).0
     where
-      beside : (p.0.stage ≡ Counter) ⊎ ((count : ℕ) × (p.0.stage ≡ Claim count)) → IsPossible p (slice_index words n)
+      beside : (p.0.stage ≡ Counter) ⊎ ((count : ℕ) × (p.0.stage ≡ Claim count)) → IsPossibleInSet p (slice_index words n)
       beside (inl is) =
-          let read = subst (λ st. goes_at st p) is goes in
+          let read = subst (λ st. set_goes_at st p) is goes in
           let vacated = subst (λ st. knows_by Here st p) is knows in
           let ends = ends_below p.0.sizes words Here hold p.1.read (slice_index words (slot_counter p.0.sizes)) read.0.normal read.0.within w.unclaimed vacated in
           let counter : slot_counter p.0.sizes ≡ n = cc in
@@ -188,7 +188,7 @@ module _ (o : Opening) (words : List ℕ) (hs : List Holding) (log : List Applie
       beside (inr claim) = let is = claim.1 in absurd cc
 
   -- what a kept answer says of a load
-  kept_load : (f : Option Step) (k : Kept) → IsKeptAnswer p.0.sizes o words hs log low p f k → IsSome f × IsPossible p k.answer ×
+  kept_load : (f : Option Step) (k : KeptAnswer) → IsKeptAnswer p.0.sizes o words hs log low p f k → IsSome f × IsPossibleInSet p k.answer ×
       ((n : ℕ) → f ≡ Some (Load n) → (low ≤ k.at) × IsLoaded p.0.sizes o words hs log n k)
   kept_load None k h = absurd h
   kept_load (Some (Load m)) k h = (refl, h.0, λ n e. let is : m ≡ n = cc in (h.1, subst (λ i. IsLoaded p.0.sizes o words hs log i k) is h.2))
@@ -201,7 +201,7 @@ getsets_know o words hs log low p w together knows = record {
   readable = λ n e. readable_at o words hs log low p w p.0.stage n e together.stage knows;
   possible = λ n e l after. possible_now o words hs log low p w n e together.stage knows l after;
   on = λ k h.
-      let both = kept_load o words hs log low p w (step_of p.0) k h in
+      let both = kept_load o words hs log low p w (set_step_due p.0) k h in
       let told = told_at o words hs log low p w p.0.stage k together.stage knows both.0 both.2 (λ beside. both.1) in
       (leads_at p w.sizes words (facts_of_words p.0.sizes words hs low) (facts_of_words_hold p.0.sizes o words hs log low w) p.0.stage k.answer together.stage knows told).1;
 }

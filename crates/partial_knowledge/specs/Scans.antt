@@ -9,11 +9,11 @@ use Rattle.partial_words.specs.Layout.{Layout}
 use Rattle.partial_words.specs.Record.{pair_index_word, pair_value_word, prev_of, view_of}
 use Rattle.partial_embedded.specs.declared.embedded.Stage.{Stage}
 use Rattle.partial_embedded.specs.declared.embedded.Stage.TheVariants.{Collect, View, Len, Index, PairValue, Value, Done}
-use Rattle.partial_embedded.specs.Embedded.{Pair, RowsState, GoTogether, IsPossible, is_first, step_of, advance}
+use Rattle.partial_embedded.specs.Embedded.{ViewPair, RowsState, ViewGoesTogether, IsPossibleInView, is_first, view_step_due, advance_view}
 use Rattle.partial_state.specs.Views.{IsBegunSince, HasPairs}
 use Rattle.partial_state.specs.Holdings.{Holding, unpublished}
 use Rattle.partial_state.specs.LawfulWords.{LawfulWords}
-use Rattle.partial_state.specs.Loads.{Kept, IsLoaded}
+use Rattle.partial_state.specs.Loads.{KeptAnswer, IsLoaded}
 use Rattle.partial_knowledge.specs.Sets.{IsReadable}
 
 -- an entry for the component stands at a place from `low` on and before `high`
@@ -28,7 +28,7 @@ pub record IsLatest (o : Opening) (log : List Applied) (indices : List ℕ) (low
 
 -- A collect under way, k positions of which are loaded: between the collect before and this one the history had
 -- the length `middle`, and where nothing has changed the latest loads are the stamps of that length.
-pub record IsCollecting (o : Opening) (log : List Applied) (indices : List ℕ) (low high : ℕ) (p : Pair) (k : ℕ) : Type 0 where
+pub record IsCollecting (o : Opening) (log : List Applied) (indices : List ℕ) (low high : ℕ) (p : ViewPair) (k : ℕ) : Type 0 where
   pub none : p.0.borrowed ≡ None
   pub middle : ℕ
   pub from : low ≤ middle
@@ -48,7 +48,7 @@ pub record HasValues (o : Opening) (log : List Applied) (indices : List ℕ) (lo
   pub values : (i : ℕ) → i < count → slice_index rows.values (slice_index indices i) ≡ value_of o (take n log) (slice_index indices i)
 
 -- two collects agreed: the latest loads are the stamps after the first n entries, and so many values are loaded
-pub record Agreed (o : Opening) (log : List Applied) (indices : List ℕ) (low high : ℕ) (p : Pair) (k : ℕ) : Type 0 where
+pub record Agreed (o : Opening) (log : List Applied) (indices : List ℕ) (low high : ℕ) (p : ViewPair) (k : ℕ) : Type 0 where
   pub none : p.0.borrowed ≡ None
   pub two : 2 ≤ p.0.collects
   pub prefix : ℕ
@@ -57,7 +57,7 @@ pub record Agreed (o : Opening) (log : List Applied) (indices : List ℕ) (low h
 
 -- A position showed a third record: it is that of an entry for the position, and the record before it is one of an
 -- entry at `low` or later.
-pub record IsThird (words : List ℕ) (log : List Applied) (indices : List ℕ) (low : ℕ) (p : Pair) (stamp : ℕ) : Type 0 where
+pub record IsThird (words : List ℕ) (log : List Applied) (indices : List ℕ) (low : ℕ) (p : ViewPair) (stamp : ℕ) : Type 0 where
   pub borrowed : p.0.borrowed ≡ Some stamp
   pub three : 3 ≤ p.0.collects
   pub place : ℕ
@@ -81,13 +81,13 @@ pub record HasLoaded (z : Layout) (o : Opening) (words : List ℕ) (hs : List Ho
       slice_index rows.values c ≡ value_of o (take prefix log) c
 
 -- the view of the third record, so many pairs of which are loaded
-abbrev pub Loads : Layout → Opening → List ℕ → List Holding → List Applied → List ℕ → ℕ → Pair → ℕ → Type 0
+abbrev pub Loads : Layout → Opening → List ℕ → List Holding → List Applied → List ℕ → ℕ → ViewPair → ℕ → Type 0
 Loads z o words hs log indices low p left =
     (stamp : ℕ) × (t : IsThird words log indices low p stamp) × (p.0.view ≡ view_of words stamp) × (pairs : List (ℕ × ℕ)) × (count : ℕ)
     × (count + left ≡ length pairs) × HasLoaded z o words hs log low t.place p.1 stamp pairs count
 
 -- what is known at a stage: each load was made at a length from `low` to `high`
-abbrev pub knows_at : Layout → Opening → List ℕ → List Holding → List Applied → List ℕ → ℕ → ℕ → Stage → Pair → Type 0
+abbrev pub knows_at : Layout → Opening → List ℕ → List Holding → List Applied → List ℕ → ℕ → ℕ → Stage → ViewPair → Type 0
 knows_at z o words hs log indices low high (Collect k) p = IsCollecting o log indices low high p k
 knows_at z o words hs log indices low high (View stamp) p = IsThird words log indices low p stamp
 knows_at z o words hs log indices low high (Len at) p =
@@ -105,21 +105,23 @@ knows_at z o words hs log indices low high Done p =
     × ((stamp : ℕ) → p.0.borrowed ≡ Some stamp → p.0.shares ≡ false → Loads z o words hs log indices low p 0)
 
 -- what an embedded scan knows of lawful words by its answers
-abbrev pub Knows : Layout → Opening → List ℕ → List Holding → List Applied → List ℕ → ℕ → ℕ → Pair → Type 0
-Knows z o words hs log indices low high p = knows_at z o words hs log indices low high p.0.stage p
+abbrev pub ScanKnows : Layout → Opening → List ℕ → List Holding → List Applied → List ℕ → ℕ → ℕ → ViewPair → Type 0
+ScanKnows z o words hs log indices low high p = knows_at z o words hs log indices low high p.0.stage p
 
 -- What an embedded scan knows leads on: the word that it is to load may be loaded and gives a possible answer, and
 -- each answer of a load that is true yet leads to what is known next.
-pub record KnowsOn (z : Layout) (o : Opening) (words : List ℕ) (hs : List Holding) (log : List Applied) (indices : List ℕ) (low high : ℕ)
-    (p : Pair) : Type 0 where
-  pub readable : (w : ℕ) → step_of indices p ≡ Some (Load w) → IsReadable z words hs w
-  pub possible : (w : ℕ) → step_of indices p ≡ Some (Load w) →
-      IsLoaded z o words hs log w (record { answer = slice_index words w; at = length log }) → IsPossible p (slice_index words w)
-  pub on : (w : ℕ) (k : Kept) → step_of indices p ≡ Some (Load w) → IsLoaded z o words hs log w k → high ≤ k.at →
-      Knows z o words hs log indices low k.at (advance indices p k.answer)
+pub record ScanKnowsOn (z : Layout) (o : Opening) (words : List ℕ) (hs : List Holding) (log : List Applied) (indices : List ℕ)
+    (low high : ℕ)
+    (p : ViewPair) : Type 0 where
+  pub readable : (w : ℕ) → view_step_due indices p ≡ Some (Load w) → IsReadable z words hs w
+  pub possible : (w : ℕ) → view_step_due indices p ≡ Some (Load w) →
+      IsLoaded z o words hs log w (record { answer = slice_index words w; at = length log }) → IsPossibleInView p (slice_index words w)
+  pub on : (w : ℕ) (k : KeptAnswer) → view_step_due indices p ≡ Some (Load w) → IsLoaded z o words hs log w k → high ≤ k.at →
+      ScanKnows z o words hs log indices low k.at (advance_view indices p k.answer)
 
 -- in lawful words what an embedded scan knows leads on, from stage to stage
 abbrev pub EmbeddedScansKnow : Type 0
-EmbeddedScansKnow = (o : Opening) (words : List ℕ) (hs : List Holding) (log : List Applied) (indices : List ℕ) (low high : ℕ) (p : Pair) →
-    LawfulWords p.0.sizes o words hs log → GoTogether indices p → low ≤ high → high ≤ length log →
-    Knows p.0.sizes o words hs log indices low high p → KnowsOn p.0.sizes o words hs log indices low high p
+EmbeddedScansKnow = (o : Opening) (words : List ℕ) (hs : List Holding) (log : List Applied) (indices : List ℕ) (low high : ℕ)
+    (p : ViewPair) →
+    LawfulWords p.0.sizes o words hs log → ViewGoesTogether indices p → low ≤ high → high ≤ length log →
+    ScanKnows p.0.sizes o words hs log indices low high p → ScanKnowsOn p.0.sizes o words hs log indices low high p

@@ -36,41 +36,41 @@ module _ (s : CoreState) (c : Change) (old : ℕ) where
 -- a step of the getSet is due
 module _ (s t : CoreState) (c : Change) (old : ℕ) (step : Step) (from : s ≡ set_made t c old) (due : set_step s ≡ Some step) where
   pub set_now : s ≡ at_stage t (GettingSet c old)
-  set_now = from ∙ set_under_way t c old step (ap (λ (p : finding.Pair). finding.step_of p.0) (sym (ap getting from ∙ set_kept t c old)) ∙ due)
+  set_now = from ∙ set_under_way t c old step (ap (λ (p : finding.SetPair). finding.set_step_due p.0) (sym (ap getting from ∙ set_kept t c old)) ∙ due)
 
   -- it is the machine's
   pub set_due : step_of s ≡ Some step
-  set_due = ap step_of set_now ∙ ap (λ (p : finding.Pair). finding.step_of p.0) (sym (ap getting set_now)) ∙ due
+  set_due = ap step_of set_now ∙ ap (λ (p : finding.SetPair). finding.set_step_due p.0) (sym (ap getting set_now)) ∙ due
 
   -- and so is what may answer it
-  pub set_possible : (a : ℕ) → IsPossible s a → finding_answers.IsPossible (getting s) a
+  pub set_possible : (a : ℕ) → IsPossible s a → finding_answers.IsPossibleInSet (getting s) a
   set_possible a possible =
-      let may : finding_answers.IsPossible (getting t) a = subst (λ (u : CoreState). IsPossible u a) set_now possible in
-      subst (λ (p : finding.Pair). finding_answers.IsPossible p a) (sym (ap getting set_now)) may
+      let may : finding_answers.IsPossibleInSet (getting t) a = subst (λ (u : CoreState). IsPossible u a) set_now possible in
+      subst (λ (p : finding.SetPair). finding_answers.IsPossibleInSet p a) (sym (ap getting set_now)) may
 
   -- its answer changes the getSet and what it has found alone, until it is over
   module _ (d : CoreState) (a : ℕ) (then : d ≡ advance s a) where
     abbrev next : CoreState
-    next = with_getting t (finding.advance (getting t) a)
+    next = with_getting t (finding.advance_set (getting t) a)
 
     led : d ≡ set_made next c old
     led = then ∙ ap (λ (u : CoreState). advance u a) set_now
 
-    pub set_taken : getting d ≡ finding.advance (getting s) a
-    set_taken = ap getting led ∙ set_kept next c old ∙ ap (λ (p : finding.Pair). finding.advance p a) (sym (ap getting set_now))
+    pub set_taken : getting d ≡ finding.advance_set (getting s) a
+    set_taken = ap getting led ∙ set_kept next c old ∙ ap (λ (p : finding.SetPair). finding.advance_set p a) (sym (ap getting set_now))
 
     pub set_goes : d ≡ set_made d c old
     set_goes = led ∙ sym (ap (λ (u : CoreState). set_made u c old) led ∙ set_twice next c old)
 
     pub set_follows : d ≡ set_made (with_getting t (getting d)) c old
-    set_follows = led ∙ ap (λ (p : finding.Pair). set_made (with_getting t p) c old) (sym (ap getting led ∙ set_kept next c old))
+    set_follows = led ∙ ap (λ (p : finding.SetPair). set_made (with_getting t p) c old) (sym (ap getting led ∙ set_kept next c old))
 
 -- Where the call has come by its getSet, made to its end: to the record's claim where nothing was found, or else to the embedded scan.
-pub set_ended : (core : CoreState) (c : Change) (old : ℕ) (x y : CoreState) (p : finding.Pair) → x ≡ set_made (set_begun core) c old → GetsOn x y → getting y ≡ p →
-    finding.step_of p.0 ≡ None →
+pub set_ended : (core : CoreState) (c : Change) (old : ℕ) (x y : CoreState) (p : finding.SetPair) → x ≡ set_made (set_begun core) c old → GetsOn x y → getting y ≡ p →
+    finding.set_step_due p.0 ≡ None →
     y ≡ at_stage (scan_begun (with_getting core p) true) (cond (length p.1.indices == 0) (ClaimingRecord c old) (Viewing c old))
 set_ended core c old x y p begun on at over =
-    on c old (set_begun core) begun ∙ ap (λ (q : finding.Pair). set_made (with_getting core q) c old) at ∙ set_over (with_getting core p) c old over
+    on c old (set_begun core) begun ∙ ap (λ (q : finding.SetPair). set_made (with_getting core q) c old) at ∙ set_over (with_getting core p) c old over
 
 none_some : {A : Type 0} {x : A} → None ≡ Some x → ⊥
 none_some {A} e = false≢true (ap is_some e)
@@ -84,7 +84,8 @@ scan_due s (ClaimingRecord c old) step e w due = absurd (none_some (sym w ∙ du
 scan_due s _ step e w due = absurd w
 
 -- what may answer it
-pub scan_possible : (s : CoreState) (t : Stage) (step : Step) (a : ℕ) → s.stage ≡ t → IsScanStage s t → scan_step s (positions_at s t) ≡ Some step → IsPossible s a → viewing.IsPossible (scanning s) a
+pub scan_possible : (s : CoreState) (t : Stage) (step : Step) (a : ℕ) → s.stage ≡ t → IsScanStage s t → scan_step s (positions_at s t) ≡ Some step → IsPossible s a →
+    viewing.IsPossibleInView (scanning s) a
 scan_possible s Scanning step a e w due possible = subst (λ (t : Stage). IsPossibleAt s t a) e possible
 scan_possible s (Viewing c old) step a e w due possible = subst (λ (t : Stage). IsPossibleAt s t a) e possible
 scan_possible s Leaving step a e w due possible = absurd (none_some (sym w ∙ due))
@@ -93,7 +94,7 @@ scan_possible s _ step a e w due possible = absurd w
 
 -- where that answer leads the machine: nothing changes but the embedded scan, its rows and the stage
 pub record Scanned (s d : CoreState) (a : ℕ) : Type 0 where
-  pub scan : scanning d ≡ viewing.advance (positions_at s s.stage) (scanning s) a
+  pub scan : scanning d ≡ viewing.advance_view (positions_at s s.stage) (scanning s) a
   pub positions : positions_at d d.stage ≡ positions_at s s.stage
   pub rest : d ≡ at_stage (with_scanning s (scanning d)) d.stage
   pub after : behind_scan d.stage ≡ behind_scan s.stage
@@ -104,7 +105,7 @@ module _ (s : CoreState) (a : ℕ) where
   asked_on d then = by_step (scan_step q s.asked) refl
     where
       q : CoreState
-      q = with_scanning (at_stage s Scanning) (viewing.advance s.asked (scanning s) a)
+      q = with_scanning (at_stage s Scanning) (viewing.advance_view s.asked (scanning s) a)
 
       by_step : (o : Option Step) → scan_step q s.asked ≡ o → Scanned (at_stage s Scanning) d a
       by_step (Some u) e =
@@ -118,7 +119,7 @@ module _ (s : CoreState) (a : ℕ) where
   found_on c old d then = by_step (scan_step q s.found.indices) refl
     where
       q : CoreState
-      q = with_scanning (at_stage s (Viewing c old)) (viewing.advance s.found.indices (scanning s) a)
+      q = with_scanning (at_stage s (Viewing c old)) (viewing.advance_view s.found.indices (scanning s) a)
 
       by_step : (o : Option Step) → scan_step q s.found.indices ≡ o → Scanned (at_stage s (Viewing c old)) d a
       by_step (Some u) e =
@@ -141,7 +142,7 @@ scan_on s d _ step a e w due then = absurd w
 
 -- a sound machine is at an embedded scan of which a step is due
 pub record AtScan (s : CoreState) (t : Stage) : Type 0 where
-  pub together : viewing.GoTogether (positions_at s t) (scanning s)
+  pub together : viewing.ViewGoesTogether (positions_at s t) (scanning s)
   pub sizes : s.embedded.sizes ≡ s.sizes
   pub stage : IsScanStage s t
 
@@ -156,13 +157,13 @@ at_found s _ w e at = absurd at
 pub scan_over : (s : CoreState) (t : Stage) → s.stage ≡ t → IsScanStage s t → s.embedded.stage ≡ Done → s.stage ≡ behind_scan s.stage
 scan_over s Leaving e w done = e ∙ sym (ap behind_scan e)
 scan_over s (ClaimingRecord c old) e w done = e ∙ sym (ap behind_scan e)
-scan_over s Scanning e w done = absurd (false≢true (sym (ap (λ (u : viewed.Stage). is_some (viewing.step_at s.embedded.sizes s.asked s.rows.last u)) done) ∙ w))
-scan_over s (Viewing c old) e w done = absurd (false≢true (sym (ap (λ (u : viewed.Stage). is_some (viewing.step_at s.embedded.sizes s.found.indices s.rows.last u)) done) ∙ w))
+scan_over s Scanning e w done = absurd (false≢true (sym (ap (λ (u : viewed.Stage). is_some (viewing.view_step_at s.embedded.sizes s.asked s.rows.last u)) done) ∙ w))
+scan_over s (Viewing c old) e w done = absurd (false≢true (sym (ap (λ (u : viewed.Stage). is_some (viewing.view_step_at s.embedded.sizes s.found.indices s.rows.last u)) done) ∙ w))
 scan_over s _ e w done = absurd w
 
-pub scan_made : (g d : CoreState) (p : viewing.Pair) → d ≡ at_stage (with_scanning g (scanning d)) d.stage → scanning d ≡ p → d.stage ≡ behind_scan d.stage →
+pub scan_made : (g d : CoreState) (p : viewing.ViewPair) → d ≡ at_stage (with_scanning g (scanning d)) d.stage → scanning d ≡ p → d.stage ≡ behind_scan d.stage →
     behind_scan d.stage ≡ behind_scan g.stage → d ≡ at_stage (with_scanning g p) (behind_scan g.stage)
 scan_made g d p rest at over after =
     rest
     ∙ ap (λ (u : Stage). at_stage (with_scanning g (scanning d)) u) (over ∙ after)
-    ∙ ap (λ (q : viewing.Pair). at_stage (with_scanning g q) (behind_scan g.stage)) at
+    ∙ ap (λ (q : viewing.ViewPair). at_stage (with_scanning g q) (behind_scan g.stage)) at

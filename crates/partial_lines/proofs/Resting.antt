@@ -1,7 +1,7 @@
 -- The machine that a port keeps behind a call: with the marks of the call's machine, and sound.
-use Rattle.partial_lines.proofs.Common.{◌≡◌, Bool, refl, sym, ap, subst, ◌∙◌, nat_eq, Layout, Stage, Idle, CoreState, at_stage, AreComponents, IsSound, is_sound_at}
+use Rattle.partial_lines.proofs.Common.{◌≡◌, Bool, refl, sym, ap, subst, ◌∙◌, nat_eq, Layout, Stage, Idle, CoreState, at_stage, AreComponentIndices, IsSound, is_sound_at}
 use Rattle.std.specs.List.{IsDistinct}
-use Rattle.partial_active.specs.Found.{Buffers, IsFor as AreBuffersFor}
+use Rattle.partial_active.specs.Found.{Buffers, AreFoundFor as AreBuffersFor}
 use Rattle.partial_active.specs.GetSet.{GetSetState}
 use Rattle.partial_machine.proofs.Laws.{rests_are_sound}
 use Rattle.partial_core.specs.Part.{IsMarkedLike}
@@ -23,11 +23,11 @@ update_rests s m c core p g f sound idle known sizes found like is = record {
   idle = ap (λ (d : CoreState). d.stage) is ∙ idle;
   sound =
       let buffers : AreBuffersFor s.sizes m.found = subst (λ (z : Layout). AreBuffersFor z m.found) sizes known.found in
-      let indices : AreComponents s.sizes m.found.indices = subst (λ (z : Layout). AreComponents z m.found.indices) sizes known.indices in
+      let indices : AreComponentIndices s.sizes m.found.indices = subst (λ (z : Layout). AreComponentIndices z m.found.indices) sizes known.indices in
       subst IsSound (sym is) (record {
         asked = sound.asked;
         found = subst (AreBuffersFor s.sizes) found buffers;
-        indices = subst (λ (l : Buffers). AreComponents s.sizes l.indices) found indices;
+        indices = subst (λ (l : Buffers). AreComponentIndices s.sizes l.indices) found indices;
         distinct = subst (λ (l : Buffers). IsDistinct nat_eq l.indices) found known.distinct;
         rows = sound.rows;
         stage = subst (λ (t : Stage). is_sound_at (record s { pool_spent = p; get_set = g; found = f }) t) (sym idle) tt;

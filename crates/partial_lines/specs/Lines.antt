@@ -28,7 +28,7 @@ abbrev pub set_made : CoreState → Change → ℕ → CoreState
 set_made s c old = after_getting (at_stage s (GettingSet c old)) c old
 
 -- the call has come to the getSet of an update, which is under way or over
-pub record IsGetting (s : CoreState) : Type 0 where
+pub record HasReachedSet (s : CoreState) : Type 0 where
   pub change : Change
   pub old : ℕ
   pub made : s ≡ set_made s change old

@@ -2,7 +2,7 @@
 
 ghost use Rattle.std.specs.Prelude.{◌≡◌, true, false};
 ghost use Rattle.std.proofs.Common.{refl, ◌∙◌};
-ghost use Rattle.partial_embedded.specs.Embedded.{fresh};
+ghost use Rattle.partial_embedded.specs.Embedded.{fresh_view};
 ghost use Rattle.partial_machine.specs.declared.stage.Stage.TheVariants.{Idle, Scanning, Leaving};
 ghost use Rattle.partial_machine.specs.Machine.{at_stage, scanning, with_scanning};
 ghost use Rattle.partial_machine.specs.Lines.{scan_begun};
@@ -51,7 +51,7 @@ pub fn scan_asked<M: Makes>(lines: &mut M, core: &mut Core, which: &[u32]) -> Em
     requires stage { (M.machine lines.old).stage ≡ Scanning }
     requires sizes { (M.machine lines.old).sizes ≡ core.old.sizes }
     requires asked { (M.machine lines.old).asked ≡ which.now }
-    requires scan { scanning (M.machine lines.old) ≡ (fresh core.old.sizes false, core.old.rows) }
+    requires scan { scanning (M.machine lines.old) ≡ (fresh_view core.old.sizes false, core.old.rows) }
     ensures goes { M.goes lines.new }
     ensures leads { M.leads lines.old lines.new }
     ensures machine { M.machine lines.new ≡

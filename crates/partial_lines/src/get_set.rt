@@ -3,7 +3,7 @@
 ghost use Rattle.std.specs.Prelude.{◌≡◌};
 ghost use Rattle.std.proofs.Common.{refl, ◌∙◌};
 ghost use Rattle.partial_machine.specs.Machine.{getting};
-ghost use Rattle.partial_lines.specs.Lines.{IsGetting, GetsOn, gets_itself, gets_further};
+ghost use Rattle.partial_lines.specs.Lines.{HasReachedSet, GetsOn, gets_itself, gets_further};
 
 use crate::makes::Makes;
 use partial_active::Steps;
@@ -17,7 +17,7 @@ pub struct SetSteps<'a, M> {
 }
 
 impl<'a, M: Makes> Steps for SetSteps<'a, M> {
-    ghost goes = { λ l. M.goes l.lines.now × IsGetting (M.machine l.lines.now) };
+    ghost goes = { λ l. M.goes l.lines.now × HasReachedSet (M.machine l.lines.now) };
 
     ghost set = { λ l. getting (M.machine l.lines.now) };
 

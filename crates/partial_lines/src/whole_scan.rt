@@ -4,7 +4,7 @@ ghost use Rattle.std.specs.Prelude.{◌≡◌, ◌<◌, ◌+◌, ◌^◌, length
 ghost use Rattle.partial_words.specs.Announcement.{announcement_size};
 ghost use Rattle.partial_machine.specs.declared.stage.Stage.TheVariants.{Idle, StoringAnnouncement, Scanning};
 ghost use Rattle.partial_machine.specs.Machine.{advance, at_stage, begin_joining, reply_of};
-ghost use Rattle.partial_machine.specs.Lines.{joined, not_joined, scan_asked, scan_begun};
+ghost use Rattle.partial_machine.specs.Lines.{scan_joined, not_joined, scan_asked, scan_begun};
 ghost use Rattle.partial_machine.specs.Possible.{IsPossible};
 ghost use Rattle.partial_machine.specs.Sound.{IsSound};
 ghost use Rattle.partial_lines.specs.Lines.{announcing};
@@ -104,7 +104,7 @@ fn join<M: Makes>(lines: &mut M, sizes: Sizes, at: u64) -> Option<u32>
     ensures leads { M.leads lines.old lines.new }
     ensures slot { IfSome result (λ slot. slot < sizes.slots) }
     ensures joined { IfSome result (λ slot.
-        M.machine lines.new ≡ at_stage (scan_begun (joined (M.machine lines.old) at slot) false) Scanning) }
+        M.machine lines.new ≡ at_stage (scan_begun (scan_joined (M.machine lines.old) at slot) false) Scanning) }
     ensures spent { IfNone result (M.machine lines.new ≡ not_joined (M.machine lines.old) at) }
 {
     let found = lines.make(Step::Add(sizes.slot_counter(), 1));

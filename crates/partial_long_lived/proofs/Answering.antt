@@ -1,12 +1,12 @@
 -- A call of a port: how it begins at the seat that was taken out, and what it leaves once the seat is put back.
-use Rattle.partial_long_lived.proofs.Common.{ℕ, zero, suc, None, append-nil, ◌≡◌, ◌<◌, ◌≤◌, ◌++◌, ◌∷◌, [], Option, Some, IfSome, Bool, true, false, true≢false, List, length, ap, ◌+◌, take, refl, sym, subst, ◌∙◌, inl, inr, arith, nat_lt, slice_index, AllByRecursion, list_all, option_map, take-append_seam, TableId, Applied, IsEntryFor, IsLegal, LegalNotes, Noted, seen_by, AllByRecursion-get, LegalNotes-last, Layout, CoreState, fresh, AreComponents, IsSound, is_sound_at, IsBetween, IsMarkedLike, core_of, is_at_rest, public_stamp, Refused, Component, Overtaken, NoArena, EpochsSpent, About, Stand, Seating, Began, Seated, one_in, IsOf, MemoryView, PortView, port_view, seen_in, IsStandOf, IsSeatingOf, IsResting, Goes, IsHeld, epoch_at, port_at, HasCome, HasRead, IsIdle, Changed, NotChanged, HasScanned, RestsUnmarked, ScanMade, noted_scan, NotScanned, RestsAt}
+use Rattle.partial_long_lived.proofs.Common.{ℕ, zero, suc, None, append-nil, ◌≡◌, ◌<◌, ◌≤◌, ◌++◌, ◌∷◌, [], Option, Some, IfSome, Bool, true, false, true≢false, List, length, ap, ◌+◌, take, refl, sym, subst, ◌∙◌, inl, inr, arith, nat_lt, slice_index, AllByRecursion, list_all, option_map, take-append_seam, TableId, Applied, IsEntryFor, IsLegal, LegalNotes, Noted, seen_by, AllByRecursion-get, LegalNotes-last, Layout, CoreState, fresh, AreComponentIndices, IsSound, is_sound_at, IsBetween, IsMarkedLike, core_of, is_at_rest, public_stamp, Refused, Component, Overtaken, NoArena, EpochsSpent, About, Stand, Seating, Began, SeatedPort, one_in, IsOf, MemoryView, PortView, port_view, seen_in, IsStandOf, IsSeatingOf, IsResting, SeatGoes, IsHeld, epoch_at, port_at, HasCome, HasNotedRead, IsIdle, Changed, NotChanged, HasNotedScan, RestsUnmarked, ScanMade, noted_scan, NotScanned, RestsAt}
 use Rattle.partial_long_lived.specs.Inner.DoubleCollect.{ScannedStamped}
 use Rattle.std.specs.Prelude.{Contains}
 use Rattle.partial_model.specs.declared.call.Call.TheVariants as call
 use Rattle.partial_model.specs.declared.call.Answer.TheVariants as answer
 use Rattle.partial_model.specs.declared.call.Note.TheVariants as note
 use Rattle.partial_model.proofs.Decisions.{Decides-list_all, Decides-nat_lt}
-use Rattle.partial_active.specs.GetSet.{fresh as unmarked}
+use Rattle.partial_active.specs.GetSet.{fresh_set as unmarked}
 use Rattle.partial_long_lived.specs.Calls as calls
 use Rattle.partial_long_lived.proofs.Coming.{goes_on}
 use Rattle.partial_long_lived.proofs.Resting.{kept_is, rests_kept, taken_is}
@@ -22,7 +22,7 @@ pub view_kept : (m : MemoryView) (t : Stand) (s : Seating) → IsHeld m.table m.
 view_kept m t s h k = ap (λ (i : TableId). port_view i (port_at t)) (sym (k.table ∙ h.fits)) ∙ ap (port_view s.badge.table_id) (sym (kept_is t s k))
 
 -- what callers see of the steps of a call
-pub goes_seen : (table : TableId) (x y : Seated) (new : List Noted) → Goes x y → y.notes ≡ x.notes ++ new → calls.Goes (port_view table x) (port_view table y) new
+pub goes_seen : (table : TableId) (x y : SeatedPort) (new : List Noted) → SeatGoes x y → y.notes ≡ x.notes ++ new → calls.Goes (port_view table x) (port_view table y) new
 goes_seen table x y new g notes = record {
   memory = ap (λ (a : About). record { table = table; about = a }) g.about;
   number = g.number;
@@ -32,7 +32,7 @@ goes_seen table x y new g notes = record {
 }
 
 -- a read, as callers see it
-pub has_read_seen : (table : TableId) (s t : Stand) (j value stamp : ℕ) → HasRead s t j value stamp → j < (port_at s).about.sizes.m →
+pub has_read_seen : (table : TableId) (s t : Stand) (j value stamp : ℕ) → HasNotedRead s t j value stamp → j < (port_at s).about.sizes.m →
     calls.Reads (port_view table (port_at s)) j value stamp (port_view table (port_at t))
 has_read_seen table s t j value stamp w inside =
     let first = w.first in
@@ -53,7 +53,7 @@ module _ (m : MemoryView) (s : Seating) (t u : Stand) (s' : Seating) (p : PortVi
   callers_see P is = subst (λ (a : PortView). P a (port_view s'.badge.table_id (one_in s'.badge.views))) (view_taken m s t p k view own)
       (subst (λ (a : PortView). P (port_view m.table (port_at t)) a) (view_kept m u s' held k') is)
 
-  pub read_seen : (j value stamp : ℕ) → HasRead t u j value stamp → j < m.about.sizes.m → calls.Reads p j value stamp (port_view s'.badge.table_id (one_in s'.badge.views))
+  pub read_seen : (j value stamp : ℕ) → HasNotedRead t u j value stamp → j < m.about.sizes.m → calls.Reads p j value stamp (port_view s'.badge.table_id (one_in s'.badge.views))
   read_seen j value stamp w inside =
       let about : (port_at t).about ≡ m.about = sym w.come.goes.about ∙ held.own in
       callers_see (λ (a b : PortView). calls.Reads a j value stamp b) (has_read_seen m.table t u j value stamp w (subst (λ (a : About). j < a.sizes.m) (sym about) inside))
@@ -62,17 +62,17 @@ module _ (m : MemoryView) (s : Seating) (t u : Stand) (s' : Seating) (p : PortVi
 pub rests_taken : (s : Seating) (t : Stand) (core : CoreState) (spent : Bool) → IsResting s core spent → IsStandOf s t → RestsAt t core spent
 rests_taken s t core spent w k =
     let is = sym (taken_is s t k) in record {
-      free = record { stands = ap (λ (x : Seated). x.port.control.entering) (taken_is s t k) ∙ w.stands; free = ap (λ (x : Seated). x.port.control.owned) (taken_is s t k) ∙ w.free };
+      free = record { stands = ap (λ (x : SeatedPort). x.port.control.entering) (taken_is s t k) ∙ w.stands; free = ap (λ (x : SeatedPort). x.port.control.owned) (taken_is s t k) ∙ w.free };
       idle = w.idle;
       sound = w.sound;
-      sizes = subst (λ (x : Seated). core.sizes ≡ x.about.sizes) is w.sizes;
+      sizes = subst (λ (x : SeatedPort). core.sizes ≡ x.about.sizes) is w.sizes;
       port = w.port ∙ sym k.number;
-      between = λ no. subst (λ (x : Seated). IsBetween x.port.part core × (x.port.over ≡ false) × (core.pool_spent ≡ false) × (core.slots_spent ≡ false)) is (w.between no);
+      between = λ no. subst (λ (x : SeatedPort). IsBetween x.port.part core × (x.port.over ≡ false) × (core.pool_spent ≡ false) × (core.slots_spent ≡ false)) is (w.between no);
     }
 
 -- the seat that is taken out has its port's number
 pub rests_number : (s : Seating) (t : Stand) (core : CoreState) (spent : Bool) → IsResting s core spent → IsStandOf s t → t.number ≡ (port_at t).number
-rests_number s t core spent w k = k.number ∙ w.number ∙ ap (λ (x : Seated). x.number) (sym (taken_is s t k))
+rests_number s t core spent w k = k.number ∙ w.number ∙ ap (λ (x : SeatedPort). x.number) (sym (taken_is s t k))
 
 -- and rests once it is put back
 pub rests_put : (m : MemoryView) (t : Stand) (s : Seating) (core : CoreState) (spent : Bool) → IsHeld m.table m.about t → IsSeatingOf t s → RestsAt t core spent → IsResting s core spent
@@ -173,13 +173,13 @@ unmarked_rests table about t core spent h idle w over = record {
 -- the first steps of a call have changed the epoch
 module _ (table : TableId) (about : About) (s u : Stand) (core : CoreState) (spent : Bool) (h : IsHeld table about s) (w : RestsAt s core spent) (changed : Changed true s u) where
   changed_idle : IsIdle u
-  changed_idle = record { stands = ap (λ (x : Seated). x.port.control.entering) changed.is; free = ap (λ (x : Seated). x.port.control.owned) changed.is }
+  changed_idle = record { stands = ap (λ (x : SeatedPort). x.port.control.entering) changed.is; free = ap (λ (x : SeatedPort). x.port.control.owned) changed.is }
 
   pub changed_over : (port_at u).port.over ≡ false
-  changed_over = ap (λ (x : Seated). x.port.over) changed.is
+  changed_over = ap (λ (x : SeatedPort). x.port.over) changed.is
 
   pub changed_fresh : (port_at u).began.epoch ≤ u.epoch
-  changed_fresh = let same = ap (λ (x : Seated). x.began.epoch) changed.is in let fresh = changed.fresh in omega (arith, same, fresh)
+  changed_fresh = let same = ap (λ (x : SeatedPort). x.began.epoch) changed.is in let fresh = changed.fresh in omega (arith, same, fresh)
 
   pub changed_free : IsIdle u
   changed_free = changed_idle
@@ -190,7 +190,7 @@ module _ (table : TableId) (about : About) (s u : Stand) (core : CoreState) (spe
     number = changed.number;
     goes = changed.goes;
     idle = changed_idle;
-    machine = inr (let up = changed.later in let epoch = h.epoch in omega (arith, up, epoch), ap (λ (x : Seated). core_of x.port.part) changed.is, changed_over);
+    machine = inr (let up = changed.later in let epoch = h.epoch in omega (arith, up, epoch), ap (λ (x : SeatedPort). core_of x.port.part) changed.is, changed_over);
   }
 
   pub changed_unmarked : (held : IsHeld table about u) (c : CoreState) → c ≡ record core { pool_spent = false; slots_spent = false; get_set = unmarked core.sizes false } → RestsUnmarked (port_at u) c
@@ -200,7 +200,7 @@ module _ (table : TableId) (about : About) (s u : Stand) (core : CoreState) (spe
       let own : s.number ≡ (port_at s).number = h.number in
       (rests_unmarked table about u c false held (rests_anew s u core spent own changed_come w (λ same. omega (arith, up, epoch, same)) c is) refl).0
 
-  pub changed_scanned : (t : Stand) (which values : List ℕ) (collects : ℕ) (borrowed : Option ℕ) → ScanMade u t which values collects borrowed → HasScanned s t which values collects borrowed
+  pub changed_scanned : (t : Stand) (which values : List ℕ) (collects : ℕ) (borrowed : Option ℕ) → ScanMade u t which values collects borrowed → HasNotedScan s t which values collects borrowed
   changed_scanned t which values collects borrowed made = record {
     shape = made.shape ∙ changed.shape;
     number = made.number ∙ changed.number;
@@ -208,10 +208,10 @@ module _ (table : TableId) (about : About) (s u : Stand) (core : CoreState) (spe
     goes = goes_on (port_at s) (port_at u) (port_at t) changed.goes made.goes;
     idle = made.idle;
     place = made.place;
-    notes = made.notes ∙ ap (λ (x : Seated). x.notes ++ noted_scan t.epoch which values collects borrowed made.place ∷ []) changed.is;
+    notes = made.notes ∙ ap (λ (x : SeatedPort). x.notes ++ noted_scan t.epoch which values collects borrowed made.place ∷ []) changed.is;
     first =
         let few = changed.began in
-        let same = ap (λ (x : Seated). x.began.length) changed.is in
+        let same = ap (λ (x : SeatedPort). x.began.length) changed.is in
         let then = ap (λ (g : Began). g.length) made.began in
         omega (arith, few, same, then);
     behind = made.behind;
@@ -242,11 +242,11 @@ below_at m [] all k low = absurd (omega (arith, low))
 below_at m (j ∷ js) all zero low = all.0
 below_at m (j ∷ js) all (suc k) low = below_at m js all.1 k (omega (arith, low))
 
-pub are_components : (z : Layout) (m : ℕ) (js : List ℕ) → m ≡ z.m → AllByRecursion (λ j. j < m) js → length js ≤ z.m → AreComponents z js
+pub are_components : (z : Layout) (m : ℕ) (js : List ℕ) → m ≡ z.m → AllByRecursion (λ j. j < m) js → length js ≤ z.m → AreComponentIndices z js
 are_components z m js is all few = record { few = few; each = λ k low. let below = below_at m js all k low in omega (arith, below, is) }
 
 -- the public stamp of a view that a scan has borrowed fits a word
-module _ (s t : Stand) (which values : List ℕ) (collects : ℕ) (borrowed : Option ℕ) (w : HasScanned s t which values collects borrowed) where
+module _ (s t : Stand) (which values : List ℕ) (collects : ℕ) (borrowed : Option ℕ) (w : HasNotedScan s t which values collects borrowed) where
   legal_scan : IsLegal (port_at t).about.opening (seen_in (port_at t).port) (port_at t).number (seen_by 0 (port_at s).notes) (noted_scan t.epoch which values collects borrowed w.place)
   legal_scan = LegalNotes-last (port_at t).about.opening (seen_in (port_at t).port) (port_at t).number 0 (port_at s).notes (noted_scan t.epoch which values collects borrowed w.place)
       (subst (LegalNotes (port_at t).about.opening (seen_in (port_at t).port) (port_at t).number 0) w.notes w.goes.known.knows.legal)
@@ -263,7 +263,7 @@ module _ (s t : Stand) (which values : List ℕ) (collects : ℕ) (borrowed : Op
   borrowed_fits = fits_by borrowed legal_scan.1.0.borrowed
 
 -- a scan, as callers see it
-pub has_scanned_seen : (table : TableId) (s t : Stand) (which values : List ℕ) (collects : ℕ) (borrowed public : Option ℕ) → HasScanned s t which values collects borrowed →
+pub has_scanned_seen : (table : TableId) (s t : Stand) (which values : List ℕ) (collects : ℕ) (borrowed public : Option ℕ) → HasNotedScan s t which values collects borrowed →
     public ≡ option_map (public_stamp t.epoch) borrowed → 0 < length which → AllByRecursion (λ j. j < (port_at s).about.sizes.m) which →
     calls.Scans (port_view table (port_at s)) which values (record { collects = collects; borrowed = public }) (port_view table (port_at t))
 has_scanned_seen table s t [] values collects borrowed public w is some inside = absurd (omega (arith, some))
@@ -303,7 +303,7 @@ module _ (m : MemoryView) (s : Seating) (t u : Stand) (s' : Seating) (p : PortVi
   below_there : (port_at u).about ≡ (port_at t).about → AllByRecursion (λ j. j < (port_at t).about.sizes.m) which
   below_there same = subst (λ (a : About). AllByRecursion (λ j. j < a.sizes.m) which) (sym (sym same ∙ held.own)) below
 
-  pub scan_answered : (values : List ℕ) (collects : ℕ) (borrowed public : Option ℕ) → HasScanned t u which values collects borrowed →
+  pub scan_answered : (values : List ℕ) (collects : ℕ) (borrowed public : Option ℕ) → HasNotedScan t u which values collects borrowed →
       public ≡ option_map (public_stamp u.epoch) borrowed → 0 < length which →
       calls.Scans p which values (record { collects = collects; borrowed = public }) (port_view s'.badge.table_id (one_in s'.badge.views))
   scan_answered values collects borrowed public w is some =

@@ -1,5 +1,5 @@
 -- Steps that change neither histories nor what their port has seen or noted.
-use Rattle.partial_long_lived.proofs.Common.{ℕ, ◌≡◌, ◌≢◌, ◌≤◌, ◌++◌, Option, Some, None, IfSome, List, [], ◌∷◌, length, refl, sym, ap, subst, ◌∙◌, arith, append-nil, Applied, LegalNotes, Noted, Part, put, history_of, Port, Beside, LawfulEpochs, place_now, KeepsTime, LawfulMemory, put_other, put_same, About, Began, Found, HasBegun, IsFinal, IsLast, IsSeat, IsSeen, IsSince, Seated, plan_of, seen_in, IsKnown, becomes}
+use Rattle.partial_long_lived.proofs.Common.{ℕ, ◌≡◌, ◌≢◌, ◌≤◌, ◌++◌, Option, Some, None, IfSome, List, [], ◌∷◌, length, refl, sym, ap, subst, ◌∙◌, arith, append-nil, Applied, LegalNotes, Noted, Part, put, history_of, Port, Beside, LawfulEpochs, place_now, KeepsTime, LawfulMemory, put_other, put_same, About, Began, Found, BeganInTime, IsFinal, IsLast, IsSeat, IsSeen, IsSince, SeatedPort, plan_of, seen_in, IsSeatKnown, becomes}
 use Rattle.partial_epochs.proofs.Sights.{asides_stay_lawful}
 use Rattle.partial_long_lived.proofs.Kept.{HasGrown, Moved, final_grows, none_grown, not_grown, seen_grows}
 
@@ -27,10 +27,10 @@ seen_same b g p q w later log is =
 pub seen_quiet : (g : Port → Port) (p : Port) → IsQuiet g → seen_in (g p) ≡ seen_in p
 seen_quiet g p q = ap (λ (x : Part). history_of (x.seen ∷ (g p).before)) (q.part p) ∙ ap (λ (l : List (List Applied)). history_of (p.part.seen ∷ l)) (q.before p)
 
-pub aside : (a : About) (words words' : List ℕ) (ports : ℕ → Port) (notes : ℕ → List Noted) (b c : Beside) (since since' : ℕ → ℕ) (x : Seated) → LawfulMemory (plan_of a) words ports b notes →
-    IsSeat a ports notes b since x → IsKnown x → (g : Port → Port) → IsQuiet g → (n : Began) → IsSince n (g x.port).control.entering (since' x.number) → HasBegun c n →
+pub aside : (a : About) (words words' : List ℕ) (ports : ℕ → Port) (notes : ℕ → List Noted) (b c : Beside) (since since' : ℕ → ℕ) (x : SeatedPort) → LawfulMemory (plan_of a) words ports b notes →
+    IsSeat a ports notes b since x → IsSeatKnown x → (g : Port → Port) → IsQuiet g → (n : Began) → IsSince n (g x.port).control.entering (since' x.number) → BeganInTime c n →
     KeepsTime (plan_of a) words' (put x.number (g (ports x.number)) ports) (place_now c) since' → ((q : ℕ) → q ≢ x.number → since' q ≡ since q) → c.log ≡ b.log → c.before ≡ b.before →
-    LawfulEpochs (plan_of a) words' (put x.number (g (ports x.number)) ports) c → (P : Seated → Type 0) →
+    LawfulEpochs (plan_of a) words' (put x.number (g (ports x.number)) ports) c → (P : SeatedPort → Type 0) →
     P (becomes x n (g x.port)) → Moved a words' ports notes b since x P
 aside a words words' ports notes b c since since' x w s known g q n marked began time since_others log before then P says =
     let k : ℕ = x.number in

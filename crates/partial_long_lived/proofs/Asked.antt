@@ -1,22 +1,24 @@
 -- The steps of a change of epoch, as its code asks for them.
-use Rattle.partial_long_lived.proofs.Common.{ℕ, ◌≡◌, ◌≢◌, ◌+◌, ◌-◌, ◌*◌, ◌%◌, ◌^◌, ◌<◌, ◌≤◌, ◌==◌, Bool, cond, Option, Some, IfSome, List, [], sym, ap, subst, ◌∙◌, inl, inr, arith, lt-ltb, either, Me, Allows, TableId, first_free, list_base, pool_base, opening_word, Place, Plan, arena_limit, at_word, base, entering_mark, marked, own_word, packed, seal, set_word, Owned, Port, Stands, next_place, passing, below_whole, set_place, About, Stand, IsKept, Seated, one_of, plan_of, bare, shape_plan, Goes, IsOne, tells, IsHeld, port_at, Gives, LoadsPort, PassesSealed, Publishes, PutsPort, Seals, Sets, Takes, passed_at, unpacked, IsIdle, IsCarriedStamp, IsInitialValue, IsRight, IsSetting, MayPutPort, OfOwned, Owns, PutsBy, SetsLists, SetsNext, TakesBy, Works, initial_words}
+use Rattle.partial_long_lived.proofs.Common.{ℕ, ◌≡◌, ◌≢◌, ◌+◌, ◌-◌, ◌*◌, ◌%◌, ◌^◌, ◌<◌, ◌≤◌, ◌==◌, Bool, cond, Option, Some, IfSome, List, [], sym, ap, subst, ◌∙◌, inl, inr, arith, lt-ltb, either, Me, Allows, TableId, first_free, list_base, pool_base, opening_word, Place, Plan, arena_limit, at_word, base, entering_mark, marked, own_word, packed, seal, set_word, Owned, Port, Stands, next_place, passing, below_whole, set_place, About, Stand, IsRuleKept, SeatedPort, one_of, plan_of, bare, shape_plan, SeatGoes, IsOne, tells, IsHeld, port_at, SeatGives, LoadsPort, PassesSealed, SeatPublishes, PutsPort, Seals, Sets, Takes, passed_at, unpacked, IsIdle, IsCarriedStamp, IsInitialValue, IsRight, IsFixedWord, MayPutPort, OfOwned, Owns, PutsBy, SetsLists, SetsNext, TakesBy, HasSetWords, initial_words}
 use Rattle.partial_long_lived.proofs.Changes.{may_give, may_load_port, may_pass, may_put, may_seal, may_take}
 use Rattle.partial_long_lived.proofs.Sets.{may_set_over_lists, may_set_same, may_set_stamp, may_set_value}
 use Rattle.partial_long_lived.proofs.Publishes.{may_publish}
 use Rattle.partial_long_lived.proofs.Standing.{base_is, place_is}
 
 -- a step by the arena that the port owns
-of_owned : (about : About) (slots id i : ℕ) (f : ℕ → ℕ) (me : Me (Unit {0}) (List Seated)) (R : Owned → Seated → ℕ → Seated → Type 0) (o : Owned) → (one_of me.0).port.control.owned ≡ Some o →
-    Allows (IsKept about) slots id me i f (tells (R o) me) → Allows (IsKept about) slots id me i f (tells (OfOwned R) me)
+of_owned : (about : About) (slots id i : ℕ) (f : ℕ → ℕ) (me : Me (Unit {0}) (List SeatedPort)) (R : Owned → SeatedPort → ℕ → SeatedPort → Type 0) (o : Owned) →
+    (one_of me.0).port.control.owned ≡ Some o →
+    Allows (IsRuleKept about) slots id me i f (tells (R o) me) → Allows (IsRuleKept about) slots id me i f (tells (OfOwned R) me)
 of_owned about slots id i f me R o is asked =
-    subst (λ (t : Option Owned). Allows (IsKept about) slots id me i f (λ a me'. IsOne me' × Goes (one_of me.0) (one_of me'.0) × IfSome t (λ o. R o (one_of me.0) a (one_of me'.0)))) (sym is) asked
+    subst (λ (t : Option Owned). Allows (IsRuleKept about) slots id me i f (λ a me'. IsOne me' × SeatGoes (one_of me.0) (one_of me'.0) × IfSome t (λ o. R o (one_of me.0) a (one_of me'.0))))
+    (sym is) asked
 
 -- a component that isn't sealed isn't passed
 passed_not : (a : ℕ) (p : Port) → a < seal → passed_at a p ≡ p
 passed_not a p low = ap (λ (c : Bool). cond c p (passing p)) (lt-ltb a seal low)
 
 module _ (table : TableId) (about : About) (s : Stand) (h : IsHeld table about s) where
-  abbrev x : Seated
+  abbrev x : SeatedPort
   x = port_at s
 
   abbrev e : Plan
@@ -34,29 +36,29 @@ module _ (table : TableId) (about : About) (s : Stand) (h : IsHeld table about s
 
   -- a word before the list words
   pub front_right : (v i : ℕ) → i < list_base about.sizes → v ≡ opening_word s.shape.sizes [] i → IsRight x v i
-  front_right v i low is = inl (subst (λ (a : About). IsSetting a.sizes v i) (sym h.own)
+  front_right v i low is = inl (subst (λ (a : About). IsFixedWord a.sizes v i) (sym h.own)
       (record { within = omega (arith, low); free = inl (omega (arith, low)); is = is ∙ ap (λ z. opening_word z [] i) sizes_are }))
 
   module _ (stands : x.port.control.entering ≡ Stands) (more : s.passed < about.sizes.m) where
     left : x.port.passed < about.sizes.m
     left = subst (λ n. n < about.sizes.m) h.passed more
 
-    pub pass_asked : (slots id i : ℕ) → i ≡ s.base + s.passed → Allows (IsKept about) slots id s.seat.me i (λ n. n) (tells PassesSealed s.seat.me)
+    pub pass_asked : (slots id i : ℕ) → i ≡ s.base + s.passed → Allows (IsRuleKept about) slots id s.seat.me i (λ n. n) (tells PassesSealed s.seat.me)
     pass_asked slots id i at =
         let here = base_is table about s h in
         let passed = h.passed in
-        subst (λ i. Allows (IsKept about) slots id s.seat.me i (λ n. n) (tells PassesSealed s.seat.me)) (sym (at ∙ omega (arith, here, passed)))
+        subst (λ i. Allows (IsRuleKept about) slots id s.seat.me i (λ n. n) (tells PassesSealed s.seat.me)) (sym (at ∙ omega (arith, here, passed)))
         (may_pass about slots id s.seat.me h.one h.own h.known stands left)
 
-    pub seal_asked : (me : Me (Unit {0}) (List Seated)) (a : ℕ) → tells PassesSealed s.seat.me a me → a < seal → (slots id i : ℕ) → i ≡ s.base + s.passed →
-        Allows (IsKept about) slots id me i (λ n. (n + seal) % 2 ^ 64) (tells Seals me)
+    pub seal_asked : (me : Me (Unit {0}) (List SeatedPort)) (a : ℕ) → tells PassesSealed s.seat.me a me → a < seal → (slots id i : ℕ) → i ≡ s.base + s.passed →
+        Allows (IsRuleKept about) slots id me i (λ n. (n + seal) % 2 ^ 64) (tells Seals me)
     seal_asked me a told low slots id i at =
         let here = base_is table about s h in
         let passed = h.passed in
-        let same : (one_of me.0).port ≡ x.port = ap (λ (y : Seated). y.port) told.2 ∙ passed_not a x.port low in
+        let same : (one_of me.0).port ≡ x.port = ap (λ (y : SeatedPort). y.port) told.2 ∙ passed_not a x.port low in
         let word : i ≡ base e (one_of me.0).port.control.here.arena + (one_of me.0).port.passed =
         at ∙ (omega (arith, here, passed)) ∙ sym (ap (λ (p : Port). base e p.control.here.arena + p.passed) same) in
-        subst (λ i. Allows (IsKept about) slots id me i (λ n. (n + seal) % 2 ^ 64) (tells Seals me)) (sym word)
+        subst (λ i. Allows (IsRuleKept about) slots id me i (λ n. (n + seal) % 2 ^ 64) (tells Seals me)) (sym word)
         (may_seal about slots id me told.0 (told.1.about ∙ h.own) told.1.known (ap (λ (p : Port). p.control.entering) same ∙ stands)
         (subst (λ (p : Port). p.passed < about.sizes.m) (sym same) left))
 
@@ -68,45 +70,45 @@ module _ (table : TableId) (about : About) (s : Stand) (h : IsHeld table about s
   own_there y w low is = let at = own_is y w is in let words = h.words in omega (arith, low, at, words)
 
   pub take_asked : (y : ℕ) → IsIdle s → y < about.arenas → s.arena ≢ y → (slots id w v : ℕ) → w ≡ own_word (shape_plan s.shape bare) y → v ≡ 1 + s.number →
-      Allows (IsKept about) slots id s.seat.me w (λ n. either (n == 0) v n) (tells (TakesBy w) s.seat.me)
+      Allows (IsRuleKept about) slots id s.seat.me w (λ n. either (n == 0) v n) (tells (TakesBy w) s.seat.me)
   take_asked y free low apart slots id w v word owner =
       let at = own_is y w word in
       let ports = ap (λ (a : About). a.ports) h.own in
       let number : v ≡ x.number + 1 = (let is = h.number in omega (arith, owner, is)) in
       let arena : w - (1 + x.about.ports) ≡ y = omega (arith, at, ports) in
-      subst (λ i. Allows (IsKept about) slots id s.seat.me w (λ n. either (n == 0) v n) (tells (Takes i) s.seat.me)) (sym arena)
-      (subst (λ v. Allows (IsKept about) slots id s.seat.me w (λ n. either (n == 0) v n) (tells (Takes y) s.seat.me)) (sym number)
-      (subst (λ i. Allows (IsKept about) slots id s.seat.me i (λ n. either (n == 0) (x.number + 1) n) (tells (Takes y) s.seat.me)) (sym at)
+      subst (λ i. Allows (IsRuleKept about) slots id s.seat.me w (λ n. either (n == 0) v n) (tells (Takes i) s.seat.me)) (sym arena)
+      (subst (λ v. Allows (IsRuleKept about) slots id s.seat.me w (λ n. either (n == 0) v n) (tells (Takes y) s.seat.me)) (sym number)
+      (subst (λ i. Allows (IsRuleKept about) slots id s.seat.me i (λ n. either (n == 0) (x.number + 1) n) (tells (Takes y) s.seat.me)) (sym at)
       (may_take about slots id s.seat.me h.one h.own h.known y free.stands free.free low (λ same. apart (h.arena ∙ same)))))
 
-  pub give_asked : (y : ℕ) → Owns s y → (slots id w : ℕ) → w ≡ own_word (shape_plan s.shape bare) y → Allows (IsKept about) slots id s.seat.me w (λ n. 0) (tells Gives s.seat.me)
+  pub give_asked : (y : ℕ) → Owns s y → (slots id w : ℕ) → w ≡ own_word (shape_plan s.shape bare) y → Allows (IsRuleKept about) slots id s.seat.me w (λ n. 0) (tells SeatGives s.seat.me)
   give_asked y owns slots id w word =
-      subst (λ i. Allows (IsKept about) slots id s.seat.me i (λ n. 0) (tells Gives s.seat.me)) (ap (own_word e) owns.arena ∙ sym (own_is y w word))
+      subst (λ i. Allows (IsRuleKept about) slots id s.seat.me i (λ n. 0) (tells SeatGives s.seat.me)) (ap (own_word e) owns.arena ∙ sym (own_is y w word))
       (may_give about slots id s.seat.me h.one h.own h.known owns.owned owns.is)
 
   -- the words of ports
   pub port_there : (q : ℕ) → q < about.ports → 1 + q < table.words
   port_there q low = let words = h.words in omega (arith, low, words)
 
-  pub load_port_asked : (y q : ℕ) → Works s y q 0 → q < about.ports → (slots id : ℕ) → Allows (IsKept about) slots id s.seat.me (1 + q) (λ n. n) (tells (OfOwned LoadsPort) s.seat.me)
+  pub load_port_asked : (y q : ℕ) → HasSetWords s y q 0 → q < about.ports → (slots id : ℕ) → Allows (IsRuleKept about) slots id s.seat.me (1 + q) (λ n. n) (tells (OfOwned LoadsPort) s.seat.me)
   load_port_asked y q works low slots id =
       let o = works.owned in
       of_owned about slots id (1 + q) (λ n. n) s.seat.me LoadsPort o works.is
-      (subst (λ i. Allows (IsKept about) slots id s.seat.me i (λ n. n) (tells (LoadsPort o) s.seat.me)) (ap at_word works.clean)
+      (subst (λ i. Allows (IsRuleKept about) slots id s.seat.me i (λ n. n) (tells (LoadsPort o) s.seat.me)) (ap at_word works.clean)
       (may_load_port about slots id s.seat.me h.one h.own h.known o works.is works.looked works.set (subst (λ n. n < about.ports) (sym works.clean) low)))
 
   pub put_asked : (y q a : ℕ) → MayPutPort s y q a → entering_mark ≤ a → q < about.ports → (slots id v : ℕ) → v ≡ packed (record { epoch = s.epoch; arena = s.arena }) →
-      Allows (IsKept about) slots id s.seat.me (1 + q) (λ n. either (n == a) v n) (tells (PutsBy a) s.seat.me)
+      Allows (IsRuleKept about) slots id s.seat.me (1 + q) (λ n. either (n == a) v n) (tells (PutsBy a) s.seat.me)
   put_asked y q a may from low slots id v here =
       let holds = may.holds in
       let o = holds.owned in
       let m : Place = unpacked (a - entering_mark) in
       let named : marked m ≡ a = omega (arith, from) in
-      let put : ℕ → Owned → Seated → ℕ → Seated → Type 0 = λ w o. PutsPort o (unpacked (w - entering_mark)) in
+      let put : ℕ → Owned → SeatedPort → ℕ → SeatedPort → Type 0 = λ w o. PutsPort o (unpacked (w - entering_mark)) in
       of_owned about slots id (1 + q) (λ n. either (n == a) v n) s.seat.me (λ o. PutsPort o m) o holds.is
-      (subst (λ i. Allows (IsKept about) slots id s.seat.me i (λ n. either (n == a) v n) (tells (PutsPort o m) s.seat.me)) (ap at_word holds.clean)
-      (subst (λ t. Allows (IsKept about) slots id s.seat.me (at_word o.clean) (λ n. either (n == t) v n) (tells (PutsPort o m) s.seat.me)) named
-      (subst (λ v. Allows (IsKept about) slots id s.seat.me (at_word o.clean) (λ n. either (n == marked m) v n) (tells (PutsPort o m) s.seat.me)) (sym (here ∙ place_is table about s h))
+      (subst (λ i. Allows (IsRuleKept about) slots id s.seat.me i (λ n. either (n == a) v n) (tells (PutsPort o m) s.seat.me)) (ap at_word holds.clean)
+      (subst (λ t. Allows (IsRuleKept about) slots id s.seat.me (at_word o.clean) (λ n. either (n == t) v n) (tells (PutsPort o m) s.seat.me)) named
+      (subst (λ v. Allows (IsRuleKept about) slots id s.seat.me (at_word o.clean) (λ n. either (n == marked m) v n) (tells (PutsPort o m) s.seat.me)) (sym (here ∙ place_is table about s h))
       (may_put about slots id s.seat.me h.one h.own h.known o m holds.is holds.looked holds.set (subst (λ n. n < about.ports) (sym holds.clean) low) holds.mark may.again))))
 
   -- the words of the owned arena
@@ -123,52 +125,52 @@ module _ (table : TableId) (about : About) (s : Stand) (h : IsHeld table about s
       let words = h.words in
       omega (arith, at, there, up, words)
 
-  pub set_asked : (y i v : ℕ) → Works s y about.ports i → about.sizes.m ≤ x.port.passed → IsRight x v i → (slots id w : ℕ) → w ≡ set_word (shape_plan s.shape bare) y i →
-      Allows (IsKept about) slots id s.seat.me w (λ n. v) (tells SetsNext s.seat.me)
+  pub set_asked : (y i v : ℕ) → HasSetWords s y about.ports i → about.sizes.m ≤ x.port.passed → IsRight x v i → (slots id w : ℕ) → w ≡ set_word (shape_plan s.shape bare) y i →
+      Allows (IsRuleKept about) slots id s.seat.me w (λ n. v) (tells SetsNext s.seat.me)
   set_asked y i v works passed right slots id w word =
       let o = works.owned in
       of_owned about slots id w (λ n. v) s.seat.me (λ o. Sets o (o.set + 1)) o works.is
-      (subst (λ i. Allows (IsKept about) slots id s.seat.me i (λ n. v) (tells (Sets o (o.set + 1)) s.seat.me))
+      (subst (λ i. Allows (IsRuleKept about) slots id s.seat.me i (λ n. v) (tells (Sets o (o.set + 1)) s.seat.me))
       (ap (λ y. set_word e y o.set) works.arena ∙ ap (set_word e y) works.set ∙ sym (set_is y i w word))
       (by (subst (IsRight x v) (sym works.set) right)))
     where
       o : Owned
       o = works.owned
 
-      by : IsRight x v o.set → Allows (IsKept about) slots id s.seat.me (set_word e o.arena o.set) (λ n. v) (tells (Sets o (o.set + 1)) s.seat.me)
+      by : IsRight x v o.set → Allows (IsRuleKept about) slots id s.seat.me (set_word e o.arena o.set) (λ n. v) (tells (Sets o (o.set + 1)) s.seat.me)
       by (inl r) =
           let own = h.own in
-          let t : IsSetting about.sizes v o.set = subst (λ (a : About). IsSetting a.sizes v o.set) own r in
+          let t : IsFixedWord about.sizes v o.set = subst (λ (a : About). IsFixedWord a.sizes v o.set) own r in
           may_set_same about slots id s.seat.me h.one h.own h.known o v works.is works.clean passed t.within t.free t.is
       by (inr (inl r)) =
           let t : IsInitialValue about.sizes x.found v o.set = subst (λ (a : About). IsInitialValue a.sizes x.found v o.set) h.own r in
-          subst (λ v. Allows (IsKept about) slots id s.seat.me (set_word e o.arena o.set) (λ n. v) (tells (Sets o (o.set + 1)) s.seat.me)) (sym t.is)
+          subst (λ v. Allows (IsRuleKept about) slots id s.seat.me (set_word e o.arena o.set) (λ n. v) (tells (Sets o (o.set + 1)) s.seat.me)) (sym t.is)
           (may_set_value about slots id s.seat.me h.one h.own h.known o t.f works.is works.clean passed t.found_is t.at t.inside)
       by (inr (inr r)) =
           let t : IsCarriedStamp about.sizes x.found v o.set = subst (λ (a : About). IsCarriedStamp a.sizes x.found v o.set) h.own r in
-          subst (λ v. Allows (IsKept about) slots id s.seat.me (set_word e o.arena o.set) (λ n. v) (tells (Sets o (o.set + 1)) s.seat.me)) (sym t.is)
+          subst (λ v. Allows (IsRuleKept about) slots id s.seat.me (set_word e o.arena o.set) (λ n. v) (tells (Sets o (o.set + 1)) s.seat.me)) (sym t.is)
           (may_set_stamp about slots id s.seat.me h.one h.own h.known o t.f works.is works.clean passed t.found_is t.at t.inside)
 
-  pub set_lists_asked : (y i : ℕ) → Works s y about.ports i → about.sizes.m ≤ x.port.passed → i + 1 ≡ list_base about.sizes → 0 ≡ opening_word about.sizes [] i → (slots id w : ℕ) →
-      w ≡ set_word (shape_plan s.shape bare) y i → Allows (IsKept about) slots id s.seat.me w (λ n. 0) (tells SetsLists s.seat.me)
+  pub set_lists_asked : (y i : ℕ) → HasSetWords s y about.ports i → about.sizes.m ≤ x.port.passed → i + 1 ≡ list_base about.sizes → 0 ≡ opening_word about.sizes [] i → (slots id w : ℕ) →
+      w ≡ set_word (shape_plan s.shape bare) y i → Allows (IsRuleKept about) slots id s.seat.me w (λ n. 0) (tells SetsLists s.seat.me)
   set_lists_asked y i works passed last zero slots id w word =
       let o = works.owned in
       of_owned about slots id w (λ n. 0) s.seat.me (λ o. Sets o (pool_base x.about.sizes)) o works.is
-      (subst (λ i. Allows (IsKept about) slots id s.seat.me i (λ n. 0) (tells (Sets o (pool_base x.about.sizes)) s.seat.me))
+      (subst (λ i. Allows (IsRuleKept about) slots id s.seat.me i (λ n. 0) (tells (Sets o (pool_base x.about.sizes)) s.seat.me))
       (ap (λ y. set_word e y o.set) works.arena ∙ ap (set_word e y) works.set ∙ sym (set_is y i w word))
-      (subst (λ (a : About). Allows (IsKept about) slots id s.seat.me (set_word e o.arena o.set) (λ n. 0) (tells (Sets o (pool_base a.sizes)) s.seat.me)) (sym h.own)
+      (subst (λ (a : About). Allows (IsRuleKept about) slots id s.seat.me (set_word e o.arena o.set) (λ n. 0) (tells (Sets o (pool_base a.sizes)) s.seat.me)) (sym h.own)
       (may_set_over_lists about slots id s.seat.me h.one h.own h.known o 0 works.is works.clean passed (ap (λ n. n + 1) works.set ∙ last) (zero ∙ sym (ap (opening_word about.sizes []) works.set)))))
 
   -- the exchange of the current word
-  pub publish_asked : (y : ℕ) → Works s y about.ports (first_free about.sizes + about.sizes.m) → s.epoch + 1 < 2199023255552 → (slots id here next : ℕ) →
+  pub publish_asked : (y : ℕ) → HasSetWords s y about.ports (first_free about.sizes + about.sizes.m) → s.epoch + 1 < 2199023255552 → (slots id here next : ℕ) →
       here ≡ packed (record { epoch = s.epoch; arena = s.arena }) → next ≡ (s.epoch + 1) * arena_limit + y →
-      Allows (IsKept about) slots id s.seat.me 0 (λ n. either (n == here) next n) (tells (OfOwned Publishes) s.seat.me)
+      Allows (IsRuleKept about) slots id s.seat.me 0 (λ n. either (n == here) next n) (tells (OfOwned SeatPublishes) s.seat.me)
   publish_asked y works room slots id here next here_is next_is =
       let o = works.owned in
       let epoch = h.epoch in
       let arena = works.arena in
       let word : next ≡ packed (next_place x.port.control.here o.arena) = omega (arith, next_is, epoch, arena) in
-      of_owned about slots id 0 (λ n. either (n == here) next n) s.seat.me Publishes o works.is
-      (subst (λ t. Allows (IsKept about) slots id s.seat.me 0 (λ n. either (n == t) next n) (tells (Publishes o) s.seat.me)) (sym (here_is ∙ place_is table about s h))
-      (subst (λ v. Allows (IsKept about) slots id s.seat.me 0 (λ n. either (n == packed x.port.control.here) v n) (tells (Publishes o) s.seat.me)) (sym word)
+      of_owned about slots id 0 (λ n. either (n == here) next n) s.seat.me SeatPublishes o works.is
+      (subst (λ t. Allows (IsRuleKept about) slots id s.seat.me 0 (λ n. either (n == t) next n) (tells (SeatPublishes o) s.seat.me)) (sym (here_is ∙ place_is table about s h))
+      (subst (λ v. Allows (IsRuleKept about) slots id s.seat.me 0 (λ n. either (n == packed x.port.control.here) v n) (tells (SeatPublishes o) s.seat.me)) (sym word)
       (may_publish about slots id s.seat.me h.one h.own h.known o (record { owned = works.is; set = works.set; room = subst (λ n. n + 1 < 2199023255552) epoch room }))))

@@ -1,5 +1,5 @@
 -- An attempt of an update in the epoch where a port stands.
-use Rattle.partial_long_lived.proofs.Common.{ℕ, ◌≡◌, ◌≢◌, ◌+◌, ◌<◌, ◌≤◌, ◌==◌, ◌++◌, Bool, true, false, cond, Option, None, Some, Ok, List, [], ◌∷◌, length, map, refl, sym, ap, subst, ◌∙◌, inl, inr, arith, option_map_or, nat_lt, is_some, lt-ltb, eqb_tells, length-map, TableId, Applied, Call, Answer, Note, stamp_of, Noted, place_of, Load, Exchange, IsLayout, Layout, greatest_record, pool_end, Change, Reply, Stage, Exchanging, Finished, UpdateBegun, CoreState, advance_at, at_stage, begin_getting, lists_spent, overtaken, reply_of, step_at, step_of, answer_for, call_of, update_call, IsRecord, IsSound, is_sound_at, Part, AreNotesOf, IsNoteOf, IsPlacedAt, Exchanged, RestsLike, update_reply, Plan, seal, unsealed, history_of, public_entry, public_log, stamp_limit, public_noted, Control, About, Shape, Stand, Began, Seated, plan_of, seen_in, Goes, BeganBy, IsHeld, port_at, IsIdle, Kept, opening_of, Makes, MissesSeal, answered, RestsUnmarked, CallMade, claim_of, IsGoing, Leads, MayBegin, machine_at, Attempted, ExchangeDue, ExpectsOne, IsEntryOf, IsOwn, NotesNothing, Stayed, noted_where, word_from}
+use Rattle.partial_long_lived.proofs.Common.{ℕ, ◌≡◌, ◌≢◌, ◌+◌, ◌<◌, ◌≤◌, ◌==◌, ◌++◌, Bool, true, false, cond, Option, None, Some, Ok, List, [], ◌∷◌, length, map, refl, sym, ap, subst, ◌∙◌, inl, inr, arith, option_map_or, nat_lt, is_some, lt-ltb, eqb_tells, length-map, TableId, Applied, Call, Answer, Note, stamp_of, Noted, place_of, Load, Exchange, IsLayout, Layout, greatest_record, pool_end, Change, Reply, Stage, Exchanging, Finished, UpdateBegun, CoreState, advance_at, at_stage, begin_getting, lists_spent, overtaken, reply_of, step_at, step_of, answer_for, call_of, update_call, IsRecord, IsSound, is_sound_at, Part, AreNotesOf, IsNoteOf, IsPlacedAt, Exchanged, RestsLike, update_reply, Plan, seal, unsealed, history_of, public_entry, public_log, stamp_limit, public_noted, Control, About, Shape, Stand, Began, SeatedPort, plan_of, seen_in, SeatGoes, BeganBy, IsHeld, port_at, IsIdle, StaysAt, opening_of, SeatMakes, MissesSeal, unsealed_answer, RestsUnmarked, CallMade, record_claim, IsGoing, ComesTo, MayBegin, machine_at, Attempted, ExchangeDue, ExpectsOne, IsEntryOf, IsOwnMachine, NotesNothing, Stayed, noted_where, word_from}
 use Rattle.std.specs.Prelude.{◌||◌, IfSome, take}
 use Rattle.std.proofs.Math.Bool.{or-false}
 use Rattle.std.proofs.lemmas.List.{length-append}
@@ -8,7 +8,7 @@ use Rattle.partial_model.specs.declared.call.Note.TheVariants as note
 use Rattle.partial_machine.specs.declared.stage.Reply.TheVariants as reply
 use Rattle.partial_machine.specs.Possible.{IsPossibleAt}
 use Rattle.partial_lines.specs.declared.exchange.Exchanged.TheVariants.{Applied as IsApplied, Overtaken}
-use Rattle.partial_long_lived.specs.Inner.Machine.{Begins}
+use Rattle.partial_long_lived.specs.Inner.Machine.{SeatBegins}
 use Rattle.partial_long_lived.proofs.Coming.{goes_on}
 use Rattle.partial_long_lived.proofs.Under.{first_made, next_made, notes_same}
 
@@ -72,7 +72,7 @@ pool_small z n w low =
     omega (arith, low, m, slots, lists, pool)
 
 -- what is noted of an update that ended so, and where its entry lies
-module _ (x : Seated) (d : Change) where
+module _ (x : SeatedPort) (d : Change) where
   abbrev before : List (List Applied)
   before = x.port.before
 
@@ -114,11 +114,11 @@ note_case y new (Some at) (Overtaken by) w = w
 
 -- The update of a port that stands at s, whose first step led to the stand u.
 module _ (table : TableId) (about : About) (s : Stand) (h : IsHeld table about s) (idle : IsIdle s) (core : CoreState) (d : Change) (begins : MayBegin (at_stage core (UpdateBegun d)) (port_at s))
-    (first : Bool) (u : Stand) (held : IsHeld table about u) (kept : Kept s u) (old : ℕ) (begun : Begins first (at_stage core (UpdateBegun d)) d.component (port_at s) old (port_at u)) (less : old < seal) where
+    (first : Bool) (u : Stand) (held : IsHeld table about u) (kept : StaysAt s u) (old : ℕ) (begun : SeatBegins first (at_stage core (UpdateBegun d)) d.component (port_at s) old (port_at u)) (less : old < seal) where
   abbrev b : CoreState
   b = at_stage core (UpdateBegun d)
 
-  makes : Makes first b (Load d.component) (port_at s) old (port_at u) × ((port_at u).began.epoch ≤ (port_at s).port.control.here.epoch)
+  makes : SeatMakes first b (Load d.component) (port_at s) old (port_at u) × ((port_at u).began.epoch ≤ (port_at s).port.control.here.epoch)
   makes = elim begun [
     | inl met ↦ let from = met.0 in absurd (omega (arith, from, less))
     | inr m ↦ (m.1, m.2)
@@ -132,7 +132,7 @@ module _ (table : TableId) (about : About) (s : Stand) (h : IsHeld table about s
   attempt_going = record { held = held; under = (b, port_at s, begins, made) }
 
   -- where the call stands at t, in the call that its first step began
-  module _ (t : Stand) (here : Kept s t) (began : (port_at t).began ≡ makes.0.n) where
+  module _ (t : Stand) (here : StaysAt s t) (began : (port_at t).began ≡ makes.0.n) where
     stayed_as : (port_at t).port.control ≡ (port_at s).port.control → Stayed first s t
     stayed_as control = record {
       kept = here;
@@ -142,10 +142,10 @@ module _ (table : TableId) (about : About) (s : Stand) (h : IsHeld table about s
 
     -- and has ended
     module _ (over : CallMade b (port_at s) (machine_at t) (port_at t)) (r : Exchanged) (replies : reply_of (machine_at t) ≡ Some (reply_as d.expected r)) where
-      abbrev x : Seated
+      abbrev x : SeatedPort
       x = port_at s
 
-      abbrev y : Seated
+      abbrev y : SeatedPort
       y = port_at t
 
       note_of : IsNoteOf y.port.part (reply_as d.expected r) over.made.new
@@ -184,7 +184,7 @@ module _ (table : TableId) (about : About) (s : Stand) (h : IsHeld table about s
             ∙ ap (λ n. x.notes ++ n ∷ []) (noted_same d.expected (length (history_of x.port.before) + noted.0));
         behind =
             let young = makes.1 in
-            let early_epoch = ap (λ (g : Began). g.epoch) (began ∙ sym (ap (λ (z : Seated). z.began) makes.0.is)) in
+            let early_epoch = ap (λ (g : Began). g.epoch) (began ∙ sym (ap (λ (z : SeatedPort). z.began) makes.0.is)) in
             let here_epoch = ap (λ (c : Control). c.here.epoch) over.control in
             let early = over.time (omega (arith, young, early_epoch, here_epoch)) in
             let late = note_of.behind in
@@ -226,7 +226,7 @@ module _ (table : TableId) (about : About) (s : Stand) (h : IsHeld table about s
     ]
 
     began_first : (port_at u).began ≡ makes.0.n
-    began_first = ap (λ (z : Seated). z.began) makes.0.is
+    began_first = ap (λ (z : SeatedPort). z.began) makes.0.is
 
     machine_first : machine_at u ≡ at_stage b (Finished (reply.Changed old))
     machine_first = sym makes.0.told.machine.is
@@ -259,17 +259,17 @@ module _ (table : TableId) (about : About) (s : Stand) (h : IsHeld table about s
 
     -- it has made no claim
     pub first_spares : (port_at u).port.over ≡ false
-    first_spares = ap (λ (z : Seated). z.port.over) makes.0.is ∙ ap (λ t. t || false) begins.spare
+    first_spares = ap (λ (z : SeatedPort). z.port.over) makes.0.is ∙ ap (λ t. t || false) begins.spare
 
   -- its steps up to the exchange of the component led to the stand v, and the exchange to the stand t
-  module _ (v : Stand) (leads : Leads u v) (at found : ℕ) (stage : (machine_at v).stage ≡ Exchanging d old at) (t : Stand) (kept_last : Kept v t) where
+  module _ (v : Stand) (leads : ComesTo u v) (at found : ℕ) (stage : (machine_at v).stage ≡ Exchanging d old at) (t : Stand) (kept_last : StaysAt v t) where
     over_call : CallMade b (port_at s) (machine_at v) (port_at v)
     over_call = leads.call b (port_at s) begins made
 
     due : step_of (machine_at v) ≡ Some (Exchange d.component old at)
     due = ap (step_at (machine_at v)) stage
 
-    kept_all : Goes (port_at s) (port_at t) → Kept s t
+    kept_all : SeatGoes (port_at s) (port_at t) → StaysAt s t
     kept_all goes = record {
       shape = kept_last.shape ∙ leads.shape ∙ kept.shape;
       number = kept_last.number ∙ leads.number ∙ kept.number;
@@ -281,14 +281,15 @@ module _ (table : TableId) (about : About) (s : Stand) (h : IsHeld table about s
     }
 
     began_then : (port_at v).began ≡ makes.0.n
-    began_then = leads.began ∙ ap (λ (x : Seated). x.began) makes.0.is
+    began_then = leads.began ∙ ap (λ (x : SeatedPort). x.began) makes.0.is
 
     -- the component is sealed
     pub met_seal : ExchangeDue v d old at found t → seal ≤ found → unsealed found ≡ old → NotesNothing first s t
     met_seal exchanged sealed same = elim exchanged [
       | inl met ↦ (let is = met.2 in record {
-        stayed = stayed_as t (kept_all (subst (Goes (port_at s)) (sym is) over_call.goes)) (ap (λ (x : Seated). x.began) is ∙ began_then) (ap (λ (x : Seated). x.port.control) is ∙ over_call.control);
-        notes = ap (λ (x : Seated). x.notes) is ∙ notes_same b (port_at s) begins (machine_at v) (port_at v) over_call (Exchange d.component old at) due;
+        stayed = stayed_as t (kept_all (subst (SeatGoes (port_at s)) (sym is) over_call.goes)) (ap (λ (x : SeatedPort). x.began) is ∙ began_then)
+            (ap (λ (x : SeatedPort). x.port.control) is ∙ over_call.control);
+        notes = ap (λ (x : SeatedPort). x.notes) is ∙ notes_same b (port_at s) begins (machine_at v) (port_at v) over_call (Exchange d.component old at) due;
       })
       | inr missed ↦ absurd (elim missed.0 [
         | inl low ↦ omega (arith, low, sealed)
@@ -302,16 +303,16 @@ module _ (table : TableId) (about : About) (s : Stand) (h : IsHeld table about s
       inside : d.component < (port_at v).about.sizes.m
       inside = subst (λ (z : Layout). d.component < z.m) (begins.sizes ∙ ap (λ (a : About). a.sizes) (sym over_call.goes.about)) begins.sound.stage.0
 
-      answered_is : answered (plan_of (port_at v).about) (Exchange d.component old at) found ≡ unsealed found
+      answered_is : unsealed_answer (plan_of (port_at v).about) (Exchange d.component old at) found ≡ unsealed found
       answered_is = ap (λ (c : Bool). cond c (unsealed found) found) (lt-ltb d.component (port_at v).about.sizes.m inside)
 
-      makes_last : Makes false (machine_at v) (Exchange d.component old at) (port_at v) (unsealed found) (port_at t)
+      makes_last : SeatMakes false (machine_at v) (Exchange d.component old at) (port_at v) (unsealed found) (port_at t)
       makes_last = elim exchanged [
         | inl met ↦ absurd (elim misses [
           | inl low ↦ (let from = met.0 in omega (arith, low, from))
           | inr other ↦ other met.1
         ])
-        | inr m ↦ subst (λ a. Makes false (machine_at v) (Exchange d.component old at) (port_at v) a (port_at t)) answered_is m.1
+        | inr m ↦ subst (λ a. SeatMakes false (machine_at v) (Exchange d.component old at) (port_at v) a (port_at t)) answered_is m.1
       ]
 
       call_end : CallMade b (port_at s) (machine_at t) (port_at t)
@@ -325,7 +326,7 @@ module _ (table : TableId) (about : About) (s : Stand) (h : IsHeld table about s
       replies = ap reply_of machine_end ∙ ap (λ (q : Reply). Some q) (sym (ends d)) ∙ ap (λ (q : Reply). Some q) (reply_is d r)
 
       began_same : (port_at t).began ≡ makes.0.n
-      began_same = ap (λ (z : Seated). z.began) makes_last.is ∙ makes_last.began ∙ began_then
+      began_same = ap (λ (z : SeatedPort). z.began) makes_last.is ∙ makes_last.began ∙ began_then
 
       sizes_then : (machine_at v).sizes ≡ b.sizes
       sizes_then = over_call.made.sizes ∙ sym begins.sizes
@@ -367,14 +368,14 @@ module _ (table : TableId) (about : About) (s : Stand) (h : IsHeld table about s
       pub attempt_spares : (limit size : ℕ) → limit ≡ t.shape.limit → size ≡ greatest_record (port_at s).about.sizes → nat_lt limit (at + size) ≡ false → (port_at t).port.over ≡ false
       attempt_spares limit size limit_is size_is room =
           let same : (port_at s).about.limit ≡ limit = ap (λ (a : About). a.limit) h.own ∙ ap (λ (e : Plan). e.limit) h.shape ∙ sym (ap (λ (z : Shape). z.limit) (kept_all call_end.goes).shape) ∙ sym limit_is in
-          let kept_over : (port_at t).port.over ≡ (port_at v).port.over = ap (λ (z : Seated). z.port.over) makes_last.is ∙ or-false (port_at v).port.over in
-          kept_over ∙ (elim (over_call.claimed at (ap claim_of stage)) [
+          let kept_over : (port_at t).port.over ≡ (port_at v).port.over = ap (λ (z : SeatedPort). z.port.over) makes_last.is ∙ or-false (port_at v).port.over in
+          kept_over ∙ (elim (over_call.claimed at (ap record_claim stage)) [
             | inl none ↦ none
             | inr past ↦ (let low : limit < at + size = omega (arith, past, same, size_is) in let bad : true ≡ false = sym (lt-ltb limit (at + size) low) ∙ room in cc)
           ])
 
     -- the machine that is kept is the port's
-    pub attempt_rests : (last : CoreState) → RestsUnmarked (port_at s) core → RestsLike (machine_at v) last → IsOwn (port_at t) last
+    pub attempt_rests : (last : CoreState) → RestsUnmarked (port_at s) core → RestsLike (machine_at v) last → IsOwnMachine (port_at t) last
     attempt_rests last rests end =
         let like = end.like in
         let goes = goes_on (port_at s) (port_at v) (port_at t) over_call.goes kept_last.goes in

@@ -1,10 +1,10 @@
 -- When a call begins, and where a port that looks stands.
-use Rattle.partial_long_lived.proofs.Common.{ℕ, ◌≡◌, ◌<◌, ◌≤◌, ◌++◌, Bool, true, false, List, [], ◌∷◌, length, get_or, refl, sym, ap, ◌∙◌, arith, length-append, Applied, Noted, current_word, packed, history_of, Port, Beside, LawfulEpochs, place_now, LawfulMemory, one_history, current_is, packed_arena, About, Began, HasBegun, IsSeat, Seated, plan_of, seen_in, BeganBy}
+use Rattle.partial_long_lived.proofs.Common.{ℕ, ◌≡◌, ◌<◌, ◌≤◌, ◌++◌, Bool, true, false, List, [], ◌∷◌, length, get_or, refl, sym, ap, ◌∙◌, arith, length-append, Applied, Noted, current_word, packed, history_of, Port, Beside, LawfulEpochs, place_now, LawfulMemory, one_history, current_is, packed_arena, About, Began, BeganInTime, IsSeat, SeatedPort, plan_of, seen_in, BeganBy}
 use Rattle.partial_epochs.proofs.Present.{same_place}
 use Rattle.partial_long_lived.proofs.Seen.{seen_begins}
 
 -- what a port has seen is no more than there is
-pub seen_few : (a : About) (words : List ℕ) (ports : ℕ → Port) (notes : ℕ → List Noted) (b : Beside) (since : ℕ → ℕ) (x : Seated) → LawfulMemory (plan_of a) words ports b notes →
+pub seen_few : (a : About) (words : List ℕ) (ports : ℕ → Port) (notes : ℕ → List Noted) (b : Beside) (since : ℕ → ℕ) (x : SeatedPort) → LawfulMemory (plan_of a) words ports b notes →
     IsSeat a ports notes b since x → length (seen_in x.port) ≤ length (one_history b)
 seen_few a words ports notes b since x w s =
     let r = w.noted.reached x.number s.number in
@@ -17,7 +17,7 @@ seen_few a words ports notes b since x w s =
 abbrev pub now : Beside → Began
 now b = record { epoch = length b.before; length = length (one_history b) }
 
-pub now_has_begun : (b : Beside) → HasBegun b (now b)
+pub now_has_begun : (b : Beside) → BeganInTime b (now b)
 now_has_begun b = record { come = omega arith; reached = λ later before log is epoch. by later before log is epoch }
   where
     by : (later before : List (List Applied)) (log : List Applied) → b.log ∷ b.before ≡ later ++ log ∷ before → length before ≡ length b.before → length (one_history b) ≤ length (history_of (log ∷ before))
@@ -28,7 +28,7 @@ now_has_begun b = record { come = omega arith; reached = λ later before log is 
         absurd (omega (arith, long, both, epoch))
 
 -- when the call of a step began
-pub began_by : (first : Bool) (x : Seated) (b : Beside) → length (seen_in x.port) ≤ length (one_history b) → HasBegun b x.began → (n : Began) × BeganBy first x n × HasBegun b n
+pub began_by : (first : Bool) (x : SeatedPort) (b : Beside) → length (seen_in x.port) ≤ length (one_history b) → BeganInTime b x.began → (n : Began) × BeganBy first x n × BeganInTime b n
 began_by true x b few w = (now b, few, now_has_begun b)
 began_by false x b few w = (x.began, refl, w)
 

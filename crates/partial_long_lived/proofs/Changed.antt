@@ -1,14 +1,14 @@
 -- A change of epoch, from its look to the epoch that is entered.
-use Rattle.partial_long_lived.proofs.Common.{ℕ, ◌≡◌, ◌<◌, ◌≤◌, Bool, List, None, refl, ap, subst, ◌∙◌, Noted, Place, Port, arrived, About, Stand, Began, Seated, plan_of, port_at, Entered, Kept, Looked, Changed, Stays}
+use Rattle.partial_long_lived.proofs.Common.{ℕ, ◌≡◌, ◌<◌, ◌≤◌, Bool, List, None, refl, ap, subst, ◌∙◌, Noted, Place, Port, arrived, About, Stand, Began, SeatedPort, plan_of, port_at, Entered, StaysAt, Looked, Changed, Stays}
 use Rattle.partial_long_lived.proofs.Coming.{goes_on}
 use Rattle.partial_long_lived.proofs.Looking.{looked_keeps}
 
-module _ (first : Bool) (s t u v : Stand) (b : Bool) (kept : Kept s t) (looked : Looked first s b t) (stays : Stays t u) (entered : Entered u v) where
+module _ (first : Bool) (s t u v : Stand) (b : Bool) (kept : StaysAt s t) (looked : Looked first s b t) (stays : Stays t u) (entered : Entered u v) where
   abbrev place : Place
   place = record { epoch = v.epoch; arena = v.arena }
 
   -- a port that has come to that place
-  abbrev come : About → ℕ → List Noted → Began → Seated
+  abbrev come : About → ℕ → List Noted → Began → SeatedPort
   come a k notes n = record { about = a; number = k; port = arrived (plan_of a) k place entered.before; notes = notes; began = n; found = None }
 
   about_is : (port_at u).about ≡ (port_at s).about
@@ -18,10 +18,10 @@ module _ (first : Bool) (s t u v : Stand) (b : Bool) (kept : Kept s t) (looked :
   number_is = stays.goes.number ∙ kept.goes.number
 
   notes_are : (port_at u).notes ≡ (port_at s).notes
-  notes_are = stays.notes ∙ ap (λ (x : Seated). x.notes) looked.looks.2
+  notes_are = stays.notes ∙ ap (λ (x : SeatedPort). x.notes) looked.looks.2
 
   began_is : (port_at u).began ≡ looked.looks.0
-  began_is = stays.began ∙ ap (λ (x : Seated). x.began) looked.looks.2
+  began_is = stays.began ∙ ap (λ (x : SeatedPort). x.began) looked.looks.2
 
   pub changed : Changed first s v
   changed = record {

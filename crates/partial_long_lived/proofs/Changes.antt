@@ -1,5 +1,5 @@
 -- The steps of a change of epoch are allowed.
-use Rattle.partial_long_lived.proofs.Common.{ℕ, ◌≡◌, ◌≢◌, ◌+◌, ◌-◌, ◌%◌, ◌^◌, ◌<◌, ◌≤◌, ◌==◌, ◌⊎◌, Bool, true, false, cond, Option, Some, None, List, get_or, set, refl, sym, ap, subst, ◌∙◌, inl, inr, arith, nat_lt, cases_lt, lt-ltb, eqb_tells, get_or-set_other, some_same, either, Me, Allows, put, IsPlace, Place, Plan, at_word, base, component_words, control_words, entering_mark, marked, own_word, packed, seal, Control, Entering, Owned, Port, Stands, Marks, Loaded, IsAt, MayPut, Beside, LawfulEpochs, place_now, KeepsTime, passing, cleaner, having_given, having_loaded, just_taken, owning, gives_stay_lawful, loaded_marks_keep_time, marks_are_loaded, others_are_elsewhere, puts_keep_time, puts_stay_lawful, sealed_passes_stay_lawful, seals_stay_lawful, takes_stay_lawful, at_of, not_below, About, Began, IsKept, IsSince, Seated, one_of, plan_of, IsKnown, IsOne, tells, Gives, LoadsPort, PassesSealed, PutsPort, Seals, Takes, elsewhere, passed_at, port_loaded, port_put, taken_at, unpacked}
+use Rattle.partial_long_lived.proofs.Common.{ℕ, ◌≡◌, ◌≢◌, ◌+◌, ◌-◌, ◌%◌, ◌^◌, ◌<◌, ◌≤◌, ◌==◌, ◌⊎◌, Bool, true, false, cond, Option, Some, None, List, get_or, set, refl, sym, ap, subst, ◌∙◌, inl, inr, arith, nat_lt, cases_lt, lt-ltb, eqb_tells, get_or-set_other, some_same, either, Me, Allows, put, IsPlace, Place, Plan, at_word, base, component_words, control_words, entering_mark, marked, own_word, packed, seal, Control, Entering, Owned, Port, Stands, Marks, Loaded, IsPlaceWord, MayPut, Beside, LawfulEpochs, place_now, KeepsTime, passing, cleaner, having_given, having_loaded, just_taken, owning, gives_stay_lawful, loaded_marks_keep_time, marks_are_loaded, others_are_elsewhere, puts_keep_time, puts_stay_lawful, sealed_passes_stay_lawful, seals_stay_lawful, takes_stay_lawful, at_of, not_below, About, Began, IsRuleKept, IsSince, SeatedPort, one_of, plan_of, IsSeatKnown, IsOne, tells, SeatGives, LoadsPort, PassesSealed, PutsPort, Seals, Takes, elsewhere, passed_at, port_loaded, port_put, taken_at, unpacked}
 use Rattle.partial_long_lived.proofs.Asides.{IsQuiet}
 use Rattle.partial_long_lived.proofs.Control.{Quietly, lawful_itself, load_same, quietly, time_aside, unpacked_is}
 
@@ -76,7 +76,7 @@ module _ (e : Plan) (words : List ℕ) (ports : ℕ → Port) (b : Beside) (w : 
       entering (inl at) = let is = word_is in absurd (omega (arith, at, is, less))
       entering (inr c) = named c.0 c.1 (sym word_is ∙ c.2)
 
-      by : (t : Entering) → IsAt e (control_words e words) q (ports q).control.here t →
+      by : (t : Entering) → IsPlaceWord e (control_words e words) q (ports q).control.here t →
           (get_or words (at_word q) 0 ≡ packed (unpacked (get_or words (at_word q) 0))) × IsPlace e (unpacked (get_or words (at_word q) 0))
       by Stands at = named (ports q).control.here (w.control.places q low) (sym word_is ∙ at)
       by Marks at = entering at
@@ -144,8 +144,8 @@ elsewhere_puts p o true is j m may = record {
 }
 elsewhere_puts p o false is j m may = unmarked_puts (owning p (cleaner o)).control (MayPut p.control j m) (cleaner o) refl refl j m may
 
-module _ {S : Type 0} (a : About) (slots id : ℕ) (me : Me S (List Seated)) (one : IsOne me) (own : (one_of me.0).about ≡ a) (known : IsKnown (one_of me.0)) where
-  abbrev x : Seated
+module _ {S : Type 0} (a : About) (slots id : ℕ) (me : Me S (List SeatedPort)) (one : IsOne me) (own : (one_of me.0).about ≡ a) (known : IsSeatKnown (one_of me.0)) where
+  abbrev x : SeatedPort
   x = one_of me.0
 
   abbrev e : Plan
@@ -153,7 +153,7 @@ module _ {S : Type 0} (a : About) (slots id : ℕ) (me : Me S (List Seated)) (on
 
   -- a load of the next component of the port's epoch
   pub may_pass : x.port.control.entering ≡ Stands → x.port.passed < a.sizes.m →
-      Allows (IsKept a) slots id me (base e x.port.control.here.arena + x.port.passed) (λ n. n) (tells PassesSealed me)
+      Allows (IsRuleKept a) slots id me (base e x.port.control.here.arena + x.port.passed) (λ n. n) (tells PassesSealed me)
   may_pass stands more = quietly a slots id me one own known (base e x.port.control.here.arena + x.port.passed) (λ n. n) passed_at PassesSealed passed_quiet
       (λ words ports notes b since w time below is old come.
       let k : ℕ = x.number in
@@ -179,7 +179,7 @@ module _ {S : Type 0} (a : About) (slots id : ℕ) (me : Me S (List Seated)) (on
 
   -- a seal on it
   pub may_seal : x.port.control.entering ≡ Stands → x.port.passed < a.sizes.m →
-      Allows (IsKept a) slots id me (base e x.port.control.here.arena + x.port.passed) (λ n. (n + seal) % 2 ^ 64) (tells Seals me)
+      Allows (IsRuleKept a) slots id me (base e x.port.control.here.arena + x.port.passed) (λ n. (n + seal) % 2 ^ 64) (tells Seals me)
   may_seal stands more = quietly a slots id me one own known (base e x.port.control.here.arena + x.port.passed) (λ n. (n + seal) % 2 ^ 64) (λ n. passing) Seals
       (λ n. record { part = λ p. refl; before = λ p. refl; here = λ p. refl; passed = λ p. omega arith })
       (λ words ports notes b since w time below is old come.
@@ -195,7 +195,7 @@ module _ {S : Type 0} (a : About) (slots id : ℕ) (me : Me S (List Seated)) (on
 
   -- the exchange of the owner word of arena i
   pub may_take : (i : ℕ) → x.port.control.entering ≡ Stands → x.port.control.owned ≡ None → i < a.arenas → x.port.control.here.arena ≢ i →
-      Allows (IsKept a) slots id me (own_word e i) (λ n. either (n == 0) (x.number + 1) n) (tells (Takes i) me)
+      Allows (IsRuleKept a) slots id me (own_word e i) (λ n. either (n == 0) (x.number + 1) n) (tells (Takes i) me)
   may_take i stands none inside apart = quietly a slots id me one own known (own_word e i) (λ n. either (n == 0) (x.number + 1) n) (taken_at i) (Takes i) (taken_quiet i)
       (λ words ports notes b since w time below is old come.
       let k : ℕ = x.number in
@@ -221,8 +221,8 @@ module _ {S : Type 0} (a : About) (slots id : ℕ) (me : Me S (List Seated)) (on
       (λ words ports b w below is. refl)
 
   -- the store that gives the arena back
-  pub may_give : (o : Owned) → x.port.control.owned ≡ Some o → Allows (IsKept a) slots id me (own_word e o.arena) (λ n. 0) (tells Gives me)
-  may_give o owned = quietly a slots id me one own known (own_word e o.arena) (λ n. 0) (λ n. having_given) Gives
+  pub may_give : (o : Owned) → x.port.control.owned ≡ Some o → Allows (IsRuleKept a) slots id me (own_word e o.arena) (λ n. 0) (tells SeatGives me)
+  may_give o owned = quietly a slots id me one own known (own_word e o.arena) (λ n. 0) (λ n. having_given) SeatGives
       (λ n. record { part = λ p. refl; before = λ p. refl; here = λ p. refl; passed = λ p. omega arith })
       (λ words ports notes b since w time below is old come.
       let k : ℕ = x.number in
@@ -234,7 +234,7 @@ module _ {S : Type 0} (a : About) (slots id : ℕ) (me : Me S (List Seated)) (on
 
   -- the load of the next port's word
   pub may_load_port : (o : Owned) → x.port.control.owned ≡ Some o → o.looked ≡ true → o.set ≡ 0 → o.clean < a.ports →
-      Allows (IsKept a) slots id me (at_word o.clean) (λ n. n) (tells (LoadsPort o) me)
+      Allows (IsRuleKept a) slots id me (at_word o.clean) (λ n. n) (tells (LoadsPort o) me)
   may_load_port o owned looked none more = quietly a slots id me one own known (at_word o.clean) (λ n. n) (λ n p. owning p (port_loaded n o)) (LoadsPort o) (λ n. owned_quiet (λ p. port_loaded n o))
       (λ words ports notes b since w time below is old come.
       let k : ℕ = x.number in
@@ -271,7 +271,7 @@ module _ {S : Type 0} (a : About) (slots id : ℕ) (me : Me S (List Seated)) (on
 
   -- the exchange of its mark
   pub may_put : (o : Owned) (m : Place) → x.port.control.owned ≡ Some o → o.looked ≡ true → o.set ≡ 0 → o.clean < a.ports → o.mark ≡ Some m → o.again ≡ true →
-      Allows (IsKept a) slots id me (at_word o.clean) (λ n. either (n == marked m) (packed x.port.control.here) n) (tells (PutsPort o m) me)
+      Allows (IsRuleKept a) slots id me (at_word o.clean) (λ n. either (n == marked m) (packed x.port.control.here) n) (tells (PutsPort o m) me)
   may_put o m owned looked none more mark again = quietly a slots id me one own known (at_word o.clean) (λ n. either (n == marked m) (packed x.port.control.here) n) (λ n p. owning p (port_put m n o))
       (PutsPort o m)
       (λ n. owned_quiet (λ p. port_put m n o))

@@ -1,5 +1,5 @@
 -- A machine claims words of the pool once in a call.
-use Rattle.partial_long_lived.proofs.Common.{ℕ, ◌≡◌, ◌+◌, ◌≤◌, ◌==◌, ◌⊎◌, Bool, true, false, cond, Option, Some, None, List, length, refl, sym, ap, subst, ◌∙◌, inl, inr, arith, option_map_or, some_same, Step, Load, Store, Exchange, Add, Layout, list_counter, list_head, pool_counter, slot_counter, slot_word, Change, Stage, Idle, ReadBegun, LoadingValue, UpdateBegun, GettingSet, Viewing, ClaimingRecord, StoringRecord, Exchanging, ScanBegun, StoringAnnouncement, Joining, Scanning, Leaving, Finished, CoreState, advance, advance_at, after_joining, at_stage, begin_getting, begin_joining, expects, fits_pool, getting, pool_refused, record_size, step_at, step_of, with_getting, IsSound, is_sound_at, IsBehind, before_claim, claim_of}
+use Rattle.partial_long_lived.proofs.Common.{ℕ, ◌≡◌, ◌+◌, ◌≤◌, ◌==◌, ◌⊎◌, Bool, true, false, cond, Option, Some, None, List, length, refl, sym, ap, subst, ◌∙◌, inl, inr, arith, option_map_or, some_same, Step, Load, Store, Exchange, Add, Layout, list_counter, list_head, pool_counter, slot_counter, slot_word, Change, Stage, Idle, ReadBegun, LoadingValue, UpdateBegun, GettingSet, Viewing, ClaimingRecord, StoringRecord, Exchanging, ScanBegun, StoringAnnouncement, Joining, Scanning, Leaving, Finished, CoreState, advance, advance_at, after_joining, at_stage, begin_getting, begin_joining, expects, fits_pool, getting, pool_refused, record_size, step_at, step_of, with_getting, IsSound, is_sound_at, LeavesComponents, before_claim, record_claim}
 use Rattle.partial_active.specs.declared.join.JoinStage.{JoinStage}
 use Rattle.partial_active.specs.declared.join.JoinStage.TheVariants.{Claiming, Storing, Joined, Spent}
 use Rattle.partial_active.specs.declared.get_set.Stage.{Stage as SetStage}
@@ -57,56 +57,57 @@ unclaimed_before s x = by s.stage refl
     by (Finished r) is h = sym (ap before_claim is) ∙ h
 
 -- where a record lies that is claimed: it has just been claimed there, or was before
-pub claimed_from : (s : CoreState) (x at : ℕ) → claim_of (advance s x).stage ≡ Some at → ((c : Change) × (old : ℕ) × (s.stage ≡ ClaimingRecord c old) × (at ≡ x)) ⊎ (claim_of s.stage ≡ Some at)
+pub claimed_from : (s : CoreState) (x at : ℕ) → record_claim (advance s x).stage ≡ Some at → ((c : Change) × (old : ℕ) × (s.stage ≡ ClaimingRecord c old) × (at ≡ x)) ⊎ (record_claim s.stage ≡ Some at)
 claimed_from s x at = by s.stage refl
   where
     R : Stage → Type 0
-    R t = ((c : Change) × (old : ℕ) × (t ≡ ClaimingRecord c old) × (at ≡ x)) ⊎ (claim_of t ≡ Some at)
+    R t = ((c : Change) × (old : ℕ) × (t ≡ ClaimingRecord c old) × (at ≡ x)) ⊎ (record_claim t ≡ Some at)
 
-    none : (t : Stage) (o : Option ℕ) → o ≡ None → o ≡ Some at → ((c : Change) × (old : ℕ) × (t ≡ ClaimingRecord c old) × (at ≡ x)) ⊎ (claim_of t ≡ Some at)
+    none : (t : Stage) (o : Option ℕ) → o ≡ None → o ≡ Some at → ((c : Change) × (old : ℕ) × (t ≡ ClaimingRecord c old) × (at ≡ x)) ⊎ (record_claim t ≡ Some at)
     none t o is h = let bad : None ≡ Some at = sym is ∙ h in cc
 
-    two : (c : Bool) (a b : CoreState) → claim_of a.stage ≡ None → claim_of b.stage ≡ None → claim_of (cond c a b).stage ≡ None
+    two : (c : Bool) (a b : CoreState) → record_claim a.stage ≡ None → record_claim b.stage ≡ None → record_claim (cond c a b).stage ≡ None
     two true a b p q = p
     two false a b p q = q
 
-    two_stages : (c : Bool) (a b : Stage) → claim_of a ≡ None → claim_of b ≡ None → claim_of (cond c a b) ≡ None
+    two_stages : (c : Bool) (a b : Stage) → record_claim a ≡ None → record_claim b ≡ None → record_claim (cond c a b) ≡ None
     two_stages true a b p q = p
     two_stages false a b p q = q
 
-    scans : (s : CoreState) (o : Option Step) (a b : Stage) → s.stage ≡ a → claim_of a ≡ None → claim_of b ≡ None → claim_of (option_map_or (λ _. s) o (at_stage s b)).stage ≡ None
+    scans : (s : CoreState) (o : Option Step) (a b : Stage) → s.stage ≡ a → record_claim a ≡ None → record_claim b ≡ None → record_claim (option_map_or (λ _. s) o (at_stage s b)).stage ≡ None
     scans s None a b is p q = q
-    scans s (Some u) a b is p q = ap claim_of is ∙ p
+    scans s (Some u) a b is p q = ap record_claim is ∙ p
 
     gets : (s : CoreState) (o : Option Step) (c : Change) (old : ℕ) → s.stage ≡ GettingSet c old →
-        claim_of (option_map_or (λ _. s) o (record s { embedded = viewing.fresh s.sizes true; stage = cond (length s.found.indices == 0) (ClaimingRecord c old) (Viewing c old) })).stage ≡ None
+        record_claim (option_map_or (λ _. s) o (record s { embedded = viewing.fresh_view s.sizes true; stage = cond (length s.found.indices == 0) (ClaimingRecord c old) (Viewing c old) })).stage
+        ≡ None
     gets s None c old is = two_stages (length s.found.indices == 0) (ClaimingRecord c old) (Viewing c old) refl refl
-    gets s (Some u) c old is = ap claim_of is
+    gets s (Some u) c old is = ap record_claim is
 
-    joins : (s : CoreState) (j : JoinStage) → s.stage ≡ Joining → claim_of (after_joining s j).stage ≡ None
-    joins s Claiming is = ap claim_of is
-    joins s (Storing slot) is = ap claim_of is
+    joins : (s : CoreState) (j : JoinStage) → s.stage ≡ Joining → record_claim (after_joining s j).stage ≡ None
+    joins s Claiming is = ap record_claim is
+    joins s (Storing slot) is = ap record_claim is
     joins s (Joined slot) is = refl
     joins s Spent is = refl
 
-    by : (t : Stage) → s.stage ≡ t → claim_of (advance_at s t x).stage ≡ Some at → ((c : Change) × (old : ℕ) × (t ≡ ClaimingRecord c old) × (at ≡ x)) ⊎ (claim_of t ≡ Some at)
-    by Idle is h = inr (sym (ap claim_of is) ∙ h)
+    by : (t : Stage) → s.stage ≡ t → record_claim (advance_at s t x).stage ≡ Some at → ((c : Change) × (old : ℕ) × (t ≡ ClaimingRecord c old) × (at ≡ x)) ⊎ (record_claim t ≡ Some at)
+    by Idle is h = inr (sym (ap record_claim is) ∙ h)
     by (ReadBegun j) is h = none (ReadBegun j) _ refl h
     by (LoadingValue stamp) is h = none (LoadingValue stamp) _ refl h
     by (UpdateBegun c) is h = none (UpdateBegun c) _ (two (expects c x) (begin_getting s c x) (at_stage s (Finished (reply.Changed x))) refl refl) h
     by (GettingSet c old) is h =
-        let p : CoreState = with_getting s (finding.advance (getting s) x) in
-        none (GettingSet c old) (claim_of (advance_at s (GettingSet c old) x).stage) (gets p (finding.step_of p.get_set) c old is) h
+        let p : CoreState = with_getting s (finding.advance_set (getting s) x) in
+        none (GettingSet c old) (record_claim (advance_at s (GettingSet c old) x).stage) (gets p (finding.set_step_due p.get_set) c old is) h
     by (Viewing c old) is h = none (Viewing c old) _ (scans _ _ (Viewing c old) (ClaimingRecord c old) is refl refl) h
     by (ClaimingRecord c old) is h = claims (fits_pool s.sizes (record_size s) x) h
       where
-        claims : (b : Bool) → claim_of (cond b (at_stage s (StoringRecord c old x 0)) (pool_refused s)).stage ≡ Some at →
-            ((d : Change) × (o : ℕ) × (ClaimingRecord c old ≡ ClaimingRecord d o) × (at ≡ x)) ⊎ (claim_of (ClaimingRecord c old) ≡ Some at)
+        claims : (b : Bool) → record_claim (cond b (at_stage s (StoringRecord c old x 0)) (pool_refused s)).stage ≡ Some at →
+            ((d : Change) × (o : ℕ) × (ClaimingRecord c old ≡ ClaimingRecord d o) × (at ≡ x)) ⊎ (record_claim (ClaimingRecord c old) ≡ Some at)
         claims true h = inl (c, old, refl, sym (some_same h))
         claims false h = let bad : None ≡ Some at = h in cc
     by (StoringRecord c old at' k) is h = stores (k + 1 == record_size s) h
       where
-        stores : (b : Bool) → claim_of (cond b (Exchanging c old at') (StoringRecord c old at' (k + 1))) ≡ Some at →
+        stores : (b : Bool) → record_claim (cond b (Exchanging c old at') (StoringRecord c old at' (k + 1))) ≡ Some at →
             ((d : Change) × (o : ℕ) × (StoringRecord c old at' k ≡ ClaimingRecord d o) × (at ≡ x)) ⊎ (Some at' ≡ Some at)
         stores true h = inr h
         stores false h = inr h
@@ -116,10 +117,10 @@ claimed_from s x at = by s.stage refl
     by Joining is h = none Joining _ (joins _ _ is) h
     by Scanning is h = none Scanning _ (scans _ _ Scanning Leaving is refl refl) h
     by Leaving is h = none Leaving _ refl h
-    by (Finished r) is h = inr (sym (ap claim_of is) ∙ h)
+    by (Finished r) is h = inr (sym (ap record_claim is) ∙ h)
 
 -- a step of an embedded scan is no claim
-scan_never : (z : Layout) (indices last : List ℕ) (t : ScanStage) (w n : ℕ) (R : Type 0) → viewing.step_at z indices last t ≡ Some (Add w n) → R
+scan_never : (z : Layout) (indices last : List ℕ) (t : ScanStage) (w n : ℕ) (R : Type 0) → viewing.view_step_at z indices last t ≡ Some (Add w n) → R
 scan_never z indices last (scan.Collect k) w n R is = let bad : Load _ ≡ Add w n = some_same is in cc
 scan_never z indices last (scan.View stamp) w n R is = let bad : Load _ ≡ Add w n = some_same is in cc
 scan_never z indices last (scan.Len at) w n R is = let bad : Load _ ≡ Add w n = some_same is in cc
@@ -129,7 +130,7 @@ scan_never z indices last (scan.Value k) w n R is = let bad : Load _ ≡ Add w n
 scan_never z indices last scan.Done w n R is = cc
 
 -- a claim of a getSet is one of list words
-set_claims : (y : Layout) (head : ℕ) (t : SetStage) (w n : ℕ) → finding.step_at y head t ≡ Some (Add w n) → w ≡ list_counter y
+set_claims : (y : Layout) (head : ℕ) (t : SetStage) (w n : ℕ) → finding.set_step_at y head t ≡ Some (Add w n) → w ≡ list_counter y
 set_claims y head set.Head w n is = cc
 set_claims y head (set.ListLen at) w n is = cc
 set_claims y head (set.ListLow at left) w n is = cc
@@ -201,7 +202,7 @@ pool_claims c z sound sizes w n due pool = by c.stage refl sound.stage due
     by (Finished r) at ok is = let bad : None ≡ Some (Add w n) = is in cc
 
 -- nor an exchange
-scan_exchanges : (z : Layout) (indices last : List ℕ) (t : ScanStage) (w old new : ℕ) (R : Type 0) → viewing.step_at z indices last t ≡ Some (Exchange w old new) → R
+scan_exchanges : (z : Layout) (indices last : List ℕ) (t : ScanStage) (w old new : ℕ) (R : Type 0) → viewing.view_step_at z indices last t ≡ Some (Exchange w old new) → R
 scan_exchanges z indices last (scan.Collect k) w old new R is = let bad : Load _ ≡ Exchange w old new = some_same is in cc
 scan_exchanges z indices last (scan.View stamp) w old new R is = let bad : Load _ ≡ Exchange w old new = some_same is in cc
 scan_exchanges z indices last (scan.Len at) w old new R is = let bad : Load _ ≡ Exchange w old new = some_same is in cc
@@ -211,7 +212,7 @@ scan_exchanges z indices last (scan.Value k) w old new R is = let bad : Load _ �
 scan_exchanges z indices last scan.Done w old new R is = cc
 
 -- a getSet exchanges the list head
-set_exchanges : (y : Layout) (head : ℕ) (t : SetStage) (w old new : ℕ) → finding.step_at y head t ≡ Some (Exchange w old new) → w ≡ list_head y
+set_exchanges : (y : Layout) (head : ℕ) (t : SetStage) (w old new : ℕ) → finding.set_step_at y head t ≡ Some (Exchange w old new) → w ≡ list_head y
 set_exchanges y head set.Head w old new is = cc
 set_exchanges y head (set.ListLen at) w old new is = cc
 set_exchanges y head (set.ListLow at left) w old new is = cc
@@ -233,7 +234,7 @@ join_exchanges y at (Joined slot) w old new R is = cc
 join_exchanges y at Spent w old new R is = cc
 
 -- a step that exchanges no component word or adds to a word stands behind the component words
-pub inner_word : (c : CoreState) (z : Layout) → IsSound c → c.sizes ≡ z → IsQuiet c.stage → (s : Step) → step_of c ≡ Some s → IsBehind z s
+pub inner_word : (c : CoreState) (z : Layout) → IsSound c → c.sizes ≡ z → IsQuiet c.stage → (s : Step) → step_of c ≡ Some s → LeavesComponents z s
 inner_word c z sound sizes quiet (Load w) due = tt
 inner_word c z sound sizes quiet (Store w v) due = tt
 inner_word c z sound sizes quiet (Exchange w old new) due = by c.stage refl sound.stage quiet due

@@ -1,5 +1,5 @@
 -- A memory that is closed: the ports that were handed in, and the last state.
-use Rattle.partial_long_lived.proofs.Common.{ℕ, ◌≡◌, ◌<◌, ◌++◌, List, [], ◌∷◌, length, sym, ap, subst, ◌∙◌, append_assoc, append-nil, arith, take, AllByRecursion, take-append_seam, nil_from_length, some, get_elem?, State, Me, TableId, Applied, IsHistory, value_of, LegalNotes, EachOnce, all_back, all_front, all_weaker, Port, one_history, epochs_fit_one_history, About, Shape, IsKept, IsSeat, Seated, plan_of, IsShapeOf, bare, shape_plan, AreByOpened, IsOf, MemoryView, PortView, port_view, seen_in, HaveLast, ReadsLast, value_now}
+use Rattle.partial_long_lived.proofs.Common.{ℕ, ◌≡◌, ◌<◌, ◌++◌, List, [], ◌∷◌, length, sym, ap, subst, ◌∙◌, append_assoc, append-nil, arith, take, AllByRecursion, take-append_seam, nil_from_length, some, get_elem?, State, Me, TableId, Applied, IsHistory, value_of, LegalNotes, EachOnce, all_back, all_front, all_weaker, Port, one_history, epochs_fit_one_history, About, Shape, IsRuleKept, IsSeat, SeatedPort, plan_of, IsShapeOf, bare, shape_plan, AreByOpened, IsOf, MemoryView, PortView, port_view, seen_in, HaveLast, ReadsLast, value_now}
 use Rattle.std.proofs.Common.{slice_index}
 use Rattle.partial_long_lived.specs.Closing.{Closes, IsPortOf}
 use Rattle.partial_long_lived.proofs.Current.{have_last, value_last}
@@ -7,31 +7,32 @@ use Rattle.partial_long_lived.proofs.Seen.{seen_begins}
 use Rattle.partial_long_lived.proofs.Views.{around}
 
 -- the ports of these seats are ports of that history, as callers see them
-abbrev pub ArePortsOf : TableId → List Applied → List Seated → Type 0
+abbrev pub ArePortsOf : TableId → List Applied → List SeatedPort → Type 0
 ArePortsOf t log v = AllByRecursion (λ x. IsPortOf log (port_view t x)) v
 
 -- The ports taken in so far, of all that were handed in, are those of the seat: callers saw the first one and then these.
-pub record Taken (t : TableId) (port : PortView) (all rest : List PortView) (v : List Seated) : Type 0 where
+pub record Taken (t : TableId) (port : PortView) (all rest : List PortView) (v : List SeatedPort) : Type 0 where
   pub taken : List PortView
   pub is : all ≡ rest ++ taken
   pub each : (log : List Applied) → ArePortsOf t log v → IsPortOf log port × AllByRecursion (IsPortOf log) taken
 
-pub taken_none : {S : Type 0} (me : Me S (List Seated)) (t : TableId) (x : Seated) (port : PortView) (all : List PortView) → me ≡ (x ∷ [], []) → port_view t x ≡ port → Taken t port all all me.0
+pub taken_none : {S : Type 0} (me : Me S (List SeatedPort)) (t : TableId) (x : SeatedPort) (port : PortView) (all : List PortView) → me ≡ (x ∷ [], []) → port_view t x ≡ port →
+    Taken t port all all me.0
 taken_none {S} me t x port all is seen = record {
   taken = [];
   is = sym (append-nil all);
-  each = λ log w. (subst (IsPortOf log) seen (subst (λ (m : Me S (List Seated)). ArePortsOf t log m.0) is w).0, tt);
+  each = λ log w. (subst (IsPortOf log) seen (subst (λ (m : Me S (List SeatedPort)). ArePortsOf t log m.0) is w).0, tt);
 }
 
-pub taken_more : {S : Type 0} (me : Me S (List Seated)) (t : TableId) (x : Seated) (port p : PortView) (all rest less : List PortView) (v w : List Seated) → Taken t port all rest v →
+pub taken_more : {S : Type 0} (me : Me S (List SeatedPort)) (t : TableId) (x : SeatedPort) (port p : PortView) (all rest less : List PortView) (v w : List SeatedPort) → Taken t port all rest v →
     rest ≡ less ++ p ∷ [] → me ≡ (x ∷ [], []) → port_view t x ≡ p → w ≡ v ++ me.0 → Taken t port all less w
 taken_more {S} me t x port p all rest less v w had pop is seen join = record {
   taken = p ∷ had.taken;
   is = had.is ∙ ap (λ l. l ++ had.taken) pop ∙ append_assoc less (p ∷ []) had.taken;
   each = λ log looked.
       let both : ArePortsOf t log (v ++ me.0) = subst (ArePortsOf t log) join looked in
-      let back = subst (λ (m : Me S (List Seated)). ArePortsOf t log m.0) is (all_back (λ (y : Seated). IsPortOf log (port_view t y)) v me.0 both) in
-      let g = had.each log (all_front (λ (y : Seated). IsPortOf log (port_view t y)) v me.0 both) in
+      let back = subst (λ (m : Me S (List SeatedPort)). ArePortsOf t log m.0) is (all_back (λ (y : SeatedPort). IsPortOf log (port_view t y)) v me.0 both) in
+      let g = had.each log (all_front (λ (y : SeatedPort). IsPortOf log (port_view t y)) v me.0 both) in
       (g.0, (subst (IsPortOf log) seen back.0, g.1));
 }
 
@@ -42,7 +43,7 @@ of_last m rest less p w is =
     (all_front (IsOf m) less (p ∷ []) v, last.0)
 
 -- the last state: one history, of which all ports of the seat are ports, and after which the words have these values
-pub record Ends (about : About) (words : List ℕ) (v : List Seated) : Type 0 where
+pub record Ends (about : About) (words : List ℕ) (v : List SeatedPort) : Type 0 where
   pub log : List Applied
   pub history : IsHistory about.opening log
   pub others : AreByOpened about log
@@ -52,7 +53,7 @@ pub record Ends (about : About) (words : List ℕ) (v : List Seated) : Type 0 wh
   pub values : (j : ℕ) → j < about.sizes.m → slice_index words (value_now (plan_of about) words j) ≡ value_of about.opening log j
 
 -- each seat is one of a port of the history
-seat_of : {S : Type 0} (about : About) (s : State S (List Seated)) (kept : IsKept about s) (t : TableId) (x : Seated) → IsSeat about kept.ports kept.notes kept.beside kept.since x →
+seat_of : {S : Type 0} (about : About) (s : State S (List SeatedPort)) (kept : IsRuleKept about s) (t : TableId) (x : SeatedPort) → IsSeat about kept.ports kept.notes kept.beside kept.since x →
     IsPortOf (one_history kept.beside) (port_view t x)
 seat_of about s kept t x w =
     let f = epochs_fit_one_history (plan_of about) s.words kept.ports kept.beside kept.notes kept.lawful in
@@ -65,10 +66,10 @@ seat_of about s kept t x w =
       once = subst (EachOnce (one_history kept.beside) x.number) (sym w.noted) (f.once x.number w.number);
     }
 
-pub ends : {S : Type 0} (about : About) (v : List Seated) (id : ℕ) (words : List ℕ) (s : State S (List Seated)) → IsKept about s → get_elem? s.views id ≡ some v → s.words ≡ words →
+pub ends : {S : Type 0} (about : About) (v : List SeatedPort) (id : ℕ) (words : List ℕ) (s : State S (List SeatedPort)) → IsRuleKept about s → get_elem? s.views id ≡ some v → s.words ≡ words →
     Ends about words v
 ends about v id words s kept at same =
-    let P : Seated → Type 0 = IsSeat about kept.ports kept.notes kept.beside kept.since in
+    let P : SeatedPort → Type 0 = IsSeat about kept.ports kept.notes kept.beside kept.since in
     let r = around s.views id v at in
     let here : AllByRecursion P v = all_front P v r.behind (all_back P r.before (v ++ r.behind) (subst (AllByRecursion P) r.now kept.seats)) in
     let f = epochs_fit_one_history (plan_of about) s.words kept.ports kept.beside kept.notes kept.lawful in
@@ -76,7 +77,7 @@ ends about v id words s kept at same =
       log = one_history kept.beside;
       history = f.history;
       others = f.by_ports;
-      each = λ t. all_weaker P (λ (x : Seated). IsPortOf (one_history kept.beside) (port_view t x)) (seat_of about s kept t) v here;
+      each = λ t. all_weaker P (λ (x : SeatedPort). IsPortOf (one_history kept.beside) (port_view t x)) (seat_of about s kept t) v here;
       many = kept.lawful.epochs.plan.values;
       have = have_last (plan_of about) s.words kept.ports kept.beside kept.lawful.epochs;
       values = value_last (plan_of about) s.words kept.ports kept.beside kept.lawful.epochs;
@@ -86,7 +87,7 @@ ends about v id words s kept at same =
 pub have_shape : (s : Shape) (about : About) (words : List ℕ) → IsShapeOf s about → HaveLast (plan_of about) words → HaveLast (shape_plan s bare) words
 have_shape s about words is w = let t = subst (λ e. HaveLast e words) is w in record { some = t.some; arena = t.arena; components = t.components; values = t.values }
 
-pub closes : (m : MemoryView) (s : Shape) (port : PortView) (all rest : List PortView) (v : List Seated) (words values : List ℕ) → (e : Ends m.about words v) → Taken m.table port all rest v →
+pub closes : (m : MemoryView) (s : Shape) (port : PortView) (all rest : List PortView) (v : List SeatedPort) (words values : List ℕ) → (e : Ends m.about words v) → Taken m.table port all rest v →
     length rest ≡ 0 → IsShapeOf s m.about → ReadsLast (shape_plan s bare) words values → Closes m (port ∷ all) values
 closes m s port all rest v words values e had empty is read =
     let taken : all ≡ had.taken = had.is ∙ ap (λ l. l ++ had.taken) (nil_from_length rest empty) in

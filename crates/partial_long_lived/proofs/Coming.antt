@@ -1,14 +1,14 @@
 -- A port between the parts of a call: it stands where it stood, or has come to a later epoch.
-use Rattle.partial_long_lived.proofs.Common.{ℕ, ◌≡◌, ◌<◌, ◌≤◌, ◌&&◌, ◌++◌, not, Bool, true, false, cond, Some, List, [], ◌∷◌, length, refl, sym, ap, subst, ◌∙◌, inl, inr, arith, append-nil, append_assoc, length-append, nat_lt, TableId, Applied, value_of, Noted, fresh, core_of, seal, unsealed, not_below, public_of, About, Stand, Began, Seated, plan_of, seen_in, Begins, Goes, IsHeld, port_at, Sees, Wish, noted_by, opening_of, place_seen, stamp_seen, value_seen, Reads, HasCome, HasRead, HasValue, IsIdle, Kept, Settled}
+use Rattle.partial_long_lived.proofs.Common.{ℕ, ◌≡◌, ◌<◌, ◌≤◌, ◌&&◌, ◌++◌, not, Bool, true, false, cond, Some, List, [], ◌∷◌, length, refl, sym, ap, subst, ◌∙◌, inl, inr, arith, append-nil, append_assoc, length-append, nat_lt, TableId, Applied, value_of, Noted, fresh, core_of, seal, unsealed, not_below, public_of, About, Stand, Began, SeatedPort, plan_of, seen_in, BeginsWith, SeatGoes, IsHeld, port_at, SeatSees, Wish, noted_by, opening_of, place_seen, stamp_seen, value_seen, Reads, HasCome, HasNotedRead, HasValue, IsIdle, StaysAt, Settled}
 use Rattle.partial_model.specs.declared.call.Call.TheVariants as call
 use Rattle.partial_model.specs.declared.call.Answer.TheVariants as answer
 use Rattle.partial_model.specs.declared.call.Note.TheVariants as note
 
-pub begins_on : (h l m : List Applied) → Begins h l → Begins l m → Begins h m
+pub begins_on : (h l m : List Applied) → BeginsWith h l → BeginsWith l m → BeginsWith h m
 begins_on h l m a c = (a.0 ++ c.0, c.1 ∙ ap (λ (t : List Applied). t ++ c.0) a.1 ∙ append_assoc h a.0 c.0)
 
 -- steps follow on steps
-pub goes_on : (x y z : Seated) → Goes x y → Goes y z → Goes x z
+pub goes_on : (x y z : SeatedPort) → SeatGoes x y → SeatGoes y z → SeatGoes x z
 goes_on x y z a c = record {
   about = c.about ∙ a.about;
   number = c.number ∙ a.number;
@@ -17,7 +17,7 @@ goes_on x y z a c = record {
 }
 
 -- a port has seen no less than before
-pub seen_more : (x y : Seated) → Goes x y → length (seen_in x.port) ≤ length (seen_in y.port)
+pub seen_more : (x y : SeatedPort) → SeatGoes x y → length (seen_in x.port) ≤ length (seen_in y.port)
 seen_more x y goes =
     let all = ap (λ (l : List Applied). length l) goes.seen.1 in
     let both = length-append (seen_in x.port) goes.seen.0 in
@@ -34,16 +34,16 @@ come_itself table about s h idle = record {
 }
 
 -- a port that has seen more stands where it stood
-pub come_seen : (s u v : Stand) (first : Bool) (wish : Wish) (j a : ℕ) → HasCome s u → Kept u v → Sees first wish j (port_at u) a (port_at v) → HasCome s v
+pub come_seen : (s u v : Stand) (first : Bool) (wish : Wish) (j a : ℕ) → HasCome s u → StaysAt u v → SeatSees first wish j (port_at u) a (port_at v) → HasCome s v
 come_seen s u v first wish j a come kept w =
     let is = w.is in
-    let core : core_of (port_at v).port.part ≡ core_of (port_at u).port.part = ap (λ (x : Seated). core_of x.port.part) is in
-    let over : (port_at v).port.over ≡ (port_at u).port.over = ap (λ (x : Seated). x.port.over) is in
+    let core : core_of (port_at v).port.part ≡ core_of (port_at u).port.part = ap (λ (x : SeatedPort). core_of x.port.part) is in
+    let over : (port_at v).port.over ≡ (port_at u).port.over = ap (λ (x : SeatedPort). x.port.over) is in
     record {
       shape = kept.shape ∙ come.shape;
       number = kept.number ∙ come.number;
       goes = goes_on (port_at s) (port_at u) (port_at v) come.goes kept.goes;
-      idle = record { stands = ap (λ (x : Seated). x.port.control.entering) is ∙ come.idle.stands; free = ap (λ (x : Seated). x.port.control.owned) is ∙ come.idle.free };
+      idle = record { stands = ap (λ (x : SeatedPort). x.port.control.entering) is ∙ come.idle.stands; free = ap (λ (x : SeatedPort). x.port.control.owned) is ∙ come.idle.free };
       machine = elim come.machine [
         | inl same ↦ inl (kept.epoch ∙ same.0, core ∙ same.1, over ∙ same.2)
         | inr later ↦ inr (let up = later.0 in let epoch = kept.epoch in omega (arith, up, epoch), core ∙ later.1, over ∙ later.2)
@@ -51,15 +51,19 @@ come_seen s u v first wish j a come kept w =
     }
 
 -- and so does one of which nothing has changed
-pub come_same : (s u v : Stand) → HasCome s u → Kept u v → port_at v ≡ port_at u → HasCome s v
+pub come_same : (s u v : Stand) → HasCome s u → StaysAt u v → port_at v ≡ port_at u → HasCome s v
 come_same s u v come kept is = record {
   shape = kept.shape ∙ come.shape;
   number = kept.number ∙ come.number;
   goes = goes_on (port_at s) (port_at u) (port_at v) come.goes kept.goes;
-  idle = record { stands = ap (λ (x : Seated). x.port.control.entering) is ∙ come.idle.stands; free = ap (λ (x : Seated). x.port.control.owned) is ∙ come.idle.free };
+  idle = record { stands = ap (λ (x : SeatedPort). x.port.control.entering) is ∙ come.idle.stands; free = ap (λ (x : SeatedPort). x.port.control.owned) is ∙ come.idle.free };
   machine = elim come.machine [
-    | inl same ↦ inl (kept.epoch ∙ same.0, ap (λ (x : Seated). core_of x.port.part) is ∙ same.1, ap (λ (x : Seated). x.port.over) is ∙ same.2)
-    | inr later ↦ inr (let up = later.0 in let epoch = kept.epoch in omega (arith, up, epoch), ap (λ (x : Seated). core_of x.port.part) is ∙ later.1, ap (λ (x : Seated). x.port.over) is ∙ later.2)
+    | inl same ↦ inl (kept.epoch ∙ same.0, ap (λ (x : SeatedPort). core_of x.port.part) is ∙ same.1, ap (λ (x : SeatedPort). x.port.over) is ∙ same.2)
+    | inr later ↦ inr (
+      let up = later.0 in let epoch = kept.epoch in omega (arith, up, epoch),
+      ap (λ (x : SeatedPort). core_of x.port.part) is ∙ later.1,
+      ap (λ (x : SeatedPort). x.port.over) is ∙ later.2,
+    )
   ];
 }
 
@@ -86,19 +90,19 @@ come_on s u v a c = record {
 }
 
 -- What a read has loaded last: it stands in an epoch that was the current one during the read, and has noted its answer.
-module _ (table : TableId) (about : About) (s u v t : Stand) (h : IsHeld table about v) (come : HasCome s u) (kept : Kept u v) (first : Bool) (j a : ℕ)
-    (w : Sees first Reads j (port_at u) a (port_at v))
+module _ (table : TableId) (about : About) (s u v t : Stand) (h : IsHeld table about v) (come : HasCome s u) (kept : StaysAt u v) (first : Bool) (j a : ℕ)
+    (w : SeatSees first Reads j (port_at u) a (port_at v))
     (fresh_now : (port_at v).began.epoch ≤ (port_at u).port.control.here.epoch) (noted : (first && not (nat_lt a seal)) ≡ false) (notes : (port_at u).notes ≡ (port_at s).notes)
-    (began : length (seen_in (port_at s).port) ≤ (port_at v).began.length) (kept' : Kept v t) (same : port_at t ≡ port_at v) (value stamp : ℕ) (is_value : HasValue v j value)
+    (began : length (seen_in (port_at s).port) ≤ (port_at v).began.length) (kept' : StaysAt v t) (same : port_at t ≡ port_at v) (value stamp : ℕ) (is_value : HasValue v j value)
     (is_stamp : stamp ≡ public_of (plan_of about) (port_at v).port.before j (unsealed a)) where
   log_is : (port_at v).port.part.seen ≡ w.log
-  log_is = ap (λ (x : Seated). x.port.part.seen) w.is
+  log_is = ap (λ (x : SeatedPort). x.port.part.seen) w.is
 
   before_is : (port_at v).port.before ≡ (port_at u).port.before
-  before_is = ap (λ (x : Seated). x.port.before) w.is
+  before_is = ap (λ (x : SeatedPort). x.port.before) w.is
 
   answer_value : value ≡ value_seen (port_at u) w.log j
-  answer_value = is_value ∙ ap (λ (x : Seated). value_of (opening_of x) x.port.part.seen j) w.is
+  answer_value = is_value ∙ ap (λ (x : SeatedPort). value_of (opening_of x) x.port.part.seen j) w.is
 
   answer_stamp : stamp ≡ stamp_seen (port_at u) w.log j
   answer_stamp =
@@ -107,24 +111,24 @@ module _ (table : TableId) (about : About) (s u v t : Stand) (h : IsHeld table a
       ∙ ap (public_of (plan_of (port_at u).about) (port_at u).port.before j) w.stamp
 
   place_is_seen : place_seen (port_at u) w.log ≡ length (seen_in (port_at v).port)
-  place_is_seen = ap (λ (x : Seated). length (seen_in x.port)) (sym w.is)
+  place_is_seen = ap (λ (x : SeatedPort). length (seen_in x.port)) (sym w.is)
 
   noted_then : (port_at v).notes ≡ (port_at u).notes ++ record {
     call = call.Read j;
     answer = answer.Read (value_seen (port_at u) w.log j) (stamp_seen (port_at u) w.log j);
     note = Some (note.Saw (place_seen (port_at u) w.log));
   } ∷ []
-  noted_then = ap (λ (x : Seated). x.notes) w.is ∙ ap (λ (c : Bool). (port_at u).notes ++ cond c [] (noted_by Reads (port_at u) w.log j)) noted
+  noted_then = ap (λ (x : SeatedPort). x.notes) w.is ∙ ap (λ (c : Bool). (port_at u).notes ++ cond c [] (noted_by Reads (port_at u) w.log j)) noted
 
-  pub has_read : HasRead s t j value stamp
+  pub has_read : HasNotedRead s t j value stamp
   has_read =
-      let n : (port_at v).began ≡ w.n = ap (λ (x : Seated). x.began) w.is in
+      let n : (port_at v).began ≡ w.n = ap (λ (x : SeatedPort). x.began) w.is in
       let time = w.time (let f = fresh_now in let even = ap (λ (g : Began). g.epoch) n in omega (arith, f, even)) in
       let place = place_is_seen in
       let len = ap (λ (g : Began). g.length) n in
       record {
         come = come_same s v t (come_seen s u v first Reads j a come kept w) kept' same;
-        notes = ap (λ (x : Seated). x.notes) same ∙ noted_then
+        notes = ap (λ (x : SeatedPort). x.notes) same ∙ noted_then
             ∙ ap (λ (l : List Noted). l ++ record {
               call = call.Read j;
               answer = answer.Read (value_seen (port_at u) w.log j) (stamp_seen (port_at u) w.log j);
@@ -134,15 +138,15 @@ module _ (table : TableId) (about : About) (s u v t : Stand) (h : IsHeld table a
             (sym answer_value)
             ∙ ap (λ n. (port_at s).notes ++ record { call = call.Read j; answer = answer.Read value n; note = Some (note.Saw (place_seen (port_at u) w.log)) } ∷ []) (sym answer_stamp)
             ∙ ap (λ n. (port_at s).notes ++ record { call = call.Read j; answer = answer.Read value stamp; note = Some (note.Saw n) } ∷ [])
-            (place ∙ ap (λ (x : Seated). length (seen_in x.port)) (sym same));
-        first = let same_began = ap (λ (x : Seated). x.began.length) same in omega (arith, began, same_began);
+            (place ∙ ap (λ (x : SeatedPort). length (seen_in x.port)) (sym same));
+        first = let same_began = ap (λ (x : SeatedPort). x.began.length) same in omega (arith, began, same_began);
         behind =
-            let same_began = ap (λ (x : Seated). x.began.length) same in
-            let same_seen = ap (λ (x : Seated). length (seen_in x.port)) same in
+            let same_began = ap (λ (x : SeatedPort). x.began.length) same in
+            let same_seen = ap (λ (x : SeatedPort). length (seen_in x.port)) same in
             omega (arith, time, place, len, same_began, same_seen);
       }
 
-pub kept_on : (u v t : Stand) → Kept u v → Kept v t → Kept u t
+pub kept_on : (u v t : Stand) → StaysAt u v → StaysAt v t → StaysAt u t
 kept_on u v t a c = record {
   shape = c.shape ∙ a.shape;
   number = c.number ∙ a.number;
@@ -154,43 +158,44 @@ kept_on u v t a c = record {
 }
 
 -- the end of a read, whose last load led to the stand v with the answer a
-module _ (table : TableId) (about : About) (s u v : Stand) (h : IsHeld table about v) (come : HasCome s u) (kept : Kept u v) (first : Bool) (j a : ℕ) (w : Sees first Reads j (port_at u) a (port_at v))
+module _ (table : TableId) (about : About) (s u v : Stand) (h : IsHeld table about v) (come : HasCome s u) (kept : StaysAt u v) (first : Bool) (j a : ℕ)
+    (w : SeatSees first Reads j (port_at u) a (port_at v))
     (fresh_now : (port_at v).began.epoch ≤ (port_at u).port.control.here.epoch) (noted : (first && not (nat_lt a seal)) ≡ false) (notes : (port_at u).notes ≡ (port_at s).notes)
     (began : length (seen_in (port_at s).port) ≤ (port_at v).began.length) where
-  pub read_ends : (z t t' : Stand) (found value stamp : ℕ) → z ≡ v → found ≡ a → Kept z t → port_at t ≡ port_at z → HasValue z j value → Kept t t' → port_at t' ≡ port_at t →
-      stamp ≡ public_of (plan_of about) (port_at t).port.before j (unsealed found) → HasRead s t' j value stamp
+  pub read_ends : (z t t' : Stand) (found value stamp : ℕ) → z ≡ v → found ≡ a → StaysAt z t → port_at t ≡ port_at z → HasValue z j value → StaysAt t t' → port_at t' ≡ port_at t →
+      stamp ≡ public_of (plan_of about) (port_at t).port.before j (unsealed found) → HasNotedRead s t' j value stamp
   read_ends z t t' found value stamp is same kept1 same1 is_value kept2 same2 is_stamp =
-      let kept1' = subst (λ (z : Stand). Kept z t) is kept1 in
+      let kept1' = subst (λ (z : Stand). StaysAt z t) is kept1 in
       let same1' = same1 ∙ ap port_at is in
       has_read table about s u v t' h come kept first j a w fresh_now noted notes began (kept_on v t t' kept1' kept2) (same2 ∙ same1') value stamp
       (subst (λ (z : Stand). HasValue z j value) is is_value)
-      (is_stamp ∙ ap (λ (x : Seated). public_of (plan_of about) x.port.before j (unsealed found)) same1' ∙ ap (λ n. public_of (plan_of about) (port_at v).port.before j (unsealed n)) same)
+      (is_stamp ∙ ap (λ (x : SeatedPort). public_of (plan_of about) x.port.before j (unsealed found)) same1' ∙ ap (λ n. public_of (plan_of about) (port_at v).port.before j (unsealed n)) same)
 
 -- the first load of a read, which found its component sealed
-module _ (table : TableId) (about : About) (s r u v : Stand) (h : IsHeld table about s) (idle : IsIdle s) (kept : Kept s r) (j a : ℕ) (w : Sees true Reads j (port_at s) a (port_at r))
+module _ (table : TableId) (about : About) (s r u v : Stand) (h : IsHeld table about s) (idle : IsIdle s) (kept : StaysAt s r) (j a : ℕ) (w : SeatSees true Reads j (port_at s) a (port_at r))
     (sealed : seal ≤ a)
-    (settled : Settled r u) (held : IsHeld table about u) (c : ℕ) (last : Sees false Reads j (port_at u) c (port_at v)) where
+    (settled : Settled r u) (held : IsHeld table about u) (c : ℕ) (last : SeatSees false Reads j (port_at u) c (port_at v)) where
   pub settled_come : HasCome s u
   settled_come = come_on s r u (come_seen s s r true Reads j a (come_itself table about s h idle) kept w) settled.come
 
   pub settled_notes : (port_at u).notes ≡ (port_at s).notes
   settled_notes =
       let skip : (true && not (nat_lt a seal)) ≡ true = ap not (not_below a seal sealed) in
-      settled.notes ∙ ap (λ (x : Seated). x.notes) w.is ∙ ap (λ (t : Bool). (port_at s).notes ++ cond t [] (noted_by Reads (port_at s) w.log j)) skip ∙ append-nil (port_at s).notes
+      settled.notes ∙ ap (λ (x : SeatedPort). x.notes) w.is ∙ ap (λ (t : Bool). (port_at s).notes ++ cond t [] (noted_by Reads (port_at s) w.log j)) skip ∙ append-nil (port_at s).notes
 
   began_is : (port_at v).began ≡ (port_at r).began
-  began_is = ap (λ (x : Seated). x.began) last.is ∙ last.began ∙ settled.began
+  began_is = ap (λ (x : SeatedPort). x.began) last.is ∙ last.began ∙ settled.began
 
   pub settled_fresh : (port_at v).began.epoch ≤ (port_at u).port.control.here.epoch
   settled_fresh =
       let fresh_here = settled.fresh in
-      let same = ap (λ (g : Began). g.epoch) (ap (λ (x : Seated). x.began) last.is ∙ last.began) in
+      let same = ap (λ (g : Began). g.epoch) (ap (λ (x : SeatedPort). x.began) last.is ∙ last.began) in
       let epoch = held.epoch in
       omega (arith, fresh_here, same, epoch)
 
   pub settled_began : length (seen_in (port_at s).port) ≤ (port_at v).began.length
   settled_began =
       let first = w.began in
-      let n = ap (λ (x : Seated). x.began.length) w.is in
+      let n = ap (λ (x : SeatedPort). x.began.length) w.is in
       let same = ap (λ (g : Began). g.length) began_is in
       omega (arith, first, n, same)

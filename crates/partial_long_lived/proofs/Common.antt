@@ -17,13 +17,13 @@ pub use Rattle.partial_model.proofs.AllLemmas.{all_after, all_append, all_at, al
 pub use Rattle.partial_model.proofs.NotesLemmas.{AllByRecursion-get, LegalNotes-last, legal_notes_are_shown, LegalNotes-push, LegalNotes-grows}
 pub use Rattle.partial_words.specs.Layout.{Layout, first_free, list_base, pool_base, IsLayout, greatest_record, pool_end, list_counter, list_head, pool_counter, slot_counter, slot_word, total, initial_record, initial_words}
 pub use Rattle.partial_machine.specs.Machine.{CoreState, fresh, advance_at, at_stage, begin_getting, lists_spent, overtaken, reply_of, step_at, step_of, advance, after_joining, begin_joining, expects, fits_pool, getting, pool_refused, record_size, with_getting, scanned_values, reply_at}
-pub use Rattle.partial_machine.specs.Sound.{AreComponents, IsSound, is_sound_at, IsRecord}
+pub use Rattle.partial_machine.specs.Sound.{AreComponentIndices, IsSound, is_sound_at, IsRecord}
 pub use Rattle.partial_core.specs.Part.{IsBetween, IsMarkedLike, core_of, Part, first_at}
 pub use Rattle.partial_machine.specs.Calls.{is_at_rest, answer_for, call_of, update_call, is_begun}
 pub use Rattle.partial_epochs.specs.History.{public_stamp, history_of, public_entry, public_log, stamp_limit, opening_behind, carried_after, carried_behind}
 pub use Rattle.partial_epochs.specs.Lists.{put, list_of}
 pub use Rattle.partial_epochs.specs.Ports.{Port, Owned, Control, Entering, Epoch}
-pub use Rattle.partial_epochs.specs.Epochs.{Beside, LawfulEpochs, place_now, IsPlan, IsStanding, numbers, controls, next_word}
+pub use Rattle.partial_epochs.specs.Epochs.{Beside, LawfulEpochs, place_now, IsEpochPlan, IsStanding, numbers, controls, next_epoch_word}
 pub use Rattle.partial_epochs.specs.Time.{KeepsTime}
 pub use Rattle.partial_epochs.specs.Notes.{LawfulMemory, public_noted, one_history, having_seen, public_of, Reached, noting, ExpectedOne}
 pub use Rattle.partial_epochs.proofs.Lists.{put_other, put_same, at_of, put_all}
@@ -32,7 +32,7 @@ pub use Rattle.atomic_table.specs.Table.{Me, Allows, State, keeps, Joins, Splits
 pub use Rattle.partial_words.specs.Chain.{opening_word, initial_record_word}
 pub use Rattle.partial_epochs.specs.Layout.{Place, Plan, arena_limit, at_word, base, entering_mark, marked, own_word, packed, seal, set_word, unsealed, current_word, IsPlace, component_words, control_words, arena_words, IsSealed, plain, placed, whole, IsAsked, span}
 pub use Rattle.partial_epochs.specs.Ports.Entering.{Stands, Marks, Loaded}
-pub use Rattle.partial_epochs.specs.Publishing.{next_place, IsWhole, having_published, next_beside, having_set, vacated, resting}
+pub use Rattle.partial_epochs.specs.Publishing.{next_place, IsWholeArena, having_published, next_beside, having_set, vacated, resting}
 pub use Rattle.partial_epochs.specs.Sealing.{passing, IsBesideAs}
 pub use Rattle.partial_core.proofs.Added.{not_below}
 pub use Rattle.partial_epochs.proofs.Places.{below_whole, set_place, packed_arena}
@@ -51,7 +51,7 @@ pub use Rattle.partial_lines.specs.Replies.{RestsLike, update_reply, scan_reply}
 pub use Rattle.partial_epochs.proofs.Entering.{current_is, not_marked}
 pub use Rattle.partial_epochs.specs.Entering.{arrived, having_passed}
 pub use Rattle.partial_model.proofs.ListLemmas.{some_same}
-pub use Rattle.partial_epochs.specs.Control.{IsAt, MayPut, IsOld}
+pub use Rattle.partial_epochs.specs.Control.{IsPlaceWord, MayPut, IsOld}
 pub use Rattle.partial_epochs.specs.Owning.{cleaner, having_given, having_loaded, just_taken, owning, having_looked}
 pub use Rattle.partial_epochs.proofs.Laws.{gives_stay_lawful, loaded_marks_keep_time, marks_are_loaded, others_are_elsewhere, puts_keep_time, puts_stay_lawful, sealed_passes_stay_lawful, seals_stay_lawful, takes_stay_lawful, asides_keep_time, entries_keep_time, entries_load, looks_are_true, looks_keep_time, marks_keep_time, marks_stay_lawful, owners_look, owners_look_away, arrivals_keep_notes, arrivals_keep_time, arrivals_stay_lawful, components_name_records, epochs_are_histories, glances_stay_lawful, seen_records_stay, sights_stay_lawful, unsealed_is_present, machines_are_never_refused, notes_stay_lawful, steps_keep_places, machine_steps_stay_lawful, memories_open_lawful, openings_keep_time, publishes_keep_notes, publishes_keep_time, publishes_stay_lawful, sets_stay_lawful}
 pub use Rattle.partial_words.specs.declared.step.Step.{Step}
@@ -69,7 +69,7 @@ pub use Rattle.partial_words.specs.Step.{answer_of, word_of, words_after}
 pub use Rattle.partial_epochs.specs.MachineSteps.{HaveSlots, MachineLeads, MeetsSeal, ends_over, MayClaim}
 pub use Rattle.partial_epochs.specs.Opening.{OpensAll, first_beside, first_ports}
 pub use Rattle.partial_long_lived.specs.declared.rule.About.{About}
-pub use Rattle.partial_long_lived.specs.Rule.{newcomers, Began, Seated, one_in, Found, HasBegun, IsFinal, IsLast, IsSeat, IsSeen, IsSince, plan_of, IsKept, one_of, seats_of, first_of, flatten, others_of, newcomer}
+pub use Rattle.partial_long_lived.specs.Rule.{newcomers, Began, SeatedPort, one_in, Found, BeganInTime, IsFinal, IsLast, IsSeat, IsSeen, IsSince, plan_of, IsRuleKept, one_of, seats_of, first_port, flatten, further_ports, newcomer}
 pub use Rattle.partial_long_lived.specs.Ports.{IsOf, MemoryView, PortView, new_ports, port_view, seen_in, AreByOpened, Knows}
 pub use Rattle.partial_long_lived.specs.declared.error.Refused.{Refused}
 pub use Rattle.partial_long_lived.specs.declared.error.Refused.TheVariants.{Component, Overtaken, NoArena, EpochsSpent}
@@ -77,23 +77,23 @@ pub use Rattle.partial_long_lived.specs.declared.stand.Stand.{Stand}
 pub use Rattle.partial_long_lived.specs.declared.seating.Seating.{Seating}
 pub use Rattle.partial_long_lived.specs.Seating.{IsStandOf, IsSeatingOf}
 pub use Rattle.partial_long_lived.specs.Resting.{IsResting}
-pub use Rattle.partial_long_lived.specs.Inner.Steps.{Goes, IsKnown, IsOne, tells, Begins, HasStampsInWords}
+pub use Rattle.partial_long_lived.specs.Inner.Steps.{SeatGoes, IsSeatKnown, IsOne, tells, BeginsWith, HasStampsInWords}
 pub use Rattle.partial_long_lived.specs.Inner.Held.{IsHeld, epoch_at, port_at}
-pub use Rattle.partial_long_lived.specs.Inner.Calls.{HasCome, HasRead, IsIdle, Kept, Entered, Looked, HasValue, Settled, MayEnter}
-pub use Rattle.partial_long_lived.specs.Inner.Changing.{Changed, NotChanged, IsCarriedStamp, IsInitialValue, IsRight, IsSetting, MayPutPort, OfOwned, Owns, PutsBy, SetsLists, SetsNext, TakesBy, Works, Stays, HasTaken, HoldsMark, IsPast, Remains, IsCause, IsSame, HasLoadedPort, HasPassed}
-pub use Rattle.partial_long_lived.specs.Inner.Scans.{HasScanned, RestsUnmarked, ScanMade, noted_scan, SettledFirst}
+pub use Rattle.partial_long_lived.specs.Inner.Calls.{HasCome, HasNotedRead, IsIdle, StaysAt, Entered, Looked, HasValue, Settled, MayEnter}
+pub use Rattle.partial_long_lived.specs.Inner.Changing.{Changed, NotChanged, IsCarriedStamp, IsInitialValue, IsRight, IsFixedWord, MayPutPort, OfOwned, Owns, PutsBy, SetsLists, SetsNext, TakesBy, HasSetWords, Stays, HasTaken, HoldsMark, IsPast, Remains, IsCause, HasSamePart, HasLoadedPort, HasPassed}
+pub use Rattle.partial_long_lived.specs.Inner.Scans.{HasNotedScan, RestsUnmarked, ScanMade, noted_scan, SettledFirst}
 pub use Rattle.partial_long_lived.specs.Inner.Rests.{NotScanned, RestsAt}
-pub use Rattle.partial_long_lived.specs.Inner.Moves.{becomes, Gives, LoadsPort, PassesSealed, Publishes, PutsPort, Seals, Sets, Takes, passed_at, unpacked, BeganBy, elsewhere, port_loaded, port_put, taken_at, LoadsCurrent, Looks, StoresMark, having_found, loads, looked_at, marks, Arrives, place_found}
+pub use Rattle.partial_long_lived.specs.Inner.Moves.{becomes, SeatGives, LoadsPort, PassesSealed, SeatPublishes, PutsPort, Seals, Sets, Takes, passed_at, unpacked, BeganBy, elsewhere, port_loaded, port_put, taken_at, LoadsCurrent, SeatLooks, StoresMark, having_found, loads, looked_at, marks, SeatArrives, place_found}
 pub use Rattle.partial_long_lived.specs.Shape.{bare, shape_plan, IsShapeOf}
 pub use Rattle.partial_long_lived.specs.declared.shape.Shape.{Shape}
-pub use Rattle.partial_long_lived.specs.Inner.Loads.{opening_of, Sees, Wish, noted_by, place_seen, stamp_seen, value_seen, Recalls, found_by, component_at, sees}
-pub use Rattle.partial_long_lived.specs.Inner.Machine.{Makes, MissesSeal, answered, IsBehind, IsApart, MayMake, change_of, over_by, told_of, makes, word_at, goes_on, Exchanges, begins, exchanges}
-pub use Rattle.partial_long_lived.specs.Inner.Under.{CallMade, claim_of, IsGoing, Leads, MayBegin, machine_at, before_claim}
-pub use Rattle.partial_long_lived.specs.Inner.Updates.{Attempted, ExchangeDue, ExpectsOne, IsEntryOf, IsOwn, NotesNothing, Stayed, noted_where, word_from, MayCall, CameBy, IsLate, Updated, noted_update, public_update, stamp_from}
+pub use Rattle.partial_long_lived.specs.Inner.Loads.{opening_of, SeatSees, Wish, noted_by, place_seen, stamp_seen, value_seen, Recalls, found_by, component_at, sees}
+pub use Rattle.partial_long_lived.specs.Inner.Machine.{SeatMakes, MissesSeal, unsealed_answer, LeavesComponents, IsApart, MayMake, change_of, over_by, told_of, makes, word_at, goes_on, Exchanges, begins, exchanges}
+pub use Rattle.partial_long_lived.specs.Inner.Under.{CallMade, record_claim, IsGoing, ComesTo, MayBegin, machine_at, before_claim}
+pub use Rattle.partial_long_lived.specs.Inner.Updates.{Attempted, ExchangeDue, ExpectsOne, IsEntryOf, IsOwnMachine, NotesNothing, Stayed, noted_where, word_from, MayCall, CameBy, IsLate, Updated, noted_change, public_update, stamp_from}
 pub use Rattle.partial_long_lived.specs.Inner.Last.{HaveLast, ReadsLast, value_now, arena_now, component_now}
 pub use Rattle.partial_long_lived.specs.Inner.Loads.Wish.{Glances, Reads, Expects, Finds}
-pub use Rattle.partial_long_lived.specs.Inner.DoubleCollect.{AreCollected, HasGlanced, HasStayed, WasThere, AreInside, HadValue, HadValues, HasBegunCollect, MayNote, NotesScan, noted_together, notes_scan}
+pub use Rattle.partial_long_lived.specs.Inner.DoubleCollect.{AreCollected, HasGlanced, HasStayed, WasThere, AreInside, HadValue, HadValues, HasBegunCollect, MayNoteScan, NotesScan, noted_together, notes_scan}
 pub use Rattle.partial_long_lived.specs.declared.answers.UpdatedIf.{UpdatedIf}
 pub use Rattle.partial_long_lived.specs.declared.update_if.Asked.{Asked}
-pub use Rattle.partial_long_lived.specs.Inner.Conditional.{EndedIf, HasFound, HasLooked, IsExpected, IsPlaceOf, noted_if, outcome_of, HasUpdatedIf}
-pub use Rattle.partial_long_lived.specs.Calls.{Differ, HasThen, StillStand, IsRefused, Scans, Updates, UpdatesIf}
+pub use Rattle.partial_long_lived.specs.Inner.Conditional.{EndedIf, HasCompared, HasLooked, IsExpected, IsPlaceOf, noted_if, outcome_of, HasUpdatedIf}
+pub use Rattle.partial_long_lived.specs.Calls.{Differ, HasStampThen, StillStand, IsRefused, Scans, Updates, UpdatesIf}

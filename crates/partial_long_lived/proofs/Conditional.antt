@@ -1,5 +1,5 @@
 -- A conditional update of a port: the comparison, and how it ends in the port's epoch.
-use Rattle.partial_long_lived.proofs.Common.{ℕ, ◌≡◌, ◌<◌, ◌≤◌, ◌==◌, ◌&&◌, ◌++◌, Bool, true, false, not, cond, Some, List, [], ◌∷◌, length, refl, sym, ap, subst, ◌∙◌, inl, inr, arith, append-nil, nat_lt, cases_lt, TableId, Applied, Noted, stamp_of, total, Change, is_at_rest, CoreState, IsMarkedLike, core_of, Exchanged, public_stamp, seal, unsealed, public_of, not_below, About, UpdatedIf, Asked, Stand, Began, Seated, plan_of, seen_in, IsIdle, Kept, EndedIf, HasFound, HasLooked, IsExpected, IsPlaceOf, noted_if, outcome_of, IsHeld, port_at, Sees, noted_by, opening_of, place_seen, stamp_seen, Expects, BeganBy, Attempted, ExpectsOne, IsEntryOf, IsOwn, MayCall, NotesNothing, Stayed, noted_where}
+use Rattle.partial_long_lived.proofs.Common.{ℕ, ◌≡◌, ◌<◌, ◌≤◌, ◌==◌, ◌&&◌, ◌++◌, Bool, true, false, not, cond, Some, List, [], ◌∷◌, length, refl, sym, ap, subst, ◌∙◌, inl, inr, arith, append-nil, nat_lt, cases_lt, TableId, Applied, Noted, stamp_of, total, Change, is_at_rest, CoreState, IsMarkedLike, core_of, Exchanged, public_stamp, seal, unsealed, public_of, not_below, About, UpdatedIf, Asked, Stand, Began, SeatedPort, plan_of, seen_in, IsIdle, StaysAt, EndedIf, HasCompared, HasLooked, IsExpected, IsPlaceOf, noted_if, outcome_of, IsHeld, port_at, SeatSees, noted_by, opening_of, place_seen, stamp_seen, Expects, BeganBy, Attempted, ExpectsOne, IsEntryOf, IsOwnMachine, MayCall, NotesNothing, Stayed, noted_where}
 use Rattle.std.specs.Prelude.{take}
 use Rattle.partial_model.specs.declared.call.Call.TheVariants as call
 use Rattle.partial_model.specs.declared.call.Answer.TheVariants as answer
@@ -21,9 +21,9 @@ record_small table about s at h within =
     omega (arith, within, m, slots, lists, pool)
 
 -- The load of a component's word by which its stamp is compared, and the stand behind the comparison.
-module _ (table : TableId) (about : About) (s u t : Stand) (h : IsHeld table about u) (idle : IsIdle s) (first : Bool) (asked : Asked) (a : ℕ) (kept : Kept s u)
-    (w : Sees first (Expects asked.expected asked.value) asked.component (port_at s) a (port_at u)) (kept' : Kept u t) (same : port_at t ≡ port_at u) where
-  abbrev x : Seated
+module _ (table : TableId) (about : About) (s u t : Stand) (h : IsHeld table about u) (idle : IsIdle s) (first : Bool) (asked : Asked) (a : ℕ) (kept : StaysAt s u)
+    (w : SeatSees first (Expects asked.expected asked.value) asked.component (port_at s) a (port_at u)) (kept' : StaysAt u t) (same : port_at t ≡ port_at u) where
+  abbrev x : SeatedPort
   x = port_at s
 
   abbrev j : ℕ
@@ -44,18 +44,18 @@ module _ (table : TableId) (about : About) (s u t : Stand) (h : IsHeld table abo
   looked_so = record {
     stayed = record {
       kept = kept_on s u t kept kept';
-      idle = record { stands = ap (λ (y : Seated). y.port.control.entering) is ∙ idle.stands; free = ap (λ (y : Seated). y.port.control.owned) is ∙ idle.free };
-      began = subst (BeganBy first x) (sym (ap (λ (y : Seated). y.began) is)) w.began;
+      idle = record { stands = ap (λ (y : SeatedPort). y.port.control.entering) is ∙ idle.stands; free = ap (λ (y : SeatedPort). y.port.control.owned) is ∙ idle.free };
+      began = subst (BeganBy first x) (sym (ap (λ (y : SeatedPort). y.began) is)) w.began;
     };
-    machine = ap (λ (y : Seated). core_of y.port.part) is;
-    over = ap (λ (y : Seated). y.port.over) is;
+    machine = ap (λ (y : SeatedPort). core_of y.port.part) is;
+    over = ap (λ (y : SeatedPort). y.port.over) is;
   }
 
   notes_are : (port_at t).notes ≡ x.notes ++ cond (first && not (nat_lt a seal)) [] (noted_by (Expects asked.expected asked.value) x w.log j)
-  notes_are = ap (λ (y : Seated). y.notes) is
+  notes_are = ap (λ (y : SeatedPort). y.notes) is
 
   -- where the call is not to know the epoch as the current one, it notes nothing
-  pub found_sealed : first ≡ true → seal ≤ a → HasFound asked s Sealed t
+  pub found_sealed : first ≡ true → seal ≤ a → HasCompared asked s Sealed t
   found_sealed begins sealed =
       let skip : (first && not (nat_lt a seal)) ≡ true = ap (λ b. b && not (nat_lt a seal)) begins ∙ ap not (not_below a seal sealed) in
       notes_are ∙ ap (λ b. x.notes ++ cond b [] (noted_by (Expects asked.expected asked.value) x w.log j)) skip ∙ append-nil x.notes
@@ -65,7 +65,7 @@ module _ (table : TableId) (about : About) (s u t : Stand) (h : IsHeld table abo
     stamp_last : stamp ≡ stamp_seen x w.log j
     stamp_last =
         let own : about ≡ x.about = sym h.own ∙ kept.goes.about in
-        stamp_is ∙ ap (λ (y : Seated). public_of (plan_of about) y.port.before j (unsealed a)) w.is ∙ ap (λ (z : About). public_of (plan_of z) x.port.before j (unsealed a)) own
+        stamp_is ∙ ap (λ (y : SeatedPort). public_of (plan_of about) y.port.before j (unsealed a)) w.is ∙ ap (λ (z : About). public_of (plan_of z) x.port.before j (unsealed a)) own
         ∙ ap (public_of (plan_of x.about) x.port.before j) w.stamp
 
     abbrev changed : Noted
@@ -74,19 +74,19 @@ module _ (table : TableId) (about : About) (s u t : Stand) (h : IsHeld table abo
     noted_then : (port_at t).notes ≡ x.notes ++ cond (stamp_seen x w.log j == asked.expected) [] (changed ∷ [])
     noted_then = notes_are ∙ ap (λ b. x.notes ++ cond b [] (noted_by (Expects asked.expected asked.value) x w.log j)) answers
 
-    pub found_same : (stamp == asked.expected) ≡ true → stamp ≡ asked.expected → HasFound asked s (Same (unsealed a)) t
+    pub found_same : (stamp == asked.expected) ≡ true → stamp ≡ asked.expected → HasCompared asked s (Same (unsealed a)) t
     found_same equal expected = (
       noted_then ∙ ap (λ n. x.notes ++ cond (n == asked.expected) [] (changed ∷ [])) (sym stamp_last) ∙ ap (λ b. x.notes ++ cond b [] (changed ∷ [])) equal ∙ append-nil x.notes,
       record {
-        last = w.stamp ∙ ap (λ (y : Seated). stamp_of (opening_of y) y.port.part.seen j) (sym is);
-        stamp = ap (λ (y : Seated). public_of (plan_of y.about) y.port.before j (unsealed a)) is ∙ ap (public_of (plan_of x.about) x.port.before j) w.stamp ∙ sym stamp_last ∙ expected;
+        last = w.stamp ∙ ap (λ (y : SeatedPort). stamp_of (opening_of y) y.port.part.seen j) (sym is);
+        stamp = ap (λ (y : SeatedPort). public_of (plan_of y.about) y.port.before j (unsealed a)) is ∙ ap (public_of (plan_of x.about) x.port.before j) w.stamp ∙ sym stamp_last ∙ expected;
       },
     )
 
-    pub found_other : (stamp == asked.expected) ≡ false → ((port_at t).began.epoch ≤ x.port.control.here.epoch) → HasFound asked s (Other stamp) t
+    pub found_other : (stamp == asked.expected) ≡ false → ((port_at t).began.epoch ≤ x.port.control.here.epoch) → HasCompared asked s (Other stamp) t
     found_other unequal young =
-        let place : place_seen x w.log ≡ length (seen_in (port_at t).port) = ap (λ (y : Seated). length (seen_in y.port)) (sym is) in
-        let n : (port_at t).began ≡ w.n = ap (λ (y : Seated). y.began) is in
+        let place : place_seen x w.log ≡ length (seen_in (port_at t).port) = ap (λ (y : SeatedPort). length (seen_in y.port)) (sym is) in
+        let n : (port_at t).began ≡ w.n = ap (λ (y : SeatedPort). y.began) is in
         let epochs = ap (λ (g : Began). g.epoch) n in
         let lengths = ap (λ (g : Began). g.length) n in
         let time = w.time (omega (arith, young, epochs)) in (
@@ -102,12 +102,12 @@ module _ (table : TableId) (about : About) (s u t : Stand) (h : IsHeld table abo
       where
         by : (b : Bool) → first ≡ b → (port_at t).began.epoch ≤ x.port.control.here.epoch
         by true begins = elim (cases_lt a seal) [
-          | inl low ↦ (let young = w.present low in let n = ap (λ (y : Seated). y.began.epoch) is in omega (arith, young, n))
+          | inl low ↦ (let young = w.present low in let n = ap (λ (y : SeatedPort). y.began.epoch) is in omega (arith, young, n))
           | inr up ↦ (let bad : true ≡ false = sym (ap (λ b. b && not (nat_lt a seal)) begins ∙ ap not (not_below a seal up)) ∙ answers in cc)
         ]
         by false later =
             let old = again later in
-            let n = ap (λ (y : Seated). y.began.epoch) is in
+            let n = ap (λ (y : SeatedPort). y.began.epoch) is in
             let same_began : w.n ≡ x.began = subst (λ b. BeganBy b x w.n) later w.began in
             let epochs = ap (λ (g : Began). g.epoch) same_began in
             omega (arith, old, n, epochs, here)
@@ -132,7 +132,7 @@ looked_may first s t core w may =
       over = w.over ∙ may.over;
     }
 
-pub looked_own : (first : Bool) (s t : Stand) (core : CoreState) → HasLooked first s t → IsOwn (port_at s) core → IsOwn (port_at t) core
+pub looked_own : (first : Bool) (s t : Stand) (core : CoreState) → HasLooked first s t → IsOwnMachine (port_at s) core → IsOwnMachine (port_at t) core
 looked_own first s t core w own = record {
   idle = own.idle;
   sound = own.sound;
@@ -145,7 +145,7 @@ pub looked_nothing : (first : Bool) (s t : Stand) → HasLooked first s t → (p
 looked_nothing first s t w same = record { stayed = w.stayed; notes = same }
 
 -- or has ended the call
-pub looked_ended : (first : Bool) (asked : Asked) (stamp : ℕ) (s t : Stand) → HasLooked first s t → HasFound asked s (Other stamp) t → EndedIf first asked (ended.Changed stamp) s t
+pub looked_ended : (first : Bool) (asked : Asked) (stamp : ℕ) (s t : Stand) → HasLooked first s t → HasCompared asked s (Other stamp) t → EndedIf first asked (ended.Changed stamp) s t
 looked_ended first asked stamp s t w found = record {
   stayed = w.stayed;
   place = length (seen_in (port_at t).port);
@@ -191,23 +191,23 @@ module _ (first : Bool) (s u v : Stand) (looked : HasLooked first s u) (same : (
     placed (IsApplied stamp) k n is = is
     placed (Overtaken by) k n is = is
 
-    pub ended_behind : (t : Stand) → Kept v t → port_at t ≡ port_at v → (o : UpdatedIf) → o ≡ outcome_of (port_at v) asked.component r → EndedIf first asked o s t
+    pub ended_behind : (t : Stand) → StaysAt v t → port_at t ≡ port_at v → (o : UpdatedIf) → o ≡ outcome_of (port_at v) asked.component r → EndedIf first asked o s t
     ended_behind t kept is o outcome = record {
       stayed = record {
         kept = kept_on s v t (stayed_on w.stayed).kept kept;
-        idle = record { stands = ap (λ (y : Seated). y.port.control.entering) is ∙ w.stayed.idle.stands; free = ap (λ (y : Seated). y.port.control.owned) is ∙ w.stayed.idle.free };
-        began = subst (λ (y : Seated). BeganBy first (port_at s) y.began) (sym is) (stayed_on w.stayed).began;
+        idle = record { stands = ap (λ (y : SeatedPort). y.port.control.entering) is ∙ w.stayed.idle.stands; free = ap (λ (y : SeatedPort). y.port.control.owned) is ∙ w.stayed.idle.free };
+        began = subst (λ (y : SeatedPort). BeganBy first (port_at s) y.began) (sym is) (stayed_on w.stayed).began;
       };
       place = w.place;
-      notes = ap (λ (y : Seated). y.notes) is ∙ w.notes ∙ ap (λ n. (port_at u).notes ++ n ∷ []) (noted_public r w.place ∙ ap (λ (q : UpdatedIf). noted_if asked q w.place) (sym outcome))
+      notes = ap (λ (y : SeatedPort). y.notes) is ∙ w.notes ∙ ap (λ n. (port_at u).notes ++ n ∷ []) (noted_public r w.place ∙ ap (λ (q : UpdatedIf). noted_if asked q w.place) (sym outcome))
           ∙ ap (λ (l : List Noted). l ++ noted_if asked o w.place ∷ []) same;
-      behind = subst (λ (y : Seated). y.began.length ≤ w.place) (sym is) w.behind;
-      within = subst (λ (y : Seated). IsPlaceOf o w.place (length (seen_in y.port))) (sym is) (subst (λ (q : UpdatedIf). IsPlaceOf q w.place (length (seen_in (port_at v).port))) (sym outcome) (placed r w.place (length (seen_in (port_at v).port)) w.within));
+      behind = subst (λ (y : SeatedPort). y.began.length ≤ w.place) (sym is) w.behind;
+      within = subst (λ (y : SeatedPort). IsPlaceOf o w.place (length (seen_in y.port))) (sym is) (subst (λ (q : UpdatedIf). IsPlaceOf q w.place (length (seen_in (port_at v).port))) (sym outcome) (placed r w.place (length (seen_in (port_at v).port)) w.within));
     }
 
 -- a stand of which nothing but its seat's table has changed is as good
 pub same_may : (s t : Stand) (core : CoreState) → port_at t ≡ port_at s → MayCall (port_at s) core → MayCall (port_at t) core
-same_may s t core is may = subst (λ (y : Seated). MayCall y core) (sym is) may
+same_may s t core is may = subst (λ (y : SeatedPort). MayCall y core) (sym is) may
 
-pub same_own : (s t : Stand) (core : CoreState) → port_at t ≡ port_at s → IsOwn (port_at s) core → IsOwn (port_at t) core
-same_own s t core is own = subst (λ (y : Seated). IsOwn y core) (sym is) own
+pub same_own : (s t : Stand) (core : CoreState) → port_at t ≡ port_at s → IsOwnMachine (port_at s) core → IsOwnMachine (port_at t) core
+same_own s t core is own = subst (λ (y : SeatedPort). IsOwnMachine y core) (sym is) own

@@ -1,5 +1,5 @@
 -- The rounds of a conditional update: a comparison, perhaps an attempt, and a change of epoch, and so on.
-use Rattle.partial_long_lived.proofs.Common.{◌≡◌, ◌≤◌, ◌++◌, Bool, true, false, ◌∷◌, [], List, refl, ap, subst, ◌∙◌, TableId, Noted, CoreState, About, UpdatedIf, Asked, Stand, Goes, IsHeld, port_at, IsIdle, EndedIf, HasUpdatedIf, noted_if, RestsAt, CameBy, IsOwn, MayCall, NotesNothing}
+use Rattle.partial_long_lived.proofs.Common.{◌≡◌, ◌≤◌, ◌++◌, Bool, true, false, ◌∷◌, [], List, refl, ap, subst, ◌∙◌, TableId, Noted, CoreState, About, UpdatedIf, Asked, Stand, SeatGoes, IsHeld, port_at, IsIdle, EndedIf, HasUpdatedIf, noted_if, RestsAt, CameBy, IsOwnMachine, MayCall, NotesNothing}
 use Rattle.partial_long_lived.proofs.Coming.{goes_on}
 use Rattle.partial_long_lived.proofs.Rounds.{BeganSo, began_on, goes_nowhere, may_own}
 use Rattle.partial_long_lived.proofs.Updates.{rests_may, rests_own}
@@ -9,11 +9,11 @@ use Rattle.partial_long_lived.proofs.Updates.{rests_may, rests_own}
 pub record ComparesOn (table : TableId) (about : About) (next spent : Bool) (s t : Stand) (core : CoreState) : Type 0 where
   pub held : IsHeld table about t
   pub idle : IsIdle t
-  pub own : IsOwn (port_at t) core
+  pub own : IsOwnMachine (port_at t) core
   pub may : spent ≡ false → MayCall (port_at t) core
   pub shape : t.shape ≡ s.shape
   pub number : t.number ≡ s.number
-  pub goes : Goes (port_at s) (port_at t)
+  pub goes : SeatGoes (port_at s) (port_at t)
   pub notes : (port_at t).notes ≡ (port_at s).notes
   pub began : BeganSo true next s t
   pub fresh : next ≡ false → (port_at t).began.epoch ≤ t.epoch

@@ -1,5 +1,5 @@
 -- The steps of a change of epoch and of entering one are allowed.
-use Rattle.partial_long_lived.proofs.Common.{ℕ, ◌≡◌, ◌≢◌, ◌<◌, ◌≤◌, ◌==◌, ◌⊎◌, Bool, true, false, cond, Option, Some, None, IfSome, List, length, get_or, set, refl, sym, ap, subst, ◌∙◌, inl, inr, arith, eqb_tells, set-get_or, Me, Allows, Applied, Noted, put, IsPlace, Place, Plan, arena_limit, at_word, current_word, marked, packed, Entering, Owned, Port, Stands, Marks, Beside, LawfulEpochs, place_now, having_passed, having_looked, LawfulMemory, put_all, put_same, put_other, option_map_or, MayPut, KeepsTime, asides_keep_time, entries_keep_time, entries_load, looks_are_true, looks_keep_time, marks_keep_time, marks_stay_lawful, owners_look, owners_look_away, About, Began, IsKept, IsSince, Seated, one_of, plan_of, IsKnown, IsOne, tells, LoadsCurrent, Looks, StoresMark, becomes, having_found, loads, looked_at, marks, unpacked}
+use Rattle.partial_long_lived.proofs.Common.{ℕ, ◌≡◌, ◌≢◌, ◌<◌, ◌≤◌, ◌==◌, ◌⊎◌, Bool, true, false, cond, Option, Some, None, IfSome, List, length, get_or, set, refl, sym, ap, subst, ◌∙◌, inl, inr, arith, eqb_tells, set-get_or, Me, Allows, Applied, Noted, put, IsPlace, Place, Plan, arena_limit, at_word, current_word, marked, packed, Entering, Owned, Port, Stands, Marks, Beside, LawfulEpochs, place_now, having_passed, having_looked, LawfulMemory, put_all, put_same, put_other, option_map_or, MayPut, KeepsTime, asides_keep_time, entries_keep_time, entries_load, looks_are_true, looks_keep_time, marks_keep_time, marks_stay_lawful, owners_look, owners_look_away, About, Began, IsRuleKept, IsSince, SeatedPort, one_of, plan_of, IsSeatKnown, IsOne, tells, LoadsCurrent, SeatLooks, StoresMark, becomes, having_found, loads, looked_at, marks, unpacked}
 use Rattle.partial_epochs.proofs.Present.{same_place}
 use Rattle.partial_long_lived.proofs.Asides.{IsQuiet, aside}
 use Rattle.partial_long_lived.proofs.Kept.{allowed, begun_grows, none_grown}
@@ -152,8 +152,8 @@ pub record Quietly (a : About) (words' : List ℕ) (ports : ℕ → Port) (b : B
   pub entering : IsSince g p.control.entering (since' k)
 
 -- a step of a seat that changes no history, where it keeps the lawful state and time
-module _ {S : Type 0} (a : About) (slots id : ℕ) (me : Me S (List Seated)) (one : IsOne me) (own : (one_of me.0).about ≡ a) (known : IsKnown (one_of me.0)) where
-  abbrev x : Seated
+module _ {S : Type 0} (a : About) (slots id : ℕ) (me : Me S (List SeatedPort)) (one : IsOne me) (own : (one_of me.0).about ≡ a) (known : IsSeatKnown (one_of me.0)) where
+  abbrev x : SeatedPort
   x = one_of me.0
 
   abbrev Leads : (List ℕ → List ℕ) → (List ℕ → Port → Port) → Type 0
@@ -162,11 +162,11 @@ module _ {S : Type 0} (a : About) (slots id : ℕ) (me : Me S (List Seated)) (on
       x.number < a.ports → x.port ≡ ports x.number → IsSince x.began (ports x.number).control.entering (since x.number) → x.began.epoch ≤ length b.before →
       Quietly a (f words) ports b since x.number x.began (g words (ports x.number))
 
-  pub quietly : (i : ℕ) (f : ℕ → ℕ) (g : ℕ → Port → Port) (R : Seated → ℕ → Seated → Type 0) → ((n : ℕ) → IsQuiet (g n)) →
+  pub quietly : (i : ℕ) (f : ℕ → ℕ) (g : ℕ → Port → Port) (R : SeatedPort → ℕ → SeatedPort → Type 0) → ((n : ℕ) → IsQuiet (g n)) →
       Leads (λ words. set words i (f (get_or words i 0))) (λ words. g (get_or words i 0)) →
       ((words : List ℕ) (ports : ℕ → Port) (b : Beside) → LawfulEpochs (plan_of a) words ports b → x.number < a.ports → x.port ≡ ports x.number →
       R x (get_or words i 0) (becomes x x.began (g (get_or words i 0) x.port))) →
-      Allows (IsKept a) slots id me i f (tells R me)
+      Allows (IsRuleKept a) slots id me i f (tells R me)
   quietly i f g R quiet leads says = allowed a slots id me i f R one own (λ words ports notes b since w time s small.
       let n : ℕ = get_or words i 0 in
       let to = leads words ports notes b since w time s.number s.port (subst (λ (p : Port). IsSince x.began p.control.entering (since x.number)) s.port s.entering) (s.began).come in
@@ -177,7 +177,7 @@ module _ {S : Type 0} (a : About) (slots id : ℕ) (me : Me S (List Seated)) (on
 
   -- the first step of entering
   pub may_mark : x.port.control.entering ≡ Stands → x.port.control.past ≡ true → x.port.control.owned ≡ None →
-      Allows (IsKept a) slots id me (at_word x.number) (λ n. marked x.port.control.here) (tells StoresMark me)
+      Allows (IsRuleKept a) slots id me (at_word x.number) (λ n. marked x.port.control.here) (tells StoresMark me)
   may_mark stands past none = quietly (at_word x.number) (λ n. marked x.port.control.here) (λ n. marks) StoresMark
       (λ n. record { part = λ p. refl; before = λ p. refl; here = λ p. refl; passed = λ p. omega arith })
       (λ words ports notes b since w time below is entering come.
@@ -201,7 +201,7 @@ module _ {S : Type 0} (a : About) (slots id : ℕ) (me : Me S (List Seated)) (on
       (λ words ports b w below is. refl)
 
   -- the second
-  pub may_load : x.port.control.entering ≡ Marks → Allows (IsKept a) slots id me current_word (λ n. n) (tells LoadsCurrent me)
+  pub may_load : x.port.control.entering ≡ Marks → Allows (IsRuleKept a) slots id me current_word (λ n. n) (tells LoadsCurrent me)
   may_load marks_it = quietly current_word (λ n. n) (λ n. loads (unpacked n)) LoadsCurrent (λ n. record { part = λ p. refl; before = λ p. refl; here = λ p. refl; passed = λ p. omega arith })
       (λ words ports notes b since w time below is entering come.
       let e : Plan = plan_of a in
@@ -232,8 +232,8 @@ module _ {S : Type 0} (a : About) (slots id : ℕ) (me : Me S (List Seated)) (on
       ))
 
   -- a look, perhaps as the first step of a call
-  pub may_look : (first : Bool) → MayLook a x.port → Allows (IsKept a) slots id me current_word (λ n. n) (tells (Looks first) me)
-  may_look first may = allowed a slots id me current_word (λ n. n) (Looks first) one own (λ words ports notes b since w time s small.
+  pub may_look : (first : Bool) → MayLook a x.port → Allows (IsRuleKept a) slots id me current_word (λ n. n) (tells (SeatLooks first) me)
+  may_look first may = allowed a slots id me current_word (λ n. n) (SeatLooks first) one own (λ words ports notes b since w time s small.
       let e : Plan = plan_of a in
       let k : ℕ = x.number in
       let n : ℕ = get_or words current_word 0 in
@@ -244,7 +244,7 @@ module _ {S : Type 0} (a : About) (slots id : ℕ) (me : Me S (List Seated)) (on
       let stands : (looked_at n x.port).control.entering ≡ Stands = looked_stands n x.port may.0 in
       aside a words (set words current_word n) ports notes b b since since x w s known (looked_at n) (looked_quiet n) g.0 (stands_since g.0 (looked_at n x.port).control.entering (since k) stands) g.2
       (subst (λ (l : List ℕ). KeepsTime e l (put k (looked_at n (ports k)) ports) (place_now b) since) (load_same words current_word) in_time) (λ q ne. refl) refl refl
-      (subst (λ (l : List ℕ). LawfulEpochs e l (put k (looked_at n (ports k)) ports) b) (load_same words current_word) to) (Looks first x n) (
+      (subst (λ (l : List ℕ). LawfulEpochs e l (put k (looked_at n (ports k)) ports) b) (load_same words current_word) to) (SeatLooks first x n) (
         g.0,
         g.1,
         refl,

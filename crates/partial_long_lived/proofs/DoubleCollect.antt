@@ -1,5 +1,5 @@
 -- A scan by a double collect: two equal collects stood together between them.
-use Rattle.partial_long_lived.proofs.Common.{ℕ, suc, ◌≡◌, ◌+◌, ◌-◌, ◌<◌, ◌≤◌, ◌&&◌, ◌++◌, not, Bool, true, false, cond, Option, None, Result, Ok, Err, IfOk, IfErr, List, [], ◌∷◌, length, map, take, set, refl, sym, ap, subst, ◌∙◌, inl, inr, arith, append-nil, length-append, nat_lt, slice_index, option_map_or, AllByRecursion, eqb_tells, ext_get_or, get_or-map, get_or-set_other, get_or-set_same, length-map, length-set, TableId, Applied, IsHistory, value_of, Noted, seen_by, legal_notes_are_shown, stamps_never_return, core_of, packed, seal, having_passed, having_looked, history_of, public_entry, public_log, Owned, Port, Refused, About, Stand, Began, Seated, seen_in, IsHeld, port_at, having_found, looked_at, HasCome, IsIdle, Kept, Looked, Sees, noted_by, opening_of, Glances, HasScanned, ScanMade, SettledFirst, noted_scan, NotScanned, AreCollected, AreInside, HadValue, HadValues, HasBegunCollect, HasGlanced, HasStayed, MayNote, NotesScan, WasThere}
+use Rattle.partial_long_lived.proofs.Common.{ℕ, suc, ◌≡◌, ◌+◌, ◌-◌, ◌<◌, ◌≤◌, ◌&&◌, ◌++◌, not, Bool, true, false, cond, Option, None, Result, Ok, Err, IfOk, IfErr, List, [], ◌∷◌, length, map, take, set, refl, sym, ap, subst, ◌∙◌, inl, inr, arith, append-nil, length-append, nat_lt, slice_index, option_map_or, AllByRecursion, eqb_tells, ext_get_or, get_or-map, get_or-set_other, get_or-set_same, length-map, length-set, TableId, Applied, IsHistory, value_of, Noted, seen_by, legal_notes_are_shown, stamps_never_return, core_of, packed, seal, having_passed, having_looked, history_of, public_entry, public_log, Owned, Port, Refused, About, Stand, Began, SeatedPort, seen_in, IsHeld, port_at, having_found, looked_at, HasCome, IsIdle, StaysAt, Looked, SeatSees, noted_by, opening_of, Glances, HasNotedScan, ScanMade, SettledFirst, noted_scan, NotScanned, AreCollected, AreInside, HadValue, HadValues, HasBegunCollect, HasGlanced, HasStayed, MayNoteScan, NotesScan, WasThere}
 use Rattle.partial_model.specs.History.{stamp_of}
 use Rattle.partial_lines.specs.declared.whole_scan.Scanned.{Scanned}
 use Rattle.partial_epochs.specs.Layout.{unsealed}
@@ -12,20 +12,20 @@ use Rattle.partial_long_lived.proofs.Seen.{begin_history}
 use Rattle.partial_long_lived.proofs.Collects.{glanced_come, glanced_idle, glanced_notes, glanced_seen, glanced_stayed, glanced_there, stayed_on, there_now}
 
 -- The first step of the scan led from the stand s to u, and perhaps a look on to t, of which nothing is new.
-module _ (table : TableId) (about : About) (s u t : Stand) (h : IsHeld table about s) (idle : IsIdle s) (kept : Kept s u) (j a : ℕ)
-    (w : Sees true Glances j (port_at s) a (port_at u)) (kept' : Kept u t) where
+module _ (table : TableId) (about : About) (s u t : Stand) (h : IsHeld table about s) (idle : IsIdle s) (kept : StaysAt s u) (j a : ℕ)
+    (w : SeatSees true Glances j (port_at s) a (port_at u)) (kept' : StaysAt u t) where
   nothing : (c : Bool) → cond c [] (noted_by Glances (port_at s) w.log j) ≡ []
   nothing true = refl
   nothing false = refl
 
   notes_are : (port_at u).notes ≡ (port_at s).notes
-  notes_are = ap (λ (x : Seated). x.notes) w.is ∙ ap (λ (l : List Noted). (port_at s).notes ++ l) (nothing (true && not (nat_lt a seal))) ∙ append-nil (port_at s).notes
+  notes_are = ap (λ (x : SeatedPort). x.notes) w.is ∙ ap (λ (l : List Noted). (port_at s).notes ++ l) (nothing (true && not (nat_lt a seal))) ∙ append-nil (port_at s).notes
 
   come_first : HasCome s u
   come_first = come_seen s s u true Glances j a (come_itself table about s h idle) kept w
 
   began_is : (port_at u).began ≡ w.n
-  began_is = ap (λ (x : Seated). x.began) w.is
+  began_is = ap (λ (x : SeatedPort). x.began) w.is
 
   pub first_stayed : HasStayed s u
   first_stayed = record { come = come_first; epoch = kept.epoch }
@@ -41,23 +41,23 @@ module _ (table : TableId) (about : About) (s u t : Stand) (h : IsHeld table abo
     begun_collect =
         let n_epoch = ap (λ (g : Began). g.epoch) began_is in
         let n_length = ap (λ (g : Began). g.length) began_is in
-        let now = ap (λ (x : Seated). x.began.length) same in
+        let now = ap (λ (x : SeatedPort). x.began.length) same in
         let time = w.time (omega (arith, fresh, n_epoch)) in
         record {
           stayed = record { come = come_then; epoch = kept'.epoch ∙ kept.epoch };
           settled = record {
             come = come_then;
-            notes = ap (λ (x : Seated). x.notes) same ∙ notes_are;
+            notes = ap (λ (x : SeatedPort). x.notes) same ∙ notes_are;
             first = let few = w.began in omega (arith, few, n_length, now);
             fresh =
                 let epoch = h.epoch in
                 let here = kept'.epoch ∙ kept.epoch in
-                let begun = ap (λ (x : Seated). x.began.epoch) same in
+                let begun = ap (λ (x : SeatedPort). x.began.epoch) same in
                 omega (arith, fresh, epoch, here, begun);
           };
-          there = subst (λ (x : Seated). WasThere x 0 (length x.port.part.seen) j a) (sym same) (there_now true (port_at s) (port_at u) 0 j a w (omega arith));
+          there = subst (λ (x : SeatedPort). WasThere x 0 (length x.port.part.seen) j a) (sym same) (there_now true (port_at s) (port_at u) 0 j a w (omega arith));
           time =
-              let seen = ap (λ (x : Seated). length (seen_in x.port)) same ∙ ap (λ (x : Seated). length (seen_in x.port)) w.is in
+              let seen = ap (λ (x : SeatedPort). length (seen_in x.port)) same ∙ ap (λ (x : SeatedPort). length (seen_in x.port)) w.is in
               omega (arith, time, n_length, now, seen);
         }
 
@@ -69,7 +69,7 @@ module _ (table : TableId) (about : About) (s u t : Stand) (h : IsHeld table abo
   module _ (b : Bool) (looked : Looked false u b t) where
     pub look_same : b ≡ true → port_at t ≡ port_at u
     look_same here =
-        let free : (port_at u).port.control.owned ≡ None = ap (λ (x : Seated). x.port.control.owned) w.is ∙ idle.free in
+        let free : (port_at u).port.control.owned ≡ None = ap (λ (x : SeatedPort). x.port.control.owned) w.is ∙ idle.free in
         let port : looked_at looked.found (port_at u).port ≡ (port_at u).port =
         ap (λ (c : Bool). cond c (having_found (port_at u).port) (having_passed (port_at u).port)) (sym looked.is ∙ here)
         ∙ ap (λ (o : Option Owned). option_map_or (having_looked (port_at u).port) o (port_at u).port) free in
@@ -81,7 +81,7 @@ module _ (table : TableId) (about : About) (s u t : Stand) (h : IsHeld table abo
       | inl found ↦
           let young = looked.looks.3 found.1 in
           let same = ap (λ (g : Began). g.epoch) looked.looks.1 in
-          let place = ap (λ (x : Seated). x.port.control.here.epoch) w.is in
+          let place = ap (λ (x : SeatedPort). x.port.control.here.epoch) w.is in
           omega (arith, young, same, place)
       | inr other ↦ let bad : true ≡ false = sym here ∙ looked.is ∙ other.0 in cc
     ]
@@ -105,27 +105,27 @@ module _ (table : TableId) (about : About) (s u t : Stand) (h : IsHeld table abo
         })
 
     pub look_notes : (port_at t).notes ≡ (port_at s).notes
-    look_notes = ap (λ (x : Seated). x.notes) looked.looks.2 ∙ notes_are
+    look_notes = ap (λ (x : SeatedPort). x.notes) looked.looks.2 ∙ notes_are
 
 -- what the first steps have settled stays so
 pub settled_on : (s t u : Stand) → SettledFirst s t → HasGlanced t u → SettledFirst s u
 settled_on s t u b g = record {
   come = come_on s t u b.come (glanced_come t u b.come.idle g);
-  notes = ap (λ (x : Seated). x.notes) g.is ∙ b.notes;
-  first = let few = b.first in let same = ap (λ (x : Seated). x.began.length) g.is in omega (arith, few, same);
-  fresh = let young = b.fresh in let same = ap (λ (x : Seated). x.began.epoch) g.is in let epoch = g.kept.epoch in omega (arith, young, same, epoch);
+  notes = ap (λ (x : SeatedPort). x.notes) g.is ∙ b.notes;
+  first = let few = b.first in let same = ap (λ (x : SeatedPort). x.began.length) g.is in omega (arith, few, same);
+  fresh = let young = b.fresh in let same = ap (λ (x : SeatedPort). x.began.epoch) g.is in let epoch = g.kept.epoch in omega (arith, young, same, epoch);
 }
 
 -- how much of the one history a port has seen
-seen_long : (x : Seated) → length (seen_in x.port) ≡ length (history_of x.port.before) + length x.port.part.seen
+seen_long : (x : SeatedPort) → length (seen_in x.port) ≡ length (history_of x.port.before) + length x.port.part.seen
 seen_long x =
     length-append (history_of x.port.before) (public_log (length x.port.before) x.port.part.seen)
     ∙ ap (λ n. length (history_of x.port.before) + n) (length-map x.port.part.seen (public_entry (length x.port.before)))
 
 pub collect_time : (t u : Stand) → (port_at t).began.length ≤ length (seen_in (port_at t).port) → HasGlanced t u → (port_at u).began.length ≤ length (seen_in (port_at u).port)
 collect_time t u time g =
-    let began = ap (λ (x : Seated). x.began.length) g.is in
-    let before = ap (λ (x : Seated). length (history_of x.port.before)) g.is in
+    let began = ap (λ (x : SeatedPort). x.began.length) g.is in
+    let before = ap (λ (x : SeatedPort). length (history_of x.port.before)) g.is in
     let more = glanced_seen t u g in
     let was = seen_long (port_at t) in
     let now = seen_long (port_at u) in
@@ -134,26 +134,26 @@ collect_time t u time g =
 -- The two collects of a scan, at the stands s and u, have found the same words; the port has noted the scan by its last load, which led to t.
 module _ (table : TableId) (about : About) (s u v : Stand) (h : IsHeld table about s) (idle : IsIdle s) (js ws : List ℕ) (inside : AreInside about.sizes js) (some : 0 < length js)
     (first : AreCollected (port_at s) 0 (length (port_at s).port.part.seen) js ws (length js)) (time : (port_at s).began.length ≤ length (seen_in (port_at s).port)) (g : HasGlanced s u)
-    (kept : Kept u v) (same : port_at v ≡ port_at u) where
+    (kept : StaysAt u v) (same : port_at v ≡ port_at u) where
   abbrev b : ℕ
   b = length (port_at s).port.part.seen
 
-  abbrev x : Seated
+  abbrev x : SeatedPort
   x = port_at u
 
   about_is : x.about ≡ about
-  about_is = ap (λ (z : Seated). z.about) g.is ∙ h.own
+  about_is = ap (λ (z : SeatedPort). z.about) g.is ∙ h.own
 
   before_is : length (history_of x.port.before) ≡ length (history_of (port_at s).port.before)
-  before_is = ap (λ (z : Seated). length (history_of z.port.before)) g.is
+  before_is = ap (λ (z : SeatedPort). length (history_of z.port.before)) g.is
 
   all_inside : (is : List ℕ) → AreInside about.sizes is → AllByRecursion (λ j. j < x.about.sizes.m) is
   all_inside [] each = tt
   all_inside (j ∷ is) each = (subst (λ (a : About). j < a.sizes.m) (sym about_is) (each 0 (omega arith)), all_inside is (λ k low. each (suc k) (omega (arith, low))))
 
   -- so it may note the scan
-  pub may_together : MayNote js b (port_at v)
-  may_together = subst (MayNote js b) (sym same) (record {
+  pub may_together : MayNoteScan js b (port_at v)
+  may_together = subst (MayNoteScan js b) (sym same) (record {
     some = some;
     inside = all_inside js inside;
     seen = glanced_seen s u g;
@@ -165,9 +165,9 @@ module _ (table : TableId) (about : About) (s u v : Stand) (h : IsHeld table abo
         omega (arith, shown, notes, long, before);
   })
 
-  module _ (t : Stand) (kept' : Kept v t) (i a : ℕ) (noted : NotesScan js b i (port_at v) a (port_at t)) where
+  module _ (t : Stand) (kept' : StaysAt v t) (i a : ℕ) (noted : NotesScan js b i (port_at v) a (port_at t)) where
     told : NotesScan js b i x a (port_at t)
-    told = subst (λ (z : Seated). NotesScan js b i z a (port_at t)) same noted
+    told = subst (λ (z : SeatedPort). NotesScan js b i z a (port_at t)) same noted
 
     pub together_stayed : HasStayed s t
     together_stayed =
@@ -177,8 +177,8 @@ module _ (table : TableId) (about : About) (s u v : Stand) (h : IsHeld table abo
             shape = kept'.shape ∙ kept.shape;
             number = kept'.number ∙ kept.number;
             goes = goes_on x (port_at v) (port_at t) kept.goes kept'.goes;
-            idle = record { stands = ap (λ (z : Seated). z.port.control.entering) told.is ∙ idle'.stands; free = ap (λ (z : Seated). z.port.control.owned) told.is ∙ idle'.free };
-            machine = inl (kept'.epoch ∙ kept.epoch, ap (λ (z : Seated). core_of z.port.part) told.is, ap (λ (z : Seated). z.port.over) told.is);
+            idle = record { stands = ap (λ (z : SeatedPort). z.port.control.entering) told.is ∙ idle'.stands; free = ap (λ (z : SeatedPort). z.port.control.owned) told.is ∙ idle'.free };
+            machine = inl (kept'.epoch ∙ kept.epoch, ap (λ (z : SeatedPort). core_of z.port.part) told.is, ap (λ (z : SeatedPort). z.port.over) told.is);
           };
           epoch = kept'.epoch ∙ kept.epoch;
         })
@@ -223,7 +223,7 @@ module _ (table : TableId) (about : About) (s u v : Stand) (h : IsHeld table abo
         | inl here ↦
             subst (λ n. HadValue x (slice_index js n) (slice_index ws n) (slice_index vs' n)) (sym here.1)
             (subst (HadValue x (slice_index js (length js - 1)) (slice_index ws (length js - 1))) (sym (get_or-set_same vs (length js - 1) a 0 (omega (arith, some, many))))
-            (subst (λ (z : Seated). HadValue z (slice_index js (length js - 1)) (slice_index ws (length js - 1)) a) same
+            (subst (λ (z : SeatedPort). HadValue z (slice_index js (length js - 1)) (slice_index ws (length js - 1)) a) same
             (last (slice_index js (length js - 1)) (inside (length js - 1) (omega (arith, some))))))
         | inr other ↦
             let ne = other.1 in
@@ -245,20 +245,20 @@ module _ (table : TableId) (about : About) (s u v : Stand) (h : IsHeld table abo
         epoch = kept'.epoch ∙ kept.epoch ∙ g.kept.epoch;
         goes = goes_on (port_at s) x (port_at t) g.kept.goes (goes_on x (port_at v) (port_at t) kept.goes kept'.goes);
         idle = together_stayed.come.idle;
-        began = ap (λ (z : Seated). z.began) told.is ∙ ap (λ (z : Seated). z.began) g.is;
+        began = ap (λ (z : SeatedPort). z.began) told.is ∙ ap (λ (z : SeatedPort). z.began) g.is;
         place = length (history_of x.port.before) + b;
-        notes = ap (λ (z : Seated). z.notes) told.is
+        notes = ap (λ (z : SeatedPort). z.notes) told.is
             ∙ ap (λ (l : List ℕ). x.notes ++ noted_scan t.epoch js l 2 None (length (history_of x.port.before) + b) ∷ []) (sym values_are)
             ∙ ap (λ (l : List Noted). l ++ noted_scan t.epoch js vs' 2 None (length (history_of x.port.before) + b) ∷ []) (glanced_notes s u g);
         behind =
-            let began = ap (λ (z : Seated). z.began.length) told.is ∙ ap (λ (z : Seated). z.began.length) g.is in
+            let began = ap (λ (z : SeatedPort). z.began.length) told.is ∙ ap (λ (z : SeatedPort). z.began.length) g.is in
             let long = seen_long (port_at s) in
             let before = before_is in
             omega (arith, began, time, long, before);
         within =
             let long = seen_long (port_at t) in
-            let seen = ap (λ (z : Seated). length z.port.part.seen) told.is in
-            let before = ap (λ (z : Seated). length (history_of z.port.before)) told.is in
+            let seen = ap (λ (z : SeatedPort). length z.port.part.seen) told.is in
+            let before = ap (λ (z : SeatedPort). length (history_of z.port.before)) told.is in
             let more = glanced_seen s u g in
             let whole = ap (λ (l : List Applied). length l) told.begins.1 in
             let both = length-append x.port.part.seen told.begins.0 in
@@ -269,7 +269,7 @@ module _ (table : TableId) (about : About) (s u v : Stand) (h : IsHeld table abo
       unfolding together_scanned
       together_named = record {
         made = together_scanned;
-        stamps = subst (λ (z : Seated). NameStamps z (length (history_of x.port.before) + b) js ws) (sym told.is) (λ k low. (
+        stamps = subst (λ (z : SeatedPort). NameStamps z (length (history_of x.port.before) + b) js ws) (sym told.is) (λ k low. (
           (second k low).within,
           ap (public_of (plan_of x.about) x.port.before (slice_index js k)) (stamp_stood second k low)
               ∙ told.stamps (slice_index js k) (subst (λ (a : About). slice_index js k < a.sizes.m) (sym about_is) (inside k low)),
@@ -284,7 +284,7 @@ module _ (s u t : Stand) (come : HasCome s u) (notes : (port_at u).notes ≡ (po
     | inr later ↦ let up = later.0 in omega (arith, up)
   ]
 
-  come_scanned : (which values : List ℕ) (collects : ℕ) (borrowed : Option ℕ) → HasScanned u t which values collects borrowed → HasScanned s t which values collects borrowed
+  come_scanned : (which values : List ℕ) (collects : ℕ) (borrowed : Option ℕ) → HasNotedScan u t which values collects borrowed → HasNotedScan s t which values collects borrowed
   come_scanned which values collects borrowed w = record {
     shape = w.shape ∙ come.shape;
     number = w.number ∙ come.number;
@@ -307,8 +307,8 @@ module _ (s u t : Stand) (come : HasCome s u) (notes : (port_at u).notes ≡ (po
   come_refused cause w = record { goes = goes_on (port_at s) (port_at u) (port_at t) come.goes w.goes; notes = w.notes ∙ notes; why = w.why }
 
   -- what a scan that is announced has ended with
-  pub come_ok : (r : Result Scanned Refused) (which values : List ℕ) → IfOk r (λ q. HasScanned u t which values q.collects q.borrowed) →
-      IfOk r (λ q. HasScanned s t which values q.collects q.borrowed)
+  pub come_ok : (r : Result Scanned Refused) (which values : List ℕ) → IfOk r (λ q. HasNotedScan u t which values q.collects q.borrowed) →
+      IfOk r (λ q. HasNotedScan s t which values q.collects q.borrowed)
   come_ok (Ok q) which values w = come_scanned which values q.collects q.borrowed w
   come_ok (Err cause) which values w = w
 

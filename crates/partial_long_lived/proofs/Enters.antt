@@ -1,5 +1,5 @@
 -- The exchange of the entering mark is allowed.
-use Rattle.partial_long_lived.proofs.Common.{ℕ, ◌≡◌, ◌<◌, ◌≤◌, ◌==◌, ◌++◌, cond, None, List, [], ◌∷◌, length, get_or, set, refl, sym, ap, subst, ◌∙◌, inl, inr, arith, append-nil, append_assoc, eqb_tells, either, Me, Allows, Applied, LegalNotes, Noted, put, IsPlace, Place, Plan, at_word, marked, packed, history_of, public_log, Entering, Port, Loaded, arrived, Beside, LawfulEpochs, place_now, KeepsTime, LawfulMemory, Reached, not_marked, arrivals_keep_notes, arrivals_keep_time, arrivals_stay_lawful, put_other, put_same, history_grows, history_longer, About, IsKept, IsSeat, IsSeen, IsSince, Seated, one_of, plan_of, seen_in, Begins, IsKnown, IsOne, tells, Arrives, place_found, unpacked}
+use Rattle.partial_long_lived.proofs.Common.{ℕ, ◌≡◌, ◌<◌, ◌≤◌, ◌==◌, ◌++◌, cond, None, List, [], ◌∷◌, length, get_or, set, refl, sym, ap, subst, ◌∙◌, inl, inr, arith, append-nil, append_assoc, eqb_tells, either, Me, Allows, Applied, LegalNotes, Noted, put, IsPlace, Place, Plan, at_word, marked, packed, history_of, public_log, Entering, Port, Loaded, arrived, Beside, LawfulEpochs, place_now, KeepsTime, LawfulMemory, Reached, not_marked, arrivals_keep_notes, arrivals_keep_time, arrivals_stay_lawful, put_other, put_same, history_grows, history_longer, About, IsRuleKept, IsSeat, IsSeen, IsSince, SeatedPort, one_of, plan_of, seen_in, BeginsWith, IsSeatKnown, IsOne, tells, SeatArrives, place_found, unpacked}
 use Rattle.partial_epochs.specs.Entering as law
 use Rattle.partial_epochs.proofs.Sights.{ends}
 use Rattle.partial_long_lived.proofs.Seen.{legal_begins}
@@ -31,7 +31,7 @@ arrival_place e words ports b k c lawful below w = elim w.is [
     there = subst (λ (p : Port). IsPlace e p.control.here) (put_same k (arrived e k w.place w.before) ports) (w.lawful.control.places k below)
 
 -- what the port has seen is a beginning of what lies behind it then
-arrival_seen : (b : Beside) (p q : Port) → IsSeen b p → Reached b p → Reached b q → length p.before < length q.before → q.part.seen ≡ [] → Begins (seen_in p) (seen_in q)
+arrival_seen : (b : Beside) (p q : Port) → IsSeen b p → Reached b p → Reached b q → length p.before < length q.before → q.part.seen ≡ [] → BeginsWith (seen_in p) (seen_in q)
 arrival_seen b p q seen old new later none =
     let rest = seen old.later old.log old.is in
     let mid = ends old.later (old.log ∷ p.before) (new.later ++ new.log ∷ []) q.before (sym old.is ∙ new.is ∙ split new.later new.log q.before) (omega (arith, later)) in
@@ -46,10 +46,10 @@ arrival_seen b p q seen old new later none =
     split [] x t = refl
     split (y ∷ l) x t = ap (λ (m : List (List Applied)). y ∷ m) (split l x t)
 
-arrival : (a : About) (words : List ℕ) (ports : ℕ → Port) (notes : ℕ → List Noted) (b : Beside) (since : ℕ → ℕ) (x : Seated) → LawfulMemory (plan_of a) words ports b notes →
-    KeepsTime (plan_of a) words ports (place_now b) since → IsSeat a ports notes b since x → IsKnown x → (c : Place) → x.port.control.entering ≡ Loaded c → (v : ℕ) →
+arrival : (a : About) (words : List ℕ) (ports : ℕ → Port) (notes : ℕ → List Noted) (b : Beside) (since : ℕ → ℕ) (x : SeatedPort) → LawfulMemory (plan_of a) words ports b notes →
+    KeepsTime (plan_of a) words ports (place_now b) since → IsSeat a ports notes b since x → IsSeatKnown x → (c : Place) → x.port.control.entering ≡ Loaded c → (v : ℕ) →
     cond (get_or words (at_word x.number) 0 == marked (ports x.number).control.here) (packed c) (get_or words (at_word x.number) 0) ≡ v →
-    Moved a (set words (at_word x.number) v) ports notes b since x (Arrives c x (get_or words (at_word x.number) 0))
+    Moved a (set words (at_word x.number) v) ports notes b since x (SeatArrives c x (get_or words (at_word x.number) 0))
 arrival a words ports notes b since x w time s known c loaded v word =
     let e : Plan = plan_of a in
     let k : ℕ = x.number in
@@ -67,7 +67,7 @@ arrival a words ports notes b since x w time s known c loaded v word =
     let later : x.port.control.here.epoch < to.place.epoch = subst (λ (q : Port). q.control.here.epoch < to.place.epoch) (sym s.port) to.later in
     let few = old.epoch in
     let many = to.epoch in
-    let seen : Begins (seen_in x.port) (seen_in p) = arrival_seen b x.port p s.seen old new (omega (arith, few, many, later)) refl in
+    let seen : BeginsWith (seen_in x.port) (seen_in p) = arrival_seen b x.port p s.seen old new (omega (arith, few, many, later)) refl in
     let knows = known.knows in
     let began : x.began.epoch ≤ since k = subst (λ (t : Entering). IsSince x.began t (since k)) loaded s.entering in
     let up = in_time.0 in
@@ -107,13 +107,13 @@ arrival a words ports notes b since x w time s known c loaded v word =
     }
 
 -- the third step of entering
-module _ {S : Type 0} (a : About) (slots id : ℕ) (me : Me S (List Seated)) (one : IsOne me) (own : (one_of me.0).about ≡ a) (known : IsKnown (one_of me.0)) where
-  abbrev x : Seated
+module _ {S : Type 0} (a : About) (slots id : ℕ) (me : Me S (List SeatedPort)) (one : IsOne me) (own : (one_of me.0).about ≡ a) (known : IsSeatKnown (one_of me.0)) where
+  abbrev x : SeatedPort
   x = one_of me.0
 
   pub may_arrive : (c : Place) → x.port.control.entering ≡ Loaded c →
-      Allows (IsKept a) slots id me (at_word x.number) (λ n. either (n == marked x.port.control.here) (packed c) n) (tells (Arrives c) me)
-  may_arrive c loaded = allowed a slots id me (at_word x.number) (λ n. either (n == marked x.port.control.here) (packed c) n) (Arrives c) one own (λ words ports notes b since w time s small.
+      Allows (IsRuleKept a) slots id me (at_word x.number) (λ n. either (n == marked x.port.control.here) (packed c) n) (tells (SeatArrives c) me)
+  may_arrive c loaded = allowed a slots id me (at_word x.number) (λ n. either (n == marked x.port.control.here) (packed c) n) (SeatArrives c) one own (λ words ports notes b since w time s small.
       let n : ℕ = get_or words (at_word x.number) 0 in
       arrival a words ports notes b since x w time s known c loaded (either (n == marked x.port.control.here) (packed c) n)
       (ap (λ (p : Port). cond (n == marked p.control.here) (packed c) n) (sym s.port) ∙ either_cond (n == marked x.port.control.here) (packed c) n))

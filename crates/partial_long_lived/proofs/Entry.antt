@@ -1,5 +1,5 @@
 -- How a port enters an epoch, step by step.
-use Rattle.partial_long_lived.proofs.Common.{ℕ, ◌≡◌, ◌+◌, ◌==◌, List, sym, ap, subst, ◌∙◌, arith, either, Me, Allows, TableId, at_word, marked, packed, About, Stand, IsKept, Seated, one_of, tells, IsHeld, port_at, Arrives, LoadsCurrent, StoresMark, unpacked, MayEnter}
+use Rattle.partial_long_lived.proofs.Common.{ℕ, ◌≡◌, ◌+◌, ◌==◌, List, sym, ap, subst, ◌∙◌, arith, either, Me, Allows, TableId, at_word, marked, packed, About, Stand, IsRuleKept, SeatedPort, one_of, tells, IsHeld, port_at, SeatArrives, LoadsCurrent, StoresMark, unpacked, MayEnter}
 use Rattle.partial_long_lived.proofs.Control.{may_load, may_mark}
 use Rattle.partial_long_lived.proofs.Enters.{may_arrive}
 use Rattle.partial_long_lived.proofs.Standing.{place_is}
@@ -13,31 +13,33 @@ module _ (table : TableId) (about : About) (s : Stand) (h : IsHeld table about s
   word_is = ap (λ n. 1 + n) h.number
 
   pub mark_asked : MayEnter s → (slots id : ℕ) (mark : ℕ) → mark ≡ packed (record { epoch = s.epoch; arena = s.arena }) →
-      Allows (IsKept about) slots id s.seat.me (1 + s.number) (λ n. 9223372036854775808 + mark) (tells StoresMark s.seat.me)
+      Allows (IsRuleKept about) slots id s.seat.me (1 + s.number) (λ n. 9223372036854775808 + mark) (tells StoresMark s.seat.me)
   mark_asked may slots id mark is =
-      subst (λ i. Allows (IsKept about) slots id s.seat.me i (λ n. 9223372036854775808 + mark) (tells StoresMark s.seat.me)) (sym word_is)
-      (subst (λ v. Allows (IsKept about) slots id s.seat.me (at_word (port_at s).number) (λ n. v) (tells StoresMark s.seat.me)) (sym (mark_is mark is))
+      subst (λ i. Allows (IsRuleKept about) slots id s.seat.me i (λ n. 9223372036854775808 + mark) (tells StoresMark s.seat.me)) (sym word_is)
+      (subst (λ v. Allows (IsRuleKept about) slots id s.seat.me (at_word (port_at s).number) (λ n. v) (tells StoresMark s.seat.me)) (sym (mark_is mark is))
       (may_mark about slots id s.seat.me h.one h.own h.known may.stands may.past may.free))
 
   -- the port behind the first step
-  module _ (me : Me (Unit {0}) (List Seated)) (a : ℕ) (told : tells StoresMark s.seat.me a me) where
-    pub load_asked : (slots id : ℕ) → Allows (IsKept about) slots id me 0 (λ n. n) (tells LoadsCurrent me)
-    load_asked slots id = may_load about slots id me told.0 (told.1.about ∙ h.own) told.1.known (ap (λ (x : Seated). x.port.control.entering) told.2)
+  module _ (me : Me (Unit {0}) (List SeatedPort)) (a : ℕ) (told : tells StoresMark s.seat.me a me) where
+    pub load_asked : (slots id : ℕ) → Allows (IsRuleKept about) slots id me 0 (λ n. n) (tells LoadsCurrent me)
+    load_asked slots id = may_load about slots id me told.0 (told.1.about ∙ h.own) told.1.known (ap (λ (x : SeatedPort). x.port.control.entering) told.2)
 
     -- and behind the second
-    module _ (me' : Me (Unit {0}) (List Seated)) (current : ℕ) (told' : tells LoadsCurrent me current me') where
+    module _ (me' : Me (Unit {0}) (List SeatedPort)) (current : ℕ) (told' : tells LoadsCurrent me current me') where
       number_is : (one_of me'.0).number ≡ (port_at s).number
       number_is = told'.1.number ∙ told.1.number
 
       here_is : (one_of me'.0).port.control.here ≡ (port_at s).port.control.here
-      here_is = ap (λ (x : Seated). x.port.control.here) told'.2.2 ∙ ap (λ (x : Seated). x.port.control.here) told.2
+      here_is = ap (λ (x : SeatedPort). x.port.control.here) told'.2.2 ∙ ap (λ (x : SeatedPort). x.port.control.here) told.2
 
       pub arrive_asked : (slots id : ℕ) (mark : ℕ) → mark ≡ packed (record { epoch = s.epoch; arena = s.arena }) →
-          Allows (IsKept about) slots id me' (1 + s.number) (λ n. either (n == 9223372036854775808 + mark) current n) (tells (Arrives (unpacked current)) me')
+          Allows (IsRuleKept about) slots id me' (1 + s.number) (λ n. either (n == 9223372036854775808 + mark) current n) (tells (SeatArrives (unpacked current)) me')
       arrive_asked slots id mark is =
-          subst (λ i. Allows (IsKept about) slots id me' i (λ n. either (n == 9223372036854775808 + mark) current n) (tells (Arrives (unpacked current)) me')) (ap at_word number_is ∙ sym word_is)
-          (subst (λ v. Allows (IsKept about) slots id me' (at_word (one_of me'.0).number) (λ n. either (n == v) current n) (tells (Arrives (unpacked current)) me'))
+          subst (λ i. Allows (IsRuleKept about) slots id me' i (λ n. either (n == 9223372036854775808 + mark) current n) (tells (SeatArrives (unpacked current)) me'))
+          (ap at_word number_is ∙ sym word_is)
+          (subst (λ v. Allows (IsRuleKept about) slots id me' (at_word (one_of me'.0).number) (λ n. either (n == v) current n) (tells (SeatArrives (unpacked current)) me'))
           (ap marked here_is ∙ sym (mark_is mark is))
-          (subst (λ v. Allows (IsKept about) slots id me' (at_word (one_of me'.0).number) (λ n. either (n == marked (one_of me'.0).port.control.here) v n) (tells (Arrives (unpacked current)) me'))
+          (subst (λ v. Allows (IsRuleKept about) slots id me' (at_word (one_of me'.0).number) (λ n. either (n == marked (one_of me'.0).port.control.here) v n)
+          (tells (SeatArrives (unpacked current)) me'))
           (sym told'.2.0)
-          (may_arrive about slots id me' told'.0 (told'.1.about ∙ told.1.about ∙ h.own) told'.1.known (unpacked current) (ap (λ (x : Seated). x.port.control.entering) told'.2.2))))
+          (may_arrive about slots id me' told'.0 (told'.1.about ∙ told.1.about ∙ h.own) told'.1.known (unpacked current) (ap (λ (x : SeatedPort). x.port.control.entering) told'.2.2))))

@@ -1,5 +1,5 @@
 -- A step of one seat keeps the rule.
-use Rattle.partial_long_lived.proofs.Common.{ℕ, ◌≡◌, ◌≢◌, ◌+◌, ◌<◌, ◌≤◌, ◌==◌, ◌++◌, cond, Option, Some, None, IfSome, List, [], ◌∷◌, length, get_or, set, refl, sym, ap, subst, ◌∙◌, arith, append-nil, length-append, AllByRecursion, some, get_elem?, Me, Allows, keeps, Applied, LegalNotes, Noted, all_at, all_join, all_before, all_after, all_weaker, Port, Beside, IsPlan, place_now, KeepsTime, history_longer, LawfulMemory, option_map_or, behind_both, IsPlace, carried_after, carried_behind, history_of, opening_behind, public_log, public_stamp, value_of, About, Began, Found, HasBegun, IsFinal, IsKept, IsSeat, IsSeen, IsSince, Seated, one_of, plan_of, seats_of, Knows, seen_in, Begins, Goes, IsKnown, IsOne, tells}
+use Rattle.partial_long_lived.proofs.Common.{ℕ, ◌≡◌, ◌≢◌, ◌+◌, ◌<◌, ◌≤◌, ◌==◌, ◌++◌, cond, Option, Some, None, IfSome, List, [], ◌∷◌, length, get_or, set, refl, sym, ap, subst, ◌∙◌, arith, append-nil, length-append, AllByRecursion, some, get_elem?, Me, Allows, keeps, Applied, LegalNotes, Noted, all_at, all_join, all_before, all_after, all_weaker, Port, Beside, IsEpochPlan, place_now, KeepsTime, history_longer, LawfulMemory, option_map_or, behind_both, IsPlace, carried_after, carried_behind, history_of, opening_behind, public_log, public_stamp, value_of, About, Began, Found, BeganInTime, IsFinal, IsRuleKept, IsSeat, IsSeen, IsSince, SeatedPort, one_of, plan_of, seats_of, Knows, seen_in, BeginsWith, SeatGoes, IsSeatKnown, IsOne, tells}
 use Rattle.partial_epochs.proofs.Last.{none_here, stays}
 use Rattle.partial_long_lived.proofs.Seen.{fits_of, knows_of, seen_begins}
 use Rattle.partial_long_lived.proofs.Views.{around, others_all, seat_own, seats_both}
@@ -43,7 +43,7 @@ none_grown b c log before behind later l low is = record {
 }
 
 -- what is known of when a call began stays so
-pub begun_grows : (b c : Beside) (g : Began) → length b.before ≤ length c.before → HaveGrown b c → HasBegun b g → HasBegun c g
+pub begun_grows : (b c : Beside) (g : Began) → length b.before ≤ length c.before → HaveGrown b c → BeganInTime b g → BeganInTime c g
 begun_grows b c g more grown w = record {
   come = let come = w.come in omega (arith, come, more);
   reached = λ later before log is epoch.
@@ -90,8 +90,8 @@ final_grows a z b c grown (Some f) w = record {
 }
 
 -- What a step of the seat x leads to: another lawful memory, in which all other ports are as they were, and the seat as it is then.
-pub record Moved (a : About) (words' : List ℕ) (ports : ℕ → Port) (notes : ℕ → List Noted) (b : Beside) (since : ℕ → ℕ) (x : Seated) (P : Seated → Type 0) : Type 0 where
-  pub y : Seated
+pub record Moved (a : About) (words' : List ℕ) (ports : ℕ → Port) (notes : ℕ → List Noted) (b : Beside) (since : ℕ → ℕ) (x : SeatedPort) (P : SeatedPort → Type 0) : Type 0 where
+  pub y : SeatedPort
   pub ports' : ℕ → Port
   pub notes' : ℕ → List Noted
   pub beside : Beside
@@ -105,12 +105,12 @@ pub record Moved (a : About) (words' : List ℕ) (ports : ℕ → Port) (notes :
   pub all_grown : HaveGrown b beside
   pub later : length b.before ≤ length beside.before
   pub reached : (later : List (List Applied)) × (log : List Applied) × (beside.log ∷ beside.before ≡ later ++ log ∷ y.port.before)
-  pub seen : Begins (seen_in x.port) (seen_in y.port)
+  pub seen : BeginsWith (seen_in x.port) (seen_in y.port)
   pub legal : LegalNotes a.opening (seen_in y.port) y.number 0 y.notes
   pub says : P y
 
 -- what a step tells may be told in another way
-pub moved_says : {a : About} {words' : List ℕ} {ports : ℕ → Port} {notes : ℕ → List Noted} {b : Beside} {since : ℕ → ℕ} {x : Seated} {P R : Seated → Type 0} →
+pub moved_says : {a : About} {words' : List ℕ} {ports : ℕ → Port} {notes : ℕ → List Noted} {b : Beside} {since : ℕ → ℕ} {x : SeatedPort} {P R : SeatedPort → Type 0} →
     (m : Moved a words' ports notes b since x P) → R m.y → Moved a words' ports notes b since x R
 moved_says m says = record {
   y = m.y;
@@ -132,16 +132,16 @@ moved_says m says = record {
   says = says;
 }
 
-pub moved_as : {a : About} {words' : List ℕ} {ports : ℕ → Port} {notes : ℕ → List Noted} {b : Beside} {since : ℕ → ℕ} {x : Seated} {P R : Seated → Type 0} → ((y : Seated) → P y → R y) →
+pub moved_as : {a : About} {words' : List ℕ} {ports : ℕ → Port} {notes : ℕ → List Noted} {b : Beside} {since : ℕ → ℕ} {x : SeatedPort} {P R : SeatedPort → Type 0} → ((y : SeatedPort) → P y → R y) →
     Moved a words' ports notes b since x P → Moved a words' ports notes b since x R
 moved_as f m = moved_says m (f m.y m.says)
 
-module _ {S : Type 0} (a : About) (me : Me S (List Seated)) (one : IsOne me) (words' : List ℕ) (ports : ℕ → Port) (notes : ℕ → List Noted) (b : Beside) (since : ℕ → ℕ) (P : Seated → Type 0)
+module _ {S : Type 0} (a : About) (me : Me S (List SeatedPort)) (one : IsOne me) (words' : List ℕ) (ports : ℕ → Port) (notes : ℕ → List Noted) (b : Beside) (since : ℕ → ℕ) (P : SeatedPort → Type 0)
     (m : Moved a words' ports notes b since (one_of me.0) P) where
-  abbrev x : Seated
+  abbrev x : SeatedPort
   x = one_of me.0
 
-  other_seat : (z : Seated) → (z.number ≢ x.number) × IsSeat a ports notes b since z → IsSeat a m.ports' m.notes' m.beside m.since' z
+  other_seat : (z : SeatedPort) → (z.number ≢ x.number) × IsSeat a ports notes b since z → IsSeat a m.ports' m.notes' m.beside m.since' z
   other_seat z h =
       let s = h.1 in
       let same = m.others z.number h.0 in
@@ -157,7 +157,7 @@ module _ {S : Type 0} (a : About) (me : Me S (List Seated)) (one : IsOne me) (wo
         found = final_grows a z.port b m.beside grown z.found s.found;
       }
 
-  pub seats_then : (before behind : List Seated) → ((k : ℕ) → seats_of k (before ++ x ∷ behind) ≤ 1) → AllByRecursion (IsSeat a ports notes b since) (before ++ x ∷ behind) →
+  pub seats_then : (before behind : List SeatedPort) → ((k : ℕ) → seats_of k (before ++ x ∷ behind) ≤ 1) → AllByRecursion (IsSeat a ports notes b since) (before ++ x ∷ behind) →
       AllByRecursion (IsSeat a m.ports' m.notes' m.beside m.since') (before ++ m.y ∷ behind)
   seats_then before behind once all =
       let own = seat_own x behind in
@@ -166,10 +166,10 @@ module _ {S : Type 0} (a : About) (me : Me S (List Seated)) (one : IsOne me) (wo
       let front = others_all (IsSeat a ports notes b since) x.number before (omega (arith, own, both, most)) (all_before (IsSeat a ports notes b since) before x behind all) in
       let back = others_all (IsSeat a ports notes b since) x.number behind (omega (arith, own, both, most)) (all_after (IsSeat a ports notes b since) before x behind all) in
       all_join (IsSeat a m.ports' m.notes' m.beside m.since') before m.y behind
-      (all_weaker (λ (z : Seated). (z.number ≢ x.number) × IsSeat a ports notes b since z) (IsSeat a m.ports' m.notes' m.beside m.since') other_seat before front) m.seat
-      (all_weaker (λ (z : Seated). (z.number ≢ x.number) × IsSeat a ports notes b since z) (IsSeat a m.ports' m.notes' m.beside m.since') other_seat behind back)
+      (all_weaker (λ (z : SeatedPort). (z.number ≢ x.number) × IsSeat a ports notes b since z) (IsSeat a m.ports' m.notes' m.beside m.since') other_seat before front) m.seat
+      (all_weaker (λ (z : SeatedPort). (z.number ≢ x.number) × IsSeat a ports notes b since z) (IsSeat a m.ports' m.notes' m.beside m.since') other_seat behind back)
 
-  pub once_then : (before behind : List Seated) → ((k : ℕ) → seats_of k (before ++ x ∷ behind) ≤ 1) → (k : ℕ) → seats_of k (before ++ m.y ∷ behind) ≤ 1
+  pub once_then : (before behind : List SeatedPort) → ((k : ℕ) → seats_of k (before ++ x ∷ behind) ≤ 1) → (k : ℕ) → seats_of k (before ++ m.y ∷ behind) ≤ 1
   once_then before behind once k =
       let same = ap (λ n. cond (n == k) 1 0 + seats_of k behind) m.number in
       let was = seats_both k before (x ∷ behind) in
@@ -177,7 +177,7 @@ module _ {S : Type 0} (a : About) (me : Me S (List Seated)) (one : IsOne me) (wo
       let most = once k in
       omega (arith, same, was, is, most)
 
-  pub known_then : IsKnown m.y
+  pub known_then : IsSeatKnown m.y
   known_then =
       let s = m.seat in
       let about : m.y.about ≡ a = s.about in
@@ -186,7 +186,7 @@ module _ {S : Type 0} (a : About) (me : Me S (List Seated)) (one : IsOne me) (wo
       let knows = knows_of a words' m.ports' m.beside m.notes' m.lawful m.y.number s.number (seen_in m.y.port) (seen_begins m.beside m.y.port s.seen r.0 r.1 r.2)
       (subst (λ (ns : List Noted). LegalNotes a.opening (seen_in m.y.port) m.y.number 0 ns) noted m.legal) in
       record {
-        plan = subst (λ (z : About). IsPlan (plan_of z)) (sym about) m.lawful.epochs.plan;
+        plan = subst (λ (z : About). IsEpochPlan (plan_of z)) (sym about) m.lawful.epochs.plan;
         number = subst (λ (z : About). m.y.number < z.ports) (sym about) s.number;
         place = subst (λ (z : About). IsPlace (plan_of z) m.y.port.control.here) (sym about)
             (subst (λ (p : Port). IsPlace (plan_of a) p.control.here) (sym s.port) (m.lawful.epochs.control.places m.y.number s.number));
@@ -196,17 +196,17 @@ module _ {S : Type 0} (a : About) (me : Me S (List Seated)) (one : IsOne me) (wo
         fits = fits_of a words' m.ports' m.beside m.notes' m.lawful (seen_in m.y.port) (seen_begins m.beside m.y.port s.seen r.0 r.1 r.2);
       }
 
-  pub goes_then : x.about ≡ a → Goes x m.y
+  pub goes_then : x.about ≡ a → SeatGoes x m.y
   goes_then own = record { about = (m.seat).about ∙ sym own; number = m.number; seen = m.seen; known = known_then }
 
 -- a step is allowed where it leads on from each lawful memory
-pub allowed : {S : Type 0} (a : About) (slots id : ℕ) (me : Me S (List Seated)) (i : ℕ) (f : ℕ → ℕ) (R : Seated → ℕ → Seated → Type 0) → IsOne me → (one_of me.0).about ≡ a →
+pub allowed : {S : Type 0} (a : About) (slots id : ℕ) (me : Me S (List SeatedPort)) (i : ℕ) (f : ℕ → ℕ) (R : SeatedPort → ℕ → SeatedPort → Type 0) → IsOne me → (one_of me.0).about ≡ a →
     ((words : List ℕ) (ports : ℕ → Port) (notes : ℕ → List Noted) (b : Beside) (since : ℕ → ℕ) → LawfulMemory (plan_of a) words ports b notes → KeepsTime (plan_of a) words ports (place_now b) since →
     IsSeat a ports notes b since (one_of me.0) →
     get_or words i 0 < 18446744073709551616 → Moved a (set words i (f (get_or words i 0))) ports notes b since (one_of me.0) (R (one_of me.0) (get_or words i 0))) →
-    Allows (IsKept a) slots id me i f (tells R me)
+    Allows (IsRuleKept a) slots id me i f (tells R me)
 allowed {S} a slots id me i f R one own leads table kept homes at small =
-    let x : Seated = one_of me.0 in
+    let x : SeatedPort = one_of me.0 in
     let r = around table.views id (x ∷ []) (subst (λ v. get_elem? table.views id ≡ some v) one.0 at) in
     let seats : AllByRecursion (IsSeat a kept.ports kept.notes kept.beside kept.since) (r.before ++ x ∷ r.behind) =
     subst (AllByRecursion (IsSeat a kept.ports kept.notes kept.beside kept.since)) r.now kept.seats in
@@ -214,7 +214,7 @@ allowed {S} a slots id me i f R one own leads table kept homes at small =
     let here : IsSeat a kept.ports kept.notes kept.beside kept.since x = all_at (IsSeat a kept.ports kept.notes kept.beside kept.since) r.before x r.behind seats in
     let m = leads table.words kept.ports kept.notes kept.beside kept.since kept.lawful kept.time here small in
     let words' : List ℕ = set table.words i (f (get_or table.words i 0)) in
-    let P : Seated → Type 0 = R x (get_or table.words i 0) in (
+    let P : SeatedPort → Type 0 = R x (get_or table.words i 0) in (
       m.y ∷ [],
       keeps,
       tt,

@@ -1,5 +1,5 @@
 -- Loads of component words are allowed, and what they tell.
-use Rattle.partial_long_lived.proofs.Common.{ℕ, ◌≡◌, ◌≢◌, ◌+◌, ◌<◌, ◌≤◌, ◌==◌, ◌⊎◌, ◌&&◌, ◌++◌, not, Bool, true, false, cond, Option, Some, None, IfSome, List, [], ◌∷◌, length, map, take, get_or, set, refl, sym, ap, subst, ◌∙◌, inl, inr, arith, append-nil, append_assoc, length-append, ⊤, nat_lt, AllByRecursion, eqb_tells, length-map, take-append-le, take_all, Applied, Opening, Note, stamp_of, value_of, Fits, IsTrueOf, LegalNotes, Noted, place_of, seen_by, AreCollects, LegalNotes-push, first_free, put, MayPut, Place, Plan, base, component_words, seal, unsealed, carried_after, carried_behind, history_of, opening_behind, public_entry, public_log, Port, Stands, Beside, IsStanding, place_now, LawfulMemory, having_seen, noting, public_of, IsBesideAs, KeepsTime, asides_keep_time, components_name_records, epochs_are_histories, glances_stay_lawful, seen_records_stay, sights_stay_lawful, unsealed_is_present, history_took, at_of, put_all, put_other, put_same, held_history, history_grows, among, history_longer, About, Began, Found, HasBegun, IsFinal, IsSeat, Seated, plan_of, seen_in, Begins, IsKnown, Recalls, Sees, Wish, found_by, noted_by, place_seen, stamp_seen, MayNote, NotesScan, noted_together, Expects, Finds, Glances, Reads}
+use Rattle.partial_long_lived.proofs.Common.{ℕ, ◌≡◌, ◌≢◌, ◌+◌, ◌<◌, ◌≤◌, ◌==◌, ◌⊎◌, ◌&&◌, ◌++◌, not, Bool, true, false, cond, Option, Some, None, IfSome, List, [], ◌∷◌, length, map, take, get_or, set, refl, sym, ap, subst, ◌∙◌, inl, inr, arith, append-nil, append_assoc, length-append, ⊤, nat_lt, AllByRecursion, eqb_tells, length-map, take-append-le, take_all, Applied, Opening, Note, stamp_of, value_of, Fits, IsTrueOf, LegalNotes, Noted, place_of, seen_by, AreCollects, LegalNotes-push, first_free, put, MayPut, Place, Plan, base, component_words, seal, unsealed, carried_after, carried_behind, history_of, opening_behind, public_entry, public_log, Port, Stands, Beside, IsStanding, place_now, LawfulMemory, having_seen, noting, public_of, IsBesideAs, KeepsTime, asides_keep_time, components_name_records, epochs_are_histories, glances_stay_lawful, seen_records_stay, sights_stay_lawful, unsealed_is_present, history_took, at_of, put_all, put_other, put_same, held_history, history_grows, among, history_longer, About, Began, Found, BeganInTime, IsFinal, IsSeat, SeatedPort, plan_of, seen_in, BeginsWith, IsSeatKnown, Recalls, SeatSees, Wish, found_by, noted_by, place_seen, stamp_seen, MayNoteScan, NotesScan, noted_together, Expects, Finds, Glances, Reads}
 use Rattle.partial_model.specs.declared.call.Call.TheVariants as call
 use Rattle.partial_model.specs.declared.call.Answer.TheVariants as answer
 use Rattle.partial_model.specs.declared.call.Note.TheVariants as note
@@ -18,7 +18,7 @@ IsFinding Finds = ⊤
 IsFinding _ = ⊥
 
 -- what a port sees in an epoch no older than its call is no older than the call
-pub begun_place : (b : Beside) (g : Began) (later before : List (List Applied)) (log : List Applied) → HasBegun b g → b.log ∷ b.before ≡ later ++ log ∷ before → g.epoch ≤ length before →
+pub begun_place : (b : Beside) (g : Began) (later before : List (List Applied)) (log : List Applied) → BeganInTime b g → b.log ∷ b.before ≡ later ++ log ∷ before → g.epoch ≤ length before →
     g.length ≤ length (history_of (log ∷ before))
 begun_place b g later before log w is young = elim (eqb_tells (length before) g.epoch) [
   | inl same ↦ w.reached later before log is same.1
@@ -40,10 +40,11 @@ two_collects [] some = absurd (omega (arith, some))
 two_collects (j ∷ js) some = (omega arith, omega arith, λ none. let bad : false ≡ true = none in cc)
 
 -- the seat of a port of which all is known
-abbrev pub seat_at : About → (ℕ → Port) → (ℕ → List Noted) → ℕ → Began → Option Found → Seated
+abbrev pub seat_at : About → (ℕ → Port) → (ℕ → List Noted) → ℕ → Began → Option Found → SeatedPort
 seat_at a ports notes k g f = record { about = a; number = k; port = ports k; notes = notes k; began = g; found = f }
 
-pub seat_is : (a : About) (ports : ℕ → Port) (notes : ℕ → List Noted) (b : Beside) (since : ℕ → ℕ) (x : Seated) → IsSeat a ports notes b since x → x ≡ seat_at a ports notes x.number x.began x.found
+pub seat_is : (a : About) (ports : ℕ → Port) (notes : ℕ → List Noted) (b : Beside) (since : ℕ → ℕ) (x : SeatedPort) → IsSeat a ports notes b since x →
+    x ≡ seat_at a ports notes x.number x.began x.found
 seat_is a ports notes b since x s =
     ap (λ (z : About). record { about = z; number = x.number; port = x.port; notes = x.notes; began = x.began; found = x.found }) s.about
     ∙ ap (λ (p : Port). record { about = a; number = x.number; port = p; notes = x.notes; began = x.began; found = x.found }) s.port
@@ -57,7 +58,7 @@ module _ (a : About) (words : List ℕ) (ports : ℕ → Port) (notes : ℕ → 
   abbrev p : Port
   p = ports k
 
-  abbrev X : Seated
+  abbrev X : SeatedPort
   X = seat_at a ports notes k g f
 
   pub standing : IsStanding b k (ports k)
@@ -137,14 +138,14 @@ module _ (a : About) (words : List ℕ) (ports : ℕ → Port) (notes : ℕ → 
     ]
 
   -- the port once it has seen all of its epoch, and has noted these calls
-  module _ (s : IsSeat a ports notes b since X) (known : IsKnown X) where
+  module _ (s : IsSeat a ports notes b since X) (known : IsSeatKnown X) where
     abbrev p' : Port
     p' = having_seen (ports k) log
 
     seen_rest : (rest : List Applied) × (log ≡ (ports k).part.seen ++ rest)
     seen_rest = s.seen where_is.0 log where_is.1
 
-    seen_begins_then : Begins (seen_in (ports k)) (seen_in p')
+    seen_begins_then : BeginsWith (seen_in (ports k)) (seen_in p')
     seen_begins_then = let r = seen_rest in (
       public_log (length (ports k).before) r.0,
       ap (λ (l : List Applied). history_of (l ∷ (ports k).before)) r.1 ∙ history_longer (ports k).part.seen r.0 (ports k).before,
@@ -189,8 +190,8 @@ module _ (a : About) (words : List ℕ) (ports : ℕ → Port) (notes : ℕ → 
         (is.1, subst (λ (t : Option Note). IfSome t (λ m. IsTrueOf a.opening (seen_in p') k n.call n.answer m × (seen_by 0 (notes k) ≤ place_of m))) (sym is.0) (is.2, behind))
 
     -- what a load of word i leads to, by which the port sees all of its epoch
-    moved_to : (i : ℕ) (n : Began) → HasBegun b n → (added : List Noted) → Seen added → LegalNotes a.opening (seen_in p') k 0 (notes k ++ added) → (found : Option Found) →
-        ((c : Beside) → c.log ≡ b.log → c.before ≡ b.before → IfSome found (IsFinal e c p')) → (P : Seated → Type 0) →
+    moved_to : (i : ℕ) (n : Began) → BeganInTime b n → (added : List Noted) → Seen added → LegalNotes a.opening (seen_in p') k 0 (notes k ++ added) → (found : Option Found) →
+        ((c : Beside) → c.log ≡ b.log → c.before ≡ b.before → IfSome found (IsFinal e c p')) → (P : SeatedPort → Type 0) →
         P (record { about = a; number = k; port = p'; notes = notes k ++ added; began = n; found = found }) → Moved a (set words i (get_or words i 0)) ports notes b since X P
     moved_to i n has added to legal found final P says =
         let same_log = to.same.log in
@@ -238,13 +239,13 @@ module _ (a : About) (words : List ℕ) (ports : ℕ → Port) (notes : ℕ → 
         }
 
     -- a load of word i by which the port sees all of its epoch, in a call that began then
-    pub moved_glance : (i : ℕ) (n : Began) → HasBegun b n → (P : Seated → Type 0) → P (record { about = a; number = k; port = p'; notes = notes k ++ []; began = n; found = f }) →
+    pub moved_glance : (i : ℕ) (n : Began) → BeganInTime b n → (P : SeatedPort → Type 0) → P (record { about = a; number = k; port = p'; notes = notes k ++ []; began = n; found = f }) →
         Moved a (set words i (get_or words i 0)) ports notes b since X P
     moved_glance i n has P says = moved_to i n has [] sees_nothing (subst (λ (l : List Noted). LegalNotes a.opening (seen_in p') k 0 l) (sym (append-nil (notes k))) legal_then) f
         (λ c same before. final_grows a p' b c (not_grown p' b c same before) f (final_seen f s.found)) P says
 
     -- a load of word i by which the port notes a scan by a double collect
-    module _ (js : List ℕ) (m : ℕ) (may : MayNote js m X) where
+    module _ (js : List ℕ) (m : ℕ) (may : MayNoteScan js m X) where
       abbrev scan : Noted
       scan = noted_together js m X
 
@@ -322,10 +323,10 @@ module _ (a : About) (words : List ℕ) (ports : ℕ → Port) (notes : ℕ → 
       found_final (Expects x v) passed c same before = final_grows a p' b c (not_grown p' b c same before) f (final_seen f s.found)
 
       pub moved_by : (added : List Noted) → Seen added → LegalNotes a.opening (seen_in p') k 0 (notes k ++ added) → added ≡ cond (first && not (nat_lt n seal)) [] (noted_by wish X log j) →
-          Moved a (set words i n) ports notes b since X (Sees first wish j X n)
+          Moved a (set words i n) ports notes b since X (SeatSees first wish j X n)
       moved_by added to legal is =
           let d = began_by first X b (seen_few a words ports notes b since X w s) s.began in
-          moved_to i d.0 d.2 added to legal (found_by wish X log j) (found_final wish finds) (Sees first wish j X n) (record {
+          moved_to i d.0 d.2 added to legal (found_by wish X log j) (found_final wish finds) (SeatSees first wish j X n) (record {
             n = d.0;
             began = d.1;
             log = log;
@@ -349,13 +350,13 @@ module _ (a : About) (words : List ℕ) (ports : ℕ → Port) (notes : ℕ → 
           by true = inl refl
           by false = inr (_, refl)
 
-      pub moved_see : Moved a (set words i n) ports notes b since X (Sees first wish j X n)
+      pub moved_see : Moved a (set words i n) ports notes b since X (SeatSees first wish j X n)
       moved_see = by (first && not (nat_lt n seal)) refl (one_note wish)
         where
-          nothing : [] ≡ cond (first && not (nat_lt n seal)) [] (noted_by wish X log j) → Moved a (set words i n) ports notes b since X (Sees first wish j X n)
+          nothing : [] ≡ cond (first && not (nat_lt n seal)) [] (noted_by wish X log j) → Moved a (set words i n) ports notes b since X (SeatSees first wish j X n)
           nothing is = moved_by [] sees_nothing (subst (λ (l : List Noted). LegalNotes a.opening (seen_in p') k 0 l) (sym (append-nil (notes k))) legal_then) is
 
-          by : (c : Bool) → (first && not (nat_lt n seal)) ≡ c → ((noted_by wish X log j ≡ []) ⊎ ((m : Noted) × (noted_by wish X log j ≡ m ∷ []))) → Moved a (set words i n) ports notes b since X (Sees first wish j X n)
+          by : (c : Bool) → (first && not (nat_lt n seal)) ≡ c → ((noted_by wish X log j ≡ []) ⊎ ((m : Noted) × (noted_by wish X log j ≡ m ∷ []))) → Moved a (set words i n) ports notes b since X (SeatSees first wish j X n)
           by true skip some = nothing (sym (ap (λ (c : Bool). cond c [] (noted_by wish X log j)) skip))
           by false skip (inl none) = nothing (sym (ap (λ (c : Bool). cond c [] (noted_by wish X log j)) skip ∙ none))
           by false skip (inr one) =

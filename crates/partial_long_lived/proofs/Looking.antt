@@ -1,5 +1,5 @@
 -- What a look leaves of a port.
-use Rattle.partial_long_lived.proofs.Common.{ℕ, ◌≡◌, ◌==◌, Bool, true, false, cond, Option, Some, None, refl, sym, ap, ◌∙◌, option_map_or, packed, Owned, Port, having_passed, having_looked, Stand, Seated, port_at, having_found, looked_at, Kept, Looked, HasTaken, HoldsMark, IsPast, MayPutPort, Owns, Remains, Works}
+use Rattle.partial_long_lived.proofs.Common.{ℕ, ◌≡◌, ◌==◌, Bool, true, false, cond, Option, Some, None, refl, sym, ap, ◌∙◌, option_map_or, packed, Owned, Port, having_passed, having_looked, Stand, SeatedPort, port_at, having_found, looked_at, StaysAt, Looked, HasTaken, HoldsMark, IsPast, MayPutPort, Owns, Remains, HasSetWords}
 
 -- what a look leaves as it was, whatever it finds
 looked_same : {A : Type 0} (f : Port → A) (n : ℕ) (p : Port) → ((o : Owned) → f (having_looked p o) ≡ f p) → f (having_passed p) ≡ f p → f (looked_at n p) ≡ f p
@@ -12,7 +12,7 @@ looked_same {A} f n p here away = by (n == packed p.control.here) p.control.owne
 
 module _ (first : Bool) (s t : Stand) (b : Bool) (w : Looked first s b t) where
   port_is : (port_at t).port ≡ looked_at w.found (port_at s).port
-  port_is = ap (λ (z : Seated). z.port) w.looks.2
+  port_is = ap (λ (z : SeatedPort). z.port) w.looks.2
 
   pub looked_keeps : {A : Type 0} (f : Port → A) → ((o : Owned) → f (having_looked (port_at s).port o) ≡ f (port_at s).port) → f (having_passed (port_at s).port) ≡ f (port_at s).port →
       f (port_at t).port ≡ f (port_at s).port
@@ -39,7 +39,7 @@ module _ (first : Bool) (s t : Stand) (b : Bool) (w : Looked first s b t) where
   }
 
 -- a look but the first step of a call
-pub looked_remains : (s t : Stand) (b : Bool) → Kept s t → Looked false s b t → Remains s t
+pub looked_remains : (s t : Stand) (b : Bool) → StaysAt s t → Looked false s b t → Remains s t
 looked_remains s t b k w = record {
   stays = record {
     shape = k.shape;
@@ -50,8 +50,8 @@ looked_remains s t b k w = record {
     goes = k.goes;
     here = looked_keeps false s t b w (λ (p : Port). p.control.here) (λ o. refl) refl;
     entering = looked_keeps false s t b w (λ (p : Port). p.control.entering) (λ o. refl) refl;
-    notes = ap (λ (z : Seated). z.notes) w.looks.2;
-    began = ap (λ (z : Seated). z.began) w.looks.2 ∙ w.looks.1;
+    notes = ap (λ (z : SeatedPort). z.notes) w.looks.2;
+    began = ap (λ (z : SeatedPort). z.began) w.looks.2 ∙ w.looks.1;
   };
   same = record {
     part = looked_keeps false s t b w (λ (p : Port). p.part) (λ o. refl) refl;
@@ -62,7 +62,7 @@ looked_remains s t b k w = record {
 }
 
 -- the first look of an owner
-pub taken_works : (s t : Stand) (b : Bool) (y : ℕ) → HasTaken s y → Looked false s b t → b ≡ true → Works t y 0 0
+pub taken_works : (s t : Stand) (b : Bool) (y : ℕ) → HasTaken s y → Looked false s b t → b ≡ true → HasSetWords t y 0 0
 taken_works s t b y taken w here =
     let is = looked_own false s t b w here _ taken.is in record {
       stands = ap (λ (p : Port). p.control.entering) is ∙ taken.stands;

@@ -1,5 +1,5 @@
 -- The steps of a port's machine are allowed.
-use Rattle.partial_long_lived.proofs.Common.{ℕ, ◌≡◌, ◌≢◌, ◌+◌, ◌<◌, ◌≤◌, ◌||◌, ◌++◌, Bool, true, false, cond, Option, Some, None, IfSome, List, [], ◌∷◌, length, map, take, drop, get_or, set, refl, sym, ap, subst, ◌∙◌, inl, inr, arith, append-nil, append_assoc, length-append, AllByRecursion, length-map, take-append-drop, take-append-le, set-get_or, Applied, Call, Answer, stamp_of, LegalNotes, Noted, seen_by, Step, Load, Store, Exchange, Add, answer_of, word_of, words_after, CoreState, advance, reply_of, answer_for, call_of, is_begun, Part, core_of, begun_with, since_with, put, IsSealed, Place, Plan, arena_words, base, component_words, plain, placed, history_of, opening_behind, public_entry, public_log, among, history_longer, known, Control, Entering, Epoch, Port, Stands, Marks, Loaded, IsOld, MayPut, option_map, present_history, all_back, Beside, IsStanding, LawfulEpochs, numbers, place_now, HaveSlots, MachineLeads, MeetsSeal, ends_over, ExpectedOne, LawfulMemory, Reached, noting, public_noted, KeepsTime, asides_keep_time, machines_are_never_refused, notes_stay_lawful, steps_keep_places, put_all, put_other, put_same, About, Began, Found, IsFinal, IsLast, IsSeat, Seated, plan_of, seen_in, Begins, IsKnown, IsApart, Makes, MayMake, answered, change_of, over_by, told_of}
+use Rattle.partial_long_lived.proofs.Common.{ℕ, ◌≡◌, ◌≢◌, ◌+◌, ◌<◌, ◌≤◌, ◌||◌, ◌++◌, Bool, true, false, cond, Option, Some, None, IfSome, List, [], ◌∷◌, length, map, take, drop, get_or, set, refl, sym, ap, subst, ◌∙◌, inl, inr, arith, append-nil, append_assoc, length-append, AllByRecursion, length-map, take-append-drop, take-append-le, set-get_or, Applied, Call, Answer, stamp_of, LegalNotes, Noted, seen_by, Step, Load, Store, Exchange, Add, answer_of, word_of, words_after, CoreState, advance, reply_of, answer_for, call_of, is_begun, Part, core_of, begun_with, since_with, put, IsSealed, Place, Plan, arena_words, base, component_words, plain, placed, history_of, opening_behind, public_entry, public_log, among, history_longer, known, Control, Entering, Epoch, Port, Stands, Marks, Loaded, IsOld, MayPut, option_map, present_history, all_back, Beside, IsStanding, LawfulEpochs, numbers, place_now, HaveSlots, MachineLeads, MeetsSeal, ends_over, ExpectedOne, LawfulMemory, Reached, noting, public_noted, KeepsTime, asides_keep_time, machines_are_never_refused, notes_stay_lawful, steps_keep_places, put_all, put_other, put_same, About, Began, Found, IsFinal, IsLast, IsSeat, SeatedPort, plan_of, seen_in, BeginsWith, IsSeatKnown, IsApart, SeatMakes, MayMake, unsealed_answer, change_of, over_by, told_of}
 use Rattle.partial_model.specs.declared.call.Call.TheVariants as call
 use Rattle.partial_model.specs.declared.call.Answer.TheVariants as answer
 use Rattle.partial_epochs.proofs.NotesStay.{legal_notes_seen, one_or_none}
@@ -115,12 +115,12 @@ module _ (e : Plan) (words : List ℕ) (ports : ℕ → Port) (b : Beside) (w : 
 
 module _ (a : About) (words : List ℕ) (ports : ℕ → Port) (notes : ℕ → List Noted) (b : Beside) (since : ℕ → ℕ) (w : LawfulMemory (plan_of a) words ports b notes)
     (time : KeepsTime (plan_of a) words ports (place_now b) since) (k : ℕ) (below : k < a.ports) (g : Began) (f : Option Found) (s : IsSeat a ports notes b since (seat_at a ports notes k g f))
-    (of_port : IsKnown (seat_at a ports notes k g f)) (slots : HaveSlots (plan_of a)) (first : Bool) (c : CoreState) (step : Step) (may : MayMake (seat_at a ports notes k g f) c step)
+    (of_port : IsSeatKnown (seat_at a ports notes k g f)) (slots : HaveSlots (plan_of a)) (first : Bool) (c : CoreState) (step : Step) (may : MayMake (seat_at a ports notes k g f) c step)
     (lead : MachineLeads (plan_of a) words ports b k c step) where
   abbrev e : Plan
   e = plan_of a
 
-  abbrev X : Seated
+  abbrev X : SeatedPort
   X = seat_at a ports notes k g f
 
   abbrev i : ℕ
@@ -132,7 +132,7 @@ module _ (a : About) (words : List ℕ) (ports : ℕ → Port) (notes : ℕ → 
   abbrev A : ℕ
   A = answer_of (arena_words e words (ports k).control.here.arena) step
 
-  answer_is : answered e step n ≡ A
+  answer_is : unsealed_answer e step n ≡ A
   answer_is = ap (plain e (word_of step)) (sym (told_then words e (ports k).control.here.arena step)) ∙ lead.gives
 
   -- the port behind the step
@@ -156,7 +156,7 @@ module _ (a : About) (words : List ℕ) (ports : ℕ → Port) (notes : ℕ → 
             ∙ append_assoc (ports k).part.seen (drop (length (ports k).part.seen) lead.standing.epoch.log) lead.entries,
       )
 
-  begins_then : Begins (seen_in (ports k)) (seen_in lead.port)
+  begins_then : BeginsWith (seen_in (ports k)) (seen_in lead.port)
   begins_then = let r = seen_rest in (
     public_log (length (ports k).before) r.0,
     ap (λ (l : List (List Applied)). history_of (lead.port.part.seen ∷ l)) lead.before ∙ ap (λ (l : List Applied). history_of (l ∷ (ports k).before)) r.1 ∙ history_longer (ports k).part.seen r.0 (ports k).before,
@@ -243,7 +243,7 @@ module _ (a : About) (words : List ℕ) (ports : ℕ → Port) (notes : ℕ → 
       (legal_notes_seen e words ports b notes k c step w below may.stands lead (map (public_noted e (ports k).before) lead.tells.new) (inr (refl, shown_then, expected)) was shown_then expected)
 
   -- the step that is due leads on
-  pub moved_make : Moved a (set words i (change_of step n)) ports notes b since X (λ y. Makes first c step X (answered e step n) y)
+  pub moved_make : Moved a (set words i (change_of step n)) ports notes b since X (λ y. SeatMakes first c step X (unsealed_answer e step n) y)
   moved_make =
       let stands = may.stands in
       let words_is = words_then words e (ports k).control.here.arena step in
@@ -306,7 +306,7 @@ module _ (a : About) (words : List ℕ) (ports : ℕ → Port) (notes : ℕ → 
         reached = (there.later, there.log, there.is);
         seen = begins_then;
         legal = legal_then;
-        says = subst (λ t. Makes first c step X t (record { about = a; number = k; port = lead.port; notes = notes k ++ added; began = d.0; found = f })) (sym answer_is) (record {
+        says = subst (λ t. SeatMakes first c step X t (record { about = a; number = k; port = lead.port; notes = notes k ++ added; began = d.0; found = f })) (sym answer_is) (record {
           n = d.0;
           began = d.1;
           log = lead.standing.epoch.log;
@@ -320,6 +320,6 @@ module _ (a : About) (words : List ℕ) (ports : ℕ → Port) (notes : ℕ → 
       }
 
   -- its call began in an epoch that has come
-  pub moved_come : Moved a (set words i (change_of step n)) ports notes b since X (λ y. Makes first c step X (answered e step n) y × (y.began.epoch ≤ length b.before))
+  pub moved_come : Moved a (set words i (change_of step n)) ports notes b since X (λ y. SeatMakes first c step X (unsealed_answer e step n) y × (y.began.epoch ≤ length b.before))
   unfolding moved_make
   moved_come = moved_says moved_make (moved_make.says, (began_by first X b (seen_few a words ports notes b since X w s) s.began).2.come)

@@ -1,6 +1,6 @@
 -- The steps of the machine of a seat's port are allowed.
-use Rattle.partial_long_lived.proofs.Common.{ℕ, ◌≡◌, ◌+◌, ◌<◌, Bool, false, cond, List, get_or, set, refl, sym, ap, subst, ◌∙◌, inl, inr, arith, ◌⊎◌, set-get_or, Me, Allows, Step, Load, Exchange, word_of, CoreState, IsSealed, Place, Plan, base, component_words, HaveSlots, MachineLeads, MeetsSeal, machine_steps_stay_lawful, unsealed_is_present, at_of, eqb_tells, About, IsKept, IsSeat, Seated, one_of, plan_of, IsKnown, IsOne, tells, seal, unsealed, cases_lt, lt-ltb, Glances}
-use Rattle.partial_long_lived.specs.Inner.Machine.{Begins as BeginsUpdate, Exchanges, IsApart, Makes, MayMake, MissesSeal, answered, change_of, makes}
+use Rattle.partial_long_lived.proofs.Common.{ℕ, ◌≡◌, ◌+◌, ◌<◌, Bool, false, cond, List, get_or, set, refl, sym, ap, subst, ◌∙◌, inl, inr, arith, ◌⊎◌, set-get_or, Me, Allows, Step, Load, Exchange, word_of, CoreState, IsSealed, Place, Plan, base, component_words, HaveSlots, MachineLeads, MeetsSeal, machine_steps_stay_lawful, unsealed_is_present, at_of, eqb_tells, About, IsRuleKept, IsSeat, SeatedPort, one_of, plan_of, IsSeatKnown, IsOne, tells, seal, unsealed, cases_lt, lt-ltb, Glances}
+use Rattle.partial_long_lived.specs.Inner.Machine.{SeatBegins as BeginsUpdate, Exchanges, IsApart, SeatMakes, MayMake, MissesSeal, unsealed_answer, change_of, makes}
 use Rattle.partial_long_lived.proofs.Sights.{nothing_moved}
 use Rattle.partial_long_lived.proofs.Kept.{Moved, allowed, moved_as, moved_says}
 use Rattle.partial_long_lived.proofs.Loads.{moved_see, seat_at, seat_is}
@@ -24,42 +24,43 @@ stays_sealed step j old new n is sealed same = ap (λ (t : Step). change_of t n)
 ])
 
 -- a step of the machine of a seat's port is allowed
-module _ {S : Type 0} (a : About) (slots id : ℕ) (me : Me S (List Seated)) (one : IsOne me) (own : (one_of me.0).about ≡ a) (known : IsKnown (one_of me.0)) (room : HaveSlots (plan_of a))
+module _ {S : Type 0} (a : About) (slots id : ℕ) (me : Me S (List SeatedPort)) (one : IsOne me) (own : (one_of me.0).about ≡ a) (known : IsSeatKnown (one_of me.0)) (room : HaveSlots (plan_of a))
     (c : CoreState) (step : Step) (may : MayMake (one_of me.0) c step) where
-  abbrev x : Seated
+  abbrev x : SeatedPort
   x = one_of me.0
 
   abbrev e : Plan
   e = plan_of a
 
-  pub may_make : (first : Bool) → IsApart a.sizes step → Allows (IsKept a) slots id me (base e x.port.control.here.arena + word_of step) (change_of step) (makes first c step me)
-  may_make first apart = allowed a slots id me (base e x.port.control.here.arena + word_of step) (change_of step) (λ x n y. Makes first c step x (answered (plan_of x.about) step n) y) one own
+  pub may_make : (first : Bool) → IsApart a.sizes step → Allows (IsRuleKept a) slots id me (base e x.port.control.here.arena + word_of step) (change_of step) (makes first c step me)
+  may_make first apart = allowed a slots id me (base e x.port.control.here.arena + word_of step) (change_of step) (λ x n y. SeatMakes first c step x (unsealed_answer (plan_of x.about) step n) y)
+      one own
       (λ words ports notes b since w time s small.
       let k : ℕ = x.number in
-      let X : Seated = seat_at a ports notes k x.began x.found in
+      let X : SeatedPort = seat_at a ports notes k x.began x.found in
       let same = seat_is a ports notes b since x s in
-      let P : Seated → Type 0 = λ z. Moved a (set words (base e z.port.control.here.arena + word_of step) (change_of step (get_or words (base e z.port.control.here.arena + word_of step) 0))) ports notes b since z
-      (λ y. Makes first c step z (answered (plan_of z.about) step (get_or words (base e z.port.control.here.arena + word_of step) 0)) y) in
-      let may' : MayMake X c step = subst (λ (z : Seated). MayMake z c step) same may in
+      let P : SeatedPort → Type 0 = λ z. Moved a (set words (base e z.port.control.here.arena + word_of step) (change_of step (get_or words (base e z.port.control.here.arena + word_of step) 0))) ports notes b since z
+      (λ y. SeatMakes first c step z (unsealed_answer (plan_of z.about) step (get_or words (base e z.port.control.here.arena + word_of step) 0)) y) in
+      let may' : MayMake X c step = subst (λ (z : SeatedPort). MayMake z c step) same may in
       let lead : MachineLeads e words ports b k c step = (elim (machine_steps_stay_lawful e words ports b k c step w.epochs s.number may'.stands may'.machine may'.due may'.claim) [
         | inl met ↦ absurd (never_met e (component_words e words (ports k).control.here.arena) step apart met.0)
         | inr lead ↦ lead
       ]) in
-      subst P (sym same) (moved_make a words ports notes b since w time k s.number x.began x.found (subst (IsSeat a ports notes b since) same s) (subst IsKnown same known) room first c step may' lead))
+      subst P (sym same) (moved_make a words ports notes b since w time k s.number x.began x.found (subst (IsSeat a ports notes b since) same s) (subst IsSeatKnown same known) room first c step may' lead))
 
   -- the exchange of its component
-  pub may_exchange : (j old new : ℕ) → j < a.sizes.m → step ≡ Exchange j old new → Allows (IsKept a) slots id me (base e x.port.control.here.arena + word_of step) (change_of step) (tells (Exchanges c old step) me)
+  pub may_exchange : (j old new : ℕ) → j < a.sizes.m → step ≡ Exchange j old new → Allows (IsRuleKept a) slots id me (base e x.port.control.here.arena + word_of step) (change_of step) (tells (Exchanges c old step) me)
   may_exchange j old new inside is = allowed a slots id me (base e x.port.control.here.arena + word_of step) (change_of step) (Exchanges c old step) one own
       (λ words ports notes b since w time s small.
       let k : ℕ = x.number in
-      let X : Seated = seat_at a ports notes k x.began x.found in
+      let X : SeatedPort = seat_at a ports notes k x.began x.found in
       let same = seat_is a ports notes b since x s in
       let i : ℕ = base e (ports k).control.here.arena + word_of step in
       let n : ℕ = get_or words i 0 in
-      let P : Seated → Type 0 = λ z. Moved a (set words (base e z.port.control.here.arena + word_of step) (change_of step (get_or words (base e z.port.control.here.arena + word_of step) 0))) ports notes b since z
+      let P : SeatedPort → Type 0 = λ z. Moved a (set words (base e z.port.control.here.arena + word_of step) (change_of step (get_or words (base e z.port.control.here.arena + word_of step) 0))) ports notes b since z
       (Exchanges c old step z (get_or words (base e z.port.control.here.arena + word_of step) 0)) in
-      let may' : MayMake X c step = subst (λ (z : Seated). MayMake z c step) same may in
-      let of_port = subst IsKnown same known in
+      let may' : MayMake X c step = subst (λ (z : SeatedPort). MayMake z c step) same may in
+      let of_port = subst IsSeatKnown same known in
       let seat = subst (IsSeat a ports notes b since) same s in
       subst P (sym same) (elim (seal_cases old n) [
         | inl met ↦ nothing_moved a words (set words i (change_of step n)) ports notes b since w time X seat refl of_port may'.stands (ap (set words i) (stays_sealed step j old new n is met.0 met.1) ∙ set-get_or words i 0)
@@ -76,18 +77,18 @@ module _ {S : Type 0} (a : About) (slots id : ℕ) (me : Me S (List Seated)) (on
       ]))
 
   -- the load by which an update begins
-  pub may_begin : (first : Bool) (j : ℕ) → j < a.sizes.m → step ≡ Load j → Allows (IsKept a) slots id me (base e x.port.control.here.arena + j) (λ n. n) (tells (BeginsUpdate first c j) me)
+  pub may_begin : (first : Bool) (j : ℕ) → j < a.sizes.m → step ≡ Load j → Allows (IsRuleKept a) slots id me (base e x.port.control.here.arena + j) (λ n. n) (tells (BeginsUpdate first c j) me)
   may_begin first j inside is = allowed a slots id me (base e x.port.control.here.arena + j) (λ n. n) (BeginsUpdate first c j) one own
       (λ words ports notes b since w time s small.
       let k : ℕ = x.number in
-      let X : Seated = seat_at a ports notes k x.began x.found in
+      let X : SeatedPort = seat_at a ports notes k x.began x.found in
       let same = seat_is a ports notes b since x s in
       let i : ℕ = base e (ports k).control.here.arena + j in
       let n : ℕ = get_or words i 0 in
-      let P : Seated → Type 0 = λ z. Moved a (set words (base e z.port.control.here.arena + j) (get_or words (base e z.port.control.here.arena + j) 0)) ports notes b since z
+      let P : SeatedPort → Type 0 = λ z. Moved a (set words (base e z.port.control.here.arena + j) (get_or words (base e z.port.control.here.arena + j) 0)) ports notes b since z
       (BeginsUpdate first c j z (get_or words (base e z.port.control.here.arena + j) 0)) in
-      let may' : MayMake X c (Load j) = subst (λ (t : Step). MayMake X c t) is (subst (λ (z : Seated). MayMake z c step) same may) in
-      let of_port = subst IsKnown same known in
+      let may' : MayMake X c (Load j) = subst (λ (t : Step). MayMake X c t) is (subst (λ (z : SeatedPort). MayMake z c step) same may) in
+      let of_port = subst IsSeatKnown same known in
       let seat = subst (IsSeat a ports notes b since) same s in
       subst P (sym same) (elim (cases_lt n seal) [
         | inl less ↦
@@ -95,12 +96,12 @@ module _ {S : Type 0} (a : About) (slots id : ℕ) (me : Me S (List Seated)) (on
               | inl met ↦ absurd (never_met e (component_words e words (ports k).control.here.arena) (Load j) tt met.0)
               | inr lead ↦ lead
             ]) in
-            let plain_is : answered e (Load j) n ≡ n = ap (λ (t : Bool). cond t (unsealed n) n) (lt-ltb j a.sizes.m inside) ∙ omega (arith, less) in
+            let plain_is : unsealed_answer e (Load j) n ≡ n = ap (λ (t : Bool). cond t (unsealed n) n) (lt-ltb j a.sizes.m inside) ∙ omega (arith, less) in
             let m = moved_come a words ports notes b since w time k s.number x.began x.found seat of_port room first c (Load j) may' lead in
             let at : get_or (component_words e words (ports k).control.here.arena) j 0 ≡ n = at_of (λ i. get_or words (base e (ports k).control.here.arena + i) 0) 0 a.sizes.m j inside ∙ ap (λ i. get_or words (base e (ports k).control.here.arena + i) 0) (omega arith) in
             let here = ap (λ (d : Place). d.epoch) (unsealed_is_present e words ports b k j w.epochs s.number may'.stands inside (λ sealed. omega (arith, at, less, sealed))).here in
             let come = m.says.1 in
-            moved_says m (inr (less, subst (λ t. Makes first c (Load j) X t m.y) plain_is m.says.0, omega (arith, come, here)))
+            moved_says m (inr (less, subst (λ t. SeatMakes first c (Load j) X t m.y) plain_is m.says.0, omega (arith, come, here)))
         | inr from ↦ moved_as (λ y m. inl (from, m))
             (moved_see a words ports notes b since w time k s.number x.began x.found may'.stands seat of_port j inside first Glances (λ no. absurd no))
       ]))

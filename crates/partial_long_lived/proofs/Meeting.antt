@@ -1,5 +1,5 @@
 -- The step by which one port of a seat of two sees all of its epoch.
-use Rattle.partial_long_lived.proofs.Common.{ℕ, ◌≡◌, ◌<◌, ◌≤◌, ◌++◌, List, [], ◌∷◌, length, get_or, set, refl, sym, ap, subst, ◌∙◌, arith, Option, append-nil, append_assoc, length-append, AllByRecursion, Me, Allows, keeps, Applied, Noted, all_at, all_after, history_of, public_log, Port, Stands, Beside, place_now, LawfulMemory, having_seen, one_history, KeepsTime, history_grows, history_longer, About, Began, Found, HasBegun, IsKept, IsSeat, Seated, one_of, plan_of, seats_of, seen_in, Begins, IsKnown, IsOne}
+use Rattle.partial_long_lived.proofs.Common.{ℕ, ◌≡◌, ◌<◌, ◌≤◌, ◌++◌, List, [], ◌∷◌, length, get_or, set, refl, sym, ap, subst, ◌∙◌, arith, Option, append-nil, append_assoc, length-append, AllByRecursion, Me, Allows, keeps, Applied, Noted, all_at, all_after, history_of, public_log, Port, Stands, Beside, place_now, LawfulMemory, having_seen, one_history, KeepsTime, history_grows, history_longer, About, Began, Found, BeganInTime, IsRuleKept, IsSeat, SeatedPort, one_of, plan_of, seats_of, seen_in, BeginsWith, IsSeatKnown, IsOne}
 use Rattle.partial_long_lived.specs.Inner.Meeting.{Observes, observes}
 use Rattle.partial_long_lived.proofs.Begins.{now, now_has_begun, seen_few}
 use Rattle.partial_long_lived.proofs.Kept.{Moved, goes_then, once_then, seats_then}
@@ -8,7 +8,7 @@ use Rattle.partial_long_lived.proofs.Seen.{seen_begins}
 use Rattle.partial_long_lived.proofs.Views.{around}
 
 -- of two beginnings of a history the longer one begins with the other
-begins_within : (h l m : List Applied) → Begins h m → Begins l m → length h ≤ length l → Begins h l
+begins_within : (h l m : List Applied) → BeginsWith h m → BeginsWith l m → length h ≤ length l → BeginsWith h l
 begins_within [] l m a c short = (l, refl)
 begins_within (x ∷ h) [] m a c short = absurd (omega (arith, short))
 begins_within (x ∷ h) (y ∷ l) [] a c short = let bad : [] ≡ x ∷ (h ++ a.0) = a.1 in absurd cc
@@ -35,7 +35,7 @@ same_end (c ∷ l) [] x y t u is long =
 same_end (c ∷ l) (d ∷ m) x y t u is long = let rest : l ++ x ∷ t ≡ m ++ y ∷ u = cc in same_end l m x y t u rest long
 
 -- All that a port has seen was there in its epoch.
-module _ (a : About) (words : List ℕ) (ports : ℕ → Port) (notes : ℕ → List Noted) (b : Beside) (since : ℕ → ℕ) (w : LawfulMemory (plan_of a) words ports b notes) (y : Seated)
+module _ (a : About) (words : List ℕ) (ports : ℕ → Port) (notes : ℕ → List Noted) (b : Beside) (since : ℕ → ℕ) (w : LawfulMemory (plan_of a) words ports b notes) (y : SeatedPort)
     (s : IsSeat a ports notes b since y) where
   abbrev seen_then : Began
   seen_then = record { epoch = length y.port.before; length = length (seen_in y.port) }
@@ -55,7 +55,7 @@ module _ (a : About) (words : List ℕ) (ports : ℕ → Port) (notes : ℕ → 
       let both = length-append at.0 (at.1 ∷ y.port.before) in
       omega (arith, all, both)
 
-  seen_has_begun : HasBegun b seen_then
+  seen_has_begun : BeganInTime b seen_then
   seen_has_begun = record {
     come = come_there;
     reached = λ later before log is long.
@@ -73,12 +73,13 @@ module _ (a : About) (words : List ℕ) (ports : ℕ → Port) (notes : ℕ → 
       length (seen_in y.port) ≤ length (history_of (log ∷ before))
   seen_there later before log is late = let e = epoch_is in begun_place b seen_then later before log seen_has_begun is (omega (arith, late, e))
 
-  pub begins_all : Begins (seen_in y.port) (one_history b)
+  pub begins_all : BeginsWith (seen_in y.port) (one_history b)
   begins_all = let at = where_seen in seen_begins b y.port s.seen at.0 at.1 at.2
 
 -- what a port has seen of an epoch a port of a later one has seen
-seen_before : (a : About) (words : List ℕ) (ports : ℕ → Port) (notes : ℕ → List Noted) (b : Beside) (since : ℕ → ℕ) (w : LawfulMemory (plan_of a) words ports b notes) (x : Seated)
-    (s : IsSeat a ports notes b since x) (y : Seated) (t : IsSeat a ports notes b since y) → x.port.control.here.epoch < y.port.control.here.epoch → length (seen_in x.port) ≤ length (seen_in y.port)
+seen_before : (a : About) (words : List ℕ) (ports : ℕ → Port) (notes : ℕ → List Noted) (b : Beside) (since : ℕ → ℕ) (w : LawfulMemory (plan_of a) words ports b notes) (x : SeatedPort)
+    (s : IsSeat a ports notes b since x) (y : SeatedPort) (t : IsSeat a ports notes b since y) → x.port.control.here.epoch < y.port.control.here.epoch →
+    length (seen_in x.port) ≤ length (seen_in y.port)
 seen_before a words ports notes b since w x s y t early = by y.port.before refl
   where
     by : (before : List (List Applied)) → y.port.before ≡ before → length (seen_in x.port) ≤ length (seen_in y.port)
@@ -102,19 +103,19 @@ seen_before a words ports notes b since w x s y t early = by y.port.before refl
 -- a port that stands sees all of its epoch, beside another one
 observed : (a : About) (words : List ℕ) (ports : ℕ → Port) (notes : ℕ → List Noted) (b : Beside) (since : ℕ → ℕ) (w : LawfulMemory (plan_of a) words ports b notes) →
     KeepsTime (plan_of a) words ports (place_now b) since → (k : ℕ) → k < a.ports → (g : Began) → (f : Option Found) → (ports k).control.entering ≡ Stands →
-    IsSeat a ports notes b since (seat_at a ports notes k g f) → IsKnown (seat_at a ports notes k g f) → (y : Seated) → IsSeat a ports notes b since y → (i : ℕ) →
+    IsSeat a ports notes b since (seat_at a ports notes k g f) → IsSeatKnown (seat_at a ports notes k g f) → (y : SeatedPort) → IsSeat a ports notes b since y → (i : ℕ) →
     Moved a (set words i (get_or words i 0)) ports notes b since (seat_at a ports notes k g f) (Observes (seat_at a ports notes k g f) y)
 observed a words ports notes b since w time k below g f stands s known y t i =
-    let x : Seated = seat_at a ports notes k g f in
+    let x : SeatedPort = seat_at a ports notes k g f in
     let there = standing a words ports notes b since w time k below g f stands in
     let log : List Applied = there.epoch.log in
     let at = where_is a words ports notes b since w time k below g f stands in
-    let z : Seated = record x { port = having_seen (ports k) log; began = now b; notes = notes k ++ [] } in
+    let z : SeatedPort = record x { port = having_seen (ports k) log; began = now b; notes = notes k ++ [] } in
     let epoch = (w.noted.reached k below).epoch in
     let long = come_there a words ports notes b since w y t in
     let own = epoch_is a words ports notes b since w y t in
     let few = seen_few a words ports notes b since x w s in
-    let all_of_x : Begins (history_of (log ∷ (ports k).before)) (one_history b) = (let grows = history_grows at.0 (log ∷ (ports k).before) in (grows.0, ap history_of at.1 ∙ grows.1)) in
+    let all_of_x : BeginsWith (history_of (log ∷ (ports k).before)) (one_history b) = (let grows = history_grows at.0 (log ∷ (ports k).before) in (grows.0, ap history_of at.1 ∙ grows.1)) in
     moved_glance a words ports notes b since w time k below g f stands s known i (now b) (now_has_begun b) (Observes x y) (record {
       n = now b;
       log = log;
@@ -128,17 +129,18 @@ observed a words ports notes b since w time k below g f stands s known y t i =
     })
 
 -- the step is allowed to a seat of two ports, of which the first one stands
-pub may_observe : {S : Type 0} (a : About) (slots id : ℕ) (me : Me S (List Seated)) (x y : Seated) (i : ℕ) → me ≡ (x ∷ y ∷ [], []) → x.about ≡ a → IsKnown x → x.port.control.entering ≡ Stands →
-    Allows (IsKept a) slots id me i (λ n. n) (observes me)
-may_observe {S} a slots id me x y i is own known stands = subst (λ (m : Me S (List Seated)). Allows {S = S} (IsKept a) slots id m i (λ n. n) (observes m)) (sym is) here
+pub may_observe : {S : Type 0} (a : About) (slots id : ℕ) (me : Me S (List SeatedPort)) (x y : SeatedPort) (i : ℕ) → me ≡ (x ∷ y ∷ [], []) → x.about ≡ a → IsSeatKnown x →
+    x.port.control.entering ≡ Stands →
+    Allows (IsRuleKept a) slots id me i (λ n. n) (observes me)
+may_observe {S} a slots id me x y i is own known stands = subst (λ (m : Me S (List SeatedPort)). Allows {S = S} (IsRuleKept a) slots id m i (λ n. n) (observes m)) (sym is) here
   where
-    pair : Me S (List Seated)
+    pair : Me S (List SeatedPort)
     pair = (x ∷ y ∷ [], [])
 
-    here : Allows {S = S} (IsKept {S = S} a) slots id pair i (λ n. n) (observes {S = S} pair)
+    here : Allows {S = S} (IsRuleKept {S = S} a) slots id pair i (λ n. n) (observes {S = S} pair)
     here table kept homes at small =
-        let P : Seated → Type 0 = IsSeat a kept.ports kept.notes kept.beside kept.since in
-        let one : Me S (List Seated) = (x ∷ [], []) in
+        let P : SeatedPort → Type 0 = IsSeat a kept.ports kept.notes kept.beside kept.since in
+        let one : Me S (List SeatedPort) = (x ∷ [], []) in
         let r = around table.views id (x ∷ y ∷ []) at in
         let seats : AllByRecursion P (r.before ++ x ∷ (y ∷ r.behind)) = subst (AllByRecursion P) r.now kept.seats in
         let once : (k : ℕ) → seats_of k (r.before ++ x ∷ (y ∷ r.behind)) ≤ 1 = λ k. subst (λ l. seats_of k l ≤ 1) r.now (kept.once k) in
@@ -146,8 +148,8 @@ may_observe {S} a slots id me x y i is own known stands = subst (λ (m : Me S (L
         let t : P y = (all_after P r.before x (y ∷ r.behind) seats).0 in
         let same = seat_is a kept.ports kept.notes kept.beside kept.since x s in
         let stands' = ap (λ (p : Port). p.control.entering) (sym s.port) ∙ stands in
-        let m = subst (λ (z : Seated). Moved a (set table.words i (get_or table.words i 0)) kept.ports kept.notes kept.beside kept.since z (Observes z y)) (sym same)
-        (observed a table.words kept.ports kept.notes kept.beside kept.since kept.lawful kept.time x.number s.number x.began x.found stands' (subst P same s) (subst IsKnown same known) y t i) in (
+        let m = subst (λ (z : SeatedPort). Moved a (set table.words i (get_or table.words i 0)) kept.ports kept.notes kept.beside kept.since z (Observes z y)) (sym same)
+        (observed a table.words kept.ports kept.notes kept.beside kept.since kept.lawful kept.time x.number s.number x.began x.found stands' (subst P same s) (subst IsSeatKnown same known) y t i) in (
           m.y ∷ y ∷ [],
           keeps,
           tt,
@@ -167,5 +169,5 @@ may_observe {S} a slots id me x y i is own known stands = subst (λ (m : Me S (L
         )
 
 -- the seat of two ports that were seats of one
-pub together : {S : Type 0} (m n : Me S (List Seated)) → IsOne m → IsOne n → (m.0 ++ n.0 ≡ one_of m.0 ∷ one_of n.0 ∷ [])
-together m n one two = ap (λ (v : List Seated). v ++ n.0) one.0 ∙ ap (λ (v : List Seated). one_of m.0 ∷ v) two.0
+pub together : {S : Type 0} (m n : Me S (List SeatedPort)) → IsOne m → IsOne n → (m.0 ++ n.0 ≡ one_of m.0 ∷ one_of n.0 ∷ [])
+together m n one two = ap (λ (v : List SeatedPort). v ++ n.0) one.0 ∙ ap (λ (v : List SeatedPort). one_of m.0 ∷ v) two.0

@@ -1,32 +1,32 @@
 -- How a meeting of two ports leaves each of them.
-use Rattle.partial_long_lived.proofs.Common.{◌≡◌, ◌<◌, ◌≤◌, List, [], length, take, inl, sym, ap, subst, ◌∙◌, arith, append-nil, take-append_seam, TableId, Applied, core_of, About, Stand, Seating, Began, Seated, one_in, IsOf, MemoryView, PortView, port_view, seen_in, IsSeatingOf, IsStandOf, HasCome, IsIdle, Kept, Settled, IsHeld, port_at, Begins}
+use Rattle.partial_long_lived.proofs.Common.{◌≡◌, ◌<◌, ◌≤◌, List, [], length, take, inl, sym, ap, subst, ◌∙◌, arith, append-nil, take-append_seam, TableId, Applied, core_of, About, Stand, Seating, Began, SeatedPort, one_in, IsOf, MemoryView, PortView, port_view, seen_in, IsSeatingOf, IsStandOf, HasCome, IsIdle, StaysAt, Settled, IsHeld, port_at, BeginsWith}
 use Rattle.partial_long_lived.specs.Calls as calls
 use Rattle.partial_long_lived.specs.Inner.Meeting.{HasMet, Observes}
 use Rattle.partial_long_lived.proofs.Answering.{callers_see, goes_seen, view_kept, view_taken}
 use Rattle.partial_long_lived.proofs.Coming.{begins_on, come_on}
 
 -- a port that has seen all of its epoch stands where it stood
-observed_come : (s t : Stand) (y : Seated) → IsIdle s → Kept s t → Observes (port_at s) y (port_at t) → HasCome s t
+observed_come : (s t : Stand) (y : SeatedPort) → IsIdle s → StaysAt s t → Observes (port_at s) y (port_at t) → HasCome s t
 observed_come s t y idle kept w = record {
   shape = kept.shape;
   number = kept.number;
   goes = kept.goes;
-  idle = record { stands = ap (λ (z : Seated). z.port.control.entering) w.is ∙ idle.stands; free = ap (λ (z : Seated). z.port.control.owned) w.is ∙ idle.free };
-  machine = inl (kept.epoch, ap (λ (z : Seated). core_of z.port.part) w.is, ap (λ (z : Seated). z.port.over) w.is);
+  idle = record { stands = ap (λ (z : SeatedPort). z.port.control.entering) w.is ∙ idle.stands; free = ap (λ (z : SeatedPort). z.port.control.owned) w.is ∙ idle.free };
+  machine = inl (kept.epoch, ap (λ (z : SeatedPort). core_of z.port.part) w.is, ap (λ (z : SeatedPort). z.port.over) w.is);
 }
 
 -- and so does the other one
-beside_come : (s t : Stand) → IsIdle s → Kept s t → port_at t ≡ port_at s → HasCome s t
+beside_come : (s t : Stand) → IsIdle s → StaysAt s t → port_at t ≡ port_at s → HasCome s t
 beside_come s t idle kept is = record {
   shape = kept.shape;
   number = kept.number;
   goes = kept.goes;
-  idle = record { stands = ap (λ (z : Seated). z.port.control.entering) is ∙ idle.stands; free = ap (λ (z : Seated). z.port.control.owned) is ∙ idle.free };
-  machine = inl (kept.epoch, ap (λ (z : Seated). core_of z.port.part) is, ap (λ (z : Seated). z.port.over) is);
+  idle = record { stands = ap (λ (z : SeatedPort). z.port.control.entering) is ∙ idle.stands; free = ap (λ (z : SeatedPort). z.port.control.owned) is ∙ idle.free };
+  machine = inl (kept.epoch, ap (λ (z : SeatedPort). core_of z.port.part) is, ap (λ (z : SeatedPort). z.port.over) is);
 }
 
 -- the first look of a meeting, of the port at s beside the one at o
-module _ (table : TableId) (about : About) (s o u p : Stand) (h : IsHeld table about s) (g : IsHeld table about o) (idle : IsIdle s) (free : IsIdle o) (kept : Kept s u) (kept_other : Kept o p)
+module _ (table : TableId) (about : About) (s o u p : Stand) (h : IsHeld table about s) (g : IsHeld table about o) (idle : IsIdle s) (free : IsIdle o) (kept : StaysAt s u) (kept_other : StaysAt o p)
     (same : port_at p ≡ port_at o) (w : Observes (port_at s) (port_at o) (port_at u)) where
   come : HasCome s u
   come = observed_come s u (port_at o) idle kept w
@@ -35,33 +35,33 @@ module _ (table : TableId) (about : About) (s o u p : Stand) (h : IsHeld table a
   come_other = beside_come o p free kept_other same
 
   -- in one epoch the other port looks too
-  module _ (v q : Stand) (one : s.epoch ≡ o.epoch) (kept_last : Kept p v) (kept_first : Kept u q) (same_first : port_at q ≡ port_at u) (w' : Observes (port_at p) (port_at u) (port_at v)) where
+  module _ (v q : Stand) (one : s.epoch ≡ o.epoch) (kept_last : StaysAt p v) (kept_first : StaysAt u q) (same_first : port_at q ≡ port_at u) (w' : Observes (port_at p) (port_at u) (port_at v)) where
     epochs : (port_at s).port.control.here.epoch ≡ (port_at o).port.control.here.epoch
     epochs = sym h.epoch ∙ one ∙ g.epoch
 
     pub together_first : HasMet s o q
     together_first = record {
       come = come_on s u q come (beside_come u q come.idle kept_first same_first);
-      notes = ap (λ (z : Seated). z.notes) same_first ∙ ap (λ (z : Seated). z.notes) w.is;
-      all = subst (λ (z : Seated). Begins (seen_in (port_at o).port) (seen_in z.port)) (sym same_first) (w.all (let e = epochs in omega (arith, e)));
+      notes = ap (λ (z : SeatedPort). z.notes) same_first ∙ ap (λ (z : SeatedPort). z.notes) w.is;
+      all = subst (λ (z : SeatedPort). BeginsWith (seen_in (port_at o).port) (seen_in z.port)) (sym same_first) (w.all (let e = epochs in omega (arith, e)));
     }
 
     pub together_second : HasMet o s v
     together_second = record {
       come = come_on o p v come_other (observed_come p v (port_at u) come_other.idle kept_last w');
-      notes = ap (λ (z : Seated). z.notes) w'.is ∙ ap (λ (z : Seated). z.notes) same;
+      notes = ap (λ (z : SeatedPort). z.notes) w'.is ∙ ap (λ (z : SeatedPort). z.notes) same;
       all = begins_on (seen_in (port_at s).port) (seen_in (port_at u).port) (seen_in (port_at v).port) kept.goes.seen
-          (w'.all (let e = epochs in let here = ap (λ (z : Seated). z.port.control.here.epoch) w.is in let there = ap (λ (z : Seated). z.port.control.here.epoch) same in omega (arith, e, here, there)));
+          (w'.all (let e = epochs in let here = ap (λ (z : SeatedPort). z.port.control.here.epoch) w.is in let there = ap (λ (z : SeatedPort). z.port.control.here.epoch) same in omega (arith, e, here, there)));
     }
 
   -- out of an earlier epoch the port comes to the current one, and looks again
-  module _ (r t q : Stand) (early : s.epoch < o.epoch) (settled : Settled u r) (held : IsHeld table about r) (kept_last : Kept r t) (kept_beside : Kept p q) (same_beside : port_at q ≡ port_at p)
+  module _ (r t q : Stand) (early : s.epoch < o.epoch) (settled : Settled u r) (held : IsHeld table about r) (kept_last : StaysAt r t) (kept_beside : StaysAt p q) (same_beside : port_at q ≡ port_at p)
       (w' : Observes (port_at r) (port_at p) (port_at t)) where
     come_late : (port_at p).port.control.here.epoch ≤ (port_at r).port.control.here.epoch
     come_late =
         let late = w.late in
-        let there = ap (λ (z : Seated). z.port.control.here.epoch) same in
-        let began = ap (λ (z : Began). z.epoch) (settled.began ∙ ap (λ (z : Seated). z.began) w.is) in
+        let there = ap (λ (z : SeatedPort). z.port.control.here.epoch) same in
+        let began = ap (λ (z : Began). z.epoch) (settled.began ∙ ap (λ (z : SeatedPort). z.began) w.is) in
         let fresh_now = settled.fresh in
         let epoch = held.epoch in
         omega (arith, late, there, began, fresh_now, epoch)
@@ -69,21 +69,21 @@ module _ (table : TableId) (about : About) (s o u p : Stand) (h : IsHeld table a
     pub apart_first : HasMet s o t
     apart_first = record {
       come = come_on s u t come (come_on u r t settled.come (observed_come r t (port_at p) settled.come.idle kept_last w'));
-      notes = ap (λ (z : Seated). z.notes) w'.is ∙ settled.notes ∙ ap (λ (z : Seated). z.notes) w.is;
-      all = subst (λ (z : Seated). Begins (seen_in z.port) (seen_in (port_at t).port)) same (w'.all come_late);
+      notes = ap (λ (z : SeatedPort). z.notes) w'.is ∙ settled.notes ∙ ap (λ (z : SeatedPort). z.notes) w.is;
+      all = subst (λ (z : SeatedPort). BeginsWith (seen_in z.port) (seen_in (port_at t).port)) same (w'.all come_late);
     }
 
     pub apart_second : HasMet o s q
     apart_second = record {
       come = come_on o p q come_other (beside_come p q come_other.idle kept_beside same_beside);
-      notes = ap (λ (z : Seated). z.notes) (same_beside ∙ same);
-      all = subst (λ (z : Seated). Begins (seen_in (port_at s).port) (seen_in z.port)) (sym (same_beside ∙ same))
+      notes = ap (λ (z : SeatedPort). z.notes) (same_beside ∙ same);
+      all = subst (λ (z : SeatedPort). BeginsWith (seen_in (port_at s).port) (seen_in z.port)) (sym (same_beside ∙ same))
           (w.before (let here = h.epoch in let there = g.epoch in omega (arith, early, here, there)));
     }
 
 -- what a port has seen that had seen no less than another one, as callers see both
 pub all_seen : (m : MemoryView) (s : Seating) (t : Stand) (p : PortView) → IsStandOf s t → port_view s.badge.table_id (one_in s.badge.views) ≡ p → IsOf m p → (u : Stand) (s' : Seating) →
-    IsHeld m.table m.about u → IsSeatingOf u s' → Begins (seen_in (port_at t).port) (seen_in (port_at u).port) → p.seen ≡ take (length p.seen) (port_view s'.badge.table_id (one_in s'.badge.views)).seen
+    IsHeld m.table m.about u → IsSeatingOf u s' → BeginsWith (seen_in (port_at t).port) (seen_in (port_at u).port) → p.seen ≡ take (length p.seen) (port_view s'.badge.table_id (one_in s'.badge.views)).seen
 all_seen m s t p k view own u s' held k' all =
     subst (λ (a : PortView). a.seen ≡ take (length a.seen) (port_view s'.badge.table_id (one_in s'.badge.views)).seen) (view_taken m s t p k view own)
     (subst (λ (b : PortView). seen_in (port_at t).port ≡ take (length (seen_in (port_at t).port)) b.seen) (view_kept m u s' held k')

@@ -1,11 +1,11 @@
 -- A port gets a seat of its own, and seats are gathered.
-use Rattle.partial_long_lived.proofs.Common.{ℕ, zero, suc, ◌≡◌, ◌≢◌, ◌++◌, List, [], ◌∷◌, set, refl, sym, ap, subst, ◌∙◌, arith, append-nil, AllByRecursion, get_elem?, Joins, Splits, State, all_after, all_append, all_at, all_back, all_before, all_front, About, IsKept, IsSeat, Seated, first_of, flatten, others_of, seats_of}
+use Rattle.partial_long_lived.proofs.Common.{ℕ, zero, suc, ◌≡◌, ◌≢◌, ◌++◌, List, [], ◌∷◌, set, refl, sym, ap, subst, ◌∙◌, arith, append-nil, AllByRecursion, get_elem?, Joins, Splits, State, all_after, all_append, all_at, all_back, all_before, all_front, About, IsRuleKept, IsSeat, SeatedPort, first_port, flatten, further_ports, seats_of}
 use Rattle.partial_long_lived.proofs.Views.{around, flatten-snoc, seats_both}
 
 -- the rule holds with the same seats in other views
-regrouped : {S : Type 0} (about : About) (s : State S (List Seated)) (views : List (List Seated)) (kept : IsKept about s) →
+regrouped : {S : Type 0} (about : About) (s : State S (List SeatedPort)) (views : List (List SeatedPort)) (kept : IsRuleKept about s) →
     AllByRecursion (IsSeat about kept.ports kept.notes kept.beside kept.since) (flatten views) → ((k : ℕ) → seats_of k (flatten views) ≡ seats_of k (flatten s.views)) →
-    IsKept about (record { words = s.words; homes = s.homes; views = views })
+    IsRuleKept about (record { words = s.words; homes = s.homes; views = views })
 regrouped about s views kept seats same = record {
   ports = kept.ports;
   notes = kept.notes;
@@ -18,13 +18,13 @@ regrouped about s views kept seats same = record {
 }
 
 -- the first port of a view may have a seat of its own
-pub deals : {S : Type 0} (about : About) (id : ℕ) (v : List Seated) → Splits {S = S} (IsKept about) id v (others_of v) (first_of v)
+pub deals : {S : Type 0} (about : About) (id : ℕ) (v : List SeatedPort) → Splits {S = S} (IsRuleKept about) id v (further_ports v) (first_port v)
 deals about id [] s kept at =
     let r = around s.views id [] at in
     let same : flatten (set s.views id [] ++ [] ∷ []) ≡ flatten s.views = flatten-snoc (set s.views id []) [] ∙ append-nil (flatten (set s.views id [])) ∙ r.then [] ∙ sym r.now in
     regrouped about s (set s.views id [] ++ [] ∷ []) kept (subst (AllByRecursion (IsSeat about kept.ports kept.notes kept.beside kept.since)) (sym same) kept.seats) (λ k. ap (seats_of k) same)
 deals about id (x ∷ xs) s kept at =
-    let P : Seated → Type 0 = IsSeat about kept.ports kept.notes kept.beside kept.since in
+    let P : SeatedPort → Type 0 = IsSeat about kept.ports kept.notes kept.beside kept.since in
     let r = around s.views id (x ∷ xs) at in
     let then : flatten (set s.views id xs ++ (x ∷ []) ∷ []) ≡ (r.before ++ (xs ++ r.behind)) ++ x ∷ [] = flatten-snoc (set s.views id xs) (x ∷ []) ∙ ap (λ l. l ++ x ∷ []) (r.then xs) in
     let all : AllByRecursion P (r.before ++ x ∷ (xs ++ r.behind)) = subst (AllByRecursion P) r.now kept.seats in
@@ -40,7 +40,7 @@ deals about id (x ∷ xs) s kept at =
     omega (arith, now_is, then_is, front, rest, last))
 
 -- another view is as it was
-elsewhere : (views : List (List Seated)) (id other : ℕ) (u : List Seated) → other ≢ id → get_elem? (set views id u) other ≡ get_elem? views other
+elsewhere : (views : List (List SeatedPort)) (id other : ℕ) (u : List SeatedPort) → other ≢ id → get_elem? (set views id u) other ≡ get_elem? views other
 elsewhere [] id other u ne = refl
 elsewhere (v ∷ views) zero zero u ne = absurd (ne refl)
 elsewhere (v ∷ views) zero (suc other) u ne = refl
@@ -48,9 +48,9 @@ elsewhere (v ∷ views) (suc id) zero u ne = refl
 elsewhere (v ∷ views) (suc id) (suc other) u ne = elsewhere views id other u (λ same. ne (ap suc same))
 
 -- a seat may take in the ports of another
-pub gathers : {S : Type 0} (about : About) (id : ℕ) (v : List Seated) (other : ℕ) (w : List Seated) → Joins {S = S} (IsKept about) id v other w (v ++ w) []
+pub gathers : {S : Type 0} (about : About) (id : ℕ) (v : List SeatedPort) (other : ℕ) (w : List SeatedPort) → Joins {S = S} (IsRuleKept about) id v other w (v ++ w) []
 gathers about id v other w s kept at ne there =
-    let P : Seated → Type 0 = IsSeat about kept.ports kept.notes kept.beside kept.since in
+    let P : SeatedPort → Type 0 = IsSeat about kept.ports kept.notes kept.beside kept.since in
     let r = around s.views id v at in
     let q = around (set s.views id (v ++ w)) other w there in
     let o = around s.views other w (sym (elsewhere s.views id other (v ++ w) ne) ∙ there) in

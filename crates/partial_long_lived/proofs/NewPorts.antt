@@ -1,10 +1,10 @@
 -- A memory as it opens, and its ports.
-use Rattle.partial_long_lived.proofs.Common.{AllByRecursion, ℕ, zero, suc, ◌≡◌, ◌+◌, ◌-◌, ◌<◌, ◌++◌, false, List, [], ◌∷◌, refl, sym, ap, subst, ◌∙◌, arith, append_assoc, Me, TableId, Opening, Layout, pool_base, CoreState, fresh, IsBetween, ports_come_between, Plan, base, OpensAll, About, Shape, Seating, Seated, first_of, newcomer, newcomers, one_in, others_of, plan_of, IsShapeOf, shape_plan, IsOf, PortView, new_ports, port_view, IsResting, IsKnown}
-use Rattle.partial_long_lived.specs.Inner.Opening.{OpensWith}
+use Rattle.partial_long_lived.proofs.Common.{AllByRecursion, ℕ, zero, suc, ◌≡◌, ◌+◌, ◌-◌, ◌<◌, ◌++◌, false, List, [], ◌∷◌, refl, sym, ap, subst, ◌∙◌, arith, append_assoc, Me, TableId, Opening, Layout, pool_base, CoreState, fresh, IsBetween, ports_come_between, Plan, base, OpensAll, About, Shape, Seating, SeatedPort, first_port, newcomer, newcomers, one_in, further_ports, plan_of, IsShapeOf, shape_plan, IsOf, PortView, new_ports, port_view, IsResting, IsSeatKnown}
+use Rattle.partial_long_lived.specs.Inner.Opening.{OpensShape}
 use Rattle.partial_long_lived.proofs.Opens.{newcomer_known}
 
 -- the opening words are those of what the memory is opened with
-pub opens_as : (s : Shape) (a : About) (values : List ℕ) (words : List ℕ) → OpensWith s values words → IsShapeOf s a →
+pub opens_as : (s : Shape) (a : About) (values : List ℕ) (words : List ℕ) → OpensShape s values words → IsShapeOf s a →
     a.opening.values ≡ values → a.opening.first ≡ pool_base s.sizes → OpensAll (plan_of a) words
 opens_as s a values words w shape is first =
     let same : a.opening ≡ record { values = values; first = pool_base s.sizes } =
@@ -28,49 +28,49 @@ newcomer_rests : (a : About) (words : List ℕ) → OpensAll (plan_of a) words �
     s.number ≡ i → s.epoch ≡ 0 → s.arena ≡ 0 → s.base ≡ base (plan_of a) 0 → s.passed ≡ 0 → core ≡ fresh a.sizes i → IsResting s core false
 newcomer_rests a words w i low s core views shape number epoch arena base_is passed machine =
     let is : one_in s.badge.views ≡ newcomer a i = ap one_in views in
-    let own : (one_in s.badge.views).about ≡ a = ap (λ (x : Seated). x.about) is in
+    let own : (one_in s.badge.views).about ≡ a = ap (λ (x : SeatedPort). x.about) is in
     let between : IsBetween (newcomer a i).port.part core = subst (IsBetween (newcomer a i).port.part) (sym machine) (ports_come_between.0 a.sizes i) in
     record {
-      one = views ∙ ap (λ (x : Seated). (x ∷ []) ∷ []) (sym is);
-      stands = ap (λ (x : Seated). x.port.control.entering) is;
-      free = ap (λ (x : Seated). x.port.control.owned) is;
-      known = subst IsKnown (sym is) (newcomer_known a words w i low);
+      one = views ∙ ap (λ (x : SeatedPort). (x ∷ []) ∷ []) (sym is);
+      stands = ap (λ (x : SeatedPort). x.port.control.entering) is;
+      free = ap (λ (x : SeatedPort). x.port.control.owned) is;
+      known = subst IsSeatKnown (sym is) (newcomer_known a words w i low);
       shape = subst (IsShapeOf s.shape) (sym own) shape;
-      number = number ∙ ap (λ (x : Seated). x.number) (sym is);
-      epoch = epoch ∙ ap (λ (x : Seated). x.port.control.here.epoch) (sym is);
-      arena = arena ∙ ap (λ (x : Seated). x.port.control.here.arena) (sym is);
+      number = number ∙ ap (λ (x : SeatedPort). x.number) (sym is);
+      epoch = epoch ∙ ap (λ (x : SeatedPort). x.port.control.here.epoch) (sym is);
+      arena = arena ∙ ap (λ (x : SeatedPort). x.port.control.here.arena) (sym is);
       base = base_is ∙ ap (λ (b : About). base (plan_of b) 0) (sym own) ∙ ap (base (plan_of (one_in s.badge.views).about)) (sym arena);
-      passed = passed ∙ ap (λ (x : Seated). x.port.passed) (sym is);
+      passed = passed ∙ ap (λ (x : SeatedPort). x.port.passed) (sym is);
       idle = between.idle;
       sound = between.sound;
       sizes = ap (λ (c : CoreState). c.sizes) machine ∙ ap (λ (b : About). b.sizes) (sym own);
       port = ap (λ (c : CoreState). c.port) machine ∙ sym number;
       between = λ fresh. (
-        subst (λ (x : Seated). IsBetween x.port.part core) (sym is) between,
-        ap (λ (x : Seated). x.port.over) is,
+        subst (λ (x : SeatedPort). IsBetween x.port.part core) (sym is) between,
+        ap (λ (x : SeatedPort). x.port.over) is,
         ap (λ (c : CoreState). c.pool_spent) machine,
         ap (λ (c : CoreState). c.slots_spent) machine,
       );
     }
 
-module _ (a : About) (i n : ℕ) (inside : i < n) (v : List Seated) (left : v ≡ newcomers a i (n - i)) where
-  pub newcomer_next : first_of v ≡ newcomer a i ∷ []
-  newcomer_next = ap first_of (left ∙ next_new a i n inside)
+module _ (a : About) (i n : ℕ) (inside : i < n) (v : List SeatedPort) (left : v ≡ newcomers a i (n - i)) where
+  pub newcomer_next : first_port v ≡ newcomer a i ∷ []
+  newcomer_next = ap first_port (left ∙ next_new a i n inside)
 
-  pub rests_new : (words : List ℕ) → OpensAll (plan_of a) words → i < a.ports → (s : Seating) (core : CoreState) (z : Layout) → s.badge.views ≡ first_of v ∷ [] → IsShapeOf s.shape a → s.number ≡ i →
+  pub rests_new : (words : List ℕ) → OpensAll (plan_of a) words → i < a.ports → (s : Seating) (core : CoreState) (z : Layout) → s.badge.views ≡ first_port v ∷ [] → IsShapeOf s.shape a → s.number ≡ i →
       s.epoch ≡ 0 → s.arena ≡ 0 → s.base ≡ base (plan_of a) 0 → s.passed ≡ 0 → core ≡ fresh z i → a.sizes ≡ z → IsResting s core false
   rests_new words w low s core z views shape number epoch arena base_is passed machine sizes =
-      newcomer_rests a words w i low s core (views ∙ ap (λ (u : List Seated). u ∷ []) newcomer_next) shape number epoch arena base_is passed (machine ∙ ap (λ (y : Layout). fresh y i) (sym sizes))
+      newcomer_rests a words w i low s core (views ∙ ap (λ (u : List SeatedPort). u ∷ []) newcomer_next) shape number epoch arena base_is passed (machine ∙ ap (λ (y : Layout). fresh y i) (sym sizes))
 
-  pub deals_next : {S : Type 0} (me : Me S (List Seated)) (at : List (ℕ × S)) → me ≡ (others_of v, at) → at ≡ [] → (me.0 ≡ newcomers a (i + 1) (n - (i + 1))) × (me.1 ≡ [])
-  deals_next {S} me at is none = (ap (λ (m : Me S (List Seated)). m.0) is ∙ ap others_of (left ∙ next_new a i n inside), ap (λ (m : Me S (List Seated)). m.1) is ∙ none)
+  pub deals_next : {S : Type 0} (me : Me S (List SeatedPort)) (at : List (ℕ × S)) → me ≡ (further_ports v, at) → at ≡ [] → (me.0 ≡ newcomers a (i + 1) (n - (i + 1))) × (me.1 ≡ [])
+  deals_next {S} me at is none = (ap (λ (m : Me S (List SeatedPort)). m.0) is ∙ ap further_ports (left ∙ next_new a i n inside), ap (λ (m : Me S (List SeatedPort)). m.1) is ∙ none)
 
-  pub made_next : {S : Type 0} (t : TableId) (all old new : List PortView) (p : PortView) (views : List (List Seated)) (me : Me S (List Seated)) (at : List (ℕ × S)) →
-      all ≡ old ++ new_ports t v → new ≡ old ++ p ∷ [] → views ≡ first_of v ∷ [] → p ≡ port_view t (one_in views) → me ≡ (others_of v, at) → all ≡ new ++ new_ports t me.0
+  pub made_next : {S : Type 0} (t : TableId) (all old new : List PortView) (p : PortView) (views : List (List SeatedPort)) (me : Me S (List SeatedPort)) (at : List (ℕ × S)) →
+      all ≡ old ++ new_ports t v → new ≡ old ++ p ∷ [] → views ≡ first_port v ∷ [] → p ≡ port_view t (one_in views) → me ≡ (further_ports v, at) → all ≡ new ++ new_ports t me.0
   made_next {S} t all old new p views me at made is here port less =
-      let one : p ≡ port_view t (newcomer a i) = port ∙ ap (λ (w : List (List Seated)). port_view t (one_in w)) here ∙ ap (λ (w : List Seated). port_view t (one_in (w ∷ []))) newcomer_next in
+      let one : p ≡ port_view t (newcomer a i) = port ∙ ap (λ (w : List (List SeatedPort)). port_view t (one_in w)) here ∙ ap (λ (w : List SeatedPort). port_view t (one_in (w ∷ []))) newcomer_next in
       let rest : new_ports t me.0 ≡ new_ports t (newcomers a (i + 1) (n - (i + 1))) =
-      ap (λ (m : Me S (List Seated)). new_ports t m.0) less ∙ ap (λ (w : List Seated). new_ports t (others_of w)) (left ∙ next_new a i n inside) in
+      ap (λ (m : Me S (List SeatedPort)). new_ports t m.0) less ∙ ap (λ (w : List SeatedPort). new_ports t (further_ports w)) (left ∙ next_new a i n inside) in
       let this : new_ports t v ≡ p ∷ new_ports t me.0 =
       ap (new_ports t) (left ∙ next_new a i n inside) ∙ ap (λ (q : PortView). q ∷ new_ports t (newcomers a (i + 1) (n - (i + 1)))) (sym one) ∙ ap (λ l. p ∷ l) (sym rest) in
       made ∙ ap (λ l. old ++ l) this ∙ sym (append_assoc old (p ∷ []) (new_ports t me.0)) ∙ ap (λ l. l ++ new_ports t me.0) (sym is)

@@ -1,8 +1,8 @@
 -- The rule holds as a memory opens.
-use Rattle.partial_long_lived.proofs.Common.{ℕ, zero, suc, ◌≡◌, ◌+◌, ◌<◌, ◌≤◌, Bool, cond, List, [], refl, sym, ap, subst, inl, inr, arith, append-nil, AllByRecursion, eqb_tells, opening, OpensAll, first_beside, first_ports, memories_open_lawful, openings_keep_time, About, IsKept, IsSeat, Seated, newcomer, newcomers, plan_of, seats_of, IsKnown}
+use Rattle.partial_long_lived.proofs.Common.{ℕ, zero, suc, ◌≡◌, ◌+◌, ◌<◌, ◌≤◌, Bool, cond, List, [], refl, sym, ap, subst, inl, inr, arith, append-nil, AllByRecursion, eqb_tells, opening, OpensAll, first_beside, first_ports, memories_open_lawful, openings_keep_time, About, IsRuleKept, IsSeat, SeatedPort, newcomer, newcomers, plan_of, seats_of, IsSeatKnown}
 
 -- what is so of the seat of each port is so of all
-newcomers_all : (P : Seated → Type 0) (a : About) (k n : ℕ) → ((i : ℕ) → i < k + n → P (newcomer a i)) → AllByRecursion P (newcomers a k n)
+newcomers_all : (P : SeatedPort → Type 0) (a : About) (k n : ℕ) → ((i : ℕ) → i < k + n → P (newcomer a i)) → AllByRecursion P (newcomers a k n)
 newcomers_all P a k zero each = tt
 newcomers_all P a k (suc n) each = (each k (omega arith), newcomers_all P a (k + 1) n (λ i low. each i (omega (arith, low))))
 
@@ -25,7 +25,7 @@ newcomers_once a q k (suc n) =
     ])
 
 -- the rule holds of the words of an opening, with one seat for all ports
-pub opens : {S : Type 0} (a : About) (words : List ℕ) → OpensAll (plan_of a) words → IsKept {S = S} a (opening words [] (newcomers a 0 a.ports))
+pub opens : {S : Type 0} (a : About) (words : List ℕ) → OpensAll (plan_of a) words → IsRuleKept {S = S} a (opening words [] (newcomers a 0 a.ports))
 opens a words w = record {
   ports = first_ports (plan_of a);
   notes = λ k. [];
@@ -48,7 +48,7 @@ opens a words w = record {
 }
 
 -- what is known of a port as the memory opens
-pub newcomer_known : (a : About) (words : List ℕ) → OpensAll (plan_of a) words → (k : ℕ) → k < a.ports → IsKnown (newcomer a k)
+pub newcomer_known : (a : About) (words : List ℕ) → OpensAll (plan_of a) words → (k : ℕ) → k < a.ports → IsSeatKnown (newcomer a k)
 newcomer_known a words w k low = record {
   plan = w.plan;
   number = low;
@@ -59,5 +59,5 @@ newcomer_known a words w k low = record {
 }
 
 -- and of all
-pub newcomers_known : (a : About) (words : List ℕ) → OpensAll (plan_of a) words → AllByRecursion IsKnown (newcomers a 0 a.ports)
-newcomers_known a words w = newcomers_all IsKnown a 0 a.ports (λ i low. newcomer_known a words w i (omega (arith, low)))
+pub newcomers_known : (a : About) (words : List ℕ) → OpensAll (plan_of a) words → AllByRecursion IsSeatKnown (newcomers a 0 a.ports)
+newcomers_known a words w = newcomers_all IsSeatKnown a 0 a.ports (λ i low. newcomer_known a words w i (omega (arith, low)))

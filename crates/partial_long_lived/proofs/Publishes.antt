@@ -1,5 +1,5 @@
 -- The exchange of the current word is allowed.
-use Rattle.partial_long_lived.proofs.Common.{ℕ, ◌≡◌, ◌<◌, ◌≤◌, ◌==◌, ◌++◌, cond, List, [], ◌∷◌, length, get_or, set, refl, sym, ap, subst, ◌∙◌, inl, inr, arith, append-nil, length-append, either, Me, Allows, Applied, LegalNotes, Noted, put, Plan, current_word, packed, Owned, Port, Beside, LawfulEpochs, place_now, KeepsTime, IsWhole, having_published, next_beside, next_place, LawfulMemory, publishes_keep_notes, publishes_keep_time, publishes_stay_lawful, put_other, put_same, About, IsKept, IsSeat, Seated, one_of, plan_of, seen_in, IsKnown, IsOne, tells, Publishes, becomes}
+use Rattle.partial_long_lived.proofs.Common.{ℕ, ◌≡◌, ◌<◌, ◌≤◌, ◌==◌, ◌++◌, cond, List, [], ◌∷◌, length, get_or, set, refl, sym, ap, subst, ◌∙◌, inl, inr, arith, append-nil, length-append, either, Me, Allows, Applied, LegalNotes, Noted, put, Plan, current_word, packed, Owned, Port, Beside, LawfulEpochs, place_now, KeepsTime, IsWholeArena, having_published, next_beside, next_place, LawfulMemory, publishes_keep_notes, publishes_keep_time, publishes_stay_lawful, put_other, put_same, About, IsRuleKept, IsSeat, SeatedPort, one_of, plan_of, seen_in, IsSeatKnown, IsOne, tells, SeatPublishes, becomes}
 use Rattle.partial_long_lived.proofs.Kept.{Grows, HasGrown, HaveGrown, Moved, allowed, begun_grows, final_grows, seen_grows}
 use Rattle.partial_long_lived.proofs.Asides.{IsQuiet, aside, final_same}
 use Rattle.partial_long_lived.proofs.Changes.{either_cond}
@@ -22,10 +22,10 @@ next_grows P e b y before (l ∷ later) log few is = record {
 published_quiet : (o : Owned) → IsQuiet (λ p. having_published p o)
 published_quiet o = record { part = λ p. refl; before = λ p. refl; here = λ p. refl; passed = λ p. omega arith }
 
-won : (a : About) (words words' : List ℕ) (ports : ℕ → Port) (notes : ℕ → List Noted) (b : Beside) (since : ℕ → ℕ) (x : Seated) → LawfulMemory (plan_of a) words ports b notes →
-    IsSeat a ports notes b since x → IsKnown x → (o : Owned) →
+won : (a : About) (words words' : List ℕ) (ports : ℕ → Port) (notes : ℕ → List Noted) (b : Beside) (since : ℕ → ℕ) (x : SeatedPort) → LawfulMemory (plan_of a) words ports b notes →
+    IsSeat a ports notes b since x → IsSeatKnown x → (o : Owned) →
     LawfulEpochs (plan_of a) words' (put x.number (having_published (ports x.number) o) ports) (next_beside (plan_of a) b o.arena) →
-    KeepsTime (plan_of a) words' (put x.number (having_published (ports x.number) o) ports) (place_now (next_beside (plan_of a) b o.arena)) since → (P : Seated → Type 0) →
+    KeepsTime (plan_of a) words' (put x.number (having_published (ports x.number) o) ports) (place_now (next_beside (plan_of a) b o.arena)) since → (P : SeatedPort → Type 0) →
     P (becomes x x.began (having_published x.port o)) → Moved a words' ports notes b since x P
 won a words words' ports notes b since x w s known o then time P says =
     let e : Plan = plan_of a in
@@ -77,13 +77,13 @@ won a words words' ports notes b since x w s known o then time P says =
         let both = length-append later (log ∷ before) in
         omega (arith, long, both)
 
-module _ {S : Type 0} (a : About) (slots id : ℕ) (me : Me S (List Seated)) (one : IsOne me) (own : (one_of me.0).about ≡ a) (known : IsKnown (one_of me.0)) where
-  abbrev x : Seated
+module _ {S : Type 0} (a : About) (slots id : ℕ) (me : Me S (List SeatedPort)) (one : IsOne me) (own : (one_of me.0).about ≡ a) (known : IsSeatKnown (one_of me.0)) where
+  abbrev x : SeatedPort
   x = one_of me.0
 
-  pub may_publish : (o : Owned) → IsWhole (plan_of a) x.port o →
-      Allows (IsKept a) slots id me current_word (λ n. either (n == packed x.port.control.here) (packed (next_place x.port.control.here o.arena)) n) (tells (Publishes o) me)
-  may_publish o whole = allowed a slots id me current_word (λ n. either (n == packed x.port.control.here) (packed (next_place x.port.control.here o.arena)) n) (Publishes o) one own
+  pub may_publish : (o : Owned) → IsWholeArena (plan_of a) x.port o →
+      Allows (IsRuleKept a) slots id me current_word (λ n. either (n == packed x.port.control.here) (packed (next_place x.port.control.here o.arena)) n) (tells (SeatPublishes o) me)
+  may_publish o whole = allowed a slots id me current_word (λ n. either (n == packed x.port.control.here) (packed (next_place x.port.control.here o.arena)) n) (SeatPublishes o) one own
       (λ words ports notes b since w time s small.
       let e : Plan = plan_of a in
       let k : ℕ = x.number in
@@ -94,13 +94,13 @@ module _ {S : Type 0} (a : About) (slots id : ℕ) (me : Me S (List Seated)) (on
       ap (λ (q : Port). cond (n == packed q.control.here) (packed (next_place q.control.here o.arena)) n) (sym s.port)
       ∙ either_cond (n == packed x.port.control.here) (packed (next_place x.port.control.here o.arena)) n in
       let words' : List ℕ = set words current_word v in
-      (elim (publishes_stay_lawful e words ports b k o w.epochs s.number (subst (λ (q : Port). IsWhole e q o) s.port whole)) [
+      (elim (publishes_stay_lawful e words ports b k o w.epochs s.number (subst (λ (q : Port). IsWholeArena e q o) s.port whole)) [
         | inl opened ↦ won a words words' ports notes b since x w s known o
             (subst (λ v. LawfulEpochs e (set words current_word v) (put k p ports) (next_beside e b o.arena)) word opened.2)
             (subst (λ v. KeepsTime e (set words current_word v) (put k p ports) (place_now (next_beside e b o.arena)) since) word
-            (publishes_keep_time e words ports (place_now b) (place_now (next_beside e b o.arena)) k o since s.number (omega arith) time)) (Publishes o x n) refl
+            (publishes_keep_time e words ports (place_now b) (place_now (next_beside e b o.arena)) k o since s.number (omega arith) time)) (SeatPublishes o x n) refl
         | inr lost ↦ aside a words words' ports notes b b since since x w s known (λ q. having_published q o) (published_quiet o) x.began s.entering s.began
             (subst (λ v. KeepsTime e (set words current_word v) (put k p ports) (place_now b) since) word
             (publishes_keep_time e words ports (place_now b) (place_now b) k o since s.number (omega arith) time)) (λ q ne. refl) refl refl
-            (subst (λ v. LawfulEpochs e (set words current_word v) (put k p ports) b) word lost.1) (Publishes o x n) refl
+            (subst (λ v. LawfulEpochs e (set words current_word v) (put k p ports) b) word lost.1) (SeatPublishes o x n) refl
       ]))

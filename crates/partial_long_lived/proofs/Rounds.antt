@@ -1,5 +1,5 @@
 -- The rounds of an update: an attempt, and a change of epoch, and so on.
-use Rattle.partial_long_lived.proofs.Common.{ℕ, Option, None, Result, Ok, Err, IfOk, IfErr, ◌≡◌, ◌+◌, ◌<◌, ◌≤◌, ◌++◌, Bool, true, false, List, [], ◌∷◌, length, refl, sym, ap, subst, ◌∙◌, arith, append-nil, TableId, Noted, Change, CoreState, Exchanged, About, Refused, Component, Overtaken, NoArena, EpochsSpent, Stand, IsCause, Began, Seated, seen_in, Goes, BeganBy, IsHeld, epoch_at, port_at, IsIdle, Attempted, CameBy, IsEntryOf, IsLate, IsOwn, MayCall, NotesNothing, Updated, noted_update, noted_where}
+use Rattle.partial_long_lived.proofs.Common.{ℕ, Option, None, Result, Ok, Err, IfOk, IfErr, ◌≡◌, ◌+◌, ◌<◌, ◌≤◌, ◌++◌, Bool, true, false, List, [], ◌∷◌, length, refl, sym, ap, subst, ◌∙◌, arith, append-nil, TableId, Noted, Change, CoreState, Exchanged, About, Refused, Component, Overtaken, NoArena, EpochsSpent, Stand, IsCause, Began, SeatedPort, seen_in, SeatGoes, BeganBy, IsHeld, epoch_at, port_at, IsIdle, Attempted, CameBy, IsEntryOf, IsLate, IsOwnMachine, MayCall, NotesNothing, Updated, noted_change, noted_where}
 use Rattle.partial_long_lived.proofs.Coming.{goes_on, seen_more}
 
 -- whether the call began with its first step here, or as before, where the next step may still be its first one
@@ -14,12 +14,12 @@ pub record RoundsOn (table : TableId) (about : About) (first next : Bool) (s t :
   pub may : MayCall (port_at t) core
   pub shape : t.shape ≡ s.shape
   pub number : t.number ≡ s.number
-  pub goes : Goes (port_at s) (port_at t)
+  pub goes : SeatGoes (port_at s) (port_at t)
   pub notes : (port_at t).notes ≡ (port_at s).notes
   pub began : BeganSo first next s t
 
 -- a port has gone nowhere yet
-pub goes_nowhere : (table : TableId) (about : About) (s : Stand) → IsHeld table about s → Goes (port_at s) (port_at s)
+pub goes_nowhere : (table : TableId) (about : About) (s : Stand) → IsHeld table about s → SeatGoes (port_at s) (port_at s)
 goes_nowhere table about s h = record { about = refl; number = refl; seen = ([], sym (append-nil (seen_in (port_at s).port))); known = h.known }
 
 pub begins_so : (first : Bool) (s : Stand) → BeganSo first first s s
@@ -39,12 +39,12 @@ rounds_begin table about first s core h idle may = record {
 }
 
 -- the call began when the next step says
-pub began_on : (first next : Bool) (s t : Stand) (n : Began) → BeganSo first next s t → Goes (port_at s) (port_at t) → BeganBy next (port_at t) n → BeganBy first (port_at s) n
+pub began_on : (first next : Bool) (s t : Stand) (n : Began) → BeganSo first next s t → SeatGoes (port_at s) (port_at t) → BeganBy next (port_at t) n → BeganBy first (port_at s) n
 began_on first true s t n is goes began = subst (λ f. BeganBy f (port_at s) n) (sym is) (let more = seen_more (port_at s) (port_at t) goes in omega (arith, began, more))
 began_on first false s t n is goes began = subst (BeganBy first (port_at s)) (sym began) is
 
 -- the machine of a port that may make a call is the port's
-pub may_own : (x : Seated) (core : CoreState) → MayCall x core → IsOwn x core
+pub may_own : (x : SeatedPort) (core : CoreState) → MayCall x core → IsOwnMachine x core
 may_own x core may = record { idle = may.rests.between.idle; sound = may.rests.between.sound; sizes = may.rests.sizes; port = may.rests.port }
 
 module _ (table : TableId) (about : About) (first next : Bool) (s u : Stand) (core : CoreState) (on : RoundsOn table about first next s u core) (t : Stand) where
@@ -53,15 +53,15 @@ module _ (table : TableId) (about : About) (first next : Bool) (s u : Stand) (co
   round_ended c plain r held attempt =
       let goes = attempt.stayed.kept.goes in
       let epoch = held.known.epoch ∙ sym held.epoch in
-      let noted : noted_where (port_at t) c.expected c r attempt.place ≡ noted_update t.epoch c r attempt.place =
-      ap (λ (e : Option ℕ). noted_where (port_at t) e c r attempt.place) plain ∙ ap (λ n. noted_update n c r attempt.place) epoch in
+      let noted : noted_where (port_at t) c.expected c r attempt.place ≡ noted_change t.epoch c r attempt.place =
+      ap (λ (e : Option ℕ). noted_where (port_at t) e c r attempt.place) plain ∙ ap (λ n. noted_change n c r attempt.place) epoch in
       record {
         shape = attempt.stayed.kept.shape ∙ on.shape;
         number = attempt.stayed.kept.number ∙ on.number;
         goes = goes_on (port_at s) (port_at u) (port_at t) on.goes goes;
         began = began_on first next s u (port_at t).began on.began on.goes attempt.stayed.began;
         place = attempt.place;
-        notes = attempt.notes ∙ ap (λ n. (port_at u).notes ++ n ∷ []) noted ∙ ap (λ (l : List Noted). l ++ noted_update t.epoch c r attempt.place ∷ []) on.notes;
+        notes = attempt.notes ∙ ap (λ n. (port_at u).notes ++ n ∷ []) noted ∙ ap (λ (l : List Noted). l ++ noted_change t.epoch c r attempt.place ∷ []) on.notes;
         behind = attempt.behind;
         within = subst (λ (e : Option ℕ). IsEntryOf e r attempt.place (length (seen_in (port_at t).port))) plain attempt.within;
       }
@@ -118,7 +118,7 @@ updated_behind c r s t v came ended = record {
   goes = goes_on (port_at s) (port_at t) (port_at v) came.goes ended.goes;
   began = subst (BeganBy true (port_at s)) (sym ended.began) came.began;
   place = ended.place;
-  notes = ended.notes ∙ ap (λ (l : List Noted). l ++ noted_update v.epoch c r ended.place ∷ []) came.notes;
+  notes = ended.notes ∙ ap (λ (l : List Noted). l ++ noted_change v.epoch c r ended.place ∷ []) came.notes;
   behind = ended.behind;
   within = ended.within;
 }

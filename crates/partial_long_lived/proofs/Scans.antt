@@ -1,5 +1,5 @@
 -- A scan where a port stands: its first step is allowed, and what it leaves of its port.
-use Rattle.partial_long_lived.proofs.Common.{None, ℕ, ◌≡◌, ◌+◌, ◌-◌, ◌%◌, ◌^◌, ◌<◌, ◌≤◌, ◌||◌, ◌++◌, Bool, false, cond, Option, Some, List, [], ◌∷◌, length, map, refl, sym, ap, subst, ◌∙◌, inl, inr, arith, length-append, is_some, slice_index, length-map, Allows, TableId, Applied, Call, Note, Noted, place_of, Add, Layout, IsLayout, pool_counter, total, Reply, call_of, CoreState, advance, reply_of, scanned_values, step_of, AreComponents, IsSound, AreNotesOf, IsNoteOf, IsPlacedAt, Plan, base, plain, unsealed, history_of, public_entry, public_log, public_noted, Control, not_below, RestsLike, About, Stand, Began, IsKept, Seated, plan_of, Goes, IsOne, IsHeld, port_at, IsIdle, component_at, Makes, answered, makes, over_by, word_at, HasScanned, RestsUnmarked, ScanMade, SettledFirst, noted_scan, CallMade, IsGoing, Leads, MayBegin, machine_at}
+use Rattle.partial_long_lived.proofs.Common.{None, ℕ, ◌≡◌, ◌+◌, ◌-◌, ◌%◌, ◌^◌, ◌<◌, ◌≤◌, ◌||◌, ◌++◌, Bool, false, cond, Option, Some, List, [], ◌∷◌, length, map, refl, sym, ap, subst, ◌∙◌, inl, inr, arith, length-append, is_some, slice_index, length-map, Allows, TableId, Applied, Call, Note, Noted, place_of, Add, Layout, IsLayout, pool_counter, total, Reply, call_of, CoreState, advance, reply_of, scanned_values, step_of, AreComponentIndices, IsSound, AreNotesOf, IsNoteOf, IsPlacedAt, Plan, base, plain, unsealed, history_of, public_entry, public_log, public_noted, Control, not_below, RestsLike, About, Stand, Began, IsRuleKept, SeatedPort, plan_of, SeatGoes, IsOne, IsHeld, port_at, IsIdle, component_at, SeatMakes, unsealed_answer, makes, over_by, word_at, HasNotedScan, RestsUnmarked, ScanMade, SettledFirst, noted_scan, CallMade, IsGoing, ComesTo, MayBegin, machine_at}
 use Rattle.partial_long_lived.specs.Inner.DoubleCollect.{MadeNamed, ScannedNamed}
 use Rattle.partial_model.specs.declared.call.Call.TheVariants as call
 use Rattle.partial_model.specs.declared.call.Answer.TheVariants as answer
@@ -17,7 +17,7 @@ use Rattle.partial_long_lived.proofs.Unmarked.{marks_stay}
 
 -- a machine without marks may begin a scan of some components
 pub scan_begins : (table : TableId) (about : About) (s : Stand) (core : CoreState) (which : List ℕ) → IsHeld table about s → IsIdle s → RestsUnmarked (port_at s) core → (port_at s).port.over ≡ false →
-    AreComponents core.sizes which → 0 < length which → MayBegin (scan_asked core which) (port_at s)
+    AreComponentIndices core.sizes which → 0 < length which → MayBegin (scan_asked core which) (port_at s)
 scan_begins table about s core which h idle rests spare asked some =
     let between = rests.between in
     let like = between.like in
@@ -67,22 +67,22 @@ module _ (table : TableId) (about : About) (s : Stand) (h : IsHeld table about s
       let low : w < total about.sizes = subst (λ (z : Layout). w < total z) own (subst (λ v. v < total (port_at s).about.sizes) (sym is) (omega arith)) in
       arena_there table about s h w (omega (arith, low))
 
-  pub claim_asked : (slots id : ℕ) → Allows (IsKept about) slots id s.seat.me (s.base + w) (λ v. (v + n) % 2 ^ 64) (makes false b (Add (word_at s.seat.me (s.base + w)) n) s.seat.me)
+  pub claim_asked : (slots id : ℕ) → Allows (IsRuleKept about) slots id s.seat.me (s.base + w) (λ v. (v + n) % 2 ^ 64) (makes false b (Add (word_at s.seat.me (s.base + w)) n) s.seat.me)
   claim_asked slots id =
-      subst (λ u. Allows (IsKept about) slots id s.seat.me (s.base + w) (λ v. (v + n) % 2 ^ 64) (makes false b (Add u n) s.seat.me)) (sym word_same)
-      (subst (λ i. Allows (IsKept about) slots id s.seat.me (i + w) (λ v. (v + n) % 2 ^ 64) (makes false b (Add w n) s.seat.me)) (sym base_is)
+      subst (λ u. Allows (IsRuleKept about) slots id s.seat.me (s.base + w) (λ v. (v + n) % 2 ^ 64) (makes false b (Add u n) s.seat.me)) (sym word_same)
+      (subst (λ i. Allows (IsRuleKept about) slots id s.seat.me (i + w) (λ v. (v + n) % 2 ^ 64) (makes false b (Add w n) s.seat.me)) (sym base_is)
       (may_make about slots id s.seat.me h.one h.own h.known (room_of table about s h) b (Add w n) (first_may b (port_at s) begins (Add w n) due) false tt))
 
   -- the claim behind the component words is answered as it is
-  module _ (t : Stand) (id : t.seat.table_id ≡ s.seat.table_id) (one : IsOne t.seat.me) (goes : Goes (port_at s) (port_at t)) (a : ℕ)
-      (told : Makes false b (Add (word_at s.seat.me (s.base + w)) n) (port_at s) (answered (plan_of (port_at s).about) (Add (word_at s.seat.me (s.base + w)) n) a) (port_at t))
+  module _ (t : Stand) (id : t.seat.table_id ≡ s.seat.table_id) (one : IsOne t.seat.me) (goes : SeatGoes (port_at s) (port_at t)) (a : ℕ)
+      (told : SeatMakes false b (Add (word_at s.seat.me (s.base + w)) n) (port_at s) (unsealed_answer (plan_of (port_at s).about) (Add (word_at s.seat.me (s.base + w)) n) a) (port_at t))
       (shape : t.shape ≡ s.shape) (number : t.number ≡ s.number) (epoch : t.epoch ≡ s.epoch) (arena : t.arena ≡ s.arena) (base_same : t.base ≡ s.base) (passed : t.passed ≡ s.passed) where
-    claim_told : Makes false b (Add w n) (port_at s) a (port_at t)
+    claim_told : SeatMakes false b (Add w n) (port_at s) a (port_at t)
     claim_told =
         let is = at_there in
         let plain_is : plain (plan_of (port_at s).about) w a ≡ a = ap (λ (c : Bool). cond c (unsealed a) a) (not_below w (port_at s).about.sizes.m (omega (arith, is))) in
-        subst (λ x. Makes false b (Add w n) (port_at s) x (port_at t)) plain_is
-        (subst (λ u. Makes false b (Add u n) (port_at s) (answered (plan_of (port_at s).about) (Add u n) a) (port_at t)) word_same told)
+        subst (λ x. SeatMakes false b (Add w n) (port_at s) x (port_at t)) plain_is
+        (subst (λ u. SeatMakes false b (Add u n) (port_at s) (unsealed_answer (plan_of (port_at s).about) (Add u n) a) (port_at t)) word_same told)
 
     machine_is : machine_at t ≡ advance b a
     machine_is = sym claim_told.told.machine.is
@@ -92,8 +92,8 @@ module _ (table : TableId) (about : About) (s : Stand) (h : IsHeld table about s
 
     pub scan_going : IsGoing table about t
     scan_going = record {
-      held = held_then table about s t h id one goes (ap (λ (x : Seated). x.port.control.here) claim_told.is) shape number epoch arena base_same
-          (passed ∙ h.passed ∙ sym (ap (λ (x : Seated). x.port.passed) claim_told.is));
+      held = held_then table about s t h id one goes (ap (λ (x : SeatedPort). x.port.control.here) claim_told.is) shape number epoch arena base_same
+          (passed ∙ h.passed ∙ sym (ap (λ (x : SeatedPort). x.port.passed) claim_told.is));
       under = (b, port_at s, begins, call_made);
     }
 
@@ -103,8 +103,8 @@ module _ (table : TableId) (about : About) (s : Stand) (h : IsHeld table about s
       made = call_made;
       machine = machine_is;
       possible = claim_told.told.possible;
-      began = ap (λ (x : Seated). x.began) claim_told.is ∙ claim_told.began;
-      over = ap (λ (x : Seated). x.port.over) claim_told.is ∙ ap (λ c. c || over_by (plan_of (port_at s).about) (Add w n) a) begins.spare
+      began = ap (λ (x : SeatedPort). x.began) claim_told.is ∙ claim_told.began;
+      over = ap (λ (x : SeatedPort). x.port.over) claim_told.is ∙ ap (λ c. c || over_by (plan_of (port_at s).about) (Add w n) a) begins.spare
           ∙ ap (λ v. over_by (plan_of (port_at s).about) (Add v n) a) at_there ∙ ap (λ k. over_by (plan_of (port_at s).about) (Add (pool_counter (port_at s).about.sizes) k) a) many;
     }
 
@@ -116,12 +116,12 @@ saw_at collects borrowed (note.Lost k) seen placed = absurd placed
 
 -- The scan that the machine b began at the stand s, whose first step led to the stand u, has come to its reply at the stand t.
 module _ (table : TableId) (about : About) (s u t : Stand) (h : IsHeld table about s) (idle : IsIdle s) (core : CoreState) (which : List ℕ) (begins : MayBegin (scan_asked core which) (port_at s))
-    (a : ℕ) (begun : ScanBegun (scan_asked core which) (length which) s a u) (leads : Leads u t) (collects : ℕ) (borrowed : Option ℕ)
+    (a : ℕ) (begun : ScanBegun (scan_asked core which) (length which) s a u) (leads : ComesTo u t) (collects : ℕ) (borrowed : Option ℕ)
     (replies : reply_of (machine_at t) ≡ Some (reply.Scanned collects borrowed)) where
-  abbrev x : Seated
+  abbrev x : SeatedPort
   x = port_at s
 
-  abbrev y : Seated
+  abbrev y : SeatedPort
   y = port_at t
 
   abbrev b : CoreState
@@ -214,7 +214,7 @@ module _ (table : TableId) (about : About) (s u t : Stand) (h : IsHeld table abo
 
 -- a scan in an epoch to which the port came as the scan began
 pub has_scanned : (s u t : Stand) (which values : List ℕ) (collects : ℕ) (borrowed : Option ℕ) → SettledFirst s u → ScanMade u t which values collects borrowed →
-    HasScanned s t which values collects borrowed
+    HasNotedScan s t which values collects borrowed
 has_scanned s u t which values collects borrowed settled made = record {
   shape = made.shape ∙ settled.come.shape;
   number = made.number ∙ settled.come.number;

@@ -1,5 +1,5 @@
 -- What a port knows of the history that it has seen.
-use Rattle.partial_long_lived.proofs.Common.{ℕ, ◌≡◌, ◌≢◌, ◌+◌, ◌*◌, ◌<◌, ◌≤◌, ◌==◌, ◌++◌, Bool, true, false, cond, Option, Some, None, IfSome, List, [], ◌∷◌, length, refl, sym, ap, subst, ◌∙◌, arith, append_assoc, AllByRecursion, Applied, Opening, Call, Answer, Note, HaveDistinctStamps, IsHistory, IsTrueOf, LegalNotes, Noted, place_of, seen_after, EachOnce, places_by, places_written, wrote, all_append, all_front, place_below, LegalNotes-grows, history_of, public_log, Port, Beside, LawfulMemory, one_history, epochs_fit_one_history, public_stamps_are_unique, history_grows, history_longer, About, IsSeen, plan_of, Knows, seen_in, Begins, HasStampsInWords}
+use Rattle.partial_long_lived.proofs.Common.{ℕ, ◌≡◌, ◌≢◌, ◌+◌, ◌*◌, ◌<◌, ◌≤◌, ◌==◌, ◌++◌, Bool, true, false, cond, Option, Some, None, IfSome, List, [], ◌∷◌, length, refl, sym, ap, subst, ◌∙◌, arith, append_assoc, AllByRecursion, Applied, Opening, Call, Answer, Note, HaveDistinctStamps, IsHistory, IsTrueOf, LegalNotes, Noted, place_of, seen_after, EachOnce, places_by, places_written, wrote, all_append, all_front, place_below, LegalNotes-grows, history_of, public_log, Port, Beside, LawfulMemory, one_history, epochs_fit_one_history, public_stamps_are_unique, history_grows, history_longer, About, IsSeen, plan_of, Knows, seen_in, BeginsWith, HasStampsInWords}
 use Rattle.partial_model.specs.declared.call.Call.TheVariants as call
 use Rattle.partial_model.specs.declared.call.Answer.TheVariants as answer
 use Rattle.partial_model.specs.declared.call.Note.TheVariants as note
@@ -70,7 +70,7 @@ once_front o h rest p ns legal once =
     nothing (x ∷ l) = ap (λ t. x ∷ t) (nothing l)
 
 -- what a port has seen is a beginning of the one history
-pub seen_begins : (b : Beside) (p : Port) → IsSeen b p → (later : List (List Applied)) (log : List Applied) → b.log ∷ b.before ≡ later ++ log ∷ p.before → Begins (seen_in p) (one_history b)
+pub seen_begins : (b : Beside) (p : Port) → IsSeen b p → (later : List (List Applied)) (log : List Applied) → b.log ∷ b.before ≡ later ++ log ∷ p.before → BeginsWith (seen_in p) (one_history b)
 seen_begins b p seen later log is =
     let s = seen later log is in
     let g = history_grows later (log ∷ p.before) in (
@@ -81,7 +81,7 @@ seen_begins b p seen later log is =
 
 -- so the port knows it, if its notes are legal there
 pub knows_of : (about : About) (words : List ℕ) (ports : ℕ → Port) (b : Beside) (notes : ℕ → List Noted) → LawfulMemory (plan_of about) words ports b notes → (k : ℕ) → k < about.ports →
-    (h : List Applied) → Begins h (one_history b) → LegalNotes about.opening h k 0 (notes k) → Knows about k h (notes k)
+    (h : List Applied) → BeginsWith h (one_history b) → LegalNotes about.opening h k 0 (notes k) → Knows about k h (notes k)
 knows_of about words ports b notes w k below h begins legal =
     let f = epochs_fit_one_history (plan_of about) words ports b notes w in
     record {
@@ -93,11 +93,11 @@ knows_of about words ports b notes w k below h begins legal =
 
 -- and its stamps fit words
 pub fits_of : (about : About) (words : List ℕ) (ports : ℕ → Port) (b : Beside) (notes : ℕ → List Noted) → LawfulMemory (plan_of about) words ports b notes →
-    (h : List Applied) → Begins h (one_history b) → HasStampsInWords h
+    (h : List Applied) → BeginsWith h (one_history b) → HasStampsInWords h
 fits_of about words ports b notes w h begins = record {
   each = all_front (λ (a : Applied). a.stamp < 18446744073709551616) h begins.0
       (subst (AllByRecursion (λ (a : Applied). a.stamp < 18446744073709551616)) begins.1 (public_stamps_are_unique (plan_of about) words ports b notes w).fits);
 }
 
-pub legal_begins : (o : Opening) (h l : List Applied) (k n : ℕ) (ns : List Noted) → Begins h l → LegalNotes o h k n ns → LegalNotes o l k n ns
+pub legal_begins : (o : Opening) (h l : List Applied) (k n : ℕ) (ns : List Noted) → BeginsWith h l → LegalNotes o h k n ns → LegalNotes o l k n ns
 legal_begins o h l k n ns begins w = subst (λ (t : List Applied). LegalNotes o t k n ns) (sym begins.1) (LegalNotes-grows o h begins.0 k n ns w)

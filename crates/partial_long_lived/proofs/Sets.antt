@@ -1,5 +1,5 @@
 -- The stores of an owner are allowed.
-use Rattle.partial_long_lived.proofs.Common.{ℕ, ◌≡◌, ◌≢◌, ◌+◌, ◌-◌, ◌*◌, ◌/◌, ◌%◌, ◌<◌, ◌≤◌, ◌==◌, ◌⊎◌, ◌++◌, true, false, cond, Option, Some, IfSome, List, [], ◌∷◌, length, get_or, set, refl, sym, ap, subst, ◌∙◌, inl, inr, arith, length-append, nat_lt, lt-ltb, eqb_tells, get_or-set_same, Me, Allows, Applied, Opening, value_of, Noted, some_same, Layout, first_free, initial_record, list_base, list_counter, pool_base, pool_counter, initial_record_word, opening_word, list_of, IsAsked, Place, Plan, control_words, current_word, packed, set_word, carried_behind, opening_behind, Owned, Port, MayPut, Beside, controls, next_word, numbers, place_now, having_set, vacated, LawfulMemory, many, sets_stay_lawful, at_of, below_whole, not_below, set_place, About, Found, IsFinal, IsKept, IsLast, IsSeat, Seated, one_of, plan_of, IsKnown, IsOne, tells, Sets}
+use Rattle.partial_long_lived.proofs.Common.{ℕ, ◌≡◌, ◌≢◌, ◌+◌, ◌-◌, ◌*◌, ◌/◌, ◌%◌, ◌<◌, ◌≤◌, ◌==◌, ◌⊎◌, ◌++◌, true, false, cond, Option, Some, IfSome, List, [], ◌∷◌, length, get_or, set, refl, sym, ap, subst, ◌∙◌, inl, inr, arith, length-append, nat_lt, lt-ltb, eqb_tells, get_or-set_same, Me, Allows, Applied, Opening, value_of, Noted, some_same, Layout, first_free, initial_record, list_base, list_counter, pool_base, pool_counter, initial_record_word, opening_word, list_of, IsAsked, Place, Plan, control_words, current_word, packed, set_word, carried_behind, opening_behind, Owned, Port, MayPut, Beside, controls, next_epoch_word, numbers, place_now, having_set, vacated, LawfulMemory, many, sets_stay_lawful, at_of, below_whole, not_below, set_place, About, Found, IsFinal, IsRuleKept, IsLast, IsSeat, SeatedPort, one_of, plan_of, IsSeatKnown, IsOne, tells, Sets}
 use Rattle.partial_epochs.proofs.Sets as law
 use Rattle.partial_long_lived.proofs.Asides.{IsQuiet, aside}
 use Rattle.partial_long_lived.proofs.Begins.{here_is}
@@ -54,18 +54,18 @@ value_opens s l j i low is =
 
 -- the word of a value, and that of a carried stamp, in the next epoch
 module _ (e : Plan) (b : Beside) (i j : ℕ) where
-  next_below : i < first_free e.sizes → next_word e b i ≡ opening_word e.sizes (opening_behind e.opening (b.log ∷ b.before)).values i
+  next_below : i < first_free e.sizes → next_epoch_word e b i ≡ opening_word e.sizes (opening_behind e.opening (b.log ∷ b.before)).values i
   next_below low = ap (λ c. cond c (opening_word e.sizes (opening_behind e.opening (b.log ∷ b.before)).values i) (carried_behind e.opening (b.log ∷ b.before) (i - first_free e.sizes)))
       (lt-ltb i (first_free e.sizes) low)
 
-  next_value : length e.opening.values ≡ e.sizes.m → j < e.sizes.m → i ≡ value_word (initial_record e.sizes j) → next_word e b i ≡ value_of (opening_behind e.opening b.before) b.log j
+  next_value : length e.opening.values ≡ e.sizes.m → j < e.sizes.m → i ≡ value_word (initial_record e.sizes j) → next_epoch_word e b i ≡ value_of (opening_behind e.opening b.before) b.log j
   next_value long low is =
       let o : Opening = opening_behind e.opening b.before in
       let n = many e.opening b.before in
       next_below (omega (arith, low, is)) ∙ value_opens e.sizes (list_of (value_of o b.log) 0 (length o.values)) j i low is
       ∙ at_of (value_of o b.log) 0 (length o.values) j (omega (arith, low, n, long)) ∙ ap (value_of o b.log) (omega arith)
 
-  next_stamp : i ≡ first_free e.sizes + j → next_word e b i ≡ carried_behind e.opening (b.log ∷ b.before) j
+  next_stamp : i ≡ first_free e.sizes + j → next_epoch_word e b i ≡ carried_behind e.opening (b.log ∷ b.before) j
   next_stamp is = ap (λ c. cond c (opening_word e.sizes (opening_behind e.opening (b.log ∷ b.before)).values i) (carried_behind e.opening (b.log ∷ b.before) (i - first_free e.sizes)))
       (not_below i (first_free e.sizes) (omega (arith, is))) ∙ ap (carried_behind e.opening (b.log ∷ b.before)) (omega (arith, is))
 
@@ -104,8 +104,8 @@ found_last a b x t f is w before =
     let final : IsFinal (plan_of a) b x f = subst (λ t. IfSome t (IsFinal (plan_of a) b x)) is w in
     (final.inside, subst (λ (l : List (List Applied)). IsLast (plan_of a) l b.log f) before (final.last [] b.log (ap (λ (l : List (List Applied)). b.log ∷ l) (sym before))))
 
-module _ {S : Type 0} (a : About) (slots id : ℕ) (me : Me S (List Seated)) (one : IsOne me) (own : (one_of me.0).about ≡ a) (known : IsKnown (one_of me.0)) where
-  abbrev x : Seated
+module _ {S : Type 0} (a : About) (slots id : ℕ) (me : Me S (List SeatedPort)) (one : IsOne me) (own : (one_of me.0).about ≡ a) (known : IsSeatKnown (one_of me.0)) where
+  abbrev x : SeatedPort
   x = one_of me.0
 
   abbrev e : Plan
@@ -115,11 +115,11 @@ module _ {S : Type 0} (a : About) (slots id : ℕ) (me : Me S (List Seated)) (on
   abbrev Right : Owned → ℕ → ℕ → Type 0
   Right o v next = (words : List ℕ) (ports : ℕ → Port) (notes : ℕ → List Noted) (b : Beside) (since : ℕ → ℕ) → LawfulMemory (plan_of a) words ports b notes → IsSeat a ports notes b since x →
       get_or words current_word 0 ≡ packed (ports x.number).control.here → (i : ℕ) → o.set ≤ i → i < next → IsAsked a.sizes i →
-      get_or (set words (set_word e o.arena o.set) v) (set_word e o.arena i) 0 ≡ next_word e b i
+      get_or (set words (set_word e o.arena o.set) v) (set_word e o.arena i) 0 ≡ next_epoch_word e b i
 
   pub may_set : (o : Owned) (v next : ℕ) → x.port.control.owned ≡ Some o → o.clean ≡ a.ports → o.set < next → next ≤ first_free a.sizes + a.sizes.m → a.sizes.m ≤ x.port.passed →
       Right o v next →
-      Allows (IsKept a) slots id me (set_word e o.arena o.set) (λ n. v) (tells (Sets o next) me)
+      Allows (IsRuleKept a) slots id me (set_word e o.arena o.set) (λ n. v) (tells (Sets o next) me)
   may_set o v next owned clean less most passed right = allowed a slots id me (set_word e o.arena o.set) (λ n. v) (Sets o next) one own (λ words ports notes b since w time s small.
       let k : ℕ = x.number in
       let i : ℕ = set_word e o.arena o.set in
@@ -139,8 +139,8 @@ module _ {S : Type 0} (a : About) (slots id : ℕ) (me : Me S (List Seated)) (on
   -- where the store is that of a word of the next epoch, and an opening asks nothing of the words behind it that count as set
   may_set_word : (o : Owned) (v next : ℕ) → x.port.control.owned ≡ Some o → o.clean ≡ a.ports → o.set < next → next ≤ first_free a.sizes + a.sizes.m → a.sizes.m ≤ x.port.passed →
       ((i : ℕ) → o.set < i → i < next → ¬ IsAsked a.sizes i) →
-      ((b : Beside) → length a.opening.values ≡ a.sizes.m → IfSome x.found (IsFinal (plan_of a) b x.port) → x.port.before ≡ b.before → v ≡ next_word e b o.set) →
-      Allows (IsKept a) slots id me (set_word e o.arena o.set) (λ n. v) (tells (Sets o next) me)
+      ((b : Beside) → length a.opening.values ≡ a.sizes.m → IfSome x.found (IsFinal (plan_of a) b x.port) → x.port.before ≡ b.before → v ≡ next_epoch_word e b o.set) →
+      Allows (IsRuleKept a) slots id me (set_word e o.arena o.set) (λ n. v) (tells (Sets o next) me)
   may_set_word o v next owned clean less most passed between value = may_set o v next owned clean less most passed (λ words ports notes b since w s current i from up asked.
       let k : ℕ = x.number in
       (elim (eqb_tells i o.set) [
@@ -153,20 +153,20 @@ module _ {S : Type 0} (a : About) (slots id : ℕ) (me : Me S (List Seated)) (on
             let inside = below_whole e o.arena place.0 mine.arena place.1 in
             let count = w.epochs.count in
             ap (λ j. get_or (set words (set_word e o.arena o.set) v) (set_word e o.arena j) 0) same.1 ∙ get_or-set_same words (set_word e o.arena o.set) v 0 (omega (arith, at, inside, count))
-            ∙ value b w.epochs.plan.values s.found (ap (λ (p : Port). p.before) s.port ∙ before_is a words ports notes b k w s.number current) ∙ ap (next_word e b) (sym same.1)
+            ∙ value b w.epochs.plan.values s.found (ap (λ (p : Port). p.before) s.port ∙ before_is a words ports notes b k w s.number current) ∙ ap (next_epoch_word e b) (sym same.1)
         | inr other ↦ let ne = other.1 in absurd (between i (omega (arith, from, ne)) up asked)
       ]))
 
   -- a word that is the same whatever the values are
   pub may_set_same : (o : Owned) (v : ℕ) → x.port.control.owned ≡ Some o → o.clean ≡ a.ports → a.sizes.m ≤ x.port.passed → o.set < first_free a.sizes →
       (o.set < pool_base a.sizes) ⊎ ((o.set - pool_base a.sizes) % plain_record_size ≢ value_word 0) → v ≡ opening_word a.sizes [] o.set →
-      Allows (IsKept a) slots id me (set_word e o.arena o.set) (λ n. v) (tells (Sets o (o.set + 1)) me)
+      Allows (IsRuleKept a) slots id me (set_word e o.arena o.set) (λ n. v) (tells (Sets o (o.set + 1)) me)
   may_set_same o v owned clean passed low free is = may_set_word o v (o.set + 1) owned clean (omega arith) (omega (arith, low)) passed (λ i from up. absurd (omega (arith, from, up)))
       (λ b long found before. is ∙ sym (same_word a.sizes (opening_behind a.opening (b.log ∷ b.before)).values o.set free) ∙ sym (next_below e b o.set 0 low))
 
   -- the last word before the list words, of which an opening asks nothing
   pub may_set_over_lists : (o : Owned) (v : ℕ) → x.port.control.owned ≡ Some o → o.clean ≡ a.ports → a.sizes.m ≤ x.port.passed → o.set + 1 ≡ list_base a.sizes → v ≡ opening_word a.sizes [] o.set →
-      Allows (IsKept a) slots id me (set_word e o.arena o.set) (λ n. v) (tells (Sets o (pool_base a.sizes)) me)
+      Allows (IsRuleKept a) slots id me (set_word e o.arena o.set) (λ n. v) (tells (Sets o (pool_base a.sizes)) me)
   may_set_over_lists o v owned clean passed last is = may_set_word o v (pool_base a.sizes) owned clean (omega (arith, last)) (omega arith) passed
       (λ i from up asked. elim asked [ inl low ↦ absurd (omega (arith, from, last, low)) | inr high ↦ absurd (omega (arith, up, high)) ])
       (λ b long found before. is ∙ sym (same_word a.sizes (opening_behind a.opening (b.log ∷ b.before)).values o.set (inl (omega (arith, last)))) ∙ sym (next_below e b o.set 0 (omega (arith, last))))
@@ -174,7 +174,7 @@ module _ {S : Type 0} (a : About) (slots id : ℕ) (me : Me S (List Seated)) (on
   -- the value that the port has found last of component j, in its initial record
   pub may_set_value : (o : Owned) (f : Found) → x.port.control.owned ≡ Some o → o.clean ≡ a.ports → a.sizes.m ≤ x.port.passed → x.found ≡ Some f →
       o.set ≡ value_word (initial_record a.sizes f.component) → f.component < a.sizes.m →
-      Allows (IsKept a) slots id me (set_word e o.arena o.set) (λ n. f.value) (tells (Sets o (o.set + 1)) me)
+      Allows (IsRuleKept a) slots id me (set_word e o.arena o.set) (λ n. f.value) (tells (Sets o (o.set + 1)) me)
   may_set_value o f owned clean passed found at inside = may_set_word o f.value (o.set + 1) owned clean (omega arith) (omega (arith, at, inside)) passed (λ i from up. absurd (omega (arith, from, up)))
       (λ b long final before.
       let last = found_last a b x.port x.found f found final before in
@@ -183,7 +183,7 @@ module _ {S : Type 0} (a : About) (slots id : ℕ) (me : Me S (List Seated)) (on
   -- the public stamp that it has found
   pub may_set_stamp : (o : Owned) (f : Found) → x.port.control.owned ≡ Some o → o.clean ≡ a.ports → a.sizes.m ≤ x.port.passed → x.found ≡ Some f →
       o.set ≡ first_free a.sizes + f.component → f.component < a.sizes.m →
-      Allows (IsKept a) slots id me (set_word e o.arena o.set) (λ n. f.stamp) (tells (Sets o (o.set + 1)) me)
+      Allows (IsRuleKept a) slots id me (set_word e o.arena o.set) (λ n. f.stamp) (tells (Sets o (o.set + 1)) me)
   may_set_stamp o f owned clean passed found at inside = may_set_word o f.stamp (o.set + 1) owned clean (omega arith) (omega (arith, at, inside)) passed (λ i from up. absurd (omega (arith, from, up)))
       (λ b long final before.
       let last = found_last a b x.port x.found f found final before in

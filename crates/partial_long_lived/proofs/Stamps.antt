@@ -1,27 +1,27 @@
 -- The stamps of a scan by a double collect: those that the words name which both collects have found.
-use Rattle.partial_long_lived.proofs.Common.{ℕ, ◌≡◌, List, length, map, sym, ap, ◌∙◌, arith, None, ext_get_or, get_or-map, length-map, Seated, Stand, port_at, seen_in, Kept, HasScanned}
+use Rattle.partial_long_lived.proofs.Common.{ℕ, ◌≡◌, List, length, map, sym, ap, ◌∙◌, arith, None, ext_get_or, get_or-map, length-map, SeatedPort, Stand, port_at, seen_in, StaysAt, HasNotedScan}
 use Rattle.partial_long_lived.specs.Inner.DoubleCollect.{ArePublic, ScannedNamed, ScannedStamped}
 use Rattle.partial_long_lived.specs.Inner.Unchanged.{stamp_at}
 use Rattle.partial_long_lived.proofs.Coming.{goes_on}
 
 -- A scan led from s to t, and the loads of its stamps on to u, of which nothing is new.
-module _ (s t u : Stand) (which values ws stamps : List ℕ) (named : ScannedNamed s t which values ws) (kept : Kept t u) (same : port_at u ≡ port_at t)
+module _ (s t u : Stand) (which values ws stamps : List ℕ) (named : ScannedNamed s t which values ws) (kept : StaysAt t u) (same : port_at u ≡ port_at t)
     (many : length stamps ≡ length which) (public : ArePublic (port_at t) which ws stamps (length which)) where
-  scanned_on : HasScanned s u which values 2 None
+  scanned_on : HasNotedScan s u which values 2 None
   scanned_on = let w = named.scanned in record {
     shape = kept.shape ∙ w.shape;
     number = kept.number ∙ w.number;
     later = let up = w.later in let epoch = kept.epoch in omega (arith, up, epoch);
     goes = goes_on (port_at s) (port_at t) (port_at u) w.goes kept.goes;
     idle = record {
-      stands = ap (λ (z : Seated). z.port.control.entering) same ∙ w.idle.stands;
-      free = ap (λ (z : Seated). z.port.control.owned) same ∙ w.idle.free;
+      stands = ap (λ (z : SeatedPort). z.port.control.entering) same ∙ w.idle.stands;
+      free = ap (λ (z : SeatedPort). z.port.control.owned) same ∙ w.idle.free;
     };
     place = w.place;
-    notes = ap (λ (z : Seated). z.notes) same ∙ w.notes;
-    first = let first = w.first in let began = ap (λ (z : Seated). z.began.length) same in omega (arith, first, began);
-    behind = let behind = w.behind in let began = ap (λ (z : Seated). z.began.length) same in omega (arith, behind, began);
-    within = let within = w.within in let seen = ap (λ (z : Seated). length (seen_in z.port)) same in omega (arith, within, seen);
+    notes = ap (λ (z : SeatedPort). z.notes) same ∙ w.notes;
+    first = let first = w.first in let began = ap (λ (z : SeatedPort). z.began.length) same in omega (arith, first, began);
+    behind = let behind = w.behind in let began = ap (λ (z : SeatedPort). z.began.length) same in omega (arith, behind, began);
+    within = let within = w.within in let seen = ap (λ (z : SeatedPort). length (seen_in z.port)) same in omega (arith, within, seen);
   }
 
   pub stamped_behind : ScannedStamped s u which values stamps
@@ -34,5 +34,5 @@ module _ (s t u : Stand) (which values ws stamps : List ℕ) (named : ScannedNam
         ext_get_or 0 stamps (map there which) (many ∙ sym long)
         (λ k low.
         public k (omega (arith, low, many)) ∙ (named.stamps k (omega (arith, low, many))).1 ∙ sym (get_or-map there which k 0 0 (omega (arith, low, many))))
-        ∙ ap (λ (z : Seated). map (λ j. stamp_at z named.scanned.place j) which) (sym same);
+        ∙ ap (λ (z : SeatedPort). map (λ j. stamp_at z named.scanned.place j) which) (sym same);
   }

@@ -1,5 +1,5 @@
 -- The seat of a port in a call, from step to step.
-use Rattle.partial_long_lived.proofs.Common.{ℕ, ◌≡◌, ◌+◌, ◌-◌, ◌*◌, ◌<◌, ◌≤◌, ◌==◌, ◌⊎◌, Bool, true, false, cond, Option, Some, None, IfSome, List, refl, sym, ap, subst, ◌∙◌, arith, option_map_or, TableId, Me, Allows, Place, base, packed, span, whole, IsPlan, below_whole, Sees, Wish, component_at, sees, HaveSlots, Owned, Port, Stands, having_passed, having_looked, About, Shape, Stand, IsKept, Seated, one_of, plan_of, Goes, IsOne, tells, IsHeld, port_at, Looks, looked_at, IsShapeOf}
+use Rattle.partial_long_lived.proofs.Common.{ℕ, ◌≡◌, ◌+◌, ◌-◌, ◌*◌, ◌<◌, ◌≤◌, ◌==◌, ◌⊎◌, Bool, true, false, cond, Option, Some, None, IfSome, List, refl, sym, ap, subst, ◌∙◌, arith, option_map_or, TableId, Me, Allows, Place, base, packed, span, whole, IsEpochPlan, below_whole, SeatSees, Wish, component_at, sees, HaveSlots, Owned, Port, Stands, having_passed, having_looked, About, Shape, Stand, IsRuleKept, SeatedPort, one_of, plan_of, SeatGoes, IsOne, tells, IsHeld, port_at, SeatLooks, looked_at, IsShapeOf}
 use Rattle.std.proofs.Math.Nat.{mul-le-mul_right}
 use Rattle.partial_long_lived.proofs.Loads.{IsFinding}
 use Rattle.partial_long_lived.proofs.Sights.{may_see}
@@ -7,7 +7,7 @@ use Rattle.partial_long_lived.specs.Inner.Calls as Calls
 use Rattle.partial_long_lived.proofs.Control as Control
 
 -- a seat that stands where it stood
-pub held_then : (table : TableId) (about : About) (s t : Stand) → IsHeld table about s → t.seat.table_id ≡ s.seat.table_id → IsOne t.seat.me → Goes (port_at s) (port_at t) →
+pub held_then : (table : TableId) (about : About) (s t : Stand) → IsHeld table about s → t.seat.table_id ≡ s.seat.table_id → IsOne t.seat.me → SeatGoes (port_at s) (port_at t) →
     (port_at t).port.control.here ≡ (port_at s).port.control.here → t.shape ≡ s.shape → t.number ≡ s.number → t.epoch ≡ s.epoch → t.arena ≡ s.arena → t.base ≡ s.base →
     t.passed ≡ (port_at t).port.passed → IsHeld table about t
 held_then table about s t h id one goes here shape number epoch arena base_is passed = record {
@@ -61,8 +61,8 @@ looked_here n p = by (n == packed p.control.here) p.control.owned
     by true (Some o) = refl
     by false o = refl
 
-pub looks_here : (first : Bool) (x : Seated) (n : ℕ) (y : Seated) → Looks first x n y → y.port.control.here ≡ x.port.control.here
-looks_here first x n y w = ap (λ (z : Seated). z.port.control.here) w.2 ∙ looked_here n x.port
+pub looks_here : (first : Bool) (x : SeatedPort) (n : ℕ) (y : SeatedPort) → SeatLooks first x n y → y.port.control.here ≡ x.port.control.here
+looks_here first x n y w = ap (λ (z : SeatedPort). z.port.control.here) w.2 ∙ looked_here n x.port
 
 -- nor has it passed more components
 looked_passed : (n : ℕ) (p : Port) → (looked_at n p).passed ≡ p.passed
@@ -73,8 +73,8 @@ looked_passed n p = by (n == packed p.control.here) p.control.owned
     by true (Some o) = refl
     by false o = refl
 
-pub looks_passed : (first : Bool) (x : Seated) (n : ℕ) (y : Seated) → Looks first x n y → y.port.passed ≡ x.port.passed
-looks_passed first x n y w = ap (λ (z : Seated). z.port.passed) w.2 ∙ looked_passed n x.port
+pub looks_passed : (first : Bool) (x : SeatedPort) (n : ℕ) (y : SeatedPort) → SeatLooks first x n y → y.port.passed ≡ x.port.passed
+looks_passed first x n y w = ap (λ (z : SeatedPort). z.port.passed) w.2 ∙ looked_passed n x.port
 
 -- a port of the memory may look
 pub own_look : (about : About) (s : Stand) → (port_at s).about ≡ about → Calls.MayLook s → Control.MayLook about (port_at s).port
@@ -100,25 +100,25 @@ module _ (table : TableId) (about : About) (s : Stand) (h : IsHeld table about s
   component_there j inside = arena_there j (omega (arith, inside))
 
   pub see_asked : (port_at s).port.control.entering ≡ Stands → (first : Bool) (wish : Wish) (j : ℕ) → j < about.sizes.m → (IsFinding wish → j < (port_at s).port.passed) → (slots id : ℕ) →
-      Allows (IsKept about) slots id s.seat.me (s.base + j) (λ n. n) (sees first wish (s.base + j) s.seat.me)
+      Allows (IsRuleKept about) slots id s.seat.me (s.base + j) (λ n. n) (sees first wish (s.base + j) s.seat.me)
   see_asked stands first wish j inside finds slots id =
       let is = base_is in
       let own = h.own in
       let at : component_at (port_at s) (s.base + j) ≡ j = ap (λ (a : About). s.base + j - base (plan_of a) (port_at s).port.control.here.arena) own ∙ omega (arith, is) in
-      subst (λ i. Allows (IsKept about) slots id s.seat.me (s.base + j) (λ n. n) (tells (Sees first wish i) s.seat.me)) (sym at)
-      (subst (λ i. Allows (IsKept about) slots id s.seat.me (i + j) (λ n. n) (tells (Sees first wish j) s.seat.me)) (sym is)
+      subst (λ i. Allows (IsRuleKept about) slots id s.seat.me (s.base + j) (λ n. n) (tells (SeatSees first wish i) s.seat.me)) (sym at)
+      (subst (λ i. Allows (IsRuleKept about) slots id s.seat.me (i + j) (λ n. n) (tells (SeatSees first wish j) s.seat.me)) (sym is)
       (may_see about slots id s.seat.me h.one h.own h.known stands first wish j inside finds))
 
   -- a load as the seat sees it
-  pub seen_at : (first : Bool) (wish : Wish) (j a : ℕ) (me : Me (Unit {0}) (List Seated)) → sees first wish (s.base + j) s.seat.me a me → Sees first wish j (port_at s) a (one_of me.0)
+  pub seen_at : (first : Bool) (wish : Wish) (j a : ℕ) (me : Me (Unit {0}) (List SeatedPort)) → sees first wish (s.base + j) s.seat.me a me → SeatSees first wish j (port_at s) a (one_of me.0)
   seen_at first wish j a me told =
       let is = base_is in
       let at : component_at (port_at s) (s.base + j) ≡ j = ap (λ (a : About). s.base + j - base (plan_of a) (port_at s).port.control.here.arena) h.own ∙ omega (arith, is) in
-      subst (λ i. Sees first wish i (port_at s) a (one_of me.0)) at told.2
+      subst (λ i. SeatSees first wish i (port_at s) a (one_of me.0)) at told.2
 
 -- a load leaves a port where it stands
-pub sees_here : (first : Bool) (wish : Wish) (j : ℕ) (x : Seated) (a : ℕ) (y : Seated) → Sees first wish j x a y → y.port.control.here ≡ x.port.control.here
-sees_here first wish j x a y w = ap (λ (z : Seated). z.port.control.here) w.is
+pub sees_here : (first : Bool) (wish : Wish) (j : ℕ) (x : SeatedPort) (a : ℕ) (y : SeatedPort) → SeatSees first wish j x a y → y.port.control.here ≡ x.port.control.here
+sees_here first wish j x a y w = ap (λ (z : SeatedPort). z.port.control.here) w.is
 
 -- there is a slot for each two words of the pool
 pub room_of : (table : TableId) (about : About) (s : Stand) → IsHeld table about s → HaveSlots (plan_of about)
@@ -130,7 +130,7 @@ base_small table about s h =
     let is = h.base in
     let small = (place_small table about s h).1 in
     let up : s.arena * span (plan_of about) ≤ 65535 * span (plan_of about) = mul-le-mul_right (span (plan_of about)) (omega (arith, small)) in
-    let plan = subst (λ (a : About). IsPlan (plan_of a)) h.own h.known.plan in
+    let plan = subst (λ (a : About). IsEpochPlan (plan_of a)) h.own h.known.plan in
     let ports = plan.few in
     let arenas = plan.arenas in
     let m = plan.sizes.components.1 in

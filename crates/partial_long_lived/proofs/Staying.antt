@@ -1,8 +1,8 @@
 -- A port stays where it stands, from part to part of a call.
-use Rattle.partial_long_lived.proofs.Common.{[], refl, sym, ◌∙◌, append-nil, TableId, About, Stand, Seated, seen_in, Goes, IsKnown, IsHeld, port_at, IsSame, Remains, Stays}
+use Rattle.partial_long_lived.proofs.Common.{[], refl, sym, ◌∙◌, append-nil, TableId, About, Stand, SeatedPort, seen_in, SeatGoes, IsSeatKnown, IsHeld, port_at, HasSamePart, Remains, Stays}
 use Rattle.partial_long_lived.proofs.Coming.{goes_on}
 
-pub goes_same : (x : Seated) → IsKnown x → Goes x x
+pub goes_same : (x : SeatedPort) → IsSeatKnown x → SeatGoes x x
 goes_same x known = record { about = refl; number = refl; seen = ([], sym (append-nil (seen_in x.port))); known = known }
 
 pub stays_same : (table : TableId) (about : About) (s : Stand) → IsHeld table about s → Stays s s
@@ -33,10 +33,10 @@ stays_then s t u a b = record {
   began = b.began ∙ a.began;
 }
 
-pub same_itself : (s : Stand) → IsSame s s
+pub same_itself : (s : Stand) → HasSamePart s s
 same_itself s = record { part = refl; before = refl; over = refl }
 
-pub same_then : (s t u : Stand) → IsSame s t → IsSame t u → IsSame s u
+pub same_then : (s t u : Stand) → HasSamePart s t → HasSamePart t u → HasSamePart s u
 same_then s t u a b = record { part = b.part ∙ a.part; before = b.before ∙ a.before; over = b.over ∙ a.over }
 
 pub remains_same : (table : TableId) (about : About) (s : Stand) → IsHeld table about s → Remains s s

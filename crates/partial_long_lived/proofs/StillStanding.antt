@@ -1,17 +1,17 @@
 -- Components that still have the stamps that they had.
-use Rattle.partial_long_lived.proofs.Common.{ℕ, ◌≡◌, ◌+◌, ◌<◌, ◌≤◌, List, [], ◌∷◌, length, take, sym, ap, subst, ◌∙◌, inl, inr, arith, append-nil, slice_index, eqb_tells, take-append-le, TableId, Applied, stamp_of, stamps_never_return, About, Stand, Seating, Seated, one_in, IsOf, MemoryView, PortView, port_view, seen_in, Differ, HasThen, StillStand, IsStandOf, IsSeatingOf, Goes, IsHeld, port_at, SettledFirst, HasGlanced}
+use Rattle.partial_long_lived.proofs.Common.{ℕ, ◌≡◌, ◌+◌, ◌<◌, ◌≤◌, List, [], ◌∷◌, length, take, sym, ap, subst, ◌∙◌, inl, inr, arith, append-nil, slice_index, eqb_tells, take-append-le, TableId, Applied, stamp_of, stamps_never_return, About, Stand, Seating, SeatedPort, one_in, IsOf, MemoryView, PortView, port_view, seen_in, Differ, HasStampThen, StillStand, IsStandOf, IsSeatingOf, SeatGoes, IsHeld, port_at, SettledFirst, HasGlanced}
 use Rattle.partial_long_lived.specs.Inner.Unchanged.{HadAnother, HadStamp, HadStamps, HasStamp, stamp_at}
 use Rattle.partial_long_lived.proofs.Answering.{callers_see, goes_seen}
 use Rattle.partial_long_lived.proofs.Coming.{seen_more}
 
 -- what the port had seen begins what it has seen then
-taken_more : (x y : Seated) → Goes x y → (n : ℕ) → n ≤ length (seen_in x.port) → take n (seen_in y.port) ≡ take n (seen_in x.port)
+taken_more : (x y : SeatedPort) → SeatGoes x y → (n : ℕ) → n ≤ length (seen_in x.port) → take n (seen_in y.port) ≡ take n (seen_in x.port)
 taken_more x y g n few = ap (λ (l : List Applied). take n l) g.seen.1 ∙ take-append-le n (seen_in x.port) g.seen.0 few
 
 -- a component that had a stamp had it
 had_on : (s t : Stand) → HasGlanced s t → (j v : ℕ) → HadStamp (port_at s) j v → HadStamp (port_at t) j v
 had_on s t g j v w =
-    let same = ap (λ (z : Seated). z.began.length) g.is in
+    let same = ap (λ (z : SeatedPort). z.began.length) g.is in
     let from = w.from in
     let to = w.to in
     let more = seen_more (port_at s) (port_at t) g.kept.goes in record {
@@ -23,7 +23,7 @@ had_on s t g j v w =
           ∙ ap (λ (l : List Applied). stamp_of (port_at t).about.opening l j) (sym (taken_more (port_at s) (port_at t) g.kept.goes w.moment to));
     }
 
-pub had_now : (x : Seated) (j v : ℕ) → j < x.about.sizes.m → HasStamp x j v → HadStamp x j v
+pub had_now : (x : SeatedPort) (j v : ℕ) → j < x.about.sizes.m → HasStamp x j v → HadStamp x j v
 had_now x j v inside w = record { inside = inside; moment = length (seen_in x.port); from = w.time; to = omega arith; is = w.is }
 
 -- one component more
@@ -38,18 +38,18 @@ had_more s t g js ss n v inside now same all k less = elim (eqb_tells k n) [
 
 -- the same, as callers see it
 module _ (table : TableId) (s t : Stand) (settled : SettledFirst s t) where
-  abbrev x : Seated
+  abbrev x : SeatedPort
   x = port_at s
 
-  abbrev y : Seated
+  abbrev y : SeatedPort
   y = port_at t
 
-  goes : Goes x y
+  goes : SeatGoes x y
   goes = settled.come.goes
 
   -- A component that had this stamp in what the port had seen before the call, and has it at a moment of the call, has it between.
   stood : (n j v : ℕ) → length (seen_in x.port) ≤ n → (h : HadStamp y j v) → n ≤ h.moment → (i : ℕ) → i ≤ length (seen_in x.port) →
-      HasThen (port_view table x) i j v → HasThen (port_view table y) n j v
+      HasStampThen (port_view table x) i j v → HasStampThen (port_view table y) n j v
   stood n j v behind h early i few was =
       let values = goes.known.plan.values in
       let inside = h.inside in

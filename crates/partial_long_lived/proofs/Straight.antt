@@ -1,5 +1,5 @@
 -- A call under way: each step of its machine is allowed, and leads the call on.
-use Rattle.partial_long_lived.proofs.Common.{ℕ, ◌≡◌, ◌+◌, ◌-◌, ◌<◌, ◌≤◌, ◌==◌, ◌%◌, ◌^◌, Bool, true, false, cond, Some, refl, sym, ap, subst, ◌∙◌, arith, nat_lt, either, Allows, TableId, Step, Load, Store, Exchange, Add, total, word_of, CoreState, advance, step_of, IsSound, base, plain, unsealed, IsPlan, not_below, About, Stand, IsKept, Seated, plan_of, Goes, IsOne, port_at, component_at, IsApart, IsBehind, Makes, MayMake, answered, change_of, goes_on, makes, word_at, CallMade, IsGoing, Leads, MayBegin, before_claim, machine_at}
+use Rattle.partial_long_lived.proofs.Common.{ℕ, ◌≡◌, ◌+◌, ◌-◌, ◌<◌, ◌≤◌, ◌==◌, ◌%◌, ◌^◌, Bool, true, false, cond, Some, refl, sym, ap, subst, ◌∙◌, arith, nat_lt, either, Allows, TableId, Step, Load, Store, Exchange, Add, total, word_of, CoreState, advance, step_of, IsSound, base, plain, unsealed, IsEpochPlan, not_below, About, Stand, IsRuleKept, SeatedPort, plan_of, SeatGoes, IsOne, port_at, component_at, IsApart, LeavesComponents, SeatMakes, MayMake, unsealed_answer, change_of, goes_on, makes, word_at, CallMade, IsGoing, ComesTo, MayBegin, before_claim, machine_at}
 use Rattle.partial_lines.specs.Lines.{IsQuiet}
 use Rattle.partial_long_lived.proofs.Claims.{inner_word}
 use Rattle.partial_long_lived.proofs.Making.{may_make}
@@ -8,7 +8,7 @@ use Rattle.partial_long_lived.proofs.Standing.{arena_there, base_small, held_the
 use Rattle.partial_long_lived.proofs.Under.{next_made, next_over, next_may, next_within}
 
 -- a word behind the component words is another
-apart_of : (a : About) (s : Step) → IsBehind a.sizes s → IsApart a.sizes s
+apart_of : (a : About) (s : Step) → LeavesComponents a.sizes s → IsApart a.sizes s
 apart_of a (Load v) h = tt
 apart_of a (Store v x) h = tt
 apart_of a (Exchange v old new) h = h
@@ -41,7 +41,7 @@ module _ (table : TableId) (about : About) (s : Stand) (w : IsGoing table about 
   pub sound_there : IsSound (machine_at s) × (machine_at s).sizes ≡ about.sizes
   sound_there = let m = had in (m.made.sound, m.made.sizes ∙ ap (λ (a : About). a.sizes) (sym m.goes.about ∙ w.held.own))
 
-  pub quiet_behind : IsQuiet (machine_at s).stage → IsBehind (port_at s).about.sizes step
+  pub quiet_behind : IsQuiet (machine_at s).stage → LeavesComponents (port_at s).about.sizes step
   quiet_behind quiet = let m = had in inner_word (machine_at s) (port_at s).about.sizes m.made.sound (m.made.sizes ∙ ap (λ (a : About). a.sizes) (sym m.goes.about)) quiet step due
 
   -- a word behind the component words is answered as it is
@@ -51,27 +51,28 @@ module _ (table : TableId) (about : About) (s : Stand) (w : IsGoing table about 
   pub quiet_apart : IsQuiet (machine_at s).stage → IsApart about.sizes step
   quiet_apart quiet = let m = sound_there in apart_of about step (inner_word (machine_at s) about.sizes m.0 m.1 quiet step due)
 
-  pub step_asked : IsApart about.sizes step → (slots id : ℕ) → Allows (IsKept about) slots id s.seat.me (s.base + word_of step) (change_of step) (makes false (machine_at s) step s.seat.me)
+  pub step_asked : IsApart about.sizes step → (slots id : ℕ) → Allows (IsRuleKept about) slots id s.seat.me (s.base + word_of step) (change_of step) (makes false (machine_at s) step s.seat.me)
   step_asked apart slots id =
-      subst (λ i. Allows (IsKept about) slots id s.seat.me (i + word_of step) (change_of step) (makes false (machine_at s) step s.seat.me)) (sym base_is)
+      subst (λ i. Allows (IsRuleKept about) slots id s.seat.me (i + word_of step) (change_of step) (makes false (machine_at s) step s.seat.me)) (sym base_is)
       (may_make about slots id s.seat.me w.held.one w.held.own w.held.known (room_of table about s w.held) (machine_at s) step may false apart)
 
   -- the call goes on
-  module _ (t : Stand) (id : t.seat.table_id ≡ s.seat.table_id) (one : IsOne t.seat.me) (goes : Goes (port_at s) (port_at t)) (a : ℕ) (m : Makes false (machine_at s) step (port_at s) a (port_at t))
+  module _ (t : Stand) (id : t.seat.table_id ≡ s.seat.table_id) (one : IsOne t.seat.me) (goes : SeatGoes (port_at s) (port_at t)) (a : ℕ)
+      (m : SeatMakes false (machine_at s) step (port_at s) a (port_at t))
       (shape : t.shape ≡ s.shape) (number : t.number ≡ s.number) (epoch : t.epoch ≡ s.epoch) (arena : t.arena ≡ s.arena) (base_same : t.base ≡ s.base) (passed_same : t.passed ≡ s.passed) where
     machine_is : machine_at t ≡ advance (machine_at s) a
     machine_is = sym m.told.machine.is
 
-    call_on : (b : CoreState) (x : Seated) → MayBegin b x → CallMade b x (machine_at s) (port_at s) → CallMade b x (machine_at t) (port_at t)
+    call_on : (b : CoreState) (x : SeatedPort) → MayBegin b x → CallMade b x (machine_at s) (port_at s) → CallMade b x (machine_at t) (port_at t)
     call_on b x begins made = subst (λ (d : CoreState). CallMade b x d (port_at t)) (sym machine_is) (next_made b x begins (machine_at s) (port_at s) made step due a (port_at t) goes m)
 
     pub going_on : IsGoing table about t
     going_on = record {
-      held = held_then table about s t w.held id one goes (ap (λ (x : Seated). x.port.control.here) m.is) shape number epoch arena base_same (passed_same ∙ w.held.passed ∙ sym (ap (λ (x : Seated). x.port.passed) m.is));
+      held = held_then table about s t w.held id one goes (ap (λ (x : SeatedPort). x.port.control.here) m.is) shape number epoch arena base_same (passed_same ∙ w.held.passed ∙ sym (ap (λ (x : SeatedPort). x.port.passed) m.is));
       under = (w.under.0, w.under.1, w.under.2, call_on w.under.0 w.under.1 w.under.2 had);
     }
 
-    pub leads_there : Leads s t
+    pub leads_there : ComesTo s t
     leads_there = record {
       shape = shape;
       number = number;
@@ -79,7 +80,7 @@ module _ (table : TableId) (about : About) (s : Stand) (w : IsGoing table about 
       arena = arena;
       base = base_same;
       passed = passed_same;
-      began = ap (λ (x : Seated). x.began) m.is ∙ m.began;
+      began = ap (λ (x : SeatedPort). x.began) m.is ∙ m.began;
       call = call_on;
       over = λ behind.
           let next = next_over w.under.0 w.under.1 w.under.2 (machine_at s) (port_at s) had step due a (port_at t) goes m behind in
@@ -92,31 +93,32 @@ module _ (table : TableId) (about : About) (s : Stand) (w : IsGoing table about 
   small_word v step due is =
       let up = base_small table about s w.held in
       let low = step_within table about s w step due in
-      let plan = subst (λ (a : About). IsPlan (plan_of a)) w.held.own w.held.known.plan in
+      let plan = subst (λ (a : About). IsEpochPlan (plan_of a)) w.held.own w.held.known.plan in
       let m = plan.sizes.components.1 in
       let slots = plan.sizes.slots.1 in
       let lists = plan.sizes.lists in
       let pool = plan.sizes.pool.1 in
       omega (arith, up, low, is, m, slots, lists, pool)
 
-  pub load_asked : (v : ℕ) → step_of (machine_at s) ≡ Some (Load v) → (slots id : ℕ) → Allows (IsKept about) slots id s.seat.me (s.base + v) (λ n. n) (goes_on (Load (word_at s.seat.me (s.base + v))) s.seat.me)
-  load_asked v due slots id = subst (λ u. Allows (IsKept about) slots id s.seat.me (s.base + v) (λ n. n) (goes_on (Load u) s.seat.me)) (sym (word_same table about s w (Load v) due))
+  pub load_asked : (v : ℕ) → step_of (machine_at s) ≡ Some (Load v) → (slots id : ℕ) → Allows (IsRuleKept about) slots id s.seat.me (s.base + v) (λ n. n) (goes_on (Load (word_at s.seat.me (s.base + v))) s.seat.me)
+  load_asked v due slots id = subst (λ u. Allows (IsRuleKept about) slots id s.seat.me (s.base + v) (λ n. n) (goes_on (Load u) s.seat.me)) (sym (word_same table about s w (Load v) due))
       (step_asked table about s w (Load v) due tt slots id)
 
-  pub load_told : (v : ℕ) → step_of (machine_at s) ≡ Some (Load v) → (n : ℕ) (y : Seated) → Makes false (machine_at s) (Load (word_at s.seat.me (s.base + v))) (port_at s) (answered (plan_of (port_at s).about) (Load (word_at s.seat.me (s.base + v))) n) y →
-      Makes false (machine_at s) (Load v) (port_at s) (answered (plan_of (port_at s).about) (Load v) n) y
-  load_told v due n y m = subst (λ u. Makes false (machine_at s) (Load u) (port_at s) (answered (plan_of (port_at s).about) (Load u) n) y) (word_same table about s w (Load v) due) m
+  pub load_told : (v : ℕ) → step_of (machine_at s) ≡ Some (Load v) → (n : ℕ) (y : SeatedPort) → SeatMakes false (machine_at s) (Load (word_at s.seat.me (s.base + v))) (port_at s) (unsealed_answer (plan_of (port_at s).about) (Load (word_at s.seat.me (s.base + v))) n) y →
+      SeatMakes false (machine_at s) (Load v) (port_at s) (unsealed_answer (plan_of (port_at s).about) (Load v) n) y
+  load_told v due n y m = subst (λ u. SeatMakes false (machine_at s) (Load u) (port_at s) (unsealed_answer (plan_of (port_at s).about) (Load u) n) y) (word_same table about s w (Load v) due) m
 
   pub store_asked : (v new : ℕ) → step_of (machine_at s) ≡ Some (Store v new) → (slots id : ℕ) →
-      Allows (IsKept about) slots id s.seat.me (s.base + v) (λ n. new) (λ n. goes_on (Store (word_at s.seat.me (s.base + v)) new) s.seat.me new)
-  store_asked v new due slots id = subst (λ u. Allows (IsKept about) slots id s.seat.me (s.base + v) (λ n. new) (λ n. goes_on (Store u new) s.seat.me new)) (sym (word_same table about s w (Store v new) due))
+      Allows (IsRuleKept about) slots id s.seat.me (s.base + v) (λ n. new) (λ n. goes_on (Store (word_at s.seat.me (s.base + v)) new) s.seat.me new)
+  store_asked v new due slots id = subst (λ u. Allows (IsRuleKept about) slots id s.seat.me (s.base + v) (λ n. new) (λ n. goes_on (Store u new) s.seat.me new)) (sym (word_same table about s w (Store v new) due))
       (step_asked table about s w (Store v new) due tt slots id)
 
-  pub store_told : (v new : ℕ) → step_of (machine_at s) ≡ Some (Store v new) → (n : ℕ) (y : Seated) → Makes false (machine_at s) (Store (word_at s.seat.me (s.base + v)) new) (port_at s) (answered (plan_of (port_at s).about) (Store (word_at s.seat.me (s.base + v)) new) n) y →
-      Makes false (machine_at s) (Store v new) (port_at s) 0 y
+  pub store_told : (v new : ℕ) → step_of (machine_at s) ≡ Some (Store v new) → (n : ℕ) (y : SeatedPort) → SeatMakes false (machine_at s) (Store (word_at s.seat.me (s.base + v)) new) (port_at s) (unsealed_answer (plan_of (port_at s).about) (Store (word_at s.seat.me (s.base + v)) new) n) y →
+      SeatMakes false (machine_at s) (Store v new) (port_at s) 0 y
   store_told v new due n y m =
-      let told = subst (λ u. Makes false (machine_at s) (Store u new) (port_at s) (answered (plan_of (port_at s).about) (Store u new) n) y) (word_same table about s w (Store v new) due) m in
-      subst (λ a. Makes false (machine_at s) (Store v new) (port_at s) a y) (no_answer (nat_lt v (port_at s).about.sizes.m)) told
+      let told = subst (λ u. SeatMakes false (machine_at s) (Store u new) (port_at s) (unsealed_answer (plan_of (port_at s).about) (Store u new) n) y) (word_same table about s w (Store v new) due)
+      m in
+      subst (λ a. SeatMakes false (machine_at s) (Store v new) (port_at s) a y) (no_answer (nat_lt v (port_at s).about.sizes.m)) told
     where
       no_answer : (c : Bool) → cond c (0 % 72057594037927936) 0 ≡ 0
       no_answer true = omega arith
@@ -124,28 +126,29 @@ module _ (table : TableId) (about : About) (s : Stand) (w : IsGoing table about 
 
   module _ (quiet : IsQuiet (machine_at s).stage) where
     pub exchange_asked : (v old new : ℕ) → step_of (machine_at s) ≡ Some (Exchange v old new) → (slots id : ℕ) →
-        Allows (IsKept about) slots id s.seat.me (s.base + v) (λ n. either (n == old) new n) (goes_on (Exchange (word_at s.seat.me (s.base + v)) old new) s.seat.me)
-    exchange_asked v old new due slots id = subst (λ u. Allows (IsKept about) slots id s.seat.me (s.base + v) (λ n. either (n == old) new n) (goes_on (Exchange u old new) s.seat.me)) (sym (word_same table about s w (Exchange v old new) due))
-        (subst (λ (f : ℕ → ℕ). Allows (IsKept about) slots id s.seat.me (s.base + v) f (goes_on (Exchange v old new) s.seat.me)) (λ i n. either_cond (n == old) new n i)
+        Allows (IsRuleKept about) slots id s.seat.me (s.base + v) (λ n. either (n == old) new n) (goes_on (Exchange (word_at s.seat.me (s.base + v)) old new) s.seat.me)
+    exchange_asked v old new due slots id = subst (λ u. Allows (IsRuleKept about) slots id s.seat.me (s.base + v) (λ n. either (n == old) new n) (goes_on (Exchange u old new) s.seat.me)) (sym (word_same table about s w (Exchange v old new) due))
+        (subst (λ (f : ℕ → ℕ). Allows (IsRuleKept about) slots id s.seat.me (s.base + v) f (goes_on (Exchange v old new) s.seat.me)) (λ i n. either_cond (n == old) new n i)
         (step_asked table about s w (Exchange v old new) due (quiet_apart table about s w (Exchange v old new) due quiet) slots id))
 
-    pub exchange_told : (v old new : ℕ) → step_of (machine_at s) ≡ Some (Exchange v old new) → (n : ℕ) (y : Seated) →
-        Makes false (machine_at s) (Exchange (word_at s.seat.me (s.base + v)) old new) (port_at s) (answered (plan_of (port_at s).about) (Exchange (word_at s.seat.me (s.base + v)) old new) n) y →
-        Makes false (machine_at s) (Exchange v old new) (port_at s) n y
+    pub exchange_told : (v old new : ℕ) → step_of (machine_at s) ≡ Some (Exchange v old new) → (n : ℕ) (y : SeatedPort) →
+        SeatMakes false (machine_at s) (Exchange (word_at s.seat.me (s.base + v)) old new) (port_at s)
+        (unsealed_answer (plan_of (port_at s).about) (Exchange (word_at s.seat.me (s.base + v)) old new) n) y →
+        SeatMakes false (machine_at s) (Exchange v old new) (port_at s) n y
     exchange_told v old new due n y m =
-        let told = subst (λ u. Makes false (machine_at s) (Exchange u old new) (port_at s) (answered (plan_of (port_at s).about) (Exchange u old new) n) y) (word_same table about s w (Exchange v old new) due) m in
+        let told = subst (λ u. SeatMakes false (machine_at s) (Exchange u old new) (port_at s) (unsealed_answer (plan_of (port_at s).about) (Exchange u old new) n) y) (word_same table about s w (Exchange v old new) due) m in
         let behind = quiet_behind table about s w (Exchange v old new) due quiet in
-        subst (λ a. Makes false (machine_at s) (Exchange v old new) (port_at s) a y) (plain_behind table about s w (Exchange v old new) due v n behind) told
+        subst (λ a. SeatMakes false (machine_at s) (Exchange v old new) (port_at s) a y) (plain_behind table about s w (Exchange v old new) due v n behind) told
 
     pub add_asked : (v k : ℕ) → step_of (machine_at s) ≡ Some (Add v k) → (slots id : ℕ) →
-        Allows (IsKept about) slots id s.seat.me (s.base + v) (λ n. (n + k) % 2 ^ 64) (goes_on (Add (word_at s.seat.me (s.base + v)) k) s.seat.me)
-    add_asked v k due slots id = subst (λ u. Allows (IsKept about) slots id s.seat.me (s.base + v) (λ n. (n + k) % 2 ^ 64) (goes_on (Add u k) s.seat.me)) (sym (word_same table about s w (Add v k) due))
+        Allows (IsRuleKept about) slots id s.seat.me (s.base + v) (λ n. (n + k) % 2 ^ 64) (goes_on (Add (word_at s.seat.me (s.base + v)) k) s.seat.me)
+    add_asked v k due slots id = subst (λ u. Allows (IsRuleKept about) slots id s.seat.me (s.base + v) (λ n. (n + k) % 2 ^ 64) (goes_on (Add u k) s.seat.me)) (sym (word_same table about s w (Add v k) due))
         (step_asked table about s w (Add v k) due tt slots id)
 
-    pub add_told : (v k : ℕ) → step_of (machine_at s) ≡ Some (Add v k) → (n : ℕ) (y : Seated) →
-        Makes false (machine_at s) (Add (word_at s.seat.me (s.base + v)) k) (port_at s) (answered (plan_of (port_at s).about) (Add (word_at s.seat.me (s.base + v)) k) n) y →
-        Makes false (machine_at s) (Add v k) (port_at s) n y
+    pub add_told : (v k : ℕ) → step_of (machine_at s) ≡ Some (Add v k) → (n : ℕ) (y : SeatedPort) →
+        SeatMakes false (machine_at s) (Add (word_at s.seat.me (s.base + v)) k) (port_at s) (unsealed_answer (plan_of (port_at s).about) (Add (word_at s.seat.me (s.base + v)) k) n) y →
+        SeatMakes false (machine_at s) (Add v k) (port_at s) n y
     add_told v k due n y m =
-        let told = subst (λ u. Makes false (machine_at s) (Add u k) (port_at s) (answered (plan_of (port_at s).about) (Add u k) n) y) (word_same table about s w (Add v k) due) m in
+        let told = subst (λ u. SeatMakes false (machine_at s) (Add u k) (port_at s) (unsealed_answer (plan_of (port_at s).about) (Add u k) n) y) (word_same table about s w (Add v k) due) m in
         let behind = quiet_behind table about s w (Add v k) due quiet in
-        subst (λ a. Makes false (machine_at s) (Add v k) (port_at s) a y) (plain_behind table about s w (Add v k) due v n behind) told
+        subst (λ a. SeatMakes false (machine_at s) (Add v k) (port_at s) a y) (plain_behind table about s w (Add v k) due v n behind) told

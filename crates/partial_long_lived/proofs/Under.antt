@@ -1,12 +1,12 @@
 -- The steps of a call of a port's machine, one after the other.
-use Rattle.partial_long_lived.proofs.Common.{ℕ, ◌≡◌, ◌≢◌, ◌+◌, ◌*◌, ◌<◌, ◌≤◌, ◌==◌, ◌⊎◌, ◌&&◌, ◌||◌, ◌++◌, Bool, true, false, cond, Option, Some, None, List, [], ◌∷◌, length, map, take, refl, sym, ap, subst, ◌∙◌, inl, inr, arith, append-nil, nat_lt, eqb_tells, append_cancel_left, Applied, Opening, stamp_of, Noted, seen_by, Step, Load, Store, Exchange, Add, Layout, IsLayout, greatest_record, pool_counter, total, word_of, Reply, Stage, Idle, ReadBegun, LoadingValue, UpdateBegun, GettingSet, Viewing, ClaimingRecord, StoringRecord, Exchanging, ScanBegun, StoringAnnouncement, Joining, Scanning, Leaving, Finished, some_same, not_below, cases_lt, CoreState, advance, record_size, reply_of, step_at, step_of, call_of, is_begun, IsSound, Part, first_at, AreNotesOf, Tells, begun_with, moved, take_within, first_steps_make_calls, further_steps_make_calls, history_of, opening_behind, Control, MayClaim, public_noted, About, Began, Seated, plan_of, Goes, opening_of, Makes, MayMake, over_by, CallMade, MayBegin, before_claim, claim_of}
+use Rattle.partial_long_lived.proofs.Common.{ℕ, ◌≡◌, ◌≢◌, ◌+◌, ◌*◌, ◌<◌, ◌≤◌, ◌==◌, ◌⊎◌, ◌&&◌, ◌||◌, ◌++◌, Bool, true, false, cond, Option, Some, None, List, [], ◌∷◌, length, map, take, refl, sym, ap, subst, ◌∙◌, inl, inr, arith, append-nil, nat_lt, eqb_tells, append_cancel_left, Applied, Opening, stamp_of, Noted, seen_by, Step, Load, Store, Exchange, Add, Layout, IsLayout, greatest_record, pool_counter, total, word_of, Reply, Stage, Idle, ReadBegun, LoadingValue, UpdateBegun, GettingSet, Viewing, ClaimingRecord, StoringRecord, Exchanging, ScanBegun, StoringAnnouncement, Joining, Scanning, Leaving, Finished, some_same, not_below, cases_lt, CoreState, advance, record_size, reply_of, step_at, step_of, call_of, is_begun, IsSound, Part, first_at, AreNotesOf, Tells, begun_with, moved, take_within, first_steps_make_calls, further_steps_make_calls, history_of, opening_behind, Control, MayClaim, public_noted, About, Began, SeatedPort, plan_of, SeatGoes, opening_of, SeatMakes, MayMake, over_by, CallMade, MayBegin, before_claim, record_claim}
 use Rattle.partial_model.specs.declared.call.Call.TheVariants as call
 use Rattle.partial_model.specs.declared.call.Refused.{Refused}
 use Rattle.partial_machine.specs.declared.stage.Reply.TheVariants as reply
 use Rattle.partial_machine.specs.Behind.{IsBehind, refuses_pool, refuses_slots}
 use Rattle.partial_machine.proofs.Sound.{size_few}
 use Rattle.partial_machine.proofs.Laws.{due_is_unreplied, due_words_are_there}
-use Rattle.partial_core.specs.Part.{Kept}
+use Rattle.partial_core.specs.Part.{KeptAnswer}
 use Rattle.partial_core.specs.Calls.{Made}
 use Rattle.partial_core.proofs.Parts.{seen_within as no_longer}
 use Rattle.partial_core.proofs.WholeCalls.{first_push}
@@ -34,7 +34,7 @@ may_claim a c (Exchange w old new) over sound sizes due spare = tt
 may_claim a c (Add w k) over sound sizes due spare = λ is. spare (pool_claims c a.sizes sound sizes w k due is).now
 
 -- an update that has claimed its record makes no other claim
-no_over : (a : About) (c : CoreState) (s : Step) (x : ℕ) (t : Stage) (at : ℕ) → claim_of t ≡ Some at → step_at c t ≡ Some s → over_by (plan_of a) s x ≡ false
+no_over : (a : About) (c : CoreState) (s : Step) (x : ℕ) (t : Stage) (at : ℕ) → record_claim t ≡ Some at → step_at c t ≡ Some s → over_by (plan_of a) s x ≡ false
 no_over a c s x Idle at is due = cc
 no_over a c s x (ReadBegun j) at is due = cc
 no_over a c s x (LoadingValue stamp) at is due = cc
@@ -97,7 +97,7 @@ stays_unmarked c x b none was = (
 
 -- a claim of a record ends past the limit only where a greatest record would
 claim_step : (a : About) (c : CoreState) (s : Step) (x : ℕ) (over : Bool) → IsSound c → c.sizes ≡ a.sizes → step_of c ≡ Some s → (before_claim c.stage ≡ true → over ≡ false) →
-    ((at : ℕ) → claim_of c.stage ≡ Some at → (over ≡ false) ⊎ (a.limit < at + greatest_record a.sizes)) → (at : ℕ) → claim_of (advance c x).stage ≡ Some at →
+    ((at : ℕ) → record_claim c.stage ≡ Some at → (over ≡ false) ⊎ (a.limit < at + greatest_record a.sizes)) → (at : ℕ) → record_claim (advance c x).stage ≡ Some at →
     ((over || over_by (plan_of a) s x) ≡ false) ⊎ (a.limit < at + greatest_record a.sizes)
 claim_step a c s x over sound sizes due spare was at is = elim (claimed_from c x at is) [
   | inl new ↦
@@ -126,7 +126,7 @@ claim_step a c s x over sound sizes due spare was at is = elim (claimed_from c x
     and_false false = refl
 
 -- the first step of a call is allowed
-pub first_may : (b : CoreState) (x : Seated) → MayBegin b x → (s : Step) → step_of b ≡ Some s → MayMake x b s
+pub first_may : (b : CoreState) (x : SeatedPort) → MayBegin b x → (s : Step) → step_of b ≡ Some s → MayMake x b s
 first_may b x begins s due = record {
   stands = begins.stands;
   machine = inl begins.begun;
@@ -137,7 +137,8 @@ first_may b x begins s due = record {
 }
 
 -- the first step of a call
-module _ (b : CoreState) (x : Seated) (begins : MayBegin b x) (first : Bool) (s : Step) (due : step_of b ≡ Some s) (a : ℕ) (y : Seated) (goes : Goes x y) (m : Makes first b s x a y) where
+module _ (b : CoreState) (x : SeatedPort) (begins : MayBegin b x) (first : Bool) (s : Step) (due : step_of b ≡ Some s) (a : ℕ) (y : SeatedPort) (goes : SeatGoes x y)
+    (m : SeatMakes first b s x a y) where
   part_is : y.port.part ≡ moved b a (m.log ++ m.entries) m.told.new x.port.part
   part_is = m.told.part
 
@@ -150,27 +151,27 @@ module _ (b : CoreState) (x : Seated) (begins : MayBegin b x) (first : Bool) (s 
   pub first_made : CallMade b x (advance b a) y
   first_made = record {
     goes = goes;
-    control = ap (λ (z : Seated). z.port.control) m.is;
-    before = ap (λ (z : Seated). z.port.before) m.is;
-    passed = ap (λ (z : Seated). z.port.passed) m.is;
+    control = ap (λ (z : SeatedPort). z.port.control) m.is;
+    before = ap (λ (z : SeatedPort). z.port.before) m.is;
+    passed = ap (λ (z : SeatedPort). z.port.passed) m.is;
     made = first_call;
-    spare = λ yet. ap (λ (z : Seated). z.port.over) m.is ∙ ap (λ t. t || over_by (plan_of x.about) s a) begins.spare ∙ spare_step x.about b s a begins.sound begins.sizes due yet;
-    claimed = λ at is. subst (λ o. (o ≡ false) ⊎ (x.about.limit < at + greatest_record x.about.sizes)) (sym (ap (λ (z : Seated). z.port.over) m.is))
+    spare = λ yet. ap (λ (z : SeatedPort). z.port.over) m.is ∙ ap (λ t. t || over_by (plan_of x.about) s a) begins.spare ∙ spare_step x.about b s a begins.sound begins.sizes due yet;
+    claimed = λ at is. subst (λ o. (o ≡ false) ⊎ (x.about.limit < at + greatest_record x.about.sizes)) (sym (ap (λ (z : SeatedPort). z.port.over) m.is))
         (claim_step x.about b s a x.port.over begins.sound begins.sizes due (λ _. begins.spare) (λ i is. inl begins.spare) at is);
     unmarked = stays_unmarked b a m.told.behind m.unrefused begins.unmarked;
     unrefused = m.unrefused;
-    notes = ap (λ (z : Seated). z.notes) m.is ∙ ap (λ (l : List Noted). x.notes ++ map (public_noted (plan_of x.about) x.port.before) l)
+    notes = ap (λ (z : SeatedPort). z.notes) m.is ∙ ap (λ (l : List Noted). x.notes ++ map (public_noted (plan_of x.about) x.port.before) l)
         (append_cancel_left x.port.part.notes m.told.new first_call.new (sym (ap (λ (p : Part). p.notes) part_is) ∙ first_call.notes));
     shown =
         let shown = m.shown in
         let since = ap (λ (p : Part). p.since) part_is in
-        let before = ap (λ (z : Seated). length (history_of z.port.before)) m.is in
+        let before = ap (λ (z : SeatedPort). length (history_of z.port.before)) m.is in
         omega (arith, shown, since, before);
     time = λ young.
-        let n = ap (λ (z : Seated). z.began) m.is in
-        let early = m.time (let e = ap (λ (g : Began). g.epoch) n in let h = ap (λ (z : Seated). z.port.control.here.epoch) m.is in omega (arith, young, e, h)) in
+        let n = ap (λ (z : SeatedPort). z.began) m.is in
+        let early = m.time (let e = ap (λ (g : Began). g.epoch) n in let h = ap (λ (z : SeatedPort). z.port.control.here.epoch) m.is in omega (arith, young, e, h)) in
         let len = ap (λ (g : Began). g.length) n in
-        let before = ap (λ (z : Seated). length (history_of z.port.before)) m.is in
+        let before = ap (λ (z : SeatedPort). length (history_of z.port.before)) m.is in
         let kept : y.port.part.kept ≡ record { answer = a; at = length (m.log ++ m.entries) } ∷ [] = ap (λ (p : Part). p.kept) part_is
         ∙ ap (λ t. cond t [] x.port.part.kept ++ record { answer = a; at = length (m.log ++ m.entries) } ∷ []) begun_is in
         let at = ap first_at kept in
@@ -178,7 +179,7 @@ module _ (b : CoreState) (x : Seated) (begins : MayBegin b x) (first : Bool) (s 
   }
 
 -- a further step
-module _ (b : CoreState) (x : Seated) (begins : MayBegin b x) (c : CoreState) (y : Seated) (had : CallMade b x c y) (s : Step) (due : step_of c ≡ Some s) where
+module _ (b : CoreState) (x : SeatedPort) (begins : MayBegin b x) (c : CoreState) (y : SeatedPort) (had : CallMade b x c y) (s : Step) (due : step_of c ≡ Some s) where
   going : is_begun c.stage ≡ false
   going = had.made.machine.going
 
@@ -225,7 +226,7 @@ module _ (b : CoreState) (x : Seated) (begins : MayBegin b x) (c : CoreState) (y
       taken : (n : ℕ) → n ≤ length x.port.part.seen → take n x.port.part.seen ≡ take n y.port.part.seen
       taken n few = ap (take n) had.made.seen ∙ take_within n (length x.port.part.seen) y.port.part.seen few
 
-  module _ (a : ℕ) (z : Seated) (goes : Goes y z) (m : Makes false c s y a z) where
+  module _ (a : ℕ) (z : SeatedPort) (goes : SeatGoes y z) (m : SeatMakes false c s y a z) where
     next_part : z.port.part ≡ moved c a (m.log ++ m.entries) m.told.new y.port.part
     next_part = m.told.part
 
@@ -245,34 +246,34 @@ module _ (b : CoreState) (x : Seated) (begins : MayBegin b x) (c : CoreState) (y
     pub next_made : CallMade b x (advance c a) z
     next_made = record {
       goes = goes_on x y z had.goes goes;
-      control = ap (λ (t : Seated). t.port.control) m.is ∙ had.control;
-      before = ap (λ (t : Seated). t.port.before) m.is ∙ had.before;
-      passed = ap (λ (t : Seated). t.port.passed) m.is ∙ had.passed;
+      control = ap (λ (t : SeatedPort). t.port.control) m.is ∙ had.control;
+      before = ap (λ (t : SeatedPort). t.port.before) m.is ∙ had.before;
+      passed = ap (λ (t : SeatedPort). t.port.passed) m.is ∙ had.passed;
       made = next_call;
-      spare = λ yet. ap (λ (t : Seated). t.port.over) m.is ∙ ap (λ t. t || over_by (plan_of y.about) s a) (had.spare (unclaimed_before c a yet))
+      spare = λ yet. ap (λ (t : SeatedPort). t.port.over) m.is ∙ ap (λ t. t || over_by (plan_of y.about) s a) (had.spare (unclaimed_before c a yet))
           ∙ spare_step y.about c s a had.made.sound sizes_same due yet;
-      claimed = λ at is. subst (λ o. (o ≡ false) ⊎ (x.about.limit < at + greatest_record x.about.sizes)) (sym (ap (λ (t : Seated). t.port.over) m.is))
+      claimed = λ at is. subst (λ o. (o ≡ false) ⊎ (x.about.limit < at + greatest_record x.about.sizes)) (sym (ap (λ (t : SeatedPort). t.port.over) m.is))
           (subst (λ (d : About). ((y.port.over || over_by (plan_of d) s a) ≡ false) ⊎ (x.about.limit < at + greatest_record x.about.sizes)) (sym about_same)
           (claim_step x.about c s a y.port.over had.made.sound had.made.sizes due had.spare had.claimed at is));
       unmarked = stays_unmarked c a m.told.behind m.unrefused had.unmarked;
       unrefused = m.unrefused;
-      notes = ap (λ (t : Seated). t.notes) m.is ∙ ap (λ (l : List Noted). l ++ map (public_noted (plan_of y.about) y.port.before) m.told.new) notes_same
+      notes = ap (λ (t : SeatedPort). t.notes) m.is ∙ ap (λ (l : List Noted). l ++ map (public_noted (plan_of y.about) y.port.before) m.told.new) notes_same
           ∙ ap (λ (d : About). x.notes ++ map (public_noted (plan_of d) y.port.before) m.told.new) about_same
           ∙ ap (λ (l : List (List Applied)). x.notes ++ map (public_noted (plan_of x.about) l) m.told.new) had.before
           ∙ ap (λ (l : List Noted). x.notes ++ map (public_noted (plan_of x.about) x.port.before) l) new_same;
       shown =
           let shown = had.shown in
           let since = ap (λ (p : Part). p.since) next_part ∙ ap (λ t. cond t (length y.port.part.seen) y.port.part.since) going in
-          let before = ap (λ (t : Seated). length (history_of t.port.before)) m.is in
+          let before = ap (λ (t : SeatedPort). length (history_of t.port.before)) m.is in
           omega (arith, shown, since, before);
       time = λ young.
-          let same : z.began ≡ y.began = ap (λ (t : Seated). t.began) m.is ∙ m.began in
-          let here = ap (λ (t : Seated). t.port.control.here.epoch) m.is in
+          let same : z.began ≡ y.began = ap (λ (t : SeatedPort). t.began) m.is ∙ m.began in
+          let here = ap (λ (t : SeatedPort). t.port.control.here.epoch) m.is in
           let e = ap (λ (g : Began). g.epoch) same in
           let early = had.time (omega (arith, young, e, here)) in
           let len = ap (λ (g : Began). g.length) same in
-          let before = ap (λ (t : Seated). length (history_of t.port.before)) m.is in
-          let last : Kept = record { answer = a; at = length (m.log ++ m.entries) } in
+          let before = ap (λ (t : SeatedPort). length (history_of t.port.before)) m.is in
+          let last : KeptAnswer = record { answer = a; at = length (m.log ++ m.entries) } in
           let kept : z.port.part.kept ≡ y.port.part.kept ++ last ∷ [] = ap (λ (p : Part). p.kept) next_part ∙ ap (λ t. cond t [] y.port.part.kept ++ last ∷ []) going in
           let at = ap first_at kept ∙ first_push y.port.part.kept last had.made.some in
           omega (arith, early, len, before, at);
@@ -280,13 +281,13 @@ module _ (b : CoreState) (x : Seated) (begins : MayBegin b x) (c : CoreState) (y
 
     -- the call began when it did
     pub next_began : z.began ≡ y.began
-    next_began = ap (λ (t : Seated). t.began) m.is ∙ m.began
+    next_began = ap (λ (t : SeatedPort). t.began) m.is ∙ m.began
 
     -- behind its claim it makes no other
     pub next_over : before_claim c.stage ≡ false → (before_claim (advance c a).stage ≡ false) × (z.port.over ≡ y.port.over)
     next_over behind = (
       behind_stays c a behind,
-      ap (λ (t : Seated). t.port.over) m.is ∙ ap (λ t. y.port.over || t) (over_stays y.about c s a had.made.sound sizes_same due behind) ∙ or_false y.port.over,
+      ap (λ (t : SeatedPort). t.port.over) m.is ∙ ap (λ t. y.port.over || t) (over_stays y.about c s a had.made.sound sizes_same due behind) ∙ or_false y.port.over,
     )
       where
         or_false : (b : Bool) → (b || false) ≡ b

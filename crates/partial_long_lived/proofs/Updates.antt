@@ -1,5 +1,5 @@
 -- An update of a port, as callers see it.
-use Rattle.partial_long_lived.proofs.Common.{ℕ, ◌≡◌, ◌<◌, Bool, true, false, [], sym, subst, ◌∙◌, arith, append-nil, ap, ◌+◌, TableId, Applied, IsLegal, LegalNotes, seen_by, AllByRecursion-get, LegalNotes-last, Change, CoreState, Exchanged, About, UpdatedIf, Asked, Refused, Component, Overtaken, NoArena, EpochsSpent, Stand, Seating, one_in, IsOf, MemoryView, PortView, port_view, seen_in, IsStandOf, IsSeatingOf, IsHeld, epoch_at, port_at, IsIdle, HasUpdatedIf, RestsAt, CameBy, IsLate, IsOwn, MayCall, Updated, noted_update, public_update, stamp_from}
+use Rattle.partial_long_lived.proofs.Common.{ℕ, ◌≡◌, ◌<◌, Bool, true, false, [], sym, subst, ◌∙◌, arith, append-nil, ap, ◌+◌, TableId, Applied, IsLegal, LegalNotes, seen_by, AllByRecursion-get, LegalNotes-last, Change, CoreState, Exchanged, About, UpdatedIf, Asked, Refused, Component, Overtaken, NoArena, EpochsSpent, Stand, Seating, one_in, IsOf, MemoryView, PortView, port_view, seen_in, IsStandOf, IsSeatingOf, IsHeld, epoch_at, port_at, IsIdle, HasUpdatedIf, RestsAt, CameBy, IsLate, IsOwnMachine, MayCall, Updated, noted_change, public_update, stamp_from}
 use Rattle.partial_model.specs.declared.call.Call.TheVariants as call
 use Rattle.partial_lines.specs.declared.exchange.Exchanged.TheVariants.{Applied as IsApplied, Overtaken as IsOvertaken}
 use Rattle.partial_long_lived.specs.declared.answers.UpdatedIf.TheVariants as conditional
@@ -10,10 +10,10 @@ use Rattle.partial_long_lived.proofs.Answering.{callers_see, goes_seen, rests_un
 pub rests_may : (table : TableId) (about : About) (s : Stand) (core : CoreState) (spent : Bool) → IsHeld table about s → RestsAt s core spent → spent ≡ false → MayCall (port_at s) core
 rests_may table about s core spent h w spare = let both = rests_unmarked table about s core spent h w spare in record { rests = both.0; over = both.1 }
 
-pub rests_own : (table : TableId) (about : About) (s : Stand) (core : CoreState) (spent : Bool) → IsHeld table about s → RestsAt s core spent → IsOwn (port_at s) core
+pub rests_own : (table : TableId) (about : About) (s : Stand) (core : CoreState) (spent : Bool) → IsHeld table about s → RestsAt s core spent → IsOwnMachine (port_at s) core
 rests_own table about s core spent h w = record { idle = w.idle; sound = w.sound; sizes = w.sizes; port = w.port ∙ h.number }
 
-pub own_rests : (table : TableId) (about : About) (s : Stand) (core : CoreState) (spent : Bool) → IsHeld table about s → IsIdle s → IsOwn (port_at s) core → (spent ≡ false → MayCall (port_at s) core) →
+pub own_rests : (table : TableId) (about : About) (s : Stand) (core : CoreState) (spent : Bool) → IsHeld table about s → IsIdle s → IsOwnMachine (port_at s) core → (spent ≡ false → MayCall (port_at s) core) →
     RestsAt s core spent
 own_rests table about s core spent h free own may = record {
   free = free;
@@ -26,11 +26,11 @@ own_rests table about s core spent h free own may = record {
 
 -- the public stamp of the entry that an update names fits a word
 module _ (s t : Stand) (c : Change) (r : Exchanged) (w : Updated true c r s t) where
-  legal_update : IsLegal (port_at t).about.opening (seen_in (port_at t).port) (port_at t).number (seen_by 0 (port_at s).notes) (noted_update t.epoch c r w.place)
-  legal_update = LegalNotes-last (port_at t).about.opening (seen_in (port_at t).port) (port_at t).number 0 (port_at s).notes (noted_update t.epoch c r w.place)
+  legal_update : IsLegal (port_at t).about.opening (seen_in (port_at t).port) (port_at t).number (seen_by 0 (port_at s).notes) (noted_change t.epoch c r w.place)
+  legal_update = LegalNotes-last (port_at t).about.opening (seen_in (port_at t).port) (port_at t).number 0 (port_at s).notes (noted_change t.epoch c r w.place)
       (subst (LegalNotes (port_at t).about.opening (seen_in (port_at t).port) (port_at t).number 0) w.notes w.goes.known.knows.legal)
 
-  fits_by : (r : Exchanged) → IsLegal (port_at t).about.opening (seen_in (port_at t).port) (port_at t).number (seen_by 0 (port_at s).notes) (noted_update t.epoch c r w.place) → stamp_from t.epoch r < 18446744073709551616
+  fits_by : (r : Exchanged) → IsLegal (port_at t).about.opening (seen_in (port_at t).port) (port_at t).number (seen_by 0 (port_at s).notes) (noted_change t.epoch c r w.place) → stamp_from t.epoch r < 18446744073709551616
   fits_by (IsApplied stamp) is = AllByRecursion-get (λ (a : Applied). a.stamp < 18446744073709551616) (seen_in (port_at t).port) w.place _ w.goes.known.fits.each is.1.0
   fits_by (IsOvertaken by) is =
       let entry = is.1.0 in

@@ -1,14 +1,14 @@
 -- The seats of all views: around one view, and how many are of one port.
-use Rattle.partial_long_lived.proofs.Common.{◌≡◌, ◌≢◌, ℕ, zero, suc, ◌+◌, ◌==◌, ◌⊎◌, Bool, true, false, cond, List, [], ◌∷◌, ◌++◌, set, refl, ap, sym, ◌∙◌, inl, inr, arith, append_assoc, AllByRecursion, eqb_tells, some, some-injective, some-ne-none, get_elem?, Seated, flatten, seats_of}
+use Rattle.partial_long_lived.proofs.Common.{◌≡◌, ◌≢◌, ℕ, zero, suc, ◌+◌, ◌==◌, ◌⊎◌, Bool, true, false, cond, List, [], ◌∷◌, ◌++◌, set, refl, ap, sym, ◌∙◌, inl, inr, arith, append_assoc, AllByRecursion, eqb_tells, some, some-injective, some-ne-none, get_elem?, SeatedPort, flatten, seats_of}
 
 -- the seats before and behind those of the view at a place, whatever that view becomes
-pub record Around (views : List (List Seated)) (id : ℕ) (v : List Seated) : Type 0 where
-  pub before : List Seated
-  pub behind : List Seated
+pub record Around (views : List (List SeatedPort)) (id : ℕ) (v : List SeatedPort) : Type 0 where
+  pub before : List SeatedPort
+  pub behind : List SeatedPort
   pub now : flatten views ≡ before ++ (v ++ behind)
-  pub then : (w : List Seated) → flatten (set views id w) ≡ before ++ (w ++ behind)
+  pub then : (w : List SeatedPort) → flatten (set views id w) ≡ before ++ (w ++ behind)
 
-pub around : (views : List (List Seated)) (id : ℕ) (v : List Seated) → get_elem? views id ≡ some v → Around views id v
+pub around : (views : List (List SeatedPort)) (id : ℕ) (v : List SeatedPort) → get_elem? views id ≡ some v → Around views id v
 around [] id v e = absurd (some-ne-none v (sym e))
 around (u ∷ us) zero v e = record {
   before = [];
@@ -23,16 +23,16 @@ around (u ∷ us) (suc id) v e = let r = around us id v e in record {
   then = λ w. ap (λ l. u ++ l) (r.then w) ∙ sym (append_assoc u r.before (w ++ r.behind));
 }
 
-pub flatten-snoc : (views : List (List Seated)) (v : List Seated) → flatten (views ++ v ∷ []) ≡ flatten views ++ (v ++ [])
+pub flatten-snoc : (views : List (List SeatedPort)) (v : List SeatedPort) → flatten (views ++ v ∷ []) ≡ flatten views ++ (v ++ [])
 flatten-snoc [] v = refl
 flatten-snoc (u ∷ us) v = ap (λ l. u ++ l) (flatten-snoc us v) ∙ sym (append_assoc u (flatten us) (v ++ []))
 
-pub seats_both : (k : ℕ) (xs ys : List Seated) → seats_of k (xs ++ ys) ≡ seats_of k xs + seats_of k ys
+pub seats_both : (k : ℕ) (xs ys : List SeatedPort) → seats_of k (xs ++ ys) ≡ seats_of k xs + seats_of k ys
 seats_both k [] ys = omega arith
 seats_both k (x ∷ xs) ys = let rest = seats_both k xs ys in omega (arith, rest)
 
 -- a seat is one of its port
-pub seat_own : (x : Seated) (xs : List Seated) → seats_of x.number (x ∷ xs) ≡ 1 + seats_of x.number xs
+pub seat_own : (x : SeatedPort) (xs : List SeatedPort) → seats_of x.number (x ∷ xs) ≡ 1 + seats_of x.number xs
 seat_own x xs = by (eqb_tells x.number x.number)
   where
     by : (((x.number == x.number) ≡ true) × (x.number ≡ x.number)) ⊎ (((x.number == x.number) ≡ false) × (x.number ≢ x.number)) → seats_of x.number (x ∷ xs) ≡ 1 + seats_of x.number xs
@@ -40,7 +40,7 @@ seat_own x xs = by (eqb_tells x.number x.number)
     by (inr ne) = absurd (ne.1 refl)
 
 -- where there is none of a port, all are of others
-pub others_all : (P : Seated → Type 0) (k : ℕ) (xs : List Seated) → seats_of k xs ≡ 0 → AllByRecursion P xs → AllByRecursion (λ z. (z.number ≢ k) × P z) xs
+pub others_all : (P : SeatedPort → Type 0) (k : ℕ) (xs : List SeatedPort) → seats_of k xs ≡ 0 → AllByRecursion P xs → AllByRecursion (λ z. (z.number ≢ k) × P z) xs
 others_all P k [] none all = tt
 others_all P k (x ∷ xs) none all = by (eqb_tells x.number k) (λ less. others_all P k xs less all.1)
   where

@@ -1,13 +1,13 @@
 -- What the owner of an arena has behind its steps.
-use Rattle.partial_long_lived.proofs.Common.{ℕ, ◌≡◌, ◌≢◌, ◌+◌, ◌-◌, ◌%◌, ◌<◌, ◌≤◌, Bool, true, cond, Option, Some, None, IfSome, refl, sym, ap, subst, ◌∙◌, inl, inr, arith, nat_lt, lt-ltb, Layout, first_free, pool_base, Place, arena_limit, entering_mark, marked, Owned, Stands, cleaner, having_loaded, owning, resting, not_below, About, Stand, Seated, port_at, LoadsPort, Publishes, PutsPort, Sets, becomes, elsewhere, port_loaded, port_put, unpacked, HasLoadedPort, IsRight, MayPutPort, OfOwned, Owns, PutsBy, SetsLists, SetsNext, Works}
+use Rattle.partial_long_lived.proofs.Common.{ℕ, ◌≡◌, ◌≢◌, ◌+◌, ◌-◌, ◌%◌, ◌<◌, ◌≤◌, Bool, true, cond, Option, Some, None, IfSome, refl, sym, ap, subst, ◌∙◌, inl, inr, arith, nat_lt, lt-ltb, Layout, first_free, pool_base, Place, arena_limit, entering_mark, marked, Owned, Stands, cleaner, having_loaded, owning, resting, not_below, About, Stand, SeatedPort, port_at, LoadsPort, SeatPublishes, PutsPort, Sets, becomes, elsewhere, port_loaded, port_put, unpacked, HasLoadedPort, IsRight, MayPutPort, OfOwned, Owns, PutsBy, SetsLists, SetsNext, HasSetWords}
 use Rattle.partial_long_lived.proofs.Sets.{alike, unlike}
 
 -- a step by the arena that the port owns
-own_told : (R : Owned → Seated → ℕ → Seated → Type 0) (x : Seated) (a : ℕ) (y : Seated) (o : Owned) → x.port.control.owned ≡ Some o → OfOwned R x a y → R o x a y
+own_told : (R : Owned → SeatedPort → ℕ → SeatedPort → Type 0) (x : SeatedPort) (a : ℕ) (y : SeatedPort) (o : Owned) → x.port.control.owned ≡ Some o → OfOwned R x a y → R o x a y
 own_told R x a y o is told = subst (λ (t : Option Owned). IfSome t (λ o. R o x a y)) is told
 
 -- the words that are set are those of an opening, and carried stamps
-pub right_low : (about : About) (x : Seated) (v i : ℕ) → x.about ≡ about → IsRight x v i → i < first_free about.sizes + about.sizes.m
+pub right_low : (about : About) (x : SeatedPort) (v i : ℕ) → x.about ≡ about → IsRight x v i → i < first_free about.sizes + about.sizes.m
 right_low about x v i own right = subst (λ (a : About). i < first_free a.sizes + a.sizes.m) own (by x.about.sizes right)
   where
     by : (z : Layout) → IsRight x v i → i < first_free x.about.sizes + x.about.sizes.m
@@ -18,35 +18,35 @@ right_low about x v i own right = subst (λ (a : About). i < first_free a.sizes 
 -- the port with another state of its arena
 module _ (s t : Stand) (o : Owned) (is : port_at t ≡ becomes (port_at s) (port_at s).began (owning (port_at s).port o)) (stands : (port_at s).port.control.entering ≡ Stands) where
   stands_then : (port_at t).port.control.entering ≡ Stands
-  stands_then = ap (λ (z : Seated). z.port.control.entering) is ∙ stands
+  stands_then = ap (λ (z : SeatedPort). z.port.control.entering) is ∙ stands
 
   owned_then : (port_at t).port.control.owned ≡ Some o
-  owned_then = ap (λ (z : Seated). z.port.control.owned) is
+  owned_then = ap (λ (z : SeatedPort). z.port.control.owned) is
 
-  works_then : (y q i : ℕ) → o.arena ≡ y → o.looked ≡ true → o.clean ≡ q → o.mark ≡ None → o.set ≡ i → Works t y q i
+  works_then : (y q i : ℕ) → o.arena ≡ y → o.looked ≡ true → o.clean ≡ q → o.mark ≡ None → o.set ≡ i → HasSetWords t y q i
   works_then y q i arena looked clean mark set = record { stands = stands_then; owned = o; is = owned_then; arena = arena; looked = looked; clean = clean; mark = mark; set = set }
 
-module _ (s t : Stand) (y q i a : ℕ) (w : Works s y q i) where
+module _ (s t : Stand) (y q i a : ℕ) (w : HasSetWords s y q i) where
   abbrev o : Owned
   o = w.owned
 
-  pub set_works : SetsNext (port_at s) a (port_at t) → Works t y q (i + 1)
+  pub set_works : SetsNext (port_at s) a (port_at t) → HasSetWords t y q (i + 1)
   set_works told =
       let r : Sets o (o.set + 1) (port_at s) a (port_at t) = own_told (λ o. Sets o (o.set + 1)) (port_at s) a (port_at t) o w.is told in
       works_then s t (record o { set = o.set + 1 }) r w.stands y q (i + 1) w.arena w.looked w.clean w.mark (ap (λ n. n + 1) w.set)
 
-  pub set_lists_works : (z : Layout) → (port_at s).about.sizes ≡ z → SetsLists (port_at s) a (port_at t) → Works t y q (pool_base z)
+  pub set_lists_works : (z : Layout) → (port_at s).about.sizes ≡ z → SetsLists (port_at s) a (port_at t) → HasSetWords t y q (pool_base z)
   set_lists_works z same told =
       let r : Sets o (pool_base (port_at s).about.sizes) (port_at s) a (port_at t) = own_told (λ o. Sets o (pool_base (port_at s).about.sizes)) (port_at s) a (port_at t) o w.is told in
       works_then s t (record o { set = pool_base (port_at s).about.sizes }) r w.stands y q (pool_base z) w.arena w.looked w.clean w.mark (ap pool_base same)
 
-  pub publish_owns : OfOwned Publishes (port_at s) a (port_at t) → Owns t y
+  pub publish_owns : OfOwned SeatPublishes (port_at s) a (port_at t) → Owns t y
   publish_owns told =
-      let r : Publishes o (port_at s) a (port_at t) = own_told Publishes (port_at s) a (port_at t) o w.is told in
-      record { stands = ap (λ (z : Seated). z.port.control.entering) r ∙ w.stands; owned = resting o; is = ap (λ (z : Seated). z.port.control.owned) r; arena = w.arena }
+      let r : SeatPublishes o (port_at s) a (port_at t) = own_told SeatPublishes (port_at s) a (port_at t) o w.is told in
+      record { stands = ap (λ (z : SeatedPort). z.port.control.entering) r ∙ w.stands; owned = resting o; is = ap (λ (z : SeatedPort). z.port.control.owned) r; arena = w.arena }
 
 -- the load of the word of the next port
-module _ (s t : Stand) (y q a : ℕ) (w : Works s y q 0) (told : OfOwned LoadsPort (port_at s) a (port_at t)) where
+module _ (s t : Stand) (y q a : ℕ) (w : HasSetWords s y q 0) (told : OfOwned LoadsPort (port_at s) a (port_at t)) where
   abbrev own : Owned
   own = w.owned
 
@@ -103,16 +103,16 @@ module _ (s t : Stand) (y q m a : ℕ) (w : MayPutPort s y q m) (from : entering
   named : marked mark ≡ m
   named = omega (arith, from)
 
-  put_as : port_put mark a put ≡ cleaner put → Works t y (q + 1) 0
+  put_as : port_put mark a put ≡ cleaner put → HasSetWords t y (q + 1) 0
   put_as same = works_then s t (cleaner put) (put_is ∙ ap (λ (o : Owned). becomes (port_at s) (port_at s).began (owning (port_at s).port o)) same) w.holds.stands
       y (q + 1) 0 w.holds.arena w.holds.looked (ap (λ n. n + 1) w.holds.clean) refl w.holds.set
 
   abbrev others : Bool → Owned
   others c = cond c (elsewhere a put) put
 
-  pub put_won : a ≡ m → Works t y (q + 1) 0
+  pub put_won : a ≡ m → HasSetWords t y (q + 1) 0
   put_won same = put_as (ap (λ (c : Bool). cond c (cleaner put) (others (nat_lt a entering_mark))) (alike a (marked mark) (same ∙ sym named)))
 
-  pub put_away : a < entering_mark → a % arena_limit ≢ y → Works t y (q + 1) 0
+  pub put_away : a < entering_mark → a % arena_limit ≢ y → HasSetWords t y (q + 1) 0
   put_away low ne = put_as (ap (λ (c : Bool). cond c (cleaner put) (others (nat_lt a entering_mark))) (unlike a (marked mark) (λ same. absurd (omega (arith, same, low))))
       ∙ ap others (lt-ltb a entering_mark low) ∙ ap (λ (c : Bool). cond c put (cleaner put)) (unlike (unpacked a).arena put.arena (λ same. ne (same ∙ w.holds.arena))))

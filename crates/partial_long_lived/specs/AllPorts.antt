@@ -12,14 +12,14 @@ use Rattle.partial_long_lived.specs.Ports.{AreByOpened, IsOf, MemoryView, PortVi
 use Rattle.partial_long_lived.specs.Closing.{AreLast, Closes}
 
 -- how many of these ports have that number
-abbrev pub ports_of : ℕ → List PortView → ℕ
-ports_of k [] = 0
-ports_of k (p ∷ ps) = (if p.number == k then 1 else 0) + ports_of k ps
+abbrev pub port_count : ℕ → List PortView → ℕ
+port_count k [] = 0
+port_count k (p ∷ ps) = (if p.number == k then 1 else 0) + port_count k ps
 
 -- the ports are all with which the memory was opened, in any order
 pub record AreAllPorts (m : MemoryView) (ports : List PortView) : Type 0 where
   pub own : AllByRecursion (IsOf m) ports
-  pub one : (k : ℕ) → k < m.about.ports → ports_of k ports ≡ 1
+  pub one : (k : ℕ) → k < m.about.ports → port_count k ports ≡ 1
 
 -- the ports with which a memory opens, as `open` gives them, are all
 abbrev pub OpenedPortsAreAll : Type 0

@@ -56,8 +56,8 @@ Scans p (j ∷ js) values s q =
     (n : ℕ) × Answered p q (call.Scan (j ∷ js)) (answer.Scanned values s.collects s.borrowed) (note.Saw n)
 
 -- the component j has that stamp after the first n entries that the port has seen
-abbrev pub HasThen : PortView → ℕ → ℕ → ℕ → Type 0
-HasThen p n j s = stamp_of p.memory.about.opening (take n p.seen) j ≡ s
+abbrev pub HasStampThen : PortView → ℕ → ℕ → ℕ → Type 0
+HasStampThen p n j s = stamp_of p.memory.about.opening (take n p.seen) j ≡ s
 
 -- a scan that ended with stamps: the values and the stamps after one prefix of what is seen now; one of no position isn't noted
 abbrev pub ScansStamped : PortView → List ℕ → List ℕ → List ℕ → PortView → Type 0
@@ -72,9 +72,10 @@ pub record StillStand (p q : PortView) (js stamps : List ℕ) : Type 0 where
   pub place : ℕ
   pub behind : length p.seen ≤ place
   pub within : place ≤ length q.seen
-  pub each : (k : ℕ) → k < length js → (n : ℕ) × (place ≤ n) × (n ≤ length q.seen) × HasThen q n (slice_index js k) (slice_index stamps k)
-  pub together : (k : ℕ) → k < length js → (n : ℕ) → n ≤ length p.seen → HasThen p n (slice_index js k) (slice_index stamps k) →
-      HasThen q place (slice_index js k) (slice_index stamps k)
+  pub each : (k : ℕ) → k < length js → (n : ℕ) × (place ≤ n) × (n ≤ length q.seen) ×
+      HasStampThen q n (slice_index js k) (slice_index stamps k)
+  pub together : (k : ℕ) → k < length js → (n : ℕ) → n ≤ length p.seen → HasStampThen p n (slice_index js k) (slice_index stamps k) →
+      HasStampThen q place (slice_index js k) (slice_index stamps k)
 
 -- One of these components is missing, or had another stamp than this at a place of the call.
 pub record Differ (p q : PortView) (js stamps : List ℕ) : Type 0 where
@@ -82,7 +83,7 @@ pub record Differ (p q : PortView) (js stamps : List ℕ) : Type 0 where
   pub position : ℕ
   pub inside : position < length js
   pub why : (p.memory.about.sizes.m ≤ slice_index js position)
-      ⊎ ((n : ℕ) × (length p.seen ≤ n) × (n ≤ length q.seen) × ¬ HasThen q n (slice_index js position) (slice_index stamps position))
+      ⊎ ((n : ℕ) × (length p.seen ≤ n) × (n ≤ length q.seen) × ¬ HasStampThen q n (slice_index js position) (slice_index stamps position))
 
 -- Two ports that met: each has noted nothing, and has seen all that either had seen before.
 pub record Meets (a b c d : PortView) : Type 0 where

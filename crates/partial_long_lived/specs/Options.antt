@@ -16,16 +16,16 @@ abbrev pub most_words : ℕ
 most_words = 131072
 
 -- how many words the pool has behind the initial records: those of the options, and room for the greatest record of each port
-abbrev pub words_behind : ℕ → ℕ → Options → ℕ
-words_behind count ports o = o.pool + full_record_size count * ports
+abbrev pub pool_words_behind : ℕ → ℕ → Options → ℕ
+pool_words_behind count ports o = o.pool + full_record_size count * ports
 
 -- the sizes of an arena: so many pool words, and a slot for each two of them
 abbrev pub layout_for : ℕ → ℕ → Options → Layout
 layout_for count ports o = record {
   m = count;
-  slots = (words_behind count ports o + 1) / 2;
+  slots = (pool_words_behind count ports o + 1) / 2;
   lists = o.lists;
-  pool = plain_record_size * count + words_behind count ports o;
+  pool = plain_record_size * count + pool_words_behind count ports o;
 }
 
 -- the shape of a memory with so many components, n ports, and these options
@@ -40,20 +40,21 @@ abbrev pub ArePorts : ℕ → Type 0
 ArePorts ports = (1 ≤ ports) × (ports ≤ 64)
 
 -- the number of components is in its range
-abbrev pub AreComponents : ℕ → Type 0
-AreComponents count = (1 ≤ count) × (count ≤ 65536)
+abbrev pub IsComponentCount : ℕ → Type 0
+IsComponentCount count = (1 ≤ count) × (count ≤ 65536)
 
 -- Why there are no such sizes: the first of these that is out of its range.
 abbrev pub IsShapeError : ℕ → ℕ → Options → OpenError → Type 0
 IsShapeError count ports o Ports = (ports ≡ 0) ⊎ (64 < ports)
 IsShapeError count ports o Components = ArePorts ports × ((count ≡ 0) ⊎ (65536 < count))
-IsShapeError count ports o Lists = ArePorts ports × AreComponents count × (most_lists < o.lists)
-IsShapeError count ports o Pool = ArePorts ports × AreComponents count × (o.lists ≤ most_lists) × (most_words < words_behind count ports o)
+IsShapeError count ports o Lists = ArePorts ports × IsComponentCount count × (most_lists < o.lists)
+IsShapeError count ports o Pool = ArePorts ports × IsComponentCount count × (o.lists ≤ most_lists) ×
+    (most_words < pool_words_behind count ports o)
 IsShapeError count ports o Memory = ⊥
 
 -- there are sizes for so many components and ports, and these options
 abbrev pub MayOpen : ℕ → ℕ → Options → Type 0
-MayOpen count ports o = ArePorts ports × AreComponents count × (o.lists ≤ most_lists) × (words_behind count ports o ≤ most_words)
+MayOpen count ports o = ArePorts ports × IsComponentCount count × (o.lists ≤ most_lists) × (pool_words_behind count ports o ≤ most_words)
 
 -- why a memory doesn't open with these components, ports and options: there are no such sizes, or memory is refused only where there are
 abbrev pub MayNotOpen : ℕ → ℕ → Options → OpenError → Type 0

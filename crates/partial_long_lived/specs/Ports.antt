@@ -9,7 +9,7 @@ use Rattle.partial_model.specs.Outcome.{EachOnce}
 use Rattle.partial_epochs.specs.History.{history_of}
 use Rattle.partial_epochs.specs.Ports.{Port}
 use Rattle.partial_long_lived.specs.declared.rule.About.{About}
-use Rattle.partial_long_lived.specs.Rule.{Seated}
+use Rattle.partial_long_lived.specs.Rule.{SeatedPort}
 
 -- a memory as a contract sees it: which one it is, and what it was opened with
 pub record MemoryView : Type 0 where
@@ -31,7 +31,7 @@ abbrev pub seen_in : Port → List Applied
 seen_in p = history_of (p.part.seen ∷ p.before)
 
 -- a port as a contract sees it, by the table and what its seat knows
-abbrev pub port_view : TableId → Seated → PortView
+abbrev pub port_view : TableId → SeatedPort → PortView
 port_view table x = record {
   memory = record { table = table; about = x.about };
   number = x.number;
@@ -42,7 +42,7 @@ port_view table x = record {
 }
 
 -- the ports of a new memory
-abbrev pub new_ports : TableId → List Seated → List PortView
+abbrev pub new_ports : TableId → List SeatedPort → List PortView
 new_ports table xs = map (port_view table) xs
 
 -- the port belongs to the memory

@@ -4,8 +4,8 @@ use Rattle.partial_long_lived.specs.declared.error.Refused.{Refused}
 use Rattle.partial_long_lived.specs.declared.error.Refused.TheVariants.{Component, Overtaken, NoArena, EpochsSpent}
 
 -- the number of a refusal
-abbrev pub refused_code : Refused → ℕ
-refused_code Component = 7
-refused_code Overtaken = 25
-refused_code NoArena = 26
-refused_code EpochsSpent = 27
+abbrev pub refusal_code : Refused → ℕ
+refusal_code Component = 7
+refusal_code Overtaken = 25
+refusal_code NoArena = 26
+refusal_code EpochsSpent = 27

@@ -10,7 +10,7 @@ use Rattle.partial_long_lived.specs.declared.seating.Seating.{Seating}
 use Rattle.partial_long_lived.specs.Rule.{one_in, plan_of}
 use Rattle.partial_long_lived.specs.Shape.{IsShapeOf}
 use Rattle.partial_long_lived.specs.Seating.{IsBadgeOfOne}
-use Rattle.partial_long_lived.specs.Inner.Steps.{IsKnown}
+use Rattle.partial_long_lived.specs.Inner.Steps.{IsSeatKnown}
 
 -- A port between two calls, with its machine: it stands in an epoch and owns no arena. A port is spent in its epoch once it has made a claim
 -- past the limit, or its machine has met a seal; if it isn't, its machine may begin a call there.
@@ -18,7 +18,7 @@ pub record IsResting (s : Seating) (core : CoreState) (spent : Bool) : Type 0 wh
   pub one : IsBadgeOfOne s.badge.views
   pub stands : (one_in s.badge.views).port.control.entering ≡ Stands
   pub free : (one_in s.badge.views).port.control.owned ≡ None
-  pub known : IsKnown (one_in s.badge.views)
+  pub known : IsSeatKnown (one_in s.badge.views)
   pub shape : IsShapeOf s.shape (one_in s.badge.views).about
   pub number : s.number ≡ (one_in s.badge.views).number
   pub epoch : s.epoch ≡ (one_in s.badge.views).port.control.here.epoch

@@ -29,7 +29,7 @@ pub record Began : Type 0 where
 
 -- what a seat knows of a port: the memory that it belongs to, its number, what it does, its notes over all epochs, when its last
 -- call began, and what it has found
-pub record Seated : Type 0 where
+pub record SeatedPort : Type 0 where
   pub about : About
   pub number : ℕ
   pub port : Port
@@ -42,12 +42,12 @@ abbrev pub plan_of : About → Plan
 plan_of a = record { sizes = a.sizes; ports = a.ports; arenas = a.arenas; opening = a.opening; limit = a.limit }
 
 -- the ports of all views
-abbrev pub flatten : List (List Seated) → List Seated
+abbrev pub flatten : List (List SeatedPort) → List SeatedPort
 flatten [] = []
 flatten (v ∷ vs) = v ++ flatten vs
 
 -- how many of these seats are of that port
-abbrev pub seats_of : ℕ → List Seated → ℕ
+abbrev pub seats_of : ℕ → List SeatedPort → ℕ
 seats_of k [] = 0
 seats_of k (x ∷ xs) = (if x.number == k then 1 else 0) + seats_of k xs
 
@@ -68,7 +68,7 @@ IsSeen b x = (later : List (List Applied)) (log : List Applied) → b.log ∷ b.
     (rest : List Applied) × (log ≡ x.part.seen ++ rest)
 
 -- the call began in an epoch that has come, and not before the one history was so long
-pub record HasBegun (b : Beside) (g : Began) : Type 0 where
+pub record BeganInTime (b : Beside) (g : Began) : Type 0 where
   pub come : g.epoch ≤ length b.before
   pub reached : (later before : List (List Applied)) (log : List Applied) → b.log ∷ b.before ≡ later ++ log ∷ before →
       length before ≡ g.epoch → g.length ≤ length (history_of (log ∷ before))
@@ -79,18 +79,18 @@ IsSince g Stands since = ⊤
 IsSince g _ since = g.epoch ≤ since
 
 -- the seat is of a port of the memory, and knows what the port does and has noted
-pub record IsSeat (a : About) (ports : ℕ → Port) (notes : ℕ → List Noted) (b : Beside) (since : ℕ → ℕ) (x : Seated) : Type 0 where
+pub record IsSeat (a : About) (ports : ℕ → Port) (notes : ℕ → List Noted) (b : Beside) (since : ℕ → ℕ) (x : SeatedPort) : Type 0 where
   pub about : x.about ≡ a
   pub number : x.number < a.ports
   pub port : x.port ≡ ports x.number
   pub noted : x.notes ≡ notes x.number
   pub seen : IsSeen b x.port
-  pub began : HasBegun b x.began
+  pub began : BeganInTime b x.began
   pub entering : IsSince x.began x.port.control.entering (since x.number)
   pub found : IfSome x.found (IsFinal (plan_of a) b x.port)
 
 -- The rule: the words are lawful over all epochs, with ports that keep time, of which the seats know, and no two seats are of one port.
-pub record IsKept {S : Type 0} (about : About) (s : State S (List Seated)) : Type 0 where
+pub record IsRuleKept {S : Type 0} (about : About) (s : State S (List SeatedPort)) : Type 0 where
   pub ports : ℕ → Port
   pub notes : ℕ → List Noted
   pub beside : Beside
@@ -101,7 +101,7 @@ pub record IsKept {S : Type 0} (about : About) (s : State S (List Seated)) : Typ
   pub once : (k : ℕ) → seats_of k (flatten s.views) ≤ 1
 
 -- the seat of a port that has made no call
-abbrev pub newcomer : About → ℕ → Seated
+abbrev pub newcomer : About → ℕ → SeatedPort
 newcomer about k = record {
   about = about;
   number = k;
@@ -112,12 +112,12 @@ newcomer about k = record {
 }
 
 -- n such seats from that number on
-abbrev pub newcomers : About → ℕ → ℕ → List Seated
+abbrev pub newcomers : About → ℕ → ℕ → List SeatedPort
 newcomers about k zero = []
 newcomers about k (suc n) = newcomer about k ∷ newcomers about (k + 1) n
 
 -- what stands for a seat when a view has none
-abbrev pub nobody : Seated
+abbrev pub nobody : SeatedPort
 nobody = newcomer (record {
   sizes = record { m = 1; slots = 1; lists = 0; pool = 3 };
   opening = record { values = []; first = 0 };
@@ -127,21 +127,21 @@ nobody = newcomer (record {
 }) 0
 
 -- the first seat of a view
-abbrev pub one_of : List Seated → Seated
+abbrev pub one_of : List SeatedPort → SeatedPort
 one_of [] = nobody
 one_of (x ∷ xs) = x
 
 -- the first seat of the first view
-abbrev pub one_in : List (List Seated) → Seated
+abbrev pub one_in : List (List SeatedPort) → SeatedPort
 one_in [] = nobody
 one_in (v ∷ vs) = one_of v
 
 -- the first port of a view, as a view of its own
-abbrev pub first_of : List Seated → List Seated
-first_of [] = []
-first_of (x ∷ xs) = x ∷ []
+abbrev pub first_port : List SeatedPort → List SeatedPort
+first_port [] = []
+first_port (x ∷ xs) = x ∷ []
 
 -- the ports of a view but the first
-abbrev pub others_of : List Seated → List Seated
-others_of [] = []
-others_of (x ∷ xs) = xs
+abbrev pub further_ports : List SeatedPort → List SeatedPort
+further_ports [] = []
+further_ports (x ∷ xs) = xs

@@ -2,10 +2,10 @@
 use Rattle.std.specs.Prelude.{◌≡◌, List, [], ◌∷◌}
 use Rattle.partial_long_lived.specs.declared.stand.Stand.{Stand}
 use Rattle.partial_long_lived.specs.declared.seating.Seating.{Seating}
-use Rattle.partial_long_lived.specs.Rule.{Seated, one_in}
+use Rattle.partial_long_lived.specs.Rule.{SeatedPort, one_in}
 
 -- a badge of one seat in which there is one port
-abbrev pub IsBadgeOfOne : List (List Seated) → Type 0
+abbrev pub IsBadgeOfOne : List (List SeatedPort) → Type 0
 IsBadgeOfOne views = views ≡ (one_in views ∷ []) ∷ []
 
 -- the seat that was taken out for a call, with the place where its port stands

@@ -6,8 +6,8 @@ ghost use Rattle.partial_epochs.specs.Notes.{public_of};
 ghost use Rattle.partial_epochs.specs.Ports.Entering.{Stands};
 ghost use Rattle.partial_long_lived.specs.Rule.{plan_of};
 ghost use Rattle.partial_long_lived.specs.Inner.Held.{IsHeld, port_at};
-ghost use Rattle.partial_long_lived.specs.Inner.Calls.{HasLoaded, HasValue, IsIdle, Kept};
-ghost use Rattle.partial_long_lived.specs.Inner.Loads.{Recalls, Sees};
+ghost use Rattle.partial_long_lived.specs.Inner.Calls.{HasLoadedRecord, HasValue, IsIdle, StaysAt};
+ghost use Rattle.partial_long_lived.specs.Inner.Loads.{Recalls, SeatSees};
 ghost use Rattle.partial_long_lived.specs.Inner.Loads.Wish.{Reads};
 
 use crate::plays::{ReadAgain, ReadFirst, Recall};
@@ -28,8 +28,8 @@ pub fn read_first(words: &Words, stand: &mut Stand, component: u32) -> u64
     requires idle { IsIdle stand.old }
     requires inside { component < words.now.key.sizes.m }
     ensures held { IsHeld words.now.table_id words.now.key stand.new }
-    ensures kept { Kept stand.old stand.new }
-    ensures sees { Sees true Reads component (port_at stand.old) result (port_at stand.new) }
+    ensures kept { StaysAt stand.old stand.new }
+    ensures sees { SeatSees true Reads component (port_at stand.old) result (port_at stand.new) }
 {
     let word = stand.base + u64::from(component);
     words.load::<ReadFirst>(&mut stand.seat, word as usize)
@@ -41,8 +41,8 @@ pub fn read_again(words: &Words, stand: &mut Stand, component: u32) -> u64
     requires idle { IsIdle stand.old }
     requires inside { component < words.now.key.sizes.m }
     ensures held { IsHeld words.now.table_id words.now.key stand.new }
-    ensures kept { Kept stand.old stand.new }
-    ensures sees { Sees false Reads component (port_at stand.old) result (port_at stand.new) }
+    ensures kept { StaysAt stand.old stand.new }
+    ensures sees { SeatSees false Reads component (port_at stand.old) result (port_at stand.new) }
 {
     let word = stand.base + u64::from(component);
     words.load::<ReadAgain>(&mut stand.seat, word as usize)
@@ -55,7 +55,7 @@ pub fn recall(words: &Words, stand: &mut Stand, word: u64) -> u64
     requires stands { (port_at stand.old).port.control.entering ≡ Stands }
     requires within { word < whole (plan_of words.now.key) }
     ensures held { IsHeld words.now.table_id words.now.key stand.new }
-    ensures kept { Kept stand.old stand.new }
+    ensures kept { StaysAt stand.old stand.new }
     ensures recalls { Recalls word (port_at stand.old) result (port_at stand.new) }
 {
     words.load::<Recall>(&mut stand.seat, word as usize)
@@ -67,9 +67,9 @@ pub fn load_value(words: &Words, stand: &mut Stand, component: u32, at: u64) -> 
     requires held { IsHeld words.now.table_id words.now.key stand.old }
     requires stands { (port_at stand.old).port.control.entering ≡ Stands }
     requires inside { component < words.now.key.sizes.m }
-    requires loaded { HasLoaded stand.old component at }
+    requires loaded { HasLoadedRecord stand.old component at }
     ensures held { IsHeld words.now.table_id words.now.key stand.new }
-    ensures kept { Kept stand.old stand.new }
+    ensures kept { StaysAt stand.old stand.new }
     ensures same { port_at stand.new ≡ port_at stand.old }
     ensures value { HasValue stand.old component result }
 {
@@ -85,7 +85,7 @@ pub fn public_stamp(words: &Words, stand: &mut Stand, component: u32, at: u64) -
     requires inside { component < words.now.key.sizes.m }
     requires small { at < 8388608 }
     ensures held { IsHeld words.now.table_id words.now.key stand.new }
-    ensures kept { Kept stand.old stand.new }
+    ensures kept { StaysAt stand.old stand.new }
     ensures same { port_at stand.new ≡ port_at stand.old }
     ensures stamp { result ≡ public_of (plan_of words.now.key) (port_at stand.old).port.before component at }
 {

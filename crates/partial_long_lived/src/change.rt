@@ -3,8 +3,8 @@
 ghost use Rattle.std.specs.Prelude.{◌≡◌, ◌+◌, ◌<◌, ◌==◌, IfErr, IfOk, true};
 ghost use Rattle.partial_words.specs.Layout.{first_free};
 ghost use Rattle.partial_long_lived.specs.Inner.Held.{IsHeld, port_at};
-ghost use Rattle.partial_long_lived.specs.Inner.Calls.{IsIdle, Kept, Looked, MayLook};
-ghost use Rattle.partial_long_lived.specs.Inner.Changing.{Changed, IsCause, IsPast, IsSame, NotChanged, Owns, Stays, Works};
+ghost use Rattle.partial_long_lived.specs.Inner.Calls.{IsIdle, StaysAt, Looked, MayLook};
+ghost use Rattle.partial_long_lived.specs.Inner.Changing.{Changed, IsCause, IsPast, HasSamePart, NotChanged, Owns, Stays, HasSetWords};
 
 use crate::change_plays::Publish;
 use crate::claim::{Claimed, claim, give};
@@ -46,7 +46,7 @@ fn look_as(words: &Words, stand: &mut Stand, first: bool) -> bool
     requires held { IsHeld words.now.table_id words.now.key stand.old }
     requires may { MayLook stand.old }
     ensures held { IsHeld words.now.table_id words.now.key stand.new }
-    ensures kept { Kept stand.old stand.new }
+    ensures kept { StaysAt stand.old stand.new }
     ensures looked { Looked first stand.old result stand.new }
 {
     if first {
@@ -64,7 +64,7 @@ fn open_next(words: &Words, stand: &mut Stand) -> Result<(), Refused>
     ensures stays { Stays stand.old stand.new }
     ensures free { IsIdle stand.new }
     ensures past { IfOk result (λ _. IsPast stand.new) }
-    ensures same { IfErr result (λ _. IsSame stand.old stand.new) }
+    ensures same { IfErr result (λ _. HasSamePart stand.old stand.new) }
     ensures cause { IfErr result (IsCause stand.new) }
 {
     if stand.epoch + 1 == EPOCHS {
@@ -86,7 +86,7 @@ fn open_next(words: &Words, stand: &mut Stand) -> Result<(), Refused>
 // Makes the epoch in the arena the current one, unless the port's epoch has ended.
 fn publish(words: &Words, stand: &mut Stand, arena: u32)
     requires held { IsHeld words.now.table_id words.now.key stand.old }
-    requires works { Works stand.old arena words.now.key.ports
+    requires works { HasSetWords stand.old arena words.now.key.ports
         (first_free words.now.key.sizes + words.now.key.sizes.m) }
     requires inside { arena < words.now.key.arenas }
     requires room { stand.old.epoch + 1 < 2199023255552 }

@@ -38,9 +38,9 @@ pub struct Give;
 
 impl Play<(), View> for Give {
     ghost use Rattle.partial_long_lived.specs.Inner.Steps.{tells};
-    ghost use Rattle.partial_long_lived.specs.Inner.Moves.{Gives};
+    ghost use Rattle.partial_long_lived.specs.Inner.Moves.{SeatGives};
 
-    ghost then = { λ _. tells Gives };
+    ghost then = { λ _. tells SeatGives };
 }
 
 /// The load of the word of the next port, with which the owner of an arena isn't done yet.
@@ -100,8 +100,8 @@ pub struct Publish;
 
 impl Play<(), View> for Publish {
     ghost use Rattle.partial_long_lived.specs.Inner.Steps.{tells};
-    ghost use Rattle.partial_long_lived.specs.Inner.Moves.{Publishes};
+    ghost use Rattle.partial_long_lived.specs.Inner.Moves.{SeatPublishes};
     ghost use Rattle.partial_long_lived.specs.Inner.Changing.{OfOwned};
 
-    ghost then = { λ _. tells (OfOwned Publishes) };
+    ghost then = { λ _. tells (OfOwned SeatPublishes) };
 }

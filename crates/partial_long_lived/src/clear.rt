@@ -2,7 +2,7 @@
 
 ghost use Rattle.std.specs.Prelude.{◌≡◌, ◌+◌, ◌<◌, ◌≤◌};
 ghost use Rattle.partial_long_lived.specs.Inner.Held.{IsHeld};
-ghost use Rattle.partial_long_lived.specs.Inner.Changing.{HasCleared, HasLoadedPort, HasTaken, MayPutPort, Remains, Works};
+ghost use Rattle.partial_long_lived.specs.Inner.Changing.{HasCleared, HasLoadedPort, HasTaken, MayPutPort, Remains, HasSetWords};
 
 use crate::change_plays::{LoadPort, Put};
 use crate::claim::Claimed;
@@ -34,7 +34,7 @@ pub fn clear(words: &Words, stand: &mut Stand, arena: u32) -> Claimed
 // Sees that the next port is in another arena; a port that is entering is put where the owner stands.
 fn clear_port(words: &Words, stand: &mut Stand, arena: u32, port: u32) -> Claimed
     requires held { IsHeld words.now.table_id words.now.key stand.old }
-    requires works { Works stand.old arena port 0 }
+    requires works { HasSetWords stand.old arena port 0 }
     requires inside { port < words.now.key.ports }
     ensures held { IsHeld words.now.table_id words.now.key stand.new }
     ensures remains { Remains stand.old stand.new }
@@ -58,7 +58,7 @@ fn clear_port(words: &Words, stand: &mut Stand, arena: u32, port: u32) -> Claime
 // Loads the word of the next port.
 fn load_port(words: &Words, stand: &mut Stand, arena: u32, port: u32) -> u64
     requires held { IsHeld words.now.table_id words.now.key stand.old }
-    requires works { Works stand.old arena port 0 }
+    requires works { HasSetWords stand.old arena port 0 }
     requires inside { port < words.now.key.ports }
     ensures held { IsHeld words.now.table_id words.now.key stand.new }
     ensures remains { Remains stand.old stand.new }

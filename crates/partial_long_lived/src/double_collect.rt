@@ -7,9 +7,9 @@ ghost use Rattle.partial_epochs.specs.Layout.{unsealed};
 ghost use Rattle.partial_epochs.specs.Ports.Entering.{Stands};
 ghost use Rattle.partial_long_lived.specs.Ports.{seen_in};
 ghost use Rattle.partial_long_lived.specs.Inner.Held.{IsHeld, port_at};
-ghost use Rattle.partial_long_lived.specs.Inner.Calls.{IsIdle, Kept};
-ghost use Rattle.partial_long_lived.specs.Inner.DoubleCollect.{AreCollected, AreInside, HadValue, HadValues, HasBegunCollect, HasGlanced, HasStayed, MadeNamed, MayNote, NotesScan, ScannedNamed};
-ghost use Rattle.partial_long_lived.specs.Inner.Loads.{Sees};
+ghost use Rattle.partial_long_lived.specs.Inner.Calls.{IsIdle, StaysAt};
+ghost use Rattle.partial_long_lived.specs.Inner.DoubleCollect.{AreCollected, AreInside, HadValue, HadValues, HasBegunCollect, HasGlanced, HasStayed, MadeNamed, MayNoteScan, NotesScan, ScannedNamed};
+ghost use Rattle.partial_long_lived.specs.Inner.Loads.{SeatSees};
 ghost use Rattle.partial_long_lived.specs.Inner.Loads.Wish.{Glances};
 
 use crate::arena::{SEAL, recall};
@@ -80,8 +80,8 @@ fn glance_first(words: &Words, stand: &mut Stand, component: u32) -> u64
     requires idle { IsIdle stand.old }
     requires inside { component < words.now.key.sizes.m }
     ensures held { IsHeld words.now.table_id words.now.key stand.new }
-    ensures kept { Kept stand.old stand.new }
-    ensures sees { Sees true Glances component (port_at stand.old) result (port_at stand.new) }
+    ensures kept { StaysAt stand.old stand.new }
+    ensures sees { SeatSees true Glances component (port_at stand.old) result (port_at stand.new) }
 {
     let word = stand.base + u64::from(component);
     words.load::<GlanceFirst>(&mut stand.seat, word as usize)
@@ -94,8 +94,8 @@ pub fn glance(words: &Words, stand: &mut Stand, component: u32) -> u64
     requires idle { IsIdle stand.old }
     requires inside { component < words.now.key.sizes.m }
     ensures held { IsHeld words.now.table_id words.now.key stand.new }
-    ensures kept { Kept stand.old stand.new }
-    ensures sees { Sees false Glances component (port_at stand.old) result (port_at stand.new) }
+    ensures kept { StaysAt stand.old stand.new }
+    ensures sees { SeatSees false Glances component (port_at stand.old) result (port_at stand.new) }
 {
     let word = stand.base + u64::from(component);
     words.load::<Glance>(&mut stand.seat, word as usize)
@@ -185,7 +185,7 @@ fn load_values(words: &Words, stand: &mut Stand, which: &[u32], kept: &[u64], in
     requires within { (k : ℕ) → k < length which.now →
         value_word (unsealed (slice_index kept.now k)) < total words.now.key.sizes }
     ensures held { IsHeld words.now.table_id words.now.key stand.new }
-    ensures kept { Kept stand.old stand.new }
+    ensures kept { StaysAt stand.old stand.new }
     ensures same { port_at stand.new ≡ port_at stand.old }
     ensures values { HadValues (port_at stand.old) which.now kept.now into.new (length which.now - 1) }
     ensures lengths { length into.new ≡ length into.old }
@@ -202,7 +202,7 @@ fn load_kept(words: &Words, stand: &mut Stand, word: u64) -> u64
     requires stands { (port_at stand.old).port.control.entering ≡ Stands }
     requires within { value_word (unsealed word) < total words.now.key.sizes }
     ensures held { IsHeld words.now.table_id words.now.key stand.new }
-    ensures kept { Kept stand.old stand.new }
+    ensures kept { StaysAt stand.old stand.new }
     ensures same { port_at stand.new ≡ port_at stand.old }
     ensures value { (j : ℕ) → j < words.now.key.sizes.m → HadValue (port_at stand.old) j word result }
 {
@@ -215,9 +215,9 @@ fn load_noting<G: Together>(words: &Words, stand: &mut Stand, word: u64) -> u64
     requires held { IsHeld words.now.table_id words.now.key stand.old }
     requires stands { (port_at stand.old).port.control.entering ≡ Stands }
     requires within { value_word (unsealed word) < total words.now.key.sizes }
-    requires may { MayNote G.which G.entries (port_at stand.old) }
+    requires may { MayNoteScan G.which G.entries (port_at stand.old) }
     ensures held { IsHeld words.now.table_id words.now.key stand.new }
-    ensures kept { Kept stand.old stand.new }
+    ensures kept { StaysAt stand.old stand.new }
     ensures value { (j : ℕ) → j < words.now.key.sizes.m → HadValue (port_at stand.old) j word result }
     ensures noted { (i : ℕ) × NotesScan G.which G.entries i (port_at stand.old) result (port_at stand.new) }
 {

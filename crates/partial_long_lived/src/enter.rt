@@ -3,7 +3,7 @@
 ghost use Rattle.std.specs.Prelude.{◌≡◌, ◌<◌, true, false};
 ghost use Rattle.partial_epochs.specs.Layout.{packed};
 ghost use Rattle.partial_long_lived.specs.Inner.Held.{IsHeld};
-ghost use Rattle.partial_long_lived.specs.Inner.Calls.{Kept, Looked, MayLook, Entered, MayEnter};
+ghost use Rattle.partial_long_lived.specs.Inner.Calls.{StaysAt, Looked, MayLook, Entered, MayEnter};
 
 use crate::plays::{Arrive, FirstLook, LoadCurrent, Look, Mark};
 use crate::rule::Words;
@@ -31,7 +31,7 @@ pub fn look(words: &Words, stand: &mut Stand) -> bool
     requires held { IsHeld words.now.table_id words.now.key stand.old }
     requires may { MayLook stand.old }
     ensures held { IsHeld words.now.table_id words.now.key stand.new }
-    ensures kept { Kept stand.old stand.new }
+    ensures kept { StaysAt stand.old stand.new }
     ensures looked { Looked false stand.old result stand.new }
 {
     let found = words.load::<Look>(&mut stand.seat, 0);
@@ -43,7 +43,7 @@ pub fn look_first(words: &Words, stand: &mut Stand) -> bool
     requires held { IsHeld words.now.table_id words.now.key stand.old }
     requires may { MayLook stand.old }
     ensures held { IsHeld words.now.table_id words.now.key stand.new }
-    ensures kept { Kept stand.old stand.new }
+    ensures kept { StaysAt stand.old stand.new }
     ensures looked { Looked true stand.old result stand.new }
 {
     let found = words.load::<FirstLook>(&mut stand.seat, 0);

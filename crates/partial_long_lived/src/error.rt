@@ -22,11 +22,11 @@ pub enum Refused {
 }
 
 impl Refused {
-    ghost use Rattle.partial_long_lived.specs.Refusals.{refused_code};
+    ghost use Rattle.partial_long_lived.specs.Refusals.{refusal_code};
 
     /// The number of the refusal: 7 for `Component`, 25 for `Overtaken`, 26 for `NoArena`, 27 for `EpochsSpent`.
     pub fn code(&self) -> u8
-        ensures { result ≡ refused_code self.now }
+        ensures { result ≡ refusal_code self.now }
     {
         match self {
             Refused::Component => 7,

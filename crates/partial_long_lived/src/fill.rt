@@ -5,7 +5,7 @@ ghost use Rattle.partial_words.specs.Layout.{first_free, list_base, pool_base, s
 ghost use Rattle.partial_words.specs.Chain.{opening_word};
 ghost use Rattle.partial_words.specs.Record.{plain_record_size};
 ghost use Rattle.partial_long_lived.specs.Inner.Held.{IsHeld, port_at};
-ghost use Rattle.partial_long_lived.specs.Inner.Changing.{HasPassed, IsRight, Stays, Works};
+ghost use Rattle.partial_long_lived.specs.Inner.Changing.{HasPassed, IsRight, Stays, HasSetWords};
 
 use crate::change_plays::{SetLists, SetWord};
 use crate::find::{find_stamp, find_value};
@@ -16,12 +16,12 @@ use partial_words::{Sizes, prev_word, value_word, view_word};
 /// Sets all words of the arena.
 pub fn fill(words: &Words, stand: &mut Stand, arena: u32)
     requires held { IsHeld words.now.table_id words.now.key stand.old }
-    requires works { Works stand.old arena words.now.key.ports 0 }
+    requires works { HasSetWords stand.old arena words.now.key.ports 0 }
     requires inside { arena < words.now.key.arenas }
     requires sealed { words.now.key.sizes.m ≤ (port_at stand.old).port.passed }
     ensures held { IsHeld words.now.table_id words.now.key stand.new }
     ensures stays { Stays stand.old stand.new }
-    ensures works { Works stand.new arena words.now.key.ports
+    ensures works { HasSetWords stand.new arena words.now.key.ports
         (first_free words.now.key.sizes + words.now.key.sizes.m) }
 {
     fill_front(words, stand, arena);
@@ -36,13 +36,13 @@ pub fn fill(words: &Words, stand: &mut Stand, arena: u32)
 // Sets the words before the list words: components, counters and slots. An opening asks nothing of list words.
 fn fill_front(words: &Words, stand: &mut Stand, arena: u32)
     requires held { IsHeld words.now.table_id words.now.key stand.old }
-    requires works { Works stand.old arena words.now.key.ports 0 }
+    requires works { HasSetWords stand.old arena words.now.key.ports 0 }
     requires inside { arena < words.now.key.arenas }
     requires sealed { words.now.key.sizes.m ≤ (port_at stand.old).port.passed }
     ensures held { IsHeld words.now.table_id words.now.key stand.new }
     ensures stays { Stays stand.old stand.new }
     ensures passed { HasPassed stand.old stand.new }
-    ensures works { Works stand.new arena words.now.key.ports (pool_base words.now.key.sizes) }
+    ensures works { HasSetWords stand.new arena words.now.key.ports (pool_base words.now.key.sizes) }
 {
     for word in 0..stand.shape.sizes.slot_word(0) {
         let value = front_word(&stand.shape.sizes, word);
@@ -54,13 +54,13 @@ fn fill_front(words: &Words, stand: &mut Stand, arena: u32)
 // Sets the slots to 0, of which there are far more than other words.
 fn fill_slots(words: &Words, stand: &mut Stand, arena: u32)
     requires held { IsHeld words.now.table_id words.now.key stand.old }
-    requires works { Works stand.old arena words.now.key.ports (slot_word words.now.key.sizes 0) }
+    requires works { HasSetWords stand.old arena words.now.key.ports (slot_word words.now.key.sizes 0) }
     requires inside { arena < words.now.key.arenas }
     requires sealed { words.now.key.sizes.m ≤ (port_at stand.old).port.passed }
     ensures held { IsHeld words.now.table_id words.now.key stand.new }
     ensures stays { Stays stand.old stand.new }
     ensures passed { HasPassed stand.old stand.new }
-    ensures works { Works stand.new arena words.now.key.ports (pool_base words.now.key.sizes) }
+    ensures works { HasSetWords stand.new arena words.now.key.ports (pool_base words.now.key.sizes) }
 {
     let sizes = stand.shape.sizes;
     let last = sizes.list_base() - 1;
@@ -89,14 +89,14 @@ fn front_word(sizes: &Sizes, word: u32) -> u64
 // Sets the initial record of a component.
 fn fill_record(words: &Words, stand: &mut Stand, arena: u32, component: u32)
     requires held { IsHeld words.now.table_id words.now.key stand.old }
-    requires works { Works stand.old arena words.now.key.ports (initial_record words.now.key.sizes component) }
+    requires works { HasSetWords stand.old arena words.now.key.ports (initial_record words.now.key.sizes component) }
     requires inside { arena < words.now.key.arenas }
     requires within { component < words.now.key.sizes.m }
     requires sealed { words.now.key.sizes.m ≤ (port_at stand.old).port.passed }
     ensures held { IsHeld words.now.table_id words.now.key stand.new }
     ensures stays { Stays stand.old stand.new }
     ensures passed { HasPassed stand.old stand.new }
-    ensures works { Works stand.new arena words.now.key.ports
+    ensures works { HasSetWords stand.new arena words.now.key.ports
         (initial_record words.now.key.sizes component + plain_record_size) }
 {
     let at = stand.shape.sizes.initial_record(component);
@@ -109,14 +109,14 @@ fn fill_record(words: &Words, stand: &mut Stand, arena: u32, component: u32)
 // Sets the stamp that a component carries into the next epoch.
 fn fill_stamp(words: &Words, stand: &mut Stand, arena: u32, component: u32)
     requires held { IsHeld words.now.table_id words.now.key stand.old }
-    requires works { Works stand.old arena words.now.key.ports (first_free words.now.key.sizes + component) }
+    requires works { HasSetWords stand.old arena words.now.key.ports (first_free words.now.key.sizes + component) }
     requires inside { arena < words.now.key.arenas }
     requires within { component < words.now.key.sizes.m }
     requires sealed { words.now.key.sizes.m ≤ (port_at stand.old).port.passed }
     ensures held { IsHeld words.now.table_id words.now.key stand.new }
     ensures stays { Stays stand.old stand.new }
     ensures passed { HasPassed stand.old stand.new }
-    ensures works { Works stand.new arena words.now.key.ports (first_free words.now.key.sizes + component + 1) }
+    ensures works { HasSetWords stand.new arena words.now.key.ports (first_free words.now.key.sizes + component + 1) }
 {
     let stamp = find_stamp(words, stand, component);
     let word = stand.shape.sizes.first_free() + component;
@@ -127,14 +127,14 @@ fn fill_stamp(words: &Words, stand: &mut Stand, arena: u32, component: u32)
 #[inline(always)]
 fn set_word(words: &Words, stand: &mut Stand, arena: u32, word: u32, value: u64)
     requires held { IsHeld words.now.table_id words.now.key stand.old }
-    requires works { Works stand.old arena words.now.key.ports word }
+    requires works { HasSetWords stand.old arena words.now.key.ports word }
     requires inside { arena < words.now.key.arenas }
     requires sealed { words.now.key.sizes.m ≤ (port_at stand.old).port.passed }
     requires right { IsRight (port_at stand.old) value word }
     ensures held { IsHeld words.now.table_id words.now.key stand.new }
     ensures stays { Stays stand.old stand.new }
     ensures passed { HasPassed stand.old stand.new }
-    ensures works { Works stand.new arena words.now.key.ports (word + 1) }
+    ensures works { HasSetWords stand.new arena words.now.key.ports (word + 1) }
 {
     let at = stand.shape.set_word(arena, word) as usize;
     words.store::<SetWord>(&mut stand.seat, at, value);
@@ -143,7 +143,7 @@ fn set_word(words: &Words, stand: &mut Stand, arena: u32, word: u32, value: u64)
 // Sets the last word before the list words to 0, which stand for set then.
 fn set_lists(words: &Words, stand: &mut Stand, arena: u32, word: u32)
     requires held { IsHeld words.now.table_id words.now.key stand.old }
-    requires works { Works stand.old arena words.now.key.ports word }
+    requires works { HasSetWords stand.old arena words.now.key.ports word }
     requires inside { arena < words.now.key.arenas }
     requires sealed { words.now.key.sizes.m ≤ (port_at stand.old).port.passed }
     requires last { word + 1 ≡ list_base words.now.key.sizes }
@@ -151,7 +151,7 @@ fn set_lists(words: &Words, stand: &mut Stand, arena: u32, word: u32)
     ensures held { IsHeld words.now.table_id words.now.key stand.new }
     ensures stays { Stays stand.old stand.new }
     ensures passed { HasPassed stand.old stand.new }
-    ensures works { Works stand.new arena words.now.key.ports (pool_base words.now.key.sizes) }
+    ensures works { HasSetWords stand.new arena words.now.key.ports (pool_base words.now.key.sizes) }
 {
     let at = stand.shape.set_word(arena, word) as usize;
     words.store::<SetLists>(&mut stand.seat, at, 0);

@@ -3,7 +3,7 @@
 ghost use Rattle.std.specs.Prelude.{◌≡◌, ◌<◌, ◌≤◌, Some};
 ghost use Rattle.partial_epochs.specs.Ports.Entering.{Stands};
 ghost use Rattle.partial_long_lived.specs.Inner.Held.{IsHeld, port_at};
-ghost use Rattle.partial_long_lived.specs.Inner.Calls.{HasLoaded};
+ghost use Rattle.partial_long_lived.specs.Inner.Calls.{HasLoadedRecord};
 ghost use Rattle.partial_long_lived.specs.Inner.Changing.{HasControl, FoundStamp, FoundValue, HasFound, HasPassed, Stays};
 
 use crate::arena::{SEAL, load_value, public_stamp};
@@ -54,7 +54,7 @@ fn find(words: &Words, stand: &mut Stand, component: u32) -> u64
     ensures passed { HasPassed stand.old stand.new }
     ensures control { HasControl stand.old stand.new }
     ensures found { HasFound stand.new component }
-    ensures loaded { HasLoaded stand.new component result }
+    ensures loaded { HasLoadedRecord stand.new component result }
 {
     let word = (stand.base + u64::from(component)) as usize;
     words.load::<Find>(&mut stand.seat, word) % SEAL

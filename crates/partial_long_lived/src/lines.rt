@@ -6,7 +6,7 @@ ghost use Rattle.partial_words.specs.declared.step.Step.TheVariants.{Load};
 ghost use Rattle.partial_machine.specs.Machine.{advance, step_of};
 ghost use Rattle.partial_machine.specs.Possible.{IsPossible};
 ghost use Rattle.partial_lines.specs.Lines.{IsQuiet};
-ghost use Rattle.partial_long_lived.specs.Inner.Under.{IsGoing, Leads, leads_itself, leads_on, machine_at};
+ghost use Rattle.partial_long_lived.specs.Inner.Under.{IsGoing, ComesTo, leads_itself, leads_on, machine_at};
 
 use crate::arena::SEAL;
 use crate::machine_plays::{AddOn, ExchangeOn, LoadOn, StoreOn};
@@ -30,7 +30,7 @@ impl<'a> Makes for ArenaLines<'a> {
     ghost machine = { λ l. machine_at l.stand.now };
 
     ghost leads = { λ l k. ((k.words ≡ l.words) × (k.stand.ghost_name ≡ l.stand.ghost_name)) ×
-        Leads l.stand.now k.stand.now };
+        ComesTo l.stand.now k.stand.now };
 
     #[inline(always)]
     fn make(&mut self, step: Step) -> u64 {
@@ -59,7 +59,7 @@ pub fn make(words: &Words, stand: &mut Stand, step: Step) -> u64
     requires due { step_of (machine_at stand.old) ≡ Some step }
     requires quiet { IsQuiet (machine_at stand.old).stage }
     ensures going { IsGoing words.now.table_id words.now.key stand.new }
-    ensures leads { Leads stand.old stand.new }
+    ensures leads { ComesTo stand.old stand.new }
     ensures machine { machine_at stand.new ≡ advance (machine_at stand.old) result }
     ensures possible { IsPossible (machine_at stand.old) result }
 {
@@ -87,7 +87,7 @@ pub fn make_load(words: &Words, stand: &mut Stand, word: u64) -> u64
     requires going { IsGoing words.now.table_id words.now.key stand.old }
     requires due { step_of (machine_at stand.old) ≡ Some (Load word) }
     ensures going { IsGoing words.now.table_id words.now.key stand.new }
-    ensures leads { Leads stand.old stand.new }
+    ensures leads { ComesTo stand.old stand.new }
     ensures machine { machine_at stand.new ≡ advance (machine_at stand.old) result }
     ensures possible { IsPossible (machine_at stand.old) result }
 {

@@ -7,7 +7,7 @@ ghost use Rattle.partial_long_lived.specs.Rule.{newcomers};
 ghost use Rattle.partial_long_lived.specs.Options.{MayNotOpen, MayOpen, layout_for};
 ghost use Rattle.partial_long_lived.specs.Ports.{IsOf, new_ports};
 ghost use Rattle.partial_long_lived.specs.Closing.{Closes};
-ghost use Rattle.partial_long_lived.specs.Inner.Opening.{OpensWith};
+ghost use Rattle.partial_long_lived.specs.Inner.Opening.{OpensShape};
 
 use crate::closed::last_values;
 use crate::open_error::OpenError;
@@ -59,7 +59,7 @@ pub struct Unclosed {
 // The words at opening: arena 0 is that of a memory with these values, and all other words are 0.
 fn opening_words(alloc: Global, shape: &Shape, initial: &[u64]) -> Result<Vec<u64>, AllocError>
     requires { length initial.now ≡ shape.now.sizes.m }
-    ensures { IfOk result (λ words. OpensWith shape.now initial.now words.items) }
+    ensures { IfOk result (λ words. OpensShape shape.now initial.now words.items) }
 {
     let sizes = shape.sizes;
     let mut words = vec![in alloc; 0; shape.whole() as usize]?;

@@ -4,9 +4,9 @@ ghost use Rattle.std.specs.Prelude.{◌≡◌, ◌<◌, ◌≤◌};
 ghost use Rattle.partial_epochs.specs.Ports.Entering.{Stands};
 ghost use Rattle.partial_long_lived.specs.Rule.{one_of};
 ghost use Rattle.partial_long_lived.specs.Inner.Held.{IsHeld, port_at};
-ghost use Rattle.partial_long_lived.specs.Inner.Calls.{IsIdle, Kept};
+ghost use Rattle.partial_long_lived.specs.Inner.Calls.{IsIdle, StaysAt};
 ghost use Rattle.partial_long_lived.specs.Inner.Meeting.{HasMet, Observes};
-ghost use Rattle.partial_long_lived.specs.Inner.Steps.{Goes, IsKnown, IsOne};
+ghost use Rattle.partial_long_lived.specs.Inner.Steps.{SeatGoes, IsSeatKnown, IsOne};
 
 use crate::plays::Observe;
 use crate::read::settle;
@@ -57,7 +57,7 @@ fn observe(words: &Words, first: Stand, other: Stand) -> (Stand, Stand)
     requires idle { IsIdle first }
     ensures first { IsHeld words.now.table_id words.now.key result.0 }
     ensures other { IsHeld words.now.table_id words.now.key result.1 }
-    ensures kept { Kept first result.0 × Kept other result.1 }
+    ensures kept { StaysAt first result.0 × StaysAt other result.1 }
     ensures same { port_at result.1 ≡ port_at other }
     ensures observed { Observes (port_at first) (port_at other) (port_at result.0) }
 {
@@ -75,12 +75,12 @@ fn look_together(words: &Words, first: Token, other: Token) -> (Token, Token)
     requires some { 0 < words.now.table_id.words }
     requires one { IsOne first.me × IsOne other.me }
     requires own { (one_of first.me.0).about ≡ words.now.key }
-    requires known { IsKnown (one_of first.me.0) }
+    requires known { IsSeatKnown (one_of first.me.0) }
     requires stands { (one_of first.me.0).port.control.entering ≡ Stands }
     ensures tables { (result.0.table_id ≡ words.now.table_id) × (result.1.table_id ≡ words.now.table_id) }
     ensures one { IsOne result.0.me × IsOne result.1.me }
     ensures same { one_of result.1.me.0 ≡ one_of other.me.0 }
-    ensures goes { Goes (one_of first.me.0) (one_of result.0.me.0) }
+    ensures goes { SeatGoes (one_of first.me.0) (one_of result.0.me.0) }
     ensures observed { Observes (one_of first.me.0) (one_of other.me.0) (one_of result.0.me.0) }
 {
     let mut both = first;

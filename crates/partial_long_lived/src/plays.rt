@@ -10,9 +10,9 @@ pub struct Look;
 impl Play<(), View> for Look {
     ghost use Rattle.std.specs.Prelude.{false};
     ghost use Rattle.partial_long_lived.specs.Inner.Steps.{tells};
-    ghost use Rattle.partial_long_lived.specs.Inner.Moves.{Looks};
+    ghost use Rattle.partial_long_lived.specs.Inner.Moves.{SeatLooks};
 
-    ghost then = { λ _. tells (Looks false) };
+    ghost then = { λ _. tells (SeatLooks false) };
 }
 
 /// A load of the current word that is the first step of a call.
@@ -21,9 +21,9 @@ pub struct FirstLook;
 impl Play<(), View> for FirstLook {
     ghost use Rattle.std.specs.Prelude.{true};
     ghost use Rattle.partial_long_lived.specs.Inner.Steps.{tells};
-    ghost use Rattle.partial_long_lived.specs.Inner.Moves.{Looks};
+    ghost use Rattle.partial_long_lived.specs.Inner.Moves.{SeatLooks};
 
-    ghost then = { λ _. tells (Looks true) };
+    ghost then = { λ _. tells (SeatLooks true) };
 }
 
 /// The store of the entering mark.
@@ -51,9 +51,9 @@ pub struct Arrive;
 
 impl Play<(), View> for Arrive {
     ghost use Rattle.partial_long_lived.specs.Inner.Steps.{tells};
-    ghost use Rattle.partial_long_lived.specs.Inner.Moves.{Arrives, unpacked};
+    ghost use Rattle.partial_long_lived.specs.Inner.Moves.{SeatArrives, unpacked};
 
-    ghost then = { λ s. tells (Arrives (unpacked s.second)) };
+    ghost then = { λ s. tells (SeatArrives (unpacked s.second)) };
 }
 
 /// The load of a component word that is the first step of a read.

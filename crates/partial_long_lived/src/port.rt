@@ -1,8 +1,8 @@
 //! A port: what one caller holds of a memory.
 
 ghost use Rattle.std.specs.Prelude.{◌≡◌, [], ◌∷◌};
-ghost use Rattle.partial_long_lived.specs.Rule.{Seated};
-ghost use Rattle.partial_long_lived.specs.Inner.Steps.{IsKnown};
+ghost use Rattle.partial_long_lived.specs.Rule.{SeatedPort};
+ghost use Rattle.partial_long_lived.specs.Inner.Steps.{IsSeatKnown};
 ghost use Rattle.partial_long_lived.specs.Ports.{Knows, port_view};
 
 use crate::rule::Token;
@@ -52,7 +52,8 @@ impl Port {
     // Takes the seat of a port that makes no further call.
     pub(crate) fn into_seat(self) -> Token
         ensures table { result.table_id ≡ self.memory.table }
-        ensures one { (x : Seated) × (result.me ≡ (x ∷ [], [])) × (port_view self.memory.table x ≡ self) × IsKnown x }
+        ensures one { (x : SeatedPort) × (result.me ≡ (x ∷ [], [])) × (port_view self.memory.table x ≡ self) ×
+            IsSeatKnown x }
     {
         let Port {
             seating,

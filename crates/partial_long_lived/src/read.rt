@@ -2,7 +2,7 @@
 
 ghost use Rattle.std.specs.Prelude.{◌<◌};
 ghost use Rattle.partial_long_lived.specs.Inner.Held.{IsHeld};
-ghost use Rattle.partial_long_lived.specs.Inner.Calls.{HasRead, IsIdle, Settled};
+ghost use Rattle.partial_long_lived.specs.Inner.Calls.{HasNotedRead, IsIdle, Settled};
 
 use crate::arena::{SEAL, load_value, public_stamp, read_again, read_first};
 use crate::enter::{enter, look};
@@ -27,7 +27,7 @@ pub fn read(words: &Words, stand: &mut Stand, component: u32) -> (u64, u64)
     requires idle { IsIdle stand.old }
     requires inside { component < words.now.key.sizes.m }
     ensures held { IsHeld words.now.table_id words.now.key stand.new }
-    ensures read { HasRead stand.old stand.new component result.0 result.1 }
+    ensures read { HasNotedRead stand.old stand.new component result.0 result.1 }
 {
     let mut found = read_first(words, stand, component);
     if found >= SEAL {

@@ -28,9 +28,9 @@ pub struct View {
 
 impl Model for View {
     ghost use Rattle.std.specs.Prelude.{List, []};
-    ghost use Rattle.partial_long_lived.specs.Rule.{Seated};
+    ghost use Rattle.partial_long_lived.specs.Rule.{SeatedPort};
 
-    ghost Value = { List Seated };
+    ghost Value = { List SeatedPort };
 
     ghost view = { λ _. [] };
 }
@@ -39,9 +39,9 @@ impl Model for View {
 pub struct Lawful;
 
 impl TableRule<(), View, About> for Lawful {
-    ghost use Rattle.partial_long_lived.specs.Rule.{IsKept, newcomers};
+    ghost use Rattle.partial_long_lived.specs.Rule.{IsRuleKept, newcomers};
 
-    ghost holds = { λ about s. IsKept about s };
+    ghost holds = { λ about s. IsRuleKept about s };
 
     ghost first = { λ about. newcomers about 0 about.ports };
 }
@@ -56,11 +56,11 @@ pub type Token = Seat<(), View>;
 pub struct Deals;
 
 impl Split<View> for Deals {
-    ghost use Rattle.partial_long_lived.specs.Rule.{first_of, others_of};
+    ghost use Rattle.partial_long_lived.specs.Rule.{first_port, further_ports};
 
-    ghost left = { others_of };
+    ghost left = { further_ports };
 
-    ghost right = { first_of };
+    ghost right = { first_port };
 }
 
 /// Gathers the ports of two seats in the first one.

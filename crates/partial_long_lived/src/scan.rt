@@ -6,14 +6,14 @@ ghost use Rattle.partial_machine.specs.declared.stage.Stage.TheVariants.{Idle};
 ghost use Rattle.partial_machine.specs.Lines.{scan_asked};
 ghost use Rattle.partial_machine.specs.Machine.{advance, reply_of};
 ghost use Rattle.partial_machine.specs.Possible.{IsPossible};
-ghost use Rattle.partial_machine.specs.Sound.{AreComponents, IsSound};
+ghost use Rattle.partial_machine.specs.Sound.{AreComponentIndices, IsSound};
 ghost use Rattle.partial_lines.specs.Replies.{RestsLike, scan_reply};
 ghost use Rattle.partial_epochs.specs.History.{public_stamp};
 ghost use Rattle.partial_long_lived.specs.Inner.Held.{IsHeld, port_at};
 ghost use Rattle.partial_long_lived.specs.Inner.Calls.{IsIdle};
 ghost use Rattle.partial_long_lived.specs.Inner.Rests.{NotScanned, RestsAt};
-ghost use Rattle.partial_long_lived.specs.Inner.Scans.{HasScanned, RestsUnmarked, ScanBegun, ScanMade, SettledFirst};
-ghost use Rattle.partial_long_lived.specs.Inner.Under.{IsGoing, Leads, MayBegin, machine_at};
+ghost use Rattle.partial_long_lived.specs.Inner.Scans.{HasNotedScan, RestsUnmarked, ScanBegun, ScanMade, SettledFirst};
+ghost use Rattle.partial_long_lived.specs.Inner.Under.{IsGoing, ComesTo, MayBegin, machine_at};
 
 use crate::arena::STAMPS;
 use crate::change::change;
@@ -63,13 +63,13 @@ pub fn scan_from(
 ) -> Result<Scanned, Refused>
     requires held { IsHeld words.now.table_id words.now.key stand.old }
     requires rests { RestsAt stand.old core.old spent.old }
-    requires asked { AreComponents core.old.sizes which.now }
+    requires asked { AreComponentIndices core.old.sizes which.now }
     requires some { 0 < length which.now }
     requires room { length which.now ≤ length kept.old }
     requires lengths { length into.old ≡ length which.now }
     ensures held { IsHeld words.now.table_id words.now.key stand.new }
     ensures rests { RestsAt stand.new core.new spent.new }
-    ensures scanned { IfOk result (λ q. HasScanned stand.old stand.new which.now into.new q.collects q.borrowed) }
+    ensures scanned { IfOk result (λ q. HasNotedScan stand.old stand.new which.now into.new q.collects q.borrowed) }
     ensures refused { IfErr result (NotScanned stand.old stand.new) }
     ensures unchanged { IfErr result (λ _. into.new ≡ into.old) }
 {
@@ -94,12 +94,12 @@ fn scan_announced(
 ) -> Result<Scanned, Refused>
     requires held { IsHeld words.now.table_id words.now.key stand.old }
     requires rests { RestsAt stand.old core.old spent.old }
-    requires asked { AreComponents core.old.sizes which.now }
+    requires asked { AreComponentIndices core.old.sizes which.now }
     requires some { 0 < length which.now }
     requires lengths { length into.old ≡ length which.now }
     ensures held { IsHeld words.now.table_id words.now.key stand.new }
     ensures rests { RestsAt stand.new core.new spent.new }
-    ensures scanned { IfOk result (λ q. HasScanned stand.old stand.new which.now into.new q.collects q.borrowed) }
+    ensures scanned { IfOk result (λ q. HasNotedScan stand.old stand.new which.now into.new q.collects q.borrowed) }
     ensures refused { IfErr result (NotScanned stand.old stand.new) }
     ensures unchanged { IfErr result (λ _. into.new ≡ into.old) }
 {
@@ -136,11 +136,11 @@ fn scan(
     requires idle { IsIdle stand.old }
     requires rests { RestsUnmarked (port_at stand.old) core.old }
     requires spare { (port_at stand.old).port.over ≡ false }
-    requires asked { AreComponents core.old.sizes which.now }
+    requires asked { AreComponentIndices core.old.sizes which.now }
     requires some { 0 < length which.now }
     requires lengths { length into.old ≡ length which.now }
     ensures held { IsHeld words.now.table_id words.now.key stand.new }
-    ensures scanned { HasScanned stand.old stand.new which.now into.new result.collects result.borrowed }
+    ensures scanned { HasNotedScan stand.old stand.new which.now into.new result.collects result.borrowed }
     ensures rests { RestsUnmarked (port_at stand.new) core.new }
     ensures spent { (port_at stand.new).port.over ≡ spent.new }
 {
@@ -161,7 +161,7 @@ fn make_scan(
     requires idle { IsIdle stand.old }
     requires rests { RestsUnmarked (port_at stand.old) core.old }
     requires spare { (port_at stand.old).port.over ≡ false }
-    requires asked { AreComponents core.old.sizes which.now }
+    requires asked { AreComponentIndices core.old.sizes which.now }
     requires some { 0 < length which.now }
     requires lengths { length into.old ≡ length which.now }
     requires fresh { (port_at stand.old).began.epoch ≤ stand.old.epoch }
@@ -192,7 +192,7 @@ fn announce(
     requires machine { machine_at stand.old ≡ advance (scan_asked core.old which.now) at }
     requires lengths { length into.old ≡ length which.now }
     ensures going { IsGoing words.now.table_id words.now.key stand.new }
-    ensures leads { Leads stand.old stand.new }
+    ensures leads { ComesTo stand.old stand.new }
     ensures replies { reply_of (machine_at stand.new) ≡ Some (scan_reply (Ok result)) }
     ensures asked { (machine_at stand.new).asked ≡ which.now }
     ensures rows { core.new.rows ≡ (machine_at stand.new).rows }

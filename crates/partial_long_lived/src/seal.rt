@@ -5,7 +5,7 @@ ghost use Rattle.partial_epochs.specs.Ports.Entering.{Stands};
 ghost use Rattle.partial_epochs.specs.Sealing.{passing};
 ghost use Rattle.partial_long_lived.specs.Inner.Held.{IsHeld, port_at};
 ghost use Rattle.partial_long_lived.specs.Inner.Calls.{IsIdle};
-ghost use Rattle.partial_long_lived.specs.Inner.Changing.{IsSame, Stays};
+ghost use Rattle.partial_long_lived.specs.Inner.Changing.{HasSamePart, Stays};
 
 use crate::arena::SEAL;
 use crate::change_plays::{Pass, Seal};
@@ -18,7 +18,7 @@ pub fn seal(words: &Words, stand: &mut Stand)
     requires may { IsIdle stand.old }
     ensures held { IsHeld words.now.table_id words.now.key stand.new }
     ensures stays { Stays stand.old stand.new }
-    ensures same { IsSame stand.old stand.new }
+    ensures same { HasSamePart stand.old stand.new }
     ensures free { IsIdle stand.new }
     ensures sealed { words.now.key.sizes.m ≤ (port_at stand.new).port.passed }
 {
@@ -35,7 +35,7 @@ fn pass(words: &Words, stand: &mut Stand)
     requires more { stand.old.passed < words.now.key.sizes.m }
     ensures held { IsHeld words.now.table_id words.now.key stand.new }
     ensures stays { Stays stand.old stand.new }
-    ensures same { IsSame stand.old stand.new }
+    ensures same { HasSamePart stand.old stand.new }
     ensures free { IsIdle stand.new }
     ensures passed { stand.new.passed ≡ stand.old.passed + 1 }
 {

@@ -6,7 +6,7 @@ ghost use Rattle.partial_words.specs.Record.{value_word};
 ghost use Rattle.partial_epochs.specs.Layout.{unsealed};
 ghost use Rattle.partial_epochs.specs.Ports.Entering.{Stands};
 ghost use Rattle.partial_long_lived.specs.Inner.Held.{IsHeld, port_at};
-ghost use Rattle.partial_long_lived.specs.Inner.Calls.{HasCome, IsIdle, Kept};
+ghost use Rattle.partial_long_lived.specs.Inner.Calls.{HasCome, IsIdle, StaysAt};
 ghost use Rattle.partial_long_lived.specs.Inner.DoubleCollect.{AreInside, ArePublic, ScannedNamed, ScannedStamped};
 
 use crate::arena::{SEAL, public_stamp};
@@ -82,7 +82,7 @@ fn load_stamps(words: &Words, stand: &mut Stand, which: &[u32], kept: &[u64], st
     requires within { (k : ℕ) → k < length which.now →
         value_word (unsealed (slice_index kept.now k)) < total words.now.key.sizes }
     ensures held { IsHeld words.now.table_id words.now.key stand.new }
-    ensures kept { Kept stand.old stand.new }
+    ensures kept { StaysAt stand.old stand.new }
     ensures same { port_at stand.new ≡ port_at stand.old }
     ensures stamps { ArePublic (port_at stand.old) which.now kept.now stamps.new (length which.now) }
     ensures lengths { length stamps.new ≡ length stamps.old }

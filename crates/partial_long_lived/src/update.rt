@@ -8,12 +8,12 @@ ghost use Rattle.partial_machine.specs.Sound.{IsSound};
 ghost use Rattle.partial_lines.specs.Lines.{set_made};
 ghost use Rattle.partial_lines.specs.Replies.{RestsLike};
 ghost use Rattle.partial_long_lived.specs.Inner.Held.{IsHeld, epoch_at, port_at};
-ghost use Rattle.partial_long_lived.specs.Inner.Calls.{IsIdle, Kept};
+ghost use Rattle.partial_long_lived.specs.Inner.Calls.{IsIdle, StaysAt};
 ghost use Rattle.partial_long_lived.specs.Inner.Changing.{IsCause};
-ghost use Rattle.partial_long_lived.specs.Inner.Machine.{Begins};
+ghost use Rattle.partial_long_lived.specs.Inner.Machine.{SeatBegins};
 ghost use Rattle.partial_long_lived.specs.Inner.Rests.{RestsAt};
-ghost use Rattle.partial_long_lived.specs.Inner.Under.{IsGoing, Leads, MayBegin, machine_at};
-ghost use Rattle.partial_long_lived.specs.Inner.Updates.{Attempted, CameBy, ExchangeDue, ExpectsOne, IsLate, IsOwn, MayCall, NotesNothing, Updated};
+ghost use Rattle.partial_long_lived.specs.Inner.Under.{IsGoing, ComesTo, MayBegin, machine_at};
+ghost use Rattle.partial_long_lived.specs.Inner.Updates.{Attempted, CameBy, ExchangeDue, ExpectsOne, IsLate, IsOwnMachine, MayCall, NotesNothing, Updated};
 
 use crate::arena::SEAL;
 use crate::change::change;
@@ -80,7 +80,7 @@ fn rounds(
     requires some { 0 < times }
     ensures held { IsHeld words.now.table_id words.now.key stand.new }
     ensures idle { IsIdle stand.new }
-    ensures rests { IsOwn (port_at stand.new) core.new }
+    ensures rests { IsOwnMachine (port_at stand.new) core.new }
     ensures spare { spent.new ≡ false → MayCall (port_at stand.new) core.new }
     ensures updated { IfOk result (λ r. Updated first change r stand.old stand.new) }
     ensures refused { IfErr result (λ cause.
@@ -109,10 +109,10 @@ fn rounds(
 pub fn renew(words: &Words, stand: &mut Stand, core: &mut Core, first: bool) -> Result<(), Refused>
     requires held { IsHeld words.now.table_id words.now.key stand.old }
     requires idle { IsIdle stand.old }
-    requires rests { IsOwn (port_at stand.old) core.old }
+    requires rests { IsOwnMachine (port_at stand.old) core.old }
     ensures held { IsHeld words.now.table_id words.now.key stand.new }
     ensures idle { IsIdle stand.new }
-    ensures rests { IsOwn (port_at stand.new) core.new }
+    ensures rests { IsOwnMachine (port_at stand.new) core.new }
     ensures spare { IfOk result (λ _. MayCall (port_at stand.new) core.new) }
     ensures came { CameBy first stand.old stand.new }
     ensures later { IfOk result (λ _. epoch_at stand.old < epoch_at stand.new) }
@@ -142,7 +142,7 @@ pub fn attempt(
     ensures held { IsHeld words.now.table_id words.now.key stand.new }
     ensures attempted { IfSome result (λ r. Attempted first change r.0 stand.old stand.new) }
     ensures sealed { IfNone result (NotesNothing first stand.old stand.new) }
-    ensures rests { IsOwn (port_at stand.new) core.new }
+    ensures rests { IsOwnMachine (port_at stand.new) core.new }
     ensures spare { IfSome result (λ r. r.1 ≡ false → MayCall (port_at stand.new) core.new) }
 {
     let old = begin::<Brand>(words, stand, core, change, first);
@@ -179,8 +179,8 @@ fn begin<G: Moment>(
     requires moment { G.core ≡ at_stage core.now (UpdateBegun change) }
     requires inside { change.component < words.now.key.sizes.m }
     ensures held { IsHeld words.now.table_id words.now.key stand.new }
-    ensures kept { Kept stand.old stand.new }
-    ensures begun { Begins first G.core change.component (port_at stand.old) result (port_at stand.new) }
+    ensures kept { StaysAt stand.old stand.new }
+    ensures begun { SeatBegins first G.core change.component (port_at stand.old) result (port_at stand.new) }
 {
     let word = stand.base + u64::from(change.component);
     if first {
@@ -199,7 +199,7 @@ fn write(words: &Words, stand: &mut Stand, core: &mut Core, change: Change, old:
     requires sound { IsSound core.old }
     requires machine { machine_at stand.old ≡ set_made (set_begun core.old) change old }
     ensures going { IsGoing words.now.table_id words.now.key stand.new }
-    ensures leads { Leads stand.old stand.new }
+    ensures leads { ComesTo stand.old stand.new }
     ensures due { (machine_at stand.new).stage ≡ Exchanging change old result }
     ensures rests { RestsLike (machine_at stand.new) core.new }
 {
@@ -217,7 +217,7 @@ fn exchange(words: &Words, stand: &mut Stand, change: Change, old: u64, at: u64)
     requires due { (machine_at stand.old).stage ≡ Exchanging change old at }
     requires inside { change.component < words.now.key.sizes.m }
     ensures held { IsHeld words.now.table_id words.now.key stand.new }
-    ensures kept { Kept stand.old stand.new }
+    ensures kept { StaysAt stand.old stand.new }
     ensures exchanged { ExchangeDue stand.old change old at result stand.new }
 {
     let word = stand.base + u64::from(change.component);

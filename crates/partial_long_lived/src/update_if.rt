@@ -2,12 +2,12 @@
 
 ghost use Rattle.std.specs.Prelude.{◌≡◌, ◌<◌, ◌≤◌, IfSome, IfNone, IfOk, IfErr, true, false};
 ghost use Rattle.partial_long_lived.specs.Inner.Held.{IsHeld, port_at};
-ghost use Rattle.partial_long_lived.specs.Inner.Calls.{IsIdle, Kept};
-ghost use Rattle.partial_long_lived.specs.Inner.Conditional.{EndedIf, HasFound, HasLooked, HasUpdatedIf, outcome_of};
-ghost use Rattle.partial_long_lived.specs.Inner.Loads.{Sees};
+ghost use Rattle.partial_long_lived.specs.Inner.Calls.{IsIdle, StaysAt};
+ghost use Rattle.partial_long_lived.specs.Inner.Conditional.{EndedIf, HasCompared, HasLooked, HasUpdatedIf, outcome_of};
+ghost use Rattle.partial_long_lived.specs.Inner.Loads.{SeatSees};
 ghost use Rattle.partial_long_lived.specs.Inner.Loads.Wish.{Expects};
 ghost use Rattle.partial_long_lived.specs.Inner.Rests.{RestsAt};
-ghost use Rattle.partial_long_lived.specs.Inner.Updates.{CameBy, IsLate, IsOwn, MayCall, NotesNothing, word_from};
+ghost use Rattle.partial_long_lived.specs.Inner.Updates.{CameBy, IsLate, IsOwnMachine, MayCall, NotesNothing, word_from};
 
 use crate::answers::UpdatedIf;
 use crate::arena::{SEAL, STAMPS, public_stamp};
@@ -89,14 +89,14 @@ fn round(
 ) -> Option<(UpdatedIf, bool)>
     requires held { IsHeld words.now.table_id words.now.key stand.old }
     requires idle { IsIdle stand.old }
-    requires own { IsOwn (port_at stand.old) core.old }
+    requires own { IsOwnMachine (port_at stand.old) core.old }
     requires may { spent ≡ false → MayCall (port_at stand.old) core.old }
     requires inside { asked.component < words.now.key.sizes.m }
     requires fresh { first ≡ false → (port_at stand.old).began.epoch ≤ stand.old.epoch }
     ensures held { IsHeld words.now.table_id words.now.key stand.new }
     ensures ended { IfSome result (λ r. EndedIf first asked r.0 stand.old stand.new) }
     ensures none { IfNone result (NotesNothing first stand.old stand.new) }
-    ensures own { IsOwn (port_at stand.new) core.new }
+    ensures own { IsOwnMachine (port_at stand.new) core.new }
     ensures spare { IfSome result (λ r. r.1 ≡ false → MayCall (port_at stand.new) core.new) }
 {
     let at = match compare(words, stand, asked, first) {
@@ -129,7 +129,7 @@ fn compare(words: &Words, stand: &mut Stand, asked: Asked, first: bool) -> Compa
     requires fresh { first ≡ false → (port_at stand.old).began.epoch ≤ stand.old.epoch }
     ensures held { IsHeld words.now.table_id words.now.key stand.new }
     ensures looked { HasLooked first stand.old stand.new }
-    ensures found { HasFound asked stand.old result stand.new }
+    ensures found { HasCompared asked stand.old result stand.new }
 {
     let found = see::<Brand>(words, stand, asked, first);
     if first && found >= SEAL {
@@ -153,8 +153,8 @@ fn see<G: Wishes>(words: &Words, stand: &mut Stand, asked: Asked, first: bool) -
     requires inside { asked.component < words.now.key.sizes.m }
     requires wish { G.wish ≡ Expects asked.expected asked.value }
     ensures held { IsHeld words.now.table_id words.now.key stand.new }
-    ensures kept { Kept stand.old stand.new }
-    ensures sees { Sees first (Expects asked.expected asked.value) asked.component
+    ensures kept { StaysAt stand.old stand.new }
+    ensures sees { SeatSees first (Expects asked.expected asked.value) asked.component
         (port_at stand.old) result (port_at stand.new) }
 {
     let word = stand.base + u64::from(asked.component);
@@ -177,7 +177,7 @@ fn public_outcome(
     requires inside { component < words.now.key.sizes.m }
     requires small { word_from exchanged < 8388608 }
     ensures held { IsHeld words.now.table_id words.now.key stand.new }
-    ensures kept { Kept stand.old stand.new }
+    ensures kept { StaysAt stand.old stand.new }
     ensures same { port_at stand.new ≡ port_at stand.old }
     ensures public { result ≡ outcome_of (port_at stand.old) component exchanged }
 {

@@ -16,7 +16,7 @@ use Rattle.partial_machine.specs.declared.stage.Stage.TheVariants.{ReadBegun, Up
 use Rattle.partial_machine.specs.Machine.{CoreState, at_stage}
 use Rattle.partial_machine.specs.Calls.{call_at, is_begun, begun_like, begin_scan, begun_of, refusal_of, makes_steps}
 use Rattle.partial_machine.specs.Bounds.{most_of_update, most_steps, left_at, steps_left}
-use Rattle.partial_machine.specs.Sound.{AreComponents, IsSound, is_sound_at}
+use Rattle.partial_machine.specs.Sound.{AreComponentIndices, IsSound, is_sound_at}
 use Rattle.partial_machine.specs.Behind.{IsBegunWith, IsOldMark, CallsBegin, RestsAreSound, CallsAreRefusedAtOnce}
 use Rattle.partial_active.proofs.Distinct.{no_index}
 use Rattle.std.proofs.lemmas.List.{length-replicate}
@@ -33,7 +33,7 @@ some_position [] e = absurd (false≢true (sym e))
 some_position (j ∷ js) e = omega arith
 
 -- the machine with a call begun is sound
-sound_with : (s : CoreState) (js : List ℕ) (t : Stage) → AreComponents s.sizes js → is_sound_at (record s { asked = js; stage = t }) t → IsSound s → IsSound (record s { asked = js; stage = t })
+sound_with : (s : CoreState) (js : List ℕ) (t : Stage) → AreComponentIndices s.sizes js → is_sound_at (record s { asked = js; stage = t }) t → IsSound s → IsSound (record s { asked = js; stage = t })
 sound_with s js t asked stage w = record { asked = asked; found = w.found; indices = w.indices; distinct = w.distinct; rows = w.rows; stage = stage }
 
 -- what is known of an update that is begun, of a read, and of a scan
@@ -49,7 +49,7 @@ begins_read s j false below is = let bad : Some refused.Component ≡ None = is 
 
 -- what is known of a scan of some positions
 record ScanMay (s : CoreState) (js : List ℕ) : Type 0 where
-  asked : AreComponents s.sizes js
+  asked : AreComponentIndices s.sizes js
   may : (0 < length js) × (s.pool_spent ≡ false) × (s.slots_spent ≡ false)
 
 scan_may : (s : CoreState) (js : List ℕ) (a p q : Bool) → length js ≤ s.sizes.m → list_all (λ i. nat_lt i s.sizes.m) js ≡ a → s.pool_spent ≡ p → s.slots_spent ≡ q → 0 < length js →
@@ -64,7 +64,7 @@ scan_may s js false p q few below pool slots some is = let bad : Some refused.Co
 
 begins_scan : (s : CoreState) (js : List ℕ) → length js ≤ s.sizes.m → refusal_of s (call.Scan js) ≡ None → IsBegunWith s (call.Scan js)
 begins_scan s [] few is =
-    let none : AreComponents s.sizes [] = record { few = omega arith; each = λ k below. absurd (omega (arith, below)) } in
+    let none : AreComponentIndices s.sizes [] = record { few = omega arith; each = λ k below. absurd (omega (arith, below)) } in
     record {
       like = refl;
       asked = none;
@@ -94,7 +94,7 @@ begins_scan s (j ∷ js) few is =
       at_once = λ e. absurd (false≢true (sym e));
     }
 
-begins_change : (s : CoreState) (j v : ℕ) (e : Option ℕ) (c : Call) → AreComponents s.sizes s.asked → (j < s.sizes.m) × (s.pool_spent ≡ false) →
+begins_change : (s : CoreState) (j v : ℕ) (e : Option ℕ) (c : Call) → AreComponentIndices s.sizes s.asked → (j < s.sizes.m) × (s.pool_spent ≡ false) →
     begun_of s c ≡ at_stage s (UpdateBegun (record { component = j; expected = e; value = v })) → call_at s (UpdateBegun (record { component = j; expected = e; value = v })) ≡ Some c →
     makes_steps c ≡ true → most_steps s.sizes c ≡ most_of_update s.sizes → IsBegunWith s c
 begins_change s j v e c asked may is made makes most =
@@ -102,7 +102,7 @@ begins_change s j v e c asked may is made makes most =
     let sound = sound_with s s.asked t asked may in
     record {
       like = subst (λ (d : CoreState). d ≡ begun_like s d) (sym is) refl;
-      asked = subst (λ (d : CoreState). AreComponents s.sizes d.asked) (sym is) asked;
+      asked = subst (λ (d : CoreState). AreComponentIndices s.sizes d.asked) (sym is) asked;
       may = subst (λ (d : CoreState). is_sound_at d d.stage) (sym is) may;
       sound = λ w. subst IsSound (sym is) (sound w);
       few = let left : steps_left (begun_of s c) ≡ left_at s t = ap steps_left is in omega (arith, left, most);

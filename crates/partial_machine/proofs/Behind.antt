@@ -146,9 +146,9 @@ module _ (s : CoreState) (x : ℕ) (w : IsSound s) where
 
   getting_after : (c : Change) (old : ℕ) → s.stage ≡ GettingSet c old → After s x (advance_at s (GettingSet c old) x)
   getting_after c old e =
-      let q = with_getting s (finding.advance (getting s) x) in
-      let next : Stage → CoreState = λ u. record q { embedded = viewing.fresh q.sizes true; stage = u } in
-      either (finding.step_of q.get_set) q (next (cond (length q.found.indices == 0) (ClaimingRecord c old) (Viewing c old))) (After s x) (plain s x q (GettingSet c old) e refl refl refl refl)
+      let q = with_getting s (finding.advance_set (getting s) x) in
+      let next : Stage → CoreState = λ u. record q { embedded = viewing.fresh_view q.sizes true; stage = u } in
+      either (finding.set_step_due q.get_set) q (next (cond (length q.found.indices == 0) (ClaimingRecord c old) (Viewing c old))) (After s x) (plain s x q (GettingSet c old) e refl refl refl refl)
       (cond_both (length q.found.indices == 0) (ClaimingRecord c old) (Viewing c old) (λ (u : Stage). After s x (next u))
       (λ _. plain s x (next (ClaimingRecord c old)) (ClaimingRecord c old) refl refl refl refl refl) (λ _. plain s x (next (Viewing c old)) (Viewing c old) refl refl refl refl refl))
 
@@ -188,8 +188,8 @@ module _ (s : CoreState) (x : ℕ) (w : IsSound s) where
       (λ _. plain s x (at_stage s (Finished (reply.Changed x))) (Finished (reply.Changed x)) refl refl refl refl refl)
   after_at (GettingSet c old) e p = getting_after c old e
   after_at (Viewing c old) e p =
-      let q = with_scanning s (viewing.advance s.found.indices (scanning s) x) in
-      either (viewing.step_of s.found.indices (scanning q)) q (at_stage q (ClaimingRecord c old)) (After s x) (plain s x q (Viewing c old) e refl refl refl refl)
+      let q = with_scanning s (viewing.advance_view s.found.indices (scanning s) x) in
+      either (viewing.view_step_due s.found.indices (scanning q)) q (at_stage q (ClaimingRecord c old)) (After s x) (plain s x q (Viewing c old) e refl refl refl refl)
       (plain s x (at_stage q (ClaimingRecord c old)) (ClaimingRecord c old) refl refl refl refl refl)
   after_at (ClaimingRecord c old) e p = by (fits_pool s.sizes (record_size s) x) refl
     where
@@ -212,41 +212,43 @@ module _ (s : CoreState) (x : ℕ) (w : IsSound s) where
       (λ _. plain s x (at_stage s (StoringAnnouncement at (k + 1))) (StoringAnnouncement at (k + 1)) refl refl refl refl refl)
   after_at Joining e p = joining_after s.join.stage e refl
   after_at Scanning e p =
-      let q = with_scanning s (viewing.advance s.asked (scanning s) x) in
-      either (viewing.step_of s.asked (scanning q)) q (at_stage q Leaving) (After s x) (plain s x q Scanning e refl refl refl refl) (plain s x (at_stage q Leaving) Leaving refl refl refl refl refl)
+      let q = with_scanning s (viewing.advance_view s.asked (scanning s) x) in
+      either (viewing.view_step_due s.asked (scanning q)) q (at_stage q Leaving) (After s x) (plain s x q Scanning e refl refl refl refl)
+      (plain s x (at_stage q Leaving) Leaving refl refl refl refl refl)
   after_at Leaving e p = plain s x (advance_at s Leaving x) (Finished (scanned_reply s)) refl refl refl refl refl
   after_at (Finished r) e p = absurd p
 
 -- the mark for the list words behind an answer to a getSet
-abbrev MarksLists : SetStage → finding.Pair → ℕ → finding.Pair → Type 0
+abbrev MarksLists : SetStage → finding.SetPair → ℕ → finding.SetPair → Type 0
 MarksLists t p x q = (q.0.lists_spent ≡ p.0.lists_spent) ⊎ ((words : ℕ) × (t ≡ set.Claim words) × (list_end p.0.sizes < x + words) × (q.0.lists_spent ≡ true))
 
-same_at_slot : (p : finding.Pair) (slot : ℕ) → (finding.at_slot p slot).0.lists_spent ≡ p.0.lists_spent
-same_at_slot p slot = cond_both (ltb slot p.0.end) (record p.0 { stage = set.Slot slot }, p.1) (finding.after_walk p) (λ (q : finding.Pair). q.0.lists_spent ≡ p.0.lists_spent) (λ e. refl) (λ e. refl)
+same_at_slot : (p : finding.SetPair) (slot : ℕ) → (finding.at_slot p slot).0.lists_spent ≡ p.0.lists_spent
+same_at_slot p slot = cond_both (ltb slot p.0.end) (record p.0 { stage = set.Slot slot }, p.1) (finding.after_walk p) (λ (q : finding.SetPair). q.0.lists_spent ≡ p.0.lists_spent) (λ e. refl)
+    (λ e. refl)
 
-same_come_to : (p : finding.Pair) (slot : ℕ) → (finding.come_to p slot).0.lists_spent ≡ p.0.lists_spent
+same_come_to : (p : finding.SetPair) (slot : ℕ) → (finding.come_to p slot).0.lists_spent ≡ p.0.lists_spent
 same_come_to p slot = cond_both (begins_at p.1.read p.0.passed slot) (finding.at_slot (finding.pass_interval p) (highest p.1.read p.0.passed + 1)) (finding.at_slot p slot)
-    (λ (q : finding.Pair). q.0.lists_spent ≡ p.0.lists_spent)
+    (λ (q : finding.SetPair). q.0.lists_spent ≡ p.0.lists_spent)
     (λ e. same_at_slot (finding.pass_interval p) (highest p.1.read p.0.passed + 1))
     (λ e. same_at_slot p slot)
 
-marks_lists : (t : SetStage) (p : finding.Pair) (x : ℕ) → MarksLists t p x (finding.advance_at t p x)
+marks_lists : (t : SetStage) (p : finding.SetPair) (x : ℕ) → MarksLists t p x (finding.advance_set_at t p x)
 marks_lists set.Head p x = inl refl
 marks_lists (set.ListLen at) p x = inl refl
 marks_lists (set.ListLow at left) p x = inl refl
 marks_lists (set.ListHigh at left lo) p x = inl refl
 marks_lists set.Counter p x = inl (same_come_to (record p.0 { end = min x p.0.sizes.slots; passed = 0 }, p.1) 0)
 marks_lists (set.Slot slot) p x = inl (cond_both (eqb x 0) (finding.come_to p (slot + 1))
-    (cond (eqb x 1) (finding.come_to (finding.note_slot p slot) (slot + 1)) (finding.in_stage p (set.Len slot x))) (λ (q : finding.Pair). q.0.lists_spent ≡ p.0.lists_spent)
+    (cond (eqb x 1) (finding.come_to (finding.note_slot p slot) (slot + 1)) (finding.in_stage p (set.Len slot x))) (λ (q : finding.SetPair). q.0.lists_spent ≡ p.0.lists_spent)
     (λ e. same_come_to p (slot + 1))
-    (λ other. cond_both (eqb x 1) (finding.come_to (finding.note_slot p slot) (slot + 1)) (finding.in_stage p (set.Len slot x)) (λ (q : finding.Pair). q.0.lists_spent ≡ p.0.lists_spent)
+    (λ other. cond_both (eqb x 1) (finding.come_to (finding.note_slot p slot) (slot + 1)) (finding.in_stage p (set.Len slot x)) (λ (q : finding.SetPair). q.0.lists_spent ≡ p.0.lists_spent)
     (λ e. same_come_to (finding.note_slot p slot) (slot + 1)) (λ e. refl)))
 marks_lists (set.Len slot at) p x =
-    inl (cond_both (eqb x 0) (finding.come_to p (slot + 1)) (finding.in_stage p (set.Index slot (indices_word at) x)) (λ (q : finding.Pair). q.0.lists_spent ≡ p.0.lists_spent)
+    inl (cond_both (eqb x 0) (finding.come_to p (slot + 1)) (finding.in_stage p (set.Index slot (indices_word at) x)) (λ (q : finding.SetPair). q.0.lists_spent ≡ p.0.lists_spent)
     (λ e. same_come_to p (slot + 1)) (λ e. refl))
 marks_lists (set.Index slot at left) p x =
-    let q : finding.Pair = (p.0, record p.1 { indices = with_index p.1.indices x }) in
-    inl (cond_both (eqb left 1) (finding.come_to q (slot + 1)) (finding.in_stage q (set.Index slot (next_word at) (left - 1))) (λ (r : finding.Pair). r.0.lists_spent ≡ p.0.lists_spent)
+    let q : finding.SetPair = (p.0, record p.1 { indices = with_index p.1.indices x }) in
+    inl (cond_both (eqb left 1) (finding.come_to q (slot + 1)) (finding.in_stage q (set.Index slot (next_word at) (left - 1))) (λ (r : finding.SetPair). r.0.lists_spent ≡ p.0.lists_spent)
     (λ e. same_come_to q (slot + 1)) (λ e. refl))
 marks_lists (set.Claim words) p x = by (ltb (list_end p.0.sizes) (x + words)) refl
   where
@@ -266,23 +268,23 @@ same_lists : (s : CoreState) (x : ℕ) (t : CoreState) → lists_spent t ≡ lis
 same_lists s x t same = ((λ marked. same ∙ marked), (λ unmarked marked. absurd (false≢true (sym unmarked ∙ sym same ∙ marked))))
 
 module _ (s : CoreState) (x : ℕ) (layout : IsLayout s.sizes) (w : IsSound s) where
-  getting_lists : (c : Change) (old : ℕ) → s.stage ≡ GettingSet c old → KeepsLists s x (with_getting s (finding.advance (getting s) x))
+  getting_lists : (c : Change) (old : ℕ) → s.stage ≡ GettingSet c old → KeepsLists s x (with_getting s (finding.advance_set (getting s) x))
   getting_lists c old e = elim (marks_lists s.get_set.stage (getting s) x) [
-    | inl same ↦ same_lists s x (with_getting s (finding.advance (getting s) x)) same
+    | inl same ↦ same_lists s x (with_getting s (finding.advance_set (getting s) x)) same
     | inr m ↦ ((λ _. m.3), (λ _ _. past m.0 m.1 m.2))
   ]
     where
       past : (words : ℕ) → s.get_set.stage ≡ set.Claim words → list_end s.get_set.sizes < x + words → ClaimsPastLists s x
       past words at over =
           let h = subst (is_sound_at s) e w.stage in
-          let has = subst (λ (t : SetStage). finding_answers.goes_at t (getting s)) at h.1.stage in
+          let has = subst (λ (t : SetStage). finding_answers.set_goes_at t (getting s)) at h.1.stage in
           let counts = has.count in
           let most = length_normal s.found.next s.get_set.sizes.slots has.next has.within in
           let slots : s.get_set.sizes.slots ≡ s.sizes.slots = ap (λ (y : Layout). y.slots) h.2 in
           let end : list_end s.get_set.sizes ≡ list_end s.sizes = ap list_end h.2 in
           record {
             size = words;
-            step = ap (step_at s) e ∙ ap (finding.step_at s.get_set.sizes s.get_set.head) at ∙ ap (λ (y : Layout). Some (Add (list_counter y) words)) h.2;
+            step = ap (step_at s) e ∙ ap (finding.set_step_at s.get_set.sizes s.get_set.head) at ∙ ap (λ (y : Layout). Some (Add (list_counter y) words)) h.2;
             few = omega (arith, counts, most, slots);
             past = omega (arith, over, end);
           }
@@ -294,12 +296,14 @@ module _ (s : CoreState) (x : ℕ) (layout : IsLayout s.sizes) (w : IsSound s) w
   lists_at (UpdateBegun c) e = cond_both (expects c x) (begin_getting s c x) (at_stage s (Finished (reply.Changed x))) (KeepsLists s x) (λ _. same_lists s x (begin_getting s c x) refl)
       (λ _. same_lists s x (at_stage s (Finished (reply.Changed x))) refl)
   lists_at (GettingSet c old) e =
-      let q = with_getting s (finding.advance (getting s) x) in
-      either (finding.step_of q.get_set) q (record q { embedded = viewing.fresh q.sizes true; stage = cond (length q.found.indices == 0) (ClaimingRecord c old) (Viewing c old) }) (KeepsLists s x)
+      let q = with_getting s (finding.advance_set (getting s) x) in
+      either (finding.set_step_due q.get_set) q (record q { embedded = viewing.fresh_view q.sizes true; stage = cond (length q.found.indices == 0) (ClaimingRecord c old) (Viewing c old) })
+      (KeepsLists s x)
       (getting_lists c old e) (getting_lists c old e)
   lists_at (Viewing c old) e =
-      let q = with_scanning s (viewing.advance s.found.indices (scanning s) x) in
-      either (viewing.step_of s.found.indices (scanning q)) q (at_stage q (ClaimingRecord c old)) (KeepsLists s x) (same_lists s x q refl) (same_lists s x (at_stage q (ClaimingRecord c old)) refl)
+      let q = with_scanning s (viewing.advance_view s.found.indices (scanning s) x) in
+      either (viewing.view_step_due s.found.indices (scanning q)) q (at_stage q (ClaimingRecord c old)) (KeepsLists s x) (same_lists s x q refl)
+      (same_lists s x (at_stage q (ClaimingRecord c old)) refl)
   lists_at (ClaimingRecord c old) e = cond_both (fits_pool s.sizes (record_size s) x) (at_stage s (StoringRecord c old x 0)) (pool_refused s) (KeepsLists s x)
       (λ _. same_lists s x (at_stage s (StoringRecord c old x 0)) refl) (λ _. same_lists s x (pool_refused s) refl)
   lists_at (StoringRecord c old at k) e = same_lists s x (advance_at s (StoringRecord c old at k) x) refl
@@ -319,8 +323,8 @@ module _ (s : CoreState) (x : ℕ) (layout : IsLayout s.sizes) (w : IsSound s) w
       by (Joined slot) = same_lists s x (after_joining q (Joined slot)) refl
       by Spent = same_lists s x (slots_refused q) refl
   lists_at Scanning e =
-      let q = with_scanning s (viewing.advance s.asked (scanning s) x) in
-      either (viewing.step_of s.asked (scanning q)) q (at_stage q Leaving) (KeepsLists s x) (same_lists s x q refl) (same_lists s x (at_stage q Leaving) refl)
+      let q = with_scanning s (viewing.advance_view s.asked (scanning s) x) in
+      either (viewing.view_step_due s.asked (scanning q)) q (at_stage q Leaving) (KeepsLists s x) (same_lists s x q refl) (same_lists s x (at_stage q Leaving) refl)
   lists_at Leaving e = same_lists s x (advance_at s Leaving x) refl
   lists_at (Finished r) e = same_lists s x s refl
 

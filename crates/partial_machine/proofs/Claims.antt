@@ -63,7 +63,7 @@ unfolding count
 quiet b n m e less = let none : count b ≡ 0 = ap count e in omega (arith, none, less)
 
 -- the claims of a getSet are of list words, and an embedded scan makes none
-set_quiet : (z : Layout) (counter head : ℕ) (t : SetStage) → (list_counter z ≡ counter → ⊥) → claims counter (finding.step_at z head t) ≡ false
+set_quiet : (z : Layout) (counter head : ℕ) (t : SetStage) → (list_counter z ≡ counter → ⊥) → claims counter (finding.set_step_at z head t) ≡ false
 set_quiet z counter head set.Head other = refl
 set_quiet z counter head (set.ListLen at) other = refl
 set_quiet z counter head (set.ListLow at left) other = refl
@@ -77,7 +77,7 @@ set_quiet z counter head (set.Write at k words word) other = refl
 set_quiet z counter head (set.Publish at) other = refl
 set_quiet z counter head set.Done other = refl
 
-view_quiet : (z : Layout) (indices last : List ℕ) (counter : ℕ) (t : ViewStage) → claims counter (viewing.step_at z indices last t) ≡ false
+view_quiet : (z : Layout) (indices last : List ℕ) (counter : ℕ) (t : ViewStage) → claims counter (viewing.view_step_at z indices last t) ≡ false
 view_quiet z indices last counter (view.Collect k) = refl
 view_quiet z indices last counter (view.View stamp) = refl
 view_quiet z indices last counter (view.Len at) = refl
@@ -121,17 +121,17 @@ module _ (s : CoreState) (x : ℕ) (w : IsSound s) where
   pool_at (UpdateBegun c) e p = quiet false _ 1 refl (cond_both (expects c x) (begin_getting s c x) (at_stage s (Finished (reply.Changed x))) (λ (q : CoreState). pool_left q q.stage ≤ 1)
       (λ _. omega arith) (λ _. omega arith))
   pool_at (GettingSet c old) e p =
-      let q = with_getting s (finding.advance (getting s) x) in
+      let q = with_getting s (finding.advance_set (getting s) x) in
       quiet (claims (pool_counter s.sizes) (step_at s (GettingSet c old))) _ 1 (set_step (pool_counter s.sizes) c old e (λ same. omega (arith, same)))
-      (either (finding.step_of q.get_set) q (record q { embedded = viewing.fresh q.sizes true; stage = cond (length q.found.indices == 0) (ClaimingRecord c old) (Viewing c old) })
+      (either (finding.set_step_due q.get_set) q (record q { embedded = viewing.fresh_view q.sizes true; stage = cond (length q.found.indices == 0) (ClaimingRecord c old) (Viewing c old) })
       (λ (v : CoreState). pool_left v v.stage ≤ 1)
       (left_is pool_left q (GettingSet c old) 1 e (omega arith))
-      (cond_both (length q.found.indices == 0) (ClaimingRecord c old) (Viewing c old) (λ (u : Stage). pool_left (record q { embedded = viewing.fresh q.sizes true; stage = u }) u ≤ 1)
+      (cond_both (length q.found.indices == 0) (ClaimingRecord c old) (Viewing c old) (λ (u : Stage). pool_left (record q { embedded = viewing.fresh_view q.sizes true; stage = u }) u ≤ 1)
       (λ _. omega arith) (λ _. omega arith)))
   pool_at (Viewing c old) e p =
-      let q = with_scanning s (viewing.advance s.found.indices (scanning s) x) in
+      let q = with_scanning s (viewing.advance_view s.found.indices (scanning s) x) in
       quiet (claims (pool_counter s.sizes) (step_at s (Viewing c old))) _ 1 (view_quiet s.embedded.sizes s.found.indices s.rows.last (pool_counter s.sizes) s.embedded.stage)
-      (either (viewing.step_of s.found.indices (scanning q)) q (at_stage q (ClaimingRecord c old)) (λ (v : CoreState). pool_left v v.stage ≤ 1)
+      (either (viewing.view_step_due s.found.indices (scanning q)) q (at_stage q (ClaimingRecord c old)) (λ (v : CoreState). pool_left v v.stage ≤ 1)
       (left_is pool_left q (Viewing c old) 1 e (omega arith)) (omega arith))
   pool_at (ClaimingRecord c old) e p =
       let one = few (claims (pool_counter s.sizes) (step_at s (ClaimingRecord c old))) in
@@ -149,9 +149,9 @@ module _ (s : CoreState) (x : ℕ) (w : IsSound s) where
   pool_at Joining e p = quiet (claims (pool_counter s.sizes) (step_at s Joining)) _ 0 (join_step_quiet e s.join.stage)
       (joined_pool (record s { join = advance_join s.join x }) (advance_join s.join x).stage e)
   pool_at Scanning e p =
-      let q = with_scanning s (viewing.advance s.asked (scanning s) x) in
+      let q = with_scanning s (viewing.advance_view s.asked (scanning s) x) in
       quiet (claims (pool_counter s.sizes) (step_at s Scanning)) _ 0 (view_quiet s.embedded.sizes s.asked s.rows.last (pool_counter s.sizes) s.embedded.stage)
-      (either (viewing.step_of s.asked (scanning q)) q (at_stage q Leaving) (λ (v : CoreState). pool_left v v.stage ≤ 0) (left_is pool_left q Scanning 0 e (omega arith)) (omega arith))
+      (either (viewing.view_step_due s.asked (scanning q)) q (at_stage q Leaving) (λ (v : CoreState). pool_left v v.stage ≤ 0) (left_is pool_left q Scanning 0 e (omega arith)) (omega arith))
   pool_at Leaving e p = quiet (claims (pool_counter s.sizes) (step_at s Leaving)) 0 0 (leave_quiet s.leave.sizes s.leave.slot (pool_counter s.sizes) s.leave.left) (omega arith)
   pool_at (Finished r) e p = absurd p
 
@@ -181,17 +181,17 @@ module _ (s : CoreState) (x : ℕ) (w : IsSound s) where
   slots_at (UpdateBegun c) e p = quiet false _ 0 refl (cond_both (expects c x) (begin_getting s c x) (at_stage s (Finished (reply.Changed x))) (λ (q : CoreState). slots_left q q.stage ≤ 0)
       (λ _. omega arith) (λ _. omega arith))
   slots_at (GettingSet c old) e p =
-      let q = with_getting s (finding.advance (getting s) x) in
+      let q = with_getting s (finding.advance_set (getting s) x) in
       quiet (claims (slot_counter s.sizes) (step_at s (GettingSet c old))) _ 0 (set_step (slot_counter s.sizes) c old e (λ same. omega (arith, same)))
-      (either (finding.step_of q.get_set) q (record q { embedded = viewing.fresh q.sizes true; stage = cond (length q.found.indices == 0) (ClaimingRecord c old) (Viewing c old) })
+      (either (finding.set_step_due q.get_set) q (record q { embedded = viewing.fresh_view q.sizes true; stage = cond (length q.found.indices == 0) (ClaimingRecord c old) (Viewing c old) })
       (λ (v : CoreState). slots_left v v.stage ≤ 0)
       (left_is slots_left q (GettingSet c old) 0 e (omega arith))
-      (cond_both (length q.found.indices == 0) (ClaimingRecord c old) (Viewing c old) (λ (u : Stage). slots_left (record q { embedded = viewing.fresh q.sizes true; stage = u }) u ≤ 0)
+      (cond_both (length q.found.indices == 0) (ClaimingRecord c old) (Viewing c old) (λ (u : Stage). slots_left (record q { embedded = viewing.fresh_view q.sizes true; stage = u }) u ≤ 0)
       (λ _. omega arith) (λ _. omega arith)))
   slots_at (Viewing c old) e p =
-      let q = with_scanning s (viewing.advance s.found.indices (scanning s) x) in
+      let q = with_scanning s (viewing.advance_view s.found.indices (scanning s) x) in
       quiet (claims (slot_counter s.sizes) (step_at s (Viewing c old))) _ 0 (view_quiet s.embedded.sizes s.found.indices s.rows.last (slot_counter s.sizes) s.embedded.stage)
-      (either (viewing.step_of s.found.indices (scanning q)) q (at_stage q (ClaimingRecord c old)) (λ (v : CoreState). slots_left v v.stage ≤ 0)
+      (either (viewing.view_step_due s.found.indices (scanning q)) q (at_stage q (ClaimingRecord c old)) (λ (v : CoreState). slots_left v v.stage ≤ 0)
       (left_is slots_left q (Viewing c old) 0 e (omega arith)) (omega arith))
   slots_at (ClaimingRecord c old) e p =
       quiet (pool_counter s.sizes == slot_counter s.sizes) _ 0 (ne_eqb (pool_counter s.sizes) (slot_counter s.sizes) (λ same. omega (arith, same)))
@@ -207,9 +207,9 @@ module _ (s : CoreState) (x : ℕ) (w : IsSound s) where
       (λ (q : CoreState). slots_left q q.stage ≤ 1) (λ _. omega arith) (λ _. omega arith))
   slots_at Joining e p = joined_slots s.join.stage e refl
   slots_at Scanning e p =
-      let q = with_scanning s (viewing.advance s.asked (scanning s) x) in
+      let q = with_scanning s (viewing.advance_view s.asked (scanning s) x) in
       quiet (claims (slot_counter s.sizes) (step_at s Scanning)) _ 0 (view_quiet s.embedded.sizes s.asked s.rows.last (slot_counter s.sizes) s.embedded.stage)
-      (either (viewing.step_of s.asked (scanning q)) q (at_stage q Leaving) (λ (v : CoreState). slots_left v v.stage ≤ 0) (left_is slots_left q Scanning 0 e (omega arith)) (omega arith))
+      (either (viewing.view_step_due s.asked (scanning q)) q (at_stage q Leaving) (λ (v : CoreState). slots_left v v.stage ≤ 0) (left_is slots_left q Scanning 0 e (omega arith)) (omega arith))
   slots_at Leaving e p = quiet (claims (slot_counter s.sizes) (step_at s Leaving)) 0 0 (leave_quiet s.leave.sizes s.leave.slot (slot_counter s.sizes) s.leave.left) (omega arith)
   slots_at (Finished r) e p = absurd p
 

@@ -40,7 +40,7 @@ use Rattle.partial_machine.proofs.Sound.{Keeps, kept}
 use Rattle.partial_machine.proofs.StepCounts.{stays_sound}
 
 -- an embedded scan with no step due is done
-none_due : (indices last : List ℕ) (p : viewing.Pair) (t : ViewStage) → viewing.step_at p.0.sizes indices last t ≡ None → t ≡ view.Done
+none_due : (indices last : List ℕ) (p : viewing.ViewPair) (t : ViewStage) → viewing.view_step_at p.0.sizes indices last t ≡ None → t ≡ view.Done
 none_due indices last p view.Done e = refl
 none_due indices last p (view.Collect k) e = cc
 none_due indices last p (view.View stamp) e = cc
@@ -50,23 +50,24 @@ none_due indices last p (view.PairValue at left index) e = cc
 none_due indices last p (view.Value k) e = cc
 
 -- one answer more of a run of an embedded scan
-run_on : (indices : List ℕ) (p q : viewing.Pair) (xs : List ℕ) (x : ℕ) → runs.Run indices p xs q → viewing.IsPossible q x → runs.Run indices p (xs ++ x ∷ []) (viewing.advance indices q x)
-run_on indices p q [] x is possible = (subst (λ (v : viewing.Pair). viewing.IsPossible v x) is possible, ap (λ (v : viewing.Pair). viewing.advance indices v x) is)
-run_on indices p q (y ∷ ys) x run possible = (run.0, run_on indices (viewing.advance indices p y) q ys x run.1 possible)
+run_on : (indices : List ℕ) (p q : viewing.ViewPair) (xs : List ℕ) (x : ℕ) → runs.ViewRun indices p xs q → viewing.IsPossibleInView q x →
+    runs.ViewRun indices p (xs ++ x ∷ []) (viewing.advance_view indices q x)
+run_on indices p q [] x is possible = (subst (λ (v : viewing.ViewPair). viewing.IsPossibleInView v x) is possible, ap (λ (v : viewing.ViewPair). viewing.advance_view indices v x) is)
+run_on indices p q (y ∷ ys) x run possible = (run.0, run_on indices (viewing.advance_view indices p y) q ys x run.1 possible)
 
-scan_begins : (z : Layout) (shares : Bool) (positions answers : List ℕ) (rows : viewing.RowsState) → viewing.ArePositions z positions → viewing.IsFor z rows →
-    EndsInScan z shares positions answers (viewing.fresh z shares, rows)
+scan_begins : (z : Layout) (shares : Bool) (positions answers : List ℕ) (rows : viewing.RowsState) → viewing.ArePositions z positions → viewing.AreRowsFor z rows →
+    EndsInScan z shares positions answers (viewing.fresh_view z shares, rows)
 scan_begins z shares positions answers rows here for =
     record { front = answers; own = []; is = sym (append-nil answers); rows = rows; runs = (here, for, refl) }
 
-scan_goes_on : (z : Layout) (shares : Bool) (positions answers : List ℕ) (p : viewing.Pair) (x : ℕ) → EndsInScan z shares positions answers p → viewing.IsPossible p x →
-    EndsInScan z shares positions (answers ++ x ∷ []) (viewing.advance positions p x)
+scan_goes_on : (z : Layout) (shares : Bool) (positions answers : List ℕ) (p : viewing.ViewPair) (x : ℕ) → EndsInScan z shares positions answers p → viewing.IsPossibleInView p x →
+    EndsInScan z shares positions (answers ++ x ∷ []) (viewing.advance_view positions p x)
 scan_goes_on z shares positions answers p x w possible = record {
   front = w.front;
   own = w.own ++ x ∷ [];
   is = ap (λ l. l ++ x ∷ []) w.is ∙ append_assoc w.front w.own (x ∷ []);
   rows = w.rows;
-  runs = (w.runs.0, w.runs.1, run_on positions (viewing.fresh z shares, w.rows) p w.own x w.runs.2 possible);
+  runs = (w.runs.0, w.runs.1, run_on positions (viewing.fresh_view z shares, w.rows) p w.own x w.runs.2 possible);
 }
 
 -- where a getSet loads a word of a block, that word lies behind those of the components
@@ -82,18 +83,18 @@ walk_behind : (z : Layout) (b : Bool) (words : ℕ) → is_behind z (cond b (set
 walk_behind z true words = tt
 walk_behind z false words = tt
 
-slot_behind : (z : Layout) (p : finding.Pair) (slot : ℕ) (b : Bool) → is_behind z (cond b (record p.0 { stage = set.Slot slot }, p.1) (finding.after_walk p)).0.stage
+slot_behind : (z : Layout) (p : finding.SetPair) (slot : ℕ) (b : Bool) → is_behind z (cond b (record p.0 { stage = set.Slot slot }, p.1) (finding.after_walk p)).0.stage
 slot_behind z p slot true = tt
 slot_behind z p slot false = walk_behind z (p.0.noted && not p.0.lists_spent) (finding.next_words p.1)
 
-come_behind : (z : Layout) (p : finding.Pair) (slot next : ℕ) (b : Bool) → is_behind z (cond b (finding.at_slot (finding.pass_interval p) next) (finding.at_slot p slot)).0.stage
+come_behind : (z : Layout) (p : finding.SetPair) (slot next : ℕ) (b : Bool) → is_behind z (cond b (finding.at_slot (finding.pass_interval p) next) (finding.at_slot p slot)).0.stage
 come_behind z p slot next true = slot_behind z (finding.pass_interval p) next (nat_lt next (finding.pass_interval p).0.end)
 come_behind z p slot next false = slot_behind z p slot (nat_lt slot p.0.end)
 
-comes_behind : (z : Layout) (p : finding.Pair) (slot : ℕ) → is_behind z (finding.come_to p slot).0.stage
+comes_behind : (z : Layout) (p : finding.SetPair) (slot : ℕ) → is_behind z (finding.come_to p slot).0.stage
 comes_behind z p slot = come_behind z p slot _ (begins_at p.1.read p.0.passed slot)
 
-module _ (z : Layout) (p : finding.Pair) (x : ℕ) (same : p.0.sizes ≡ z) where
+module _ (z : Layout) (p : finding.SetPair) (x : ℕ) (same : p.0.sizes ≡ z) where
   head_behind : finding_answers.IsListHead p.0.sizes x → (b : Bool) → (x == 0) ≡ b → is_behind z (cond b set.Counter (set.ListLen x))
   head_behind possible true e = tt
   head_behind (inl none) false e = absurd (eqb-false x 0 e none)
@@ -126,7 +127,7 @@ module _ (z : Layout) (p : finding.Pair) (x : ℕ) (same : p.0.sizes ≡ z) wher
   len_behind slot at behind true = comes_behind z p (slot + 1)
   len_behind slot at behind false = omega (arith, behind)
 
-  index_behind : (q : finding.Pair) (slot at left : ℕ) → z.m ≤ at → (b : Bool) →
+  index_behind : (q : finding.SetPair) (slot at left : ℕ) → z.m ≤ at → (b : Bool) →
       is_behind z (cond b (finding.come_to q (slot + 1)) (finding.in_stage q (set.Index slot (next_word at) left))).0.stage
   index_behind q slot at left behind true = comes_behind z q (slot + 1)
   index_behind q slot at left behind false = omega (arith, behind)
@@ -140,7 +141,7 @@ module _ (z : Layout) (p : finding.Pair) (x : ℕ) (same : p.0.sizes ≡ z) wher
   write_behind at k words word false = tt
 
   -- over an answer
-  set_behind : (t : SetStage) → p.0.stage ≡ t → finding_answers.is_possible_at t p x → is_behind z t → is_behind z (finding.advance_at t p x).0.stage
+  set_behind : (t : SetStage) → p.0.stage ≡ t → finding_answers.is_possible_at t p x → is_behind z t → is_behind z (finding.advance_set_at t p x).0.stage
   set_behind set.Head e possible w = head_behind possible (x == 0) refl
   set_behind (set.ListLen at) e possible w = list_behind at w (x == 0)
   set_behind (set.ListLow at left) e possible w = omega (arith, w)
@@ -167,11 +168,11 @@ module _ (s : CoreState) (layout : IsLayout s.sizes) (w : IsSound s) (answers : 
   abbrev Then : CoreState → Type 0
   Then q = scanned_at (answers ++ x ∷ []) q q.stage
 
-  scanned : s.stage ≡ Scanning → viewing.IsPossible (scanning s) x → EndsInScan s.sizes false s.asked answers (scanning s) → Then (advance_at s Scanning x)
-  scanned e possible h = either (viewing.step_of s.asked q) refl
+  scanned : s.stage ≡ Scanning → viewing.IsPossibleInView (scanning s) x → EndsInScan s.sizes false s.asked answers (scanning s) → Then (advance_at s Scanning x)
+  scanned e possible h = either (viewing.view_step_due s.asked q) refl
     where
-      q : viewing.Pair
-      q = viewing.advance s.asked (scanning s) x
+      q : viewing.ViewPair
+      q = viewing.advance_view s.asked (scanning s) x
 
       on : CoreState
       on = with_scanning s q
@@ -179,15 +180,16 @@ module _ (s : CoreState) (layout : IsLayout s.sizes) (w : IsSound s) (answers : 
       more : EndsInScan s.sizes false s.asked (answers ++ x ∷ []) q
       more = scan_goes_on s.sizes false s.asked answers (scanning s) x h possible
 
-      either : (o : Option Step) → viewing.step_of s.asked q ≡ o → let r = option_map_or (λ _. on) o (at_stage on Leaving) in scanned_at (answers ++ x ∷ []) r r.stage
+      either : (o : Option Step) → viewing.view_step_due s.asked q ≡ o → let r = option_map_or (λ _. on) o (at_stage on Leaving) in scanned_at (answers ++ x ∷ []) r r.stage
       either (Some step) due = subst (scanned_at (answers ++ x ∷ []) on) (sym e) more
       either None none = (more, none_due s.asked q.1.last q q.0.stage none)
 
-  viewed : (c : Change) (old : ℕ) → s.stage ≡ Viewing c old → viewing.IsPossible (scanning s) x → EndsInScan s.sizes true s.found.indices answers (scanning s) → Then (advance_at s (Viewing c old) x)
-  viewed c old e possible h = either (viewing.step_of s.found.indices q) refl
+  viewed : (c : Change) (old : ℕ) → s.stage ≡ Viewing c old → viewing.IsPossibleInView (scanning s) x → EndsInScan s.sizes true s.found.indices answers (scanning s) →
+      Then (advance_at s (Viewing c old) x)
+  viewed c old e possible h = either (viewing.view_step_due s.found.indices q) refl
     where
-      q : viewing.Pair
-      q = viewing.advance s.found.indices (scanning s) x
+      q : viewing.ViewPair
+      q = viewing.advance_view s.found.indices (scanning s) x
 
       on : CoreState
       on = with_scanning s q
@@ -195,7 +197,7 @@ module _ (s : CoreState) (layout : IsLayout s.sizes) (w : IsSound s) (answers : 
       more : EndsInScan s.sizes true s.found.indices (answers ++ x ∷ []) q
       more = scan_goes_on s.sizes true s.found.indices answers (scanning s) x h possible
 
-      either : (o : Option Step) → viewing.step_of s.found.indices q ≡ o → let r = option_map_or (λ _. on) o (at_stage on (ClaimingRecord c old)) in scanned_at (answers ++ x ∷ []) r r.stage
+      either : (o : Option Step) → viewing.view_step_due s.found.indices q ≡ o → let r = option_map_or (λ _. on) o (at_stage on (ClaimingRecord c old)) in scanned_at (answers ++ x ∷ []) r r.stage
       either (Some step) due = subst (scanned_at (answers ++ x ∷ []) on) (sym e) more
       either None none = λ some. (more, none_due s.found.indices q.1.last q q.0.stage none)
 
@@ -213,12 +215,12 @@ module _ (s : CoreState) (layout : IsLayout s.sizes) (w : IsSound s) (answers : 
       by Spent sound = tt
 
   -- a getSet goes on, or what it found is scanned
-  got : (c : Change) (old : ℕ) → s.stage ≡ GettingSet c old → finding_answers.IsPossible (getting s) x → is_behind s.sizes s.get_set.stage → IsSound (advance_at s (GettingSet c old) x) →
+  got : (c : Change) (old : ℕ) → s.stage ≡ GettingSet c old → finding_answers.IsPossibleInSet (getting s) x → is_behind s.sizes s.get_set.stage → IsSound (advance_at s (GettingSet c old) x) →
       Then (advance_at s (GettingSet c old) x)
-  got c old e possible behind sound = either (finding.step_of p.0) sound
+  got c old e possible behind sound = either (finding.set_step_due p.0) sound
     where
-      p : finding.Pair
-      p = finding.advance (getting s) x
+      p : finding.SetPair
+      p = finding.advance_set (getting s) x
 
       on : CoreState
       on = with_getting s p
@@ -226,13 +228,14 @@ module _ (s : CoreState) (layout : IsLayout s.sizes) (w : IsSound s) (answers : 
       more : is_behind s.sizes p.0.stage
       more = set_behind s.sizes (getting s) x (here (GettingSet c old) e).2 s.get_set.stage refl possible behind
 
-      over : (b : Bool) → (length p.1.indices == 0) ≡ b → let r : CoreState = record on { embedded = viewing.fresh s.sizes true; stage = cond b (ClaimingRecord c old) (Viewing c old) } in
+      over : (b : Bool) → (length p.1.indices == 0) ≡ b → let r : CoreState = record on { embedded = viewing.fresh_view s.sizes true; stage = cond b (ClaimingRecord c old) (Viewing c old) } in
           IsSound r → scanned_at (answers ++ x ∷ []) r r.stage
       over true none sound = let empty = eqb-true (length p.1.indices) 0 none in λ some. absurd (omega (arith, empty, some))
       over false some sound = scan_begins s.sizes true p.1.indices (answers ++ x ∷ []) s.rows sound.stage.1.positions sound.rows
 
       either : (o : Option Step) → let r = option_map_or (λ _. on) o
-          (record on { embedded = viewing.fresh s.sizes true; stage = cond (length p.1.indices == 0) (ClaimingRecord c old) (Viewing c old) }) in IsSound r → scanned_at (answers ++ x ∷ []) r r.stage
+          (record on { embedded = viewing.fresh_view s.sizes true; stage = cond (length p.1.indices == 0) (ClaimingRecord c old) (Viewing c old) }) in IsSound r →
+          scanned_at (answers ++ x ∷ []) r r.stage
       either (Some step) sound = subst (scanned_at (answers ++ x ∷ []) on) (sym e) more
       either None sound = over (length p.1.indices == 0) refl sound
 
@@ -298,7 +301,7 @@ scans_alone answers t _ w = w
 pub calls_make_embedded_scans : CallsMakeEmbeddedScans
 calls_make_embedded_scans s t c xs layout w made run = scans_alone xs t t.stage (runs_on s t [] xs layout w (begun_scans s s.stage c made) run)
 
-has_scanned : (z : Layout) (shares : Bool) (positions answers : List ℕ) (p : viewing.Pair) → EndsInScan z shares positions answers p → p.0.stage ≡ view.Done → HasScanned positions answers p
+has_scanned : (z : Layout) (shares : Bool) (positions answers : List ℕ) (p : viewing.ViewPair) → EndsInScan z shares positions answers p → p.0.stage ≡ view.Done → HasScanned positions answers p
 has_scanned z shares positions answers p w done = record {
   front = w.front;
   own = w.own;
@@ -376,12 +379,12 @@ module _ (s : CoreState) (x : ℕ) where
   update_on : (j : ℕ) (u : Stage) → s.stage ≡ u → IsPossibleAt s u x → of_update j u → of_update j (advance_at s u x).stage
   update_on j (UpdateBegun c) e possible h = choice_on j (expects c x) (begin_getting s c x) (at_stage s (Finished (reply.Changed x))) tt tt
   update_on j (GettingSet c old) e possible h =
-      let p = finding.advance (getting s) x in
-      set_on j c old (with_getting s p) (record (with_getting s p) { embedded = viewing.fresh s.sizes true; stage = cond (length p.1.indices == 0) (ClaimingRecord c old) (Viewing c old) })
-      (finding.step_of p.0) (subst (of_update j) (sym e) tt) (found_on j c old (length p.1.indices == 0))
+      let p = finding.advance_set (getting s) x in
+      set_on j c old (with_getting s p) (record (with_getting s p) { embedded = viewing.fresh_view s.sizes true; stage = cond (length p.1.indices == 0) (ClaimingRecord c old) (Viewing c old) })
+      (finding.set_step_due p.0) (subst (of_update j) (sym e) tt) (found_on j c old (length p.1.indices == 0))
   update_on j (Viewing c old) e possible h =
-      let q = viewing.advance s.found.indices (scanning s) x in
-      set_on j c old (with_scanning s q) (at_stage (with_scanning s q) (ClaimingRecord c old)) (viewing.step_of s.found.indices q) (subst (of_update j) (sym e) tt) tt
+      let q = viewing.advance_view s.found.indices (scanning s) x in
+      set_on j c old (with_scanning s q) (at_stage (with_scanning s q) (ClaimingRecord c old)) (viewing.view_step_due s.found.indices q) (subst (of_update j) (sym e) tt) tt
   update_on j (ClaimingRecord c old) e possible h = choice_on j (fits_pool s.sizes (record_size s) x) (at_stage s (StoringRecord c old x 0)) (pool_refused s) tt tt
   update_on j (StoringRecord c old at k) e possible h = stored_on j c old at (k + 1) (k + 1 == record_size s)
   update_on j (Exchanging c old at) e possible h = tt
@@ -407,8 +410,8 @@ module _ (s : CoreState) (x : ℕ) where
   scan_on (StoringAnnouncement at k) e possible h = pick_on (k == length s.asked) (begin_joining s at) (at_stage s (StoringAnnouncement at (k + 1))) tt tt
   scan_on Joining e possible h = join_on (record s { join = advance_join s.join x }) (advance_join s.join x).stage (subst of_scan (sym e) tt)
   scan_on Scanning e possible h =
-      let q = viewing.advance s.asked (scanning s) x in
-      view_on (with_scanning s q) (at_stage (with_scanning s q) Leaving) (viewing.step_of s.asked q) (subst of_scan (sym e) tt) tt
+      let q = viewing.advance_view s.asked (scanning s) x in
+      view_on (with_scanning s q) (at_stage (with_scanning s q) Leaving) (viewing.view_step_due s.asked q) (subst of_scan (sym e) tt) tt
   scan_on Leaving e possible h = tt
   scan_on (Finished r) e possible h = absurd possible
   scan_on _ e possible h = absurd h
@@ -443,7 +446,7 @@ IsBehind z _ = ⊤
 behind_load : {P : Type 0} (z : Layout) (f : Option Step) (v : ℕ) → IsBehind z f → f ≡ Some (Load v) → v < z.m → P
 behind_load z f v w is below = let above : z.m ≤ v = subst (IsBehind z) is w in absurd (omega (arith, above, below))
 
-set_loads : (z : Layout) (head : ℕ) (u : SetStage) → is_behind z u → IsBehind z (finding.step_at z head u)
+set_loads : (z : Layout) (head : ℕ) (u : SetStage) → is_behind z u → IsBehind z (finding.set_step_at z head u)
 set_loads z head set.Head w = omega arith
 set_loads z head (set.ListLen at) w = w
 set_loads z head (set.ListLow at left) w = w
@@ -471,7 +474,7 @@ module _ (t : CoreState) (w : IsSound t) (xs : List ℕ) (v : ℕ) (below : v < 
   there : (u : Stage) → t.stage ≡ u → is_sound_at t u
   there u e = subst (is_sound_at t) e w.stage
 
-  positioned : (shares : Bool) (positions : List ℕ) → EndsInScan t.sizes shares positions xs (scanning t) → viewing.step_of positions (scanning t) ≡ Some (Load v) → runs.IsOfPosition positions v
+  positioned : (shares : Bool) (positions : List ℕ) → EndsInScan t.sizes shares positions xs (scanning t) → viewing.view_step_due positions (scanning t) ≡ Some (Load v) → runs.IsOfPosition positions v
   positioned shares positions h is =
       let l = loads_its_positions_alone t.sizes shares positions h.rows h.own (scanning t) (Load v) h.runs is in
       let same : l.0 ≡ v = cc in
@@ -489,8 +492,8 @@ module _ (t : CoreState) (w : IsSound t) (xs : List ℕ) (v : ℕ) (below : v < 
   update_loads j (UpdateBegun c) e h k is = let same : c.component ≡ v = cc in inl (sym same ∙ h)
   update_loads j (GettingSet c old) e h k is =
       let sizes = (there (GettingSet c old) e).2 in
-      let behind : IsBehind t.sizes (finding.step_at t.get_set.sizes t.get_set.head t.get_set.stage) =
-      subst (λ (y : Layout). IsBehind t.sizes (finding.step_at y t.get_set.head t.get_set.stage)) (sym sizes) (set_loads t.sizes t.get_set.head t.get_set.stage k) in
+      let behind : IsBehind t.sizes (finding.set_step_at t.get_set.sizes t.get_set.head t.get_set.stage) =
+      subst (λ (y : Layout). IsBehind t.sizes (finding.set_step_at y t.get_set.head t.get_set.stage)) (sym sizes) (set_loads t.sizes t.get_set.head t.get_set.stage k) in
       behind_load t.sizes (step_at t (GettingSet c old)) v behind is below
   update_loads j (Viewing c old) e h k is = inr (positioned true t.found.indices k is)
   update_loads j (ClaimingRecord c old) e h k is = cc

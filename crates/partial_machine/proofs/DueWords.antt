@@ -30,48 +30,48 @@ if_some : (z : Layout) (f : Option Step) (step : Step) → f ≡ Some step → I
 if_some z f step is w = subst (IsThere z) is w
 
 -- a getSet's
-set_there : (z : Layout) (head : ℕ) (t : SetStage) (p : finding.Pair) → IsLayout z → p.0.sizes ≡ z → finding_answers.goes_at t p → IsThere z (finding.step_at z head t)
+set_there : (z : Layout) (head : ℕ) (t : SetStage) (p : finding.SetPair) → IsLayout z → p.0.sizes ≡ z → finding_answers.set_goes_at t p → IsThere z (finding.set_step_at z head t)
 set_there z head set.Head p layout same w = omega arith
-set_there z head (set.ListLen at) p layout same w = let w' = subst (λ (y : Layout). finding_answers.goes_at (set.ListLen at) (record p.0 { sizes = y }, p.1)) same w in let below =
+set_there z head (set.ListLen at) p layout same w = let w' = subst (λ (y : Layout). finding_answers.set_goes_at (set.ListLen at) (record p.0 { sizes = y }, p.1)) same w in let below =
     w'.3 in omega (arith, below)
 set_there z head (set.ListLow at left) p layout same w =
-    let w' = subst (λ (y : Layout). finding_answers.goes_at (set.ListLow at left) (record p.0 { sizes = y }, p.1)) same w in
+    let w' = subst (λ (y : Layout). finding_answers.set_goes_at (set.ListLow at left) (record p.0 { sizes = y }, p.1)) same w in
     let some = w'.0.some in let below = w'.1 in omega (arith, some, below)
 set_there z head (set.ListHigh at left lo) p layout same w =
-    let w' = subst (λ (y : Layout). finding_answers.goes_at (set.ListHigh at left lo) (record p.0 { sizes = y }, p.1)) same w in
+    let w' = subst (λ (y : Layout). finding_answers.set_goes_at (set.ListHigh at left lo) (record p.0 { sizes = y }, p.1)) same w in
     let some = w'.0.some in let below = w'.1 in omega (arith, some, below)
 set_there z head set.Counter p layout same w = omega arith
 set_there z head (set.Slot slot) p layout same w =
-    let w' = subst (λ (y : Layout). finding_answers.goes_at (set.Slot slot) (record p.0 { sizes = y }, p.1)) same w in
+    let w' = subst (λ (y : Layout). finding_answers.set_goes_at (set.Slot slot) (record p.0 { sizes = y }, p.1)) same w in
     let below = w'.below in let within = w'.walking.end_within in omega (arith, below, within)
-set_there z head (set.Len slot at) p layout same w = let w' = subst (λ (y : Layout). finding_answers.goes_at (set.Len slot at) (record p.0 { sizes = y }, p.1)) same w in let below =
+set_there z head (set.Len slot at) p layout same w = let w' = subst (λ (y : Layout). finding_answers.set_goes_at (set.Len slot at) (record p.0 { sizes = y }, p.1)) same w in let below =
     w'.2 in omega (arith, below)
 set_there z head (set.Index slot at left) p layout same w =
-    let w' = subst (λ (y : Layout). finding_answers.goes_at (set.Index slot at left) (record p.0 { sizes = y }, p.1)) same w in
+    let w' = subst (λ (y : Layout). finding_answers.set_goes_at (set.Index slot at left) (record p.0 { sizes = y }, p.1)) same w in
     let some = w'.1 in let below = w'.3 in omega (arith, some, below)
 set_there z head (set.Claim words) p layout same w = let some = layout.slots.0 in omega (arith, some)
 set_there z head (set.Write at k words word) p layout same w =
-    let w' = subst (λ (y : Layout). finding_answers.goes_at (set.Write at k words word) (record p.0 { sizes = y }, p.1)) same w in
+    let w' = subst (λ (y : Layout). finding_answers.set_goes_at (set.Write at k words word) (record p.0 { sizes = y }, p.1)) same w in
     let less = w'.1 in let below = w'.2 in omega (arith, less, below)
 set_there z head (set.Publish at) p layout same w = omega arith
 set_there z head set.Done p layout same w = tt
 
 -- an embedded scan's
-view_there : (z : Layout) (indices : List ℕ) (t : ViewStage) (p : viewing.Pair) → p.0.sizes ≡ z → viewing.ArePositions p.0.sizes indices → viewing.goes_at indices p t →
-    IsThere z (viewing.step_at z indices p.1.last t)
+view_there : (z : Layout) (indices : List ℕ) (t : ViewStage) (p : viewing.ViewPair) → p.0.sizes ≡ z → viewing.ArePositions p.0.sizes indices → viewing.view_goes_at indices p t →
+    IsThere z (viewing.view_step_at z indices p.1.last t)
 view_there z indices (view.Collect k) p same positions w =
     let below : get_or indices k 0 < z.m = subst (λ (y : Layout). get_or indices k 0 < y.m) same (positions.components k w.0) in omega (arith, below)
-view_there z indices (view.View stamp) p same positions w = let r = subst (λ (y : Layout). viewing.IsRecord y stamp) same w in let below = r.1 in omega (arith, below)
-view_there z indices (view.Len at) p same positions w = let w' = subst (λ (y : Layout). viewing.goes_at indices (record p.0 { sizes = y }, p.1) (view.Len at)) same w in let below =
+view_there z indices (view.View stamp) p same positions w = let r = subst (λ (y : Layout). viewing.IsPlainRecord y stamp) same w in let below = r.1 in omega (arith, below)
+view_there z indices (view.Len at) p same positions w = let w' = subst (λ (y : Layout). viewing.view_goes_at indices (record p.0 { sizes = y }, p.1) (view.Len at)) same w in let below =
     w'.1 in omega (arith, below)
 view_there z indices (view.Index at left) p same positions w =
-    let w' = subst (λ (y : Layout). viewing.goes_at indices (record p.0 { sizes = y }, p.1) (view.Index at left)) same w in
+    let w' = subst (λ (y : Layout). viewing.view_goes_at indices (record p.0 { sizes = y }, p.1) (view.Index at left)) same w in
     let some = w'.0 in let below = w'.2 in omega (arith, some, below)
 view_there z indices (view.PairValue at left index) p same positions w =
-    let w' = subst (λ (y : Layout). viewing.goes_at indices (record p.0 { sizes = y }, p.1) (view.PairValue at left index)) same w in
+    let w' = subst (λ (y : Layout). viewing.view_goes_at indices (record p.0 { sizes = y }, p.1) (view.PairValue at left index)) same w in
     let some = w'.0 in let below = w'.2 in omega (arith, some, below)
 view_there z indices (view.Value k) p same positions w =
-    let r = subst (λ (y : Layout). viewing.IsRecord y (get_or p.1.last k 0)) same (w.1 k w.0) in let below = r.1 in omega (arith, below)
+    let r = subst (λ (y : Layout). viewing.IsPlainRecord y (get_or p.1.last k 0)) same (w.1 k w.0) in let below = r.1 in omega (arith, below)
 view_there z indices view.Done p same positions w = tt
 
 -- a join's
@@ -87,9 +87,9 @@ due_there s (ReadBegun j) layout w h = omega (arith, h)
 due_there s (LoadingValue stamp) layout w h = let below = h.1 in omega (arith, below)
 due_there s (UpdateBegun c) layout w h = let below = h.0 in omega (arith, below)
 due_there s (GettingSet c old) layout w h =
-    subst (λ (y : Layout). IsThere s.sizes (finding.step_at y s.get_set.head s.get_set.stage)) (sym h.2) (set_there s.sizes s.get_set.head s.get_set.stage (getting s) layout h.2 h.1.stage)
+    subst (λ (y : Layout). IsThere s.sizes (finding.set_step_at y s.get_set.head s.get_set.stage)) (sym h.2) (set_there s.sizes s.get_set.head s.get_set.stage (getting s) layout h.2 h.1.stage)
 due_there s (Viewing c old) layout w h =
-    subst (λ (y : Layout). IsThere s.sizes (viewing.step_at y s.found.indices s.rows.last s.embedded.stage)) (sym h.2)
+    subst (λ (y : Layout). IsThere s.sizes (viewing.view_step_at y s.found.indices s.rows.last s.embedded.stage)) (sym h.2)
     (view_there s.sizes s.found.indices s.embedded.stage (scanning s) h.2 h.1.positions h.1.stage)
 due_there s (ClaimingRecord c old) layout w h = omega arith
 due_there s (StoringRecord c old at k) layout w h = let last = h.1.1 in let less = h.2 in omega (arith, last, less)
@@ -100,7 +100,8 @@ due_there s Joining layout w h =
     subst (λ (y : Layout). IsThere s.sizes (join_step y s.join.announcement s.join.stage)) (sym h.2)
     (join_there s.sizes s.join.announcement s.join.stage (subst (λ (y : Layout). IsTrue (fits_join y s.join.stage)) h.2 h.5))
 due_there s Scanning layout w h =
-    subst (λ (y : Layout). IsThere s.sizes (viewing.step_at y s.asked s.rows.last s.embedded.stage)) (sym h.1) (view_there s.sizes s.asked s.embedded.stage (scanning s) h.1 h.0.positions h.0.stage)
+    subst (λ (y : Layout). IsThere s.sizes (viewing.view_step_at y s.asked s.rows.last s.embedded.stage)) (sym h.1)
+    (view_there s.sizes s.asked s.embedded.stage (scanning s) h.1 h.0.positions h.0.stage)
 due_there s Leaving layout w h = left s.leave.left
   where
     below : s.leave.slot < s.sizes.slots

@@ -1,7 +1,7 @@
 -- An idle machine, whose getSet or embedded scan was made.
 use Rattle.std.proofs.Common.{ℕ, ◌≡◌, sym, subst}
 use Rattle.partial_words.specs.Layout.{Layout}
-use Rattle.partial_active.specs.Found.{IsFor as AreBuffersFor}
+use Rattle.partial_active.specs.Found.{AreFoundFor as AreBuffersFor}
 use Rattle.partial_active.specs.GetSet as finding
 use Rattle.partial_active.specs.GetSetAnswers as finding_answers
 use Rattle.partial_embedded.specs.Embedded as viewing
@@ -12,7 +12,7 @@ use Rattle.partial_machine.specs.Lines.{with_embedded, with_set}
 use Rattle.partial_active.specs.IndexSet.{AreIndices}
 use Rattle.partial_active.proofs.Distinct.{few_indices}
 
-pub found_idle : (s : CoreState) (room : ℕ) (p : finding.Pair) → IsMachine s room → s.stage ≡ Idle → p.0.sizes ≡ s.sizes → finding_answers.GoTogether p → AreIndices p.0.sizes.m p.1.indices →
+pub found_idle : (s : CoreState) (room : ℕ) (p : finding.SetPair) → IsMachine s room → s.stage ≡ Idle → p.0.sizes ≡ s.sizes → finding_answers.SetGoesTogether p → AreIndices p.0.sizes.m p.1.indices →
     IsMachine (record s { found = p.1 }) room
 found_idle s room p w idle same together indices =
     let named : AreIndices s.sizes.m p.1.indices = subst (λ (z : Layout). AreIndices z.m p.1.indices) same indices in

@@ -24,7 +24,7 @@ use Rattle.partial_machine.specs.Steps.{Run, is_len, loads_len, pairs_loaded, Ar
 use Rattle.partial_machine.proofs.Sound.{kept}
 
 -- the steps that an embedded scan of r positions has made at a stage, where n pairs were announced
-abbrev pub counted_at : ℕ → viewing.Pair → ℕ → ℕ → ViewStage → Type 0
+abbrev pub counted_at : ℕ → viewing.ViewPair → ℕ → ℕ → ViewStage → Type 0
 counted_at r p made n (Collect k) = (made + r ≡ r * p.0.collects + k) × (p.0.borrowed ≡ None)
 counted_at r p made n (View stamp) = (made ≤ r * p.0.collects) × IsSome p.0.borrowed
 counted_at r p made n (Len at) = (made ≤ r * p.0.collects + 1) × IsSome p.0.borrowed
@@ -36,28 +36,29 @@ counted_at r p made n Done = (p.0.borrowed ≡ None → made ≡ r * p.0.collect
 never : {P : Type 0} (o : Option ℕ) → o ≡ None → IsSome o → P
 never o none some = absurd (false≢true (subst IsSome none some))
 
-module _ (indices : List ℕ) (p : viewing.Pair) (made n x : ℕ) (w : viewing.GoTogether indices p) where
+module _ (indices : List ℕ) (p : viewing.ViewPair) (made n x : ℕ) (w : viewing.ViewGoesTogether indices p) where
   r : ℕ
   r = length indices
 
-  Counts : ℕ → viewing.Pair → Type 0
+  Counts : ℕ → viewing.ViewPair → Type 0
   Counts more q = counted_at (length indices) q (made + 1) (n + more) q.0.stage
 
   load_counted : (k : ℕ) → k < length indices → counted_at (length indices) p made n (Collect k) → (a b c : Bool) → nat_lt (k + 1) (length indices) ≡ b → let q = viewing.noted p k x in let v =
-      cond a (viewing.borrow p x) (cond b (viewing.at_stage q (Collect (k + 1)))
-      (cond c (record q.0 { collects = q.0.collects + 1; moved = false; stage = Collect 0 }, q.1) (viewing.at_stage q (Value 0)))) in counted_at (length indices) v (made + 1) (n + 0) v.0.stage
+      cond a (viewing.borrow p x) (cond b (viewing.view_at_stage q (Collect (k + 1)))
+      (cond c (record q.0 { collects = q.0.collects + 1; moved = false; stage = Collect 0 }, q.1) (viewing.view_at_stage q (Value 0)))) in counted_at (length indices) v (made + 1) (n + 0) v.0.stage
   load_counted k within h true b c e = let made_is = h.0 in (omega (arith, made_is, within), refl)
   load_counted k within h false true c e = let made_is = h.0 in (omega (arith, made_is), h.1)
   load_counted k within h false false true e = let past = ltb-false (k + 1) (length indices) e in let made_is = h.0 in (omega (arith, made_is, within, past), h.1)
   load_counted k within h false false false e = let past = ltb-false (k + 1) (length indices) e in let made_is = h.0 in (omega (arith, made_is, within, past), h.1)
 
-  view_counted : (stamp : ℕ) → counted_at (length indices) p made n (View stamp) → (b : Bool) → let v : viewing.Pair = (record p.0 { view = x; stage = cond b Done (Len x) }, p.1) in counted_at
+  view_counted : (stamp : ℕ) → counted_at (length indices) p made n (View stamp) → (b : Bool) → let v : viewing.ViewPair = (record p.0 { view = x; stage = cond b Done (Len x) }, p.1) in counted_at
       (length indices) v (made + 1) (n + 0) v.0.stage
   view_counted stamp h true = let few = h.0 in (λ none. never p.0.borrowed none h.1, λ some. omega (arith, few))
   view_counted stamp h false = let few = h.0 in (omega (arith, few), h.1)
 
-  pairs_counted : (at left more : ℕ) (v : viewing.Pair) → v.0.collects ≡ p.0.collects → v.0.borrowed ≡ p.0.borrowed → IsSome p.0.borrowed →
-      made + 1 + pairs_size left ≤ length indices * p.0.collects + view_size (n + more) + 1 → (b : Bool) → let u = viewing.at_stage v (cond b Done (Index at left)) in counted_at (length indices) u
+  pairs_counted : (at left more : ℕ) (v : viewing.ViewPair) → v.0.collects ≡ p.0.collects → v.0.borrowed ≡ p.0.borrowed → IsSome p.0.borrowed →
+      made + 1 + pairs_size left ≤ length indices * p.0.collects + view_size (n + more) + 1 → (b : Bool) → let u = viewing.view_at_stage v (cond b Done (Index at left)) in
+      counted_at (length indices) u
       (made + 1) (n + more) u.0.stage
   pairs_counted at left more v same borrowed some few true =
       let times : length indices * v.0.collects ≡ length indices * p.0.collects = ap (λ c. length indices * c) same in
@@ -67,7 +68,7 @@ module _ (indices : List ℕ) (p : viewing.Pair) (made n x : ℕ) (w : viewing.G
       (omega (arith, few, times), subst IsSome (sym borrowed) some)
 
   value_counted : (k : ℕ) → k < length indices → counted_at (length indices) p made n (Value k) → (b : Bool) → nat_lt (k + 1) (length indices) ≡ b → let v =
-      viewing.at_stage (viewing.with_value p (get_or indices k 0) x) (cond b (Value (k + 1)) Done) in counted_at (length indices) v (made + 1) (n + 0) v.0.stage
+      viewing.view_at_stage (viewing.with_value p (get_or indices k 0) x) (cond b (Value (k + 1)) Done) in counted_at (length indices) v (made + 1) (n + 0) v.0.stage
   value_counted k within h true e = let made_is = h.0 in (omega (arith, made_is), h.1)
   value_counted k within h false e =
       let past = ltb-false (k + 1) (length indices) e in
@@ -75,7 +76,8 @@ module _ (indices : List ℕ) (p : viewing.Pair) (made n x : ℕ) (w : viewing.G
       (λ none. omega (arith, made_is, within, past), λ some. never p.0.borrowed h.1 some)
 
   -- over an answer
-  step_counted : (s : ViewStage) → viewing.goes_at indices p s → viewing.IsPossibleAt p.0.sizes s x → counted_at (length indices) p made n s → let q = viewing.advance_at indices p s x in counted_at
+  step_counted : (s : ViewStage) → viewing.view_goes_at indices p s → viewing.IsPossibleInViewAt p.0.sizes s x → counted_at (length indices) p made n s → let q =
+      viewing.advance_view_at indices p s x in counted_at
       (length indices) q (made + 1) (n + cond (is_len s) x 0) q.0.stage
   step_counted (Collect k) goes possible h = load_counted k goes.0 h (viewing.differs p k x && viewing.was_changed p k) (nat_lt (k + 1) (length indices))
       (viewing.is_first p || (viewing.noted p k x).0.moved) refl
@@ -107,7 +109,7 @@ abbrev pub Made : CoreState → ℕ → ℕ → Type 0
 Made s made n = made_at s made n s.stage
 
 -- an embedded scan with no step due is done
-none_due : (indices last : List ℕ) (p : viewing.Pair) (s : ViewStage) → viewing.step_at p.0.sizes indices last s ≡ None → s ≡ Done
+none_due : (indices last : List ℕ) (p : viewing.ViewPair) (s : ViewStage) → viewing.view_step_at p.0.sizes indices last s ≡ None → s ≡ Done
 none_due indices last p Done e = refl
 none_due indices last p (Collect k) e = cc
 none_due indices last p (View stamp) e = cc
@@ -155,14 +157,14 @@ module _ (s : CoreState) (layout : IsLayout s.sizes) (w : IsSound s) (made n x :
       by (Joined slot) j = absurd (false≢true (subst (λ t. IsSome (join_step s.join.sizes s.join.announcement t)) j due))
       by Spent j = absurd (false≢true (subst (λ t. IsSome (join_step s.join.sizes s.join.announcement t)) j due))
 
-  scanned : s.stage ≡ Scanning → viewing.IsPossible (scanning s) x → made_at s made n Scanning → Made (advance_at s Scanning x) (made + 1) (n + cond (is_len s.embedded.stage) x 0)
-  scanned e possible h = either (viewing.step_of s.asked q) refl
+  scanned : s.stage ≡ Scanning → viewing.IsPossibleInView (scanning s) x → made_at s made n Scanning → Made (advance_at s Scanning x) (made + 1) (n + cond (is_len s.embedded.stage) x 0)
+  scanned e possible h = either (viewing.view_step_due s.asked q) refl
     where
       more : ℕ
       more = n + cond (is_len s.embedded.stage) x 0
 
-      q : viewing.Pair
-      q = viewing.advance s.asked (scanning s) x
+      q : viewing.ViewPair
+      q = viewing.advance_view s.asked (scanning s) x
 
       on : CoreState
       on = with_scanning s q
@@ -173,7 +175,7 @@ module _ (s : CoreState) (layout : IsLayout s.sizes) (w : IsSound s) (made n x :
       long : made + 1 ≡ length s.asked + 4 + (h.0 + 1)
       long = let made_is = h.1 in omega (arith, made_is)
 
-      either : (o : Option Step) → viewing.step_of s.asked q ≡ o → Made (option_map_or (λ _. on) o (at_stage on Leaving)) (made + 1) (n + cond (is_len s.embedded.stage) x 0)
+      either : (o : Option Step) → viewing.view_step_due s.asked q ≡ o → Made (option_map_or (λ _. on) o (at_stage on Leaving)) (made + 1) (n + cond (is_len s.embedded.stage) x 0)
       either (Some step) due = subst (made_at on (made + 1) (n + cond (is_len s.embedded.stage) x 0)) (sym e) (h.0 + 1, long, counted)
       either None none = (h.0 + 1, long, subst (counted_at (length s.asked) q (h.0 + 1) (n + cond (is_len s.embedded.stage) x 0)) (none_due s.asked q.1.last q q.0.stage none) counted)
 

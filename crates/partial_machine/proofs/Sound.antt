@@ -9,7 +9,7 @@ use Rattle.partial_words.specs.declared.step.Step.{Step}
 use Rattle.partial_words.specs.Layout.{Layout, IsLayout, pool_end, greatest_record}
 use Rattle.partial_words.specs.Record.{plain_record_size, full_record_size}
 use Rattle.partial_words.specs.Announcement.{announcement_size}
-use Rattle.partial_active.specs.Found.{IsFor as AreBuffersFor}
+use Rattle.partial_active.specs.Found.{AreFoundFor as AreBuffersFor}
 use Rattle.partial_active.specs.Join.{fits_join, join_step, join_after, join_left, step_of_join, advance_join}
 use Rattle.partial_active.specs.declared.join.JoinStage.{JoinStage}
 use Rattle.partial_active.specs.declared.join.JoinStage.TheVariants.{Claiming, Storing, Joined, Spent}
@@ -24,7 +24,7 @@ use Rattle.partial_machine.specs.declared.stage.Reply.TheVariants as reply
 use Rattle.partial_machine.specs.declared.stage.Stage.{Stage}
 use Rattle.partial_machine.specs.declared.stage.Stage.TheVariants.{Idle, ReadBegun, LoadingValue, UpdateBegun, GettingSet, Viewing, ClaimingRecord, StoringRecord, Exchanging, ScanBegun, StoringAnnouncement, Joining, Scanning, Leaving, Finished}
 use Rattle.partial_machine.specs.Machine.{CoreState, at_stage, getting, scanning, with_getting, with_scanning, record_size, expects, overtaken, fits_pool, pool_refused, slots_refused, begin_getting, begin_joining, after_joining, scanned_reply, advance_at, advance}
-use Rattle.partial_machine.specs.Sound.{AreComponents, IsRecord, IsInPool, IsSound, is_sound_at, IsMachine}
+use Rattle.partial_machine.specs.Sound.{AreComponentIndices, IsRecord, IsInPool, IsSound, is_sound_at, IsMachine}
 use Rattle.partial_machine.specs.Possible.{IsPoolCount, IsPossible, IsPossibleAt}
 use Rattle.partial_machine.specs.Bounds.{left_at, steps_left}
 use Rattle.partial_active.specs.IndexSet.{AreIndices}
@@ -49,7 +49,7 @@ pub size_few : (s : CoreState) → length s.found.indices ≤ s.sizes.m → (pla
 size_few s few = size_by s.embedded.borrowed (length s.found.indices == 0) (length s.found.indices) s.sizes.m few
 
 -- fewer positions, fewer steps
-most_mono : (z : Layout) (r n : ℕ) → r ≤ n → viewing.most_steps z r ≤ viewing.most_steps z n
+most_mono : (z : Layout) (r n : ℕ) → r ≤ n → viewing.most_view_steps z r ≤ viewing.most_view_steps z n
 most_mono z r n few = let more : r + 2 ≤ n + 2 = omega (arith, few) in let times = mul-le-mul few more in omega (arith, times)
 
 -- a claim within the pool
@@ -64,8 +64,8 @@ module _ (s : CoreState) (layout : IsLayout s.sizes) (w : IsSound s) where
   few = w.indices.few
 
   -- the machine at another stage, of which something is known
-  kept_as : (q : CoreState) (t u : Stage) → s.stage ≡ t → q.stage ≡ u → q.sizes ≡ s.sizes → q.port ≡ s.port → q.asked ≡ s.asked → AreComponents q.sizes q.asked → AreBuffersFor q.sizes q.found →
-      AreIndices q.sizes.m q.found.indices → viewing.IsFor q.sizes q.rows → is_sound_at q u → left_at q u < left_at s t → Keeps s q
+  kept_as : (q : CoreState) (t u : Stage) → s.stage ≡ t → q.stage ≡ u → q.sizes ≡ s.sizes → q.port ≡ s.port → q.asked ≡ s.asked → AreComponentIndices q.sizes q.asked → AreBuffersFor q.sizes q.found →
+      AreIndices q.sizes.m q.found.indices → viewing.AreRowsFor q.sizes q.rows → is_sound_at q u → left_at q u < left_at s t → Keeps s q
   kept_as q t u e f sizes port positions asked found indices rows stage fewer =
       let before : steps_left s ≡ left_at s t = ap (left_at s) e in
       let after : steps_left q ≡ left_at q u = ap (left_at q) f in
@@ -96,16 +96,16 @@ module _ (s : CoreState) (layout : IsLayout s.sizes) (w : IsSound s) where
   begun_kept : (c : Change) (x : ℕ) → s.stage ≡ UpdateBegun c → IsRecord s.sizes x → (b : Bool) → Keeps s (cond b (begin_getting s c x) (at_stage s (Finished (reply.Changed x))))
   begun_kept c x e rec true =
       let h = here (UpdateBegun c) e in
-      let fresh = finding.fresh s.sizes s.get_set.lists_spent in
+      let fresh = finding.fresh_set s.sizes s.get_set.lists_spent in
       kept_as (begin_getting s c x) (UpdateBegun c) (GettingSet c x) e refl refl refl refl w.asked w.found same_indices w.rows
       ((h.0, rec, h.1), record { sizes = w.found; stage = tt }, refl, refl) (omega arith)
   begun_kept c x e rec false = staying (UpdateBegun c) (Finished (reply.Changed x)) e tt (omega arith)
 
-  getting_kept : (c : Change) (old x : ℕ) → s.stage ≡ GettingSet c old → finding_answers.IsPossible (getting s) x → Keeps s (advance_at s (GettingSet c old) x)
-  getting_kept c old x e possible = either (finding.step_of q.0) refl
+  getting_kept : (c : Change) (old x : ℕ) → s.stage ≡ GettingSet c old → finding_answers.IsPossibleInSet (getting s) x → Keeps s (advance_at s (GettingSet c old) x)
+  getting_kept c old x e possible = either (finding.set_step_due q.0) refl
     where
-      q : finding.Pair
-      q = finding.advance (getting s) x
+      q : finding.SetPair
+      q = finding.advance_set (getting s) x
 
       h : is_sound_at s (GettingSet c old)
       h = here (GettingSet c old) e
@@ -113,7 +113,7 @@ module _ (s : CoreState) (layout : IsLayout s.sizes) (w : IsSound s) where
       layout_there : IsLayout s.get_set.sizes
       layout_there = subst IsLayout (sym h.2) layout
 
-      k : answered.Keeps q (finding.left_of s.get_set)
+      k : answered.Keeps q (finding.set_left s.get_set)
       k = answered.kept (getting s) q x s.get_set.stage refl refl layout_there h.1 possible h.3
 
       same : q.0.sizes ≡ s.sizes
@@ -131,7 +131,7 @@ module _ (s : CoreState) (layout : IsLayout s.sizes) (w : IsSound s) where
       on = with_getting s q
 
       next : Stage → CoreState
-      next u = record on { embedded = viewing.fresh s.sizes true; stage = u }
+      next u = record on { embedded = viewing.fresh_view s.sizes true; stage = u }
 
       -- the getSet is finished
       found_some : (b : Bool) → (length q.1.indices == 0) ≡ b → Keeps s (next (cond b (ClaimingRecord c old) (Viewing c old)))
@@ -147,16 +147,16 @@ module _ (s : CoreState) (layout : IsLayout s.sizes) (w : IsSound s) where
           let most = most_mono s.sizes (length q.1.indices) s.sizes.m at_most in
           kept_as (next (Viewing c old)) (GettingSet c old) (Viewing c old) e refl refl refl refl w.asked buffers named w.rows (h.0, together, refl, refl) (omega (arith, left, most, k.fewer))
 
-      either : (o : Option Step) → finding.step_of q.0 ≡ o → Keeps s (option_map_or (λ _. on) o (next (cond (length q.1.indices == 0) (ClaimingRecord c old) (Viewing c old))))
+      either : (o : Option Step) → finding.set_step_due q.0 ≡ o → Keeps s (option_map_or (λ _. on) o (next (cond (length q.1.indices == 0) (ClaimingRecord c old) (Viewing c old))))
       either (Some step) due = kept_as on (GettingSet c old) (GettingSet c old) e e refl refl refl w.asked buffers named w.rows (h.0, k.together, same, subst IsSome (sym due) refl)
           (omega (arith, k.fewer))
       either None done = found_some (length q.1.indices == 0) refl
 
-  viewing_kept : (c : Change) (old x : ℕ) → s.stage ≡ Viewing c old → viewing.IsPossible (scanning s) x → Keeps s (advance_at s (Viewing c old) x)
-  viewing_kept c old x e possible = either (viewing.step_of s.found.indices q) refl
+  viewing_kept : (c : Change) (old x : ℕ) → s.stage ≡ Viewing c old → viewing.IsPossibleInView (scanning s) x → Keeps s (advance_at s (Viewing c old) x)
+  viewing_kept c old x e possible = either (viewing.view_step_due s.found.indices q) refl
     where
-      q : viewing.Pair
-      q = viewing.advance s.found.indices (scanning s) x
+      q : viewing.ViewPair
+      q = viewing.advance_view s.found.indices (scanning s) x
 
       h : is_sound_at s (Viewing c old)
       h = here (Viewing c old) e
@@ -167,24 +167,24 @@ module _ (s : CoreState) (layout : IsLayout s.sizes) (w : IsSound s) where
       same : q.0.sizes ≡ s.sizes
       same = viewed.sizes_stay s.found.indices (scanning s) x ∙ h.2
 
-      rows : viewing.IsFor s.sizes q.1
-      rows = subst (λ z. viewing.IsFor z q.1) same k.together.rows
+      rows : viewing.AreRowsFor s.sizes q.1
+      rows = subst (λ z. viewing.AreRowsFor z q.1) same k.together.rows
 
       on : CoreState
       on = with_scanning s q
 
-      either : (o : Option Step) → viewing.step_of s.found.indices q ≡ o → Keeps s (option_map_or (λ _. on) o (at_stage on (ClaimingRecord c old)))
+      either : (o : Option Step) → viewing.view_step_due s.found.indices q ≡ o → Keeps s (option_map_or (λ _. on) o (at_stage on (ClaimingRecord c old)))
       either (Some step) due = kept_as on (Viewing c old) (Viewing c old) e e refl refl refl w.asked w.found same_indices rows (h.0, k.together, same, subst IsSome (sym due) refl)
           (omega (arith, k.fewer))
       either None done =
           let size = (size_few (at_stage on (ClaimingRecord c old)) few).1 in
           kept_as (at_stage on (ClaimingRecord c old)) (Viewing c old) (ClaimingRecord c old) e refl refl refl refl w.asked w.found same_indices rows h.0 (omega (arith, size, k.fewer))
 
-  scanning_kept : (x : ℕ) → s.stage ≡ Scanning → viewing.IsPossible (scanning s) x → Keeps s (advance_at s Scanning x)
-  scanning_kept x e possible = either (viewing.step_of s.asked q) refl
+  scanning_kept : (x : ℕ) → s.stage ≡ Scanning → viewing.IsPossibleInView (scanning s) x → Keeps s (advance_at s Scanning x)
+  scanning_kept x e possible = either (viewing.view_step_due s.asked q) refl
     where
-      q : viewing.Pair
-      q = viewing.advance s.asked (scanning s) x
+      q : viewing.ViewPair
+      q = viewing.advance_view s.asked (scanning s) x
 
       h : is_sound_at s Scanning
       h = here Scanning e
@@ -195,13 +195,13 @@ module _ (s : CoreState) (layout : IsLayout s.sizes) (w : IsSound s) where
       same : q.0.sizes ≡ s.sizes
       same = viewed.sizes_stay s.asked (scanning s) x ∙ h.1
 
-      rows : viewing.IsFor s.sizes q.1
-      rows = subst (λ z. viewing.IsFor z q.1) same k.together.rows
+      rows : viewing.AreRowsFor s.sizes q.1
+      rows = subst (λ z. viewing.AreRowsFor z q.1) same k.together.rows
 
       on : CoreState
       on = with_scanning s q
 
-      either : (o : Option Step) → viewing.step_of s.asked q ≡ o → Keeps s (option_map_or (λ _. on) o (at_stage on Leaving))
+      either : (o : Option Step) → viewing.view_step_due s.asked q ≡ o → Keeps s (option_map_or (λ _. on) o (at_stage on Leaving))
       either (Some step) due = kept_as on Scanning Scanning e e refl refl refl w.asked w.found same_indices rows (k.together, same, subst IsSome (sym due) refl, h.3) (omega (arith, k.fewer))
       either None done = kept_as (at_stage on Leaving) Scanning Leaving e refl refl refl refl w.asked w.found same_indices rows h.3 (omega (arith, k.fewer))
 

@@ -38,7 +38,7 @@ begun_few s ScanBegun c w e is =
     let some = (subst (is_sound_at s) e w.stage).0 in
     subst (λ (f : Call). left_at s ScanBegun ≤ most_steps s.sizes f) same (positions s.asked refl)
   where
-    positions : (js : List ℕ) → s.asked ≡ js → length js + 5 + viewing.most_steps s.sizes (length js) ≤ most_steps s.sizes (call.Scan js)
+    positions : (js : List ℕ) → s.asked ≡ js → length js + 5 + viewing.most_view_steps s.sizes (length js) ≤ most_steps s.sizes (call.Scan js)
     positions [] is = let some = (subst (is_sound_at s) e w.stage).0 in let none : length s.asked ≡ 0 = ap length is in absurd (omega (arith, some, none))
     positions (j ∷ js) is = omega arith
 begun_few s _ c w e is = absurd cc

@@ -40,39 +40,42 @@ pub performs_fewer : (s q : CoreState) (room : ℕ) (words : List ℕ) (step : S
 performs_fewer s q room words step x w may due answer is = fewer_on s q room x s.stage w refl (possible_from s words step x may due answer) is
 
 module _ (s : CoreState) (room x : ℕ) (w : IsMachine s room) where
-  pub got_more_is : (c : Change) (old : ℕ) (p : finding.Pair) → p ≡ finding.advance (getting s) x → is_some (finding.step_of p.0) ≡ true → with_getting s p ≡ advance_at s (GettingSet c old) x
+  pub got_more_is : (c : Change) (old : ℕ) (p : finding.SetPair) → p ≡ finding.advance_set (getting s) x → is_some (finding.set_step_due p.0) ≡ true →
+      with_getting s p ≡ advance_at s (GettingSet c old) x
   got_more_is c old p is due =
-      let on : with_getting s p ≡ after_getting (with_getting s p) c old = goes_on (finding.step_of p.0) (with_getting s p) _ due in
+      let on : with_getting s p ≡ after_getting (with_getting s p) c old = goes_on (finding.set_step_due p.0) (with_getting s p) _ due in
       on ∙ ap (λ q. after_getting (with_getting s q) c old) is
 
-  pub got_more : (c : Change) (old : ℕ) (p : finding.Pair) → s.stage ≡ GettingSet c old → finding_answers.IsPossible (getting s) x → p ≡ finding.advance (getting s) x →
-      is_some (finding.step_of p.0) ≡ true → IsMachine (with_getting s p) room
+  pub got_more : (c : Change) (old : ℕ) (p : finding.SetPair) → s.stage ≡ GettingSet c old → finding_answers.IsPossibleInSet (getting s) x → p ≡ finding.advance_set (getting s) x →
+      is_some (finding.set_step_due p.0) ≡ true → IsMachine (with_getting s p) room
   got_more c old p stage possible is due = machine_on s (with_getting s p) room x (GettingSet c old) w stage possible (got_more_is c old p is due)
 
-  pub got_all_is : (c : Change) (old : ℕ) (p : finding.Pair) (v : viewing.EmbeddedState) (u : Stage) → p ≡ finding.advance (getting s) x → is_some (finding.step_of p.0) ≡ false →
-      v ≡ viewing.fresh s.sizes true → u ≡ cond (length p.1.indices == 0) (ClaimingRecord c old) (Viewing c old) →
+  pub got_all_is : (c : Change) (old : ℕ) (p : finding.SetPair) (v : viewing.EmbeddedState) (u : Stage) → p ≡ finding.advance_set (getting s) x → is_some (finding.set_step_due p.0) ≡ false →
+      v ≡ viewing.fresh_view s.sizes true → u ≡ cond (length p.1.indices == 0) (ClaimingRecord c old) (Viewing c old) →
       record (with_getting s p) { embedded = v; stage = u } ≡ advance_at s (GettingSet c old) x
   got_all_is c old p v u is done fresh next =
       let q : CoreState = record (with_getting s p) { embedded = v; stage = u } in
-      let same : q ≡ record (with_getting s p) { embedded = viewing.fresh s.sizes true; stage = cond (length p.1.indices == 0) (ClaimingRecord c old) (Viewing c old) } =
-      ap (λ e. record (with_getting s p) { embedded = e; stage = u }) fresh ∙ ap (λ t. record (with_getting s p) { embedded = viewing.fresh s.sizes true; stage = t }) next in
-      let on : q ≡ after_getting (with_getting s p) c old = same ∙ comes_to (finding.step_of p.0) (with_getting s p) _ done in
+      let same : q ≡ record (with_getting s p) { embedded = viewing.fresh_view s.sizes true; stage = cond (length p.1.indices == 0) (ClaimingRecord c old) (Viewing c old) } =
+      ap (λ e. record (with_getting s p) { embedded = e; stage = u }) fresh ∙ ap (λ t. record (with_getting s p) { embedded = viewing.fresh_view s.sizes true; stage = t }) next in
+      let on : q ≡ after_getting (with_getting s p) c old = same ∙ comes_to (finding.set_step_due p.0) (with_getting s p) _ done in
       on ∙ ap (λ r. after_getting (with_getting s r) c old) is
 
-  pub got_all : (c : Change) (old : ℕ) (p : finding.Pair) (v : viewing.EmbeddedState) (u : Stage) → s.stage ≡ GettingSet c old → finding_answers.IsPossible (getting s) x →
-      p ≡ finding.advance (getting s) x → is_some (finding.step_of p.0) ≡ false → v ≡ viewing.fresh s.sizes true → u ≡ cond (length p.1.indices == 0) (ClaimingRecord c old) (Viewing c old) →
+  pub got_all : (c : Change) (old : ℕ) (p : finding.SetPair) (v : viewing.EmbeddedState) (u : Stage) → s.stage ≡ GettingSet c old → finding_answers.IsPossibleInSet (getting s) x →
+      p ≡ finding.advance_set (getting s) x → is_some (finding.set_step_due p.0) ≡ false → v ≡ viewing.fresh_view s.sizes true →
+      u ≡ cond (length p.1.indices == 0) (ClaimingRecord c old) (Viewing c old) →
       IsMachine (record (with_getting s p) { embedded = v; stage = u }) room
   got_all c old p v u stage possible is done fresh next =
       machine_on s (record (with_getting s p) { embedded = v; stage = u }) room x (GettingSet c old) w stage possible (got_all_is c old p v u is done fresh next)
 
-  pub viewed_more : (c : Change) (old : ℕ) (p : viewing.Pair) → s.stage ≡ Viewing c old → viewing.IsPossible (scanning s) x → p ≡ viewing.advance s.found.indices (scanning s) x →
-      is_some (viewing.step_of s.found.indices p) ≡ true → IsMachine (with_scanning s p) room
+  pub viewed_more : (c : Change) (old : ℕ) (p : viewing.ViewPair) → s.stage ≡ Viewing c old → viewing.IsPossibleInView (scanning s) x → p ≡ viewing.advance_view s.found.indices (scanning s) x →
+      is_some (viewing.view_step_due s.found.indices p) ≡ true → IsMachine (with_scanning s p) room
   viewed_more c old p stage possible is due =
-      let on : with_scanning s p ≡ after_scanning (with_scanning s p) s.found.indices (ClaimingRecord c old) = goes_on (viewing.step_of s.found.indices p) (with_scanning s p) _ due in
+      let on : with_scanning s p ≡ after_scanning (with_scanning s p) s.found.indices (ClaimingRecord c old) = goes_on (viewing.view_step_due s.found.indices p) (with_scanning s p) _ due in
       machine_on s (with_scanning s p) room x (Viewing c old) w stage possible (on ∙ ap (λ q. after_scanning (with_scanning s q) s.found.indices (ClaimingRecord c old)) is)
 
-  pub scanned_more : (p : viewing.Pair) → s.stage ≡ Scanning → viewing.IsPossible (scanning s) x → p ≡ viewing.advance s.asked (scanning s) x → is_some (viewing.step_of s.asked p) ≡ true →
+  pub scanned_more : (p : viewing.ViewPair) → s.stage ≡ Scanning → viewing.IsPossibleInView (scanning s) x → p ≡ viewing.advance_view s.asked (scanning s) x →
+      is_some (viewing.view_step_due s.asked p) ≡ true →
       IsMachine (with_scanning s p) room
   scanned_more p stage possible is due =
-      let on : with_scanning s p ≡ after_scanning (with_scanning s p) s.asked Leaving = goes_on (viewing.step_of s.asked p) (with_scanning s p) _ due in
+      let on : with_scanning s p ≡ after_scanning (with_scanning s p) s.asked Leaving = goes_on (viewing.view_step_due s.asked p) (with_scanning s p) _ due in
       machine_on s (with_scanning s p) room x Scanning w stage possible (on ∙ ap (λ q. after_scanning (with_scanning s q) s.asked Leaving) is)

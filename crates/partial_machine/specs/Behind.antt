@@ -13,7 +13,7 @@ use Rattle.partial_machine.specs.declared.stage.Reply.TheVariants as reply
 use Rattle.partial_machine.specs.declared.stage.Stage.TheVariants.{Idle}
 use Rattle.partial_machine.specs.Machine.{CoreState, fresh, at_stage, lists_spent, advance, step_of, reply_of}
 use Rattle.partial_machine.specs.Calls.{is_begun, is_at_rest, begun_like, makes_steps, call_of, refusal_of, begun_of, IsServed}
-use Rattle.partial_machine.specs.Sound.{AreComponents, IsSound, is_sound_at}
+use Rattle.partial_machine.specs.Sound.{AreComponentIndices, IsSound, is_sound_at}
 use Rattle.partial_machine.specs.Possible.{IsPossible}
 use Rattle.partial_machine.specs.Bounds.{most_steps, steps_left}
 
@@ -95,7 +95,7 @@ DueIsUnreplied = (s : CoreState) (step : Step) → step_of s ≡ Some step → r
 -- call the machine is as it was.
 pub record IsBegunWith (s : CoreState) (c : Call) : Type 0 where
   pub like : begun_of s c ≡ begun_like s (begun_of s c)
-  pub asked : AreComponents s.sizes (begun_of s c).asked
+  pub asked : AreComponentIndices s.sizes (begun_of s c).asked
   pub may : is_sound_at (begun_of s c) (begun_of s c).stage
   pub sound : IsSound s → IsSound (begun_of s c)
   pub few : steps_left (begun_of s c) ≤ most_steps s.sizes c
@@ -105,7 +105,8 @@ pub record IsBegunWith (s : CoreState) (c : Call) : Type 0 where
 
 -- a call that isn't refused at once is begun
 abbrev pub CallsBegin : Type 0
-CallsBegin = (s : CoreState) (c : Call) → AreComponents s.sizes s.asked → IsServed s.sizes.m c → refusal_of s c ≡ None → IsBegunWith s c
+CallsBegin = (s : CoreState) (c : Call) → AreComponentIndices s.sizes s.asked → IsServed s.sizes.m c → refusal_of s c ≡ None →
+    IsBegunWith s c
 
 -- a machine that has made no call is sound, and so is one whose reply was taken
 pub record RestsAreSound : Type 0 where

@@ -13,13 +13,13 @@ use Rattle.partial_machine.specs.Machine.{CoreState, scanning, record_size}
 
 -- an update: the load of its component, a getSet, an embedded scan of all components at most, a claim, the stores, an exchange
 abbrev pub most_of_update : Layout → ℕ
-most_of_update z = finding.most_steps z + viewing.most_steps z z.m + greatest_record z + 3
+most_of_update z = finding.most_set_steps z + viewing.most_view_steps z z.m + greatest_record z + 3
 
 -- a call; a scan of no position makes none
 abbrev pub most_steps : Layout → Call → ℕ
 most_steps z (call.Update j v) = most_of_update z
 most_steps z (call.Scan []) = 0
-most_steps z (call.Scan js) = viewing.most_steps z (length js) + length js + 5
+most_steps z (call.Scan js) = viewing.most_view_steps z (length js) + length js + 5
 most_steps z (call.Read j) = 2
 most_steps z (call.UpdateIf j x v) = most_of_update z
 
@@ -32,16 +32,16 @@ abbrev pub left_at : CoreState → Stage → ℕ
 left_at s Idle = 0
 left_at s (ReadBegun j) = 2
 left_at s (LoadingValue stamp) = 1
-left_at s (UpdateBegun c) = 1 + finding.most_steps s.sizes + viewing.most_steps s.sizes s.sizes.m + write_left s.sizes
-left_at s (GettingSet c old) = finding.left_of s.get_set + viewing.most_steps s.sizes s.sizes.m + write_left s.sizes
-left_at s (Viewing c old) = viewing.left_of s.found.indices (scanning s) + write_left s.sizes
+left_at s (UpdateBegun c) = 1 + finding.most_set_steps s.sizes + viewing.most_view_steps s.sizes s.sizes.m + write_left s.sizes
+left_at s (GettingSet c old) = finding.set_left s.get_set + viewing.most_view_steps s.sizes s.sizes.m + write_left s.sizes
+left_at s (Viewing c old) = viewing.view_left s.found.indices (scanning s) + write_left s.sizes
 left_at s (ClaimingRecord c old) = record_size s + 2
 left_at s (StoringRecord c old at k) = record_size s - k + 1
 left_at s (Exchanging c old at) = 1
-left_at s ScanBegun = length s.asked + 5 + viewing.most_steps s.sizes (length s.asked)
-left_at s (StoringAnnouncement at k) = announcement_size (length s.asked) - k + 3 + viewing.most_steps s.sizes (length s.asked)
-left_at s Joining = join_left s.join.stage + viewing.most_steps s.sizes (length s.asked) + 1
-left_at s Scanning = viewing.left_of s.asked (scanning s) + 1
+left_at s ScanBegun = length s.asked + 5 + viewing.most_view_steps s.sizes (length s.asked)
+left_at s (StoringAnnouncement at k) = announcement_size (length s.asked) - k + 3 + viewing.most_view_steps s.sizes (length s.asked)
+left_at s Joining = join_left s.join.stage + viewing.most_view_steps s.sizes (length s.asked) + 1
+left_at s Scanning = viewing.view_left s.asked (scanning s) + 1
 left_at s Leaving = 1
 left_at s (Finished r) = 0
 

@@ -17,16 +17,16 @@ abbrev pub refusal_of : CoreState → Call → Option Refused
 refusal_of s c = refusal_at_once s.sizes.m s.pool_spent s.slots_spent c
 
 -- why a read is refused at once
-abbrev pub read_refusal : CoreState → ℕ → Option Refused
-read_refusal s i = refusal_of s (call.Read i)
+abbrev pub core_read_refusal : CoreState → ℕ → Option Refused
+core_read_refusal s i = refusal_of s (call.Read i)
 
 -- why an update is refused at once, whatever its value
-abbrev pub update_refusal : CoreState → ℕ → Option Refused
-update_refusal s i = refusal_of s (call.Update i 0)
+abbrev pub core_update_refusal : CoreState → ℕ → Option Refused
+core_update_refusal s i = refusal_of s (call.Update i 0)
 
 -- why a scan is refused at once
-abbrev pub scan_refusal : CoreState → List ℕ → Option Refused
-scan_refusal s indices = refusal_of s (call.Scan indices)
+abbrev pub core_scan_refusal : CoreState → List ℕ → Option Refused
+core_scan_refusal s indices = refusal_of s (call.Scan indices)
 
 -- a scan is begun; one of no position is finished at once
 abbrev pub begin_scan : CoreState → List ℕ → CoreState

@@ -5,7 +5,7 @@ use Rattle.partial_model.specs.declared.call.Call.TheVariants as call
 use Rattle.partial_words.specs.declared.step.Step.TheVariants.{Load}
 use Rattle.partial_words.specs.Layout.{Layout, IsLayout}
 use Rattle.partial_embedded.specs.declared.embedded.Stage.TheVariants.{Done}
-use Rattle.partial_embedded.specs.Embedded.{Pair, RowsState}
+use Rattle.partial_embedded.specs.Embedded.{ViewPair, RowsState}
 use Rattle.partial_embedded.specs.Runs.{EndsWell, IsOfPosition, RunsTo}
 use Rattle.partial_machine.specs.declared.stage.Change.{Change}
 use Rattle.partial_machine.specs.declared.stage.Stage.{Stage}
@@ -16,7 +16,7 @@ use Rattle.partial_machine.specs.Sound.{IsSound}
 use Rattle.partial_machine.specs.Steps.{Run}
 
 -- the last of these answers are those of one embedded scan of these positions, from its begin to where it is
-pub record EndsInScan (z : Layout) (shares : Bool) (positions answers : List ℕ) (p : Pair) : Type 0 where
+pub record EndsInScan (z : Layout) (shares : Bool) (positions answers : List ℕ) (p : ViewPair) : Type 0 where
   pub front : List ℕ
   pub own : List ℕ
   pub is : answers ≡ front ++ own
@@ -40,7 +40,7 @@ CallsMakeEmbeddedScans = (s t : CoreState) (c : Call) (xs : List ℕ) → IsLayo
 
 -- an embedded scan of these positions has ended: by two equal collects or a third record at one position, in at most two collects more
 -- than there are positions
-pub record HasScanned (positions answers : List ℕ) (p : Pair) : Type 0 where
+pub record HasScanned (positions answers : List ℕ) (p : ViewPair) : Type 0 where
   pub front : List ℕ
   pub own : List ℕ
   pub is : answers ≡ front ++ own

@@ -10,11 +10,11 @@ use Rattle.partial_machine.specs.Machine.{CoreState, scanning, slots_refused}
 
 -- the machine with a getSet that has made no step
 abbrev pub set_begun : CoreState → CoreState
-set_begun s = record s { get_set = finding.fresh s.sizes s.get_set.lists_spent }
+set_begun s = record s { get_set = finding.fresh_set s.sizes s.get_set.lists_spent }
 
 -- the step that is due in the getSet
 abbrev pub set_step : CoreState → Option Step
-set_step s = finding.step_of s.get_set
+set_step s = finding.set_step_due s.get_set
 
 -- the machine with this getSet
 abbrev pub with_set : CoreState → finding.GetSetState → CoreState
@@ -26,11 +26,11 @@ with_embedded s e = record s { embedded = e }
 
 -- the machine with an embedded scan that has made no step
 abbrev pub scan_begun : CoreState → Bool → CoreState
-scan_begun s shares = with_embedded s (viewing.fresh s.sizes shares)
+scan_begun s shares = with_embedded s (viewing.fresh_view s.sizes shares)
 
 -- the step that is due in the embedded scan of those indices
 abbrev pub scan_step : CoreState → List ℕ → Option Step
-scan_step s indices = viewing.step_of indices (scanning s)
+scan_step s indices = viewing.view_step_due indices (scanning s)
 
 -- the machine with the positions of a scan
 abbrev pub asking : CoreState → List ℕ → CoreState
@@ -45,8 +45,8 @@ abbrev pub join_at : CoreState → ℕ → JoinStage → CoreState
 join_at s at stage = record s { join = record { sizes = s.sizes; announcement = at; stage = stage } }
 
 -- the announcement stands in its slot
-abbrev pub joined : CoreState → ℕ → ℕ → CoreState
-joined s at slot = record (join_at s at (Joined slot)) { leave = record { sizes = s.sizes; slot = slot; left = false } }
+abbrev pub scan_joined : CoreState → ℕ → ℕ → CoreState
+scan_joined s at slot = record (join_at s at (Joined slot)) { leave = record { sizes = s.sizes; slot = slot; left = false } }
 
 -- there was no slot left for it, and the scan is refused
 abbrev pub not_joined : CoreState → ℕ → CoreState

@@ -59,9 +59,9 @@ fresh z port = record {
   asked = [];
   join = record { sizes = z; announcement = 0; stage = Claiming };
   leave = record { sizes = z; slot = 0; left = false };
-  get_set = finding.fresh z false;
+  get_set = finding.fresh_set z false;
   found = no_indices z;
-  embedded = viewing.fresh z false;
+  embedded = viewing.fresh_view z false;
   rows = no_rows z;
   stage = Idle;
 }
@@ -71,19 +71,19 @@ abbrev pub at_stage : CoreState → Stage → CoreState
 at_stage s stage = record s { stage = stage }
 
 -- the getSet with what it has found
-abbrev pub getting : CoreState → finding.Pair
+abbrev pub getting : CoreState → finding.SetPair
 getting s = (s.get_set, s.found)
 
 -- the embedded scan with its rows
-abbrev pub scanning : CoreState → viewing.Pair
+abbrev pub scanning : CoreState → viewing.ViewPair
 scanning s = (s.embedded, s.rows)
 
 -- the machine with this getSet and what it has found
-abbrev pub with_getting : CoreState → finding.Pair → CoreState
+abbrev pub with_getting : CoreState → finding.SetPair → CoreState
 with_getting s p = record s { get_set = p.0; found = p.1 }
 
 -- the machine with this embedded scan and its rows
-abbrev pub with_scanning : CoreState → viewing.Pair → CoreState
+abbrev pub with_scanning : CoreState → viewing.ViewPair → CoreState
 with_scanning s p = record s { embedded = p.0; rows = p.1 }
 
 -- The view of the record that an update writes: its own pairs are those of the indices found with the
@@ -110,15 +110,15 @@ step_at s Idle = None
 step_at s (ReadBegun j) = Some (Load (component_word s.sizes j))
 step_at s (LoadingValue stamp) = Some (Load (value_word stamp))
 step_at s (UpdateBegun c) = Some (Load (component_word s.sizes c.component))
-step_at s (GettingSet c old) = finding.step_of s.get_set
-step_at s (Viewing c old) = viewing.step_of s.found.indices (scanning s)
+step_at s (GettingSet c old) = finding.set_step_due s.get_set
+step_at s (Viewing c old) = viewing.view_step_due s.found.indices (scanning s)
 step_at s (ClaimingRecord c old) = Some (Add (pool_counter s.sizes) (record_size s))
 step_at s (StoringRecord c old at k) = Some (Store (at + k) (slice_index (record_words s c old at) k))
 step_at s (Exchanging c old at) = Some (Exchange (component_word s.sizes c.component) old at)
 step_at s ScanBegun = Some (Add (pool_counter s.sizes) (announcement_size (length s.asked)))
 step_at s (StoringAnnouncement at k) = Some (Store (at + k) (slice_index (announcement_block s.asked) k))
 step_at s Joining = step_of_join s.join
-step_at s Scanning = viewing.step_of s.asked (scanning s)
+step_at s Scanning = viewing.view_step_due s.asked (scanning s)
 step_at s Leaving = step_of_leave s.leave
 step_at s (Finished r) = None
 
@@ -148,19 +148,19 @@ slots_refused s = record s { slots_spent = true; stage = Finished (reply.Refused
 
 -- a getSet begins
 abbrev pub begin_getting : CoreState → Change → ℕ → CoreState
-begin_getting s c old = record s { get_set = finding.fresh s.sizes s.get_set.lists_spent; stage = GettingSet c old }
+begin_getting s c old = record s { get_set = finding.fresh_set s.sizes s.get_set.lists_spent; stage = GettingSet c old }
 
 -- the getSet goes on, or it is finished and what it found is scanned, if it found anything
 abbrev pub after_getting : CoreState → Change → ℕ → CoreState
-after_getting s c old = option_map_or (λ _. s) (finding.step_of s.get_set)
+after_getting s c old = option_map_or (λ _. s) (finding.set_step_due s.get_set)
     (record s {
-      embedded = viewing.fresh s.sizes true;
+      embedded = viewing.fresh_view s.sizes true;
       stage = if length s.found.indices == 0 then ClaimingRecord c old else Viewing c old;
     })
 
 -- the embedded scan goes on, or it is finished and the machine comes to the next stage
 abbrev pub after_scanning : CoreState → List ℕ → Stage → CoreState
-after_scanning s indices next = option_map_or (λ _. s) (viewing.step_of indices (scanning s)) (at_stage s next)
+after_scanning s indices next = option_map_or (λ _. s) (viewing.view_step_due indices (scanning s)) (at_stage s next)
 
 -- the announcement is written, and the join begins
 abbrev pub begin_joining : CoreState → ℕ → CoreState
@@ -171,7 +171,7 @@ abbrev pub after_joining : CoreState → JoinStage → CoreState
 after_joining s Claiming = s
 after_joining s (Storing slot) = s
 after_joining s (Joined slot) = record s {
-  embedded = viewing.fresh s.sizes false;
+  embedded = viewing.fresh_view s.sizes false;
   leave = record { sizes = s.sizes; slot = slot; left = false };
   stage = Scanning;
 }
@@ -187,8 +187,8 @@ advance_at s Idle x = s
 advance_at s (ReadBegun j) x = at_stage s (LoadingValue x)
 advance_at s (LoadingValue stamp) x = at_stage s (Finished (reply.Read x stamp))
 advance_at s (UpdateBegun c) x = if expects c x then begin_getting s c x else at_stage s (Finished (reply.Changed x))
-advance_at s (GettingSet c old) x = after_getting (with_getting s (finding.advance (getting s) x)) c old
-advance_at s (Viewing c old) x = after_scanning (with_scanning s (viewing.advance s.found.indices (scanning s) x))
+advance_at s (GettingSet c old) x = after_getting (with_getting s (finding.advance_set (getting s) x)) c old
+advance_at s (Viewing c old) x = after_scanning (with_scanning s (viewing.advance_view s.found.indices (scanning s) x))
     s.found.indices (ClaimingRecord c old)
 advance_at s (ClaimingRecord c old) x = if fits_pool s.sizes (record_size s) x then at_stage s (StoringRecord c old x 0) else pool_refused s
 advance_at s (StoringRecord c old at k) x = at_stage s
@@ -198,7 +198,7 @@ advance_at s ScanBegun x = if fits_pool s.sizes (announcement_size (length s.ask
     (StoringAnnouncement x 0) else pool_refused s
 advance_at s (StoringAnnouncement at k) x = if k == length s.asked then begin_joining s at else at_stage s (StoringAnnouncement at (k + 1))
 advance_at s Joining x = let j = advance_join s.join x in after_joining (record s { join = j }) j.stage
-advance_at s Scanning x = after_scanning (with_scanning s (viewing.advance s.asked (scanning s) x)) s.asked Leaving
+advance_at s Scanning x = after_scanning (with_scanning s (viewing.advance_view s.asked (scanning s) x)) s.asked Leaving
 advance_at s Leaving x = record s { leave = advance_leave s.leave; stage = Finished (scanned_reply s) }
 advance_at s (Finished r) x = s
 

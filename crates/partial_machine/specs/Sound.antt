@@ -4,7 +4,7 @@ use Rattle.std.specs.List.{IsDistinct}
 use Rattle.partial_words.specs.Layout.{Layout, IsLayout, pool_base, pool_end}
 use Rattle.partial_words.specs.Record.{own_view}
 use Rattle.partial_words.specs.Announcement.{announcement_size}
-use Rattle.partial_active.specs.Found.{IsFor as AreBuffersFor}
+use Rattle.partial_active.specs.Found.{AreFoundFor as AreBuffersFor}
 use Rattle.partial_active.specs.Join.{fits_join, step_of_join}
 use Rattle.partial_active.specs.GetSet as finding
 use Rattle.partial_active.specs.GetSetAnswers as finding_answers
@@ -19,7 +19,7 @@ abbrev pub IsRecord : Layout → ℕ → Type 0
 IsRecord z at = (pool_base z ≤ at) × (own_view at ≤ pool_end z)
 
 -- the indices name components, and there are at most m
-pub record AreComponents (z : Layout) (indices : List ℕ) : Type 0 where
+pub record AreComponentIndices (z : Layout) (indices : List ℕ) : Type 0 where
   pub few : length indices ≤ z.m
   pub each : (k : ℕ) → k < length indices → slice_index indices k < z.m
 
@@ -41,10 +41,10 @@ is_sound_at s Idle = ⊤
 is_sound_at s (ReadBegun j) = j < s.sizes.m
 is_sound_at s (LoadingValue stamp) = IsRecord s.sizes stamp
 is_sound_at s (UpdateBegun c) = (c.component < s.sizes.m) × (s.pool_spent ≡ false)
-is_sound_at s (GettingSet c old) = IsUpdating s c old × finding_answers.GoTogether (getting s) × (s.get_set.sizes ≡ s.sizes) ×
-    IsSome (finding.step_of s.get_set)
-is_sound_at s (Viewing c old) = IsUpdating s c old × viewing.GoTogether s.found.indices (scanning s) × (s.embedded.sizes ≡ s.sizes) ×
-    IsSome (viewing.step_of s.found.indices (scanning s))
+is_sound_at s (GettingSet c old) = IsUpdating s c old × finding_answers.SetGoesTogether (getting s) × (s.get_set.sizes ≡ s.sizes) ×
+    IsSome (finding.set_step_due s.get_set)
+is_sound_at s (Viewing c old) = IsUpdating s c old × viewing.ViewGoesTogether s.found.indices (scanning s) × (s.embedded.sizes ≡ s.sizes) ×
+    IsSome (viewing.view_step_due s.found.indices (scanning s))
 is_sound_at s (ClaimingRecord c old) = IsUpdating s c old
 is_sound_at s (StoringRecord c old at k) = IsUpdating s c old × IsInPool s.sizes at (record_size s) × (k < record_size s)
 is_sound_at s (Exchanging c old at) = IsUpdating s c old × IsInPool s.sizes at (record_size s)
@@ -53,18 +53,18 @@ is_sound_at s (StoringAnnouncement at k) = (0 < length s.asked) × (s.slots_spen
     IsInPool s.sizes at (announcement_size (length s.asked)) × (k < announcement_size (length s.asked))
 is_sound_at s Joining = (0 < length s.asked) × (s.slots_spent ≡ false) × (s.join.sizes ≡ s.sizes) × IsInPool s.sizes s.join.announcement
     (announcement_size (length s.asked)) × IsSome (step_of_join s.join) × IsTrue (fits_join s.join.sizes s.join.stage)
-is_sound_at s Scanning = viewing.GoTogether s.asked (scanning s) × (s.embedded.sizes ≡ s.sizes) ×
-    IsSome (viewing.step_of s.asked (scanning s)) × IsLeaving s
+is_sound_at s Scanning = viewing.ViewGoesTogether s.asked (scanning s) × (s.embedded.sizes ≡ s.sizes) ×
+    IsSome (viewing.view_step_due s.asked (scanning s)) × IsLeaving s
 is_sound_at s Leaving = IsLeaving s
 is_sound_at s (Finished r) = ⊤
 
 -- what is always known of a port's machine
 pub record IsSound (s : CoreState) : Type 0 where
-  pub asked : AreComponents s.sizes s.asked
+  pub asked : AreComponentIndices s.sizes s.asked
   pub found : AreBuffersFor s.sizes s.found
-  pub indices : AreComponents s.sizes s.found.indices
+  pub indices : AreComponentIndices s.sizes s.found.indices
   pub distinct : IsDistinct nat_eq s.found.indices
-  pub rows : viewing.IsFor s.sizes s.rows
+  pub rows : viewing.AreRowsFor s.sizes s.rows
   pub stage : is_sound_at s s.stage
 
 -- what holds of every port's machine, whose room for positions is given

@@ -82,7 +82,7 @@ impl Model for Core {
 
 impl Core {
     ghost use Rattle.partial_machine.specs.Machine.{fresh, lists_spent, at_stage, step_of, advance, advance_at, reply_of, scanned_values, record_size, record_words, view_at, pool_refused};
-    ghost use Rattle.partial_machine.specs.Calls.{begin_scan, read_refusal, update_refusal, scan_refusal, refusal_of, begun_of, answer_for, IsServed};
+    ghost use Rattle.partial_machine.specs.Calls.{begin_scan, core_read_refusal, core_update_refusal, core_scan_refusal, refusal_of, begun_of, answer_for, IsServed};
     ghost use Rattle.partial_machine.specs.Possible.{IsPossible, IsPossibleAt};
     ghost use Rattle.partial_machine.specs.Sound.{IsInPool};
     ghost use Rattle.partial_machine.specs.Bounds.{steps_left};
@@ -143,10 +143,11 @@ impl Core {
     /// the machine unchanged.
     pub fn begin_update(&mut self, component: u32, value: u64) -> Result<(), Refused>
         requires { self.old.stage ≡ Idle }
-        ensures ok { OnOk result ((update_refusal self.old component ≡ None) ×
+        ensures ok { OnOk result ((core_update_refusal self.old component ≡ None) ×
             (self.new ≡ at_stage self.old (UpdateBegun
             (record { component = component; expected = None; value = value })))) }
-        ensures err { IfErr result (λ cause. (update_refusal self.old component ≡ Some cause) × (self.new ≡ self.old)) }
+        ensures err { IfErr result (λ cause. (core_update_refusal self.old component ≡ Some cause) ×
+            (self.new ≡ self.old)) }
     {
         self.begin_change(Change {
             component,
@@ -164,10 +165,11 @@ impl Core {
         value: u64,
     ) -> Result<(), Refused>
         requires { self.old.stage ≡ Idle }
-        ensures ok { OnOk result ((update_refusal self.old component ≡ None) ×
+        ensures ok { OnOk result ((core_update_refusal self.old component ≡ None) ×
             (self.new ≡ at_stage self.old (UpdateBegun
             (record { component = component; expected = Some expected; value = value })))) }
-        ensures err { IfErr result (λ cause. (update_refusal self.old component ≡ Some cause) × (self.new ≡ self.old)) }
+        ensures err { IfErr result (λ cause. (core_update_refusal self.old component ≡ Some cause) ×
+            (self.new ≡ self.old)) }
     {
         self.begin_change(Change {
             component,
@@ -178,9 +180,9 @@ impl Core {
 
     fn begin_change(&mut self, change: Change) -> Result<(), Refused>
         requires { self.old.stage ≡ Idle }
-        ensures ok { OnOk result ((update_refusal self.old change.component ≡ None) ×
+        ensures ok { OnOk result ((core_update_refusal self.old change.component ≡ None) ×
             (self.new ≡ at_stage self.old (UpdateBegun change))) }
-        ensures err { IfErr result (λ cause. (update_refusal self.old change.component ≡ Some cause) ×
+        ensures err { IfErr result (λ cause. (core_update_refusal self.old change.component ≡ Some cause) ×
             (self.new ≡ self.old)) }
     {
         self.may_update(change.component)?;
@@ -192,9 +194,10 @@ impl Core {
     /// number of components. A refusal leaves the machine unchanged.
     pub fn begin_read(&mut self, component: u32) -> Result<(), Refused>
         requires { self.old.stage ≡ Idle }
-        ensures ok { OnOk result ((read_refusal self.old component ≡ None) ×
+        ensures ok { OnOk result ((core_read_refusal self.old component ≡ None) ×
             (self.new ≡ at_stage self.old (ReadBegun component))) }
-        ensures err { IfErr result (λ cause. (read_refusal self.old component ≡ Some cause) × (self.new ≡ self.old)) }
+        ensures err { IfErr result (λ cause. (core_read_refusal self.old component ≡ Some cause) ×
+            (self.new ≡ self.old)) }
     {
         if component >= self.sizes.m() {
             return Err(Refused::Component);
@@ -210,9 +213,9 @@ impl Core {
     pub fn begin_scan(&mut self, components: &[u32]) -> Result<(), Refused>
         requires idle { self.old.stage ≡ Idle }
         requires few { length components.now ≤ self.old.sizes.m }
-        ensures ok { OnOk result ((scan_refusal self.old components.now ≡ None) ×
+        ensures ok { OnOk result ((core_scan_refusal self.old components.now ≡ None) ×
             (self.new ≡ begin_scan self.old components.now)) }
-        ensures err { IfErr result (λ cause. (scan_refusal self.old components.now ≡ Some cause) ×
+        ensures err { IfErr result (λ cause. (core_scan_refusal self.old components.now ≡ Some cause) ×
             (self.new ≡ self.old)) }
     {
         self.may_scan(components)?;

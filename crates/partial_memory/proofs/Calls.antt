@@ -1,8 +1,8 @@
 -- The steps of a call, one after the other.
-use Rattle.partial_memory.proofs.Common.{ℕ, ◌≡◌, ◌+◌, ◌<◌, ◌++◌, ◌⊎◌, ◌||◌, false, cond, Some, None, List, [], ◌∷◌, length, sym, ap, subst, ◌∙◌, inl, inr, arith, length_push, Step, Layout, IsLayout, total, word_of, CoreState, advance, step_of, reply_of, is_begun, refuses_pool, refuses_slots, due_is_unreplied, due_words_are_there, Part, Kept, HasBegun, IsMachineOf, Tells, first_steps_make_calls, further_steps_make_calls, About, Seated, AreByOpened, Told, Begins, CallMade}
+use Rattle.partial_memory.proofs.Common.{ℕ, ◌≡◌, ◌+◌, ◌<◌, ◌++◌, ◌⊎◌, ◌||◌, false, cond, Some, None, List, [], ◌∷◌, length, sym, ap, subst, ◌∙◌, inl, inr, arith, length_push, Step, Layout, IsLayout, total, word_of, CoreState, advance, step_of, reply_of, is_begun, refuses_pool, refuses_slots, due_is_unreplied, due_words_are_there, Part, KeptAnswer, HasBegun, IsMachineOf, Tells, first_steps_make_calls, further_steps_make_calls, About, SeatedPort, AreByOpened, Told, Begins, CallMade}
 
 -- the machine that a step leads to, and its port
-module _ (x : Seated) (c : CoreState) (y : Seated) (a : ℕ) (z : Seated) (about : y.about ≡ x.about) (t : Told c y a z) where
+module _ (x : SeatedPort) (c : CoreState) (y : SeatedPort) (a : ℕ) (z : SeatedPort) (about : y.about ≡ x.about) (t : Told c y a z) where
   abbrev TellsFor : About → Type 0
   TellsFor o = Tells o.sizes o.opening t.log t.entries y.part c a z.part
 
@@ -13,7 +13,7 @@ module _ (x : Seated) (c : CoreState) (y : Seated) (a : ℕ) (z : Seated) (about
   others_here = subst (λ (o : About). AreByOpened o z.part.seen) about t.others
 
 -- the first step
-first_made : (b : CoreState) (x : Seated) (a : ℕ) (z : Seated) → Begins b x → Told b x a z → CallMade b x (advance b a) z
+first_made : (b : CoreState) (x : SeatedPort) (a : ℕ) (z : SeatedPort) → Begins b x → Told b x a z → CallMade b x (advance b a) z
 first_made b x a z w t =
     let m = first_steps_make_calls x.about.sizes x.about.opening t.log t.entries b x.part a z.part w.begun w.sound t.tells in
     let kept : z.part.kept ≡ record { answer = a; at = length (t.log ++ t.entries) } ∷ [] =
@@ -21,18 +21,18 @@ first_made b x a z w t =
     record {
       about = t.about;
       made = m;
-      steps = t.steps ∙ ap (λ (ks : List Kept). x.steps + length ks) (sym kept);
+      steps = t.steps ∙ ap (λ (ks : List KeptAnswer). x.steps + length ks) (sym kept);
       others = t.others;
       pool = t.tells.behind.pool;
       slots = t.tells.behind.slots;
     }
 
 -- a further step
-next_made : (b : CoreState) (x : Seated) (c : CoreState) (y : Seated) (a : ℕ) (z : Seated) → CallMade b x c y → reply_of c ≡ None → Told c y a z →
+next_made : (b : CoreState) (x : SeatedPort) (c : CoreState) (y : SeatedPort) (a : ℕ) (z : SeatedPort) → CallMade b x c y → reply_of c ≡ None → Told c y a z →
     CallMade b x (advance c a) z
 next_made b x c y a z m none t =
     let going : is_begun c.stage ≡ false = m.made.machine.going in
-    let last : Kept = record { answer = a; at = length (t.log ++ t.entries) } in
+    let last : KeptAnswer = record { answer = a; at = length (t.log ++ t.entries) } in
     let kept : z.part.kept ≡ y.part.kept ++ last ∷ [] = ap (λ (v : Part). v.kept) t.tells.part ∙ ap (λ f. cond f [] y.part.kept ++ last ∷ []) going in
     let count : length z.part.kept ≡ length y.part.kept + 1 = ap length kept ∙ length_push y.part.kept last in
     let steps = t.steps in
@@ -47,23 +47,23 @@ next_made b x c y a z m none t =
     }
 
 -- A call in the middle: it is begun and has made no step, or it has made some.
-abbrev pub Runs : CoreState → Seated → CoreState → Seated → Type 0
+abbrev pub Runs : CoreState → SeatedPort → CoreState → SeatedPort → Type 0
 Runs b x c y = ((c ≡ b) × (y ≡ x)) ⊎ CallMade b x c y
 
-pub runs_on : (b : CoreState) (x : Seated) (c : CoreState) (y : Seated) (a : ℕ) (z : Seated) (s : Step) → Begins b x → Runs b x c y → step_of c ≡ Some s →
+pub runs_on : (b : CoreState) (x : SeatedPort) (c : CoreState) (y : SeatedPort) (a : ℕ) (z : SeatedPort) (s : Step) → Begins b x → Runs b x c y → step_of c ≡ Some s →
     Told c y a z → CallMade b x (advance c a) z
 runs_on b x c y a z s begins (inl w) due t =
-    let told : Told b x a z = subst (λ (d : CoreState). Told d x a z) w.0 (subst (λ (v : Seated). Told c v a z) w.1 t) in
+    let told : Told b x a z = subst (λ (d : CoreState). Told d x a z) w.0 (subst (λ (v : SeatedPort). Told c v a z) w.1 t) in
     subst (λ (d : CoreState). CallMade b x (advance d a) z) (sym w.0) (first_made b x a z begins told)
 runs_on b x c y a z s begins (inr m) due t = next_made b x c y a z m (due_is_unreplied c s due) t
 
 -- the machine of a call in the middle is its port's
-pub runs_machine : (b : CoreState) (x : Seated) (c : CoreState) (y : Seated) → Begins b x → Runs b x c y → IsMachineOf c y.part
-runs_machine b x c y begins (inl w) = inl (subst (λ (v : Seated). HasBegun c v.part) (sym w.1) (subst (λ (d : CoreState). HasBegun d x.part) (sym w.0) begins.begun))
+pub runs_machine : (b : CoreState) (x : SeatedPort) (c : CoreState) (y : SeatedPort) → Begins b x → Runs b x c y → IsMachineOf c y.part
+runs_machine b x c y begins (inl w) = inl (subst (λ (v : SeatedPort). HasBegun c v.part) (sym w.1) (subst (λ (d : CoreState). HasBegun d x.part) (sym w.0) begins.begun))
 runs_machine b x c y begins (inr m) = inr m.made.machine
 
 -- the word of the step that is due is there
-pub runs_within : (b : CoreState) (x : Seated) (c : CoreState) (y : Seated) (s : Step) → Begins b x → Runs b x c y → step_of c ≡ Some s → word_of s < total x.about.sizes
+pub runs_within : (b : CoreState) (x : SeatedPort) (c : CoreState) (y : SeatedPort) (s : Step) → Begins b x → Runs b x c y → step_of c ≡ Some s → word_of s < total x.about.sizes
 runs_within b x c y s begins (inl w) due =
     subst (λ (z : Layout). word_of s < total z) begins.sizes (due_words_are_there b s begins.layout begins.sound (ap step_of (sym w.0) ∙ due))
 runs_within b x c y s begins (inr m) due =

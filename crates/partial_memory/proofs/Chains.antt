@@ -1,5 +1,5 @@
 -- The chains of a closed memory, read from its words.
-use Rattle.partial_memory.proofs.Common.{ℕ, zero, suc, ◌≡◌, ◌+◌, ◌≢◌, ◌<◌, ◌≤◌, ◌++◌, ◌⊎◌, Bool, true, false, List, [], ◌∷◌, length, map, get_or, refl, sym, ap, subst, ◌∙◌, inl, inr, arith, append_assoc, append-nil, length-append, AllByRecursion, list_any, eqb-true, false≢true, ltb-false, ltb-true, ne_eqb, or_cases, nat_lt, get_or_append_left, get_or_push, length-map, length_push, some, some-injective, some-ne-none, get_elem?, Applied, Opening, all_map, all_weaker, IsLink, chain_of, Layout, RecordsAreWithin, IsWhole, AreValues, AreChains, AreChainsFrom}
+use Rattle.partial_memory.proofs.Common.{ℕ, zero, suc, ◌≡◌, ◌+◌, ◌≢◌, ◌<◌, ◌≤◌, ◌++◌, ◌⊎◌, Bool, true, false, List, [], ◌∷◌, length, map, get_or, refl, sym, ap, subst, ◌∙◌, inl, inr, arith, append_assoc, append-nil, length-append, AllByRecursion, list_any, eqb-true, false≢true, ltb-false, ltb-true, ne_eqb, or_cases, nat_lt, get_or_append_left, get_or_push, length-map, length_push, some, some-injective, some-ne-none, get_elem?, Applied, Opening, all_map, all_weaker, IsLink, chain_of, Layout, RecordsAreWithin, IsWholeChain, AreValues, AreChains, AreChainsFrom}
 use Rattle.std.specs.List.{IsDistinct}
 use Rattle.std.specs.declared.alloc.Global.{Global}
 use Rattle.std.specs.declared.vec.Vec.{Vec}
@@ -8,7 +8,7 @@ use Rattle.std.proofs.lemmas.Map.Steps.{length-le_from_distinct_below}
 use Rattle.std.proofs.Math.Dec.{eqb}
 use Rattle.partial_model.specs.History.{HaveDistinctStamps, value_of as value_after}
 use Rattle.partial_words.specs.declared.record.Link.{Link}
-use Rattle.partial_words.specs.Record.{prev_of, value_of, view_word}
+use Rattle.partial_words.specs.Record.{prev_of, record_value, view_word}
 use Rattle.partial_words.proofs.ChainLemmas.{chain_all, chain_count, chain_head}
 
 -- a word of a closed table
@@ -22,7 +22,7 @@ link_same a b s v = ap (λ n. record { stamp = n; value = a.value }) s ∙ ap (�
 
 -- what is left of a chain: nothing at 0, or a whole chain from that word on
 abbrev pub IsRest : List ℕ → ℕ → List Link → Type 0
-IsRest words at rest = ((at ≡ 0) × (rest ≡ [])) ⊎ IsWhole words at rest
+IsRest words at rest = ((at ≡ 0) × (rest ≡ [])) ⊎ IsWholeChain words at rest
 
 -- the first link of a chain, and the rest
 record Front (words : List ℕ) (at : ℕ) (links : List Link) : Type 0 where
@@ -33,12 +33,12 @@ record Front (words : List ℕ) (at : ℕ) (links : List Link) : Type 0 where
   pub stands : 0 < first.stamp
   pub goes : IsRest words (prev_of words at) rest
 
-front : (words : List ℕ) (at : ℕ) (links : List Link) → IsWhole words at links → Front words at links
+front : (words : List ℕ) (at : ℕ) (links : List Link) → IsWholeChain words at links → Front words at links
 front words at [] w = absurd w.chain
 front words at (l ∷ []) w = record { first = l; rest = []; is = refl; link = w.chain.0; stands = w.stands.0; goes = inl (w.chain.1, refl) }
 front words at (l ∷ k ∷ ls) w = record { first = l; rest = k ∷ ls; is = refl; link = w.chain.0; stands = w.stands.0; goes = inr (record { chain = w.chain.1; stands = w.stands.1 }) }
 
-whole_some : (words : List ℕ) (at : ℕ) (links : List Link) → IsWhole words at links → at ≡ 0 → ⊥
+whole_some : (words : List ℕ) (at : ℕ) (links : List Link) → IsWholeChain words at links → at ≡ 0 → ⊥
 whole_some words at links w none =
     let f = front words at links w in
     let stands = f.stands in
@@ -47,12 +47,12 @@ whole_some words at links w none =
 
 -- so many links were found of each whole chain from that word, and the rest is at that one
 abbrev pub Walked : List ℕ → ℕ → List Link → ℕ → Type 0
-Walked words newest found at = (links : List Link) → IsWhole words newest links → (rest : List Link) × (links ≡ found ++ rest) × IsRest words at rest
+Walked words newest found at = (links : List Link) → IsWholeChain words newest links → (rest : List Link) × (links ≡ found ++ rest) × IsRest words at rest
 
 pub walked_none : (words : List ℕ) (newest : ℕ) (found : List Link) → found ≡ [] → Walked words newest found newest
 walked_none words newest found none links w = (links, ap (λ l. l ++ links) (sym none), inr w)
 
-pub walked_more : (words : List ℕ) (newest : ℕ) (found : List Link) (at : ℕ) (l : Link) → Walked words newest found at → (at ≡ 0 → ⊥) → l.stamp ≡ at → l.value ≡ value_of words at →
+pub walked_more : (words : List ℕ) (newest : ℕ) (found : List Link) (at : ℕ) (l : Link) → Walked words newest found at → (at ≡ 0 → ⊥) → l.stamp ≡ at → l.value ≡ record_value words at →
     Walked words newest (found ++ l ∷ []) (prev_of words at)
 walked_more words newest found at l walked busy stamp value links w =
     let had = walked links w in
@@ -64,7 +64,7 @@ walked_more words newest found at l walked busy stamp value links w =
           (f.rest, had.1 ∙ ap (λ r. found ++ r) (f.is ∙ ap (λ k. k ∷ f.rest) same) ∙ sym (append_assoc found (l ∷ []) f.rest), f.goes)
     ]
 
-pub walked_all : (words : List ℕ) (newest : ℕ) (found : List Link) (at : ℕ) → Walked words newest found at → at ≡ 0 → (links : List Link) → IsWhole words newest links → found ≡ links
+pub walked_all : (words : List ℕ) (newest : ℕ) (found : List Link) (at : ℕ) → Walked words newest found at → at ≡ 0 → (links : List Link) → IsWholeChain words newest links → found ≡ links
 walked_all words newest found at walked none links w =
     let had = walked links w in
     elim had.2 [
@@ -73,7 +73,7 @@ walked_all words newest found at walked none links w =
     ]
 
 -- where something is left, its first record stands in the words, and the chain is longer than what was found
-pub walked_within : (words : List ℕ) (newest : ℕ) (found : List Link) (at : ℕ) (links : List Link) → Walked words newest found at → (at ≡ 0 → ⊥) → IsWhole words newest links →
+pub walked_within : (words : List ℕ) (newest : ℕ) (found : List Link) (at : ℕ) (links : List Link) → Walked words newest found at → (at ≡ 0 → ⊥) → IsWholeChain words newest links →
     (view_word at < length words) × (length found < length links)
 walked_within words newest found at links walked busy w =
     let had = walked links w in
@@ -118,7 +118,7 @@ entries_few z o words log r =
 
 -- the chain of a component is whole, and has no more links than there are words, and one
 pub whole_chain : (z : Layout) (o : Opening) (words : List ℕ) (log : List Applied) → RecordsAreWithin z o words log → (j : ℕ) → j < z.m →
-    IsWhole words (get_or words j 0) (chain_of o j log) × (length (chain_of o j log) ≤ length words + 1)
+    IsWholeChain words (get_or words j 0) (chain_of o j log) × (length (chain_of o j log) ≤ length words + 1)
 whole_chain z o words log r j below =
     let values = r.values in
     let m = r.sizes.components in

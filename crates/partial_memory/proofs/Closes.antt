@@ -1,5 +1,5 @@
 -- A memory that is closed: the ports that were handed in, and the last state.
-use Rattle.partial_memory.proofs.Common.{ℕ, ◌≡◌, ◌++◌, List, [], ◌∷◌, length, map, refl, sym, ap, subst, ◌∙◌, append_assoc, append-nil, AllByRecursion, nil_from_length, some, get_elem?, State, Me, TableId, Applied, all_append, all_back, all_front, total, RecordsAreWithin, lawful_ports_fit, lawful_records_are_within, About, Seated, AreByOpened, AreOf, IsIn, IsKept, IsLawfulWith, IsShuffle, parts_of, IsOf, MemoryView, PortView, port_view, AreChains, AreValues, Closes, IsPortOf}
+use Rattle.partial_memory.proofs.Common.{ℕ, ◌≡◌, ◌++◌, List, [], ◌∷◌, length, map, refl, sym, ap, subst, ◌∙◌, append_assoc, append-nil, AllByRecursion, nil_from_length, some, get_elem?, State, Me, TableId, Applied, all_append, all_back, all_front, total, RecordsAreWithin, lawful_ports_fit, lawful_records_are_within, About, SeatedPort, AreByOpened, AreSeatedOf, IsIn, IsRuleKept, IsLawfulWith, IsShuffle, parts_of, IsOf, MemoryView, PortView, port_view, AreChains, AreValues, Closes, IsPortOf}
 use Rattle.partial_memory.specs.declared.closed.Closed.{Closed}
 use Rattle.partial_memory.specs.Lawfulness.{ClosesLawfully}
 use Rattle.partial_memory.proofs.Looks.{see_all, to_front}
@@ -8,23 +8,24 @@ use Rattle.partial_memory.proofs.Steps.{entries_opened}
 use Rattle.partial_memory.proofs.Views.{around}
 
 -- what a history tells of a port is what the port knows of it
-port_in : (t : TableId) (log : List Applied) (x : Seated) → IsIn log x → IsPortOf log (port_view t x)
+port_in : (t : TableId) (log : List Applied) (x : SeatedPort) → IsIn log x → IsPortOf log (port_view t x)
 port_in t log x w = record { seen = w.seen; legal = w.fits.legal; once = w.fits.once }
 
 -- The ports taken in so far, of all that were handed in, are those of the seat, of which callers saw the first one and then these.
-pub record Taken (t : TableId) (port : PortView) (all rest : List PortView) (v : List Seated) : Type 0 where
+pub record Taken (t : TableId) (port : PortView) (all rest : List PortView) (v : List SeatedPort) : Type 0 where
   pub taken : List PortView
   pub is : all ≡ rest ++ taken
   pub each : (log : List Applied) → AllByRecursion (IsIn log) v → IsPortOf log port × AllByRecursion (IsPortOf log) taken
-  pub first : Seated
-  pub others : List Seated
+  pub first : SeatedPort
+  pub others : List SeatedPort
   pub shown : port_view t first ≡ port
   pub others_shown : map (port_view t) others ≡ taken
-  pub order : (a all : List Seated) → IsShuffle (v ++ a) all → IsShuffle (first ∷ (others ++ a)) all
+  pub order : (a all : List SeatedPort) → IsShuffle (v ++ a) all → IsShuffle (first ∷ (others ++ a)) all
 
-pub taken_none : {S : Type 0} (me : Me S (List Seated)) (t : TableId) (x : Seated) (port : PortView) (all : List PortView) → me ≡ (x ∷ [], []) → port_view t x ≡ port → Taken t port all all me.0
+pub taken_none : {S : Type 0} (me : Me S (List SeatedPort)) (t : TableId) (x : SeatedPort) (port : PortView) (all : List PortView) → me ≡ (x ∷ [], []) → port_view t x ≡ port →
+    Taken t port all all me.0
 taken_none {S} me t x port all is seen =
-    let one = ap (λ (m : Me S (List Seated)). m.0) is in
+    let one = ap (λ (m : Me S (List SeatedPort)). m.0) is in
     record {
       taken = [];
       is = sym (append-nil all);
@@ -33,13 +34,13 @@ taken_none {S} me t x port all is seen =
       others = [];
       shown = seen;
       others_shown = refl;
-      order = λ a ys s. subst (λ (v : List Seated). IsShuffle (v ++ a) ys) one s;
+      order = λ a ys s. subst (λ (v : List SeatedPort). IsShuffle (v ++ a) ys) one s;
     }
 
-pub taken_more : {S : Type 0} (me : Me S (List Seated)) (t : TableId) (x : Seated) (port p : PortView) (all rest less : List PortView) (v w : List Seated) → Taken t port all rest v →
+pub taken_more : {S : Type 0} (me : Me S (List SeatedPort)) (t : TableId) (x : SeatedPort) (port p : PortView) (all rest less : List PortView) (v w : List SeatedPort) → Taken t port all rest v →
     rest ≡ less ++ p ∷ [] → me ≡ (x ∷ [], []) → port_view t x ≡ p → w ≡ v ++ me.0 → Taken t port all less w
 taken_more {S} me t x port p all rest less v w had pop is seen join =
-    let one : me.0 ≡ x ∷ [] = ap (λ (m : Me S (List Seated)). m.0) is in
+    let one : me.0 ≡ x ∷ [] = ap (λ (m : Me S (List SeatedPort)). m.0) is in
     record {
       taken = p ∷ had.taken;
       is = had.is ∙ ap (λ l. l ++ had.taken) pop ∙ append_assoc less (p ∷ []) had.taken;
@@ -53,16 +54,17 @@ taken_more {S} me t x port p all rest less v w had pop is seen join =
       shown = had.shown;
       others_shown = ap (λ (q : PortView). q ∷ map (port_view t) had.others) seen ∙ ap (λ (l : List PortView). p ∷ l) had.others_shown;
       order = λ a ys s.
-          let here : IsShuffle (v ++ (x ∷ a)) ys = subst (λ l. IsShuffle l ys) (ap (λ (l : List Seated). l ++ a) (join ∙ ap (λ (l : List Seated). v ++ l) one) ∙ append_assoc v (x ∷ []) a) s in
+          let here : IsShuffle (v ++ (x ∷ a)) ys = subst (λ l. IsShuffle l ys) (ap (λ (l : List SeatedPort). l ++ a) (join ∙ ap (λ (l : List SeatedPort). v ++ l) one) ∙ append_assoc v (x ∷ []) a) s in
           put_elsewhere (had.first ∷ had.others) x a (had.first ∷ []) (had.others ++ a) ys refl (had.order (x ∷ a) ys here);
     }
 
 -- the ports of a seat belong to one memory
-pub own_one : {S : Type 0} (me : Me S (List Seated)) (t : TableId) (x : Seated) (p : PortView) (about : About) → me ≡ (x ∷ [], []) → port_view t x ≡ p → p.memory.about ≡ about → AreOf about me.0
-own_one {S} me t x p about is seen own = subst (λ (m : Me S (List Seated)). AreOf about m.0) (sym is) (ap (λ (q : PortView). q.memory.about) seen ∙ own, tt)
+pub own_one : {S : Type 0} (me : Me S (List SeatedPort)) (t : TableId) (x : SeatedPort) (p : PortView) (about : About) → me ≡ (x ∷ [], []) → port_view t x ≡ p → p.memory.about ≡ about →
+    AreSeatedOf about me.0
+own_one {S} me t x p about is seen own = subst (λ (m : Me S (List SeatedPort)). AreSeatedOf about m.0) (sym is) (ap (λ (q : PortView). q.memory.about) seen ∙ own, tt)
 
-pub own_more : (v w both : List Seated) (about : About) → AreOf about v → AreOf about w → both ≡ v ++ w → AreOf about both
-own_more v w both about a b is = subst (AreOf about) (sym is) (all_append (λ (x : Seated). x.about ≡ about) v w a b)
+pub own_more : (v w both : List SeatedPort) (about : About) → AreSeatedOf about v → AreSeatedOf about w → both ≡ v ++ w → AreSeatedOf about both
+own_more v w both about a b is = subst (AreSeatedOf about) (sym is) (all_append (λ (x : SeatedPort). x.about ≡ about) v w a b)
 
 pub of_last : (m : MemoryView) (rest less : List PortView) (p : PortView) → AllByRecursion (IsOf m) rest → rest ≡ less ++ p ∷ [] → AllByRecursion (IsOf m) less × IsOf m p
 of_last m rest less p w is =
@@ -71,7 +73,7 @@ of_last m rest less p w is =
     (all_front (IsOf m) less (p ∷ []) v, last.0)
 
 -- the last state: its words have the records of one history, which all ports of the seat have seen
-pub record Ends (about : About) (words : List ℕ) (v : List Seated) : Type 0 where
+pub record Ends (about : About) (words : List ℕ) (v : List SeatedPort) : Type 0 where
   pub log : List Applied
   pub records : RecordsAreWithin about.sizes about.opening words log
   pub others : AreByOpened about log
@@ -80,8 +82,8 @@ pub record Ends (about : About) (words : List ℕ) (v : List Seated) : Type 0 wh
   -- it is one of the words of a lawful state with that history, and the ports of the seat are among its ports
   pub lawful : IsLawfulWith about log v
 
-pub ends : {S : Type 0} (about : About) (v : List Seated) (id : ℕ) (words : List ℕ) (s : State S (List Seated)) → IsKept about s → get_elem? s.views id ≡ some v → s.words ≡ words →
-    AreOf about v → Ends about words v
+pub ends : {S : Type 0} (about : About) (v : List SeatedPort) (id : ℕ) (words : List ℕ) (s : State S (List SeatedPort)) → IsRuleKept about s → get_elem? s.views id ≡ some v → s.words ≡ words →
+    AreSeatedOf about v → Ends about words v
 ends about v id words s kept at same own =
     let r = around s.views id v at in
     let seen = see_all about s.words kept.log r.before v r.behind kept.all own (subst (λ l. IsShuffle l kept.all) r.now kept.shuffle) kept.lawful kept.opened in
@@ -103,7 +105,8 @@ ends about v id words s kept at same own =
       };
     }
 
-pub closes : (m : MemoryView) (port : PortView) (all rest : List PortView) (v : List Seated) (words : List ℕ) (closed : Closed) (n : ℕ) → (e : Ends m.about words v) → Taken m.table port all rest v →
+pub closes : (m : MemoryView) (port : PortView) (all rest : List PortView) (v : List SeatedPort) (words : List ℕ) (closed : Closed) (n : ℕ) → (e : Ends m.about words v) →
+    Taken m.table port all rest v →
     length rest ≡ 0 → n ≡ m.about.sizes.m →
     AreValues m.about.opening e.log n closed.values.items × AreChains m.about.opening e.log n closed.chains.items → ClosesLawfully m (port ∷ all) closed
 closes m port all rest v words closed n e had empty count shown =

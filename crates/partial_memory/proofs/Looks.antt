@@ -1,26 +1,26 @@
 -- A look at the whole history in a meeting, and the ports of two seats that come together.
-use Rattle.partial_memory.proofs.Common.{ℕ, zero, suc, ◌≡◌, ◌<◌, ◌++◌, List, [], ◌∷◌, map, set, refl, sym, ap, subst, ◌∙◌, append_assoc, AllByRecursion, some, some-injective, some-ne-none, get_elem?, Me, keeps, Allows, Joins, Applied, all_at, all_join, all_before, all_after, port_of, with_seen, Lawful, Fits, lawful_ports_fit, looks_stay_lawful, About, Seated, AreByOpened, AreOf, AreOpened, IsIn, IsKept, IsShuffle, parts_of, flatten, having_met, looks}
+use Rattle.partial_memory.proofs.Common.{ℕ, zero, suc, ◌≡◌, ◌<◌, ◌++◌, List, [], ◌∷◌, map, set, refl, sym, ap, subst, ◌∙◌, append_assoc, AllByRecursion, some, some-injective, some-ne-none, get_elem?, Me, keeps, Allows, Joins, Applied, all_at, all_join, all_before, all_after, port_of, with_seen, Lawful, FitsHistory, lawful_ports_fit, looks_stay_lawful, About, SeatedPort, AreByOpened, AreSeatedOf, AreOpened, IsIn, IsRuleKept, IsShuffle, parts_of, flatten, having_met, looks}
 use lib.Seq.{set-get_or}
 use Rattle.partial_memory.proofs.Shuffles.{find, put_elsewhere}
 use Rattle.partial_memory.proofs.Views.{around, reordered}
 use Rattle.partial_memory.proofs.Steps.{parts_split, entries_opened}
 
 -- the state with the ports of a view that have seen all
-pub record SeenAll (about : About) (words : List ℕ) (log : List Applied) (b v a : List Seated) : Type 0 where
-  pub all : List Seated
+pub record SeenAll (about : About) (words : List ℕ) (log : List Applied) (b v a : List SeatedPort) : Type 0 where
+  pub all : List SeatedPort
   pub shuffle : IsShuffle (b ++ (map (having_met log) v ++ a)) all
   pub lawful : Lawful about.sizes about.opening words (parts_of all) log
   pub opened : AreOpened about.ports all
   pub each : AllByRecursion (IsIn log) v
 
-pub see_all : (about : About) (words : List ℕ) (log : List Applied) (b v a all : List Seated) → AreOf about v → IsShuffle (b ++ (v ++ a)) all →
+pub see_all : (about : About) (words : List ℕ) (log : List Applied) (b v a all : List SeatedPort) → AreSeatedOf about v → IsShuffle (b ++ (v ++ a)) all →
     Lawful about.sizes about.opening words (parts_of all) log →
     AreOpened about.ports all → SeenAll about words log b v a
 see_all about words log b [] a all own shuffle lawful opened = record { all = all; shuffle = shuffle; lawful = lawful; opened = opened; each = tt }
 see_all about words log b (x ∷ xs) a all own shuffle lawful opened =
-    let P : Seated → Type 0 = λ h. port_of h.part < about.ports in
+    let P : SeatedPort → Type 0 = λ h. port_of h.part < about.ports in
     let f = find b x (xs ++ a) all shuffle in
-    let y : Seated = having_met log x in
+    let y : SeatedPort = having_met log x in
     let here : Lawful about.sizes about.opening words (parts_of f.before ++ x.part ∷ parts_of f.after) log =
     subst (λ l. Lawful about.sizes about.opening words l log) (ap parts_of f.is ∙ parts_split f.before x f.after) lawful in
     let look = looks_stay_lawful about.sizes about.opening words (parts_of f.before) x.part (parts_of f.after) log here in
@@ -40,7 +40,7 @@ see_all about words log b (x ∷ xs) a all own shuffle lawful opened =
       each = (
         record {
           seen = look.seen;
-          fits = subst (λ (u : About). Fits u.opening log (with_seen log x.part)) (sym own.0) look.fits;
+          fits = subst (λ (u : About). FitsHistory u.opening log (with_seen log x.part)) (sym own.0) look.fits;
           others = subst (λ (u : About). AreByOpened u log) (sym own.0) others;
         },
         rest.each,
@@ -48,14 +48,14 @@ see_all about words log b (x ∷ xs) a all own shuffle lawful opened =
     }
 
 -- the ports of a view come to the front
-pub to_front : (b v a all : List Seated) → IsShuffle (b ++ (v ++ a)) all → IsShuffle (v ++ (b ++ a)) all
+pub to_front : (b v a all : List SeatedPort) → IsShuffle (b ++ (v ++ a)) all → IsShuffle (v ++ (b ++ a)) all
 to_front b [] a all s = s
 to_front b (x ∷ v) a all s =
     let first : IsShuffle (x ∷ (b ++ (v ++ a))) all = put_elsewhere b x (v ++ a) [] (b ++ (v ++ a)) all refl s in
     (first.0, first.1, first.2, to_front b v a (first.0 ++ first.1) first.3)
 
 -- a look is allowed
-pub looks_on : {S : Type 0} (about : About) (slots id : ℕ) (me : Me S (List Seated)) → AreOf about me.0 → Allows (IsKept about) slots id me 0 (λ n. n) (looks me)
+pub looks_on : {S : Type 0} (about : About) (slots id : ℕ) (me : Me S (List SeatedPort)) → AreSeatedOf about me.0 → Allows (IsRuleKept about) slots id me 0 (λ n. n) (looks me)
 looks_on about slots id me own table kept homes at small =
     let r = around table.views id me.0 at in
     let s = see_all about table.words kept.log r.before me.0 r.behind kept.all own (subst (λ l. IsShuffle l kept.all) r.now kept.shuffle) kept.lawful kept.opened in (
@@ -88,16 +88,16 @@ looks_on about slots id me own table kept homes at small =
     )
 
 -- A single port of another view comes behind those of a view.
-record Apart (views after : List (List Seated)) (x : Seated) : Type 0 where
-  b : List Seated
-  a : List Seated
-  d : List Seated
-  e : List Seated
+record Apart (views after : List (List SeatedPort)) (x : SeatedPort) : Type 0 where
+  b : List SeatedPort
+  a : List SeatedPort
+  d : List SeatedPort
+  e : List SeatedPort
   now : flatten views ≡ b ++ x ∷ a
   less : b ++ a ≡ d ++ e
   then : flatten after ≡ d ++ x ∷ e
 
-apart : (views : List (List Seated)) (id other : ℕ) (v : List Seated) (x : Seated) → get_elem? views id ≡ some v → (other ≡ id → ⊥) →
+apart : (views : List (List SeatedPort)) (id other : ℕ) (v : List SeatedPort) (x : SeatedPort) → get_elem? views id ≡ some v → (other ≡ id → ⊥) →
     get_elem? (set views id (v ++ x ∷ [])) other ≡ some (x ∷ []) → Apart views (set (set views id (v ++ x ∷ [])) other []) x
 apart [] id other v x e ne g = absurd (some-ne-none v (sym e))
 apart (u ∷ us) zero zero v x e ne g = absurd (ne refl)
@@ -138,8 +138,8 @@ apart (u ∷ us) (suc id) (suc other) v x e ne g =
     }
 
 -- a seat may take in the one port of another
-pub gathers : {S : Type 0} (about : About) (id : ℕ) (v : List Seated) (other : ℕ) (w : List Seated) (x : Seated) → w ≡ x ∷ [] → Joins {S = S} (IsKept about) id v other w (v ++ w) []
-gathers {S} about id v other w x one = subst (λ u. Joins {S = S} (IsKept about) id v other u (v ++ u) []) (sym one) (λ s kept at ne there.
+pub gathers : {S : Type 0} (about : About) (id : ℕ) (v : List SeatedPort) (other : ℕ) (w : List SeatedPort) (x : SeatedPort) → w ≡ x ∷ [] → Joins {S = S} (IsRuleKept about) id v other w (v ++ w) []
+gathers {S} about id v other w x one = subst (λ u. Joins {S = S} (IsRuleKept about) id v other u (v ++ u) []) (sym one) (λ s kept at ne there.
     let r = apart s.views id other v x at ne there in
     let put = put_elsewhere r.b x r.a r.d r.e kept.all r.less (subst (λ l. IsShuffle l kept.all) r.now kept.shuffle) in
     reordered about s (set (set s.views id (v ++ x ∷ [])) other []) kept (subst (λ l. IsShuffle l kept.all) (sym r.then) put))

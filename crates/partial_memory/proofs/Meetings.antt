@@ -1,13 +1,13 @@
 -- Two ports that meet.
-use Rattle.partial_memory.proofs.Common.{ℕ, ◌≡◌, ◌++◌, List, [], ◌∷◌, map, refl, sym, ap, subst, ◌∙◌, AllByRecursion, Me, TableId, Applied, CoreState, About, Seated, AreOf, IsIn, IsLawfulWith, first_of, having_met, looks, one_in, others_of, IsResting, Knows, MemoryView, PortView, port_view, Meets}
+use Rattle.partial_memory.proofs.Common.{ℕ, ◌≡◌, ◌++◌, List, [], ◌∷◌, map, refl, sym, ap, subst, ◌∙◌, AllByRecursion, Me, TableId, Applied, CoreState, About, SeatedPort, AreSeatedOf, IsIn, IsLawfulWith, first_port, having_met, looks, one_in, further_ports, IsResting, Knows, MemoryView, PortView, port_view, Meets}
 use Rattle.partial_memory.specs.Lawfulness.{MeetsLawfully}
 
 -- what a port knows of the history that it has seen in a meeting
-knows_met : (t : TableId) (log : List Applied) (x : Seated) → IsIn log x → Knows (port_view t (having_met log x))
+knows_met : (t : TableId) (log : List Applied) (x : SeatedPort) → IsIn log x → Knows (port_view t (having_met log x))
 knows_met t log x w = record { history = w.fits.history; legal = w.fits.legal; once = w.fits.once; others = w.others }
 
 -- it is between calls yet
-pub rests_met : (views after : List (List Seated)) (core : CoreState) (number : ℕ) (log : List Applied) → IsResting views core number → IsIn log (one_in views) →
+pub rests_met : (views after : List (List SeatedPort)) (core : CoreState) (number : ℕ) (log : List Applied) → IsResting views core number → IsIn log (one_in views) →
     after ≡ (having_met log (one_in views) ∷ []) ∷ [] → IsResting after core number
 rests_met views after core number log w fit is =
     let y = having_met log (one_in views) in
@@ -21,21 +21,21 @@ rests_met views after core number log w fit is =
       fits = fit.fits;
       others = fit.others;
     } in
-    subst (λ (v : List (List Seated)). IsResting v core number) (sym is) rest
+    subst (λ (v : List (List SeatedPort)). IsResting v core number) (sym is) rest
 
 -- the ports of two seats, and what a look told them
-pub record Looked (x y : Seated) (v : List Seated) : Type 0 where
+pub record Looked (x y : SeatedPort) (v : List SeatedPort) : Type 0 where
   pub log : List Applied
   pub is : v ≡ having_met log x ∷ having_met log y ∷ []
   pub first : IsIn log x
   pub second : IsIn log y
   pub lawful : IsLawfulWith x.about log v
 
-pub looked : {S : Type 0} (x y : Seated) (me me' : Me S (List Seated)) (n : ℕ) → me.0 ≡ x ∷ y ∷ [] → looks me n me' → Looked x y me'.0
+pub looked : {S : Type 0} (x y : SeatedPort) (me me' : Me S (List SeatedPort)) (n : ℕ) → me.0 ≡ x ∷ y ∷ [] → looks me n me' → Looked x y me'.0
 looked x y me me' n is w =
     let log : List Applied = w.log in
     let each : AllByRecursion (IsIn log) (x ∷ y ∷ []) = subst (AllByRecursion (IsIn log)) is w.each in
-    let own : AreOf w.about (x ∷ y ∷ []) = subst (AreOf w.about) is w.own in
+    let own : AreSeatedOf w.about (x ∷ y ∷ []) = subst (AreSeatedOf w.about) is w.own in
     record {
       log = log;
       is = w.seen ∙ ap (map (having_met log)) is;
@@ -44,15 +44,16 @@ looked x y me me' n is w =
       lawful = subst (λ (o : About). IsLawfulWith o log me'.0) (sym own.0) w.lawful;
     }
 
-pub both_of : (about : About) (x y : Seated) (v : List Seated) → v ≡ x ∷ y ∷ [] → x.about ≡ about → y.about ≡ about → AreOf about v
-both_of about x y v is own own' = subst (AreOf about) (sym is) (own, (own', tt))
+pub both_of : (about : About) (x y : SeatedPort) (v : List SeatedPort) → v ≡ x ∷ y ∷ [] → x.about ≡ about → y.about ≡ about → AreSeatedOf about v
+both_of about x y v is own own' = subst (AreSeatedOf about) (sym is) (own, (own', tt))
 
-pub meets : (t t' u u' : TableId) (x y : Seated) (v : List Seated) (views views' : List (List Seated)) (p q : PortView) → Looked x y v → port_view t x ≡ p → port_view t' y ≡ q → u ≡ t → u' ≡ t' →
-    views ≡ first_of v ∷ [] → views' ≡ others_of v ∷ [] →
+pub meets : (t t' u u' : TableId) (x y : SeatedPort) (v : List SeatedPort) (views views' : List (List SeatedPort)) (p q : PortView) → Looked x y v → port_view t x ≡ p → port_view t' y ≡ q → u ≡ t →
+    u' ≡ t' →
+    views ≡ first_port v ∷ [] → views' ≡ further_ports v ∷ [] →
     Meets p q (port_view u (one_in views)) (port_view u' (one_in views'))
 meets t t' u u' x y v views views' p q w seen seen' same same' is is' =
-    let one : one_in views ≡ having_met w.log x = ap one_in (is ∙ ap (λ (l : List Seated). first_of l ∷ []) w.is) in
-    let two : one_in views' ≡ having_met w.log y = ap one_in (is' ∙ ap (λ (l : List Seated). others_of l ∷ []) w.is) in
+    let one : one_in views ≡ having_met w.log x = ap one_in (is ∙ ap (λ (l : List SeatedPort). first_port l ∷ []) w.is) in
+    let two : one_in views' ≡ having_met w.log y = ap one_in (is' ∙ ap (λ (l : List SeatedPort). further_ports l ∷ []) w.is) in
     let met : Meets (port_view t x) (port_view t' y) (port_view t (having_met w.log x)) (port_view t' (having_met w.log y)) = record {
       log = w.log;
       first = refl;
@@ -70,11 +71,12 @@ meets t t' u u' x y v views views' p q w seen seen' same same' is is' =
     (subst (λ (d : PortView). Meets (port_view t x) (port_view t' y) (port_view t (having_met w.log x)) d) second met)))
 
 -- the meeting was in a lawful state, whose history is the one that both have seen
-pub meets_lawfully : (u u' : TableId) (x y : Seated) (v : List Seated) (views views' : List (List Seated)) (m : MemoryView) → Looked x y v → u ≡ m.table → u' ≡ m.table → x.about ≡ m.about →
-    views ≡ first_of v ∷ [] → views' ≡ others_of v ∷ [] → MeetsLawfully m (port_view u (one_in views)) (port_view u' (one_in views'))
+pub meets_lawfully : (u u' : TableId) (x y : SeatedPort) (v : List SeatedPort) (views views' : List (List SeatedPort)) (m : MemoryView) → Looked x y v → u ≡ m.table → u' ≡ m.table →
+    x.about ≡ m.about →
+    views ≡ first_port v ∷ [] → views' ≡ further_ports v ∷ [] → MeetsLawfully m (port_view u (one_in views)) (port_view u' (one_in views'))
 meets_lawfully u u' x y v views views' m w same same' own is is' =
-    let one : one_in views ≡ having_met w.log x = ap one_in (is ∙ ap (λ (l : List Seated). first_of l ∷ []) w.is) in
-    let two : one_in views' ≡ having_met w.log y = ap one_in (is' ∙ ap (λ (l : List Seated). others_of l ∷ []) w.is) in
+    let one : one_in views ≡ having_met w.log x = ap one_in (is ∙ ap (λ (l : List SeatedPort). first_port l ∷ []) w.is) in
+    let two : one_in views' ≡ having_met w.log y = ap one_in (is' ∙ ap (λ (l : List SeatedPort). further_ports l ∷ []) w.is) in
     let lawful : IsLawfulWith m.about w.log (having_met w.log x ∷ having_met w.log y ∷ []) =
     subst (IsLawfulWith m.about w.log) w.is (subst (λ (o : About). IsLawfulWith o w.log v) own w.lawful) in
     let met : MeetsLawfully m (port_view m.table (having_met w.log x)) (port_view m.table (having_met w.log y)) = (
@@ -95,6 +97,6 @@ meets_lawfully u u' x y v views views' m w same same' own is is' =
     subst (λ (c : PortView). MeetsLawfully m c (port_view u' (one_in views'))) first (subst (λ (d : PortView). MeetsLawfully m (port_view m.table (having_met w.log x)) d) second met)
 
 -- the ports of two seats that came together
-pub joined : {S : Type 0} (x y : Seated) (a b m : Me S (List Seated)) → a ≡ (x ∷ [], []) → b ≡ (y ∷ [], []) → m ≡ (a.0 ++ b.0, a.1) → m.0 ≡ x ∷ y ∷ []
+pub joined : {S : Type 0} (x y : SeatedPort) (a b m : Me S (List SeatedPort)) → a ≡ (x ∷ [], []) → b ≡ (y ∷ [], []) → m ≡ (a.0 ++ b.0, a.1) → m.0 ≡ x ∷ y ∷ []
 joined {S} x y a b m one two is =
-    ap (λ (v : Me S (List Seated)). v.0) is ∙ ap (λ (v : Me S (List Seated)). v.0 ++ b.0) one ∙ ap (λ (v : Me S (List Seated)). x ∷ v.0) two
+    ap (λ (v : Me S (List SeatedPort)). v.0) is ∙ ap (λ (v : Me S (List SeatedPort)). v.0 ++ b.0) one ∙ ap (λ (v : Me S (List SeatedPort)). x ∷ v.0) two

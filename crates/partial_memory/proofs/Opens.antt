@@ -1,5 +1,5 @@
 -- A memory as it opens, and its ports.
-use Rattle.partial_memory.proofs.Common.{ℕ, zero, suc, ◌≡◌, ◌+◌, ◌-◌, ◌<◌, ◌≤◌, ◌++◌, List, [], ◌∷◌, refl, sym, ap, subst, ◌∙◌, arith, append-nil, append_assoc, Me, opening, TableId, Layout, IsLayout, OpensWith, CoreState, fresh, rests_are_sound, fresh_parts, Lawful, opens_lawful, ports_come_between, About, Seated, AreOpened, IsKept, IsShuffle, newcomer, newcomers, parts_of, first_of, others_of, one_in, PortView, port_view, IsResting, new_ports}
+use Rattle.partial_memory.proofs.Common.{ℕ, zero, suc, ◌≡◌, ◌+◌, ◌-◌, ◌<◌, ◌≤◌, ◌++◌, List, [], ◌∷◌, refl, sym, ap, subst, ◌∙◌, arith, append-nil, append_assoc, Me, opening, TableId, Layout, IsLayout, OpensWith, CoreState, fresh, rests_are_sound, fresh_parts, Lawful, opens_lawful, ports_come_between, About, SeatedPort, AreOpened, IsRuleKept, IsShuffle, newcomer, newcomers, parts_of, first_port, further_ports, one_in, PortView, port_view, IsResting, new_ports}
 use Rattle.partial_memory.proofs.Shuffles.{same_order}
 
 newcomers_parts : (about : About) (port n : ℕ) → parts_of (newcomers about port n) ≡ fresh_parts about.sizes port n
@@ -11,7 +11,7 @@ newcomers_below about port zero most far = tt
 newcomers_below about port (suc n) most far = (omega (arith, far), newcomers_below about (port + 1) n most (omega (arith, far)))
 
 pub opens : {S : Type 0} (about : About) (words : List ℕ) → OpensWith about.sizes about.opening words → about.ports ≤ 64 →
-    IsKept {S = S} about (opening words [] (newcomers about 0 about.ports))
+    IsRuleKept {S = S} about (opening words [] (newcomers about 0 about.ports))
 opens about words opened few = record {
   log = [];
   all = newcomers about 0 about.ports;
@@ -35,27 +35,28 @@ newcomer_rests about i layout = record {
   others = tt;
 }
 
-module _ (about : About) (i n : ℕ) (inside : i < n) (v : List Seated) (left : v ≡ newcomers about i (n - i)) where
-  pub newcomer_next : first_of v ≡ newcomer about i ∷ []
-  newcomer_next = ap first_of (left ∙ next_new about i n inside)
+module _ (about : About) (i n : ℕ) (inside : i < n) (v : List SeatedPort) (left : v ≡ newcomers about i (n - i)) where
+  pub newcomer_next : first_port v ≡ newcomer about i ∷ []
+  newcomer_next = ap first_port (left ∙ next_new about i n inside)
 
-  pub rests_new : (views : List (List Seated)) (core : CoreState) (z : Layout) → IsLayout z → views ≡ first_of v ∷ [] → core ≡ fresh z i → about.sizes ≡ z → IsResting views core i
+  pub rests_new : (views : List (List SeatedPort)) (core : CoreState) (z : Layout) → IsLayout z → views ≡ first_port v ∷ [] → core ≡ fresh z i → about.sizes ≡ z → IsResting views core i
   rests_new views core z layout is idle sizes =
-      let e : views ≡ (newcomer about i ∷ []) ∷ [] = is ∙ ap (λ (w : List Seated). w ∷ []) newcomer_next in
+      let e : views ≡ (newcomer about i ∷ []) ∷ [] = is ∙ ap (λ (w : List SeatedPort). w ∷ []) newcomer_next in
       let rest = newcomer_rests about i (subst IsLayout (sym sizes) layout) in
       let core_is = idle ∙ ap (λ (y : Layout). fresh y i) (sym sizes) in
       let here = subst (λ (s : CoreState). IsResting ((newcomer about i ∷ []) ∷ []) s i) (sym core_is) rest in
-      subst (λ (w : List (List Seated)). IsResting w core i) (sym e) here
+      subst (λ (w : List (List SeatedPort)). IsResting w core i) (sym e) here
 
-  pub deals_next : {S : Type 0} (me : Me S (List Seated)) (at : List (ℕ × S)) → me ≡ (others_of v, at) → at ≡ [] → (me.0 ≡ newcomers about (i + 1) (n - (i + 1))) × (me.1 ≡ [])
-  deals_next {S} me at is none = (ap (λ (m : Me S (List Seated)). m.0) is ∙ ap others_of (left ∙ next_new about i n inside), ap (λ (m : Me S (List Seated)). m.1) is ∙ none)
+  pub deals_next : {S : Type 0} (me : Me S (List SeatedPort)) (at : List (ℕ × S)) → me ≡ (further_ports v, at) → at ≡ [] → (me.0 ≡ newcomers about (i + 1) (n - (i + 1))) × (me.1 ≡ [])
+  deals_next {S} me at is none = (ap (λ (m : Me S (List SeatedPort)). m.0) is ∙ ap further_ports (left ∙ next_new about i n inside), ap (λ (m : Me S (List SeatedPort)). m.1) is ∙ none)
 
-  pub made_next : {S : Type 0} (t : TableId) (all old new : List PortView) (p : PortView) (views : List (List Seated)) (me : Me S (List Seated)) (at : List (ℕ × S)) →
-      all ≡ old ++ new_ports t v → new ≡ old ++ p ∷ [] → views ≡ first_of v ∷ [] → p ≡ port_view t (one_in views) → me ≡ (others_of v, at) → all ≡ new ++ new_ports t me.0
+  pub made_next : {S : Type 0} (t : TableId) (all old new : List PortView) (p : PortView) (views : List (List SeatedPort)) (me : Me S (List SeatedPort)) (at : List (ℕ × S)) →
+      all ≡ old ++ new_ports t v → new ≡ old ++ p ∷ [] → views ≡ first_port v ∷ [] → p ≡ port_view t (one_in views) → me ≡ (further_ports v, at) → all ≡ new ++ new_ports t me.0
   made_next {S} t all old new p views me at made is here port less =
-      let one : p ≡ port_view t (newcomer about i) = port ∙ ap (λ (w : List (List Seated)). port_view t (one_in w)) here ∙ ap (λ (w : List Seated). port_view t (one_in (w ∷ []))) newcomer_next in
+      let one : p ≡ port_view t (newcomer about i) = port ∙ ap (λ (w : List (List SeatedPort)). port_view t (one_in w)) here ∙
+      ap (λ (w : List SeatedPort). port_view t (one_in (w ∷ []))) newcomer_next in
       let rest : new_ports t me.0 ≡ new_ports t (newcomers about (i + 1) (n - (i + 1))) =
-      ap (λ (m : Me S (List Seated)). new_ports t m.0) less ∙ ap (λ (w : List Seated). new_ports t (others_of w)) (left ∙ next_new about i n inside) in
+      ap (λ (m : Me S (List SeatedPort)). new_ports t m.0) less ∙ ap (λ (w : List SeatedPort). new_ports t (further_ports w)) (left ∙ next_new about i n inside) in
       let this : new_ports t v ≡ p ∷ new_ports t me.0 =
       ap (new_ports t) (left ∙ next_new about i n inside) ∙ ap (λ (q : PortView). q ∷ new_ports t (newcomers about (i + 1) (n - (i + 1)))) (sym one) ∙ ap (λ l. p ∷ l) (sym rest) in
       made ∙ ap (λ l. old ++ l) this ∙ sym (append_assoc old (p ∷ []) (new_ports t me.0)) ∙ ap (λ l. l ++ new_ports t me.0) (sym is)

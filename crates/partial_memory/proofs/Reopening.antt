@@ -3,10 +3,10 @@ use Rattle.partial_memory.proofs.Common.{ℕ, zero, suc, ◌≡◌, ◌-◌, ◌
 use Rattle.std.specs.Option.{option_map_or}
 use Rattle.partial_model.proofs.HistoryLemmas.{behind_both}
 use Rattle.partial_model.specs.History.{IsHistory, last_from, last_entry, value_of}
-use Rattle.partial_memory.specs.Reopening.{ClosedMemoriesContinue, extended, with_zeros}
+use Rattle.partial_memory.specs.Reopening.{ClosedMemoriesContinue, extended_values, with_zeros}
 
 -- values to which zeros were added
-pub grown_is_extended : (m n : ℕ) (all old values : List ℕ) → all ≡ take m old ++ replicate (m - n) 0 → old ≡ values → n ≡ length values → length values ≤ m → all ≡ extended m values
+pub grown_is_extended : (m n : ℕ) (all old values : List ℕ) → all ≡ take m old ++ replicate (m - n) 0 → old ≡ values → n ≡ length values → length values ≤ m → all ≡ extended_values m values
 grown_is_extended m n all old values grown same count fits =
     grown ∙ ap (λ (l : List ℕ). take m l ++ replicate (m - n) 0) same ∙ ap (λ (l : List ℕ). l ++ replicate (m - n) 0) (take_all m values fits) ∙ ap (λ (k : ℕ). values ++ replicate (m - k) 0) count
 

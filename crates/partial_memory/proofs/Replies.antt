@@ -1,5 +1,5 @@
 -- What a call that has ended leaves of its port, by its reply.
-use Rattle.partial_memory.proofs.Common.{ℕ, ◌≡◌, ◌≤◌, ◌<◌, ◌+◌, ◌++◌, ◌||◌, false, cond, Option, Some, None, List, [], ◌∷◌, length, map, slice_index, refl, sym, ap, subst, ◌∙◌, arith, inr, Result, Err, IfOk, IfErr, ne_eqb, TableId, Call, Refused, Finished, ScanBegun, CoreState, reply_of, scanned_values, answer_for, begin_scan, begun_of, call_of, scan_refusal, update_refusal, IsRefusedBy, refuses_pool, refuses_slots, Kept, answers_of, core_of, AreNotesOf, IsNoteOf, IsPlacedAt, IsRefusal, made_calls_make_their_steps, Layout, IsLayout, greatest_record, pool_end, About, scan_reply, Seated, one_in, CallMade, Ended, PortView, port_view, refusal, IsResting, Knows, Goes, CountsSteps, Answered, IsPastEnd, RefusedLate, IsRefused, is_pool, is_slots, Updates, UpdatesIf, Reads, Scans}
+use Rattle.partial_memory.proofs.Common.{ℕ, ◌≡◌, ◌≤◌, ◌<◌, ◌+◌, ◌++◌, ◌||◌, false, cond, Option, Some, None, List, [], ◌∷◌, length, map, slice_index, refl, sym, ap, subst, ◌∙◌, arith, inr, Result, Err, IfOk, IfErr, ne_eqb, TableId, Call, Refused, Finished, ScanBegun, CoreState, reply_of, scanned_values, answer_for, begin_scan, begun_of, call_of, core_scan_refusal, core_update_refusal, IsRefusedBy, refuses_pool, refuses_slots, KeptAnswer, answers_of, core_of, AreNotesOf, IsNoteOf, IsPlacedAt, IsRefusal, made_calls_make_their_steps, Layout, IsLayout, greatest_record, pool_end, About, scan_reply, SeatedPort, one_in, CallMade, Ended, PortView, port_view, refusal, IsResting, Knows, Goes, CountsSteps, Answered, IsPastEnd, RefusedLate, IsRefused, is_pool, is_slots, Updates, UpdatesIf, Reads, Scans}
 use Rattle.std.specs.Prelude.{Ok}
 use Rattle.partial_model.specs.declared.call.Call.TheVariants as call
 use Rattle.partial_model.specs.declared.call.Answer.TheVariants as answer
@@ -16,13 +16,13 @@ use Rattle.partial_machine.specs.Steps.{Run, AreOfScan, pairs_loaded}
 use Rattle.partial_lines.specs.declared.whole_scan.Scanned.{Scanned}
 use Rattle.partial_memory.specs.declared.answers.Updated.TheVariants as updated
 use Rattle.partial_memory.specs.declared.answers.UpdatedIf.TheVariants as conditional
-use Rattle.partial_memory.specs.Led.{BeganAs, IsLed, IsLedTo, IsLedToRefusal, IsLedWhereLate, ScanIsLed, ScansLed}
+use Rattle.partial_memory.specs.Led.{BeganAs, IsLed, IsLedToAnswer, IsLedToRefusal, IsLedWhereLate, ScanIsLed, ScansLed}
 use Rattle.partial_memory.proofs.Resting.{CallBegins, call_begins, scan_begins}
 
 -- a call that was answered: its note fits and has its place in what is seen now, and its answers led it there
 pub record IsAnswered (p q : PortView) (c : Call) (machine : CoreState) (r : Reply) : Type 0 where
   pub note : Note
-  pub led : IsLedTo p q c (answer_for machine r)
+  pub led : IsLedToAnswer p q c (answer_for machine r)
   pub answered : Answered p q c (answer_for machine r) note
   pub fits : NoteFits (length q.memory.about.opening.values) c (answer_for machine r) (Some note)
   pub placed : IsPlacedAt r note (length q.seen)
@@ -38,7 +38,7 @@ slots_refused_is refused.SlotsSpent = refl
 slots_refused_is refused.PoolSpent = refl
 
 -- the last of some kept answers
-last_kept : (kept : List Kept) (front : List ℕ) (last : ℕ) → answers_of kept ≡ front ++ last ∷ [] → (f : List Kept) × (k : Kept) × (kept ≡ f ++ k ∷ []) × (k.answer ≡ last)
+last_kept : (kept : List KeptAnswer) (front : List ℕ) (last : ℕ) → answers_of kept ≡ front ++ last ∷ [] → (f : List KeptAnswer) × (k : KeptAnswer) × (kept ≡ f ++ k ∷ []) × (k.answer ≡ last)
 last_kept [] [] last e = cc
 last_kept [] (y ∷ ys) last e = cc
 last_kept (k ∷ []) [] last e = let same : k.answer ≡ last = cc in ([], k, refl, same)
@@ -48,7 +48,7 @@ last_kept (k ∷ ks) (y ∷ ys) last e =
     let more = last_kept ks ys last rest in
     (k ∷ more.0, more.1, ap (λ l. k ∷ l) more.2, more.3)
 
-module _ (t : TableId) (b : CoreState) (x : Seated) (c : CoreState) (y : Seated) (m : CallMade b x c y) (call : Call) (w : CallBegins t x b call) where
+module _ (t : TableId) (b : CoreState) (x : SeatedPort) (c : CoreState) (y : SeatedPort) (m : CallMade b x c y) (call : Call) (w : CallBegins t x b call) where
   abbrev p : PortView
   p = port_view t x
 
@@ -167,21 +167,21 @@ module _ (t : TableId) (b : CoreState) (x : Seated) (c : CoreState) (y : Seated)
 
 -- how an update ends, by its reply
 abbrev pub UpdateTold : PortView → ℕ → ℕ → Reply → PortView → Type 0
-UpdateTold p j v (reply.Applied stamp) q = Updates p j v (updated.Applied stamp) q × IsLedTo p q (call.Update j v) (answer.Applied stamp)
-UpdateTold p j v (reply.Lost by) q = Updates p j v (updated.Lost by) q × IsLedTo p q (call.Update j v) (answer.Lost by)
+UpdateTold p j v (reply.Applied stamp) q = Updates p j v (updated.Applied stamp) q × IsLedToAnswer p q (call.Update j v) (answer.Applied stamp)
+UpdateTold p j v (reply.Lost by) q = Updates p j v (updated.Lost by) q × IsLedToAnswer p q (call.Update j v) (answer.Lost by)
 UpdateTold p j v (reply.Refused cause) q = RefusedLate p q (call.Update j v) cause × IsLedToRefusal p q (call.Update j v) cause
 UpdateTold p j v _ q = ⊥
 
 -- a conditional one
 abbrev pub UpdateIfTold : PortView → ℕ → ℕ → ℕ → Reply → PortView → Type 0
-UpdateIfTold p j x v (reply.Applied stamp) q = UpdatesIf p j x v (conditional.Applied stamp) q × IsLedTo p q (call.UpdateIf j x v) (answer.Applied stamp)
-UpdateIfTold p j x v (reply.Changed by) q = UpdatesIf p j x v (conditional.Changed by) q × IsLedTo p q (call.UpdateIf j x v) (answer.Changed by)
+UpdateIfTold p j x v (reply.Applied stamp) q = UpdatesIf p j x v (conditional.Applied stamp) q × IsLedToAnswer p q (call.UpdateIf j x v) (answer.Applied stamp)
+UpdateIfTold p j x v (reply.Changed by) q = UpdatesIf p j x v (conditional.Changed by) q × IsLedToAnswer p q (call.UpdateIf j x v) (answer.Changed by)
 UpdateIfTold p j x v (reply.Refused cause) q = RefusedLate p q (call.UpdateIf j x v) cause × IsLedToRefusal p q (call.UpdateIf j x v) cause
 UpdateIfTold p j x v _ q = ⊥
 
 -- a read is never refused behind a step
 abbrev pub ReadTold : PortView → ℕ → Reply → PortView → Type 0
-ReadTold p j (reply.Read v s) q = Reads p j v s q × IsLedTo p q (call.Read j) (answer.Read v s)
+ReadTold p j (reply.Read v s) q = Reads p j v s q × IsLedToAnswer p q (call.Read j) (answer.Read v s)
 ReadTold p j _ q = ⊥
 
 -- a scan: its values are the machine's
@@ -223,7 +223,7 @@ module _ (p q : PortView) (c : CoreState) where
   read_note j v s (note.Wrote n) a f = absurd f
   read_note j v s (note.Lost n) a f = absurd f
 
-module _ (t : TableId) (b : CoreState) (x : Seated) (c : CoreState) (y : Seated) (m : CallMade b x c y) where
+module _ (t : TableId) (b : CoreState) (x : SeatedPort) (c : CoreState) (y : SeatedPort) (m : CallMade b x c y) where
   noted_by : (r : Reply) → reply_of c ≡ Some r → AreNotesOf y.part (Some r) m.made.new
   noted_by r is = subst (λ f. AreNotesOf y.part f m.made.new) is m.made.noted
 
@@ -291,20 +291,20 @@ module _ (t : TableId) (b : CoreState) (x : Seated) (c : CoreState) (y : Seated)
   scan_told which w stage asked (reply.Changed s) is = let a = answered_with t b x c y m (call.Scan which) w (reply.Changed s) is refl refl (noted_by (reply.Changed s) is) in absurd a.fits
 
 -- the same at a call, from a port between calls that callers see as p, to one that they see as q
-module _ (views : List (List Seated)) (core : CoreState) (number : ℕ) (w : IsResting views core number) (t t' : TableId) (same : t' ≡ t) (p : PortView) (seen : port_view t (one_in views) ≡ p)
-    (b : CoreState) (r : Reply) (next : CoreState) (y : Seated) (e : Ended b (one_in views) r next y) where
+module _ (views : List (List SeatedPort)) (core : CoreState) (number : ℕ) (w : IsResting views core number) (t t' : TableId) (same : t' ≡ t) (p : PortView) (seen : port_view t (one_in views) ≡ p)
+    (b : CoreState) (r : Reply) (next : CoreState) (y : SeatedPort) (e : Ended b (one_in views) r next y) where
   seen_as : (P : PortView → PortView → Type 0) → P (port_view t (one_in views)) (port_view t y) → P p (port_view t' y)
   seen_as P h = subst (λ (u : TableId). P p (port_view u y)) (sym same) (subst (λ (v : PortView). P v (port_view t y)) seen h)
 
-  pub update_ended : (j v : ℕ) → update_refusal core j ≡ None → b ≡ begun_of core (call.Update j v) → (s : Reply) → r ≡ s → UpdateTold p j v s (port_view t' y)
+  pub update_ended : (j v : ℕ) → core_update_refusal core j ≡ None → b ≡ begun_of core (call.Update j v) → (s : Reply) → r ≡ s → UpdateTold p j v s (port_view t' y)
   update_ended j v none is s told = seen_as (λ a z. UpdateTold a j v s z)
       (update_told t b (one_in views) e.machine y e.made j v (call_begins views core number w t b (call.Update j v) tt none refl is) s (e.replies ∙ ap Some told))
 
-  pub update_if_ended : (j x v : ℕ) → update_refusal core j ≡ None → b ≡ begun_of core (call.UpdateIf j x v) → (s : Reply) → r ≡ s → UpdateIfTold p j x v s (port_view t' y)
+  pub update_if_ended : (j x v : ℕ) → core_update_refusal core j ≡ None → b ≡ begun_of core (call.UpdateIf j x v) → (s : Reply) → r ≡ s → UpdateIfTold p j x v s (port_view t' y)
   update_if_ended j x v none is s told = seen_as (λ a z. UpdateIfTold a j x v s z)
       (update_if_told t b (one_in views) e.machine y e.made j x v (call_begins views core number w t b (call.UpdateIf j x v) tt none refl is) s (e.replies ∙ ap Some told))
 
-  pub scan_ended : (which : List ℕ) → length which ≤ core.sizes.m → (length which ≡ 0 → ⊥) → scan_refusal core which ≡ None → b ≡ begin_scan core which → (s : Reply) → r ≡ s →
+  pub scan_ended : (which : List ℕ) → length which ≤ core.sizes.m → (length which ≡ 0 → ⊥) → core_scan_refusal core which ≡ None → b ≡ begin_scan core which → (s : Reply) → r ≡ s →
       ScanTold p which e.machine s (port_view t' y)
   scan_ended which served some none is s told =
       let begins = scan_begins views core number w t b which served some none is in

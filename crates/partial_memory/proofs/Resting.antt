@@ -1,5 +1,5 @@
 -- A port between two calls: how it begins one, and that it is between two again once that has ended.
-use Rattle.partial_memory.proofs.Common.{ℕ, ◌≡◌, ◌≤◌, ◌==◌, true, false, cond, Some, None, List, [], ◌∷◌, length, refl, sym, ap, subst, ◌∙◌, is_some, ne_eqb, TableId, Call, Layout, IsLayout, Finished, ScanBegun, CoreState, at_stage, IsServed, begin_scan, begun_of, call_of, makes_steps, refusal_of, scan_refusal, calls_begin, IsMarkedLike, core_of, port_of, Fits, calls_begin_between, ports_come_between, About, Seated, IsBadgeOfOne, AreByOpened, one_in, Begins, Ended, IsOf, IsResting, MemoryView, PortView, port_view, refusal}
+use Rattle.partial_memory.proofs.Common.{ℕ, ◌≡◌, ◌≤◌, ◌==◌, true, false, cond, Some, None, List, [], ◌∷◌, length, refl, sym, ap, subst, ◌∙◌, is_some, ne_eqb, TableId, Call, Layout, IsLayout, Finished, ScanBegun, CoreState, at_stage, IsServed, begin_scan, begun_of, call_of, makes_steps, refusal_of, core_scan_refusal, calls_begin, IsMarkedLike, core_of, port_of, FitsHistory, calls_begin_between, ports_come_between, About, SeatedPort, IsBadgeOfOne, AreByOpened, one_in, Begins, Ended, IsOf, IsResting, MemoryView, PortView, port_view, refusal}
 use Rattle.partial_model.specs.declared.call.Call.TheVariants as call
 use Rattle.partial_model.specs.Refusals.{refusal_at_once}
 use Rattle.partial_machine.specs.declared.stage.Reply.{Reply}
@@ -8,12 +8,12 @@ use Rattle.partial_machine.specs.Lines.{asking, scan_asked}
 use Rattle.partial_machine.specs.Sound.{IsSound}
 
 -- a call that a port begins
-pub record CallBegins (t : TableId) (x : Seated) (b : CoreState) (c : Call) : Type 0 where
+pub record CallBegins (t : TableId) (x : SeatedPort) (b : CoreState) (c : Call) : Type 0 where
   pub begins : Begins b x
   pub call : call_of b ≡ Some c
   pub allowed : refusal (port_view t x) c ≡ None
 
-module _ (views : List (List Seated)) (core : CoreState) (number : ℕ) (w : IsResting views core number) where
+module _ (views : List (List SeatedPort)) (core : CoreState) (number : ℕ) (w : IsResting views core number) where
   pub refusal_here : (t : TableId) (c : Call) → refusal (port_view t (one_in views)) c ≡ refusal_of core c
   refusal_here t c =
       let x = one_in views in
@@ -52,13 +52,13 @@ asked_begins core which some =
     let begins : (length which == 0) ≡ false = ne_eqb (length which) 0 some in
     sym (ap (λ b. at_stage (asking core which) (cond b (Finished (reply.Scanned 0 None)) ScanBegun)) begins)
 
-pub scan_begins : (views : List (List Seated)) (core : CoreState) (number : ℕ) → IsResting views core number → (t : TableId) (b : CoreState) (which : List ℕ) → length which ≤ core.sizes.m →
+pub scan_begins : (views : List (List SeatedPort)) (core : CoreState) (number : ℕ) → IsResting views core number → (t : TableId) (b : CoreState) (which : List ℕ) → length which ≤ core.sizes.m →
     (length which ≡ 0 → ⊥) →
-    scan_refusal core which ≡ None → b ≡ begin_scan core which → CallBegins t (one_in views) b (call.Scan which)
+    core_scan_refusal core which ≡ None → b ≡ begin_scan core which → CallBegins t (one_in views) b (call.Scan which)
 scan_begins views core number w t b which served some none is = call_begins views core number w t b (call.Scan which) served none (some_positions which some) is
 
 -- a call has ended, and its port is between calls
-pub rests : (views : List (List Seated)) (b : CoreState) (x : Seated) (r : Reply) (core : CoreState) (number : ℕ) → IsBadgeOfOne views → Begins b x →
+pub rests : (views : List (List SeatedPort)) (b : CoreState) (x : SeatedPort) (r : Reply) (core : CoreState) (number : ℕ) → IsBadgeOfOne views → Begins b x →
     Ended b x r core (one_in views) → number ≡ port_of x.part → IsResting views core number
 rests views b x r core number one begins e named =
     let y = one_in views in
@@ -74,11 +74,11 @@ rests views b x r core number one begins e named =
       layout = subst IsLayout (begins.sizes ∙ sym sizes) begins.layout;
       sizes = sizes ∙ ap (λ (o : About). o.sizes) (sym m.about);
       number = named ∙ sym m.made.port;
-      fits = subst (λ (o : About). Fits o.opening y.part.seen y.part) (sym m.about) m.made.fits;
+      fits = subst (λ (o : About). FitsHistory o.opening y.part.seen y.part) (sym m.about) m.made.fits;
       others = subst (λ (o : About). AreByOpened o y.part.seen) (sym m.about) m.others;
     }
 
 -- a port stays one of its memory
-pub same_memory : (t t' : TableId) (x y : Seated) (p : PortView) (m : MemoryView) → port_view t x ≡ p → IsOf m p → t' ≡ t → y.about ≡ x.about → IsOf m (port_view t' y)
+pub same_memory : (t t' : TableId) (x y : SeatedPort) (p : PortView) (m : MemoryView) → port_view t x ≡ p → IsOf m p → t' ≡ t → y.about ≡ x.about → IsOf m (port_view t' y)
 same_memory t t' x y p m seen own table about =
     ap (λ (u : TableId). record { table = u; about = y.about }) table ∙ ap (λ (o : About). record { table = t; about = o }) about ∙ ap (λ (v : PortView). v.memory) seen ∙ own

@@ -1,5 +1,5 @@
 -- Each step that is due is allowed: whatever the table is then, the words and the ports of all seats stay those of a lawful state.
-use Rattle.partial_memory.proofs.Common.{ℕ, zero, suc, ◌≡◌, ◌+◌, ◌<◌, ◌==◌, ◌%◌, ◌^◌, ◌++◌, Bool, true, false, cond, Some, List, [], ◌∷◌, map, get_or, set, refl, sym, ap, subst, ◌∙◌, arith, AllByRecursion, some, get_elem?, Me, keeps, Allows, Applied, Step, Load, Store, Exchange, Add, word_of, answer_of, words_after, CoreState, step_of, all_at, all_join, all_before, all_after, Part, IsMachineOf, port_of, Lawful, LeadsOn, added_by, steps_stay_lawful, lawful_ports_fit, lawful_machines_are_ready, About, Seated, AreOpened, AreByOpened, Told, IsKept, IsShuffle, IsOne, one_of, parts_of, makes}
+use Rattle.partial_memory.proofs.Common.{ℕ, zero, suc, ◌≡◌, ◌+◌, ◌<◌, ◌==◌, ◌%◌, ◌^◌, ◌++◌, Bool, true, false, cond, Some, List, [], ◌∷◌, map, get_or, set, refl, sym, ap, subst, ◌∙◌, arith, AllByRecursion, some, get_elem?, Me, keeps, Allows, Applied, Step, Load, Store, Exchange, Add, word_of, answer_of, words_after, CoreState, step_of, all_at, all_join, all_before, all_after, Part, IsMachineOf, port_of, Lawful, LeadsOn, added_by, steps_stay_lawful, lawful_ports_fit, lawful_machines_are_ready, About, SeatedPort, AreOpened, AreByOpened, Told, IsRuleKept, IsShuffle, IsOne, one_of, parts_of, makes}
 use Rattle.std.specs.List.{Contains}
 use lib.Seq.{set-get_or}
 use prog.Atomic.{either}
@@ -20,7 +20,7 @@ told_of (Exchange w old new) n = n
 told_of (Add w k) n = n
 
 -- the parts before, here and behind
-pub parts_split : (before : List Seated) (x : Seated) (after : List Seated) → parts_of (before ++ x ∷ after) ≡ parts_of before ++ x.part ∷ parts_of after
+pub parts_split : (before : List SeatedPort) (x : SeatedPort) (after : List SeatedPort) → parts_of (before ++ x ∷ after) ≡ parts_of before ++ x.part ∷ parts_of after
 parts_split [] x after = refl
 parts_split (b ∷ before) x after = ap (λ l. b.part ∷ l) (parts_split before x after)
 
@@ -42,18 +42,18 @@ told_then words (Exchange w old new) = refl
 told_then words (Add w k) = refl
 
 -- a port among those of the parts is one that was opened
-contained_opened : (n p : ℕ) (xs : List Seated) → AreOpened n xs → Contains (map port_of (parts_of xs)) p → p < n
+contained_opened : (n p : ℕ) (xs : List SeatedPort) → AreOpened n xs → Contains (map port_of (parts_of xs)) p → p < n
 contained_opened n p [] w (k, below, is) = absurd (omega (arith, below))
 contained_opened n p (x ∷ xs) w (zero, below, is) = let here = w.0 in omega (arith, here, is)
 contained_opened n p (x ∷ xs) w (suc k, below, is) = contained_opened n p xs w.1 (k, omega (arith, below), is)
 
 -- so each entry is by a port that was opened
-pub entries_opened : (about : About) (xs : List Seated) (log : List Applied) → AreOpened about.ports xs →
+pub entries_opened : (about : About) (xs : List SeatedPort) (log : List Applied) → AreOpened about.ports xs →
     AllByRecursion (λ (e : Applied). Contains (map port_of (parts_of xs)) e.port) log → AreByOpened about log
 entries_opened about xs [] w each = tt
 entries_opened about xs (e ∷ log) w each = (contained_opened about.ports e.port xs w each.0, entries_opened about xs log w each.1)
 
-module _ (words : List ℕ) (before : List Seated) (x : Seated) (after : List Seated) (log : List Applied) (c : CoreState) (s : Step)
+module _ (words : List ℕ) (before : List SeatedPort) (x : SeatedPort) (after : List SeatedPort) (log : List Applied) (c : CoreState) (s : Step)
     (w : Lawful x.about.sizes x.about.opening words (parts_of (before ++ x ∷ after)) log) (opened : AreOpened x.about.ports (before ++ x ∷ after))
     (machine : IsMachineOf c x.part) (due : step_of c ≡ Some s) where
   lawful_here : Lawful x.about.sizes x.about.opening words (parts_of before ++ x.part ∷ parts_of after) log
@@ -63,7 +63,7 @@ module _ (words : List ℕ) (before : List Seated) (x : Seated) (after : List Se
   leads = steps_stay_lawful x.about.sizes x.about.opening words (parts_of before) x.part (parts_of after) log c s lawful_here machine due
 
   -- the port behind the step, and the history
-  abbrev pub next : Seated
+  abbrev pub next : SeatedPort
   next = record { about = x.about; part = leads.y; steps = x.steps + 1 }
 
   abbrev pub longer : List Applied
@@ -71,7 +71,7 @@ module _ (words : List ℕ) (before : List Seated) (x : Seated) (after : List Se
 
   pub opened_then : AreOpened x.about.ports (before ++ next ∷ after)
   opened_then =
-      let P : Seated → Type 0 = λ h. port_of h.part < x.about.ports in
+      let P : SeatedPort → Type 0 = λ h. port_of h.part < x.about.ports in
       let here = all_at P before x after opened in
       let same = leads.tells.port in
       all_join P before next after (all_before P before x after opened) (omega (arith, same, here)) (all_after P before x after opened)
@@ -95,16 +95,16 @@ module _ (words : List ℕ) (before : List Seated) (x : Seated) (after : List Se
       }
 
 -- the step can be made, and keeps the rule
-step_kept : {S : Type 0} (slots id : ℕ) (me : Me S (List Seated)) (c : CoreState) (s : Step) → IsOne me → IsMachineOf c (one_of me.0).part →
-    step_of c ≡ Some s → Allows (IsKept (one_of me.0).about) slots id me (word_of s) (change_of s) (λ n. makes c me (told_of s n))
+step_kept : {S : Type 0} (slots id : ℕ) (me : Me S (List SeatedPort)) (c : CoreState) (s : Step) → IsOne me → IsMachineOf c (one_of me.0).part →
+    step_of c ≡ Some s → Allows (IsRuleKept (one_of me.0).about) slots id me (word_of s) (change_of s) (λ n. makes c me (told_of s n))
 step_kept {S} slots id me c s one machine due table kept homes at small =
-    let x : Seated = one_of me.0 in
+    let x : SeatedPort = one_of me.0 in
     let r = around table.views id (x ∷ []) (subst (λ v. get_elem? table.views id ≡ some v) one.0 at) in
     let f = find r.before x r.behind kept.all (subst (λ l. IsShuffle l kept.all) r.now kept.shuffle) in
     let w : Lawful x.about.sizes x.about.opening table.words (parts_of (f.before ++ x ∷ f.after)) kept.log =
     subst (λ l. Lawful x.about.sizes x.about.opening table.words (parts_of l) kept.log) f.is kept.lawful in
     let opened : AreOpened x.about.ports (f.before ++ x ∷ f.after) = subst (AreOpened x.about.ports) f.is kept.opened in
-    let y : Seated = next table.words f.before x f.after kept.log c s w opened machine due in
+    let y : SeatedPort = next table.words f.before x f.after kept.log c s w opened machine due in
     let log : List Applied = longer table.words f.before x f.after kept.log c s w opened machine due in (
       y ∷ [],
       keeps,
@@ -121,12 +121,12 @@ step_kept {S} slots id me c s one machine due table kept homes at small =
     )
 
 -- the same at a call, where the step is one of the four kinds
-pub step_asked : {S : Type 0} (about : About) (slots count id : ℕ) (me : Me S (List Seated)) (c d : CoreState) (t s : Step) →
+pub step_asked : {S : Type 0} (about : About) (slots count id : ℕ) (me : Me S (List SeatedPort)) (c d : CoreState) (t s : Step) →
     word_of t < count → IsOne me → (one_of me.0).about ≡ about → c ≡ d → IsMachineOf c (one_of me.0).part × (step_of c ≡ Some t) → t ≡ s →
-    (word_of s < count) × Allows (IsKept about) slots id me (word_of s) (change_of s) (λ n. makes d me (told_of s n))
+    (word_of s < count) × Allows (IsRuleKept about) slots id me (word_of s) (change_of s) (λ n. makes d me (told_of s n))
 step_asked about slots count id me c d t s within one own same due is =
     let step : step_of c ≡ Some s = due.1 ∙ ap Some is in
     let due' : IsMachineOf d (one_of me.0).part × (step_of d ≡ Some s) = subst (λ (z : CoreState). IsMachineOf z (one_of me.0).part × (step_of z ≡ Some s)) same (due.0, step) in (
       subst (λ u. word_of u < count) is within,
-      subst (λ (a : About). Allows (IsKept a) slots id me (word_of s) (change_of s) (λ n. makes d me (told_of s n))) own (step_kept slots id me d s one due'.0 due'.1),
+      subst (λ (a : About). Allows (IsRuleKept a) slots id me (word_of s) (change_of s) (λ n. makes d me (told_of s n))) own (step_kept slots id me d s one due'.0 due'.1),
     )

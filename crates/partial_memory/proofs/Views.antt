@@ -1,15 +1,15 @@
 -- The parts of all views: around one view, cut off and gathered.
-use Rattle.partial_memory.proofs.Common.{◌≡◌, ℕ, zero, suc, List, [], ◌∷◌, ◌++◌, set, refl, ap, sym, ◌∙◌, subst, append_assoc, append-nil, some, some-injective, some-ne-none, get_elem?, State, Splits, About, Seated, flatten, IsKept, IsShuffle, others_of, first_of}
+use Rattle.partial_memory.proofs.Common.{◌≡◌, ℕ, zero, suc, List, [], ◌∷◌, ◌++◌, set, refl, ap, sym, ◌∙◌, subst, append_assoc, append-nil, some, some-injective, some-ne-none, get_elem?, State, Splits, About, SeatedPort, flatten, IsRuleKept, IsShuffle, further_ports, first_port}
 use Rattle.partial_memory.proofs.Shuffles.{put_elsewhere}
 
 -- the parts before and behind those of the view at a place, whatever that view becomes
-pub record Around (views : List (List Seated)) (id : ℕ) (v : List Seated) : Type 0 where
-  pub before : List Seated
-  pub behind : List Seated
+pub record Around (views : List (List SeatedPort)) (id : ℕ) (v : List SeatedPort) : Type 0 where
+  pub before : List SeatedPort
+  pub behind : List SeatedPort
   pub now : flatten views ≡ before ++ (v ++ behind)
-  pub then : (w : List Seated) → flatten (set views id w) ≡ before ++ (w ++ behind)
+  pub then : (w : List SeatedPort) → flatten (set views id w) ≡ before ++ (w ++ behind)
 
-pub around : (views : List (List Seated)) (id : ℕ) (v : List Seated) → get_elem? views id ≡ some v → Around views id v
+pub around : (views : List (List SeatedPort)) (id : ℕ) (v : List SeatedPort) → get_elem? views id ≡ some v → Around views id v
 around [] id v e = absurd (some-ne-none v (sym e))
 around (u ∷ us) zero v e = record {
   before = [];
@@ -24,17 +24,17 @@ around (u ∷ us) (suc id) v e = let r = around us id v e in record {
   then = λ w. ap (λ l. u ++ l) (r.then w) ∙ sym (append_assoc u r.before (w ++ r.behind));
 }
 
-pub flatten-snoc : (views : List (List Seated)) (v : List Seated) → flatten (views ++ v ∷ []) ≡ flatten views ++ (v ++ [])
+pub flatten-snoc : (views : List (List SeatedPort)) (v : List SeatedPort) → flatten (views ++ v ∷ []) ≡ flatten views ++ (v ++ [])
 flatten-snoc [] v = refl
 flatten-snoc (u ∷ us) v = ap (λ l. u ++ l) (flatten-snoc us v) ∙ sym (append_assoc u (flatten us) (v ++ []))
 
 -- a state with the parts in another order
-pub reordered : {S : Type 0} (about : About) (s : State S (List Seated)) (views : List (List Seated)) → (kept : IsKept about s) → IsShuffle (flatten views) kept.all →
-    IsKept about (record { words = s.words; homes = s.homes; views = views })
+pub reordered : {S : Type 0} (about : About) (s : State S (List SeatedPort)) (views : List (List SeatedPort)) → (kept : IsRuleKept about s) → IsShuffle (flatten views) kept.all →
+    IsRuleKept about (record { words = s.words; homes = s.homes; views = views })
 reordered about s views kept shuffle = record { log = kept.log; all = kept.all; shuffle = shuffle; lawful = kept.lawful; opened = kept.opened }
 
 -- the first part may have a seat of its own
-pub deals : {S : Type 0} (about : About) (id : ℕ) (v : List Seated) → Splits {S = S} (IsKept about) id v (others_of v) (first_of v)
+pub deals : {S : Type 0} (about : About) (id : ℕ) (v : List SeatedPort) → Splits {S = S} (IsRuleKept about) id v (further_ports v) (first_port v)
 deals about id [] s kept at =
     let r = around s.views id [] at in
     let same : flatten (set s.views id [] ++ [] ∷ []) ≡ flatten s.views = flatten-snoc (set s.views id []) [] ∙ append-nil (flatten (set s.views id [])) ∙ r.then [] ∙ sym r.now in

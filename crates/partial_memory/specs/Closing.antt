@@ -17,7 +17,7 @@ use Rattle.partial_memory.specs.Rule.{AreByOpened}
 use Rattle.partial_memory.specs.Ports.{MemoryView, PortView}
 
 -- the links are the chain of records from that word on, none of which stands at word 0
-pub record IsWhole (words : List ℕ) (at : ℕ) (links : List Link) : Type 0 where
+pub record IsWholeChain (words : List ℕ) (at : ℕ) (links : List Link) : Type 0 where
   pub chain : IsChain words at links
   pub stands : AllByRecursion (λ l. 0 < l.stamp) links
 
@@ -38,19 +38,19 @@ pub record AreChains (o : Opening) (log : List Applied) (m : ℕ) (chains : List
 
 -- the words have a whole chain from that word on, of at most n + 1 links
 abbrev pub HaveChain : List ℕ → ℕ → ℕ → Type 0
-HaveChain words at n = (links : List Link) × IsWhole words at links × (length links ≤ n + 1)
+HaveChain words at n = (links : List Link) × IsWholeChain words at links × (length links ≤ n + 1)
 
 -- these are the links of the whole chain from that word on
 abbrev pub AreLinks : List ℕ → ℕ → List Link → Type 0
-AreLinks words at found = (links : List Link) → IsWhole words at links → found ≡ links
+AreLinks words at found = (links : List Link) → IsWholeChain words at links → found ≡ links
 
 -- the words have the records of a history of m components
 abbrev pub HaveRecords : List ℕ → ℕ → Type 0
 HaveRecords words m = (z : Layout) × (o : Opening) × (log : List Applied) × RecordsAreWithin z o words log × (z.m ≡ m)
 
 -- these are the values and the chains after each history of which the words have the records
-abbrev pub Holds : List ℕ → ℕ → Closed → Type 0
-Holds words m c =
+abbrev pub HoldsClosed : List ℕ → ℕ → Closed → Type 0
+HoldsClosed words m c =
     (z : Layout) (o : Opening) (log : List Applied)
     → RecordsAreWithin z o words log → z.m ≡ m → AreValues o log m c.values.items × AreChains o log m c.chains.items
 

@@ -3,16 +3,16 @@ use Rattle.std.specs.Prelude.{ℕ, ◌≡◌, List, [], ◌∷◌, ◌++◌, map
 use Rattle.partial_model.specs.declared.history.Applied.{Applied}
 use Rattle.partial_core.specs.Lawful.{Lawful}
 use Rattle.partial_memory.specs.declared.closed.Closed.{Closed}
-use Rattle.partial_memory.specs.Rule.{Seated, AreOpened, IsShuffle, parts_of}
+use Rattle.partial_memory.specs.Rule.{SeatedPort, AreOpened, IsShuffle, parts_of}
 use Rattle.partial_memory.specs.Ports.{MemoryView, PortView, port_view}
 use Rattle.partial_memory.specs.Closing.{Closes}
 
 -- The memory was in a lawful state with that history: words, and the parts of all its ports in some order, these among them.
 pub record WasLawful (m : MemoryView) (log : List Applied) (ports : List PortView) : Type 0 where
   pub words : List ℕ
-  pub here : List Seated
-  pub others : List Seated
-  pub all : List Seated
+  pub here : List SeatedPort
+  pub others : List SeatedPort
+  pub all : List SeatedPort
   pub shown : map (port_view m.table) here ≡ ports
   pub shuffle : IsShuffle (here ++ others) all
   pub opened : AreOpened m.about.ports all

@@ -40,7 +40,7 @@ pub record IsLed (p q : PortView) (c : Call) (r : Reply) : Type 0 where
   pub replies : reply_of machine ≡ Some r
 
 -- they lead it to this answer
-pub record IsLedTo (p q : PortView) (c : Call) (a : Answer) : Type 0 where
+pub record IsLedToAnswer (p q : PortView) (c : Call) (a : Answer) : Type 0 where
   pub reply : Reply
   pub led : IsLed p q c reply
   pub answer : a ≡ answer_for led.machine reply
@@ -56,7 +56,7 @@ IsLedWhereLate p q c cause = refusal p c ≡ None → IsLedToRefusal p q c cause
 
 -- a scan of some positions, with the number of steps that it makes
 pub record ScanIsLed (p : PortView) (which values : List ℕ) (s : Scanned) (q : PortView) : Type 0 where
-  pub to : IsLedTo p q (call.Scan which) (answer.Scanned values s.collects s.borrowed)
+  pub to : IsLedToAnswer p q (call.Scan which) (answer.Scanned values s.collects s.borrowed)
   pub steps : AreOfScan (length which) s.collects (pairs_loaded to.led.begun (answers_of q.kept)) (length q.kept) s.borrowed
 
 -- a scan of no position makes no step

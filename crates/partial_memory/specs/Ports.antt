@@ -15,12 +15,12 @@ use Rattle.partial_words.specs.Layout.{Layout, IsLayout, greatest_record, pool_e
 use Rattle.partial_machine.specs.Machine.{CoreState}
 use Rattle.partial_machine.specs.Sound.{IsSound}
 use Rattle.partial_machine.specs.Bounds.{most_steps}
-use Rattle.partial_core.specs.Part.{Kept, core_of, first_at, port_of, IsBetween}
-use Rattle.partial_core.specs.Steps.{Fits}
+use Rattle.partial_core.specs.Part.{KeptAnswer, core_of, first_at, port_of, IsBetween}
+use Rattle.partial_core.specs.Steps.{FitsHistory}
 use Rattle.partial_memory.specs.declared.rule.About.{About}
 use Rattle.partial_memory.specs.declared.error.OpenError.{OpenError}
 use Rattle.partial_memory.specs.declared.error.OpenError.TheVariants.{Ports, TooSmall, Memory}
-use Rattle.partial_memory.specs.Rule.{Seated, IsBadgeOfOne, AreByOpened, one_in}
+use Rattle.partial_memory.specs.Rule.{SeatedPort, IsBadgeOfOne, AreByOpened, one_in}
 
 -- which memory it is, and what it was opened with
 pub record MemoryView : Type 0 where
@@ -37,10 +37,10 @@ pub record PortView : Type 0 where
   pub pool_spent : Bool
   pub slots_spent : Bool
   pub steps : ℕ
-  pub kept : List Kept
+  pub kept : List KeptAnswer
 
 -- a port as a contract sees it, by the table and what its seat knows
-abbrev pub port_view : TableId → Seated → PortView
+abbrev pub port_view : TableId → SeatedPort → PortView
 port_view table x = record {
   memory = record { table = table; about = x.about };
   number = port_of x.part;
@@ -53,7 +53,7 @@ port_view table x = record {
 }
 
 -- the ports of a new memory
-abbrev pub new_ports : TableId → List Seated → List PortView
+abbrev pub new_ports : TableId → List SeatedPort → List PortView
 new_ports table xs = map (port_view table) xs
 
 -- the port belongs to the memory
@@ -69,7 +69,7 @@ pub record Knows (p : PortView) : Type 0 where
   pub others : AreByOpened p.memory.about p.seen
 
 -- a port between two calls, with its machine
-pub record IsResting (views : List (List Seated)) (core : CoreState) (named : ℕ) : Type 0 where
+pub record IsResting (views : List (List SeatedPort)) (core : CoreState) (named : ℕ) : Type 0 where
   pub one : IsBadgeOfOne views
   pub between : IsBetween (one_in views).part core
   -- the machine to which the answers of its last call led
@@ -77,7 +77,7 @@ pub record IsResting (views : List (List Seated)) (core : CoreState) (named : �
   pub layout : IsLayout core.sizes
   pub sizes : core.sizes ≡ (one_in views).about.sizes
   pub number : named ≡ port_of (one_in views).part
-  pub fits : Fits (one_in views).about.opening (one_in views).part.seen (one_in views).part
+  pub fits : FitsHistory (one_in views).about.opening (one_in views).part.seen (one_in views).part
   pub others : AreByOpened (one_in views).about (one_in views).part.seen
 
 -- what every call does to its port: the history that it has observed grows, and it has noted these calls more
@@ -125,8 +125,8 @@ IsPastEnd z x refused.SlotsSpent = z.slots ≤ x
 IsPastEnd z x refused.PoolSpent = (size : ℕ) × (size ≤ greatest_record z) × (pool_end z < x + size)
 
 -- the last of the answers puts a claim past the end
-abbrev pub EndsPastEnd : Layout → List Kept → Refused → Type 0
-EndsPastEnd z kept cause = (front : List Kept) × (last : Kept) × (kept ≡ front ++ last ∷ []) × IsPastEnd z last.answer cause
+abbrev pub EndsPastEnd : Layout → List KeptAnswer → Refused → Type 0
+EndsPastEnd z kept cause = (front : List KeptAnswer) × (last : KeptAnswer) × (kept ≡ front ++ last ∷ []) × IsPastEnd z last.answer cause
 
 -- A call that was refused behind some steps: by the last of them, its claim, which went past the end of its region. Nothing is noted,
 -- and the port is marked for the region.

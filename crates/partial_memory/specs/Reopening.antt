@@ -8,12 +8,12 @@ use Rattle.partial_memory.specs.declared.error.OpenError.TheVariants.{Ports, Too
 use Rattle.partial_memory.specs.Closing.{AreValues}
 
 -- the values, and zeros behind them up to m of them
-abbrev pub extended : ℕ → List ℕ → List ℕ
-extended m values = values ++ replicate (m - length values) 0
+abbrev pub extended_values : ℕ → List ℕ → List ℕ
+extended_values m values = values ++ replicate (m - length values) 0
 
 -- the opening with zeros for added components, m of them in all
 abbrev pub with_zeros : ℕ → Opening → Opening
-with_zeros m o = record { values = extended m o.values; first = o.first }
+with_zeros m o = record { values = extended_values m o.values; first = o.first }
 
 -- A memory that opens with `second` goes on where the history `log` of `first` ended: after each history of its own a component has the
 -- value that it would have after both, one behind the other, over the first opening with zeros for added components. Stamps aren't
@@ -31,7 +31,7 @@ ContinuesAll values second =
 -- each opening with the values of a closed memory, and zeros behind them, goes on where its history ended
 abbrev pub ClosedMemoriesContinue : Type 0
 ClosedMemoriesContinue =
-    (values : List ℕ) (m : ℕ) (second : Opening) → second.values ≡ extended m values → ContinuesAll values second
+    (values : List ℕ) (m : ℕ) (second : Opening) → second.values ≡ extended_values m values → ContinuesAll values second
 
 -- Why a memory of m components may not open with these numbers of ports and of values of a closed one: Ports when there are not 1 to 64,
 -- otherwise TooSmall when there are more values than components, and Memory only when neither is so.

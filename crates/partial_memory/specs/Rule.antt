@@ -8,26 +8,26 @@ use Rattle.partial_machine.specs.Machine.{CoreState}
 use Rattle.partial_machine.specs.Sound.{IsSound}
 use Rattle.partial_core.specs.Part.{Part, core_of, port_of, fresh_part, with_seen}
 use Rattle.partial_core.specs.Lawful.{Lawful}
-use Rattle.partial_core.specs.Steps.{Fits, Tells}
+use Rattle.partial_core.specs.Steps.{FitsHistory, Tells}
 use Rattle.partial_memory.specs.declared.rule.About.{About}
 
 -- what a seat knows of a port: the memory that it belongs to, the port's part of the lawful state, and how many steps it has made
-pub record Seated : Type 0 where
+pub record SeatedPort : Type 0 where
   pub about : About
   pub part : Part
   pub steps : ℕ
 
 -- the ports of all views
-abbrev pub flatten : List (List Seated) → List Seated
+abbrev pub flatten : List (List SeatedPort) → List SeatedPort
 flatten [] = []
 flatten (v ∷ vs) = v ++ flatten vs
 
 -- the parts of these ports
-abbrev pub parts_of : List Seated → List Part
+abbrev pub parts_of : List SeatedPort → List Part
 parts_of xs = map (λ x. x.part) xs
 
 -- each port is one of those that were opened
-abbrev pub AreOpened : ℕ → List Seated → Type 0
+abbrev pub AreOpened : ℕ → List SeatedPort → Type 0
 AreOpened n xs = AllByRecursion (λ x. port_of x.part < n) xs
 
 -- the second list has the elements of the first, in any order
@@ -36,43 +36,43 @@ IsShuffle [] ys = ys ≡ []
 IsShuffle {A} (x ∷ xs) ys = (before : List A) × (after : List A) × (ys ≡ before ++ x ∷ after) × IsShuffle xs (before ++ after)
 
 -- the rule: for one history and some order of the ports the words are lawful with the ports of all views
-pub record IsKept {S : Type 0} (about : About) (s : State S (List Seated)) : Type 0 where
+pub record IsRuleKept {S : Type 0} (about : About) (s : State S (List SeatedPort)) : Type 0 where
   pub log : List Applied
-  pub all : List Seated
+  pub all : List SeatedPort
   pub shuffle : IsShuffle (flatten s.views) all
   pub lawful : Lawful about.sizes about.opening s.words (parts_of all) log
   pub opened : AreOpened about.ports all
 
 -- a port that has made no call
-abbrev pub newcomer : About → ℕ → Seated
+abbrev pub newcomer : About → ℕ → SeatedPort
 newcomer about port = record { about = about; part = fresh_part about.sizes port; steps = 0 }
 
 -- n such ports from that number on
-abbrev pub newcomers : About → ℕ → ℕ → List Seated
+abbrev pub newcomers : About → ℕ → ℕ → List SeatedPort
 newcomers about port zero = []
 newcomers about port (suc n) = newcomer about port ∷ newcomers about (port + 1) n
 
 -- what stands for a port when a view has none
-abbrev pub nobody : Seated
+abbrev pub nobody : SeatedPort
 nobody =
     newcomer (record { sizes = record { m = 1; slots = 1; lists = 0; pool = 3 }; opening = record { values = []; first = 0 }; ports = 0 }) 0
 
 -- the first port of a view
-abbrev pub one_of : List Seated → Seated
+abbrev pub one_of : List SeatedPort → SeatedPort
 one_of [] = nobody
 one_of (x ∷ xs) = x
 
 -- the first port of the first view
-abbrev pub one_in : List (List Seated) → Seated
+abbrev pub one_in : List (List SeatedPort) → SeatedPort
 one_in [] = nobody
 one_in (v ∷ vs) = one_of v
 
 -- the seat stands for one port, and has no slot; the badge is the seat of one port
-abbrev pub IsOne : {S : Type 0} → Me S (List Seated) → Type 0
+abbrev pub IsOne : {S : Type 0} → Me S (List SeatedPort) → Type 0
 IsOne me = (me.0 ≡ one_of me.0 ∷ []) × (me.1 ≡ [])
 
 -- a badge of one seat in which there is one port
-abbrev pub IsBadgeOfOne : List (List Seated) → Type 0
+abbrev pub IsBadgeOfOne : List (List SeatedPort) → Type 0
 IsBadgeOfOne views = views ≡ (one_in views ∷ []) ∷ []
 
 -- each entry is by one of the ports that were opened
@@ -80,7 +80,7 @@ abbrev pub AreByOpened : About → List Applied → Type 0
 AreByOpened about h = AllByRecursion (λ e. e.port < about.ports) h
 
 -- what a seat learns by a step of the machine c: what its port learns by the law of steps, and that each entry is by a port that was opened
-pub record Told (c : CoreState) (x : Seated) (a : ℕ) (y : Seated) : Type 0 where
+pub record Told (c : CoreState) (x : SeatedPort) (a : ℕ) (y : SeatedPort) : Type 0 where
   pub about : y.about ≡ x.about
   pub steps : y.steps ≡ x.steps + 1
   pub sound : IsSound c
@@ -90,7 +90,7 @@ pub record Told (c : CoreState) (x : Seated) (a : ℕ) (y : Seated) : Type 0 whe
   pub others : AreByOpened x.about y.part.seen
 
 -- the seat is of one port, and learns this by the step
-abbrev pub makes : {S : Type 0} → CoreState → Me S (List Seated) → ℕ → Me S (List Seated) → Type 0
+abbrev pub makes : {S : Type 0} → CoreState → Me S (List SeatedPort) → ℕ → Me S (List SeatedPort) → Type 0
 makes c me a me' = IsOne me' × Told c (one_of me.0) a (one_of me'.0)
 
 -- the machine of a port that has begun a read of that component
@@ -98,60 +98,60 @@ abbrev pub reading : Part → ℕ → CoreState
 reading x j = record (core_of x) { asked = []; stage = ReadBegun j }
 
 -- a load begins a read
-abbrev pub begins_read : {S : Type 0} → Step S → Me S (List Seated) → ℕ → Me S (List Seated) → Type 0
+abbrev pub begins_read : {S : Type 0} → Step S → Me S (List SeatedPort) → ℕ → Me S (List SeatedPort) → Type 0
 begins_read s me = makes (reading (one_of me.0).part s.word) me
 
 -- a further step of the call of a seat: of the machine to which the port's kept answers lead
-abbrev pub goes_on : {S : Type 0} → Step S → Me S (List Seated) → ℕ → Me S (List Seated) → Type 0
+abbrev pub goes_on : {S : Type 0} → Step S → Me S (List SeatedPort) → ℕ → Me S (List SeatedPort) → Type 0
 goes_on s me = makes (core_of (one_of me.0).part) me
 
 -- the first port of a view, as a view of its own
-abbrev pub first_of : List Seated → List Seated
-first_of [] = []
-first_of (x ∷ xs) = x ∷ []
+abbrev pub first_port : List SeatedPort → List SeatedPort
+first_port [] = []
+first_port (x ∷ xs) = x ∷ []
 
 -- the ports of a view but the first
-abbrev pub others_of : List Seated → List Seated
-others_of [] = []
-others_of (x ∷ xs) = xs
+abbrev pub further_ports : List SeatedPort → List SeatedPort
+further_ports [] = []
+further_ports (x ∷ xs) = xs
 
 -- how many loads a meeting makes: one as the seats are joined, one to look, and one as they are split
 abbrev pub meeting_steps : ℕ
 meeting_steps = 3
 
 -- the port after it has observed that history in a meeting
-abbrev pub having_met : List Applied → Seated → Seated
+abbrev pub having_met : List Applied → SeatedPort → SeatedPort
 having_met log x = record { about = x.about; part = with_seen log x.part; steps = x.steps + meeting_steps }
 
 -- the port has seen a beginning of the history, and knows what a port knows of it
-pub record IsIn (log : List Applied) (x : Seated) : Type 0 where
+pub record IsIn (log : List Applied) (x : SeatedPort) : Type 0 where
   pub seen : x.part.seen ≡ take (length x.part.seen) log
-  pub fits : Fits x.about.opening log (with_seen log x.part)
+  pub fits : FitsHistory x.about.opening log (with_seen log x.part)
   pub others : AreByOpened x.about log
 
 -- the ports belong to that memory
-abbrev pub AreOf : About → List Seated → Type 0
-AreOf about xs = AllByRecursion (λ x. x.about ≡ about) xs
+abbrev pub AreSeatedOf : About → List SeatedPort → Type 0
+AreSeatedOf about xs = AllByRecursion (λ x. x.about ≡ about) xs
 
 -- a lawful state of a memory with that history: words, and the parts of all its ports in some order, these among them
-pub record IsLawfulWith (about : About) (log : List Applied) (here : List Seated) : Type 0 where
+pub record IsLawfulWith (about : About) (log : List Applied) (here : List SeatedPort) : Type 0 where
   pub words : List ℕ
-  pub others : List Seated
-  pub all : List Seated
+  pub others : List SeatedPort
+  pub all : List SeatedPort
   pub shuffle : IsShuffle (here ++ others) all
   pub opened : AreOpened about.ports all
   pub lawful : Lawful about.sizes about.opening words (parts_of all) log
 
 -- what a look says of the ports of a seat: each had observed a beginning of the history, which all observe then, in a lawful state
-pub record LooksAt {S : Type 0} (me me' : Me S (List Seated)) : Type 0 where
+pub record LooksAt {S : Type 0} (me me' : Me S (List SeatedPort)) : Type 0 where
   pub log : List Applied
   pub seen : me'.0 ≡ map (having_met log) me.0
   pub slots : me'.1 ≡ me.1
   pub each : AllByRecursion (IsIn log) me.0
   pub about : About
-  pub own : AreOf about me.0
+  pub own : AreSeatedOf about me.0
   pub lawful : IsLawfulWith about log me'.0
 
 -- by a look in a meeting all ports of the seat observe the whole history
-abbrev pub looks : {S : Type 0} → Me S (List Seated) → ℕ → Me S (List Seated) → Type 0
+abbrev pub looks : {S : Type 0} → Me S (List SeatedPort) → ℕ → Me S (List SeatedPort) → Type 0
 looks me a me' = LooksAt me me'

@@ -2,7 +2,7 @@
 
 ghost use Rattle.std.specs.Prelude.{◌≡◌, ◌<◌, ◌^◌, length, IfOk};
 ghost use Rattle.std.specs.Slots.{slots_len, slots_items, IsFull};
-ghost use Rattle.partial_memory.specs.Closing.{AreLinks, HaveChain, HaveRecords, Holds};
+ghost use Rattle.partial_memory.specs.Closing.{AreLinks, HaveChain, HaveRecords, HoldsClosed};
 
 use partial_words::{Link, prev_word, value_word};
 use std::alloc::{AllocError, Global};
@@ -44,7 +44,7 @@ pub fn closed_of(alloc: Global, words: &ClosedWords, m: u32) -> Result<Closed, A
     requires full { IsFull words.now.words × (slots_len words.now.words < 2 ^ 32) }
     requires count { slots_len words.now.words ≡ length (slots_items words.now.words) }
     requires records { HaveRecords (slots_items words.now.words) m }
-    ensures { IfOk result (λ c. Holds (slots_items words.now.words) m c) }
+    ensures { IfOk result (λ c. HoldsClosed (slots_items words.now.words) m c) }
 {
     let mut values = Vec::with_capacity(alloc, m as usize)?;
     let mut chains = Vec::with_capacity(alloc, m as usize)?;

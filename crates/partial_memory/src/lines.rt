@@ -10,7 +10,7 @@ ghost use Rattle.partial_machine.specs.Possible.{IsPossible};
 ghost use Rattle.partial_memory.specs.Rule.{IsOne, one_of};
 ghost use Rattle.partial_memory.specs.Inner.Steps.{Begins, CallMade, IsAtRest};
 ghost use Rattle.std.proofs.Common.{refl, ◌∙◌};
-ghost use Rattle.partial_memory.specs.Inner.Lines.{IsGoing, Leads, leads_itself, leads_on, machine_of};
+ghost use Rattle.partial_memory.specs.Inner.Lines.{IsGoing, ComesTo, leads_itself, leads_on, machine_of};
 
 use crate::rule::{GoesOn, MachineStep, Moment, Place, PutsOn, Words};
 use partial_core::{Change, Core};
@@ -31,7 +31,7 @@ impl<'a> Makes for SeatLines<'a> {
 
     ghost machine = { λ l. machine_of l.seat.me };
 
-    ghost leads = { λ l k. (k.words ≡ l.words) × Leads (one_of l.seat.me.0) (one_of k.seat.me.0) };
+    ghost leads = { λ l k. (k.words ≡ l.words) × ComesTo (one_of l.seat.me.0) (one_of k.seat.me.0) };
 
     #[inline(always)]
     fn make(&mut self, step: Step) -> u64 {
@@ -94,7 +94,7 @@ pub fn make(words: &Words, seat: &mut Place, step: Step) -> u64
     requires going { IsGoing words.now.table_id words.now.key seat.old.table_id seat.old.me }
     requires due { step_of (machine_of seat.old.me) ≡ Some step }
     ensures going { IsGoing words.now.table_id words.now.key seat.new.table_id seat.new.me }
-    ensures leads { Leads (one_of seat.old.me.0) (one_of seat.new.me.0) }
+    ensures leads { ComesTo (one_of seat.old.me.0) (one_of seat.new.me.0) }
     ensures machine { machine_of seat.new.me ≡ advance (machine_of seat.old.me) result }
     ensures possible { IsPossible (machine_of seat.old.me) result }
 {
@@ -118,7 +118,7 @@ pub fn make_load(words: &Words, seat: &mut Place, word: u64) -> u64
     requires going { IsGoing words.now.table_id words.now.key seat.old.table_id seat.old.me }
     requires due { step_of (machine_of seat.old.me) ≡ Some (Load word) }
     ensures going { IsGoing words.now.table_id words.now.key seat.new.table_id seat.new.me }
-    ensures leads { Leads (one_of seat.old.me.0) (one_of seat.new.me.0) }
+    ensures leads { ComesTo (one_of seat.old.me.0) (one_of seat.new.me.0) }
     ensures machine { machine_of seat.new.me ≡ advance (machine_of seat.old.me) result }
     ensures possible { IsPossible (machine_of seat.old.me) result }
 {

@@ -10,10 +10,10 @@ ghost use Rattle.partial_memory.specs.Ports.{IsOf, IsRefused, MayNotOpen, new_po
 ghost use Rattle.partial_model.specs.declared.call.Answer.TheVariants as answer;
 ghost use Rattle.partial_memory.specs.Calls.{Updates, UpdatesIf, Reads, Scans, Meets};
 ghost use Rattle.partial_memory.specs.Lawfulness.{ClosesLawfully, MeetsLawfully};
-ghost use Rattle.partial_memory.specs.Led.{IsLedTo, IsLedWhereLate, ScansLed};
+ghost use Rattle.partial_memory.specs.Led.{IsLedToAnswer, IsLedWhereLate, ScansLed};
 ghost use Rattle.partial_memory.specs.Noting.{noted_update, noted_update_if};
 ghost use Rattle.partial_memory.specs.Closing.{Closes};
-ghost use Rattle.partial_memory.specs.Reopening.{ContinuesAll, MayNotReopen, extended};
+ghost use Rattle.partial_memory.specs.Reopening.{ContinuesAll, MayNotReopen, extended_values};
 ghost use Rattle.std.specs.List.{AllByRecursion};
 
 use crate::answers::{Updated, UpdatedIf};
@@ -137,7 +137,7 @@ impl Memory {
         ports: u32,
     ) -> Result<(Memory, Vec<Port>), OpenError>
         ensures about { IfOk result (λ r. (r.0.about.sizes ≡ sizes) × (r.0.about.ports ≡ ports)) }
-        ensures values { IfOk result (λ r. r.0.about.opening.values ≡ extended sizes.m closed.now.values.items) }
+        ensures values { IfOk result (λ r. r.0.about.opening.values ≡ extended_values sizes.m closed.now.values.items) }
         ensures first { IfOk result (λ r. r.0.about.opening.first ≡ pool_base sizes) }
         ensures ports { IfOk result (λ r. r.1.items ≡ new_ports r.0.table (newcomers r.0.about 0 ports)) }
         ensures many { IfOk result (λ r. (1 ≤ ports) × (ports ≤ 64)) }
@@ -169,7 +169,7 @@ impl Memory {
         ensures same { IsOf self.now me.new }
         ensures answered { IfOk result (λ r. Updates me.old component value r me.new) }
         ensures refused { IfErr result (λ cause. IsRefused me.old (call.Update component value) cause me.new) }
-        ensures led { IfOk result (λ r. IsLedTo me.old me.new (call.Update component value) (noted_update r)) }
+        ensures led { IfOk result (λ r. IsLedToAnswer me.old me.new (call.Update component value) (noted_update r)) }
         ensures led_to_refusal { IfErr result (λ cause. IsLedWhereLate me.old me.new (call.Update component value) cause) }
     {
         me.core.may_update(component)?;
@@ -204,7 +204,7 @@ impl Memory {
         ensures same { IsOf self.now me.new }
         ensures answered { IfOk result (λ r. UpdatesIf me.old component expected value r me.new) }
         ensures refused { IfErr result (λ cause. IsRefused me.old (call.UpdateIf component expected value) cause me.new) }
-        ensures led { IfOk result (λ r. IsLedTo me.old me.new (call.UpdateIf component expected value) (noted_update_if r)) }
+        ensures led { IfOk result (λ r. IsLedToAnswer me.old me.new (call.UpdateIf component expected value) (noted_update_if r)) }
         ensures led_to_refusal { IfErr result (λ cause. IsLedWhereLate me.old me.new (call.UpdateIf component expected value) cause) }
     {
         me.core.may_update(component)?;
@@ -229,7 +229,7 @@ impl Memory {
         ensures same { IsOf self.now me.new }
         ensures answered { IfOk result (λ r. Reads me.old component r.0 r.1 me.new) }
         ensures refused { IfErr result (λ cause. (refusal me.old (call.Read component) ≡ Some cause) × (me.new ≡ me.old)) }
-        ensures led { IfOk result (λ r. IsLedTo me.old me.new (call.Read component) (answer.Read r.0 r.1)) }
+        ensures led { IfOk result (λ r. IsLedToAnswer me.old me.new (call.Read component) (answer.Read r.0 r.1)) }
     {
         if component >= self.sizes.m() {
             return Err(Refused::Component);

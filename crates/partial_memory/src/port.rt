@@ -1,7 +1,7 @@
 //! A port: what one caller holds of a memory.
 
 ghost use Rattle.std.specs.Prelude.{◌≡◌, [], ◌∷◌};
-ghost use Rattle.partial_memory.specs.Rule.{IsBadgeOfOne, Seated, one_in};
+ghost use Rattle.partial_memory.specs.Rule.{IsBadgeOfOne, SeatedPort, one_in};
 ghost use Rattle.partial_memory.specs.Ports.{Knows, port_view};
 
 use crate::rule::{Place, View};
@@ -62,7 +62,7 @@ impl Port {
     // Takes the seat of a port that makes no further call.
     pub(crate) fn into_seat(self) -> Place
         ensures table { result.table_id ≡ self.memory.table }
-        ensures one { (x : Seated) × (result.me ≡ (x ∷ [], [])) × (port_view self.memory.table x ≡ self) }
+        ensures one { (x : SeatedPort) × (result.me ≡ (x ∷ [], [])) × (port_view self.memory.table x ≡ self) }
     {
         let Port {
             badge,

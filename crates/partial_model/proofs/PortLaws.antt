@@ -1,5 +1,5 @@
 -- The calls of one port after the other: what the tests of all calls decide of each port.
-use Rattle.partial_model.proofs.Common.{ℕ, zero, suc, ◌≡◌, ◌≢◌, ◌+◌, ◌<◌, ◌≤◌, ◌⊎◌, inl, inr, ◌==◌, nat_le, Bool, true, false, cond, ◌&&◌, ◌||◌, List, [], ◌∷◌, ◌++◌, length, refl, sym, ap, ◌∙◌, subst, Decides, Option, Some, None, IfSome, filter, filter_map, arith, list_all, option_map_or, true≢false, eq-eqb, ne_eqb, cases_lt, Decides-and, Decides-or, Decides-like, eqb_tells, Applied, Opening, Called, Finish, IsHistory, Noted, LegalNotes, IsLegal, Follows, RealTime, noted_of, notes_of, places_by, places_written, EachOnce, LegalOutcome, call_is_legal, seen_behind, notes_are_legal, claim_of, taken, is_spent, none_between, none_above, claim_all, is_legal_outcome, is_history, are_in_time}
+use Rattle.partial_model.proofs.Common.{ℕ, zero, suc, ◌≡◌, ◌≢◌, ◌+◌, ◌<◌, ◌≤◌, ◌⊎◌, inl, inr, ◌==◌, nat_le, Bool, true, false, cond, ◌&&◌, ◌||◌, List, [], ◌∷◌, ◌++◌, length, refl, sym, ap, ◌∙◌, subst, Decides, Option, Some, None, IfSome, filter, filter_map, arith, list_all, option_map_or, true≢false, eq-eqb, ne_eqb, cases_lt, Decides-and, Decides-or, Decides-like, eqb_tells, Applied, Opening, Called, Finish, IsHistory, Noted, LegalNotes, IsLegal, Follows, RealTime, noted_of, notes_of, places_by, places_written, EachOnce, LegalOutcome, call_is_legal, seen_behind, notes_are_legal, claim_of, taken, no_place_left, none_between, none_above, claim_all, is_legal_outcome, is_history, are_in_time}
 use Rattle.partial_model.proofs.Decisions.{Decides-nat_le, Decides-and3, Decides-never, Decides-always}
 use Rattle.partial_model.proofs.CheckLaws.{Decides-is_legal, Decides-is_history, Decides-are_in_time}
 
@@ -156,7 +156,7 @@ written_by-other p c cs other = ap places_written (notes_of-other p c cs other)
 written_by-below : (p q : ℕ) (cs : List Called) → Rises q cs → p < q → written_by p cs ≡ []
 written_by-below p q cs w below = ap places_written (notes_of-below p q cs w below)
 
-Decides-is_spent : (places : List ℕ) → Decides (is_spent places) (places ≡ [])
+Decides-is_spent : (places : List ℕ) → Decides (no_place_left places) (places ≡ [])
 Decides-is_spent [] = Decides-always refl
 Decides-is_spent (k ∷ ks) = Decides-never (λ w. cc)
 
@@ -234,11 +234,11 @@ own_is_claimed h places c cs rest each =
 
 -- the first call of a later port
 next_is_claimed : (h : List Applied) (q : ℕ) (places : List ℕ) (c : Called) (cs : List Called) (rest : Bool) → q < c.port → Rises c.port cs →
-    Decides rest (AreClaimedFrom h c.port (places_by c.port 0 h) (c ∷ cs)) → Decides (is_spent places && none_between q c.port h && rest) (AreClaimedFrom h q places (c ∷ cs))
+    Decides rest (AreClaimedFrom h c.port (places_by c.port 0 h) (c ∷ cs)) → Decides (no_place_left places && none_between q c.port h && rest) (AreClaimedFrom h q places (c ∷ cs))
 next_is_claimed h q places c cs rest below rises d =
     let up : Rises c.port (c ∷ cs) = (omega arith, rises) in
     let none : (p : ℕ) → p < c.port → written_by p (c ∷ cs) ≡ [] = λ p lt. written_by-below p c.port (c ∷ cs) up lt in
-    Decides-like (is_spent places && none_between q c.port h && rest)
+    Decides-like (no_place_left places && none_between q c.port h && rest)
     (λ w. (
       w.0 ∙ sym (none q below),
       λ p above.
@@ -251,14 +251,14 @@ next_is_claimed h q places c cs rest below rises d =
           ],
     ))
     (λ w. (w.0 ∙ none q below, (λ x range. w.1 x range.0 ∙ none x range.1), (w.1 c.port below, λ p above. w.1 p (omega arith))))
-    (Decides-and3 (is_spent places) (none_between q c.port h) rest (Decides-is_spent places) (Decides-none_between q c.port h) d)
+    (Decides-and3 (no_place_left places) (none_between q c.port h) rest (Decides-is_spent places) (Decides-none_between q c.port h) d)
 
 pub Decides-claim_all : (h : List Applied) (q : ℕ) (places : List ℕ) (cs : List Called) → Rises q cs → Decides (claim_all h q places cs) (AreClaimedFrom h q places cs)
-Decides-claim_all h q places [] w = Decides-and (is_spent places) (none_above q h) (Decides-is_spent places) (Decides-none_above q h)
+Decides-claim_all h q places [] w = Decides-and (no_place_left places) (none_above q h) (Decides-is_spent places) (Decides-none_above q h)
 Decides-claim_all h q places (c ∷ cs) w =
     let rest : List ℕ → Bool = λ left. claim_all h c.port left cs in
     let each : (left : List ℕ) → Decides (rest left) (AreClaimedFrom h c.port left cs) = λ left. Decides-claim_all h c.port left cs w.1 in
-    let test : Bool → Bool = λ b. (b || (is_spent places && none_between q c.port h)) && option_map_or rest (taken (cond b places (places_by c.port 0 h)) (claim_of c.finish)) false in
+    let test : Bool → Bool = λ b. (b || (no_place_left places && none_between q c.port h)) && option_map_or rest (taken (cond b places (places_by c.port 0 h)) (claim_of c.finish)) false in
     elim (cases_lt q c.port) [
       | inl below ↦
           let other : (c.port == q) ≡ false = ne_eqb c.port q (omega arith) in

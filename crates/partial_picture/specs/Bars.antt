@@ -3,5 +3,5 @@ use Rattle.std.specs.Prelude.{ℕ, ◌≤◌}
 use Rattle.partial_picture.specs.declared.picture.Bar.{Bar}
 
 -- the bar lies among so many marks, or stands between two of them, before the first or behind the last one
-abbrev pub StandsIn : ℕ → Bar → Type 0
-StandsIn marks b = (b.marks.first ≤ marks) × (b.marks.behind ≤ marks)
+abbrev pub BarStandsIn : ℕ → Bar → Type 0
+BarStandsIn marks b = (b.marks.first ≤ marks) × (b.marks.behind ≤ marks)

@@ -19,5 +19,5 @@ drawn_of (window.Steps first last) steps = if not (nat_lt last first) && nat_lt 
     else Err (error.Window steps)
 
 -- the steps are among so many, and at most 2,000
-abbrev pub HasRoom : ℕ → Span → Type 0
-HasRoom steps s = (s.first ≤ s.behind) × (s.behind ≤ steps) × (s.behind ≤ s.first + 2000)
+abbrev pub SpanHasRoom : ℕ → Span → Type 0
+SpanHasRoom steps s = (s.first ≤ s.behind) × (s.behind ≤ steps) × (s.behind ≤ s.first + 2000)

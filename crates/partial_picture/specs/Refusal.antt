@@ -17,25 +17,25 @@ picture_code_of (picture.TooMany steps) = 15
 picture_code_of (picture.Window steps) = 16
 
 -- the number of a refusal
-abbrev pub code_of : Fault → ℕ
-code_of (fault.Plan e) = text.code_of e
-code_of (fault.Replay e) = 6
-code_of (fault.Picture e) = picture_code_of e
-code_of (fault.Text e) = text.outcome_code_of e
+abbrev pub draw_code : Fault → ℕ
+draw_code (fault.Plan e) = text.plan_code e
+draw_code (fault.Replay e) = 6
+draw_code (fault.Picture e) = picture_code_of e
+draw_code (fault.Text e) = text.outcome_code_of e
 
 -- the reader of the plan failed
-abbrev pub reader_fault : Fault
-reader_fault = fault.Plan plan.Read
+abbrev pub draw_reader_fault : Fault
+draw_reader_fault = fault.Plan plan.Read
 
 -- the writer failed
-abbrev pub writer_fault : Fault
-writer_fault = fault.Text outcome.Write
+abbrev pub draw_writer_fault : Fault
+draw_writer_fault = fault.Text outcome.Write
 
 -- The plan was refused with the fault that judging its text gives, unless memory ran out, and anything else came only
 -- of what judging gives as a plan.
-abbrev pub IsJudged : {X : Type 0} → Result X Fault → Result PlanView PlanError → Type 0
-IsJudged (Ok x) judged = IsOk judged
-IsJudged (Err (fault.Plan e)) judged = text.Fails e judged
-IsJudged (Err (fault.Replay e)) judged = IsOk judged
-IsJudged (Err (fault.Picture e)) judged = IsOk judged
-IsJudged (Err (fault.Text e)) judged = IsOk judged
+abbrev pub IsDrawJudged : {X : Type 0} → Result X Fault → Result PlanView PlanError → Type 0
+IsDrawJudged (Ok x) judged = IsOk judged
+IsDrawJudged (Err (fault.Plan e)) judged = text.Fails e judged
+IsDrawJudged (Err (fault.Replay e)) judged = IsOk judged
+IsDrawJudged (Err (fault.Picture e)) judged = IsOk judged
+IsDrawJudged (Err (fault.Text e)) judged = IsOk judged

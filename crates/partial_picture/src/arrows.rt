@@ -1,7 +1,7 @@
 //! The arrows of a picture: from the exchange that applied an entry to the step of a call that met it.
 
 ghost use Rattle.std.specs.Prelude.{◌-◌, All, IfOk, IfSome};
-ghost use Rattle.partial_picture.specs.Arrows.{IsWithin};
+ghost use Rattle.partial_picture.specs.Arrows.{IsArrowWithin};
 
 use crate::picture::{Arrow, ArrowKind};
 use crate::spans::Made;
@@ -88,7 +88,7 @@ fn arrow_in<'a>(
     made: &Made<'a, '_>,
     by_stamp: &BTreeMap<u64, usize>,
 ) -> Option<Arrow<'a>>
-    ensures { IfSome result (IsWithin (window.behind - window.first)) }
+    ensures { IfSome result (IsArrowWithin (window.behind - window.first)) }
 {
     let found = arrow_to(m, trace, made, by_stamp)?;
     if !window.contains(found.from) || !window.contains(found.to) {
@@ -112,7 +112,7 @@ pub(crate) fn arrows_of<'a>(
     made: &[Made<'a, '_>],
     entries: &[usize],
 ) -> Result<Vec<Arrow<'a>>, AllocError>
-    ensures { IfOk result (λ arrows. All (IsWithin (window.behind - window.first)) arrows.items) }
+    ensures { IfOk result (λ arrows. All (IsArrowWithin (window.behind - window.first)) arrows.items) }
 {
     let by_stamp = steps_by_stamp(alloc, &outcome.history, entries)?;
     made.iter()

@@ -4,7 +4,7 @@ ghost use Rattle.std.specs.Prelude.{◌≡◌, ◌≢◌, ◌↔◌, ◌<◌, �
 ghost use Rattle.std.specs.Io.KnownBytes.{Appends};
 ghost use Rattle.std.specs.String.{string_len};
 ghost use Rattle.partial_text.specs.Judging.{judged};
-ghost use Rattle.partial_picture.specs.Refusal.{IsJudged, reader_fault, writer_fault};
+ghost use Rattle.partial_picture.specs.Refusal.{IsDrawJudged, draw_reader_fault, draw_writer_fault};
 
 use crate::columns::table;
 use crate::fault::Fault;
@@ -52,16 +52,16 @@ pub fn draw<R: Read, W: Write>(
 ) -> Result<(), Fault>
     requires plan { plan.old.failed ≡ false }
     requires out { out.old.failed ≡ false }
-    ensures read_fault { IsErrOf result reader_fault ↔ (plan.new.failed ≡ true) }
-    ensures write_fault { IsErrOf result writer_fault ↔ (out.new.failed ≡ true) }
+    ensures read_fault { IsErrOf result draw_reader_fault ↔ (plan.new.failed ≡ true) }
+    ensures write_fault { IsErrOf result draw_writer_fault ↔ (out.new.failed ≡ true) }
     // The fault is that of the plan, and a plan without a fault isn't refused for one.
     ensures plan { plan.new.failed ≡ false → IfSome (R.remaining plan.old.inner)
-        (λ bytes. IsJudged result (judged bytes)) }
+        (λ bytes. IsDrawJudged result (judged bytes)) }
     // The text of a picture is written whole, and it isn't empty.
     ensures written { OnOk result ((text : List ℕ) × (0 < length text)
         × Appends (W.contents out.old.inner) (W.contents out.new.inner) text) }
     // Nothing is written, except after a fault of the writer.
-    ensures unwritten { IfErr result (λ fault. fault ≢ writer_fault → out.new ≡ out.old) }
+    ensures unwritten { IfErr result (λ fault. fault ≢ draw_writer_fault → out.new ≡ out.old) }
 {
     let plan = Plan::read(alloc, plan)?;
     let outcome = replay(alloc, &plan)?;

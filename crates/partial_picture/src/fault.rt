@@ -65,12 +65,12 @@ pub enum Fault {
 }
 
 impl Fault {
-    ghost use Rattle.partial_picture.specs.Refusal.{code_of};
+    ghost use Rattle.partial_picture.specs.Refusal.{draw_code};
 
     /// The number of the refusal: 1 to 4 for a size, 5 for the number of ports, 6 for memory, 10 for a line
     /// of the plan, 11 for the reader, 12 for the writer, 15 for too many steps, 16 for the window.
     pub fn code(&self) -> u8
-        ensures { result ≡ code_of self.now }
+        ensures { result ≡ draw_code self.now }
     {
         match self {
             Fault::Plan(error) => error.code(),

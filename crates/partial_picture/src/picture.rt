@@ -1,9 +1,9 @@
 //! What a picture shows of a replay.
 
 ghost use Rattle.std.specs.Prelude.{◌≡◌, ◌≢◌, ◌≤◌, ◌-◌, All, map, length, IfOk, IfSome, MatchResult};
-ghost use Rattle.partial_picture.specs.Arrows.{IsWithin};
-ghost use Rattle.partial_picture.specs.Bars.{StandsIn};
-ghost use Rattle.partial_picture.specs.Drawn.{HasRoom, drawn_of};
+ghost use Rattle.partial_picture.specs.Arrows.{IsArrowWithin};
+ghost use Rattle.partial_picture.specs.Bars.{BarStandsIn};
+ghost use Rattle.partial_picture.specs.Drawn.{SpanHasRoom, drawn_of};
 ghost use Rattle.partial_picture.specs.Marks.{mark_of, marks_in};
 ghost use Rattle.partial_picture.specs.Pins.{pin_at, pins_at, won_steps};
 
@@ -152,9 +152,9 @@ impl<'a> Picture<'a> {
             ≡ pins_at picture.window outcome.now.history.items (won_steps sizes.m outcome.now.trace.items)) }
         // Bars and arrows stand at marks that exist.
         ensures bars { IfOk result (λ picture.
-            All (StandsIn (picture.window.behind - picture.window.first)) picture.bars.items) }
+            All (BarStandsIn (picture.window.behind - picture.window.first)) picture.bars.items) }
         ensures arrows { IfOk result (λ picture.
-            All (IsWithin (picture.window.behind - picture.window.first)) picture.arrows.items) }
+            All (IsArrowWithin (picture.window.behind - picture.window.first)) picture.arrows.items) }
     {
         let span = window.drawn(outcome.trace.len())?;
         Ok(Picture::of_span(alloc, sizes, ports, outcome, span)?)
@@ -168,13 +168,14 @@ impl<'a> Picture<'a> {
         outcome: &'a Outcome,
         window: Span,
     ) -> Result<Picture<'a>, AllocError>
-        requires { HasRoom (length outcome.now.trace.items) window }
+        requires { SpanHasRoom (length outcome.now.trace.items) window }
         ensures window { IfOk result (λ picture. picture.window ≡ window) }
         ensures marks { IfOk result (λ picture. picture.marks.items ≡ marks_in window outcome.now.trace.items) }
         ensures pins { IfOk result (λ picture. picture.pins.items
             ≡ pins_at window outcome.now.history.items (won_steps sizes.m outcome.now.trace.items)) }
-        ensures bars { IfOk result (λ picture. All (StandsIn (window.behind - window.first)) picture.bars.items) }
-        ensures arrows { IfOk result (λ picture. All (IsWithin (window.behind - window.first)) picture.arrows.items) }
+        ensures bars { IfOk result (λ picture. All (BarStandsIn (window.behind - window.first)) picture.bars.items) }
+        ensures arrows { IfOk result (λ picture. All (IsArrowWithin (window.behind - window.first))
+            picture.arrows.items) }
     {
         let steps = outcome.trace.len();
         let m = sizes.m() as usize;
@@ -207,7 +208,7 @@ fn marks_of(alloc: Global, events: &[Event]) -> Result<Vec<Mark>, AllocError>
 /// with the replay also has the calls after the last step.
 fn bar_in<'a>(window: Span, steps: usize, made: &Made<'a, '_>) -> Option<Bar<'a>>
     requires { window.first ≤ window.behind }
-    ensures { IfSome result (StandsIn (window.behind - window.first)) }
+    ensures { IfSome result (BarStandsIn (window.behind - window.first)) }
 {
     let Span { first, behind } = made.span;
     let stands = match made.span.is_empty() {
@@ -233,7 +234,7 @@ fn bars_of<'a>(
     made: &[Made<'a, '_>],
 ) -> Result<Vec<Bar<'a>>, AllocError>
     requires { window.first ≤ window.behind }
-    ensures { IfOk result (λ bars. All (StandsIn (window.behind - window.first)) bars.items) }
+    ensures { IfOk result (λ bars. All (BarStandsIn (window.behind - window.first)) bars.items) }
 {
     made.iter()
         .filter_map(|call| bar_in(window, steps, call))

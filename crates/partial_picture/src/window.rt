@@ -1,7 +1,7 @@
 //! Which steps are drawn.
 
 ghost use Rattle.std.specs.Prelude.{◌≡◌, ◌≤◌, ◌<◌, ◌-◌, ◌+◌, ◌↔◌, IsTrue, IfOk};
-ghost use Rattle.partial_picture.specs.Drawn.{drawn_of, HasRoom};
+ghost use Rattle.partial_picture.specs.Drawn.{drawn_of, SpanHasRoom};
 
 use crate::fault::PictureError;
 
@@ -58,7 +58,7 @@ impl Window {
     /// `TooMany` when it has more than 2,000 steps.
     pub fn drawn(self, steps: usize) -> Result<Span, PictureError>
         ensures value { result ≡ drawn_of self steps }
-        ensures room { IfOk result (HasRoom steps) }
+        ensures room { IfOk result (SpanHasRoom steps) }
     {
         let (first, behind) = match self {
             Window::Whole => (0, steps),

@@ -1,5 +1,5 @@
 -- What the closed memory of a pipeline tells of the monitor's scans.
-use Rattle.partial_pipeline.proofs.Common.{ℕ, zero, suc, inl, inr, ◌≡◌, ◌+◌, ◌<◌, ◌≤◌, ◌++◌, List, [], ◌∷◌, length, map, take, slice_index, refl, sym, ◌∙◌, ap, subst, Option, Some, None, slice_get, arith, AllByRecursion, ext_get_or, get_or-map, length-map, take_all, cases_lt, Applied, Opening, Call, Answer, Note, Noted, LegalNotes, IsLegal, seen_after, seen_by, EachOnce, places_written, wrote, AllByRecursion-get, LegalNotes-last, all_where, IsOf, MemoryView, PortView, AreFrom, AreOrdered, HaveEnded, HaveRisen, IsOrderly, IsPipeline, IsStageIn, NeverFall, last_of, EndEach, HasMet, IsEachStage, NotesMore, Opens, Sees, Watched, StageEnd, Finished}
+use Rattle.partial_pipeline.proofs.Common.{ℕ, zero, suc, inl, inr, ◌≡◌, ◌+◌, ◌<◌, ◌≤◌, ◌++◌, List, [], ◌∷◌, length, map, take, slice_index, refl, sym, ◌∙◌, ap, subst, Option, Some, None, slice_get, arith, AllByRecursion, ext_get_or, get_or-map, length-map, take_all, cases_lt, Applied, Opening, Call, Answer, Note, Noted, LegalNotes, IsLegal, seen_after, seen_by, EachOnce, places_written, wrote, AllByRecursion-get, LegalNotes-last, all_where, IsOf, MemoryView, PortView, AreFrom, AreOrdered, HaveEnded, HaveRisen, IsOrderly, IsPipeline, IsStageIn, NeverFall, last_of, EndEach, HasMetMonitor, IsEachStage, GoesOnNoting, Opens, Sees, Watched, StageEnd, Finished}
 use Rattle.std.specs.Prelude.{IfSome}
 use Rattle.std.specs.declared.alloc.Global.{Global}
 use Rattle.std.specs.declared.vec.Vec.{Vec}
@@ -116,10 +116,10 @@ same_counts o h n at s t x y =
 
 -- what the last scan tells, where there is one: it was made behind all that the monitor had seen when it had met all stages
 abbrev pub LastSees : PortView → List ℕ → PortView → Option (Vec ℕ Global) → Type 0
-LastSees p stages q None = NotesMore p q []
+LastSees p stages q None = GoesOnNoting p q []
 LastSees p stages q (Some counts) = Sees p stages counts.items q
 
-pub last_sees : (p q : PortView) (stages : List ℕ) (last : Option (Vec ℕ Global)) → IfSome last (λ (v : Vec ℕ Global). Sees p stages v.items q) → (last ≡ None → NotesMore p q []) →
+pub last_sees : (p q : PortView) (stages : List ℕ) (last : Option (Vec ℕ Global)) → IfSome last (λ (v : Vec ℕ Global). Sees p stages v.items q) → (last ≡ None → GoesOnNoting p q []) →
     LastSees p stages q last
 last_sees p q stages None some none = none refl
 last_sees p q stages (Some v) some none = some
@@ -140,7 +140,7 @@ last_watched p q stages ss None w s =
 last_watched p q stages ss (Some counts) w s = watched_sees p q stages counts.items ss w s
 
 -- the port of a stage in the closed memory's history
-stage_in : (m : MemoryView) (log : List Applied) (seen k : ℕ) (p : PortView) → HasMet m seen k p → IsPortOf log p → IsStageIn m.about.opening log k p.notes
+stage_in : (m : MemoryView) (log : List Applied) (seen k : ℕ) (p : PortView) → HasMetMonitor m seen k p → IsPortOf log p → IsStageIn m.about.opening log k p.notes
 stage_in m log seen k p met told =
     record {
       legal = subst (λ i. LegalNotes m.about.opening log i 0 p.notes) met.number (subst (λ (v : MemoryView). LegalNotes v.about.opening log p.number 0 p.notes) met.own told.legal);
@@ -148,13 +148,13 @@ stage_in m log seen k p met told =
       worked = met.worked;
     }
 
-stages_in : (m : MemoryView) (log : List Applied) (seen k : ℕ) (ports : List PortView) → AreFrom (HasMet m seen) k ports → AllByRecursion (IsPortOf log) ports →
+stages_in : (m : MemoryView) (log : List Applied) (seen k : ℕ) (ports : List PortView) → AreFrom (HasMetMonitor m seen) k ports → AllByRecursion (IsPortOf log) ports →
     AreFrom (IsStageIn m.about.opening log) k (map (λ (p : PortView). p.notes) ports)
 stages_in m log seen k [] w told = tt
 stages_in m log seen k (p ∷ ports) w told = (stage_in m log seen k p w.0 told.0, stages_in m log seen (k + 1) ports w.1 told.1)
 
 -- each stage's entries lie within what the monitor had seen
-stages_within : (m : MemoryView) (log : List Applied) (seen k : ℕ) (ports : List PortView) (i : ℕ) (e : Applied) → AreFrom (HasMet m seen) k ports → AllByRecursion (IsPortOf log) ports →
+stages_within : (m : MemoryView) (log : List Applied) (seen k : ℕ) (ports : List PortView) (i : ℕ) (e : Applied) → AreFrom (HasMetMonitor m seen) k ports → AllByRecursion (IsPortOf log) ports →
     slice_get log i ≡ Some e → k ≤ e.port → e.port < k + length ports → i < seen
 stages_within m log seen k [] i e w told s from below = absurd (omega arith)
 stages_within m log seen k (p ∷ ports) i e w told s from below = elim (cases_lt k e.port) [
@@ -166,7 +166,7 @@ stages_within m log seen k (p ∷ ports) i e w told s from below = elim (cases_l
 
 -- what is known of a closed pipeline
 module _ (m : MemoryView) (p q : PortView) (ports : List PortView) (stages : List ℕ) (scans : Vec (Vec ℕ Global) Global) (last : Option (Vec ℕ Global)) (closed : Vec ℕ Global) (opens : Opens m)
-    (met : AreFrom (HasMet m (length p.seen)) 0 ports) (count : length ports ≡ m.about.sizes.m) (own : IsOf m q) (number : q.number ≡ m.about.sizes.m) (all : IsEachStage m.about.sizes.m stages)
+    (met : AreFrom (HasMetMonitor m (length p.seen)) 0 ports) (count : length ports ≡ m.about.sizes.m) (own : IsOf m q) (number : q.number ≡ m.about.sizes.m) (all : IsEachStage m.about.sizes.m stages)
     (watched : Watched stages p.notes (map (λ (v : Vec ℕ Global). v.items) scans.items)) (sees : LastSees p stages q last) (closes : Closes m (q ∷ ports) closed.items) where
   abbrev o : Opening
   o = m.about.opening
@@ -244,7 +244,8 @@ last_is p q stages counts None f w = tt
 last_is p q stages counts (Some v) f w = f v w
 
 pub orderly : (m : MemoryView) (p q : PortView) (ports : List PortView) (stages : List ℕ) (scans : Vec (Vec ℕ Global) Global) (last : Option (Vec ℕ Global)) (closed : Vec ℕ Global)
-    (ends : Vec StageEnd Global) → Opens m → AreFrom (HasMet m (length p.seen)) 0 ports → length ports ≡ m.about.sizes.m → IsOf m q → q.number ≡ m.about.sizes.m → IsEachStage m.about.sizes.m stages →
+    (ends : Vec StageEnd Global) → Opens m → AreFrom (HasMetMonitor m (length p.seen)) 0 ports → length ports ≡ m.about.sizes.m → IsOf m q → q.number ≡ m.about.sizes.m →
+    IsEachStage m.about.sizes.m stages →
     Watched stages p.notes (map (λ (v : Vec ℕ Global). v.items) scans.items) → LastSees p stages q last → Closes m (q ∷ ports) closed.items →
     IsOrderly m.about.sizes.m (record { scans = scans; last = last; counts = closed; ends = ends })
 orderly m p q ports stages scans last closed ends opens met count own number all watched sees closes =
@@ -282,7 +283,7 @@ ends_told o h stages w items k (p ∷ ps) (x ∷ xs) s e (suc i) below =
     subst (λ n. (value_of o h n ≤ items) × (slice_get xs i ≡ Some Finished → value_of o h n ≡ items)) same rest
 
 pub ended : (m : MemoryView) (p q : PortView) (ports : List PortView) (stages : List ℕ) (scans : Vec (Vec ℕ Global) Global) (last : Option (Vec ℕ Global)) (closed : Vec ℕ Global)
-    (ends : Vec StageEnd Global) (items : ℕ) → Opens m → AreFrom (HasMet m (length p.seen)) 0 ports → length ports ≡ m.about.sizes.m → IsOf m q → q.number ≡ m.about.sizes.m →
+    (ends : Vec StageEnd Global) (items : ℕ) → Opens m → AreFrom (HasMetMonitor m (length p.seen)) 0 ports → length ports ≡ m.about.sizes.m → IsOf m q → q.number ≡ m.about.sizes.m →
     IsEachStage m.about.sizes.m stages → Watched stages p.notes (map (λ (v : Vec ℕ Global). v.items) scans.items) → LastSees p stages q last → Closes m (q ∷ ports) closed.items →
     EndEach items 0 ports ends.items → HaveEnded m.about.sizes.m items (record { scans = scans; last = last; counts = closed; ends = ends })
 ended m p q ports stages scans last closed ends items opens met count own number all watched sees closes each =

@@ -1,5 +1,5 @@
 -- One call more of a stage, of the monitor, and a meeting.
-use Rattle.partial_pipeline.proofs.Common.{ℕ, zero, suc, ◌≡◌, ◌+◌, ◌<◌, ◌≤◌, ◌++◌, List, [], ◌∷◌, length, map, take, get_or, refl, sym, ◌∙◌, ap, subst, inl, inr, Option, Some, append-nil, append_assoc, length-take, arith, AllByRecursion, Applied, Opening, Call, Answer, Note, Noted, LegalNotes, seen_after, places_written, wrote, all_append, all_weaker, shown_within, Goes, IsRefused, Meets, Reads, Scanned, Scans, Updates, IsOf, Knows, MemoryView, PortView, AreFrom, HasWorked, Works, EndEach, EndsAt, HasMet, IsDone, IsWorking, NotesMore, Sees, Watched, last_value, published, StageEnd, Finished}
+use Rattle.partial_pipeline.proofs.Common.{ℕ, zero, suc, ◌≡◌, ◌+◌, ◌<◌, ◌≤◌, ◌++◌, List, [], ◌∷◌, length, map, take, get_or, refl, sym, ◌∙◌, ap, subst, inl, inr, Option, Some, append-nil, append_assoc, length-take, arith, AllByRecursion, Applied, Opening, Call, Answer, Note, Noted, LegalNotes, seen_after, places_written, wrote, all_append, all_weaker, shown_within, Goes, IsRefused, Meets, Reads, Scanned, Scans, Updates, IsOf, Knows, MemoryView, PortView, AreFrom, HasWorked, Works, EndEach, EndsAt, HasMetMonitor, IsStageDone, IsWorking, GoesOnNoting, Sees, Watched, last_value, published, StageEnd, Finished}
 use Rattle.partial_model.specs.declared.call.Call.TheVariants as call
 use Rattle.partial_model.specs.declared.call.Answer.TheVariants as answer
 use Rattle.partial_model.specs.declared.call.Note.TheVariants as note
@@ -19,15 +19,15 @@ begins_within xs ys is =
     let short = ap length is ∙ length-take (length xs) ys in
     omega (arith, short)
 
-pub goes_more : (p q : PortView) (new : List Noted) → Goes p q new → NotesMore p q new
+pub goes_more : (p q : PortView) (new : List Noted) → Goes p q new → GoesOnNoting p q new
 goes_more p q new w = record { memory = w.memory; number = w.number; seen = begins_within p.seen q.seen w.seen; notes = w.notes }
 
 -- a call that left the port as it was
-stays : (p q : PortView) → q ≡ p → NotesMore p q []
-stays p q is = subst (λ (x : PortView). NotesMore p x []) (sym is) (record { memory = refl; number = refl; seen = omega arith; notes = sym (append-nil p.notes) })
+stays : (p q : PortView) → q ≡ p → GoesOnNoting p q []
+stays p q is = subst (λ (x : PortView). GoesOnNoting p x []) (sym is) (record { memory = refl; number = refl; seen = omega arith; notes = sym (append-nil p.notes) })
 
 -- calls behind some that noted nothing
-then_more : (p x q : PortView) (new : List Noted) → NotesMore p x [] → NotesMore x q new → NotesMore p q new
+then_more : (p x q : PortView) (new : List Noted) → GoesOnNoting p x [] → GoesOnNoting x q new → GoesOnNoting p q new
 then_more p x q new w v =
     record {
       memory = v.memory ∙ w.memory;
@@ -37,7 +37,7 @@ then_more p x q new w v =
     }
 
 -- an update that was refused
-pub update_refused : (p q : PortView) (j v : ℕ) (cause : Refused) → IsRefused p (call.Update j v) cause q → NotesMore p q []
+pub update_refused : (p q : PortView) (j v : ℕ) (cause : Refused) → IsRefused p (call.Update j v) cause q → GoesOnNoting p q []
 update_refused p q j v refused.Component w = stays p q w.1
 update_refused p q j v refused.Overtaken w = goes_more p q [] w.1
 update_refused p q j v refused.NoArena w = goes_more p q [] w.1
@@ -46,7 +46,7 @@ update_refused p q j v refused.EpochsSpent w = goes_more p q [] w.1
 -- ---- the notes of a stage
 
 -- a call that notes nothing
-pub none_more : (P : List Noted → Type 0) (p q : PortView) → NotesMore p q [] → P p.notes → P q.notes
+pub none_more : (P : List Noted → Type 0) (p q : PortView) → GoesOnNoting p q [] → P p.notes → P q.notes
 none_more P p q n w = subst P (sym (n.notes ∙ append-nil p.notes)) w
 
 works_read : (k r c : ℕ) (ns : List Noted) (r' c' j v s : ℕ) (n : Noted) → Works k r c ns r' c' → k ≡ j + 1 → n.call ≡ call.Read j → n.answer ≡ answer.Read v s → Works k r c (ns ++ n ∷ []) v c'
@@ -83,7 +83,7 @@ published_push k ns n = ap (last_value 0) (applied_push k ns n) ∙ last_append 
 -- ---- one call more of a stage
 
 -- a stage whose call noted nothing
-pub works_on : (m : MemoryView) (x : Stage) (q : PortView) → IsWorking m x → IsOf m q → NotesMore x.port q [] →
+pub works_on : (m : MemoryView) (x : Stage) (q : PortView) → IsWorking m x → IsOf m q → GoesOnNoting x.port q [] →
     IsWorking m (record { port = q; items = x.items; seen = x.seen; count = x.count })
 works_on m x q w own n =
     let number : x.port.number ≡ q.number = sym n.number in
@@ -169,7 +169,7 @@ number_update p q j v (Lost by) w = w.1.goes.number
 
 -- a stage that has ended
 pub is_done : (m : MemoryView) (x : Stage) (k : ℕ) (w : Worked) → IsWorking m x → Knows x.port.memory.about x.port.number x.port.seen x.port.notes → x.port.number ≡ k → w.port ≡ x.port →
-    (w.end ≡ Finished → x.count ≡ x.items) → IsDone m x.items k w
+    (w.end ≡ Finished → x.count ≡ x.items) → IsStageDone m x.items k w
 is_done m x k w working knows number same finished =
     let all : HasWorked x.port.number x.port.notes =
     record { from = working.from; read = x.seen; count = working.tried; none = working.none; works = working.works } in
@@ -185,9 +185,9 @@ is_done m x k w working knows number same finished =
     }
 
 -- the same by other names
-pub done_alike : (m v : MemoryView) (all items k i : ℕ) (w : Worked) → IsDone m all k w → v ≡ m → items ≡ all → i ≡ k → IsDone v items i w
+pub done_alike : (m v : MemoryView) (all items k i : ℕ) (w : Worked) → IsStageDone m all k w → v ≡ m → items ≡ all → i ≡ k → IsStageDone v items i w
 done_alike m v all items k i w done memory same number =
-    subst (λ (x : MemoryView). IsDone x items i w) (sym memory) (subst (λ a. IsDone m a i w) (sym same) (subst (λ j. IsDone m all j w) (sym number) done))
+    subst (λ (x : MemoryView). IsStageDone x items i w) (sym memory) (subst (λ a. IsStageDone m a i w) (sym same) (subst (λ j. IsStageDone m all j w) (sym number) done))
 
 -- ---- the notes of the monitor
 
@@ -217,7 +217,7 @@ sees_scan p q (j ∷ js) counts s some each w =
     }
 
 -- a scan behind some that were refused
-pub sees_then : (p x q : PortView) (stages counts : List ℕ) → NotesMore p x [] → Sees x stages counts q → Sees p stages counts q
+pub sees_then : (p x q : PortView) (stages counts : List ℕ) → GoesOnNoting p x [] → Sees x stages counts q → Sees p stages counts q
 sees_then p x q stages counts w s =
     record {
       place = s.place;
@@ -248,7 +248,7 @@ seen_grows a b c d w = begins_within a.seen c.seen w.first.seen
 
 -- a stage that has ended meets the monitor
 pub has_met : (m : MemoryView) (k : ℕ) (a b c d : PortView) → IsOf m d → Knows b.memory.about b.number b.seen b.notes → b.number ≡ k → HasWorked k b.notes →
-    Meets a b c d → HasMet m (length c.seen) k d
+    Meets a b c d → HasMetMonitor m (length c.seen) k d
 has_met m k a b c d own knows number worked w =
     let n = goes_more b d [] w.second in
     let more = begins_within b.seen c.seen w.first_all in
@@ -261,7 +261,7 @@ has_met m k a b c d own knows number worked w =
       within = none_more (λ ns. AllByRecursion (λ i. i < length c.seen) (places_written ns)) b d n within;
     }
 
-met_still : (m : MemoryView) (s t k : ℕ) (p : PortView) → s ≤ t → HasMet m s k p → HasMet m t k p
+met_still : (m : MemoryView) (s t k : ℕ) (p : PortView) → s ≤ t → HasMetMonitor m s k p → HasMetMonitor m t k p
 met_still m s t k p more w =
     record {
       own = w.own;
@@ -308,10 +308,11 @@ from_get P k (suc i) (y ∷ xs) x w within is =
     subst (λ n. P n x) same (from_get P (k + 1) i xs x w.1 (omega arith) is)
 
 -- one stage more has met the monitor, which has seen more since
-pub met_more : (m : MemoryView) (s t : ℕ) (ports : List PortView) (p : PortView) → s ≤ t → AreFrom (HasMet m s) 0 ports → HasMet m t (length ports) p → AreFrom (HasMet m t) 0 (ports ++ p ∷ [])
+pub met_more : (m : MemoryView) (s t : ℕ) (ports : List PortView) (p : PortView) → s ≤ t → AreFrom (HasMetMonitor m s) 0 ports → HasMetMonitor m t (length ports) p →
+    AreFrom (HasMetMonitor m t) 0 (ports ++ p ∷ [])
 met_more m s t ports p more w new =
     let same : length ports ≡ 0 + length ports = omega arith in
-    from_push (HasMet m t) 0 ports p (from_weaker (HasMet m s) (HasMet m t) (λ k q. met_still m s t k q more) 0 ports w) (subst (λ i. HasMet m t i p) same new)
+    from_push (HasMetMonitor m t) 0 ports p (from_weaker (HasMetMonitor m s) (HasMetMonitor m t) (λ k q. met_still m s t k q more) 0 ports w) (subst (λ i. HasMetMonitor m t i p) same new)
 
 -- ---- the ends of stages
 

@@ -24,14 +24,14 @@ use Rattle.partial_pipeline.specs.declared.stage.StageEnd.TheVariants.{Finished}
 use Rattle.partial_pipeline.specs.declared.stage.Worked.{Worked}
 
 -- the port goes on as one of its memory and number, has seen no less than it had, and has noted these calls more
-pub record NotesMore (p q : PortView) (new : List Noted) : Type 0 where
+pub record GoesOnNoting (p q : PortView) (new : List Noted) : Type 0 where
   pub memory : q.memory ≡ p.memory
   pub number : q.number ≡ p.number
   pub seen : length p.seen ≤ length q.seen
   pub notes : q.notes ≡ p.notes ++ new
 
 -- the port of number k, which has made no call
-pub record IsNew (m : MemoryView) (k : ℕ) (p : PortView) : Type 0 where
+pub record IsNewStage (m : MemoryView) (k : ℕ) (p : PortView) : Type 0 where
   pub own : IsOf m p
   pub number : p.number ≡ k
   pub fresh : p.notes ≡ []
@@ -77,7 +77,7 @@ pub record EndsAt (items k : ℕ) (ns : List Noted) (end : StageEnd) : Type 0 wh
   pub finished : end ≡ Finished → published k ns ≡ items
 
 -- stage k has ended
-pub record IsDone (m : MemoryView) (items k : ℕ) (w : Worked) : Type 0 where
+pub record IsStageDone (m : MemoryView) (items k : ℕ) (w : Worked) : Type 0 where
   pub own : IsOf m w.port
   pub knows : Knows w.port.memory.about w.port.number w.port.seen w.port.notes
   pub number : w.port.number ≡ k
@@ -85,7 +85,7 @@ pub record IsDone (m : MemoryView) (items k : ℕ) (w : Worked) : Type 0 where
   pub ended : EndsAt items k w.port.notes w.end
 
 -- a thread was started for stage k
-pub record IsStarted (m : MemoryView) (items k : ℕ) (h : PromisedHandle Worked Promised) : Type 0 where
+pub record IsStageStarted (m : MemoryView) (items k : ℕ) (h : PromisedHandle Worked Promised) : Type 0 where
   pub memory : h.promise.memory.value ≡ m
   pub all : h.promise.items ≡ items
   pub number : h.promise.stage ≡ k
@@ -111,7 +111,7 @@ pub record Sees (p : PortView) (stages counts : List ℕ) (q : PortView) : Type 
   pub place : ℕ
   pub collects : ℕ
   pub borrowed : Option ℕ
-  pub goes : NotesMore p q (record {
+  pub goes : GoesOnNoting p q (record {
     call = call.Scan stages;
     answer = answer.Scanned counts collects borrowed;
     note = Some (note.Saw place);
@@ -131,7 +131,7 @@ pub record IsWatching (m : MemoryView) (x : Monitor) : Type 0 where
   pub watched : Watched x.stages.items x.port.notes (map (λ v. v.items) x.scans.items)
 
 -- the port of stage k, which has ended and met the monitor: its entries lie within what the monitor has seen
-pub record HasMet (m : MemoryView) (seen k : ℕ) (p : PortView) : Type 0 where
+pub record HasMetMonitor (m : MemoryView) (seen k : ℕ) (p : PortView) : Type 0 where
   pub own : IsOf m p
   pub number : p.number ≡ k
   pub worked : HasWorked k p.notes
@@ -146,6 +146,6 @@ EndEach items k _ _ = ⊥
 -- so many stages have ended and met the monitor
 pub record HaveMet (m : MemoryView) (items stages : ℕ) (r : Joined) : Type 0 where
   pub watching : IsWatching m r.monitor
-  pub each : AreFrom (HasMet m (length r.monitor.port.seen)) 0 r.ports.items
+  pub each : AreFrom (HasMetMonitor m (length r.monitor.port.seen)) 0 r.ports.items
   pub count : length r.ports.items ≡ stages
   pub ended : EndEach items 0 r.ports.items r.ends.items

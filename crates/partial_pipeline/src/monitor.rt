@@ -3,7 +3,7 @@
 ghost use Rattle.std.specs.Prelude.{◌≡◌, ◌+◌, ◌<◌, ◌≤◌, [], length, None, IfOk, IfSome};
 ghost use Rattle.std.specs.Vec.{vec_capacity};
 ghost use Rattle.partial_long_lived.specs.Ports.{IsOf};
-ghost use Rattle.partial_pipeline.specs.Stages.{AreRooms, IsEachStage, IsNew, IsWatching, NotesMore, Sees};
+ghost use Rattle.partial_pipeline.specs.Stages.{AreRooms, IsEachStage, IsNewStage, IsWatching, GoesOnNoting, Sees};
 
 use crate::work::Watch;
 use partial_long_lived::{LongLived, Port, Refused};
@@ -63,7 +63,7 @@ pub fn scan_into(
     requires room { length room.items ≡ memory.now.about.sizes.m }
     ensures own { IsOf memory.now port.new }
     ensures some { IfSome result (λ counts. Sees port.old stages.now counts.items port.new) }
-    ensures none { result ≡ None → NotesMore port.old port.new [] }
+    ensures none { result ≡ None → GoesOnNoting port.old port.new [] }
 {
     for _turn in 0..u64::MAX {
         match memory.scan(port, stages, room.as_mut_slice()) {
@@ -89,7 +89,7 @@ impl Monitor {
         stages: u32,
         looks: usize,
     ) -> Result<Monitor, AllocError>
-        requires new { IsNew memory.now stages port }
+        requires new { IsNewStage memory.now stages port }
         requires stages { stages ≡ memory.now.about.sizes.m }
         ensures { IfOk result (IsWatching memory.now) }
     {

@@ -3,7 +3,7 @@
 ghost use Rattle.std.specs.Prelude.{◌≡◌, ◌<◌, ◌≤◌, ◌+◌, [], length, IfOk, IfErr};
 ghost use Rattle.std.specs.Vec.{vec_capacity};
 ghost use Rattle.partial_pipeline.specs.Pipeline.{AreFrom, AreStages, HaveEnded, IsOrderly, MayNotRun};
-ghost use Rattle.partial_pipeline.specs.Stages.{HaveMet, IsDone, IsNew, IsOpened, IsStarted, IsWatching, IsWorking, Opens};
+ghost use Rattle.partial_pipeline.specs.Stages.{HaveMet, IsStageDone, IsNewStage, IsOpened, IsStageStarted, IsWatching, IsWorking, Opens};
 
 use crate::error::PipelineError;
 use crate::monitor::{Monitor, scan_into};
@@ -41,9 +41,9 @@ struct Works {
 }
 
 impl Promise<Worked> for Works {
-    ghost use Rattle.partial_pipeline.specs.Stages.{IsDone};
+    ghost use Rattle.partial_pipeline.specs.Stages.{IsStageDone};
 
-    ghost kept_by = { λ p w. IsDone p.memory.value p.items p.stage w };
+    ghost kept_by = { λ p w. IsStageDone p.memory.value p.items p.stage w };
 }
 
 // The monitor, and the ports of the stages that have ended. Each of these has met the monitor's port.
@@ -73,10 +73,10 @@ fn start<'s, 'e, W: Work>(
     ports: Vec<Port>,
     mut started: Vec<PromisedHandle<Worked, Works>>,
 ) -> Result<Vec<PromisedHandle<Worked, Works>>, AllocError>
-    requires new { AreFrom (IsNew memory.now) 0 ports.items }
+    requires new { AreFrom (IsNewStage memory.now) 0 ports.items }
     requires inside { length ports.items ≤ memory.now.about.sizes.m }
     requires room { (started.items ≡ []) × (length ports.items ≤ vec_capacity started) }
-    ensures started { IfOk result (λ handles. AreFrom (IsStarted memory.now items) 0 handles.items) }
+    ensures started { IfOk result (λ handles. AreFrom (IsStageStarted memory.now items) 0 handles.items) }
     ensures count { IfOk result (λ handles. length handles.items ≡ length ports.items) }
 {
     for port in ports {
@@ -88,7 +88,7 @@ fn start<'s, 'e, W: Work>(
         let stage = Stage::new(memory, port, items);
         let run = move || -> Worked
             requires { IsWorking memory.now stage }
-            ensures { IsDone memory.entry.now stage.items stage.port.number result }
+            ensures { IsStageDone memory.entry.now stage.items stage.port.number result }
         { stage.run(memory, ended, work) };
         started.push_reserved(scope.spawn_with(promise, run)?);
     }
@@ -103,7 +103,7 @@ fn join<R: Threads>(
     started: Vec<PromisedHandle<Worked, Works>>,
     mut joined: Joined,
 ) -> Joined
-    requires started { AreFrom (IsStarted memory.now items) 0 started.items }
+    requires started { AreFrom (IsStageStarted memory.now items) 0 started.items }
     requires watching { IsWatching memory.now joined.monitor }
     requires empty { (joined.ports.items ≡ []) × (joined.ends.items ≡ []) }
     requires room { (length started.items ≤ vec_capacity joined.ports) ×
@@ -190,7 +190,7 @@ fn run_on<R: Threads + Wait + Sync, W: Work, V: Watch>(
         thread::scope_env(),
         rt,
         |scope| -> Result<Joined, AllocError>
-            requires new { AreFrom (IsNew lent.now) 0 ports.items }
+            requires new { AreFrom (IsNewStage lent.now) 0 ports.items }
             requires some { (0 < lent.now.about.sizes.m) × (length ports.items ≡ lent.now.about.sizes.m) }
             requires started { (started.items ≡ []) × (length ports.items ≤ vec_capacity started) }
             requires watching { IsWatching lent.now joined.monitor }

@@ -1,7 +1,7 @@
 //! A stage at work, in a thread of its own.
 
 ghost use Rattle.std.specs.Prelude.{◌≡◌, ◌≢◌, ◌+◌, ◌<◌, IfSome, Some};
-ghost use Rattle.partial_pipeline.specs.Stages.{IsDone, IsNew, IsWorking};
+ghost use Rattle.partial_pipeline.specs.Stages.{IsStageDone, IsNewStage, IsWorking};
 ghost use Rattle.partial_pipeline.specs.declared.stage.StageEnd.TheVariants.{EpochsSpent, Finished};
 
 use crate::work::Work;
@@ -46,7 +46,7 @@ pub struct Stage {
 impl Stage {
     /// Makes a stage that has worked on nothing. The first stage finds all items ready.
     pub fn new(memory: &LongLived, port: Port, items: u64) -> Stage
-        requires new { IsNew memory.now port.number port }
+        requires new { IsNewStage memory.now port.number port }
         requires inside { port.number < memory.now.about.sizes.m }
         ensures working { IsWorking memory.now result }
         ensures number { result.port.number ≡ port.number }
@@ -65,7 +65,7 @@ impl Stage {
     /// Works on all items that come from the stage before, and sets the flag that it has ended.
     pub fn run<W: Work>(mut self, memory: &LongLived, ended: &[AtomicBool], work: &W) -> Worked
         requires { IsWorking memory.now self }
-        ensures { IsDone memory.now self.items self.port.number result }
+        ensures { IsStageDone memory.now self.items self.port.number result }
     {
         let mut end = StageEnd::Stopped;
         for _turn in 0..u64::MAX {

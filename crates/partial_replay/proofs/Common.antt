@@ -23,19 +23,19 @@ pub use Rattle.partial_machine.specs.Machine.{CoreState, at_stage, advance, repl
 pub use Rattle.partial_machine.specs.Bounds.{most_steps, steps_left, most_of_update}
 pub use Rattle.partial_words.specs.declared.step.Event.{Event}
 pub use Rattle.partial_model.proofs.NotesLemmas.{AllByRecursion-append, AllByRecursion-get, AllByRecursion-push, LegalNotes-push, LegalNotes-grows, seen_by-push, places_written-push, slice_get_grows, slice_get_last, places_written-append, AllByRecursion-weaker, LegalNotes-last}
-pub use Rattle.partial_core.specs.Part.{Part, core_of, port_of, IsBetween, IsMachineOf, fresh_parts, IsMarkedLike, Kept, first_at}
+pub use Rattle.partial_core.specs.Part.{Part, core_of, port_of, IsBetween, IsMachineOf, fresh_parts, IsMarkedLike, KeptAnswer, first_at}
 pub use Rattle.partial_model.specs.declared.call.Refused.{Refused}
 pub use Rattle.partial_machine.specs.declared.stage.Reply.{Reply}
 pub use Rattle.partial_machine.specs.declared.stage.Stage.TheVariants.{Idle, ReadBegun, UpdateBegun, ScanBegun, Finished}
 pub use Rattle.partial_machine.specs.Calls.{answer_for, begun_of, refusal_of, IsServed, begin_scan, is_begun, is_at_rest, makes_steps, call_of}
 pub use Rattle.partial_machine.proofs.Laws.{due_is_unreplied, rests_are_sound, calls_begin, calls_are_refused_at_once, answers_lead_on, stays_sound, scans_make_their_steps}
 pub use Rattle.partial_model.proofs.HistoryLemmas.{opening_is, place_below, LastAt, last_at, last_entry-passed, stamp_all, last_entry-found}
-pub use Rattle.partial_text.specs.PlanText.{PlanView, IsPlan, IsCall, IsEntry}
+pub use Rattle.partial_text.specs.PlanText.{PlanView, IsPlan, IsCall, IsTurnEntry}
 pub use Rattle.partial_words.specs.Chain.{AreOpeningWords, Agrees, opening_word}
-pub use Rattle.partial_words.specs.Record.{value_of, view_word, prev_of, value_word}
+pub use Rattle.partial_words.specs.Record.{record_value, view_word, prev_of, value_word}
 pub use Rattle.partial_words.specs.Step.{Leads, words_after, answer_of, word_of, Answers}
 pub use Rattle.partial_words.specs.declared.step.Step.{Step}
-pub use Rattle.partial_machine.specs.Sound.{IsSound, AreComponents}
+pub use Rattle.partial_machine.specs.Sound.{IsSound, AreComponentIndices}
 pub use Rattle.partial_core.proofs.Laws.{opens_lawful, calls_begin_between, lawful_ports_fit, lawful_records_are_within, steps_stay_lawful, lawful_machines_are_ready}
 pub use Rattle.partial_machine.specs.Possible.{IsPossible}
 pub use Rattle.partial_model.proofs.AllLemmas.{position_below, all_take}
@@ -43,12 +43,12 @@ pub use Rattle.partial_replay.specs.Listed.{calls_by, AreFirstOf, AreAllMade, Ar
 pub use Rattle.partial_replay.specs.declared.port.Port.{Port}
 pub use Rattle.partial_replay.specs.declared.port.UnderWay.{UnderWay}
 pub use Rattle.partial_replay.specs.Place.{HasLeastPlace, Shows, IsLeastFrom, IsPlaceFrom, IsNoteFrom, prefix_from, HasNoneFrom}
-pub use Rattle.partial_replay.specs.Inner.PortState.{AreFinished, IsUnderWay, PortFits, end_of, ends_of, notes_in, unfinished_call, IsGoing, HasTurned, steps_under_way, IsFinished, IsDoneAtOnce, entry_at, one_step_more, IsEndedCall, GoesOn, Ends, StepMade, PortMade, KeepsMade, began_at, ended_call, core_behind, AreWithin, HasValues, MayAnswer, IsExchangeWithin, MayStep, KeepsFit, BeginsInTurn}
-pub use Rattle.partial_replay.specs.Inner.RunState.{PortsFit, IsRunOf, left_over, calls_in, FreshFrom, AreFreshPorts, AreListed, ArePlans, ArePortsMade, AreStarted, AreStartedBut, unvalued, IsBetweenTurns, Tells, left_for, left_of, left_at, IsRun, IsReady, IsSameMemory, IsSameOpening}
-pub use Rattle.partial_replay.specs.Trace.{Moment, last_behind, entry_of, moments_from, moments_by, ports_of, events_in, adds, is_won, new_of}
-pub use Rattle.partial_replay.specs.CallSteps.{Makes, HasSteps, IsFinishedAtOnce, IsRefusedAtOnce, IsCallOf, AreStepsOf}
+pub use Rattle.partial_replay.specs.Inner.PortState.{AreFinished, IsCallUnderWay, PortFits, end_of_call, ends_of, notes_in, unfinished_call, IsCallGoing, HasTurned, steps_under_way, IsFinishedCall, IsDoneAtOnce, entry_at, one_step_more, IsEndedCall, CallGoesOn, Ends, StepMade, PortMade, KeepsMade, began_at, ended_call, core_behind, AreWithin, ScanHasValues, MayAnswer, IsExchangeWithin, MayStep, KeepsFit, BeginsInTurn}
+pub use Rattle.partial_replay.specs.Inner.RunState.{PortsFit, IsRunOf, left_over, calls_in, FreshFrom, AreFreshPorts, AreListed, ArePlans, ArePortsMade, AreStarted, AreStartedBut, unvalued, IsBetweenTurns, TellsOutcome, left_for, port_left, port_left_at, IsReplayState, IsTurnReady, ChangesPortsOnly, IsSameOpening}
+pub use Rattle.partial_replay.specs.Trace.{Moment, last_behind, event_entry, moments_from, moments_by, ports_of, events_in, adds, is_won, new_of}
+pub use Rattle.partial_replay.specs.CallSteps.{Makes, HasSteps, IsFinishedAtOnce, IsRefusedAtOnce, IsCallRun, AreStepsOf}
 pub use Rattle.partial_replay.specs.Turns.{BeginInTurns, turns_of, turns_by, lengths_in, so_many, to_its_end, made_in, left_behind, ports_in, idle_in, lengths_of}
 pub use Rattle.partial_replay.specs.Replayed.{IsReplayOf, turn_lengths}
-pub use Rattle.partial_replay.specs.Inner.TurnState.{MakeTurns, HasTurns, StopsAtStep, StopAtSteps, IsDone, HasMadeTurns, HasBegun, lengths_so_far, HaveBegun, StayDone, StayStopped, StayStoppedBut, StayStoppedWith, GoesOnBy, own_turns, BeginsIn, StepsIn, GoesOnIn, moments_behind, TurnMade, StepsMade, TurnsMade}
+pub use Rattle.partial_replay.specs.Inner.TurnState.{MakeTurns, HasTurns, StopsAtStep, StopAtSteps, IsPortDone, HasMadeTurns, BeganInTurns, lengths_so_far, HaveBegun, StayDone, StayStopped, StayStoppedBut, StayStoppedWith, GoesOnBy, own_turns, BeginsIn, StepsIn, GoesOnIn, moments_behind, TurnMade, StepsMade, TurnsMade}
 pub use Rattle.partial_replay.specs.declared.run.Run.{Run}
-pub use Rattle.partial_replay.specs.ScanPlace.{values_after, values_now, differs, marks_before, AreMarked, AllHave, AreWanted, AreMarksOf, HasRecord, HasRecords, IsLeft, IsEmpty, IsLeast, ShowsValues}
+pub use Rattle.partial_replay.specs.ScanPlace.{values_after, values_now, is_other, marks_before, AreMarked, AllHave, AreWanted, AreMarksOf, HasRecord, HasRecords, IsLeft, IsEmpty, IsLeast, ShowsValues}

@@ -1,5 +1,5 @@
 -- The calls that a replay tells are a legal outcome.
-use Rattle.partial_replay.proofs.Common.{ℕ, zero, suc, ◌⊎◌, map, take, ◌≡◌, ◌≢◌, ◌+◌, ◌<◌, ◌≤◌, ◌++◌, ◌==◌, Bool, true, false, cond, List, [], ◌∷◌, length, Option, Some, None, IfSome, IsSomeAnd, MatchOption, slice_get, refl, sym, ◌∙◌, ap, subst, inl, inr, arith, append_assoc, filter, filter_map, AllByRecursion, filter-append, filter_map-append, append-nil, length_push, map_push, ne_eqb, eqb_tells, Applied, Opening, Call, Called, Finish, Noted, LegalNotes, shown_by, place_of, noted_of, notes_of, places_written, Follows, RealTime, LegalOutcome, Layout, CoreState, most_steps, Event, AllByRecursion-append, Part, core_of, port_of, IsBetween, IsMachineOf, Port, UnderWay, HasLeastPlace, calls_by, AreFirstOf, AreAllMade, AreFew, IsSome, AreFinished, IsUnderWay, PortFits, end_of, ends_of, notes_in, unfinished_call, PortsFit, IsRunOf, left_over, calls_in}
+use Rattle.partial_replay.proofs.Common.{ℕ, zero, suc, ◌⊎◌, map, take, ◌≡◌, ◌≢◌, ◌+◌, ◌<◌, ◌≤◌, ◌++◌, ◌==◌, Bool, true, false, cond, List, [], ◌∷◌, length, Option, Some, None, IfSome, IsSomeAnd, MatchOption, slice_get, refl, sym, ◌∙◌, ap, subst, inl, inr, arith, append_assoc, filter, filter_map, AllByRecursion, filter-append, filter_map-append, append-nil, length_push, map_push, ne_eqb, eqb_tells, Applied, Opening, Call, Called, Finish, Noted, LegalNotes, shown_by, place_of, noted_of, notes_of, places_written, Follows, RealTime, LegalOutcome, Layout, CoreState, most_steps, Event, AllByRecursion-append, Part, core_of, port_of, IsBetween, IsMachineOf, Port, UnderWay, HasLeastPlace, calls_by, AreFirstOf, AreAllMade, AreFew, IsSome, AreFinished, IsCallUnderWay, PortFits, end_of_call, ends_of, notes_in, unfinished_call, PortsFit, IsRunOf, left_over, calls_in}
 use Rattle.partial_core.specs.Known.{notes_by}
 use Rattle.partial_replay.proofs.PortLaws.{take_next, same_eqb}
 use Rattle.partial_replay.proofs.Opens.{over_none, none_over}
@@ -12,14 +12,14 @@ own_filter : (n p k low : ℕ) (cs : List Called) → AreFinished n p k low cs �
 own_filter n p k low [] w = refl
 own_filter n p k low (c ∷ cs) w =
     ap (λ (b : Bool). cond b (c ∷ filter (λ (d : Called). d.port == p) cs) (filter (λ (d : Called). d.port == p) cs)) (same_eqb c.port p w.0)
-    ∙ ap (λ (l : List Called). c ∷ l) (own_filter n p (k + 1) (end_of low c) cs w.3)
+    ∙ ap (λ (l : List Called). c ∷ l) (own_filter n p (k + 1) (end_of_call low c) cs w.3)
 
 other_filter : (n q p k low : ℕ) (cs : List Called) → AreFinished n q k low cs → q ≢ p → filter (λ (c : Called). c.port == p) cs ≡ []
 other_filter n q p k low [] w d = refl
 other_filter n q p k low (c ∷ cs) w d =
     let away : c.port ≢ p = λ h. d (sym w.0 ∙ h) in
     ap (λ (b : Bool). cond b (c ∷ filter (λ (e : Called). e.port == p) cs) (filter (λ (e : Called). e.port == p) cs)) (ne_eqb c.port p away)
-    ∙ other_filter n q p (k + 1) (end_of low c) cs w.3 d
+    ∙ other_filter n q p (k + 1) (end_of_call low c) cs w.3 d
 
 over_kept : (c : Called) (b : Bool) → c.finish ≡ None → filter_map noted_of (cond b (c ∷ []) []) ≡ []
 over_kept c false h = refl
@@ -100,7 +100,7 @@ listed_at o log q (suc i) (d ∷ plans) (x ∷ parts) (u ∷ ports) calls port w
 
 -- the calls that a port has begun are the first of the plan's
 first_over : (n : ℕ) (calls : List Call) (x : Part) (port : Port) (way : Option UnderWay) → map (λ (c : Called). c.call) port.finished.items ≡ take (length port.finished.items) calls →
-    MatchOption way (IsBetween x port.core) (IsUnderWay n calls x port.core port.finished.items) →
+    MatchOption way (IsBetween x port.core) (IsCallUnderWay n calls x port.core port.finished.items) →
     AreFirstOf calls (port.finished.items ++ left_over port (slice_get calls (length port.finished.items)) way)
 first_over n calls x port None made w =
     let none : port.finished.items ++ left_over port (slice_get calls (length port.finished.items)) None ≡ port.finished.items = ap (λ (l : List Called). port.finished.items ++ l)
@@ -120,7 +120,7 @@ first_begun o log calls p x port w = first_over (length log) calls x port port.u
 -- where no call is under way, the calls that a port has begun are finished
 ended_calls : (n p k low : ℕ) (cs : List Called) → AreFinished n p k low cs → AllByRecursion (λ (c : Called). IsSome c.finish) cs
 ended_calls n p k low [] w = tt
-ended_calls n p k low (c ∷ cs) w = (has_ended c.finish _ w.2.ended, ended_calls n p (k + 1) (end_of low c) cs w.3)
+ended_calls n p k low (c ∷ cs) w = (has_ended c.finish _ w.2.ended, ended_calls n p (k + 1) (end_of_call low c) cs w.3)
   where
     has_ended : (f : Option Finish) (P : Finish → Type 0) → IsSomeAnd f P → IsSome f
     has_ended None P h = absurd h
@@ -201,10 +201,11 @@ BeginsPort b q = (c : Called) → q ≤ c.port → c.number ≡ 0 → Follows b 
 abbrev GoesBehind : Option Called → ℕ → ℕ → ℕ → Type 0
 GoesBehind b p k low = (c : Called) → c.port ≡ p → c.number ≡ k → low ≤ c.began → Follows b c
 
-behind_call : (c : Called) (p k low : ℕ) (f : Option Finish) → c.finish ≡ f → c.port ≡ p → c.number ≡ k → IsSomeAnd f (λ g. c.began ≤ g.ended) → GoesBehind (Some c) p (k + 1) (end_of low c)
+behind_call : (c : Called) (p k low : ℕ) (f : Option Finish) → c.finish ≡ f → c.port ≡ p → c.number ≡ k → IsSomeAnd f (λ g. c.began ≤ g.ended) → GoesBehind (Some c) p (k + 1) (end_of_call low c)
 behind_call c p k low None is port number w = absurd w
 behind_call c p k low (Some f) is port number w = λ d at num late.
-    let ends : end_of low c ≡ f.ended = ap (λ (g : Option Finish). end_of low (record { port = c.port; number = c.number; call = c.call; began = c.began; steps = c.steps; finish = g })) is in
+    let ends : end_of_call low c ≡ f.ended = ap (λ (g : Option Finish). end_of_call low (record { port = c.port; number = c.number; call = c.call; began = c.began; steps = c.steps; finish = g }))
+    is in
     inr (at ∙ sym port, num ∙ ap (λ (m : ℕ). m + 1) (sym number), subst (λ (g : Option Finish). IsSomeAnd g (λ h. h.ended ≤ d.began)) (sym is) (omega (arith, ends, late)))
 
 next_port : (c : Called) (p : ℕ) → c.port ≡ p → BeginsPort (Some c) (p + 1)
@@ -223,12 +224,13 @@ finished_time n p k low (c ∷ cs) b tail w goes begins on =
     let ends = finish_ends c n c.finish w.2.ended in (
       goes c w.0 w.1 w.2.behind,
       (ends.2, ends.1),
-      finished_time n p (k + 1) (end_of low c) cs (Some c) tail w.3 (behind_call c p k low c.finish refl w.0 w.1 ends.0) (next_port c p w.0)
-          (λ d g n2. on d (subst (λ (m : ℕ). GoesBehind d p m (ends_of (end_of low c) cs)) (omega arith) g) n2),
+      finished_time n p (k + 1) (end_of_call low c) cs (Some c) tail w.3 (behind_call c p k low c.finish refl w.0 w.1 ends.0) (next_port c p w.0)
+          (λ d g n2. on d (subst (λ (m : ℕ). GoesBehind d p m (ends_of (end_of_call low c) cs)) (omega arith) g) n2),
     )
 
 over_time : (n p : ℕ) (calls : List Call) (x : Part) (port : Port) (call : Option Call) (way : Option UnderWay) (b : Option Called) (tail : List Called) → port.number ≡ p →
-    MatchOption way (IsBetween x port.core) (IsUnderWay n calls x port.core port.finished.items) → GoesBehind b p (length port.finished.items) (ends_of 0 port.finished.items) → BeginsPort b (p + 1) →
+    MatchOption way (IsBetween x port.core) (IsCallUnderWay n calls x port.core port.finished.items) → GoesBehind b p (length port.finished.items) (ends_of 0 port.finished.items) →
+    BeginsPort b (p + 1) →
     ((d : Option Called) → BeginsPort d (p + 1) → RealTime n d tail) → RealTime n b (left_over port call way ++ tail)
 over_time n p calls x port (Some call) (Some way) b tail number w goes begins on =
     let c = unfinished_call port.number (length port.finished.items) call way in
@@ -280,13 +282,13 @@ sizes_at z core x led (inl h) = h.like.sizes ∙ led
 sizes_at z core x led (inr l) = ap (λ (s : CoreState). s.sizes) l.is ∙ led
 
 port_sizes : (z : Layout) (n : ℕ) (calls : List Call) (x : Part) (core : CoreState) (done : List Called) (way : Option UnderWay) → (core_of x).sizes ≡ z → MatchOption way (IsBetween x core)
-    (IsUnderWay n calls x core done) → core.sizes ≡ z
+    (IsCallUnderWay n calls x core done) → core.sizes ≡ z
 port_sizes z n calls x core done None led w = w.like.sizes ∙ led
 port_sizes z n calls x core done (Some way) led w = sizes_at z core x led w.machine
 
 -- the call that is left unfinished has made no more steps than it may
 few_over : (z : Layout) (n : ℕ) (calls : List Call) (x : Part) (port : Port) (way : Option UnderWay) → port.core.sizes ≡ z → MatchOption way (IsBetween x port.core)
-    (IsUnderWay n calls x port.core port.finished.items) → AreFew z (left_over port (slice_get calls (length port.finished.items)) way)
+    (IsCallUnderWay n calls x port.core port.finished.items) → AreFew z (left_over port (slice_get calls (length port.finished.items)) way)
 few_over z n calls x port None sizes w = subst (AreFew z) (sym (over_none port (slice_get calls (length port.finished.items)))) tt
 few_over z n calls x port (Some way) sizes w =
     let most : most_steps port.core.sizes w.call ≡ most_steps z w.call = ap (λ (y : Layout). most_steps y w.call) sizes in

@@ -1,5 +1,5 @@
 -- The calls of a port are told by the plan, the events and the lengths of the history at the port's turns.
-use Rattle.partial_replay.proofs.Common.{ℕ, ◌⊎◌, ◌≡◌, ◌≢◌, ◌+◌, ◌<◌, ◌≤◌, ◌++◌, Bool, cond, List, [], ◌∷◌, length, map, take, Option, Some, None, IfSome, IsSomeAnd, refl, sym, ◌∙◌, ap, subst, inl, inr, arith, length-append, option_map, ne_eqb, eqb_tells, Applied, Opening, Answer, Call, Called, Finish, Note, Refused, HaveDistinctStamps, Follows, RealTime, Reply, Idle, CoreState, at_stage, advance, reply_of, answer_for, begun_of, refusal_of, Moment, last_behind, Makes, HasSteps, IsFinishedAtOnce, IsRefusedAtOnce, IsCallOf, AreStepsOf, calls_by, AreFirstOf, EndInStep, BeginInTurns, due_is_unreplied}
+use Rattle.partial_replay.proofs.Common.{ℕ, ◌⊎◌, ◌≡◌, ◌≢◌, ◌+◌, ◌<◌, ◌≤◌, ◌++◌, Bool, cond, List, [], ◌∷◌, length, map, take, Option, Some, None, IfSome, IsSomeAnd, refl, sym, ◌∙◌, ap, subst, inl, inr, arith, length-append, option_map, ne_eqb, eqb_tells, Applied, Opening, Answer, Call, Called, Finish, Note, Refused, HaveDistinctStamps, Follows, RealTime, Reply, Idle, CoreState, at_stage, advance, reply_of, answer_for, begun_of, refusal_of, Moment, last_behind, Makes, HasSteps, IsFinishedAtOnce, IsRefusedAtOnce, IsCallRun, AreStepsOf, calls_by, AreFirstOf, EndInStep, BeginInTurns, due_is_unreplied}
 use Rattle.partial_model.specs.declared.call.Answer.TheVariants as answer
 use Rattle.partial_replay.proofs.PortLaws.{same_eqb}
 use Rattle.partial_replay.proofs.PortRuns.{AreFinishedBut, none_map}
@@ -138,7 +138,7 @@ module _ (s : CoreState) (c d : Called) (u v : CoreState) (behind behind' : List
         end = (last_behind x.behind xs, a.ended, subst (λ n. IfSome d.finish (λ f. f.ended ≡ n)) ends b.ended);
       }
 
-  call_same : (own own' : List Moment) → IsCallOf s c own u → IsCallOf s d own' v → own ++ behind ≡ own' ++ behind' → (c.finish ≡ None → behind ≡ []) → (d.finish ≡ None → behind' ≡ []) →
+  call_same : (own own' : List Moment) → IsCallRun s c own u → IsCallRun s d own' v → own ++ behind ≡ own' ++ behind' → (c.finish ≡ None → behind ≡ []) → (d.finish ≡ None → behind' ≡ []) →
       SameCall c d own own' behind behind' u v
   call_same [] [] a b all last last' = elim a [
     | inl r ↦ elim b [

@@ -1,5 +1,5 @@
 -- Two outcomes of one plan tell the same.
-use Rattle.partial_replay.proofs.Common.{ℕ, ◌≡◌, ◌<◌, ◌≤◌, ◌==◌, Bool, true, false, cond, List, [], ◌∷◌, length, map, get_or, Option, Some, None, refl, sym, ◌∙◌, ap, subst, inl, inr, arith, AllByRecursion, filter_map, cases_lt, eqb_tells, ext_get_or, Applied, Opening, Call, Called, IsInTime, RealTime, opening_is, PlanView, Event, AreOpeningWords, Layout, pool_base, total, value_of, Leads, words_after, fresh, step_of, HasLeastPlace, IsReplayOf, turn_lengths, Moment, entry_of, moments_from, moments_by, ports_of, events_in, turns_of, turns_by, lengths_in, MakeTurns, calls_by, steps_by, AreAllMade, HaveMade}
+use Rattle.partial_replay.proofs.Common.{ℕ, ◌≡◌, ◌<◌, ◌≤◌, ◌==◌, Bool, true, false, cond, List, [], ◌∷◌, length, map, get_or, Option, Some, None, refl, sym, ◌∙◌, ap, subst, inl, inr, arith, AllByRecursion, filter_map, cases_lt, eqb_tells, ext_get_or, Applied, Opening, Call, Called, IsInTime, RealTime, opening_is, PlanView, Event, AreOpeningWords, Layout, pool_base, total, record_value, Leads, words_after, fresh, step_of, HasLeastPlace, IsReplayOf, turn_lengths, Moment, event_entry, moments_from, moments_by, ports_of, events_in, turns_of, turns_by, lengths_in, MakeTurns, calls_by, steps_by, AreAllMade, HaveMade}
 use Rattle.partial_text.specs.declared.outcome.Outcome.{Outcome}
 use Rattle.partial_replay.specs.OneOutcome.{PlansHaveOneOutcome}
 use Rattle.partial_replay.proofs.OneList.{AreListedFrom, calls_listed, finished_but, AreMade, EndAlike, calls_same, own_call, other_call}
@@ -154,8 +154,8 @@ plans_have_one_outcome p a b w v =
     let words : a.words.items ≡ b.words.items = leads_same (w.opened) a.words.items b.words.items b.trace.items
     (subst (λ (es : List Event). Leads (w.opened) es a.words.items) trace w.leads) goes.leads in
     let opening : a.opening ≡ b.opening = opening_is a.opening p.initial (pool_base z) w.values w.first ∙ sym (opening_is b.opening p.initial (pool_base z) v.values v.first) in
-    let history : a.history.items ≡ b.history.items = w.entries ∙ ap (λ (l : List ℕ). filter_map (entry_of z.m (value_of l)) a.trace.items) words ∙
-    ap (filter_map (entry_of z.m (value_of b.words.items))) trace ∙ sym v.entries in
+    let history : a.history.items ≡ b.history.items = w.entries ∙ ap (λ (l : List ℕ). filter_map (event_entry z.m (record_value l)) a.trace.items) words ∙
+    ap (filter_map (event_entry z.m (record_value b.words.items))) trace ∙ sym v.entries in
     let steps : (q : ℕ) → steps_by q b.calls.items ≡ steps_by q a.calls.items = λ q. steps_of p b v q ∙ ap (λ (es : List Event). events_in q (ports_of es)) (sym trace) ∙ sym (steps_of p a w q) in
     let lengths : (q : ℕ) → turn_lengths p b q ≡ turn_lengths p a q = λ q.
     lengths_same q (turns_of p) (λ r. steps_by r b.calls.items) (λ r. steps_by r a.calls.items) 0 (moments_from z.m 0 b.trace.items) steps

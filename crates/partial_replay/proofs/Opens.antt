@@ -1,5 +1,5 @@
 -- A replay as it opens, and what it lists in the end.
-use Rattle.partial_replay.proofs.Common.{ℕ, zero, suc, ◌^◌, append_assoc, ◌≡◌, ◌+◌, ◌<◌, ◌≤◌, ◌++◌, List, [], ◌∷◌, length, take, get_or, Option, Some, None, MatchOption, slice_get, refl, sym, ◌∙◌, ap, subst, arith, map, IfSome, AllByRecursion, Opening, Call, Called, LegalNotes, seen_by, places_written, Layout, IsLayout, pool_base, AreOpeningWords, CoreState, fresh, IsSound, rests_are_sound, Part, fresh_parts, IsBetween, IsMarkedLike, opens_lawful, Port, UnderWay, unfinished_call, AreFinished, IsUnderWay, PortFits, notes_in, ends_of, IsGoing, HasTurned, steps_under_way, PortsFit, IsRunOf, FreshFrom, AreFreshPorts, AreListed, ArePlans, left_over, calls_in, ArePortsMade, AreStarted, IsSome, zip, append-nil, Applied, HasLeastPlace, Moment, AreStepsOf, BeginInTurns, StopsAtStep, steps_in, EndInStep, AreFew, place_below}
+use Rattle.partial_replay.proofs.Common.{ℕ, zero, suc, ◌^◌, append_assoc, ◌≡◌, ◌+◌, ◌<◌, ◌≤◌, ◌++◌, List, [], ◌∷◌, length, take, get_or, Option, Some, None, MatchOption, slice_get, refl, sym, ◌∙◌, ap, subst, arith, map, IfSome, AllByRecursion, Opening, Call, Called, LegalNotes, seen_by, places_written, Layout, IsLayout, pool_base, AreOpeningWords, CoreState, fresh, IsSound, rests_are_sound, Part, fresh_parts, IsBetween, IsMarkedLike, opens_lawful, Port, UnderWay, unfinished_call, AreFinished, IsCallUnderWay, PortFits, notes_in, ends_of, IsCallGoing, HasTurned, steps_under_way, PortsFit, IsRunOf, FreshFrom, AreFreshPorts, AreListed, ArePlans, left_over, calls_in, ArePortsMade, AreStarted, IsSome, zip, append-nil, Applied, HasLeastPlace, Moment, AreStepsOf, BeginInTurns, StopsAtStep, steps_in, EndInStep, AreFew, place_below}
 use Rattle.partial_replay.proofs.PortLaws.{some_is}
 
 -- one fresh port more
@@ -26,7 +26,7 @@ fresh_fits z o calls p port m number core finished none =
       few = let n : length port.finished.items ≡ 0 = ap length finished in omega (arith, n);
       bounded = subst (AreFew port.core.sizes) (sym finished) tt;
       least = subst (AllByRecursion (HasLeastPlace o [])) (sym finished) tt;
-      way = subst (λ (f : Option UnderWay). MatchOption f (IsBetween x port.core) (IsUnderWay 0 calls x port.core port.finished.items)) (sym none) (record {
+      way = subst (λ (f : Option UnderWay). MatchOption f (IsBetween x port.core) (IsCallUnderWay 0 calls x port.core port.finished.items)) (sym none) (record {
         rest = refl;
         like = subst (λ (s : CoreState). IsMarkedLike (fresh z p) s) (sym core) (record { sizes = refl; port = refl; pool = refl; slots = refl; lists = refl });
         idle = ap (λ (s : CoreState). s.stage) core;
@@ -66,7 +66,7 @@ fresh_made plans z ports w q calls port c t =
       at = fresh z q;
       is = refl;
       led = subst (λ (d : List Called). AreStepsOf (fresh z q) d [] (fresh z q)) (sym f.1) (refl, refl);
-      going = subst (λ (g : Option UnderWay). MatchOption g ((nil ≡ []) × (port.core ≡ fresh z q)) (IsGoing 0 calls port.finished.items (fresh z q) port.core [])) (sym f.2) (refl, core);
+      going = subst (λ (g : Option UnderWay). MatchOption g ((nil ≡ []) × (port.core ≡ fresh z q)) (IsCallGoing 0 calls port.finished.items (fresh z q) port.core [])) (sym f.2) (refl, core);
     }
 
 pub fresh_started : (z : Layout) (ports : List Port) → FreshFrom z 0 ports → AreStarted ports
@@ -116,8 +116,8 @@ pub run_listed : (o : Opening) (log : List Applied) (q : ℕ) (plans : List (Lis
 run_listed o log q [] [] [] m w p = tt
 run_listed o log q (c ∷ plans) (x ∷ parts) (t ∷ ports) m w p = (
   p.0.0,
-  (λ some. let way = some_is t.under_way some in let u : IsUnderWay (length log) c x t.core t.finished.items (way.0) =
-      subst (λ (f : Option UnderWay). MatchOption f (IsBetween x t.core) (IsUnderWay (length log) c x t.core t.finished.items)) way.1 w.0.way in place_below c (length t.finished.items)
+  (λ some. let way = some_is t.under_way some in let u : IsCallUnderWay (length log) c x t.core t.finished.items (way.0) =
+      subst (λ (f : Option UnderWay). MatchOption f (IsBetween x t.core) (IsCallUnderWay (length log) c x t.core t.finished.items)) way.1 w.0.way in place_below c (length t.finished.items)
       (u.call) u.next),
   run_listed o log (q + 1) plans parts ports m w.1 p.1,
 )

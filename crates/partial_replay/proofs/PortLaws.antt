@@ -1,5 +1,5 @@
 -- How a port of a replay goes on as its part's port.
-use Rattle.partial_replay.proofs.Common.{ℕ, ◌==◌, ◌≢◌, set, inl, inr, zero, suc, ◌≡◌, ◌+◌, ◌<◌, ◌≤◌, ◌++◌, Bool, true, false, cond, List, [], ◌∷◌, length, take, map, get_or, Option, Some, None, IfSome, IsSomeAnd, MatchOption, slice_get, refl, sym, ◌∙◌, ap, subst, arith, length-append, AllByRecursion, cons_option, option_map, option_map_or, eqb_tells, false≢true, append-nil, length_push, map_push, take-append-le, Applied, Opening, Call, Refused, Answer, Note, Shows, IsLeastFrom, HasLeastPlace, Called, Finish, Noted, LegalNotes, IsLegal, MayBeRefused, seen_by, seen_after, shown_by, place_of, noted_of, places_written, wrote, AllByRecursion-push, LegalNotes-push, LegalNotes-grows, seen_by-push, places_written-push, Step, Event, Layout, answer_of, words_after, Reply, Idle, ReadBegun, UpdateBegun, ScanBegun, Finished, CoreState, at_stage, advance, step_of, reply_at, reply_of, AreComponents, IsSound, IsPossible, begin_scan, is_begun, is_at_rest, makes_steps, call_of, answer_for, begun_of, refusal_of, IsServed, steps_left, most_steps, Part, port_of, IsMachineOf, IsBetween, calls_begin, calls_are_refused_at_once, calls_begin_between, Port, UnderWay, IsRefusedAtOnce, IsFinishedAtOnce, end_of, ends_of, IsFinished, AreFinished, notes_in, IsUnderWay, PortFits, IsDoneAtOnce, entry_at, one_step_more, IsEndedCall, GoesOn, Ends, StepMade, AreFew, place_below}
+use Rattle.partial_replay.proofs.Common.{ℕ, ◌==◌, ◌≢◌, set, inl, inr, zero, suc, ◌≡◌, ◌+◌, ◌<◌, ◌≤◌, ◌++◌, Bool, true, false, cond, List, [], ◌∷◌, length, take, map, get_or, Option, Some, None, IfSome, IsSomeAnd, MatchOption, slice_get, refl, sym, ◌∙◌, ap, subst, arith, length-append, AllByRecursion, cons_option, option_map, option_map_or, eqb_tells, false≢true, append-nil, length_push, map_push, take-append-le, Applied, Opening, Call, Refused, Answer, Note, Shows, IsLeastFrom, HasLeastPlace, Called, Finish, Noted, LegalNotes, IsLegal, MayBeRefused, seen_by, seen_after, shown_by, place_of, noted_of, places_written, wrote, AllByRecursion-push, LegalNotes-push, LegalNotes-grows, seen_by-push, places_written-push, Step, Event, Layout, answer_of, words_after, Reply, Idle, ReadBegun, UpdateBegun, ScanBegun, Finished, CoreState, at_stage, advance, step_of, reply_at, reply_of, AreComponentIndices, IsSound, IsPossible, begin_scan, is_begun, is_at_rest, makes_steps, call_of, answer_for, begun_of, refusal_of, IsServed, steps_left, most_steps, Part, port_of, IsMachineOf, IsBetween, calls_begin, calls_are_refused_at_once, calls_begin_between, Port, UnderWay, IsRefusedAtOnce, IsFinishedAtOnce, end_of_call, ends_of, IsFinishedCall, AreFinished, notes_in, IsCallUnderWay, PortFits, IsDoneAtOnce, entry_at, one_step_more, IsEndedCall, CallGoesOn, Ends, StepMade, AreFew, place_below}
 use Rattle.std.proofs.Common.{IsSome}
 use Rattle.partial_model.specs.declared.call.Call.TheVariants as call
 use Rattle.partial_model.specs.declared.call.Answer.TheVariants as answer
@@ -52,7 +52,7 @@ get_set_other (x ∷ xs) (suc i) zero b d = refl
 get_set_other (x ∷ xs) (suc i) (suc q) b d = get_set_other xs i q b (λ h. d (ap suc h))
 
 -- the finished calls with one more
-ended_here : (n low : ℕ) (c : Called) → low ≤ n → IsFinished n low c → end_of low c ≤ n
+ended_here : (n low : ℕ) (c : Called) → low ≤ n → IsFinishedCall n low c → end_of_call low c ≤ n
 ended_here n low c within w = here c.finish w.ended
   where
     here : (f : Option Finish) → IsSomeAnd f (λ (f : Finish). (c.began ≤ f.ended) × (f.ended ≤ n) × IfSome f.note (λ note. (c.began ≤ place_of note) × (shown_by note ≤ f.ended))) →
@@ -62,16 +62,16 @@ ended_here n low c within w = here c.finish w.ended
 
 pub ends_within : (n p k low : ℕ) (cs : List Called) → low ≤ n → AreFinished n p k low cs → ends_of low cs ≤ n
 ends_within n p k low [] within w = within
-ends_within n p k low (c ∷ cs) within w = ends_within n p (k + 1) (end_of low c) cs (ended_here n low c within w.2) w.3
+ends_within n p k low (c ∷ cs) within w = ends_within n p (k + 1) (end_of_call low c) cs (ended_here n low c within w.2) w.3
 
-pub finished_push : (n p k low : ℕ) (cs : List Called) (c : Called) → AreFinished n p k low cs → c.port ≡ p → c.number ≡ k + length cs → IsFinished n (ends_of low cs) c →
+pub finished_push : (n p k low : ℕ) (cs : List Called) (c : Called) → AreFinished n p k low cs → c.port ≡ p → c.number ≡ k + length cs → IsFinishedCall n (ends_of low cs) c →
     AreFinished n p k low (cs ++ c ∷ [])
 finished_push n p k low [] c w port number f = (port, number ∙ omega arith, f, tt)
-finished_push n p k low (x ∷ cs) c w port number f = (w.0, w.1, w.2, finished_push n p (k + 1) (end_of low x) cs c w.3 port (omega (arith, number)) f)
+finished_push n p k low (x ∷ cs) c w port number f = (w.0, w.1, w.2, finished_push n p (k + 1) (end_of_call low x) cs c w.3 port (omega (arith, number)) f)
 
-pub ends_of-push : (low : ℕ) (cs : List Called) (c : Called) → ends_of low (cs ++ c ∷ []) ≡ end_of (ends_of low cs) c
+pub ends_of-push : (low : ℕ) (cs : List Called) (c : Called) → ends_of low (cs ++ c ∷ []) ≡ end_of_call (ends_of low cs) c
 ends_of-push low [] c = refl
-ends_of-push low (x ∷ cs) c = ends_of-push (end_of low x) cs c
+ends_of-push low (x ∷ cs) c = ends_of-push (end_of_call low x) cs c
 
 notes_push_step : (a : Option Noted) (ns ms rest : List Noted) → ns ≡ ms ++ rest → cons_option a ns ≡ cons_option a ms ++ rest
 notes_push_step None ns ms rest e = e
@@ -82,7 +82,7 @@ notes_in-push [] c n e = ap (λ (a : Option Noted). cons_option a []) e
 notes_in-push (x ∷ cs) c n e = notes_push_step (noted_of x) (notes_in (cs ++ c ∷ [])) (notes_in cs) (n ∷ []) (notes_in-push cs c n e)
 
 -- the history grows: finished calls stay so
-finished_grows_here : (n m low : ℕ) (c : Called) → n ≤ m → IsFinished n low c → IsFinished m low c
+finished_grows_here : (n m low : ℕ) (c : Called) → n ≤ m → IsFinishedCall n low c → IsFinishedCall m low c
 finished_grows_here n m low c more w = record { behind = w.behind; ended = here c.finish w.ended }
   where
     here : (f : Option Finish) → IsSomeAnd f (λ (f : Finish). (c.began ≤ f.ended) × (f.ended ≤ n) × IfSome f.note (λ note. (c.began ≤ place_of note) × (shown_by note ≤ f.ended))) →
@@ -92,7 +92,7 @@ finished_grows_here n m low c more w = record { behind = w.behind; ended = here 
 
 pub finished_grows : (n m p k low : ℕ) (cs : List Called) → n ≤ m → AreFinished n p k low cs → AreFinished m p k low cs
 finished_grows n m p k low [] more w = tt
-finished_grows n m p k low (c ∷ cs) more w = (w.0, w.1, finished_grows_here n m low c more w.2, finished_grows n m p (k + 1) (end_of low c) cs more w.3)
+finished_grows n m p k low (c ∷ cs) more w = (w.0, w.1, finished_grows_here n m low c more w.2, finished_grows n m p (k + 1) (end_of_call low c) cs more w.3)
 
 -- the history grows: what a call saw is still the least
 least_from_grows : (o : Opening) (h es : List Applied) (began n : ℕ) (c : Call) (a : Answer) (note : Note) → shown_by note ≤ n → n ≤ length h → IsLeastFrom o h began c a note →
@@ -117,7 +117,7 @@ least_place_grows o h es began c (Some g) w l = least_note_grows o h es began g.
 pub least_grow : (o : Opening) (log es : List Applied) (p k low : ℕ) (cs : List Called) → AreFinished (length log) p k low cs → AllByRecursion (HasLeastPlace o log) cs →
     AllByRecursion (HasLeastPlace o (log ++ es)) cs
 least_grow o log es p k low [] w l = tt
-least_grow o log es p k low (c ∷ cs) w l = (least_place_grows o log es c.began c.call c.finish w.2.ended l.0, least_grow o log es p (k + 1) (end_of low c) cs w.3 l.1)
+least_grow o log es p k low (c ∷ cs) w l = (least_place_grows o log es c.began c.call c.finish w.2.ended l.0, least_grow o log es p (k + 1) (end_of_call low c) cs w.3 l.1)
 
 -- a call that has ended
 pub record EndedCall (o : Opening) (log : List Applied) (p : ℕ) (number : ℕ) (low seen : ℕ) (call : Call) (c : Called) : Type 0 where
@@ -160,7 +160,7 @@ done_grows o log es calls p done places w =
       least = least_grow o log es p 0 0 done w.finished w.least;
     }
 
-ended_finish : (o : Opening) (log : List Applied) (p number low seen : ℕ) (call : Call) (c : Called) (e : EndedCall o log p number low seen call c) → IsFinished (length log) low c
+ended_finish : (o : Opening) (log : List Applied) (p number low seen : ℕ) (call : Call) (c : Called) (e : EndedCall o log p number low seen call c) → IsFinishedCall (length log) low c
 ended_finish o log p number low seen call c e =
     record {
       behind = e.behind;
@@ -201,7 +201,7 @@ push_fits o log calls p done places call c w next e =
 -- a port with these finished calls
 pub fits_with : (o : Opening) (log : List Applied) (calls : List Call) (p : ℕ) (x : Part) (port : Port) (places : List ℕ) → port.number ≡ p → port_of x ≡ p → port.core.sizes.m ≡ length o.values →
     DoneFits o log calls p port.finished.items places → AreFew port.core.sizes port.finished.items → places ≡ places_written x.notes → MatchOption port.under_way (IsBetween x port.core)
-    (IsUnderWay (length log) calls x port.core port.finished.items) → PortFits o log calls p x port
+    (IsCallUnderWay (length log) calls x port.core port.finished.items) → PortFits o log calls p x port
 fits_with o log calls p x port places number part sizes w bounded same way =
     record {
       number = number;
@@ -244,7 +244,7 @@ begun_due (UpdateBegun c) h = refl
 begun_due ScanBegun h = refl
 begun_due _ h = absurd (false≢true h)
 
-pub begins : (s : CoreState) (c : Call) → AreComponents s.sizes s.asked → IsServed s.sizes.m c → refusal_of s c ≡ None → reply_of (begun_of s c) ≡ None → Begins s c
+pub begins : (s : CoreState) (c : Call) → AreComponentIndices s.sizes s.asked → IsServed s.sizes.m c → refusal_of s c ≡ None → reply_of (begun_of s c) ≡ None → Begins s c
 begins s c asked served is unreplied =
     let b = calls_begin s c asked served is in
     let makes : makes_steps c ≡ true = either (makes_steps c) refl b.at_once in
@@ -263,7 +263,7 @@ begun_sizes s (call.UpdateIf j x v) = refl
 
 -- what is between calls
 pub between_of : (o : Opening) (log : List Applied) (calls : List Call) (p : ℕ) (x : Part) (port : Port) → PortFits o log calls p x port → port.under_way ≡ None → IsBetween x port.core
-between_of o log calls p x port w none = subst (λ (f : Option UnderWay). MatchOption f (IsBetween x port.core) (IsUnderWay (length log) calls x port.core port.finished.items)) none w.way
+between_of o log calls p x port w none = subst (λ (f : Option UnderWay). MatchOption f (IsBetween x port.core) (IsCallUnderWay (length log) calls x port.core port.finished.items)) none w.way
 
 -- a call begins at a port between calls
 pub begun_fits : (o : Opening) (log : List Applied) (calls : List Call) (p : ℕ) (x : Part) (port new : Port) (call : Call) → PortFits o log calls p x port → port.under_way ≡ None →
@@ -279,7 +279,7 @@ begun_fits o log calls p x port new call w none next served refusal reply number
     let h : HasBegun (begun_of port.core call) x = (calls_begin_between x port.core between).begins call served refusal b.makes in
     let machine : IsMachineOf c x = inl (subst (λ (d : CoreState). HasBegun d x) (sym core) h) in
     let low = ends_within (length log) p 0 0 port.finished.items (omega arith) w.finished in
-    let going : IsUnderWay (length log) calls x c new.finished.items (record { began = length log; steps = 0 }) = record {
+    let going : IsCallUnderWay (length log) calls x c new.finished.items (record { began = length log; steps = 0 }) = record {
       call = call;
       next = ap (λ (l : List Called). slice_get calls (length l)) done ∙ next;
       begun = ap (λ (b : Bool). call_of (cond b c x.begun)) begun ∙ ap call_of core ∙ b.called;
@@ -294,7 +294,7 @@ begun_fits o log calls p x port new call w none next served refusal reply number
     fits_with o log calls p x new (places_written x.notes) (number ∙ w.number) w.part (ap (λ (z : Layout). z.m) sizes ∙ w.sizes)
     (subst (λ (l : List Called). DoneFits o log calls p l (places_written x.notes)) (sym done) (done_of o log calls p x port w))
     (subst (λ (l : List Called). AreFew c.sizes l) (sym done) (subst (λ (z : Layout). AreFew z port.finished.items) (sym sizes) w.bounded)) refl
-    (subst (λ (f : Option UnderWay). MatchOption f (IsBetween x c) (IsUnderWay (length log) calls x c new.finished.items)) (sym way) going)
+    (subst (λ (f : Option UnderWay). MatchOption f (IsBetween x c) (IsCallUnderWay (length log) calls x c new.finished.items)) (sym way) going)
 
 -- a call that is finished at once, and the machine behind it
 record OnceEnded (o : Opening) (log : List Applied) (p number low seen : ℕ) (call : Call) (c : Called) (s t : CoreState) (x : Part) : Type 0 where
@@ -405,7 +405,7 @@ once_fits o log calls p x port new call c w none next d number finished way =
     (subst (λ (l : List Called). DoneFits o log calls p l (places_written x.notes ++ wrote (e.ended).note)) (sym finished) pushed)
     (subst (λ (l : List Called). AreFew new.core.sizes l) (sym finished) bounded)
     (ap (λ (l : List ℕ). places_written x.notes ++ l) e.writes ∙ append-nil (places_written x.notes))
-    (subst (λ (f : Option UnderWay). MatchOption f (IsBetween x new.core) (IsUnderWay (length log) calls x new.core new.finished.items)) (sym way) e.between)
+    (subst (λ (f : Option UnderWay). MatchOption f (IsBetween x new.core) (IsCallUnderWay (length log) calls x new.core new.finished.items)) (sym way) e.between)
 
 -- the call that stands behind the finished ones
 pub call_at_place : (calls : List Call) (done : List Called) (n : ℕ) (call : Call) → n ≡ length done → n < length calls → call ≡ get_or calls n call → slice_get calls (length done) ≡ Some call
@@ -453,6 +453,6 @@ step_ended calls words words' trace trace' log log' port new step way a core' co
       log_is = log_is ∙ ap (λ n. log ++ entry_at port.core.sizes.m words' port.number step n) answer;
       number = number;
       falls = subst (λ (s : CoreState). steps_left s < steps_left port.core) moved falls;
-      after = subst (λ (f : Option Reply). MatchOption f (GoesOn port new way (advance port.core (answer_of words step)))
+      after = subst (λ (f : Option Reply). MatchOption f (CallGoesOn port new way (advance port.core (answer_of words step)))
           (Ends calls words' log' port new way (advance port.core (answer_of words step)))) (sym reply') after;
     }

@@ -1,5 +1,5 @@
 -- A port of a plan as a machine of its own: which step it makes next, whatever was answered so far.
-use Rattle.partial_replay.proofs.Common.{ℕ, ◌≡◌, ◌++◌, List, [], ◌∷◌, length, map, take, Option, Some, None, refl, sym, ◌∙◌, ap, subst, inl, inr, true, arith, IsSome, is_some, option_map, option_map_or, false≢true, map-append, Call, Called, Finish, Refused, Event, Reply, Idle, CoreState, at_stage, advance, step_at, step_of, reply_of, answer_for, begun_of, refusal_of, due_is_unreplied, Moment, Makes, HasSteps, IsCallOf, AreStepsOf, AreFirstOf, AreAllMade}
+use Rattle.partial_replay.proofs.Common.{ℕ, ◌≡◌, ◌++◌, List, [], ◌∷◌, length, map, take, Option, Some, None, refl, sym, ◌∙◌, ap, subst, inl, inr, true, arith, IsSome, is_some, option_map, option_map_or, false≢true, map-append, Call, Called, Finish, Refused, Event, Reply, Idle, CoreState, at_stage, advance, step_at, step_of, reply_of, answer_for, begun_of, refusal_of, due_is_unreplied, Moment, Makes, HasSteps, IsCallRun, AreStepsOf, AreFirstOf, AreAllMade}
 
 -- the machine of a port, in the call under way or idle behind the last one, and the plan's calls behind it
 pub record PortAt : Type 0 where
@@ -90,7 +90,7 @@ finished f none some = false≢true (subst (λ (g : Option Finish). is_some g �
 
 module _ (s u last : CoreState) (p : Call) (plan : List Call) (c : Called) (cs : List Called) (behind : List Moment) (same : c.call ≡ p) (rest : AreStepsOf u cs behind last) where
   -- a call that is refused or finished as it is begun
-  run_at_once : IsCallOf s c [] u → RunOf u plan cs (map (λ (m : Moment). m.event) behind) → RunOf s (p ∷ plan) (c ∷ cs) (map (λ (m : Moment). m.event) behind)
+  run_at_once : IsCallRun s c [] u → RunOf u plan cs (map (λ (m : Moment). m.event) behind) → RunOf s (p ∷ plan) (c ∷ cs) (map (λ (m : Moment). m.event) behind)
   run_at_once h ih = elim h [
     | inl r ↦
         let here : next_at u plan ≡ next_at s (p ∷ plan) = ap (λ (v : CoreState). next_at v plan) r.rests ∙ sym (next_refused s p plan r.cause (ap (refusal_of s) (sym same) ∙ r.refused)) in
@@ -138,13 +138,13 @@ module _ (s u last : CoreState) (p : Call) (plan : List Call) (c : Called) (cs :
             done = λ all. ih.done (fewer_made p plan c cs all);
           }
 
-  run_call : (own : List Moment) → IsCallOf s c own u → (c.finish ≡ None → cs ≡ []) → RunOf u plan cs (map (λ (m : Moment). m.event) behind) →
+  run_call : (own : List Moment) → IsCallRun s c own u → (c.finish ≡ None → cs ≡ []) → RunOf u plan cs (map (λ (m : Moment). m.event) behind) →
       RunOf s (p ∷ plan) (c ∷ cs) (map (λ (m : Moment). m.event) (own ++ behind))
   run_call [] h ends ih = run_at_once h ih
   run_call (x ∷ xs) h ends ih = run_steps x xs h ends (reply_of h.last) refl ih
 
 -- a call leaves the machine idle
-idle_behind : (s u : CoreState) (c : Called) (own : List Moment) → s.stage ≡ Idle → IsCallOf s c own u → u.stage ≡ Idle
+idle_behind : (s u : CoreState) (c : Called) (own : List Moment) → s.stage ≡ Idle → IsCallRun s c own u → u.stage ≡ Idle
 idle_behind s u c [] idle h = elim h [ inl r ↦ ap (λ (v : CoreState). v.stage) r.rests ∙ idle | inr f ↦ ap (λ (v : CoreState). v.stage) f.rests ]
 idle_behind s u c (x ∷ xs) idle h = ap (λ (v : CoreState). v.stage) h.rests
 

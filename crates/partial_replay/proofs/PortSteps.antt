@@ -1,15 +1,15 @@
 -- The events of a port are the steps of its calls.
-use Rattle.partial_replay.proofs.Common.{ℕ, ◌≢◌, ◌≤◌, suc, ◌≡◌, ◌+◌, ◌<◌, ◌==◌, ◌++◌, Bool, true, false, cond, List, [], ◌∷◌, length, map, set, Option, Some, None, IfSome, MatchOption, slice_get, refl, sym, ◌∙◌, ap, subst, inl, inr, arith, append_assoc, length-append, AllByRecursion, filter, filter_map, cons_option, sum_by, option_map, is_some, IsSome, append-nil, length_push, length-map, sum_by-cons, false≢true, ne_eqb, filter-append, eqb_tells, Applied, Call, Called, Finish, Opening, Step, Event, Layout, word_of, answer_of, Reply, Idle, Finished, CoreState, at_stage, advance, step_of, reply_at, reply_of, fresh, IsPossible, Part, IsBetween, answer_for, is_at_rest, begun_of, refusal_of, Port, UnderWay, Moment, last_behind, adds, is_won, new_of, entry_of, moments_from, moments_by, ports_of, events_in, EndInStep, Makes, IsCallOf, AreStepsOf, IsUnderWay, PortFits, IsGoing, PortMade, KeepsMade, unfinished_call, began_at, IsDoneAtOnce, ended_call, one_step_more, GoesOn, Ends, StepMade, ArePortsMade, AreStarted, AreStartedBut, left_over, unvalued, StopsAtStep}
+use Rattle.partial_replay.proofs.Common.{ℕ, ◌≢◌, ◌≤◌, suc, ◌≡◌, ◌+◌, ◌<◌, ◌==◌, ◌++◌, Bool, true, false, cond, List, [], ◌∷◌, length, map, set, Option, Some, None, IfSome, MatchOption, slice_get, refl, sym, ◌∙◌, ap, subst, inl, inr, arith, append_assoc, length-append, AllByRecursion, filter, filter_map, cons_option, sum_by, option_map, is_some, IsSome, append-nil, length_push, length-map, sum_by-cons, false≢true, ne_eqb, filter-append, eqb_tells, Applied, Call, Called, Finish, Opening, Step, Event, Layout, word_of, answer_of, Reply, Idle, Finished, CoreState, at_stage, advance, step_of, reply_at, reply_of, fresh, IsPossible, Part, IsBetween, answer_for, is_at_rest, begun_of, refusal_of, Port, UnderWay, Moment, last_behind, adds, is_won, new_of, event_entry, moments_from, moments_by, ports_of, events_in, EndInStep, Makes, IsCallRun, AreStepsOf, IsCallUnderWay, PortFits, IsCallGoing, PortMade, KeepsMade, unfinished_call, began_at, IsDoneAtOnce, ended_call, one_step_more, CallGoesOn, Ends, StepMade, ArePortsMade, AreStarted, AreStartedBut, left_over, unvalued, StopsAtStep}
 use Rattle.partial_machine.specs.declared.stage.Stage.{Stage}
 use Rattle.partial_replay.proofs.PortLaws.{same_eqb, get_set, get_set_other}
 use Rattle.partial_replay.proofs.Opens.{over_none}
 use Rattle.partial_replay.proofs.LegalOutcomes.{begun_by}
 
 -- one call more
-pub steps_push : (s t u : CoreState) (cs : List Called) (c : Called) (xs own : List Moment) → AreStepsOf s cs xs t → IsCallOf t c own u → length own ≡ c.steps →
+pub steps_push : (s t u : CoreState) (cs : List Called) (c : Called) (xs own : List Moment) → AreStepsOf s cs xs t → IsCallRun t c own u → length own ≡ c.steps →
     AreStepsOf s (cs ++ c ∷ []) (xs ++ own) u
 steps_push s t u [] c xs own w call long =
-    (own, [], u, ap (λ (l : List Moment). l ++ own) w.0 ∙ sym (append-nil own), long, subst (λ (v : CoreState). IsCallOf v c own u) w.1 call, (refl, refl))
+    (own, [], u, ap (λ (l : List Moment). l ++ own) w.0 ∙ sym (append-nil own), long, subst (λ (v : CoreState). IsCallRun v c own u) w.1 call, (refl, refl))
 steps_push s t u (d ∷ cs) c xs own w call long =
     (w.0, w.1 ++ own, w.2, ap (λ (l : List Moment). l ++ own) w.3 ∙ append_assoc (w.0) (w.1) own, w.4, w.5, steps_push (w.2) t u cs c (w.1) own w.6 call long)
 
@@ -33,7 +33,7 @@ began_push n k (y ∷ xs) x is = refl
 -- a call that has made its last step, or that is left unfinished
 call_of : (s t last : CoreState) (c : Called) (own : List Moment) (x : Moment) → refusal_of s c.call ≡ None → Makes (begun_of s c.call) (own ++ x ∷ []) last → c.began ≡ began_at 0 (own ++ x ∷ []) →
     option_map (λ (f : Finish). f.answer) c.finish ≡ option_map (answer_for last) (reply_of last) → IfSome c.finish (λ (f : Finish). f.ended ≡ x.behind) → t ≡ at_stage last Idle →
-    IsCallOf s c (own ++ x ∷ []) t
+    IsCallRun s c (own ++ x ∷ []) t
 call_of s t last c [] x begins makes began answered ended rests = record { begins = begins; last = last; makes = makes; began = began; answered = answered; ended = ended; rests = rests }
 call_of s t last c (y ∷ own) x begins makes began answered ended rests =
     record {
@@ -54,8 +54,8 @@ pub begun_made : (z : Layout) (n : ℕ) (calls : List Call) (p : ℕ) (xs : List
 begun_made z n calls p xs port new call w none next refusal core finished way =
     let nil : List Moment = [] in
     let idle : (w.own ≡ []) × (port.core ≡ w.at) = subst (λ (f : Option UnderWay). MatchOption f ((w.own ≡ []) × (port.core ≡ w.at))
-    (IsGoing n calls port.finished.items w.at port.core w.own)) none w.going in
-    let going : IsGoing n calls new.finished.items w.at new.core [] (record { began = n; steps = 0 }) = record {
+    (IsCallGoing n calls port.finished.items w.at port.core w.own)) none w.going in
+    let going : IsCallGoing n calls new.finished.items w.at new.core [] (record { began = n; steps = 0 }) = record {
       call = call;
       next = ap (λ (d : List Called). slice_get calls (length d)) finished ∙ next;
       begins = subst (λ (s : CoreState). refusal_of s call ≡ None) idle.1 refusal;
@@ -69,7 +69,7 @@ begun_made z n calls p xs port new call w none next refusal core finished way =
       at = w.at;
       is = w.is ∙ ap (λ (l : List Moment). w.done ++ l) idle.0;
       led = subst (λ (d : List Called). AreStepsOf (fresh z p) d w.done w.at) (sym finished) w.led;
-      going = subst (λ (f : Option UnderWay). MatchOption f ((nil ≡ []) × (new.core ≡ w.at)) (IsGoing n calls new.finished.items w.at new.core [])) (sym way) going;
+      going = subst (λ (f : Option UnderWay). MatchOption f ((nil ≡ []) × (new.core ≡ w.at)) (IsCallGoing n calls new.finished.items w.at new.core [])) (sym way) going;
     }
 
 -- a call is finished at once at a port between calls
@@ -78,8 +78,8 @@ pub once_made : (z : Layout) (n : ℕ) (calls : List Call) (p : ℕ) (xs : List 
 once_made z n calls p xs port new call c w none d finished way =
     let nil : List Moment = [] in
     let idle : (w.own ≡ []) × (port.core ≡ w.at) = subst (λ (f : Option UnderWay). MatchOption f ((w.own ≡ []) × (port.core ≡ w.at))
-    (IsGoing n calls port.finished.items w.at port.core w.own)) none w.going in
-    let here : IsCallOf w.at c [] new.core = subst (λ (s : CoreState). IsCallOf s c [] new.core) idle.1 d.done in
+    (IsCallGoing n calls port.finished.items w.at port.core w.own)) none w.going in
+    let here : IsCallRun w.at c [] new.core = subst (λ (s : CoreState). IsCallRun s c [] new.core) idle.1 d.done in
     let led = steps_push (fresh z p) w.at new.core port.finished.items c w.done [] w.led here (sym d.steps) in
     record {
       done = w.done ++ [];
@@ -87,15 +87,15 @@ once_made z n calls p xs port new call c w none d finished way =
       at = new.core;
       is = w.is ∙ ap (λ (l : List Moment). w.done ++ l) idle.0 ∙ sym (append-nil (w.done ++ []));
       led = subst (λ (d : List Called). AreStepsOf (fresh z p) d (w.done ++ []) new.core) (sym finished) led;
-      going = subst (λ (f : Option UnderWay). MatchOption f ((nil ≡ []) × (new.core ≡ new.core)) (IsGoing n calls new.finished.items new.core new.core [])) (sym way) (refl, refl);
+      going = subst (λ (f : Option UnderWay). MatchOption f ((nil ≡ []) × (new.core ≡ new.core)) (IsCallGoing n calls new.finished.items new.core new.core [])) (sym way) (refl, refl);
     }
 
 -- a step of the call under way: it goes on, or it is finished
 goes_made : (z : Layout) (n k : ℕ) (calls : List Call) (p : ℕ) (xs : List Moment) (port new : Port) (way : UnderWay) (x : Moment) → (w : PortMade z n calls p xs port) →
-    IsGoing n calls port.finished.items w.at port.core w.own way → x.before ≡ n → step_of port.core ≡ Some x.event.step → IsPossible port.core x.event.answer →
-    GoesOn port new way (advance port.core x.event.answer) → PortMade z k calls p (xs ++ x ∷ []) new
+    IsCallGoing n calls port.finished.items w.at port.core w.own way → x.before ≡ n → step_of port.core ≡ Some x.event.step → IsPossible port.core x.event.answer →
+    CallGoesOn port new way (advance port.core x.event.answer) → PortMade z k calls p (xs ++ x ∷ []) new
 goes_made z n k calls p xs port new way x w u before due possible g =
-    let going : IsGoing k calls new.finished.items w.at new.core (w.own ++ x ∷ []) (one_step_more way) = record {
+    let going : IsCallGoing k calls new.finished.items w.at new.core (w.own ++ x ∷ []) (one_step_more way) = record {
       call = u.call;
       next = ap (λ (d : List Called). slice_get calls (length d)) g.finished ∙ u.next;
       begins = u.begins;
@@ -109,11 +109,11 @@ goes_made z n k calls p xs port new way x w u before due possible g =
       at = w.at;
       is = ap (λ (l : List Moment). l ++ x ∷ []) w.is ∙ append_assoc w.done w.own (x ∷ []);
       led = subst (λ (d : List Called). AreStepsOf (fresh z p) d w.done w.at) (sym g.finished) w.led;
-      going = subst (λ (f : Option UnderWay). MatchOption f ((w.own ++ x ∷ [] ≡ []) × (new.core ≡ w.at)) (IsGoing k calls new.finished.items w.at new.core (w.own ++ x ∷ []))) (sym g.way') going;
+      going = subst (λ (f : Option UnderWay). MatchOption f ((w.own ++ x ∷ [] ≡ []) × (new.core ≡ w.at)) (IsCallGoing k calls new.finished.items w.at new.core (w.own ++ x ∷ []))) (sym g.way') going;
     }
 
 ends_made : (z : Layout) (n k : ℕ) (calls : List Call) (p : ℕ) (xs : List Moment) (port new : Port) (way : UnderWay) (x : Moment) (words : List ℕ) (log : List Applied) (r : Reply) →
-    (w : PortMade z n calls p xs port) → IsGoing n calls port.finished.items w.at port.core w.own way → x.before ≡ n → x.behind ≡ length log → step_of port.core ≡ Some x.event.step →
+    (w : PortMade z n calls p xs port) → IsCallGoing n calls port.finished.items w.at port.core w.own way → x.before ≡ n → x.behind ≡ length log → step_of port.core ≡ Some x.event.step →
     IsPossible port.core x.event.answer → reply_of (advance port.core x.event.answer) ≡ Some r → Ends calls words log port new way (advance port.core x.event.answer) r →
     PortMade z k calls p (xs ++ x ∷ []) new
 ends_made z n k calls p xs port new way x words log r w u before behind due possible replied e =
@@ -124,7 +124,7 @@ ends_made z n k calls p xs port new way x words log r w u before behind due poss
     let one : Some u.call ≡ Some e.call = sym u.next ∙ e.next in
     let same : u.call ≡ e.call = cc in
     let makes : Makes (begun_of w.at u.call) own last = makes_push (begun_of w.at u.call) port.core last w.own x u.makes due possible refl in
-    let call : IsCallOf w.at c own (at_stage last Idle) = call_of w.at (at_stage last Idle) last c w.own x
+    let call : IsCallRun w.at c own (at_stage last Idle) = call_of w.at (at_stage last Idle) last c w.own x
     (subst (λ (d : Call). refusal_of w.at d ≡ None) same u.begins)
     (subst (λ (d : Call). Makes (begun_of w.at d) own last) same makes)
     (u.began ∙ began_push n 0 w.own x before)
@@ -137,13 +137,13 @@ ends_made z n k calls p xs port new way x words log r w u before behind due poss
       at = at_stage last Idle;
       is = ap (λ (l : List Moment). l ++ x ∷ []) w.is ∙ append_assoc w.done w.own (x ∷ []) ∙ sym (append-nil (w.done ++ own));
       led = subst (λ (d : List Called). AreStepsOf (fresh z p) d (w.done ++ own) (at_stage last Idle)) (sym e.finished) led;
-      going = subst (λ (f : Option UnderWay). MatchOption f ((nil ≡ []) × (new.core ≡ at_stage last Idle)) (IsGoing k calls new.finished.items (at_stage last Idle) new.core []))
+      going = subst (λ (f : Option UnderWay). MatchOption f ((nil ≡ []) × (new.core ≡ at_stage last Idle)) (IsCallGoing k calls new.finished.items (at_stage last Idle) new.core []))
           (sym e.none) (refl, e.machine);
     }
 
 after_made : (z : Layout) (n k : ℕ) (calls : List Call) (p : ℕ) (xs : List Moment) (port new : Port) (way : UnderWay) (x : Moment) (words : List ℕ) (log : List Applied) (found : Option Reply) →
-    (w : PortMade z n calls p xs port) → IsGoing n calls port.finished.items w.at port.core w.own way → x.before ≡ n → x.behind ≡ length log → step_of port.core ≡ Some x.event.step →
-    IsPossible port.core x.event.answer → reply_of (advance port.core x.event.answer) ≡ found → MatchOption found (GoesOn port new way (advance port.core x.event.answer))
+    (w : PortMade z n calls p xs port) → IsCallGoing n calls port.finished.items w.at port.core w.own way → x.before ≡ n → x.behind ≡ length log → step_of port.core ≡ Some x.event.step →
+    IsPossible port.core x.event.answer → reply_of (advance port.core x.event.answer) ≡ found → MatchOption found (CallGoesOn port new way (advance port.core x.event.answer))
     (Ends calls words log port new way (advance port.core x.event.answer)) → PortMade z k calls p (xs ++ x ∷ []) new
 after_made z n k calls p xs port new way x words log None w u before behind due possible replied g = goes_made z n k calls p xs port new way x w u before due possible g
 after_made z n k calls p xs port new way x words log (Some r) w u before behind due possible replied e = ends_made z n k calls p xs port new way x words log r w u before behind due possible replied e
@@ -156,8 +156,8 @@ step_made : (z : Layout) (calls : List Call) (p : ℕ) (xs : List Moment) (words
     (m : StepMade calls words words' trace trace' log log' port new) → PortMade z (length log) calls p xs port →
     PortMade z (length log') calls p (xs ++ record { event = event_of words port.number m.step; before = length log; behind = length log' } ∷ []) new
 step_made z calls p xs words words' trace trace' log log' port new m w =
-    let u : IsGoing (length log) calls port.finished.items w.at port.core w.own m.way =
-    subst (λ (f : Option UnderWay). MatchOption f ((w.own ≡ []) × (port.core ≡ w.at)) (IsGoing (length log) calls port.finished.items w.at port.core w.own)) m.was w.going in
+    let u : IsCallGoing (length log) calls port.finished.items w.at port.core w.own m.way =
+    subst (λ (f : Option UnderWay). MatchOption f ((w.own ≡ []) × (port.core ≡ w.at)) (IsCallGoing (length log) calls port.finished.items w.at port.core w.own)) m.was w.going in
     after_made z (length log) (length log') calls p xs port new m.way (record { event = event_of words port.number m.step; before = length log; behind = length log' }) words' log'
     (reply_of (advance port.core (answer_of words m.step))) w u refl refl m.due m.possible refl m.after
 
@@ -167,7 +167,7 @@ own_stays n k [] way long some = absurd (omega (arith, long, some))
 own_stays n k (x ∷ own) way long some = refl
 
 going_stays : (n k : ℕ) (calls : List Call) (done : List Called) (at core : CoreState) (own : List Moment) (way : Option UnderWay) → ((v : UnderWay) → way ≡ Some v → 0 < v.steps) →
-    MatchOption way ((own ≡ []) × (core ≡ at)) (IsGoing n calls done at core own) → MatchOption way ((own ≡ []) × (core ≡ at)) (IsGoing k calls done at core own)
+    MatchOption way ((own ≡ []) × (core ≡ at)) (IsCallGoing n calls done at core own) → MatchOption way ((own ≡ []) × (core ≡ at)) (IsCallGoing k calls done at core own)
 going_stays n k calls done at core own None started w = w
 going_stays n k calls done at core own (Some way) started w =
     record { call = w.call; next = w.next; begins = w.begins; makes = w.makes; steps = w.steps; began = w.began ∙ own_stays n k own way w.steps (started way refl) }
@@ -199,16 +199,16 @@ long_entry : (b : Bool) (x : Applied) (xs : List Applied) → length (cons_optio
 long_entry true x xs = omega arith
 long_entry false x xs = omega arith
 
-long_entries : (m n : ℕ) (es : List Event) → long_by m n es ≡ n + length (filter_map (entry_of m (λ _. 0)) es)
+long_entries : (m n : ℕ) (es : List Event) → long_by m n es ≡ n + length (filter_map (event_entry m (λ _. 0)) es)
 long_entries m n [] = omega arith
 long_entries m n (e ∷ es) =
     let rest = long_entries m (n + adds m e) es in
-    let one = long_entry (is_won m e.step e.answer) (record { port = e.port; component = word_of e.step; value = 0; stamp = new_of e.step }) (filter_map (entry_of m (λ _. 0)) es) in
+    let one = long_entry (is_won m e.step e.answer) (record { port = e.port; component = word_of e.step; value = 0; stamp = new_of e.step }) (filter_map (event_entry m (λ _. 0)) es) in
     omega (arith, rest, one)
 
 -- the history is as long as the trace makes it
-pub log_long : (m : ℕ) (trace : List Event) (log : List Applied) → filter_map (entry_of m (λ _. 0)) trace ≡ map unvalued log → length log ≡ long_by m 0 trace
-log_long m trace log same = let all = long_entries m 0 trace in let long : length (filter_map (entry_of m (λ _. 0)) trace) ≡ length log =
+pub log_long : (m : ℕ) (trace : List Event) (log : List Applied) → filter_map (event_entry m (λ _. 0)) trace ≡ map unvalued log → length log ≡ long_by m 0 trace
+log_long m trace log same = let all = long_entries m 0 trace in let long : length (filter_map (event_entry m (λ _. 0)) trace) ≡ length log =
     ap length same ∙ length-map log unvalued in omega (arith, all, long)
 
 by_push : (m q n k : ℕ) (trace : List Event) (e : Event) → n ≡ long_by m 0 trace → k ≡ long_by m 0 (trace ++ e ∷ []) → moments_by m q (trace ++ e ∷ []) ≡ moments_by m q trace ++
@@ -284,7 +284,7 @@ pub step_started : (calls : List Call) (words words' : List ℕ) (trace trace' :
     (way : UnderWay) → new.under_way ≡ Some way → 0 < way.steps
 step_started calls words words' trace trace' log log' port new m way is = here (reply_of (advance port.core (answer_of words m.step))) m.after
   where
-    here : (found : Option Reply) → MatchOption found (GoesOn port new m.way (advance port.core (answer_of words m.step)))
+    here : (found : Option Reply) → MatchOption found (CallGoesOn port new m.way (advance port.core (answer_of words m.step)))
         (Ends calls words' log' port new m.way (advance port.core (answer_of words m.step))) → 0 < way.steps
     here None g = let one : Some (one_step_more m.way) ≡ Some way = sym g.way' ∙ is in let same : one_step_more m.way ≡ way = cc in let steps =
         ap (λ (v : UnderWay). v.steps) same in omega (arith, steps)
@@ -299,7 +299,7 @@ at_rest_replied s due = at s.stage due
     at _ e = refl
 
 unfinished_of : (s core : CoreState) (c : Called) (own : List Moment) → refusal_of s c.call ≡ None → Makes (begun_of s c.call) own core → c.began ≡ began_at 0 own → 0 < length own →
-    reply_of core ≡ None → c.finish ≡ None → IsCallOf s c own (at_stage core Idle)
+    reply_of core ≡ None → c.finish ≡ None → IsCallRun s c own (at_stage core Idle)
 unfinished_of s core c [] begins makes began some none finish = absurd (omega (arith, some))
 unfinished_of s core c (x ∷ own) begins makes began some none finish =
     record {
@@ -313,8 +313,9 @@ unfinished_of s core c (x ∷ own) begins makes began some none finish =
     }
 
 steps_over : (z : Layout) (n : ℕ) (calls : List Call) (p : ℕ) (xs : List Moment) (x : Part) (port : Port) (way : Option UnderWay) → (w : PortMade z n calls p xs port) →
-    MatchOption way (IsBetween x port.core) (IsUnderWay n calls x port.core port.finished.items) → ((v : UnderWay) → way ≡ Some v → 0 < v.steps) → MatchOption way ((w.own ≡ []) × (port.core ≡ w.at))
-    (IsGoing n calls port.finished.items w.at port.core w.own) → (t : CoreState) ×
+    MatchOption way (IsBetween x port.core) (IsCallUnderWay n calls x port.core port.finished.items) → ((v : UnderWay) → way ≡ Some v → 0 < v.steps) →
+    MatchOption way ((w.own ≡ []) × (port.core ≡ w.at))
+    (IsCallGoing n calls port.finished.items w.at port.core w.own) → (t : CoreState) ×
     AreStepsOf (fresh z p) (port.finished.items ++ left_over port (slice_get calls (length port.finished.items)) way) xs t
 steps_over z n calls p xs x port None w f started idle =
     let is : w.done ≡ xs = sym (w.is ∙ ap (λ (l : List Moment). w.done ++ l) idle.0 ∙ append-nil w.done) in
@@ -324,7 +325,7 @@ steps_over z n calls p xs x port None w f started idle =
 steps_over z n calls p xs x port (Some way) w f started u =
     let c = unfinished_call port.number (length port.finished.items) u.call way in
     let some : 0 < length w.own = let here = started way refl in omega (arith, here, u.steps) in
-    let call : IsCallOf w.at c w.own (at_stage port.core Idle) = unfinished_of w.at port.core c w.own u.begins u.makes (u.began ∙ own_stays n 0 w.own way u.steps (started way refl)) some
+    let call : IsCallRun w.at c w.own (at_stage port.core Idle) = unfinished_of w.at port.core c w.own u.begins u.makes (u.began ∙ own_stays n 0 w.own way u.steps (started way refl)) some
     (at_rest_replied port.core f.due) refl in
     let led = steps_push (fresh z p) w.at (at_stage port.core Idle) port.finished.items c w.done w.own w.led call u.steps in
     let over : c ∷ [] ≡ left_over port (slice_get calls (length port.finished.items)) (Some way) = sym (ap (λ (g : Option Call). left_over port g (Some way)) u.next) in (
@@ -394,7 +395,7 @@ pub step_ending : (calls : List Call) (words words' : List ℕ) (trace trace' : 
     new.under_way ≡ None → EndInStep new.finished.items
 step_ending calls words words' trace trace' log log' port new m none = here (reply_of (advance port.core (answer_of words m.step))) m.after
   where
-    here : (found : Option Reply) → MatchOption found (GoesOn port new m.way (advance port.core (answer_of words m.step)))
+    here : (found : Option Reply) → MatchOption found (CallGoesOn port new m.way (advance port.core (answer_of words m.step)))
         (Ends calls words' log' port new m.way (advance port.core (answer_of words m.step))) → EndInStep new.finished.items
     here None g = let bad : None ≡ Some (one_step_more m.way) = sym none ∙ g.way' in cc
     here (Some r) e = subst EndInStep (sym e.finished) (last_step port.finished.items
@@ -413,7 +414,7 @@ pub ending_begun : (o : Opening) (log : List Applied) (p : ℕ) (x : Part) (port
 ending_begun o log p x ports q calls port w t ends started =
     ending_over ports q calls port (slice_get calls (length port.finished.items)) port.under_way refl t ends started (next_is port.under_way w.way)
   where
-    next_is : (way : Option UnderWay) → MatchOption way (IsBetween x port.core) (IsUnderWay (length log) calls x port.core port.finished.items) → IsSome way →
+    next_is : (way : Option UnderWay) → MatchOption way (IsBetween x port.core) (IsCallUnderWay (length log) calls x port.core port.finished.items) → IsSome way →
         IsSome (slice_get calls (length port.finished.items))
     next_is None f some = absurd (false≢true some)
     next_is (Some way) f some = ap is_some f.next

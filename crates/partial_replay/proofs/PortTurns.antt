@@ -1,5 +1,5 @@
 -- A port begins its calls in its turns.
-use Rattle.partial_replay.proofs.Common.{ℕ, ◌≡◌, ◌+◌, ◌<◌, ◌++◌, List, [], ◌∷◌, length, slice_get, Option, Some, None, IfSome, MatchOption, sym, ◌∙◌, ap, subst, arith, append-nil, length_push, sum_by_push, Applied, Call, Called, slice_get_grows, slice_get_last, Event, Reply, CoreState, reply_of, answer_for, Port, UnderWay, HasTurned, steps_under_way, one_step_more, ended_call, unfinished_call, GoesOn, Ends, StepMade, core_behind, left_over, BeginInTurns, steps_in}
+use Rattle.partial_replay.proofs.Common.{ℕ, ◌≡◌, ◌+◌, ◌<◌, ◌++◌, List, [], ◌∷◌, length, slice_get, Option, Some, None, IfSome, MatchOption, sym, ◌∙◌, ap, subst, arith, append-nil, length_push, sum_by_push, Applied, Call, Called, slice_get_grows, slice_get_last, Event, Reply, CoreState, reply_of, answer_for, Port, UnderWay, HasTurned, steps_under_way, one_step_more, ended_call, unfinished_call, CallGoesOn, Ends, StepMade, core_behind, left_over, BeginInTurns, steps_in}
 use Rattle.partial_replay.proofs.TurnLengths.{begin_longer, begin_push}
 use Rattle.partial_replay.proofs.LegalOutcomes.{begun_by}
 
@@ -67,7 +67,7 @@ turn_begins calls ls n port new less none finished way w =
 way_began : (ls : List ℕ) (k : ℕ) (found : Option UnderWay) (way : UnderWay) → found ≡ Some way → IfSome found (λ (v : UnderWay). slice_get ls k ≡ Some v.began) → slice_get ls k ≡ Some way.began
 way_began ls k found way is w = subst (λ (v : Option UnderWay). IfSome v (λ (u : UnderWay). slice_get ls k ≡ Some u.began)) is w
 
-turn_goes : (calls : List Call) (ls : List ℕ) (port new : Port) (way : UnderWay) (core : CoreState) → port.under_way ≡ Some way → GoesOn port new way core → HasTurned 1 calls ls port →
+turn_goes : (calls : List Call) (ls : List ℕ) (port new : Port) (way : UnderWay) (core : CoreState) → port.under_way ≡ Some way → CallGoesOn port new way core → HasTurned 1 calls ls port →
     HasTurned 0 calls ls new
 turn_goes calls ls port new way core was g w =
     let same : steps_in new.finished.items ≡ steps_in port.finished.items = ap steps_in g.finished in
@@ -99,7 +99,7 @@ turn_ends calls words log ls port new way core r less was e w =
 
 turn_after : (calls : List Call) (words : List ℕ) (log : List Applied) (ls : List ℕ) (port new : Port) (way : UnderWay) (core : CoreState) (found : Option Reply) →
     length port.finished.items < length calls → port.under_way ≡ Some way →
-    MatchOption found (GoesOn port new way core) (Ends calls words log port new way core) → HasTurned 1 calls ls port → HasTurned 0 calls ls new
+    MatchOption found (CallGoesOn port new way core) (Ends calls words log port new way core) → HasTurned 1 calls ls port → HasTurned 0 calls ls new
 turn_after calls words log ls port new way core None less was g w = turn_goes calls ls port new way core was g w
 turn_after calls words log ls port new way core (Some r) less was e w = turn_ends calls words log ls port new way core r less was e w
 

@@ -1,5 +1,5 @@
 -- What a replay has come to is an outcome of its plan.
-use Rattle.partial_replay.proofs.Common.{ℕ, Bool, true, false, cond, zero, suc, ◌⊎◌, ◌≡◌, ◌+◌, ◌<◌, ◌≤◌, ◌==◌, List, [], ◌∷◌, length, map, take, get_or, Some, slice_get, refl, sym, ◌∙◌, ap, subst, inl, inr, arith, filter_map, sum_by, AllByRecursion, get_or_from_slice_get, Applied, Opening, Call, Called, LegalOutcome, Event, Layout, pool_base, value_of, Leads, Agrees, AreOpeningWords, sum_by-cons, PlanView, CoreState, fresh, AreStepsOf, most_steps, PortFits, Port, Run, HasLeastPlace, entry_of, moments_from, moments_by, ports_of, events_in, turns_of, turns_by, ports_in, lengths_in, BeginInTurns, calls_by, steps_by, AreFirstOf, AreAllMade, EndInStep, HaveMade, AreFew, IsReplayOf, turn_lengths, AreStarted, IsBetweenTurns, IsRunOf, Tells, calls_in, StopsAtStep, StopAtSteps, IsDone, HasMadeTurns, HasBegun, lengths_so_far, HaveBegun, lawful_ports_fit, place_below}
+use Rattle.partial_replay.proofs.Common.{ℕ, Bool, true, false, cond, zero, suc, ◌⊎◌, ◌≡◌, ◌+◌, ◌<◌, ◌≤◌, ◌==◌, List, [], ◌∷◌, length, map, take, get_or, Some, slice_get, refl, sym, ◌∙◌, ap, subst, inl, inr, arith, filter_map, sum_by, AllByRecursion, get_or_from_slice_get, Applied, Opening, Call, Called, LegalOutcome, Event, Layout, pool_base, record_value, Leads, Agrees, AreOpeningWords, sum_by-cons, PlanView, CoreState, fresh, AreStepsOf, most_steps, PortFits, Port, Run, HasLeastPlace, event_entry, moments_from, moments_by, ports_of, events_in, turns_of, turns_by, ports_in, lengths_in, BeginInTurns, calls_by, steps_by, AreFirstOf, AreAllMade, EndInStep, HaveMade, AreFew, IsReplayOf, turn_lengths, AreStarted, IsBetweenTurns, IsRunOf, TellsOutcome, calls_in, StopsAtStep, StopAtSteps, IsPortDone, HasMadeTurns, BeganInTurns, lengths_so_far, HaveBegun, lawful_ports_fit, place_below}
 use Rattle.partial_replay.proofs.PortSteps.{ending_begun, steps_begun, events_steps, none_moments}
 use Rattle.partial_text.specs.declared.outcome.Outcome.{Outcome}
 use Rattle.partial_replay.proofs.RunSteps.{port_in, ports_length}
@@ -46,7 +46,7 @@ module _ (plans : List (List Call)) (z : Layout) (o : Opening) (words : List ℕ
   ]
 
   -- a port that has made all its calls lists them all, and one that the plan doesn't have lists none
-  pub done_told : (q : ℕ) → IsDone plans ports q → AreAllMade (get_or plans q []) (calls_by q (calls_in plans ports))
+  pub done_told : (q : ℕ) → IsPortDone plans ports q → AreAllMade (get_or plans q []) (calls_by q (calls_in plans ports))
   done_told q d =
       let fits = port_in plans z o words ports log trace q d.calls d.port w d.plan d.is in
       let plan : get_or plans q [] ≡ d.calls = get_or_from_slice_get plans q d.calls [] d.plan in
@@ -81,7 +81,7 @@ module _ (plans : List (List Call)) (z : Layout) (o : Opening) (words : List ℕ
   ]
 
   -- each call that a port lists has begun in the turn behind the steps of those in front of it
-  pub begins_told : (q : ℕ) (ls : List ℕ) → HasBegun 0 plans q ls ports → BeginInTurns ls 0 (calls_by q (calls_in plans ports))
+  pub begins_told : (q : ℕ) (ls : List ℕ) → BeganInTurns 0 plans q ls ports → BeginInTurns ls 0 (calls_by q (calls_in plans ports))
   begins_told q ls begun = elim (at_place plans q) [
     | inl found ↦
         let calls = found.0 in
@@ -146,7 +146,7 @@ calls_wait z false turns plan cs few first less made =
 
 -- a run that has come to its end tells an outcome of its plan
 pub replay_told : (p : PlanView) (run : Run) (outcome : Outcome) → IsBetweenTurns p.ports run → run.memory.sizes ≡ p.sizes → run.opening.values ≡ p.initial →
-    HasMadeTurns p.ports (turns_of p) run → HaveBegun p.ports (turns_of p) run → (p.rest ≡ false → StopAtSteps p.steps run) → Tells p.ports run outcome → IsReplayOf p outcome
+    HasMadeTurns p.ports (turns_of p) run → HaveBegun p.ports (turns_of p) run → (p.rest ≡ false → StopAtSteps p.steps run) → TellsOutcome p.ports run outcome → IsReplayOf p outcome
 replay_told p run outcome between sizes values f begun ends t =
     let w = between.replay.state in
     let started = between.started in
@@ -161,7 +161,7 @@ replay_told p run outcome between sizes values f begun ends t =
     subst (λ (h : List Applied). Agrees outcome.opening outcome.words.items h) (sym t.history)
     (subst (λ (ws : List ℕ). Agrees outcome.opening ws run.memory.history.items) (sym t.words)
     (subst (λ (v : Opening). Agrees v run.memory.words.items run.memory.history.items) (sym t.opening) w.lawful.memory.agrees)) in
-    let D = IsDone p.ports run.ports.items in
+    let D = IsPortDone p.ports run.ports.items in
     let calls = calls_in p.ports run.ports.items in
     let ports = ports_of run.memory.trace.items in
     let events = events_told p.ports z o run.memory.words.items run.ports.items run.memory.history.items run.memory.trace.items w started in
@@ -204,8 +204,9 @@ replay_told p run outcome between sizes values f begun ends t =
       opens = subst (λ (l : Layout). AreOpeningWords l p.initial w.opened) sizes (subst (λ (l : List ℕ). AreOpeningWords z l w.opened) values w.opens);
       leads = subst (λ (es : List Event). Leads w.opened es outcome.words.items) (sym t.trace) (subst (λ (ws : List ℕ). Leads w.opened run.memory.trace.items ws) (sym t.words) w.leads);
       steps = t.steps ∙ ap length (sym t.trace);
-      entries = t.history ∙ entries ∙ ap (λ (l : Layout). filter_map (entry_of l.m (value_of run.memory.words.items)) run.memory.trace.items) sizes ∙
-          ap (λ (ws : List ℕ). filter_map (entry_of p.sizes.m (value_of ws)) run.memory.trace.items) (sym t.words) ∙ ap (filter_map (entry_of p.sizes.m (value_of outcome.words.items))) (sym t.trace);
+      entries = t.history ∙ entries ∙ ap (λ (l : Layout). filter_map (event_entry l.m (record_value run.memory.words.items)) run.memory.trace.items) sizes ∙
+          ap (λ (ws : List ℕ). filter_map (event_entry p.sizes.m (record_value ws)) run.memory.trace.items) (sym t.words) ∙
+          ap (filter_map (event_entry p.sizes.m (record_value outcome.words.items))) (sym t.trace);
       events = λ q. subst (λ (l : Layout). (last : CoreState) × AreStepsOf (fresh l q) (calls_by q outcome.calls.items) (moments_by l.m q outcome.trace.items) last) sizes
           (subst (λ (es : List Event). (last : CoreState) × AreStepsOf (fresh z q) (calls_by q outcome.calls.items) (moments_by z.m q es) last) (sym t.trace)
           (subst (λ (l : List Called). (last : CoreState) × AreStepsOf (fresh z q) (calls_by q l) (moments_by z.m q run.memory.trace.items) last) (sym t.calls) (events q)));

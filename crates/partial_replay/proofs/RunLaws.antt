@@ -1,5 +1,5 @@
 -- A step of a port keeps a replay's state lawful.
-use Rattle.partial_replay.proofs.Common.{ℕ, ◌≡◌, ◌+◌, ◌<◌, ◌≤◌, ◌++◌, Bool, true, false, cond, List, [], ◌∷◌, length, Option, Some, None, IfSome, MatchOption, slice_get, inr, refl, sym, ◌∙◌, ap, subst, arith, length-append, append-nil, length-map, Applied, Opening, Call, Refused, Note, Called, Noted, LegalNotes, IsLegal, MayBeRefused, seen_by, shown_by, place_of, Fits, IsTrueOf, places_written, wrote, places_written-append, AllByRecursion-push, AllByRecursion-weaker, LegalNotes-last, Step, Event, Layout, Answers, Leads, answer_of, words_after, Reply, Idle, CoreState, at_stage, scanned_values, advance, step_of, reply_of, IsSound, rests_are_sound, steps_left, most_steps, Part, Kept, core_of, port_of, IsBetween, IsMarkedLike, first_at, is_begun, is_at_rest, call_of, answer_for, Port, UnderWay, ends_of, notes_in, IsUnderWay, PortFits, AreWithin, HasValues, MayAnswer, one_step_more, ended_call, GoesOn, Ends, AreFew, IsNoteFrom, IsLeastFrom, view_word, lawful_records_are_within, initial_stamp, AllByRecursion, value_word}
+use Rattle.partial_replay.proofs.Common.{ℕ, ◌≡◌, ◌+◌, ◌<◌, ◌≤◌, ◌++◌, Bool, true, false, cond, List, [], ◌∷◌, length, Option, Some, None, IfSome, MatchOption, slice_get, inr, refl, sym, ◌∙◌, ap, subst, arith, length-append, append-nil, length-map, Applied, Opening, Call, Refused, Note, Called, Noted, LegalNotes, IsLegal, MayBeRefused, seen_by, shown_by, place_of, Fits, IsTrueOf, places_written, wrote, places_written-append, AllByRecursion-push, AllByRecursion-weaker, LegalNotes-last, Step, Event, Layout, Answers, Leads, answer_of, words_after, Reply, Idle, CoreState, at_stage, scanned_values, advance, step_of, reply_of, IsSound, rests_are_sound, steps_left, most_steps, Part, KeptAnswer, core_of, port_of, IsBetween, IsMarkedLike, first_at, is_begun, is_at_rest, call_of, answer_for, Port, UnderWay, ends_of, notes_in, IsCallUnderWay, PortFits, AreWithin, ScanHasValues, MayAnswer, one_step_more, ended_call, CallGoesOn, Ends, AreFew, IsNoteFrom, IsLeastFrom, view_word, lawful_records_are_within, initial_stamp, AllByRecursion, value_word}
 use Rattle.std.specs.Prelude.{is_some}
 use Rattle.partial_model.specs.declared.call.Answer.TheVariants as answer
 use Rattle.partial_model.specs.declared.call.Call.TheVariants as call
@@ -15,7 +15,7 @@ use Rattle.partial_replay.proofs.PortLaws.{some_is, DoneFits, EndedCall, done_of
 pub due_step : (s : CoreState) → is_some (step_of s) ≡ true → (step : Step) × (step_of s ≡ Some step)
 due_step s h = some_is (step_of s) h
 
-first_kept : (began n : ℕ) (ks : List Kept) (k : Kept) → (ks ≡ [] → began ≤ k.at) → (began ≤ k.at) → (began ≤ first_at ks) → began ≤ first_at (ks ++ k ∷ [])
+first_kept : (began n : ℕ) (ks : List KeptAnswer) (k : KeptAnswer) → (ks ≡ [] → began ≤ k.at) → (began ≤ k.at) → (began ≤ first_at ks) → began ≤ first_at (ks ++ k ∷ [])
 first_kept began n [] k none last h = last
 first_kept began n (x ∷ ks) k none last h = h
 
@@ -42,7 +42,7 @@ lawful_within z o words parts log w =
 
 -- only a scan answers values: those of components that are there
 scan_values : (o : Opening) (h : List Applied) (p m : ℕ) (c : Call) (vs : List ℕ) (k : ℕ) (b : Option ℕ) (n : Note) → Fits m c (answer.Scanned vs k b) (Some n) →
-    IsTrueOf o h p c (answer.Scanned vs k b) n → HasValues m c vs
+    IsTrueOf o h p c (answer.Scanned vs k b) n → ScanHasValues m c vs
 scan_values o h p m (call.Scan js) vs k b (note.Saw n) fits is = (fits, ap length is.values ∙ length-map js _)
 scan_values o h p m (call.Scan js) vs k b (note.Wrote n) fits is = absurd is
 scan_values o h p m (call.Scan js) vs k b (note.Lost n) fits is = absurd is
@@ -65,7 +65,7 @@ module _ (z : Layout) (o : Opening) (words : List ℕ) (before : List Part) (x :
   abbrev core2 : CoreState
   core2 = advance port.core (answer_of words step)
 
-  module _ (w : PortFits o log calls p x port) (u : IsUnderWay (length log) calls x port.core port.finished.items way) (l : LeadsOn z o words before x after log port.core step) where
+  module _ (w : PortFits o log calls p x port) (u : IsCallUnderWay (length log) calls x port.core port.finished.items way) (l : LeadsOn z o words before x after log port.core step) where
     abbrev y : Part
     y = l.y
 
@@ -93,7 +93,7 @@ module _ (z : Layout) (o : Opening) (words : List ℕ) (before : List Part) (x :
     first_y : way.began ≤ first_at y.kept
     first_y =
         let kept : y.kept ≡ kept_with port.core x ++ record { answer = a; at = length log2 } ∷ [] = ap (λ (v : Part). v.kept) l.tells.part in
-        subst (λ (ks : List Kept). way.began ≤ first_at ks) (sym kept)
+        subst (λ (ks : List KeptAnswer). way.began ≤ first_at ks) (sym kept)
         (first_moved port.core x way.began (length log2) a (is_begun port.core.stage) (let n = longer in omega (arith, n, u.within)) u.first)
 
     components_y : (s : CoreState) → s ≡ core2 → s.sizes.m ≡ length o.values
@@ -108,13 +108,13 @@ module _ (z : Layout) (o : Opening) (words : List ℕ) (before : List Part) (x :
     most_y : (s : CoreState) (c : Call) → s ≡ core2 → most_steps s.sizes c ≡ most_steps port.core.sizes c
     most_y s c e = ap (λ (t : Layout). most_steps t c) (ap (λ (t : CoreState). t.sizes) e ∙ sizes_y)
 
-    goes_on_fits : new.number ≡ port.number → reply_of core2 ≡ None → steps_left core2 < steps_left port.core → GoesOn port new way core2 → PortFits o log2 calls p y new
+    goes_on_fits : new.number ≡ port.number → reply_of core2 ≡ None → steps_left core2 < steps_left port.core → CallGoesOn port new way core2 → PortFits o log2 calls p y new
     goes_on_fits number none falls g =
         let no_new : l.tells.new ≡ [] = subst (λ (r : Option Reply). AreNotesOf y r l.tells.new) none l.tells.noted in
         let b = l.tells.behind in
         let begun : is_begun new.core.stage ≡ false = ap (λ (s : CoreState). is_begun s.stage) g.machine ∙ b.begun in
         let core : new.core ≡ core_of y = g.machine ∙ sym core_y in
-        let going : IsUnderWay (length log2) calls y new.core new.finished.items (one_step_more way) = record {
+        let going : IsCallUnderWay (length log2) calls y new.core new.finished.items (one_step_more way) = record {
           call = u.call;
           next = ap (λ (d : List Called). slice_get calls (length d)) g.finished ∙ u.next;
           begun = ap (λ (b : Bool). call_of (cond b new.core y.begun)) begun ∙ ap call_of begun_y ∙ u.begun;
@@ -130,7 +130,7 @@ module _ (z : Layout) (o : Opening) (words : List ℕ) (before : List Part) (x :
         (done_grows o log (added_by z (port_of x) words step) calls p port.finished.items (places_written x.notes) (done_of o log calls p x port w)))
         (subst (λ (d : List Called). AreFew new.core.sizes d) (sym g.finished) (few_y new.core g.machine))
         (sym (places_y [] no_new ∙ append-nil (places_written x.notes)))
-        (subst (λ (f : Option UnderWay). MatchOption f (IsBetween y new.core) (IsUnderWay (length log2) calls y new.core new.finished.items)) (sym g.way') going)
+        (subst (λ (f : Option UnderWay). MatchOption f (IsBetween y new.core) (IsCallUnderWay (length log2) calls y new.core new.finished.items)) (sym g.way') going)
 
     -- the call that has ended, as it is listed
     abbrev last_call : (r : Reply) → Ends calls words2 log2 port new way core2 r → Called
@@ -169,7 +169,7 @@ module _ (z : Layout) (o : Opening) (words : List ℕ) (before : List Part) (x :
         (subst (λ (f : List Called). DoneFits o log2 calls p f (places_written x.notes ++ wrote (d.note))) (sym e.finished) pushed)
         (subst (λ (f : List Called). AreFew new.core.sizes f) (sym e.finished) (subst (λ (t : Layout). AreFew t (port.finished.items ++ c ∷ [])) (sym sizes) few))
         (ap (λ (k : List ℕ). places_written x.notes ++ k) places ∙ sym (places_y ns news))
-        (subst (λ (f : Option UnderWay). MatchOption f (IsBetween y new.core) (IsUnderWay (length log2) calls y new.core new.finished.items)) (sym e.none) (rests_y r replied e.machine))
+        (subst (λ (f : Option UnderWay). MatchOption f (IsBetween y new.core) (IsCallUnderWay (length log2) calls y new.core new.finished.items)) (sym e.none) (rests_y r replied e.machine))
 
     -- the call that the part has begun is the one under way
     same_call : (c : Call) → call_of y.begun ≡ Some c → c ≡ u.call
@@ -245,7 +245,7 @@ module _ (z : Layout) (o : Opening) (words : List ℕ) (before : List Part) (x :
     replied_fits (reply.Read v s) number falls replied e n = noted_fits (reply.Read v s) number falls replied e n
     replied_fits (reply.Changed by) number falls replied e n = noted_fits (reply.Changed by) number falls replied e n
 
-    pub step_fits : (found : Option Reply) → reply_of core2 ≡ found → new.number ≡ port.number → steps_left core2 < steps_left port.core → MatchOption found (GoesOn port new way core2)
+    pub step_fits : (found : Option Reply) → reply_of core2 ≡ found → new.number ≡ port.number → steps_left core2 < steps_left port.core → MatchOption found (CallGoesOn port new way core2)
         (Ends calls words2 log2 port new way core2) → PortFits o log2 calls p l.y new
     step_fits None is number falls g = goes_on_fits number is falls g
     step_fits (Some r) is number falls e = replied_fits r number falls is e (subst (λ (f : Option Reply). AreNotesOf y f l.tells.new) is l.tells.noted)
@@ -255,7 +255,7 @@ module _ (z : Layout) (o : Opening) (words : List ℕ) (before : List Part) (x :
     answer_may (reply.Scanned k b) n =
         let legal = legal_y (reply.Scanned k b) n in
         let values = scan_values o log2 p (length o.values) n.call (scanned_values core2) k b n.note legal.0 (legal.1.0) in
-        subst (λ m. HasValues m u.call (scanned_values core2)) (sym w.sizes) (subst (λ (c : Call). HasValues (length o.values) c (scanned_values core2)) (same_call n.call n.made) values)
+        subst (λ m. ScanHasValues m u.call (scanned_values core2)) (sym w.sizes) (subst (λ (c : Call). ScanHasValues (length o.values) c (scanned_values core2)) (same_call n.call n.made) values)
     answer_may (reply.Applied s) n = tt
     answer_may (reply.Lost by) n = tt
     answer_may (reply.Read v s) n = tt

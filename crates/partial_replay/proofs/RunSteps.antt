@@ -1,5 +1,5 @@
 -- A turn of a port among the others.
-use Rattle.partial_replay.proofs.Common.{ℕ, zero, suc, ◌≡◌, ◌+◌, ◌-◌, ◌*◌, ◌<◌, ◌≤◌, ◌==◌, ◌++◌, Bool, true, false, cond, not, List, [], ◌∷◌, length, get_or, set, Option, Some, None, MatchOption, MatchBool, nat_lt, ◌^◌, slice_get, Result, Ok, Err, OnOk, refl, sym, ◌∙◌, ap, subst, arith, length-append, get_or-set_other, mul-le-mul, mul-suc, option_map_or, is_some, IsSome, false≢true, ltb-true, append-nil, length_push, Applied, Opening, Call, Called, LegalNotes-grows, AllByRecursion-get, AllByRecursion-push, Step, Event, Layout, IsLayout, Leads, answer_of, words_after, value_of, view_word, Reply, Idle, CoreState, reply_of, steps_left, most_of_update, most_steps, Part, port_of, IsBetween, answer_for, IsServed, steps_stay_lawful, lawful_machines_are_ready, lawful_records_are_within, Port, UnderWay, KeepsMade, IsExchangeWithin, AreWithin, notes_in, IsUnderWay, PortFits, core_behind, entry_at, one_step_more, ended_call, GoesOn, Ends, StepMade, MayStep, KeepsFit, AreStartedBut, ArePlans, PortsFit, IsRunOf, left_for, left_of, left_at, AllByRecursion, place_below, value_word}
+use Rattle.partial_replay.proofs.Common.{ℕ, zero, suc, ◌≡◌, ◌+◌, ◌-◌, ◌*◌, ◌<◌, ◌≤◌, ◌==◌, ◌++◌, Bool, true, false, cond, not, List, [], ◌∷◌, length, get_or, set, Option, Some, None, MatchOption, MatchBool, nat_lt, ◌^◌, slice_get, Result, Ok, Err, OnOk, refl, sym, ◌∙◌, ap, subst, arith, length-append, get_or-set_other, mul-le-mul, mul-suc, option_map_or, is_some, IsSome, false≢true, ltb-true, append-nil, length_push, Applied, Opening, Call, Called, LegalNotes-grows, AllByRecursion-get, AllByRecursion-push, Step, Event, Layout, IsLayout, Leads, answer_of, words_after, record_value, view_word, Reply, Idle, CoreState, reply_of, steps_left, most_of_update, most_steps, Part, port_of, IsBetween, answer_for, IsServed, steps_stay_lawful, lawful_machines_are_ready, lawful_records_are_within, Port, UnderWay, KeepsMade, IsExchangeWithin, AreWithin, notes_in, IsCallUnderWay, PortFits, core_behind, entry_at, one_step_more, ended_call, CallGoesOn, Ends, StepMade, MayStep, KeepsFit, AreStartedBut, ArePlans, PortsFit, IsRunOf, left_for, port_left, port_left_at, AllByRecursion, place_below, value_word}
 use Rattle.std.proofs.Math.Nat.{mul-le-mul_left}
 use Rattle.partial_model.specs.declared.call.Call.TheVariants as call
 use Rattle.partial_words.specs.declared.step.Step.TheVariants.{Load, Store, Exchange, Add}
@@ -12,7 +12,7 @@ use Rattle.partial_replay.proofs.Traces.{entries_push}
 
 -- another port's history grows
 way_grows : (log es : List Applied) (calls : List Call) (x : Part) (core : CoreState) (done : List Called) (way : Option UnderWay) → MatchOption way (IsBetween x core)
-    (IsUnderWay (length log) calls x core done) → MatchOption way (IsBetween x core) (IsUnderWay (length (log ++ es)) calls x core done)
+    (IsCallUnderWay (length log) calls x core done) → MatchOption way (IsBetween x core) (IsCallUnderWay (length (log ++ es)) calls x core done)
 way_grows log es calls x core done None w = w
 way_grows log es calls x core done (Some way) w =
     record {
@@ -122,8 +122,8 @@ begin_keeps plans z o words ports log trace i calls port new w c t keeps keeps_m
 
 -- the call under way of a port
 pub under_way : (o : Opening) (log : List Applied) (calls : List Call) (p : ℕ) (x : Part) (port : Port) (way : UnderWay) → PortFits o log calls p x port → port.under_way ≡ Some way →
-    IsUnderWay (length log) calls x port.core port.finished.items way
-under_way o log calls p x port way w is = subst (λ (f : Option UnderWay). MatchOption f (IsBetween x port.core) (IsUnderWay (length log) calls x port.core port.finished.items)) is w.way
+    IsCallUnderWay (length log) calls x port.core port.finished.items way
+under_way o log calls p x port way w is = subst (λ (f : Option UnderWay). MatchOption f (IsBetween x port.core) (IsCallUnderWay (length log) calls x port.core port.finished.items)) is w.way
 
 -- what a step adds to the history, as it is told by the words behind it, and that the record of an exchange lies within the words
 pub record StepAdds (z : Layout) (m : ℕ) (words : List ℕ) (step : Step) (port : ℕ) : Type 0 where
@@ -139,20 +139,21 @@ adds z words port (Exchange w old at) within above = record { entry = by (nat_lt
   where
     by : (a : Bool) → nat_lt w z.m ≡ a → (b : Bool) → (get_or words w 0 == old) ≡ b →
         cond {A = List Applied} (nat_lt w z.m) (cond (get_or words w 0 == old)
-        (record { port = port; component = w; value = value_of (words_after words (Exchange w old at)) at; stamp = at } ∷ []) []) []
-        ≡ cond (nat_lt w z.m) (cond (get_or words w 0 == old) (record { port = port; component = w; value = value_of words at; stamp = at } ∷ []) []) []
+        (record { port = port; component = w; value = record_value (words_after words (Exchange w old at)) at; stamp = at } ∷ []) []) []
+        ≡ cond (nat_lt w z.m) (cond (get_or words w 0 == old) (record { port = port; component = w; value = record_value words at; stamp = at } ∷ []) []) []
     by false ea b eb = ap (λ (c : Bool). cond {A = List Applied} c (cond (get_or words w 0 == old)
-        (record { port = port; component = w; value = value_of (words_after words (Exchange w old at)) at; stamp = at } ∷ []) []) []) ea
-        ∙ sym (ap (λ (c : Bool). cond c (cond (get_or words w 0 == old) (record { port = port; component = w; value = value_of words at; stamp = at } ∷ []) []) []) ea)
-    by true ea false eb = ap (λ (c : Bool). cond (nat_lt w z.m) (cond c (record { port = port; component = w; value = value_of (words_after words (Exchange w old at)) at; stamp = at } ∷ []) []) []) eb
-        ∙ sym (ap (λ (c : Bool). cond (nat_lt w z.m) (cond c (record { port = port; component = w; value = value_of words at; stamp = at } ∷ []) []) []) eb)
+        (record { port = port; component = w; value = record_value (words_after words (Exchange w old at)) at; stamp = at } ∷ []) []) []) ea
+        ∙ sym (ap (λ (c : Bool). cond c (cond (get_or words w 0 == old) (record { port = port; component = w; value = record_value words at; stamp = at } ∷ []) []) []) ea)
+    by true ea false eb = ap (λ (c : Bool). cond (nat_lt w z.m) (cond c (record { port = port; component = w; value = record_value (words_after words (Exchange w old at)) at; stamp = at } ∷ []) [])
+        []) eb
+        ∙ sym (ap (λ (c : Bool). cond (nat_lt w z.m) (cond c (record { port = port; component = w; value = record_value words at; stamp = at } ∷ []) []) []) eb)
     by true ea true eb =
-        let one : added_by z port words (Exchange w old at) ≡ record { port = port; component = w; value = value_of words at; stamp = at } ∷ [] =
-        ap (λ (c : Bool). cond c (cond (get_or words w 0 == old) (record { port = port; component = w; value = value_of words at; stamp = at } ∷ []) []) []) ea
-        ∙ ap (λ (c : Bool). cond c (record { port = port; component = w; value = value_of words at; stamp = at } ∷ []) []) eb in
-        let behind = above (record { port = port; component = w; value = value_of words at; stamp = at }) one in
+        let one : added_by z port words (Exchange w old at) ≡ record { port = port; component = w; value = record_value words at; stamp = at } ∷ [] =
+        ap (λ (c : Bool). cond c (cond (get_or words w 0 == old) (record { port = port; component = w; value = record_value words at; stamp = at } ∷ []) []) []) ea
+        ∙ ap (λ (c : Bool). cond c (record { port = port; component = w; value = record_value words at; stamp = at } ∷ []) []) eb in
+        let behind = above (record { port = port; component = w; value = record_value words at; stamp = at }) one in
         let below = ltb-true w z.m ea in
-        let same : value_of (words_after words (Exchange w old at)) at ≡ value_of words at = get_or-set_other words w (value_word at) (cond (get_or words w 0 == old) at (get_or words w 0)) 0
+        let same : record_value (words_after words (Exchange w old at)) at ≡ record_value words at = get_or-set_other words w (value_word at) (cond (get_or words w 0 == old) at (get_or words w 0)) 0
         (λ h. omega (arith, behind, below, h)) in
         ap (λ v. cond (nat_lt w z.m) (cond (get_or words w 0 == old) (record { port = port; component = w; value = v; stamp = at } ∷ []) []) []) same
 
@@ -248,9 +249,9 @@ step_keeps plans z o words words' ports log log' trace trace' i calls port new w
     let log_is : log' ≡ log ++ gained = m.log_is ∙ ap (λ (ws : List ℕ). log ++ entry_at port.core.sizes.m ws port.number (m.step) a) m.words_are ∙ ap (λ (es : List Applied). log ++ es) adds.entry ∙
     ap (λ n. log ++ added_by z n words (m.step)) (sym number) in
     let core = core_behind words (m.step) port in
-    let after : MatchOption (reply_of core) (GoesOn port new (m.way) core) (Ends calls (words_after words (m.step)) (log ++ gained) port new (m.way) core) =
-    subst (λ (k : List Applied). MatchOption (reply_of core) (GoesOn port new (m.way) core) (Ends calls (words_after words (m.step)) k port new (m.way) core)) log_is
-    (subst (λ (ws : List ℕ). MatchOption (reply_of core) (GoesOn port new (m.way) core) (Ends calls ws log' port new (m.way) core)) m.words_are m.after) in
+    let after : MatchOption (reply_of core) (CallGoesOn port new (m.way) core) (Ends calls (words_after words (m.step)) (log ++ gained) port new (m.way) core) =
+    subst (λ (k : List Applied). MatchOption (reply_of core) (CallGoesOn port new (m.way) core) (Ends calls (words_after words (m.step)) k port new (m.way) core)) log_is
+    (subst (λ (ws : List ℕ). MatchOption (reply_of core) (CallGoesOn port new (m.way) core) (Ends calls ws log' port new (m.way) core)) m.words_are m.after) in
     let y = l.y in
     let fits = step_fits z o words (at.before) (at.x) (at.after) log calls (0 + i) port new (m.step) (m.way) (at.fits) u l (reply_of core) refl m.number m.falls after in
     let event : Event = record { port = port.number; step = m.step; answer = a } in
@@ -285,25 +286,25 @@ step_sizes plans z o words words' ports log log' trace trace' i calls port new w
 
 -- the steps that the port has left
 pub left_is : (plans : List (List Call)) (ports : List Port) (i : ℕ) (calls : List Call) (port : Port) → slice_get plans i ≡ Some calls → slice_get ports i ≡ Some port →
-    left_at i plans ports ≡ left_of calls port
+    port_left_at i plans ports ≡ port_left calls port
 left_is [] ports i calls port c t = let bad : None ≡ Some calls = c in cc
 left_is (d ∷ plans) [] i calls port c t = let bad : None ≡ Some port = t in cc
 left_is (d ∷ plans) (u ∷ ports) zero calls port c t =
-    let is : d ≡ calls = cc in let same : u ≡ port = cc in ap (λ (e : List Call). left_of e u) is ∙ ap (λ (v : Port). left_of calls v) same
+    let is : d ≡ calls = cc in let same : u ≡ port = cc in ap (λ (e : List Call). port_left e u) is ∙ ap (λ (v : Port). port_left calls v) same
 left_is (d ∷ plans) (u ∷ ports) (suc i) calls port c t = left_is plans ports i calls port c t
 
-left_under_way : (calls : List Call) (port : Port) (way : UnderWay) → port.under_way ≡ Some way → left_of calls port ≡ left_for port.core.sizes
+left_under_way : (calls : List Call) (port : Port) (way : UnderWay) → port.under_way ≡ Some way → port_left calls port ≡ left_for port.core.sizes
     (length calls - length port.finished.items - 1) + steps_left port.core
 left_under_way calls port way is = ap (λ (f : Option UnderWay). option_map_or (λ (v : UnderWay). left_for port.core.sizes (length calls - length port.finished.items - 1) + steps_left port.core) f
     (left_for port.core.sizes (length calls - length port.finished.items))) is
 
-left_between : (calls : List Call) (port : Port) → port.under_way ≡ None → left_of calls port ≡ left_for port.core.sizes (length calls - length port.finished.items)
+left_between : (calls : List Call) (port : Port) → port.under_way ≡ None → port_left calls port ≡ left_for port.core.sizes (length calls - length port.finished.items)
 left_between calls port is = ap (λ (f : Option UnderWay). option_map_or (λ (v : UnderWay). left_for port.core.sizes (length calls - length port.finished.items - 1) + steps_left port.core) f
     (left_for port.core.sizes (length calls - length port.finished.items))) is
 
 left_after : (calls : List Call) (words : List ℕ) (log : List Applied) (port new : Port) (way : UnderWay) (core : CoreState) (found : Option Reply) → core.sizes ≡ port.core.sizes →
-    port.under_way ≡ Some way → steps_left core < steps_left port.core → length port.finished.items < length calls → MatchOption found (GoesOn port new way core)
-    (Ends calls words log port new way core) → left_of calls new < left_of calls port
+    port.under_way ≡ Some way → steps_left core < steps_left port.core → length port.finished.items < length calls → MatchOption found (CallGoesOn port new way core)
+    (Ends calls words log port new way core) → port_left calls new < port_left calls port
 left_after calls words log port new way core None sizes was falls more g =
     let old = left_under_way calls port way was in
     let now = left_under_way calls new (one_step_more way) g.way' in
@@ -323,7 +324,7 @@ left_after calls words log port new way core (Some r) sizes was falls more e =
     omega (arith, old, now, rest, falls)
 
 pub left_falls : (calls : List Call) (words words' : List ℕ) (trace trace' : List Event) (log log' : List Applied) (port new : Port) → length port.finished.items < length calls →
-    (m : StepMade calls words words' trace trace' log log' port new) → (core_behind words (m.step) port).sizes ≡ port.core.sizes → left_of calls new < left_of calls port
+    (m : StepMade calls words words' trace trace' log log' port new) → (core_behind words (m.step) port).sizes ≡ port.core.sizes → port_left calls new < port_left calls port
 left_falls calls words words' trace trace' log log' port new more m sizes =
     left_after calls words' log' port new (m.way) (core_behind words (m.step) port) (reply_of (core_behind words (m.step) port)) sizes m.was m.falls more m.after
 
@@ -337,10 +338,10 @@ left_one_more z n = ap (λ k. (most_of_update z + 1) * k) (let one : n + 1 ≡ s
 -- where a port begins its next call, it has no more left than before
 pub left_begun : (calls : List Call) (port new : Port) → new.core.sizes ≡ port.core.sizes → port.under_way ≡ None → length port.finished.items ≤ length new.finished.items →
     length new.finished.items ≤ length calls → ((way : UnderWay) → new.under_way ≡ Some way → (steps_left new.core ≤ most_of_update port.core.sizes) × (length new.finished.items < length calls)) →
-    left_of calls new ≤ left_of calls port
+    port_left calls new ≤ port_left calls port
 left_begun calls port new sizes none more few f = at_way new.under_way refl
   where
-    at_way : (way : Option UnderWay) → new.under_way ≡ way → left_of calls new ≤ left_of calls port
+    at_way : (way : Option UnderWay) → new.under_way ≡ way → port_left calls new ≤ port_left calls port
     at_way None is =
         let old = left_between calls port none in
         let now = left_between calls new is in
@@ -427,7 +428,7 @@ idle_between o log calls p x port w none = let b = between_of o log calls p x po
 
 -- a port that has begun its next call where none was under way has no more left than before
 pub left_ready : (o : Opening) (log : List Applied) (calls : List Call) (p : ℕ) (x : Part) (port new : Port) → AllByRecursion (IsServed port.core.sizes.m) calls → new.core.sizes ≡ port.core.sizes →
-    PortFits o log calls p x new → port.under_way ≡ None → length port.finished.items ≤ length new.finished.items → left_of calls new ≤ left_of calls port
+    PortFits o log calls p x new → port.under_way ≡ None → length port.finished.items ≤ length new.finished.items → port_left calls new ≤ port_left calls port
 left_ready o log calls p x port new served sizes w none more =
     left_begun calls port new sizes none more w.few (λ way is.
     let u = under_way o log calls p x new way w is in

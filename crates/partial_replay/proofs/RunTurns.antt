@@ -1,5 +1,5 @@
 -- The turns of a replay, and the calls that the ports begin in them.
-use Rattle.partial_replay.proofs.Common.{ℕ, suc, ◌≡◌, ◌+◌, ◌-◌, ◌<◌, ◌≤◌, ◌==◌, ◌++◌, Bool, true, false, cond, List, [], ◌∷◌, length, map, set, replicate, slice_get, Option, Some, None, MatchOption, refl, sym, ◌∙◌, ap, subst, inl, inr, arith, append_assoc, append-nil, length-map, length-replicate, map-append, eqb_tells, Applied, Call, Event, Layout, Port, Run, Moment, moments_from, last_behind, ports_of, events_in, idle_in, lengths_of, lengths_in, HasTurned, StepMade, IsRun, IsReady, IsSameMemory, IsSameOpening, IsDone, StayDone, StayStopped, StayStoppedBut, StayStoppedWith, GoesOnBy, HasBegun, own_turns, BeginsIn, StepsIn, GoesOnIn, moments_behind, TurnMade, StepsMade, TurnsMade, MakeTurns, HasMadeTurns, lengths_so_far, HaveBegun}
+use Rattle.partial_replay.proofs.Common.{ℕ, suc, ◌≡◌, ◌+◌, ◌-◌, ◌<◌, ◌≤◌, ◌==◌, ◌++◌, Bool, true, false, cond, List, [], ◌∷◌, length, map, set, replicate, slice_get, Option, Some, None, MatchOption, refl, sym, ◌∙◌, ap, subst, inl, inr, arith, append_assoc, append-nil, length-map, length-replicate, map-append, eqb_tells, Applied, Call, Event, Layout, Port, Run, Moment, moments_from, last_behind, ports_of, events_in, idle_in, lengths_of, lengths_in, HasTurned, StepMade, IsReplayState, IsTurnReady, ChangesPortsOnly, IsSameOpening, IsPortDone, StayDone, StayStopped, StayStoppedBut, StayStoppedWith, GoesOnBy, BeganInTurns, own_turns, BeginsIn, StepsIn, GoesOnIn, moments_behind, TurnMade, StepsMade, TurnsMade, MakeTurns, HasMadeTurns, lengths_so_far, HaveBegun}
 use Rattle.partial_replay.specs.declared.memory.Memory.{Memory}
 use Rattle.partial_replay.proofs.PortLaws.{get_set, get_set_other}
 use Rattle.partial_replay.proofs.PortSteps.{log_long}
@@ -8,7 +8,7 @@ use Rattle.partial_replay.proofs.TurnLengths.{ports_at, befores_of, ports_moment
 use Rattle.partial_replay.proofs.PortTurns.{turns_idle, turn_steps}
 
 -- how long the history is behind further events
-long_behind : (plans : List (List Call)) (p n : ℕ) (old new : Run) → IsRun plans old → IsRun plans new → IsSameOpening old new → (g : GoesOnBy n p old new) →
+long_behind : (plans : List (List Call)) (p n : ℕ) (old new : Run) → IsReplayState plans old → IsReplayState plans new → IsSameOpening old new → (g : GoesOnBy n p old new) →
     length new.memory.history.items ≡ last_behind (length old.memory.history.items) (moments_behind old g.events)
 long_behind plans p n old new w v same g =
     let m = old.memory.sizes.m in
@@ -32,15 +32,15 @@ no_events p [] is = refl
 no_events p (e ∷ es) is = let bad : e.port ∷ ports_of es ≡ [] = is in cc
 
 -- turns of another port, and turns of the same
-begun_same : (plans : List (List Call)) (q idle : ℕ) (ls ks : List ℕ) (ports : List Port) → ls ≡ ks → HasBegun idle plans q ls ports → HasBegun idle plans q ks ports
-begun_same plans q idle ls ks ports same w = subst (λ (l : List ℕ). HasBegun idle plans q l ports) same w
+begun_same : (plans : List (List Call)) (q idle : ℕ) (ls ks : List ℕ) (ports : List Port) → ls ≡ ks → BeganInTurns idle plans q ls ports → BeganInTurns idle plans q ks ports
+begun_same plans q idle ls ks ports same w = subst (λ (l : List ℕ). BeganInTurns idle plans q l ports) same w
 
 goes_on_more : (plans : List (List Call)) (p : ℕ) (ls ks : List ℕ) (old mid new : Run) → GoesOnIn plans p ls old mid → GoesOnIn plans p ks mid new → GoesOnIn plans p (ls ++ ks) old new
 goes_on_more plans p ls ks old mid new a b q front w = begun_same plans q 0 ((front ++ own_turns q p ls) ++ own_turns q p ks) (front ++ own_turns q p (ls ++ ks)) new.ports.items
     (own_more q p front ls ks) (b q (front ++ own_turns q p ls) (a q front w))
 
 -- a port comes to its end, and any turns behind it change nothing
-goes_on_idle : (plans : List (List Call)) (p : ℕ) (ls more : List ℕ) (old new : Run) → IsDone plans new.ports.items p → GoesOnIn plans p ls old new → GoesOnIn plans p (ls ++ more) old new
+goes_on_idle : (plans : List (List Call)) (p : ℕ) (ls more : List ℕ) (old new : Run) → IsPortDone plans new.ports.items p → GoesOnIn plans p ls old new → GoesOnIn plans p (ls ++ more) old new
 goes_on_idle plans p ls more old new d g q front w calls port c t = elim (eqb_tells q p) [
   | inl is ↦
       let one : Some d.calls ≡ Some calls = sym d.plan ∙ ap (slice_get plans) (sym is.1) ∙ c in
@@ -87,8 +87,8 @@ steps_at plans p calls words words' trace trace' log log' port new ports less c 
 ]
 
 -- a turn in which a port has made all its calls
-pub turn_done : (plans : List (List Call)) (p : ℕ) (old new : Run) → IsSameMemory old new → BeginsIn plans p (length old.memory.history.items) old.ports.items new.ports.items →
-    StayDone plans old new → IsDone plans new.ports.items p → StayStoppedBut p old new → TurnMade plans p old false new
+pub turn_done : (plans : List (List Call)) (p : ℕ) (old new : Run) → ChangesPortsOnly old new → BeginsIn plans p (length old.memory.history.items) old.ports.items new.ports.items →
+    StayDone plans old new → IsPortDone plans new.ports.items p → StayStoppedBut p old new → TurnMade plans p old false new
 turn_done plans p old new same begins kept done ending = record {
   made = record { events = []; trace = ap (λ (r : Memory). r.trace.items) same.memory ∙ sym (append-nil old.memory.trace.items); ports = refl };
   begun = λ q front w calls port c t. elim (eqb_tells q p) [
@@ -111,8 +111,8 @@ turn_done plans p old new same begins kept done ending = record {
 }
 
 -- a turn in which it makes a step
-pub turn_stepped : (plans : List (List Call)) (p : ℕ) (old mid new : Run) → IsSameMemory old mid → BeginsIn plans p (length old.memory.history.items) old.ports.items mid.ports.items →
-    StayDone plans old mid → IsReady p mid →
+pub turn_stepped : (plans : List (List Call)) (p : ℕ) (old mid new : Run) → ChangesPortsOnly old mid → BeginsIn plans p (length old.memory.history.items) old.ports.items mid.ports.items →
+    StayDone plans old mid → IsTurnReady p mid →
     GoesOnBy 1 p mid new → StepsIn plans p mid.ports.items new.ports.items → StayDone plans mid new → StayStoppedBut p old mid → StayStoppedWith p mid new → TurnMade plans p old true new
 turn_stepped plans p old mid new same begins kept ready made steps kept' but with' =
     let n = length old.memory.history.items in
@@ -139,7 +139,8 @@ no_steps plans p run = record {
     none b = elim b as (λ c. cond c [] [] ≡ map (λ (k : ℕ). k) []) [ true ↦ refl | false ↦ refl ]
 
 -- one step more
-pub step_more : (plans : List (List Call)) (p n : ℕ) (old mid new : Run) → IsRun plans old → IsRun plans mid → IsSameOpening old mid → StepsMade plans p n old mid → TurnMade plans p mid true new →
+pub step_more : (plans : List (List Call)) (p n : ℕ) (old mid new : Run) → IsReplayState plans old → IsReplayState plans mid → IsSameOpening old mid → StepsMade plans p n old mid →
+    TurnMade plans p mid true new →
     StepsMade plans p (n + 1) old new
 step_more plans p n old mid new w v same s t =
     let m = old.memory.sizes.m in
@@ -190,7 +191,7 @@ idle_fewer : (turns : Option ℕ) (n : ℕ) → MatchOption turns (Unit {0}) (λ
 idle_fewer None n w is = let bad : None ≡ Some n = is in cc
 idle_fewer (Some k) n w is = let same : k ≡ n = cc in omega (arith, same, w)
 
-pub turns_end : (plans : List (List Call)) (p n : ℕ) (turns : Option ℕ) (old mid new : Run) → IsRun plans old → IsRun plans mid → IsSameOpening old mid → StepsMade plans p n old mid →
+pub turns_end : (plans : List (List Call)) (p n : ℕ) (turns : Option ℕ) (old mid new : Run) → IsReplayState plans old → IsReplayState plans mid → IsSameOpening old mid → StepsMade plans p n old mid →
     StayStopped old mid → TurnMade plans p mid false new →
     MatchOption turns (Unit {0}) (λ k. n < k) → TurnsMade plans p turns old new
 turns_end plans p n turns old mid new w v same s ending t fewer =
@@ -217,19 +218,19 @@ turns_end plans p n turns old mid new w v same s ending t fewer =
           (goes_on_idle plans p (befores_of own ++ length mid.memory.history.items ∷ []) (replicate (more.0) (last_behind first own)) old new t.done here);
       none = s.none;
       kept = λ q d. t.kept q (s.kept q d);
-      all = idle_all turns n (IsDone plans new.ports.items p) t.done fewer;
+      all = idle_all turns n (IsPortDone plans new.ports.items p) t.done fewer;
       ending = λ q all e. t.ending q (λ is. idle_fewer turns n fewer (all is)) (ending q e);
     }
 
 -- one entry more: the ports have begun their calls in the turns so far
-pub begun_next : (plans : List (List Call)) (es : List (ℕ × Option ℕ)) (p : ℕ) (k : Option ℕ) (old new : Run) → IsRun plans old → IsSameOpening old new → HasMadeTurns plans es old →
+pub begun_next : (plans : List (List Call)) (es : List (ℕ × Option ℕ)) (p : ℕ) (k : Option ℕ) (old new : Run) → IsReplayState plans old → IsSameOpening old new → HasMadeTurns plans es old →
     HaveBegun plans es old → TurnsMade plans p k old new → HaveBegun plans (es ++ (p, k) ∷ []) new
 begun_next plans es p k old new w same f begun t q =
     let m = old.memory.sizes.m in
     let xs = moments_from m 0 old.memory.trace.items in
     let own = moments_behind old (t.made).events in
-    let D = IsDone plans old.ports.items in
-    let E = IsDone plans new.ports.items in
+    let D = IsPortDone plans old.ports.items in
+    let E = IsPortDone plans new.ports.items in
     let before : length old.memory.history.items ≡ last_behind 0 xs = log_long m old.memory.trace.items old.memory.history.items w.entries in
     let front_ports : ports_at xs ≡ ports_of old.memory.trace.items = ports_moments m 0 old.memory.trace.items in
     let own_ports : ports_at own ≡ replicate t.steps p = ports_moments m (length old.memory.history.items) (t.made).events ∙ (t.made).ports in

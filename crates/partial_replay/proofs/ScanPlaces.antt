@@ -1,21 +1,21 @@
 -- The search for the place of a scan: what is marked at each place, and that the least place is found.
-use Rattle.partial_replay.proofs.Common.{ℕ, zero, suc, ◌≡◌, ◌≢◌, ◌+◌, ◌-◌, ◌<◌, ◌≤◌, ◌==◌, ◌++◌, ◌⊎◌, Bool, true, false, not, cond, List, [], ◌∷◌, length, map, take, get_or, set, count_by, Option, Some, None, slice_get, refl, sym, ◌∙◌, ap, subst, inl, inr, get_or-set_other, arith, AllByRecursion, option_map_or, false≢true, cases_eq, cases_lt, eq-eqb, eqb-true, length-set, get_or-set_same, get_or-map, length-map, sum_by-cons, get_or_from_slice_get, slice_get_within, Applied, Opening, last_entry, initial_stamp, stamp_of, last_entry-passed, stamp_all, AllByRecursion-get, position_below, Agrees, prev_of, value_of, values_after, values_now, differs, marks_before, AreMarked, AllHave, AreWanted, AreMarksOf, HasRecord, HasRecords, IsLeft, IsEmpty, IsLeast, ShowsValues, value_word}
+use Rattle.partial_replay.proofs.Common.{ℕ, zero, suc, ◌≡◌, ◌≢◌, ◌+◌, ◌-◌, ◌<◌, ◌≤◌, ◌==◌, ◌++◌, ◌⊎◌, Bool, true, false, not, cond, List, [], ◌∷◌, length, map, take, get_or, set, count_by, Option, Some, None, slice_get, refl, sym, ◌∙◌, ap, subst, inl, inr, get_or-set_other, arith, AllByRecursion, option_map_or, false≢true, cases_eq, cases_lt, eq-eqb, eqb-true, length-set, get_or-set_same, get_or-map, length-map, sum_by-cons, get_or_from_slice_get, slice_get_within, Applied, Opening, last_entry, initial_stamp, stamp_of, last_entry-passed, stamp_all, AllByRecursion-get, position_below, Agrees, prev_of, record_value, values_after, values_now, is_other, marks_before, AreMarked, AllHave, AreWanted, AreMarksOf, HasRecord, HasRecords, IsLeft, IsEmpty, IsLeast, ShowsValues, value_word}
 use Rattle.std.proofs.lemmas.Grind.{same_number_lists}
 use Rattle.std.proofs.Math.Seq.{take-length}
 use Rattle.partial_words.proofs.ChainLemmas.{value_behind_stamp, prev_before_entry}
-use Rattle.partial_replay.specs.ScanPlace.{AreComponents}
+use Rattle.partial_replay.specs.ScanPlace.{AreWantedComponents}
 
 -- the values in the words are those after the whole history
 pub now_is_after : (o : Opening) (words : List ℕ) (h : List Applied) (j : ℕ) → Agrees o words h → j < length o.values → values_now words j ≡ values_after o h (length h) j
 now_is_after o words h j agrees below =
     let whole : take (length h) h ≡ h = take-length h in
-    ap (value_of words) ((agrees j below).0 ∙ ap (λ (l : List Applied). stamp_of o l j) (sym whole)) ∙ value_behind_stamp o words h j (length h) agrees below
+    ap (record_value words) ((agrees j below).0 ∙ ap (λ (l : List Applied). stamp_of o l j) (sym whole)) ∙ value_behind_stamp o words h j (length h) agrees below
 
 -- behind the stamp before an entry stands the value that its component had before it
 pub value_before : (o : Opening) (words : List ℕ) (h : List Applied) (k : ℕ) (e : Applied) → Agrees o words h → e.component < length o.values → slice_get h k ≡ Some e →
-    value_of words (prev_of words e.stamp) ≡ values_after o h k e.component
+    record_value words (prev_of words e.stamp) ≡ values_after o h k e.component
 value_before o words h k e agrees below stands =
-    ap (value_of words) (prev_before_entry o words h k e agrees below stands) ∙ value_behind_stamp o words h e.component k agrees below
+    ap (record_value words) (prev_before_entry o words h k e agrees below stands) ∙ value_behind_stamp o words h e.component k agrees below
 
 -- an entry leaves the values of the other components
 pub value_beside : (o : Opening) (h : List Applied) (k j : ℕ) (e : Applied) → slice_get h k ≡ Some e → j ≢ e.component → values_after o h (k + 1) j ≡ values_after o h k j
@@ -32,16 +32,16 @@ marks_at : (w : Option ℕ) (wanted : List (Option ℕ)) (marks : List Bool) (c 
 marks_at None wanted marks c x after before is within own others marked = λ j. elim (cases_eq j c) [
   | inl here ↦
       let none : get_or wanted j None ≡ None = ap (λ n. get_or wanted n None) here ∙ is in
-      marked j ∙ ap (λ (w : Option ℕ). differs w (after j)) none ∙ sym (ap (λ (w : Option ℕ). differs w (before j)) none)
-  | inr other ↦ marked j ∙ ap (differs (get_or wanted j None)) (others j other)
+      marked j ∙ ap (λ (w : Option ℕ). is_other w (after j)) none ∙ sym (ap (λ (w : Option ℕ). is_other w (before j)) none)
+  | inr other ↦ marked j ∙ ap (is_other (get_or wanted j None)) (others j other)
 ]
 marks_at (Some v) wanted marks c x after before is within own others marked = λ j. elim (cases_eq j c) [
   | inl here ↦
       let wants : get_or wanted j None ≡ Some v = ap (λ n. get_or wanted n None) here ∙ is in
       let value : x ≡ before j = own v refl ∙ ap before (sym here) in
       ap (λ n. get_or (set marks c (not (v == x))) n false) here ∙ get_or-set_same marks c (not (v == x)) false within ∙ ap (λ n. not (v == n)) value ∙
-      sym (ap (λ (w : Option ℕ). differs w (before j)) wants)
-  | inr other ↦ get_or-set_other marks c j (not (v == x)) false other ∙ marked j ∙ ap (differs (get_or wanted j None)) (others j other)
+      sym (ap (λ (w : Option ℕ). is_other w (before j)) wants)
+  | inr other ↦ get_or-set_other marks c j (not (v == x)) false other ∙ marked j ∙ ap (is_other (get_or wanted j None)) (others j other)
 ]
 
 -- where none is marked, each component has the value that it is to have, and the other way round
@@ -62,9 +62,9 @@ not_false false n = absurd (false≢true (sym n))
 
 have_unmarked : (wanted : List (Option ℕ)) (marks : List Bool) (value : ℕ → ℕ) → AreMarked wanted marks value → count_by (λ b. b) marks ≡ 0 → AllHave wanted value
 have_unmarked wanted marks value marked none j v wants =
-    eqb-true v (value j) (not_false (v == value j) (sym (ap (λ (w : Option ℕ). differs w (value j)) wants) ∙ sym (marked j) ∙ none_counted marks none j))
+    eqb-true v (value j) (not_false (v == value j) (sym (ap (λ (w : Option ℕ). is_other w (value j)) wants) ∙ sym (marked j) ∙ none_counted marks none j))
 
-no_differing : (w : Option ℕ) (x : ℕ) → ((v : ℕ) → w ≡ Some v → v ≡ x) → differs w x ≡ false
+no_differing : (w : Option ℕ) (x : ℕ) → ((v : ℕ) → w ≡ Some v → v ≡ x) → is_other w x ≡ false
 no_differing None x has = refl
 no_differing (Some v) x has = ap not (eq-eqb v x (has v refl))
 
@@ -114,7 +114,7 @@ pub record IsSearched (o : Opening) (wanted : List (Option ℕ)) (marks : List B
   pub marked : AreMarked wanted marks (values_after o h place)
   pub found : IsFoundFrom (λ n. AllHave wanted (values_after o h n)) place (length h) least
 
-searched_at_end : (o : Opening) (wanted : List (Option ℕ)) (marks : List Bool) (words : List ℕ) (h : List Applied) (place : ℕ) → Agrees o words h → AreComponents o wanted →
+searched_at_end : (o : Opening) (wanted : List (Option ℕ)) (marks : List Bool) (words : List ℕ) (h : List Applied) (place : ℕ) → Agrees o words h → AreWantedComponents o wanted →
     AreMarked wanted marks (values_now words) → place ≡ length h → IsSearched o wanted marks h place (length h)
 searched_at_end o wanted marks words h place agrees below marked is = record {
   marked = λ j. marked j ∙ same (get_or wanted j None) (values_now words j) (values_after o h place j)
@@ -122,20 +122,21 @@ searched_at_end o wanted marks words h place agrees below marked is = record {
   found = found_at_end (λ n. AllHave wanted (values_after o h n)) place (length h) is;
 }
   where
-    same : (w : Option ℕ) (x y : ℕ) → ((v : ℕ) → w ≡ Some v → x ≡ y) → differs w x ≡ differs w y
+    same : (w : Option ℕ) (x y : ℕ) → ((v : ℕ) → w ≡ Some v → x ≡ y) → is_other w x ≡ is_other w y
     same None x y is = refl
     same (Some v) x y is = ap (λ n. not (v == n)) (is v refl)
 
-marked_back : (o : Opening) (wanted : List (Option ℕ)) (marks : List Bool) (words : List ℕ) (h : List Applied) (place least : ℕ) (e : Applied) → Agrees o words h → AreComponents o wanted →
+marked_back : (o : Opening) (wanted : List (Option ℕ)) (marks : List Bool) (words : List ℕ) (h : List Applied) (place least : ℕ) (e : Applied) → Agrees o words h → AreWantedComponents o wanted →
     slice_get h place ≡ Some e → e.component < length marks → IsSearched o wanted marks h (place + 1) least →
-    AreMarked wanted (marks_before (get_or wanted e.component None) marks e.component (value_of words (prev_of words e.stamp))) (values_after o h place)
+    AreMarked wanted (marks_before (get_or wanted e.component None) marks e.component (record_value words (prev_of words e.stamp))) (values_after o h place)
 marked_back o wanted marks words h place least e agrees below stands within s =
-    marks_at (get_or wanted e.component None) wanted marks e.component (value_of words (prev_of words e.stamp)) (values_after o h (place + 1)) (values_after o h place) refl within
+    marks_at (get_or wanted e.component None) wanted marks e.component (record_value words (prev_of words e.stamp)) (values_after o h (place + 1)) (values_after o h place) refl within
     (λ v wants. value_before o words h place e agrees (below e.component v wants) stands) (λ j other. value_beside o h place j e stands other) s.marked
 
 -- where all have their values, the place is the least so far
-searched_here : (o : Opening) (wanted : List (Option ℕ)) (marks after : List Bool) (words : List ℕ) (h : List Applied) (place least : ℕ) (e : Applied) → Agrees o words h → AreComponents o wanted →
-    slice_get h place ≡ Some e → e.component < length marks → after ≡ marks_before (get_or wanted e.component None) marks e.component (value_of words (prev_of words e.stamp)) →
+searched_here : (o : Opening) (wanted : List (Option ℕ)) (marks after : List Bool) (words : List ℕ) (h : List Applied) (place least : ℕ) (e : Applied) → Agrees o words h →
+    AreWantedComponents o wanted →
+    slice_get h place ≡ Some e → e.component < length marks → after ≡ marks_before (get_or wanted e.component None) marks e.component (record_value words (prev_of words e.stamp)) →
     count_by (λ b. b) after ≡ 0 → IsSearched o wanted marks h (place + 1) least → IsSearched o wanted after h place place
 searched_here o wanted marks after words h place least e agrees below stands within is none s =
     let marked = subst (λ ms. AreMarked wanted ms (values_after o h place)) (sym is) (marked_back o wanted marks words h place least e agrees below stands within s) in
@@ -146,8 +147,9 @@ searched_here o wanted marks after words h place least e agrees below stands wit
     }
 
 -- where some differ, it isn't
-searched_past : (o : Opening) (wanted : List (Option ℕ)) (marks after : List Bool) (words : List ℕ) (h : List Applied) (place least : ℕ) (e : Applied) → Agrees o words h → AreComponents o wanted →
-    slice_get h place ≡ Some e → e.component < length marks → after ≡ marks_before (get_or wanted e.component None) marks e.component (value_of words (prev_of words e.stamp)) →
+searched_past : (o : Opening) (wanted : List (Option ℕ)) (marks after : List Bool) (words : List ℕ) (h : List Applied) (place least : ℕ) (e : Applied) → Agrees o words h →
+    AreWantedComponents o wanted →
+    slice_get h place ≡ Some e → e.component < length marks → after ≡ marks_before (get_or wanted e.component None) marks e.component (record_value words (prev_of words e.stamp)) →
     count_by (λ b. b) after ≢ 0 → IsSearched o wanted marks h (place + 1) least → IsSearched o wanted after h place least
 searched_past o wanted marks after words h place least e agrees below stands within is some s =
     let marked = subst (λ ms. AreMarked wanted ms (values_after o h place)) (sym is) (marked_back o wanted marks words h place least e agrees below stands within s) in
@@ -173,7 +175,7 @@ pub record IsWalked (wanted : List (Option ℕ)) (first marks : List Bool) (word
   pub room : length marks ≡ length first
   pub others : (j : ℕ) → get_or wanted j None ≡ None → get_or marks j false ≡ get_or first j false
   pub behind : began ≤ length h → began ≤ place
-  pub searched : (o : Opening) → began ≤ length h → Agrees o words h → AreComponents o wanted → AreMarked wanted first (values_now words) → IsSearched o wanted marks h place least
+  pub searched : (o : Opening) → began ≤ length h → Agrees o words h → AreWantedComponents o wanted → AreMarked wanted first (values_now words) → IsSearched o wanted marks h place least
 
 pub walked_at_end : (wanted : List (Option ℕ)) (first : List Bool) (words : List ℕ) (h : List Applied) (began : ℕ) → IsWalked wanted first first words h began (length h) (length h)
 walked_at_end wanted first words h began = record {
@@ -186,11 +188,11 @@ walked_at_end wanted first words h began = record {
 -- one entry more is taken back, and the least place is its own where none differs now
 pub walked_back : (wanted : List (Option ℕ)) (first marks after : List Bool) (words : List ℕ) (h : List Applied) (began place before least next : ℕ) (e : Applied) → slice_get h before ≡ Some e →
     place ≡ before + 1 → began ≤ before → length wanted ≡ length first → e.component < length wanted → after ≡ marks_before (get_or wanted e.component None) marks e.component
-    (value_of words (prev_of words e.stamp)) → ((count_by (λ b. b) after ≡ 0) × (next ≡ before)) ⊎ ((count_by (λ b. b) after ≢ 0) × (next ≡ least)) →
+    (record_value words (prev_of words e.stamp)) → ((count_by (λ b. b) after ≡ 0) × (next ≡ before)) ⊎ ((count_by (λ b. b) after ≢ 0) × (next ≡ least)) →
     IsWalked wanted first marks words h began place least → IsWalked wanted first after words h began before next
 walked_back wanted first marks after words h began place before least next e stands at from rooms component taken which w = record {
-  room = ap length taken ∙ length_before (get_or wanted e.component None) marks e.component (value_of words (prev_of words e.stamp)) ∙ w.room;
-  others = λ j is. ap (λ (ms : List Bool). get_or ms j false) taken ∙ others_before (get_or wanted e.component None) wanted marks e.component (value_of words (prev_of words e.stamp)) j
+  room = ap length taken ∙ length_before (get_or wanted e.component None) marks e.component (record_value words (prev_of words e.stamp)) ∙ w.room;
+  others = λ j is. ap (λ (ms : List Bool). get_or ms j false) taken ∙ others_before (get_or wanted e.component None) wanted marks e.component (record_value words (prev_of words e.stamp)) j
       refl is ∙ w.others j is;
   behind = λ _. from;
   searched = λ o behind agrees below marked.
@@ -228,9 +230,9 @@ marked_set : (wanted : List (Option ℕ)) (marks : List Bool) (value : ℕ → �
 marked_set wanted marks value c v within room marked = λ j. elim (cases_eq j c) [
   | inl here ↦
       ap (λ n. get_or (set marks c (not (v == value c))) n false) here ∙ get_or-set_same marks c (not (v == value c)) false room ∙ ap (λ n. not (v == value n)) (sym here)
-      ∙ sym (ap (λ (w : Option ℕ). differs w (value j)) (ap (λ n. get_or (set wanted c (Some v)) n None) here ∙ get_or-set_same wanted c (Some v) None within))
+      ∙ sym (ap (λ (w : Option ℕ). is_other w (value j)) (ap (λ n. get_or (set wanted c (Some v)) n None) here ∙ get_or-set_same wanted c (Some v) None within))
   | inr other ↦
-      get_or-set_other marks c j (not (v == value c)) false other ∙ marked j ∙ ap (λ (w : Option ℕ). differs w (value j)) (sym (get_or-set_other wanted c j (Some v) None other))
+      get_or-set_other marks c j (not (v == value c)) false other ∙ marked j ∙ ap (λ (w : Option ℕ). is_other w (value j)) (sym (get_or-set_other wanted c j (Some v) None other))
 ]
 
 pub marked_more : (wanted : List (Option ℕ)) (marks after : List Bool) (value : ℕ → ℕ) (c v x : ℕ) → after ≡ set marks c (not (v == x)) → x ≡ value c → c < length wanted → c < length marks →
@@ -303,7 +305,7 @@ take_front n xs ys is = ap (λ k. take k (xs ++ ys)) (sym is) ∙ front xs ys
 
 -- what is wanted are components
 pub wanted_below : (o : Opening) (wanted : List (Option ℕ)) (components values : List ℕ) → AllByRecursion (λ j. j < length o.values) components → AreWanted wanted components values
-    (length components) → AreComponents o wanted
+    (length components) → AreWantedComponents o wanted
 wanted_below o wanted components values below w j v wants =
     let at = w.only j v wants in
     subst (λ n. n < length o.values) at.2 (position_below components (length o.values) at.0 below at.1)

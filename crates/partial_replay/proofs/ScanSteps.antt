@@ -1,17 +1,17 @@
 -- The answered scans of a replay make their steps.
-use Rattle.partial_replay.proofs.Common.{ℕ, zero, suc, ◌≡◌, ◌<◌, ◌++◌, Bool, cond, List, [], ◌∷◌, length, map, get_or, Option, Some, None, refl, sym, ◌∙◌, ap, subst, inl, inr, arith, AllByRecursion, option_map, eqb_tells, length-map, Call, Called, Finish, all_take, Layout, IsLayout, Reply, Idle, ScanBegun, Finished, CoreState, at_stage, advance, reply_of, fresh, IsSound, begin_scan, answer_for, begun_of, IsServed, answers_lead_on, due_is_unreplied, rests_are_sound, stays_sound, scans_make_their_steps, PlanView, IsPlan, IsCall, Moment, moments_by, Makes, IsCallOf, HasSteps, AreStepsOf, calls_by}
+use Rattle.partial_replay.proofs.Common.{ℕ, zero, suc, ◌≡◌, ◌<◌, ◌++◌, Bool, cond, List, [], ◌∷◌, length, map, get_or, Option, Some, None, refl, sym, ◌∙◌, ap, subst, inl, inr, arith, AllByRecursion, option_map, eqb_tells, length-map, Call, Called, Finish, all_take, Layout, IsLayout, Reply, Idle, ScanBegun, Finished, CoreState, at_stage, advance, reply_of, fresh, IsSound, begin_scan, answer_for, begun_of, IsServed, answers_lead_on, due_is_unreplied, rests_are_sound, stays_sound, scans_make_their_steps, PlanView, IsPlan, IsCall, Moment, moments_by, Makes, IsCallRun, HasSteps, AreStepsOf, calls_by}
 use Rattle.partial_model.specs.declared.call.Call.TheVariants as call
 use Rattle.partial_model.specs.declared.call.Answer.TheVariants as answer
 use Rattle.partial_machine.specs.declared.stage.Reply.TheVariants as reply
 use Rattle.partial_machine.specs.Steps.{Run, AreOfScan, pairs_loaded}
 use Rattle.partial_machine.proofs.Behind.{run_sizes}
-use Rattle.partial_replay.specs.ScanSteps.{answers_of, events_in_front, own_events, IsOfItsScan, AnsweredScansMakeTheirSteps}
+use Rattle.partial_replay.specs.ScanSteps.{moment_answers, events_in_front, own_events, IsOfItsScan, AnsweredScansMakeTheirSteps}
 use Rattle.partial_replay.proofs.PortLaws.{Begins, begins, begun_sizes, once_empty}
 use Rattle.partial_replay.proofs.StepsOf.{IsCut, steps_cut}
 use Rattle.partial_replay.proofs.Plans.{served}
 
 -- the events are answers that lead the machine on
-run_of : (s t : CoreState) (xs : List Moment) → Makes s xs t → Run s (answers_of xs) t
+run_of : (s t : CoreState) (xs : List Moment) → Makes s xs t → Run s (moment_answers xs) t
 run_of s t [] m = m
 run_of s t (x ∷ xs) m = (m.1, run_of (advance s x.event.answer) t xs m.2)
 
@@ -20,7 +20,7 @@ record CallRun (z : Layout) (s : CoreState) (c : Called) (own : List Moment) (la
   begins' : Begins s c.call
   layout : IsLayout (begun_of s c.call).sizes
   sound : IsSound (begun_of s c.call)
-  run : Run (begun_of s c.call) (answers_of own) last
+  run : Run (begun_of s c.call) (moment_answers own) last
   last_sound : IsSound last
   last_sizes : last.sizes ≡ z
 
@@ -38,12 +38,12 @@ call_run z s t c x xs layout sizes w served h =
       layout = here;
       sound = sound;
       run = run;
-      last_sound = (stays_sound (begun_of s c.call) h.last (answers_of (x ∷ xs)) here sound run).0;
-      last_sizes = run_sizes (begun_of s c.call) h.last (answers_of (x ∷ xs)) here sound run ∙ same;
+      last_sound = (stays_sound (begun_of s c.call) h.last (moment_answers (x ∷ xs)) here sound run).0;
+      last_sizes = run_sizes (begun_of s c.call) h.last (moment_answers (x ∷ xs)) here sound run ∙ same;
     }
 
 -- the machine behind a call is sound and has the same sizes
-call_sound : (z : Layout) (s t : CoreState) (c : Called) (own : List Moment) → IsLayout z → s.sizes ≡ z → IsSound s → IsServed z.m c.call → IsCallOf s c own t → IsSound t × (t.sizes ≡ z)
+call_sound : (z : Layout) (s t : CoreState) (c : Called) (own : List Moment) → IsLayout z → s.sizes ≡ z → IsSound s → IsServed z.m c.call → IsCallRun s c own t → IsSound t × (t.sizes ≡ z)
 call_sound z s t c [] layout sizes w served h = elim h [
   | inl r ↦ (subst IsSound (sym r.rests) w, ap (λ (v : CoreState). v.sizes) r.rests ∙ sizes)
   | inr f ↦
@@ -84,7 +84,7 @@ scan_begun s js some = elim (eqb_tells (length js) 0) [
 
 scan_of : (z : Layout) (first : CoreState) (front : List Called) (c : Called) (behind : List Called) (xs : List Moment) (last : CoreState)
     (cut : IsCut first front c behind xs last) (own : List Moment) →
-    own ≡ own_events front c xs → IsLayout z → (cut.at).sizes ≡ z → IsSound (cut.at) → IsServed z.m c.call → IsCallOf cut.at c own cut.next → IsOfItsScan first xs front c
+    own ≡ own_events front c xs → IsLayout z → (cut.at).sizes ≡ z → IsSound (cut.at) → IsServed z.m c.call → IsCallRun cut.at c own cut.next → IsOfItsScan first xs front c
 scan_of z first front c behind xs last cut [] own_is layout sizes w served h js vs k b is some answered = elim h [
   | inl r ↦ let bad : Some (answer.Refused r.cause) ≡ Some (answer.Scanned vs k b) = sym (ap (option_map (λ (f : Finish). f.answer)) r.finish) ∙ answered in cc
   | inr f ↦
@@ -96,7 +96,7 @@ scan_of z first front c behind xs last cut [] own_is layout sizes w served h js 
 scan_of z first front c behind xs last cut (y ∷ ys) own_is layout sizes w served h js vs k b is some answered =
     let s = cut.at in
     let r = call_run z s cut.next c y ys layout sizes w served h in
-    let own = answers_of (y ∷ ys) in
+    let own = moment_answers (y ∷ ys) in
     let replied : reply_of h.last ≡ Some (reply.Scanned k b) = scan_replied h.last (reply_of h.last) vs k b (sym h.answered ∙ answered) in
     let begun : begun_of s c.call ≡ begin_scan s js = ap (begun_of s) is in
     let stage : (begun_of s c.call).stage ≡ ScanBegun = ap (λ (v : CoreState). v.stage) begun ∙ scan_begun s js some in
@@ -111,7 +111,7 @@ scan_of z first front c behind xs last cut (y ∷ ys) own_is layout sizes w serv
       led = cut.led;
       call' = cut.call';
       events = cut.events;
-      steps = subst (λ (l : List Moment). AreOfScan (length js) k (pairs_loaded (begun_of s c.call) (answers_of l)) c.steps b) own_is counted;
+      steps = subst (λ (l : List Moment). AreOfScan (length js) k (pairs_loaded (begun_of s c.call) (moment_answers l)) c.steps b) own_is counted;
     }
 
 -- the machine behind some calls is sound and has the same sizes

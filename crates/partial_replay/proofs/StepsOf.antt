@@ -1,5 +1,5 @@
 -- The calls of a port and their events, cut at a call.
-use Rattle.partial_replay.proofs.Common.{ℕ, ◌≡◌, ◌+◌, ◌++◌, List, [], ◌∷◌, length, take, drop, refl, sym, ◌∙◌, ap, subst, sum_by-cons, Called, CoreState, Moment, IsCallOf, AreStepsOf, steps_in}
+use Rattle.partial_replay.proofs.Common.{ℕ, ◌≡◌, ◌+◌, ◌++◌, List, [], ◌∷◌, length, take, drop, refl, sym, ◌∙◌, ap, subst, sum_by-cons, Called, CoreState, Moment, IsCallRun, AreStepsOf, steps_in}
 use Rattle.std.proofs.Math.Seq.{take-append_seam, take-append-add, drop-append_seam, drop-append-add}
 
 -- the events of the calls in front of one, its own, and those behind it
@@ -7,7 +7,7 @@ pub record IsCut (s : CoreState) (front : List Called) (c : Called) (behind : Li
   pub at : CoreState
   pub next : CoreState
   pub led : AreStepsOf s front (take (steps_in front) xs) at
-  pub call' : IsCallOf at c (take c.steps (drop (steps_in front) xs)) next
+  pub call' : IsCallRun at c (take c.steps (drop (steps_in front) xs)) next
   pub events : length (take c.steps (drop (steps_in front) xs)) ≡ c.steps
   pub rest : AreStepsOf next behind (drop c.steps (drop (steps_in front) xs)) last
 
@@ -26,7 +26,7 @@ steps_cut s last [] c behind xs w =
       at = s;
       next = w.2;
       led = (refl, refl);
-      call' = subst (λ (l : List Moment). IsCallOf s c l (w.2)) (sym here) w.5;
+      call' = subst (λ (l : List Moment). IsCallRun s c l (w.2)) (sym here) w.5;
       events = ap length here ∙ w.4;
       rest = subst (λ (l : List Moment). AreStepsOf (w.2) behind l last) (sym past) w.6;
     }
@@ -42,7 +42,7 @@ steps_cut s last (d ∷ front) c behind xs w =
       at = cut.at;
       next = cut.next;
       led = (own, take (steps_in front) (w.1), w.2, front', w.4, w.5, cut.led);
-      call' = subst (λ (l : List Moment). IsCallOf cut.at c (take c.steps l) cut.next) past cut.call';
+      call' = subst (λ (l : List Moment). IsCallRun cut.at c (take c.steps l) cut.next) past cut.call';
       events = subst (λ (l : List Moment). length (take c.steps l) ≡ c.steps) past cut.events;
       rest = subst (λ (l : List Moment). AreStepsOf cut.next behind (drop c.steps l) last) past cut.rest;
     }

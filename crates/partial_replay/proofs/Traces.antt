@@ -1,5 +1,5 @@
 -- What a trace says, event by event.
-use Rattle.partial_replay.proofs.Common.{ℕ, suc, ◌-◌, ◌≡◌, ◌+◌, ◌<◌, ◌==◌, ◌++◌, Bool, true, false, cond, List, [], ◌∷◌, length, map, get_or, take, nat_lt, Option, Some, None, slice_get, refl, sym, ◌∙◌, ap, arith, filter_map, cons_option, filter_map-append, map-append, get_or_from_slice_get, Applied, Opening, IsHistory, initial_stamp, last_entry, stamp_of, option_map_or, word_of, last_entry-found, place_below, AllByRecursion-get, Step, Event, value_of, Agrees, is_won, new_of, entry_of, entry_at, unvalued}
+use Rattle.partial_replay.proofs.Common.{ℕ, suc, ◌-◌, ◌≡◌, ◌+◌, ◌<◌, ◌==◌, ◌++◌, Bool, true, false, cond, List, [], ◌∷◌, length, map, get_or, take, nat_lt, Option, Some, None, slice_get, refl, sym, ◌∙◌, ap, arith, filter_map, cons_option, filter_map-append, map-append, get_or_from_slice_get, Applied, Opening, IsHistory, initial_stamp, last_entry, stamp_of, option_map_or, word_of, last_entry-found, place_below, AllByRecursion-get, Step, Event, record_value, Agrees, is_won, new_of, event_entry, entry_at, unvalued}
 use Rattle.partial_model.specs.History as history
 use Rattle.partial_words.specs.declared.step.Step.TheVariants.{Load, Store, Exchange, Add}
 use Rattle.partial_words.proofs.ChainLemmas.{value_behind_stamp}
@@ -11,18 +11,18 @@ entry_won p w old new v true false = refl
 entry_won p w old new v false b = refl
 
 -- the entry of an event is the one that the history gains
-entry_same : (m : ℕ) (words : List ℕ) (p : ℕ) (step : Step) (a : ℕ) → cons_option (entry_of m (λ _. 0) (record { port = p; step = step; answer = a })) [] ≡ map unvalued (entry_at m words p step a)
+entry_same : (m : ℕ) (words : List ℕ) (p : ℕ) (step : Step) (a : ℕ) → cons_option (event_entry m (λ _. 0) (record { port = p; step = step; answer = a })) [] ≡ map unvalued (entry_at m words p step a)
 entry_same m words p (Load w) a = refl
 entry_same m words p (Store w v) a = refl
 entry_same m words p (Add w k) a = refl
-entry_same m words p (Exchange w old new) a = entry_won p w old new (value_of words new) (nat_lt w m) (a == old)
+entry_same m words p (Exchange w old new) a = entry_won p w old new (record_value words new) (nat_lt w m) (a == old)
 
-pub entries_push : (m : ℕ) (words : List ℕ) (trace trace' : List Event) (log log' : List Applied) (p : ℕ) (step : Step) (a : ℕ) → filter_map (entry_of m (λ _. 0)) trace ≡ map unvalued log →
-    trace' ≡ trace ++ record { port = p; step = step; answer = a } ∷ [] → log' ≡ log ++ entry_at m words p step a → filter_map (entry_of m (λ _. 0)) trace' ≡ map unvalued log'
+pub entries_push : (m : ℕ) (words : List ℕ) (trace trace' : List Event) (log log' : List Applied) (p : ℕ) (step : Step) (a : ℕ) → filter_map (event_entry m (λ _. 0)) trace ≡ map unvalued log →
+    trace' ≡ trace ++ record { port = p; step = step; answer = a } ∷ [] → log' ≡ log ++ entry_at m words p step a → filter_map (event_entry m (λ _. 0)) trace' ≡ map unvalued log'
 entries_push m words trace trace' log log' p step a same trace_is log_is =
-    ap (filter_map (entry_of m (λ _. 0))) trace_is
-    ∙ filter_map-append (entry_of m (λ _. 0)) trace (record { port = p; step = step; answer = a } ∷ [])
-    ∙ ap (λ (l : List Applied). l ++ cons_option (entry_of m (λ _. 0) (record { port = p; step = step; answer = a })) []) same
+    ap (filter_map (event_entry m (λ _. 0))) trace_is
+    ∙ filter_map-append (event_entry m (λ _. 0)) trace (record { port = p; step = step; answer = a } ∷ [])
+    ∙ ap (λ (l : List Applied). l ++ cons_option (event_entry m (λ _. 0) (record { port = p; step = step; answer = a })) []) same
     ∙ ap (λ (l : List Applied). map unvalued log ++ l) (entry_same m words p step a)
     ∙ sym (map-append unvalued log (entry_at m words p step a))
     ∙ ap (map unvalued) (sym log_is)
@@ -37,12 +37,12 @@ valued_won : (value : ℕ → ℕ) (e : Event) (b : Bool) (xs ys : List Applied)
 valued_won value e true xs ys same = ap (λ (l : List Applied). record { port = e.port; component = word_of e.step; value = value (new_of e.step); stamp = new_of e.step } ∷ l) same
 valued_won value e false xs ys same = same
 
-valued_trace : (m : ℕ) (value : ℕ → ℕ) (trace : List Event) → filter_map (entry_of m value) trace ≡ map (valued value) (filter_map (entry_of m (λ _. 0)) trace)
+valued_trace : (m : ℕ) (value : ℕ → ℕ) (trace : List Event) → filter_map (event_entry m value) trace ≡ map (valued value) (filter_map (event_entry m (λ _. 0)) trace)
 valued_trace m value [] = refl
-valued_trace m value (e ∷ trace) = valued_won value e (is_won m e.step e.answer) (filter_map (entry_of m value) trace) (filter_map (entry_of m (λ _. 0)) trace) (valued_trace m value trace)
+valued_trace m value (e ∷ trace) = valued_won value e (is_won m e.step e.answer) (filter_map (event_entry m value) trace) (filter_map (event_entry m (λ _. 0)) trace) (valued_trace m value trace)
 
 -- the record of each entry holds its value
-entry_value : (o : Opening) (words : List ℕ) (h : List Applied) (k : ℕ) (e : Applied) → IsHistory o h → Agrees o words h → slice_get h k ≡ Some e → value_of words e.stamp ≡ e.value
+entry_value : (o : Opening) (words : List ℕ) (h : List Applied) (k : ℕ) (e : Applied) → IsHistory o h → Agrees o words h → slice_get h k ≡ Some e → record_value words e.stamp ≡ e.value
 entry_value o words h k e hist agrees stands =
     let below = place_below h k e stands in
     let here : get_or h (k + 1 - 1) e ≡ e = ap (λ i. get_or h i e) (omega arith) ∙ get_or_from_slice_get h k e e stands in
@@ -50,7 +50,8 @@ entry_value o words h k e hist agrees stands =
     (ap (λ (f : Applied). f.component) here) ∙ ap Some here in
     let stamp : stamp_of o (take (k + 1) h) e.component ≡ e.stamp = ap (λ (f : Option Applied). option_map_or (λ (x : Applied). x.stamp) f (initial_stamp o e.component)) last in
     let value : history.value_of o (take (k + 1) h) e.component ≡ e.value = ap (λ (f : Option Applied). option_map_or (λ (x : Applied). x.value) f (get_or o.values e.component 0)) last in
-    ap (value_of words) (sym stamp) ∙ value_behind_stamp o words h e.component (k + 1) agrees (AllByRecursion-get (λ (f : Applied). f.component < length o.values) h k e hist.components stands) ∙ value
+    ap (record_value words) (sym stamp) ∙ value_behind_stamp o words h e.component (k + 1) agrees (AllByRecursion-get (λ (f : Applied). f.component < length o.values) h k e hist.components stands)
+    ∙ value
 
 valued_here : (value : ℕ → ℕ) (e : Applied) → value e.stamp ≡ e.value → e ≡ valued value (unvalued e)
 valued_here value e is = ap (λ v. record { port = e.port; component = e.component; value = v; stamp = e.stamp }) (sym is)
@@ -61,8 +62,8 @@ valued_back value (e ∷ h) f = ap (λ (x : Applied). x ∷ h) (valued_here valu
 
 -- the entries that the trace adds are the history, with the values that their records hold
 pub entries_told : (m : ℕ) (o : Opening) (words : List ℕ) (trace : List Event) (log : List Applied) → IsHistory o log → Agrees o words log →
-    filter_map (entry_of m (λ _. 0)) trace ≡ map unvalued log → log ≡ filter_map (entry_of m (value_of words)) trace
+    filter_map (event_entry m (λ _. 0)) trace ≡ map unvalued log → log ≡ filter_map (event_entry m (record_value words)) trace
 entries_told m o words trace log hist agrees same =
-    valued_back (value_of words) log (λ k e s. entry_value o words log k e hist agrees s)
-    ∙ ap (map (valued (value_of words))) (sym same)
-    ∙ sym (valued_trace m (value_of words) trace)
+    valued_back (record_value words) log (λ k e s. entry_value o words log k e hist agrees s)
+    ∙ ap (map (valued (record_value words))) (sym same)
+    ∙ sym (valued_trace m (record_value words) trace)

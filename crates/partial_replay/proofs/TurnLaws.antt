@@ -1,11 +1,11 @@
 -- The turns of a replay, one behind the other.
-use Rattle.partial_replay.proofs.Common.{ℕ, zero, suc, ◌≡◌, ◌≢◌, ◌+◌, ◌-◌, ◌<◌, ◌≤◌, ◌==◌, ◌++◌, Bool, true, false, cond, List, [], ◌∷◌, length, get_or, map, take, replicate, set, Option, Some, None, slice_get, refl, sym, ◌∙◌, ap, subst, inl, inr, arith, append_assoc, length-append, MatchOption, filter, range_with_len, filter-append, sum_by-cons, sum_by-append, so_many, to_its_end, made_in, ports_in, turns_by, turns_of, left_behind, PlanView, AreAllMade, EndInStep, HaveMade, Called, take_all, append-nil, map_push, map-append, length-replicate, replicate-append-replicate, ne_eqb, cases_lt, eqb_tells, Call, Event, answer_of, Applied, StepMade, Port, Run, ports_of, events_in, IsReady, IsDone, GoesOnBy, TurnsMade, StopAtSteps, HasTurns, MakeTurns, HasMadeTurns}
+use Rattle.partial_replay.proofs.Common.{ℕ, zero, suc, ◌≡◌, ◌≢◌, ◌+◌, ◌-◌, ◌<◌, ◌≤◌, ◌==◌, ◌++◌, Bool, true, false, cond, List, [], ◌∷◌, length, get_or, map, take, replicate, set, Option, Some, None, slice_get, refl, sym, ◌∙◌, ap, subst, inl, inr, arith, append_assoc, length-append, MatchOption, filter, range_with_len, filter-append, sum_by-cons, sum_by-append, so_many, to_its_end, made_in, ports_in, turns_by, turns_of, left_behind, PlanView, AreAllMade, EndInStep, HaveMade, Called, take_all, append-nil, map_push, map-append, length-replicate, replicate-append-replicate, ne_eqb, cases_lt, eqb_tells, Call, Event, answer_of, Applied, StepMade, Port, Run, ports_of, events_in, IsTurnReady, IsPortDone, GoesOnBy, TurnsMade, StopAtSteps, HasTurns, MakeTurns, HasMadeTurns}
 use Rattle.partial_replay.proofs.PortLaws.{get_set, get_set_other, take_next, get_is, same_eqb}
 
 -- a port in another state: the ports that have made all their calls have still made them where this one has
 pub done_set : (plans : List (List Call)) (ports : List Port) (i : ℕ) (calls : List Call) (port new : Port) → slice_get plans i ≡ Some calls → slice_get ports i ≡ Some port →
-    (port.under_way ≡ None → length port.finished.items ≡ length calls → (new.under_way ≡ None) × (length new.finished.items ≡ length calls)) → (q : ℕ) → IsDone plans ports q →
-    IsDone plans (set ports i new) q
+    (port.under_way ≡ None → length port.finished.items ≡ length calls → (new.under_way ≡ None) × (length new.finished.items ≡ length calls)) → (q : ℕ) → IsPortDone plans ports q →
+    IsPortDone plans (set ports i new) q
 done_set plans ports i calls port new c t keeps q d = elim (eqb_tells q i) [
   | inl same ↦
       let plan : Some d.calls ≡ Some calls = sym d.plan ∙ ap (slice_get plans) same.1 ∙ c in
@@ -18,7 +18,7 @@ done_set plans ports i calls port new c t keeps q d = elim (eqb_tells q i) [
 ]
 
 -- a port whose call is under way has not made all its calls
-pub ready_done : (plans : List (List Call)) (p : ℕ) (run : Run) → IsReady p run → IsDone plans run.ports.items p → ⊥
+pub ready_done : (plans : List (List Call)) (p : ℕ) (run : Run) → IsTurnReady p run → IsPortDone plans run.ports.items p → ⊥
 ready_done plans p run ready d =
     let same : Some (ready.0) ≡ Some d.port = sym ready.2 ∙ d.is in
     let is : ready.0 ≡ d.port = cc in
@@ -84,9 +84,9 @@ last_turns E p n (Some t) m = (m.0, λ less. (m.1 less, refl))
 pub followed : (plans : List (List Call)) (es : List (ℕ × Option ℕ)) (p : ℕ) (k : Option ℕ) (old new : Run) →
     HasMadeTurns plans es old → TurnsMade plans p k old new → HasMadeTurns plans (es ++ (p, k) ∷ []) new
 followed plans es p k old new f t =
-    subst (MakeTurns (IsDone plans new.ports.items) (es ++ (p, k) ∷ [])) (sym (ports_more t.steps p old new t.made))
-    (follows_push (IsDone plans old.ports.items) (IsDone plans new.ports.items) es (ports_of old.memory.trace.items) p t.steps k t.kept t.none
-    (last_turns (IsDone plans new.ports.items) p t.steps k t.all) f)
+    subst (MakeTurns (IsPortDone plans new.ports.items) (es ++ (p, k) ∷ [])) (sym (ports_more t.steps p old new t.made))
+    (follows_push (IsPortDone plans old.ports.items) (IsPortDone plans new.ports.items) es (ports_of old.memory.trace.items) p t.steps k t.kept t.none
+    (last_turns (IsPortDone plans new.ports.items) p t.steps k t.all) f)
 
 -- one more entry, of the plan's
 turns_push : (q i : ℕ) (steps : List (ℕ × ℕ)) (e : ℕ × ℕ) → slice_get steps i ≡ Some e → turns_by q (take (i + 1) steps) ≡ turns_by q (take i steps) + cond (e.0 == q) e.1 0
@@ -216,7 +216,7 @@ ending_next plans steps i old new below f ends t q same =
     let ports = ports_of old.memory.trace.items in
     let turns = turns_push q i steps e (get_is steps i (0, 0) below) in
     let events : events_in q (ports_of new.memory.trace.items) ≡ events_in q ports + events_in q (replicate n p) = ap (events_in q) (ports_more n p old new t.made) ∙ events_push q n p ports in
-    let within = (within_turns (IsDone plans old.ports.items) q (take i steps) ports f).within in
+    let within = (within_turns (IsPortDone plans old.ports.items) q (take i steps) ports f).within in
     let few = t.all.0 in
     elim (eqb_tells p q) [
       | inl is ↦

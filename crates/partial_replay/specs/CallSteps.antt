@@ -45,12 +45,12 @@ pub record HasSteps (s : CoreState) (c : Called) (first : Moment) (more : List M
   pub rests : t ≡ at_stage last Idle
 
 -- a call of the machine s with its events, and the machine behind it
-abbrev pub IsCallOf : CoreState → Called → List Moment → CoreState → Type 0
-IsCallOf s c [] t = IsRefusedAtOnce s c t ⊎ IsFinishedAtOnce s c t
-IsCallOf s c (x ∷ xs) t = HasSteps s c x xs t
+abbrev pub IsCallRun : CoreState → Called → List Moment → CoreState → Type 0
+IsCallRun s c [] t = IsRefusedAtOnce s c t ⊎ IsFinishedAtOnce s c t
+IsCallRun s c (x ∷ xs) t = HasSteps s c x xs t
 
 -- the events are the steps of the calls of the machine s, call by call, and lead to t
 abbrev pub AreStepsOf : CoreState → List Called → List Moment → CoreState → Type 0
 AreStepsOf s [] xs t = (xs ≡ []) × (t ≡ s)
 AreStepsOf s (c ∷ cs) xs t = (own behind : List Moment) × (u : CoreState) × (xs ≡ own ++ behind) × (length own ≡ c.steps) ×
-    IsCallOf s c own u × AreStepsOf u cs behind t
+    IsCallRun s c own u × AreStepsOf u cs behind t

@@ -2,7 +2,7 @@
 use Rattle.std.specs.Prelude.{ℕ, ◌≡◌, ◌<◌, List, [], length, get_or, filter_map, sum_by}
 use Rattle.partial_model.specs.Outcome.{LegalOutcome}
 use Rattle.partial_words.specs.Layout.{pool_base}
-use Rattle.partial_words.specs.Record.{value_of}
+use Rattle.partial_words.specs.Record.{record_value}
 use Rattle.partial_words.specs.Step.{Leads}
 use Rattle.partial_words.specs.Chain.{Agrees, AreOpeningWords}
 use Rattle.partial_machine.specs.Machine.{CoreState, fresh}
@@ -10,7 +10,7 @@ use Rattle.partial_text.specs.PlanText.{PlanView}
 use Rattle.partial_text.specs.declared.outcome.Outcome.{Outcome}
 use Rattle.std.specs.List.{AllByRecursion}
 use Rattle.partial_replay.specs.Place.{HasLeastPlace}
-use Rattle.partial_replay.specs.Trace.{entry_of, moments_by, ports_of, moments_from}
+use Rattle.partial_replay.specs.Trace.{event_entry, moments_by, ports_of, moments_from}
 use Rattle.partial_replay.specs.CallSteps.{AreStepsOf}
 use Rattle.partial_machine.specs.Bounds.{most_steps}
 use Rattle.partial_replay.specs.Turns.{turns_of, turns_by, ports_in, lengths_in, BeginInTurns}
@@ -38,7 +38,7 @@ pub record IsReplayOf (p : PlanView) (outcome : Outcome) : Type 0 where
   pub leads : Leads opened outcome.trace.items outcome.words.items
   pub steps : outcome.steps ≡ length outcome.trace.items
   -- its won exchanges of component words are the history, in order
-  pub entries : outcome.history.items ≡ filter_map (entry_of p.sizes.m (value_of outcome.words.items)) outcome.trace.items
+  pub entries : outcome.history.items ≡ filter_map (event_entry p.sizes.m (record_value outcome.words.items)) outcome.trace.items
   -- each port's events are the steps of its calls, call by call
   pub events : (q : ℕ) → (last : CoreState) × AreStepsOf (fresh p.sizes q) (calls_by q outcome.calls.items)
       (moments_by p.sizes.m q outcome.trace.items) last

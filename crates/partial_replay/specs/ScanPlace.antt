@@ -3,7 +3,7 @@ use Rattle.std.specs.Prelude.{ℕ, ◌≡◌, ◌==◌, ◌<◌, ◌≤◌, Bool
 use Rattle.partial_model.specs.declared.history.Applied.{Applied}
 use Rattle.partial_model.specs.declared.history.Opening.{Opening}
 use Rattle.partial_model.specs.History.{value_of as value_after}
-use Rattle.partial_words.specs.Record.{value_word, prev_of, value_of}
+use Rattle.partial_words.specs.Record.{value_word, prev_of, record_value}
 
 -- the value of each component after the first n entries
 abbrev pub values_after : Opening → List Applied → ℕ → ℕ → ℕ
@@ -11,16 +11,16 @@ values_after o h n j = value_after o (take n h) j
 
 -- the value of each component in the words
 abbrev pub values_now : List ℕ → ℕ → ℕ
-values_now words j = value_of words (slice_index words j)
+values_now words j = record_value words (slice_index words j)
 
 -- whether a component that is to have a value, if any, has another one
-abbrev pub differs : Option ℕ → ℕ → Bool
-differs None x = false
-differs (Some v) x = not (v == x)
+abbrev pub is_other : Option ℕ → ℕ → Bool
+is_other None x = false
+is_other (Some v) x = not (v == x)
 
 -- the components that have another value than they are to have are marked, and no others
 abbrev pub AreMarked : List (Option ℕ) → List Bool → (ℕ → ℕ) → Type 0
-AreMarked wanted marks value = (j : ℕ) → slice_index_or marks j false ≡ differs (slice_index_or wanted j None) (value j)
+AreMarked wanted marks value = (j : ℕ) → slice_index_or marks j false ≡ is_other (slice_index_or wanted j None) (value j)
 
 -- each component has the value that it is to have
 abbrev pub AllHave : List (Option ℕ) → (ℕ → ℕ) → Type 0
@@ -59,8 +59,8 @@ marks_before None marks j x = marks
 marks_before (Some v) marks j x = slice_set marks j (not (v == x))
 
 -- what is to have a value is a component
-abbrev pub AreComponents : Opening → List (Option ℕ) → Type 0
-AreComponents o wanted = (j v : ℕ) → slice_index_or wanted j None ≡ Some v → j < length o.values
+abbrev pub AreWantedComponents : Opening → List (Option ℕ) → Type 0
+AreWantedComponents o wanted = (j v : ℕ) → slice_index_or wanted j None ≡ Some v → j < length o.values
 
 -- what is still to have a value stands at a position from the k-th on
 abbrev pub IsLeft : List (Option ℕ) → List ℕ → ℕ → Type 0

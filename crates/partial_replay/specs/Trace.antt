@@ -17,8 +17,8 @@ new_of (Exchange w old new) = new
 new_of _ = 0
 
 -- the entry that an event adds to the history, when the record at a reference has that value: a won exchange adds one
-abbrev pub entry_of : ℕ → (ℕ → ℕ) → Event → Option Applied
-entry_of m value e = if is_won m e.step e.answer then Some
+abbrev pub event_entry : ℕ → (ℕ → ℕ) → Event → Option Applied
+event_entry m value e = if is_won m e.step e.answer then Some
     (record { port = e.port; component = word_of e.step; value = value (new_of e.step); stamp = new_of e.step }) else None
 
 -- whose events they are, in order

@@ -39,8 +39,8 @@ fn opening_words(alloc: Global, sizes: Sizes, initial: &[u64]) -> Result<Vec<u64
 }
 
 impl Run {
-    ghost use Rattle.partial_replay.specs.Inner.RunState.{ArePlans, AreStarted, IsBetweenTurns, IsReady, IsReplay, IsSameMemory, IsSameOpening, Tells, left_at};
-    ghost use Rattle.partial_replay.specs.Inner.TurnState.{BeginsIn, GoesOnBy, HaveBegun, IsDone, StayDone, StayStoppedBut, StayStoppedWith, StepsIn, StopAtSteps, TurnMade, TurnsMade};
+    ghost use Rattle.partial_replay.specs.Inner.RunState.{ArePlans, AreStarted, IsBetweenTurns, IsTurnReady, IsReplay, ChangesPortsOnly, IsSameOpening, TellsOutcome, port_left_at};
+    ghost use Rattle.partial_replay.specs.Inner.TurnState.{BeginsIn, GoesOnBy, HaveBegun, IsPortDone, StayDone, StayStoppedBut, StayStoppedWith, StepsIn, StopAtSteps, TurnMade, TurnsMade};
 
     /// Opens the replay of a plan with these ports.
     ///
@@ -96,7 +96,7 @@ impl Run {
         ensures same { OnOk result (IsSameOpening self.old self.new) }
         ensures turn { IfOk result (λ stepped. TurnMade plans.now p self.old stepped self.new) }
         ensures progress { IfOk result (λ stepped. OnTrue stepped
-            (left_at p plans.now self.new.ports.items < left_at p plans.now self.old.ports.items)) }
+            (port_left_at p plans.now self.new.ports.items < port_left_at p plans.now self.old.ports.items)) }
     {
         if !self.get_ready(alloc, p, plans)? {
             return Ok(false);
@@ -116,14 +116,14 @@ impl Run {
         requires between { IsBetweenTurns plans.now self.old }
         requires port { p < length plans.now }
         ensures replay { OnOk result (IsReplay plans.now self.new) }
-        ensures same { OnOk result (IsSameMemory self.old self.new) }
-        ensures ready { IfOk result (λ ready. MatchBool ready (IsReady p self.new)
-            (IsDone plans.now self.new.ports.items p × AreStarted self.new.ports.items)) }
+        ensures same { OnOk result (ChangesPortsOnly self.old self.new) }
+        ensures ready { IfOk result (λ ready. MatchBool ready (IsTurnReady p self.new)
+            (IsPortDone plans.now self.new.ports.items p × AreStarted self.new.ports.items)) }
         ensures begun { OnOk result (BeginsIn plans.now p (length self.old.memory.history.items) self.old.ports.items
             self.new.ports.items) }
         ensures done { OnOk result (StayDone plans.now self.old self.new) }
         ensures ending { OnOk result (StayStoppedBut p self.old self.new) }
-        ensures left { OnOk result (left_at p plans.now self.new.ports.items ≤ left_at p plans.now
+        ensures left { OnOk result (port_left_at p plans.now self.new.ports.items ≤ port_left_at p plans.now
             self.old.ports.items) }
     {
         let calls = plans[p].as_slice();
@@ -146,14 +146,14 @@ impl Run {
     ) -> Result<(), AllocError>
         requires replay { IsReplay plans.now self.old }
         requires port { p < length plans.now }
-        requires ready { IsReady p self.old }
+        requires ready { IsTurnReady p self.old }
         ensures between { OnOk result (IsBetweenTurns plans.now self.new) }
         ensures same { OnOk result (IsSameOpening self.old self.new) }
         ensures trace { OnOk result (GoesOnBy 1 p self.old self.new) }
         ensures begun { OnOk result (StepsIn plans.now p self.old.ports.items self.new.ports.items) }
         ensures ending { OnOk result (StayStoppedWith p self.old self.new) }
         ensures done { OnOk result (StayDone plans.now self.old self.new) }
-        ensures progress { OnOk result (left_at p plans.now self.new.ports.items < left_at p plans.now
+        ensures progress { OnOk result (port_left_at p plans.now self.new.ports.items < port_left_at p plans.now
             self.old.ports.items) }
     {
         let calls = plans[p].as_slice();
@@ -216,7 +216,7 @@ impl Run {
         plans: &[Sequence<Call>],
     ) -> Result<Outcome, AllocError>
         requires { IsReplay plans.now self }
-        ensures { IfOk result (Tells plans.now self) }
+        ensures { IfOk result (TellsOutcome plans.now self) }
     {
         let Run {
             opening,

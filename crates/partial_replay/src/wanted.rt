@@ -7,8 +7,8 @@ ghost use Rattle.std.specs.List.{AllByRecursion};
 ghost use Rattle.partial_model.specs.declared.history.Applied.{Applied};
 ghost use Rattle.partial_model.specs.declared.history.Opening.{Opening};
 ghost use Rattle.partial_words.specs.Chain.{Agrees};
-ghost use Rattle.partial_words.specs.Record.{prev_of, value_of};
-ghost use Rattle.partial_replay.specs.ScanPlace.{AllHave, AreComponents, AreMarked, AreMarksOf, AreWanted, HasRecord, HasRecords, IsEmpty, IsLeast, IsLeft, ShowsValues, marks_before, values_after, values_now};
+ghost use Rattle.partial_words.specs.Record.{prev_of, record_value};
+ghost use Rattle.partial_replay.specs.ScanPlace.{AllHave, AreWantedComponents, AreMarked, AreMarksOf, AreWanted, HasRecord, HasRecords, IsEmpty, IsLeast, IsLeft, ShowsValues, marks_before, values_after, values_now};
 
 use partial_model::Applied;
 use partial_words::{prev_of, value_of};
@@ -90,7 +90,7 @@ fn take_back(wanted: &[Option<u64>], differing: &mut Marks, words: &[u64], entry
     requires room { length wanted.now ≡ length differing.old }
     requires record { HasRecord words.now (length wanted.now) entry }
     ensures { differing.new ≡ marks_before (slice_index_or wanted.now entry.component None) differing.old
-        entry.component (value_of words.now (prev_of words.now entry.stamp)) }
+        entry.component (record_value words.now (prev_of words.now entry.stamp)) }
 {
     let component = entry.component as usize;
     if let Some(value) = wanted[component] {
@@ -114,7 +114,7 @@ fn least_prefix(
     ensures room { length differing.new ≡ length differing.old }
     ensures others { (j : ℕ) → slice_index_or wanted.now j None ≡ None →
         slice_index_or differing.new j false ≡ slice_index_or differing.old j false }
-    ensures least { (o : Opening) (shown : ℕ) → Agrees o words.now history.now → AreComponents o wanted.now
+    ensures least { (o : Opening) (shown : ℕ) → Agrees o words.now history.now → AreWantedComponents o wanted.now
         → AreMarked wanted.now differing.old (values_now words.now) → began ≤ shown → shown ≤ length history.now
         → AllHave wanted.now (values_after o history.now shown)
         → IsLeast (λ n. AllHave wanted.now (values_after o history.now n)) began (length history.now) result }

@@ -1,5 +1,5 @@
 -- The steps by which a block is claimed and written, and by which a list is published.
-use Rattle.partial_state.proofs.Common.{ℕ, ◌≡◌, ◌≢◌, ◌+◌, ◌*◌, ◌<◌, ◌≤◌, ◌==◌, ◌++◌, ◌^◌, ◌%◌, Bool, true, false, cond, List, ◌∷◌, length, get_or, set, Some, None, refl, sym, ◌∙◌, ap, subst, inl, inr, arith, get_or-set_other, get_or-set_same, length-set, cases_lt, Applied, Opening, Layout, slot_counter, list_head, pool_counter, list_counter, slot_word, list_base, list_end, pool_end, total, length-pairs, Block, AreApart, IsApartFrom, IsPublishedList, IsHead, Own, Holding, Space, first_of, end_of, counter_of, block_of, unpublished, blocks_in, others_of, EachTwo, pool_marks, list_marks, Pool, Lists, LawfulWords, IsOwn, IsTied, IsDue, IsKept, ClaimsAreKept, StoresAreKept, PublishingsAreKept, greatest_record, greatest_list}
+use Rattle.partial_state.proofs.Common.{ℕ, ◌≡◌, ◌≢◌, ◌+◌, ◌*◌, ◌<◌, ◌≤◌, ◌==◌, ◌++◌, ◌^◌, ◌%◌, Bool, true, false, cond, List, ◌∷◌, length, get_or, set, Some, None, refl, sym, ◌∙◌, ap, subst, inl, inr, arith, get_or-set_other, get_or-set_same, length-set, cases_lt, Applied, Opening, Layout, slot_counter, list_head, pool_counter, list_counter, slot_word, list_base, list_end, pool_end, total, length-pairs, Block, AreApart, IsApartFrom, IsPublishedList, IsHead, Own, Holding, Space, space_begin, end_of, counter_of, block_of, unpublished, blocks_in, other_holdings, EachTwo, pool_marks, list_marks, Pool, Lists, LawfulWords, IsOwn, IsTied, IsDue, IsKept, ClaimsAreKept, StoresAreKept, PublishingsAreKept, greatest_record, greatest_list}
 use Rattle.partial_words.specs.VacatedList.{list_block}
 use Rattle.partial_state.proofs.ListLemmas.{all_at, all_weaker, two_take, two_put}
 use Rattle.partial_state.proofs.Frames.{IsClaimedBlock, word_at, apart_turns, head_moves}
@@ -35,7 +35,7 @@ module _ (z : Layout) (o : Opening) (words : List ℕ) (before : List Holding) (
     end_high Pool = omega arith
     end_high Lists = omega arith
 
-    start_low : (s : Space) → first_of z s ≤ get_or words (counter_of z s) 0
+    start_low : (s : Space) → space_begin z s ≤ get_or words (counter_of z s) 0
     start_low Pool = w.pool_low
     start_low Lists = w.lists_low
 
@@ -100,7 +100,7 @@ module _ (z : Layout) (o : Opening) (words : List ℕ) (before : List Holding) (
             lists_marked = λ t. let old = tied.lists_marked t in let more = lists.0 in omega (arith, old, more);
           };
           apart = two_put AreApart apart_turns (block_of b) (blocks_in z words (before ++ h ∷ after) log) (blocks_in z words (before ++ h' ∷ after) log) added w.apart free;
-          due = none_here (IsDue z o claimed h' (others_of h'.port (before ++ h' ∷ after)) log) h.due idle;
+          due = none_here (IsDue z o claimed h' (other_holdings h'.port (before ++ h' ∷ after)) log) h.due idle;
           claimed = refl;
           slot_words = slot_words;
           counts = λ l below inside. omega (arith, below, slots);
@@ -183,7 +183,7 @@ stores_are_kept z o words before h after log b w is idle more =
       };
       apart = subst (EachTwo AreApart) (sym (blocks_same z words (before ++ h ∷ after) (before ++ h' ∷ after) log (announced_same before h h' after refl)
           (unpublished_is before h' after (Some b') refl ∙ sym (unpublished_is before h after (Some b) is)))) w.apart;
-      due = none_here (IsDue z o words' h' (others_of h'.port (before ++ h' ∷ after)) log) h.due idle;
+      due = none_here (IsDue z o words' h' (other_holdings h'.port (before ++ h' ∷ after)) log) h.due idle;
       claimed = refl;
       slot_words = slot_words;
       counts = λ l inside room. omega (arith, inside, slots);
@@ -257,7 +257,7 @@ publishings_are_kept z o words before h after log old at list w idle is normal h
         lists_marked = λ t. let old = tied.lists_marked t in omega (arith, old, lists);
       };
       apart = block_given_up z words before h h' after log h.own refl refl refl w.apart;
-      due = none_here (IsDue z o words' h' (others_of h'.port (before ++ h' ∷ after)) log) h.due idle;
+      due = none_here (IsDue z o words' h' (other_holdings h'.port (before ++ h' ∷ after)) log) h.due idle;
       claimed = refl;
       slot_words = slot_words;
       counts = λ l inside room. omega (arith, inside, slots);

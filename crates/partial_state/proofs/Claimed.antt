@@ -1,5 +1,5 @@
 -- The blocks of lawful words: all their words are claimed, and those that are published are apart from the others.
-use Rattle.partial_state.proofs.Common.{ℕ, ◌≡◌, ◌+◌, ◌*◌, ◌<◌, ◌≤◌, ◌==◌, ◌++◌, Bool, true, false, cond, List, [], ◌∷◌, length, map, get_or, Option, Some, None, IfSome, MatchOption, slice_get, refl, ◌∙◌, ap, subst, inl, inr, arith, AllByRecursion, cons_option, option_map, eqb-true, Applied, Opening, Layout, pool_counter, slot_word, pool_base, view_of, view_len, length-pairs, Block, AreApart, Joined, HasPairs, IsAnnounced, IsApartFrom, Claimed, Holding, Space, first_of, end_of, counter_of, block_of, block_at, announcements, unpublished, blocks_in, joined_in, EachTwo, Pool, Lists, LawfulWords, IsOwn, IsTied, IsClaim, IsEntry, IsPublished, AllByRecursion-get, all_where, own_view, plain_record_size, full_record_size, initial_words}
+use Rattle.partial_state.proofs.Common.{ℕ, ◌≡◌, ◌+◌, ◌*◌, ◌<◌, ◌≤◌, ◌==◌, ◌++◌, Bool, true, false, cond, List, [], ◌∷◌, length, map, get_or, Option, Some, None, IfSome, MatchOption, slice_get, refl, ◌∙◌, ap, subst, inl, inr, arith, AllByRecursion, cons_option, option_map, eqb-true, Applied, Opening, Layout, pool_counter, slot_word, pool_base, view_of, view_len, length-pairs, Block, AreApart, Joined, HasPairs, IsAnnounced, IsApartFrom, Claimed, Holding, Space, space_begin, end_of, counter_of, block_of, block_at, announcements, unpublished, blocks_in, joined_in, EachTwo, Pool, Lists, LawfulWords, IsOwn, IsTied, IsClaim, IsEntry, IsPublished, AllByRecursion-get, all_where, own_view, plain_record_size, full_record_size, initial_words}
 use Rattle.partial_state.proofs.ListLemmas.{all_append, all_back, all_map, all_unmap, all_weaker, two_back, two_across}
 use Rattle.partial_state.proofs.Frames.{IsClaimedBlock, announcement_claimed, block_published}
 use Rattle.partial_state.proofs.HoldingLemmas.{if_some, if_all, all_unpublished}
@@ -45,7 +45,7 @@ all_announcements P (h ∷ hs) w = more P (joined_in h.claimed) (announcements h
     more P (Some j) rest w v = (w, v)
 
 -- all words of a port's own block are claimed
-own_claimed : (z : Layout) (words : List ℕ) (s : Space) (at n : ℕ) → first_of z s ≤ at → at + n ≤ end_of z s → at + n ≤ get_or words (counter_of z s) 0 →
+own_claimed : (z : Layout) (words : List ℕ) (s : Space) (at n : ℕ) → space_begin z s ≤ at → at + n ≤ end_of z s → at + n ≤ get_or words (counter_of z s) 0 →
     IsClaimedBlock z words (record { at = at; size = n })
 own_claimed z words Pool at n above within below = inr (omega (arith, above), below)
 own_claimed z words Lists at n above within below = inl (within, below)

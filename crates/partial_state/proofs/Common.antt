@@ -9,15 +9,15 @@ pub use Rattle.partial_model.specs.declared.history.Applied.{Applied}
 pub use Rattle.partial_model.specs.declared.history.Opening.{Opening}
 pub use Rattle.partial_words.specs.Layout.{Layout, slot_counter, list_head, pool_counter, list_counter, slot_word, list_base, list_end, pool_end, total, pool_base, initial_record, IsLayout, greatest_record, greatest_list, initial_words, first_free}
 pub use Rattle.partial_words.proofs.RecordLemmas.{length-pairs}
-pub use Rattle.partial_words.specs.Record.{view_of, view_len, view_word, prev_of, value_of, StandsAt, view_block, own_view, plain_record_size, full_record_size, value_word, prev_word}
+pub use Rattle.partial_words.specs.Record.{view_of, view_len, view_word, prev_of, record_value, StandsAt, view_block, own_view, plain_record_size, full_record_size, value_word, prev_word}
 pub use Rattle.partial_model.proofs.NotesLemmas.{AllByRecursion-get, slice_get_last, distinct_push, slice_get_grows, AllByRecursion-push}
 pub use Rattle.partial_model.proofs.AllLemmas.{all_where}
 pub use Rattle.partial_model.specs.History.{IsHistory, stamp_of, initial_stamp}
 pub use Rattle.partial_model.proofs.HistoryLemmas.{place_below, stamp_of-push}
 pub use Rattle.partial_words.specs.Chain.{Agrees, opening_word, IsLink, IsChain, chain_of}
-pub use Rattle.partial_state.specs.Views.{Block, AreApart, IsApartFrom, IsPublishedList, IsHead, Joined, HasPairs, IsAnnounced, HasFreshView, IsWithin, Covers, IsViewOf, IsView, IsBegunSince, Names}
-pub use Rattle.partial_state.specs.Holdings.{Own, Holding, Space, first_of, end_of, counter_of, block_of, unpublished, blocks_in, others_of, EachTwo, pool_marks, list_marks, block_at, announcements, joined_in, Claimed, Due, IfJoined, HaveOtherPorts, HaveOtherSlots, slot_marks}
+pub use Rattle.partial_state.specs.Views.{Block, AreApart, IsApartFrom, IsPublishedList, IsHead, Joined, HasPairs, IsAnnounced, HasFreshView, IsWithin, Covers, IsViewOf, IsView, IsBegunSince, ViewNames}
+pub use Rattle.partial_state.specs.Holdings.{Own, Holding, Space, space_begin, end_of, counter_of, block_of, unpublished, blocks_in, other_holdings, EachTwo, pool_marks, list_marks, block_at, announcements, joined_in, Claimed, Due, IfJoined, HaveOtherPorts, HaveOtherSlots, slot_marks}
 pub use Rattle.partial_state.specs.Holdings.Space.{Pool, Lists}
 pub use Rattle.partial_state.specs.LawfulWords.{LawfulWords, IsOwn, IsTied, IsDue, IsClaim, IsEntry, IsClaimedIn, CoversAll}
 pub use Rattle.partial_state.specs.Effects.{IsKept, ClaimsAreKept, StoresAreKept, PublishingsAreKept, LoadsAreTrue, DuesAreKept, DropsAreKept, PoolRefusalsAreKept, ListRefusalsAreKept, SlotRefusalsAreKept, idle_holdings, OpeningIsLawful, SlotClaimsAreKept, JoinsAreKept, LeavesAreKept, WinsAreKept}
-pub use Rattle.partial_state.specs.Loads.{IsPublished, Kept, IsLoaded, IsSlotAnswer}
+pub use Rattle.partial_state.specs.Loads.{IsPublished, KeptAnswer, IsLoaded, IsSlotAnswer}

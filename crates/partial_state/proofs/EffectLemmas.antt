@@ -1,5 +1,5 @@
 -- What a step changes, and that lawful words stay lawful by it and what was loaded true.
-use Rattle.partial_state.proofs.Common.{ℕ, ◌≡◌, ◌≢◌, ◌+◌, ◌*◌, ◌<◌, ◌≤◌, ◌⊎◌, ◌++◌, List, [], ◌∷◌, length, get_or, Option, Some, None, IfSome, IsSomeAnd, MatchOption, slice_get, refl, sym, ◌∙◌, ap, subst, inl, inr, arith, AllByRecursion, ne_eqb, cases_lt, Applied, Opening, IsHistory, stamp_of, place_below, Layout, slot_counter, list_head, pool_counter, list_counter, slot_word, list_end, pool_end, initial_record, view_word, prev_of, value_of, view_of, Agrees, Block, AreApart, Joined, HasFreshView, IsWithin, Covers, IsAnnounced, IsHead, Claimed, Own, Due, Holding, block_of, block_at, unpublished, blocks_in, others_of, IfJoined, joined_in, EachTwo, HaveOtherPorts, HaveOtherSlots, pool_marks, slot_marks, list_marks, Pool, LawfulWords, IsOwn, IsTied, IsClaimedIn, IsClaim, CoversAll, IsDue, IsEntry, Kept, IsLoaded, IsKept, AllByRecursion-get, all_where, greatest_record, greatest_list, prev_word, value_word}
+use Rattle.partial_state.proofs.Common.{ℕ, ◌≡◌, ◌≢◌, ◌+◌, ◌*◌, ◌<◌, ◌≤◌, ◌⊎◌, ◌++◌, List, [], ◌∷◌, length, get_or, Option, Some, None, IfSome, IsSomeAnd, MatchOption, slice_get, refl, sym, ◌∙◌, ap, subst, inl, inr, arith, AllByRecursion, ne_eqb, cases_lt, Applied, Opening, IsHistory, stamp_of, place_below, Layout, slot_counter, list_head, pool_counter, list_counter, slot_word, list_end, pool_end, initial_record, view_word, prev_of, record_value, view_of, Agrees, Block, AreApart, Joined, HasFreshView, IsWithin, Covers, IsAnnounced, IsHead, Claimed, Own, Due, Holding, block_of, block_at, unpublished, blocks_in, other_holdings, IfJoined, joined_in, EachTwo, HaveOtherPorts, HaveOtherSlots, pool_marks, slot_marks, list_marks, Pool, LawfulWords, IsOwn, IsTied, IsClaimedIn, IsClaim, CoversAll, IsDue, IsEntry, KeptAnswer, IsLoaded, IsKept, AllByRecursion-get, all_where, greatest_record, greatest_list, prev_word, value_word}
 use Rattle.partial_state.proofs.ListLemmas.{all_at, all_before, all_after, all_join, all_weaker, two_before, two_after, two_join, length_same}
 use Rattle.partial_state.proofs.Frames.{Frame, Grows, within_more, within_grows, published_moves, announced_moves, head_moves, slot_moves, fresh_moves, covers_moves, covers_newer}
 use Rattle.partial_state.proofs.HoldingLemmas.{own_far, if_some, if_some_at, some_found, found_some, joined_weaker, HaveOtherBlocks, blocks_turn, ports_turn, slots_turn, others_split, block_stays, three_words}
@@ -22,7 +22,7 @@ pub record Changes (z : Layout) (o : Opening) (words words' : List ℕ) (before 
   pub newest : (k : ℕ) (e : Applied) → slice_get log' k ≡ Some e → length log ≤ k → IsNew z o words' (before ++ h' ∷ after) log' k e
   pub tied : IsTied z words' h'
   pub apart : EachTwo AreApart (blocks_in z words' (before ++ h' ∷ after) log')
-  pub due : IfSome h'.due (IsDue z o words' h' (others_of h'.port (before ++ h' ∷ after)) log')
+  pub due : IfSome h'.due (IsDue z o words' h' (other_holdings h'.port (before ++ h' ∷ after)) log')
   pub taken : (l : ℕ) → l < get_or words' (slot_counter z) 0 → l < z.slots → IsSomeAnd h.claimed (λ c. c.slot ≡ l) ⊎ (get_or words (slot_counter z) 0 ≤ l) → (get_or words' (slot_word z l) 0 ≡ 1) ⊎
       IsSomeAnd h'.claimed (λ c. c.slot ≡ l)
   pub claim : IfSome h'.claimed (IsClaim z words' (before ++ h' ∷ after) log')
@@ -52,7 +52,7 @@ due_moves z o words words' v v' others others' log log' d f g own unjoined named
     let none : d.at ≡ d.at + 0 = omega arith in
     let prev : prev_of words' d.at ≡ prev_of words d.at = ap (λ n. get_or words' n 0) none ∙ same (prev_word 0) (omega (arith, size)) ∙ ap (λ n. get_or words n 0) (sym none) in
     let view : view_of words' d.at ≡ view_of words d.at = same (view_word 0) (omega (arith, size)) in
-    let value : value_of words' d.at ≡ value_of words d.at = same (value_word 0) (omega (arith, size)) in
+    let value : record_value words' d.at ≡ record_value words d.at = same (value_word 0) (omega (arith, size)) in
     let block : block_at words' d.at ≡ block_at words d.at = block_stays words words' d.at same in
     let found = some_found (λ (b : Own). (b.space ≡ Pool) × (block_of b ≡ block_at words d.at) × (b.stored ≡ length b.words)) v.own w.own in
     let more = g.more in
@@ -108,11 +108,11 @@ module _ (z : Layout) (o : Opening) (words words' : List ℕ) (before : List Hol
   here = frame_of z words words' h h' c.moves before after
 
   -- what is due of another port
-  other_due : (v : Holding) → h.port ≢ v.port → HaveOtherBlocks v h → IsTied z words v → (d : Due) → IsDue z o words v (others_of v.port (before ++ h ∷ after)) log d →
-      IsDue z o words' v (others_of v.port (before ++ h' ∷ after)) log' d
+  other_due : (v : Holding) → h.port ≢ v.port → HaveOtherBlocks v h → IsTied z words v → (d : Due) → IsDue z o words v (other_holdings v.port (before ++ h ∷ after)) log d →
+      IsDue z o words' v (other_holdings v.port (before ++ h' ∷ after)) log' d
   other_due v port apart tied d due =
-      let front = others_of v.port before in
-      let back = others_of v.port after in
+      let front = other_holdings v.port before in
+      let back = other_holdings v.port after in
       let is = others_split v.port before h after (ne_eqb h.port v.port port) in
       let is' = others_split v.port before h' after (ne_eqb h'.port v.port (λ e. port (sym c.moves.port ∙ e))) in
       let due' : IsDue z o words v (front ++ h ∷ back) log d = subst (λ (l : List Holding). IsDue z o words v l log d) is due in
@@ -210,23 +210,24 @@ module _ (z : Layout) (o : Opening) (words words' : List ℕ) (before : List Hol
 
   -- what is to be shown of each other holding, from what is known of it
   abbrev IsOther : Holding → Type 0
-  IsOther v = HaveOtherPorts h v × HaveOtherSlots h v × HaveOtherBlocks h v × IsTied z words v × IfSome v.due (IsDue z o words v (others_of v.port (before ++ h ∷ after)) log) ×
+  IsOther v = HaveOtherPorts h v × HaveOtherSlots h v × HaveOtherBlocks h v × IsTied z words v × IfSome v.due (IsDue z o words v (other_holdings v.port (before ++ h ∷ after)) log) ×
       IfSome v.claimed (IsClaim z words (before ++ h ∷ after) log)
 
   five : (vs : List Holding) → AllByRecursion (HaveOtherPorts h) vs → AllByRecursion (HaveOtherSlots h) vs → AllByRecursion (HaveOtherBlocks h) vs → AllByRecursion (IsTied z words) vs →
-      AllByRecursion (λ v. IfSome v.due (IsDue z o words v (others_of v.port (before ++ h ∷ after)) log)) vs → AllByRecursion (λ v. IfSome v.claimed (IsClaim z words (before ++ h ∷ after) log)) vs →
+      AllByRecursion (λ v. IfSome v.due (IsDue z o words v (other_holdings v.port (before ++ h ∷ after)) log)) vs →
+      AllByRecursion (λ v. IfSome v.claimed (IsClaim z words (before ++ h ∷ after) log)) vs →
       AllByRecursion IsOther vs
   five [] p s b t d k = tt
   five (v ∷ vs) p s b t d k = ((p.0, s.0, b.0, t.0, d.0, k.0), five vs p.1 s.1 b.1 t.1 d.1 k.1)
 
   others_before : AllByRecursion IsOther before
   others_before = five before port_b slot_b apart_b (all_before (IsTied z words) before h after w.tied)
-      (all_before (λ v. IfSome v.due (IsDue z o words v (others_of v.port (before ++ h ∷ after)) log)) before h after w.due)
+      (all_before (λ v. IfSome v.due (IsDue z o words v (other_holdings v.port (before ++ h ∷ after)) log)) before h after w.due)
       (all_before (λ v. IfSome v.claimed (IsClaim z words (before ++ h ∷ after) log)) before h after w.claims)
 
   others_after : AllByRecursion IsOther after
   others_after = five after port_a slot_a apart_a (all_after (IsTied z words) before h after w.tied)
-      (all_after (λ v. IfSome v.due (IsDue z o words v (others_of v.port (before ++ h ∷ after)) log)) before h after w.due)
+      (all_after (λ v. IfSome v.due (IsDue z o words v (other_holdings v.port (before ++ h ∷ after)) log)) before h after w.due)
       (all_after (λ v. IfSome v.claimed (IsClaim z words (before ++ h ∷ after) log)) before h after w.claims)
 
   -- each other holding, and the port's new one
@@ -254,8 +255,8 @@ module _ (z : Layout) (o : Opening) (words words' : List ℕ) (before : List Hol
         apart = c.apart;
         fresh = λ k e s. (each_entry k e s).fresh;
         covering = all_where (λ (e : Applied). CoversAll z words' (before ++ h' ∷ after) log' e.stamp) log' (λ k e s. (each_entry k e s).covering);
-        due = each (λ v. IfSome v.due (IsDue z o words' v (others_of v.port (before ++ h' ∷ after)) log'))
-            (λ v t. if_some (IsDue z o words v (others_of v.port (before ++ h ∷ after)) log) (IsDue z o words' v (others_of v.port (before ++ h' ∷ after)) log') v.due
+        due = each (λ v. IfSome v.due (IsDue z o words' v (other_holdings v.port (before ++ h' ∷ after)) log'))
+            (λ v t. if_some (IsDue z o words v (other_holdings v.port (before ++ h ∷ after)) log) (IsDue z o words' v (other_holdings v.port (before ++ h' ∷ after)) log') v.due
             (λ d e due. other_due v t.0 (blocks_turn h v t.2) t.3 d due) t.4) c.due;
         unclaimed = unclaimed_now;
         taken = taken_all;
@@ -271,7 +272,7 @@ module _ (z : Layout) (o : Opening) (words words' : List ℕ) (before : List Hol
       }
 
   -- what was loaded goes on being true
-  loads : (n : ℕ) (k : Kept) → IsLoaded z o words (before ++ h ∷ after) log n k → IsLoaded z o words' (before ++ h' ∷ after) log' n k
+  loads : (n : ℕ) (k : KeptAnswer) → IsLoaded z o words (before ++ h ∷ after) log n k → IsLoaded z o words' (before ++ h' ∷ after) log' n k
   loads n k l =
       let us = unpublished (before ++ h ∷ after) in
       let us' = unpublished (before ++ h' ∷ after) in

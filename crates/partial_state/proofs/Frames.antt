@@ -1,5 +1,5 @@
 -- What a step leaves of all that is published: blocks, and all that is said by them.
-use Rattle.partial_state.proofs.Common.{ℕ, ◌≡◌, ◌+◌, ◌<◌, ◌≤◌, ◌⊎◌, List, length, take, get_or, slice_get, Some, refl, sym, ◌∙◌, ap, subst, inl, inr, arith, cases_lt, Applied, Opening, place_below, Layout, slot_counter, pool_counter, list_counter, slot_word, list_base, list_end, pool_base, StandsAt, view_block, prev_of, view_of, length-pairs, IsViewOf, Block, AreApart, Joined, HasFreshView, HasPairs, IsView, IsWithin, IsBegunSince, Covers, Names, IsAnnounced, IsPublishedList, IsApartFrom, IsHead, IsPublished, IsSlotAnswer}
+use Rattle.partial_state.proofs.Common.{ℕ, ◌≡◌, ◌+◌, ◌<◌, ◌≤◌, ◌⊎◌, List, length, take, get_or, slice_get, Some, refl, sym, ◌∙◌, ap, subst, inl, inr, arith, cases_lt, Applied, Opening, place_below, Layout, slot_counter, pool_counter, list_counter, slot_word, list_base, list_end, pool_base, StandsAt, view_block, prev_of, view_of, length-pairs, IsViewOf, Block, AreApart, Joined, HasFreshView, HasPairs, IsView, IsWithin, IsBegunSince, Covers, ViewNames, IsAnnounced, IsPublishedList, IsApartFrom, IsHead, IsPublished, IsSlotAnswer}
 use Rattle.partial_intervals.specs.Intervals.{Ranges}
 use Rattle.partial_model.specs.History.{value_of}
 use Rattle.partial_words.specs.Announcement.{announcement_block, announcement_size}
@@ -204,7 +204,7 @@ module _ (z : Layout) (words words' : List ℕ) (us us' : List Block) (f : Frame
   slot_moves l x below (inr (inl h)) = inr (inl (h.0, f.vacated l below h.1))
   slot_moves l x below (inr (inr h)) = inr (inr (h.0, announced_moves x h.0 h.1))
 
-  pub names_move : (stamp : ℕ) (indices : List ℕ) → view_of words' stamp ≡ view_of words stamp → Names z words us stamp indices → Names z words' us' stamp indices
+  pub names_move : (stamp : ℕ) (indices : List ℕ) → view_of words' stamp ≡ view_of words stamp → ViewNames z words us stamp indices → ViewNames z words' us' stamp indices
   names_move stamp indices view w = (w.0, pairs_move stamp w.0 view w.1, w.2)
 
   module _ (o : Opening) (log log' : List Applied) (g : Grows o log log') (stamp : ℕ) (prev : prev_of words' stamp ≡ prev_of words stamp) (view : view_of words' stamp ≡ view_of words stamp) where

@@ -1,5 +1,5 @@
 -- Holdings with one in the place of another: their blocks, the other ports' ones, and how many are marked.
-use Rattle.partial_state.proofs.Common.{ℕ, suc, ◌≡◌, ◌≢◌, ◌+◌, ◌*◌, ◌<◌, ◌≤◌, ◌==◌, ◌++◌, Bool, true, false, cond, List, [], ◌∷◌, length, filter_map, get_or, Option, Some, None, IfSome, IsSomeAnd, refl, sym, ◌∙◌, ap, subst, inl, inr, arith, AllByRecursion, cons_option, option_map, ne_eqb, view_of, view_len, Layout, list_base, IsOwn, Pool, Lists, Block, AreApart, Joined, Own, Holding, Space, first_of, EachTwo, IfJoined, block_of, block_at, unpublished, others_of, pool_marks, slot_marks, list_marks, HaveOtherPorts, HaveOtherSlots, own_view, plain_record_size, full_record_size, view_word}
+use Rattle.partial_state.proofs.Common.{ℕ, suc, ◌≡◌, ◌≢◌, ◌+◌, ◌*◌, ◌<◌, ◌≤◌, ◌==◌, ◌++◌, Bool, true, false, cond, List, [], ◌∷◌, length, filter_map, get_or, Option, Some, None, IfSome, IsSomeAnd, refl, sym, ◌∙◌, ap, subst, inl, inr, arith, AllByRecursion, cons_option, option_map, ne_eqb, view_of, view_len, Layout, list_base, IsOwn, Pool, Lists, Block, AreApart, Joined, Own, Holding, Space, space_begin, EachTwo, IfJoined, block_of, block_at, unpublished, other_holdings, pool_marks, slot_marks, list_marks, HaveOtherPorts, HaveOtherSlots, own_view, plain_record_size, full_record_size, view_word}
 
 -- what holds of the value in an option
 pub if_some : {A : Type 0} (P Q : A → Type 0) (found : Option A) → ((a : A) → found ≡ Some a → P a → Q a) → IfSome found P → IfSome found Q
@@ -99,19 +99,22 @@ cond_append : {A : Type 0} (t : Bool) (b : A) (xs ys zs : List A) → xs ≡ ys 
 cond_append true b xs ys zs e = e
 cond_append false b xs ys zs e = ap (λ (l : List _). b ∷ l) e
 
-pub others_append : (p : ℕ) (before after : List Holding) → others_of p (before ++ after) ≡ others_of p before ++ others_of p after
+pub others_append : (p : ℕ) (before after : List Holding) → other_holdings p (before ++ after) ≡ other_holdings p before ++ other_holdings p after
 others_append p [] after = refl
-others_append p (b ∷ before) after = cond_append (b.port == p) b (others_of p (before ++ after)) (others_of p before) (others_of p after) (others_append p before after)
+others_append p (b ∷ before) after = cond_append (b.port == p) b (other_holdings p (before ++ after)) (other_holdings p before) (other_holdings p after) (others_append p before after)
 
-pub others_split : (p : ℕ) (before : List Holding) (h : Holding) (after : List Holding) → (h.port == p) ≡ false → others_of p (before ++ h ∷ after) ≡ others_of p before ++ h ∷ others_of p after
-others_split p before h after e = others_append p before (h ∷ after) ∙ ap (λ (t : Bool). others_of p before ++ cond t (others_of p after) (h ∷ others_of p after)) e
+pub others_split : (p : ℕ) (before : List Holding) (h : Holding) (after : List Holding) → (h.port == p) ≡ false →
+    other_holdings p (before ++ h ∷ after) ≡ other_holdings p before ++ h ∷ other_holdings p after
+others_split p before h after e = others_append p before (h ∷ after) ∙ ap (λ (t : Bool). other_holdings p before ++ cond t (other_holdings p after) (h ∷ other_holdings p after)) e
 
-pub others_gone : (p : ℕ) (before : List Holding) (h : Holding) (after : List Holding) → (h.port == p) ≡ true → others_of p (before ++ h ∷ after) ≡ others_of p before ++ others_of p after
-others_gone p before h after e = others_append p before (h ∷ after) ∙ ap (λ (t : Bool). others_of p before ++ cond t (others_of p after) (h ∷ others_of p after)) e
+pub others_gone : (p : ℕ) (before : List Holding) (h : Holding) (after : List Holding) → (h.port == p) ≡ true →
+    other_holdings p (before ++ h ∷ after) ≡ other_holdings p before ++ other_holdings p after
+others_gone p before h after e = others_append p before (h ∷ after) ∙ ap (λ (t : Bool). other_holdings p before ++ cond t (other_holdings p after) (h ∷ other_holdings p after)) e
 
-pub others_all : (h : Holding) (hs : List Holding) → AllByRecursion (HaveOtherPorts h) hs → others_of h.port hs ≡ hs
+pub others_all : (h : Holding) (hs : List Holding) → AllByRecursion (HaveOtherPorts h) hs → other_holdings h.port hs ≡ hs
 others_all h [] w = refl
-others_all h (x ∷ hs) w = ap (λ (t : Bool). cond t (others_of h.port hs) (x ∷ others_of h.port hs)) (ne_eqb x.port h.port (λ e. w.0 (sym e))) ∙ ap (λ (l : List Holding). x ∷ l) (others_all h hs w.1)
+others_all h (x ∷ hs) w = ap (λ (t : Bool). cond t (other_holdings h.port hs) (x ∷ other_holdings h.port hs)) (ne_eqb x.port h.port (λ e. w.0 (sym e))) ∙
+    ap (λ (l : List Holding). x ∷ l) (others_all h hs w.1)
 
 -- how many have the mark
 abbrev pub marks : (Holding → Bool) → List Holding → ℕ
@@ -183,6 +186,6 @@ block_stays words words' stamp same =
 pub own_far : (z : Layout) (words : List ℕ) (b : Own) → IsOwn z words b → list_base z ≤ b.at
 own_far z words b w = far b.space b.at w.above
   where
-    far : (s : Space) (at : ℕ) → first_of z s ≤ at → list_base z ≤ at
+    far : (s : Space) (at : ℕ) → space_begin z s ≤ at → list_base z ≤ at
     far Pool at above = omega (arith, above)
     far Lists at above = above

@@ -1,5 +1,5 @@
 -- The steps that change no block and no slot: an exchange comes to be due, a block is given up, and claims that are refused.
-use Rattle.partial_state.proofs.Common.{ℕ, ◌≡◌, ◌≢◌, ◌+◌, ◌*◌, ◌<◌, ◌≤◌, ◌++◌, ◌^◌, ◌%◌, true, List, ◌∷◌, get_or, set, Option, Some, None, IfSome, refl, sym, ◌∙◌, ap, subst, arith, get_or-set_other, get_or-set_same, length-set, eq-eqb, Applied, Layout, slot_counter, list_head, pool_counter, list_counter, slot_word, list_base, list_end, pool_end, Block, AreApart, Own, Holding, block_of, blocks_in, others_of, joined_in, EachTwo, IsTied, IsDue, DuesAreKept, DropsAreKept, PoolRefusalsAreKept, ListRefusalsAreKept, SlotRefusalsAreKept, greatest_record, greatest_list}
+use Rattle.partial_state.proofs.Common.{ℕ, ◌≡◌, ◌≢◌, ◌+◌, ◌*◌, ◌<◌, ◌≤◌, ◌++◌, ◌^◌, ◌%◌, true, List, ◌∷◌, get_or, set, Option, Some, None, IfSome, refl, sym, ◌∙◌, ap, subst, arith, get_or-set_other, get_or-set_same, length-set, eq-eqb, Applied, Layout, slot_counter, list_head, pool_counter, list_counter, slot_word, list_base, list_end, pool_end, Block, AreApart, Own, Holding, block_of, blocks_in, other_holdings, joined_in, EachTwo, IsTied, IsDue, DuesAreKept, DropsAreKept, PoolRefusalsAreKept, ListRefusalsAreKept, SlotRefusalsAreKept, greatest_record, greatest_list}
 use Rattle.partial_state.proofs.ListLemmas.{all_at, two_take}
 use Rattle.partial_state.proofs.Frames.{apart_turns}
 use Rattle.partial_state.proofs.HoldingLemmas.{others_gone}
@@ -63,9 +63,9 @@ dues_are_kept z o words before h after log d w due =
     let h' : Holding = record h { due = Some d } in
     let m = still_moves z words h h' refl (λ b free. free) in
     let tied = all_at (IsTied z words) before h after w.tied in
-    let same : others_of h.port (before ++ h ∷ after) ≡ others_of h.port (before ++ h' ∷ after) =
+    let same : other_holdings h.port (before ++ h ∷ after) ≡ other_holdings h.port (before ++ h' ∷ after) =
     others_gone h.port before h after (eq-eqb h.port h.port refl) ∙ sym (others_gone h.port before h' after (eq-eqb h.port h.port refl)) in
-    let now : IsDue z o words h (others_of h.port (before ++ h' ∷ after)) log d = subst (λ (l : List Holding). IsDue z o words h l log d) same due in
+    let now : IsDue z o words h (other_holdings h.port (before ++ h' ∷ after)) log d = subst (λ (l : List Holding). IsDue z o words h l log d) same due in
     calm z o words words before h h' after log w (record {
       moves = m;
       components = λ j below. refl;

@@ -1,5 +1,5 @@
 -- The steps that add nothing to the history, and what most steps leave as it was.
-use Rattle.partial_state.proofs.Common.{ℕ, ◌≡◌, ◌≢◌, ◌+◌, ◌*◌, ◌<◌, ◌≤◌, ◌⊎◌, ◌++◌, ◌^◌, ◌%◌, true, false, List, ◌∷◌, length, get_or, Option, None, IfSome, IsSomeAnd, refl, sym, ◌∙◌, ap, subst, inl, inr, arith, eq-eqb, Applied, Opening, place_below, Layout, IsLayout, slot_counter, list_head, pool_counter, list_counter, slot_word, list_base, list_end, pool_end, Block, AreApart, Covers, IsHead, Claimed, Own, Due, Holding, block_of, block_at, unpublished, blocks_in, others_of, IfJoined, joined_in, EachTwo, HaveOtherSlots, pool_marks, slot_marks, list_marks, Pool, LawfulWords, IsOwn, IsTied, IsClaim, IsDue, IsKept, greatest_record, greatest_list}
+use Rattle.partial_state.proofs.Common.{ℕ, ◌≡◌, ◌≢◌, ◌+◌, ◌*◌, ◌<◌, ◌≤◌, ◌⊎◌, ◌++◌, ◌^◌, ◌%◌, true, false, List, ◌∷◌, length, get_or, Option, None, IfSome, IsSomeAnd, refl, sym, ◌∙◌, ap, subst, inl, inr, arith, eq-eqb, Applied, Opening, place_below, Layout, IsLayout, slot_counter, list_head, pool_counter, list_counter, slot_word, list_base, list_end, pool_end, Block, AreApart, Covers, IsHead, Claimed, Own, Due, Holding, block_of, block_at, unpublished, blocks_in, other_holdings, IfJoined, joined_in, EachTwo, HaveOtherSlots, pool_marks, slot_marks, list_marks, Pool, LawfulWords, IsOwn, IsTied, IsClaim, IsDue, IsKept, greatest_record, greatest_list}
 use Rattle.std.proofs.Math.Nat.{mul-le-mul_left}
 use Rattle.partial_state.proofs.ListLemmas.{all_at, all_weaker}
 use Rattle.partial_state.proofs.Frames.{Frame, stays, head_moves, covers_moves}
@@ -13,7 +13,7 @@ pub record Quiet (z : Layout) (o : Opening) (words words' : List ℕ) (before : 
   pub components : (j : ℕ) → j < z.m → get_or words' j 0 ≡ get_or words j 0
   pub tied : IsTied z words' h'
   pub apart : EachTwo AreApart (blocks_in z words (before ++ h' ∷ after) log)
-  pub due : IfSome h'.due (IsDue z o words' h' (others_of h'.port (before ++ h' ∷ after)) log)
+  pub due : IfSome h'.due (IsDue z o words' h' (other_holdings h'.port (before ++ h' ∷ after)) log)
   pub taken : (l : ℕ) → l < get_or words' (slot_counter z) 0 → l < z.slots → IsSomeAnd h.claimed (λ c. c.slot ≡ l) ⊎ (get_or words (slot_counter z) 0 ≤ l) → (get_or words' (slot_word z l) 0 ≡ 1) ⊎
       IsSomeAnd h'.claimed (λ c. c.slot ≡ l)
   pub claim : IfSome h'.claimed (IsClaim z words' (before ++ h' ∷ after) log)
@@ -138,20 +138,20 @@ module _ (z : Layout) (o : Opening) (words words' : List ℕ) (before : List Hol
 
   -- the port's own exchange that is due, where no word of a block changes
   pub due_stays : h'.own ≡ h.own → h'.due ≡ h.due → (joined_in h.claimed ≡ None → joined_in h'.claimed ≡ None) → ((n : ℕ) → list_base z ≤ n → get_or words' n 0 ≡ get_or words n 0) →
-      ((j : ℕ) → j < z.m → get_or words' j 0 ≡ get_or words j 0) → IfSome h'.due (IsDue z o words' h' (others_of h'.port (before ++ h' ∷ after)) log)
+      ((j : ℕ) → j < z.m → get_or words' j 0 ≡ get_or words j 0) → IfSome h'.due (IsDue z o words' h' (other_holdings h'.port (before ++ h' ∷ after)) log)
   due_stays own due unjoined far components =
-      subst (λ (d : Option Due). IfSome d (IsDue z o words' h' (others_of h'.port (before ++ h' ∷ after)) log)) (sym due)
-      (if_some (IsDue z o words h (others_of h.port (before ++ h ∷ after)) log) (IsDue z o words' h' (others_of h'.port (before ++ h' ∷ after)) log) h.due
+      subst (λ (d : Option Due). IfSome d (IsDue z o words' h' (other_holdings h'.port (before ++ h' ∷ after)) log)) (sym due)
+      (if_some (IsDue z o words h (other_holdings h.port (before ++ h ∷ after)) log) (IsDue z o words' h' (other_holdings h'.port (before ++ h' ∷ after)) log) h.due
       (λ d e k. subst (λ (l : List Holding). IsDue z o words' h' l log d) same (one d k))
-      (all_at (λ v. IfSome v.due (IsDue z o words v (others_of v.port (before ++ h ∷ after)) log)) before h after w.due))
+      (all_at (λ v. IfSome v.due (IsDue z o words v (other_holdings v.port (before ++ h ∷ after)) log)) before h after w.due))
     where
-      same : others_of h.port (before ++ h ∷ after) ≡ others_of h'.port (before ++ h' ∷ after)
+      same : other_holdings h.port (before ++ h ∷ after) ≡ other_holdings h'.port (before ++ h' ∷ after)
       same = others_gone h.port before h after (eq-eqb h.port h.port refl) ∙ sym (others_gone h.port before h' after (eq-eqb h'.port h.port m.port)) ∙
-          ap (λ p. others_of p (before ++ h' ∷ after)) (sym m.port)
+          ap (λ p. other_holdings p (before ++ h' ∷ after)) (sym m.port)
 
-      one : (d : Due) → IsDue z o words h (others_of h.port (before ++ h ∷ after)) log d → IsDue z o words' h' (others_of h.port (before ++ h ∷ after)) log d
+      one : (d : Due) → IsDue z o words h (other_holdings h.port (before ++ h ∷ after)) log d → IsDue z o words' h' (other_holdings h.port (before ++ h ∷ after)) log d
       one d k =
-          let others = others_of h.port (before ++ h ∷ after) in
+          let others = other_holdings h.port (before ++ h ∷ after) in
           let us = unpublished others in
           let f : Frame z words words' us us = record { count = m.count; pool = m.pool; lists = m.lists; slots = m.slots; same = λ n above p. far n above; apart = λ b c a. a; vacated = m.vacated } in
           let found = some_found (λ (b : Own). (b.space ≡ Pool) × (block_of b ≡ block_at words d.at) × (b.stored ≡ length b.words)) h.own k.own in
@@ -171,7 +171,7 @@ pub record Calm (z : Layout) (o : Opening) (words words' : List ℕ) (before : L
   pub components : (j : ℕ) → j < z.m → get_or words' j 0 ≡ get_or words j 0
   pub tied : IsTied z words' h'
   pub apart : EachTwo AreApart (blocks_in z words (before ++ h' ∷ after) log)
-  pub due : IfSome h'.due (IsDue z o words' h' (others_of h'.port (before ++ h' ∷ after)) log)
+  pub due : IfSome h'.due (IsDue z o words' h' (other_holdings h'.port (before ++ h' ∷ after)) log)
   pub claimed : h'.claimed ≡ h.claimed
   pub slot_words : (l : ℕ) → l < z.slots → get_or words' (slot_word z l) 0 ≡ get_or words (slot_word z l) 0
   pub counts : (l : ℕ) → l < get_or words' (slot_counter z) 0 → l < z.slots → l < get_or words (slot_counter z) 0

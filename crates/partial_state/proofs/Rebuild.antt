@@ -1,5 +1,5 @@
 -- Lawful words with one port's holding in the place of another, and with other words.
-use Rattle.partial_state.proofs.Common.{ℕ, ◌≡◌, ◌≢◌, ◌+◌, ◌*◌, ◌<◌, ◌≤◌, ◌++◌, List, [], ◌∷◌, length, map, get_or, Option, Some, IfSome, slice_get, sym, ◌∙◌, ap, subst, arith, AllByRecursion, Applied, Opening, initial_stamp, Layout, slot_counter, pool_counter, list_counter, slot_word, list_base, pool_base, prev_of, Agrees, IsLink, IsChain, chain_of, Block, AreApart, Own, Holding, Space, counter_of, block_of, block_at, announcements, unpublished, blocks_in, EachTwo, Pool, Lists, LawfulWords, IsOwn, IsTied, IsEntry, AllByRecursion-get, all_where, initial_words, first_free, value_word, value_of, prev_word, plain_record_size}
+use Rattle.partial_state.proofs.Common.{ℕ, ◌≡◌, ◌≢◌, ◌+◌, ◌*◌, ◌<◌, ◌≤◌, ◌++◌, List, [], ◌∷◌, length, map, get_or, Option, Some, IfSome, slice_get, sym, ◌∙◌, ap, subst, arith, AllByRecursion, Applied, Opening, initial_stamp, Layout, slot_counter, pool_counter, list_counter, slot_word, list_base, pool_base, prev_of, Agrees, IsLink, IsChain, chain_of, Block, AreApart, Own, Holding, Space, counter_of, block_of, block_at, announcements, unpublished, blocks_in, EachTwo, Pool, Lists, LawfulWords, IsOwn, IsTied, IsEntry, AllByRecursion-get, all_where, initial_words, first_free, value_word, record_value, prev_word, plain_record_size}
 use Rattle.partial_words.specs.declared.record.Link.{Link}
 use Rattle.partial_words.proofs.ChainLemmas.{chain_all}
 use Rattle.partial_state.proofs.ListLemmas.{all_at, all_before, all_after, all_join, two_before, two_after, map_same}
@@ -94,20 +94,20 @@ module _ (z : Layout) (words words' : List ℕ) (h h' : Holding) (m : Moves z wo
       marked_moves v (if_some (IsOwn z words) (IsOwn z words') v.own (λ b e own. own_moves b (if_some_at (λ b. IfSome h.own (λ c. AreApart (block_of b) (block_of c))) v.own b e other) own) w.own) w
 
 -- a record whose words stay
-link_stays : (words words' : List ℕ) → length words' ≡ length words → (at : ℕ) (l : Link) → value_of words' at ≡ value_of words at → IsLink words at l → IsLink words' at l
+link_stays : (words words' : List ℕ) → length words' ≡ length words → (at : ℕ) (l : Link) → record_value words' at ≡ record_value words at → IsLink words at l → IsLink words' at l
 link_stays words words' count at l same c = record { stamp = c.stamp; within = let within = c.within in omega (arith, count, within); value = same ∙ c.value }
 
 -- a chain whose words stay
 pub chain_stays : (words words' : List ℕ) → length words' ≡ length words → (at : ℕ) (links : List Link) →
-    AllByRecursion (λ l. (prev_of words' l.stamp ≡ prev_of words l.stamp) × (value_of words' l.stamp ≡ value_of words l.stamp)) links → IsChain words at links → IsChain words' at links
+    AllByRecursion (λ l. (prev_of words' l.stamp ≡ prev_of words l.stamp) × (record_value words' l.stamp ≡ record_value words l.stamp)) links → IsChain words at links → IsChain words' at links
 chain_stays words words' count at [] all c = c
 chain_stays words words' count at (l ∷ []) all c =
-    let both : (prev_of words' at ≡ prev_of words at) × (value_of words' at ≡ value_of words at) =
-    subst (λ n. (prev_of words' n ≡ prev_of words n) × (value_of words' n ≡ value_of words n)) c.0.stamp all.0 in
+    let both : (prev_of words' at ≡ prev_of words at) × (record_value words' at ≡ record_value words at) =
+    subst (λ n. (prev_of words' n ≡ prev_of words n) × (record_value words' n ≡ record_value words n)) c.0.stamp all.0 in
     (link_stays words words' count at l both.1 c.0, both.0 ∙ c.1)
 chain_stays words words' count at (l ∷ k ∷ ls) all c =
-    let both : (prev_of words' at ≡ prev_of words at) × (value_of words' at ≡ value_of words at) =
-    subst (λ n. (prev_of words' n ≡ prev_of words n) × (value_of words' n ≡ value_of words n)) c.0.stamp all.0 in
+    let both : (prev_of words' at ≡ prev_of words at) × (record_value words' at ≡ record_value words at) =
+    subst (λ n. (prev_of words' n ≡ prev_of words n) × (record_value words' n ≡ record_value words n)) c.0.stamp all.0 in
     (link_stays words words' count at l both.1 c.0, subst (λ n. IsChain words' n (k ∷ ls)) (sym both.0) (chain_stays words words' count (prev_of words at) (k ∷ ls) all.1 c.1))
 
 module _ (z : Layout) (o : Opening) (words words' : List ℕ) (before : List Holding) (h h' : Holding) (after : List Holding) (log : List Applied) (w : LawfulWords z o words (before ++ h ∷ after) log)
@@ -145,7 +145,7 @@ module _ (z : Layout) (o : Opening) (words words' : List ℕ) (before : List Hol
   chain_moves j below =
       let base = w.stamps in
       let values = w.values in
-      let P : ℕ → Type 0 = λ s. (prev_of words' s ≡ prev_of words s) × (value_of words' s ≡ value_of words s) in
+      let P : ℕ → Type 0 = λ s. (prev_of words' s ≡ prev_of words s) × (record_value words' s ≡ record_value words s) in
       chain_stays words words' m.count (get_or words j 0) (chain_of o j log)
       (chain_all P o j log (all_where (λ (e : Applied). P e.stamp) log (λ k e s. (entry_prev k e s, entry_three k e (value_word 0) s (omega arith)))) (
         initial_word (initial_stamp o j) (omega (arith, base)) (omega (arith, base, values, below)),

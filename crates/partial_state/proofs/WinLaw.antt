@@ -1,5 +1,5 @@
 -- A won exchange of a component: its record is published, and the history gains its entry.
-use Rattle.partial_state.proofs.Common.{ℕ, ◌≡◌, ◌≢◌, ◌+◌, ◌*◌, ◌<◌, ◌≤◌, ◌==◌, ◌++◌, Bool, true, false, cond, List, [], ◌∷◌, length, map, get_or, set, Option, Some, None, IfSome, slice_get, refl, sym, ◌∙◌, ap, subst, inl, inr, arith, append_assoc, get_or-set_other, get_or-set_same, length-set, AllByRecursion, option_map, eq-eqb, eqb-true, eqb-false, eqb_tells, length_push, take-append-le, Applied, Opening, IsHistory, initial_stamp, stamp_of, stamp_of-push, distinct_push, slice_get_grows, AllByRecursion-push, AllByRecursion-get, Layout, slot_counter, list_head, pool_counter, list_counter, slot_word, list_end, pool_base, pool_end, prev_of, view_of, IsLink, IsChain, chain_of, Block, AreApart, Joined, HasFreshView, Covers, IsWithin, Claimed, Own, Due, Holding, Space, first_of, end_of, counter_of, block_of, block_at, announcements, unpublished, blocks_in, others_of, IfJoined, joined_in, EachTwo, HaveOtherPorts, Pool, LawfulWords, IsOwn, IsTied, IsDue, IsKept, WinsAreKept, all_where, initial_words, first_free, greatest_record, greatest_list, view_word, value_word, plain_record_size, value_of}
+use Rattle.partial_state.proofs.Common.{ℕ, ◌≡◌, ◌≢◌, ◌+◌, ◌*◌, ◌<◌, ◌≤◌, ◌==◌, ◌++◌, Bool, true, false, cond, List, [], ◌∷◌, length, map, get_or, set, Option, Some, None, IfSome, slice_get, refl, sym, ◌∙◌, ap, subst, inl, inr, arith, append_assoc, get_or-set_other, get_or-set_same, length-set, AllByRecursion, option_map, eq-eqb, eqb-true, eqb-false, eqb_tells, length_push, take-append-le, Applied, Opening, IsHistory, initial_stamp, stamp_of, stamp_of-push, distinct_push, slice_get_grows, AllByRecursion-push, AllByRecursion-get, Layout, slot_counter, list_head, pool_counter, list_counter, slot_word, list_end, pool_base, pool_end, prev_of, view_of, IsLink, IsChain, chain_of, Block, AreApart, Joined, HasFreshView, Covers, IsWithin, Claimed, Own, Due, Holding, Space, space_begin, end_of, counter_of, block_of, block_at, announcements, unpublished, blocks_in, other_holdings, IfJoined, joined_in, EachTwo, HaveOtherPorts, Pool, LawfulWords, IsOwn, IsTied, IsDue, IsKept, WinsAreKept, all_where, initial_words, first_free, greatest_record, greatest_list, view_word, value_word, plain_record_size, record_value}
 use Rattle.partial_words.proofs.ChainLemmas.{chain_cons, links_from-push}
 use Rattle.partial_state.proofs.ListLemmas.{all_at, all_front, all_back, all_join, all_weaker, all_unmap, two_before, two_after, two_take, two_put, Adds, adds_behind, found_before, found_last}
 use Rattle.partial_state.proofs.Frames.{Frame, Grows, apart_turns, fresh_moves, covers_moves}
@@ -27,7 +27,7 @@ unjoined_if P (Some c) e = subst (λ (j : Option Joined). IfSome j (P c.slot)) (
 pub own_in_pool : (z : Layout) (words : List ℕ) (b : Own) → b.space ≡ Pool → IsOwn z words b → (first_free z ≤ b.at) × (b.at + length b.words ≤ pool_end z) ×
     (b.at + length b.words ≤ get_or words (pool_counter z) 0)
 own_in_pool z words b e w = (
-  subst (λ (s : Space). first_of z s ≤ b.at) e w.above,
+  subst (λ (s : Space). space_begin z s ≤ b.at) e w.above,
   subst (λ (s : Space). b.at + length b.words ≤ end_of z s) e w.within,
   subst (λ (s : Space). b.at + length b.words ≤ get_or words (counter_of z s) 0) e w.below,
 )
@@ -49,9 +49,9 @@ module _ (z : Layout) (o : Opening) (words : List ℕ) (before : List Holding) (
   abbrev exchanged : List ℕ
   exchanged = set words d.component (cond (get_or words d.component 0 == d.old) d.at (get_or words d.component 0))
 
-  due : IsDue z o words h (others_of h.port (before ++ h ∷ after)) log d
-  due = if_some_at (IsDue z o words h (others_of h.port (before ++ h ∷ after)) log) h.due d is
-      (all_at (λ v. IfSome v.due (IsDue z o words v (others_of v.port (before ++ h ∷ after)) log)) before h after w.due)
+  due : IsDue z o words h (other_holdings h.port (before ++ h ∷ after)) log d
+  due = if_some_at (IsDue z o words h (other_holdings h.port (before ++ h ∷ after)) log) h.due d is
+      (all_at (λ v. IfSome v.due (IsDue z o words v (other_holdings v.port (before ++ h ∷ after)) log)) before h after w.due)
 
   tied : IsTied z words h
   tied = all_at (IsTied z words) before h after w.tied
@@ -166,7 +166,7 @@ module _ (z : Layout) (o : Opening) (words : List ℕ) (before : List Holding) (
       let stamp : stamp_of o longer i ≡ at = stamp_of-push o log entry i ∙ ap (λ (b : Bool). cond b at (stamp_of o log i)) same in
       let chain : chain_of o i longer ≡ record { stamp = at; value = d.value } ∷ chain_of o i log = links_from-push (record { stamp = initial_stamp o i; value = get_or o.values i 0 } ∷ []) i log
       entry ∙ ap (λ (b : Bool). cond b (record { stamp = at; value = d.value } ∷ chain_of o i log) (chain_of o i log)) same in
-      let value : value_of exchanged at ≡ d.value = higher (value_word at) (omega (arith, far)) ∙ due.value in
+      let value : record_value exchanged at ≡ d.value = higher (value_word at) (omega (arith, far)) ∙ due.value in
       let prev : get_or exchanged at 0 ≡ old = higher at (omega (arith, far)) ∙ due.prev in
       let count : length exchanged ≡ length words = moves.count in
       let size = three in
@@ -200,13 +200,13 @@ module _ (z : Layout) (o : Opening) (words : List ℕ) (before : List Holding) (
   ]
 
   -- the other ports' holdings are those beside
-  others_are : others_of h.port (before ++ h ∷ after) ≡ before ++ after
+  others_are : other_holdings h.port (before ++ h ∷ after) ≡ before ++ after
   others_are =
       others_gone h.port before h after (eq-eqb h.port h.port refl)
-      ∙ ap (λ (l : List Holding). l ++ others_of h.port after) (others_all h before (two_before HaveOtherPorts ports_turn before h after w.ports))
+      ∙ ap (λ (l : List Holding). l ++ other_holdings h.port after) (others_all h before (two_before HaveOtherPorts ports_turn before h after w.ports))
       ∙ ap (λ (l : List Holding). before ++ l) (others_all h after (two_after HaveOtherPorts ports_turn before h after w.ports))
 
-  unpublished_now : unpublished (others_of h.port (before ++ h ∷ after)) ≡ unpublished holdings_after
+  unpublished_now : unpublished (other_holdings h.port (before ++ h ∷ after)) ≡ unpublished holdings_after
   unpublished_now =
       ap unpublished others_are ∙ filter_append (λ (v : Holding). option_map block_of v.own) before after ∙ sym (unpublished_is before behind after None refl)
 
@@ -218,7 +218,7 @@ module _ (z : Layout) (o : Opening) (words : List ℕ) (before : List Holding) (
   would : HasFreshView z o words (unpublished holdings_after) log (length log) d.at × AllByRecursion (λ v. IfJoined v (λ l j. Covers z words (unpublished holdings_after) log d.at j)) (before ++ after)
   would =
       let both = due.would won in
-      let U : List Block → Type 0 = λ us. AllByRecursion (λ v. IfJoined v (λ l j. Covers z words us log d.at j)) (others_of h.port (before ++ h ∷ after)) in (
+      let U : List Block → Type 0 = λ us. AllByRecursion (λ v. IfJoined v (λ l j. Covers z words us log d.at j)) (other_holdings h.port (before ++ h ∷ after)) in (
         subst (λ (us : List Block). HasFreshView z o words us log (length log) d.at) unpublished_now both.0,
         subst (AllByRecursion (λ v. IfJoined v (λ l j. Covers z words (unpublished holdings_after) log d.at j))) others_are (subst U unpublished_now both.1),
       )

@@ -10,10 +10,10 @@ use Rattle.partial_words.specs.VacatedList.{list_block}
 use Rattle.partial_words.specs.Chain.{OpensWith}
 use Rattle.partial_words.specs.Step.{words_after}
 use Rattle.partial_state.specs.Views.{Joined}
-use Rattle.partial_state.specs.Holdings.{Own, Due, Holding, Space, counter_of, end_of, others_of, unpublished}
+use Rattle.partial_state.specs.Holdings.{Own, Due, Holding, Space, counter_of, end_of, other_holdings, unpublished}
 use Rattle.partial_state.specs.Holdings.Space.{Pool, Lists}
 use Rattle.partial_state.specs.LawfulWords.{LawfulWords, IsDue}
-use Rattle.partial_state.specs.Loads.{Kept, IsLoaded, IsPublished}
+use Rattle.partial_state.specs.Loads.{KeptAnswer, IsLoaded, IsPublished}
 
 -- the words, what the ports hold, and the history
 pub record State : Type 0 where
@@ -28,7 +28,7 @@ IsLawful z o s = LawfulWords z o s.words s.holdings s.log
 -- the later state is lawful, and what was loaded stays true
 pub record Keeps (z : Layout) (o : Opening) (earlier later : State) : Type 0 where
   pub lawful : IsLawful z o later
-  pub loads : (w : ℕ) (k : Kept) → IsLoaded z o earlier.words earlier.holdings earlier.log w k →
+  pub loads : (w : ℕ) (k : KeptAnswer) → IsLoaded z o earlier.words earlier.holdings earlier.log w k →
       IsLoaded z o later.words later.holdings later.log w k
 
 -- A law of one kind of step, made by the port that holds h beside others: it leads to `words`, the port then
@@ -81,7 +81,7 @@ abbrev pub DuesAreKept : Type 0
 DuesAreKept =
     (z : Layout) (o : Opening) (words : List ℕ) (before : List Holding) (h : Holding) (after : List Holding) (log : List Applied)
     (d : Due) →
-    LawfulWords z o words (before ++ h ∷ after) log → IsDue z o words h (others_of h.port (before ++ h ∷ after)) log d →
+    LawfulWords z o words (before ++ h ∷ after) log → IsDue z o words h (other_holdings h.port (before ++ h ∷ after)) log d →
     IsKept z o words before h after log words (record h { due = Some d }) log
 
 -- a block of one's own is given up: its exchange was lost, or the call is refused

@@ -19,9 +19,9 @@ pub data Space : Type 0 where
   Lists : Space
 
 -- the first word of a space that can be claimed
-abbrev pub first_of : Layout → Space → ℕ
-first_of z Pool = first_free z
-first_of z Lists = list_base z
+abbrev pub space_begin : Layout → Space → ℕ
+space_begin z Pool = first_free z
+space_begin z Lists = list_base z
 
 -- the word behind a space
 abbrev pub end_of : Layout → Space → ℕ
@@ -107,9 +107,9 @@ abbrev pub HaveOtherSlots : Holding → Holding → Type 0
 HaveOtherSlots a b = IfSome a.claimed (λ c. IfSome b.claimed (λ d. c.slot ≢ d.slot))
 
 -- the holdings of the other ports
-abbrev pub others_of : ℕ → List Holding → List Holding
-others_of p [] = []
-others_of p (h ∷ hs) = if h.port == p then others_of p hs else h ∷ others_of p hs
+abbrev pub other_holdings : ℕ → List Holding → List Holding
+other_holdings p [] = []
+other_holdings p (h ∷ hs) = if h.port == p then other_holdings p hs else h ∷ other_holdings p hs
 
 -- how many ports are marked for the pool
 abbrev pub pool_marks : List Holding → ℕ

@@ -5,15 +5,15 @@ use Rattle.partial_model.specs.declared.history.Applied.{Applied}
 use Rattle.partial_model.specs.declared.history.Opening.{Opening}
 use Rattle.partial_model.specs.History.{IsHistory}
 use Rattle.partial_words.specs.Layout.{Layout, IsLayout, slot_counter, list_head, pool_counter, list_counter, slot_word, list_base, list_end, pool_base, pool_end, total, initial_record, first_free, greatest_record, greatest_list}
-use Rattle.partial_words.specs.Record.{plain_record_size, prev_of, value_of, view_of}
+use Rattle.partial_words.specs.Record.{plain_record_size, prev_of, record_value, view_of}
 use Rattle.partial_words.specs.Chain.{Agrees}
 use Rattle.partial_state.specs.Views.{AreApart, HasFreshView, Covers, IsWithin, IsAnnounced, IsHead}
 use Rattle.partial_state.specs.Holdings.Space.{Pool}
-use Rattle.partial_state.specs.Holdings.{Claimed, Own, Due, Holding, first_of, end_of, counter_of, block_of, block_at, unpublished, blocks_in, others_of, IfJoined, joined_in, EachTwo, HaveOtherPorts, HaveOtherSlots, pool_marks, slot_marks, list_marks}
+use Rattle.partial_state.specs.Holdings.{Claimed, Own, Due, Holding, space_begin, end_of, counter_of, block_of, block_at, unpublished, blocks_in, other_holdings, IfJoined, joined_in, EachTwo, HaveOtherPorts, HaveOtherSlots, pool_marks, slot_marks, list_marks}
 
 -- a block of a port's own lies in its space and below the counter, and holds what is stored
 pub record IsOwn (z : Layout) (words : List ℕ) (b : Own) : Type 0 where
-  pub above : first_of z b.space ≤ b.at
+  pub above : space_begin z b.space ≤ b.at
   pub within : b.at + length b.words ≤ end_of z b.space
   pub below : b.at + length b.words ≤ slice_index words (counter_of z b.space)
   pub few : b.stored ≤ length b.words
@@ -50,7 +50,7 @@ pub record IsDue (z : Layout) (o : Opening) (words : List ℕ) (h : Holding) (ot
   pub component : d.component < z.m
   pub own : IsSomeAnd h.own (λ b. (b.space ≡ Pool) × (block_of b ≡ block_at words d.at) × (b.stored ≡ length b.words))
   pub prev : prev_of words d.at ≡ d.old
-  pub value : value_of words d.at ≡ d.value
+  pub value : record_value words d.at ≡ d.value
   pub before : IsWithin o log (length log) d.old
   pub unjoined : joined_in h.claimed ≡ None
   pub would : slice_index words d.component ≡ d.old →
@@ -93,7 +93,7 @@ pub record LawfulWords (z : Layout) (o : Opening) (words : List ℕ) (hs : List 
   -- each entry covers the announcement of each joined port
   pub covering : AllByRecursion (λ e. CoversAll z words hs log e.stamp) log
   -- a record whose exchange is due would have a fresh view and cover them, if that exchange won
-  pub due : AllByRecursion (λ h. IfSome h.due (IsDue z o words h (others_of h.port hs) log)) hs
+  pub due : AllByRecursion (λ h. IfSome h.due (IsDue z o words h (other_holdings h.port hs) log)) hs
   -- a slot from the counter on is EMPTY
   pub unclaimed : (l : ℕ) → slice_index words (slot_counter z) ≤ l → l < z.slots → slice_index words (slot_word z l) ≡ 0
   -- a slot below the counter is VACATED or claimed

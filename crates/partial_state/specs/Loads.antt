@@ -9,7 +9,7 @@ use Rattle.partial_state.specs.Views.{Block, IsApartFrom, IsAnnounced, IsHead}
 use Rattle.partial_state.specs.Holdings.{Holding, unpublished, IfJoined}
 
 -- an answer that a port keeps, and how long the history was at that step
-pub record Kept : Type 0 where
+pub record KeptAnswer : Type 0 where
   pub answer : ℕ
   pub at : ℕ
 
@@ -25,7 +25,8 @@ pub record IsPublished (z : Layout) (words : List ℕ) (unpublished : List Block
   pub apart : IsApartFrom unpublished (record { at = w; size = 1 })
 
 -- what stays true by a kept answer of a load of word w
-pub record IsLoaded (z : Layout) (o : Opening) (words : List ℕ) (hs : List Holding) (log : List Applied) (w : ℕ) (k : Kept) : Type 0 where
+pub record IsLoaded (z : Layout) (o : Opening) (words : List ℕ) (hs : List Holding) (log : List Applied) (w : ℕ) (k : KeptAnswer) :
+    Type 0 where
   pub within : k.at ≤ length log
   -- a component's word was its stamp at that length of the history
   pub component : w < z.m → k.answer ≡ stamp_of o (take k.at log) w

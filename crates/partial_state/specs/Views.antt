@@ -74,14 +74,14 @@ abbrev pub IsBegunSince : List Applied → ℕ → ℕ → Type 0
 IsBegunSince log since prev = (k : ℕ) × (e : Applied) × (since ≤ k) × (slice_get log k ≡ Some e) × (e.stamp ≡ prev)
 
 -- the view of the record at `stamp` names each of the indices
-abbrev pub Names : Layout → List ℕ → List Block → ℕ → List ℕ → Type 0
-Names z words unpublished stamp indices =
+abbrev pub ViewNames : Layout → List ℕ → List Block → ℕ → List ℕ → Type 0
+ViewNames z words unpublished stamp indices =
     (pairs : List (ℕ × ℕ)) × HasPairs z words unpublished stamp pairs
     × AllByRecursion (λ j. Contains (map (λ pair. pair.0) pairs) j) indices
 
 -- the record at `stamp` covers the announcement: it names its indices when it was begun since the port joined
 abbrev pub Covers : Layout → List ℕ → List Block → List Applied → ℕ → Joined → Type 0
-Covers z words unpublished log stamp j = IsBegunSince log j.since (prev_of words stamp) → Names z words unpublished stamp j.indices
+Covers z words unpublished log stamp j = IsBegunSince log j.since (prev_of words stamp) → ViewNames z words unpublished stamp j.indices
 
 -- a whole announcement stands at the word, published for ever
 pub record IsAnnounced (z : Layout) (words : List ℕ) (unpublished : List Block) (at : ℕ) (indices : List ℕ) : Type 0 where

@@ -1,10 +1,10 @@
 -- The text of a plan is read as the plan.
-use Rattle.partial_text.proofs.Common.{◌≡◌, ℕ, ◌+◌, ◌*◌, ◌^◌, ◌<◌, ◌≤◌, Bool, true, false, cond, eqb, leb, ltb, ◌&&◌, List, [], ◌∷◌, ◌++◌, length, map, drop, codes, Result, Ok, Err, refl, sym, ap, subst, ◌∙◌, append_assoc, eq-eqb, arith, decimal, flat_map, AllByRecursion, bytes_eq, ne_eqb, le-leb, lt-ltb, le-ltb, append-nil, length-append, length-map, flat_map-map, bytes_eq-Decides, Call, PlanError, until, from, onto_first, pieces, ◌>>=◌, PlanView, field, number_field, sizes_line, initial_line, call_text, next_call, port_line, entry_text, rest_text, steps_line, ended, plan_text, IsCall, IsEntry, IsPlan, Tail, greatest, greatest_index, fields_of, number_at, in_range, is_cut, call_texts, is_nil, is_rest, is_end, tail_at}
+use Rattle.partial_text.proofs.Common.{◌≡◌, ℕ, ◌+◌, ◌*◌, ◌^◌, ◌<◌, ◌≤◌, Bool, true, false, cond, eqb, leb, ltb, ◌&&◌, List, [], ◌∷◌, ◌++◌, length, map, drop, codes, Result, Ok, Err, refl, sym, ap, subst, ◌∙◌, append_assoc, eq-eqb, arith, decimal, flat_map, AllByRecursion, bytes_eq, ne_eqb, le-leb, lt-ltb, le-ltb, append-nil, length-append, length-map, flat_map-map, bytes_eq-Decides, Call, PlanError, until, from, onto_first, pieces, ◌>>=◌, PlanView, field, number_field, sizes_line, initial_line, call_text, next_call, port_line, entry_text, rest_text, steps_line, ended, plan_text, IsCall, IsTurnEntry, IsPlan, Tail, greatest, greatest_index, fields_of, number_at, in_range, is_cut, call_texts, is_nil, is_rest, is_end, tail_at}
 use Rattle.partial_model.specs.declared.call.Call.TheVariants as call
 use Rattle.partial_words.specs.Layout.{Layout, IsLayout, initial_words}
 use Rattle.partial_text.specs.declared.fault.Cause.TheVariants as cause
 use Rattle.partial_text.specs.declared.fault.PlanError.TheVariants as plan
-use Rattle.partial_text.specs.Judging.{sizes_from, sizes_at, initial_at, update_from, scan_from, read_from, update_if_from, call_at, calls_at, port_at, entry_at, entries_at, line_at, more_ports, last_at, lines_judged, judged}
+use Rattle.partial_text.specs.Judging.{sizes_from, sizes_at, initial_at, update_from, scan_from, read_from, update_if_from, call_text_at, calls_at, port_line_at, entry_text_at, entries_at, line_at, more_ports, last_at, lines_judged, judged}
 use Rattle.partial_text.proofs.CallCuts.{cut_more}
 use Rattle.partial_text.proofs.Steps.{tail_by, tail_step}
 use Rattle.partial_text.proofs.NumberLaws.{both_and, HasNo, HasNo-append, HasNo-decimal, IsNoDigit}
@@ -47,21 +47,21 @@ call_by m line w fs =
     cond (bytes_eq w (codes "update")) (update_from line fs) (cond (bytes_eq w (codes "scan")) (scan_from m line fs)
     (cond (bytes_eq w (codes "read")) (read_from line fs) (cond (bytes_eq w (codes "updateif")) (update_if_from line fs) (Err (plan.Line line cause.Word)))))
 
-call_is : (m line : ℕ) (text : List ℕ) → call_at m line text ≡ call_by m line (until 32 text) (fields_of text)
-unfolding call_at
+call_is : (m line : ℕ) (text : List ℕ) → call_text_at m line text ≡ call_by m line (until 32 text) (fields_of text)
+unfolding call_text_at
 call_is m line text = refl
 
-call_parts : (m line : ℕ) (word : List ℕ) (fs : List (List ℕ)) → HasNo 32 word → AllByRecursion (HasNo 32) fs → call_at m line (word ++ behind_each 32 fs) ≡ call_by m line word fs
+call_parts : (m line : ℕ) (word : List ℕ) (fs : List (List ℕ)) → HasNo 32 word → AllByRecursion (HasNo 32) fs → call_text_at m line (word ++ behind_each 32 fs) ≡ call_by m line word fs
 call_parts m line word fs none nones =
     let text = word ++ behind_each 32 fs in
     call_is m line text ∙ ap (λ (w : List ℕ). call_by m line w (fields_of text)) (until_joined 32 word fs none).0 ∙ ap (call_by m line word) (fields_again word fs none nones)
 
-pub call_again : (m line : ℕ) (c : Call) → IsCall m c → call_at m line (call_text c) ≡ Ok c
+pub call_again : (m line : ℕ) (c : Call) → IsCall m c → call_text_at m line (call_text c) ≡ Ok c
 call_again m line (call.Update j v) fits =
     call_parts m line (codes "update") (decimal j ∷ decimal v ∷ []) (refl, (refl, (refl, (refl, (refl, (refl, tt))))))
     (HasNo-decimal 32 j space_no_digit (omega (arith, fits.0)), (HasNo-decimal 32 v space_no_digit fits.1, tt)) ∙ update_again line j v (omega (arith, fits.0)) (omega (arith, fits.1))
 call_again m line (call.Scan js) fits =
-    ap (λ (l : List ℕ). call_at m line (codes "scan" ++ l)) (sym (behind_numbers js)) ∙ call_parts m line (codes "scan") (map decimal js) (refl, (refl, (refl, (refl, tt))))
+    ap (λ (l : List ℕ). call_text_at m line (codes "scan" ++ l)) (sym (behind_numbers js)) ∙ call_parts m line (codes "scan") (map decimal js) (refl, (refl, (refl, (refl, tt))))
     (HasNo-numbers 32 js space_no_digit (indices_small js fits.1)) ∙ scan_again m line js fits.0 fits.1
 call_again m line (call.Read j) fits =
     call_parts m line (codes "read") (decimal j ∷ []) (refl, (refl, (refl, (refl, tt)))) (HasNo-decimal 32 j space_no_digit (omega (arith, fits)), tt) ∙ read_again line j (omega (arith, fits))
@@ -124,8 +124,8 @@ port_parts : (cs : List Call) → (until 32 (port_line cs) ≡ codes "port") × 
 port_parts [] = (refl, refl)
 port_parts (c ∷ cs) = (refl, refl)
 
-port_again : (m line : ℕ) (cs : List Call) → AllByRecursion (IsCall m) cs → port_at m line (port_behind cs) ≡ Ok cs
-unfolding port_at
+port_again : (m line : ℕ) (cs : List Call) → AllByRecursion (IsCall m) cs → port_line_at m line (port_behind cs) ≡ Ok cs
+unfolding port_line_at
 port_again m line [] fits = refl
 port_again m line (c ∷ cs) fits =
     let rest : flat_map next_call cs ≡ behind_cuts (map call_text cs) = sym (flat_map-map (λ (t : List ℕ). 59 ∷ 32 ∷ t) call_text cs) in
@@ -134,12 +134,12 @@ port_again m line (c ∷ cs) fits =
 
 -- ---- turns
 
-HasNo-entry : (c : ℕ) (e : ℕ × ℕ) (ports : ℕ) → IsNoDigit c → eqb 42 c ≡ false → ports ≤ 2 ^ 64 → IsEntry ports e → HasNo c (entry_text e)
+HasNo-entry : (c : ℕ) (e : ℕ × ℕ) (ports : ℕ) → IsNoDigit c → eqb 42 c ≡ false → ports ≤ 2 ^ 64 → IsTurnEntry ports e → HasNo c (entry_text e)
 HasNo-entry c e ports none star few fits =
     HasNo-append c (decimal e.0) (42 ∷ decimal e.1) (HasNo-decimal c e.0 none (omega (arith, fits.0))) (star, HasNo-decimal c e.1 none (omega (arith, fits.2)))
 
-entry_again : (line ports : ℕ) (e : ℕ × ℕ) → ports ≤ 64 → IsEntry ports e → entry_at line ports (entry_text e) ≡ Ok e
-unfolding entry_at
+entry_again : (line ports : ℕ) (e : ℕ × ℕ) → ports ≤ 64 → IsTurnEntry ports e → entry_text_at line ports (entry_text e) ≡ Ok e
+unfolding entry_text_at
 entry_again line ports e few fits =
     let parts = until_joined 42 (decimal e.0) (decimal e.1 ∷ []) (HasNo-decimal 42 e.0 star_no_digit (omega (arith, fits.0))) in
     let same : decimal e.0 ++ behind_each 42 (decimal e.1 ∷ []) ≡ entry_text e = ap (λ (l : List ℕ). decimal e.0 ++ 42 ∷ l) (append-nil (decimal e.1)) in
@@ -173,7 +173,8 @@ rest_fields false = []
 abbrev turn_fields : List (ℕ × ℕ) → Bool → List (List ℕ)
 turn_fields es rest = map entry_text es ++ rest_fields rest
 
-entries_again : (line ports : ℕ) (found es : List (ℕ × ℕ)) (rest : Bool) → ports ≤ 64 → AllByRecursion (IsEntry ports) es → entries_at line ports found (turn_fields es rest) ≡ Ok (found ++ es, rest)
+entries_again : (line ports : ℕ) (found es : List (ℕ × ℕ)) (rest : Bool) → ports ≤ 64 → AllByRecursion (IsTurnEntry ports) es →
+    entries_at line ports found (turn_fields es rest) ≡ Ok (found ++ es, rest)
 unfolding entries_at
 entries_again line ports found [] true few fits = ap (λ (l : List (ℕ × ℕ)). Ok (l, true)) (sym (append-nil found))
 entries_again line ports found [] false few fits = ap (λ (l : List (ℕ × ℕ)). Ok (l, false)) (sym (append-nil found))
@@ -192,7 +193,7 @@ steps_is : (es : List (ℕ × ℕ)) (rest : Bool) → steps_line es rest ≡ cod
 steps_is es rest =
     append_assoc (codes "steps") (flat_map (λ (e : ℕ × ℕ). field (entry_text e)) es) (rest_text rest) ∙ ap (λ (l : List ℕ). codes "steps" ++ l) (sym (behind_turns es rest))
 
-HasNo-turns : (c ports : ℕ) (es : List (ℕ × ℕ)) (rest : Bool) → IsNoDigit c → eqb 42 c ≡ false → HasNo c (codes "rest") → ports ≤ 64 → AllByRecursion (IsEntry ports) es →
+HasNo-turns : (c ports : ℕ) (es : List (ℕ × ℕ)) (rest : Bool) → IsNoDigit c → eqb 42 c ≡ false → HasNo c (codes "rest") → ports ≤ 64 → AllByRecursion (IsTurnEntry ports) es →
     AllByRecursion (HasNo c) (turn_fields es rest)
 HasNo-turns c ports [] true none star word few fits = (word, tt)
 HasNo-turns c ports [] false none star word few fits = tt
@@ -285,7 +286,7 @@ HasNo-port m [] fits = (refl, (refl, (refl, (refl, tt))))
 HasNo-port m (c ∷ cs) fits =
     (refl, (refl, (refl, (refl, (refl, HasNo-append 10 (call_text c) (flat_map next_call cs) (newline_call m c fits.0) (HasNo-calls m cs fits.1))))))
 
-HasNo-steps : (ports : ℕ) (es : List (ℕ × ℕ)) (rest : Bool) → ports ≤ 64 → AllByRecursion (IsEntry ports) es → HasNo 10 (steps_line es rest)
+HasNo-steps : (ports : ℕ) (es : List (ℕ × ℕ)) (rest : Bool) → ports ≤ 64 → AllByRecursion (IsTurnEntry ports) es → HasNo 10 (steps_line es rest)
 HasNo-steps ports es rest few fits =
     subst (HasNo 10) (sym (steps_is es rest)) (HasNo-append 10 (codes "steps") (behind_each 32 (turn_fields es rest)) (refl, (refl, (refl, (refl, (refl, tt)))))
     (HasNo-behind 10 (turn_fields es rest) refl (HasNo-turns 10 ports es rest newline_no_digit refl (refl, (refl, (refl, (refl, tt)))) few fits)))
@@ -324,7 +325,7 @@ last_is : (line ports : ℕ) (l : List ℕ) (behind : List (List ℕ)) → last_
 unfolding last_at
 last_is line ports l behind = refl
 
-last_again : (line ports : ℕ) (es : List (ℕ × ℕ)) (rest : Bool) → 1 ≤ ports → ports ≤ 64 → AllByRecursion (IsEntry ports) es → last_at line ports (steps_line es rest) ([] ∷ []) ≡ Ok (es, rest)
+last_again : (line ports : ℕ) (es : List (ℕ × ℕ)) (rest : Bool) → 1 ≤ ports → ports ≤ 64 → AllByRecursion (IsTurnEntry ports) es → last_at line ports (steps_line es rest) ([] ∷ []) ≡ Ok (es, rest)
 last_again line ports es rest some few fits =
     let fs = turn_fields es rest in
     let l = codes "steps" ++ behind_each 32 fs in
@@ -352,7 +353,7 @@ last_step : (m line : ℕ) (found : List (List Call)) (l : List ℕ) (behind : L
 last_step m line found l behind s other taken = rw (other, taken) refl
 
 tail_again : (m line : ℕ) (found more : List (List Call)) (es : List (ℕ × ℕ)) (rest : Bool) → AllByRecursion (λ cs. AllByRecursion (IsCall m) cs) more → 1 ≤ length (found ++ more) →
-    length (found ++ more) ≤ 64 → AllByRecursion (IsEntry (length (found ++ more))) es
+    length (found ++ more) ≤ 64 → AllByRecursion (IsTurnEntry (length (found ++ more))) es
     → tail_at m line found (last_lines more (steps_line es rest)) ≡ Ok (record { ports = found ++ more; steps = es; rest = rest })
 tail_again m line found [] es rest calls some few fits =
     let l = steps_line es rest in
@@ -361,7 +362,7 @@ tail_again m line found [] es rest calls some few fits =
     let step : tail_at m line found (l ∷ [] ∷ []) ≡ tail_by m line found (l, [] ∷ []) =
     tail_step m line found (l ∷ [] ∷ []) ∙ ap (λ (r : Result (List ℕ × List (List ℕ)) PlanError). r >>= tail_by m line found) (line_last line l) in
     let last : last_at line (length found) l ([] ∷ []) ≡ Ok (es, rest) = last_again line (length found) es rest (omega (arith, many)) (omega (arith, many))
-    (subst (λ (n : ℕ). AllByRecursion (IsEntry n) es) many fits) in
+    (subst (λ (n : ℕ). AllByRecursion (IsTurnEntry n) es) many fits) in
     step ∙ last_step m line found l ([] ∷ []) (es, rest) (not_port es rest) last ∙ ap (λ (x : List (List Call)). Ok (record { ports = x; steps = es; rest = rest })) (sym all)
 tail_again m line found (cs ∷ more) es rest calls some few fits =
     let l = port_line cs in
@@ -374,7 +375,7 @@ tail_again m line found (cs ∷ more) es rest calls some few fits =
     let step : tail_at m line found (l ∷ ls) ≡ tail_by m line found (l, ls) = tail_step m line found (l ∷ ls) ∙ ap (λ (r : Result (List ℕ × List (List ℕ)) PlanError). r >>= tail_by m line found)
     (line_again line l more (steps_line es rest)) in
     let rest_is = tail_again m (line + 1) (found ++ cs ∷ []) more es rest calls.1 (subst (λ (x : List (List Call)). 1 ≤ length x) (sym regroup) some)
-    (subst (λ (x : List (List Call)). length x ≤ 64) (sym regroup) few) (subst (λ (x : List (List Call)). AllByRecursion (IsEntry (length x)) es) (sym regroup) fits) in
+    (subst (λ (x : List (List Call)). length x ≤ 64) (sym regroup) few) (subst (λ (x : List (List Call)). AllByRecursion (IsTurnEntry (length x)) es) (sym regroup) fits) in
     step ∙ port_step m line found l ls (found ++ cs ∷ []) port taken ∙ rest_is ∙ ap (λ (x : List (List Call)). Ok (record { ports = x; steps = es; rest = rest })) regroup
 
 -- the text of a plan is cut into its lines

@@ -1,5 +1,5 @@
 -- How the texts of calls come one after the other.
-use Rattle.partial_text.proofs.Common.{◌≡◌, ℕ, ◌+◌, ◌<◌, ◌≤◌, Bool, true, false, cond, eqb, ◌&&◌, List, [], ◌∷◌, ◌++◌, length, get_or, take, drop, Result, Ok, ◌-◌, refl, sym, ap, ◌∙◌, append_assoc, arith, append-nil, at_drop_more, at_drop_all, take_more, take_all, take_rest, Call, PlanError, onto_first, is_cut, call_texts, call_texts_behind, call_at}
+use Rattle.partial_text.proofs.Common.{◌≡◌, ℕ, ◌+◌, ◌<◌, ◌≤◌, Bool, true, false, cond, eqb, ◌&&◌, List, [], ◌∷◌, ◌++◌, length, get_or, take, drop, Result, Ok, ◌-◌, refl, sym, ap, ◌∙◌, append_assoc, arith, append-nil, at_drop_more, at_drop_all, take_more, take_all, take_rest, Call, PlanError, onto_first, is_cut, call_texts, call_texts_behind, call_text_at}
 use Rattle.partial_text.specs.Judging.{calls_at}
 
 -- bytes in front of the first text
@@ -66,7 +66,7 @@ pub ruleset texts_behind = (behind_cut, no_cut)
 
 -- the next call of a port line
 pub next_call : (m line : ℕ) (found all : List Call) (first : List ℕ) (rest : List ℕ) (call : Call) (next behind : List ℕ) (judged : Result (List Call) PlanError) →
-    call_at m line first ≡ Ok call → 2 ≤ length rest
+    call_text_at m line first ≡ Ok call → 2 ≤ length rest
     → call_texts (take (length rest - 2) (drop 2 rest)) ≡ next ∷ call_texts_behind behind → all ≡ found ++ call ∷ []
     → calls_at m line found (first ∷ call_texts_behind rest) ≡ judged → calls_at m line all (next ∷ call_texts_behind behind) ≡ judged
 unfolding calls_at

@@ -3,7 +3,7 @@ use Rattle.partial_text.proofs.Common.{◌≡◌, ℕ, ◌^◌, ◌<◌, ◌≤�
 use Rattle.partial_model.specs.declared.call.Call.TheVariants as call
 use Rattle.partial_text.specs.declared.fault.Cause.TheVariants as cause
 use Rattle.partial_text.specs.declared.fault.PlanError.TheVariants as plan
-use Rattle.partial_text.specs.Judging.{update_from, scan_from, read_from, update_if_from, call_at, calls_at, port_at}
+use Rattle.partial_text.specs.Judging.{update_from, scan_from, read_from, update_if_from, call_text_at, calls_at, port_line_at}
 use Rattle.partial_text.proofs.NumberLaws.{and_both}
 use Rattle.partial_text.proofs.PieceLaws.{behind_each}
 use Rattle.partial_text.proofs.FieldLaws.{bind_ok, if_ok, unless_ok, ok_is, found_ok, number_at_ok, numbers_ok, behind_numbers, one_is, two_is, three_is, with_word}
@@ -78,8 +78,8 @@ from_word : (line m : ℕ) (word text : List ℕ) (c : Call) → bytes_eq (until
 from_word line m word text c same h = (h.0 ∙ sym (with_word word text same), h.1)
 
 -- what is read as a call is its text
-pub call_ok : (line m : ℕ) (text : List ℕ) (c : Call) → call_at m line text ≡ Ok c → (call_text c ≡ text) × IsCall m c
-unfolding call_at
+pub call_ok : (line m : ℕ) (text : List ℕ) (c : Call) → call_text_at m line text ≡ Ok c → (call_text c ≡ text) × IsCall m c
+unfolding call_text_at
 call_ok line m text c e =
     let fs = fields_of text in
     let w = until 32 text in
@@ -102,7 +102,7 @@ pub calls_ok : (line m : ℕ) (found : List Call) (ts : List (List ℕ)) (all : 
 unfolding calls_at
 calls_ok line m found [] all e = ([], sym (append-nil found ∙ ok_is found all e), refl, tt)
 calls_ok line m found (t ∷ ts) all e =
-    let b = bind_ok (call_at m line t) (λ (c : Call). calls_at m line (found ++ c ∷ []) ts) all e in
+    let b = bind_ok (call_text_at m line t) (λ (c : Call). calls_at m line (found ++ c ∷ []) ts) all e in
     let k = call_ok line m t b.0 b.1 in
     let r = calls_ok line m (found ++ b.0 ∷ []) ts all b.2 in
     (b.0 ∷ r.0, r.1 ∙ append_assoc found (b.0 ∷ []) r.0, cc (k.0, r.2), (k.1, r.3))
@@ -136,9 +136,9 @@ port_by (c ∷ cs) text h =
     let same : call_text c ++ behind_cuts (map call_text cs) ≡ text = cc in
     ap (λ (l : List ℕ). codes "port" ++ 32 ∷ (call_text c ++ l)) rest ∙ ap (λ (l : List ℕ). codes "port" ++ 32 ∷ l) same
 
-pub port_ok : (line m : ℕ) (behind : List ℕ) (cs : List Call) → port_at m line behind ≡ Ok cs → (behind ≡ [] ⊎ behind ≡ 32 ∷ drop 1 behind) → (port_line cs ≡ codes "port" ++ behind) ×
+pub port_ok : (line m : ℕ) (behind : List ℕ) (cs : List Call) → port_line_at m line behind ≡ Ok cs → (behind ≡ [] ⊎ behind ≡ 32 ∷ drop 1 behind) → (port_line cs ≡ codes "port" ++ behind) ×
     AllByRecursion (IsCall m) cs
-unfolding port_at
+unfolding port_line_at
 port_ok line m [] cs e head = subst (λ (x : List Call). (port_line x ≡ codes "port" ++ []) × AllByRecursion (IsCall m) x) (ok_is [] cs e) (refl, tt)
 port_ok line m (x ∷ text) cs e head =
     let r = calls_ok line m [] (call_texts text) cs e in

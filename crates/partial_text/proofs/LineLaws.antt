@@ -1,11 +1,11 @@
 -- Each line is read exactly from its text.
-use Rattle.partial_text.proofs.Common.{◌≡◌, ℕ, ◌*◌, ◌^◌, ◌<◌, ◌≤◌, Bool, true, false, cond, eqb, leb, ltb, ◌&&◌, List, [], ◌∷◌, ◌++◌, length, map, drop, codes, Ok, Err, refl, sym, ap, subst, ◌∙◌, append_assoc, ◌⊎◌, inl, inr, arith, decimal, ok_or, flat_map, AllByRecursion, bytes_eq, eqb-true, leb-true, ltb-true, append-nil, length-map, bytes_eq-Decides, until, from, ◌>>=◌, field, sizes_line, initial_line, entry_text, rest_text, IsEntry, greatest, greatest_index, fields_of, exactly_four, number_at, numbers_at, in_range, is_nil, is_rest}
+use Rattle.partial_text.proofs.Common.{◌≡◌, ℕ, ◌*◌, ◌^◌, ◌<◌, ◌≤◌, Bool, true, false, cond, eqb, leb, ltb, ◌&&◌, List, [], ◌∷◌, ◌++◌, length, map, drop, codes, Ok, Err, refl, sym, ap, subst, ◌∙◌, append_assoc, ◌⊎◌, inl, inr, arith, decimal, ok_or, flat_map, AllByRecursion, bytes_eq, eqb-true, leb-true, ltb-true, append-nil, length-map, bytes_eq-Decides, until, from, ◌>>=◌, field, sizes_line, initial_line, entry_text, rest_text, IsTurnEntry, greatest, greatest_index, fields_of, exactly_four, number_at, numbers_at, in_range, is_nil, is_rest}
 use Rattle.std.proofs.lemmas.Fmt.{decimal_nonempty}
 use Rattle.partial_words.specs.Layout.{Layout, IsLayout, initial_words}
 use Rattle.partial_words.specs.declared.sizes.SizeError.TheVariants as size
 use Rattle.partial_text.specs.declared.fault.Cause.TheVariants as cause
 use Rattle.partial_text.specs.declared.fault.PlanError.TheVariants as plan
-use Rattle.partial_text.specs.Judging.{sizes_from, sizes_at, initial_at, entry_at, entries_at}
+use Rattle.partial_text.specs.Judging.{sizes_from, sizes_at, initial_at, entry_text_at, entries_at}
 use Rattle.partial_text.proofs.NumberLaws.{and_both}
 use Rattle.partial_text.proofs.PieceLaws.{behind_each, until_from}
 use Rattle.partial_text.proofs.FieldLaws.{bind_ok, if_ok, ok_is, found_ok, number_at_ok, numbers_ok, behind_numbers, four_is, with_word}
@@ -93,8 +93,8 @@ pub from_is : (c : ℕ) (xs : List ℕ) → (from c xs ≡ []) ⊎ (from c xs �
 from_is c [] = inl refl
 from_is c (x ∷ xs) = from_head (eqb x c) c x xs refl (from_is c xs)
 
-entry_ok : (line ports : ℕ) (f : List ℕ) (e : ℕ × ℕ) → entry_at line ports f ≡ Ok e → (f ≡ entry_text e) × IsEntry ports e
-unfolding entry_at
+entry_ok : (line ports : ℕ) (f : List ℕ) (e : ℕ × ℕ) → entry_text_at line ports f ≡ Ok e → (f ≡ entry_text e) × IsTurnEntry ports e
+unfolding entry_text_at
 entry_ok line ports f e h =
     let a = bind_ok (number_at line greatest_index (until 42 f)) (λ p. number_at line greatest_index (drop 1 (from 42 f)) >>= λ k. cond (ltb p ports && ltb 0 k) (Ok (p, k))
     (Err (plan.Line line cause.Range))) e h in
@@ -108,7 +108,7 @@ entry_ok line ports f e h =
       | inr some ↦ some
     ] in
     let text : f ≡ entry_text (a.0, b.0) = sym (until_from 42 f) ∙ ap (λ (l : List ℕ). l ++ from 42 f) p.0 ∙ ap (λ (l : List ℕ). decimal a.0 ++ l) (star ∙ ap (λ (l : List ℕ). 42 ∷ l) k.0) in
-    subst (λ (x : ℕ × ℕ). (f ≡ entry_text x) × IsEntry ports x) (ok_is (a.0, b.0) e c.1) (text, (ltb-true a.0 ports d.0, omega (arith, ltb-true 0 b.0 d.1), omega (arith, k.1)))
+    subst (λ (x : ℕ × ℕ). (f ≡ entry_text x) × IsTurnEntry ports x) (ok_is (a.0, b.0) e c.1) (text, (ltb-true a.0 ports d.0, omega (arith, ltb-true 0 b.0 d.1), omega (arith, k.1)))
 
 nil_is : (fs : List (List ℕ)) → is_nil fs ≡ true → fs ≡ []
 nil_is [] h = refl
@@ -118,14 +118,14 @@ pub record Turns (ports : ℕ) (found all : List (ℕ × ℕ)) (rest : Bool) (fs
   pub more : List (ℕ × ℕ)
   pub whole : all ≡ found ++ more
   pub text : behind_each 32 fs ≡ flat_map (λ (e : ℕ × ℕ). field (entry_text e)) more ++ rest_text rest
-  pub each : AllByRecursion (IsEntry ports) more
+  pub each : AllByRecursion (IsTurnEntry ports) more
 
 pub entries_ok : (line ports : ℕ) (found : List (ℕ × ℕ)) (fs : List (List ℕ)) (x : List (ℕ × ℕ) × Bool) → entries_at line ports found fs ≡ Ok x → Turns ports found x.0 x.1 fs
 unfolding entries_at
 entries_ok line ports found [] x e =
     subst (λ (y : List (ℕ × ℕ) × Bool). Turns ports found y.0 y.1 []) (ok_is (found, false) x e) (record { more = []; whole = sym (append-nil found); text = refl; each = tt })
 entries_ok line ports found (f ∷ fs) x e =
-    elim (chosen (is_rest f fs) (Ok (found, true)) (entry_at line ports f >>= λ e. entries_at line ports (found ++ e ∷ []) fs) (Ok x) e) [
+    elim (chosen (is_rest f fs) (Ok (found, true)) (entry_text_at line ports f >>= λ e. entries_at line ports (found ++ e ∷ []) fs) (Ok x) e) [
       | inl h ↦
           let both = and_both (is_nil fs) (bytes_eq f (codes "rest")) h.0 in
           let word : f ≡ codes "rest" = (bytes_eq-Decides f (codes "rest")).0 both.1 in
@@ -133,7 +133,7 @@ entries_ok line ports found (f ∷ fs) x e =
           let text : behind_each 32 (f ∷ fs) ≡ rest_text true = rw (word, last) refl in
           subst (λ (y : List (ℕ × ℕ) × Bool). Turns ports found y.0 y.1 (f ∷ fs)) (ok_is (found, true) x h.1) (record { more = []; whole = sym (append-nil found); text = text; each = tt })
       | inr h ↦
-          let b = bind_ok (entry_at line ports f) (λ (e : ℕ × ℕ). entries_at line ports (found ++ e ∷ []) fs) x h.1 in
+          let b = bind_ok (entry_text_at line ports f) (λ (e : ℕ × ℕ). entries_at line ports (found ++ e ∷ []) fs) x h.1 in
           let k = entry_ok line ports f b.0 b.1 in
           let r = entries_ok line ports (found ++ b.0 ∷ []) fs x b.2 in
           record {

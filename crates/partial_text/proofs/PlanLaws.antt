@@ -1,5 +1,5 @@
 -- What is read as a plan is the plan's text.
-use Rattle.partial_text.proofs.Common.{◌≡◌, ℕ, ◌+◌, ◌<◌, ◌≤◌, Bool, true, cond, eqb, ltb, List, [], ◌∷◌, ◌++◌, length, codes, Ok, Err, refl, sym, ap, subst, ◌∙◌, append_assoc, inl, inr, arith, flat_map, AllByRecursion, bytes_eq, eqb-false, ltb-true, ltb-false, append-nil, length-append, bytes_eq-Decides, Call, until, from, pieces, ◌>>=◌, PlanView, sizes_line, initial_line, port_line, entry_text, field, rest_text, steps_line, ended, plan_text, IsCall, IsEntry, IsPlan, Tail, fields_of, sizes_at, initial_at, port_at, entries_at, is_end}
+use Rattle.partial_text.proofs.Common.{◌≡◌, ℕ, ◌+◌, ◌<◌, ◌≤◌, Bool, true, cond, eqb, ltb, List, [], ◌∷◌, ◌++◌, length, codes, Ok, Err, refl, sym, ap, subst, ◌∙◌, append_assoc, inl, inr, arith, flat_map, AllByRecursion, bytes_eq, eqb-false, ltb-true, ltb-false, append-nil, length-append, bytes_eq-Decides, Call, until, from, pieces, ◌>>=◌, PlanView, sizes_line, initial_line, port_line, entry_text, field, rest_text, steps_line, ended, plan_text, IsCall, IsTurnEntry, IsPlan, Tail, fields_of, sizes_at, initial_at, port_line_at, entries_at, is_end}
 use Rattle.partial_text.specs.declared.fault.Cause.TheVariants as cause
 use Rattle.partial_text.specs.declared.fault.PlanError.TheVariants as plan
 use Rattle.partial_text.specs.Judging.{line_at, more_ports, last_at, tail_at, lines_judged, judged}
@@ -45,11 +45,11 @@ pub record Tails (m : ℕ) (found : List (List Call)) (t : Tail) (ls : List (Lis
   pub calls : AllByRecursion (λ cs. AllByRecursion (IsCall m) cs) more
   pub some_port : 1 ≤ length t.ports
   pub few_ports : length found ≤ 64 → length t.ports ≤ 64
-  pub steps : AllByRecursion (IsEntry (length t.ports)) t.steps
+  pub steps : AllByRecursion (IsTurnEntry (length t.ports)) t.steps
 
 -- the last line
 last_ok : (line m : ℕ) (found : List (List Call)) (l : List ℕ) (behind : List (List ℕ)) (s : List (ℕ × ℕ) × Bool) → last_at line (length found) l behind ≡ Ok s
-    → (ended l ++ text_of behind ≡ ended (steps_line s.0 s.1)) × (1 ≤ length found) × AllByRecursion (IsEntry (length found)) s.0
+    → (ended l ++ text_of behind ≡ ended (steps_line s.0 s.1)) × (1 ≤ length found) × AllByRecursion (IsTurnEntry (length found)) s.0
 unfolding last_at
 last_ok line m found l behind s e =
     let n = length found in
@@ -64,15 +64,15 @@ last_ok line m found l behind s e =
     let fields : behind_each 32 (fields_of l) ≡ flat_map (λ (e : ℕ × ℕ). field (entry_text e)) s.0 ++ rest_text s.1 = t.text ∙ rw (turns, rest) refl in
     let whole : l ≡ steps_line s.0 s.1 = with_word (codes "steps") l a.0 ∙ ap (λ (x : List ℕ). codes "steps" ++ x) fields ∙
     sym (append_assoc (codes "steps") (flat_map (λ (e : ℕ × ℕ). field (entry_text e)) s.0) (rest_text s.1)) in
-    (ap (λ (x : List ℕ). ended l ++ x) (end_is behind d.0) ∙ append-nil (ended l) ∙ ap ended whole, omega (arith, eqb-false n 0 b.0), subst (AllByRecursion (IsEntry n)) turns t.each)
+    (ap (λ (x : List ℕ). ended l ++ x) (end_is behind d.0) ∙ append-nil (ended l) ∙ ap ended whole, omega (arith, eqb-false n 0 b.0), subst (AllByRecursion (IsTurnEntry n)) turns t.each)
 
 -- a port line
 more_ok : (line m : ℕ) (found all : List (List Call)) (l : List ℕ) → bytes_eq (until 32 l) (codes "port") ≡ true → more_ports m line found (from 32 l) ≡ Ok all
     → (cs : List Call) × (all ≡ found ++ cs ∷ []) × (l ≡ port_line cs) × AllByRecursion (IsCall m) cs × (length found < 64)
 unfolding more_ports
 more_ok line m found all l word e =
-    let a = if_ok (ltb (length found) 64) (port_at m line (from 32 l) >>= λ cs. Ok (found ++ cs ∷ [])) plan.Ports all e in
-    let b = bind_ok (port_at m line (from 32 l)) (λ (cs : List Call). Ok (found ++ cs ∷ [])) all a.1 in
+    let a = if_ok (ltb (length found) 64) (port_line_at m line (from 32 l) >>= λ cs. Ok (found ++ cs ∷ [])) plan.Ports all e in
+    let b = bind_ok (port_line_at m line (from 32 l)) (λ (cs : List Call). Ok (found ++ cs ∷ [])) all a.1 in
     let p = port_ok line m (from 32 l) b.0 b.1 (from_is 32 l) in
     let front : until 32 l ≡ codes "port" = (bytes_eq-Decides (until 32 l) (codes "port")).0 word in
     (b.0, sym (ok_is (found ++ b.0 ∷ []) all b.2), sym (until_from 32 l) ∙ ap (λ (w : List ℕ). w ++ from 32 l) front ∙ sym p.0, p.1, ltb-true (length found) 64 a.0)

@@ -8,12 +8,12 @@ use Rattle.partial_text.specs.declared.fault.OutcomeError.{OutcomeError}
 use Rattle.partial_text.specs.declared.fault.OutcomeError.TheVariants as outcome
 
 -- the number of a refusal
-abbrev pub code_of : PlanError → ℕ
-code_of (plan.Size e) = sizes.code_of e
-code_of plan.Ports = 5
-code_of plan.Memory = 6
-code_of (plan.Line l c) = 10
-code_of plan.Read = 11
+abbrev pub plan_code : PlanError → ℕ
+plan_code (plan.Size e) = sizes.size_code e
+plan_code plan.Ports = 5
+plan_code plan.Memory = 6
+plan_code (plan.Line l c) = 10
+plan_code plan.Read = 11
 
 -- the line and the cause of a refused line
 abbrev pub line_of : PlanError → Option (ℕ × Cause)

@@ -116,8 +116,8 @@ update_if_from line fields = do
   Ok (call.UpdateIf j s v)
 
 -- the call that a text is, by its first field, in a plan of m components
-unfoldable pub call_at : ℕ → ℕ → List ℕ → Result Call PlanError
-call_at m line text =
+unfoldable pub call_text_at : ℕ → ℕ → List ℕ → Result Call PlanError
+call_text_at m line text =
     if bytes_eq (until 32 text) (codes "update") then update_from line (fields_of text) else
     (if bytes_eq (until 32 text) (codes "scan") then scan_from m line (fields_of text) else
     (if bytes_eq (until 32 text) (codes "read") then read_from line (fields_of text) else
@@ -127,7 +127,7 @@ call_at m line text =
 unfoldable pub calls_at : ℕ → ℕ → List Call → List (List ℕ) → Result (List Call) PlanError
 calls_at m line found [] = Ok found
 calls_at m line found (t ∷ ts) = do
-  c ← call_at m line t
+  c ← call_text_at m line t
   calls_at m line (found ++ c ∷ []) ts
 
 -- the texts between one semicolon with a space and the next
@@ -149,15 +149,15 @@ call_texts_behind (x ∷ []) = []
 call_texts_behind (x ∷ y ∷ xs) = call_texts xs
 
 -- the calls behind the word of a port line: none, or a space and their texts
-unfoldable pub port_at : ℕ → ℕ → List ℕ → Result (List Call) PlanError
-port_at m line [] = Ok []
-port_at m line (x ∷ text) = calls_at m line [] (call_texts text)
+unfoldable pub port_line_at : ℕ → ℕ → List ℕ → Result (List Call) PlanError
+port_line_at m line [] = Ok []
+port_line_at m line (x ∷ text) = calls_at m line [] (call_texts text)
 
 -- ---- the turns
 
 -- the turns that a field gives to one of the ports
-unfoldable pub entry_at : ℕ → ℕ → List ℕ → Result (ℕ × ℕ) PlanError
-entry_at line ports f = do
+unfoldable pub entry_text_at : ℕ → ℕ → List ℕ → Result (ℕ × ℕ) PlanError
+entry_text_at line ports f = do
   p ← number_at line greatest_index (until 42 f)
   k ← number_at line greatest_index (drop 1 (from 42 f))
   if nat_lt p ports && nat_lt 0 k then Ok (p, k) else Err (plan.Line line cause.Range)
@@ -175,7 +175,7 @@ is_rest f fs = is_nil fs && bytes_eq f (codes "rest")
 unfoldable pub entries_at : ℕ → ℕ → List (ℕ × ℕ) → List (List ℕ) → Result (List (ℕ × ℕ) × Bool) PlanError
 entries_at line ports found [] = Ok (found, false)
 entries_at line ports found (f ∷ fs) = if is_rest f fs then Ok (found, true) else
-    (entry_at line ports f >>= λ e. entries_at line ports (found ++ e ∷ []) fs)
+    (entry_text_at line ports f >>= λ e. entries_at line ports (found ++ e ∷ []) fs)
 
 -- ---- the lines
 
@@ -187,7 +187,8 @@ line_at line (l ∷ k ∷ ls) = Ok (l, k ∷ ls)
 
 -- the ports with one more, of which these are the bytes behind the word
 unfoldable pub more_ports : ℕ → ℕ → List (List Call) → List ℕ → Result (List (List Call)) PlanError
-more_ports m line found calls = if nat_lt (length found) 64 then (port_at m line calls >>= λ cs. Ok (found ++ cs ∷ [])) else Err plan.Ports
+more_ports m line found calls = if nat_lt (length found) 64 then (port_line_at m line calls >>= λ cs. Ok (found ++ cs ∷ [])) else
+    Err plan.Ports
 
 -- nothing stands behind the last line
 abbrev pub is_end : List (List ℕ) → Bool

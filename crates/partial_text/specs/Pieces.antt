@@ -28,5 +28,5 @@ pieces_behind c [] = []
 pieces_behind c (x ∷ xs) = pieces c xs
 
 -- a piece, and each further one behind a c
-abbrev pub joined : ℕ → List ℕ → List (List ℕ) → List ℕ
-joined c p ps = p ++ flat_map (λ q. c ∷ q) ps
+abbrev pub joined_pieces : ℕ → List ℕ → List (List ℕ) → List ℕ
+joined_pieces c p ps = p ++ flat_map (λ q. c ∷ q) ps

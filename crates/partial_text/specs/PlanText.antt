@@ -75,8 +75,8 @@ IsCall m (call.Read j) = j < 2 ^ 32
 IsCall m (call.UpdateIf j s v) = (j < 2 ^ 32) × (s < 2 ^ 64) × (v < 2 ^ 64)
 
 -- at least one turn of a port of the plan
-abbrev pub IsEntry : ℕ → ℕ × ℕ → Type 0
-IsEntry ports e = (e.0 < ports) × (1 ≤ e.1) × (e.1 < 2 ^ 32)
+abbrev pub IsTurnEntry : ℕ → ℕ × ℕ → Type 0
+IsTurnEntry ports e = (e.0 < ports) × (1 ≤ e.1) × (e.1 < 2 ^ 32)
 
 -- all that a plan text asks for
 pub record IsPlan (p : PlanView) : Type 0 where
@@ -86,7 +86,7 @@ pub record IsPlan (p : PlanView) : Type 0 where
   pub some_port : 1 ≤ length p.ports
   pub few_ports : length p.ports ≤ 64
   pub calls : AllByRecursion (λ cs. AllByRecursion (IsCall p.sizes.m) cs) p.ports
-  pub steps : AllByRecursion (IsEntry (length p.ports)) p.steps
+  pub steps : AllByRecursion (IsTurnEntry (length p.ports)) p.steps
   pub short : length (plan_text p) ≤ 4194304
 
 -- the text of a plan has room for fewer than 2^32 calls of a port

@@ -3,7 +3,7 @@
 ghost use Rattle.std.specs.Prelude.{◌≡◌, ◌≤◌, ◌∷◌, [], length};
 ghost use Rattle.partial_text.specs.Fault.{Gives};
 ghost use Rattle.partial_text.specs.Pieces.{pieces_behind};
-ghost use Rattle.partial_text.specs.Judging.{update_from, scan_from, read_from, update_if_from, call_at, calls_at, is_cut, call_texts, call_texts_behind, port_at};
+ghost use Rattle.partial_text.specs.Judging.{update_from, scan_from, read_from, update_if_from, call_text_at, calls_at, is_cut, call_texts, call_texts_behind, port_line_at};
 
 use crate::fault::{Cause, PlanError};
 use crate::fields::{
@@ -69,9 +69,9 @@ fn update_if(line: u32, fields: &[u8]) -> Result<Call, PlanError>
 }
 
 /// Reads one call of a plan of m components.
-#[tactic(auto, unfolding(crate::specs::Judging::call_at))]
+#[tactic(auto, unfolding(crate::specs::Judging::call_text_at))]
 fn call_of(alloc: Global, m: u32, line: u32, text: &[u8]) -> Result<Call, PlanError>
-    ensures { Gives (λ call. call) result (call_at m line text.now) }
+    ensures { Gives (λ call. call) result (call_text_at m line text.now) }
 {
     let (word, fields) = split_before(text, b' ');
     if word == b"update".as_slice() {
@@ -128,14 +128,14 @@ fn calls_of(alloc: Global, m: u32, line: u32, text: &[u8]) -> Result<Vec<Call>, 
 }
 
 /// Reads the calls of a port line in a plan of m components. `behind` is what follows the word `port`.
-#[tactic(auto, unfolding(crate::specs::Judging::port_at))]
+#[tactic(auto, unfolding(crate::specs::Judging::port_line_at))]
 pub(crate) fn port_calls(
     alloc: Global,
     m: u32,
     line: u32,
     behind: &[u8],
 ) -> Result<Vec<Call>, PlanError>
-    ensures { Gives (λ v. v.items) result (port_at m line behind.now) }
+    ensures { Gives (λ v. v.items) result (port_line_at m line behind.now) }
 {
     match behind {
         [] => Ok(Vec::new(alloc)),

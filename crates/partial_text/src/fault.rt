@@ -53,12 +53,12 @@ pub enum PlanError {
 }
 
 impl PlanError {
-    ghost use Rattle.partial_text.specs.Fault.{code_of, line_of};
+    ghost use Rattle.partial_text.specs.Fault.{plan_code, line_of};
 
     /// The number of the refusal: 1 to 4 for a size, 5 for `Ports`, 6 for `Memory`, 10 for `Line`, 11 for
     /// `Read`.
     pub fn code(&self) -> u8
-        ensures { result ≡ code_of self.now }
+        ensures { result ≡ plan_code self.now }
     {
         match self {
             PlanError::Size(error) => error.code(),

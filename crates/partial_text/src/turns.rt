@@ -3,7 +3,7 @@
 ghost use Rattle.std.specs.Prelude.{◌≡◌, []};
 ghost use Rattle.partial_text.specs.Fault.{Gives};
 ghost use Rattle.partial_text.specs.Pieces.{pieces_behind};
-ghost use Rattle.partial_text.specs.Judging.{entry_at, is_rest, entries_at};
+ghost use Rattle.partial_text.specs.Judging.{entry_text_at, is_rest, entries_at};
 
 use crate::fault::{Cause, PlanError};
 use crate::fields::{fault, index_field};
@@ -11,9 +11,9 @@ use crate::pieces::split_before;
 use std::alloc::Global;
 
 /// Reads the turns of one field in a plan of so many ports.
-#[tactic(auto, unfolding(crate::specs::Judging::entry_at))]
+#[tactic(auto, unfolding(crate::specs::Judging::entry_text_at))]
 fn entry(line: u32, ports: usize, field: &[u8]) -> Result<(u32, u32), PlanError>
-    ensures { Gives (λ x. x) result (entry_at line ports field.now) }
+    ensures { Gives (λ x. x) result (entry_text_at line ports field.now) }
 {
     let (port, behind) = split_before(field, b'*');
     let count = match behind {

@@ -8,7 +8,7 @@ use Rattle.partial_model.specs.declared.history.Applied.{Applied}
 use Rattle.partial_model.specs.declared.history.Opening.{Opening}
 use Rattle.partial_model.specs.History.{last_from, initial_stamp, stamp_of, value_of as value_after}
 use Rattle.partial_model.proofs.HistoryLemmas.{stamp_of-push}
-use Rattle.partial_words.specs.Record.{view_word, prev_of, value_of}
+use Rattle.partial_words.specs.Record.{view_word, prev_of, record_value}
 use Rattle.partial_words.specs.declared.record.Link.{Link}
 use Rattle.partial_words.specs.Chain.{IsLink, IsChain, links_from, chain_of, Agrees, LastEntriesHeadChains, LieWithin}
 
@@ -20,7 +20,7 @@ pub record IsElsewhere (w : ℕ) (stamp : ℕ) : Type 0 where
 prev_kept : (words : List ℕ) (w v at : ℕ) → IsElsewhere w at → prev_of (set words w v) at ≡ prev_of words at
 prev_kept words w v at e = get_or-set_other words w at v 0 e.prev
 
-value_kept : (words : List ℕ) (w v at : ℕ) → IsElsewhere w at → value_of (set words w v) at ≡ value_of words at
+value_kept : (words : List ℕ) (w v at : ℕ) → IsElsewhere w at → record_value (set words w v) at ≡ record_value words at
 value_kept words w v at e = get_or-set_other words w (at + 1) v 0 e.value
 
 link_kept : (words : List ℕ) (w v at : ℕ) (l : Link) → IsElsewhere w at → IsLink words at l → IsLink (set words w v) at l
@@ -168,7 +168,8 @@ stamp_stands o words h j a agrees below =
     (among_later (newest o j (last_from None j (take a h))) (record { stamp = initial_stamp o j; value = get_or o.values j 0 } ∷ []) j h a (newest_among o j (take a h)))
 
 -- behind each stamp that a component has had stands the value that it had with it
-pub value_behind_stamp : (o : Opening) (words : List ℕ) (h : List Applied) (j a : ℕ) → Agrees o words h → j < length o.values → value_of words (stamp_of o (take a h) j) ≡ value_after o (take a h) j
+pub value_behind_stamp : (o : Opening) (words : List ℕ) (h : List Applied) (j a : ℕ) → Agrees o words h → j < length o.values →
+    record_value words (stamp_of o (take a h) j) ≡ value_after o (take a h) j
 value_behind_stamp o words h j a agrees below = (stamp_stands o words h j a agrees below).value
 
 -- the record of each stamp that a component has had lies within the words

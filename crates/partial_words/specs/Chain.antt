@@ -5,13 +5,13 @@ use Rattle.partial_model.specs.declared.history.Opening.{Opening}
 use Rattle.partial_model.specs.History.{initial_stamp, stamp_of}
 use Rattle.partial_words.specs.declared.record.Link.{Link}
 use Rattle.partial_words.specs.Layout.{Layout, IsLayout, pool_base, pool_counter, list_base, list_counter, total, initial_record, first_free}
-use Rattle.partial_words.specs.Record.{view_word, prev_of, value_of}
+use Rattle.partial_words.specs.Record.{view_word, prev_of, record_value}
 
 -- the record at that reference lies within the words, and is this one
 pub record IsLink (words : List ℕ) (at : ℕ) (l : Link) : Type 0 where
   pub stamp : l.stamp ≡ at
   pub within : view_word at < length words
-  pub value : value_of words at ≡ l.value
+  pub value : record_value words at ≡ l.value
 
 -- the records from that reference along `prev` are these, down to one whose `prev` is 0
 abbrev pub IsChain : List ℕ → ℕ → List Link → Type 0

@@ -72,8 +72,8 @@ abbrev pub prev_of : List ℕ → ℕ → ℕ
 prev_of words at = slice_index words at
 
 -- the value of the record at that place, as it stands in the words
-abbrev pub value_of : List ℕ → ℕ → ℕ
-value_of words at = slice_index words (value_word at)
+abbrev pub record_value : List ℕ → ℕ → ℕ
+record_value words at = slice_index words (value_word at)
 
 -- what it refers to as its view: 0, or a place
 abbrev pub view_of : List ℕ → ℕ → ℕ
@@ -90,7 +90,7 @@ view_pair words at k = (slice_index words (pair_index_word at k), slice_index wo
 -- what a record's writer gave, its readers read back
 pub record ReadsBackRecord (words : List ℕ) (at p v w : ℕ) (pairs : List (ℕ × ℕ)) : Type 0 where
   pub prev : prev_of words at ≡ p
-  pub value : value_of words at ≡ v
+  pub value : record_value words at ≡ v
   pub view : view_of words at ≡ w
   -- a view of its own stands behind it
   pub count : 0 < length pairs → view_len words (own_view at) ≡ length pairs

@@ -12,8 +12,8 @@ IsFirstFault s Lists = AreComponents s × AreSlots s × (¬ AreLists s)
 IsFirstFault s Pool = AreComponents s × AreSlots s × AreLists s × (¬ ArePool s)
 
 -- the number of the refusal
-abbrev pub code_of : SizeError → ℕ
-code_of Components = 1
-code_of Slots = 2
-code_of Lists = 3
-code_of Pool = 4
+abbrev pub size_code : SizeError → ℕ
+size_code Components = 1
+size_code Slots = 2
+size_code Lists = 3
+size_code Pool = 4

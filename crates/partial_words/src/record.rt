@@ -3,7 +3,7 @@
 
 ghost use Rattle.std.specs.Prelude.{◌≡◌, ◌+◌, ◌*◌, ◌^◌, ◌<◌, length, slice_index};
 ghost use Rattle.std.specs.List.{flat_map};
-ghost use Rattle.partial_words.specs.Record.{pair_words, record_block, view_size, plain_record_size, full_record_size, next_word, pairs_word, prev_word, value_word, view_word, own_view, pair_value_word, prev_of, value_of, view_of, view_len, view_pair};
+ghost use Rattle.partial_words.specs.Record.{pair_words, record_block, view_size, plain_record_size, full_record_size, next_word, pairs_word, prev_word, value_word, view_word, own_view, pair_value_word, prev_of, record_value, view_of, view_len, view_pair};
 
 /// A record of a component's chain.
 #[derive(Clone, Copy, Debug, PartialEq, Eq)]
@@ -140,7 +140,7 @@ pub fn prev_of(words: &[u64], at: usize) -> u64
 /// The value of the record at word `at`.
 pub fn value_of(words: &[u64], at: usize) -> u64
     requires { value_word at < length words.now }
-    ensures { result ≡ value_of words.now at }
+    ensures { result ≡ record_value words.now at }
 {
     words[at + VALUE]
 }

@@ -24,11 +24,11 @@ pub enum SizeError {
 }
 
 impl SizeError {
-    ghost use Rattle.partial_words.specs.SizeFault.{code_of};
+    ghost use Rattle.partial_words.specs.SizeFault.{size_code};
 
     /// The number of the refusal: 1 for `Components`, 2 for `Slots`, 3 for `Lists`, 4 for `Pool`.
     pub fn code(&self) -> u8
-        ensures { result ≡ code_of self.now }
+        ensures { result ≡ size_code self.now }
     {
         match self {
             SizeError::Components => 1,

@@ -10,5 +10,5 @@ pub use Rattle.partial_model.specs.declared.call.Call.{Call}
 pub use Rattle.partial_model.proofs.AllLemmas.{all_append, all_back, all_front}
 pub use Rattle.partial_memory.specs.Ports.{MemoryView, PortView, IsOf, Answered, IsRefused, new_ports}
 pub use Rattle.partial_model.specs.declared.call.Answer.{Answer}
-pub use Rattle.partial_workers.specs.Answered.{AreEach, IsWithin, AreAnswered, AreMakable, AreRight}
-pub use Rattle.partial_workers.specs.Work.{HasRoom, HaveCome, HaveRooms, IsDone, IsHired, IsNew, IsStarted, calls_of, AreMade, Fills, IsMade, IsUnnoted, HasNumber, IsOpenedFor, WasClosedLawfully, WasEmpty, WasRefused}
+pub use Rattle.partial_workers.specs.Answered.{AreEach, IsCallWithin, AreAnswered, AreMakable, AreRight}
+pub use Rattle.partial_workers.specs.Work.{ScanHasRoom, HaveCome, HaveRooms, IsWorkDone, IsHired, IsNewWork, IsWorkStarted, calls_of, AreMade, Fills, IsMade, IsUnnoted, HasNumber, IsOpenedFor, WasClosedLawfully, WasEmpty, WasRefused}

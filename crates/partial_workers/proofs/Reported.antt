@@ -1,5 +1,5 @@
 -- The answers of workers that have ended are right in the history of the memory that was closed with their ports.
-use Rattle.partial_workers.proofs.Common.{ℕ, ◌≡◌, ◌+◌, ◌<◌, ◌≤◌, ◌++◌, Option, Some, None, List, [], ◌∷◌, length, map, refl, sym, ap, subst, ◌∙◌, inl, inr, arith, AllByRecursion, length-map, Call, Answer, all_append, all_back, all_front, IsOf, MemoryView, PortView, new_ports, AreAnswered, AreEach, AreMakable, AreRight, Fills, HasNumber, HaveCome, IsDone, IsNew, IsOpenedFor, IsUnnoted, WasClosedLawfully, WasEmpty, WasRefused}
+use Rattle.partial_workers.proofs.Common.{ℕ, ◌≡◌, ◌+◌, ◌<◌, ◌≤◌, ◌++◌, Option, Some, None, List, [], ◌∷◌, length, map, refl, sym, ap, subst, ◌∙◌, inl, inr, arith, AllByRecursion, length-map, Call, Answer, all_append, all_back, all_front, IsOf, MemoryView, PortView, new_ports, AreAnswered, AreEach, AreMakable, AreRight, Fills, HasNumber, HaveCome, IsWorkDone, IsNewWork, IsOpenedFor, IsUnnoted, WasClosedLawfully, WasEmpty, WasRefused}
 use Rattle.std.specs.declared.alloc.Global.{Global}
 use Rattle.std.specs.declared.vec.Vec.{Vec}
 use Rattle.partial_model.specs.declared.history.Applied.{Applied}
@@ -61,7 +61,7 @@ fills_written m seen kept (n ∷ ns) (inr f) = ap (λ l. wrote n.note ++ l) (fil
 
 -- what the history tells of a port that has made its calls
 answered_in : (m : MemoryView) (o : Opening) (log : List Applied) (port : ℕ) (calls : List Call) (w : Worked) → m.about.opening ≡ o → m.about.sizes.m ≡ length o.values →
-    IsDone m port calls w → IsPortOf log w.port → AreAnswered o log port calls w.answers
+    IsWorkDone m port calls w → IsPortOf log w.port → AreAnswered o log port calls w.answers
 answered_in m o log port calls w opening sizes done told =
     let made = done.made in
     let from : w.port.memory.about.opening ≡ o = ap (λ (v : MemoryView). v.about.opening) done.own ∙ opening in
@@ -77,7 +77,7 @@ answered_in m o log port calls w opening sizes done told =
     }
 
 each_answered : (m : MemoryView) (o : Opening) (log : List Applied) (port : ℕ) (plan : List (List Call)) (done : List Worked) → m.about.opening ≡ o → m.about.sizes.m ≡ length o.values →
-    AreEach (IsDone m) port plan done → AllByRecursion (IsPortOf log) (map (λ (w : Worked). w.port) done) →
+    AreEach (IsWorkDone m) port plan done → AllByRecursion (IsPortOf log) (map (λ (w : Worked). w.port) done) →
     AreEach (AreAnswered o log) port plan (map (λ (w : Worked). w.answers) done)
 each_answered m o log port [] [] opening sizes each all = tt
 each_answered m o log port [] (w ∷ done) opening sizes each all = absurd each
@@ -85,7 +85,7 @@ each_answered m o log port (calls ∷ plan) [] opening sizes each all = absurd e
 each_answered m o log port (calls ∷ plan) (w ∷ done) opening sizes each all =
     (answered_in m o log port calls w opening sizes each.0 all.0, each_answered m o log (port + 1) plan done opening sizes each.1 all.1)
 
-each_own : (m : MemoryView) (port : ℕ) (plan : List (List Call)) (done : List Worked) → AreEach (IsDone m) port plan done → AllByRecursion (IsOf m) (map (λ (w : Worked). w.port) done)
+each_own : (m : MemoryView) (port : ℕ) (plan : List (List Call)) (done : List Worked) → AreEach (IsWorkDone m) port plan done → AllByRecursion (IsOf m) (map (λ (w : Worked). w.port) done)
 each_own m port [] [] each = tt
 each_own m port [] (w ∷ done) each = absurd each
 each_own m port (calls ∷ plan) [] each = absurd each
@@ -95,7 +95,7 @@ pub come_own : (m : MemoryView) (plan : List (List Call)) (r : Results) → Have
 come_own m plan r w = subst (AllByRecursion (IsOf m)) w.ports (each_own m 0 plan w.done w.each)
 
 pub come_many : (m : MemoryView) (plan : List (List Call)) (r : Results) → HaveCome m plan r → length r.ports.items ≡ length plan
-come_many m plan r w = ap length (sym w.ports) ∙ length-map w.done (λ (v : Worked). v.port) ∙ sym (each_length (IsDone m) 0 plan w.done w.each)
+come_many m plan r w = ap length (sym w.ports) ∙ length-map w.done (λ (v : Worked). v.port) ∙ sym (each_length (IsWorkDone m) 0 plan w.done w.each)
 
 pub last_own : (m : MemoryView) (plan : List (List Call)) (r : Results) (rest : List PortView) (last : PortView) → HaveCome m plan r → r.ports.items ≡ rest ++ last ∷ [] →
     AllByRecursion (IsOf m) rest × IsOf m last
@@ -120,7 +120,7 @@ ran m plan fresh r rest last closed opened come is w =
     } in
     subst (λ (l : List (Vec Answer Global)). AreRight o plan l closed.values.items) come.answers right
 
-each_numbered : (m : MemoryView) (port : ℕ) (plan : List (List Call)) (done : List Worked) → AreEach (IsDone m) port plan done → AreEach HasNumber port plan done
+each_numbered : (m : MemoryView) (port : ℕ) (plan : List (List Call)) (done : List Worked) → AreEach (IsWorkDone m) port plan done → AreEach HasNumber port plan done
 each_numbered m port [] [] each = tt
 each_numbered m port [] (w ∷ done) each = absurd each
 each_numbered m port (calls ∷ plan) [] each = absurd each
@@ -141,9 +141,9 @@ closed_lawfully m plan r rest last closed come is w =
 
 -- ---- the ports of a memory that was opened for calls
 
-new_each : (m : MemoryView) (k : ℕ) (plan : List (List Call)) → AreMakable m.about.sizes.m plan → AreEach (IsNew m) k plan (new_ports m.table (newcomers m.about k (length plan)))
+new_each : (m : MemoryView) (k : ℕ) (plan : List (List Call)) → AreMakable m.about.sizes.m plan → AreEach (IsNewWork m) k plan (new_ports m.table (newcomers m.about k (length plan)))
 new_each m k [] w = tt
 new_each m k (cs ∷ plan) w = (record { own = refl; number = refl; fresh = refl; within = w.0.1; few = w.0.0 }, new_each m (k + 1) plan w.1)
 
-pub opened_new : (m : MemoryView) (plan : List (List Call)) (ports : List PortView) → IsOpenedFor m plan ports → AreMakable m.about.sizes.m plan → AreEach (IsNew m) 0 plan ports
-opened_new m plan ports opened makable = subst (AreEach (IsNew m) 0 plan) (sym opened.ports) (new_each m 0 plan makable)
+pub opened_new : (m : MemoryView) (plan : List (List Call)) (ports : List PortView) → IsOpenedFor m plan ports → AreMakable m.about.sizes.m plan → AreEach (IsNewWork m) 0 plan ports
+opened_new m plan ports opened makable = subst (AreEach (IsNewWork m) 0 plan) (sym opened.ports) (new_each m 0 plan makable)

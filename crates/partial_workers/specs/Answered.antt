@@ -20,13 +20,13 @@ AreEach P k (a ∷ more) (b ∷ others) = P k a b × AreEach P (k + 1) more othe
 AreEach P k _ _ = ⊥
 
 -- a memory of m components can be asked for the call: a scan has no more positions than that
-abbrev pub IsWithin : ℕ → Call → Type 0
-IsWithin m (call.Scan js) = length js ≤ m
-IsWithin m _ = ⊤
+abbrev pub IsCallWithin : ℕ → Call → Type 0
+IsCallWithin m (call.Scan js) = length js ≤ m
+IsCallWithin m _ = ⊤
 
 -- it can be asked for each of the calls of each port, and they can be numbered
 abbrev pub AreMakable : ℕ → List (List Call) → Type 0
-AreMakable m calls = AllByRecursion (λ cs. (length cs < 2 ^ 32) × AllByRecursion (IsWithin m) cs) calls
+AreMakable m calls = AllByRecursion (λ cs. (length cs < 2 ^ 32) × AllByRecursion (IsCallWithin m) cs) calls
 
 -- These calls of a port had these answers: with some notes they are legal in the history, and the port's entries are those that the
 -- notes wrote, each once and in the order of the calls.

@@ -21,7 +21,7 @@ use Rattle.partial_workers.specs.declared.worker.Worked.{Worked}
 use Rattle.partial_workers.specs.declared.worker.Worker.{Worker}
 use Rattle.partial_workers.specs.declared.workers.Works.{Works}
 use Rattle.partial_workers.specs.declared.workers.Results.{Results}
-use Rattle.partial_workers.specs.Answered.{AreEach, IsWithin}
+use Rattle.partial_workers.specs.Answered.{AreEach, IsCallWithin}
 
 -- the call was refused for a cause for which it may be
 abbrev pub WasRefused : ℕ → Noted → Type 0
@@ -57,9 +57,9 @@ pub record AreMade (m : ℕ) (made : List Call) (given : List Answer) (q : PortV
   pub fills : Fills m 0 q.notes all
 
 -- the values of a scan have room
-abbrev pub HasRoom : ℕ → Call → List ℕ → Type 0
-HasRoom m (call.Scan js) room = (length room ≡ length js) × (length js ≤ m)
-HasRoom m _ room = Unit {0}
+abbrev pub ScanHasRoom : ℕ → Call → List ℕ → Type 0
+ScanHasRoom m (call.Scan js) room = (length room ≡ length js) × (length js ≤ m)
+ScanHasRoom m _ room = Unit {0}
 
 -- the calls of a worker
 abbrev pub calls_of : List Job → List Call
@@ -67,39 +67,40 @@ calls_of jobs = map (λ j. j.call.now) jobs
 
 -- each call that a memory can be asked for has its room
 abbrev pub HaveRooms : List Job → Type 0
-HaveRooms jobs = (m : ℕ) → AllByRecursion (IsWithin m) (calls_of jobs) → AllByRecursion (λ j. HasRoom m j.call.now j.room.items) jobs
+HaveRooms jobs = (m : ℕ) → AllByRecursion (IsCallWithin m) (calls_of jobs) →
+    AllByRecursion (λ j. ScanHasRoom m j.call.now j.room.items) jobs
 
 -- a worker whose port has made no call, with room for its answers and their values
-pub record IsReady (m : ℕ) (w : Worker) : Type 0 where
+pub record IsWorkerReady (m : ℕ) (w : Worker) : Type 0 where
   pub fresh : w.port.notes ≡ []
-  pub rooms : AllByRecursion (λ j. HasRoom m j.call.now j.room.items) w.jobs.items
+  pub rooms : AllByRecursion (λ j. ScanHasRoom m j.call.now j.room.items) w.jobs.items
   pub empty : w.answers.items ≡ []
   pub room : length w.jobs.items ≤ vec_capacity w.answers
   pub few : length w.jobs.items < 2 ^ 32
 
 -- a port that has made no call, and the calls that it is to make
-pub record IsNew (m : MemoryView) (port : ℕ) (calls : List Call) (p : PortView) : Type 0 where
+pub record IsNewWork (m : MemoryView) (port : ℕ) (calls : List Call) (p : PortView) : Type 0 where
   pub own : IsOf m p
   pub number : p.number ≡ port
   pub fresh : p.notes ≡ []
-  pub within : AllByRecursion (IsWithin m.about.sizes.m) calls
+  pub within : AllByRecursion (IsCallWithin m.about.sizes.m) calls
   pub few : length calls < 2 ^ 32
 
 -- the worker of the port with this number, for these calls
 pub record IsHired (m : MemoryView) (port : ℕ) (calls : List Call) (w : Worker) : Type 0 where
   pub own : IsOf m w.port
   pub number : w.port.number ≡ port
-  pub ready : IsReady m.about.sizes.m w
+  pub ready : IsWorkerReady m.about.sizes.m w
   pub jobs : calls_of w.jobs.items ≡ calls
 
 -- a thread was started for the calls of the port with this number
-pub record IsStarted (m : MemoryView) (port : ℕ) (called : List Call) (h : PromisedHandle Worked Works) : Type 0 where
+pub record IsWorkStarted (m : MemoryView) (port : ℕ) (called : List Call) (h : PromisedHandle Worked Works) : Type 0 where
   pub memory : h.promise.memory.value ≡ m
   pub number : h.promise.port ≡ port
   pub calls : h.promise.calls.value.now ≡ called
 
 -- the port with this number has made these calls
-pub record IsDone (m : MemoryView) (port : ℕ) (calls : List Call) (w : Worked) : Type 0 where
+pub record IsWorkDone (m : MemoryView) (port : ℕ) (calls : List Call) (w : Worked) : Type 0 where
   pub own : IsOf m w.port
   pub number : w.port.number ≡ port
   pub made : AreMade m.about.sizes.m calls w.answers.items w.port
@@ -107,7 +108,7 @@ pub record IsDone (m : MemoryView) (port : ℕ) (calls : List Call) (w : Worked)
 -- the ports, and the answers of their calls, of threads that have ended
 pub record HaveCome (m : MemoryView) (calls : List (List Call)) (r : Results) : Type 0 where
   pub done : List Worked
-  pub each : AreEach (IsDone m) 0 calls done
+  pub each : AreEach (IsWorkDone m) 0 calls done
   pub ports : map (λ w. w.port) done ≡ r.ports.items
   pub answers : map (λ w. w.answers) done ≡ r.answers.items
 

@@ -2,14 +2,14 @@
 
 ghost use Rattle.std.specs.Prelude.{◌≡◌, true, false};
 ghost use Rattle.std.specs.List.{AllByRecursion};
-ghost use Rattle.partial_workers.specs.Answered.{AreMakable, IsWithin};
+ghost use Rattle.partial_workers.specs.Answered.{AreMakable, IsCallWithin};
 
 use partial_model::{Call, Sequence};
 
 // Whether a scan has at most m positions. Any other call is within.
 fn is_within(m: u32, call: &Call) -> bool
-    ensures yes { result ≡ true → IsWithin m call.now }
-    ensures no { result ≡ false → ¬ IsWithin m call.now }
+    ensures yes { result ≡ true → IsCallWithin m call.now }
+    ensures no { result ≡ false → ¬ IsCallWithin m call.now }
 {
     match call {
         Call::Scan { components } => components.len() <= m as usize,
@@ -19,8 +19,8 @@ fn is_within(m: u32, call: &Call) -> bool
 
 // Whether each scan of these calls has at most m positions.
 fn are_within(m: u32, calls: &[Call]) -> bool
-    ensures yes { result ≡ true → AllByRecursion (IsWithin m) calls.now }
-    ensures no { result ≡ false → ¬ AllByRecursion (IsWithin m) calls.now }
+    ensures yes { result ≡ true → AllByRecursion (IsCallWithin m) calls.now }
+    ensures no { result ≡ false → ¬ AllByRecursion (IsCallWithin m) calls.now }
 {
     for call in calls {
         if !is_within(m, call) {

@@ -4,7 +4,7 @@ ghost use Rattle.std.specs.Prelude.{◌≡◌, ◌<◌, ◌^◌, ◌≤◌, [], 
 ghost use Rattle.std.specs.List.{AllByRecursion};
 ghost use Rattle.std.specs.Vec.{vec_capacity};
 ghost use Rattle.partial_memory.specs.Ports.{IsOf};
-ghost use Rattle.partial_workers.specs.Work.{AreMade, HasRoom, IsMade, IsReady, calls_of};
+ghost use Rattle.partial_workers.specs.Work.{AreMade, ScanHasRoom, IsMade, IsWorkerReady, calls_of};
 
 use crate::gate::Gate;
 use partial_memory::{Memory, Port, Scanned, Updated, UpdatedIf};
@@ -36,7 +36,7 @@ impl Worker<'_> {
     /// Makes the calls in order, and passes the gate before and after each.
     pub fn work<G: Gate>(self, memory: &Memory, gate: &G) -> Worked
         requires own { IsOf memory.now self.port }
-        requires ready { IsReady memory.now.about.sizes.m self }
+        requires ready { IsWorkerReady memory.now.about.sizes.m self }
         ensures own { IsOf memory.now result.port }
         ensures number { result.port.number ≡ self.entry.port.number }
         ensures made { AreMade memory.now.about.sizes.m
@@ -61,7 +61,7 @@ impl Worker<'_> {
 // Makes a call. The room takes the values of a scan.
 fn make(memory: &Memory, port: &mut Port, call: &Call, mut room: Vec<u64>) -> Answer
     requires own { IsOf memory.now port.old }
-    requires room { HasRoom memory.now.about.sizes.m call.now room.items }
+    requires room { ScanHasRoom memory.now.about.sizes.m call.now room.items }
     ensures own { IsOf memory.now port.new }
     ensures number { port.new.number ≡ port.old.number }
     ensures made { IsMade memory.now.about.sizes.m port.old call.now result port.new }

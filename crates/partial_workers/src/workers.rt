@@ -4,8 +4,8 @@ ghost use Rattle.std.specs.Prelude.{◌≡◌, ◌≤◌, ℕ, List, [], length,
 ghost use Rattle.std.specs.Vec.{vec_capacity};
 ghost use Rattle.partial_model.specs.declared.call.Call.{Call as CallType};
 ghost use Rattle.partial_memory.specs.Ports.{IsOf, MemoryView};
-ghost use Rattle.partial_workers.specs.Answered.{AreEach, AreMakable, AreRight, IsWithin};
-ghost use Rattle.partial_workers.specs.Work.{HasRoom, HaveCome, HaveRooms, IsDone, IsHired, IsNew, IsOpenedFor, IsReady, IsStarted, WasClosedLawfully, calls_of};
+ghost use Rattle.partial_workers.specs.Answered.{AreEach, AreMakable, AreRight, IsCallWithin};
+ghost use Rattle.partial_workers.specs.Work.{ScanHasRoom, HaveCome, HaveRooms, IsWorkDone, IsHired, IsNewWork, IsOpenedFor, IsWorkerReady, IsWorkStarted, WasClosedLawfully, calls_of};
 
 use crate::error::RunError;
 use crate::gate::Gate;
@@ -27,9 +27,9 @@ struct Works<'a> {
 }
 
 impl Promise<Worked> for Works<'_> {
-    ghost use Rattle.partial_workers.specs.Work.{IsDone};
+    ghost use Rattle.partial_workers.specs.Work.{IsWorkDone};
 
-    ghost kept_by = { λ p w. IsDone p.memory.value p.port p.calls.value.now w };
+    ghost kept_by = { λ p w. IsWorkDone p.memory.value p.port p.calls.value.now w };
 }
 
 // Room for what the workers come to, made before they start.
@@ -41,7 +41,7 @@ struct Results {
 
 // The room for a call's values.
 fn room_for(alloc: Global, call: &Call) -> Result<Vec<u64>, AllocError>
-    ensures { IfOk result (λ room. (m : ℕ) → IsWithin m call.now → HasRoom m call.now room.items) }
+    ensures { IfOk result (λ room. (m : ℕ) → IsCallWithin m call.now → ScanHasRoom m call.now room.items) }
 {
     match call {
         Call::Scan { components } => vec![in alloc; 0; components.len()],
@@ -71,7 +71,7 @@ fn hire<'a>(
     calls: &[&'a [Call]],
     ports: Vec<Port>,
 ) -> Result<Vec<Worker<'a>>, AllocError>
-    requires { AreEach (IsNew memory.now) 0 (map (λ c. c.now) calls.now) ports.items }
+    requires { AreEach (IsNewWork memory.now) 0 (map (λ c. c.now) calls.now) ports.items }
     ensures { IfOk result (λ workers. AreEach (IsHired memory.now) 0 (map (λ c. c.now) calls.now) workers.items) }
 {
     let _of = memory;
@@ -99,7 +99,7 @@ fn start<'s, 'e, G: Gate>(
     workers: Vec<Worker<'s>>,
 ) -> Result<Vec<PromisedHandle<Worked, Works<'s>>>, AllocError>
     requires { AreEach (IsHired memory.now) 0 (map (λ c. c.now) calls.now) workers.items }
-    ensures { IfOk result (λ handles. AreEach (IsStarted memory.now) 0
+    ensures { IfOk result (λ handles. AreEach (IsWorkStarted memory.now) 0
         (map (λ c. c.now) calls.now) handles.items) }
 {
     let mut started = Vec::with_capacity(alloc, calls.len())?;
@@ -111,8 +111,8 @@ fn start<'s, 'e, G: Gate>(
             calls: Snapshot::of(&calls[port as usize]),
         };
         let work = move || -> Worked
-            requires { IsOf memory.now worker.port × IsReady memory.now.about.sizes.m worker }
-            ensures { IsDone memory.entry.now worker.entry.port.number
+            requires { IsOf memory.now worker.port × IsWorkerReady memory.now.about.sizes.m worker }
+            ensures { IsWorkDone memory.entry.now worker.entry.port.number
                 (calls_of worker.entry.jobs.items) result }
         { worker.work(memory, gate) };
         started.push_reserved(scope.spawn_with(promise, work)?);
@@ -130,7 +130,7 @@ fn join<R: Threads>(
     requires room { (length started.items ≤ vec_capacity results.ports) ×
         (length started.items ≤ vec_capacity results.answers) }
     ensures { (m : MemoryView) (calls : List (List CallType)) →
-        AreEach (IsStarted m) 0 calls started.entry.items → HaveCome m calls result }
+        AreEach (IsWorkStarted m) 0 calls started.entry.items → HaveCome m calls result }
 {
     for handle in started {
         let Worked { port, answers } = handle.join(rt);

@@ -1,7 +1,7 @@
 //! A whole getSet, made in loops over its buffers. The caller supplies the steps.
 
 ghost use Rattle.std.specs.Prelude.{◌≡◌, ◌<◌, IfSome, Some, None};
-ghost use Rattle.partial_active.specs.GetSet.{left_of, step_of};
+ghost use Rattle.partial_active.specs.GetSet.{set_left, set_step_due};
 ghost use Rattle.partial_active.specs.Making.{IsAt};
 
 use super::{GetSet, Stage};
@@ -30,7 +30,7 @@ impl GetSet {
         requires { IsAt S.goes S.set steps.old (self, found.old) }
         ensures at { IsAt S.goes S.set steps.new (result, found.new) }
         ensures follows { S.follows steps.old steps.new }
-        ensures done { step_of result ≡ None }
+        ensures done { set_step_due result ≡ None }
         ensures sizes { result.sizes ≡ self.sizes }
     {
         self.make_stretch(Stretch::Head, found, steps);
@@ -61,11 +61,11 @@ impl GetSet {
     #[inline(always)]
     fn make_step<S: Steps>(&mut self, step: Step, found: &mut Found, steps: &mut S)
         requires at { IsAt S.goes S.set steps.old (self.old, found.old) }
-        requires due { step_of self.old ≡ Some step }
+        requires due { set_step_due self.old ≡ Some step }
         ensures at { IsAt S.goes S.set steps.new (self.new, found.new) }
         ensures follows { S.follows steps.old steps.new }
         ensures sizes { self.new.sizes ≡ self.old.sizes }
-        ensures left { left_of self.new < left_of self.old }
+        ensures left { set_left self.new < set_left self.old }
     {
         let answer = steps.make(step);
         self.answer(found, answer);
@@ -74,7 +74,7 @@ impl GetSet {
     // The step that is due, if it belongs to this stretch.
     #[inline(always)]
     fn step_in(&self, stretch: Stretch) -> Option<Step>
-        ensures { IfSome result (λ step. step_of self.now ≡ Some step) }
+        ensures { IfSome result (λ step. set_step_due self.now ≡ Some step) }
     {
         let is_there = match stretch {
             Stretch::Head => matches!(self.stage, Stage::Head),

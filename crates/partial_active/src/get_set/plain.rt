@@ -2,8 +2,8 @@
 
 ghost use Rattle.std.specs.Prelude.{◌≡◌, Some};
 ghost use Rattle.partial_words.specs.Step.{answer_of, words_after};
-ghost use Rattle.partial_active.specs.GetSet.{advance, step_of};
-ghost use Rattle.partial_active.specs.GetSetAnswers.{GoTogether, MayPerform};
+ghost use Rattle.partial_active.specs.GetSet.{advance_set, set_step_due};
+ghost use Rattle.partial_active.specs.GetSetAnswers.{SetGoesTogether, SetMayPerform};
 
 use super::{GetSet, Stage};
 use crate::found::Found;
@@ -15,12 +15,12 @@ impl GetSet {
     /// [`GetSet::answer`]; the loads of slots, nearly all steps of a long getSet, have lines of their own.
     #[inline(always)]
     pub fn perform(&mut self, found: &mut Found, words: &mut [u64]) -> (Step, u64)
-        requires together { GoTogether (self.old, found.old) }
-        requires may { MayPerform (self.old, found.old) words.old }
-        ensures due { step_of self.old ≡ Some result.0 }
+        requires together { SetGoesTogether (self.old, found.old) }
+        requires may { SetMayPerform (self.old, found.old) words.old }
+        ensures due { set_step_due self.old ≡ Some result.0 }
         ensures answer { result.1 ≡ answer_of words.old result.0 }
         ensures words { words.new ≡ words_after words.old result.0 }
-        ensures state { (self.new, found.new) ≡ advance (self.old, found.old) result.1 }
+        ensures state { (self.new, found.new) ≡ advance_set (self.old, found.old) result.1 }
     {
         if let Stage::Slot { slot } = self.stage {
             let step = Step::Load(self.sizes.slot_word(slot));

@@ -17,10 +17,10 @@ IsOpenOf opening count v ports h =
     (m : OpenMemory) × (h ≡ held.Memory m) × (m.opening ≡ opening) × (m.count ≡ count) × (arc_value m.memory ≡ v) × (m.ports.items ≡ ports)
 
 -- where it isn't lost it is as it was, and it is shared or lost only with all its ports at home
-abbrev pub IsKept : OpenMemory → Kept → Type 0
-IsKept m (Away n) = (n ≡ m) × IsAway m
-IsKept m (Shared n) = (n ≡ m) × (length m.ports.items ≡ m.count)
-IsKept m Lost = length m.ports.items ≡ m.count
+abbrev pub IsMemoryKept : OpenMemory → Kept → Type 0
+IsMemoryKept m (Away n) = (n ≡ m) × IsAway m
+IsMemoryKept m (Shared n) = (n ≡ m) × (length m.ports.items ≡ m.count)
+IsMemoryKept m Lost = length m.ports.items ≡ m.count
 
 -- what is held stays for its cause, or it is lost
 abbrev pub IsUnclosed : Held → Held → Unclosed → Type 0

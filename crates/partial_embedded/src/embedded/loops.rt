@@ -1,7 +1,7 @@
 //! A whole embedded scan, made in loops over its buffers. The caller supplies the loads.
 
 ghost use Rattle.std.specs.Prelude.{◌≡◌, ◌≢◌, ℕ, IfSome, IfNone};
-ghost use Rattle.partial_embedded.specs.Embedded.{GoTogether, IsFor, buffers};
+ghost use Rattle.partial_embedded.specs.Embedded.{ViewGoesTogether, AreRowsFor, buffers};
 ghost use Rattle.partial_embedded.specs.declared.embedded.Stage.TheVariants.{Collect, Value, Done};
 
 use super::{Embedded, Stage};
@@ -15,14 +15,14 @@ impl Embedded {
     #[inline(always)]
     pub fn make<L: Loads>(mut self, rows: &mut Rows, indices: &[u32], loads: &mut L) -> Embedded
         requires goes { L.goes loads.old }
-        requires together { GoTogether indices.now (self, rows.old) }
+        requires together { ViewGoesTogether indices.now (self, rows.old) }
         requires scan { L.scan loads.old ≡ (self, rows.old) }
         requires positions { L.positions loads.old ≡ indices.now }
         ensures goes { L.goes loads.new }
         ensures scan { L.scan loads.new ≡ (result, rows.new) }
         ensures follows { L.follows loads.old loads.new }
         ensures done { result.stage ≡ Done }
-        ensures rows { IsFor self.sizes rows.new }
+        ensures rows { AreRowsFor self.sizes rows.new }
     {
         let Rows {
             last,
@@ -45,14 +45,14 @@ impl Embedded {
         loads: &mut L,
     )
         requires goes { L.goes loads.old }
-        requires together { GoTogether indices.now (self.old, buffers last.old changed.old values.old) }
+        requires together { ViewGoesTogether indices.now (self.old, buffers last.old changed.old values.old) }
         requires scan { L.scan loads.old ≡ (self.old, buffers last.old changed.old values.old) }
         requires positions { L.positions loads.old ≡ indices.now }
         ensures goes { L.goes loads.new }
         ensures scan { L.scan loads.new ≡ (self.new, buffers last.new changed.new values.new) }
         ensures follows { L.follows loads.old loads.new }
         ensures done { self.new.stage ≡ Done }
-        ensures rows { IsFor self.old.sizes (buffers last.new changed.new values.new) }
+        ensures rows { AreRowsFor self.old.sizes (buffers last.new changed.new values.new) }
     {
         while let Some(position) = self.collecting_first() {
             let word = self.sizes.component_word(indices[position]);

@@ -14,21 +14,21 @@ use Rattle.partial_epochs.specs.Ports.Entering.{Stands}
 use Rattle.partial_epochs.specs.Entering.{arrived}
 use Rattle.partial_long_lived.specs.declared.stand.Stand.{Stand}
 use Rattle.partial_long_lived.specs.Rule.{plan_of}
-use Rattle.partial_long_lived.specs.Inner.Steps.{Goes}
+use Rattle.partial_long_lived.specs.Inner.Steps.{SeatGoes}
 use Rattle.partial_long_lived.specs.Ports.{seen_in}
-use Rattle.partial_long_lived.specs.Inner.Moves.{Looks}
+use Rattle.partial_long_lived.specs.Inner.Moves.{SeatLooks}
 use Rattle.partial_long_lived.specs.Inner.Loads.{opening_of}
 use Rattle.partial_long_lived.specs.Inner.Held.{port_at}
 
 -- the port stands where it stood
-pub record Kept (s t : Stand) : Type 0 where
+pub record StaysAt (s t : Stand) : Type 0 where
   pub shape : t.shape ≡ s.shape
   pub number : t.number ≡ s.number
   pub epoch : t.epoch ≡ s.epoch
   pub arena : t.arena ≡ s.arena
   pub base : t.base ≡ s.base
   pub passed : t.passed ≡ s.passed
-  pub goes : Goes (port_at s) (port_at t)
+  pub goes : SeatGoes (port_at s) (port_at t)
 
 -- the port may look: it stands, and if it owns an arena it holds no mark, or has ports left to find
 pub record MayLook (s : Stand) : Type 0 where
@@ -38,7 +38,7 @@ pub record MayLook (s : Stand) : Type 0 where
 -- the look has found the port's own place the current one, or not
 pub record Looked (first : Bool) (s : Stand) (here : Bool) (t : Stand) : Type 0 where
   pub found : ℕ
-  pub looks : Looks first (port_at s) found (port_at t)
+  pub looks : SeatLooks first (port_at s) found (port_at t)
   pub is : here ≡ (found == packed (port_at s).port.control.here)
 
 -- the port may enter: it stands, owns no arena, and has seen that its epoch has ended
@@ -51,7 +51,7 @@ pub record MayEnter (s : Stand) : Type 0 where
 pub record Entered (s t : Stand) : Type 0 where
   pub shape : t.shape ≡ s.shape
   pub number : t.number ≡ s.number
-  pub goes : Goes (port_at s) (port_at t)
+  pub goes : SeatGoes (port_at s) (port_at t)
   pub before : List (List Applied)
   pub is : port_at t ≡ record (port_at s) {
     port = arrived (plan_of (port_at s).about) (port_at s).number (record { epoch = t.epoch; arena = t.arena }) before;
@@ -69,7 +69,7 @@ pub record IsIdle (s : Stand) : Type 0 where
 pub record HasCome (s t : Stand) : Type 0 where
   pub shape : t.shape ≡ s.shape
   pub number : t.number ≡ s.number
-  pub goes : Goes (port_at s) (port_at t)
+  pub goes : SeatGoes (port_at s) (port_at t)
   pub idle : IsIdle t
   pub machine : ((t.epoch ≡ s.epoch) × (core_of (port_at t).port.part ≡ core_of (port_at s).port.part)
       × ((port_at t).port.over ≡ (port_at s).port.over))
@@ -84,7 +84,7 @@ pub record Settled (s t : Stand) : Type 0 where
   pub fresh : (port_at t).began.epoch ≤ t.epoch
 
 -- The port has read: what it has noted is this answer, at the end of all that it has seen, which is not before its call began.
-pub record HasRead (s t : Stand) (j value stamp : ℕ) : Type 0 where
+pub record HasNotedRead (s t : Stand) (j value stamp : ℕ) : Type 0 where
   pub come : HasCome s t
   pub notes : (port_at t).notes ≡ (port_at s).notes
       ++ record { call = call.Read j; answer = answer.Read value stamp; note = Some (note.Saw (length (seen_in (port_at t).port))) } ∷ []
@@ -92,7 +92,7 @@ pub record HasRead (s t : Stand) (j value stamp : ℕ) : Type 0 where
   pub behind : (port_at t).began.length ≤ length (seen_in (port_at t).port)
 
 -- the port has loaded the record of component j, behind all that it has seen
-pub record HasLoaded (t : Stand) (j at : ℕ) : Type 0 where
+pub record HasLoadedRecord (t : Stand) (j at : ℕ) : Type 0 where
   pub record_is : at ≡ stamp_of (opening_of (port_at t)) (port_at t).port.part.seen j
   pub within : value_word at < total (port_at t).about.sizes
 

@@ -14,31 +14,31 @@ use Rattle.partial_long_lived.specs.declared.claim.Claimed.TheVariants.{Clean, T
 use Rattle.partial_long_lived.specs.declared.error.Refused.{Refused}
 use Rattle.partial_long_lived.specs.declared.error.Refused.TheVariants.{EpochsSpent, NoArena}
 use Rattle.partial_long_lived.specs.declared.stand.Stand.{Stand}
-use Rattle.partial_long_lived.specs.Rule.{Began, Found, Seated, plan_of}
-use Rattle.partial_long_lived.specs.Inner.Steps.{Goes}
+use Rattle.partial_long_lived.specs.Rule.{Began, Found, SeatedPort, plan_of}
+use Rattle.partial_long_lived.specs.Inner.Steps.{SeatGoes}
 use Rattle.partial_long_lived.specs.Inner.Moves.{BeganBy, PutsPort, Sets, Takes, unpacked}
 use Rattle.partial_long_lived.specs.Inner.Calls.{IsIdle}
 use Rattle.partial_long_lived.specs.Inner.Loads.{stamp_seen, value_seen}
 use Rattle.partial_long_lived.specs.Inner.Held.{port_at}
 
 -- what a step does by the arena that the port owns
-abbrev pub OfOwned : (Owned → Seated → ℕ → Seated → Type 0) → Seated → ℕ → Seated → Type 0
+abbrev pub OfOwned : (Owned → SeatedPort → ℕ → SeatedPort → Type 0) → SeatedPort → ℕ → SeatedPort → Type 0
 OfOwned R x a y = IfSome x.port.control.owned (λ o. R o x a y)
 
 -- the exchange of the owner word w
-abbrev pub TakesBy : ℕ → Seated → ℕ → Seated → Type 0
+abbrev pub TakesBy : ℕ → SeatedPort → ℕ → SeatedPort → Type 0
 TakesBy w x a y = Takes (w - (1 + x.about.ports)) x a y
 
 -- the exchange of the mark w of a port
-abbrev pub PutsBy : ℕ → Seated → ℕ → Seated → Type 0
+abbrev pub PutsBy : ℕ → SeatedPort → ℕ → SeatedPort → Type 0
 PutsBy w x a y = OfOwned (λ o. PutsPort o (unpacked (w - entering_mark))) x a y
 
 -- the store of the next word of the owned arena
-abbrev pub SetsNext : Seated → ℕ → Seated → Type 0
+abbrev pub SetsNext : SeatedPort → ℕ → SeatedPort → Type 0
 SetsNext x a y = OfOwned (λ o. Sets o (o.set + 1)) x a y
 
 -- and that of the last one before the list words, which count as set then
-abbrev pub SetsLists : Seated → ℕ → Seated → Type 0
+abbrev pub SetsLists : SeatedPort → ℕ → SeatedPort → Type 0
 SetsLists x a y = OfOwned (λ o. Sets o (pool_base x.about.sizes)) x a y
 
 -- The port stands where it stood, in the same call, with the same notes; what it has seen, passed, found and owns may be another.
@@ -48,14 +48,14 @@ pub record Stays (s t : Stand) : Type 0 where
   pub epoch : t.epoch ≡ s.epoch
   pub arena : t.arena ≡ s.arena
   pub base : t.base ≡ s.base
-  pub goes : Goes (port_at s) (port_at t)
+  pub goes : SeatGoes (port_at s) (port_at t)
   pub here : (port_at t).port.control.here ≡ (port_at s).port.control.here
   pub entering : (port_at t).port.control.entering ≡ (port_at s).port.control.entering
   pub notes : (port_at t).notes ≡ (port_at s).notes
   pub began : (port_at t).began ≡ (port_at s).began
 
 -- its part in the epoch is as it was
-pub record IsSame (s t : Stand) : Type 0 where
+pub record HasSamePart (s t : Stand) : Type 0 where
   pub part : (port_at t).port.part ≡ (port_at s).port.part
   pub before : (port_at t).port.before ≡ (port_at s).port.before
   pub over : (port_at t).port.over ≡ (port_at s).port.over
@@ -67,7 +67,7 @@ HasPassed s t = (port_at t).port.passed ≡ (port_at s).port.passed
 -- the port stands where it stood, and nothing has become of it but what it owns, and that it may have seen its epoch's end
 pub record Remains (s t : Stand) : Type 0 where
   pub stays : Stays s t
-  pub same : IsSame s t
+  pub same : HasSamePart s t
   pub passed : HasPassed s t
 
 -- the port stands, and owns arena x
@@ -78,7 +78,7 @@ pub record Owns (s : Stand) (x : ℕ) : Type 0 where
   pub arena : owned.arena ≡ x
 
 -- it has looked, is done with the ports below q, and has set so many words
-pub record Works (s : Stand) (x q n : ℕ) : Type 0 where
+pub record HasSetWords (s : Stand) (x q n : ℕ) : Type 0 where
   pub stands : (port_at s).port.control.entering ≡ Stands
   pub owned : Owned
   pub is : (port_at s).port.control.owned ≡ Some owned
@@ -116,8 +116,8 @@ pub record MayPutPort (s : Stand) (x q a : ℕ) : Type 0 where
 
 -- what it has loaded of port q
 pub record HasLoadedPort (s : Stand) (x q a : ℕ) : Type 0 where
-  pub away : a < entering_mark → a % arena_limit ≢ x → Works s x (q + 1) 0
-  pub there : a < entering_mark → a % arena_limit ≡ x → Works s x q 0
+  pub away : a < entering_mark → a % arena_limit ≢ x → HasSetWords s x (q + 1) 0
+  pub there : a < entering_mark → a % arena_limit ≡ x → HasSetWords s x q 0
   pub marked : entering_mark ≤ a → HoldsMark s x q a
 
 -- the port has seen that its epoch has ended
@@ -126,18 +126,18 @@ IsPast s = (port_at s).port.control.past ≡ true
 
 -- what has come of arenas: the port owns one of which it is done with all ports, or none
 abbrev pub HasClaimed : Claimed → Stand → Type 0
-HasClaimed (Clean x) s = (x < (port_at s).about.arenas) × Works s x (port_at s).about.ports 0
+HasClaimed (Clean x) s = (x < (port_at s).about.arenas) × HasSetWords s x (port_at s).about.ports 0
 HasClaimed Taken s = IsIdle s
 HasClaimed Ended s = IsIdle s × IsPast s
 
 -- what has come of the ports below n, of arena x
 abbrev pub HasCleared : ℕ → ℕ → Claimed → Stand → Type 0
-HasCleared x n (Clean y) s = (y ≡ x) × Works s x n 0
+HasCleared x n (Clean y) s = (y ≡ x) × HasSetWords s x n 0
 HasCleared x n Taken s = Owns s x
 HasCleared x n Ended s = Owns s x × IsPast s
 
 -- v is what each opening has in word i, whatever its values are
-pub record IsSetting (z : Layout) (v i : ℕ) : Type 0 where
+pub record IsFixedWord (z : Layout) (v i : ℕ) : Type 0 where
   pub within : i < first_free z
   pub free : (i < pool_base z) ⊎ ((i - pool_base z) % plain_record_size ≢ value_word 0)
   pub is : v ≡ opening_word z [] i
@@ -159,8 +159,8 @@ pub record IsCarriedStamp (z : Layout) (found : Option Found) (v i : ℕ) : Type
   pub is : v ≡ f.stamp
 
 -- v is what the next epoch begins with in word i
-abbrev pub IsRight : Seated → ℕ → ℕ → Type 0
-IsRight x v i = IsSetting x.about.sizes v i ⊎ (IsInitialValue x.about.sizes x.found v i ⊎ IsCarriedStamp x.about.sizes x.found v i)
+abbrev pub IsRight : SeatedPort → ℕ → ℕ → Type 0
+IsRight x v i = IsFixedWord x.about.sizes v i ⊎ (IsInitialValue x.about.sizes x.found v i ⊎ IsCarriedStamp x.about.sizes x.found v i)
 
 -- the port's control is as it was
 abbrev pub HasControl : Stand → Stand → Type 0
@@ -191,7 +191,7 @@ pub record FoundStamp (t : Stand) (j v : ℕ) : Type 0 where
 pub record Changed (first : Bool) (s t : Stand) : Type 0 where
   pub shape : t.shape ≡ s.shape
   pub number : t.number ≡ s.number
-  pub goes : Goes (port_at s) (port_at t)
+  pub goes : SeatGoes (port_at s) (port_at t)
   pub n : Began
   pub began : BeganBy first (port_at s) n
   pub before : List (List Applied)
@@ -217,9 +217,9 @@ pub record NotChanged (first : Bool) (s t : Stand) : Type 0 where
   pub epoch : t.epoch ≡ s.epoch
   pub arena : t.arena ≡ s.arena
   pub base : t.base ≡ s.base
-  pub goes : Goes (port_at s) (port_at t)
+  pub goes : SeatGoes (port_at s) (port_at t)
   pub began : BeganBy first (port_at s) (port_at t).began
   pub here : (port_at t).port.control.here ≡ (port_at s).port.control.here
   pub free : IsIdle t
   pub notes : (port_at t).notes ≡ (port_at s).notes
-  pub same : IsSame s t
+  pub same : HasSamePart s t

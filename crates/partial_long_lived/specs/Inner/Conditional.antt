@@ -16,12 +16,12 @@ use Rattle.partial_long_lived.specs.declared.stand.Stand.{Stand}
 use Rattle.partial_long_lived.specs.declared.update_if.Asked.{Asked}
 use Rattle.partial_long_lived.specs.declared.update_if.Compared.{Compared}
 use Rattle.partial_long_lived.specs.declared.update_if.Compared.TheVariants.{Sealed, Same, Other}
-use Rattle.partial_long_lived.specs.Rule.{Seated, plan_of}
+use Rattle.partial_long_lived.specs.Rule.{SeatedPort, plan_of}
 use Rattle.partial_long_lived.specs.Ports.{seen_in}
 use Rattle.partial_long_lived.specs.Inner.Held.{port_at}
 use Rattle.partial_long_lived.specs.Inner.Loads.{opening_of}
 use Rattle.partial_long_lived.specs.Inner.Moves.{BeganBy}
-use Rattle.partial_long_lived.specs.Inner.Steps.{Goes}
+use Rattle.partial_long_lived.specs.Inner.Steps.{SeatGoes}
 use Rattle.partial_long_lived.specs.Inner.Updates.{Stayed}
 
 -- what a port notes of a conditional update that ended so, at that place
@@ -32,7 +32,7 @@ noted_if a (ended.Changed by) place =
     record { call = call.UpdateIf a.component a.expected a.value; answer = answer.Changed by; note = Some (note.Saw place) }
 
 -- how it ended, as its caller is told, where it ended so in the port's epoch
-abbrev pub outcome_of : Seated → ℕ → Exchanged → UpdatedIf
+abbrev pub outcome_of : SeatedPort → ℕ → Exchanged → UpdatedIf
 outcome_of x j (Applied stamp) = ended.Applied (public_stamp (length x.port.before) stamp)
 outcome_of x j (Overtaken by) = ended.Changed (public_of (plan_of x.about) x.port.before j by)
 
@@ -54,10 +54,10 @@ pub record IsExpected (a : Asked) (at : ℕ) (t : Stand) : Type 0 where
 
 -- What the comparison has found: nothing, where the component is sealed; the expected stamp; or another one, of which the port has noted the
 -- answer, at the end of all that it has seen.
-abbrev pub HasFound : Asked → Stand → Compared → Stand → Type 0
-HasFound a s Sealed t = (port_at t).notes ≡ (port_at s).notes
-HasFound a s (Same at) t = ((port_at t).notes ≡ (port_at s).notes) × IsExpected a at t
-HasFound a s (Other stamp) t =
+abbrev pub HasCompared : Asked → Stand → Compared → Stand → Type 0
+HasCompared a s Sealed t = (port_at t).notes ≡ (port_at s).notes
+HasCompared a s (Same at) t = ((port_at t).notes ≡ (port_at s).notes) × IsExpected a at t
+HasCompared a s (Other stamp) t =
     ((port_at t).notes ≡ (port_at s).notes ++ noted_if a (ended.Changed stamp) (length (seen_in (port_at t).port)) ∷ [])
     × ((port_at t).began.length ≤ length (seen_in (port_at t).port))
 
@@ -73,7 +73,7 @@ pub record EndedIf (first : Bool) (a : Asked) (r : UpdatedIf) (s t : Stand) : Ty
 pub record HasUpdatedIf (a : Asked) (r : UpdatedIf) (s t : Stand) : Type 0 where
   pub shape : t.shape ≡ s.shape
   pub number : t.number ≡ s.number
-  pub goes : Goes (port_at s) (port_at t)
+  pub goes : SeatGoes (port_at s) (port_at t)
   pub began : BeganBy true (port_at s) (port_at t).began
   pub place : ℕ
   pub notes : (port_at t).notes ≡ (port_at s).notes ++ noted_if a r place ∷ []

@@ -14,13 +14,13 @@ use Rattle.partial_epochs.specs.Layout.{unsealed}
 use Rattle.partial_epochs.specs.History.{history_of}
 use Rattle.partial_epochs.specs.Notes.{having_seen, public_of}
 use Rattle.partial_long_lived.specs.declared.stand.Stand.{Stand}
-use Rattle.partial_long_lived.specs.Rule.{Seated, plan_of}
+use Rattle.partial_long_lived.specs.Rule.{SeatedPort, plan_of}
 use Rattle.partial_long_lived.specs.Ports.{seen_in}
-use Rattle.partial_long_lived.specs.Inner.Steps.{Begins, tells}
+use Rattle.partial_long_lived.specs.Inner.Steps.{BeginsWith, tells}
 use Rattle.partial_long_lived.specs.Inner.Held.{port_at}
 use Rattle.partial_long_lived.specs.Inner.Loads.{Recalls, opening_of}
-use Rattle.partial_long_lived.specs.Inner.Calls.{HasCome, Kept}
-use Rattle.partial_long_lived.specs.Inner.Scans.{HasScanned, ScanMade, SettledFirst}
+use Rattle.partial_long_lived.specs.Inner.Calls.{HasCome, StaysAt}
+use Rattle.partial_long_lived.specs.Inner.Scans.{HasNotedScan, ScanMade, SettledFirst}
 use Rattle.partial_long_lived.specs.Inner.Unchanged.{stamp_at}
 
 -- each of these positions is one of a component
@@ -29,7 +29,7 @@ AreInside z js = (k : ℕ) → k < length js → slice_index js k < z.m
 
 -- The word w, which the port has loaded as that of component j, names the record that the component had behind some number of entries of the
 -- epoch, from `low` to `high`. That record lies in the arena.
-pub record WasThere (x : Seated) (low high j w : ℕ) : Type 0 where
+pub record WasThere (x : SeatedPort) (low high j w : ℕ) : Type 0 where
   pub entries : ℕ
   pub from : low ≤ entries
   pub to : entries ≤ high
@@ -37,27 +37,27 @@ pub record WasThere (x : Seated) (low high j w : ℕ) : Type 0 where
   pub within : value_word (unsealed w) < total x.about.sizes
 
 -- so it is of the first n words of a collect of these components
-abbrev pub AreCollected : Seated → ℕ → ℕ → List ℕ → List ℕ → ℕ → Type 0
+abbrev pub AreCollected : SeatedPort → ℕ → ℕ → List ℕ → List ℕ → ℕ → Type 0
 AreCollected x low high js ws n = (k : ℕ) → k < n → WasThere x low high (slice_index js k) (slice_index ws k)
 
 -- v is the value that component j had whenever the word w named its record
-abbrev pub HadValue : Seated → ℕ → ℕ → ℕ → Type 0
+abbrev pub HadValue : SeatedPort → ℕ → ℕ → ℕ → Type 0
 HadValue x j w v = (n : ℕ) → n ≤ length x.port.part.seen → unsealed w ≡ stamp_of (opening_of x) (take n x.port.part.seen) j →
     v ≡ value_of (opening_of x) (take n x.port.part.seen) j
 
 -- so it is of the first n of these values
-abbrev pub HadValues : Seated → List ℕ → List ℕ → List ℕ → ℕ → Type 0
+abbrev pub HadValues : SeatedPort → List ℕ → List ℕ → List ℕ → ℕ → Type 0
 HadValues x js ws vs n = (k : ℕ) → k < n → HadValue x (slice_index js k) (slice_index ws k) (slice_index vs k)
 
 -- The port may note that these components stood together behind the first b entries that it has seen of its epoch: its notes show no more.
-pub record MayNote (js : List ℕ) (b : ℕ) (x : Seated) : Type 0 where
+pub record MayNoteScan (js : List ℕ) (b : ℕ) (x : SeatedPort) : Type 0 where
   pub some : 0 < length js
   pub inside : AllByRecursion (λ j. j < x.about.sizes.m) js
   pub seen : b ≤ length x.port.part.seen
   pub behind : seen_by 0 x.notes ≤ length (history_of x.port.before) + b
 
 -- that note: the values behind those entries
-abbrev pub noted_together : List ℕ → ℕ → Seated → Noted
+abbrev pub noted_together : List ℕ → ℕ → SeatedPort → Noted
 noted_together js b x = record {
   call = call.Scan js;
   answer = answer.Scanned (map (λ j. value_of (opening_of x) (take b x.port.part.seen) j) js) 2 None;
@@ -66,10 +66,10 @@ noted_together js b x = record {
 
 -- A load of word i of the table by which the port notes that scan: it tells the same as a load of a word that is final for the port, and the
 -- port sees its epoch's whole history.
-pub record NotesScan (js : List ℕ) (b i : ℕ) (x : Seated) (a : ℕ) (y : Seated) : Type 0 where
+pub record NotesScan (js : List ℕ) (b i : ℕ) (x : SeatedPort) (a : ℕ) (y : SeatedPort) : Type 0 where
   pub recalls : Recalls i x a x
   pub log : List Applied
-  pub begins : Begins x.port.part.seen log
+  pub begins : BeginsWith x.port.part.seen log
   pub is : y ≡ record x { port = having_seen x.port log; notes = x.notes ++ noted_together js b x ∷ [] }
   pub history : IsHistory (opening_of x) log
   pub values : length (opening_of x).values ≡ x.about.sizes.m
@@ -78,14 +78,14 @@ pub record NotesScan (js : List ℕ) (b i : ℕ) (x : Seated) (a : ℕ) (y : Sea
       ≡ stamp_of x.about.opening (take (length (history_of x.port.before) + b) (history_of (log ∷ x.port.before))) j
 
 -- such a load
-abbrev pub notes_scan : {S : Type 0} → List ℕ → ℕ → ℕ → Me S (List Seated) → ℕ → Me S (List Seated) → Type 0
+abbrev pub notes_scan : {S : Type 0} → List ℕ → ℕ → ℕ → Me S (List SeatedPort) → ℕ → Me S (List SeatedPort) → Type 0
 notes_scan js b i me = tells (NotesScan js b i) me
 
 -- The port has loaded component words where it stands: it has seen more of its epoch, and nothing else has become of it.
 pub record HasGlanced (s t : Stand) : Type 0 where
-  pub kept : Kept s t
+  pub kept : StaysAt s t
   pub log : List Applied
-  pub begins : Begins (port_at s).port.part.seen log
+  pub begins : BeginsWith (port_at s).port.part.seen log
   pub is : port_at t ≡ record (port_at s) { port = having_seen (port_at s).port log }
 
 -- the port stands where it stood, between two calls, with the same machine
@@ -103,7 +103,7 @@ pub record HasBegunCollect (s t : Stand) (j w : ℕ) : Type 0 where
 
 -- These words name records of the arena, and the public stamps of those are the stamps that these components had behind the first n entries
 -- of the one history.
-abbrev pub NameStamps : Seated → ℕ → List ℕ → List ℕ → Type 0
+abbrev pub NameStamps : SeatedPort → ℕ → List ℕ → List ℕ → Type 0
 NameStamps x n js ws = (k : ℕ) → k < length js → (value_word (unsealed (slice_index ws k)) < total x.about.sizes)
     × (public_of (plan_of x.about) x.port.before (slice_index js k) (unsealed (slice_index ws k)) ≡ stamp_at x n (slice_index js k))
 
@@ -114,15 +114,15 @@ pub record MadeNamed (s t : Stand) (which values ws : List ℕ) : Type 0 where
 
 -- the same over a whole call
 pub record ScannedNamed (s t : Stand) (which values ws : List ℕ) : Type 0 where
-  pub scanned : HasScanned s t which values 2 None
+  pub scanned : HasNotedScan s t which values 2 None
   pub stamps : NameStamps (port_at t) scanned.place which ws
 
 -- the port has scanned by a double collect, and these are the public stamps of its components at the place of the scan
 pub record ScannedStamped (s t : Stand) (which values stamps : List ℕ) : Type 0 where
-  pub scanned : HasScanned s t which values 2 None
+  pub scanned : HasNotedScan s t which values 2 None
   pub stamps_are : stamps ≡ map (λ j. stamp_at (port_at t) scanned.place j) which
 
 -- the first n of these are the public stamps of the records that these words name
-abbrev pub ArePublic : Seated → List ℕ → List ℕ → List ℕ → ℕ → Type 0
+abbrev pub ArePublic : SeatedPort → List ℕ → List ℕ → List ℕ → ℕ → Type 0
 ArePublic x js ws ss n =
     (k : ℕ) → k < n → slice_index ss k ≡ public_of (plan_of x.about) x.port.before (slice_index js k) (unsealed (slice_index ws k))

@@ -4,12 +4,12 @@ use Rattle.atomic_table.specs.Seated.{TableId}
 use Rattle.partial_epochs.specs.Layout.{base, whole}
 use Rattle.partial_long_lived.specs.declared.rule.About.{About}
 use Rattle.partial_long_lived.specs.declared.stand.Stand.{Stand}
-use Rattle.partial_long_lived.specs.Rule.{Seated, one_of, plan_of}
+use Rattle.partial_long_lived.specs.Rule.{SeatedPort, one_of, plan_of}
 use Rattle.partial_long_lived.specs.Shape.{IsShapeOf}
-use Rattle.partial_long_lived.specs.Inner.Steps.{IsKnown, IsOne}
+use Rattle.partial_long_lived.specs.Inner.Steps.{IsSeatKnown, IsOne}
 
 -- what is known of the seat's port
-abbrev pub port_at : Stand → Seated
+abbrev pub port_at : Stand → SeatedPort
 port_at s = one_of s.seat.me.0
 
 -- the epoch where the seat's port stands
@@ -23,7 +23,7 @@ pub record IsHeld (table : TableId) (about : About) (s : Stand) : Type 0 where
   pub shape : IsShapeOf s.shape about
   pub one : IsOne s.seat.me
   pub own : (port_at s).about ≡ about
-  pub known : IsKnown (port_at s)
+  pub known : IsSeatKnown (port_at s)
   pub number : s.number ≡ (port_at s).number
   pub epoch : s.epoch ≡ (port_at s).port.control.here.epoch
   pub arena : s.arena ≡ (port_at s).port.control.here.arena

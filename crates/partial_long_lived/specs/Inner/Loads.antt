@@ -13,8 +13,8 @@ use Rattle.partial_words.specs.Record.{value_word}
 use Rattle.partial_epochs.specs.Layout.{base, carried_word, seal, unsealed}
 use Rattle.partial_epochs.specs.History.{carried_behind, history_of, opening_behind}
 use Rattle.partial_epochs.specs.Notes.{having_seen, public_of}
-use Rattle.partial_long_lived.specs.Rule.{Began, Found, Seated, one_of, plan_of}
-use Rattle.partial_long_lived.specs.Inner.Steps.{Begins, tells}
+use Rattle.partial_long_lived.specs.Rule.{Began, Found, SeatedPort, one_of, plan_of}
+use Rattle.partial_long_lived.specs.Inner.Steps.{BeginsWith, tells}
 use Rattle.partial_long_lived.specs.Inner.Moves.{BeganBy}
 
 -- what a port wants of a component word: its record, to answer a read, to compare its stamp with the one that a conditional update with this
@@ -26,23 +26,23 @@ pub data Wish : Type 0 where
   Finds : Wish
 
 -- the opening of the port's epoch
-abbrev pub opening_of : Seated → Opening
+abbrev pub opening_of : SeatedPort → Opening
 opening_of x = opening_behind x.about.opening x.port.before
 
 -- the value of component j behind that history of the port's epoch
-abbrev pub value_seen : Seated → List Applied → ℕ → ℕ
+abbrev pub value_seen : SeatedPort → List Applied → ℕ → ℕ
 value_seen x log j = value_of (opening_of x) log j
 
 -- and its public stamp
-abbrev pub stamp_seen : Seated → List Applied → ℕ → ℕ
+abbrev pub stamp_seen : SeatedPort → List Applied → ℕ → ℕ
 stamp_seen x log j = public_of (plan_of x.about) x.port.before j (stamp_of (opening_of x) log j)
 
 -- the place behind that history
-abbrev pub place_seen : Seated → List Applied → ℕ
+abbrev pub place_seen : SeatedPort → List Applied → ℕ
 place_seen x log = length (history_of (log ∷ x.port.before))
 
 -- what the port notes where its wish is answered
-abbrev pub noted_by : Wish → Seated → List Applied → ℕ → List Noted
+abbrev pub noted_by : Wish → SeatedPort → List Applied → ℕ → List Noted
 noted_by Reads x log j =
     record {
       call = call.Read j;
@@ -59,18 +59,18 @@ noted_by (Expects expected v) x log j =
 noted_by _ x log j = []
 
 -- what the port has found then
-abbrev pub found_by : Wish → Seated → List Applied → ℕ → Option Found
+abbrev pub found_by : Wish → SeatedPort → List Applied → ℕ → Option Found
 found_by Finds x log j = Some (record { component = j; value = value_seen x log j; stamp = stamp_seen x log j })
 found_by _ x log j = x.found
 
 -- A load of the word of component j, by which the port sees its epoch's whole history. The first load of a call answers nothing where the
 -- component is sealed, since the epoch may have passed before the call began.
-pub record Sees (first : Bool) (wish : Wish) (j : ℕ) (x : Seated) (a : ℕ) (y : Seated) : Type 0 where
+pub record SeatSees (first : Bool) (wish : Wish) (j : ℕ) (x : SeatedPort) (a : ℕ) (y : SeatedPort) : Type 0 where
   pub n : Began
   pub began : BeganBy first x n
   pub log : List Applied
   -- what the port had seen begins that history
-  pub begins : Begins x.port.part.seen log
+  pub begins : BeginsWith x.port.part.seen log
   pub is : y ≡ record x {
     port = having_seen x.port log;
     began = n;
@@ -88,7 +88,7 @@ pub record Sees (first : Bool) (wish : Wish) (j : ℕ) (x : Seated) (a : ℕ) (y
   pub time : n.epoch ≤ x.port.control.here.epoch → n.length ≤ place_seen x log
 
 -- A load of word i of the table tells what the port has seen: the value of a record, or a carried stamp.
-pub record Recalls (i : ℕ) (x : Seated) (a : ℕ) (y : Seated) : Type 0 where
+pub record Recalls (i : ℕ) (x : SeatedPort) (a : ℕ) (y : SeatedPort) : Type 0 where
   pub same : y ≡ x
   pub value : (j n : ℕ) → j < x.about.sizes.m → n ≤ length x.port.part.seen →
       i ≡ base (plan_of x.about) x.port.control.here.arena + value_word (stamp_of (opening_of x) (take n x.port.part.seen) j) →
@@ -97,9 +97,9 @@ pub record Recalls (i : ℕ) (x : Seated) (a : ℕ) (y : Seated) : Type 0 where
       a ≡ carried_behind x.about.opening x.port.before j
 
 -- the component of that word of the table, where the seat's port stands
-abbrev pub component_at : Seated → ℕ → ℕ
+abbrev pub component_at : SeatedPort → ℕ → ℕ
 component_at x i = i - base (plan_of x.about) x.port.control.here.arena
 
 -- a load of that word of the table
-abbrev pub sees : {S : Type 0} → Bool → Wish → ℕ → Me S (List Seated) → ℕ → Me S (List Seated) → Type 0
-sees first wish i me = tells (Sees first wish (component_at (one_of me.0) i)) me
+abbrev pub sees : {S : Type 0} → Bool → Wish → ℕ → Me S (List SeatedPort) → ℕ → Me S (List SeatedPort) → Type 0
+sees first wish i me = tells (SeatSees first wish (component_at (one_of me.0) i)) me

@@ -20,10 +20,10 @@ use Rattle.partial_epochs.specs.History.{history_of}
 use Rattle.partial_epochs.specs.Ports.Entering.{Stands}
 use Rattle.partial_epochs.specs.MachineSteps.{MayClaim}
 use Rattle.partial_epochs.specs.Notes.{public_noted}
-use Rattle.partial_long_lived.specs.Rule.{Began, Seated, one_of, plan_of}
+use Rattle.partial_long_lived.specs.Rule.{Began, SeatedPort, one_of, plan_of}
 use Rattle.partial_long_lived.specs.Inner.Steps.{tells}
 use Rattle.partial_long_lived.specs.Inner.Moves.{BeganBy}
-use Rattle.partial_long_lived.specs.Inner.Loads.{Sees, component_at, opening_of}
+use Rattle.partial_long_lived.specs.Inner.Loads.{SeatSees, component_at, opening_of}
 use Rattle.partial_long_lived.specs.Inner.Loads.Wish.{Glances}
 
 -- what the word of a step becomes, and what the step is answered, where the word was n
@@ -39,8 +39,8 @@ told_of (Store w v) n = 0
 told_of _ n = n
 
 -- what the machine is told: a component word's record, without seals
-abbrev pub answered : Plan → Step → ℕ → ℕ
-answered e s n = plain e (word_of s) (told_of s n)
+abbrev pub unsealed_answer : Plan → Step → ℕ → ℕ
+unsealed_answer e s n = plain e (word_of s) (told_of s n)
 
 -- the claim of the pool that is answered so ends past the limit
 abbrev pub over_by : Plan → Step → ℕ → Bool
@@ -53,22 +53,22 @@ IsApart z (Exchange w old new) = z.m ≤ w
 IsApart z _ = ⊤
 
 -- nor does it add to one
-abbrev pub IsBehind : Layout → Step → Type 0
-IsBehind z (Exchange w old new) = z.m ≤ w
-IsBehind z (Add w k) = z.m ≤ w
-IsBehind z _ = ⊤
+abbrev pub LeavesComponents : Layout → Step → Type 0
+LeavesComponents z (Exchange w old new) = z.m ≤ w
+LeavesComponents z (Add w k) = z.m ≤ w
+LeavesComponents z _ = ⊤
 
 -- a conditional update of the port's machine expects a stamp that its component has had in the epoch
-abbrev pub ExpectsSeen : Seated → CoreState → Type 0
+abbrev pub ExpectsSeen : SeatedPort → CoreState → Type 0
 ExpectsSeen x c = (j s v : ℕ) → call_of (begun_with c x.port.part) ≡ Some (call.UpdateIf j s v) →
     (n : ℕ) × (n ≤ length x.port.part.seen) × (s ≡ stamp_of (opening_of x) (take n x.port.part.seen) j)
 
 -- the port's earlier notes show no more than it had seen as the machine's call began
-abbrev pub IsShown : Seated → CoreState → Type 0
+abbrev pub IsShown : SeatedPort → CoreState → Type 0
 IsShown x c = (is_begun c.stage ≡ true) ⊎ (seen_by 0 x.notes ≤ length (history_of x.port.before) + x.port.part.since)
 
 -- the due step of the machine c of a port that stands in an epoch, and may claim there
-pub record MayMake (x : Seated) (c : CoreState) (s : Step) : Type 0 where
+pub record MayMake (x : SeatedPort) (c : CoreState) (s : Step) : Type 0 where
   pub stands : x.port.control.entering ≡ Stands
   pub machine : IsMachineOf c x.port.part
   pub due : step_of c ≡ Some s
@@ -77,7 +77,7 @@ pub record MayMake (x : Seated) (c : CoreState) (s : Step) : Type 0 where
   pub expects : ExpectsSeen x c
 
 -- What such a step tells, answered by a: what the one law of steps tells the machine, and what the port notes over all epochs.
-pub record Makes (first : Bool) (c : CoreState) (s : Step) (x : Seated) (a : ℕ) (y : Seated) : Type 0 where
+pub record SeatMakes (first : Bool) (c : CoreState) (s : Step) (x : SeatedPort) (a : ℕ) (y : SeatedPort) : Type 0 where
   pub n : Began
   pub began : BeganBy first x n
   pub log : List Applied
@@ -99,32 +99,32 @@ abbrev pub MissesSeal : ℕ → ℕ → Type 0
 MissesSeal old a = (a < seal) ⊎ (unsealed a ≢ old)
 
 -- the exchange of a component word finds the record that it expects, but sealed, and tells nothing; or it is a step of the machine
-abbrev pub Exchanges : CoreState → ℕ → Step → Seated → ℕ → Seated → Type 0
+abbrev pub Exchanges : CoreState → ℕ → Step → SeatedPort → ℕ → SeatedPort → Type 0
 Exchanges c old s x a y = (IsSealed a × (unsealed a ≡ old) × (y ≡ x))
-    ⊎ (MissesSeal old a × Makes false c s x (answered (plan_of x.about) s a) y)
+    ⊎ (MissesSeal old a × SeatMakes false c s x (unsealed_answer (plan_of x.about) s a) y)
 
 -- the step of a machine, as the seat is told of it
-abbrev pub makes : {S : Type 0} → Bool → CoreState → Step → Me S (List Seated) → ℕ → Me S (List Seated) → Type 0
-makes first c s me = tells (λ x a y. Makes first c s x (answered (plan_of x.about) s a) y) me
+abbrev pub makes : {S : Type 0} → Bool → CoreState → Step → Me S (List SeatedPort) → ℕ → Me S (List SeatedPort) → Type 0
+makes first c s me = tells (λ x a y. SeatMakes first c s x (unsealed_answer (plan_of x.about) s a) y) me
 
 -- a further step of the call of the seat's port: of the machine to which the port's kept answers lead
-abbrev pub goes_on : {S : Type 0} → Step → Me S (List Seated) → ℕ → Me S (List Seated) → Type 0
+abbrev pub goes_on : {S : Type 0} → Step → Me S (List SeatedPort) → ℕ → Me S (List SeatedPort) → Type 0
 goes_on s me = makes false (core_of (one_of me.0).port.part) s me
 
 -- the exchange of the component of that call
-abbrev pub exchanges : {S : Type 0} → ℕ → Step → Me S (List Seated) → ℕ → Me S (List Seated) → Type 0
+abbrev pub exchanges : {S : Type 0} → ℕ → Step → Me S (List SeatedPort) → ℕ → Me S (List SeatedPort) → Type 0
 exchanges old s me = tells (Exchanges (core_of (one_of me.0).port.part) old s) me
 
 -- the word of the arena where the seat's port stands that is that word of the table
-abbrev pub word_at : {S : Type 0} → Me S (List Seated) → ℕ → ℕ
+abbrev pub word_at : {S : Type 0} → Me S (List SeatedPort) → ℕ → ℕ
 word_at me i = component_at (one_of me.0) i
 
 -- The load of component j by which the machine c of an update begins, in an epoch no older than its call, unless the component is sealed: then
 -- the port only sees it.
-abbrev pub Begins : Bool → CoreState → ℕ → Seated → ℕ → Seated → Type 0
-Begins first c j x a y = (IsSealed a × Sees first Glances j x a y)
-    ⊎ ((a < seal) × Makes first c (Load j) x a y × (y.began.epoch ≤ x.port.control.here.epoch))
+abbrev pub SeatBegins : Bool → CoreState → ℕ → SeatedPort → ℕ → SeatedPort → Type 0
+SeatBegins first c j x a y = (IsSealed a × SeatSees first Glances j x a y)
+    ⊎ ((a < seal) × SeatMakes first c (Load j) x a y × (y.began.epoch ≤ x.port.control.here.epoch))
 
 -- the same of what a seat knows
-abbrev pub begins : {S : Type 0} → Bool → CoreState → ℕ → Me S (List Seated) → ℕ → Me S (List Seated) → Type 0
-begins first c i me = tells (Begins first c (component_at (one_of me.0) i)) me
+abbrev pub begins : {S : Type 0} → Bool → CoreState → ℕ → Me S (List SeatedPort) → ℕ → Me S (List SeatedPort) → Type 0
+begins first c i me = tells (SeatBegins first c (component_at (one_of me.0) i)) me

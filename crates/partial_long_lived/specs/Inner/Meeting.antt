@@ -3,15 +3,15 @@ use Rattle.std.specs.Prelude.{ℕ, ◌≡◌, ◌<◌, ◌≤◌, List, [], ◌�
 use Rattle.atomic_table.specs.Table.{Me}
 use Rattle.partial_model.specs.declared.history.Applied.{Applied}
 use Rattle.partial_epochs.specs.Notes.{having_seen}
-use Rattle.partial_long_lived.specs.Rule.{Began, Seated, one_of, others_of}
+use Rattle.partial_long_lived.specs.Rule.{Began, SeatedPort, one_of, further_ports}
 use Rattle.partial_long_lived.specs.Ports.{seen_in}
 use Rattle.partial_long_lived.specs.declared.stand.Stand.{Stand}
 use Rattle.partial_long_lived.specs.Inner.Calls.{HasCome}
 use Rattle.partial_long_lived.specs.Inner.Held.{port_at}
-use Rattle.partial_long_lived.specs.Inner.Steps.{Begins, Goes}
+use Rattle.partial_long_lived.specs.Inner.Steps.{BeginsWith, SeatGoes}
 
 -- The port x sees all of its epoch by the first step of a call, beside the port y, and is z then.
-pub record Observes (x y z : Seated) : Type 0 where
+pub record Observes (x y z : SeatedPort) : Type 0 where
   pub n : Began
   pub log : List Applied
   pub is : z ≡ record x { port = having_seen x.port log; began = n }
@@ -19,21 +19,21 @@ pub record Observes (x y z : Seated) : Type 0 where
   -- the call begins in no epoch before that of y
   pub late : y.port.control.here.epoch ≤ n.epoch
   -- where y stands in no later epoch, x has seen all that y has seen
-  pub all : y.port.control.here.epoch ≤ x.port.control.here.epoch → Begins (seen_in y.port) (seen_in z.port)
+  pub all : y.port.control.here.epoch ≤ x.port.control.here.epoch → BeginsWith (seen_in y.port) (seen_in z.port)
   -- where it stands in a later one, y has seen all that x had seen
-  pub before : x.port.control.here.epoch < y.port.control.here.epoch → Begins (seen_in x.port) (seen_in y.port)
+  pub before : x.port.control.here.epoch < y.port.control.here.epoch → BeginsWith (seen_in x.port) (seen_in y.port)
 
 -- the second port of a view
-abbrev pub second_of : List Seated → Seated
-second_of v = one_of (others_of v)
+abbrev pub second_of : List SeatedPort → SeatedPort
+second_of v = one_of (further_ports v)
 
 -- the step of a seat of two ports by which the first one sees all of its epoch
-abbrev pub observes : {S : Type 0} → Me S (List Seated) → ℕ → Me S (List Seated) → Type 0
-observes me a me' = (me'.0 ≡ one_of me'.0 ∷ second_of me.0 ∷ []) × (me'.1 ≡ []) × Goes (one_of me.0) (one_of me'.0)
+abbrev pub observes : {S : Type 0} → Me S (List SeatedPort) → ℕ → Me S (List SeatedPort) → Type 0
+observes me a me' = (me'.0 ≡ one_of me'.0 ∷ second_of me.0 ∷ []) × (me'.1 ≡ []) × SeatGoes (one_of me.0) (one_of me'.0)
     × Observes (one_of me.0) (second_of me.0) (one_of me'.0)
 
 -- A port that has met another one stands where it stood, or in a later epoch, and has noted nothing. It has seen all that the other one had seen.
 pub record HasMet (s other t : Stand) : Type 0 where
   pub come : HasCome s t
   pub notes : (port_at t).notes ≡ (port_at s).notes
-  pub all : Begins (seen_in (port_at other).port) (seen_in (port_at t).port)
+  pub all : BeginsWith (seen_in (port_at other).port) (seen_in (port_at t).port)

@@ -9,7 +9,7 @@ use Rattle.partial_epochs.specs.Entering.{arrived, having_passed}
 use Rattle.partial_epochs.specs.Sealing.{passing}
 use Rattle.partial_epochs.specs.Owning.{cleaner, having_given, having_loaded, having_looked, just_taken, owning}
 use Rattle.partial_epochs.specs.Publishing.{having_published, having_set}
-use Rattle.partial_long_lived.specs.Rule.{Began, Seated, plan_of}
+use Rattle.partial_long_lived.specs.Rule.{Began, SeatedPort, plan_of}
 use Rattle.partial_long_lived.specs.Ports.{seen_in}
 
 -- the place that a word names
@@ -17,11 +17,11 @@ abbrev pub unpacked : ℕ → Place
 unpacked w = record { epoch = w / arena_limit; arena = w % arena_limit }
 
 -- the seat of the port once it is so, in a call that began then
-abbrev pub becomes : Seated → Began → Port → Seated
+abbrev pub becomes : SeatedPort → Began → Port → SeatedPort
 becomes x n p = record x { port = p; began = n }
 
 -- when the call of a step began: as it did before; or with this step, when all that had been seen lay in the history
-abbrev pub BeganBy : Bool → Seated → Began → Type 0
+abbrev pub BeganBy : Bool → SeatedPort → Began → Type 0
 BeganBy true x n = length (seen_in x.port) ≤ n.length
 BeganBy false x n = n ≡ x.began
 
@@ -34,8 +34,8 @@ abbrev pub looked_at : ℕ → Port → Port
 looked_at a p = if a == packed p.control.here then having_found p else having_passed p
 
 -- a look, perhaps as the first step of a call: where the port's own place is the current one, the call began in no later epoch
-abbrev pub Looks : Bool → Seated → ℕ → Seated → Type 0
-Looks first x a y = (n : Began) × BeganBy first x n × (y ≡ becomes x n (looked_at a x.port))
+abbrev pub SeatLooks : Bool → SeatedPort → ℕ → SeatedPort → Type 0
+SeatLooks first x a y = (n : Began) × BeganBy first x n × (y ≡ becomes x n (looked_at a x.port))
     × (a ≡ packed x.port.control.here → n.epoch ≤ x.port.control.here.epoch)
 
 -- a port that has stored its mark, with which entering begins
@@ -43,7 +43,7 @@ abbrev pub marks : Port → Port
 marks p = record p { control = record p.control { entering = Marks } }
 
 -- the first: the store of the mark
-abbrev pub StoresMark : Seated → ℕ → Seated → Type 0
+abbrev pub StoresMark : SeatedPort → ℕ → SeatedPort → Type 0
 StoresMark x a y = y ≡ becomes x x.began (marks x.port)
 
 -- a port that has loaded the place c as the current one
@@ -51,7 +51,7 @@ abbrev pub loads : Place → Port → Port
 loads c p = record p { control = record p.control { entering = Loaded c } }
 
 -- the second: the load of the current word, which names a place
-abbrev pub LoadsCurrent : Seated → ℕ → Seated → Type 0
+abbrev pub LoadsCurrent : SeatedPort → ℕ → SeatedPort → Type 0
 LoadsCurrent x a y = (a ≡ packed (unpacked a)) × IsPlace (plan_of x.about) (unpacked a)
     × (y ≡ becomes x x.began (loads (unpacked a) x.port))
 
@@ -60,8 +60,8 @@ abbrev pub place_found : Port → Place → ℕ → Place
 place_found p c a = if a == marked p.control.here then c else unpacked a
 
 -- the third: the port comes to a later epoch, with a new part there
-abbrev pub Arrives : Place → Seated → ℕ → Seated → Type 0
-Arrives c x a y = (before : List (List Applied)) × (x.port.control.here.epoch < (place_found x.port c a).epoch)
+abbrev pub SeatArrives : Place → SeatedPort → ℕ → SeatedPort → Type 0
+SeatArrives c x a y = (before : List (List Applied)) × (x.port.control.here.epoch < (place_found x.port c a).epoch)
     × (x.began.epoch ≤ (place_found x.port c a).epoch)
     × (y ≡ record x { port = arrived (plan_of x.about) x.number (place_found x.port c a) before; found = None })
 
@@ -70,11 +70,11 @@ abbrev pub passed_at : ℕ → Port → Port
 passed_at a p = if nat_lt a seal then p else passing p
 
 -- that load
-abbrev pub PassesSealed : Seated → ℕ → Seated → Type 0
+abbrev pub PassesSealed : SeatedPort → ℕ → SeatedPort → Type 0
 PassesSealed x a y = y ≡ becomes x x.began (passed_at a x.port)
 
 -- a seal
-abbrev pub Seals : Seated → ℕ → Seated → Type 0
+abbrev pub Seals : SeatedPort → ℕ → SeatedPort → Type 0
 Seals x a y = y ≡ becomes x x.began (passing x.port)
 
 -- a port that has exchanged the owner word of arena i, and found a
@@ -82,12 +82,12 @@ abbrev pub taken_at : ℕ → ℕ → Port → Port
 taken_at i a p = if a == 0 then owning p (just_taken i) else p
 
 -- that exchange
-abbrev pub Takes : ℕ → Seated → ℕ → Seated → Type 0
+abbrev pub Takes : ℕ → SeatedPort → ℕ → SeatedPort → Type 0
 Takes i x a y = y ≡ becomes x x.began (taken_at i a x.port)
 
 -- the store that gives the arena back
-abbrev pub Gives : Seated → ℕ → Seated → Type 0
-Gives x a y = y ≡ becomes x x.began (having_given x.port)
+abbrev pub SeatGives : SeatedPort → ℕ → SeatedPort → Type 0
+SeatGives x a y = y ≡ becomes x x.began (having_given x.port)
 
 -- what an owner does with the word of the next port, which is the unmarked word a: it is done with that port if the port is in another arena
 abbrev pub elsewhere : ℕ → Owned → Owned
@@ -98,7 +98,7 @@ abbrev pub port_loaded : ℕ → Owned → Owned
 port_loaded a o = if nat_lt a entering_mark then elsewhere a o else having_loaded o (unpacked (a - entering_mark))
 
 -- that load, by the owner o
-abbrev pub LoadsPort : Owned → Seated → ℕ → Seated → Type 0
+abbrev pub LoadsPort : Owned → SeatedPort → ℕ → SeatedPort → Type 0
 LoadsPort o x a y = y ≡ becomes x x.began (owning x.port (port_loaded a o))
 
 -- an owner that has exchanged the mark m of that port for its own place, and found a
@@ -106,13 +106,13 @@ abbrev pub port_put : Place → ℕ → Owned → Owned
 port_put m a o = if a == marked m then cleaner o else (if nat_lt a entering_mark then elsewhere a o else o)
 
 -- that exchange, by the owner o
-abbrev pub PutsPort : Owned → Place → Seated → ℕ → Seated → Type 0
+abbrev pub PutsPort : Owned → Place → SeatedPort → ℕ → SeatedPort → Type 0
 PutsPort o m x a y = y ≡ becomes x x.began (owning x.port (port_put m a o))
 
 -- a store by which the words of the owned arena below that number count as set
-abbrev pub Sets : Owned → ℕ → Seated → ℕ → Seated → Type 0
+abbrev pub Sets : Owned → ℕ → SeatedPort → ℕ → SeatedPort → Type 0
 Sets o next x a y = y ≡ becomes x x.began (having_set x.port o next)
 
 -- the exchange of the current word
-abbrev pub Publishes : Owned → Seated → ℕ → Seated → Type 0
-Publishes o x a y = y ≡ becomes x x.began (having_published x.port o)
+abbrev pub SeatPublishes : Owned → SeatedPort → ℕ → SeatedPort → Type 0
+SeatPublishes o x a y = y ≡ becomes x x.began (having_published x.port o)

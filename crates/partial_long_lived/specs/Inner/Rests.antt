@@ -7,7 +7,7 @@ use Rattle.partial_core.specs.Part.{IsBetween}
 use Rattle.partial_long_lived.specs.declared.error.Refused.{Refused}
 use Rattle.partial_long_lived.specs.declared.stand.Stand.{Stand}
 use Rattle.partial_long_lived.specs.Inner.Calls.{IsIdle}
-use Rattle.partial_long_lived.specs.Inner.Steps.{Goes}
+use Rattle.partial_long_lived.specs.Inner.Steps.{SeatGoes}
 use Rattle.partial_long_lived.specs.Inner.Changing.{IsCause}
 use Rattle.partial_long_lived.specs.Inner.Held.{port_at}
 
@@ -23,6 +23,6 @@ pub record RestsAt (t : Stand) (core : CoreState) (spent : Bool) : Type 0 where
 
 -- The scan is refused, since the epoch can't be changed: the port has noted nothing.
 pub record NotScanned (s t : Stand) (cause : Refused) : Type 0 where
-  pub goes : Goes (port_at s) (port_at t)
+  pub goes : SeatGoes (port_at s) (port_at t)
   pub notes : (port_at t).notes ≡ (port_at s).notes
   pub why : IsCause t cause

@@ -13,16 +13,16 @@ use Rattle.partial_machine.specs.Possible.{IsPossible}
 use Rattle.partial_core.specs.Part.{IsBetween}
 use Rattle.partial_epochs.specs.History.{public_stamp}
 use Rattle.partial_long_lived.specs.declared.stand.Stand.{Stand}
-use Rattle.partial_long_lived.specs.Rule.{Seated, plan_of}
+use Rattle.partial_long_lived.specs.Rule.{SeatedPort, plan_of}
 use Rattle.partial_long_lived.specs.Ports.{seen_in}
-use Rattle.partial_long_lived.specs.Inner.Steps.{Goes}
+use Rattle.partial_long_lived.specs.Inner.Steps.{SeatGoes}
 use Rattle.partial_long_lived.specs.Inner.Held.{port_at}
-use Rattle.partial_long_lived.specs.Inner.Calls.{HasCome, IsIdle, Kept}
+use Rattle.partial_long_lived.specs.Inner.Calls.{HasCome, IsIdle, StaysAt}
 use Rattle.partial_long_lived.specs.Inner.Machine.{over_by}
 use Rattle.partial_long_lived.specs.Inner.Under.{CallMade, machine_at}
 
 -- Between calls the port's machine is at rest, and has no mark for the pool or the slots.
-pub record RestsUnmarked (x : Seated) (core : CoreState) : Type 0 where
+pub record RestsUnmarked (x : SeatedPort) (core : CoreState) : Type 0 where
   pub between : IsBetween x.port.part core
   pub sizes : core.sizes ≡ x.about.sizes
   pub port : core.port ≡ x.number
@@ -38,7 +38,7 @@ pub record SettledFirst (s t : Stand) : Type 0 where
 
 -- The machine b has begun a scan of n positions where the port stands. The claim of its announcement was answered by a.
 pub record ScanBegun (b : CoreState) (n : ℕ) (s : Stand) (a : ℕ) (t : Stand) : Type 0 where
-  pub kept : Kept s t
+  pub kept : StaysAt s t
   pub made : CallMade b (port_at s) (machine_at t) (port_at t)
   pub machine : machine_at t ≡ advance b a
   pub possible : IsPossible b a
@@ -59,7 +59,7 @@ pub record ScanMade (s t : Stand) (which values : List ℕ) (collects : ℕ) (bo
   pub shape : t.shape ≡ s.shape
   pub number : t.number ≡ s.number
   pub epoch : t.epoch ≡ s.epoch
-  pub goes : Goes (port_at s) (port_at t)
+  pub goes : SeatGoes (port_at s) (port_at t)
   pub idle : IsIdle t
   pub began : (port_at t).began ≡ (port_at s).began
   pub place : ℕ
@@ -68,11 +68,11 @@ pub record ScanMade (s t : Stand) (which values : List ℕ) (collects : ℕ) (bo
   pub within : place ≤ length (seen_in (port_at t).port)
 
 -- The port has scanned, where it stood or in a later epoch: what it has noted is this answer, at a place that is not before its call began.
-pub record HasScanned (s t : Stand) (which values : List ℕ) (collects : ℕ) (borrowed : Option ℕ) : Type 0 where
+pub record HasNotedScan (s t : Stand) (which values : List ℕ) (collects : ℕ) (borrowed : Option ℕ) : Type 0 where
   pub shape : t.shape ≡ s.shape
   pub number : t.number ≡ s.number
   pub later : s.epoch ≤ t.epoch
-  pub goes : Goes (port_at s) (port_at t)
+  pub goes : SeatGoes (port_at s) (port_at t)
   pub idle : IsIdle t
   pub place : ℕ
   pub notes : (port_at t).notes ≡ (port_at s).notes ++ noted_scan t.epoch which values collects borrowed place ∷ []

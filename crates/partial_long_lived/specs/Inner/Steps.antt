@@ -4,8 +4,8 @@ use Rattle.std.specs.List.{AllByRecursion}
 use Rattle.atomic_table.specs.Table.{Me}
 use Rattle.partial_model.specs.declared.history.Applied.{Applied}
 use Rattle.partial_epochs.specs.Layout.{IsPlace}
-use Rattle.partial_epochs.specs.Epochs.{IsPlan}
-use Rattle.partial_long_lived.specs.Rule.{Seated, one_of, plan_of}
+use Rattle.partial_epochs.specs.Epochs.{IsEpochPlan}
+use Rattle.partial_long_lived.specs.Rule.{SeatedPort, one_of, plan_of}
 use Rattle.partial_long_lived.specs.Ports.{Knows, seen_in}
 
 -- each public stamp fits a word
@@ -13,8 +13,8 @@ pub record HasStampsInWords (h : List Applied) : Type 0 where
   pub each : AllByRecursion (λ e. e.stamp < 18446744073709551616) h
 
 -- what is known of a seat, whatever its port does
-pub record IsKnown (x : Seated) : Type 0 where
-  pub plan : IsPlan (plan_of x.about)
+pub record IsSeatKnown (x : SeatedPort) : Type 0 where
+  pub plan : IsEpochPlan (plan_of x.about)
   pub number : x.number < x.about.ports
   pub place : IsPlace (plan_of x.about) x.port.control.here
   pub epoch : length x.port.before ≡ x.port.control.here.epoch
@@ -22,20 +22,20 @@ pub record IsKnown (x : Seated) : Type 0 where
   pub fits : HasStampsInWords (seen_in x.port)
 
 -- the second history begins with the first
-abbrev pub Begins : List Applied → List Applied → Type 0
-Begins h l = (rest : List Applied) × (l ≡ h ++ rest)
+abbrev pub BeginsWith : List Applied → List Applied → Type 0
+BeginsWith h l = (rest : List Applied) × (l ≡ h ++ rest)
 
 -- by a step a seat stays that of its port, which has seen no less than before
-pub record Goes (x y : Seated) : Type 0 where
+pub record SeatGoes (x y : SeatedPort) : Type 0 where
   pub about : y.about ≡ x.about
   pub number : y.number ≡ x.number
-  pub seen : Begins (seen_in x.port) (seen_in y.port)
-  pub known : IsKnown y
+  pub seen : BeginsWith (seen_in x.port) (seen_in y.port)
+  pub known : IsSeatKnown y
 
 -- the seat is of one port, and has no slot
-abbrev pub IsOne : {S : Type 0} → Me S (List Seated) → Type 0
+abbrev pub IsOne : {S : Type 0} → Me S (List SeatedPort) → Type 0
 IsOne me = (me.0 ≡ one_of me.0 ∷ []) × (me.1 ≡ [])
 
 -- what a step tells the seat of one port: it goes on, and what the step says in particular
-abbrev pub tells : {S : Type 0} → (Seated → ℕ → Seated → Type 0) → Me S (List Seated) → ℕ → Me S (List Seated) → Type 0
-tells R me a me' = IsOne me' × Goes (one_of me.0) (one_of me'.0) × R (one_of me.0) a (one_of me'.0)
+abbrev pub tells : {S : Type 0} → (SeatedPort → ℕ → SeatedPort → Type 0) → Me S (List SeatedPort) → ℕ → Me S (List SeatedPort) → Type 0
+tells R me a me' = IsOne me' × SeatGoes (one_of me.0) (one_of me'.0) × R (one_of me.0) a (one_of me'.0)

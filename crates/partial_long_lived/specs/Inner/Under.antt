@@ -17,8 +17,8 @@ use Rattle.partial_epochs.specs.Notes.{public_noted}
 use Rattle.partial_epochs.specs.Ports.Entering.{Stands}
 use Rattle.partial_long_lived.specs.declared.rule.About.{About}
 use Rattle.partial_long_lived.specs.declared.stand.Stand.{Stand}
-use Rattle.partial_long_lived.specs.Rule.{Seated, plan_of}
-use Rattle.partial_long_lived.specs.Inner.Steps.{Goes}
+use Rattle.partial_long_lived.specs.Rule.{SeatedPort, plan_of}
+use Rattle.partial_long_lived.specs.Inner.Steps.{SeatGoes}
 use Rattle.partial_long_lived.specs.Inner.Held.{IsHeld, port_at}
 use Rattle.partial_long_lived.specs.Inner.Loads.{opening_of}
 use Rattle.partial_long_lived.specs.Inner.Machine.{ExpectsSeen}
@@ -33,13 +33,13 @@ before_claim ScanBegun = true
 before_claim _ = false
 
 -- where the record of an update lies that has been claimed
-abbrev pub claim_of : Stage → Option ℕ
-claim_of (StoringRecord c old at k) = Some at
-claim_of (Exchanging c old at) = Some at
-claim_of _ = None
+abbrev pub record_claim : Stage → Option ℕ
+record_claim (StoringRecord c old at k) = Some at
+record_claim (Exchanging c old at) = Some at
+record_claim _ = None
 
 -- the machine b may begin a call at the port x, which has made no claim past the limit
-pub record MayBegin (b : CoreState) (x : Seated) : Type 0 where
+pub record MayBegin (b : CoreState) (x : SeatedPort) : Type 0 where
   pub stands : x.port.control.entering ≡ Stands
   pub begun : HasBegun b x.port.part
   pub sound : IsSound b
@@ -50,8 +50,8 @@ pub record MayBegin (b : CoreState) (x : Seated) : Type 0 where
   pub expects : ExpectsSeen x b
 
 -- The call has made some steps, which have led to the machine c and the port y.
-pub record CallMade (b : CoreState) (x : Seated) (c : CoreState) (y : Seated) : Type 0 where
-  pub goes : Goes x y
+pub record CallMade (b : CoreState) (x : SeatedPort) (c : CoreState) (y : SeatedPort) : Type 0 where
+  pub goes : SeatGoes x y
   pub control : y.port.control ≡ x.port.control
   pub before : y.port.before ≡ x.port.before
   pub passed : y.port.passed ≡ x.port.passed
@@ -59,7 +59,7 @@ pub record CallMade (b : CoreState) (x : Seated) (c : CoreState) (y : Seated) : 
   -- it has made no claim past the limit before its claim
   pub spare : before_claim c.stage ≡ true → y.port.over ≡ false
   -- its claim ends past the limit only where a greatest record would
-  pub claimed : (at : ℕ) → claim_of c.stage ≡ Some at → (y.port.over ≡ false) ⊎ (x.about.limit < at + greatest_record x.about.sizes)
+  pub claimed : (at : ℕ) → record_claim c.stage ≡ Some at → (y.port.over ≡ false) ⊎ (x.about.limit < at + greatest_record x.about.sizes)
   -- the machine has no marks
   pub unmarked : (c.pool_spent ≡ false) × (c.slots_spent ≡ false)
   -- it isn't refused
@@ -72,8 +72,8 @@ pub record CallMade (b : CoreState) (x : Seated) (c : CoreState) (y : Seated) : 
   pub time : y.began.epoch ≤ y.port.control.here.epoch → y.began.length ≤ length (history_of y.port.before) + first_at y.port.part.kept
 
 -- the call of the port is under way, or over
-abbrev pub IsUnderWay : Seated → Type 0
-IsUnderWay y = (b : CoreState) × (x : Seated) × MayBegin b x × CallMade b x (core_of y.port.part) y
+abbrev pub IsUnderWay : SeatedPort → Type 0
+IsUnderWay y = (b : CoreState) × (x : SeatedPort) × MayBegin b x × CallMade b x (core_of y.port.part) y
 
 -- the machine of the seat's port
 abbrev pub machine_at : Stand → CoreState
@@ -85,7 +85,7 @@ pub record IsGoing (table : TableId) (about : About) (s : Stand) : Type 0 where
   pub under : IsUnderWay (port_at s)
 
 -- from the one stand the call has come to the other by further steps
-pub record Leads (s t : Stand) : Type 0 where
+pub record ComesTo (s t : Stand) : Type 0 where
   pub shape : t.shape ≡ s.shape
   pub number : t.number ≡ s.number
   pub epoch : t.epoch ≡ s.epoch
@@ -93,13 +93,14 @@ pub record Leads (s t : Stand) : Type 0 where
   pub base : t.base ≡ s.base
   pub passed : t.passed ≡ s.passed
   pub began : (port_at t).began ≡ (port_at s).began
-  pub call : (b : CoreState) (x : Seated) → MayBegin b x → CallMade b x (machine_at s) (port_at s) → CallMade b x (machine_at t) (port_at t)
+  pub call : (b : CoreState) (x : SeatedPort) → MayBegin b x → CallMade b x (machine_at s) (port_at s) →
+      CallMade b x (machine_at t) (port_at t)
   -- behind its claim a call makes no other
   pub over : before_claim (machine_at s).stage ≡ false → (before_claim (machine_at t).stage ≡ false)
       × ((port_at t).port.over ≡ (port_at s).port.over)
 
 -- by no step a call stays where it is
-pub leads_itself : (s : Stand) → Leads s s
+pub leads_itself : (s : Stand) → ComesTo s s
 leads_itself s = record {
   shape = refl;
   number = refl;
@@ -113,7 +114,7 @@ leads_itself s = record {
 }
 
 -- steps follow on steps
-pub leads_on : (s t u : Stand) → Leads s t → Leads t u → Leads s u
+pub leads_on : (s t u : Stand) → ComesTo s t → ComesTo t u → ComesTo s u
 leads_on s t u f g = record {
   shape = g.shape ∙ f.shape;
   number = g.number ∙ f.number;

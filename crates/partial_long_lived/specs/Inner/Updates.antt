@@ -19,13 +19,13 @@ use Rattle.partial_long_lived.specs.declared.answers.Updated.TheVariants as ende
 use Rattle.partial_long_lived.specs.declared.error.Refused.{Refused}
 use Rattle.partial_long_lived.specs.declared.error.Refused.TheVariants.{Overtaken as IsOvertaken}
 use Rattle.partial_long_lived.specs.declared.stand.Stand.{Stand}
-use Rattle.partial_long_lived.specs.Rule.{Seated, plan_of}
+use Rattle.partial_long_lived.specs.Rule.{SeatedPort, plan_of}
 use Rattle.partial_long_lived.specs.Ports.{seen_in}
 use Rattle.partial_long_lived.specs.Inner.Moves.{BeganBy}
-use Rattle.partial_long_lived.specs.Inner.Calls.{IsIdle, Kept}
+use Rattle.partial_long_lived.specs.Inner.Calls.{IsIdle, StaysAt}
 use Rattle.partial_long_lived.specs.Inner.Changing.{IsCause}
 use Rattle.partial_long_lived.specs.Inner.Held.{epoch_at, port_at}
-use Rattle.partial_long_lived.specs.Inner.Steps.{Goes}
+use Rattle.partial_long_lived.specs.Inner.Steps.{SeatGoes}
 use Rattle.partial_long_lived.specs.Inner.Loads.{opening_of}
 use Rattle.partial_long_lived.specs.Inner.Machine.{Exchanges}
 use Rattle.partial_long_lived.specs.Inner.Scans.{RestsUnmarked}
@@ -36,10 +36,10 @@ abbrev pub ExchangeDue : Stand → Change → ℕ → ℕ → ℕ → Stand → 
 ExchangeDue s c old at found t = Exchanges (machine_at s) old (Exchange c.component old at) (port_at s) found (port_at t)
 
 -- what a port notes of an update in that epoch that ended so, with an entry at that place
-abbrev pub noted_update : ℕ → Change → Exchanged → ℕ → Noted
-noted_update epoch c (Applied stamp) place =
+abbrev pub noted_change : ℕ → Change → Exchanged → ℕ → Noted
+noted_change epoch c (Applied stamp) place =
     record { call = call.Update c.component c.value; answer = answer.Applied (public_stamp epoch stamp); note = Some (note.Wrote place) }
-noted_update epoch c (Overtaken by) place =
+noted_change epoch c (Overtaken by) place =
     record { call = call.Update c.component c.value; answer = answer.Lost (public_stamp epoch by); note = Some (note.Lost place) }
 
 -- the public stamp of the record that an update put, or that overwrote it
@@ -53,8 +53,8 @@ public_update epoch (Applied stamp) = ended.Applied (public_stamp epoch stamp)
 public_update epoch (Overtaken by) = ended.Lost (public_stamp epoch by)
 
 -- what a port notes where its update has ended so in its epoch, at that place: a conditional update expected the record at that word
-abbrev pub noted_where : Seated → Option ℕ → Change → Exchanged → ℕ → Noted
-noted_where x None c r place = noted_update (length x.port.before) c r place
+abbrev pub noted_where : SeatedPort → Option ℕ → Change → Exchanged → ℕ → Noted
+noted_where x None c r place = noted_change (length x.port.before) c r place
 noted_where x (Some at) c (Applied stamp) place = record {
   call = call.UpdateIf c.component (public_of (plan_of x.about) x.port.before c.component at) c.value;
   answer = answer.Applied (public_stamp (length x.port.before) stamp);
@@ -79,13 +79,13 @@ word_from (Applied stamp) = stamp
 word_from (Overtaken by) = by
 
 -- a conditional update expects a record that its component has had in the epoch, as far as the port has seen
-abbrev pub ExpectsOne : Seated → Change → Type 0
+abbrev pub ExpectsOne : SeatedPort → Change → Type 0
 ExpectsOne x c = IfSome c.expected (λ at.
     (n : ℕ) × (n ≤ length x.port.part.seen) × (at ≡ stamp_of (opening_of x) (take n x.port.part.seen) c.component))
 
 -- The port stands where it stood, in a call that began as before or with its first step here, and owns no arena.
 pub record Stayed (first : Bool) (s t : Stand) : Type 0 where
-  pub kept : Kept s t
+  pub kept : StaysAt s t
   pub idle : IsIdle t
   pub began : BeganBy first (port_at s) (port_at t).began
 
@@ -105,14 +105,14 @@ pub record Attempted (first : Bool) (c : Change) (r : Exchanged) (s t : Stand) :
   pub small : word_from r < stamp_limit
 
 -- the machine is idle, sound, and of the port
-pub record IsOwn (x : Seated) (core : CoreState) : Type 0 where
+pub record IsOwnMachine (x : SeatedPort) (core : CoreState) : Type 0 where
   pub idle : core.stage ≡ Idle
   pub sound : IsSound core
   pub sizes : core.sizes ≡ x.about.sizes
   pub port : core.port ≡ x.number
 
 -- it may begin a call in the port's epoch, where the port has made no claim past the limit
-pub record MayCall (x : Seated) (core : CoreState) : Type 0 where
+pub record MayCall (x : SeatedPort) (core : CoreState) : Type 0 where
   pub rests : RestsUnmarked x core
   pub over : x.port.over ≡ false
 
@@ -125,7 +125,7 @@ IsLate times s cause t = IsCause t cause
 pub record CameBy (first : Bool) (s t : Stand) : Type 0 where
   pub shape : t.shape ≡ s.shape
   pub number : t.number ≡ s.number
-  pub goes : Goes (port_at s) (port_at t)
+  pub goes : SeatGoes (port_at s) (port_at t)
   pub notes : (port_at t).notes ≡ (port_at s).notes
   pub began : BeganBy first (port_at s) (port_at t).began
 
@@ -133,9 +133,9 @@ pub record CameBy (first : Bool) (s t : Stand) : Type 0 where
 pub record Updated (first : Bool) (c : Change) (r : Exchanged) (s t : Stand) : Type 0 where
   pub shape : t.shape ≡ s.shape
   pub number : t.number ≡ s.number
-  pub goes : Goes (port_at s) (port_at t)
+  pub goes : SeatGoes (port_at s) (port_at t)
   pub began : BeganBy first (port_at s) (port_at t).began
   pub place : ℕ
-  pub notes : (port_at t).notes ≡ (port_at s).notes ++ noted_update t.epoch c r place ∷ []
+  pub notes : (port_at t).notes ≡ (port_at s).notes ++ noted_change t.epoch c r place ∷ []
   pub behind : (port_at t).began.length ≤ place
   pub within : IsEntryOf None r place (length (seen_in (port_at t).port))

@@ -4,14 +4,14 @@
 //! idle. It keeps the marks, what was found and the rows.
 
 ghost use Rattle.std.specs.Prelude.{◌≡◌, ◌==◌, length, map, slice_index, Some, None, true, false, OnOk, IfErr};
-ghost use Rattle.partial_active.specs.GetSet.{fresh as unmarked, step_of};
-ghost use Rattle.partial_embedded.specs.Embedded.{GoTogether, fresh};
+ghost use Rattle.partial_active.specs.GetSet.{fresh_set as unmarked, set_step_due};
+ghost use Rattle.partial_embedded.specs.Embedded.{ViewGoesTogether, fresh_view};
 ghost use Rattle.partial_embedded.specs.declared.embedded.Stage.TheVariants.{Done};
 ghost use Rattle.partial_machine.specs.declared.stage.Stage.TheVariants.{Idle};
-ghost use Rattle.partial_machine.specs.Calls.{scan_refusal, update_refusal};
+ghost use Rattle.partial_machine.specs.Calls.{core_scan_refusal, core_update_refusal};
 ghost use Rattle.partial_machine.specs.Lines.{set_begun, with_embedded, with_set};
 ghost use Rattle.partial_machine.specs.Machine.{getting};
-ghost use Rattle.partial_machine.specs.Sound.{AreComponents};
+ghost use Rattle.partial_machine.specs.Sound.{AreComponentIndices};
 
 use super::{Core, all_below};
 use partial_active::{GetSet, Steps};
@@ -32,8 +32,8 @@ impl Core {
     /// as [`Core::begin_update`].
     #[inline(always)]
     pub fn may_update(&self, index: u32) -> Result<(), Refused>
-        ensures ok { OnOk result (update_refusal self.now index ≡ None) }
-        ensures err { IfErr result (λ cause. update_refusal self.now index ≡ Some cause) }
+        ensures ok { OnOk result (core_update_refusal self.now index ≡ None) }
+        ensures err { IfErr result (λ cause. core_update_refusal self.now index ≡ Some cause) }
     {
         if index >= self.sizes.m() {
             return Err(Refused::Component);
@@ -47,8 +47,8 @@ impl Core {
     /// Checks whether a scan of these components may be made. It is refused for the same causes as
     /// [`Core::begin_scan`].
     pub fn may_scan(&self, components: &[u32]) -> Result<(), Refused>
-        ensures ok { OnOk result (scan_refusal self.now components.now ≡ None) }
-        ensures err { IfErr result (λ cause. scan_refusal self.now components.now ≡ Some cause) }
+        ensures ok { OnOk result (core_scan_refusal self.now components.now ≡ None) }
+        ensures err { IfErr result (λ cause. core_scan_refusal self.now components.now ≡ Some cause) }
     {
         if !all_below(components, self.sizes.m()) {
             return Err(Refused::Component);
@@ -75,7 +75,7 @@ impl Core {
         ensures goes { S.goes steps.new }
         ensures set { S.set steps.new ≡ (result, self.new.found) }
         ensures follows { S.follows steps.old steps.new }
-        ensures done { step_of result ≡ None }
+        ensures done { set_step_due result ≡ None }
         ensures core { self.new ≡ record self.old { found = self.new.found } }
     {
         let begun = GetSet::new(self.sizes, self.get_set.lists_spent());
@@ -113,7 +113,7 @@ impl Core {
     /// [`Core::keep_scan`].
     #[inline(always)]
     pub fn begin_scanning(&self, shares: bool) -> Embedded
-        ensures { result ≡ fresh self.now.sizes shares }
+        ensures { result ≡ fresh_view self.now.sizes shares }
     {
         Embedded::new(self.sizes, shares)
     }
@@ -138,7 +138,7 @@ impl Core {
     ) -> Embedded
         requires idle { self.old.stage ≡ Idle }
         requires sizes { embedded.sizes ≡ self.old.sizes }
-        requires together { GoTogether positions.now (embedded, self.old.rows) }
+        requires together { ViewGoesTogether positions.now (embedded, self.old.rows) }
         requires goes { L.goes loads.old }
         requires scan { L.scan loads.old ≡ (embedded, self.old.rows) }
         requires positions { L.positions loads.old ≡ positions.now }
@@ -157,7 +157,7 @@ impl Core {
     pub fn scan_found<L: Loads>(&mut self, embedded: Embedded, loads: &mut L) -> Embedded
         requires idle { self.old.stage ≡ Idle }
         requires sizes { embedded.sizes ≡ self.old.sizes }
-        requires together { GoTogether self.old.found.indices (embedded, self.old.rows) }
+        requires together { ViewGoesTogether self.old.found.indices (embedded, self.old.rows) }
         requires goes { L.goes loads.old }
         requires scan { L.scan loads.old ≡ (embedded, self.old.rows) }
         requires positions { L.positions loads.old ≡ self.old.found.indices }
@@ -174,7 +174,7 @@ impl Core {
     #[inline(always)]
     pub fn copy_values(&self, components: &[u32], into: &mut [u64])
         requires lengths { length into.old ≡ length components.now }
-        requires components { AreComponents self.now.sizes components.now }
+        requires components { AreComponentIndices self.now.sizes components.now }
         ensures { into.new ≡ map (slice_index self.now.rows.values) components.now }
     {
         self.rows.copy_values(components, into);

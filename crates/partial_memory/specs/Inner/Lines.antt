@@ -6,23 +6,23 @@ use Rattle.partial_words.specs.Layout.{total}
 use Rattle.partial_machine.specs.Machine.{CoreState}
 use Rattle.partial_core.specs.Part.{core_of}
 use Rattle.partial_memory.specs.declared.rule.About.{About}
-use Rattle.partial_memory.specs.Rule.{Seated, IsOne, one_of}
+use Rattle.partial_memory.specs.Rule.{SeatedPort, IsOne, one_of}
 use Rattle.partial_memory.specs.Inner.Steps.{Begins, CallMade}
 
 -- the machine of the seat's port
-abbrev pub machine_of : {S : Type 0} → Me S (List Seated) → CoreState
+abbrev pub machine_of : {S : Type 0} → Me S (List SeatedPort) → CoreState
 machine_of me = core_of (one_of me.0).part
 
 -- the port has begun a call and made some of its steps, or all
-abbrev pub IsUnderWay : Seated → Type 0
-IsUnderWay x = (b : CoreState) × (h : Seated) × Begins b h × CallMade b h (core_of x.part) x
+abbrev pub IsUnderWay : SeatedPort → Type 0
+IsUnderWay x = (b : CoreState) × (h : SeatedPort) × Begins b h × CallMade b h (core_of x.part) x
 
 -- each call that has come to the one port has come to the other
-abbrev pub Leads : Seated → Seated → Type 0
-Leads x y = (b : CoreState) (h : Seated) → Begins b h → CallMade b h (core_of x.part) x → CallMade b h (core_of y.part) y
+abbrev pub ComesTo : SeatedPort → SeatedPort → Type 0
+ComesTo x y = (b : CoreState) (h : SeatedPort) → Begins b h → CallMade b h (core_of x.part) x → CallMade b h (core_of y.part) y
 
 -- the seat is one of the table, and stands for one port of that memory, whose call is under way
-pub record IsGoing {S : Type 0} (table : TableId) (about : About) (here : TableId) (me : Me S (List Seated)) : Type 0 where
+pub record IsGoing {S : Type 0} (table : TableId) (about : About) (here : TableId) (me : Me S (List SeatedPort)) : Type 0 where
   pub fits : here ≡ table
   pub words : table.words ≡ total about.sizes
   pub one : IsOne me
@@ -30,9 +30,9 @@ pub record IsGoing {S : Type 0} (table : TableId) (about : About) (here : TableI
   pub under : IsUnderWay (one_of me.0)
 
 -- by no step a call stays where it is
-pub leads_itself : (x : Seated) → Leads x x
+pub leads_itself : (x : SeatedPort) → ComesTo x x
 leads_itself x b h begins m = m
 
 -- steps follow on steps
-pub leads_on : (x y z : Seated) → Leads x y → Leads y z → Leads x z
+pub leads_on : (x y z : SeatedPort) → ComesTo x y → ComesTo y z → ComesTo x z
 leads_on x y z f g b h begins m = g b h begins (f b h begins m)

@@ -11,10 +11,10 @@ use Rattle.partial_machine.specs.Behind.{refuses_pool, refuses_slots}
 use Rattle.partial_core.specs.Part.{HasBegun, IsMarkedLike}
 use Rattle.partial_core.specs.Calls.{Made}
 use Rattle.partial_memory.specs.declared.rule.About.{About}
-use Rattle.partial_memory.specs.Rule.{Seated, AreByOpened}
+use Rattle.partial_memory.specs.Rule.{SeatedPort, AreByOpened}
 
 -- between two calls: the port x is one of the table and of its memory, and the machine that it keeps is idle and sound
-pub record IsAtRest (table : TableId) (about : About) (here : TableId) (x : Seated) (core : CoreState) : Type 0 where
+pub record IsAtRest (table : TableId) (about : About) (here : TableId) (x : SeatedPort) (core : CoreState) : Type 0 where
   pub fits : here ≡ table
   pub words : table.words ≡ total about.sizes
   pub own : x.about ≡ about
@@ -22,7 +22,7 @@ pub record IsAtRest (table : TableId) (about : About) (here : TableId) (x : Seat
   pub sound : IsSound core
 
 -- the machine b has begun a call at the port x
-pub record Begins (b : CoreState) (x : Seated) : Type 0 where
+pub record Begins (b : CoreState) (x : SeatedPort) : Type 0 where
   pub begun : HasBegun b x.part
   pub sound : IsSound b
   pub layout : IsLayout b.sizes
@@ -30,7 +30,7 @@ pub record Begins (b : CoreState) (x : Seated) : Type 0 where
 
 -- The call has made some steps, which have led to the machine c and the port y. The port comes to be marked exactly where the call is
 -- refused.
-pub record CallMade (b : CoreState) (x : Seated) (c : CoreState) (y : Seated) : Type 0 where
+pub record CallMade (b : CoreState) (x : SeatedPort) (c : CoreState) (y : SeatedPort) : Type 0 where
   pub about : y.about ≡ x.about
   pub made : Made x.about.sizes x.about.opening b x.part c y.part
   pub steps : y.steps ≡ x.steps + length y.part.kept
@@ -39,7 +39,7 @@ pub record CallMade (b : CoreState) (x : Seated) (c : CoreState) (y : Seated) : 
   pub slots : c.slots_spent ≡ (refuses_slots (reply_of c) || b.slots_spent)
 
 -- The call has ended with that reply. The port goes on with an idle machine that has the marks of the call's.
-pub record Ended (b : CoreState) (x : Seated) (r : Reply) (core : CoreState) (y : Seated) : Type 0 where
+pub record Ended (b : CoreState) (x : SeatedPort) (r : Reply) (core : CoreState) (y : SeatedPort) : Type 0 where
   pub machine : CoreState
   pub made : CallMade b x machine y
   pub replies : reply_of machine ≡ Some r
@@ -48,7 +48,7 @@ pub record Ended (b : CoreState) (x : Seated) (r : Reply) (core : CoreState) (y 
   pub sound : IsSound core
 
 -- A scan of these positions has ended so, which the machine before had begun. The machine that goes on has its rows.
-pub record ScanEnded (before : CoreState) (which : List ℕ) (x : Seated) (r : Reply) (core : CoreState) (y : Seated) : Type 0 where
+pub record ScanEnded (before : CoreState) (which : List ℕ) (x : SeatedPort) (r : Reply) (core : CoreState) (y : SeatedPort) : Type 0 where
   pub ended : Ended (scan_asked before which) x r core y
   pub asked : ended.machine.asked ≡ which
   pub rows : core.rows ≡ ended.machine.rows

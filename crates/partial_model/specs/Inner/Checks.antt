@@ -140,9 +140,9 @@ taken [] (k ∷ ks) = None
 taken (i ∷ places) (k ∷ ks) = if i == k then taken places ks else None
 
 -- no place is left
-abbrev pub is_spent : List ℕ → Bool
-is_spent [] = true
-is_spent (k ∷ ks) = false
+abbrev pub no_place_left : List ℕ → Bool
+no_place_left [] = true
+no_place_left (k ∷ ks) = false
 
 -- no entry is by a port between these two
 abbrev pub none_between : ℕ → ℕ → List Applied → Bool
@@ -154,7 +154,7 @@ none_above q h = list_all (λ e. nat_le e.port q) h
 
 -- Port q has these places left when the calls of port p begin: none, unless they are the same.
 abbrev pub may_go_on : List Applied → ℕ → List ℕ → ℕ → Bool
-may_go_on h q places p = (p == q) || (is_spent places && none_between q p h)
+may_go_on h q places p = (p == q) || (no_place_left places && none_between q p h)
 
 -- the places by p that are still to be claimed, where port q has these left
 abbrev pub to_claim : List Applied → ℕ → List ℕ → ℕ → List ℕ
@@ -162,7 +162,7 @@ to_claim h q places p = if p == q then places else places_by p 0 h
 
 -- The calls claim these places of port q, and all places of the ports above it.
 abbrev pub claim_all : List Applied → ℕ → List ℕ → List Called → Bool
-claim_all h q places [] = is_spent places && none_above q h
+claim_all h q places [] = no_place_left places && none_above q h
 claim_all h q places (c ∷ cs) = may_go_on h q places c.port && option_map_or (λ left. claim_all h c.port left cs)
     (taken (to_claim h q places c.port) (claim_of c.finish)) false
 

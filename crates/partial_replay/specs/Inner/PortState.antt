@@ -17,7 +17,7 @@ use Rattle.partial_words.specs.declared.step.Step.TheVariants.{Exchange}
 use Rattle.partial_words.specs.declared.step.Event.{Event}
 use Rattle.partial_words.specs.Layout.{Layout}
 use Rattle.partial_words.specs.Step.{word_of, answer_of, words_after}
-use Rattle.partial_words.specs.Record.{value_of, value_word}
+use Rattle.partial_words.specs.Record.{record_value, value_word}
 use Rattle.partial_machine.specs.declared.stage.Reply.{Reply}
 use Rattle.partial_machine.specs.declared.stage.Stage.TheVariants.{Idle}
 use Rattle.partial_machine.specs.Machine.{CoreState, at_stage, advance, fresh, step_of, reply_of}
@@ -28,7 +28,7 @@ use Rattle.partial_machine.specs.Calls.{is_begun, is_at_rest, call_of, answer_fo
 use Rattle.partial_core.specs.Steps.{begun_with}
 use Rattle.partial_replay.specs.ScanPlace.{HasRecord, HasRecords}
 use Rattle.partial_replay.specs.Trace.{Moment}
-use Rattle.partial_replay.specs.CallSteps.{Makes, IsCallOf, AreStepsOf}
+use Rattle.partial_replay.specs.CallSteps.{Makes, IsCallRun, AreStepsOf}
 use Rattle.partial_replay.specs.Turns.{BeginInTurns}
 use Rattle.partial_replay.specs.Listed.{steps_in, AreFew}
 use Rattle.partial_replay.specs.Place.{IsNoteFrom, HasLeastPlace}
@@ -36,16 +36,16 @@ use Rattle.partial_replay.specs.declared.port.Port.{Port}
 use Rattle.partial_replay.specs.declared.port.UnderWay.{UnderWay}
 
 -- the length of the history at the end of a call, or low where it isn't finished
-abbrev pub end_of : ℕ → Called → ℕ
-end_of low c = option_map_or (λ f. f.ended) c.finish low
+abbrev pub end_of_call : ℕ → Called → ℕ
+end_of_call low c = option_map_or (λ f. f.ended) c.finish low
 
 -- the length of the history at the end of the last of the calls, or low where there is none
 abbrev pub ends_of : ℕ → List Called → ℕ
 ends_of low [] = low
-ends_of low (c ∷ cs) = ends_of (end_of low c) cs
+ends_of low (c ∷ cs) = ends_of (end_of_call low c) cs
 
 -- a call that is finished, and has its place between its begin and its end
-pub record IsFinished (n low : ℕ) (c : Called) : Type 0 where
+pub record IsFinishedCall (n low : ℕ) (c : Called) : Type 0 where
   pub behind : low ≤ c.began
   pub ended : IsSomeAnd c.finish (λ f. (c.began ≤ f.ended) × (f.ended ≤ n) ×
       IfSome f.note (λ note. (c.began ≤ place_of note) × (shown_by note ≤ f.ended)))
@@ -53,14 +53,14 @@ pub record IsFinished (n low : ℕ) (c : Called) : Type 0 where
 -- the finished calls of port p from number k on, one behind the other, in a history of n entries
 abbrev pub AreFinished : ℕ → ℕ → ℕ → ℕ → List Called → Type 0
 AreFinished n p k low [] = ⊤
-AreFinished n p k low (c ∷ cs) = (c.port ≡ p) × (c.number ≡ k) × IsFinished n low c × AreFinished n p (k + 1) (end_of low c) cs
+AreFinished n p k low (c ∷ cs) = (c.port ≡ p) × (c.number ≡ k) × IsFinishedCall n low c × AreFinished n p (k + 1) (end_of_call low c) cs
 
 -- what is noted of the finished calls
 abbrev pub notes_in : List Called → List Noted
 notes_in calls = filter_map noted_of calls
 
 -- the call under way is the plan's next one, began behind the finished ones, and is what the machine has begun
-pub record IsUnderWay (n : ℕ) (calls : List Call) (x : Part) (core : CoreState) (done : List Called) (way : UnderWay) : Type 0 where
+pub record IsCallUnderWay (n : ℕ) (calls : List Call) (x : Part) (core : CoreState) (done : List Called) (way : UnderWay) : Type 0 where
   pub call : Call
   pub next : slice_get calls (length done) ≡ Some call
   pub begun : call_of (begun_with core x) ≡ Some call
@@ -87,12 +87,12 @@ pub record PortFits (o : Opening) (log : List Applied) (calls : List Call) (p : 
   pub bounded : AreFew port.core.sizes port.finished.items
   -- what they saw is the least prefix that shows it
   pub least : AllByRecursion (HasLeastPlace o log) port.finished.items
-  pub way : MatchOption port.under_way (IsBetween x port.core) (IsUnderWay (length log) calls x port.core port.finished.items)
+  pub way : MatchOption port.under_way (IsBetween x port.core) (IsCallUnderWay (length log) calls x port.core port.finished.items)
 
 -- the entry of a won exchange of one of the m component words, whose record stands in the words
 abbrev pub entry_at : ℕ → List ℕ → ℕ → Step → ℕ → List Applied
 entry_at m words port (Exchange j old at) a = if nat_lt j m then
-    (if a == old then record { port = port; component = j; value = value_of words at; stamp = at } ∷ [] else []) else []
+    (if a == old then record { port = port; component = j; value = record_value words at; stamp = at } ∷ [] else []) else []
 entry_at m words port _ a = []
 
 -- the call under way with one step more
@@ -111,7 +111,7 @@ ended_call port number call way ended a note = record {
 }
 
 -- what the machine behind a step makes of its port: the call goes on, or it is finished
-pub record GoesOn (port new : Port) (way : UnderWay) (core : CoreState) : Type 0 where
+pub record CallGoesOn (port new : Port) (way : UnderWay) (core : CoreState) : Type 0 where
   pub machine : new.core ≡ core
   pub finished : new.finished.items ≡ port.finished.items
   pub way' : new.under_way ≡ Some (one_step_more way)
@@ -144,7 +144,7 @@ pub record StepMade (calls : List Call) (words words' : List ℕ) (trace trace' 
   pub log_is : log' ≡ log ++ entry_at port.core.sizes.m words' port.number step (answer_of words step)
   pub number : new.number ≡ port.number
   pub falls : steps_left (core_behind words step port) < steps_left port.core
-  pub after : MatchOption (reply_of (core_behind words step port)) (GoesOn port new way (core_behind words step port))
+  pub after : MatchOption (reply_of (core_behind words step port)) (CallGoesOn port new way (core_behind words step port))
       (Ends calls words' log' port new way (core_behind words step port))
 
 -- a record to be exchanged lies in the words
@@ -153,13 +153,13 @@ IsExchangeWithin m words (Exchange j old at) = j < m → value_word at < length 
 IsExchangeWithin m words _ = ⊤
 
 -- the call is a scan of components that are there, and each has a value
-abbrev pub HasValues : ℕ → Call → List ℕ → Type 0
-HasValues m (call.Scan js) vs = AllByRecursion (λ j. j < m) js × (length vs ≡ length js)
-HasValues m _ vs = ⊥
+abbrev pub ScanHasValues : ℕ → Call → List ℕ → Type 0
+ScanHasValues m (call.Scan js) vs = AllByRecursion (λ j. j < m) js × (length vs ≡ length js)
+ScanHasValues m _ vs = ⊥
 
 -- an answer that the call may have: only a scan answers values
 abbrev pub MayAnswer : ℕ → Call → Answer → Type 0
-MayAnswer m c (answer.Scanned vs collects borrowed) = HasValues m c vs
+MayAnswer m c (answer.Scanned vs collects borrowed) = ScanHasValues m c vs
 MayAnswer m c _ = ⊤
 
 -- the records of the components, and of the entries, lie within the words
@@ -197,7 +197,7 @@ pub record IsDoneAtOnce (p number : ℕ) (call : Call) (seen : ℕ) (s t : CoreS
   pub call' : c.call ≡ call
   pub began : c.began ≡ seen
   pub steps : c.steps ≡ 0
-  pub done : IsCallOf s c [] t
+  pub done : IsCallRun s c [] t
 
 -- a call that is left unfinished
 abbrev pub unfinished_call : ℕ → ℕ → Call → UnderWay → Called
@@ -226,7 +226,8 @@ began_at n [] = n
 began_at n (x ∷ xs) = x.before
 
 -- the call under way has made these events since the machine was at s between calls; the history has n entries
-pub record IsGoing (n : ℕ) (calls : List Call) (done : List Called) (s core : CoreState) (own : List Moment) (way : UnderWay) : Type 0 where
+pub record IsCallGoing (n : ℕ) (calls : List Call) (done : List Called) (s core : CoreState) (own : List Moment) (way : UnderWay) :
+    Type 0 where
   pub call : Call
   pub next : slice_get calls (length done) ≡ Some call
   pub begins : refusal_of s call ≡ None
@@ -241,7 +242,7 @@ pub record PortMade (z : Layout) (n : ℕ) (calls : List Call) (p : ℕ) (xs : L
   pub at : CoreState
   pub is : xs ≡ done ++ own
   pub led : AreStepsOf (fresh z p) port.finished.items done at
-  pub going : MatchOption port.under_way ((own ≡ []) × (port.core ≡ at)) (IsGoing n calls port.finished.items at port.core own)
+  pub going : MatchOption port.under_way ((own ≡ []) × (port.core ≡ at)) (IsCallGoing n calls port.finished.items at port.core own)
 
 -- the port's events are still the steps of its calls
 abbrev pub KeepsMade : List Call → ℕ → Port → Port → Type 0

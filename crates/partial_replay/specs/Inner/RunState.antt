@@ -18,7 +18,7 @@ use Rattle.partial_replay.specs.declared.port.Port.{Port}
 use Rattle.partial_replay.specs.declared.port.UnderWay.{UnderWay}
 use Rattle.partial_replay.specs.declared.run.Run.{Run}
 use Rattle.partial_text.specs.declared.outcome.Outcome.{Outcome}
-use Rattle.partial_replay.specs.Trace.{entry_of, moments_by}
+use Rattle.partial_replay.specs.Trace.{event_entry, moments_by}
 use Rattle.partial_replay.specs.Inner.PortState.{PortFits, PortMade, unfinished_call}
 use Rattle.partial_machine.specs.Calls.{IsServed}
 
@@ -60,24 +60,24 @@ pub record IsRunOf (plans : List (List Call)) (z : Layout) (o : Opening) (words 
   pub fit : PortsFit o log 0 plans parts ports
   pub leads : Leads opened trace words
   -- the won exchanges of component words in the trace are the history, but for the values
-  pub entries : filter_map (entry_of z.m (λ _. 0)) trace ≡ map unvalued log
+  pub entries : filter_map (event_entry z.m (λ _. 0)) trace ≡ map unvalued log
   -- each port's events are the steps of its calls
   pub senders : AllByRecursion (λ e. e.port < length plans) trace
   pub made : ArePortsMade plans z ports log trace
 
 -- the state of a replay of these plans
-abbrev pub IsRun : List (List Call) → Run → Type 0
-IsRun plans run = IsRunOf plans run.memory.sizes run.opening run.memory.words.items run.ports.items
+abbrev pub IsReplayState : List (List Call) → Run → Type 0
+IsReplayState plans run = IsRunOf plans run.memory.sizes run.opening run.memory.words.items run.ports.items
     run.memory.history.items run.memory.trace.items
 
 -- there is room to find the place of a scan
-abbrev pub HasRoom : Run → Type 0
-HasRoom run = run.memory.places ≡ run.memory.sizes.m
+abbrev pub RunHasRoom : Run → Type 0
+RunHasRoom run = run.memory.places ≡ run.memory.sizes.m
 
 -- a replay of these calls: its state is lawful, and there is room to find the places of scans
 pub record IsReplay (plans : List (List Call)) (run : Run) : Type 0 where
-  pub state : IsRun plans run
-  pub room : HasRoom run
+  pub state : IsReplayState plans run
+  pub room : RunHasRoom run
   pub served : ArePlans run.memory.sizes.m plans
 
 -- a replay between two turns: each call under way has made a step
@@ -86,7 +86,7 @@ pub record IsBetweenTurns (plans : List (List Call)) (run : Run) : Type 0 where
   pub started : AreStarted run.ports.items
 
 -- only the ports are others
-pub record IsSameMemory (old new : Run) : Type 0 where
+pub record ChangesPortsOnly (old new : Run) : Type 0 where
   pub memory : new.memory ≡ old.memory
   pub opening : new.opening ≡ old.opening
 
@@ -100,20 +100,21 @@ abbrev pub left_for : Layout → ℕ → ℕ
 left_for z calls = (most_of_update z + 1) * calls
 
 -- how many steps a port has left at most: of the call under way, and of those behind it
-abbrev pub left_of : List Call → Port → ℕ
-left_of calls port = option_map_or (λ way. left_for port.core.sizes (length calls - length port.finished.items - 1) + steps_left port.core)
+abbrev pub port_left : List Call → Port → ℕ
+port_left calls port = option_map_or (λ way. left_for port.core.sizes (length calls - length port.finished.items - 1) +
+    steps_left port.core)
     port.under_way (left_for port.core.sizes (length calls - length port.finished.items))
 
 -- the steps left of the port with that number, where there is one
-abbrev pub left_at : ℕ → List (List Call) → List Port → ℕ
-left_at p [] ports = 0
-left_at p (calls ∷ plans) [] = 0
-left_at zero (calls ∷ plans) (port ∷ ports) = left_of calls port
-left_at (suc p) (calls ∷ plans) (port ∷ ports) = left_at p plans ports
+abbrev pub port_left_at : ℕ → List (List Call) → List Port → ℕ
+port_left_at p [] ports = 0
+port_left_at p (calls ∷ plans) [] = 0
+port_left_at zero (calls ∷ plans) (port ∷ ports) = port_left calls port
+port_left_at (suc p) (calls ∷ plans) (port ∷ ports) = port_left_at p plans ports
 
 -- a call of the port with that number is under way, and any other call under way has made a step
-abbrev pub IsReady : ℕ → Run → Type 0
-IsReady p run = (port : Port) × (way : UnderWay) × (slice_get run.ports.items p ≡ Some port) × (port.under_way ≡ Some way) ×
+abbrev pub IsTurnReady : ℕ → Run → Type 0
+IsTurnReady p run = (port : Port) × (way : UnderWay) × (slice_get run.ports.items p ≡ Some port) × (port.under_way ≡ Some way) ×
     AreStartedBut p run.ports.items
 
 -- so many ports from that number on that have made no call
@@ -145,7 +146,7 @@ AreListed (calls ∷ plans) (port ∷ ports) = (length calls < 2 ^ 32) ×
 AreListed _ _ = ⊥
 
 -- what a replay has come to in the end
-pub record Tells (plans : List (List Call)) (run : Run) (outcome : Outcome) : Type 0 where
+pub record TellsOutcome (plans : List (List Call)) (run : Run) (outcome : Outcome) : Type 0 where
   pub opening : outcome.opening ≡ run.opening
   pub history : outcome.history.items ≡ run.memory.history.items
   pub calls : outcome.calls.items ≡ calls_in plans run.ports.items

@@ -10,7 +10,7 @@ use Rattle.partial_replay.specs.Inner.PortState.{HasTurned}
 use Rattle.partial_replay.specs.Listed.{EndInStep}
 
 -- the port with that number has made all its calls
-pub record IsDone (plans : List (List Call)) (ports : List Port) (p : ℕ) : Type 0 where
+pub record IsPortDone (plans : List (List Call)) (ports : List Port) (p : ℕ) : Type 0 where
   pub calls : List Call
   pub port : Port
   pub plan : slice_get plans p ≡ Some calls
@@ -20,7 +20,7 @@ pub record IsDone (plans : List (List Call)) (ports : List Port) (p : ℕ) : Typ
 
 -- ports that have made all their calls have still made them
 abbrev pub StayDone : List (List Call) → Run → Run → Type 0
-StayDone plans old new = (q : ℕ) → IsDone plans old.ports.items q → IsDone plans new.ports.items q
+StayDone plans old new = (q : ℕ) → IsPortDone plans old.ports.items q → IsPortDone plans new.ports.items q
 
 -- the port with that number has begun no call since its last step
 abbrev pub StopsAtStep : List Port → ℕ → Type 0
@@ -45,8 +45,8 @@ pub record GoesOnBy (n p : ℕ) (old new : Run) : Type 0 where
   pub ports : ports_of events ≡ replicate n p
 
 -- port q has begun its calls in turns in which the history was so long
-abbrev pub HasBegun : ℕ → List (List Call) → ℕ → List ℕ → List Port → Type 0
-HasBegun idle plans q lengths ports = (calls : List Call) (port : Port) →
+abbrev pub BeganInTurns : ℕ → List (List Call) → ℕ → List ℕ → List Port → Type 0
+BeganInTurns idle plans q lengths ports = (calls : List Call) (port : Port) →
     slice_get plans q ≡ Some calls → slice_get ports q ≡ Some port → HasTurned idle calls lengths port
 
 -- the turns that are port q's, of those of port p
@@ -55,18 +55,18 @@ own_turns q p lengths = if p == q then lengths else []
 
 -- in a turn of port p in which the history is so long that port begins its next calls, and no other does
 abbrev pub BeginsIn : List (List Call) → ℕ → ℕ → List Port → List Port → Type 0
-BeginsIn plans p seen old new = (q : ℕ) (lengths : List ℕ) → HasBegun 0 plans q lengths old →
-    (q ≢ p → HasBegun 0 plans q lengths new) × (q ≡ p → HasBegun 1 plans q (lengths ++ seen ∷ []) new)
+BeginsIn plans p seen old new = (q : ℕ) (lengths : List ℕ) → BeganInTurns 0 plans q lengths old →
+    (q ≢ p → BeganInTurns 0 plans q lengths new) × (q ≡ p → BeganInTurns 1 plans q (lengths ++ seen ∷ []) new)
 
 -- in the turn port p then makes a step
 abbrev pub StepsIn : List (List Call) → ℕ → List Port → List Port → Type 0
 StepsIn plans p old new = (q : ℕ) (lengths : List ℕ) →
-    (q ≢ p → HasBegun 0 plans q lengths old) → (q ≡ p → HasBegun 1 plans q lengths old) → HasBegun 0 plans q lengths new
+    (q ≢ p → BeganInTurns 0 plans q lengths old) → (q ≡ p → BeganInTurns 1 plans q lengths old) → BeganInTurns 0 plans q lengths new
 
 -- port p has had turns in which the history was so long, and the ports have begun their calls in their turns
 abbrev pub GoesOnIn : List (List Call) → ℕ → List ℕ → Run → Run → Type 0
 GoesOnIn plans p own old new = (q : ℕ) (lengths : List ℕ) →
-    HasBegun 0 plans q lengths old.ports.items → HasBegun 0 plans q (lengths ++ own_turns q p own) new.ports.items
+    BeganInTurns 0 plans q lengths old.ports.items → BeganInTurns 0 plans q (lengths ++ own_turns q p own) new.ports.items
 
 -- the events of a run from another one on, each with the lengths of the history
 abbrev pub moments_behind : Run → List Event → List Moment
@@ -76,7 +76,7 @@ moments_behind old events = moments_from old.memory.sizes.m (length old.memory.h
 pub record TurnMade (plans : List (List Call)) (p : ℕ) (old : Run) (stepped : Bool) (new : Run) : Type 0 where
   pub made : GoesOnBy (if stepped then 1 else 0) p old new
   pub begun : GoesOnIn plans p (length old.memory.history.items ∷ []) old new
-  pub done : MatchBool stepped (¬ IsDone plans old.ports.items p) (IsDone plans new.ports.items p)
+  pub done : MatchBool stepped (¬ IsPortDone plans old.ports.items p) (IsPortDone plans new.ports.items p)
   pub kept : StayDone plans old new
   pub ending : MatchBool stepped (StayStopped old new) (StayStoppedBut p old new)
 
@@ -84,7 +84,7 @@ pub record TurnMade (plans : List (List Call)) (p : ℕ) (old : Run) (stepped : 
 pub record StepsMade (plans : List (List Call)) (p n : ℕ) (old new : Run) : Type 0 where
   pub made : GoesOnBy n p old new
   pub begun : GoesOnIn plans p (map (λ x. x.before) (moments_behind old made.events)) old new
-  pub none : IsDone plans old.ports.items p → n ≡ 0
+  pub none : IsPortDone plans old.ports.items p → n ≡ 0
   pub kept : StayDone plans old new
 
 -- turns of port p in a row, so many or to its end: it makes a step in each until it has made all its calls
@@ -92,9 +92,9 @@ pub record TurnsMade (plans : List (List Call)) (p : ℕ) (turns : Option ℕ) (
   pub steps : ℕ
   pub made : GoesOnBy steps p old new
   pub begun : GoesOnIn plans p (lengths_of turns (length old.memory.history.items) (moments_behind old made.events)) old new
-  pub none : IsDone plans old.ports.items p → steps ≡ 0
+  pub none : IsPortDone plans old.ports.items p → steps ≡ 0
   pub kept : StayDone plans old new
-  pub all : MatchOption turns (IsDone plans new.ports.items p) (λ k. (steps ≤ k) × (steps < k → IsDone plans new.ports.items p))
+  pub all : MatchOption turns (IsPortDone plans new.ports.items p) (λ k. (steps ≤ k) × (steps < k → IsPortDone plans new.ports.items p))
   pub ending : (q : ℕ) → (q ≡ p → turns ≡ Some steps) → StopsAtStep old.ports.items q → StopsAtStep new.ports.items q
 
 -- Port q has made n steps in an entry, and these events are behind it: a step in each turn until it has made
@@ -115,7 +115,7 @@ StopAtSteps steps run = (q : ℕ) → events_in q (ports_of run.memory.trace.ite
 
 -- the replay has made these turns
 abbrev pub HasMadeTurns : List (List Call) → List (ℕ × Option ℕ) → Run → Type 0
-HasMadeTurns plans turns run = MakeTurns (IsDone plans run.ports.items) turns (ports_of run.memory.trace.items)
+HasMadeTurns plans turns run = MakeTurns (IsPortDone plans run.ports.items) turns (ports_of run.memory.trace.items)
 
 -- how long the history was at each of port q's turns so far, where the replay has made these
 abbrev pub lengths_so_far : ℕ → List (ℕ × Option ℕ) → Run → List ℕ
@@ -124,4 +124,4 @@ lengths_so_far q turns run =
 
 -- each port has begun its calls in its turns
 abbrev pub HaveBegun : List (List Call) → List (ℕ × Option ℕ) → Run → Type 0
-HaveBegun plans turns run = (q : ℕ) → HasBegun 0 plans q (lengths_so_far q turns run) run.ports.items
+HaveBegun plans turns run = (q : ℕ) → BeganInTurns 0 plans q (lengths_so_far q turns run) run.ports.items

@@ -2,7 +2,7 @@ use Rattle.std.proofs.Common.{◌≤◌, length, sym, ap, subst, ◌∙◌, arit
 use Rattle.partial_machine.specs.Lines.{scan_asked}
 use Rattle.partial_machine.specs.Machine.{CoreState, advance}
 use Rattle.partial_machine.specs.Possible.{IsPossible}
-use Rattle.lines_tests.specs.Plain.{Begins}
+use Rattle.lines_tests.specs.Plain.{BeginsOn}
 use Rattle.lines_tests.proofs.Turning.{scan_begins, scan_is}
 use Rattle.lines_tests.proofs.beside.scan_beside.Goals as goal
 
@@ -11,7 +11,7 @@ open-requires-clause-begins c =
     let some = c.requires.some in
     let few = subst (λ (s : CoreState). length c.args.which.now ≤ s.sizes.m) (sym c.in_ok-beside.ensures) c.requires.few in
     let begins = scan_begins c.in_ok-beside.beside c.begin_scan.new.self c.args.which.now few (λ e. omega (arith, some, e)) c.in_default.ensures.ok.0 c.in_default.ensures.ok.1 in
-    subst (λ (s : CoreState). Begins s c.begin_scan.new.self) c.in_ok-beside.ensures begins
+    subst (λ (s : CoreState). BeginsOn s c.begin_scan.new.self) c.in_ok-beside.ensures begins
 
 pub scan-scanned-requires-clause-possible : goal.scan-scanned-requires-clause-possible
 scan-scanned-requires-clause-possible c =

@@ -1,7 +1,7 @@
 use Rattle.std.proofs.Common.{◌≤◌, length, ap, subst, ◌∙◌}
 use Rattle.partial_model.proofs.HistoryLemmas.{opening_is}
 use Rattle.partial_words.specs.Layout.{Layout, pool_base}
-use Rattle.partial_memory.specs.Reopening.{extended}
+use Rattle.partial_memory.specs.Reopening.{extended_values}
 use Rattle.partial_cmd.specs.Reports.{report_of}
 use Rattle.partial_cmd.proofs.Nexts.{both_alike, both_reported}
 use Rattle.partial_cmd.proofs.next.run_both.Goals as goal
@@ -15,7 +15,7 @@ returns g c =
     let first = report_of c.in_ok-first.first in
     let second = report_of c.in_ok-second.second in
     let opening = opening_is c.in_ok-memory.memory.about.opening _ _ (one.values ∙ c.initial.ensures.value) (one.first ∙ ap pool_base c.sizes.ensures.value) in
-    let goes = opening_is c.in_ok-memory-2.memory.about.opening _ _ (other.values ∙ ap (λ (z : Layout). extended z.m first.values.items) c.sizes-2.ensures.value)
+    let goes = opening_is c.in_ok-memory-2.memory.about.opening _ _ (other.values ∙ ap (λ (z : Layout). extended_values z.m first.values.items) c.sizes-2.ensures.value)
     (other.first ∙ ap pool_base c.sizes-2.ensures.value) in
     both_alike p q c.into_report.result c.into_report-2.result first second c.into_report.ensures c.into_report-2.ensures
     (both_reported p q c.in_ok-memory.memory.about.opening c.in_ok-memory-2.memory.about.opening first second opening c.ports.ensures.lawful c.in_ok-first.ensures

@@ -1,5 +1,5 @@
 use Rattle.partial_door.proofs.Common.{◌≤◌, length, ap, refl, subst, sym, ◌∙◌, if_ok_then, Layout, pool_base, MemoryView}
-use Rattle.partial_memory.specs.Reopening.{ContinuesAll, extended}
+use Rattle.partial_memory.specs.Reopening.{ContinuesAll, extended_values}
 use Rattle.partial_door.proofs.Opened.{homes, opened_is}
 use Rattle.partial_door.proofs.memories.reopen_closed.Goals as goal
 
@@ -11,7 +11,7 @@ returns-in-Ok-clause-ok c =
     let opened = c.in-Ok.ensures in
     let laid = c.in_ok-sizes.ensures.ok.0 in
     let values = c.args.closed.now.values.items in
-    let extends = opened.values ∙ ap (λ (z : Layout). extended z.m values) laid in
+    let extends = opened.values ∙ ap (λ (z : Layout). extended_values z.m values) laid in
     let first = opened.first ∙ ap pool_base laid in
     if_ok_then c.at_home.result _ _
     (λ b x. (

@@ -1,10 +1,10 @@
 use Rattle.std.proofs.Common.{◌≡◌}
-use Rattle.partial_embedded.specs.Embedded.{GoTogether, left_of}
+use Rattle.partial_embedded.specs.Embedded.{ViewGoesTogether, view_left}
 use Rattle.partial_embedded.proofs.tests.drive.Given as goal
 
 -- the machine, its positions and its buffers go together
 abbrev pub invariant-loop-step : goal.invariant-loop-step
-invariant-loop-step g l = GoTogether l.indices (l.scan, l.rows) × (l.scan.sizes ≡ l.initial.scan.sizes)
+invariant-loop-step g l = ViewGoesTogether l.indices (l.scan, l.rows) × (l.scan.sizes ≡ l.initial.scan.sizes)
 
 abbrev pub decreases-loop-step : goal.decreases-loop-step
-decreases-loop-step g l = left_of l.indices (l.scan, l.rows)
+decreases-loop-step g l = view_left l.indices (l.scan, l.rows)

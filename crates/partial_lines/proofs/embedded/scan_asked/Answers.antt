@@ -1,5 +1,5 @@
 use Rattle.partial_lines.proofs.Common.{◌≡◌, rules, refl, sym, ap, ◌∙◌, subst, Stage, Leaving, at_stage, scanning, with_scanning, IsScanStage, behind_scan, positions_at}
-use Rattle.partial_embedded.specs.Embedded.{GoTogether}
+use Rattle.partial_embedded.specs.Embedded.{ViewGoesTogether}
 use Rattle.partial_lines.proofs.Parts.{at_asked, scan_made, scan_over}
 use Rattle.partial_lines.proofs.embedded.scan_asked.Goals as goal
 
@@ -7,8 +7,8 @@ pub scan_positions-requires-clause-together : goal.scan_positions-requires-claus
 scan_positions-requires-clause-together g c =
     let s = g.M.Makes.machine c.args.lines.now in
     let at = at_asked s (g.met.M.Makes.sound c.args.lines.now c.requires.goes) c.requires.stage in
-    subst (λ p. GoTogether c.args.which.now p) (c.requires.scan ∙ ap (λ e. (e, c.args.core.now.rows)) (sym c.begin_scanning-begun.ensures))
-    (subst (λ l. GoTogether l (scanning s)) c.requires.asked at.together)
+    subst (λ p. ViewGoesTogether c.args.which.now p) (c.requires.scan ∙ ap (λ e. (e, c.args.core.now.rows)) (sym c.begin_scanning-begun.ensures))
+    (subst (λ l. ViewGoesTogether l (scanning s)) c.requires.asked at.together)
 
 pub scan_positions-requires-clause-goes : goal.scan_positions-requires-clause-goes
 scan_positions-requires-clause-goes g c =

@@ -1,5 +1,5 @@
 use Rattle.partial_lines.proofs.Common.{◌≡◌, rules, refl, sym, ap, ◌∙◌, subst, CoreState, at_stage, scanning, with_scanning, behind_scan}
-use Rattle.partial_embedded.specs.Embedded.{GoTogether, Pair}
+use Rattle.partial_embedded.specs.Embedded.{ViewGoesTogether, ViewPair}
 use Rattle.partial_lines.proofs.Parts.{at_found, scan_made, scan_over}
 use Rattle.partial_lines.proofs.embedded.scan_found.Goals as goal
 
@@ -8,8 +8,8 @@ scan_found-embedded-requires-clause-together g c =
     let s = g.M.Makes.machine c.args.lines.now in
     let at = at_found s _ (g.met.M.Makes.sound c.args.lines.now c.requires.goes) refl c.requires.stage in
     let found = at.1 ∙ ap (λ (d : CoreState). d.found.indices) c.requires.machine in
-    subst (λ p. GoTogether c.args.core.now.found.indices p) (ap scanning c.requires.machine ∙ ap (λ e. (e, c.args.core.now.rows)) (sym c.begin_scanning-begun.ensures))
-    (subst (λ l. GoTogether l (scanning s)) found at.0.together)
+    subst (λ p. ViewGoesTogether c.args.core.now.found.indices p) (ap scanning c.requires.machine ∙ ap (λ e. (e, c.args.core.now.rows)) (sym c.begin_scanning-begun.ensures))
+    (subst (λ l. ViewGoesTogether l (scanning s)) found at.0.together)
 
 pub scan_found-embedded-requires-clause-goes : goal.scan_found-embedded-requires-clause-goes
 scan_found-embedded-requires-clause-goes g c =
@@ -28,7 +28,7 @@ pub returns-clause-machine : goal.returns-clause-machine
 returns-clause-machine g c =
     let start = g.M.Makes.machine c.args.lines.now in
     let d = g.M.Makes.machine c.scan_found-embedded.new.loads.lines.now in
-    let p : Pair = (c.scan_found-embedded.result, c.scan_found-embedded.new.self.rows) in
+    let p : ViewPair = (c.scan_found-embedded.result, c.scan_found-embedded.new.self.rows) in
     let on = c.scan_found-embedded.ensures.follows.1 in
     let over = scan_over d _ refl c.scan_found-embedded.ensures.goes.1 (ap (λ q. q.0.stage) c.scan_found-embedded.ensures.scan ∙ c.scan_found-embedded.ensures.done) in
     let made : d ≡ at_stage c.keep_scan.new.self (behind_scan start.stage) =

@@ -18,14 +18,14 @@ make_set-set-requires-clause-goes g c = (
 
 pub write_plain-requires-clause-stage : goal.write_plain-requires-clause-stage
 write_plain-requires-clause-stage g c =
-    let set : finding.Pair = (c.make_set-set.result, c.make_set-set.new.self.found) in
+    let set : finding.SetPair = (c.make_set-set.result, c.make_set-set.new.self.found) in
     let got = set_ended c.args.core.now c.args.change c.args.old (g.M.Makes.machine c.args.lines.now) (g.M.Makes.machine c.make_set-set.new.steps.lines.now) set c.requires.machine
     c.make_set-set.ensures.follows.1 c.make_set-set.ensures.set c.make_set-set.ensures.done in
     ap (λ (t : CoreState). t.stage) got ∙ ap (λ b. cond b (ClaimingRecord c.args.change c.args.old) (Viewing c.args.change c.args.old)) (sym c.found_none.ensures ∙ c.if-found_none.true)
 
 pub write_plain-requires-clause-like : goal.write_plain-requires-clause-like
 write_plain-requires-clause-like g c =
-    let set : finding.Pair = (c.make_set-set.result, c.make_set-set.new.self.found) in
+    let set : finding.SetPair = (c.make_set-set.result, c.make_set-set.new.self.found) in
     let got = set_ended c.args.core.now c.args.change c.args.old (g.M.Makes.machine c.args.lines.now) (g.M.Makes.machine c.make_set-set.new.steps.lines.now) set c.requires.machine
     c.make_set-set.ensures.follows.1 c.make_set-set.ensures.set c.make_set-set.ensures.done in
     let core = c.keep_list_mark.ensures ∙ ap (λ (t : CoreState). with_set t (record t.get_set { lists_spent = set.0.lists_spent })) c.make_set-set.ensures.core in
@@ -34,7 +34,7 @@ write_plain-requires-clause-like g c =
 
 pub scan_found-requires-clause-machine : goal.scan_found-requires-clause-machine
 scan_found-requires-clause-machine g c =
-    let set : finding.Pair = (c.make_set-set.result, c.make_set-set.new.self.found) in
+    let set : finding.SetPair = (c.make_set-set.result, c.make_set-set.new.self.found) in
     let got = set_ended c.args.core.now c.args.change c.args.old (g.M.Makes.machine c.args.lines.now) (g.M.Makes.machine c.make_set-set.new.steps.lines.now) set c.requires.machine
     c.make_set-set.ensures.follows.1 c.make_set-set.ensures.set c.make_set-set.ensures.done in
     let kept = c.keep_set.ensures ∙ ap (λ (t : CoreState). with_set t set.0) c.make_set-set.ensures.core in
@@ -43,7 +43,7 @@ scan_found-requires-clause-machine g c =
 
 pub write_record-requires-clause-machine : goal.write_record-requires-clause-machine
 write_record-requires-clause-machine g c =
-    let set : finding.Pair = (c.make_set-set.result, c.make_set-set.new.self.found) in
+    let set : finding.SetPair = (c.make_set-set.result, c.make_set-set.new.self.found) in
     let got = set_ended c.args.core.now c.args.change c.args.old (g.M.Makes.machine c.args.lines.now) (g.M.Makes.machine c.make_set-set.new.steps.lines.now) set c.requires.machine
     c.make_set-set.ensures.follows.1 c.make_set-set.ensures.set c.make_set-set.ensures.done in
     let none = sym c.found_none.ensures ∙ c.if-found_none.false in
@@ -53,7 +53,7 @@ write_record-requires-clause-machine g c =
 pub returns-then-found_none-clause-rests : goal.returns-then-found_none-clause-rests
 returns-then-found_none-clause-rests g c =
     let pool = c.write_plain.new.core.pool_spent in
-    let set : finding.Pair = (c.make_set-set.result, c.make_set-set.new.self.found) in
+    let set : finding.SetPair = (c.make_set-set.result, c.make_set-set.new.self.found) in
     let got = set_ended c.args.core.now c.args.change c.args.old (g.M.Makes.machine c.args.lines.now) (g.M.Makes.machine c.make_set-set.new.steps.lines.now) set c.requires.machine
     c.make_set-set.ensures.follows.1 c.make_set-set.ensures.set c.make_set-set.ensures.done in
     let core =

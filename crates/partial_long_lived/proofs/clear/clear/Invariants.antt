@@ -1,9 +1,9 @@
-use Rattle.partial_long_lived.proofs.Common.{IsHeld, Remains, Works}
+use Rattle.partial_long_lived.proofs.Common.{IsHeld, Remains, HasSetWords}
 use Rattle.partial_long_lived.proofs.clear.clear.Given as goal
 
 abbrev pub invariant-loop-port : goal.invariant-loop-port
 invariant-loop-port l = record {
   held : IsHeld l.words.table_id l.words.key l.stand;
   remains : Remains l.fn.stand l.stand;
-  works : Works l.stand l.arena l.port 0;
+  works : HasSetWords l.stand l.arena l.port 0;
 }

@@ -1,4 +1,4 @@
-use Rattle.partial_long_lived.proofs.Common.{ℕ, List, length, sym, subst, ◌∙◌, MayNote, NotesScan, port_at}
+use Rattle.partial_long_lived.proofs.Common.{ℕ, List, length, sym, subst, ◌∙◌, MayNoteScan, NotesScan, port_at}
 use Rattle.partial_long_lived.proofs.DoubleCollect.{may_together, together_named, together_stayed}
 use Rattle.partial_long_lived.proofs.double_collect.confirm.Goals as goal
 
@@ -6,8 +6,8 @@ pub load_noting-requires-clause-may : goal.load_noting-requires-clause-may
 load_noting-requires-clause-may g c =
     let r = c.requires in
     let l = c.load_values.ensures in
-    subst (λ n. MayNote g.G.Together.which n (port_at c.load_values.new.stand)) (sym r.entries)
-    (subst (λ (js : List ℕ). MayNote js (length (port_at c.args.stand.now).port.part.seen) (port_at c.load_values.new.stand)) (sym r.which)
+    subst (λ n. MayNoteScan g.G.Together.which n (port_at c.load_values.new.stand)) (sym r.entries)
+    (subst (λ (js : List ℕ). MayNoteScan js (length (port_at c.args.stand.now).port.part.seen) (port_at c.load_values.new.stand)) (sym r.which)
     (may_together _ _ _ _ _ r.held r.idle c.args.which.now c.args.kept.now r.inside r.some r.collected r.time c.collects_again.ensures.glanced l.kept l.same))
 
 pub returns-clause-stayed : goal.returns-clause-stayed

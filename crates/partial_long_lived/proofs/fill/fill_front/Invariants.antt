@@ -1,4 +1,4 @@
-use Rattle.partial_long_lived.proofs.Common.{◌≤◌, IsHeld, port_at, HasPassed, Stays, Works}
+use Rattle.partial_long_lived.proofs.Common.{◌≤◌, IsHeld, port_at, HasPassed, Stays, HasSetWords}
 use Rattle.partial_long_lived.proofs.fill.fill_front.Given as goal
 
 abbrev pub invariant-loop-word : goal.invariant-loop-word
@@ -7,5 +7,5 @@ invariant-loop-word l = record {
   stays : Stays l.fn.stand l.stand;
   passed : HasPassed l.fn.stand l.stand;
   sealed : l.words.key.sizes.m ≤ (port_at l.stand).port.passed;
-  works : Works l.stand l.arena l.words.key.ports l.word;
+  works : HasSetWords l.stand l.arena l.words.key.ports l.word;
 }

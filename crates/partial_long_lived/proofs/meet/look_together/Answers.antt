@@ -1,4 +1,4 @@
-use Rattle.partial_long_lived.proofs.Common.{rules, ◌∙◌, List, [], ◌∷◌, ap, Seated, one_of}
+use Rattle.partial_long_lived.proofs.Common.{rules, ◌∙◌, List, [], ◌∷◌, ap, SeatedPort, one_of}
 use Rattle.partial_long_lived.proofs.Meeting.{may_observe, together}
 use Rattle.partial_long_lived.proofs.Meets.{deals, gathers}
 use Rattle.partial_long_lived.proofs.meet.look_together.Goals as goal
@@ -9,9 +9,9 @@ join_seat-requires c = let r = c.requires in (r.tables.0, r.tables.1, r.one.1.1,
 pub load-requires : goal.load-requires
 load-requires c =
     let r = c.requires in
-    let x : Seated = one_of c.args.first.me.0 in
-    let y : Seated = one_of c.args.other.me.0 in
-    let is = c.join_seat.ensures.2 ∙ ap (λ (v : List Seated). (v, c.args.first.me.1)) (together c.args.first.me c.args.other.me r.one.0 r.one.1) ∙ ap (λ (l : List _). (x ∷ y ∷ [], l)) r.one.0.1 in
+    let x : SeatedPort = one_of c.args.first.me.0 in
+    let y : SeatedPort = one_of c.args.other.me.0 in
+    let is = c.join_seat.ensures.2 ∙ ap (λ (v : List SeatedPort). (v, c.args.first.me.1)) (together c.args.first.me c.args.other.me r.one.0 r.one.1) ∙ ap (λ (l : List _). (x ∷ y ∷ [], l)) r.one.0.1 in
     (c.join_seat.ensures.0 ∙ r.tables.0, r.some, may_observe _ _ _ _ x y 0 is r.own r.known r.stands)
 
 pub split_seat-seat-requires : goal.split_seat-seat-requires

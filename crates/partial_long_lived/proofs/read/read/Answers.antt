@@ -1,4 +1,4 @@
-use Rattle.partial_long_lived.proofs.Common.{◌≤◌, not, true, false, length, refl, ap, arith, lt-ltb, seal, Began, Seated, seen_in, port_at}
+use Rattle.partial_long_lived.proofs.Common.{◌≤◌, not, true, false, length, refl, ap, arith, lt-ltb, seal, Began, SeatedPort, seen_in, port_at}
 use Rattle.partial_long_lived.proofs.Coming.{come_itself, read_ends, settled_began, settled_come, settled_fresh, settled_notes}
 use Rattle.partial_long_lived.proofs.read.read.Goals as goal
 use Rattle.partial_long_lived.proofs.read.read.Goals.{then-found-ge-SEAL, else-found-ge-SEAL}
@@ -22,7 +22,7 @@ returns-clause-read c =
           read_ends _ _ c.args.stand.now w.settle.new.stand w.read_again-found.new.stand again.held come again.kept false _ _ again.sees fresh_now refl notes began _ _ _ _ _ _ w.stand-is w.found-is value.kept value.same value.value stamp.kept stamp.same stamp.stamp
       | else-found-ge-SEAL w ↦
           let less = w.if-found-ge-SEAL.false in
-          let began_is = ap (λ (x : Seated). x.began) first.sees.is in
+          let began_is = ap (λ (x : SeatedPort). x.began) first.sees.is in
           let fresh_now : (port_at c.read_first-found.new.stand).began.epoch ≤ (port_at c.args.stand.now).port.control.here.epoch =
           (let young = first.sees.present less in let same = ap (λ (g : Began). g.epoch) began_is in omega (arith, young, same)) in
           let began : length (seen_in (port_at c.args.stand.now).port) ≤ (port_at c.read_first-found.new.stand).began.length =

@@ -1,4 +1,4 @@
-use Rattle.partial_memory.proofs.Common.{rules, ◌≡◌, ◌<◌, ◌≤◌, ap, sym, subst, length, arith, slots_items, chain_of, AreChains, AreChainsFrom, AreValues, IsWhole}
+use Rattle.partial_memory.proofs.Common.{rules, ◌≡◌, ◌<◌, ◌≤◌, ap, sym, subst, length, arith, slots_items, chain_of, AreChains, AreChainsFrom, AreValues, IsWholeChain}
 use Rattle.partial_memory.proofs.Chains.{elem_or, whole_chain, values_more, chains_more, first_value, links_some}
 use Rattle.partial_memory.proofs.closed.closed_of.Goals as goal
 
@@ -11,7 +11,7 @@ chain-requires-clause-chain c =
     let whole = whole_chain r.0 r.1 words r.2 r.3 c.loop-j.j (omega (arith, test, sizes)) in
     let same = c.requires.count in
     let bound = whole.1 in
-    (chain_of r.1 c.loop-j.j r.2, subst (λ k. IsWhole words k (chain_of r.1 c.loop-j.j r.2)) (elem_or words c.loop-j.j _ c.word.ensures) whole.0, omega (arith, same, bound))
+    (chain_of r.1 c.loop-j.j r.2, subst (λ k. IsWholeChain words k (chain_of r.1 c.loop-j.j r.2)) (elem_or words c.loop-j.j _ c.word.ensures) whole.0, omega (arith, same, bound))
 
 pub index-requires : goal.index-requires
 index-requires c =
@@ -20,7 +20,7 @@ index-requires c =
     let test = c.loop-j-test.true in
     let sizes = r.4 in
     let whole = whole_chain r.0 r.1 words r.2 r.3 c.loop-j.j (omega (arith, test, sizes)) in
-    let links = c.in_ok-links.ensures (chain_of r.1 c.loop-j.j r.2) (subst (λ k. IsWhole words k (chain_of r.1 c.loop-j.j r.2)) (elem_or words c.loop-j.j _ c.word.ensures) whole.0) in
+    let links = c.in_ok-links.ensures (chain_of r.1 c.loop-j.j r.2) (subst (λ k. IsWholeChain words k (chain_of r.1 c.loop-j.j r.2)) (elem_or words c.loop-j.j _ c.word.ensures) whole.0) in
     let some : 0 < length c.in_ok-links.links.items = links_some r.1 r.2 c.loop-j.j _ links in
     search rules
 
@@ -42,7 +42,7 @@ loop-j-preserved c =
       tells = λ z o log r is.
           let had = c.loop-j.invariant.tells z o log r is in
           let whole = whole_chain z o words log r c.loop-j.j (omega (arith, test, is)) in
-          let links = c.in_ok-links.ensures (chain_of o c.loop-j.j log) (subst (λ k. IsWhole words k (chain_of o c.loop-j.j log)) (elem_or words c.loop-j.j _ c.word.ensures) whole.0) in
+          let links = c.in_ok-links.ensures (chain_of o c.loop-j.j log) (subst (λ k. IsWholeChain words k (chain_of o c.loop-j.j log)) (elem_or words c.loop-j.j _ c.word.ensures) whole.0) in
           let first = first_value o log c.loop-j.j _ _ links c.index.ensures in
           (values_more o log c.loop-j.j _ _ _ had.0 c.push_reserved.ensures.items first, chains_more o log c.loop-j.j _ _ _ had.1 c.push_reserved-in-loop-j.ensures.items links);
       room = search rules;

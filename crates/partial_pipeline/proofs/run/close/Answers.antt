@@ -1,4 +1,4 @@
-use Rattle.partial_pipeline.proofs.Common.{◌≡◌, ◌∙◌, ℕ, List, length, subst, IsOf, HasMet}
+use Rattle.partial_pipeline.proofs.Common.{◌≡◌, ◌∙◌, ℕ, List, length, subst, IsOf, HasMetMonitor}
 use Rattle.partial_pipeline.proofs.Stages.{from_all}
 use Rattle.partial_pipeline.proofs.Reports.{LastSees, ended, last_number, last_sees, orderly}
 use Rattle.partial_pipeline.proofs.run.close.Goals as goal
@@ -7,7 +7,7 @@ pub close-requires-clause-rest : goal.close-requires-clause-rest
 close-requires-clause-rest c =
     let m = c.args.memory in
     let seen = length c.args.joined.monitor.port.seen in
-    from_all (HasMet m seen) (IsOf m) (λ k p w. w.own) 0 c.args.joined.ports.items c.requires.met.each
+    from_all (HasMetMonitor m seen) (IsOf m) (λ k p w. w.own) 0 c.args.joined.ports.items c.requires.met.each
 
 pub returns : goal.returns
 returns c =

@@ -1,4 +1,4 @@
-use Rattle.partial_pipeline.proofs.Common.{rules, ◌≡◌, ◌<◌, ◌≤◌, [], arith, sym, subst, length, vec_capacity, AreFrom, IsNew}
+use Rattle.partial_pipeline.proofs.Common.{rules, ◌≡◌, ◌<◌, ◌≤◌, [], arith, sym, subst, length, vec_capacity, AreFrom, IsNewStage}
 use Rattle.partial_pipeline.proofs.Watching.{opened_stages}
 use Rattle.partial_pipeline.proofs.run.run_on.Goals as goal
 
@@ -11,7 +11,7 @@ pub new-requires-clause-new : goal.new-requires-clause-new
 new-requires-clause-new g c =
     let all = opened_stages c.args.memory c.args.ports.items c.pop.new.self.items c.in-Some.port c.requires c.in-Some.ensures.items in
     let count : c.len-stages.result ≡ c.args.memory.about.sizes.m = omega (arith, c.len-stages.ensures, c.pop.new.self.ok.0, all.1) in
-    subst (λ i. IsNew c.args.memory i c.in-Some.port) (sym count) all.2
+    subst (λ i. IsNewStage c.args.memory i c.in-Some.port) (sym count) all.2
 
 pub new-requires-clause-stages : goal.new-requires-clause-stages
 new-requires-clause-stages g c =
@@ -24,7 +24,7 @@ scoped-requires g c =
     let ports = c.pop.new.self.items in
     let all = opened_stages m c.args.ports.items ports c.in-Some.port c.requires c.in-Some.ensures.items in
     let count : c.len-stages.result ≡ length ports = omega (arith, c.len-stages.ensures, c.pop.new.self.ok.0) in
-    let new : AreFrom (IsNew m) 0 ports = all.0 in
+    let new : AreFrom (IsNewStage m) 0 ports = all.0 in
     let some : (0 < m.about.sizes.m) × (length ports ≡ m.about.sizes.m) = (c.requires.opens.some, all.1) in
     let started : (c.in_ok-started.started.items ≡ []) × (length ports ≤ vec_capacity c.in_ok-started.started) =
     (c.in_ok-started.ensures.items, omega (arith, count, c.in_ok-started.ensures.capacity)) in

@@ -1,4 +1,4 @@
-use Rattle.partial_pipeline.proofs.Common.{rules, ◌+◌, length, sym, ap, subst, ◌∙◌, arith, length_push, AreFrom, IsStarted}
+use Rattle.partial_pipeline.proofs.Common.{rules, ◌+◌, length, sym, ap, subst, ◌∙◌, arith, length_push, AreFrom, IsStageStarted}
 use Rattle.std.proofs.lemmas.Iterator.Adapters.{YieldsList-from_vec}
 use Rattle.std.proofs.lemmas.Iterator.Consumers.{YieldsList-turn}
 use Rattle.partial_pipeline.specs.declared.run.Works.{Works}
@@ -26,14 +26,15 @@ loop-port-preserved g c =
     let new = new_at m n all c.in-Some.port c.requires.new turn.0 turn.1 in
     let h = c.in_ok-spawn_with.field-0 in
     let promised = c.in_ok-spawn_with.ensures.ok in
-    let started : IsStarted m c.args.items (0 + length c.loop-port.started.items) h = record {
+    let started : IsStageStarted m c.args.items (0 + length c.loop-port.started.items) h = record {
       memory = ap (λ (p : Works). p.memory.value) promised ∙ c.of.ensures;
       all = ap (λ (p : Works). p.items) promised;
       number = ap (λ (p : Works). p.stage) promised ∙ c.number.ensures.value ∙ new.number ∙ omega (arith, c.loop-port.invariant.count);
     } in
     let more = length_push c.loop-port.yielded c.in-Some.port in
     record {
-      each = subst (AreFrom (IsStarted m c.args.items) 0) (sym c.push_reserved.ensures.items) (from_push (IsStarted m c.args.items) 0 c.loop-port.started.items h c.loop-port.invariant.each started);
+      each = subst (AreFrom (IsStageStarted m c.args.items) 0) (sym c.push_reserved.ensures.items)
+          (from_push (IsStageStarted m c.args.items) 0 c.loop-port.started.items h c.loop-port.invariant.each started);
       count = ap length c.push_reserved.ensures.items ∙ length_push c.loop-port.started.items h ∙ ap (λ k. k + 1) c.loop-port.invariant.count ∙ sym more;
       room = search rules;
     }

@@ -1,4 +1,4 @@
-use Rattle.partial_replay.proofs.Common.{ℕ, ◌≡◌, ◌++◌, ◌∙◌, Bool, false, cond, List, [], length, get_or, Option, Some, None, map, take, ap, subst, sym, arith, ◌+◌, ◌<◌, ◌∷◌, range_with_len, take_all, false≢true, Call, Run, Tells, ArePlans, IsBetweenTurns, StopAtSteps, HasMadeTurns, TurnsMade, HaveBegun, IsReplayOf, Opening, AllByRecursion-get, IsEntry, Layout, ports_of, so_many, to_its_end, turns_of}
+use Rattle.partial_replay.proofs.Common.{ℕ, ◌≡◌, ◌++◌, ◌∙◌, Bool, false, cond, List, [], length, get_or, Option, Some, None, map, take, ap, subst, sym, arith, ◌+◌, ◌<◌, ◌∷◌, range_with_len, take_all, false≢true, Call, Run, TellsOutcome, ArePlans, IsBetweenTurns, StopAtSteps, HasMadeTurns, TurnsMade, HaveBegun, IsReplayOf, Opening, AllByRecursion-get, IsTurnEntry, Layout, ports_of, so_many, to_its_end, turns_of}
 use Rattle.partial_replay.proofs.Plans.{are_plans}
 use Rattle.partial_replay.proofs.PortLaws.{get_is}
 use Rattle.partial_replay.proofs.Replays.{replay_told}
@@ -24,7 +24,7 @@ returns c =
     replay_told p run outcome (subst (λ (l : List (List Call)). IsBetweenTurns l run) is w) sizes values
     (subst (λ (l : List (List Call)). HasMadeTurns l (turns_of p) run) is f)
     (subst (λ (l : List (List Call)). HaveBegun l (turns_of p) run) is begun) ends
-    (subst (λ (l : List (List Call)). Tells l run outcome) is (subst (λ (v : Run). Tells plans v outcome) same c.in_ok-into_outcome.ensures)) in
+    (subst (λ (l : List (List Call)). TellsOutcome l run outcome) is (subst (λ (v : Run). TellsOutcome plans v outcome) same c.in_ok-into_outcome.ensures)) in
     let steps : length c.steps-p-items.result.now ≡ length p.steps = ap length c.steps-p-items.ensures.value in
     let front = all_steps p.steps c.loop-p.p-index (omega (arith, c.loop-p-test.false, steps)) in
     elim c.if-rest.branch [
@@ -66,7 +66,7 @@ turns-requires-clause-port c =
     let steps : length c.steps-p-items.result.now ≡ length p.steps = ap length is in
     let below : i < length p.steps = omega (arith, c.loop-p-test.true, steps) in
     let here : (get_or c.steps-p-items.result.now i (0, 0)).0 ≡ (get_or p.steps i (0, 0)).0 = ap (λ (l : List (ℕ × ℕ)). (get_or l i (0, 0)).0) is in
-    let entry = AllByRecursion-get (IsEntry (length p.ports)) p.steps i (get_or p.steps i (0, 0)) c.ports-plans.ensures.lawful.steps (get_is p.steps i (0, 0) below) in
+    let entry = AllByRecursion-get (IsTurnEntry (length p.ports)) p.steps i (get_or p.steps i (0, 0)) c.ports-plans.ensures.lawful.steps (get_is p.steps i (0, 0) below) in
     let port = entry.0 in
     omega (arith, many, here, port)
 

@@ -1,4 +1,4 @@
-use Rattle.partial_workers.proofs.Common.{rules, ◌≡◌, ◌+◌, ◌++◌, List, [], ◌∷◌, length, map, take, get_or, Bor, sym, ap, subst, ◌∙◌, arith, YieldsList-from_vec, YieldsList-turn, YieldsList-end, length-map, length_push, take_all, Call, AreEach, IsHired, IsStarted, calls_of}
+use Rattle.partial_workers.proofs.Common.{rules, ◌≡◌, ◌+◌, ◌++◌, List, [], ◌∷◌, length, map, take, get_or, Bor, sym, ap, subst, ◌∙◌, arith, YieldsList-from_vec, YieldsList-turn, YieldsList-end, length-map, length_push, take_all, Call, AreEach, IsHired, IsWorkStarted, calls_of}
 use Rattle.partial_workers.specs.declared.workers.Works.{Works}
 use Rattle.partial_workers.proofs.Hires.{done_alike}
 use Rattle.partial_workers.proofs.Pairs.{each_at, each_length, each_push, each_some, map_at}
@@ -78,15 +78,15 @@ loop-worker-preserved g c =
     let at : calls ≡ get_or plan n calls = map_at (λ (b : Bor (List Call)). b.now) n given own (omega (arith, turn.0, long, same)) (c.index-calls-port.is ∙ ap (λ i. get_or given i own) place) in
     let h = c.in_ok-spawn_with.field-0 in
     let promised = c.in_ok-spawn_with.ensures.ok in
-    let started : IsStarted m (0 + n) calls h = record {
+    let started : IsWorkStarted m (0 + n) calls h = record {
       memory = ap (λ (p : Works). p.memory.value) promised ∙ c.of.ensures;
       number = ap (λ (p : Works). p.port) promised ∙ place ∙ omega arith;
       calls = ap (λ (p : Works). p.calls.value.now) promised ∙ ap (λ (b : Bor (List Call)). b.now) c.of-in-loop-worker.ensures;
     } in
     let more = length_push c.loop-worker.yielded worker in
     record {
-      each = subst (AreEach (IsStarted m) 0 (take (length (c.loop-worker.yielded ++ worker ∷ [])) plan)) (sym c.push_reserved.ensures.items)
-          (each_push (IsStarted m) 0 n (length (c.loop-worker.yielded ++ worker ∷ [])) plan c.loop-worker.started.items calls h c.loop-worker.invariant.each
+      each = subst (AreEach (IsWorkStarted m) 0 (take (length (c.loop-worker.yielded ++ worker ∷ [])) plan)) (sym c.push_reserved.ensures.items)
+          (each_push (IsWorkStarted m) 0 n (length (c.loop-worker.yielded ++ worker ∷ [])) plan c.loop-worker.started.items calls h c.loop-worker.invariant.each
           (omega (arith, turn.0, long)) at started more);
       count = ap length c.push_reserved.ensures.items ∙ length_push c.loop-worker.started.items h ∙ ap (λ k. k + 1) c.loop-worker.invariant.count ∙ sym more;
       room = search rules;
@@ -101,4 +101,4 @@ returns g c =
     let end = YieldsList-end (YieldsList-from_vec {s = c.into_iter-worker-iterator.result} all (search rules) (search rules)) c.loop-worker.yielded _ c.loop-worker.yielded_by _ c.next.new.self
     c.in-None.is c.next.ensures.steps in
     let long = each_length (IsHired m) 0 plan all c.requires in
-    subst (λ l. AreEach (IsStarted m) 0 l c.loop-worker.started.items) (take_all (length c.loop-worker.yielded) plan (omega (arith, long, end.1))) c.loop-worker.invariant.each
+    subst (λ l. AreEach (IsWorkStarted m) 0 l c.loop-worker.started.items) (take_all (length c.loop-worker.yielded) plan (omega (arith, long, end.1))) c.loop-worker.invariant.each

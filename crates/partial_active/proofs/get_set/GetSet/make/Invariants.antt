@@ -1,4 +1,4 @@
-use Rattle.partial_active.proofs.Common.{◌≡◌, left_of, IsAt}
+use Rattle.partial_active.proofs.Common.{◌≡◌, set_left, IsAt}
 use Rattle.partial_active.proofs.get_set.GetSet.make.Given as goal
 
 -- the steps are at this getSet and its buffers, and no others were made
@@ -10,4 +10,4 @@ invariant-loop-step g l = record {
 }
 
 abbrev pub decreases-loop-step : goal.decreases-loop-step
-decreases-loop-step g l = left_of l.self
+decreases-loop-step g l = set_left l.self

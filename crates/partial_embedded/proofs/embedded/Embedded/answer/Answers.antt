@@ -1,12 +1,12 @@
 use Rattle.std.proofs.Common.{◌<◌, subst, sym}
-use Rattle.partial_embedded.specs.Embedded.{Pair, GoTogether, left_of}
+use Rattle.partial_embedded.specs.Embedded.{ViewPair, ViewGoesTogether, view_left}
 use Rattle.partial_embedded.proofs.Keeps.{kept}
 use Rattle.partial_embedded.proofs.embedded.Embedded.answer.Goals as goal
 
 pub returns-clause-together : goal.returns-clause-together
-returns-clause-together c = subst (GoTogether c.args.indices.now) (sym c.take_in.ensures)
+returns-clause-together c = subst (ViewGoesTogether c.args.indices.now) (sym c.take_in.ensures)
     (kept c.args.indices.now (c.args.self.now, c.args.rows.now) c.args.x c.requires.together c.requires.possible).together
 
 pub returns-clause-left : goal.returns-clause-left
-returns-clause-left c = subst (λ (q : Pair). left_of c.args.indices.now q < left_of c.args.indices.now (c.args.self.now, c.args.rows.now)) (sym c.take_in.ensures)
+returns-clause-left c = subst (λ (q : ViewPair). view_left c.args.indices.now q < view_left c.args.indices.now (c.args.self.now, c.args.rows.now)) (sym c.take_in.ensures)
     (kept c.args.indices.now (c.args.self.now, c.args.rows.now) c.args.x c.requires.together c.requires.possible).fewer

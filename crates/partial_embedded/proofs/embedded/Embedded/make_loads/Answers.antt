@@ -1,16 +1,16 @@
 use Rattle.std.proofs.Common.{◌≡◌, sym, ap, ◌∙◌}
-use Rattle.partial_embedded.specs.Embedded.{Pair, advance, advance_at, buffers}
+use Rattle.partial_embedded.specs.Embedded.{ViewPair, advance_view, advance_view_at, buffers}
 use Rattle.partial_embedded.proofs.Loaded.{loaded, still_later}
 use Rattle.partial_embedded.proofs.embedded.Embedded.make_loads.Goals as goal
 
 pub loop-position-preserved : goal.loop-position-preserved
 loop-position-preserved g c =
     let loads = g.L.Loads in
-    let here : Pair = (c.loop-position.self, buffers c.loop-position.last c.loop-position.changed c.args.values.now) in
-    let next : Pair = (c.after_first_load.new.self, buffers c.after_first_load.new.last c.after_first_load.new.changed c.args.values.now) in
+    let here : ViewPair = (c.loop-position.self, buffers c.loop-position.last c.loop-position.changed c.args.values.now) in
+    let next : ViewPair = (c.after_first_load.new.self, buffers c.after_first_load.new.last c.after_first_load.new.changed c.args.values.now) in
     let x = c.load-stamp.result in
-    let is : next ≡ advance c.args.indices.now here x =
-    c.after_first_load.ensures c.args.values.now ∙ sym (ap (λ t. advance_at c.args.indices.now here t x) c.in-Some.ensures.due) in
+    let is : next ≡ advance_view c.args.indices.now here x =
+    c.after_first_load.ensures c.args.values.now ∙ sym (ap (λ t. advance_view_at c.args.indices.now here t x) c.in-Some.ensures.due) in
     let w = loaded loads.scan loads.positions c.args.self.now.sizes c.args.indices.now here next x c.loop-position.loads c.load-stamp.new.self
     c.loop-position.invariant.together c.loop-position.invariant.sizes c.loop-position.invariant.scan c.loop-position.invariant.positions
     c.load-stamp.ensures.possible c.load-stamp.ensures.scan is in
@@ -26,11 +26,11 @@ loop-position-preserved g c =
 pub loop-position-smaller : goal.loop-position-smaller
 loop-position-smaller g c =
     let loads = g.L.Loads in
-    let here : Pair = (c.loop-position.self, buffers c.loop-position.last c.loop-position.changed c.args.values.now) in
-    let next : Pair = (c.after_first_load.new.self, buffers c.after_first_load.new.last c.after_first_load.new.changed c.args.values.now) in
+    let here : ViewPair = (c.loop-position.self, buffers c.loop-position.last c.loop-position.changed c.args.values.now) in
+    let next : ViewPair = (c.after_first_load.new.self, buffers c.after_first_load.new.last c.after_first_load.new.changed c.args.values.now) in
     let x = c.load-stamp.result in
-    let is : next ≡ advance c.args.indices.now here x =
-    c.after_first_load.ensures c.args.values.now ∙ sym (ap (λ t. advance_at c.args.indices.now here t x) c.in-Some.ensures.due) in
+    let is : next ≡ advance_view c.args.indices.now here x =
+    c.after_first_load.ensures c.args.values.now ∙ sym (ap (λ t. advance_view_at c.args.indices.now here t x) c.in-Some.ensures.due) in
     (loaded loads.scan loads.positions c.args.self.now.sizes c.args.indices.now here next x c.loop-position.loads c.load-stamp.new.self
     c.loop-position.invariant.together c.loop-position.invariant.sizes c.loop-position.invariant.scan c.loop-position.invariant.positions
     c.load-stamp.ensures.possible c.load-stamp.ensures.scan is).fewer
@@ -38,11 +38,11 @@ loop-position-smaller g c =
 pub loop-position-2-preserved : goal.loop-position-2-preserved
 loop-position-2-preserved g c =
     let loads = g.L.Loads in
-    let here : Pair = (c.loop-position-2.self, buffers c.loop-position-2.last c.loop-position-2.changed c.args.values.now) in
-    let next : Pair = (c.after_later_load.new.self, buffers c.after_later_load.new.last c.after_later_load.new.changed c.args.values.now) in
+    let here : ViewPair = (c.loop-position-2.self, buffers c.loop-position-2.last c.loop-position-2.changed c.args.values.now) in
+    let next : ViewPair = (c.after_later_load.new.self, buffers c.after_later_load.new.last c.after_later_load.new.changed c.args.values.now) in
     let x = c.load-found.result in
-    let is : next ≡ advance c.args.indices.now here x =
-    c.after_later_load.ensures c.args.values.now ∙ sym (ap (λ t. advance_at c.args.indices.now here t x) c.in-Some-collecting.ensures.due) in
+    let is : next ≡ advance_view c.args.indices.now here x =
+    c.after_later_load.ensures c.args.values.now ∙ sym (ap (λ t. advance_view_at c.args.indices.now here t x) c.in-Some-collecting.ensures.due) in
     let w = loaded loads.scan loads.positions c.args.self.now.sizes c.args.indices.now here next x c.loop-position-2.loads c.load-found.new.self
     c.loop-position-2.invariant.together c.loop-position-2.invariant.sizes c.loop-position-2.invariant.scan c.loop-position-2.invariant.positions
     c.load-found.ensures.possible c.load-found.ensures.scan is in
@@ -60,11 +60,11 @@ loop-position-2-preserved g c =
 pub loop-position-2-smaller : goal.loop-position-2-smaller
 loop-position-2-smaller g c =
     let loads = g.L.Loads in
-    let here : Pair = (c.loop-position-2.self, buffers c.loop-position-2.last c.loop-position-2.changed c.args.values.now) in
-    let next : Pair = (c.after_later_load.new.self, buffers c.after_later_load.new.last c.after_later_load.new.changed c.args.values.now) in
+    let here : ViewPair = (c.loop-position-2.self, buffers c.loop-position-2.last c.loop-position-2.changed c.args.values.now) in
+    let next : ViewPair = (c.after_later_load.new.self, buffers c.after_later_load.new.last c.after_later_load.new.changed c.args.values.now) in
     let x = c.load-found.result in
-    let is : next ≡ advance c.args.indices.now here x =
-    c.after_later_load.ensures c.args.values.now ∙ sym (ap (λ t. advance_at c.args.indices.now here t x) c.in-Some-collecting.ensures.due) in
+    let is : next ≡ advance_view c.args.indices.now here x =
+    c.after_later_load.ensures c.args.values.now ∙ sym (ap (λ t. advance_view_at c.args.indices.now here t x) c.in-Some-collecting.ensures.due) in
     (loaded loads.scan loads.positions c.args.self.now.sizes c.args.indices.now here next x c.loop-position-2.loads c.load-found.new.self
     c.loop-position-2.invariant.together c.loop-position-2.invariant.sizes c.loop-position-2.invariant.scan c.loop-position-2.invariant.positions
     c.load-found.ensures.possible c.load-found.ensures.scan is).fewer
@@ -72,11 +72,11 @@ loop-position-2-smaller g c =
 pub loop-position-3-preserved : goal.loop-position-3-preserved
 loop-position-3-preserved g c =
     let loads = g.L.Loads in
-    let here : Pair = (c.loop-position-3.self, buffers c.loop-position-2.last c.loop-position-2.changed c.loop-position-3.values) in
-    let next : Pair = (c.after_value.new.self, buffers c.loop-position-2.last c.loop-position-2.changed c.after_value.new.values) in
+    let here : ViewPair = (c.loop-position-3.self, buffers c.loop-position-2.last c.loop-position-2.changed c.loop-position-3.values) in
+    let next : ViewPair = (c.after_value.new.self, buffers c.loop-position-2.last c.loop-position-2.changed c.after_value.new.values) in
     let x = c.load-value.result in
-    let is : next ≡ advance c.args.indices.now here x =
-    c.after_value.ensures c.loop-position-2.last c.loop-position-2.changed ∙ sym (ap (λ t. advance_at c.args.indices.now here t x) c.in-Some-valuing.ensures) in
+    let is : next ≡ advance_view c.args.indices.now here x =
+    c.after_value.ensures c.loop-position-2.last c.loop-position-2.changed ∙ sym (ap (λ t. advance_view_at c.args.indices.now here t x) c.in-Some-valuing.ensures) in
     let w = loaded loads.scan loads.positions c.args.self.now.sizes c.args.indices.now here next x c.loop-position-3.loads c.load-value.new.self
     c.loop-position-3.invariant.together c.loop-position-3.invariant.sizes c.loop-position-3.invariant.scan c.loop-position-3.invariant.positions
     c.load-value.ensures.possible c.load-value.ensures.scan is in
@@ -92,11 +92,11 @@ loop-position-3-preserved g c =
 pub loop-position-3-smaller : goal.loop-position-3-smaller
 loop-position-3-smaller g c =
     let loads = g.L.Loads in
-    let here : Pair = (c.loop-position-3.self, buffers c.loop-position-2.last c.loop-position-2.changed c.loop-position-3.values) in
-    let next : Pair = (c.after_value.new.self, buffers c.loop-position-2.last c.loop-position-2.changed c.after_value.new.values) in
+    let here : ViewPair = (c.loop-position-3.self, buffers c.loop-position-2.last c.loop-position-2.changed c.loop-position-3.values) in
+    let next : ViewPair = (c.after_value.new.self, buffers c.loop-position-2.last c.loop-position-2.changed c.after_value.new.values) in
     let x = c.load-value.result in
-    let is : next ≡ advance c.args.indices.now here x =
-    c.after_value.ensures c.loop-position-2.last c.loop-position-2.changed ∙ sym (ap (λ t. advance_at c.args.indices.now here t x) c.in-Some-valuing.ensures) in
+    let is : next ≡ advance_view c.args.indices.now here x =
+    c.after_value.ensures c.loop-position-2.last c.loop-position-2.changed ∙ sym (ap (λ t. advance_view_at c.args.indices.now here t x) c.in-Some-valuing.ensures) in
     (loaded loads.scan loads.positions c.args.self.now.sizes c.args.indices.now here next x c.loop-position-3.loads c.load-value.new.self
     c.loop-position-3.invariant.together c.loop-position-3.invariant.sizes c.loop-position-3.invariant.scan c.loop-position-3.invariant.positions
     c.load-value.ensures.possible c.load-value.ensures.scan is).fewer

@@ -1,16 +1,16 @@
 use Rattle.std.proofs.Common.{ℕ, ◌≡◌, ◌≢◌}
 use Rattle.partial_embedded.specs.declared.embedded.Stage.TheVariants.{Collect}
-use Rattle.partial_embedded.specs.Embedded.{Pair, GoTogether, buffers, left_of}
+use Rattle.partial_embedded.specs.Embedded.{ViewPair, ViewGoesTogether, buffers, view_left}
 use Rattle.partial_embedded.proofs.embedded.Embedded.make_loads.Given as goal
 
 -- the loads are at this scan and its buffers, and they have made no others
 abbrev pub invariant-loop-position : goal.invariant-loop-position
 invariant-loop-position g l =
     let loads = g.L.Loads in
-    let here : Pair = (l.self, buffers l.last l.changed l.values) in
+    let here : ViewPair = (l.self, buffers l.last l.changed l.values) in
     record {
       goes : loads.goes l.loads;
-      together : GoTogether l.indices here;
+      together : ViewGoesTogether l.indices here;
       scan : loads.scan l.loads ≡ here;
       positions : loads.positions l.loads ≡ l.indices;
       follows : loads.follows l.fn.loads l.loads;
@@ -18,16 +18,16 @@ invariant-loop-position g l =
     }
 
 abbrev pub decreases-loop-position : goal.decreases-loop-position
-decreases-loop-position g l = left_of l.indices (l.self, buffers l.last l.changed l.values)
+decreases-loop-position g l = view_left l.indices (l.self, buffers l.last l.changed l.values)
 
 -- the same, behind the first collect: a collect under way is a later one
 abbrev pub invariant-loop-position-2 : goal.invariant-loop-position-2
 invariant-loop-position-2 g l =
     let loads = g.L.Loads in
-    let here : Pair = (l.self, buffers l.last l.changed l.values) in
+    let here : ViewPair = (l.self, buffers l.last l.changed l.values) in
     record {
       goes : loads.goes l.loads;
-      together : GoTogether l.indices here;
+      together : ViewGoesTogether l.indices here;
       scan : loads.scan l.loads ≡ here;
       positions : loads.positions l.loads ≡ l.indices;
       follows : loads.follows l.fn.loads l.loads;
@@ -36,16 +36,16 @@ invariant-loop-position-2 g l =
     }
 
 abbrev pub decreases-loop-position-2 : goal.decreases-loop-position-2
-decreases-loop-position-2 g l = left_of l.indices (l.self, buffers l.last l.changed l.values)
+decreases-loop-position-2 g l = view_left l.indices (l.self, buffers l.last l.changed l.values)
 
 -- the same, behind the collects
 abbrev pub invariant-loop-position-3 : goal.invariant-loop-position-3
 invariant-loop-position-3 g l =
     let loads = g.L.Loads in
-    let here : Pair = (l.self, buffers l.last l.changed l.values) in
+    let here : ViewPair = (l.self, buffers l.last l.changed l.values) in
     record {
       goes : loads.goes l.loads;
-      together : GoTogether l.indices here;
+      together : ViewGoesTogether l.indices here;
       scan : loads.scan l.loads ≡ here;
       positions : loads.positions l.loads ≡ l.indices;
       follows : loads.follows l.fn.loads l.loads;
@@ -53,16 +53,16 @@ invariant-loop-position-3 g l =
     }
 
 abbrev pub decreases-loop-position-3 : goal.decreases-loop-position-3
-decreases-loop-position-3 g l = left_of l.indices (l.self, buffers l.last l.changed l.values)
+decreases-loop-position-3 g l = view_left l.indices (l.self, buffers l.last l.changed l.values)
 
 -- the same, behind the values
 abbrev pub invariant-loop-word : goal.invariant-loop-word
 invariant-loop-word g l =
     let loads = g.L.Loads in
-    let here : Pair = (l.self, buffers l.last l.changed l.values) in
+    let here : ViewPair = (l.self, buffers l.last l.changed l.values) in
     record {
       goes : loads.goes l.loads;
-      together : GoTogether l.indices here;
+      together : ViewGoesTogether l.indices here;
       scan : loads.scan l.loads ≡ here;
       positions : loads.positions l.loads ≡ l.indices;
       follows : loads.follows l.fn.loads l.loads;
@@ -70,4 +70,4 @@ invariant-loop-word g l =
     }
 
 abbrev pub decreases-loop-word : goal.decreases-loop-word
-decreases-loop-word g l = left_of l.indices (l.self, buffers l.last l.changed l.values)
+decreases-loop-word g l = view_left l.indices (l.self, buffers l.last l.changed l.values)

@@ -1,4 +1,4 @@
-use Rattle.partial_long_lived.proofs.Common.{rules, ◌≡◌, ap, sym, ◌∙◌, subst, List, arith, slots_items, Me, TableId, About, Seated, IsShapeOf, MemoryView, port_view}
+use Rattle.partial_long_lived.proofs.Common.{rules, ◌≡◌, ap, sym, ◌∙◌, subst, List, arith, slots_items, Me, TableId, About, SeatedPort, IsShapeOf, MemoryView, port_view}
 use Rattle.partial_long_lived.proofs.Meets.{gathers}
 use Rattle.partial_long_lived.proofs.Closes.{Ends, closes, ends, have_shape, of_last, taken_more, taken_none}
 use Rattle.partial_long_lived.proofs.long_lived.LongLived.close.Goals as goal
@@ -19,13 +19,13 @@ join_seat-requires c =
     let one = c.into_seat.ensures.one in
     let table = c.into_seat.ensures.table ∙ ap (λ (m : MemoryView). m.table) (of.1 ∙ sym c.self.view_is) in
     let words = c.self.invariant.1 in
-    (c.loop-port.invariant.table, table, ap (λ (m : Me (Unit {0}) (List Seated)). m.1) one.1, omega (arith, words), gathers _ _ _ _ _)
+    (c.loop-port.invariant.table, table, ap (λ (m : Me (Unit {0}) (List SeatedPort)). m.1) one.1, omega (arith, words), gathers _ _ _ _ _)
 
 pub loop-port-preserved : goal.loop-port-preserved
 loop-port-preserved c =
     let of = of_last c.args.self _ _ _ c.loop-port.invariant.left c.in-Some.ensures.items in
     let one = c.into_seat.ensures.one in
-    let join = ap (λ (m : Me (Unit {0}) (List Seated)). m.0) c.join_seat.ensures.2 in
+    let join = ap (λ (m : Me (Unit {0}) (List SeatedPort)). m.0) c.join_seat.ensures.2 in
     record {
       table = c.join_seat.ensures.0 ∙ c.loop-port.invariant.table;
       left = of.0;

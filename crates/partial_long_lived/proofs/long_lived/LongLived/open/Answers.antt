@@ -1,5 +1,5 @@
-use Rattle.partial_long_lived.proofs.Common.{rules, [], ◌∷◌, ◌≡◌, ◌<◌, refl, ap, sym, ◌∙◌, subst, List, AllByRecursion, Me, TableId, all_front, base, OpensAll, About, Seated, one_in, plan_of, IsShapeOf, IsOf, port_view}
-use Rattle.partial_long_lived.specs.Inner.Opening.{OpensWith}
+use Rattle.partial_long_lived.proofs.Common.{rules, [], ◌∷◌, ◌≡◌, ◌<◌, refl, ap, sym, ◌∙◌, subst, List, AllByRecursion, Me, TableId, all_front, base, OpensAll, About, SeatedPort, one_in, plan_of, IsShapeOf, IsOf, port_view}
+use Rattle.partial_long_lived.specs.Inner.Opening.{OpensShape}
 use Rattle.partial_long_lived.proofs.Opens.{opens}
 use Rattle.partial_long_lived.proofs.NewPorts.{deals_next, made_next, new_own, opens_as, rests_new, shape_here}
 use Rattle.partial_long_lived.proofs.Meets.{deals}
@@ -10,7 +10,7 @@ of_words-requires c =
     let values : c.from.result ≡ c.args.initial.now = search rules in
     let first = c.from-2.ensures ∙ c.pool_base.ensures in
     let is : c.deref.result.now ≡ c.in_ok-words.words.items = search rules in
-    let words = subst (OpensWith c.in_ok-shape.shape c.args.initial.now) (sym is) c.in_ok-words.ensures in
+    let words = subst (OpensShape c.in_ok-shape.shape c.args.initial.now) (sym is) c.in_ok-words.ensures in
     let about : About = record {
       sizes = c.in_ok-shape.shape.sizes;
       opening = record { values = c.from.result; first = c.from-2.result };
@@ -38,8 +38,8 @@ invariant_of-push_reserved c =
     let words = opens_as c.in_ok-shape.shape about _ _ c.in_ok-words.ensures shape values stamp in
     let key : c.in_ok-table.table.shared.key ≡ about = c.in_ok-table.ensures.5 in
     let shape' : IsShapeOf c.in_ok-shape.shape c.in_ok-table.table.shared.key = subst (IsShapeOf c.in_ok-shape.shape) (sym key) shape in
-    let place = ap (λ (m : Me (Unit {0}) (List Seated)). m.0) c.split_seat-token.ensures.4 in
-    let here = c.into_badge.ensures.2 ∙ ap (λ (v : List Seated). v ∷ []) place in
+    let place = ap (λ (m : Me (Unit {0}) (List SeatedPort)). m.0) c.split_seat-token.ensures.4 in
+    let here = c.into_badge.ensures.2 ∙ ap (λ (v : List SeatedPort). v ∷ []) place in
     let own = subst (λ (a : About). OpensAll (plan_of a) c.in_ok-words.words.items) (sym key) words in
     let low = subst (λ (a : About). c.loop-number.number < a.ports) (sym key) c.loop-number-test.true in
     let first = c.base-base.ensures ∙ ap (λ e. base e 0) (sym shape') in
@@ -50,10 +50,10 @@ pub loop-number-preserved : goal.loop-number-preserved
 loop-number-preserved c =
     let split = c.split_seat-token.ensures in
     let left = deals_next _ _ _ c.loop-number-test.true _ c.loop-number.invariant.parts _ _ split.2 c.loop-number.invariant.none in
-    let place = ap (λ (m : Me (Unit {0}) (List Seated)). m.0) split.4 in
+    let place = ap (λ (m : Me (Unit {0}) (List SeatedPort)). m.0) split.4 in
     let here : c.into_badge.result.table_id ≡ c.in_ok-table.table.shared.table_id = c.into_badge.ensures.0 ∙ split.3 ∙ c.loop-number.invariant.table in
     let inv = c.loop-number.invariant in
-    let one = c.into_badge.ensures.2 ∙ ap (λ (v : List Seated). v ∷ []) place in
+    let one = c.into_badge.ensures.2 ∙ ap (λ (v : List SeatedPort). v ∷ []) place in
     let seen = ap (λ (t : TableId). port_view t (one_in c.into_badge.result.views)) here in
     record {
       table = split.0 ∙ c.loop-number.invariant.table;

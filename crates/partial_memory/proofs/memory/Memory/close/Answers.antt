@@ -1,4 +1,4 @@
-use Rattle.partial_memory.proofs.Common.{rules, ◌≡◌, ap, sym, ◌∙◌, subst, List, arith, slots_items, Me, Layout, About, TableId, Seated, MemoryView, port_view}
+use Rattle.partial_memory.proofs.Common.{rules, ◌≡◌, ap, sym, ◌∙◌, subst, List, arith, slots_items, Me, Layout, About, TableId, SeatedPort, MemoryView, port_view}
 use Rattle.partial_memory.proofs.Looks.{gathers}
 use Rattle.partial_memory.proofs.Closes.{Ends, taken_none, taken_more, own_one, own_more, of_last, ends, closes}
 use Rattle.partial_memory.proofs.memory.Memory.close.Goals as goal
@@ -21,13 +21,13 @@ join_seat-requires c =
     let of = of_last c.args.self _ _ _ c.loop-port.invariant.left c.in-Some.ensures.items in
     let one = c.into_seat.ensures.one in
     let table = c.into_seat.ensures.table ∙ ap (λ (m : MemoryView). m.table) (of.1 ∙ sym c.self.view_is) in
-    (c.loop-port.invariant.table, table, ap (λ (m : Me (Unit {0}) (List Seated)). m.1) one.1, search rules, gathers _ _ _ _ _ one.0 (ap (λ (m : Me (Unit {0}) (List Seated)). m.0) one.1))
+    (c.loop-port.invariant.table, table, ap (λ (m : Me (Unit {0}) (List SeatedPort)). m.1) one.1, search rules, gathers _ _ _ _ _ one.0 (ap (λ (m : Me (Unit {0}) (List SeatedPort)). m.0) one.1))
 
 pub loop-port-preserved : goal.loop-port-preserved
 loop-port-preserved c =
     let of = of_last c.args.self _ _ _ c.loop-port.invariant.left c.in-Some.ensures.items in
     let one = c.into_seat.ensures.one in
-    let join = ap (λ (m : Me (Unit {0}) (List Seated)). m.0) c.join_seat.ensures.2 in
+    let join = ap (λ (m : Me (Unit {0}) (List SeatedPort)). m.0) c.join_seat.ensures.2 in
     let own = ap (λ (m : MemoryView). m.about) (of.1 ∙ sym c.self.view_is) in
     record {
       table = c.join_seat.ensures.0 ∙ c.loop-port.invariant.table;

@@ -1,4 +1,4 @@
-use Rattle.partial_memory.proofs.Common.{rules, ◌≡◌, ap, sym, ◌∙◌, List, [], ◌∷◌, Me, Seated, first_of, one_in, others_of, MemoryView, PortView, port_view}
+use Rattle.partial_memory.proofs.Common.{rules, ◌≡◌, ap, sym, ◌∙◌, List, [], ◌∷◌, Me, SeatedPort, first_port, one_in, further_ports, MemoryView, PortView, port_view}
 use Rattle.partial_memory.proofs.Views.{deals}
 use Rattle.partial_memory.proofs.Looks.{looks_on, gathers}
 use Rattle.partial_memory.proofs.Meetings.{both_of, joined, looked, meets, meets_lawfully, rests_met}
@@ -6,8 +6,8 @@ use Rattle.partial_memory.proofs.memory.Memory.meet.Goals as goal
 
 pub join_seat-requires : goal.join_seat-requires
 join_seat-requires c =
-    let here = ap (λ (m : Me (Unit {0}) (List Seated)). m.0) c.take_seat.ensures.one in
-    (search rules, search rules, ap (λ (m : Me (Unit {0}) (List Seated)). m.1) c.take_seat.ensures.one, search rules, gathers _ _ _ _ _ (one_in c.second.inside.badge.views) here)
+    let here = ap (λ (m : Me (Unit {0}) (List SeatedPort)). m.0) c.take_seat.ensures.one in
+    (search rules, search rules, ap (λ (m : Me (Unit {0}) (List SeatedPort)). m.1) c.take_seat.ensures.one, search rules, gathers _ _ _ _ _ (one_in c.second.inside.badge.views) here)
 
 pub load-requires : goal.load-requires
 load-requires c =
@@ -24,7 +24,7 @@ invariant_of-first c =
     let x = one_in c.first.inside.badge.views in
     let y = one_in c.second.inside.badge.views in
     let told = looked x y _ c.load.new.seat.me c.load.result (joined x y _ _ _ c.take_seat-seat.ensures.one c.take_seat.ensures.one c.join_seat.ensures.2) c.load.ensures.2 in
-    let view = c.into_badge.ensures.2 ∙ ap (λ (m : Me (Unit {0}) (List Seated)). m.0 ∷ []) c.split_seat.ensures.4 ∙ ap (λ (v : List Seated). first_of v ∷ []) told.is in
+    let view = c.into_badge.ensures.2 ∙ ap (λ (m : Me (Unit {0}) (List SeatedPort)). m.0 ∷ []) c.split_seat.ensures.4 ∙ ap (λ (v : List SeatedPort). first_port v ∷ []) told.is in
     rests_met _ _ _ _ told.log c.first.invariant told.first view
 
 pub invariant_of-second : goal.invariant_of-second
@@ -32,7 +32,7 @@ invariant_of-second c =
     let x = one_in c.first.inside.badge.views in
     let y = one_in c.second.inside.badge.views in
     let told = looked x y _ c.load.new.seat.me c.load.result (joined x y _ _ _ c.take_seat-seat.ensures.one c.take_seat.ensures.one c.join_seat.ensures.2) c.load.ensures.2 in
-    let view = c.into_badge-2.ensures.2 ∙ ap (λ (m : Me (Unit {0}) (List Seated)). m.0 ∷ []) c.split_seat.ensures.2 ∙ ap (λ (v : List Seated). others_of v ∷ []) told.is in
+    let view = c.into_badge-2.ensures.2 ∙ ap (λ (m : Me (Unit {0}) (List SeatedPort)). m.0 ∷ []) c.split_seat.ensures.2 ∙ ap (λ (v : List SeatedPort). further_ports v ∷ []) told.is in
     rests_met _ _ _ _ told.log c.second.invariant told.second view
 
 pub returns-clause-met : goal.returns-clause-met
@@ -40,8 +40,8 @@ returns-clause-met c =
     let x = one_in c.first.inside.badge.views in
     let y = one_in c.second.inside.badge.views in
     let told = looked x y _ c.load.new.seat.me c.load.result (joined x y _ _ _ c.take_seat-seat.ensures.one c.take_seat.ensures.one c.join_seat.ensures.2) c.load.ensures.2 in
-    let first = c.into_badge.ensures.2 ∙ ap (λ (m : Me (Unit {0}) (List Seated)). m.0 ∷ []) c.split_seat.ensures.4 in
-    let second = c.into_badge-2.ensures.2 ∙ ap (λ (m : Me (Unit {0}) (List Seated)). m.0 ∷ []) c.split_seat.ensures.2 in
+    let first = c.into_badge.ensures.2 ∙ ap (λ (m : Me (Unit {0}) (List SeatedPort)). m.0 ∷ []) c.split_seat.ensures.4 in
+    let second = c.into_badge-2.ensures.2 ∙ ap (λ (m : Me (Unit {0}) (List SeatedPort)). m.0 ∷ []) c.split_seat.ensures.2 in
     let seat = c.load.ensures.0 ∙ c.join_seat.ensures.0 ∙ c.take_seat-seat.ensures.table in
     let same : c.into_badge.result.table_id ≡ c.first.inside.badge.table_id = c.into_badge.ensures.0 ∙ c.split_seat.ensures.3 ∙ seat in
     let memory : c.args.first.now.memory ≡ c.args.second.now.memory = c.requires.0 ∙ sym c.requires.1 in
@@ -55,8 +55,8 @@ returns-clause-lawful c =
     let x = one_in c.first.inside.badge.views in
     let y = one_in c.second.inside.badge.views in
     let told = looked x y _ c.load.new.seat.me c.load.result (joined x y _ _ _ c.take_seat-seat.ensures.one c.take_seat.ensures.one c.join_seat.ensures.2) c.load.ensures.2 in
-    let first = c.into_badge.ensures.2 ∙ ap (λ (m : Me (Unit {0}) (List Seated)). m.0 ∷ []) c.split_seat.ensures.4 in
-    let second = c.into_badge-2.ensures.2 ∙ ap (λ (m : Me (Unit {0}) (List Seated)). m.0 ∷ []) c.split_seat.ensures.2 in
+    let first = c.into_badge.ensures.2 ∙ ap (λ (m : Me (Unit {0}) (List SeatedPort)). m.0 ∷ []) c.split_seat.ensures.4 in
+    let second = c.into_badge-2.ensures.2 ∙ ap (λ (m : Me (Unit {0}) (List SeatedPort)). m.0 ∷ []) c.split_seat.ensures.2 in
     let seat = c.load.ensures.0 ∙ c.join_seat.ensures.0 ∙ c.take_seat-seat.ensures.table in
     let memory : port_view c.first.inside.badge.table_id x ≡ c.args.first.now = c.first.view_is in
     let table : c.first.inside.badge.table_id ≡ c.args.self.now.table = ap (λ (p : PortView). p.memory.table) memory ∙ ap (λ (m : MemoryView). m.table) c.requires.0 in

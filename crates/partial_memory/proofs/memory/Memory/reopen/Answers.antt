@@ -1,6 +1,6 @@
 use Rattle.partial_memory.proofs.Common.{rules, ◌≡◌, ◌∙◌, ◌-◌, ◌≤◌, ◌++◌, length, take, replicate, vec_len, Result, Err, IfOk}
 use Rattle.std.specs.Prelude.{Ok}
-use Rattle.partial_memory.specs.Reopening.{extended}
+use Rattle.partial_memory.specs.Reopening.{extended_values}
 use Rattle.partial_memory.proofs.Reopening.{closed_memories_continue, grown_is_extended}
 use Rattle.partial_memory.proofs.memory.Memory.reopen.Goals as goal
 
@@ -15,7 +15,7 @@ returns-clause-values c =
     let count : vec_len c.extend_from_slice.new.self ≡ length c.args.closed.now.values.items = search rules in
     let grown : c.resize.new.self.items ≡ take c.args.sizes.m c.extend_from_slice.new.self.items ++ replicate (c.args.sizes.m - vec_len c.extend_from_slice.new.self) 0 = search rules in
     let fits : length c.args.closed.now.values.items ≤ c.args.sizes.m = search rules in
-    let initial : c.deref-2.result.now ≡ extended c.args.sizes.m c.args.closed.now.values.items = c.deref-2.ensures.value ∙ grown_is_extended c.args.sizes.m _ _ _ _ grown copied count fits in
+    let initial : c.deref-2.result.now ≡ extended_values c.args.sizes.m c.args.closed.now.values.items = c.deref-2.ensures.value ∙ grown_is_extended c.args.sizes.m _ _ _ _ grown copied count fits in
     of_value c.open.result _ _ (λ r opened. opened ∙ initial) c.open.ensures.values
 
 pub returns-clause-continues : goal.returns-clause-continues

@@ -1,4 +1,4 @@
-use Rattle.partial_pipeline.proofs.Common.{ℕ, ◌≡◌, ◌∙◌, refl, sym, ap, subst, Some, MemoryView, IsDone, IsWorking, StageEnd, Finished, Stopped}
+use Rattle.partial_pipeline.proofs.Common.{ℕ, ◌≡◌, ◌∙◌, refl, sym, ap, subst, Some, MemoryView, IsStageDone, IsWorking, StageEnd, Finished, Stopped}
 use Rattle.partial_pipeline.specs.declared.stage.Stage.{Stage}
 use Rattle.partial_pipeline.proofs.Stages.{is_done}
 use Rattle.partial_pipeline.proofs.stage.Stage.run.Goals as goal
@@ -27,4 +27,4 @@ returns g c =
           (subst (λ (y : Stage). Ends m k items y w.in-Some.reason) (sym w.self-is)
           (w.turn.ensures.working, w.turn.ensures.number ∙ at.number, w.turn.ensures.items ∙ at.items, λ is. w.turn.ensures.finished (w.in-Some.is ∙ ap Some is)))
     ] in
-    subst (λ i. IsDone m i k (record { port = x.port; end = end })) ends.2 (is_done m x k (record { port = x.port; end = end }) ends.0 c.number.ensures.knows ends.1 refl ends.3)
+    subst (λ i. IsStageDone m i k (record { port = x.port; end = end })) ends.2 (is_done m x k (record { port = x.port; end = end }) ends.0 c.number.ensures.knows ends.1 refl ends.3)

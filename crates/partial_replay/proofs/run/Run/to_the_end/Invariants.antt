@@ -1,4 +1,4 @@
-use Rattle.partial_replay.proofs.Common.{ℕ, IsBetweenTurns, IsSameOpening, left_at, StayStopped, StepsMade}
+use Rattle.partial_replay.proofs.Common.{ℕ, IsBetweenTurns, IsSameOpening, port_left_at, StayStopped, StepsMade}
 use Rattle.partial_replay.proofs.run.Run.to_the_end.Given as goal
 
 -- the replay is between two turns, and a step was made in each turn
@@ -11,4 +11,4 @@ invariant-loop l = record {
 }
 
 abbrev pub decreases-loop : goal.decreases-loop
-decreases-loop l = left_at l.p l.plans l.self.ports.items
+decreases-loop l = port_left_at l.p l.plans l.self.ports.items
