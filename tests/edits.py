@@ -178,8 +178,8 @@ def command_of(name, crates, proved):
 
 
 class Libraries:
-    """The proved libraries of the crates, each copied once to a folder of this program's own: what runs beside it may make
-    a library anew, and a library fits those alone that it was made with."""
+    """The proved libraries of the crates, each copied once to a folder of this program's own: what runs beside it may
+    make a library anew, and a library fits those alone that it was made with."""
 
     def __init__(self, folder, ended=None):
         self.folder, self.ended, self.begun, self.parent = folder, ended, time.time_ns(), os.getppid()
@@ -189,12 +189,13 @@ class Libraries:
         return self.ended is not None and not self.ended.exists() and os.getppid() == self.parent
 
     def priority(self):
-        """The words before a command that has to leave the processors to the one at work."""
+        """The words before a command that has to leave the processors to the one at work. (A command isn't started in a
+        session of its own: Linux may give each session an equal share, whatever the priorities within it.)"""
         return ['nice'] if self.are_beside() else []
 
     def take(self, name):
-        """Whether the library is in the folder. While the command is at work, only one counts that it has made, and that
-        is whole."""
+        """Whether the library is in the folder. While the command is at work, only one counts that it has made, and
+        that is whole."""
         here, there = TOP / 'crates' / name / 'out' / 'rlib', self.folder / name
         if there.is_dir():
             return True
@@ -232,7 +233,7 @@ def asked_of(edit):
 def run(command, room, limit):
     """The exit status of a command and what it says; there is no status where it has to be stopped at the limit."""
     with subprocess.Popen(command, cwd=room, stdin=subprocess.DEVNULL, stdout=subprocess.PIPE,
-                          stderr=subprocess.STDOUT, text=True, errors='replace', start_new_session=True) as started:
+                          stderr=subprocess.STDOUT, text=True, errors='replace', process_group=0) as started:
         try:
             said, _ = started.communicate(timeout=limit)
             return started.returncode, said
@@ -454,7 +455,7 @@ def in_turns(names, jobs, is_ready, is_beside, call):
 
 
 def try_crates(chosen, crates, jobs, libraries):
-    """Tries the edits of these crates, the greatest ones first, and says what came of them: how many passed and failed."""
+    """Tries the edits of these crates, the greatest ones first: how many passed and failed."""
     size = {it: sum(path.stat().st_size for path in (TOP / 'crates' / it / 'src').glob('**/*.rt')) for it in chosen}
     tried = in_turns(sorted(chosen, key=lambda it: -size[it]), jobs, lambda it: libraries.has(below(it, crates)),
                      libraries.are_beside, lambda it: try_crate(it, crates, libraries))
