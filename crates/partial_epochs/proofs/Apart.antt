@@ -1,5 +1,5 @@
 -- No due step stores or adds to a component word, and an exchange of one is of two references; the pool's counter grows by claims alone.
-use Rattle.partial_epochs.proofs.Common.{ℕ, ◌≡◌, ◌+◌, ◌<◌, ◌≤◌, ◌⊎◌, ◌++◌, Bool, true, false, cond, Some, None, IfSome, List, [], ◌∷◌, length, refl, sym, ap, subst, ◌∙◌, inl, inr, arith, ⊤, is_some, Applied, Opening, all_at, some_same, Step, Load, Store, Exchange, Add, Layout, IsLayout, slot_counter, slot_word, list_base, list_head, list_counter, pool_counter, greatest_record, CoreState, record_size, step_at, step_of, is_begun, IsSound, is_sound_at, Holding, IsOwn, IsTied, Part, IsMachineOf, core_of, holdings, joined_since, own_list, lawful_machines_are_ready, seal}
+use Rattle.partial_epochs.proofs.Common.{ℕ, ◌≡◌, ◌<◌, ◌≤◌, ◌⊎◌, ◌++◌, Bool, true, false, cond, Some, None, IfSome, List, [], ◌∷◌, length, refl, sym, ap, subst, ◌∙◌, inl, inr, arith, ⊤, is_some, Applied, Opening, all_at, some_same, Step, Load, Store, Exchange, Add, Layout, IsLayout, slot_counter, slot_word, list_base, list_head, list_counter, pool_counter, greatest_record, CoreState, record_size, step_at, step_of, is_begun, IsSound, is_sound_at, Holding, IsOwn, IsTied, Part, IsMachineOf, core_of, holdings, joined_since, own_list, lawful_machines_are_ready, seal}
 use Rattle.partial_words.specs.Announcement.{announcement_size}
 use Rattle.partial_active.specs.Join.{join_step}
 use Rattle.partial_active.specs.declared.join.JoinStage.{JoinStage}

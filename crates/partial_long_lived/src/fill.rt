@@ -1,6 +1,6 @@
 //! How the owner of an arena sets its words to those with which the next epoch begins.
 
-ghost use Rattle.std.specs.Prelude.{◌≡◌, ◌+◌, ◌*◌, ◌<◌, ◌≤◌, []};
+ghost use Rattle.std.specs.Prelude.{◌≡◌, ◌+◌, ◌<◌, ◌≤◌, []};
 ghost use Rattle.partial_words.specs.Layout.{first_free, list_base, pool_base, slot_word, initial_record};
 ghost use Rattle.partial_words.specs.Chain.{opening_word};
 ghost use Rattle.partial_words.specs.Record.{plain_record_size};

@@ -1,5 +1,5 @@
 -- The words of the pairs of a record that has the values of a list of indices.
-use Rattle.std.proofs.Common.{ℕ, ◌≡◌, ◌*◌, ◌/◌, ◌%◌, ◌<◌, List, length, get_or, map, sym, ◌∙◌, ap, arith}
+use Rattle.std.proofs.Common.{ℕ, ◌≡◌, ◌/◌, ◌%◌, ◌<◌, List, length, get_or, map, sym, ◌∙◌, ap, arith}
 use Rattle.std.proofs.lemmas.List.{length-map}
 use Rattle.std.proofs.Math.ListN as lists
 use Rattle.std.specs.List.{flat_map}

@@ -1,5 +1,5 @@
 -- How many steps a call makes at most.
-use Rattle.std.specs.Prelude.{ℕ, ◌+◌, ◌*◌, ◌-◌, [], length}
+use Rattle.std.specs.Prelude.{ℕ, ◌+◌, ◌-◌, [], length}
 use Rattle.partial_model.specs.declared.call.Call.{Call}
 use Rattle.partial_model.specs.declared.call.Call.TheVariants as call
 use Rattle.partial_words.specs.Layout.{Layout, greatest_record}

@@ -1,5 +1,5 @@
 -- Words as they open are lawful.
-use Rattle.partial_state.proofs.Common.{ℕ, zero, suc, ◌≡◌, ◌+◌, ◌*◌, ◌<◌, ◌≤◌, ◌++◌, false, List, [], ◌∷◌, length, get_or, Some, None, IfSome, refl, sym, ap, subst, inl, arith, ◌∙◌, AllByRecursion, nat_tests, Layout, slot_counter, list_head, pool_counter, list_counter, slot_word, list_base, pool_base, opening_word, Block, AreApart, Holding, EachTwo, HaveOtherPorts, HaveOtherSlots, announcements, unpublished, IsTied, idle_holdings, OpeningIsLawful, initial_words, first_free}
+use Rattle.partial_state.proofs.Common.{ℕ, zero, suc, ◌≡◌, ◌+◌, ◌<◌, ◌≤◌, ◌++◌, false, List, [], ◌∷◌, length, get_or, Some, None, IfSome, refl, sym, ap, subst, inl, arith, ◌∙◌, AllByRecursion, nat_tests, Layout, slot_counter, list_head, pool_counter, list_counter, slot_word, list_base, pool_base, opening_word, Block, AreApart, Holding, EachTwo, HaveOtherPorts, HaveOtherSlots, announcements, unpublished, IsTied, idle_holdings, OpeningIsLawful, initial_words, first_free}
 use Rattle.partial_words.proofs.LayoutLemmas.{opening_agrees, view_opens}
 
 -- ports that hold nothing

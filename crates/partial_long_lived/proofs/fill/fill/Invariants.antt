@@ -1,4 +1,4 @@
-use Rattle.partial_long_lived.proofs.Common.{◌+◌, ◌*◌, ◌≤◌, first_free, IsHeld, port_at, Stays, HasSetWords, initial_record}
+use Rattle.partial_long_lived.proofs.Common.{◌+◌, ◌≤◌, first_free, IsHeld, port_at, Stays, HasSetWords, initial_record}
 use Rattle.partial_long_lived.proofs.fill.fill.Given as goal
 
 abbrev pub invariant-loop-component : goal.invariant-loop-component
