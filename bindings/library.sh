@@ -13,8 +13,8 @@ crate=$top/crates/partial_door
 # Whether each library below is there, and no source is newer.
 are_proved() {
     for library in $(below partial_door | sort -u); do
-        [ -e "$top/crates/$library/out/rlib/$library.rlib/format" ] &&
-            is_newest "$top/crates/$library/out/rlib/$library.rlib/format" || return
+        made=$top/crates/$library/out/rlib/$library.rlib
+        [ -e "$made/format" ] && is_newest "$made" || return
     done
 }
 if are_proved; then
