@@ -439,11 +439,9 @@ def in_turns(names, jobs, is_ready, is_beside, call):
         while left or running:
             beside = is_beside()
             free = (min(jobs, BESIDE) if beside else jobs) - len(running)
-            for name in list(left):
-                if free > 0 and is_ready(name):
-                    left.remove(name)
-                    running[pool.submit(call, name)] = name
-                    free -= 1
+            for name in [it for it in left if is_ready(it)][:free]:
+                left.remove(name)
+                running[pool.submit(call, name)] = name
             if running:
                 for it in futures.wait(running, PAUSE, futures.FIRST_COMPLETED).done:
                     given[running.pop(it)] = it.result()
