@@ -17,12 +17,10 @@ use partial_model::Refused;
 use partial_words::Step;
 use std::marker::Brand;
 
-/// Makes the steps of an update that isn't refused at once. It is inlined in both calls, so that neither the change nor
-/// the answer goes through memory.
+/// Makes the steps of an update that isn't refused at once.
 ///
 /// # Errors
 /// [`Refused::PoolSpent`] when the claim of its record went past the end of the pool: the port is marked.
-#[inline(always)]
 pub fn update(
     words: &Words,
     badge: &mut Badge<View>,
@@ -43,7 +41,6 @@ pub fn update(
 }
 
 // Makes the update at a seat, and returns the seat with the answer.
-#[inline(always)]
 fn make_update(
     words: &Words,
     mut seat: Place,
