@@ -43,7 +43,7 @@ module _ (e : Plan) where
       by true = omega arith
       by false = let rest = pass_next own (passes e) in omega (arith, rest)
 
-  load_next : (i : ℕ) → change_left e (next_load i) ≤ i + (first_free e.sizes + e.sizes.m) + 5
+  load_next : (i : ℕ) → change_left e (next_load i) ≤ i + 1 + (first_free e.sizes + e.sizes.m) + 5
   load_next zero = omega arith
   load_next (suc i) = omega arith
 
@@ -85,6 +85,8 @@ module _ (e : Plan) where
     change_fewer _ _ _ (changing.ChangeLeads.PassesAgain n here) may = let rest = pass_next (ports k).control.here.arena n in omega (arith, rest)
     change_fewer _ _ _ (changing.ChangeLeads.PassGivesUp n away) may = omega arith
     change_fewer _ _ _ (changing.ChangeLeads.LoadsOne i) may = let rest = load_next i in omega (arith, rest)
+    change_fewer _ _ _ (changing.ChangeLeads.FindsSlotsClear o next) may = let rest = set_next next in omega (arith, rest)
+    change_fewer _ _ _ changing.ChangeLeads.FindsSlotsClaimed may = omega arith
     change_fewer _ _ _ (changing.ChangeLeads.SetsOne i o v next is) may = let rest = set_next next in let low = may.2 in let most = may.3 in omega (arith, rest, low, most, is)
     change_fewer _ _ _ (changing.ChangeLeads.PublishesOnce o) may = omega arith
     change_fewer _ _ _ (changing.ChangeLeads.GivesLast o) may = omega arith

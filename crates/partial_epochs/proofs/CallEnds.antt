@@ -100,6 +100,8 @@ module _ (e : Plan) where
     change_ends _ _ _ (changing.ChangeLeads.PassesAgain n h1) = passes_end n h1
     change_ends _ _ _ (changing.ChangeLeads.PassGivesUp n h1) = inl (tt, tt)
     change_ends _ _ _ (changing.ChangeLeads.LoadsOne i) = inl (load_going i, tt)
+    change_ends _ _ _ (changing.ChangeLeads.FindsSlotsClear o next) = inl (set_going next, tt)
+    change_ends _ _ _ changing.ChangeLeads.FindsSlotsClaimed = inl (tt, tt)
     change_ends _ _ _ (changing.ChangeLeads.SetsOne i o v next h1) = inl (set_going next, tt)
     change_ends _ _ _ (changing.ChangeLeads.PublishesOnce o) = inl (tt, tt)
     change_ends _ _ _ (changing.ChangeLeads.GivesLast o) = inl (tt, tt)
@@ -130,6 +132,8 @@ module _ (e : Plan) where
     change_plain _ _ _ (changing.ChangeLeads.PassesAgain n h1) = tt
     change_plain _ _ _ (changing.ChangeLeads.PassGivesUp n h1) = tt
     change_plain _ _ _ (changing.ChangeLeads.LoadsOne i) = tt
+    change_plain _ _ _ (changing.ChangeLeads.FindsSlotsClear o next) = tt
+    change_plain _ _ _ changing.ChangeLeads.FindsSlotsClaimed = tt
     change_plain _ _ _ (changing.ChangeLeads.SetsOne i o v next h1) = tt
     change_plain _ _ _ (changing.ChangeLeads.PublishesOnce o) = tt
     change_plain _ _ _ (changing.ChangeLeads.GivesLast o) = tt
@@ -168,6 +172,8 @@ module _ (e : Plan) where
     change_causes _ _ _ (changing.ChangeLeads.PassesAgain n h1) here = (λ is. ap (next_pass e p.control.here.arena) (ap pass_of is), λ is last. absurd cc)
     change_causes _ _ _ (changing.ChangeLeads.PassGivesUp n h1) here = (λ is. absurd (h1 here), λ is last. absurd cc)
     change_causes _ _ _ (changing.ChangeLeads.LoadsOne i) here = (λ is. absurd cc, λ is last. absurd cc)
+    change_causes _ _ _ (changing.ChangeLeads.FindsSlotsClear o next) here = (λ is. absurd cc, λ is last. absurd cc)
+    change_causes _ _ _ changing.ChangeLeads.FindsSlotsClaimed here = (λ is. absurd cc, λ is last. absurd cc)
     change_causes _ _ _ (changing.ChangeLeads.SetsOne i o v next h1) here = (λ is. absurd cc, λ is last. absurd cc)
     change_causes _ _ _ (changing.ChangeLeads.PublishesOnce o) here = (λ is. absurd cc, λ is last. absurd cc)
     change_causes _ _ _ (changing.ChangeLeads.GivesLast o) here = (λ is. absurd cc, λ is last. absurd cc)
@@ -192,6 +198,7 @@ module _ (e : Plan) where
     plain_none (Moves (every.Move.LoadsMark o)) plain p entries h = h.2 ∙ no_more h.0.entries h.0.adds
     plain_none (Moves (every.Move.Puts o a)) plain p entries h = h.2 ∙ no_more h.0.entries h.0.adds
     plain_none (Moves (every.Move.Sets o v next)) plain p entries h = h.2 ∙ no_more h.0.entries h.0.adds
+    plain_none (Moves (every.Move.FindsClear o next)) plain p entries h = h.2 ∙ no_more h.0.entries h.0.adds
     plain_none (Moves (every.Move.Publishes o)) plain p entries h = h.2 ∙ no_more h.0.entries h.0.adds
     plain_none (Moves (every.Move.Notes n i)) plain p entries h = h.2 ∙ no_more h.0.entries h.0.adds
 
@@ -211,6 +218,7 @@ module _ (e : Plan) where
     still_place (Moves (every.Move.LoadsMark o)) still p entries h = ap (λ (q : Port). q.control.here) h.1 ∙ h.0.place
     still_place (Moves (every.Move.Puts o a)) still p entries h = ap (λ (q : Port). q.control.here) h.1 ∙ h.0.place
     still_place (Moves (every.Move.Sets o v next)) still p entries h = ap (λ (q : Port). q.control.here) h.1 ∙ h.0.place
+    still_place (Moves (every.Move.FindsClear o next)) still p entries h = ap (λ (q : Port). q.control.here) h.1 ∙ h.0.place
     still_place (Moves (every.Move.Publishes o)) still p entries h = ap (λ (q : Port). q.control.here) h.1 ∙ h.0.place
     still_place (Moves (every.Move.Notes n i)) still p entries h = ap (λ (q : Port). q.control.here) h.1 ∙ h.0.place
 

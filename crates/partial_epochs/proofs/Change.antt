@@ -1,5 +1,5 @@
 -- What a step in the arena of an epoch leaves of all the others.
-use Rattle.partial_epochs.proofs.Common.{ℕ, ◌≡◌, ◌≢◌, ◌+◌, ◌<◌, ◌≤◌, ◌==◌, ◌⊎◌, ◌++◌, true, false, Option, Some, None, IfSome, List, [], ◌∷◌, length, refl, sym, ap, subst, ◌∙◌, inl, inr, arith, slice_index, option_map, append-nil, eqb_tells, Applied, some_same, total, put, IsAsked, Plan, IsSealed, packed, current_word, base, control_words, arena_words, component_words, carried_words, set_word, Control, Owned, Port, Epoch, LawfulControl, IsOwner, Beside, IsArena, IsFinished, IsNewPart, IsSetting, IsStanding, LawfulEpochs, controls, next_epoch_word, numbers, place_now, Stands}
+use Rattle.partial_epochs.proofs.Common.{ℕ, ◌≡◌, ◌≢◌, ◌+◌, ◌<◌, ◌≤◌, ◌==◌, ◌⊎◌, ◌++◌, true, false, Option, Some, None, IfSome, List, [], ◌∷◌, length, refl, sym, ap, subst, ◌∙◌, inl, inr, arith, slice_index, option_map, append-nil, eqb_tells, Applied, some_same, total, put, IsAsked, Plan, IsSealed, packed, current_word, base, control_words, arena_words, component_words, carried_words, set_word, Control, Owned, Port, Epoch, LawfulControl, IsOwner, Beside, IsArena, IsFinished, IsNewPart, IsSetting, IsStanding, LawfulEpochs, controls, next_epoch_word, numbers, place_now, Stands, None, HasClearSlots, slot_counter, slot_word}
 use Rattle.partial_epochs.proofs.Lists.{at_of, put_all, put_other, put_same}
 use Rattle.partial_epochs.proofs.Places.{arena_same, carried_same, components_same, control_same, other_arena, packed_arena, set_place}
 use Rattle.partial_epochs.proofs.Present.{standing, numbered}
@@ -198,6 +198,8 @@ module _ (e : Plan) (words : List ℕ) (ports : ℕ → Port) (b : Beside) (k : 
       few = t.few;
       sealed = λ some. let all = t.sealed some in omega (arith, all, more);
       each = each;
+      cleared = λ l less set. h.outside (base e o.arena + slot_word e.sizes l) (other_arena e x o.arena (slot_word e.sizes l) (sets_other q o inside is (omega (arith, less, set))) (omega (arith, less)))
+          ∙ t.cleared l less set;
     }
       where
         first : slice_index words' current_word ≡ slice_index words current_word
@@ -230,6 +232,15 @@ module _ (e : Plan) (words : List ℕ) (ports : ℕ → Port) (b : Beside) (k : 
         by i p inside control more (Some o) is old = subst (λ (u : Option Owned). IfSome u (IsSetting e words' b' p)) (sym (ap (λ (c : Control). c.owned) control ∙ is))
             (setting_old i o p inside is control more old)
 
+    clear_then : (y : ℕ) → y < e.arenas → b'.holds y ≡ None → HasClearSlots e words' y
+    clear_then y inside is l from less = elim (eqb_tells y x) [
+      | inl same ↦ let none : Some r' ≡ None = sym (put_same x (Some r') b.holds) ∙ sym (ap b'.holds same.1) ∙ is in absurd cc
+      | inr other ↦
+          let count = h.outside (base e y + slot_counter e.sizes) (other_arena e x y (slot_counter e.sizes) other.1 (omega arith)) in
+          h.outside (base e y + slot_word e.sizes l) (other_arena e x y (slot_word e.sizes l) other.1 (omega (arith, less)))
+          ∙ w.clear y inside (sym (put_other x (Some r') b.holds y other.1) ∙ is) l (subst (λ n. n ≤ l) count from) less
+    ]
+
     pub change_kept : LawfulEpochs e words' ports' b'
     change_kept = record {
       plan = w.plan;
@@ -241,4 +252,5 @@ module _ (e : Plan) (words : List ℕ) (ports : ℕ → Port) (b : Beside) (k : 
       standing = standing_then;
       new = new_then;
       setting = setting_then;
+      clear = clear_then;
     }

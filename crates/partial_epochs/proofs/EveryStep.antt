@@ -1,5 +1,5 @@
 -- Every step of every port keeps the memory lawful.
-use Rattle.partial_epochs.proofs.Common.{ℕ, ◌≡◌, ◌+◌, ◌<◌, ◌≤◌, ◌⊎◌, ◌++◌, List, [], ◌∷◌, length, get_or, refl, sym, ap, subst, ◌∙◌, inl, inr, arith, append-nil, Applied, eqb_tells, Noted, Step, Add, CoreState, put, Place, Plan, at_word, current_word, packed, seal, Control, Port, history_of, public_log, Marks, Loaded, Beside, LawfulEpochs, place_now, arrived, having_passed, MayPut, cleaner, having_given, having_loaded, having_looked, having_put, just_taken, owning, having_published, having_set, next_beside, vacated, EveryStepStaysLawful, IsPlacedBy, MayAdd, MayMove, MemoriesOpenLawful, Move, MoveLeads, moved_words, since_behind, Makes, Seals, PassesSealed, LooksAsOwner, StoresMark, LoadsCurrent, ExchangesMark, Takes, Gives, FindsElsewhere, LoadsMark, Puts, Sets, Notes, MachineLeads, IsAside, LawfulMemory, having_seen, noting, one_history}
+use Rattle.partial_epochs.proofs.Common.{ℕ, ◌≡◌, ◌+◌, ◌<◌, ◌≤◌, ◌⊎◌, ◌++◌, List, [], ◌∷◌, length, get_or, refl, sym, ap, subst, ◌∙◌, inl, inr, arith, append-nil, Applied, eqb_tells, Noted, Step, Add, CoreState, put, Place, Plan, at_word, current_word, packed, seal, Control, Port, history_of, public_log, Marks, Loaded, Beside, LawfulEpochs, place_now, arrived, having_passed, MayPut, cleaner, having_given, having_loaded, having_looked, having_put, just_taken, owning, having_published, having_set, next_beside, vacated, EveryStepStaysLawful, IsPlacedBy, MayAdd, MayMove, MemoriesOpenLawful, Move, MoveLeads, moved_words, since_behind, Makes, Seals, PassesSealed, LooksAsOwner, StoresMark, LoadsCurrent, ExchangesMark, Takes, Gives, FindsElsewhere, LoadsMark, Puts, Sets, Notes, MachineLeads, IsAside, LawfulMemory, having_seen, noting, one_history, FindsClear}
 use Rattle.partial_epochs.specs.Sealing.{passing}
 use Rattle.partial_epochs.specs.EveryStep.Move.{Looks, Publishes}
 use Rattle.partial_epochs.specs.Time.{KeepsTime}
@@ -12,7 +12,7 @@ use Rattle.partial_epochs.proofs.OwnerLooks.{owners_look}
 use Rattle.partial_epochs.proofs.Publishes.{publishes_stay_lawful}
 use Rattle.partial_epochs.proofs.Puts.{puts_stay_lawful}
 use Rattle.partial_epochs.proofs.Seals.{sealed_passes_stay_lawful, seals_stay_lawful}
-use Rattle.partial_epochs.proofs.Sets.{sets_stay_lawful}
+use Rattle.partial_epochs.proofs.Sets.{clear_slots_count_as_set, sets_stay_lawful}
 use Rattle.partial_epochs.proofs.Sights.{arrivals_keep_notes, asides_stay_lawful, publishes_keep_notes, sights_stay_lawful}
 use Rattle.partial_epochs.proofs.Taking.{gives_stay_lawful, marks_are_loaded, others_are_elsewhere, owners_look_away, takes_stay_lawful}
 use Rattle.partial_epochs.proofs.Time.{arrivals_keep_time, asides_keep_time, entries_keep_time, loaded_marks_keep_time, looks_keep_time, marks_keep_time, not_again, one_aside, publishes_keep_time, puts_keep_time, puts_nobody, set_puts, steps_keep_places}
@@ -190,7 +190,13 @@ module _ (e : Plan) (words : List ℕ) (ports : ℕ → Port) (b : Beside) (note
       (record { log = refl; epochs = refl; part = refl; before = refl; here = refl })
       (keeps (moved_words e words (ports k) k (Sets o v next)) (having_set (ports k) o next) (vacated b o.arena) (λ q low. (steps_keep_places e words q low).set o.arena o.set v) refl refl
       (λ j a may'. set_puts (ports k).control (having_set (ports k) o next).control o next j a may.0 refl may') (omega arith))
-      (sets_stay_lawful e words ports b k o v next w.epochs below may.0 may.1 may.2 may.3 may.4 may.5)
+      (sets_stay_lawful e words ports b k o v next w.epochs below may.0 may.1 may.2 may.3 may.4 may.5 may.6)
+  every_step (FindsClear o next) may =
+      aside (FindsClear o next) (λ then is. is) words (having_set (ports k) o next) (vacated b o.arena)
+      (record { log = refl; epochs = refl; part = refl; before = refl; here = refl })
+      (keeps words (having_set (ports k) o next) (vacated b o.arena) (λ q low. refl) refl refl
+      (λ j a may'. set_puts (ports k).control (having_set (ports k) o next).control o next j a may.0 refl may') (omega arith))
+      (clear_slots_count_as_set e words ports b k o next w.epochs below may.0 may.1 may.2 may.3 may.4)
   every_step (Publishes o) may = elim (publishes_stay_lawful e words ports b k o w.epochs below may) [
     | inl won ↦
         let kept = publishes_keep_notes e words (moved_words e words (ports k) k (Publishes o)) ports b notes k o w below won.2 in

@@ -20,7 +20,7 @@ pub use Rattle.partial_epochs.proofs.Puts.{puts_stay_lawful}
 pub use Rattle.partial_epochs.proofs.Room.{machines_are_never_refused, marks_never_come}
 pub use Rattle.partial_epochs.proofs.Seals.{sealed_passes_stay_lawful, seals_stay_lawful}
 pub use Rattle.partial_epochs.proofs.SeenRecords.{seen_records_stay}
-pub use Rattle.partial_epochs.proofs.Sets.{sets_stay_lawful}
+pub use Rattle.partial_epochs.proofs.Sets.{clear_slots_count_as_set, sets_stay_lawful}
 pub use Rattle.partial_epochs.proofs.Sights.{arrivals_keep_notes, asides_stay_lawful, glances_stay_lawful, publishes_keep_notes, sights_stay_lawful}
 pub use Rattle.partial_epochs.proofs.Taking.{gives_stay_lawful, marks_are_loaded, others_are_elsewhere, owners_look_away, takes_stay_lawful}
 pub use Rattle.partial_epochs.proofs.Time.{arrivals_keep_time, asides_keep_time, entries_keep_time, loaded_marks_keep_time, looks_keep_time}

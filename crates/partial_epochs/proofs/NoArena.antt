@@ -1,5 +1,5 @@
 -- A change of epoch that finds no arena has found each one taken in each of its passes.
-use Rattle.partial_epochs.proofs.Common.{ℕ, zero, suc, ◌≡◌, ◌≢◌, ◌+◌, ◌<◌, ◌≤◌, ◌==◌, ◌⊎◌, Bool, true, false, cond, Option, Some, None, List, refl, sym, ap, subst, ◌∙◌, inl, inr, arith, ⊤, nat_lt, cases_lt, eqb_tells, Call, CoreState, reply_of, Reply, first_free, Place, Plan, Port, Act, ChangeLeads, Changing, next_arena, next_component, next_load, next_pass, next_port, next_set, passes, Sees, Arrived, EndsPass, GivesBack, GivesUp, LoadsComponent, LoadsLast, LoadsPort, LooksAgain, LooksFirst, Publishes, PutsPort, Refuses, SealsComponent, SetsWord, TakesArena, CallStep, Doing, CallLeads, RunsCall, after_step, behind_answer, changed, ran, round, Answered, Changes, Judges, LoadsWord, Looks, Refused, Runs, Starts, Tells, last_loads}
+use Rattle.partial_epochs.proofs.Common.{ℕ, zero, suc, ◌≡◌, ◌≢◌, ◌+◌, ◌<◌, ◌≤◌, ◌==◌, ◌⊎◌, Bool, true, false, cond, Option, Some, None, List, refl, sym, ap, subst, ◌∙◌, inl, inr, arith, ⊤, nat_lt, cases_lt, eqb_tells, Call, CoreState, reply_of, Reply, first_free, Place, Plan, Port, Act, ChangeLeads, Changing, next_arena, next_component, next_load, next_pass, next_port, next_set, passes, Sees, Arrived, EndsPass, GivesBack, GivesUp, LoadsClaimed, LoadsComponent, LoadsLast, LoadsPort, LooksAgain, LooksFirst, Publishes, PutsPort, Refuses, SealsComponent, SetsWord, TakesArena, CallStep, Doing, CallLeads, RunsCall, after_step, behind_answer, changed, ran, round, Answered, Changes, Judges, LoadsWord, Looks, Refused, Runs, Starts, Tells, last_loads}
 use Rattle.partial_model.specs.declared.call.Call.TheVariants as call
 use Rattle.partial_machine.specs.declared.stage.Reply.TheVariants as reply
 use Rattle.partial_epochs.specs.Changing.Changing.{ExchangesMark, LoadsCurrent, LooksAsOwner, StoresMark}
@@ -11,6 +11,7 @@ use Rattle.partial_epochs.proofs.CallEnds.{change_ends, still_place}
 -- a change that has found an arena, or is about to enter
 abbrev Late : Changing → Type 0
 Late (LoadsLast i) = ⊤
+Late LoadsClaimed = ⊤
 Late (SetsWord i) = ⊤
 Late Publishes = ⊤
 Late GivesUp = ⊤
@@ -69,6 +70,8 @@ module _ (e : Plan) where
   late_on words p _ _ _ (changing.ChangeLeads.PassesAgain n h1) late = absurd late
   late_on words p _ _ _ (changing.ChangeLeads.PassGivesUp n h1) late = absurd late
   late_on words p _ _ _ (changing.ChangeLeads.LoadsOne i) late = load_late i
+  late_on words p _ _ _ (changing.ChangeLeads.FindsSlotsClear o next) late = set_late next
+  late_on words p _ _ _ changing.ChangeLeads.FindsSlotsClaimed late = tt
   late_on words p _ _ _ (changing.ChangeLeads.SetsOne i o v next h1) late = set_late next
   late_on words p _ _ _ (changing.ChangeLeads.PublishesOnce o) late = tt
   late_on words p _ _ _ (changing.ChangeLeads.GivesLast o) late = tt
@@ -271,6 +274,8 @@ module _ (e : Plan) where
       step_ahead _ _ _ (changing.ChangeLeads.PassesAgain n0 h1) ahead = inl (inl (to_own (λ i. next_pass e i n0) (pass_ahead n0 ahead)))
       step_ahead _ _ _ (changing.ChangeLeads.PassGivesUp n0 h1) ahead = inl (inr tt)
       step_ahead _ _ _ (changing.ChangeLeads.LoadsOne i) ahead = absurd ahead
+      step_ahead _ _ _ (changing.ChangeLeads.FindsSlotsClear o next) ahead = absurd ahead
+      step_ahead _ _ _ changing.ChangeLeads.FindsSlotsClaimed ahead = absurd ahead
       step_ahead _ _ _ (changing.ChangeLeads.SetsOne i o v next h1) ahead = absurd ahead
       step_ahead _ _ _ (changing.ChangeLeads.PublishesOnce o) ahead = absurd ahead
       step_ahead _ _ _ (changing.ChangeLeads.GivesLast o) ahead = absurd ahead

@@ -111,6 +111,10 @@ module _ (e : Plan) (words : List ℕ) (w : OpensAll e words) where
     standing = λ q low is. record { epoch = first_epoch e; is = put_same 0 (Some (first_epoch e)) nothing_held; before = refl; part = refl; passed = refl; over = refl };
     new = λ q y r low is less. absurd (held (λ y r. 0 < length r.before → ⊥) y r is (λ less. omega (arith, less)) less);
     setting = λ q low. tt;
+    clear = λ y inside is l from less. elim (eqb_tells y 0) [
+      | inl same ↦ let none : Some (first_epoch e) ≡ None = sym (put_same 0 (Some (first_epoch e)) nothing_held) ∙ sym (ap b.holds same.1) ∙ is in absurd cc
+      | inr ne ↦ let other = ne.1 in w.clear y l (omega (arith, other)) inside less
+    ];
   }
 
 pub epochs_open_lawful : EpochsOpenLawful

@@ -110,7 +110,7 @@ owners_look e words ports b k o w below owned marks at =
     let is = present e words ports b k w below own_epochs.stands both.1 in
     let h : IsSetting e words b (ports k) o = subst (λ (t : Option Owned). IfSome t (IsSetting e words b (ports k))) owned (w.setting k below) in (
       is,
-      control_lifted e words words (λ i from. refl) ports b k (having_looked (ports k) o) w refl refl (record { few = h.few; sealed = h.sealed; each = h.each })
+      control_lifted e words words (λ i from. refl) ports b k (having_looked (ports k) o) w refl refl (record { few = h.few; sealed = h.sealed; each = h.each; cleared = h.cleared })
           (looked_on e (control_words e words) (controls ports) (place_now b) (numbers b) w.control k below o owned is.here marks)
           (λ _. let s = w.standing k below own_epochs.stands in record { epoch = s.epoch; is = s.is; before = s.before; part = s.part; passed = s.passed; over = s.over })
           (omega arith) below,

@@ -1,5 +1,5 @@
 -- Where the words of control and of arenas stand.
-use Rattle.partial_epochs.proofs.Common.{ℕ, ◌≡◌, ◌≢◌, ◌+◌, ◌-◌, ◌*◌, ◌<◌, ◌≤◌, ◌⊎◌, Bool, false, cond, List, ap, ◌∙◌, inl, inr, arith, nat_lt, slice_index, mul-le-mul_right, cases_lt, lt-ltb, total, first_free, not_below, Plan, Place, packed, base, span, whole, control_words, control_size, arena_words, component_words, carried_words, carried_word, plain, set_word, arena_limit, initial_words}
+use Rattle.partial_epochs.proofs.Common.{ℕ, ◌≡◌, ◌≢◌, ◌+◌, ◌-◌, ◌*◌, ◌<◌, ◌≤◌, ◌⊎◌, Bool, false, cond, List, ap, ◌∙◌, inl, inr, arith, nat_lt, slice_index, mul-le-mul_right, cases_lt, lt-ltb, total, first_free, not_below, Plan, Place, packed, base, span, whole, control_words, control_size, arena_words, component_words, carried_words, carried_word, plain, set_word, arena_limit, initial_words, Layout, list_base, slot_counter, slot_word, IsAsked, set_offset, eqb_tells, refl, sym, subst}
 use Rattle.partial_epochs.proofs.Lists.{same_of}
 
 -- arenas lie one behind the other
@@ -19,15 +19,83 @@ other_arena e x y i other inside = elim (cases_lt y x) [
 pub below_whole : (e : Plan) (x i : ℕ) → x < e.arenas → i < span e → base e x + i < whole e
 below_whole e x i below inside = let up = bases_up e x e.arenas below in omega (arith, up, inside)
 
+-- the words before the list words are set from the last one down, and those behind in their order
+offset_front : (s : Layout) (i : ℕ) → i < list_base s → set_offset s i ≡ list_base s - (i + 1)
+offset_front s i low = ap (λ (c : Bool). cond c (list_base s - (i + 1)) i) (lt-ltb i (list_base s) low)
+
+offset_behind : (s : Layout) (i : ℕ) → list_base s ≤ i → set_offset s i ≡ i
+offset_behind s i from = ap (λ (c : Bool). cond c (list_base s - (i + 1)) i) (not_below i (list_base s) from)
+
+-- the word of that number is of the same kind, and its number is the first one again
+pub offset_low : (s : Layout) (i : ℕ) → i < first_free s → set_offset s i < first_free s
+offset_low s i low = elim (cases_lt i (list_base s)) [
+  | inl front ↦ let at = offset_front s i front in omega (arith, at, front)
+  | inr behind ↦ let at = offset_behind s i behind in omega (arith, at, low)
+]
+
+pub offset_asked : (s : Layout) (i : ℕ) → IsAsked s i → IsAsked s (set_offset s i)
+offset_asked s i (inl front) = let at = offset_front s i front in inl (omega (arith, at, front))
+offset_asked s i (inr high) = let at = offset_behind s i (omega (arith, high)) in inr (omega (arith, at, high))
+
+pub offset_back : (s : Layout) (i : ℕ) → set_offset s (set_offset s i) ≡ i
+offset_back s i = elim (cases_lt i (list_base s)) [
+  | inl front ↦
+      let at = offset_front s i front in
+      let back = offset_front s (set_offset s i) (omega (arith, at, front)) in
+      back ∙ omega (arith, at, front)
+  | inr behind ↦ let at = offset_behind s i behind in ap (set_offset s) at ∙ at
+]
+
+pub offset_apart : (s : Layout) (i j : ℕ) → i ≢ j → set_offset s i ≢ set_offset s j
+offset_apart s i j ne same = ne (sym (offset_back s i) ∙ ap (set_offset s) same ∙ offset_back s j)
+
+-- the words of an opening among those that are set, and the carried stamps behind them
+pub set_low : (e : Plan) (x i : ℕ) → i < first_free e.sizes → set_word e x i ≡ base e x + set_offset e.sizes i
+set_low e x i below = ap (λ (c : Bool). cond c (base e x + set_offset e.sizes i) (base e x + total e.sizes + (i - first_free e.sizes))) (lt-ltb i (first_free e.sizes) below)
+
+pub set_high : (e : Plan) (x i : ℕ) → first_free e.sizes ≤ i → set_word e x i ≡ base e x + total e.sizes + (i - first_free e.sizes)
+set_high e x i from = ap (λ (c : Bool). cond c (base e x + set_offset e.sizes i) (base e x + total e.sizes + (i - first_free e.sizes))) (not_below i (first_free e.sizes) from)
+
 -- the words that are set lie in the arena
 pub set_place : (e : Plan) (x i : ℕ) → initial_words e.sizes ≤ e.sizes.pool → i < first_free e.sizes + e.sizes.m → (j : ℕ) × (j < span e) × (set_word e x i ≡ base e x + j)
 set_place e x i room low = elim (cases_lt i (first_free e.sizes)) [
-  | inl below ↦ (i, omega (arith, below, room), ap (λ (c : Bool). cond c (base e x + i) (base e x + total e.sizes + (i - first_free e.sizes))) (lt-ltb i (first_free e.sizes) below))
-  | inr from ↦ (
-    total e.sizes + (i - first_free e.sizes),
-    omega (arith, low, from),
-    ap (λ (c : Bool). cond c (base e x + i) (base e x + total e.sizes + (i - first_free e.sizes))) (not_below i (first_free e.sizes) from) ∙ omega arith,
-  )
+  | inl below ↦ let less = offset_low e.sizes i below in (set_offset e.sizes i, omega (arith, less, room), set_low e x i below)
+  | inr from ↦ (total e.sizes + (i - first_free e.sizes), omega (arith, low, from), set_high e x i from ∙ omega arith)
+]
+
+-- each of them is set once
+pub set_apart : (e : Plan) (x i j : ℕ) → initial_words e.sizes ≤ e.sizes.pool → i ≢ j → set_word e x i ≢ set_word e x j
+set_apart e x i j room ne same = elim (cases_lt i (first_free e.sizes)) [
+  | inl below ↦ elim (cases_lt j (first_free e.sizes)) [
+    | inl below' ↦ let a = set_low e x i below in let c = set_low e x j below' in offset_apart e.sizes i j ne (omega (arith, a, c, same))
+    | inr from ↦ let a = set_low e x i below in let c = set_high e x j from in let less = offset_low e.sizes i below in absurd (omega (arith, a, c, same, less, room))
+  ]
+  | inr from ↦ elim (cases_lt j (first_free e.sizes)) [
+    | inl below ↦ let a = set_high e x i from in let c = set_low e x j below in let less = offset_low e.sizes j below in absurd (omega (arith, a, c, same, less, room))
+    | inr from' ↦ let a = set_high e x i from in let c = set_high e x j from' in ne (omega (arith, a, c, same, from, from'))
+  ]
+]
+
+-- the slots come first, from the last one down
+pub slot_offset : (s : Layout) (i : ℕ) → i < s.slots → set_offset s i ≡ slot_word s (s.slots - (i + 1))
+slot_offset s i low = let at = offset_front s i (omega (arith, low)) in omega (arith, at, low)
+
+pub slot_set : (e : Plan) (x i : ℕ) → i < e.sizes.slots → set_word e x i ≡ base e x + slot_word e.sizes (e.sizes.slots - (i + 1))
+slot_set e x i low = let a = set_low e x i (omega (arith, low)) in let at = slot_offset e.sizes i low in omega (arith, a, at)
+
+pub slot_number : (e : Plan) (x l i : ℕ) → initial_words e.sizes ≤ e.sizes.pool → l < e.sizes.slots → set_word e x i ≡ base e x + slot_word e.sizes l → l + i + 1 ≡ e.sizes.slots
+slot_number e x l i room low same = elim (eqb_tells i (e.sizes.slots - (l + 1))) [
+  | inl is ↦ let n = is.1 in omega (arith, n, low)
+  | inr ne ↦
+      let slot = slot_set e x (e.sizes.slots - (l + 1)) (omega (arith, low)) in
+      absurd (set_apart e x i (e.sizes.slots - (l + 1)) room ne.1 (omega (arith, same, slot, low)))
+]
+
+-- the slot counter comes behind them
+pub counter_number : (e : Plan) (x i : ℕ) → initial_words e.sizes ≤ e.sizes.pool → set_word e x i ≡ base e x + slot_counter e.sizes → e.sizes.slots ≤ i
+counter_number e x i room same = elim (cases_lt i e.sizes.slots) [
+  | inl low ↦ let slot = slot_set e x i low in absurd (omega (arith, same, slot, low))
+  | inr from ↦ from
 ]
 
 -- the places that two words name

@@ -1,14 +1,14 @@
 -- The exchange of the current word opens the next epoch.
-use Rattle.partial_epochs.proofs.Common.{ℕ, zero, suc, ◌≡◌, ◌≢◌, ◌+◌, ◌-◌, ◌<◌, ◌≤◌, ◌==◌, ◌⊎◌, Bool, true, false, cond, Option, Some, None, IfSome, List, [], ◌∷◌, length, get_or, set, refl, sym, ap, subst, ◌∙◌, inl, inr, arith, option_map, cases_lt, lt-ltb, eqb_tells, get_or-set_same, get_or-set_other, length-set, set-get_or, Applied, Opening, value_of, some_same, Layout, total, first_free, pool_counter, slot_counter, Part, fresh_part, fresh_parts, list_of, put, IsAsked, Plan, Place, IsSealed, at_word, arena_words, base, carried_word, carried_words, component_words, control_size, control_words, current_word, packed, plain, seal, carried_behind, opening_behind, Control, Owned, Port, Epoch, IsPlaceWord, IsOut, IsOwner, LawfulControl, MayPut, Beside, IsArena, IsFinished, IsNewPart, IsSetting, IsStanding, LawfulEpochs, awaits_slot, controls, numbers, place_now, IsPresent, IsWholeArena, PublishesStayLawful, having_published, next_beside, next_place, next_epoch, resting, OpensOver, Stands, not_below}
+use Rattle.partial_epochs.proofs.Common.{ℕ, zero, suc, ◌≡◌, ◌≢◌, ◌+◌, ◌-◌, ◌<◌, ◌≤◌, ◌==◌, ◌⊎◌, Bool, true, false, cond, Option, Some, None, IfSome, List, [], ◌∷◌, length, get_or, set, refl, sym, ap, subst, ◌∙◌, inl, inr, arith, option_map, cases_lt, lt-ltb, eqb_tells, get_or-set_same, get_or-set_other, length-set, set-get_or, Applied, Opening, value_of, some_same, Layout, total, first_free, pool_counter, slot_counter, slot_word, set_offset, HasClearSlots, Part, fresh_part, fresh_parts, list_of, put, IsAsked, Plan, Place, IsSealed, at_word, arena_words, base, carried_word, carried_words, component_words, control_size, control_words, current_word, packed, plain, seal, carried_behind, opening_behind, Control, Owned, Port, Epoch, IsPlaceWord, IsOut, IsOwner, LawfulControl, MayPut, Beside, IsArena, IsFinished, IsNewPart, IsSetting, IsStanding, LawfulEpochs, awaits_slot, controls, numbers, place_now, IsPresent, IsWholeArena, PublishesStayLawful, having_published, next_beside, next_place, next_epoch, resting, OpensOver, Stands, not_below}
 use Rattle.partial_words.specs.Chain.{opening_word}
 use Rattle.partial_core.specs.Lawful as one
-use Rattle.partial_epochs.proofs.Entering.{control_lifted, current_is, cw_long, high_arenaed}
+use Rattle.partial_epochs.proofs.Entering.{control_lifted, current_is, cw_long, high_arenaed, high_clear}
 use Rattle.partial_epochs.proofs.Lists.{at_of, count_none, length_of, put_all, put_other, put_same, set_of}
 use Rattle.partial_words.proofs.LayoutLemmas.{opening_component}
 use Rattle.partial_state.proofs.OpeningLaw.{pool_opens, slot_opens}
 use Rattle.partial_epochs.proofs.Opens.{opens_over}
 use Rattle.partial_epochs.proofs.Owning.{knows_more, out_then}
-use Rattle.partial_epochs.proofs.Places.{packed_arena}
+use Rattle.partial_epochs.proofs.Places.{offset_asked, offset_back, offset_low, packed_arena, set_high, set_low}
 use Rattle.partial_epochs.proofs.Present.{present, same_place}
 use Rattle.partial_epochs.proofs.Publishing.{published}
 use Rattle.partial_epochs.proofs.Worded.{component_at, plain_at, plain_component, plain_other}
@@ -77,7 +77,7 @@ module _ (e : Plan) (words : List ℕ) (ports : ℕ → Port) (b : Beside) (k : 
       cc
 
   rests_setting : (l : List ℕ) (d : Beside) (p : Port) → IsSetting e l d p (resting o)
-  rests_setting l d p = record { few = omega arith; sealed = λ less. absurd (omega (arith, less)); each = λ at i less _. absurd (omega (arith, less)) }
+  rests_setting l d p = record { few = omega arith; sealed = λ less. absurd (omega (arith, less)); each = λ at i less _. absurd (omega (arith, less)); cleared = λ l less set. absurd (omega (arith, less, set)) }
 
   placed_here : get_or (control_words e words) (at_word k) 0 ≡ packed (ports k).control.here
   placed_here = subst (IsPlaceWord e (control_words e words) k (ports k).control.here) own.stands (w.control.at k below)
@@ -194,10 +194,14 @@ module _ (e : Plan) (words : List ℕ) (ports : ℕ → Port) (b : Beside) (k : 
     word_set : (i : ℕ) → i < first_free e.sizes → IsAsked e.sizes i → get_or words (base e o.arena + i) 0 ≡ opening_word e.sizes (opening_behind e.opening (b.log ∷ b.before)).values i
     word_set i low asked =
         let set = whole.set in
-        sym (ap (λ (c : Bool). get_or words (cond c (base e o.arena + i) (base e o.arena + total e.sizes + (i - first_free e.sizes))) 0) (lt-ltb i (first_free e.sizes) low))
-        ∙ setting.each at i (omega (arith, set, low)) asked
-        ∙ ap (λ (c : Bool). cond c (opening_word e.sizes (opening_behind e.opening (b.log ∷ b.before)).values i) (carried_behind e.opening (b.log ∷ b.before) (i - first_free e.sizes)))
-        (lt-ltb i (first_free e.sizes) low)
+        let j : ℕ = set_offset e.sizes i in
+        let less = offset_low e.sizes i low in
+        let back = offset_back e.sizes i in
+        ap (λ n. get_or words (base e o.arena + n) 0) (sym back) ∙ ap (λ n. get_or words n 0) (sym (set_low e o.arena j less))
+        ∙ setting.each at j (omega (arith, set, less)) (offset_asked e.sizes i asked)
+        ∙ ap (λ (c : Bool). cond c (opening_word e.sizes (opening_behind e.opening (b.log ∷ b.before)).values (set_offset e.sizes j))
+        (carried_behind e.opening (b.log ∷ b.before) (j - first_free e.sizes))) (lt-ltb j (first_free e.sizes) less)
+        ∙ ap (opening_word e.sizes (opening_behind e.opening (b.log ∷ b.before)).values) back
 
     carried_set : (j : ℕ) → j < e.sizes.m → get_or words (carried_word e o.arena j) 0 ≡ carried_behind e.opening (b.log ∷ b.before) j
     carried_set j low =
@@ -205,10 +209,9 @@ module _ (e : Plan) (words : List ℕ) (ports : ℕ → Port) (b : Beside) (k : 
         let i : ℕ = first_free e.sizes + j in
         let off : i - first_free e.sizes ≡ j = omega arith in
         let test = not_below i (first_free e.sizes) (omega arith) in
-        sym (ap (λ (c : Bool). get_or words (cond c (base e o.arena + i) (base e o.arena + total e.sizes + (i - first_free e.sizes))) 0) test
-        ∙ ap (λ n. get_or words (base e o.arena + total e.sizes + n) 0) off)
+        sym (ap (λ n. get_or words n 0) (set_high e o.arena i (omega arith)) ∙ ap (λ n. get_or words (base e o.arena + total e.sizes + n) 0) off)
         ∙ setting.each at i (omega (arith, set, low)) (inr (omega arith))
-        ∙ ap (λ (c : Bool). cond c (opening_word e.sizes (opening_behind e.opening (b.log ∷ b.before)).values i) (carried_behind e.opening (b.log ∷ b.before) (i - first_free e.sizes))) test
+        ∙ ap (λ (c : Bool). cond c (opening_word e.sizes (opening_behind e.opening (b.log ∷ b.before)).values (set_offset e.sizes i)) (carried_behind e.opening (b.log ∷ b.before) (i - first_free e.sizes))) test
         ∙ ap (carried_behind e.opening (b.log ∷ b.before)) off
 
     component_small : (j : ℕ) → j < e.sizes.m → get_or words (base e o.arena + j) 0 < seal
@@ -346,7 +349,14 @@ module _ (e : Plan) (words : List ℕ) (ports : ℕ → Port) (b : Beside) (k : 
                   let now : get_or words' current_word 0 ≡ v = get_or-set_same words current_word v 0 (omega (arith, count)) in
                   let both = packed_arena e (next_place (ports k).control.here o.arena) (ports q).control.here w.plan.arenas own.arena (w.control.places q low).arena (sym now ∙ at') in
                   absurd (not_stood q low mine.stands (sym both.1));
+              cleared = λ l less set. high (base e t.arena + slot_word e.sizes l) (omega arith) ∙ h.cleared l less set;
             }
+
+    clear_then : (y : ℕ) → y < e.arenas → b'.holds y ≡ None → HasClearSlots e words' y
+    clear_then y inside is l from less = elim (eqb_tells y o.arena) [
+      | inl same ↦ let none : Some (next_epoch e b) ≡ None = sym (put_same o.arena (Some (next_epoch e b)) b.holds) ∙ sym (ap b'.holds same.1) ∙ is in absurd cc
+      | inr ne ↦ high_clear e words words' high y (w.clear y inside (sym (put_other o.arena (Some (next_epoch e b)) b.holds y ne.1) ∙ is)) l from less
+    ]
 
     won : LawfulEpochs e words' (put k (having_published (ports k) o) ports) (next_beside e b o.arena)
     won = record {
@@ -359,6 +369,7 @@ module _ (e : Plan) (words : List ℕ) (ports : ℕ → Port) (b : Beside) (k : 
       standing = standing_then;
       new = new_then;
       setting = setting_then;
+      clear = clear_then;
     }
 
   pub publishes : ((get_or words current_word 0 ≡ packed (ports k).control.here) × IsPresent b k (ports k)

@@ -197,7 +197,7 @@ module _ (e : Plan) (words : List ℕ) (ports : ℕ → Port) (b : Beside) (k : 
       subst (λ (t : Option Owned). IfSome t (IsOwner e (control_words e words) (controls ports) (place_now b) (numbers b) k)) owned (w.control.owners k below) in
       control_lifted e words words_put (λ i from. get_or-set_other words (at_word o.clean) i put_to 0 (omega (arith, from, within))) ports b k p' w (length-set words (at_word o.clean) put_to)
       (get_or-set_other words (at_word o.clean) current_word put_to 0 (omega arith))
-      (record { few = omega (arith, none); sealed = λ some. absurd (omega (arith, some, none)); each = λ at i less. absurd (omega (arith, less, none)) })
+      (record { few = omega (arith, none); sealed = λ some. absurd (omega (arith, some, none)); each = λ at i less. absurd (omega (arith, less, none)); cleared = λ l less set. absurd (omega (arith, less, set, none)) })
       (subst (λ (l : List ℕ). LawfulControl e l (put k p'.control (controls ports)) (place_now b) (numbers b)) (sym set_control) control)
       (λ _. let s = w.standing k below own.stands in record { epoch = s.epoch; is = s.is; before = s.before; part = s.part; passed = s.passed; over = s.over })
       (omega arith) below

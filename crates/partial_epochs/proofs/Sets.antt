@@ -1,8 +1,11 @@
 -- A word of an owned arena is set.
-use Rattle.partial_epochs.proofs.Common.{ℕ, ◌≡◌, ◌≢◌, ◌+◌, ◌-◌, ◌<◌, ◌≤◌, Bool, cond, Option, Some, None, IfSome, List, length, get_or, set, refl, sym, ap, subst, ◌∙◌, inl, inr, arith, option_map, cases_lt, lt-ltb, eqb_tells, get_or-set_same, get_or-set_other, length-set, first_free, total, put, IsAsked, Plan, Place, IsPlace, at_word, arena_words, base, carried_word, carried_words, component_words, control_size, control_words, current_word, packed, plain, span, set_word, Control, Owned, Port, Epoch, IsPlaceWord, IsStillMarked, IsOwner, LawfulControl, MayPut, NotInto, Beside, IsArena, IsNewPart, IsSetting, IsStanding, LawfulEpochs, controls, next_epoch_word, numbers, place_now, SetsStayLawful, having_set, vacated, Stands, Loaded, not_below}
+use Rattle.partial_epochs.proofs.Common.{ℕ, ◌≡◌, ◌≢◌, ◌+◌, ◌-◌, ◌<◌, ◌≤◌, Bool, cond, Option, Some, None, IfSome, List, length, get_or, set, refl, sym, ap, subst, ◌∙◌, inl, inr, arith, option_map, cases_lt, lt-ltb, eqb_tells, get_or-set_same, get_or-set_other, length-set, first_free, total, put, IsAsked, Plan, Place, IsPlace, at_word, arena_words, base, carried_word, carried_words, component_words, control_size, control_words, current_word, packed, plain, span, set_word, Control, Owned, Port, Epoch, IsPlaceWord, IsStillMarked, IsOwner, LawfulControl, MayPut, NotInto, Beside, IsArena, IsNewPart, IsSetting, IsStanding, LawfulEpochs, controls, next_epoch_word, numbers, place_now, SetsStayLawful, having_set, vacated, Stands, Loaded, not_below, ClearSlotsCountAsSet, ClearsSlots, HasClearSlots, set-get_or, slot_counter, slot_word, ◌∷◌, carried_behind, opening_behind, set_offset}
+use Rattle.partial_words.specs.Chain.{opening_word}
+use Rattle.partial_state.proofs.OpeningLaw.{slots_open}
 use Rattle.partial_epochs.proofs.Lists.{put_all, put_other, put_same, same_of}
 use Rattle.partial_epochs.proofs.Owning.{knows_more}
-use Rattle.partial_epochs.proofs.Places.{bases_up, below_whole, packed_arena, set_place}
+use Rattle.partial_epochs.proofs.Places.{bases_up, below_whole, counter_number, packed_arena, set_apart, set_place, slot_number, slot_offset, slot_set}
+use Rattle.partial_epochs.proofs.Worded.{plain_at, plain_other}
 
 -- an arena that port k owns, of which all ports are out, holds no epoch
 module _ (e : Plan) (words : List ℕ) (cs : ℕ → Control) (now : Place) (holds : ℕ → Option ℕ) (w : LawfulControl e words cs now holds) (k : ℕ) (below : k < e.ports) (o : Owned)
@@ -105,11 +108,29 @@ module _ (e : Plan) (words : List ℕ) (cs : ℕ → Control) (now : Place) (hol
     pub set_control : (next : ℕ) → LawfulControl e words (put k (c next) cs) now holds'
     set_control next = knows_more e words cs now holds' emptied k below (c next) refl refl (w.past k below) (same_put next) (own_more next)
 
+module _ (e : Plan) (words : List ℕ) (ports : ℕ → Port) (b : Beside) (w : LawfulEpochs e words ports b) where
+  -- the slots of an arena that weren't claimed are 0, whether it holds an epoch or none
+  clear_before : (y : ℕ) → y < e.arenas → HasClearSlots e words y
+  clear_before y inside = by (b.holds y) refl
+    where
+      by : (t : Option Epoch) → b.holds y ≡ t → HasClearSlots e words y
+      by None is = w.clear y inside is
+      by (Some r) is = λ l from less.
+          let a = w.arenas y r is in
+          let m = a.lawful.memory in
+          let pool = w.plan.sizes.pool.0 in
+          let claimed : get_or (arena_words e words y) (slot_counter e.sizes) 0 ≡ get_or words (base e y + slot_counter e.sizes) 0 =
+          plain_at e words y (slot_counter e.sizes) (omega arith) ∙ plain_other e words y (slot_counter e.sizes) (get_or words (base e y + slot_counter e.sizes) 0) (omega arith) in
+          sym (plain_at e words y (slot_word e.sizes l) (omega (arith, less))
+          ∙ plain_other e words y (slot_word e.sizes l) (get_or words (base e y + slot_word e.sizes l) 0) (omega arith))
+          ∙ m.unclaimed l (omega (arith, claimed, from)) less
+
 module _ (e : Plan) (words : List ℕ) (ports : ℕ → Port) (b : Beside) (k : ℕ) (o : Owned) (v next : ℕ) (w : LawfulEpochs e words ports b) (below : k < e.ports)
     (owned : (ports k).control.owned ≡ Some o)
     (done : o.clean ≡ e.ports) (goes : o.set < next) (most : next ≤ first_free e.sizes + e.sizes.m) (passed : e.sizes.m ≤ (ports k).passed)
     (value : get_or words current_word 0 ≡ packed (ports k).control.here → (i : ℕ) → o.set ≤ i → i < next → IsAsked e.sizes i →
-    get_or (set words (set_word e o.arena o.set) v) (set_word e o.arena i) 0 ≡ next_epoch_word e b i) where
+    get_or (set words (set_word e o.arena o.set) v) (set_word e o.arena i) 0 ≡ next_epoch_word e b i)
+    (clears : ClearsSlots e o next (set words (set_word e o.arena o.set) v)) where
   more : o.set < first_free e.sizes + e.sizes.m
   more = omega (arith, goes, most)
 
@@ -220,39 +241,58 @@ module _ (e : Plan) (words : List ℕ) (ports : ℕ → Port) (b : Beside) (k : 
             let pool = w.plan.sizes.pool.0 in
             let p = set_place e t.arena i pool (omega (arith, less, few)) in
             other (set_word e t.arena i) (λ same. away t.arena p.0 apart p.1 (sym p.2 ∙ same)) ∙ h.each (sym (other current_word (omega (arith, up))) ∙ at) i less asked;
+        cleared = λ l less set. other (base e t.arena + slot_word e.sizes l) (away t.arena (slot_word e.sizes l) apart (omega (arith, less))) ∙ h.cleared l less set;
       }
+
+  own_setting : IsSetting e words b (ports k) o
+  own_setting = subst (λ (t : Option Owned). IfSome t (IsSetting e words b (ports k))) owned (w.setting k below)
+
+  -- each slot that counts as set is 0
+  cleared_then : (l : ℕ) → l < e.sizes.slots → e.sizes.slots ≤ l + next → get_or after (base e o.arena + slot_word e.sizes l) 0 ≡ 0
+  cleared_then l less set = elim (cases_lt (l + o.set) e.sizes.slots) [
+    | inl now ↦ clears l now set
+    | inr then ↦
+        let pool = w.plan.sizes.pool.0 in
+        let h = own_setting in
+        other (base e o.arena + slot_word e.sizes l) (λ same. let number = slot_number e o.arena l o.set pool less (sym same) in omega (arith, number, then)) ∙ h.cleared l less then
+  ]
+
+  -- the slots that weren't claimed are 0 behind the store too
+  clear_then : (y : ℕ) → y < e.arenas → HasClearSlots e after y
+  clear_then y inside l from less = elim (eqb_tells y o.arena) [
+    | inl same ↦ subst (λ z. get_or after (base e z + slot_word e.sizes l) 0 ≡ 0) (sym same.1) (own_clear l (subst (λ z. get_or after (base e z + slot_counter e.sizes) 0 ≤ l) same.1 from) less)
+    | inr ne ↦
+        let count = other (base e y + slot_counter e.sizes) (away y (slot_counter e.sizes) ne.1 (omega arith)) in
+        other (base e y + slot_word e.sizes l) (away y (slot_word e.sizes l) ne.1 (omega (arith, less))) ∙ clear_before e words ports b w y inside l (omega (arith, count, from)) less
+  ]
+    where
+      own_clear : (l : ℕ) → get_or after (base e o.arena + slot_counter e.sizes) 0 ≤ l → l < e.sizes.slots → get_or after (base e o.arena + slot_word e.sizes l) 0 ≡ 0
+      own_clear l from less = elim (cases_lt (l + next) e.sizes.slots) [
+        | inr set ↦ cleared_then l less set
+        | inl free ↦
+            let pool = w.plan.sizes.pool.0 in
+            let m = mine in
+            let count = other (base e o.arena + slot_counter e.sizes) (λ same. let number = counter_number e o.arena o.set pool (sym same) in omega (arith, number, free, goes)) in
+            other (base e o.arena + slot_word e.sizes l) (λ same. let number = slot_number e o.arena l o.set pool less (sym same) in omega (arith, number, free, goes))
+            ∙ clear_before e words ports b w o.arena m.arena l (omega (arith, count, from)) less
+      ]
 
   set_more : IsSetting e after b' q' (record o { set = next })
   set_more =
-      let h : IsSetting e words b (ports k) o = subst (λ (t : Option Owned). IfSome t (IsSetting e words b (ports k))) owned (w.setting k below) in
+      let h = own_setting in
       let up = spot_high in
+      let pool = w.plan.sizes.pool.0 in
       record {
         few = most;
         sealed = λ _. passed;
         each = λ at i less asked.
             let was : get_or words current_word 0 ≡ packed (ports k).control.here = sym (other current_word (omega (arith, up))) ∙ at in
             elim (cases_lt i o.set) [
-              | inl low ↦ other (set_word e o.arena i) (apart i low) ∙ h.each was i low asked
+              | inl low ↦ other (set_word e o.arena i) (set_apart e o.arena i o.set pool (omega (arith, low))) ∙ h.each was i low asked
               | inr from ↦ value was i from less asked
             ];
+        cleared = cleared_then;
       }
-    where
-      apart : (i : ℕ) → i < o.set → set_word e o.arena i ≢ set_word e o.arena o.set
-      apart i low same =
-          let pool = w.plan.sizes.pool.0 in
-          elim (cases_lt i (first_free e.sizes)) [
-            | inl under ↦ elim (cases_lt o.set (first_free e.sizes)) [
-              | inl under' ↦ let a = low_word i under in let c = low_word o.set under' in omega (arith, a, c, same, low)
-              | inr over ↦ let a = low_word i under in let c = high_word o.set over in omega (arith, a, c, same, under, over, pool)
-            ]
-            | inr over ↦ let a = high_word i over in let c = high_word o.set (omega (arith, over, low)) in omega (arith, a, c, same, low, over)
-          ]
-        where
-          low_word : (i : ℕ) → i < first_free e.sizes → set_word e o.arena i ≡ base e o.arena + i
-          low_word i under = ap (λ (c : Bool). cond c (base e o.arena + i) (base e o.arena + total e.sizes + (i - first_free e.sizes))) (lt-ltb i (first_free e.sizes) under)
-
-          high_word : (i : ℕ) → first_free e.sizes ≤ i → set_word e o.arena i ≡ base e o.arena + total e.sizes + (i - first_free e.sizes)
-          high_word i over = ap (λ (c : Bool). cond c (base e o.arena + i) (base e o.arena + total e.sizes + (i - first_free e.sizes))) (not_below i (first_free e.sizes) over)
 
   setting_then : (q : ℕ) → q < e.ports → IfSome (put k q' ports q).control.owned (IsSetting e after b' (put k q' ports q))
   setting_then q low = put_all (λ i (p : Port). i < e.ports → IfSome p.control.owned (IsSetting e after b' p)) k q' ports q
@@ -279,7 +319,32 @@ module _ (e : Plan) (words : List ℕ) (ports : ℕ → Port) (b : Beside) (k : 
         new = λ q y r low is. put_all (λ i (p : Port). i < e.ports → p.control.here.epoch < length r.before → IsNewPart e i r) k q' ports q
             (λ _ low less. w.new k y r low (held y r is).1 less) (λ _ low less. w.new q y r low (held y r is).1 less) low;
         setting = setting_then;
+        clear = λ y inside _. clear_then y inside;
       }
 
 pub sets_stay_lawful : SetsStayLawful
-sets_stay_lawful e words ports b k o v next w below owned done goes most passed value = sets_on e words ports b k o v next w below owned done goes most passed value
+sets_stay_lawful e words ports b k o v next w below owned done goes most passed value clears = sets_on e words ports b k o v next w below owned done goes most passed value clears
+
+-- a store of 0 in a slot that is 0 changes nothing
+pub clear_slots_count_as_set : ClearSlotsCountAsSet
+clear_slots_count_as_set e words ports b k o next w below owned done goes free passed =
+    subst (λ (l : List ℕ). LawfulEpochs e l (put k (having_set (ports k) o next) ports) (vacated b o.arena)) same
+    (sets_on e words ports b k o (get_or words (set_word e o.arena o.set) 0) next w below owned done goes (omega (arith, free)) passed
+    (λ at i from less asked. ap (λ (l : List ℕ). get_or l (set_word e o.arena i) 0) same ∙ ap (λ n. get_or words n 0) (slot_set e o.arena i (omega (arith, free, less)))
+    ∙ zero (e.sizes.slots - (i + 1)) (omega (arith, free, less)) (omega (arith, free, less)) ∙ sym (slot_next i (omega (arith, free, less))))
+    (λ l now set. ap (λ (l' : List ℕ). get_or l' (base e o.arena + slot_word e.sizes l) 0) same ∙ zero l (omega (arith, now)) (omega (arith, set, free))))
+  where
+    same : set words (set_word e o.arena o.set) (get_or words (set_word e o.arena o.set) 0) ≡ words
+    same = set-get_or words (set_word e o.arena o.set) 0
+
+    zero : (l : ℕ) → l < e.sizes.slots → get_or words (base e o.arena + slot_counter e.sizes) 0 ≤ l → get_or words (base e o.arena + slot_word e.sizes l) 0 ≡ 0
+    zero l less from =
+        let mine = own e (control_words e words) (controls ports) (place_now b) (numbers b) w.control k below o owned done in
+        clear_before e words ports b w o.arena mine.arena l from less
+
+    slot_next : (i : ℕ) → i < e.sizes.slots → next_epoch_word e b i ≡ 0
+    slot_next i less =
+        ap (λ (c : Bool). cond c (opening_word e.sizes (opening_behind e.opening (b.log ∷ b.before)).values (set_offset e.sizes i))
+        (carried_behind e.opening (b.log ∷ b.before) (i - first_free e.sizes))) (lt-ltb i (first_free e.sizes) (omega (arith, less)))
+        ∙ ap (opening_word e.sizes (opening_behind e.opening (b.log ∷ b.before)).values) (slot_offset e.sizes i less)
+        ∙ slots_open e.sizes (opening_behind e.opening (b.log ∷ b.before)).values (e.sizes.slots - (i + 1)) (omega (arith, less))

@@ -251,7 +251,7 @@ still : (b : Beside) (k : ℕ) (p : Port) (t : Option Owned) → IsStanding b k 
 still b k p t s = record { epoch = s.epoch; is = s.is; before = s.before; part = s.part; passed = s.passed; over = s.over }
 
 nothing_set : (e : Plan) (words : List ℕ) (b : Beside) (p : Port) (o : Owned) → o.set ≡ 0 → IsSetting e words b p o
-nothing_set e words b p o none = record { few = omega (arith, none); sealed = λ some. absurd (omega (arith, some, none)); each = λ at i less _. absurd (omega (arith, less, none)) }
+nothing_set e words b p o none = record { few = omega (arith, none); sealed = λ some. absurd (omega (arith, some, none)); each = λ at i less _. absurd (omega (arith, less, none)); cleared = λ l less set. absurd (omega (arith, less, set, none)) }
 
 owner_is : (e : Plan) (words : List ℕ) (ports : ℕ → Port) (b : Beside) (k : ℕ) (o : Owned) → LawfulEpochs e words ports b → k < e.ports → (ports k).control.owned ≡ Some o →
     IsOwner e (control_words e words) (controls ports) (place_now b) (numbers b) k o
@@ -302,7 +302,7 @@ marks_are_loaded e words ports b k o w below owned within high =
       sym at ∙ found_mark e (control_words e words) (controls ports) (place_now b) (numbers b) w.control k below o w.plan.arenas owned within raised,
       known_lifted e words ports b k (owning (ports k) n) w below
           (loading_on e (control_words e words) (controls ports) (place_now b) (numbers b) w.control k below o w.plan.arenas owned within raised)
-          (record { few = s.few; sealed = s.sealed; each = s.each }) (λ _. still b k (ports k) (Some n) (w.standing k below own.stands)) (omega arith),
+          (record { few = s.few; sealed = s.sealed; each = s.each; cleared = s.cleared }) (λ _. still b k (ports k) (Some n) (w.standing k below own.stands)) (omega arith),
     )
 
 pub owners_look_away : OwnersLookAway
@@ -325,4 +325,4 @@ owners_look_away e words ports b k o w below owned other =
   where
     passed : (u : Option Owned) → (ports k).control.owned ≡ u → IfSome u (IsSetting e words b (ports k)) → IfSome u (IsSetting e words b (having_passed (ports k)))
     passed None is h = tt
-    passed (Some v) is h = record { few = h.few; sealed = h.sealed; each = h.each }
+    passed (Some v) is h = record { few = h.few; sealed = h.sealed; each = h.each; cleared = h.cleared }

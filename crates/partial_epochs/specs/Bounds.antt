@@ -19,10 +19,10 @@ arena_steps e = 3 * e.ports + 3
 abbrev pub pass_steps : Plan → ℕ
 pass_steps e = e.arenas * arena_steps e + 1
 
--- what a port makes that has a free arena: three loads for each component, the stores, the exchange of the current word, the store that
--- gives the arena back, and the three steps of entering
+-- what a port makes that has a free arena: three loads for each component, that of the slot counter, the stores, the exchange of the
+-- current word, the store that gives the arena back, and the three steps of entering
 abbrev pub opening_steps : Plan → ℕ
-opening_steps e = last_loads e + (first_free e.sizes + e.sizes.m) + 5
+opening_steps e = last_loads e + 1 + (first_free e.sizes + e.sizes.m) + 5
 
 -- a change of epoch: a look, two steps for each component, three passes for each port, and the next epoch's opening
 abbrev pub most_of_change : Plan → ℕ

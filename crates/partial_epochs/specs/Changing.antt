@@ -34,8 +34,10 @@ pub data Changing : Type 0 where
   -- it gives arena x back, in which it has found a port; it looks behind a pass
   GivesBack : ℕ → ℕ → Changing
   EndsPass : ℕ → Changing
-  -- it loads what the components have, with so many loads left behind this one; it sets the words from i on; it publishes
+  -- it loads what the components have, with so many loads left behind this one; it loads its arena's slot counter; it sets the words from i
+  -- on; it publishes
   LoadsLast : ℕ → Changing
+  LoadsClaimed : Changing
   SetsWord : ℕ → Changing
   Publishes : Changing
   -- it gives its arena back, since its epoch has ended
@@ -66,9 +68,9 @@ passes e = 3 * e.ports
 abbrev pub next_component : Plan → ℕ → ℕ → Changing
 next_component e own j = if nat_lt j e.sizes.m then LoadsComponent j else next_pass e own (passes e)
 
--- the loads of the record, the value and the carried stamp of each component that are left, or else the first store
+-- the loads of the record, the value and the carried stamp of each component that are left, or else the load of the slot counter
 abbrev pub next_load : ℕ → Changing
-next_load zero = SetsWord 0
+next_load zero = LoadsClaimed
 next_load (suc i) = LoadsLast i
 
 -- of each component the record, the value and the carried stamp are loaded
@@ -140,8 +142,11 @@ pub data ChangeLeads (e : Plan) (words : List ℕ) (p : Port) : Changing → Act
   -- behind a pass the epoch is the current one yet, or has ended
   PassesAgain : (n : ℕ) → IsHere words p → ChangeLeads e words p (EndsPass n) Sees (next_pass e p.control.here.arena n)
   PassGivesUp : (n : ℕ) → (¬ IsHere words p) → ChangeLeads e words p (EndsPass n) (Moves every.Move.Looks) StoresMark
-  -- the loads of what the components have, the stores of the next epoch's words, and the exchange of the current word
+  -- the loads of what the components have and of the slot counter, the stores of the next epoch's words, and the exchange of the current word
   LoadsOne : (i : ℕ) → ChangeLeads e words p (LoadsLast i) Sees (next_load i)
+  FindsSlotsClear : (o : Owned) (next : ℕ) →
+      ChangeLeads e words p LoadsClaimed (Moves (every.Move.FindsClear o next)) (next_set e next)
+  FindsSlotsClaimed : ChangeLeads e words p LoadsClaimed Sees (SetsWord 0)
   SetsOne : (i : ℕ) (o : Owned) (v next : ℕ) → o.set ≡ i →
       ChangeLeads e words p (SetsWord i) (Moves (every.Move.Sets o v next)) (next_set e next)
   PublishesOnce : (o : Owned) → ChangeLeads e words p Publishes (Moves (every.Move.Publishes o)) GivesUp

@@ -1,6 +1,6 @@
 -- The lawful state of a memory over all epochs.
-use Rattle.std.specs.Prelude.{ℕ, ◌+◌, ◌*◌, ◌<◌, ◌≤◌, nat_lt, Bool, true, List, ◌∷◌, slice_index, if◌then◌else◌, ◌++◌, length, Option, ◌≡◌, ◌≢◌, Some, IfSome, ◌-◌, false}
-use Rattle.partial_words.specs.Layout.{IsLayout, pool_base, pool_counter, pool_end, first_free, greatest_record, slot_counter}
+use Rattle.std.specs.Prelude.{ℕ, ◌+◌, ◌*◌, ◌<◌, ◌≤◌, nat_lt, Bool, true, List, ◌∷◌, slice_index, if◌then◌else◌, ◌++◌, length, Option, ◌≡◌, ◌≢◌, None, Some, IfSome, ◌-◌, false}
+use Rattle.partial_words.specs.Layout.{IsLayout, pool_base, pool_counter, pool_end, first_free, greatest_record, slot_counter, slot_word}
 use Rattle.std.specs.Option.{option_map}
 use Rattle.partial_model.specs.declared.history.Applied.{Applied}
 use Rattle.partial_active.specs.declared.join.JoinStage.{JoinStage}
@@ -14,7 +14,7 @@ use Rattle.partial_words.specs.Announcement.{least_announcement}
 use Rattle.partial_core.specs.Lawful.{Lawful}
 use Rattle.partial_core.specs.Lawful as one
 use Rattle.partial_epochs.specs.Lists.{list_of, count}
-use Rattle.partial_epochs.specs.Layout.{arena_limit, Plan, Place, packed, current_word, control_words, component_words, carried_words, whole, seals, IsAsked, IsSealed, arena_words, set_word}
+use Rattle.partial_epochs.specs.Layout.{arena_limit, Plan, Place, packed, current_word, control_words, component_words, carried_words, whole, seals, IsAsked, IsSealed, arena_words, base, set_offset, set_word}
 use Rattle.partial_epochs.specs.History.{opening_behind, carried_behind}
 use Rattle.partial_epochs.specs.Ports.{Owned, Control, Port, Epoch}
 use Rattle.partial_epochs.specs.Control.{LawfulControl}
@@ -122,7 +122,7 @@ pub record IsNewPart (e : Plan) (k : ℕ) (r : Epoch) : Type 0 where
 -- the words of the next epoch are those of an opening, with the values and the stamps behind all epochs
 abbrev pub next_epoch_word : Plan → Beside → ℕ → ℕ
 next_epoch_word e b i =
-    if nat_lt i (first_free e.sizes) then opening_word e.sizes (opening_behind e.opening (b.log ∷ b.before)).values i
+    if nat_lt i (first_free e.sizes) then opening_word e.sizes (opening_behind e.opening (b.log ∷ b.before)).values (set_offset e.sizes i)
     else carried_behind e.opening (b.log ∷ b.before) (i - first_free e.sizes)
 
 -- what the port p has set in the arena that it owns
@@ -134,6 +134,13 @@ pub record IsSetting (e : Plan) (words : List ℕ) (b : Beside) (p : Port) (w : 
   -- while its epoch is the current one, the words that it has set are those of the next epoch
   pub each : slice_index words current_word ≡ packed p.control.here → (i : ℕ) → i < w.set → IsAsked e.sizes i →
       slice_index words (set_word e w.arena i) ≡ next_epoch_word e b i
+  -- a slot that it has set is 0, whichever epoch is the current one
+  pub cleared : (l : ℕ) → l < e.sizes.slots → e.sizes.slots ≤ l + w.set → slice_index words (base e w.arena + slot_word e.sizes l) ≡ 0
+
+-- the slots of arena x that weren't claimed, as its counter says, are 0
+abbrev pub HasClearSlots : Plan → List ℕ → ℕ → Type 0
+HasClearSlots e words x = (l : ℕ) → slice_index words (base e x + slot_counter e.sizes) ≤ l → l < e.sizes.slots →
+    slice_index words (base e x + slot_word e.sizes l) ≡ 0
 
 -- The lawful state of a memory over all epochs.
 pub record LawfulEpochs (e : Plan) (words : List ℕ) (ports : ℕ → Port) (b : Beside) : Type 0 where
@@ -157,6 +164,8 @@ pub record LawfulEpochs (e : Plan) (words : List ℕ) (ports : ℕ → Port) (b 
       (ports k).control.here.epoch < length r.before → IsNewPart e k r
   -- what an owner has set in its arena is the beginning of the next epoch
   pub setting : (k : ℕ) → k < e.ports → IfSome (ports k).control.owned (IsSetting e words b (ports k))
+  -- an arena that holds no epoch has clear slots too
+  pub clear : (x : ℕ) → x < e.arenas → b.holds x ≡ None → HasClearSlots e words x
 
 -- the port stands in the current epoch
 pub record IsPresent (b : Beside) (k : ℕ) (p : Port) : Type 0 where

@@ -2,7 +2,7 @@
 use Rattle.std.specs.Prelude.{ℕ, ◌≡◌, ◌≢◌, ◌+◌, ◌<◌, ◌≤◌, ◌⊎◌, ◌++◌, Bool, true, false, List, [], length, slice_index, Option, Some, None}
 use Rattle.partial_model.specs.declared.history.Applied.{Applied}
 use Rattle.partial_model.specs.Notes.{Noted}
-use Rattle.partial_words.specs.Layout.{first_free}
+use Rattle.partial_words.specs.Layout.{first_free, slot_counter}
 use Rattle.partial_words.specs.Step.{answer_of, words_after}
 use Rattle.partial_words.specs.declared.step.Step.{Step}
 use Rattle.partial_words.specs.declared.step.Step.TheVariants.{Add, Exchange, Store}
@@ -17,7 +17,7 @@ use Rattle.partial_epochs.specs.Ports.{Owned, Port}
 use Rattle.partial_epochs.specs.Ports.Entering.{Stands, Marks, Loaded}
 use Rattle.partial_epochs.specs.Epochs.{Beside, IsStanding, next_epoch_word, place_now}
 use Rattle.partial_epochs.specs.MachineSteps.{MachineLeads, MayClaim, MeetsSeal}
-use Rattle.partial_epochs.specs.Publishing.{IsWholeArena, next_place}
+use Rattle.partial_epochs.specs.Publishing.{ClearsSlots, IsWholeArena, next_place}
 use Rattle.partial_epochs.specs.Opening.{OpensAll, first_beside, first_ports}
 use Rattle.partial_epochs.specs.Notes.{IsSight, LawfulMemory, MayNote, one_history}
 use Rattle.partial_epochs.specs.Time.{KeepsTime}
@@ -43,8 +43,11 @@ pub data Move : Type 0 where
   FindsElsewhere : Owned → Place → Move
   LoadsMark : Owned → Move
   Puts : Owned → Place → Move
-  -- an owner sets the next word, so that the words below that number count as set, and publishes
+  -- an owner sets the next word, so that the words below that number count as set
   Sets : Owned → ℕ → ℕ → Move
+  -- an owner loads the slot counter of its arena, and the words below that number count as set
+  FindsClear : Owned → ℕ → Move
+  -- an owner publishes
   Publishes : Owned → Move
   -- a port notes what it has seen by a look
   Notes : Noted → ℕ → Move
@@ -91,6 +94,9 @@ MayMove e words ports b notes k (Sets o v next) = ((ports k).control.owned ≡ S
     × (next ≤ first_free e.sizes + e.sizes.m) × (e.sizes.m ≤ (ports k).passed)
     × (slice_index words current_word ≡ packed (ports k).control.here → (i : ℕ) → o.set ≤ i → i < next → IsAsked e.sizes i →
     slice_index (words_after words (Store (set_word e o.arena o.set) v)) (set_word e o.arena i) ≡ next_epoch_word e b i)
+    × ClearsSlots e o next (words_after words (Store (set_word e o.arena o.set) v))
+MayMove e words ports b notes k (FindsClear o next) = ((ports k).control.owned ≡ Some o) × (o.clean ≡ e.ports) × (o.set < next)
+    × (slice_index words (base e o.arena + slot_counter e.sizes) + next ≤ e.sizes.slots) × (e.sizes.m ≤ (ports k).passed)
 MayMove e words ports b notes k (Publishes o) = IsWholeArena e (ports k) o
 MayMove e words ports b notes k (Notes n i) = ((ports k).control.entering ≡ Stands)
     × ((s : IsStanding b k (ports k)) × IsSight e k (ports k) s.epoch.log (notes k) n i)

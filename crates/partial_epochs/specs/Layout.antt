@@ -128,9 +128,16 @@ placed e x (Store w v) = Store (base e x + w) v
 placed e x (Exchange w old new) = Exchange (base e x + w) old new
 placed e x (Add w k) = Add (base e x + w) k
 
+-- the word of an opening that an owner sets as number i: those before the list words from the last one down, so that the slots come before
+-- the word that counts them, and those behind in their order
+abbrev pub set_offset : Layout → ℕ → ℕ
+set_offset s i = if nat_lt i (list_base s) then list_base s - (i + 1) else i
+
 -- the word that an owner sets as number i: those of an opening first, and then the carried stamps
 abbrev pub set_word : Plan → ℕ → ℕ → ℕ
-set_word e x i = if nat_lt i (first_free e.sizes) then base e x + i else base e x + total e.sizes + (i - first_free e.sizes)
+set_word e x i =
+    if nat_lt i (first_free e.sizes) then base e x + set_offset e.sizes i
+    else base e x + total e.sizes + (i - first_free e.sizes)
 
 -- an opening asks of that word what stands there: it asks nothing of list words
 abbrev pub IsAsked : Layout → ℕ → Type 0

@@ -1,7 +1,7 @@
 -- A memory as it opens, and an arena that opens again.
 use Rattle.std.specs.Prelude.{ℕ, ◌+◌, ◌<◌, ◌≤◌, List, [], slice_index, length, Option, ◌≡◌, Some, None, false}
 use Rattle.partial_model.specs.declared.history.Opening.{Opening}
-use Rattle.partial_words.specs.Layout.{Layout, total, IsLayout, pool_base, first_free}
+use Rattle.partial_words.specs.Layout.{Layout, total, IsLayout, pool_base, first_free, slot_word}
 use Rattle.partial_model.specs.History.{initial_stamp}
 use Rattle.partial_core.specs.Part.{fresh_part, fresh_parts}
 use Rattle.partial_words.specs.Chain.{opening_word}
@@ -25,7 +25,8 @@ abbrev pub OpensOverLawful : Type 0
 OpensOverLawful = (z : Layout) (o : Opening) (words : List ℕ) (n : ℕ) → OpensOver z o words → n ≤ 64 →
     Lawful z o words (fresh_parts z 0 n) []
 
--- the words at opening: no arena is owned, each port stands in epoch 0, and arena 0 is set; the other arenas may hold anything
+-- the words at opening: no arena is owned, each port stands in epoch 0, and arena 0 is set; the slots of the other arenas are 0, and their
+-- other words may be anything
 pub record OpensAll (e : Plan) (words : List ℕ) : Type 0 where
   pub plan : IsEpochPlan e
   pub some : 0 < e.arenas
@@ -34,6 +35,7 @@ pub record OpensAll (e : Plan) (words : List ℕ) : Type 0 where
   pub each : (i : ℕ) → i < first_free e.sizes → IsAsked e.sizes i →
       slice_index words (base e 0 + i) ≡ opening_word e.sizes e.opening.values i
   pub carried : (j : ℕ) → j < e.sizes.m → slice_index words (carried_word e 0 j) ≡ initial_stamp e.opening j
+  pub clear : (x l : ℕ) → 0 < x → x < e.arenas → l < e.sizes.slots → slice_index words (base e x + slot_word e.sizes l) ≡ 0
 
 -- the place of the first epoch: arena 0
 abbrev pub first_place : Place

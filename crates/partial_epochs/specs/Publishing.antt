@@ -1,11 +1,11 @@
 -- A port sets the words of its arena, and publishes it as that of the next epoch.
 use Rattle.std.specs.Prelude.{ℕ, ◌+◌, ◌<◌, ◌≤◌, List, [], ◌∷◌, slice_index, ◌≡◌, ◌≢◌, ◌⊎◌, true, Some, None, false}
-use Rattle.partial_words.specs.Layout.{first_free}
+use Rattle.partial_words.specs.Layout.{first_free, slot_counter, slot_word}
 use Rattle.partial_words.specs.declared.step.Step.TheVariants.{Store, Exchange}
 use Rattle.partial_core.specs.Part.{fresh_part}
 use Rattle.partial_words.specs.Step.{words_after}
 use Rattle.partial_epochs.specs.Lists.{put}
-use Rattle.partial_epochs.specs.Layout.{IsAsked, epoch_limit, Plan, Place, packed, current_word, set_word}
+use Rattle.partial_epochs.specs.Layout.{IsAsked, epoch_limit, Plan, Place, base, packed, current_word, set_word}
 use Rattle.partial_epochs.specs.Ports.{Owned, Port, Epoch}
 use Rattle.partial_epochs.specs.Epochs.{Beside, next_epoch_word, LawfulEpochs, IsPresent}
 
@@ -17,6 +17,11 @@ having_set p o next = record p { control = record p.control { owned = Some (reco
 abbrev pub vacated : Beside → ℕ → Beside
 vacated b x = record b { holds = put x None b.holds }
 
+-- the slots that come to count as set are 0 in these words
+abbrev pub ClearsSlots : Plan → Owned → ℕ → List ℕ → Type 0
+ClearsSlots e o next words = (l : ℕ) → l + o.set < e.sizes.slots → e.sizes.slots ≤ l + next →
+    slice_index words (base e o.arena + slot_word e.sizes l) ≡ 0
+
 -- A port that is done with all others, and has found all components of its epoch sealed, sets the next word of its arena. The words from it
 -- on that count as set behind the store are those of the next epoch, if its own epoch is the current one yet.
 abbrev pub SetsStayLawful : Type 0
@@ -25,7 +30,15 @@ SetsStayLawful = (e : Plan) (words : List ℕ) (ports : ℕ → Port) (b : Besid
     next ≤ first_free e.sizes + e.sizes.m → e.sizes.m ≤ (ports k).passed →
     (slice_index words current_word ≡ packed (ports k).control.here → (i : ℕ) → o.set ≤ i → i < next → IsAsked e.sizes i →
     slice_index (words_after words (Store (set_word e o.arena o.set) v)) (set_word e o.arena i) ≡ next_epoch_word e b i) →
+    ClearsSlots e o next (words_after words (Store (set_word e o.arena o.set) v)) →
     LawfulEpochs e (words_after words (Store (set_word e o.arena o.set) v)) (put k (having_set (ports k) o next) ports) (vacated b o.arena)
+
+-- Such a port that loads the slot counter of its arena knows that the slots from there on are 0: they count as set.
+abbrev pub ClearSlotsCountAsSet : Type 0
+ClearSlotsCountAsSet = (e : Plan) (words : List ℕ) (ports : ℕ → Port) (b : Beside) (k : ℕ) (o : Owned) (next : ℕ) →
+    LawfulEpochs e words ports b → k < e.ports → (ports k).control.owned ≡ Some o → o.clean ≡ e.ports → o.set < next →
+    slice_index words (base e o.arena + slot_counter e.sizes) + next ≤ e.sizes.slots → e.sizes.m ≤ (ports k).passed →
+    LawfulEpochs e words (put k (having_set (ports k) o next) ports) (vacated b o.arena)
 
 -- an arena that a port owns, as it was when it came to own it
 abbrev pub resting : Owned → Owned

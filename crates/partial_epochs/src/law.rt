@@ -6,7 +6,7 @@ ghost use Rattle.partial_epochs.specs.MachineSteps.{UnsealedIsPresent, MachineSt
 ghost use Rattle.partial_epochs.specs.Sealing.{SealsStayLawful, SealedPassesStayLawful};
 ghost use Rattle.partial_epochs.specs.Entering.{LooksAreTrue, MarksStayLawful, EntriesLoad, ArrivalsStayLawful};
 ghost use Rattle.partial_epochs.specs.Owning.{TakesStayLawful, GivesStayLawful, OwnersLook, OwnersLookAway, OthersAreElsewhere, MarksAreLoaded, PutsStayLawful};
-ghost use Rattle.partial_epochs.specs.Publishing.{SetsStayLawful, PublishesStayLawful};
+ghost use Rattle.partial_epochs.specs.Publishing.{ClearSlotsCountAsSet, SetsStayLawful, PublishesStayLawful};
 ghost use Rattle.partial_epochs.specs.Opening.{OpensOverLawful, EpochsOpenLawful};
 ghost use Rattle.partial_epochs.specs.Notes.{EpochsFitOneHistory, NotesStayLawful, SightsStayLawful, GlancesStayLawful, AsidesStayLawful, ArrivalsKeepNotes, PublishesKeepNotes, PublicStampsAreUnique};
 ghost use Rattle.partial_epochs.specs.Time.{OpeningsKeepTime, MarksKeepTime, EntriesKeepTime, ArrivalsKeepTime, LooksKeepTime, LoadedMarksKeepTime, PutsKeepTime, PublishesKeepTime, AsidesKeepTime, StepsKeepPlaces};
@@ -123,9 +123,16 @@ pub fn puts_stay_lawful()
 {}
 
 /// An owner that is done with all other ports, and has found each component of its epoch sealed, sets the next word of
-/// its arena. The memory stays lawful if it stores the next epoch's word, or if its epoch has ended.
+/// its arena. The memory stays lawful if it stores the next epoch's word, or if its epoch has ended; but in a slot it
+/// stores 0 in any case.
 pub fn sets_stay_lawful()
     ensures { SetsStayLawful }
+{}
+
+/// Such an owner loads the slot counter of its arena before it sets the slots from there on: they are 0, and count as
+/// set. The memory stays lawful.
+pub fn clear_slots_count_as_set()
+    ensures { ClearSlotsCountAsSet }
 {}
 
 /// The exchange of the current word, by an owner that has set its whole arena, opens the next epoch where it is won, and
