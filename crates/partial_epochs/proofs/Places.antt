@@ -20,10 +20,10 @@ pub below_whole : (e : Plan) (x i : ℕ) → x < e.arenas → i < span e → bas
 below_whole e x i below inside = let up = bases_up e x e.arenas below in omega (arith, up, inside)
 
 -- the words before the list words are set from the last one down, and those behind in their order
-offset_front : (s : Layout) (i : ℕ) → i < list_base s → set_offset s i ≡ list_base s - (i + 1)
+pub offset_front : (s : Layout) (i : ℕ) → i < list_base s → set_offset s i ≡ list_base s - (i + 1)
 offset_front s i low = ap (λ (c : Bool). cond c (list_base s - (i + 1)) i) (lt-ltb i (list_base s) low)
 
-offset_behind : (s : Layout) (i : ℕ) → list_base s ≤ i → set_offset s i ≡ i
+pub offset_behind : (s : Layout) (i : ℕ) → list_base s ≤ i → set_offset s i ≡ i
 offset_behind s i from = ap (λ (c : Bool). cond c (list_base s - (i + 1)) i) (not_below i (list_base s) from)
 
 -- the word of that number is of the same kind, and its number is the first one again

@@ -1,7 +1,7 @@
 -- The steps of a change of epoch, as its code asks for them.
-use Rattle.partial_long_lived.proofs.Common.{ℕ, ◌≡◌, ◌≢◌, ◌+◌, ◌-◌, ◌*◌, ◌%◌, ◌^◌, ◌<◌, ◌≤◌, ◌==◌, Bool, cond, Option, Some, IfSome, List, [], sym, ap, subst, ◌∙◌, inl, inr, arith, lt-ltb, either, Me, Allows, TableId, first_free, list_base, pool_base, opening_word, Place, Plan, arena_limit, at_word, base, entering_mark, marked, own_word, packed, seal, set_word, Owned, Port, Stands, next_place, passing, below_whole, set_place, About, Stand, IsRuleKept, SeatedPort, one_of, plan_of, bare, shape_plan, SeatGoes, IsOne, tells, IsHeld, port_at, SeatGives, LoadsPort, PassesSealed, SeatPublishes, PutsPort, Seals, Sets, Takes, passed_at, unpacked, IsIdle, IsCarriedStamp, IsInitialValue, IsRight, IsFixedWord, MayPutPort, OfOwned, Owns, PutsBy, SetsLists, SetsNext, TakesBy, HasSetWords, initial_words}
+use Rattle.partial_long_lived.proofs.Common.{ℕ, ◌≡◌, ◌≢◌, ◌+◌, ◌-◌, ◌*◌, ◌%◌, ◌^◌, ◌<◌, ◌≤◌, ◌==◌, Bool, cond, Option, Some, IfSome, List, [], sym, ap, subst, ◌∙◌, inl, inr, arith, lt-ltb, either, Me, Allows, TableId, first_free, list_base, pool_base, opening_word, Place, Plan, arena_limit, at_word, base, entering_mark, marked, own_word, packed, seal, set_word, Owned, Port, Stands, next_place, passing, below_whole, set_place, About, Stand, IsRuleKept, SeatedPort, one_of, plan_of, bare, shape_plan, SeatGoes, IsOne, tells, IsHeld, port_at, SeatGives, LoadsPort, PassesSealed, SeatPublishes, PutsPort, Seals, Sets, Takes, passed_at, unpacked, IsIdle, IsCarriedStamp, IsInitialValue, IsRight, IsFixedWord, MayPutPort, OfOwned, Owns, PutsBy, SetsLists, SetsNext, TakesBy, HasSetWords, initial_words, set_offset, slot_counter, FindsClear}
 use Rattle.partial_long_lived.proofs.Changes.{may_give, may_load_port, may_pass, may_put, may_seal, may_take}
-use Rattle.partial_long_lived.proofs.Sets.{may_set_over_lists, may_set_same, may_set_stamp, may_set_value}
+use Rattle.partial_long_lived.proofs.Sets.{may_find_clear, may_set_over_lists, may_set_same, may_set_stamp, may_set_value}
 use Rattle.partial_long_lived.proofs.Publishes.{may_publish}
 use Rattle.partial_long_lived.proofs.Standing.{base_is, place_is}
 
@@ -35,9 +35,9 @@ module _ (table : TableId) (about : About) (s : Stand) (h : IsHeld table about s
   arenas_are = sym (ap (λ (e : Plan). e.arenas) h.shape)
 
   -- a word before the list words
-  pub front_right : (v i : ℕ) → i < list_base about.sizes → v ≡ opening_word s.shape.sizes [] i → IsRight x v i
+  pub front_right : (v i : ℕ) → i < list_base about.sizes → v ≡ opening_word s.shape.sizes [] (set_offset s.shape.sizes i) → IsRight x v i
   front_right v i low is = inl (subst (λ (a : About). IsFixedWord a.sizes v i) (sym h.own)
-      (record { within = omega (arith, low); free = inl (omega (arith, low)); is = is ∙ ap (λ z. opening_word z [] i) sizes_are }))
+      (record { within = omega (arith, low); free = inl (omega (arith, low)); is = is ∙ ap (λ z. opening_word z [] (set_offset z i)) sizes_are }))
 
   module _ (stands : x.port.control.entering ≡ Stands) (more : s.passed < about.sizes.m) where
     left : x.port.passed < about.sizes.m
@@ -115,6 +115,9 @@ module _ (table : TableId) (about : About) (s : Stand) (h : IsHeld table about s
   set_is : (y i w : ℕ) → w ≡ set_word (shape_plan s.shape bare) y i → w ≡ set_word e y i
   set_is y i w is = is ∙ sym (ap (λ (e : Plan). set_word e y i) h.shape)
 
+  clear_is : (y w : ℕ) → w ≡ base (shape_plan s.shape bare) y + slot_counter s.shape.sizes → w ≡ base e y + slot_counter about.sizes
+  clear_is y w is = is ∙ sym (ap (λ (e : Plan). base e y + slot_counter e.sizes) h.shape)
+
   pub set_there : (y i w : ℕ) → y < about.arenas → i < first_free about.sizes + about.sizes.m → w ≡ set_word (shape_plan s.shape bare) y i → w < table.words
   set_there y i w low inside is =
       let at = set_is y i w is in
@@ -151,15 +154,32 @@ module _ (table : TableId) (about : About) (s : Stand) (h : IsHeld table about s
           subst (λ v. Allows (IsRuleKept about) slots id s.seat.me (set_word e o.arena o.set) (λ n. v) (tells (Sets o (o.set + 1)) s.seat.me)) (sym t.is)
           (may_set_stamp about slots id s.seat.me h.one h.own h.known o t.f works.is works.clean passed t.found_is t.at t.inside)
 
-  pub set_lists_asked : (y i : ℕ) → HasSetWords s y about.ports i → about.sizes.m ≤ x.port.passed → i + 1 ≡ list_base about.sizes → 0 ≡ opening_word about.sizes [] i → (slots id w : ℕ) →
-      w ≡ set_word (shape_plan s.shape bare) y i → Allows (IsRuleKept about) slots id s.seat.me w (λ n. 0) (tells SetsLists s.seat.me)
-  set_lists_asked y i works passed last zero slots id w word =
+  pub set_lists_asked : (y i : ℕ) → HasSetWords s y about.ports i → about.sizes.m ≤ x.port.passed → i + 1 ≡ list_base about.sizes → (v : ℕ) → v ≡ opening_word about.sizes [] 0 → (slots id w : ℕ) →
+      w ≡ set_word (shape_plan s.shape bare) y i → Allows (IsRuleKept about) slots id s.seat.me w (λ n. v) (tells SetsLists s.seat.me)
+  set_lists_asked y i works passed last v right slots id w word =
       let o = works.owned in
-      of_owned about slots id w (λ n. 0) s.seat.me (λ o. Sets o (pool_base x.about.sizes)) o works.is
-      (subst (λ i. Allows (IsRuleKept about) slots id s.seat.me i (λ n. 0) (tells (Sets o (pool_base x.about.sizes)) s.seat.me))
+      of_owned about slots id w (λ n. v) s.seat.me (λ o. Sets o (pool_base x.about.sizes)) o works.is
+      (subst (λ i. Allows (IsRuleKept about) slots id s.seat.me i (λ n. v) (tells (Sets o (pool_base x.about.sizes)) s.seat.me))
       (ap (λ y. set_word e y o.set) works.arena ∙ ap (set_word e y) works.set ∙ sym (set_is y i w word))
-      (subst (λ (a : About). Allows (IsRuleKept about) slots id s.seat.me (set_word e o.arena o.set) (λ n. 0) (tells (Sets o (pool_base a.sizes)) s.seat.me)) (sym h.own)
-      (may_set_over_lists about slots id s.seat.me h.one h.own h.known o 0 works.is works.clean passed (ap (λ n. n + 1) works.set ∙ last) (zero ∙ sym (ap (opening_word about.sizes []) works.set)))))
+      (subst (λ (a : About). Allows (IsRuleKept about) slots id s.seat.me (set_word e o.arena o.set) (λ n. v) (tells (Sets o (pool_base a.sizes)) s.seat.me)) (sym h.own)
+      (may_set_over_lists about slots id s.seat.me h.one h.own h.known o v works.is works.clean passed (ap (λ n. n + 1) works.set ∙ last) right)))
+
+  -- the load of the slot counter
+  pub clear_there : (y w : ℕ) → y < about.arenas → w ≡ base (shape_plan s.shape bare) y + slot_counter s.shape.sizes → w < table.words
+  clear_there y w low is =
+      let at = clear_is y w is in
+      let up = below_whole e y (slot_counter about.sizes) low (omega arith) in
+      let words = h.words in
+      omega (arith, at, up, words)
+
+  pub find_clear_asked : (y : ℕ) → HasSetWords s y about.ports 0 → about.sizes.m ≤ x.port.passed → (slots id w : ℕ) → w ≡ base (shape_plan s.shape bare) y + slot_counter s.shape.sizes →
+      Allows (IsRuleKept about) slots id s.seat.me w (λ n. n) (tells (OfOwned FindsClear) s.seat.me)
+  find_clear_asked y works passed slots id w is =
+      let o = works.owned in
+      of_owned about slots id w (λ n. n) s.seat.me FindsClear o works.is
+      (subst (λ i. Allows (IsRuleKept about) slots id s.seat.me i (λ n. n) (tells (FindsClear o) s.seat.me))
+      (ap (λ y. base e y + slot_counter about.sizes) works.arena ∙ sym (clear_is y w is))
+      (may_find_clear about slots id s.seat.me h.one h.own h.known o works.is works.clean works.set passed))
 
   -- the exchange of the current word
   pub publish_asked : (y : ℕ) → HasSetWords s y about.ports (first_free about.sizes + about.sizes.m) → s.epoch + 1 < 2199023255552 → (slots id here next : ℕ) →

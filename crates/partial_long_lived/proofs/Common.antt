@@ -30,7 +30,7 @@ pub use Rattle.partial_epochs.proofs.Lists.{put_other, put_same, at_of, put_all}
 pub use prog.Atomic.{either}
 pub use Rattle.atomic_table.specs.Table.{Me, Allows, State, keeps, Joins, Splits, opening}
 pub use Rattle.partial_words.specs.Chain.{opening_word, initial_record_word}
-pub use Rattle.partial_epochs.specs.Layout.{Place, Plan, arena_limit, at_word, base, entering_mark, marked, own_word, packed, seal, set_word, unsealed, current_word, IsPlace, component_words, control_words, arena_words, IsSealed, plain, placed, whole, IsAsked, span}
+pub use Rattle.partial_epochs.specs.Layout.{Place, Plan, arena_limit, at_word, base, entering_mark, marked, own_word, packed, seal, set_offset, set_word, unsealed, current_word, IsPlace, component_words, control_words, arena_words, IsSealed, plain, placed, whole, IsAsked, span}
 pub use Rattle.partial_epochs.specs.Ports.Entering.{Stands, Marks, Loaded}
 pub use Rattle.partial_epochs.specs.Publishing.{next_place, IsWholeArena, having_published, next_beside, having_set, vacated, resting}
 pub use Rattle.partial_epochs.specs.Sealing.{passing, IsBesideAs}
@@ -83,7 +83,7 @@ pub use Rattle.partial_long_lived.specs.Inner.Calls.{HasCome, HasNotedRead, IsId
 pub use Rattle.partial_long_lived.specs.Inner.Changing.{Changed, NotChanged, IsCarriedStamp, IsInitialValue, IsRight, IsFixedWord, MayPutPort, OfOwned, Owns, PutsBy, SetsLists, SetsNext, TakesBy, HasSetWords, Stays, HasTaken, HoldsMark, IsPast, Remains, IsCause, HasSamePart, HasLoadedPort, HasPassed}
 pub use Rattle.partial_long_lived.specs.Inner.Scans.{HasNotedScan, RestsUnmarked, ScanMade, noted_scan, SettledFirst}
 pub use Rattle.partial_long_lived.specs.Inner.Rests.{NotScanned, RestsAt}
-pub use Rattle.partial_long_lived.specs.Inner.Moves.{becomes, SeatGives, LoadsPort, PassesSealed, SeatPublishes, PutsPort, Seals, Sets, Takes, passed_at, unpacked, BeganBy, elsewhere, port_loaded, port_put, taken_at, LoadsCurrent, SeatLooks, StoresMark, having_found, loads, looked_at, marks, SeatArrives, place_found}
+pub use Rattle.partial_long_lived.specs.Inner.Moves.{becomes, FindsClear, SeatGives, LoadsPort, PassesSealed, SeatPublishes, PutsPort, Seals, Sets, Takes, passed_at, unpacked, BeganBy, elsewhere, port_loaded, port_put, taken_at, LoadsCurrent, SeatLooks, StoresMark, having_found, loads, looked_at, marks, SeatArrives, place_found}
 pub use Rattle.partial_long_lived.specs.Shape.{bare, shape_plan, IsShapeOf}
 pub use Rattle.partial_long_lived.specs.declared.shape.Shape.{Shape}
 pub use Rattle.partial_long_lived.specs.Inner.Loads.{opening_of, SeatSees, Wish, noted_by, place_seen, stamp_seen, value_seen, Recalls, found_by, component_at, sees}

@@ -1,10 +1,15 @@
 -- The stores of an owner are allowed.
-use Rattle.partial_long_lived.proofs.Common.{ℕ, ◌≡◌, ◌≢◌, ◌+◌, ◌-◌, ◌/◌, ◌%◌, ◌<◌, ◌≤◌, ◌==◌, ◌⊎◌, ◌++◌, true, false, cond, Option, Some, IfSome, List, [], ◌∷◌, length, get_or, set, refl, sym, ap, subst, ◌∙◌, inl, inr, arith, length-append, nat_lt, lt-ltb, eqb_tells, get_or-set_same, Me, Allows, Applied, Opening, value_of, Noted, some_same, Layout, first_free, initial_record, list_base, list_counter, pool_base, pool_counter, initial_record_word, opening_word, list_of, IsAsked, Place, Plan, control_words, current_word, packed, set_word, carried_behind, opening_behind, Owned, Port, MayPut, Beside, controls, next_epoch_word, numbers, place_now, having_set, vacated, LawfulMemory, many, sets_stay_lawful, at_of, below_whole, not_below, set_place, About, Found, IsFinal, IsRuleKept, IsLast, IsSeat, SeatedPort, one_of, plan_of, IsSeatKnown, IsOne, tells, Sets}
+use Rattle.partial_long_lived.proofs.Common.{ℕ, ◌≡◌, ◌≢◌, ◌+◌, ◌-◌, ◌/◌, ◌%◌, ◌<◌, ◌≤◌, ◌==◌, ◌⊎◌, ◌++◌, true, false, cond, Option, Some, IfSome, List, [], ◌∷◌, length, get_or, set, refl, sym, ap, subst, ◌∙◌, inl, inr, arith, length-append, nat_lt, lt-ltb, eqb_tells, get_or-set_same, Me, Allows, Applied, Opening, value_of, Noted, some_same, Layout, first_free, initial_record, list_base, list_counter, pool_base, pool_counter, initial_record_word, opening_word, list_of, IsAsked, Place, Plan, control_words, current_word, packed, set_word, carried_behind, opening_behind, Owned, Port, MayPut, Beside, controls, next_epoch_word, numbers, place_now, having_set, vacated, LawfulMemory, many, sets_stay_lawful, at_of, below_whole, not_below, set_place, About, Found, IsFinal, IsRuleKept, IsLast, IsSeat, SeatedPort, one_of, plan_of, IsSeatKnown, IsOne, tells, Sets, FindsClear, becomes, LawfulEpochs, put, cases_lt}
 use Rattle.partial_epochs.proofs.Sets as law
+use Rattle.partial_epochs.proofs.Laws.{clear_slots_count_as_set}
+use Rattle.partial_epochs.proofs.Places.{offset_behind, offset_front, slot_offset, slot_set}
+use Rattle.partial_epochs.specs.Layout.{base, set_offset}
+use Rattle.partial_state.proofs.OpeningLaw.{slots_open}
+use Rattle.partial_words.specs.Layout.{slot_counter, slot_word}
 use Rattle.partial_long_lived.proofs.Asides.{IsQuiet, aside}
 use Rattle.partial_long_lived.proofs.Begins.{here_is}
-use Rattle.partial_long_lived.proofs.Changes.{store_at}
-use Rattle.partial_long_lived.proofs.Control.{time_aside}
+use Rattle.partial_long_lived.proofs.Changes.{load_at, owning_same, still, store_at}
+use Rattle.partial_long_lived.proofs.Control.{Quietly, lawful_itself, load_same, quietly, time_aside}
 use Rattle.partial_long_lived.proofs.Kept.{allowed, begun_grows, none_grown}
 use Rattle.partial_words.specs.Record.{value_word, plain_record_size}
 
@@ -22,6 +27,13 @@ same_word s l i free = ap (λ t. cond (nat_lt i s.m) (initial_record s i) (cond 
       | inr other ↦ ap (λ t. cond (nat_lt i (pool_base s)) 0 (cond (nat_lt i (first_free s)) t 0))
           (ap (λ c. cond c (get_or l ((i - pool_base s) / plain_record_size) 0) 0) other.0 ∙ sym (ap (λ c. cond c (get_or [] ((i - pool_base s) / plain_record_size) 0) 0) other.0))
     ])
+
+-- and the same by the number with which it is set
+same_set : (s : Layout) (l : List ℕ) (i : ℕ) → (i < pool_base s) ⊎ ((i - pool_base s) % plain_record_size ≢ value_word 0) → opening_word s l (set_offset s i) ≡ opening_word s [] (set_offset s i)
+same_set s l i free = elim (cases_lt i (list_base s)) [
+  | inl front ↦ let at = offset_front s i front in same_word s l (set_offset s i) (inl (omega (arith, at, front)))
+  | inr behind ↦ subst (λ n. opening_word s l n ≡ opening_word s [] n) (sym (offset_behind s i behind)) (same_word s l i free)
+]
 
 pub unlike : (n m : ℕ) → n ≢ m → (n == m) ≡ false
 unlike n m ne = elim (eqb_tells n m) [ inl same ↦ absurd (ne same.1) | inr other ↦ other.0 ]
@@ -54,19 +66,20 @@ value_opens s l j i low is =
 
 -- the word of a value, and that of a carried stamp, in the next epoch
 module _ (e : Plan) (b : Beside) (i j : ℕ) where
-  next_below : i < first_free e.sizes → next_epoch_word e b i ≡ opening_word e.sizes (opening_behind e.opening (b.log ∷ b.before)).values i
-  next_below low = ap (λ c. cond c (opening_word e.sizes (opening_behind e.opening (b.log ∷ b.before)).values i) (carried_behind e.opening (b.log ∷ b.before) (i - first_free e.sizes)))
+  next_below : i < first_free e.sizes → next_epoch_word e b i ≡ opening_word e.sizes (opening_behind e.opening (b.log ∷ b.before)).values (set_offset e.sizes i)
+  next_below low = ap (λ c. cond c (opening_word e.sizes (opening_behind e.opening (b.log ∷ b.before)).values (set_offset e.sizes i)) (carried_behind e.opening (b.log ∷ b.before) (i - first_free e.sizes)))
       (lt-ltb i (first_free e.sizes) low)
 
   next_value : length e.opening.values ≡ e.sizes.m → j < e.sizes.m → i ≡ value_word (initial_record e.sizes j) → next_epoch_word e b i ≡ value_of (opening_behind e.opening b.before) b.log j
   next_value long low is =
       let o : Opening = opening_behind e.opening b.before in
       let n = many e.opening b.before in
-      next_below (omega (arith, low, is)) ∙ value_opens e.sizes (list_of (value_of o b.log) 0 (length o.values)) j i low is
+      next_below (omega (arith, low, is)) ∙ ap (opening_word e.sizes (list_of (value_of o b.log) 0 (length o.values))) (offset_behind e.sizes i (omega (arith, is)))
+      ∙ value_opens e.sizes (list_of (value_of o b.log) 0 (length o.values)) j i low is
       ∙ at_of (value_of o b.log) 0 (length o.values) j (omega (arith, low, n, long)) ∙ ap (value_of o b.log) (omega arith)
 
   next_stamp : i ≡ first_free e.sizes + j → next_epoch_word e b i ≡ carried_behind e.opening (b.log ∷ b.before) j
-  next_stamp is = ap (λ c. cond c (opening_word e.sizes (opening_behind e.opening (b.log ∷ b.before)).values i) (carried_behind e.opening (b.log ∷ b.before) (i - first_free e.sizes)))
+  next_stamp is = ap (λ c. cond c (opening_word e.sizes (opening_behind e.opening (b.log ∷ b.before)).values (set_offset e.sizes i)) (carried_behind e.opening (b.log ∷ b.before) (i - first_free e.sizes)))
       (not_below i (first_free e.sizes) (omega (arith, is))) ∙ ap (carried_behind e.opening (b.log ∷ b.before)) (omega (arith, is))
 
 -- a port whose epoch is the current one has all finished epochs behind it
@@ -118,9 +131,9 @@ module _ {S : Type 0} (a : About) (slots id : ℕ) (me : Me S (List SeatedPort))
       get_or (set words (set_word e o.arena o.set) v) (set_word e o.arena i) 0 ≡ next_epoch_word e b i
 
   pub may_set : (o : Owned) (v next : ℕ) → x.port.control.owned ≡ Some o → o.clean ≡ a.ports → o.set < next → next ≤ first_free a.sizes + a.sizes.m → a.sizes.m ≤ x.port.passed →
-      Right o v next →
+      Right o v next → (o.set < a.sizes.slots → (v ≡ 0) × (next ≡ o.set + 1)) →
       Allows (IsRuleKept a) slots id me (set_word e o.arena o.set) (λ n. v) (tells (Sets o next) me)
-  may_set o v next owned clean less most passed right = allowed a slots id me (set_word e o.arena o.set) (λ n. v) (Sets o next) one own (λ words ports notes b since w time s small.
+  may_set o v next owned clean less most passed right zero = allowed a slots id me (set_word e o.arena o.set) (λ n. v) (Sets o next) one own (λ words ports notes b since w time s small.
       let k : ℕ = x.number in
       let i : ℕ = set_word e o.arena o.set in
       let c : Beside = vacated b o.arena in
@@ -129,19 +142,31 @@ module _ {S : Type 0} (a : About) (slots id : ℕ) (me : Me S (List SeatedPort))
       let place = set_place e o.arena o.set pool (omega (arith, less, most)) in
       let at = place.2 in
       let to = sets_stay_lawful e words ports b k o v next w.epochs s.number owned' clean less most (subst (λ (p : Port). a.sizes.m ≤ p.passed) s.port passed)
-      (λ current i from up asked. right words ports notes b since w s current i from up asked) in
+      (λ current i from up asked. right words ports notes b since w s current i from up asked)
+      (λ l now set. let both = zero (omega (arith, now)) in let only = both.1 in clears words ports notes b w l owned' s.number now (omega (arith, now, set, only)) both.0) in
       aside a words (set words i v) ports notes b c since since x w s known (λ p. having_set p o next) (set_quiet o next) x.began s.entering
       (begun_grows b c x.began (omega arith) (none_grown b c refl refl) s.began)
       (time_aside a words (set words i v) ports b c since time refl k (having_set (ports k) o next)
       (λ q low. store_at e words i v q low (omega (arith, at))) refl refl (set_puts (ports k) o next owned'))
       (λ q ne. refl) refl refl to (Sets o next x (get_or words i 0)) refl)
+    where
+      clears : (words : List ℕ) (ports : ℕ → Port) (notes : ℕ → List Noted) (b : Beside) → LawfulMemory (plan_of a) words ports b notes → (l : ℕ) → (ports x.number).control.owned ≡ Some o →
+          x.number < a.ports → l + o.set < a.sizes.slots → l + o.set + 1 ≡ a.sizes.slots → v ≡ 0 → get_or (set words (set_word e o.arena o.set) v) (base e o.arena + slot_word a.sizes l) 0 ≡ 0
+      clears words ports notes b w l owned' number now only zero =
+          let mine = law.own e (control_words e words) (controls ports) (place_now b) (numbers b) w.epochs.control x.number number o owned' clean in
+          let at = slot_set e o.arena o.set (omega (arith, now)) in
+          let inside = below_whole e o.arena (slot_word a.sizes l) mine.arena (omega (arith, now)) in
+          let count = w.epochs.count in
+          ap (λ i. get_or (set words (set_word e o.arena o.set) v) i 0) (omega (arith, at, only))
+          ∙ get_or-set_same words (set_word e o.arena o.set) v 0 (omega (arith, at, only, inside, count)) ∙ zero
 
   -- where the store is that of a word of the next epoch, and an opening asks nothing of the words behind it that count as set
   may_set_word : (o : Owned) (v next : ℕ) → x.port.control.owned ≡ Some o → o.clean ≡ a.ports → o.set < next → next ≤ first_free a.sizes + a.sizes.m → a.sizes.m ≤ x.port.passed →
       ((i : ℕ) → o.set < i → i < next → ¬ IsAsked a.sizes i) →
       ((b : Beside) → length a.opening.values ≡ a.sizes.m → IfSome x.found (IsFinal (plan_of a) b x.port) → x.port.before ≡ b.before → v ≡ next_epoch_word e b o.set) →
+      (o.set < a.sizes.slots → (v ≡ 0) × (next ≡ o.set + 1)) →
       Allows (IsRuleKept a) slots id me (set_word e o.arena o.set) (λ n. v) (tells (Sets o next) me)
-  may_set_word o v next owned clean less most passed between value = may_set o v next owned clean less most passed (λ words ports notes b since w s current i from up asked.
+  may_set_word o v next owned clean less most passed between value zero = may_set o v next owned clean less most passed (λ words ports notes b since w s current i from up asked.
       let k : ℕ = x.number in
       (elim (eqb_tells i o.set) [
         | inl same ↦
@@ -155,21 +180,26 @@ module _ {S : Type 0} (a : About) (slots id : ℕ) (me : Me S (List SeatedPort))
             ap (λ j. get_or (set words (set_word e o.arena o.set) v) (set_word e o.arena j) 0) same.1 ∙ get_or-set_same words (set_word e o.arena o.set) v 0 (omega (arith, at, inside, count))
             ∙ value b w.epochs.plan.values s.found (ap (λ (p : Port). p.before) s.port ∙ before_is a words ports notes b k w s.number current) ∙ ap (next_epoch_word e b) (sym same.1)
         | inr other ↦ let ne = other.1 in absurd (between i (omega (arith, from, ne)) up asked)
-      ]))
+      ])) zero
 
   -- a word that is the same whatever the values are
   pub may_set_same : (o : Owned) (v : ℕ) → x.port.control.owned ≡ Some o → o.clean ≡ a.ports → a.sizes.m ≤ x.port.passed → o.set < first_free a.sizes →
-      (o.set < pool_base a.sizes) ⊎ ((o.set - pool_base a.sizes) % plain_record_size ≢ value_word 0) → v ≡ opening_word a.sizes [] o.set →
+      (o.set < pool_base a.sizes) ⊎ ((o.set - pool_base a.sizes) % plain_record_size ≢ value_word 0) → v ≡ opening_word a.sizes [] (set_offset a.sizes o.set) →
       Allows (IsRuleKept a) slots id me (set_word e o.arena o.set) (λ n. v) (tells (Sets o (o.set + 1)) me)
   may_set_same o v owned clean passed low free is = may_set_word o v (o.set + 1) owned clean (omega arith) (omega (arith, low)) passed (λ i from up. absurd (omega (arith, from, up)))
-      (λ b long found before. is ∙ sym (same_word a.sizes (opening_behind a.opening (b.log ∷ b.before)).values o.set free) ∙ sym (next_below e b o.set 0 low))
+      (λ b long found before. is ∙ sym (same_set a.sizes (opening_behind a.opening (b.log ∷ b.before)).values o.set free) ∙ sym (next_below e b o.set 0 low))
+      (λ slot. (is ∙ ap (opening_word a.sizes []) (slot_offset a.sizes o.set slot) ∙ slots_open a.sizes [] (a.sizes.slots - (o.set + 1)) (omega (arith, slot)), refl))
 
   -- the last word before the list words, of which an opening asks nothing
-  pub may_set_over_lists : (o : Owned) (v : ℕ) → x.port.control.owned ≡ Some o → o.clean ≡ a.ports → a.sizes.m ≤ x.port.passed → o.set + 1 ≡ list_base a.sizes → v ≡ opening_word a.sizes [] o.set →
+  pub may_set_over_lists : (o : Owned) (v : ℕ) → x.port.control.owned ≡ Some o → o.clean ≡ a.ports → a.sizes.m ≤ x.port.passed → o.set + 1 ≡ list_base a.sizes → v ≡ opening_word a.sizes [] 0 →
       Allows (IsRuleKept a) slots id me (set_word e o.arena o.set) (λ n. v) (tells (Sets o (pool_base a.sizes)) me)
   may_set_over_lists o v owned clean passed last is = may_set_word o v (pool_base a.sizes) owned clean (omega (arith, last)) (omega arith) passed
       (λ i from up asked. elim asked [ inl low ↦ absurd (omega (arith, from, last, low)) | inr high ↦ absurd (omega (arith, up, high)) ])
-      (λ b long found before. is ∙ sym (same_word a.sizes (opening_behind a.opening (b.log ∷ b.before)).values o.set (inl (omega (arith, last)))) ∙ sym (next_below e b o.set 0 (omega (arith, last))))
+      (λ b long found before.
+      let first = offset_front a.sizes o.set (omega (arith, last)) in
+      let at : set_offset a.sizes o.set ≡ 0 = omega (arith, first, last) in
+      is ∙ ap (opening_word a.sizes []) (sym at) ∙ sym (same_set a.sizes (opening_behind a.opening (b.log ∷ b.before)).values o.set (inl (omega (arith, last))))
+      ∙ sym (next_below e b o.set 0 (omega (arith, last)))) (λ slot. absurd (omega (arith, slot, last)))
 
   -- the value that the port has found last of component j, in its initial record
   pub may_set_value : (o : Owned) (f : Found) → x.port.control.owned ≡ Some o → o.clean ≡ a.ports → a.sizes.m ≤ x.port.passed → x.found ≡ Some f →
@@ -178,7 +208,7 @@ module _ {S : Type 0} (a : About) (slots id : ℕ) (me : Me S (List SeatedPort))
   may_set_value o f owned clean passed found at inside = may_set_word o f.value (o.set + 1) owned clean (omega arith) (omega (arith, at, inside)) passed (λ i from up. absurd (omega (arith, from, up)))
       (λ b long final before.
       let last = found_last a b x.port x.found f found final before in
-      sym last.1.value ∙ sym (next_value e b o.set f.component long inside at))
+      sym last.1.value ∙ sym (next_value e b o.set f.component long inside at)) (λ slot. absurd (omega (arith, slot, at)))
 
   -- the public stamp that it has found
   pub may_set_stamp : (o : Owned) (f : Found) → x.port.control.owned ≡ Some o → o.clean ≡ a.ports → a.sizes.m ≤ x.port.passed → x.found ≡ Some f →
@@ -187,4 +217,31 @@ module _ {S : Type 0} (a : About) (slots id : ℕ) (me : Me S (List SeatedPort))
   may_set_stamp o f owned clean passed found at inside = may_set_word o f.stamp (o.set + 1) owned clean (omega arith) (omega (arith, at, inside)) passed (λ i from up. absurd (omega (arith, from, up)))
       (λ b long final before.
       let last = found_last a b x.port x.found f found final before in
-      sym last.1.stamp ∙ sym (next_stamp e b o.set f.component at))
+      sym last.1.stamp ∙ sym (next_stamp e b o.set f.component at)) (λ slot. absurd (omega (arith, slot, at)))
+
+  -- the load of the slot counter of the arena, where no word is set yet
+  pub may_find_clear : (o : Owned) → x.port.control.owned ≡ Some o → o.clean ≡ a.ports → o.set ≡ 0 → a.sizes.m ≤ x.port.passed →
+      Allows (IsRuleKept a) slots id me (base e o.arena + slot_counter a.sizes) (λ n. n) (tells (FindsClear o) me)
+  may_find_clear o owned clean none passed = quietly a slots id me one own known (base e o.arena + slot_counter a.sizes) (λ n. n) (λ n p. having_set p o (a.sizes.slots - n)) (FindsClear o)
+      (λ n. set_quiet o (a.sizes.slots - n))
+      (λ words ports notes b since w time below is old come.
+      let k : ℕ = x.number in
+      let i : ℕ = base e o.arena + slot_counter a.sizes in
+      let n : ℕ = get_or words i 0 in
+      let next : ℕ = a.sizes.slots - n in
+      let owned' : (ports k).control.owned ≡ Some o = ap (λ (p : Port). p.control.owned) (sym is) ∙ owned in
+      (elim (cases_lt n a.sizes.slots) [
+        | inl less ↦
+            let to = clear_slots_count_as_set e words ports b k o next w.epochs below owned' clean (omega (arith, none, less)) (omega (arith, less))
+            (subst (λ (p : Port). a.sizes.m ≤ p.passed) is passed) in
+            still a words (set words i n) ports b (vacated b o.arena) since time refl refl k x.began old (λ q low. load_at words i q) (having_set (ports k) o next) refl refl
+            (set_puts (ports k) o next owned')
+            (subst (λ (l : List ℕ). LawfulEpochs e l (put k (having_set (ports k) o next) ports) (vacated b o.arena)) (load_same words i) to)
+        | inr from ↦
+            let same : having_set (ports k) o next ≡ ports k =
+            ap (λ (m : ℕ). having_set (ports k) o m) (omega (arith, from, none)) ∙ owning_same (ports k) o owned' in
+            subst (λ (p : Port). Quietly a (set words i n) ports b since k x.began p) (sym same)
+            (still a words (set words i n) ports b b since time refl refl k x.began old (λ q low. load_at words i q) (ports k) refl refl (λ j m may. may)
+            (subst (λ (l : List ℕ). LawfulEpochs e l (put k (ports k) ports) b) (load_same words i) (lawful_itself e words ports b k w.epochs)))
+      ]))
+      (λ words ports b w below is. ap (λ (z : About). becomes x x.began (having_set x.port o (z.sizes.slots - get_or words (base e o.arena + slot_counter a.sizes) 0))) (sym own))

@@ -1,5 +1,5 @@
 -- What the owner of an arena has behind its steps.
-use Rattle.partial_long_lived.proofs.Common.{ℕ, ◌≡◌, ◌≢◌, ◌+◌, ◌-◌, ◌%◌, ◌<◌, ◌≤◌, Bool, true, cond, Option, Some, None, IfSome, refl, sym, ap, subst, ◌∙◌, inl, inr, arith, nat_lt, lt-ltb, Layout, first_free, pool_base, Place, arena_limit, entering_mark, marked, Owned, Stands, cleaner, having_loaded, owning, resting, not_below, About, Stand, SeatedPort, port_at, LoadsPort, SeatPublishes, PutsPort, Sets, becomes, elsewhere, port_loaded, port_put, unpacked, HasLoadedPort, IsRight, MayPutPort, OfOwned, Owns, PutsBy, SetsLists, SetsNext, HasSetWords}
+use Rattle.partial_long_lived.proofs.Common.{ℕ, ◌≡◌, ◌≢◌, ◌+◌, ◌-◌, ◌%◌, ◌<◌, ◌≤◌, Bool, true, cond, Option, Some, None, IfSome, refl, sym, ap, subst, ◌∙◌, inl, inr, arith, nat_lt, lt-ltb, Layout, first_free, pool_base, Place, arena_limit, entering_mark, marked, Owned, Stands, cleaner, having_loaded, owning, resting, not_below, About, Stand, SeatedPort, port_at, LoadsPort, SeatPublishes, PutsPort, Sets, becomes, elsewhere, port_loaded, port_put, unpacked, HasLoadedPort, IsRight, MayPutPort, OfOwned, Owns, PutsBy, SetsLists, SetsNext, HasSetWords, FindsClear}
 use Rattle.partial_long_lived.proofs.Sets.{alike, unlike}
 
 -- a step by the arena that the port owns
@@ -39,6 +39,11 @@ module _ (s t : Stand) (y q i a : ℕ) (w : HasSetWords s y q i) where
   set_lists_works z same told =
       let r : Sets o (pool_base (port_at s).about.sizes) (port_at s) a (port_at t) = own_told (λ o. Sets o (pool_base (port_at s).about.sizes)) (port_at s) a (port_at t) o w.is told in
       works_then s t (record o { set = pool_base (port_at s).about.sizes }) r w.stands y q (pool_base z) w.arena w.looked w.clean w.mark (ap pool_base same)
+
+  pub find_clear_works : (z : Layout) → (port_at s).about.sizes ≡ z → (n : ℕ) → n ≡ z.slots - a → OfOwned FindsClear (port_at s) a (port_at t) → HasSetWords t y q n
+  find_clear_works z same n is told =
+      let r : FindsClear o (port_at s) a (port_at t) = own_told FindsClear (port_at s) a (port_at t) o w.is told in
+      works_then s t (record o { set = (port_at s).about.sizes.slots - a }) r w.stands y q n w.arena w.looked w.clean w.mark (ap (λ (z : Layout). z.slots - a) same ∙ sym is)
 
   pub publish_owns : OfOwned SeatPublishes (port_at s) a (port_at t) → Owns t y
   publish_owns told =

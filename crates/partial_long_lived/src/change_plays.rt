@@ -64,6 +64,17 @@ impl Play<(), View> for Put {
     ghost then = { λ s. tells (PutsBy s.first) };
 }
 
+/// The load of the slot counter of the owned arena.
+pub struct FindClear;
+
+impl Play<(), View> for FindClear {
+    ghost use Rattle.partial_long_lived.specs.Inner.Steps.{tells};
+    ghost use Rattle.partial_long_lived.specs.Inner.Moves.{FindsClear};
+    ghost use Rattle.partial_long_lived.specs.Inner.Changing.{OfOwned};
+
+    ghost then = { λ _. tells (OfOwned FindsClear) };
+}
+
 /// The store of the next word of the owned arena.
 pub struct SetWord;
 

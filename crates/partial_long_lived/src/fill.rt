@@ -1,13 +1,13 @@
 //! How the owner of an arena sets its words to those with which the next epoch begins.
 
 ghost use Rattle.std.specs.Prelude.{◌≡◌, ◌+◌, ◌<◌, ◌≤◌, []};
-ghost use Rattle.partial_words.specs.Layout.{first_free, list_base, pool_base, slot_word, initial_record};
+ghost use Rattle.partial_words.specs.Layout.{first_free, list_base, pool_base, initial_record};
 ghost use Rattle.partial_words.specs.Chain.{opening_word};
 ghost use Rattle.partial_words.specs.Record.{plain_record_size};
 ghost use Rattle.partial_long_lived.specs.Inner.Held.{IsHeld, port_at};
 ghost use Rattle.partial_long_lived.specs.Inner.Changing.{HasPassed, IsRight, Stays, HasSetWords};
 
-use crate::change_plays::{SetLists, SetWord};
+use crate::change_plays::{FindClear, SetLists, SetWord};
 use crate::find::{find_stamp, find_value};
 use crate::rule::Words;
 use crate::stand::Stand;
@@ -24,6 +24,7 @@ pub fn fill(words: &Words, stand: &mut Stand, arena: u32)
     ensures works { HasSetWords stand.new arena words.now.key.ports
         (first_free words.now.key.sizes + words.now.key.sizes.m) }
 {
+    fill_slots(words, stand, arena);
     fill_front(words, stand, arena);
     for component in 0..stand.shape.sizes.m() {
         fill_record(words, stand, arena, component);
@@ -33,8 +34,8 @@ pub fn fill(words: &Words, stand: &mut Stand, arena: u32)
     }
 }
 
-// Sets the words before the list words: components, counters and slots. An opening asks nothing of list words.
-fn fill_front(words: &Words, stand: &mut Stand, arena: u32)
+// Sets the slots to 0, from the last one down, but for those that weren't claimed in the epoch that the arena held.
+fn fill_slots(words: &Words, stand: &mut Stand, arena: u32)
     requires held { IsHeld words.now.table_id words.now.key stand.old }
     requires works { HasSetWords stand.old arena words.now.key.ports 0 }
     requires inside { arena < words.now.key.arenas }
@@ -42,19 +43,41 @@ fn fill_front(words: &Words, stand: &mut Stand, arena: u32)
     ensures held { IsHeld words.now.table_id words.now.key stand.new }
     ensures stays { Stays stand.old stand.new }
     ensures passed { HasPassed stand.old stand.new }
-    ensures works { HasSetWords stand.new arena words.now.key.ports (pool_base words.now.key.sizes) }
+    ensures works { HasSetWords stand.new arena words.now.key.ports words.now.key.sizes.slots }
 {
-    for word in 0..stand.shape.sizes.slot_word(0) {
-        let value = front_word(&stand.shape.sizes, word);
-        set_word(words, stand, arena, word, value);
+    let clear = find_clear(words, stand, arena);
+    for number in clear..stand.shape.sizes.slots() {
+        set_word(words, stand, arena, number, 0);
     }
-    fill_slots(words, stand, arena);
 }
 
-// Sets the slots to 0, of which there are far more than other words.
-fn fill_slots(words: &Words, stand: &mut Stand, arena: u32)
+// Loads the slot counter of the arena. Returns how many of its slots are 0, and count as set then.
+fn find_clear(words: &Words, stand: &mut Stand, arena: u32) -> u32
     requires held { IsHeld words.now.table_id words.now.key stand.old }
-    requires works { HasSetWords stand.old arena words.now.key.ports (slot_word words.now.key.sizes 0) }
+    requires works { HasSetWords stand.old arena words.now.key.ports 0 }
+    requires inside { arena < words.now.key.arenas }
+    requires sealed { words.now.key.sizes.m ≤ (port_at stand.old).port.passed }
+    ensures held { IsHeld words.now.table_id words.now.key stand.new }
+    ensures stays { Stays stand.old stand.new }
+    ensures passed { HasPassed stand.old stand.new }
+    ensures works { HasSetWords stand.new arena words.now.key.ports result }
+    ensures most { result ≤ words.now.key.sizes.slots }
+{
+    let slots = stand.shape.sizes.slots();
+    let at = stand.shape.base(arena) + u64::from(stand.shape.sizes.slot_counter());
+    let claimed = words.load::<FindClear>(&mut stand.seat, at as usize);
+    if claimed < u64::from(slots) {
+        slots - claimed as u32
+    } else {
+        0
+    }
+}
+
+// Sets the words before the slots, from the last one down: counters and components. An opening asks nothing of list
+// words.
+fn fill_front(words: &Words, stand: &mut Stand, arena: u32)
+    requires held { IsHeld words.now.table_id words.now.key stand.old }
+    requires works { HasSetWords stand.old arena words.now.key.ports words.now.key.sizes.slots }
     requires inside { arena < words.now.key.arenas }
     requires sealed { words.now.key.sizes.m ≤ (port_at stand.old).port.passed }
     ensures held { IsHeld words.now.table_id words.now.key stand.new }
@@ -64,10 +87,11 @@ fn fill_slots(words: &Words, stand: &mut Stand, arena: u32)
 {
     let sizes = stand.shape.sizes;
     let last = sizes.list_base() - 1;
-    for word in sizes.slot_word(0)..last {
-        set_word(words, stand, arena, word, 0);
+    for number in sizes.slots()..last {
+        let value = front_word(&sizes, last - number);
+        set_word(words, stand, arena, number, value);
     }
-    set_lists(words, stand, arena, last);
+    set_lists(words, stand, arena, last, front_word(&sizes, 0));
 }
 
 // The word before the list words with which each epoch begins.
@@ -123,36 +147,36 @@ fn fill_stamp(words: &Words, stand: &mut Stand, arena: u32, component: u32)
     set_word(words, stand, arena, word, stamp);
 }
 
-// Sets the next word of the arena.
+// Sets the next word of the arena, which is the one with that number in the order in which they are set.
 #[inline(always)]
-fn set_word(words: &Words, stand: &mut Stand, arena: u32, word: u32, value: u64)
+fn set_word(words: &Words, stand: &mut Stand, arena: u32, number: u32, value: u64)
     requires held { IsHeld words.now.table_id words.now.key stand.old }
-    requires works { HasSetWords stand.old arena words.now.key.ports word }
+    requires works { HasSetWords stand.old arena words.now.key.ports number }
     requires inside { arena < words.now.key.arenas }
     requires sealed { words.now.key.sizes.m ≤ (port_at stand.old).port.passed }
-    requires right { IsRight (port_at stand.old) value word }
+    requires right { IsRight (port_at stand.old) value number }
     ensures held { IsHeld words.now.table_id words.now.key stand.new }
     ensures stays { Stays stand.old stand.new }
     ensures passed { HasPassed stand.old stand.new }
-    ensures works { HasSetWords stand.new arena words.now.key.ports (word + 1) }
+    ensures works { HasSetWords stand.new arena words.now.key.ports (number + 1) }
 {
-    let at = stand.shape.set_word(arena, word) as usize;
+    let at = stand.shape.set_word(arena, number) as usize;
     words.store::<SetWord>(&mut stand.seat, at, value);
 }
 
-// Sets the last word before the list words to 0, which stand for set then.
-fn set_lists(words: &Words, stand: &mut Stand, arena: u32, word: u32)
+// Sets the last of the words before the list words, which stand for set then.
+fn set_lists(words: &Words, stand: &mut Stand, arena: u32, number: u32, value: u64)
     requires held { IsHeld words.now.table_id words.now.key stand.old }
-    requires works { HasSetWords stand.old arena words.now.key.ports word }
+    requires works { HasSetWords stand.old arena words.now.key.ports number }
     requires inside { arena < words.now.key.arenas }
     requires sealed { words.now.key.sizes.m ≤ (port_at stand.old).port.passed }
-    requires last { word + 1 ≡ list_base words.now.key.sizes }
-    requires zero { 0 ≡ opening_word words.now.key.sizes [] word }
+    requires last { number + 1 ≡ list_base words.now.key.sizes }
+    requires right { value ≡ opening_word words.now.key.sizes [] 0 }
     ensures held { IsHeld words.now.table_id words.now.key stand.new }
     ensures stays { Stays stand.old stand.new }
     ensures passed { HasPassed stand.old stand.new }
     ensures works { HasSetWords stand.new arena words.now.key.ports (pool_base words.now.key.sizes) }
 {
-    let at = stand.shape.set_word(arena, word) as usize;
-    words.store::<SetLists>(&mut stand.seat, at, 0);
+    let at = stand.shape.set_word(arena, number) as usize;
+    words.store::<SetLists>(&mut stand.seat, at, value);
 }

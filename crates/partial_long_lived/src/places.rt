@@ -35,7 +35,8 @@ impl Shape {
         1 + u64::from(self.ports) + u64::from(x)
     }
 
-    /// The word that the owner of arena `x` sets as number `i`: those of an opening first, and then the carried stamps.
+    /// The word that the owner of arena `x` sets as number `i`: those before the list words first, from the last one
+    /// down, then the initial records and the carried stamps.
     #[inline(always)]
     pub fn set_word(&self, x: u32, i: u32) -> u64
         requires inside { x < self.now.arenas }
@@ -43,7 +44,10 @@ impl Shape {
         ensures { result ≡ set_word (shape_plan self.now bare) x i }
     {
         let first_free = self.sizes.first_free();
-        if i < first_free {
+        let front = self.sizes.list_base();
+        if i < front {
+            self.base(x) + u64::from(front - (i + 1))
+        } else if i < first_free {
             self.base(x) + u64::from(i)
         } else {
             self.base(x) + u64::from(self.sizes.total()) + u64::from(i - first_free)

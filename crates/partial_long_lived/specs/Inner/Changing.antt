@@ -4,7 +4,7 @@ use Rattle.partial_model.specs.declared.history.Applied.{Applied}
 use Rattle.partial_words.specs.Layout.{Layout, first_free, pool_base, initial_record}
 use Rattle.partial_words.specs.Chain.{opening_word}
 use Rattle.partial_words.specs.Record.{value_word, plain_record_size}
-use Rattle.partial_epochs.specs.Layout.{arena_limit, entering_mark, epoch_limit}
+use Rattle.partial_epochs.specs.Layout.{arena_limit, entering_mark, epoch_limit, set_offset}
 use Rattle.partial_epochs.specs.Ports.{Owned}
 use Rattle.partial_epochs.specs.Ports.Entering.{Stands}
 use Rattle.partial_epochs.specs.Entering.{arrived}
@@ -136,13 +136,13 @@ HasCleared x n (Clean y) s = (y ≡ x) × HasSetWords s x n 0
 HasCleared x n Taken s = Owns s x
 HasCleared x n Ended s = Owns s x × IsPast s
 
--- v is what each opening has in word i, whatever its values are
+-- v is what each opening has in the word that is set as number i, whatever its values are
 pub record IsFixedWord (z : Layout) (v i : ℕ) : Type 0 where
   pub within : i < first_free z
   pub free : (i < pool_base z) ⊎ ((i - pool_base z) % plain_record_size ≢ value_word 0)
-  pub is : v ≡ opening_word z [] i
+  pub is : v ≡ opening_word z [] (set_offset z i)
 
--- v is the value that has been found, and word i that of its initial record
+-- v is the value that has been found, and i the number of the word of its initial record
 pub record IsInitialValue (z : Layout) (found : Option Found) (v i : ℕ) : Type 0 where
   pub f : Found
   pub found_is : found ≡ Some f
@@ -150,7 +150,7 @@ pub record IsInitialValue (z : Layout) (found : Option Found) (v i : ℕ) : Type
   pub at : i ≡ value_word (initial_record z f.component)
   pub is : v ≡ f.value
 
--- v is the stamp that has been found, and word i that of the stamp that is carried
+-- v is the stamp that has been found, and i the number of the word of the stamp that is carried
 pub record IsCarriedStamp (z : Layout) (found : Option Found) (v i : ℕ) : Type 0 where
   pub f : Found
   pub found_is : found ≡ Some f
@@ -158,7 +158,7 @@ pub record IsCarriedStamp (z : Layout) (found : Option Found) (v i : ℕ) : Type
   pub at : i ≡ first_free z + f.component
   pub is : v ≡ f.stamp
 
--- v is what the next epoch begins with in word i
+-- v is what the next epoch begins with in the word that is set as number i
 abbrev pub IsRight : SeatedPort → ℕ → ℕ → Type 0
 IsRight x v i = IsFixedWord x.about.sizes v i ⊎ (IsInitialValue x.about.sizes x.found v i ⊎ IsCarriedStamp x.about.sizes x.found v i)
 

@@ -113,6 +113,10 @@ PutsPort o m x a y = y ≡ becomes x x.began (owning x.port (port_put m a o))
 abbrev pub Sets : Owned → ℕ → SeatedPort → ℕ → SeatedPort → Type 0
 Sets o next x a y = y ≡ becomes x x.began (having_set x.port o next)
 
+-- the load of the slot counter of the owned arena, by an owner that has set no word: the slots from there on count as set
+abbrev pub FindsClear : Owned → SeatedPort → ℕ → SeatedPort → Type 0
+FindsClear o x a y = y ≡ becomes x x.began (having_set x.port o (x.about.sizes.slots - a))
+
 -- the exchange of the current word
 abbrev pub SeatPublishes : Owned → SeatedPort → ℕ → SeatedPort → Type 0
 SeatPublishes o x a y = y ≡ becomes x x.began (having_published x.port o)

@@ -2,4 +2,4 @@ use Rattle.partial_long_lived.proofs.Staying.{stays_then}
 use Rattle.partial_long_lived.proofs.fill.fill_front.Goals as goal
 
 pub returns-clause-stays : goal.returns-clause-stays
-returns-clause-stays c = stays_then _ _ _ c.loop-word.invariant.stays c.fill_slots.ensures.stays
+returns-clause-stays c = stays_then _ _ _ c.loop-number.invariant.stays c.set_lists.ensures.stays

@@ -1,13 +1,11 @@
-use Rattle.partial_long_lived.proofs.Common.{◌≡◌, ◌+◌, ◌≤◌, list_base, slot_word, IsHeld, port_at, HasPassed, Stays, HasSetWords}
+use Rattle.partial_long_lived.proofs.Common.{◌≤◌, IsHeld, port_at, HasPassed, Stays, HasSetWords}
 use Rattle.partial_long_lived.proofs.fill.fill_slots.Given as goal
 
-abbrev pub invariant-loop-word : goal.invariant-loop-word
-invariant-loop-word l = record {
+abbrev pub invariant-loop-number : goal.invariant-loop-number
+invariant-loop-number l = record {
   held : IsHeld l.words.table_id l.words.key l.stand;
   stays : Stays l.fn.stand l.stand;
   passed : HasPassed l.fn.stand l.stand;
   sealed : l.words.key.sizes.m ≤ (port_at l.stand).port.passed;
-  works : HasSetWords l.stand l.arena l.words.key.ports l.word;
-  from : slot_word l.words.key.sizes 0 ≤ l.word;
-  last : l.last + 1 ≡ list_base l.words.key.sizes;
+  works : HasSetWords l.stand l.arena l.words.key.ports l.number;
 }

@@ -8,12 +8,12 @@ store-requires c =
     let h = c.requires.held in
     let word = c.set_word-at.ensures in
     let last = c.requires.last in
-    let low : c.args.word < first_free c.args.words.now.key.sizes + c.args.words.now.key.sizes.m = omega (arith, last) in (
+    let low : c.args.number < first_free c.args.words.now.key.sizes + c.args.words.now.key.sizes.m = omega (arith, last) in (
       h.fits,
-      set_there _ _ _ h c.args.arena c.args.word _ c.requires.inside low word,
-      set_lists_asked _ _ _ h c.args.arena c.args.word c.requires.works c.requires.sealed last c.requires.zero _ _ _ word,
+      set_there _ _ _ h c.args.arena c.args.number _ c.requires.inside low word,
+      set_lists_asked _ _ _ h c.args.arena c.args.number c.requires.works c.requires.sealed last c.args.value c.requires.right _ _ _ word,
     )
 
 pub returns-clause-works : goal.returns-clause-works
 returns-clause-works c =
-    set_lists_works c.args.stand.now _ c.args.arena _ c.args.word 0 c.requires.works c.args.words.now.key.sizes (ap (λ (a : About). a.sizes) c.requires.held.own) c.store.ensures.2.2
+    set_lists_works c.args.stand.now _ c.args.arena _ c.args.number c.args.value c.requires.works c.args.words.now.key.sizes (ap (λ (a : About). a.sizes) c.requires.held.own) c.store.ensures.2.2

@@ -8,9 +8,9 @@ store-requires c =
     let h = c.requires.held in
     let word = c.set_word-at.ensures in (
       h.fits,
-      set_there _ _ _ h c.args.arena c.args.word _ c.requires.inside (right_low c.args.words.now.key (port_at c.args.stand.now) c.args.value c.args.word h.own c.requires.right) word,
-      set_asked _ _ _ h c.args.arena c.args.word c.args.value c.requires.works c.requires.sealed c.requires.right _ _ _ word,
+      set_there _ _ _ h c.args.arena c.args.number _ c.requires.inside (right_low c.args.words.now.key (port_at c.args.stand.now) c.args.value c.args.number h.own c.requires.right) word,
+      set_asked _ _ _ h c.args.arena c.args.number c.args.value c.requires.works c.requires.sealed c.requires.right _ _ _ word,
     )
 
 pub returns-clause-works : goal.returns-clause-works
-returns-clause-works c = set_works c.args.stand.now _ c.args.arena _ c.args.word c.args.value c.requires.works c.store.ensures.2.2
+returns-clause-works c = set_works c.args.stand.now _ c.args.arena _ c.args.number c.args.value c.requires.works c.store.ensures.2.2

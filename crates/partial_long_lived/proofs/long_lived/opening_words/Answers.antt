@@ -1,0 +1,15 @@
+use Rattle.partial_long_lived.proofs.Common.{rules, OpensAll, ℕ, ◌≡◌, ◌<◌, ◌+◌, arith, Plan, base, ap, slice_index, shape_plan, pool_base}
+use Rattle.partial_words.specs.Layout.{slot_word}
+use Rattle.partial_epochs.proofs.Places.{bases_up}
+use Rattle.partial_long_lived.proofs.long_lived.opening_words.Goals as goal
+
+pub returns : goal.returns
+returns c =
+    let e : Plan = shape_plan c.args.shape.now (record { values = c.args.initial.now; first = pool_base c.args.shape.now.sizes }) in
+    let inv = c.loop-j.invariant in
+    let clear : (x l : ℕ) → 0 < x → x < c.args.shape.now.arenas → l < c.args.shape.now.sizes.slots → slice_index c.loop-j.words.items (base e x + slot_word c.args.shape.now.sizes l) ≡ 0 =
+    λ x l some inside low.
+    let up = bases_up e 0 x some in
+    let first = c.base-base.ensures in
+    inv.behind (base e x + slot_word c.args.shape.now.sizes l) (omega (arith, up, first)) in
+    search rules
