@@ -110,15 +110,15 @@ impl LongLived {
         if component >= self.shape.sizes.m() {
             return Err(Refused::Component);
         }
-        let mut stand = me.seating.take();
+        let stand = me.seating.take();
         let epoch = stand.epoch;
-        let answer = read(&self.table.shared, &mut stand, component);
+        let (stand, value, stamp) = read(&self.table.shared, stand, component);
         if stand.epoch != epoch {
             me.core.clear_marks();
             me.spent = false;
         }
         me.seating.keep(stand);
-        Ok(answer)
+        Ok((value, stamp))
     }
 
     /// Scans these components, in this order and with repeats: `into` has their values as they stood together at one

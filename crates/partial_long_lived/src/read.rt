@@ -21,21 +21,27 @@ pub fn settle(words: &Words, stand: &mut Stand)
     }
 }
 
-/// Reads component `component`: its value and its public stamp.
-pub fn read(words: &Words, stand: &mut Stand, component: u32) -> (u64, u64)
-    requires held { IsHeld words.now.table_id words.now.key stand.old }
-    requires idle { IsIdle stand.old }
+/// Reads component `component`: its value and its public stamp, behind the seat and where its port stands then. The seat
+/// goes by value, and a read that finds no seal makes its loads in line, so that it needs no copy of it.
+#[inline(always)]
+pub fn read(words: &Words, stand: Stand, component: u32) -> (Stand, u64, u64)
+    requires held { IsHeld words.now.table_id words.now.key stand }
+    requires idle { IsIdle stand }
     requires inside { component < words.now.key.sizes.m }
-    ensures held { IsHeld words.now.table_id words.now.key stand.new }
-    ensures read { HasNotedRead stand.old stand.new component result.0 result.1 }
+    ensures held { IsHeld words.now.table_id words.now.key result.0 }
+    ensures read { HasNotedRead stand result.0 component result.1 result.2 }
 {
-    let mut found = read_first(words, stand, component);
-    if found >= SEAL {
-        settle(words, stand);
-        found = read_again(words, stand, component);
+    let mut seat = stand;
+    let found = read_first(words, &mut seat, component);
+    if found < SEAL {
+        let value = load_value(words, &mut seat, component, found);
+        let stamp = public_stamp(words, &mut seat, component, found);
+        return (seat, value, stamp);
     }
-    let at = found % SEAL;
-    let value = load_value(words, stand, component, at);
-    let stamp = public_stamp(words, stand, component, at);
-    (value, stamp)
+    let mut late = seat;
+    settle(words, &mut late);
+    let at = read_again(words, &mut late, component) % SEAL;
+    let value = load_value(words, &mut late, component, at);
+    let stamp = public_stamp(words, &mut late, component, at);
+    (late, value, stamp)
 }

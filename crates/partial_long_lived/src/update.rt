@@ -63,6 +63,7 @@ pub fn update(
 
 // Makes an update of a port that is not spent, and changes the epoch behind each attempt that met a seal, so many times.
 // `first` says that the first step of the update is the first one of its call.
+#[inline(always)]
 fn rounds(
     words: &Words,
     stand: &mut Stand,
