@@ -1,5 +1,6 @@
 -- A call of a port: how it begins at the seat that was taken out, and what it leaves once the seat is put back.
-use Rattle.partial_long_lived.proofs.Common.{ℕ, zero, suc, None, append-nil, ◌≡◌, ◌<◌, ◌≤◌, ◌++◌, ◌∷◌, [], Option, Some, IfSome, Bool, true, false, true≢false, List, length, ap, ◌+◌, take, refl, sym, subst, ◌∙◌, inl, inr, arith, nat_lt, slice_index, AllByRecursion, list_all, option_map, take-append_seam, TableId, Applied, IsEntryFor, IsLegal, LegalNotes, Noted, seen_by, AllByRecursion-get, LegalNotes-last, Layout, CoreState, fresh, AreComponentIndices, IsSound, is_sound_at, IsBetween, IsMarkedLike, core_of, is_at_rest, public_stamp, Refused, Component, Overtaken, NoArena, EpochsSpent, About, Stand, Seating, Began, SeatedPort, one_in, IsOf, MemoryView, PortView, port_view, seen_in, IsStandOf, IsSeatingOf, IsResting, SeatGoes, IsHeld, epoch_at, port_at, HasCome, HasNotedRead, IsIdle, Changed, NotChanged, HasNotedScan, RestsUnmarked, ScanMade, noted_scan, NotScanned, RestsAt}
+use Rattle.partial_long_lived.proofs.Common.{ℕ, zero, suc, None, append-nil, ◌≡◌, ◌<◌, ◌≤◌, ◌++◌, ◌∷◌, [], Option, Some, IfSome, Bool, true, false, true≢false, List, length, ap, ◌+◌, take, refl, sym, subst, ◌∙◌, inl, inr, arith, nat_lt, slice_index, AllByRecursion, list_all, option_map, take-append_seam, TableId, Applied, IsEntryFor, IsLegal, LegalNotes, Noted, seen_by, AllByRecursion-get, LegalNotes-last, Layout, CoreState, fresh, AreComponentIndices, IsSound, is_sound_at, IsBetween, IsMarkedLike, core_of, is_at_rest, public_stamp, Refused, Component, Overtaken, NoArena, EpochsSpent, About, Stand, Seating, Began, SeatedPort, one_in, IsOf, MemoryView, PortView, port_view, seen_in, IsStandOf, IsSeatingOf, IsResting, SeatGoes, IsHeld, epoch_at, port_at, HasCome, HasNotedRead, IsIdle, Changed, NotChanged, HasNotedScan, RestsUnmarked, ScanMade, noted_scan, NotScanned, RestsAt, Result, Ok, Err, IfOk, IfErr}
+use Rattle.partial_lines.specs.declared.whole_scan.Scanned.{Scanned}
 use Rattle.partial_long_lived.specs.Inner.DoubleCollect.{ScannedStamped}
 use Rattle.std.specs.Prelude.{Contains}
 use Rattle.partial_model.specs.declared.call.Call.TheVariants as call
@@ -325,3 +326,8 @@ module _ (m : MemoryView) (s : Seating) (t u : Stand) (s' : Seating) (p : PortVi
   came_seen come notes =
       callers_see m s t u s' p k view own held k' (λ (a b : PortView). calls.Goes a b [])
       (goes_seen m.table (port_at t) (port_at u) [] come.goes (notes ∙ sym (append-nil (port_at t).notes)))
+
+-- a scan leaves the shape of the memory
+pub scan_shape : (s t : Stand) (which values : List ℕ) (r : Result Scanned Refused) → IfOk r (λ q. HasNotedScan s t which values q.collects q.borrowed) → IfErr r (NotScanned s t) → t.shape ≡ s.shape
+scan_shape s t which values (Ok q) w e = w.shape
+scan_shape s t which values (Err cause) w e = e.shape

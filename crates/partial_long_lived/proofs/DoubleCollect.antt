@@ -304,7 +304,7 @@ module _ (s u t : Stand) (come : HasCome s u) (notes : (port_at u).notes ≡ (po
   come_named which values ws w = record { scanned = come_scanned which values 2 None w.scanned; stamps = w.stamps }
 
   come_refused : (cause : Refused) → NotScanned u t cause → NotScanned s t cause
-  come_refused cause w = record { goes = goes_on (port_at s) (port_at u) (port_at t) come.goes w.goes; notes = w.notes ∙ notes; why = w.why }
+  come_refused cause w = record { shape = w.shape ∙ come.shape; goes = goes_on (port_at s) (port_at u) (port_at t) come.goes w.goes; notes = w.notes ∙ notes; why = w.why }
 
   -- what a scan that is announced has ended with
   pub come_ok : (r : Result Scanned Refused) (which values : List ℕ) → IfOk r (λ q. HasNotedScan u t which values q.collects q.borrowed) →

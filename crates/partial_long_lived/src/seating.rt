@@ -33,7 +33,8 @@ impl Seating {
     #[inline(always)]
     pub fn take(&mut self) -> Stand
         requires { IsBadgeOfOne self.old.badge.views }
-        ensures { IsStandOf self.old result }
+        ensures stand { IsStandOf self.old result }
+        ensures shape { self.new.shape ≡ self.old.shape }
     {
         Stand {
             seat: mem::replace(&mut self.badge, Badge::blank()).into_seat(),
@@ -46,15 +47,16 @@ impl Seating {
         }
     }
 
-    /// Puts the seat back, with the place where its port stands then.
+    /// Puts the seat back, with the place where its port stands then. The shape is the one that it had.
     #[inline(always)]
     pub fn keep(&mut self, stand: Stand)
-        requires { stand.seat.me.1 ≡ [] }
+        requires none { stand.seat.me.1 ≡ [] }
+        requires shape { stand.shape ≡ self.old.shape }
         ensures { IsSeatingOf stand self.new }
     {
         let Stand {
             seat,
-            shape,
+            shape: _,
             number,
             epoch,
             arena,
@@ -62,7 +64,6 @@ impl Seating {
             passed,
         } = stand;
         self.badge = seat.into_badge();
-        self.shape = shape;
         self.number = number;
         self.epoch = epoch;
         self.arena = arena;

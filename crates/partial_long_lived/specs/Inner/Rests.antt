@@ -23,6 +23,7 @@ pub record RestsAt (t : Stand) (core : CoreState) (spent : Bool) : Type 0 where
 
 -- The scan is refused, since the epoch can't be changed: the port has noted nothing.
 pub record NotScanned (s t : Stand) (cause : Refused) : Type 0 where
+  pub shape : t.shape ≡ s.shape
   pub goes : SeatGoes (port_at s) (port_at t)
   pub notes : (port_at t).notes ≡ (port_at s).notes
   pub why : IsCause t cause

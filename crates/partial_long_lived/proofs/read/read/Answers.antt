@@ -1,4 +1,4 @@
-use Rattle.partial_long_lived.proofs.Common.{◌≡◌, ◌≤◌, not, true, false, length, refl, ap, sym, ◌∙◌, arith, lt-ltb, seal, unsealed, Began, SeatedPort, seen_in, plan_of, public_of, port_at}
+use Rattle.partial_long_lived.proofs.Common.{◌≡◌, ◌≤◌, not, true, false, length, refl, ap, ◌∙◌, arith, lt-ltb, seal, unsealed, Began, SeatedPort, seen_in, plan_of, public_of, port_at}
 use Rattle.partial_long_lived.proofs.Coming.{come_itself, read_ends, settled_began, settled_come, settled_fresh, settled_notes}
 use Rattle.partial_long_lived.proofs.read.read.Goals as goal
 

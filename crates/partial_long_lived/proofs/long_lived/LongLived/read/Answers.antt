@@ -8,7 +8,7 @@ pub returns-clause-answered : goal.returns-clause-answered
 returns-clause-answered c =
     let own = c.requires ∙ sym c.self.view_is in
     let inside : c.args.component < c.self.inside.table.shared.key.sizes.m = search rules in
-    read_seen _ c.me.inside.seating c.take-stand.result c.read-stand.result.0 c.keep.new.self _ c.take-stand.ensures c.me.view_is own c.read-stand.ensures.held c.keep.ensures _ _ _
+    read_seen _ c.me.inside.seating c.take-stand.result c.read-stand.result.0 c.keep.new.self _ c.take-stand.ensures.stand c.me.view_is own c.read-stand.ensures.held c.keep.ensures _ _ _
     c.read-stand.ensures.read inside
 
 pub invariant_of-me : goal.invariant_of-me
@@ -16,9 +16,9 @@ invariant_of-me c =
     let t = c.take-stand.result in
     let u = c.read-stand.result.0 in
     let come = c.read-stand.ensures.read.come in
-    let rests = rests_taken _ t _ _ c.me.invariant.0 c.take-stand.ensures in
-    let number = (rests_number _ t _ _ c.me.invariant.0 c.take-stand.ensures) in
-    let same : c.keep.new.self.shape ≡ c.me.inside.seating.shape = c.keep.ensures.shape ∙ come.shape ∙ c.take-stand.ensures.shape in
+    let rests = rests_taken _ t _ _ c.me.invariant.0 c.take-stand.ensures.stand in
+    let number = (rests_number _ t _ _ c.me.invariant.0 c.take-stand.ensures.stand) in
+    let same : c.keep.new.self.shape ≡ c.me.inside.seating.shape = c.keep.ensures.shape ∙ come.shape ∙ c.take-stand.ensures.stand.shape in
     let room : vec_len c.me.inside.collected ≡ c.keep.new.self.shape.sizes.m = c.me.invariant.1 ∙ ap (λ (z : Shape). z.sizes.m) (sym same) in
     elim c.if-stand-epoch.branch [
       | then-stand-epoch w ↦ subst (λ (x : Inside). IsResting c.keep.new.self x.core x.spent × (vec_len x.collected ≡ c.keep.new.self.shape.sizes.m)) (sym w.me-inside-is)

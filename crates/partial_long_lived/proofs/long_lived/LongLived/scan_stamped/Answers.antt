@@ -17,7 +17,7 @@ returns-clause-scanned c = λ told.
     let below = subst (λ n. AllByRecursion (λ j. j < n) c.args.which.now) same (are_below _ c.args.which.now _ c.all_below.ensures c.if-not-all_below.false) in
     let some : 0 < length c.args.which.now = search rules fits 5000 in
     let end = c.scan_stamped-is_told.ensures in
-    stamped_answered _ c.me.inside.seating c.take-stand.result c.scan_stamped-is_told.new.stand c.keep.new.self _ c.take-stand.ensures c.me.view_is own end.held c.keep.ensures
+    stamped_answered _ c.me.inside.seating c.take-stand.result c.scan_stamped-is_told.new.stand c.keep.new.self _ c.take-stand.ensures.stand c.me.view_is own end.held c.keep.ensures
     c.args.which.now below _ _ (end.scanned told) some
 
 pub returns-clause-goes : goal.returns-clause-goes
@@ -26,7 +26,7 @@ returns-clause-goes c = λ not.
     let same : c.m.result ≡ c.self.inside.table.shared.key.sizes.m = search rules in
     let below = subst (λ n. AllByRecursion (λ j. j < n) c.args.which.now) same (are_below _ c.args.which.now _ c.all_below.ensures c.if-not-all_below.false) in
     let end = c.scan_stamped-is_told.ensures in
-    came_seen _ c.me.inside.seating c.take-stand.result c.scan_stamped-is_told.new.stand c.keep.new.self _ c.take-stand.ensures c.me.view_is own end.held c.keep.ensures
+    came_seen _ c.me.inside.seating c.take-stand.result c.scan_stamped-is_told.new.stand c.keep.new.self _ c.take-stand.ensures.stand c.me.view_is own end.held c.keep.ensures
     c.args.which.now below end.come (end.notes not)
 
 pub invariant_of-me : goal.invariant_of-me
@@ -34,9 +34,9 @@ invariant_of-me c =
     let t = c.take-stand.result in
     let u = c.scan_stamped-is_told.new.stand in
     let come = c.scan_stamped-is_told.ensures.come in
-    let rests = rests_taken _ t _ _ c.me.invariant.0 c.take-stand.ensures in
-    let number = (rests_number _ t _ _ c.me.invariant.0 c.take-stand.ensures) in
-    let same : c.keep.new.self.shape ≡ c.me.inside.seating.shape = c.keep.ensures.shape ∙ come.shape ∙ c.take-stand.ensures.shape in
+    let rests = rests_taken _ t _ _ c.me.invariant.0 c.take-stand.ensures.stand in
+    let number = (rests_number _ t _ _ c.me.invariant.0 c.take-stand.ensures.stand) in
+    let same : c.keep.new.self.shape ≡ c.me.inside.seating.shape = c.keep.ensures.shape ∙ come.shape ∙ c.take-stand.ensures.stand.shape in
     let room : vec_len c.me.inside.collected ≡ c.keep.new.self.shape.sizes.m = c.me.invariant.1 ∙ ap (λ (z : Shape). z.sizes.m) (sym same) in
     elim c.if-stand-before.branch [
       | then-stand-before w ↦ subst (λ (x : Inside). IsResting c.keep.new.self x.core x.spent × (vec_len x.collected ≡ c.keep.new.self.shape.sizes.m)) (sym w.me-inside-is)

@@ -18,7 +18,7 @@ returns-clause-answered c =
           let ended = rw w.in-Ok.is at c.update-ended.ensures.updated in
           subst (λ r. IfOk r (λ q. Updates c.args.me.now c.args.component c.args.value q (port_view kept.badge.table_id (one_in kept.badge.views)))) (sym w.result-is)
           (subst (λ q. Updates c.args.me.now c.args.component c.args.value q (port_view kept.badge.table_id (one_in kept.badge.views))) (sym w.of.ensures)
-          (update_answered _ c.me.inside.seating c.take-stand.result c.update-ended.new.stand kept _ c.take-stand.ensures c.me.view_is own held c.keep.ensures _ _ ended inside))
+          (update_answered _ c.me.inside.seating c.take-stand.result c.update-ended.new.stand kept _ c.take-stand.ensures.stand c.me.view_is own held c.keep.ensures _ _ ended inside))
       | in-Err w ↦ subst (λ r. IfOk r (λ q. Updates c.args.me.now c.args.component c.args.value q (port_view kept.badge.table_id (one_in kept.badge.views)))) (sym w.result-is) tt
     ]
 
@@ -33,5 +33,5 @@ returns-clause-refused c =
       | in-Err w ↦
           let not = rw w.in-Err.is at c.update-ended.ensures.refused in
           subst (λ r. IfErr r (λ cause. IsRefused c.args.me.now (call.Update c.args.component c.args.value) cause (port_view kept.badge.table_id (one_in kept.badge.views)))) (sym w.result-is)
-          (update_refused _ c.me.inside.seating c.take-stand.result c.update-ended.new.stand kept _ c.take-stand.ensures c.me.view_is own held c.keep.ensures c.args.component c.args.value _ not.0 not.1 inside)
+          (update_refused _ c.me.inside.seating c.take-stand.result c.update-ended.new.stand kept _ c.take-stand.ensures.stand c.me.view_is own held c.keep.ensures c.args.component c.args.value _ not.0 not.1 inside)
     ]
