@@ -73,9 +73,9 @@ module _ (e : Plan) where
         let t = going_reaches c n g' p.control.here.epoch m on.0 r in
         let far = t.1 in
         (t.0, omega (arith, is, far))
-    change_reaches c n g a g' (inr (inl arrived)) p entries h m r =
-        let later = arrive_place e words ports b notes k arrived.0 p entries (subst (λ (t : Act). ActLeads e words ports b notes k t p entries) arrived.1 h) in
-        let t = round_reaches c n true p.control.here.epoch m (subst (λ (u : Changing). Reaches (changed c n u) p.control.here.epoch m) arrived.2 r) in
+    change_reaches c n g a g' (inr (inl arrived_port)) p entries h m r =
+        let later = arrive_place e words ports b notes k arrived_port.0 p entries (subst (λ (t : Act). ActLeads e words ports b notes k t p entries) arrived_port.1 h) in
+        let t = round_reaches c n true p.control.here.epoch m (subst (λ (u : Changing). Reaches (changed c n u) p.control.here.epoch m) arrived_port.2 r) in
         let far = t.1 in
         (t.0, omega (arith, later, far))
     change_reaches c n g a g' (inr (inr (inl none))) p entries h m r = absurd (subst (λ (u : Changing). Reaches (changed c n u) p.control.here.epoch m) none.2 r)
@@ -224,20 +224,20 @@ overtaken_calls_moved_on e k n rounds over p p' c below r =
 -- the causes of a change of epoch
 by_pass : (e : Plan) (words : List ℕ) (p : Port) (some : 0 < e.ports) (g : Changing) (a : Act) → Ends e words p some g a (Refuses NoArena) → (g ≡ EndsPass 0) × IsHere words p
 by_pass e words p some g a (inl on) = absurd on.0
-by_pass e words p some g a (inr (inl arrived)) = let bad = arrived.2 in absurd cc
+by_pass e words p some g a (inr (inl arrived_port)) = let bad = arrived_port.2 in absurd cc
 by_pass e words p some g a (inr (inr (inl none))) = (none.0, none.1)
 by_pass e words p some g a (inr (inr (inr last))) = let bad = last.3 in absurd cc
 
 by_last : (e : Plan) (words : List ℕ) (p : Port) (some : 0 < e.ports) (g : Changing) (a : Act) → Ends e words p some g a (Refuses EpochsSpent) →
     (g ≡ LooksFirst) × IsHere words p × (epoch_limit ≤ p.control.here.epoch + 1)
 by_last e words p some g a (inl on) = absurd on.0
-by_last e words p some g a (inr (inl arrived)) = let bad = arrived.2 in absurd cc
+by_last e words p some g a (inr (inl arrived_port)) = let bad = arrived_port.2 in absurd cc
 by_last e words p some g a (inr (inr (inl none))) = let bad = none.2 in absurd cc
 by_last e words p some g a (inr (inr (inr last))) = (last.0, last.1, last.2)
 
 by_none : (e : Plan) (words : List ℕ) (p : Port) (some : 0 < e.ports) (g : Changing) (a : Act) → Ends e words p some g a (Refuses Component) → ⊥
 by_none e words p some g a (inl on) = on.0
-by_none e words p some g a (inr (inl arrived)) = let bad = arrived.2 in absurd cc
+by_none e words p some g a (inr (inl arrived_port)) = let bad = arrived_port.2 in absurd cc
 by_none e words p some g a (inr (inr (inl none))) = let bad = none.2 in absurd cc
 by_none e words p some g a (inr (inr (inr last))) = let bad = last.3 in absurd cc
 

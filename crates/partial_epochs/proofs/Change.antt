@@ -1,5 +1,5 @@
 -- What a step in the arena of an epoch leaves of all the others.
-use Rattle.partial_epochs.proofs.Common.{ℕ, ◌≡◌, ◌≢◌, ◌+◌, ◌<◌, ◌≤◌, ◌==◌, ◌⊎◌, ◌++◌, true, false, Option, Some, None, IfSome, List, [], ◌∷◌, length, refl, sym, ap, subst, ◌∙◌, inl, inr, arith, slice_index, option_map, append-nil, eqb_tells, Applied, some_same, total, put, IsAsked, Plan, IsSealed, packed, current_word, base, control_words, arena_words, component_words, carried_words, set_word, Control, Owned, Port, Epoch, LawfulControl, IsOwner, Beside, IsArena, IsFinished, IsNewPart, IsSetting, IsStanding, LawfulEpochs, controls, next_epoch_word, numbers, place_now, Stands, None, HasClearSlots, slot_counter, slot_word}
+use Rattle.partial_epochs.proofs.Common.{ℕ, ◌≡◌, ◌≢◌, ◌+◌, ◌<◌, ◌≤◌, ◌==◌, ◌⊎◌, ◌++◌, true, false, Option, Some, None, IfSome, List, [], ◌∷◌, length, refl, sym, ap, subst, ◌∙◌, inl, inr, arith, slice_index, option_map, append-nil, eqb_tells, Applied, some_same, total, put, IsAsked, Plan, IsSealed, packed, current_word, base, control_words, arena_words, component_words, carried_words, set_word, Control, OwnedArena, Port, Epoch, LawfulControl, IsOwner, Beside, IsArena, IsFinished, IsNewPart, IsSetting, IsStanding, LawfulEpochs, controls, next_epoch_word, numbers, place_now, Stands, None, HasClearSlots, slot_counter, slot_word}
 use Rattle.partial_epochs.proofs.Lists.{at_of, put_all, put_other, put_same}
 use Rattle.partial_epochs.proofs.Places.{arena_same, carried_same, components_same, control_same, other_arena, packed_arena, set_place}
 use Rattle.partial_epochs.proofs.Present.{standing, numbered}
@@ -164,20 +164,20 @@ module _ (e : Plan) (words : List ℕ) (ports : ℕ → Port) (b : Beside) (k : 
         (λ apart was late. w.new q y r inside was late) later'
 
     -- the arena that a port sets isn't x
-    sets_other : (q : ℕ) (o : Owned) → q < e.ports → (ports q).control.owned ≡ Some o → 0 < o.set → o.arena ≢ x
+    sets_other : (q : ℕ) (o : OwnedArena) → q < e.ports → (ports q).control.owned ≡ Some o → 0 < o.set → o.arena ≢ x
     sets_other q o inside is some same =
         let owner : IsOwner e (control_words e words) (controls ports) (place_now b) (numbers b) q o =
-        subst (λ (t : Option Owned). IfSome t (IsOwner e (control_words e words) (controls ports) (place_now b) (numbers b) q)) is (w.control.owners q inside) in
+        subst (λ (t : Option OwnedArena). IfSome t (IsOwner e (control_words e words) (controls ports) (place_now b) (numbers b) q)) is (w.control.owners q inside) in
         let none : Some (length s.epoch.before) ≡ None = sym (ap (option_map (λ (r : Epoch). length r.before)) s.is) ∙ ap (numbers b) (sym same) ∙ owner.none some in
         cc
 
     -- a port that sets words while its epoch is the present one has found all components of it sealed
-    settled : (q : ℕ) (o : Owned) → q < e.ports → (ports q).control.owned ≡ Some o → IsSetting e words b (ports q) o → 0 < o.set →
+    settled : (q : ℕ) (o : OwnedArena) → q < e.ports → (ports q).control.owned ≡ Some o → IsSetting e words b (ports q) o → 0 < o.set →
         slice_index words current_word ≡ packed (ports q).control.here → (j : ℕ) → j < e.sizes.m → (¬ IsSealed (slice_index (component_words e words x) j)) →
         IsSealed (slice_index (component_words e words x) j)
     settled q o inside is t some at j low free =
         let owner : IsOwner e (control_words e words) (controls ports) (place_now b) (numbers b) q o =
-        subst (λ (t : Option Owned). IfSome t (IsOwner e (control_words e words) (controls ports) (place_now b) (numbers b) q)) is (w.control.owners q inside) in
+        subst (λ (t : Option OwnedArena). IfSome t (IsOwner e (control_words e words) (controls ports) (place_now b) (numbers b) q)) is (w.control.owners q inside) in
         let now : slice_index words current_word ≡ packed (place_now b) = sym (at_of (slice_index words) 0 (1 + e.ports + e.arenas) 0 (omega arith)) ∙ w.control.current in
         let same = packed_arena e (place_now b) (ports q).control.here w.plan.arenas w.control.place.arena (w.control.places q inside).arena (sym now ∙ at) in
         let st = w.standing q inside owner.stands in
@@ -192,7 +192,7 @@ module _ (e : Plan) (words : List ℕ) (ports : ℕ → Port) (b : Beside) (k : 
             let passed : s.epoch.passed q ≡ (ports q).passed = sym (ap (λ (r : Epoch). r.passed q) is) ∙ st.passed in
             (w.arenas x s.epoch s.is).passed q j inside (omega (arith, passed, all, low)) low
 
-    setting_old : (q : ℕ) (o : Owned) (p : Port) → q < e.ports → (ports q).control.owned ≡ Some o → p.control ≡ (ports q).control → (ports q).passed ≤ p.passed →
+    setting_old : (q : ℕ) (o : OwnedArena) (p : Port) → q < e.ports → (ports q).control.owned ≡ Some o → p.control ≡ (ports q).control → (ports q).passed ≤ p.passed →
         IsSetting e words b (ports q) o → IsSetting e words' b' p o
     setting_old q o p inside is control more t = record {
       few = t.few;
@@ -226,10 +226,10 @@ module _ (e : Plan) (words : List ℕ) (ports : ℕ → Port) (b : Beside) (k : 
         (λ _ inside. by k p' inside h.control h.more (ports k).control.owned refl (w.setting k inside))
         (λ apart inside. by q (ports q) inside refl (omega arith) (ports q).control.owned refl (w.setting q inside)) inside
       where
-        by : (i : ℕ) (p : Port) → i < e.ports → p.control ≡ (ports i).control → (ports i).passed ≤ p.passed → (t : Option Owned) → (ports i).control.owned ≡ t →
+        by : (i : ℕ) (p : Port) → i < e.ports → p.control ≡ (ports i).control → (ports i).passed ≤ p.passed → (t : Option OwnedArena) → (ports i).control.owned ≡ t →
             IfSome t (IsSetting e words b (ports i)) → IfSome p.control.owned (IsSetting e words' b' p)
-        by i p inside control more None is old = subst (λ (u : Option Owned). IfSome u (IsSetting e words' b' p)) (sym (ap (λ (c : Control). c.owned) control ∙ is)) tt
-        by i p inside control more (Some o) is old = subst (λ (u : Option Owned). IfSome u (IsSetting e words' b' p)) (sym (ap (λ (c : Control). c.owned) control ∙ is))
+        by i p inside control more None is old = subst (λ (u : Option OwnedArena). IfSome u (IsSetting e words' b' p)) (sym (ap (λ (c : Control). c.owned) control ∙ is)) tt
+        by i p inside control more (Some o) is old = subst (λ (u : Option OwnedArena). IfSome u (IsSetting e words' b' p)) (sym (ap (λ (c : Control). c.owned) control ∙ is))
             (setting_old i o p inside is control more old)
 
     clear_then : (y : ℕ) → y < e.arenas → b'.holds y ≡ None → HasClearSlots e words' y

@@ -36,12 +36,12 @@ pub use Rattle.partial_core.specs.Steps.{LeadsOn, added_by, AreNotesOf, IsNoteOf
 pub use Rattle.partial_model.specs.declared.call.Note.{Note}
 pub use Rattle.partial_model.specs.Outcome.{EachOnce, places_by, places_written, wrote}
 pub use Rattle.partial_core.specs.Known.{AreAnswersKept, IsKnown, notes_by}
-pub use Rattle.partial_epochs.specs.Layout.{seal, set_offset, Plan, Place, epoch_limit, IsAsked, IsSealed, packed, current_word, base, control_words, arena_words, component_words, carried_words, set_word, carried_word, IsPlace, at_word, control_size, marked, plain, arena_limit, unsealed, placed, span, whole, seals, entering_mark, own_word}
-pub use Rattle.partial_epochs.specs.Ports.{Port, Control, Owned, Epoch, Entering}
+pub use Rattle.partial_epochs.specs.Layout.{seal, set_offset, Plan, Place, epoch_limit, IsAsked, IsSealed, packed, current_word, base, control_words, arena_words, component_words, carried_words, set_word, carried_word, IsPlace, at_word, control_size, marked, plain, arena_limit, unsealed, placed_step, span, whole, seals, entering_mark, own_word}
+pub use Rattle.partial_epochs.specs.Ports.{Port, Control, OwnedArena, Epoch, Entering}
 pub use Rattle.partial_epochs.specs.Epochs.{Beside, HasClearSlots, IsArena, IsFinished, IsNewPart, IsSetting, IsStanding, LawfulEpochs, controls, next_epoch_word, numbers, place_now, IsPresent, awaits_slot, IsEpochPlan, awaits_at, is_claiming}
 pub use Rattle.partial_epochs.specs.EveryStep.{MayMove, MayAdd, Move, is_applied, EveryStepStaysLawful, IsPlacedBy, MemoriesOpenLawful, MoveLeads, moved_words, since_behind}
 pub use Rattle.partial_epochs.specs.EveryStep.Move.{FindsClear, Makes, Seals, PassesSealed, LooksAsOwner, StoresMark, LoadsCurrent, ExchangesMark, Takes, Gives, FindsElsewhere, LoadsMark, Puts, Sets, Notes}
-pub use Rattle.partial_epochs.specs.Notes.{LawfulMemory, IsAside, having_seen, noting, one_history, ExpectedOne, IsEpochHistory, LawfulNotes, MayNote, NotesStayLawful, Reached, public_answer, public_call, public_note, public_noted, seen_of, EpochsFitOneHistory, PublicStampsAreUnique, public_of, ArrivalsKeepNotes, AsidesStayLawful, GlanceLeads, GlancesStayLawful, IsSight, PublishesKeepNotes, SightLeads, SightsStayLawful}
+pub use Rattle.partial_epochs.specs.Notes.{LawfulMemory, IsAside, having_seen, noting, one_history, ExpectedOne, IsEpochHistory, LawfulNotes, MayNote, NotesStayLawful, EpochReached, public_answer, public_call, public_note, public_noted, seen_of, EpochsFitOneHistory, PublicStampsAreUnique, public_of, ArrivalsKeepNotes, AsidesStayLawful, GlanceLeads, GlancesStayLawful, IsSight, PublishesKeepNotes, SightLeads, SightsStayLawful}
 pub use Rattle.partial_epochs.specs.Changing.{Act, ChangeLeads, Changing, next_arena, next_component, next_load, next_pass, next_port, next_set, passes, IsHere, Refusal, last_loads}
 pub use Rattle.partial_epochs.specs.Calls.{CallStep, Doing, IsCallOf, IsUpdate, CallLeads, MayAct, RunsCall, after_step, behind_answer, begun, changed, ran, round, started, CallsStayLawful, ActLeads}
 pub use Rattle.partial_epochs.specs.Changing.Act.{Moves, Sees}
@@ -52,8 +52,8 @@ pub use Rattle.partial_epochs.specs.Control.{LawfulControl, IsOwner, IsPlaceWord
 pub use Rattle.partial_epochs.specs.Ports.Entering.{Stands, Marks, Loaded}
 pub use Rattle.partial_epochs.specs.History.{opening_behind, carried_after, carried_behind, history_of, public_entry, public_log, public_stamp, EpochsContinue, stamp_limit}
 pub use Rattle.partial_epochs.specs.Reads.{ReadsTellAllEpochs, read_stamp, ComponentsNameRecords, LastWordsAreFinal, TellTheLast, IsSeenRecord, SeenRecordsStay}
-pub use Rattle.partial_epochs.specs.Entering.{Arrives, ArrivalsStayLawful, EntriesLoad, LooksAreTrue, MarksStayLawful, arrived, having_passed}
-pub use Rattle.partial_epochs.specs.Owning.{cleaner, having_given, having_loaded, having_looked, having_put, just_taken, owning, OwnersLook, PutsStayLawful, GivesStayLawful, MarksAreLoaded, OthersAreElsewhere, OwnersLookAway, TakesStayLawful}
-pub use Rattle.partial_epochs.specs.Publishing.{ClearSlotsCountAsSet, ClearsSlots, having_published, having_set, next_beside, vacated, IsWholeArena, PublishesStayLawful, next_place, next_epoch, resting, SetsStayLawful}
+pub use Rattle.partial_epochs.specs.Entering.{Arrives, ArrivalsStayLawful, EntriesLoad, LooksAreTrue, MarksStayLawful, arrived_port, having_passed}
+pub use Rattle.partial_epochs.specs.Owning.{cleaner, having_given, having_loaded, having_looked, having_put, just_taken, owning_port, OwnersLook, PutsStayLawful, GivesStayLawful, MarksAreLoaded, OthersAreElsewhere, OwnersLookAway, TakesStayLawful}
+pub use Rattle.partial_epochs.specs.Publishing.{ClearSlotsCountAsSet, ClearsSlots, having_published, having_set, next_beside, vacated, IsWholeArena, PublishesStayLawful, next_place, next_epoch, resting_arena, SetsStayLawful}
 pub use Rattle.partial_epochs.specs.MachineSteps.{MachineLeads, MachineStepsStayLawful, MayClaim, MeetsSeal, ends_over, ClaimsHaveRoom, UnsealedIsPresent, HaveSlots, MachinesAreNeverRefused, MarksNeverCome}
 pub use Rattle.partial_epochs.specs.Opening.{OpensOver, OpensOverLawful, EpochsOpenLawful, OpensAll, first_beside, first_place, first_ports, first_epoch, nothing_held}

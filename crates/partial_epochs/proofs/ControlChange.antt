@@ -1,5 +1,5 @@
 -- A step on the control words alone.
-use Rattle.partial_epochs.proofs.Common.{ℕ, ◌≡◌, ◌≢◌, ◌+◌, ◌<◌, ◌==◌, ◌⊎◌, true, false, Option, Some, None, IfSome, List, length, get_or, set, sym, ap, subst, ◌∙◌, inl, inr, arith, eqb_tells, get_or-set_same, get_or-set_other, put, Plan, Place, IsPlace, at_word, control_size, current_word, marked, packed, Control, Entering, Owned, IsPlaceWord, IsEarlier, IsStillMarked, IsOld, IsOut, IsOwner, LawfulControl, MayPut, NotInto, Stands, Marks, Loaded}
+use Rattle.partial_epochs.proofs.Common.{ℕ, ◌≡◌, ◌≢◌, ◌+◌, ◌<◌, ◌==◌, ◌⊎◌, true, false, Option, Some, None, IfSome, List, length, get_or, set, sym, ap, subst, ◌∙◌, inl, inr, arith, eqb_tells, get_or-set_same, get_or-set_other, put, Plan, Place, IsPlace, at_word, control_size, current_word, marked, packed, Control, Entering, OwnedArena, IsPlaceWord, IsEarlier, IsStillMarked, IsOld, IsOut, IsOwner, LawfulControl, MayPut, NotInto, Stands, Marks, Loaded}
 use Rattle.partial_epochs.proofs.Lists.{put_all, put_other, put_same}
 
 -- port k, which owns no arena, changes what it does, and its word
@@ -20,7 +20,7 @@ module _ (e : Plan) (words : List ℕ) (cs : ℕ → Control) (now : Place) (hol
   other_at : (q : ℕ) → q ≢ k → get_or words' (at_word q) 0 ≡ get_or words (at_word q) 0
   other_at q ne = other (at_word q) (omega (arith, ne))
 
-  none_some : (o : Owned) → None ≡ Some o → ⊥
+  none_some : (o : OwnedArena) → None ≡ Some o → ⊥
   none_some o e = cc
 
   -- a port that may put another isn't k
@@ -54,7 +54,7 @@ module _ (e : Plan) (words : List ℕ) (cs : ℕ → Control) (now : Place) (hol
     pub earlier : (a : Place) → IsEarlier a (cs k).here (cs k).entering → IsEarlier a c.here c.entering
 
   module _ (g : Goes) where
-    owner_then : (q : ℕ) (o : Owned) → q < e.ports → q ≢ k → IsOwner e words cs now holds q o → IsOwner e words' cs' now holds q o
+    owner_then : (q : ℕ) (o : OwnedArena) → q < e.ports → q ≢ k → IsOwner e words cs now holds q o → IsOwner e words' cs' now holds q o
     owner_then q o inside ne h = record {
       stands = subst (λ (d : Control). d.entering ≡ Stands) (sym (put_other k c cs q ne)) h.stands;
       arena = h.arena;
@@ -102,7 +102,7 @@ module _ (e : Plan) (words : List ℕ) (cs : ℕ → Control) (now : Place) (hol
       comes = λ q d inside. put_all (λ i (f : Control). i < e.ports → f.entering ≡ Loaded d → IsStillMarked words' f i → holds d.arena ≡ Some d.epoch) k c cs q
           (λ _ _ is at. g.comes d is (sym own ∙ at)) (λ ne inside is at. w.comes q d inside is (sym (other_at q ne) ∙ at)) inside;
       owners = λ q inside. put_all (λ i (d : Control). i < e.ports → IfSome d.owned (IsOwner e words' cs' now holds i)) k c cs q
-          (λ _ _. subst (λ (o : Option Owned). IfSome o (IsOwner e words' cs' now holds k)) (sym free') tt)
+          (λ _ _. subst (λ (o : Option OwnedArena). IfSome o (IsOwner e words' cs' now holds k)) (sym free') tt)
           (λ ne inside. owners q (cs q).owned ne inside (w.owners q inside)) inside;
     }
       where
@@ -118,6 +118,6 @@ module _ (e : Plan) (words : List ℕ) (cs : ℕ → Control) (now : Place) (hol
         stands (inl same) d inside place at = g.stands d place (sym own ∙ sym (ap (λ i. get_or words' (at_word i) 0) same.1) ∙ at)
         stands {q} (inr ne) d inside place at = w.stands q d inside place (sym (other_at q ne.1) ∙ at)
 
-        owners : (q : ℕ) (t : Option Owned) → q ≢ k → q < e.ports → IfSome t (IsOwner e words cs now holds q) → IfSome t (IsOwner e words' cs' now holds q)
+        owners : (q : ℕ) (t : Option OwnedArena) → q ≢ k → q < e.ports → IfSome t (IsOwner e words cs now holds q) → IfSome t (IsOwner e words' cs' now holds q)
         owners q None ne inside h = tt
         owners q (Some o) ne inside h = owner_then q o inside ne h

@@ -1,5 +1,5 @@
 -- The steps by which a port comes to the present epoch.
-use Rattle.partial_epochs.proofs.Common.{ℕ, ◌≡◌, ◌≢◌, ◌+◌, ◌<◌, ◌≤◌, ◌==◌, ◌⊎◌, Bool, true, false, cond, Option, Some, None, IfSome, List, length, get_or, set, refl, sym, ap, subst, ◌∙◌, inl, inr, arith, option_map, eqb_tells, get_or-set_same, get_or-set_other, length-set, set-get_or, Applied, some_same, total, slot_counter, slot_word, HasClearSlots, put, Plan, Place, IsPlace, at_word, arena_words, base, carried_word, carried_words, component_words, control_size, control_words, current_word, marked, packed, plain, set_word, arena_limit, Control, Owned, Port, Epoch, IsPlaceWord, IsEarlier, IsOld, IsOut, IsOwner, LawfulControl, MayPut, NotInto, Beside, IsArena, IsNewPart, IsSetting, IsStanding, LawfulEpochs, controls, numbers, place_now, IsPresent, Arrives, ArrivalsStayLawful, EntriesLoad, LooksAreTrue, MarksStayLawful, arrived, Stands, Marks, Loaded}
+use Rattle.partial_epochs.proofs.Common.{ℕ, ◌≡◌, ◌≢◌, ◌+◌, ◌<◌, ◌≤◌, ◌==◌, ◌⊎◌, Bool, true, false, cond, Option, Some, None, IfSome, List, length, get_or, set, refl, sym, ap, subst, ◌∙◌, inl, inr, arith, option_map, eqb_tells, get_or-set_same, get_or-set_other, length-set, set-get_or, Applied, some_same, total, slot_counter, slot_word, HasClearSlots, put, Plan, Place, IsPlace, at_word, arena_words, base, carried_word, carried_words, component_words, control_size, control_words, current_word, marked, packed, plain, set_word, arena_limit, Control, OwnedArena, Port, Epoch, IsPlaceWord, IsEarlier, IsOld, IsOut, IsOwner, LawfulControl, MayPut, NotInto, Beside, IsArena, IsNewPart, IsSetting, IsStanding, LawfulEpochs, controls, numbers, place_now, IsPresent, Arrives, ArrivalsStayLawful, EntriesLoad, LooksAreTrue, MarksStayLawful, arrived_port, Stands, Marks, Loaded}
 use Rattle.partial_epochs.proofs.ControlChange.{Goes, control_goes, own, putter}
 use Rattle.partial_epochs.proofs.Lists.{at_of, length_of, put_all, put_other, put_same, same_of, set_of}
 use Rattle.partial_epochs.proofs.Places.{packed_arena, set_place}
@@ -53,7 +53,7 @@ module _ (e : Plan) (words words' : List ℕ) (high : (i : ℕ) → control_size
     clear = λ y inside is. high_clear e words words' high y (w.clear y inside is);
   }
     where
-      set_on : (q : ℕ) (t : Option Owned) → (ports q).control.owned ≡ t → q < e.ports → IfSome t (IsSetting e words b (ports q)) → IfSome t (IsSetting e words' b (ports q))
+      set_on : (q : ℕ) (t : Option OwnedArena) → (ports q).control.owned ≡ t → q < e.ports → IfSome t (IsSetting e words b (ports q)) → IfSome t (IsSetting e words' b (ports q))
       set_on q None is low h = tt
       set_on q (Some o) is low h = record {
         few = h.few;
@@ -97,7 +97,7 @@ module _ (e : Plan) (words : List ℕ) (ports : ℕ → Port) (b : Beside) (k : 
       (stand : p'.control.entering ≡ Stands → IsStanding b k p') (later : (ports k).control.here.epoch ≤ p'.control.here.epoch) where
     pub at_set : LawfulEpochs e words' (put k p' ports) b
     at_set = control_lifted e words words' (λ i from. get_or-set_other words (at_word k) i v 0 (omega (arith, from, inside))) ports b k p' w (length-set words (at_word k) v)
-        (get_or-set_other words (at_word k) current_word v 0 (omega arith)) (subst (λ (o : Option Owned). IfSome o (IsSetting e words' b p')) (sym free') tt)
+        (get_or-set_other words (at_word k) current_word v 0 (omega arith)) (subst (λ (o : Option OwnedArena). IfSome o (IsSetting e words' b p')) (sym free') tt)
         (subst (λ (l : List ℕ). LawfulControl e l (put k p'.control (controls ports)) (place_now b) (numbers b)) (sym set_control)
         (control_goes e cw (controls ports) (place_now b) (numbers b) w.control k inside p'.control v free free' (cw_long e words) goes))
         stand later inside
@@ -128,7 +128,7 @@ module _ (e : Plan) (words : List ℕ) (ports : ℕ → Port) (b : Beside) (k : 
   pub held_mark : (p : ℕ) (a : Place) → p < e.ports → MayPut (cs p) k a → IsPlace e a × IsEarlier a (cs k).here (cs k).entering
   held_mark p a low may =
       let own : IsOwner e (control_words e words) cs (place_now b) (numbers b) p may.owned =
-      subst (λ (o : Option Owned). IfSome o (IsOwner e (control_words e words) cs (place_now b) (numbers b) p)) may.is (w.control.owners p low) in
+      subst (λ (o : Option OwnedArena). IfSome o (IsOwner e (control_words e words) cs (place_now b) (numbers b) p)) may.is (w.control.owners p low) in
       let h = subst (λ (m : Option Place). IfSome m (λ a. IsPlace e a × IsEarlier a (cs may.owned.clean).here (cs may.owned.clean).entering)) may.mark own.held in
       (h.0, subst (λ i. IsEarlier a (cs i).here (cs i).entering) may.port h.1)
 
@@ -258,7 +258,7 @@ module _ (e : Plan) (words : List ℕ) (ports : ℕ → Port) (b : Beside) (k : 
       })
       (λ is. absurd cc) (omega arith)
     where
-      owns_none : (t : Option Owned) → (ports k).control.owned ≡ t → IfSome t (IsOwner e (control_words e words) cs (place_now b) (numbers b) k) → (ports k).control.owned ≡ None
+      owns_none : (t : Option OwnedArena) → (ports k).control.owned ≡ t → IfSome t (IsOwner e (control_words e words) cs (place_now b) (numbers b) k) → (ports k).control.owned ≡ None
       owns_none None is h = is
       owns_none (Some o) is h = let stands = h.stands in absurd cc
 
@@ -283,7 +283,7 @@ module _ (e : Plan) (words : List ℕ) (ports : ℕ → Port) (b : Beside) (k : 
   free : (ports k).control.owned ≡ None
   free = by (ports k).control.owned refl (w.control.owners k inside)
     where
-      by : (t : Option Owned) → (ports k).control.owned ≡ t → IfSome t (IsOwner e (control_words e words) (controls ports) (place_now b) (numbers b) k) → (ports k).control.owned ≡ None
+      by : (t : Option OwnedArena) → (ports k).control.owned ≡ t → IfSome t (IsOwner e (control_words e words) (controls ports) (place_now b) (numbers b) k) → (ports k).control.owned ≡ None
       by None is h = is
       by (Some o) is h = let stands = h.stands in absurd cc
 
@@ -293,7 +293,7 @@ module _ (e : Plan) (words : List ℕ) (ports : ℕ → Port) (b : Beside) (k : 
   -- the port comes to the place p
   module _ (p : Place) (v : ℕ) (v_is : v ≡ packed p) (place : IsPlace e p) (later : (ports k).control.here.epoch < p.epoch) (within : p.epoch ≤ length b.before)
       (holds : numbers b p.arena ≡ Some p.epoch) (away : (x : ℕ) → IsOut e (control_words e words) (controls ports) x k → p.arena ≢ x) where
-    comes_to : (before : List (List Applied)) × (length before ≡ p.epoch) × LawfulEpochs e (set words (at_word k) v) (put k (arrived e k p before) ports) b
+    comes_to : (before : List (List Applied)) × (length before ≡ p.epoch) × LawfulEpochs e (set words (at_word k) v) (put k (arrived_port e k p before) ports) b
     comes_to =
         let held = epoch_at b p.arena p.epoch holds in
         let r : Epoch = held.0 in
@@ -305,7 +305,7 @@ module _ (e : Plan) (words : List ℕ) (ports : ℕ → Port) (b : Beside) (k : 
         let number = held.2 in (
           r.before,
           held.2,
-          at_set e words ports b k (arrived e k p r.before) v w inside free refl
+          at_set e words ports b k (arrived_port e k p r.before) v w inside free refl
               (record {
                 place = place;
                 at = at ∙ v_is;
@@ -341,7 +341,7 @@ module _ (e : Plan) (words : List ℕ) (ports : ℕ → Port) (b : Beside) (k : 
             before = g.0;
             epoch = g.1;
             later = old.0;
-            lawful = subst (λ (t : Bool). LawfulEpochs e (set words (at_word k) (cond t (packed c) (get_or words (at_word k) 0))) (put k (arrived e k c g.0) ports) b) (sym won) g.2;
+            lawful = subst (λ (t : Bool). LawfulEpochs e (set words (at_word k) (cond t (packed c) (get_or words (at_word k) 0))) (put k (arrived_port e k c g.0) ports) b) (sym won) g.2;
           }
       by (inr found) same =
           let p : Place = found.0 in
@@ -360,7 +360,7 @@ module _ (e : Plan) (words : List ℕ) (ports : ℕ → Port) (b : Beside) (k : 
             before = g.0;
             epoch = g.1;
             later = found.3;
-            lawful = subst (λ (t : Bool). LawfulEpochs e (set words (at_word k) (cond t (packed c) (get_or words (at_word k) 0))) (put k (arrived e k p g.0) ports) b) (sym lost) g.2;
+            lawful = subst (λ (t : Bool). LawfulEpochs e (set words (at_word k) (cond t (packed c) (get_or words (at_word k) 0))) (put k (arrived_port e k p g.0) ports) b) (sym lost) g.2;
           }
 
 pub arrivals_stay_lawful : ArrivalsStayLawful

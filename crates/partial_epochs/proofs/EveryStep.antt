@@ -1,6 +1,6 @@
 -- Every step of every port keeps the memory lawful.
-use Rattle.partial_epochs.proofs.Common.{ℕ, ◌≡◌, ◌+◌, ◌<◌, ◌≤◌, ◌⊎◌, ◌++◌, List, [], ◌∷◌, length, get_or, refl, sym, ap, subst, ◌∙◌, inl, inr, arith, append-nil, Applied, eqb_tells, Noted, Step, Add, CoreState, put, Place, Plan, at_word, current_word, packed, seal, Control, Port, history_of, public_log, Marks, Loaded, Beside, LawfulEpochs, place_now, arrived, having_passed, MayPut, cleaner, having_given, having_loaded, having_looked, having_put, just_taken, owning, having_published, having_set, next_beside, vacated, EveryStepStaysLawful, IsPlacedBy, MayAdd, MayMove, MemoriesOpenLawful, Move, MoveLeads, moved_words, since_behind, Makes, Seals, PassesSealed, LooksAsOwner, StoresMark, LoadsCurrent, ExchangesMark, Takes, Gives, FindsElsewhere, LoadsMark, Puts, Sets, Notes, MachineLeads, IsAside, LawfulMemory, having_seen, noting, one_history, FindsClear}
-use Rattle.partial_epochs.specs.Sealing.{passing}
+use Rattle.partial_epochs.proofs.Common.{ℕ, ◌≡◌, ◌+◌, ◌<◌, ◌≤◌, ◌⊎◌, ◌++◌, List, [], ◌∷◌, length, get_or, refl, sym, ap, subst, ◌∙◌, inl, inr, arith, append-nil, Applied, eqb_tells, Noted, Step, Add, CoreState, put, Place, Plan, at_word, current_word, packed, seal, Control, Port, history_of, public_log, Marks, Loaded, Beside, LawfulEpochs, place_now, arrived_port, having_passed, MayPut, cleaner, having_given, having_loaded, having_looked, having_put, just_taken, owning_port, having_published, having_set, next_beside, vacated, EveryStepStaysLawful, IsPlacedBy, MayAdd, MayMove, MemoriesOpenLawful, Move, MoveLeads, moved_words, since_behind, Makes, Seals, PassesSealed, LooksAsOwner, StoresMark, LoadsCurrent, ExchangesMark, Takes, Gives, FindsElsewhere, LoadsMark, Puts, Sets, Notes, MachineLeads, IsAside, LawfulMemory, having_seen, noting, one_history, FindsClear}
+use Rattle.partial_epochs.specs.Sealing.{passing_port}
 use Rattle.partial_epochs.specs.EveryStep.Move.{Looks, Publishes}
 use Rattle.partial_epochs.specs.Time.{KeepsTime}
 use Rattle.partial_epochs.proofs.Entering.{arrivals_stay_lawful, entries_load, looks_are_true, marks_stay_lawful}
@@ -61,8 +61,8 @@ module _ (e : Plan) (words : List ℕ) (ports : ℕ → Port) (b : Beside) (note
       (omega (arith, same))
 
   keeps_pass : (words' : List ℕ) (c : Beside) → ((q : ℕ) → q < e.ports → get_or words' (at_word q) 0 ≡ get_or words (at_word q) 0) → c.before ≡ b.before →
-      Keeps words' (put k (passing (ports k)) ports) c
-  keeps_pass words' c at epochs = let same = ap (λ (l : List (List Applied)). length l) epochs in keeps words' (passing (ports k)) c at refl refl (λ j a may. may) (omega (arith, same))
+      Keeps words' (put k (passing_port (ports k)) ports) c
+  keeps_pass words' c at epochs = let same = ap (λ (l : List (List Applied)). length l) epochs in keeps words' (passing_port (ports k)) c at refl refl (λ j a may. may) (omega (arith, same))
 
   keeps_seen : (log : List Applied) (c : Beside) → c.before ≡ b.before → Keeps words (put k (having_seen (ports k) log) ports) c
   keeps_seen log c epochs = let same = ap (λ (l : List (List Applied)). length l) epochs in keeps words (having_seen (ports k) log) c (λ q low. refl) refl refl (λ j a may. may) (omega (arith, same))
@@ -134,11 +134,11 @@ module _ (e : Plan) (words : List ℕ) (ports : ℕ → Port) (b : Beside) (note
   ]
   every_step Seals may =
       let l = seals_stay_lawful e words ports b k w.epochs below may.0 may.1 in
-      aside Seals (λ then is. is) (moved_words e words (ports k) k Seals) (passing (ports k)) l.beside (record { log = l.same.log; epochs = l.same.before; part = refl; before = refl; here = refl })
+      aside Seals (λ then is. is) (moved_words e words (ports k) k Seals) (passing_port (ports k)) l.beside (record { log = l.same.log; epochs = l.same.before; part = refl; before = refl; here = refl })
       (keeps_pass (moved_words e words (ports k) k Seals) l.beside (λ q low. (steps_keep_places e words q low).arena (ports k).control.here.arena (Add (ports k).passed seal)) l.same.before) l.lawful
   every_step PassesSealed may =
       let l = sealed_passes_stay_lawful e words ports b k w.epochs below may.0 may.1 may.2 in
-      aside PassesSealed (λ then is. is) words (passing (ports k)) l.beside (record { log = l.same.log; epochs = l.same.before; part = refl; before = refl; here = refl })
+      aside PassesSealed (λ then is. is) words (passing_port (ports k)) l.beside (record { log = l.same.log; epochs = l.same.before; part = refl; before = refl; here = refl })
       (keeps_pass words l.beside (λ q low. refl) l.same.before) l.lawful
   every_step Looks may = elim (looks_are_true e words ports b k w.epochs below may.0 may.1) [
     | inl now ↦ rests Looks (λ then is. is) (λ since t. t)
@@ -159,12 +159,12 @@ module _ (e : Plan) (words : List ℕ) (ports : ℕ → Port) (b : Beside) (note
       aside LoadsCurrent (λ then is. is) words p b (here p refl refl refl) (λ since t. entries_keep_time e words ports b k since below t) (entries_load e words ports b k w.epochs below may).1
   every_step (ExchangesMark c) may =
       let a = arrivals_stay_lawful e words ports b k c w.epochs below may in
-      goes (ExchangesMark c) (moved_words e words (ports k) k (ExchangesMark c)) (arrived e k a.place a.before) b
-      (subst (λ (d : Place). (ports k).control.here.epoch < d.epoch) (sym (ap (λ (q : Port). q.control.here) (put_same k (arrived e k a.place a.before) ports))) a.later)
+      goes (ExchangesMark c) (moved_words e words (ports k) k (ExchangesMark c)) (arrived_port e k a.place a.before) b
+      (subst (λ (d : Place). (ports k).control.here.epoch < d.epoch) (sym (ap (λ (q : Port). q.control.here) (put_same k (arrived_port e k a.place a.before) ports))) a.later)
       (sym (append-nil (one_history b)))
       (λ since t. (arrivals_keep_time e words ports b k c since w.epochs below may t a).1) (arrivals_keep_notes e words ports b notes k c w below a)
   every_step (Takes x) may =
-      let p : Port = owning (ports k) (just_taken x) in
+      let p : Port = owning_port (ports k) (just_taken x) in
       aside (Takes x) (λ then is. is) (moved_words e words (ports k) k (Takes x)) p b (here p refl refl refl)
       (keeps (moved_words e words (ports k) k (Takes x)) p b (λ q low. (steps_keep_places e words q low).taken x 0 (k + 1)) refl refl
       (λ j a may. absurd (not_again p.control (just_taken x) j a refl refl may)) (omega arith))
@@ -178,7 +178,7 @@ module _ (e : Plan) (words : List ℕ) (ports : ℕ → Port) (b : Beside) (note
       (keeps_words (having_put (ports k) o) refl refl (λ j a may. absurd (not_again (having_put (ports k) o).control (cleaner o) j a refl refl may)))
       (others_are_elsewhere e words ports b k o d w.epochs below may.0 may.1 may.2 may.3 may.4 may.5 may.6)
   every_step (LoadsMark o) may =
-      let p : Port = owning (ports k) (having_loaded o (ports o.clean).control.here) in
+      let p : Port = owning_port (ports k) (having_loaded o (ports o.clean).control.here) in
       aside (LoadsMark o) (λ then is. is) words p b (here p refl refl refl)
       (λ since t. loaded_marks_keep_time e words ports (place_now b) (ports o.clean).control.here k o since below t) (marks_are_loaded e words ports b k o w.epochs below may.0 may.1 may.2).1
   every_step (Puts o a) may =

@@ -308,7 +308,7 @@ module _ (e : Plan) where
                 (elim (change_ends e s.words p (omega (arith, below)) g s.act f.0 f.1) [
                   | inl going ↦ going.1
                   | inr ended ↦ elim ended [
-                    | inl arrived ↦ absurd (subst Ahead arrived.2 further)
+                    | inl arrived_port ↦ absurd (subst Ahead arrived_port.2 further)
                     | inr refused ↦ elim refused [
                       | inl none ↦ absurd (subst Ahead none.2 further)
                       | inr last ↦ absurd (subst Ahead last.3 further)

@@ -1,5 +1,5 @@
 -- Each step of a machine keeps the notes lawful, over all epochs.
-use Rattle.partial_epochs.proofs.Common.{ℕ, suc, ◌≡◌, ◌≢◌, ◌+◌, ◌<◌, ◌≤◌, ◌==◌, ◌⊎◌, ◌++◌, Bool, true, false, cond, Option, Some, None, IfSome, List, [], ◌∷◌, length, map, refl, sym, ap, subst, ◌∙◌, inl, inr, arith, length-append, AllByRecursion, option_map, eqb_tells, append-nil, append_cancel_left, map-append, Applied, Opening, Note, Fits, IsLegal, IsTrueOf, LegalNotes, Noted, place_of, seen_by, shown_by, EachOnce, places_by, places_written, wrote, all_take, some_same, Step, Layout, first_free, answer_of, words_after, Reply, CoreState, advance, reply_of, answer_for, Holding, Part, core_of, first_at, port_of, holdings, AreAnswersKept, AreNotesOf, IsNoteOf, kept_with, since_with, list_of, put, Plan, arena_words, placed, history_of, opening_behind, public_log, Control, Epoch, Port, Stands, Beside, IsPresent, IsStanding, MachineLeads, MayAdd, is_applied, Makes, ExpectedOne, IsEpochHistory, LawfulMemory, LawfulNotes, MayNote, NotesStayLawful, Reached, noting, one_history, public_answer, public_call, public_note, public_noted, seen_of}
+use Rattle.partial_epochs.proofs.Common.{ℕ, suc, ◌≡◌, ◌≢◌, ◌+◌, ◌<◌, ◌≤◌, ◌==◌, ◌⊎◌, ◌++◌, Bool, true, false, cond, Option, Some, None, IfSome, List, [], ◌∷◌, length, map, refl, sym, ap, subst, ◌∙◌, inl, inr, arith, length-append, AllByRecursion, option_map, eqb_tells, append-nil, append_cancel_left, map-append, Applied, Opening, Note, Fits, IsLegal, IsTrueOf, LegalNotes, Noted, place_of, seen_by, shown_by, EachOnce, places_by, places_written, wrote, all_take, some_same, Step, Layout, first_free, answer_of, words_after, Reply, CoreState, advance, reply_of, answer_for, Holding, Part, core_of, first_at, port_of, holdings, AreAnswersKept, AreNotesOf, IsNoteOf, kept_with, since_with, list_of, put, Plan, arena_words, placed_step, history_of, opening_behind, public_log, Control, Epoch, Port, Stands, Beside, IsPresent, IsStanding, MachineLeads, MayAdd, is_applied, Makes, ExpectedOne, IsEpochHistory, LawfulMemory, LawfulNotes, MayNote, NotesStayLawful, EpochReached, noting, one_history, public_answer, public_call, public_note, public_noted, seen_of}
 use Rattle.partial_model.specs.declared.call.Note.TheVariants as note
 use Rattle.partial_model.proofs.NotesLemmas.{LegalNotes-grows, LegalNotes-last, LegalNotes-push, IsTrueOf-grows, places_written-append, seen_by-push}
 use Rattle.partial_machine.specs.declared.stage.Reply.TheVariants as reply
@@ -96,7 +96,7 @@ module _ (e : Plan) (words : List ℕ) (ports : ℕ → Port) (b : Beside) (note
     (stands : (ports k).control.entering ≡ Stands) (lead : MachineLeads e words ports b k c step) (added : List Noted)
     (may : MayNote e (ports k) (notes k) (since_with c (ports k).part) lead.port.part.seen lead.tells.new added) where
   abbrev words' : List ℕ
-  words' = words_after words (placed e (ports k).control.here.arena step)
+  words' = words_after words (placed_step e (ports k).control.here.arena step)
 
   abbrev ports' : ℕ → Port
   ports' = put k lead.port ports
@@ -368,7 +368,7 @@ module _ (e : Plan) (words : List ℕ) (ports : ℕ → Port) (b : Beside) (note
   pub notes_then : LawfulNotes e ports' lead.beside (noting k added notes)
   notes_then = record {
     finished = subst (AllByRecursion (IsEpochHistory e)) (sym lead.epochs) w.noted.finished;
-    reached = λ q low. put_all (λ i (p : Port). i < e.ports → Reached lead.beside p) k lead.port ports q
+    reached = λ q low. put_all (λ i (p : Port). i < e.ports → EpochReached lead.beside p) k lead.port ports q
         (λ _ _. reached e words' ports' lead.beside lead.lawful k below lead.port s'
         (ap (λ (l : List (List Applied)). length l) lead.before ∙ (w.noted.reached k below).epoch ∙ sym (ap (λ (d : Control). d.here.epoch) lead.control)))
         (λ _ low. reached_grows b lead.beside (ports q) lead.entries lead.log lead.epochs (w.noted.reached q low)) low;

@@ -1,5 +1,5 @@
 -- The histories of all epochs, one behind the other, are one history.
-use Rattle.partial_epochs.proofs.Common.{ℕ, zero, suc, ◌≡◌, ◌≢◌, ◌+◌, ◌*◌, ◌<◌, ◌≤◌, ◌++◌, Some, List, [], ◌∷◌, length, map, slice_get, Contains, get_or, refl, sym, ap, subst, ◌∙◌, inl, inr, arith, length-append, append_assoc, AllByRecursion, mul-le-mul_right, cases_lt, eqb_tells, length-map, Applied, HaveDistinctStamps, IsHistory, initial_stamp, all_append, all_map, all_weaker, distinct_at, first_free, total, IsEntry, Part, port_of, lawful_ports_fit, list_of, Plan, arena_words, epoch_limit, history_of, opening_behind, public_entry, public_log, stamp_limit, Epoch, Port, Beside, IsEpochPlan, LawfulEpochs, EpochsFitOneHistory, IsEpochHistory, PublicStampsAreUnique, Reached, one_history, seen_of}
+use Rattle.partial_epochs.proofs.Common.{ℕ, zero, suc, ◌≡◌, ◌≢◌, ◌+◌, ◌*◌, ◌<◌, ◌≤◌, ◌++◌, Some, List, [], ◌∷◌, length, map, slice_get, Contains, get_or, refl, sym, ap, subst, ◌∙◌, inl, inr, arith, length-append, append_assoc, AllByRecursion, mul-le-mul_right, cases_lt, eqb_tells, length-map, Applied, HaveDistinctStamps, IsHistory, initial_stamp, all_append, all_map, all_weaker, distinct_at, first_free, total, IsEntry, Part, port_of, lawful_ports_fit, list_of, Plan, arena_words, epoch_limit, history_of, opening_behind, public_entry, public_log, stamp_limit, Epoch, Port, Beside, IsEpochPlan, LawfulEpochs, EpochsFitOneHistory, IsEpochHistory, PublicStampsAreUnique, EpochReached, one_history, seen_of}
 use Rattle.partial_words.specs.Record.{plain_record_size}
 
 -- two histories whose stamps lie apart
@@ -111,7 +111,7 @@ history_grows (h ∷ later) hs =
       ap (λ (l : List Applied). l ++ public_log (length (later ++ hs)) h) r.1 ∙ append_assoc (history_of hs) r.0 (public_log (length (later ++ hs)) h),
     )
 
-pub seen_within : (b : Beside) (p : Port) → Reached b p → seen_of p ≤ length (one_history b)
+pub seen_within : (b : Beside) (p : Port) → EpochReached b p → seen_of p ≤ length (one_history b)
 seen_within b p r =
     let g = history_grows r.later (r.log ∷ p.before) in
     let long = ap (λ (l : List (List Applied)). length (history_of l)) r.is ∙ ap (λ (l : List Applied). length l) g.1 in

@@ -1,11 +1,11 @@
 -- A port that owns an arena looks; and the claims of a port that is within the limit have room.
-use Rattle.partial_epochs.proofs.Common.{ℕ, zero, suc, ◌≡◌, ◌≢◌, ◌+◌, ◌*◌, ◌<◌, ◌≤◌, ◌==◌, ◌⊎◌, Bool, true, false, cond, Option, Some, None, IfSome, List, get_or, refl, sym, ap, subst, ◌∙◌, inl, inr, arith, eqb_tells, mul-le-mul_left, greatest_record, count, put, Plan, Place, IsPlace, at_word, control_words, marked, Control, Entering, Owned, IsPlaceWord, IsEarlier, IsOld, IsOut, IsOwner, LawfulControl, MayPut, NotInto, IsSetting, controls, numbers, place_now, ClaimsHaveRoom, OwnersLook, having_looked, Stands, Marks, Loaded}
+use Rattle.partial_epochs.proofs.Common.{ℕ, zero, suc, ◌≡◌, ◌≢◌, ◌+◌, ◌*◌, ◌<◌, ◌≤◌, ◌==◌, ◌⊎◌, Bool, true, false, cond, Option, Some, None, IfSome, List, get_or, refl, sym, ap, subst, ◌∙◌, inl, inr, arith, eqb_tells, mul-le-mul_left, greatest_record, count, put, Plan, Place, IsPlace, at_word, control_words, marked, Control, Entering, OwnedArena, IsPlaceWord, IsEarlier, IsOld, IsOut, IsOwner, LawfulControl, MayPut, NotInto, IsSetting, controls, numbers, place_now, ClaimsHaveRoom, OwnersLook, having_looked, Stands, Marks, Loaded}
 use Rattle.partial_epochs.proofs.Entering.{control_lifted, current_is}
 use Rattle.partial_epochs.proofs.Lists.{put_all, put_other}
 use Rattle.partial_epochs.proofs.Places.{packed_arena}
 use Rattle.partial_epochs.proofs.Present.{present}
 
-module _ (e : Plan) (words : List ℕ) (cs : ℕ → Control) (now : Place) (holds : ℕ → Option ℕ) (w : LawfulControl e words cs now holds) (k : ℕ) (below : k < e.ports) (o : Owned)
+module _ (e : Plan) (words : List ℕ) (cs : ℕ → Control) (now : Place) (holds : ℕ → Option ℕ) (w : LawfulControl e words cs now holds) (k : ℕ) (below : k < e.ports) (o : OwnedArena)
     (owned : (cs k).owned ≡ Some o) (is_now : (cs k).here ≡ now) (marks : (o.mark ≡ None) ⊎ (o.clean < e.ports)) where
   abbrev c : Control
   c = record (cs k) { owned = Some (record o { looked = true; again = true }) }
@@ -14,7 +14,7 @@ module _ (e : Plan) (words : List ℕ) (cs : ℕ → Control) (now : Place) (hol
   cs' = put k c cs
 
   own : IsOwner e words cs now holds k o
-  own = subst (λ (t : Option Owned). IfSome t (IsOwner e words cs now holds k)) owned (w.owners k below)
+  own = subst (λ (t : Option OwnedArena). IfSome t (IsOwner e words cs now holds k)) owned (w.owners k below)
 
   same_here : (q : ℕ) → (cs' q).here ≡ (cs q).here
   same_here q = put_all (λ i (d : Control). d.here ≡ (cs i).here) k c cs q (λ _. refl) (λ _. refl)
@@ -33,7 +33,7 @@ module _ (e : Plan) (words : List ℕ) (cs : ℕ → Control) (now : Place) (hol
       by p a low may at (inl same) = subst (λ (d : Place). d.arena ≢ x) (sym (same_here p ∙ ap (λ i. (cs i).here) same.1 ∙ is_now)) ne
       by p a low may at (inr other) = subst (λ (d : Place). d.arena ≢ x) (sym (same_here p)) (h.put p a low (subst (λ (d : Control). MayPut d q a) (put_other k c cs p other.1) may) at)
 
-  owner_then : (q : ℕ) (t : Owned) → IsOwner e words cs now holds q t → IsOwner e words cs' now holds q t
+  owner_then : (q : ℕ) (t : OwnedArena) → IsOwner e words cs now holds q t → IsOwner e words cs' now holds q t
   owner_then q t h = record {
     stands = same_entering q ∙ h.stands;
     arena = h.arena;
@@ -50,7 +50,7 @@ module _ (e : Plan) (words : List ℕ) (cs : ℕ → Control) (now : Place) (hol
     none = h.none;
   }
 
-  owner_of : (q : ℕ) (t : Option Owned) → IfSome t (IsOwner e words cs now holds q) → IfSome t (IsOwner e words cs' now holds q)
+  owner_of : (q : ℕ) (t : Option OwnedArena) → IfSome t (IsOwner e words cs now holds q) → IfSome t (IsOwner e words cs' now holds q)
   owner_of q None h = tt
   owner_of q (Some t) h = owner_then q t h
 
@@ -105,10 +105,10 @@ module _ (e : Plan) (words : List ℕ) (cs : ℕ → Control) (now : Place) (hol
 pub owners_look : OwnersLook
 owners_look e words ports b k o w below owned marks at =
     let own_epochs : IsOwner e (control_words e words) (controls ports) (place_now b) (numbers b) k o =
-    subst (λ (t : Option Owned). IfSome t (IsOwner e (control_words e words) (controls ports) (place_now b) (numbers b) k)) owned (w.control.owners k below) in
+    subst (λ (t : Option OwnedArena). IfSome t (IsOwner e (control_words e words) (controls ports) (place_now b) (numbers b) k)) owned (w.control.owners k below) in
     let both = packed_arena e (ports k).control.here (place_now b) w.plan.arenas (w.control.places k below).arena w.control.place.arena (sym at ∙ current_is e words ports b k w below) in
     let is = present e words ports b k w below own_epochs.stands both.1 in
-    let h : IsSetting e words b (ports k) o = subst (λ (t : Option Owned). IfSome t (IsSetting e words b (ports k))) owned (w.setting k below) in (
+    let h : IsSetting e words b (ports k) o = subst (λ (t : Option OwnedArena). IfSome t (IsSetting e words b (ports k))) owned (w.setting k below) in (
       is,
       control_lifted e words words (λ i from. refl) ports b k (having_looked (ports k) o) w refl refl (record { few = h.few; sealed = h.sealed; each = h.each; cleared = h.cleared })
           (looked_on e (control_words e words) (controls ports) (place_now b) (numbers b) w.control k below o owned is.here marks)

@@ -1,5 +1,5 @@
 -- A port changes what it knows, and stays where it is.
-use Rattle.partial_epochs.proofs.Common.{ℕ, ◌≡◌, ◌≢◌, ◌<◌, true, Option, Some, None, IfSome, List, refl, sym, ap, subst, ◌∙◌, put, Plan, Place, IsPlace, marked, Control, Entering, Owned, IsPlaceWord, IsEarlier, IsOld, IsOut, IsOwner, LawfulControl, MayPut, NotInto}
+use Rattle.partial_epochs.proofs.Common.{ℕ, ◌≡◌, ◌≢◌, ◌<◌, true, Option, Some, None, IfSome, List, refl, sym, ap, subst, ◌∙◌, put, Plan, Place, IsPlace, marked, Control, Entering, OwnedArena, IsPlaceWord, IsEarlier, IsOld, IsOut, IsOwner, LawfulControl, MayPut, NotInto}
 use Rattle.partial_epochs.proofs.Lists.{put_all}
 
 -- port k changes what it knows, and stays where it is
@@ -25,7 +25,7 @@ module _ (e : Plan) (words : List ℕ) (cs : ℕ → Control) (now : Place) (hol
     put = λ p a low may at. subst (λ (d : Place). d.arena ≢ x) (sym (same_here p)) (h.put p a low (puts_then p q a may) at);
   }
 
-  owner_then : (q : ℕ) (o : Owned) → IsOwner e words cs now holds q o → IsOwner e words cs' now holds q o
+  owner_then : (q : ℕ) (o : OwnedArena) → IsOwner e words cs now holds q o → IsOwner e words cs' now holds q o
   owner_then q o h = record {
     stands = same_entering q ∙ h.stands;
     arena = h.arena;
@@ -42,7 +42,7 @@ module _ (e : Plan) (words : List ℕ) (cs : ℕ → Control) (now : Place) (hol
     none = h.none;
   }
 
-  owner_of : (q : ℕ) (t : Option Owned) → IfSome t (IsOwner e words cs now holds q) → IfSome t (IsOwner e words cs' now holds q)
+  owner_of : (q : ℕ) (t : Option OwnedArena) → IfSome t (IsOwner e words cs now holds q) → IfSome t (IsOwner e words cs' now holds q)
   owner_of q None h = tt
   owner_of q (Some o) h = owner_then q o h
 

@@ -1,5 +1,5 @@
 -- The exchange of the current word opens the next epoch.
-use Rattle.partial_epochs.proofs.Common.{ℕ, zero, suc, ◌≡◌, ◌≢◌, ◌+◌, ◌-◌, ◌<◌, ◌≤◌, ◌==◌, ◌⊎◌, Bool, true, false, cond, Option, Some, None, IfSome, List, [], ◌∷◌, length, get_or, set, refl, sym, ap, subst, ◌∙◌, inl, inr, arith, option_map, cases_lt, lt-ltb, eqb_tells, get_or-set_same, get_or-set_other, length-set, set-get_or, Applied, Opening, value_of, some_same, Layout, total, first_free, pool_counter, slot_counter, slot_word, set_offset, HasClearSlots, Part, fresh_part, fresh_parts, list_of, put, IsAsked, Plan, Place, IsSealed, at_word, arena_words, base, carried_word, carried_words, component_words, control_size, control_words, current_word, packed, plain, seal, carried_behind, opening_behind, Control, Owned, Port, Epoch, IsPlaceWord, IsOut, IsOwner, LawfulControl, MayPut, Beside, IsArena, IsFinished, IsNewPart, IsSetting, IsStanding, LawfulEpochs, awaits_slot, controls, numbers, place_now, IsPresent, IsWholeArena, PublishesStayLawful, having_published, next_beside, next_place, next_epoch, resting, OpensOver, Stands, not_below}
+use Rattle.partial_epochs.proofs.Common.{ℕ, zero, suc, ◌≡◌, ◌≢◌, ◌+◌, ◌-◌, ◌<◌, ◌≤◌, ◌==◌, ◌⊎◌, Bool, true, false, cond, Option, Some, None, IfSome, List, [], ◌∷◌, length, get_or, set, refl, sym, ap, subst, ◌∙◌, inl, inr, arith, option_map, cases_lt, lt-ltb, eqb_tells, get_or-set_same, get_or-set_other, length-set, set-get_or, Applied, Opening, value_of, some_same, Layout, total, first_free, pool_counter, slot_counter, slot_word, set_offset, HasClearSlots, Part, fresh_part, fresh_parts, list_of, put, IsAsked, Plan, Place, IsSealed, at_word, arena_words, base, carried_word, carried_words, component_words, control_size, control_words, current_word, packed, plain, seal, carried_behind, opening_behind, Control, OwnedArena, Port, Epoch, IsPlaceWord, IsOut, IsOwner, LawfulControl, MayPut, Beside, IsArena, IsFinished, IsNewPart, IsSetting, IsStanding, LawfulEpochs, awaits_slot, controls, numbers, place_now, IsPresent, IsWholeArena, PublishesStayLawful, having_published, next_beside, next_place, next_epoch, resting_arena, OpensOver, Stands, not_below}
 use Rattle.partial_words.specs.Chain.{opening_word}
 use Rattle.partial_core.specs.Lawful as one
 use Rattle.partial_epochs.proofs.Entering.{control_lifted, current_is, cw_long, high_arenaed, high_clear}
@@ -26,7 +26,7 @@ pub fresh_list : (z : Layout) (p n : ℕ) → list_of (fresh_part z) p n ≡ fre
 fresh_list z p zero = refl
 fresh_list z p (suc n) = ap (λ (l : List Part). fresh_part z p ∷ l) (fresh_list z (p + 1) n)
 
-module _ (e : Plan) (words : List ℕ) (ports : ℕ → Port) (b : Beside) (k : ℕ) (o : Owned) (w : LawfulEpochs e words ports b) (below : k < e.ports) (whole : IsWholeArena e (ports k) o) where
+module _ (e : Plan) (words : List ℕ) (ports : ℕ → Port) (b : Beside) (k : ℕ) (o : OwnedArena) (w : LawfulEpochs e words ports b) (below : k < e.ports) (whole : IsWholeArena e (ports k) o) where
   abbrev cw : List ℕ
   cw = control_words e words
 
@@ -40,10 +40,10 @@ module _ (e : Plan) (words : List ℕ) (ports : ℕ → Port) (b : Beside) (k : 
   x = o.arena
 
   own : IsOwner e (control_words e words) (controls ports) (place_now b) (numbers b) k o
-  own = subst (λ (t : Option Owned). IfSome t (IsOwner e (control_words e words) (controls ports) (place_now b) (numbers b) k)) whole.owned (w.control.owners k below)
+  own = subst (λ (t : Option OwnedArena). IfSome t (IsOwner e (control_words e words) (controls ports) (place_now b) (numbers b) k)) whole.owned (w.control.owners k below)
 
   setting : IsSetting e words b (ports k) o
-  setting = subst (λ (t : Option Owned). IfSome t (IsSetting e words b (ports k))) whole.owned (w.setting k below)
+  setting = subst (λ (t : Option OwnedArena). IfSome t (IsSetting e words b (ports k))) whole.owned (w.setting k below)
 
   some : 0 < o.set
   some = let set = whole.set in omega (arith, set)
@@ -54,7 +54,7 @@ module _ (e : Plan) (words : List ℕ) (ports : ℕ → Port) (b : Beside) (k : 
   out : (q : ℕ) → q < e.ports → q ≢ k → IsOut e (control_words e words) (controls ports) o.arena q
   out q low ne = let clean = own.all some in own.out q (omega (arith, clean, low)) low ne
 
-  own_rests : IsOwner e (control_words e words) (controls ports) (place_now b) (numbers b) k (resting o)
+  own_rests : IsOwner e (control_words e words) (controls ports) (place_now b) (numbers b) k (resting_arena o)
   own_rests = record {
     stands = own.stands;
     arena = own.arena;
@@ -70,13 +70,13 @@ module _ (e : Plan) (words : List ℕ) (ports : ℕ → Port) (b : Beside) (k : 
     none = λ less. absurd (omega (arith, less));
   }
 
-  no_puts : (c : Control) (j : ℕ) (a : Place) → c.owned ≡ Some (resting o) → MayPut c j a → ⊥
+  no_puts : (c : Control) (j : ℕ) (a : Place) → c.owned ≡ Some (resting_arena o) → MayPut c j a → ⊥
   no_puts c j a is may =
-      let same : resting o ≡ may.owned = some_same (sym is ∙ may.is) in
-      let bad : None ≡ Some a = ap (λ (t : Owned). t.mark) same ∙ may.mark in
+      let same : resting_arena o ≡ may.owned = some_same (sym is ∙ may.is) in
+      let bad : None ≡ Some a = ap (λ (t : OwnedArena). t.mark) same ∙ may.mark in
       cc
 
-  rests_setting : (l : List ℕ) (d : Beside) (p : Port) → IsSetting e l d p (resting o)
+  rests_setting : (l : List ℕ) (d : Beside) (p : Port) → IsSetting e l d p (resting_arena o)
   rests_setting l d p = record { few = omega arith; sealed = λ less. absurd (omega (arith, less)); each = λ at i less _. absurd (omega (arith, less)); cleared = λ l less set. absurd (omega (arith, less, set)) }
 
   placed_here : get_or (control_words e words) (at_word k) 0 ≡ packed (ports k).control.here
@@ -134,14 +134,14 @@ module _ (e : Plan) (words : List ℕ) (ports : ℕ → Port) (b : Beside) (k : 
         ]
 
     -- each other arena that is owned isn't this one
-    owns1 : (q : ℕ) (t : Owned) → q < e.ports → (put k (record (ports k).control { owned = Some (resting o) }) (controls ports) q).owned ≡ Some t →
+    owns1 : (q : ℕ) (t : OwnedArena) → q < e.ports → (put k (record (ports k).control { owned = Some (resting_arena o) }) (controls ports) q).owned ≡ Some t →
         (t.arena ≢ o.arena) ⊎ ((t.looked ≡ false) × (t.set ≡ 0))
     owns1 q t low = put_all (λ i (d : Control). i < e.ports → d.owned ≡ Some t → (t.arena ≢ o.arena) ⊎ ((t.looked ≡ false) × (t.set ≡ 0)))
-        k (record (ports k).control { owned = Some (resting o) }) (controls ports) q
-        (λ _ _ is. let same : resting o ≡ t = some_same is in inr (sym (ap (λ (t : Owned). t.looked) same), sym (ap (λ (t : Owned). t.set) same)))
+        k (record (ports k).control { owned = Some (resting_arena o) }) (controls ports) q
+        (λ _ _ is. let same : resting_arena o ≡ t = some_same is in inr (sym (ap (λ (t : OwnedArena). t.looked) same), sym (ap (λ (t : OwnedArena). t.set) same)))
         (λ ne low is.
         let other : IsOwner e (control_words e words) (controls ports) (place_now b) (numbers b) q t =
-        subst (λ (t : Option Owned). IfSome t (IsOwner e (control_words e words) (controls ports) (place_now b) (numbers b) q)) is (w.control.owners q low) in
+        subst (λ (t : Option OwnedArena). IfSome t (IsOwner e (control_words e words) (controls ports) (place_now b) (numbers b) q)) is (w.control.owners q low) in
         let theirs = other.word in
         let ours = own.word in
         inl (λ same. let moved = ap (λ y. get_or (control_words e words) (1 + e.ports + y) 0) same in ne (omega (arith, theirs, ours, moved))))
@@ -152,8 +152,8 @@ module _ (e : Plan) (words : List ℕ) (ports : ℕ → Port) (b : Beside) (k : 
     control_then =
         let now : Place = place_now b in
         let ns : ℕ → Option ℕ = numbers b in
-        let c1 : Control = record (ports k).control { owned = Some (resting o) } in
-        let c' : Control = record (ports k).control { past = true; owned = Some (resting o) } in
+        let c1 : Control = record (ports k).control { owned = Some (resting_arena o) } in
+        let c' : Control = record (ports k).control { past = true; owned = Some (resting_arena o) } in
         let cs1 : ℕ → Control = put k c1 (controls ports) in
         let is1 : cs1 k ≡ c1 = put_same k c1 (controls ports) in
         let none1 : (j : ℕ) (a : Place) → MayPut c1 j a → MayPut (controls ports k) j a = λ j a may. absurd (no_puts c1 j a refl may) in
@@ -169,8 +169,8 @@ module _ (e : Plan) (words : List ℕ) (ports : ℕ → Port) (b : Beside) (k : 
         let next : Place = record { epoch = length b.before + 1; arena = o.arena } in
         let holds1 : ℕ → Option ℕ = put o.arena (Some (length b.before + 1)) ns in
         let here_epoch : (cs1 k).here.epoch ≡ length b.before = ap (λ (d : Place). d.epoch) here1 in
-        let own2 : IsOwner e (set (control_words e words) current_word (packed next)) cs1 next holds1 k (resting o) =
-        subst (λ (t : Option Owned). IfSome t (IsOwner e (set (control_words e words) current_word (packed next)) cs1 next holds1 k)) (ap (λ (c : Control). c.owned) is1) (w2.owners k below) in
+        let own2 : IsOwner e (set (control_words e words) current_word (packed next)) cs1 next holds1 k (resting_arena o) =
+        subst (λ (t : Option OwnedArena). IfSome t (IsOwner e (set (control_words e words) current_word (packed next)) cs1 next holds1 k)) (ap (λ (c : Control). c.owned) is1) (w2.owners k below) in
         let w3 : LawfulControl e (set (control_words e words) current_word (packed next)) (put k c' cs1) next holds1 =
         knows_more e (set (control_words e words) current_word (packed next)) cs1 next holds1 w2 k below c' (sym (ap (λ (c : Control). c.here) is1)) (sym (ap (λ (c : Control). c.entering) is1))
         (λ _. omega (arith, here_epoch)) (λ j a may. absurd (no_puts c' j a refl may)) own2 in
@@ -336,11 +336,11 @@ module _ (e : Plan) (words : List ℕ) (ports : ℕ → Port) (b : Beside) (k : 
     setting_then q low = put_all (λ i (p : Port). i < e.ports → IfSome p.control.owned (IsSetting e words' b' p)) k p' ports q
         (λ _ _. rests_setting words' b' p') (λ ne low. by q (ports q).control.owned refl low (w.setting q low)) low
       where
-        by : (q : ℕ) (t : Option Owned) → (ports q).control.owned ≡ t → q < e.ports → IfSome t (IsSetting e words b (ports q)) → IfSome t (IsSetting e words' b' (ports q))
+        by : (q : ℕ) (t : Option OwnedArena) → (ports q).control.owned ≡ t → q < e.ports → IfSome t (IsSetting e words b (ports q)) → IfSome t (IsSetting e words' b' (ports q))
         by q None is low h = tt
         by q (Some t) is low h =
             let mine : IsOwner e (control_words e words) (controls ports) (place_now b) (numbers b) q t =
-            subst (λ (t : Option Owned). IfSome t (IsOwner e (control_words e words) (controls ports) (place_now b) (numbers b) q)) is (w.control.owners q low) in
+            subst (λ (t : Option OwnedArena). IfSome t (IsOwner e (control_words e words) (controls ports) (place_now b) (numbers b) q)) is (w.control.owners q low) in
             let count = w.count in
             record {
               few = h.few;

@@ -1,5 +1,5 @@
 -- The control words as the next epoch is published.
-use Rattle.partial_epochs.proofs.Common.{ℕ, ◌≡◌, ◌≢◌, ◌+◌, ◌<◌, ◌≤◌, ◌⊎◌, true, false, Option, Some, None, IfSome, List, length, get_or, set, refl, sym, ap, subst, ◌∙◌, inl, inr, arith, eqb_tells, get_or-set_same, get_or-set_other, some_same, put, Plan, Place, IsPlace, at_word, control_size, current_word, packed, arena_limit, epoch_limit, Control, Entering, Owned, IsPlaceWord, IsStillMarked, IsOld, IsOut, IsOwner, LawfulControl, NotInto, Stands, Marks, Loaded}
+use Rattle.partial_epochs.proofs.Common.{ℕ, ◌≡◌, ◌≢◌, ◌+◌, ◌<◌, ◌≤◌, ◌⊎◌, true, false, Option, Some, None, IfSome, List, length, get_or, set, refl, sym, ap, subst, ◌∙◌, inl, inr, arith, eqb_tells, get_or-set_same, get_or-set_other, some_same, put, Plan, Place, IsPlace, at_word, control_size, current_word, packed, arena_limit, epoch_limit, Control, Entering, OwnedArena, IsPlaceWord, IsStillMarked, IsOld, IsOut, IsOwner, LawfulControl, NotInto, Stands, Marks, Loaded}
 use Rattle.partial_epochs.proofs.Places.{packed_arena}
 use Rattle.partial_epochs.proofs.Lists.{put_all, put_other, put_same}
 
@@ -8,7 +8,7 @@ module _ (e : Plan) (words : List ℕ) (cs : ℕ → Control) (now : Place) (hol
     (few : e.arenas ≤ arena_limit)
     (stands : (cs k).entering ≡ Stands) (here : (cs k).here ≡ now) (room : now.epoch + 1 < epoch_limit) (apart : now.arena ≢ x)
     (out : (q : ℕ) → q < e.ports → q ≢ k → IsOut e words cs x q) (long : length words ≡ control_size e)
-    (owns : (q : ℕ) (o : Owned) → q < e.ports → (cs q).owned ≡ Some o → (o.arena ≢ x) ⊎ ((o.looked ≡ false) × (o.set ≡ 0))) where
+    (owns : (q : ℕ) (o : OwnedArena) → q < e.ports → (cs q).owned ≡ Some o → (o.arena ≢ x) ⊎ ((o.looked ≡ false) × (o.set ≡ 0))) where
   abbrev next : Place
   next = record { epoch = now.epoch + 1; arena = x }
 
@@ -42,7 +42,7 @@ module _ (e : Plan) (words : List ℕ) (cs : ℕ → Control) (now : Place) (hol
     put = λ p a low may at. h.put p a low may (sym (other (at_word q) (omega arith)) ∙ at);
   }
 
-  owner_then : (q : ℕ) (o : Owned) → q < e.ports → (cs q).owned ≡ Some o → IsOwner e words cs now holds q o → IsOwner e words' cs next holds' q o
+  owner_then : (q : ℕ) (o : OwnedArena) → q < e.ports → (cs q).owned ≡ Some o → IsOwner e words cs now holds q o → IsOwner e words' cs next holds' q o
   owner_then q o low is h = record {
     stands = h.stands;
     arena = h.arena;
@@ -64,7 +64,7 @@ module _ (e : Plan) (words : List ℕ) (cs : ℕ → Control) (now : Place) (hol
     ];
   }
 
-  owner_of : (q : ℕ) (t : Option Owned) → q < e.ports → (cs q).owned ≡ t → IfSome t (IsOwner e words cs now holds q) → IfSome t (IsOwner e words' cs next holds' q)
+  owner_of : (q : ℕ) (t : Option OwnedArena) → q < e.ports → (cs q).owned ≡ t → IfSome t (IsOwner e words cs now holds q) → IfSome t (IsOwner e words' cs next holds' q)
   owner_of q None low is h = tt
   owner_of q (Some o) low is h = owner_then q o low is h
 

@@ -1,5 +1,5 @@
 -- A port puts another one where it stands itself.
-use Rattle.partial_epochs.proofs.Common.{ℕ, ◌≡◌, ◌≢◌, ◌+◌, ◌<◌, ◌≤◌, ◌==◌, ◌⊎◌, Bool, true, false, cond, Option, Some, None, IfSome, List, length, get_or, set, refl, sym, ap, subst, ◌∙◌, inl, inr, arith, eqb_tells, get_or-set_same, get_or-set_other, length-set, put, Plan, Place, IsPlace, at_word, control_size, control_words, current_word, marked, packed, arena_limit, Control, Entering, Owned, Port, IsPlaceWord, IsEarlier, IsStillMarked, IsOut, IsOwner, LawfulControl, MayPut, Beside, LawfulEpochs, controls, numbers, place_now, PutsStayLawful, cleaner, having_put, Stands, Marks, Loaded}
+use Rattle.partial_epochs.proofs.Common.{ℕ, ◌≡◌, ◌≢◌, ◌+◌, ◌<◌, ◌≤◌, ◌==◌, ◌⊎◌, Bool, true, false, cond, Option, Some, None, IfSome, List, length, get_or, set, refl, sym, ap, subst, ◌∙◌, inl, inr, arith, eqb_tells, get_or-set_same, get_or-set_other, length-set, put, Plan, Place, IsPlace, at_word, control_size, control_words, current_word, marked, packed, arena_limit, Control, Entering, OwnedArena, Port, IsPlaceWord, IsEarlier, IsStillMarked, IsOut, IsOwner, LawfulControl, MayPut, Beside, LawfulEpochs, controls, numbers, place_now, PutsStayLawful, cleaner, having_put, Stands, Marks, Loaded}
 use Rattle.partial_epochs.proofs.Entering.{control_lifted, cw_at, cw_long, marked_epoch, not_marked}
 use Rattle.partial_epochs.proofs.Lists.{set_of}
 use Rattle.partial_epochs.proofs.Owning.{knows_more}
@@ -7,7 +7,7 @@ use Rattle.partial_epochs.proofs.Places.{packed_arena}
 use Rattle.partial_epochs.proofs.Present.{same_place}
 
 -- the word of port q is set, which port k holds the mark of
-module _ (e : Plan) (words : List ℕ) (cs : ℕ → Control) (now : Place) (holds : ℕ → Option ℕ) (w : LawfulControl e words cs now holds) (k : ℕ) (below : k < e.ports) (o : Owned) (a : Place)
+module _ (e : Plan) (words : List ℕ) (cs : ℕ → Control) (now : Place) (holds : ℕ → Option ℕ) (w : LawfulControl e words cs now holds) (k : ℕ) (below : k < e.ports) (o : OwnedArena) (a : Place)
     (few : e.arenas ≤ arena_limit) (long : length words ≡ control_size e) (owned : (cs k).owned ≡ Some o) (within : o.clean < e.ports) (none : o.set ≡ 0) (looked : o.looked ≡ true)
     (mark : o.mark ≡ Some a) (again : o.again ≡ true) (there : get_or words (at_word o.clean) 0 ≡ marked a) where
   abbrev q : ℕ
@@ -20,7 +20,7 @@ module _ (e : Plan) (words : List ℕ) (cs : ℕ → Control) (now : Place) (hol
   words' = set words (at_word o.clean) (packed (cs k).here)
 
   own : IsOwner e words cs now holds k o
-  own = subst (λ (t : Option Owned). IfSome t (IsOwner e words cs now holds k)) owned (w.owners k below)
+  own = subst (λ (t : Option OwnedArena). IfSome t (IsOwner e words cs now holds k)) owned (w.owners k below)
 
   place : IsPlace e (cs k).here
   place = w.places k below
@@ -68,7 +68,7 @@ module _ (e : Plan) (words : List ℕ) (cs : ℕ → Control) (now : Place) (hol
     }
   ]
 
-  owner_then : (r : ℕ) (t : Owned) → IsOwner e words cs now holds r t → IsOwner e words' cs now holds r t
+  owner_then : (r : ℕ) (t : OwnedArena) → IsOwner e words cs now holds r t → IsOwner e words' cs now holds r t
   owner_then r t h = record {
     stands = h.stands;
     arena = h.arena;
@@ -84,7 +84,7 @@ module _ (e : Plan) (words : List ℕ) (cs : ℕ → Control) (now : Place) (hol
     none = h.none;
   }
 
-  owner_of : (r : ℕ) (t : Option Owned) → IfSome t (IsOwner e words cs now holds r) → IfSome t (IsOwner e words' cs now holds r)
+  owner_of : (r : ℕ) (t : Option OwnedArena) → IfSome t (IsOwner e words cs now holds r) → IfSome t (IsOwner e words' cs now holds r)
   owner_of r None h = tt
   owner_of r (Some t) h = owner_then r t h
 
@@ -164,13 +164,13 @@ module _ (e : Plan) (words : List ℕ) (cs : ℕ → Control) (now : Place) (hol
   no_puts : (j : ℕ) (d : Place) → MayPut c j d → ⊥
   no_puts j d may =
       let same : cleaner o ≡ may.owned = cc in
-      let bad : None ≡ Some d = ap (λ (t : Owned). t.mark) same ∙ may.mark in
+      let bad : None ≡ Some d = ap (λ (t : OwnedArena). t.mark) same ∙ may.mark in
       cc
 
   pub puts_on : LawfulControl e words' (put k c cs) now holds
   puts_on = knows_more e words' cs now holds helped k below c refl refl (w.past k below) (λ j d may. absurd (no_puts j d may)) own_cleaner
 
-module _ (e : Plan) (words : List ℕ) (ports : ℕ → Port) (b : Beside) (k : ℕ) (o : Owned) (a : Place) (w : LawfulEpochs e words ports b) (below : k < e.ports) (owned : (ports k).control.owned ≡ Some o)
+module _ (e : Plan) (words : List ℕ) (ports : ℕ → Port) (b : Beside) (k : ℕ) (o : OwnedArena) (a : Place) (w : LawfulEpochs e words ports b) (below : k < e.ports) (owned : (ports k).control.owned ≡ Some o)
     (looked : o.looked ≡ true) (within : o.clean < e.ports) (none : o.set ≡ 0) (mark : o.mark ≡ Some a) (again : o.again ≡ true) (there : get_or words (at_word o.clean) 0 ≡ marked a) where
   abbrev put_to : ℕ
   put_to = packed (ports k).control.here
@@ -194,7 +194,7 @@ module _ (e : Plan) (words : List ℕ) (ports : ℕ → Port) (b : Beside) (k : 
       let control = puts_on e (control_words e words) (controls ports) (place_now b) (numbers b) w.control k below o a w.plan.arenas (cw_long e words) owned within none looked mark again
       (at ∙ there) in
       let own : IsOwner e (control_words e words) (controls ports) (place_now b) (numbers b) k o =
-      subst (λ (t : Option Owned). IfSome t (IsOwner e (control_words e words) (controls ports) (place_now b) (numbers b) k)) owned (w.control.owners k below) in
+      subst (λ (t : Option OwnedArena). IfSome t (IsOwner e (control_words e words) (controls ports) (place_now b) (numbers b) k)) owned (w.control.owners k below) in
       control_lifted e words words_put (λ i from. get_or-set_other words (at_word o.clean) i put_to 0 (omega (arith, from, within))) ports b k p' w (length-set words (at_word o.clean) put_to)
       (get_or-set_other words (at_word o.clean) current_word put_to 0 (omega arith))
       (record { few = omega (arith, none); sealed = λ some. absurd (omega (arith, some, none)); each = λ at i less. absurd (omega (arith, less, none)); cleared = λ l less set. absurd (omega (arith, less, set, none)) })

@@ -1,5 +1,5 @@
 -- No machine is marked for the pool nor for the slots, and none is refused.
-use Rattle.partial_epochs.proofs.Common.{Option, ℕ, ◌≡◌, ◌≢◌, ◌<◌, ◌++◌, Bool, true, false, Some, List, ◌∷◌, refl, sym, ap, subst, ◌∙◌, inl, inr, arith, ◌||◌, Opening, all_at, Step, answer_of, words_after, Reply, CoreState, advance, reply_of, IsTied, IsMachineOf, Part, core_of, holdings, joined_since, put, Plan, arena_words, carried_words, component_words, placed, opening_behind, Control, Epoch, Port, Stands, Beside, IsArena, IsStanding, LawfulEpochs, HaveSlots, MachineLeads, MachinesAreNeverRefused, MarksNeverCome}
+use Rattle.partial_epochs.proofs.Common.{Option, ℕ, ◌≡◌, ◌≢◌, ◌<◌, ◌++◌, Bool, true, false, Some, List, ◌∷◌, refl, sym, ap, subst, ◌∙◌, inl, inr, arith, ◌||◌, Opening, all_at, Step, answer_of, words_after, Reply, CoreState, advance, reply_of, IsTied, IsMachineOf, Part, core_of, holdings, joined_since, put, Plan, arena_words, carried_words, component_words, placed_step, opening_behind, Control, Epoch, Port, Stands, Beside, IsArena, IsStanding, LawfulEpochs, HaveSlots, MachineLeads, MachinesAreNeverRefused, MarksNeverCome}
 use Rattle.partial_model.specs.declared.call.Refused.{Refused}
 use Rattle.partial_model.specs.declared.call.Refused.TheVariants as refused
 use Rattle.partial_machine.specs.declared.stage.Reply.TheVariants as reply
@@ -66,7 +66,7 @@ marks_never_come e words ports b k c w below stands have machine = unmarked e wo
 module _ (e : Plan) (words : List ℕ) (ports : ℕ → Port) (b : Beside) (k : ℕ) (c : CoreState) (step : Step) (below : k < e.ports) (stands : (ports k).control.entering ≡ Stands)
     (have : HaveSlots e) (lead : MachineLeads e words ports b k c step) where
   abbrev words' : List ℕ
-  words' = words_after words (placed e (ports k).control.here.arena step)
+  words' = words_after words (placed_step e (ports k).control.here.arena step)
 
   abbrev c' : CoreState
   c' = advance c (answer_of (arena_words e words (ports k).control.here.arena) step)

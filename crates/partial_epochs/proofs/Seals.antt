@@ -1,6 +1,6 @@
 -- A seal, and the load of a component that is sealed already.
 use Rattle.partial_epochs.proofs.Common.{ℕ, ◌≡◌, ◌≢◌, ◌+◌, ◌/◌, ◌%◌, ◌^◌, ◌<◌, ◌≤◌, ◌⊎◌, true, List, [], length, get_or, set, refl, sym, ap, subst, ◌∙◌, inl, inr, arith, nat_lt, cases_lt, lt-ltb, eqb_tells, append-nil, get_or-set_same, get_or-set_other, length-set, set-get_or, Add, total, words_after, count, put, Plan, IsSealed, arena_words, base, carried_words, component_words, plain, seal, seals, Port, Epoch, Beside, IsArena, IsStanding, LawfulEpochs, Stands, not_below}
-use Rattle.partial_epochs.specs.Sealing.{PassLeads, SealsStayLawful, SealedPassesStayLawful, passing}
+use Rattle.partial_epochs.specs.Sealing.{PassLeads, SealsStayLawful, SealedPassesStayLawful, passing_port}
 use Rattle.partial_epochs.proofs.Change.{Changes, beside_then, change_kept}
 use Rattle.partial_epochs.proofs.Lists.{count_few, count_more, count_same, put_all, put_other, put_same}
 use Rattle.partial_epochs.proofs.Places.{below_whole}
@@ -93,7 +93,7 @@ module _ (e : Plan) (words : List ℕ) (ports : ℕ → Port) (b : Beside) (k : 
         before : (q i : ℕ) → i < passed' q → i ≢ j → i < r.passed q
         before q i = put_all (λ q (n : ℕ). i < n → i ≢ j → i < r.passed q) k (j + 1) r.passed q (λ _ low ne. let was = own_before in omega (arith, low, ne, was)) (λ _ low ne. low)
 
-    changes : Changes e words b k x (ports k) r words' (passing (ports k)) r' []
+    changes : Changes e words b k x (ports k) r words' (passing_port (ports k)) r' []
     changes = record {
       count = count_is;
       outside = outside;
@@ -117,7 +117,7 @@ module _ (e : Plan) (words : List ℕ) (ports : ℕ → Port) (b : Beside) (k : 
       within = within;
       beside = beside_then b x r' [];
       same = record { log = append-nil b.log; before = refl; arena = refl };
-      lawful = change_kept e words ports b k w below stands words' (passing (ports k)) r' [] changes;
+      lawful = change_kept e words ports b k w below stands words' (passing_port (ports k)) r' [] changes;
     }
 
   pub sealed_passes : IsSealed (get_or (component_words e words x) j 0) → PassLeads e words words ports b k

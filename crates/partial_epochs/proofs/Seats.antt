@@ -1,5 +1,5 @@
 -- What is known of a port that stands in an epoch, and what a port has seen of the one history.
-use Rattle.partial_epochs.proofs.Common.{ℕ, ◌≡◌, ◌≢◌, ◌<◌, ◌≤◌, ◌++◌, List, [], ◌∷◌, length, drop, sym, ap, subst, ◌∙◌, inl, inr, arith, length-append, append_assoc, AllByRecursion, eqb_tells, map-append, take-append-drop, Applied, all_at, all_back, some_same, Part, port_of, holdings, IsKnown, lawful_ports_fit, list_of, Plan, arena_words, carried_words, component_words, history_of, opening_behind, public_entry, public_log, Epoch, Port, Beside, IsArena, IsStanding, LawfulEpochs, IsEpochHistory, Reached, one_history}
+use Rattle.partial_epochs.proofs.Common.{ℕ, ◌≡◌, ◌≢◌, ◌<◌, ◌≤◌, ◌++◌, List, [], ◌∷◌, length, drop, sym, ap, subst, ◌∙◌, inl, inr, arith, length-append, append_assoc, AllByRecursion, eqb_tells, map-append, take-append-drop, Applied, all_at, all_back, some_same, Part, port_of, holdings, IsKnown, lawful_ports_fit, list_of, Plan, arena_words, carried_words, component_words, history_of, opening_behind, public_entry, public_log, Epoch, Port, Beside, IsArena, IsStanding, LawfulEpochs, IsEpochHistory, EpochReached, one_history}
 use Rattle.partial_core.specs.Steps.{FitsHistory}
 use Rattle.partial_core.proofs.Parts.{seen_within as no_longer}
 use Rattle.partial_epochs.proofs.Lists.{Around, around_of}
@@ -60,7 +60,7 @@ module _ (e : Plan) (words : List ℕ) (ports : ℕ → Port) (b : Beside) (w : 
   pub seen_few : length p.part.seen ≤ length s.epoch.log
   seen_few = no_longer p.part.seen s.epoch.log known.seen
 
-  pub reached : length p.before ≡ p.control.here.epoch → Reached b p
+  pub reached : length p.before ≡ p.control.here.epoch → EpochReached b p
   reached n = record { later = among.0; log = s.epoch.log; is = among.1; seen = seen_few; epoch = n }
 
   -- the epochs before it are those of a lawful memory
@@ -83,10 +83,10 @@ module _ (e : Plan) (words : List ℕ) (ports : ℕ → Port) (b : Beside) (w : 
       )
 
 -- what a port has seen stays in the one history as the current epoch grows
-pub reached_grows : (b c : Beside) (p : Port) (entries : List Applied) → c.log ≡ b.log ++ entries → c.before ≡ b.before → Reached b p → Reached c p
+pub reached_grows : (b c : Beside) (p : Port) (entries : List Applied) → c.log ≡ b.log ++ entries → c.before ≡ b.before → EpochReached b p → EpochReached c p
 reached_grows b c p entries log before r = by r.later r.is
   where
-    by : (later : List (List Applied)) → b.log ∷ b.before ≡ later ++ r.log ∷ p.before → Reached c p
+    by : (later : List (List Applied)) → b.log ∷ b.before ≡ later ++ r.log ∷ p.before → EpochReached c p
     by [] is =
         let first : b.log ≡ r.log = cc in
         let rest : b.before ≡ p.before = cc in

@@ -1,5 +1,5 @@
 -- A word of an owned arena is set.
-use Rattle.partial_epochs.proofs.Common.{ℕ, ◌≡◌, ◌≢◌, ◌+◌, ◌-◌, ◌<◌, ◌≤◌, Bool, cond, Option, Some, None, IfSome, List, length, get_or, set, refl, sym, ap, subst, ◌∙◌, inl, inr, arith, option_map, cases_lt, lt-ltb, eqb_tells, get_or-set_other, length-set, first_free, total, put, IsAsked, Plan, Place, IsPlace, at_word, arena_words, base, carried_word, carried_words, component_words, control_size, control_words, current_word, packed, plain, span, set_word, Control, Owned, Port, Epoch, IsPlaceWord, IsStillMarked, IsOwner, LawfulControl, MayPut, NotInto, Beside, IsArena, IsNewPart, IsSetting, IsStanding, LawfulEpochs, controls, next_epoch_word, numbers, place_now, SetsStayLawful, having_set, vacated, Stands, Loaded, ClearSlotsCountAsSet, ClearsSlots, HasClearSlots, set-get_or, slot_counter, slot_word, ◌∷◌, carried_behind, opening_behind, set_offset}
+use Rattle.partial_epochs.proofs.Common.{ℕ, ◌≡◌, ◌≢◌, ◌+◌, ◌-◌, ◌<◌, ◌≤◌, Bool, cond, Option, Some, None, IfSome, List, length, get_or, set, refl, sym, ap, subst, ◌∙◌, inl, inr, arith, option_map, cases_lt, lt-ltb, eqb_tells, get_or-set_other, length-set, first_free, total, put, IsAsked, Plan, Place, IsPlace, at_word, arena_words, base, carried_word, carried_words, component_words, control_size, control_words, current_word, packed, plain, span, set_word, Control, OwnedArena, Port, Epoch, IsPlaceWord, IsStillMarked, IsOwner, LawfulControl, MayPut, NotInto, Beside, IsArena, IsNewPart, IsSetting, IsStanding, LawfulEpochs, controls, next_epoch_word, numbers, place_now, SetsStayLawful, having_set, vacated, Stands, Loaded, ClearSlotsCountAsSet, ClearsSlots, HasClearSlots, set-get_or, slot_counter, slot_word, ◌∷◌, carried_behind, opening_behind, set_offset}
 use Rattle.partial_words.specs.Chain.{opening_word}
 use Rattle.partial_state.proofs.OpeningLaw.{slots_open}
 use Rattle.partial_epochs.proofs.Lists.{put_all, put_other, put_same, same_of}
@@ -8,10 +8,10 @@ use Rattle.partial_epochs.proofs.Places.{bases_up, counter_number, packed_arena,
 use Rattle.partial_epochs.proofs.Worded.{plain_at, plain_other}
 
 -- an arena that port k owns, of which all ports are out, holds no epoch
-module _ (e : Plan) (words : List ℕ) (cs : ℕ → Control) (now : Place) (holds : ℕ → Option ℕ) (w : LawfulControl e words cs now holds) (k : ℕ) (below : k < e.ports) (o : Owned)
+module _ (e : Plan) (words : List ℕ) (cs : ℕ → Control) (now : Place) (holds : ℕ → Option ℕ) (w : LawfulControl e words cs now holds) (k : ℕ) (below : k < e.ports) (o : OwnedArena)
     (owned : (cs k).owned ≡ Some o) (done : o.clean ≡ e.ports) where
   pub own : IsOwner e words cs now holds k o
-  own = subst (λ (t : Option Owned). IfSome t (IsOwner e words cs now holds k)) owned (w.owners k below)
+  own = subst (λ (t : Option OwnedArena). IfSome t (IsOwner e words cs now holds k)) owned (w.owners k below)
 
   pub unlike : now.arena ≢ o.arena
   unlike = let h = own in h.looked (h.order (omega (arith, done, below)))
@@ -39,7 +39,7 @@ module _ (e : Plan) (words : List ℕ) (cs : ℕ → Control) (now : Place) (hol
       | inr ne ↦ let h = own in subst (NotInto o.arena) is ((h.out q (omega (arith, done, low)) low ne.1).loaded at)
     ]
 
-    owner_then : (q : ℕ) (t : Owned) → IsOwner e words cs now holds q t → IsOwner e words cs now holds' q t
+    owner_then : (q : ℕ) (t : OwnedArena) → IsOwner e words cs now holds q t → IsOwner e words cs now holds' q t
     owner_then q t h = record {
       stands = h.stands;
       arena = h.arena;
@@ -55,7 +55,7 @@ module _ (e : Plan) (words : List ℕ) (cs : ℕ → Control) (now : Place) (hol
       none = λ some. put_all (λ i (u : Option ℕ). holds i ≡ None → u ≡ None) o.arena None holds t.arena (λ _ _. refl) (λ _ is. is) (h.none some);
     }
 
-    owner_of : (q : ℕ) (t : Option Owned) → IfSome t (IsOwner e words cs now holds q) → IfSome t (IsOwner e words cs now holds' q)
+    owner_of : (q : ℕ) (t : Option OwnedArena) → IfSome t (IsOwner e words cs now holds q) → IfSome t (IsOwner e words cs now holds' q)
     owner_of q None h = tt
     owner_of q (Some t) h = owner_then q t h
 
@@ -84,9 +84,9 @@ module _ (e : Plan) (words : List ℕ) (cs : ℕ → Control) (now : Place) (hol
         record {
           owned = o;
           is = owned;
-          port = ap (λ (t : Owned). t.clean) same ∙ may.port;
-          mark = ap (λ (t : Owned). t.mark) same ∙ may.mark;
-          again = ap (λ (t : Owned). t.again) same ∙ may.again;
+          port = ap (λ (t : OwnedArena). t.clean) same ∙ may.port;
+          mark = ap (λ (t : OwnedArena). t.mark) same ∙ may.mark;
+          again = ap (λ (t : OwnedArena). t.again) same ∙ may.again;
         }
 
     own_more : (next : ℕ) → IsOwner e words cs now holds' k (record o { set = next })
@@ -125,7 +125,7 @@ module _ (e : Plan) (words : List ℕ) (ports : ℕ → Port) (b : Beside) (w : 
           ∙ plain_other e words y (slot_word e.sizes l) (get_or words (base e y + slot_word e.sizes l) 0) (omega arith))
           ∙ m.unclaimed l (omega (arith, claimed, from)) less
 
-module _ (e : Plan) (words : List ℕ) (ports : ℕ → Port) (b : Beside) (k : ℕ) (o : Owned) (v next : ℕ) (w : LawfulEpochs e words ports b) (below : k < e.ports)
+module _ (e : Plan) (words : List ℕ) (ports : ℕ → Port) (b : Beside) (k : ℕ) (o : OwnedArena) (v next : ℕ) (w : LawfulEpochs e words ports b) (below : k < e.ports)
     (owned : (ports k).control.owned ≡ Some o)
     (done : o.clean ≡ e.ports) (goes : o.set < next) (most : next ≤ first_free e.sizes + e.sizes.m) (passed : e.sizes.m ≤ (ports k).passed)
     (value : get_or words current_word 0 ≡ packed (ports k).control.here → (i : ℕ) → o.set ≤ i → i < next → IsAsked e.sizes i →
@@ -224,10 +224,10 @@ module _ (e : Plan) (words : List ℕ) (ports : ℕ → Port) (b : Beside) (k : 
   stands_on q p ne s = record { epoch = s.epoch; is = put_other o.arena None b.holds p.control.here.arena ne ∙ s.is; before = s.before; part = s.part; passed = s.passed; over = s.over }
 
   -- what another port has set is as it was
-  set_other : (q : ℕ) (t : Owned) → q < e.ports → q ≢ k → (ports q).control.owned ≡ Some t → IsSetting e words b (ports q) t → IsSetting e after b' (ports q) t
+  set_other : (q : ℕ) (t : OwnedArena) → q < e.ports → q ≢ k → (ports q).control.owned ≡ Some t → IsSetting e words b (ports q) t → IsSetting e after b' (ports q) t
   set_other q t low ne is h =
       let theirs : IsOwner e (control_words e words) (controls ports) (place_now b) (numbers b) q t =
-      subst (λ (t : Option Owned). IfSome t (IsOwner e (control_words e words) (controls ports) (place_now b) (numbers b) q)) is (w.control.owners q low) in
+      subst (λ (t : Option OwnedArena). IfSome t (IsOwner e (control_words e words) (controls ports) (place_now b) (numbers b) q)) is (w.control.owners q low) in
       let m = mine in
       let a = theirs.word in
       let c = m.word in
@@ -245,7 +245,7 @@ module _ (e : Plan) (words : List ℕ) (ports : ℕ → Port) (b : Beside) (k : 
       }
 
   own_setting : IsSetting e words b (ports k) o
-  own_setting = subst (λ (t : Option Owned). IfSome t (IsSetting e words b (ports k))) owned (w.setting k below)
+  own_setting = subst (λ (t : Option OwnedArena). IfSome t (IsSetting e words b (ports k))) owned (w.setting k below)
 
   -- each slot that counts as set is 0
   cleared_then : (l : ℕ) → l < e.sizes.slots → e.sizes.slots ≤ l + next → get_or after (base e o.arena + slot_word e.sizes l) 0 ≡ 0
@@ -298,7 +298,7 @@ module _ (e : Plan) (words : List ℕ) (ports : ℕ → Port) (b : Beside) (k : 
   setting_then q low = put_all (λ i (p : Port). i < e.ports → IfSome p.control.owned (IsSetting e after b' p)) k q' ports q
       (λ _ _. set_more) (λ ne low. by q ne (ports q).control.owned refl low (w.setting q low)) low
     where
-      by : (q : ℕ) → q ≢ k → (t : Option Owned) → (ports q).control.owned ≡ t → q < e.ports → IfSome t (IsSetting e words b (ports q)) → IfSome t (IsSetting e after b' (ports q))
+      by : (q : ℕ) → q ≢ k → (t : Option OwnedArena) → (ports q).control.owned ≡ t → q < e.ports → IfSome t (IsSetting e words b (ports q)) → IfSome t (IsSetting e after b' (ports q))
       by q ne None is low h = tt
       by q ne (Some t) is low h = set_other q t low ne is h
 

@@ -1,5 +1,5 @@
 -- The steps that aren't a machine's keep the notes lawful, and a port notes what it has seen by a look.
-use Rattle.partial_epochs.proofs.Common.{ℕ, ◌≡◌, ◌≢◌, ◌+◌, ◌<◌, ◌≤◌, ◌==◌, ◌⊎◌, ◌++◌, true, false, Option, IfSome, List, [], ◌∷◌, length, refl, sym, ap, subst, ◌∙◌, inl, inr, arith, length-append, AllByRecursion, eqb_tells, append-nil, length-map, Applied, Note, IsLegal, IsTrueOf, LegalNotes, Noted, place_of, seen_after, seen_by, EachOnce, places_by, places_written, wrote, some_same, words_after, Exchange, Part, port_of, with_seen, looks_stay_lawful, count, list_of, put, Place, Plan, arena_words, at_word, carried_words, component_words, marked, packed, history_of, opening_behind, public_entry, public_log, Epoch, Port, Stands, Beside, IsArena, IsStanding, LawfulEpochs, awaits_slot, arrived, having_published, next_beside, ArrivalsKeepNotes, AsidesStayLawful, GlanceLeads, GlancesStayLawful, IsEpochHistory, IsSight, LawfulMemory, LawfulNotes, PublishesKeepNotes, Reached, SightLeads, SightsStayLawful, having_seen, noting, one_history, seen_of}
+use Rattle.partial_epochs.proofs.Common.{ℕ, ◌≡◌, ◌≢◌, ◌+◌, ◌<◌, ◌≤◌, ◌==◌, ◌⊎◌, ◌++◌, true, false, Option, IfSome, List, [], ◌∷◌, length, refl, sym, ap, subst, ◌∙◌, inl, inr, arith, length-append, AllByRecursion, eqb_tells, append-nil, length-map, Applied, Note, IsLegal, IsTrueOf, LegalNotes, Noted, place_of, seen_after, seen_by, EachOnce, places_by, places_written, wrote, some_same, words_after, Exchange, Part, port_of, with_seen, looks_stay_lawful, count, list_of, put, Place, Plan, arena_words, at_word, carried_words, component_words, marked, packed, history_of, opening_behind, public_entry, public_log, Epoch, Port, Stands, Beside, IsArena, IsStanding, LawfulEpochs, awaits_slot, arrived_port, having_published, next_beside, ArrivalsKeepNotes, AsidesStayLawful, GlanceLeads, GlancesStayLawful, IsEpochHistory, IsSight, LawfulMemory, LawfulNotes, PublishesKeepNotes, EpochReached, SightLeads, SightsStayLawful, having_seen, noting, one_history, seen_of}
 use Rattle.partial_model.specs.declared.call.Note.TheVariants as note
 use Rattle.partial_model.proofs.NotesLemmas.{IsTrueOf-grows, LegalNotes-push, places_written-append, seen_by-push}
 use Rattle.partial_core.specs.Lawful as one
@@ -12,18 +12,18 @@ use Rattle.partial_epochs.proofs.Seats.{among, reached, reached_grows, seen_few}
 
 -- one port comes to have seen more, and the one history is as before
 module _ (e : Plan) (ports : ℕ → Port) (b c : Beside) (notes : ℕ → List Noted) (k : ℕ) (p : Port) (w : LawfulNotes e ports b notes) (below : k < e.ports) (same : one_history c ≡ one_history b)
-    (finished : AllByRecursion (IsEpochHistory e) c.before) (others : (q : ℕ) → q < e.ports → Reached b (ports q) → Reached c (ports q)) (own : Reached c p)
+    (finished : AllByRecursion (IsEpochHistory e) c.before) (others : (q : ℕ) → q < e.ports → EpochReached b (ports q) → EpochReached c (ports q)) (own : EpochReached c p)
     (more : seen_of (ports k) ≤ seen_of p) where
   pub notes_kept : LawfulNotes e (put k p ports) c notes
   notes_kept = record {
     finished = finished;
-    reached = λ q low. put_all (λ i (r : Port). i < e.ports → Reached c r) k p ports q (λ _ _. own) (λ _ low. others q low (w.reached q low)) low;
+    reached = λ q low. put_all (λ i (r : Port). i < e.ports → EpochReached c r) k p ports q (λ _ _. own) (λ _ low. others q low (w.reached q low)) low;
     legal = λ q low. subst (λ (h : List Applied). LegalNotes e.opening h q 0 (notes q)) (sym same) (w.legal q low);
     shown = λ q low. put_all (λ i (r : Port). i < e.ports → seen_by 0 (notes i) ≤ seen_of r) k p ports q (λ _ _. let was = w.shown k below in omega (arith, was, more)) (λ _ low. w.shown q low) low;
     once = λ q low. subst (λ (h : List Applied). EachOnce h q (notes q)) (sym same) (w.once q low);
   }
 
-same_reached : (b c : Beside) (p q : Port) → c.log ≡ b.log → c.before ≡ b.before → q.part ≡ p.part → q.before ≡ p.before → q.control.here ≡ p.control.here → Reached b p → Reached c q
+same_reached : (b c : Beside) (p q : Port) → c.log ≡ b.log → c.before ≡ b.before → q.part ≡ p.part → q.before ≡ p.before → q.control.here ≡ p.control.here → EpochReached b p → EpochReached c q
 same_reached b c p q log before part earlier here r = record {
   later = r.later;
   log = r.log;
@@ -54,7 +54,7 @@ ends (x ∷ l) a (y ∷ m) c is low = let rest : l ++ a ≡ m ++ c = cc in ends 
 
 pub arrivals_keep_notes : ArrivalsKeepNotes
 arrivals_keep_notes e words ports b notes k c w below a =
-    let p : Port = arrived e k a.place a.before in
+    let p : Port = arrived_port e k a.place a.before in
     let words' = words_after words (Exchange (at_word k) (marked (ports k).control.here) (packed c)) in
     let there : IsStanding b k p = subst (λ (q : Port). q.control.entering ≡ Stands → IsStanding b k q) (put_same k p ports) (a.lawful.standing k below) refl in
     let am = among e words' (put k p ports) b a.lawful k below p there in
@@ -93,7 +93,7 @@ publishes_keep_notes e words words' ports b notes k o w below then = (
   append-nil (one_history b),
 )
   where
-    next_reached : (p : Port) → Reached b p → Reached (next_beside e b o.arena) p
+    next_reached : (p : Port) → EpochReached b p → EpochReached (next_beside e b o.arena) p
     next_reached p r = record {
       later = [] ∷ r.later;
       log = r.log;
@@ -179,7 +179,7 @@ module _ (e : Plan) (words : List ℕ) (ports : ℕ → Port) (b : Beside) (note
   same_history : one_history c ≡ one_history b
   same_history = ap (λ (l : List Applied). history_of (l ∷ c.before)) (log ∙ append-nil b.log) ∙ ap (λ (l : List (List Applied)). history_of (b.log ∷ l)) epochs
 
-  own_reached : Reached c (having_seen (ports k) st.epoch.log)
+  own_reached : EpochReached c (having_seen (ports k) st.epoch.log)
   own_reached =
       let am = among e words ports b w.epochs k below (ports k) st in
       record {
@@ -226,7 +226,7 @@ module _ (e : Plan) (words : List ℕ) (ports : ℕ → Port) (b : Beside) (note
     pub sight_noted : LawfulNotes e (put k (having_seen (ports k) st.epoch.log) ports) c (noting k (n ∷ []) notes)
     sight_noted = record {
       finished = subst (AllByRecursion (IsEpochHistory e)) (sym epochs) w.noted.finished;
-      reached = λ q low. put_all (λ j (r : Port). j < e.ports → Reached c r) k (having_seen (ports k) st.epoch.log) ports q (λ _ _. own_reached)
+      reached = λ q low. put_all (λ j (r : Port). j < e.ports → EpochReached c r) k (having_seen (ports k) st.epoch.log) ports q (λ _ _. own_reached)
           (λ _ low. reached_grows b c (ports q) [] log epochs (w.noted.reached q low)) low;
       legal = λ q low. put_all (λ j (ns : List Noted). j < e.ports → LegalNotes e.opening (one_history c) j 0 ns) k (notes k ++ n ∷ []) notes q
           (λ _ _. subst (λ (l : List Applied). LegalNotes e.opening l k 0 (notes k ++ n ∷ [])) (sym same_history)

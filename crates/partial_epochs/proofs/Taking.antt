@@ -1,5 +1,5 @@
 -- A port takes an arena and gives it back, finds the others elsewhere, and loads their marks.
-use Rattle.partial_epochs.proofs.Common.{ℕ, ◌≡◌, ◌≢◌, ◌+◌, ◌<◌, ◌≤◌, ◌==◌, ◌⊎◌, Bool, true, false, cond, Option, Some, None, IfSome, List, length, get_or, set, refl, sym, ap, subst, ◌∙◌, inl, inr, arith, eqb_tells, get_or-set_same, get_or-set_other, length-set, put, Plan, Place, IsPlace, at_word, control_size, control_words, current_word, entering_mark, marked, own_word, packed, arena_limit, Control, Entering, Owned, Port, Stands, Marks, Loaded, IsPlaceWord, IsEarlier, IsOut, IsOwner, LawfulControl, MayPut, Beside, IsSetting, IsStanding, LawfulEpochs, controls, numbers, place_now, GivesStayLawful, MarksAreLoaded, OthersAreElsewhere, OwnersLookAway, TakesStayLawful, cleaner, having_given, having_loaded, having_put, just_taken, owning, having_passed}
+use Rattle.partial_epochs.proofs.Common.{ℕ, ◌≡◌, ◌≢◌, ◌+◌, ◌<◌, ◌≤◌, ◌==◌, ◌⊎◌, Bool, true, false, cond, Option, Some, None, IfSome, List, length, get_or, set, refl, sym, ap, subst, ◌∙◌, inl, inr, arith, eqb_tells, get_or-set_same, get_or-set_other, length-set, put, Plan, Place, IsPlace, at_word, control_size, control_words, current_word, entering_mark, marked, own_word, packed, arena_limit, Control, Entering, OwnedArena, Port, Stands, Marks, Loaded, IsPlaceWord, IsEarlier, IsOut, IsOwner, LawfulControl, MayPut, Beside, IsSetting, IsStanding, LawfulEpochs, controls, numbers, place_now, GivesStayLawful, MarksAreLoaded, OthersAreElsewhere, OwnersLookAway, TakesStayLawful, cleaner, having_given, having_loaded, having_put, just_taken, owning_port, having_passed}
 use Rattle.partial_epochs.proofs.Entering.{control_lifted, current_is, cw_at, cw_long, not_marked}
 use Rattle.partial_epochs.proofs.Lists.{put_all, set_of}
 use Rattle.partial_epochs.proofs.Owning.{knows_more}
@@ -8,7 +8,7 @@ use Rattle.partial_epochs.proofs.Present.{same_place}
 
 -- the owner word of an arena that nobody owns is set
 module _ (e : Plan) (words : List ℕ) (cs : ℕ → Control) (now : Place) (holds : ℕ → Option ℕ) (w : LawfulControl e words cs now holds) (x v : ℕ)
-    (nobody : (q : ℕ) (o : Owned) → q < e.ports → (cs q).owned ≡ Some o → o.arena ≢ x) where
+    (nobody : (q : ℕ) (o : OwnedArena) → q < e.ports → (cs q).owned ≡ Some o → o.arena ≢ x) where
   abbrev words' : List ℕ
   words' = set words (own_word e x) v
 
@@ -32,7 +32,7 @@ module _ (e : Plan) (words : List ℕ) (cs : ℕ → Control) (now : Place) (hol
   at_then q d (Loaded f) low (inl h) = inl (at_same q low ∙ h)
   at_then q d (Loaded f) low (inr h) = inr (h.0, h.1, at_same q low ∙ h.2, h.3)
 
-  owner_then : (q : ℕ) (o : Owned) → o.arena ≢ x → IsOwner e words cs now holds q o → IsOwner e words' cs now holds q o
+  owner_then : (q : ℕ) (o : OwnedArena) → o.arena ≢ x → IsOwner e words cs now holds q o → IsOwner e words' cs now holds q o
   owner_then q o ne h = record {
     stands = h.stands;
     arena = h.arena;
@@ -48,7 +48,7 @@ module _ (e : Plan) (words : List ℕ) (cs : ℕ → Control) (now : Place) (hol
     none = h.none;
   }
 
-  owner_of : (q : ℕ) (t : Option Owned) → q < e.ports → (cs q).owned ≡ t → IfSome t (IsOwner e words cs now holds q) → IfSome t (IsOwner e words' cs now holds q)
+  owner_of : (q : ℕ) (t : Option OwnedArena) → q < e.ports → (cs q).owned ≡ t → IfSome t (IsOwner e words cs now holds q) → IfSome t (IsOwner e words' cs now holds q)
   owner_of q None low is h = tt
   owner_of q (Some o) low is h = owner_then q o (nobody q o low is) h
 
@@ -72,9 +72,9 @@ module _ (e : Plan) (words : List ℕ) (cs : ℕ → Control) (now : Place) (hol
 module _ (e : Plan) (words : List ℕ) (cs : ℕ → Control) (now : Place) (holds : ℕ → Option ℕ) (w : LawfulControl e words cs now holds) (k x : ℕ) (below : k < e.ports)
     (long : length words ≡ control_size e) (stands : (cs k).entering ≡ Stands) (inside : x < e.arenas) (apart : (cs k).here.arena ≢ x)
     (zero_there : get_or words (own_word e x) 0 ≡ 0) where
-  nobody : (q : ℕ) (o : Owned) → q < e.ports → (cs q).owned ≡ Some o → o.arena ≢ x
+  nobody : (q : ℕ) (o : OwnedArena) → q < e.ports → (cs q).owned ≡ Some o → o.arena ≢ x
   nobody q o low is same =
-      let own : IsOwner e words cs now holds q o = subst (λ (t : Option Owned). IfSome t (IsOwner e words cs now holds q)) is (w.owners q low) in
+      let own : IsOwner e words cs now holds q o = subst (λ (t : Option OwnedArena). IfSome t (IsOwner e words cs now holds q)) is (w.owners q low) in
       let word = own.word in
       let there = ap (λ y. get_or words (own_word e y) 0) same in
       omega (arith, word, there, zero_there)
@@ -85,7 +85,7 @@ module _ (e : Plan) (words : List ℕ) (cs : ℕ → Control) (now : Place) (hol
   no_puts : (j : ℕ) (a : Place) → MayPut c j a → ⊥
   no_puts j a may =
       let same : just_taken x ≡ may.owned = cc in
-      let bad : None ≡ Some a = ap (λ (t : Owned). t.mark) same ∙ may.mark in
+      let bad : None ≡ Some a = ap (λ (t : OwnedArena). t.mark) same ∙ may.mark in
       cc
 
   abbrev taken_words : List ℕ
@@ -109,13 +109,13 @@ module _ (e : Plan) (words : List ℕ) (cs : ℕ → Control) (now : Place) (hol
       })
 
 -- a port gives its arena back
-module _ (e : Plan) (words : List ℕ) (cs : ℕ → Control) (now : Place) (holds : ℕ → Option ℕ) (w : LawfulControl e words cs now holds) (k : ℕ) (below : k < e.ports) (o : Owned)
+module _ (e : Plan) (words : List ℕ) (cs : ℕ → Control) (now : Place) (holds : ℕ → Option ℕ) (w : LawfulControl e words cs now holds) (k : ℕ) (below : k < e.ports) (o : OwnedArena)
     (owned : (cs k).owned ≡ Some o) where
   abbrev freed : Control
   freed = record (cs k) { owned = None }
 
   own : IsOwner e words cs now holds k o
-  own = subst (λ (t : Option Owned). IfSome t (IsOwner e words cs now holds k)) owned (w.owners k below)
+  own = subst (λ (t : Option OwnedArena). IfSome t (IsOwner e words cs now holds k)) owned (w.owners k below)
 
   no_puts_freed : (j : ℕ) (a : Place) → MayPut freed j a → ⊥
   no_puts_freed j a may = let bad : None ≡ Some may.owned = may.is in cc
@@ -123,11 +123,11 @@ module _ (e : Plan) (words : List ℕ) (cs : ℕ → Control) (now : Place) (hol
   freed_on : LawfulControl e words (put k freed cs) now holds
   freed_on = knows_more e words cs now holds w k below freed refl refl (w.past k below) (λ j a may. absurd (no_puts_freed j a may)) tt
 
-  others_own : (q : ℕ) (t : Owned) → q < e.ports → (put k freed cs q).owned ≡ Some t → t.arena ≢ o.arena
+  others_own : (q : ℕ) (t : OwnedArena) → q < e.ports → (put k freed cs q).owned ≡ Some t → t.arena ≢ o.arena
   others_own q t low = put_all (λ i (d : Control). i < e.ports → d.owned ≡ Some t → t.arena ≢ o.arena) k freed cs q
       (λ _ _ is. let bad : None ≡ Some t = is in cc)
       (λ ne low is same.
-      let theirs : IsOwner e words cs now holds q t = subst (λ (u : Option Owned). IfSome u (IsOwner e words cs now holds q)) is (w.owners q low) in
+      let theirs : IsOwner e words cs now holds q t = subst (λ (u : Option OwnedArena). IfSome u (IsOwner e words cs now holds q)) is (w.owners q low) in
       let mine = own.word in
       let word = theirs.word in
       let there = ap (λ y. get_or words (own_word e y) 0) same in
@@ -137,10 +137,10 @@ module _ (e : Plan) (words : List ℕ) (cs : ℕ → Control) (now : Place) (hol
   given_on = own_word_set e words (put k freed cs) now holds freed_on o.arena 0 others_own
 
 -- a port that owns an arena finds another one elsewhere, or loads its mark
-module _ (e : Plan) (words : List ℕ) (cs : ℕ → Control) (now : Place) (holds : ℕ → Option ℕ) (w : LawfulControl e words cs now holds) (k : ℕ) (below : k < e.ports) (o : Owned)
+module _ (e : Plan) (words : List ℕ) (cs : ℕ → Control) (now : Place) (holds : ℕ → Option ℕ) (w : LawfulControl e words cs now holds) (k : ℕ) (below : k < e.ports) (o : OwnedArena)
     (few : e.arenas ≤ arena_limit) (owned : (cs k).owned ≡ Some o) (within : o.clean < e.ports) where
   own_here : IsOwner e words cs now holds k o
-  own_here = subst (λ (t : Option Owned). IfSome t (IsOwner e words cs now holds k)) owned (w.owners k below)
+  own_here = subst (λ (t : Option OwnedArena). IfSome t (IsOwner e words cs now holds k)) owned (w.owners k below)
 
   module _ (looked : o.looked ≡ true) (none : o.set ≡ 0) (d : Place) (place : IsPlace e d) (there : get_or words (at_word o.clean) 0 ≡ packed d) (apart : d.arena ≢ o.arena) where
     abbrev done : Control
@@ -149,7 +149,7 @@ module _ (e : Plan) (words : List ℕ) (cs : ℕ → Control) (now : Place) (hol
     no_puts_done : (j : ℕ) (a : Place) → MayPut done j a → ⊥
     no_puts_done j a may =
         let same : cleaner o ≡ may.owned = cc in
-        let bad : None ≡ Some a = ap (λ (t : Owned). t.mark) same ∙ may.mark in
+        let bad : None ≡ Some a = ap (λ (t : OwnedArena). t.mark) same ∙ may.mark in
         cc
 
     is_d : (c : Place) → IsPlace e c → packed d ≡ packed c → d ≡ c
@@ -193,7 +193,7 @@ module _ (e : Plan) (words : List ℕ) (cs : ℕ → Control) (now : Place) (hol
   mark_is (Loaded f) is high (inr h) = let place = h.1 in let r = place.epoch in let x = place.arena in let at = h.2 in absurd (omega (arith, high, at, few, r, x))
 
   module _ (high : entering_mark ≤ get_or words (at_word o.clean) 0) where
-    abbrev loaded_owned : Owned
+    abbrev loaded_owned : OwnedArena
     loaded_owned = having_loaded o (cs o.clean).here
 
     abbrev loading : Control
@@ -205,7 +205,7 @@ module _ (e : Plan) (words : List ℕ) (cs : ℕ → Control) (now : Place) (hol
     no_puts_loading : (j : ℕ) (a : Place) → MayPut loading j a → ⊥
     no_puts_loading j a may =
         let same : loaded_owned ≡ may.owned = cc in
-        let bad : false ≡ true = ap (λ (t : Owned). t.again) same ∙ may.again in
+        let bad : false ≡ true = ap (λ (t : OwnedArena). t.again) same ∙ may.again in
         cc
 
     pub loading_on : LawfulControl e words (put k loading cs) now holds
@@ -247,25 +247,25 @@ module _ (e : Plan) (words : List ℕ) (ports : ℕ → Port) (b : Beside) (k i 
       (subst (λ (l : List ℕ). LawfulControl e l (put k p'.control (controls ports)) (place_now b) (numbers b)) (sym set_control) control) stand up below
 
 -- a port that stands goes on standing, with another arena of its own
-still : (b : Beside) (k : ℕ) (p : Port) (t : Option Owned) → IsStanding b k p → IsStanding b k (record p { control = record p.control { owned = t } })
+still : (b : Beside) (k : ℕ) (p : Port) (t : Option OwnedArena) → IsStanding b k p → IsStanding b k (record p { control = record p.control { owned = t } })
 still b k p t s = record { epoch = s.epoch; is = s.is; before = s.before; part = s.part; passed = s.passed; over = s.over }
 
-nothing_set : (e : Plan) (words : List ℕ) (b : Beside) (p : Port) (o : Owned) → o.set ≡ 0 → IsSetting e words b p o
+nothing_set : (e : Plan) (words : List ℕ) (b : Beside) (p : Port) (o : OwnedArena) → o.set ≡ 0 → IsSetting e words b p o
 nothing_set e words b p o none = record { few = omega (arith, none); sealed = λ some. absurd (omega (arith, some, none)); each = λ at i less _. absurd (omega (arith, less, none)); cleared = λ l less set. absurd (omega (arith, less, set, none)) }
 
-owner_is : (e : Plan) (words : List ℕ) (ports : ℕ → Port) (b : Beside) (k : ℕ) (o : Owned) → LawfulEpochs e words ports b → k < e.ports → (ports k).control.owned ≡ Some o →
+owner_is : (e : Plan) (words : List ℕ) (ports : ℕ → Port) (b : Beside) (k : ℕ) (o : OwnedArena) → LawfulEpochs e words ports b → k < e.ports → (ports k).control.owned ≡ Some o →
     IsOwner e (control_words e words) (controls ports) (place_now b) (numbers b) k o
-owner_is e words ports b k o w below owned = subst (λ (t : Option Owned). IfSome t (IsOwner e (control_words e words) (controls ports) (place_now b) (numbers b) k)) owned (w.control.owners k below)
+owner_is e words ports b k o w below owned = subst (λ (t : Option OwnedArena). IfSome t (IsOwner e (control_words e words) (controls ports) (place_now b) (numbers b) k)) owned (w.control.owners k below)
 
-setting_is : (e : Plan) (words : List ℕ) (ports : ℕ → Port) (b : Beside) (k : ℕ) (o : Owned) → LawfulEpochs e words ports b → k < e.ports → (ports k).control.owned ≡ Some o →
+setting_is : (e : Plan) (words : List ℕ) (ports : ℕ → Port) (b : Beside) (k : ℕ) (o : OwnedArena) → LawfulEpochs e words ports b → k < e.ports → (ports k).control.owned ≡ Some o →
     IsSetting e words b (ports k) o
-setting_is e words ports b k o w below owned = subst (λ (t : Option Owned). IfSome t (IsSetting e words b (ports k))) owned (w.setting k below)
+setting_is e words ports b k o w below owned = subst (λ (t : Option OwnedArena). IfSome t (IsSetting e words b (ports k))) owned (w.setting k below)
 
 pub takes_stay_lawful : TakesStayLawful
 takes_stay_lawful e words ports b k x w below stands free inside apart empty =
     let at = cw_at e words ports b k (ports k) 0 w below (own_word e x) (omega (arith, inside)) in
     let won : (get_or words (own_word e x) 0 == 0) ≡ true = (elim (eqb_tells (get_or words (own_word e x) 0) 0) [ inl t ↦ t.0 | inr f ↦ absurd (f.1 empty) ]) in
-    let p' : Port = owning (ports k) (just_taken x) in
+    let p' : Port = owning_port (ports k) (just_taken x) in
     subst (λ (t : Bool). LawfulEpochs e (set words (own_word e x) (cond t (k + 1) (get_or words (own_word e x) 0))) (put k p' ports) b) (sym won)
     (word_lifted e words ports b k (own_word e x) (k + 1) p' w below (omega (arith, inside)) (omega arith)
     (taken_on e (control_words e words) (controls ports) (place_now b) (numbers b) w.control k x below (cw_long e words) stands inside apart (at ∙ empty))
@@ -298,9 +298,9 @@ marks_are_loaded e words ports b k o w below owned within high =
     let at = cw_at e words ports b k (ports k) 0 w below (at_word o.clean) (omega (arith, within)) in
     let raised : entering_mark ≤ get_or (control_words e words) (at_word o.clean) 0 = omega (arith, high, at) in
     let s = setting_is e words ports b k o w below owned in
-    let n : Owned = having_loaded o (ports o.clean).control.here in (
+    let n : OwnedArena = having_loaded o (ports o.clean).control.here in (
       sym at ∙ found_mark e (control_words e words) (controls ports) (place_now b) (numbers b) w.control k below o w.plan.arenas owned within raised,
-      known_lifted e words ports b k (owning (ports k) n) w below
+      known_lifted e words ports b k (owning_port (ports k) n) w below
           (loading_on e (control_words e words) (controls ports) (place_now b) (numbers b) w.control k below o w.plan.arenas owned within raised)
           (record { few = s.few; sealed = s.sealed; each = s.each; cleared = s.cleared }) (λ _. still b k (ports k) (Some n) (w.standing k below own.stands)) (omega arith),
     )
@@ -323,6 +323,6 @@ owners_look_away e words ports b k o w below owned other =
     (w.control.owners k below))
     (passed (ports k).control.owned refl t) (λ _. record { epoch = s.epoch; is = s.is; before = s.before; part = s.part; passed = s.passed; over = s.over }) (omega arith)
   where
-    passed : (u : Option Owned) → (ports k).control.owned ≡ u → IfSome u (IsSetting e words b (ports k)) → IfSome u (IsSetting e words b (having_passed (ports k)))
+    passed : (u : Option OwnedArena) → (ports k).control.owned ≡ u → IfSome u (IsSetting e words b (ports k)) → IfSome u (IsSetting e words b (having_passed (ports k)))
     passed None is h = tt
     passed (Some v) is h = record { few = h.few; sealed = h.sealed; each = h.each; cleared = h.cleared }

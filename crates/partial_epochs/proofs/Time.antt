@@ -1,12 +1,12 @@
 -- An entering port comes to no older epoch than the one that was the current one as it stored its mark.
-use Rattle.partial_epochs.proofs.Common.{ℕ, ◌≡◌, ◌≢◌, ◌+◌, ◌%◌, ◌^◌, ◌<◌, ◌≤◌, ◌==◌, ◌⊎◌, Bool, true, false, cond, Some, None, List, get_or, set, refl, sym, ap, subst, ◌∙◌, inl, inr, arith, eqb_tells, get_or-set_same, get_or-set_other, some_same, words_after, Step, Load, Store, Exchange, Add, put, IsPlace, Place, Plan, at_word, base, control_words, current_word, marked, packed, placed, set_word, Control, Owned, Port, Marks, Loaded, IsPlaceWord, IsEarlier, MayPut, Beside, LawfulEpochs, place_now, arrived, having_loaded, having_looked, having_put, owning, having_published, next_place}
+use Rattle.partial_epochs.proofs.Common.{ℕ, ◌≡◌, ◌≢◌, ◌+◌, ◌%◌, ◌^◌, ◌<◌, ◌≤◌, ◌==◌, ◌⊎◌, Bool, true, false, cond, Some, None, List, get_or, set, refl, sym, ap, subst, ◌∙◌, inl, inr, arith, eqb_tells, get_or-set_same, get_or-set_other, some_same, words_after, Step, Load, Store, Exchange, Add, put, IsPlace, Place, Plan, at_word, base, control_words, current_word, marked, packed, placed_step, set_word, Control, OwnedArena, Port, Marks, Loaded, IsPlaceWord, IsEarlier, MayPut, Beside, LawfulEpochs, place_now, arrived_port, having_loaded, having_looked, having_put, owning_port, having_published, next_place}
 use Rattle.partial_epochs.specs.Time.{ArrivalsKeepTime, AsidesKeepTime, EntriesKeepTime, IsBesideTime, KeepsTime, LoadedMarksKeepTime, LooksKeepTime, MarksKeepTime, OpeningsKeepTime, PublishesKeepTime, PutsKeepTime, StepsKeepPlaces}
 use Rattle.partial_epochs.proofs.Entering.{cw_at, current_is, held_mark, marked_epoch, not_marked}
 use Rattle.partial_epochs.proofs.Lists.{put_all, put_other, put_same}
 use Rattle.partial_epochs.proofs.Places.{packed_arena}
 
 -- an arena that a port owns, and none
-none_some : (o : Owned) → None ≡ Some o → ⊥
+none_some : (o : OwnedArena) → None ≡ Some o → ⊥
 none_some o is = cc
 
 -- a port that owns no arena, or holds no mark behind which it has looked, puts nobody
@@ -14,22 +14,22 @@ pub puts_nobody : (c : Control) (j : ℕ) (a : Place) → c.owned ≡ None → M
 puts_nobody c j a free may = none_some may.owned (sym free ∙ may.is)
 
 -- an owned arena whose port has not looked again
-pub not_again : (c : Control) (o : Owned) (j : ℕ) (a : Place) → c.owned ≡ Some o → o.again ≡ false → MayPut c j a → ⊥
+pub not_again : (c : Control) (o : OwnedArena) (j : ℕ) (a : Place) → c.owned ≡ Some o → o.again ≡ false → MayPut c j a → ⊥
 not_again c o j a owned off may =
     let same : o ≡ may.owned = some_same (sym owned ∙ may.is) in
-    let bad : false ≡ true = sym off ∙ ap (λ (t : Owned). t.again) same ∙ may.again in
+    let bad : false ≡ true = sym off ∙ ap (λ (t : OwnedArena). t.again) same ∙ may.again in
     absurd cc
 
 -- an owner that has set one word more puts whom it might put before
-pub set_puts : (c d : Control) (o : Owned) (next j : ℕ) (a : Place) → c.owned ≡ Some o → d.owned ≡ Some (record o { set = next }) → MayPut d j a → MayPut c j a
+pub set_puts : (c d : Control) (o : OwnedArena) (next j : ℕ) (a : Place) → c.owned ≡ Some o → d.owned ≡ Some (record o { set = next }) → MayPut d j a → MayPut c j a
 set_puts c d o next j a was is may =
     let same : record o { set = next } ≡ may.owned = some_same (sym is ∙ may.is) in
     record {
       owned = o;
       is = was;
-      port = ap (λ (t : Owned). t.clean) same ∙ may.port;
-      mark = ap (λ (t : Owned). t.mark) same ∙ may.mark;
-      again = ap (λ (t : Owned). t.again) same ∙ may.again;
+      port = ap (λ (t : OwnedArena). t.clean) same ∙ may.port;
+      mark = ap (λ (t : OwnedArena). t.mark) same ∙ may.mark;
+      again = ap (λ (t : OwnedArena). t.again) same ∙ may.again;
     }
 
 pub asides_keep_time : AsidesKeepTime
@@ -147,7 +147,7 @@ looks_keep_time e words ports b k o since w below here t = record {
 
 pub loaded_marks_keep_time : LoadedMarksKeepTime
 loaded_marks_keep_time e words ports now a k o since below t =
-    let p : Port = owning (ports k) (having_loaded o a) in
+    let p : Port = owning_port (ports k) (having_loaded o a) in
     asides_keep_time e words words ports (put k p ports) now now since
     (one_aside e words words ports k p now now (λ q low. refl) refl refl (λ j d may. absurd (not_again p.control (having_loaded o a) j d refl refl may)) (omega arith)) t
 
@@ -186,7 +186,7 @@ arrivals_keep_time e words ports b k c since w below entering t a = (
 )
   where
     p : Port
-    p = arrived e k a.place a.before
+    p = arrived_port e k a.place a.before
 
     v : ℕ
     v = cond (get_or words (at_word k) 0 == marked (ports k).control.here) (packed c) (get_or words (at_word k) 0)
@@ -248,7 +248,7 @@ steps_keep_places e words k low = record {
   given = λ x v. behind e words k (1 + e.ports + x) v low (omega arith);
 }
   where
-    arena : (x : ℕ) (step : Step) → get_or (words_after words (placed e x step)) (at_word k) 0 ≡ get_or words (at_word k) 0
+    arena : (x : ℕ) (step : Step) → get_or (words_after words (placed_step e x step)) (at_word k) 0 ≡ get_or words (at_word k) 0
     arena x (Load w) = refl
     arena x (Store w v) = behind e words k (base e x + w) v low (omega arith)
     arena x (Exchange w old new) = behind e words k (base e x + w) (cond (get_or words (base e x + w) 0 == old) new (get_or words (base e x + w) 0)) low (omega arith)

@@ -1,5 +1,5 @@
 -- A step of an inner memory that is made in the words of its arena, seen with the seals taken off.
-use Rattle.partial_epochs.proofs.Common.{ℕ, ◌≡◌, ◌≢◌, ◌+◌, ◌%◌, ◌^◌, ◌<◌, ◌≤◌, ◌==◌, ◌⊎◌, Bool, true, false, cond, List, [], ◌∷◌, length, get_or, set, refl, sym, ap, subst, ◌∙◌, inl, inr, arith, nat_lt, AllByRecursion, cases_lt, lt-ltb, eqb_tells, get_or-set_same, get_or-set_other, length-set, set-get_or, Applied, Step, Load, Store, Exchange, Add, total, answer_of, word_of, words_after, added_by, Plan, IsSealed, arena_words, base, component_words, placed, plain, seal, seals, unsealed, MeetsSeal, not_below}
+use Rattle.partial_epochs.proofs.Common.{ℕ, ◌≡◌, ◌≢◌, ◌+◌, ◌%◌, ◌^◌, ◌<◌, ◌≤◌, ◌==◌, ◌⊎◌, Bool, true, false, cond, List, [], ◌∷◌, length, get_or, set, refl, sym, ap, subst, ◌∙◌, inl, inr, arith, nat_lt, AllByRecursion, cases_lt, lt-ltb, eqb_tells, get_or-set_same, get_or-set_other, length-set, set-get_or, Applied, Step, Load, Store, Exchange, Add, total, answer_of, word_of, words_after, added_by, Plan, IsSealed, arena_words, base, component_words, placed_step, plain, seal, seals, unsealed, MeetsSeal, not_below}
 use Rattle.partial_epochs.proofs.Apart.{IsApart}
 use Rattle.partial_epochs.proofs.Lists.{at_of, same_of, set_of}
 use Rattle.partial_epochs.proofs.Places.{below_whole}
@@ -11,7 +11,7 @@ pub record Words (e : Plan) (words : List ℕ) (x : ℕ) (step : Step) (words' :
   pub arena : arena_words e words' x ≡ words_after (arena_words e words x) step
   pub seals : (j : ℕ) → j < e.sizes.m → (seals (get_or (component_words e words' x) j 0) ≡ seals (get_or (component_words e words x) j 0))
       × (IsSealed (get_or (component_words e words x) j 0) → IsSealed (get_or (component_words e words' x) j 0))
-  pub gives : plain e (word_of step) (answer_of words (placed e x step)) ≡ answer_of (arena_words e words x) step
+  pub gives : plain e (word_of step) (answer_of words (placed_step e x step)) ≡ answer_of (arena_words e words x) step
   pub grows : (p : ℕ) → (added_by e.sizes p (arena_words e words x) step ≡ []) ⊎ ((j : ℕ) × (j < e.sizes.m) × (¬ IsSealed (get_or (component_words e words x) j 0)))
   pub free : (p : ℕ) → AllByRecursion (λ (a : Applied). ¬ IsSealed (get_or (component_words e words x) a.component 0)) (added_by e.sizes p (arena_words e words x) step)
 
@@ -62,7 +62,7 @@ module _ (e : Plan) (words : List ℕ) (x : ℕ) where
 
   -- a word is set to what it is
   keeps_same : (after_it : List ℕ) (step : Step) → after_it ≡ words → words_after (arena_words e words x) step ≡ arena_words e words x →
-      plain e (word_of step) (answer_of words (placed e x step)) ≡ answer_of (arena_words e words x) step → ((p : ℕ) → added_by e.sizes p (arena_words e words x) step ≡ []) →
+      plain e (word_of step) (answer_of words (placed_step e x step)) ≡ answer_of (arena_words e words x) step → ((p : ℕ) → added_by e.sizes p (arena_words e words x) step ≡ []) →
       Words e words x step after_it
   keeps_same after_it step same after gives none = subst (Words e words x step) (sym same) (record {
     count = refl;
@@ -77,7 +77,7 @@ module _ (e : Plan) (words : List ℕ) (x : ℕ) where
   -- a step that sets a word which is no component word
   keeps_other : (step : Step) (v : ℕ) (low : word_of step < total e.sizes) (there : base e x + word_of step < length words) → e.sizes.m ≤ word_of step →
       words_after (arena_words e words x) step ≡ set (arena_words e words x) (word_of step) v →
-      plain e (word_of step) (answer_of words (placed e x step)) ≡ answer_of (arena_words e words x) step → ((p : ℕ) → added_by e.sizes p (arena_words e words x) step ≡ []) →
+      plain e (word_of step) (answer_of words (placed_step e x step)) ≡ answer_of (arena_words e words x) step → ((p : ℕ) → added_by e.sizes p (arena_words e words x) step ≡ []) →
       Words e words x step (set words (base e x + word_of step) v)
   keeps_other step v low there from after gives none = record {
     count = length-set words (base e x + word_of step) v;
@@ -107,14 +107,14 @@ module _ (e : Plan) (words : List ℕ) (x : ℕ) where
       | inr other ↦ ap (λ (b : Bool). set words (base e x + w) (cond b new raw)) other.0 ∙ set-get_or words (base e x + w) 0
     ]
 
-    sealed_other : IsSealed raw → unsealed raw ≢ old → Words e words x (Exchange w old new) (words_after words (placed e x (Exchange w old new)))
+    sealed_other : IsSealed raw → unsealed raw ≢ old → Words e words x (Exchange w old new) (words_after words (placed_step e x (Exchange w old new)))
     sealed_other sealed other =
         let found_is = found in
         let plain_lost : (get_or (arena_words e words x) w 0 == old) ≡ false = (elim (eqb_tells (get_or (arena_words e words x) w 0) old) [
           | inl is ↦ let same = is.1 in absurd (other (sym found_is ∙ same))
           | inr apart ↦ apart.0
         ]) in
-        keeps_same (words_after words (placed e x (Exchange w old new))) (Exchange w old new) (lost sealed)
+        keeps_same (words_after words (placed_step e x (Exchange w old new))) (Exchange w old new) (lost sealed)
         (ap (λ (b : Bool). set (arena_words e words x) w (cond b new (get_or (arena_words e words x) w 0))) plain_lost ∙ set-get_or (arena_words e words x) w 0)
         gives_here
         (λ p. ap (λ (b : Bool). cond (nat_lt w e.sizes.m) (cond b (record { port = p; component = w; value = get_or (arena_words e words x) (new + 1) 0; stamp = new } ∷ []) []) []) plain_lost
@@ -124,7 +124,7 @@ module _ (e : Plan) (words : List ℕ) (x : ℕ) where
         both true = refl
         both false = refl
 
-    free : raw < seal → Words e words x (Exchange w old new) (words_after words (placed e x (Exchange w old new)))
+    free : raw < seal → Words e words x (Exchange w old new) (words_after words (placed_step e x (Exchange w old new)))
     free unsealed_raw =
         let is : unsealed raw ≡ raw = omega (arith, unsealed_raw) in
         let found_is : get_or (arena_words e words x) w 0 ≡ raw = found ∙ is in
@@ -153,8 +153,8 @@ module _ (e : Plan) (words : List ℕ) (x : ℕ) where
         less false = unsealed_raw
 
         seals_here : (j : ℕ) → j < e.sizes.m → cond (raw == old) new raw < seal → raw < seal →
-            (seals (get_or (component_words e (words_after words (placed e x (Exchange w old new))) x) j 0) ≡ seals (get_or (component_words e words x) j 0))
-            × (IsSealed (get_or (component_words e words x) j 0) → IsSealed (get_or (component_words e (words_after words (placed e x (Exchange w old new))) x) j 0))
+            (seals (get_or (component_words e (words_after words (placed_step e x (Exchange w old new))) x) j 0) ≡ seals (get_or (component_words e words x) j 0))
+            × (IsSealed (get_or (component_words e words x) j 0) → IsSealed (get_or (component_words e (words_after words (placed_step e x (Exchange w old new))) x) j 0))
         seals_here j low_j v_small raw_small =
             let v : ℕ = cond (raw == old) new raw in
             let next : List ℕ = set words (base e x + w) v in
@@ -176,8 +176,8 @@ module _ (e : Plan) (words : List ℕ) (x : ℕ) where
 
   -- each step but one that meets a seal
   pub worded : (step : Step) → x < e.arenas → length words ≡ base e e.arenas → word_of step < total e.sizes → IsApart e.sizes step → 1 ≤ e.sizes.slots →
-      (MeetsSeal e (component_words e words x) step × (words_after words (placed e x step) ≡ words))
-      ⊎ ((¬ MeetsSeal e (component_words e words x) step) × Words e words x step (words_after words (placed e x step)))
+      (MeetsSeal e (component_words e words x) step × (words_after words (placed_step e x step) ≡ words))
+      ⊎ ((¬ MeetsSeal e (component_words e words x) step) × Words e words x step (words_after words (placed_step e x step)))
   worded (Load w) within count low apart some = inr (λ h. h, keeps_same words (Load w) refl refl (sym (plain_at w low)) (λ p. refl))
   worded (Store w v) within count low apart some =
       let there = below_whole e x w within (omega (arith, low)) in

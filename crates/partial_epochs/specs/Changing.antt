@@ -2,7 +2,7 @@
 use Rattle.std.specs.Prelude.{ℕ, zero, suc, ◌≡◌, ◌≢◌, ◌+◌, ◌*◌, ◌<◌, ◌≤◌, ◌==◌, nat_lt, List, slice_index, if◌then◌else◌, Some}
 use Rattle.partial_words.specs.Layout.{first_free}
 use Rattle.partial_epochs.specs.Layout.{IsPlace, Place, Plan, at_word, current_word, epoch_limit, marked, own_word, packed}
-use Rattle.partial_epochs.specs.Ports.{Owned, Port}
+use Rattle.partial_epochs.specs.Ports.{OwnedArena, Port}
 use Rattle.partial_epochs.specs.EveryStep.{Move}
 use Rattle.partial_epochs.specs.EveryStep as every
 
@@ -112,45 +112,45 @@ pub data ChangeLeads (e : Plan) (words : List ℕ) (p : Port) : Changing → Act
   FindsOwned : (n x : ℕ) → slice_index words (own_word e x) ≢ 0 →
       ChangeLeads e words p (TakesArena n x) Sees (next_arena p.control.here.arena n x)
   -- the owner finds its epoch the current one, or ended
-  OwnerGoesOn : (n x : ℕ) (o : Owned) → IsHere words p →
+  OwnerGoesOn : (n x : ℕ) (o : OwnedArena) → IsHere words p →
       ChangeLeads e words p (LooksAsOwner n x) (Moves (every.Move.LooksAsOwner o)) (next_port e n x 0)
-  OwnerGivesUp : (n x : ℕ) (o : Owned) → (¬ IsHere words p) →
+  OwnerGivesUp : (n x : ℕ) (o : OwnedArena) → (¬ IsHere words p) →
       ChangeLeads e words p (LooksAsOwner n x) (Moves (every.Move.LooksAsOwner o)) GivesUp
   -- port q is elsewhere, or is entering, or is in the arena
-  FindsElsewhere : (n x q : ℕ) (o : Owned) (d : Place) → o.clean ≡ q →
+  FindsElsewhere : (n x q : ℕ) (o : OwnedArena) (d : Place) → o.clean ≡ q →
       ChangeLeads e words p (LoadsPort n x q) (Moves (every.Move.FindsElsewhere o d)) (next_port e n x (q + 1))
-  FindsMark : (n x q : ℕ) (o : Owned) → o.clean ≡ q →
+  FindsMark : (n x q : ℕ) (o : OwnedArena) → o.clean ≡ q →
       ChangeLeads e words p (LoadsPort n x q) (Moves (every.Move.LoadsMark o)) (LooksAgain n x q)
   FindsThere : (n x q : ℕ) (d : Place) → q < e.ports → slice_index words (at_word q) ≡ packed d → d.arena ≡ x →
       ChangeLeads e words p (LoadsPort n x q) Sees (GivesBack n x)
   -- behind the mark the epoch is the current one yet, or has ended
-  LooksOn : (n x q : ℕ) (o : Owned) → q < e.ports → IsHere words p →
+  LooksOn : (n x q : ℕ) (o : OwnedArena) → q < e.ports → IsHere words p →
       ChangeLeads e words p (LooksAgain n x q) (Moves (every.Move.LooksAsOwner o)) (PutsPort n x q)
-  MarkGivesUp : (n x q : ℕ) (o : Owned) → (¬ IsHere words p) →
+  MarkGivesUp : (n x q : ℕ) (o : OwnedArena) → (¬ IsHere words p) →
       ChangeLeads e words p (LooksAgain n x q) (Moves (every.Move.LooksAsOwner o)) GivesUp
   -- the exchange of the mark is won; or it is lost, and the port is elsewhere; or it has another mark, or is in the arena
-  PutsOne : (n x q : ℕ) (o : Owned) (a : Place) → o.clean ≡ q →
+  PutsOne : (n x q : ℕ) (o : OwnedArena) (a : Place) → o.clean ≡ q →
       ChangeLeads e words p (PutsPort n x q) (Moves (every.Move.Puts o a)) (next_port e n x (q + 1))
-  PutElsewhere : (n x q : ℕ) (o : Owned) (d : Place) → o.clean ≡ q →
+  PutElsewhere : (n x q : ℕ) (o : OwnedArena) (d : Place) → o.clean ≡ q →
       ChangeLeads e words p (PutsPort n x q) (Moves (every.Move.FindsElsewhere o d)) (next_port e n x (q + 1))
-  PutIsLost : (n x q : ℕ) (o : Owned) (a : Place) → q < e.ports → p.control.owned ≡ Some o → o.mark ≡ Some a →
+  PutIsLost : (n x q : ℕ) (o : OwnedArena) (a : Place) → q < e.ports → p.control.owned ≡ Some o → o.mark ≡ Some a →
       slice_index words (at_word q) ≢ marked a → ((d : Place) → IsPlace e d → slice_index words (at_word q) ≡ packed d → d.arena ≡ x) →
       ChangeLeads e words p (PutsPort n x q) Sees (GivesBack n x)
   -- the arena isn't free, and the next one is tried
-  GivesOneBack : (n x : ℕ) (o : Owned) → o.arena ≡ x →
+  GivesOneBack : (n x : ℕ) (o : OwnedArena) → o.arena ≡ x →
       ChangeLeads e words p (GivesBack n x) (Moves (every.Move.Gives o)) (next_arena p.control.here.arena n x)
   -- behind a pass the epoch is the current one yet, or has ended
   PassesAgain : (n : ℕ) → IsHere words p → ChangeLeads e words p (EndsPass n) Sees (next_pass e p.control.here.arena n)
   PassGivesUp : (n : ℕ) → (¬ IsHere words p) → ChangeLeads e words p (EndsPass n) (Moves every.Move.Looks) StoresMark
   -- the loads of what the components have and of the slot counter, the stores of the next epoch's words, and the exchange of the current word
   LoadsOne : (i : ℕ) → ChangeLeads e words p (LoadsLast i) Sees (next_load i)
-  FindsSlotsClear : (o : Owned) (next : ℕ) →
+  FindsSlotsClear : (o : OwnedArena) (next : ℕ) →
       ChangeLeads e words p LoadsClaimed (Moves (every.Move.FindsClear o next)) (next_set e next)
   FindsSlotsClaimed : ChangeLeads e words p LoadsClaimed Sees (SetsWord 0)
-  SetsOne : (i : ℕ) (o : Owned) (v next : ℕ) → o.set ≡ i →
+  SetsOne : (i : ℕ) (o : OwnedArena) (v next : ℕ) → o.set ≡ i →
       ChangeLeads e words p (SetsWord i) (Moves (every.Move.Sets o v next)) (next_set e next)
-  PublishesOnce : (o : Owned) → ChangeLeads e words p Publishes (Moves (every.Move.Publishes o)) GivesUp
-  GivesLast : (o : Owned) → ChangeLeads e words p GivesUp (Moves (every.Move.Gives o)) StoresMark
+  PublishesOnce : (o : OwnedArena) → ChangeLeads e words p Publishes (Moves (every.Move.Publishes o)) GivesUp
+  GivesLast : (o : OwnedArena) → ChangeLeads e words p GivesUp (Moves (every.Move.Gives o)) StoresMark
   -- the three steps of entering
   Marks : ChangeLeads e words p StoresMark (Moves every.Move.StoresMark) LoadsCurrent
   Loads : ChangeLeads e words p LoadsCurrent (Moves every.Move.LoadsCurrent) ExchangesMark

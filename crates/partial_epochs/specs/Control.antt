@@ -1,7 +1,7 @@
 -- The control words: which epoch is the current one, where each port stands, and who owns which arena.
 use Rattle.std.specs.Prelude.{ℕ, ◌+◌, ◌<◌, ◌≤◌, List, slice_index, Option, ◌≡◌, ◌≢◌, ◌⊎◌, ⊤, true, Some, None, IfSome}
 use Rattle.partial_epochs.specs.Layout.{Plan, Place, packed, marked, IsPlace, current_word, at_word, own_word}
-use Rattle.partial_epochs.specs.Ports.{Entering, Owned, Control}
+use Rattle.partial_epochs.specs.Ports.{Entering, OwnedArena, Control}
 use Rattle.partial_epochs.specs.Ports.Entering.{Stands, Marks, Loaded}
 
 -- port k is entering, and the word where it stands is still marked
@@ -34,7 +34,7 @@ NotInto x _ = ⊤
 -- port q may put port k, whose mark it has loaded: it has seen since that its own epoch is the current one
 pub record MayPut (q : Control) (k : ℕ) (a : Place) : Type 0 where
   -- it owns an arena
-  pub owned : Owned
+  pub owned : OwnedArena
   pub is : q.owned ≡ Some owned
   -- k is the port that it comes to next
   pub port : owned.clean ≡ k
@@ -54,7 +54,7 @@ pub record IsOut (e : Plan) (words : List ℕ) (cs : ℕ → Control) (x k : ℕ
       (cs q).here.arena ≢ x
 
 -- what is so of an arena that port k owns
-pub record IsOwner (e : Plan) (words : List ℕ) (cs : ℕ → Control) (now : Place) (holds : ℕ → Option ℕ) (k : ℕ) (w : Owned) :
+pub record IsOwner (e : Plan) (words : List ℕ) (cs : ℕ → Control) (now : Place) (holds : ℕ → Option ℕ) (k : ℕ) (w : OwnedArena) :
     Type 0 where
   -- an owner isn't entering
   pub stands : (cs k).entering ≡ Stands

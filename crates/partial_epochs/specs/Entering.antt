@@ -37,8 +37,8 @@ EntriesLoad = (e : Plan) (words : List ℕ) (ports : ℕ → Port) (b : Beside) 
     × LawfulEpochs e words (put k (record (ports k) { control = record (ports k).control { entering = Loaded (place_now b) } }) ports) b
 
 -- the port that has come to that place, with a new part there
-abbrev pub arrived : Plan → ℕ → Place → List (List Applied) → Port
-arrived e k c before = record {
+abbrev pub arrived_port : Plan → ℕ → Place → List (List Applied) → Port
+arrived_port e k c before = record {
   control = record { here = c; entering = Stands; past = false; owned = None };
   part = fresh_part e.sizes k;
   passed = 0;
@@ -55,7 +55,7 @@ pub record Arrives (e : Plan) (words : List ℕ) (ports : ℕ → Port) (b : Bes
   pub epoch : length before ≡ place.epoch
   pub later : (ports k).control.here.epoch < place.epoch
   pub lawful : LawfulEpochs e (words_after words (Exchange (at_word k) (marked (ports k).control.here) (packed c)))
-      (put k (arrived e k place before) ports) b
+      (put k (arrived_port e k place before) ports) b
 
 -- with that step the state stays lawful
 abbrev pub ArrivalsStayLawful : Type 0

@@ -16,7 +16,7 @@ use Rattle.partial_core.specs.Lawful as one
 use Rattle.partial_epochs.specs.Lists.{list_of, count}
 use Rattle.partial_epochs.specs.Layout.{arena_limit, Plan, Place, packed, current_word, control_words, component_words, carried_words, whole, seals, IsAsked, IsSealed, arena_words, base, set_offset, set_word}
 use Rattle.partial_epochs.specs.History.{opening_behind, carried_behind}
-use Rattle.partial_epochs.specs.Ports.{Owned, Control, Port, Epoch}
+use Rattle.partial_epochs.specs.Ports.{OwnedArena, Control, Port, Epoch}
 use Rattle.partial_epochs.specs.Control.{LawfulControl}
 use Rattle.partial_epochs.specs.Ports.Entering.{Stands}
 
@@ -126,7 +126,7 @@ next_epoch_word e b i =
     else carried_behind e.opening (b.log ∷ b.before) (i - first_free e.sizes)
 
 -- what the port p has set in the arena that it owns
-pub record IsSetting (e : Plan) (words : List ℕ) (b : Beside) (p : Port) (w : Owned) : Type 0 where
+pub record IsSetting (e : Plan) (words : List ℕ) (b : Beside) (p : Port) (w : OwnedArena) : Type 0 where
   -- it sets no more words than an opening has
   pub few : w.set ≤ first_free e.sizes + e.sizes.m
   -- it has passed each component of its own epoch before

@@ -12,8 +12,8 @@ use Rattle.partial_machine.specs.Machine.{CoreState, advance, reply_of, step_of}
 use Rattle.partial_core.specs.Part.{IsMachineOf}
 use Rattle.partial_core.specs.Steps.{since_with}
 use Rattle.partial_epochs.specs.Lists.{put}
-use Rattle.partial_epochs.specs.Layout.{IsAsked, IsPlace, IsSealed, Place, Plan, arena_words, at_word, base, component_words, current_word, entering_mark, marked, own_word, packed, placed, seal, set_word}
-use Rattle.partial_epochs.specs.Ports.{Owned, Port}
+use Rattle.partial_epochs.specs.Layout.{IsAsked, IsPlace, IsSealed, Place, Plan, arena_words, at_word, base, component_words, current_word, entering_mark, marked, own_word, packed, placed_step, seal, set_word}
+use Rattle.partial_epochs.specs.Ports.{OwnedArena, Port}
 use Rattle.partial_epochs.specs.Ports.Entering.{Stands, Marks, Loaded}
 use Rattle.partial_epochs.specs.Epochs.{Beside, IsStanding, next_epoch_word, place_now}
 use Rattle.partial_epochs.specs.MachineSteps.{MachineLeads, MayClaim, MeetsSeal}
@@ -31,30 +31,30 @@ pub data Move : Type 0 where
   PassesSealed : Move
   -- a load of the current word, by a port that owns no arena, and by an owner
   Looks : Move
-  LooksAsOwner : Owned → Move
+  LooksAsOwner : OwnedArena → Move
   -- the three steps of entering
   StoresMark : Move
   LoadsCurrent : Move
   ExchangesMark : Place → Move
   -- the won exchange of an owner word, and the store that gives the arena back
   Takes : ℕ → Move
-  Gives : Owned → Move
+  Gives : OwnedArena → Move
   -- an owner finds the next port elsewhere, loads its mark, or puts it where it stands itself
-  FindsElsewhere : Owned → Place → Move
-  LoadsMark : Owned → Move
-  Puts : Owned → Place → Move
+  FindsElsewhere : OwnedArena → Place → Move
+  LoadsMark : OwnedArena → Move
+  Puts : OwnedArena → Place → Move
   -- an owner sets the next word, so that the words below that number count as set
-  Sets : Owned → ℕ → ℕ → Move
+  Sets : OwnedArena → ℕ → ℕ → Move
   -- an owner loads the slot counter of its arena, and the words below that number count as set
-  FindsClear : Owned → ℕ → Move
+  FindsClear : OwnedArena → ℕ → Move
   -- an owner publishes
-  Publishes : Owned → Move
+  Publishes : OwnedArena → Move
   -- a port notes what it has seen by a look
   Notes : Noted → ℕ → Move
 
 -- the words after the move
 abbrev pub moved_words : Plan → List ℕ → Port → ℕ → Move → List ℕ
-moved_words e words p k (Makes c step) = words_after words (placed e p.control.here.arena step)
+moved_words e words p k (Makes c step) = words_after words (placed_step e p.control.here.arena step)
 moved_words e words p k Seals = words_after words (Add (base e p.control.here.arena + p.passed) seal)
 moved_words e words p k StoresMark = words_after words (Store (at_word k) (marked p.control.here))
 moved_words e words p k (ExchangesMark c) = words_after words (Exchange (at_word k) (marked p.control.here) (packed c))

@@ -122,11 +122,11 @@ abbrev pub arena_words : Plan → List ℕ → ℕ → List ℕ
 arena_words e words x = list_of (plain_word e words x) 0 (total e.sizes)
 
 -- the step of an inner memory, made in the words of arena x
-abbrev pub placed : Plan → ℕ → Step → Step
-placed e x (Load w) = Load (base e x + w)
-placed e x (Store w v) = Store (base e x + w) v
-placed e x (Exchange w old new) = Exchange (base e x + w) old new
-placed e x (Add w k) = Add (base e x + w) k
+abbrev pub placed_step : Plan → ℕ → Step → Step
+placed_step e x (Load w) = Load (base e x + w)
+placed_step e x (Store w v) = Store (base e x + w) v
+placed_step e x (Exchange w old new) = Exchange (base e x + w) old new
+placed_step e x (Add w k) = Add (base e x + w) k
 
 -- the word of an opening that an owner sets as number i: those before the list words from the last one down, so that the slots come before
 -- the word that counts them, and those behind in their order

@@ -13,7 +13,7 @@ use Rattle.partial_machine.specs.declared.stage.Reply.TheVariants as reply
 use Rattle.partial_machine.specs.Machine.{CoreState, advance, reply_of, step_of}
 use Rattle.partial_core.specs.Steps.{Tells}
 use Rattle.partial_epochs.specs.Lists.{put}
-use Rattle.partial_epochs.specs.Layout.{Plan, component_words, unsealed, IsSealed, plain, arena_words, placed}
+use Rattle.partial_epochs.specs.Layout.{Plan, component_words, unsealed, IsSealed, plain, arena_words, placed_step}
 use Rattle.partial_epochs.specs.History.{opening_behind}
 use Rattle.partial_epochs.specs.Ports.{Port}
 use Rattle.partial_epochs.specs.Epochs.{Beside, IsStanding, LawfulEpochs, IsPresent}
@@ -47,8 +47,8 @@ pub record MachineLeads (e : Plan) (words : List ℕ) (ports : ℕ → Port) (b 
   pub standing : IsStanding b k (ports k)
   -- the step meets no seal
   pub unmet : ¬ MeetsSeal e (component_words e words (ports k).control.here.arena) step
-  pub within : word_of (placed e (ports k).control.here.arena step) < length words
-  pub gives : plain e (word_of step) (answer_of words (placed e (ports k).control.here.arena step))
+  pub within : word_of (placed_step e (ports k).control.here.arena step) < length words
+  pub gives : plain e (word_of step) (answer_of words (placed_step e (ports k).control.here.arena step))
       ≡ answer_of (arena_words e words (ports k).control.here.arena) step
   pub port : Port
   pub entries : List Applied
@@ -67,7 +67,7 @@ pub record MachineLeads (e : Plan) (words : List ℕ) (ports : ℕ → Port) (b 
   pub beside : Beside
   pub log : beside.log ≡ b.log ++ entries
   pub epochs : beside.before ≡ b.before
-  pub lawful : LawfulEpochs e (words_after words (placed e (ports k).control.here.arena step)) (put k port ports) beside
+  pub lawful : LawfulEpochs e (words_after words (placed_step e (ports k).control.here.arena step)) (put k port ports) beside
 
 -- each due step of a machine keeps the lawful state; where it meets a seal nothing changes
 abbrev pub MachineStepsStayLawful : Type 0
@@ -75,7 +75,7 @@ MachineStepsStayLawful = (e : Plan) (words : List ℕ) (ports : ℕ → Port) (b
     LawfulEpochs e words ports b → k < e.ports → (ports k).control.entering ≡ Stands → IsMachineOf c (ports k).part →
     step_of c ≡ Some step → MayClaim e (ports k).over step →
     (MeetsSeal e (component_words e words (ports k).control.here.arena) step
-    × (words_after words (placed e (ports k).control.here.arena step) ≡ words))
+    × (words_after words (placed_step e (ports k).control.here.arena step) ≡ words))
     ⊎ MachineLeads e words ports b k c step
 
 -- a port that has made no claim past the limit has room for its next one

@@ -21,14 +21,14 @@ use Rattle.partial_machine.specs.Machine.{CoreState}
 use Rattle.partial_core.specs.Part.{with_seen}
 use Rattle.partial_core.specs.Steps.{since_with}
 use Rattle.partial_epochs.specs.Lists.{put}
-use Rattle.partial_epochs.specs.Layout.{Place, Plan, at_word, marked, packed, placed}
+use Rattle.partial_epochs.specs.Layout.{Place, Plan, at_word, marked, packed, placed_step}
 use Rattle.partial_epochs.specs.History.{carried_behind, history_of, opening_behind, public_stamp, stamp_limit}
-use Rattle.partial_epochs.specs.Ports.{Owned, Port}
+use Rattle.partial_epochs.specs.Ports.{OwnedArena, Port}
 use Rattle.partial_epochs.specs.Ports.Entering.{Stands}
 use Rattle.partial_epochs.specs.Epochs.{Beside, IsStanding, LawfulEpochs}
 use Rattle.partial_epochs.specs.MachineSteps.{MachineLeads}
 use Rattle.partial_epochs.specs.Sealing.{IsBesideAs}
-use Rattle.partial_epochs.specs.Entering.{Arrives, arrived}
+use Rattle.partial_epochs.specs.Entering.{Arrives, arrived_port}
 use Rattle.partial_epochs.specs.Publishing.{having_published, next_beside}
 
 -- the one history: the histories of all epochs, one behind the other, with public stamps
@@ -51,7 +51,7 @@ abbrev pub seen_of : Port → ℕ
 seen_of p = length (history_of p.before) + length p.part.seen
 
 -- What a port has seen lies in the one history: its epoch is the current one or a finished one.
-pub record Reached (b : Beside) (p : Port) : Type 0 where
+pub record EpochReached (b : Beside) (p : Port) : Type 0 where
   pub later : List (List Applied)
   pub log : List Applied
   pub is : b.log ∷ b.before ≡ later ++ log ∷ p.before
@@ -65,7 +65,7 @@ pub record LawfulNotes (e : Plan) (ports : ℕ → Port) (b : Beside) (notes : �
   -- the histories of the finished epochs are those of epochs
   pub finished : AllByRecursion (IsEpochHistory e) b.before
   -- what a port has seen lies in the one history
-  pub reached : (k : ℕ) → k < e.ports → Reached b (ports k)
+  pub reached : (k : ℕ) → k < e.ports → EpochReached b (ports k)
   -- a port's notes are legal in the one history
   pub legal : (k : ℕ) → k < e.ports → LegalNotes e.opening (one_history b) k 0 (notes k)
   -- they show no more than the port has seen
@@ -134,7 +134,7 @@ NotesStayLawful = (e : Plan) (words : List ℕ) (ports : ℕ → Port) (b : Besi
     (step : Step) → LawfulMemory e words ports b notes → k < e.ports → (ports k).control.entering ≡ Stands →
     (lead : MachineLeads e words ports b k c step) → (added : List Noted) →
     MayNote e (ports k) (notes k) (since_with c (ports k).part) lead.port.part.seen lead.tells.new added →
-    LawfulMemory e (words_after words (placed e (ports k).control.here.arena step)) (put k lead.port ports) lead.beside
+    LawfulMemory e (words_after words (placed_step e (ports k).control.here.arena step)) (put k lead.port ports) lead.beside
     (noting k added notes)
 
 -- A step that changes neither histories nor what its port has seen, its place or its notes: a seal, a step of setting up the next epoch,
@@ -157,11 +157,11 @@ abbrev pub ArrivalsKeepNotes : Type 0
 ArrivalsKeepNotes = (e : Plan) (words : List ℕ) (ports : ℕ → Port) (b : Beside) (notes : ℕ → List Noted) (k : ℕ) (c : Place) →
     LawfulMemory e words ports b notes → k < e.ports → (a : Arrives e words ports b k c) →
     LawfulMemory e (words_after words (Exchange (at_word k) (marked (ports k).control.here) (packed c)))
-    (put k (arrived e k a.place a.before) ports) b notes
+    (put k (arrived_port e k a.place a.before) ports) b notes
 
 -- so does the exchange that opens the next epoch: in the one history nothing changes
 abbrev pub PublishesKeepNotes : Type 0
-PublishesKeepNotes = (e : Plan) (words words' : List ℕ) (ports : ℕ → Port) (b : Beside) (notes : ℕ → List Noted) (k : ℕ) (o : Owned) →
+PublishesKeepNotes = (e : Plan) (words words' : List ℕ) (ports : ℕ → Port) (b : Beside) (notes : ℕ → List Noted) (k : ℕ) (o : OwnedArena) →
     LawfulMemory e words ports b notes → k < e.ports →
     LawfulEpochs e words' (put k (having_published (ports k) o) ports) (next_beside e b o.arena) →
     LawfulMemory e words' (put k (having_published (ports k) o) ports) (next_beside e b o.arena) notes

@@ -10,7 +10,7 @@ use Rattle.partial_epochs.specs.Lists.{put}
 use Rattle.partial_epochs.specs.Layout.{IsAsked, Plan, Place, base, carried_word, control_size, whole}
 use Rattle.partial_epochs.specs.Ports.{Port, Epoch}
 use Rattle.partial_epochs.specs.Epochs.{IsEpochPlan, Beside, LawfulEpochs}
-use Rattle.partial_epochs.specs.Entering.{arrived}
+use Rattle.partial_epochs.specs.Entering.{arrived_port}
 
 -- the words below the first free one are those of an opening, but for list words; behind it anything may stand
 pub record OpensOver (s : Layout) (o : Opening) (words : List ℕ) : Type 0 where
@@ -55,7 +55,7 @@ first_beside e = record { log = []; before = []; arena = 0; holds = put 0 (Some 
 
 -- each port at opening stands in the first epoch, with nothing before it
 abbrev pub first_ports : Plan → ℕ → Port
-first_ports e k = arrived e k first_place []
+first_ports e k = arrived_port e k first_place []
 
 -- such a memory is lawful, with nothing applied
 abbrev pub EpochsOpenLawful : Type 0

@@ -11,7 +11,7 @@ pub data Entering : Type 0 where
   Loaded : Place → Entering
 
 -- an arena that a port owns
-pub record Owned : Type 0 where
+pub record OwnedArena : Type 0 where
   pub arena : ℕ
   -- it has seen that its epoch is the current one, since it owns the arena and hasn't published it
   pub looked : Bool
@@ -32,7 +32,7 @@ pub record Control : Type 0 where
   -- it has seen that another epoch is the current one
   pub past : Bool
   -- the arena that it owns
-  pub owned : Option Owned
+  pub owned : Option OwnedArena
 
 -- A port, as its own steps alone change it.
 pub record Port : Type 0 where

@@ -6,11 +6,11 @@ use Rattle.partial_core.specs.Part.{fresh_part}
 use Rattle.partial_words.specs.Step.{words_after}
 use Rattle.partial_epochs.specs.Lists.{put}
 use Rattle.partial_epochs.specs.Layout.{IsAsked, epoch_limit, Plan, Place, base, packed, current_word, set_word}
-use Rattle.partial_epochs.specs.Ports.{Owned, Port, Epoch}
+use Rattle.partial_epochs.specs.Ports.{OwnedArena, Port, Epoch}
 use Rattle.partial_epochs.specs.Epochs.{Beside, next_epoch_word, LawfulEpochs, IsPresent}
 
 -- a port that has set the words of its arena below that number
-abbrev pub having_set : Port → Owned → ℕ → Port
+abbrev pub having_set : Port → OwnedArena → ℕ → Port
 having_set p o next = record p { control = record p.control { owned = Some (record o { set = next }) } }
 
 -- the arena x holds no epoch then
@@ -18,14 +18,14 @@ abbrev pub vacated : Beside → ℕ → Beside
 vacated b x = record b { holds = put x None b.holds }
 
 -- the slots that come to count as set are 0 in these words
-abbrev pub ClearsSlots : Plan → Owned → ℕ → List ℕ → Type 0
+abbrev pub ClearsSlots : Plan → OwnedArena → ℕ → List ℕ → Type 0
 ClearsSlots e o next words = (l : ℕ) → l + o.set < e.sizes.slots → e.sizes.slots ≤ l + next →
     slice_index words (base e o.arena + slot_word e.sizes l) ≡ 0
 
 -- A port that is done with all others, and has found all components of its epoch sealed, sets the next word of its arena. The words from it
 -- on that count as set behind the store are those of the next epoch, if its own epoch is the current one yet.
 abbrev pub SetsStayLawful : Type 0
-SetsStayLawful = (e : Plan) (words : List ℕ) (ports : ℕ → Port) (b : Beside) (k : ℕ) (o : Owned) (v next : ℕ) →
+SetsStayLawful = (e : Plan) (words : List ℕ) (ports : ℕ → Port) (b : Beside) (k : ℕ) (o : OwnedArena) (v next : ℕ) →
     LawfulEpochs e words ports b → k < e.ports → (ports k).control.owned ≡ Some o → o.clean ≡ e.ports → o.set < next →
     next ≤ first_free e.sizes + e.sizes.m → e.sizes.m ≤ (ports k).passed →
     (slice_index words current_word ≡ packed (ports k).control.here → (i : ℕ) → o.set ≤ i → i < next → IsAsked e.sizes i →
@@ -35,18 +35,18 @@ SetsStayLawful = (e : Plan) (words : List ℕ) (ports : ℕ → Port) (b : Besid
 
 -- Such a port that loads the slot counter of its arena knows that the slots from there on are 0: they count as set.
 abbrev pub ClearSlotsCountAsSet : Type 0
-ClearSlotsCountAsSet = (e : Plan) (words : List ℕ) (ports : ℕ → Port) (b : Beside) (k : ℕ) (o : Owned) (next : ℕ) →
+ClearSlotsCountAsSet = (e : Plan) (words : List ℕ) (ports : ℕ → Port) (b : Beside) (k : ℕ) (o : OwnedArena) (next : ℕ) →
     LawfulEpochs e words ports b → k < e.ports → (ports k).control.owned ≡ Some o → o.clean ≡ e.ports → o.set < next →
     slice_index words (base e o.arena + slot_counter e.sizes) + next ≤ e.sizes.slots → e.sizes.m ≤ (ports k).passed →
     LawfulEpochs e words (put k (having_set (ports k) o next) ports) (vacated b o.arena)
 
 -- an arena that a port owns, as it was when it came to own it
-abbrev pub resting : Owned → Owned
-resting o = record o { looked = false; clean = 0; mark = None; again = false; set = 0 }
+abbrev pub resting_arena : OwnedArena → OwnedArena
+resting_arena o = record o { looked = false; clean = 0; mark = None; again = false; set = 0 }
 
 -- a port that has exchanged the current word: its epoch has passed, and it has yet to give back the arena
-abbrev pub having_published : Port → Owned → Port
-having_published p o = record p { control = record p.control { past = true; owned = Some (resting o) } }
+abbrev pub having_published : Port → OwnedArena → Port
+having_published p o = record p { control = record p.control { past = true; owned = Some (resting_arena o) } }
 
 -- the next epoch as it opens
 abbrev pub next_epoch : Plan → Beside → Epoch
@@ -61,14 +61,14 @@ abbrev pub next_place : Place → ℕ → Place
 next_place here x = record { epoch = here.epoch + 1; arena = x }
 
 -- port k has set all words of the arena that it owns, and its epoch isn't the last one that a word can name
-pub record IsWholeArena (e : Plan) (p : Port) (o : Owned) : Type 0 where
+pub record IsWholeArena (e : Plan) (p : Port) (o : OwnedArena) : Type 0 where
   pub owned : p.control.owned ≡ Some o
   pub set : o.set ≡ first_free e.sizes + e.sizes.m
   pub room : p.control.here.epoch + 1 < epoch_limit
 
 -- The exchange of the current word is won, and opens the next epoch, where the port's epoch is the current one; else the epoch has passed.
 abbrev pub PublishesStayLawful : Type 0
-PublishesStayLawful = (e : Plan) (words : List ℕ) (ports : ℕ → Port) (b : Beside) (k : ℕ) (o : Owned) → LawfulEpochs e words ports b →
+PublishesStayLawful = (e : Plan) (words : List ℕ) (ports : ℕ → Port) (b : Beside) (k : ℕ) (o : OwnedArena) → LawfulEpochs e words ports b →
     k < e.ports → IsWholeArena e (ports k) o →
     ((slice_index words current_word ≡ packed (ports k).control.here) × IsPresent b k (ports k)
     × LawfulEpochs e (words_after words (Exchange current_word (packed (ports k).control.here)

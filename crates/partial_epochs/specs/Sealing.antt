@@ -9,8 +9,8 @@ use Rattle.partial_epochs.specs.Epochs.{Beside, LawfulEpochs}
 use Rattle.partial_epochs.specs.Ports.Entering.{Stands}
 
 -- the port has passed one component more
-abbrev pub passing : Port → Port
-passing p = record p { passed = p.passed + 1 }
+abbrev pub passing_port : Port → Port
+passing_port p = record p { passed = p.passed + 1 }
 
 -- what stands beside them has the same histories, and the same current epoch
 pub record IsBesideAs (b c : Beside) : Type 0 where
@@ -23,7 +23,7 @@ pub record PassLeads (e : Plan) (words words' : List ℕ) (ports : ℕ → Port)
   pub within : base e (ports k).control.here.arena + (ports k).passed < length words
   pub beside : Beside
   pub same : IsBesideAs b beside
-  pub lawful : LawfulEpochs e words' (put k (passing (ports k)) ports) beside
+  pub lawful : LawfulEpochs e words' (put k (passing_port (ports k)) ports) beside
 
 -- the seal of a port that stands in its epoch, and has a component left to seal, leads to such a state
 abbrev pub SealsStayLawful : Type 0

@@ -4,13 +4,13 @@ use Rattle.partial_words.specs.Step.{words_after}
 use Rattle.partial_words.specs.declared.step.Step.{Step}
 use Rattle.partial_words.specs.declared.step.Step.TheVariants.{Store, Exchange}
 use Rattle.partial_epochs.specs.Lists.{put}
-use Rattle.partial_epochs.specs.Layout.{IsPlace, Place, Plan, at_word, current_word, marked, own_word, packed, placed, set_word}
-use Rattle.partial_epochs.specs.Ports.{Owned, Port}
+use Rattle.partial_epochs.specs.Layout.{IsPlace, Place, Plan, at_word, current_word, marked, own_word, packed, placed_step, set_word}
+use Rattle.partial_epochs.specs.Ports.{OwnedArena, Port}
 use Rattle.partial_epochs.specs.Ports.Entering.{Stands, Marks, Loaded}
 use Rattle.partial_epochs.specs.Control.{MayPut}
 use Rattle.partial_epochs.specs.Epochs.{Beside, LawfulEpochs, place_now}
-use Rattle.partial_epochs.specs.Entering.{Arrives, arrived}
-use Rattle.partial_epochs.specs.Owning.{having_loaded, having_looked, having_put, owning}
+use Rattle.partial_epochs.specs.Entering.{Arrives, arrived_port}
+use Rattle.partial_epochs.specs.Owning.{having_loaded, having_looked, having_put, owning_port}
 use Rattle.partial_epochs.specs.Publishing.{having_published, next_place}
 use Rattle.partial_epochs.specs.Opening.{first_place, first_ports}
 
@@ -54,23 +54,23 @@ ArrivalsKeepTime = (e : Plan) (words : List ℕ) (ports : ℕ → Port) (b : Bes
     KeepsTime e words ports (place_now b) since → (a : Arrives e words ports b k c) →
     (since k ≤ a.place.epoch)
     × KeepsTime e (words_after words (Exchange (at_word k) (marked (ports k).control.here) (packed c)))
-    (put k (arrived e k a.place a.before) ports) (place_now b) since
+    (put k (arrived_port e k a.place a.before) ports) (place_now b) since
 
 -- an owner looks and finds its own place the current one
 abbrev pub LooksKeepTime : Type 0
-LooksKeepTime = (e : Plan) (words : List ℕ) (ports : ℕ → Port) (b : Beside) (k : ℕ) (o : Owned) (since : ℕ → ℕ) →
+LooksKeepTime = (e : Plan) (words : List ℕ) (ports : ℕ → Port) (b : Beside) (k : ℕ) (o : OwnedArena) (since : ℕ → ℕ) →
     LawfulEpochs e words ports b → k < e.ports → slice_index words current_word ≡ packed (ports k).control.here →
     KeepsTime e words ports (place_now b) since →
     KeepsTime e words (put k (having_looked (ports k) o) ports) (place_now b) since
 
 -- an owner loads a mark
 abbrev pub LoadedMarksKeepTime : Type 0
-LoadedMarksKeepTime = (e : Plan) (words : List ℕ) (ports : ℕ → Port) (now a : Place) (k : ℕ) (o : Owned) (since : ℕ → ℕ) →
-    k < e.ports → KeepsTime e words ports now since → KeepsTime e words (put k (owning (ports k) (having_loaded o a)) ports) now since
+LoadedMarksKeepTime = (e : Plan) (words : List ℕ) (ports : ℕ → Port) (now a : Place) (k : ℕ) (o : OwnedArena) (since : ℕ → ℕ) →
+    k < e.ports → KeepsTime e words ports now since → KeepsTime e words (put k (owning_port (ports k) (having_loaded o a)) ports) now since
 
 -- an owner puts a port where it stands itself
 abbrev pub PutsKeepTime : Type 0
-PutsKeepTime = (e : Plan) (words : List ℕ) (ports : ℕ → Port) (b : Beside) (k : ℕ) (o : Owned) (a : Place) (since : ℕ → ℕ) →
+PutsKeepTime = (e : Plan) (words : List ℕ) (ports : ℕ → Port) (b : Beside) (k : ℕ) (o : OwnedArena) (a : Place) (since : ℕ → ℕ) →
     LawfulEpochs e words ports b → k < e.ports → (ports k).control.owned ≡ Some o → o.clean < e.ports → o.mark ≡ Some a → o.again ≡ true →
     slice_index words (at_word o.clean) ≡ marked a → KeepsTime e words ports (place_now b) since →
     KeepsTime e (words_after words (Exchange (at_word o.clean) (marked a) (packed (ports k).control.here)))
@@ -78,7 +78,7 @@ PutsKeepTime = (e : Plan) (words : List ℕ) (ports : ℕ → Port) (b : Beside)
 
 -- an owner exchanges the current word: the current epoch is then the same one, or a later one
 abbrev pub PublishesKeepTime : Type 0
-PublishesKeepTime = (e : Plan) (words : List ℕ) (ports : ℕ → Port) (now then : Place) (k : ℕ) (o : Owned) (since : ℕ → ℕ) →
+PublishesKeepTime = (e : Plan) (words : List ℕ) (ports : ℕ → Port) (now then : Place) (k : ℕ) (o : OwnedArena) (since : ℕ → ℕ) →
     k < e.ports → now.epoch ≤ then.epoch → KeepsTime e words ports now since →
     KeepsTime e (words_after words
     (Exchange current_word (packed (ports k).control.here) (packed (next_place (ports k).control.here o.arena))))
@@ -99,7 +99,7 @@ AsidesKeepTime = (e : Plan) (words words' : List ℕ) (ports ports' : ℕ → Po
 
 -- The steps that change no port's word: those in an arena, the store of a word that an owner sets, and those on an owner word.
 pub record KeepPlaces (e : Plan) (words : List ℕ) (k : ℕ) : Type 0 where
-  pub arena : (x : ℕ) (step : Step) → slice_index (words_after words (placed e x step)) (at_word k) ≡ slice_index words (at_word k)
+  pub arena : (x : ℕ) (step : Step) → slice_index (words_after words (placed_step e x step)) (at_word k) ≡ slice_index words (at_word k)
   pub set : (x i v : ℕ) → slice_index (words_after words (Store (set_word e x i) v)) (at_word k) ≡ slice_index words (at_word k)
   pub taken : (x old new : ℕ) →
       slice_index (words_after words (Exchange (own_word e x) old new)) (at_word k) ≡ slice_index words (at_word k)

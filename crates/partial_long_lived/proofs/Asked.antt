@@ -1,21 +1,21 @@
 -- The steps of a change of epoch, as its code asks for them.
-use Rattle.partial_long_lived.proofs.Common.{ℕ, ◌≡◌, ◌≢◌, ◌+◌, ◌-◌, ◌*◌, ◌%◌, ◌^◌, ◌<◌, ◌≤◌, ◌==◌, Bool, cond, Option, Some, IfSome, List, [], sym, ap, subst, ◌∙◌, inl, inr, arith, lt-ltb, either, Me, Allows, TableId, first_free, list_base, pool_base, opening_word, Place, Plan, arena_limit, at_word, base, entering_mark, marked, own_word, packed, seal, set_word, Owned, Port, Stands, next_place, passing, below_whole, set_place, About, Stand, IsRuleKept, SeatedPort, one_of, plan_of, bare, shape_plan, SeatGoes, IsOne, tells, IsHeld, port_at, SeatGives, LoadsPort, PassesSealed, SeatPublishes, PutsPort, Seals, Sets, Takes, passed_at, unpacked, IsIdle, IsCarriedStamp, IsInitialValue, IsRight, IsFixedWord, MayPutPort, OfOwned, Owns, PutsBy, SetsLists, SetsNext, TakesBy, HasSetWords, initial_words, set_offset, slot_counter, FindsClear}
+use Rattle.partial_long_lived.proofs.Common.{ℕ, ◌≡◌, ◌≢◌, ◌+◌, ◌-◌, ◌*◌, ◌%◌, ◌^◌, ◌<◌, ◌≤◌, ◌==◌, Bool, cond, Option, Some, IfSome, List, [], sym, ap, subst, ◌∙◌, inl, inr, arith, lt-ltb, either, Me, Allows, TableId, first_free, list_base, pool_base, opening_word, Place, Plan, arena_limit, at_word, base, entering_mark, marked, own_word, packed, seal, set_word, OwnedArena, Port, Stands, next_place, passing_port, below_whole, set_place, About, Stand, IsRuleKept, SeatedPort, one_of, plan_of, bare, shape_plan, SeatGoes, IsOne, tells, IsHeld, port_at, SeatGives, LoadsPort, PassesSealed, SeatPublishes, PutsPort, Seals, Sets, Takes, passed_at, unpacked, IsIdle, IsCarriedStamp, IsInitialValue, IsRight, IsFixedWord, MayPutPort, OfOwned, Owns, PutsBy, SetsLists, SetsNext, TakesBy, HasSetWords, initial_words, set_offset, slot_counter, FindsClear}
 use Rattle.partial_long_lived.proofs.Changes.{may_give, may_load_port, may_pass, may_put, may_seal, may_take}
 use Rattle.partial_long_lived.proofs.Sets.{may_find_clear, may_set_over_lists, may_set_same, may_set_stamp, may_set_value}
 use Rattle.partial_long_lived.proofs.Publishes.{may_publish}
 use Rattle.partial_long_lived.proofs.Standing.{base_is, place_is}
 
 -- a step by the arena that the port owns
-of_owned : (about : About) (slots id i : ℕ) (f : ℕ → ℕ) (me : Me (Unit {0}) (List SeatedPort)) (R : Owned → SeatedPort → ℕ → SeatedPort → Type 0) (o : Owned) →
+of_owned : (about : About) (slots id i : ℕ) (f : ℕ → ℕ) (me : Me (Unit {0}) (List SeatedPort)) (R : OwnedArena → SeatedPort → ℕ → SeatedPort → Type 0) (o : OwnedArena) →
     (one_of me.0).port.control.owned ≡ Some o →
     Allows (IsRuleKept about) slots id me i f (tells (R o) me) → Allows (IsRuleKept about) slots id me i f (tells (OfOwned R) me)
 of_owned about slots id i f me R o is asked =
-    subst (λ (t : Option Owned). Allows (IsRuleKept about) slots id me i f (λ a me'. IsOne me' × SeatGoes (one_of me.0) (one_of me'.0) × IfSome t (λ o. R o (one_of me.0) a (one_of me'.0))))
+    subst (λ (t : Option OwnedArena). Allows (IsRuleKept about) slots id me i f (λ a me'. IsOne me' × SeatGoes (one_of me.0) (one_of me'.0) × IfSome t (λ o. R o (one_of me.0) a (one_of me'.0))))
     (sym is) asked
 
 -- a component that isn't sealed isn't passed
 passed_not : (a : ℕ) (p : Port) → a < seal → passed_at a p ≡ p
-passed_not a p low = ap (λ (c : Bool). cond c p (passing p)) (lt-ltb a seal low)
+passed_not a p low = ap (λ (c : Bool). cond c p (passing_port p)) (lt-ltb a seal low)
 
 module _ (table : TableId) (about : About) (s : Stand) (h : IsHeld table about s) where
   abbrev x : SeatedPort
@@ -104,7 +104,7 @@ module _ (table : TableId) (about : About) (s : Stand) (h : IsHeld table about s
       let o = holds.owned in
       let m : Place = unpacked (a - entering_mark) in
       let named : marked m ≡ a = omega (arith, from) in
-      let put : ℕ → Owned → SeatedPort → ℕ → SeatedPort → Type 0 = λ w o. PutsPort o (unpacked (w - entering_mark)) in
+      let put : ℕ → OwnedArena → SeatedPort → ℕ → SeatedPort → Type 0 = λ w o. PutsPort o (unpacked (w - entering_mark)) in
       of_owned about slots id (1 + q) (λ n. either (n == a) v n) s.seat.me (λ o. PutsPort o m) o holds.is
       (subst (λ i. Allows (IsRuleKept about) slots id s.seat.me i (λ n. either (n == a) v n) (tells (PutsPort o m) s.seat.me)) (ap at_word holds.clean)
       (subst (λ t. Allows (IsRuleKept about) slots id s.seat.me (at_word o.clean) (λ n. either (n == t) v n) (tells (PutsPort o m) s.seat.me)) named
@@ -137,7 +137,7 @@ module _ (table : TableId) (about : About) (s : Stand) (h : IsHeld table about s
       (ap (λ y. set_word e y o.set) works.arena ∙ ap (set_word e y) works.set ∙ sym (set_is y i w word))
       (by (subst (IsRight x v) (sym works.set) right)))
     where
-      o : Owned
+      o : OwnedArena
       o = works.owned
 
       by : IsRight x v o.set → Allows (IsRuleKept about) slots id s.seat.me (set_word e o.arena o.set) (λ n. v) (tells (Sets o (o.set + 1)) s.seat.me)

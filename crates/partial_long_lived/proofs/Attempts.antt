@@ -1,5 +1,5 @@
 -- An attempt of an update in the epoch where a port stands.
-use Rattle.partial_long_lived.proofs.Common.{ℕ, ◌≡◌, ◌≢◌, ◌+◌, ◌<◌, ◌≤◌, ◌==◌, ◌++◌, Bool, true, false, cond, Option, None, Some, Ok, List, [], ◌∷◌, length, map, refl, sym, ap, subst, ◌∙◌, inl, inr, arith, option_map_or, nat_lt, is_some, lt-ltb, eqb_tells, length-map, TableId, Applied, Call, Answer, Note, stamp_of, Noted, place_of, Load, Exchange, IsLayout, Layout, greatest_record, pool_end, Change, Reply, Stage, Exchanging, Finished, UpdateBegun, CoreState, advance_at, at_stage, begin_getting, lists_spent, overtaken, reply_of, step_at, step_of, answer_for, call_of, update_call, IsRecord, IsSound, is_sound_at, Part, AreNotesOf, IsNoteOf, IsPlacedAt, Exchanged, RestsLike, update_reply, Plan, seal, unsealed, history_of, public_entry, public_log, stamp_limit, public_noted, Control, About, Shape, Stand, Began, SeatedPort, plan_of, seen_in, SeatGoes, BeganBy, IsHeld, port_at, IsIdle, StaysAt, opening_of, SeatMakes, MissesSeal, unsealed_answer, RestsUnmarked, CallMade, record_claim, IsGoing, ComesTo, MayBegin, machine_at, Attempted, ExchangeDue, ExpectsOne, IsEntryOf, IsOwnMachine, NotesNothing, Stayed, noted_where, word_from}
+use Rattle.partial_long_lived.proofs.Common.{ℕ, ◌≡◌, ◌≢◌, ◌+◌, ◌<◌, ◌≤◌, ◌==◌, ◌++◌, Bool, true, false, cond, Option, None, Some, Ok, List, [], ◌∷◌, length, map, refl, sym, ap, subst, ◌∙◌, inl, inr, arith, option_map_or, nat_lt, is_some, lt-ltb, eqb_tells, length-map, TableId, Applied, Call, Answer, Note, stamp_of, Noted, place_of, Load, Exchange, IsLayout, Layout, greatest_record, pool_end, Change, Reply, Stage, Exchanging, Finished, UpdateBegun, CoreState, advance_at, at_stage, begin_getting, lists_spent, overtaken, reply_of, step_at, step_of, answer_for, call_of, update_call, IsRecord, IsSound, is_sound_at, Part, AreNotesOf, IsNoteOf, IsPlacedAt, Exchanged, RestsLike, update_reply, Plan, seal, unsealed, history_of, public_entry, public_log, stamp_limit, public_noted, Control, About, Shape, Stand, Began, SeatedPort, plan_of, seen_in, SeatGoes, BeganBy, IsHeld, port_at, IsIdle, StaysAt, opening_of, SeatMakes, MissesSeal, unsealed_answer, RestsUnmarked, CallMade, record_claim, IsGoing, ComesTo, MayBegin, machine_at, UpdateAttempted, ExchangeDue, ExpectsOne, IsEntryOf, IsOwnMachine, NotesNothing, PortStayed, noted_where, word_from}
 use Rattle.std.specs.Prelude.{◌||◌, IfSome, take}
 use Rattle.std.proofs.Math.Bool.{or-false}
 use Rattle.std.proofs.lemmas.List.{length-append}
@@ -133,7 +133,7 @@ module _ (table : TableId) (about : About) (s : Stand) (h : IsHeld table about s
 
   -- where the call stands at t, in the call that its first step began
   module _ (t : Stand) (here : StaysAt s t) (began : (port_at t).began ≡ makes.0.n) where
-    stayed_as : (port_at t).port.control ≡ (port_at s).port.control → Stayed first s t
+    stayed_as : (port_at t).port.control ≡ (port_at s).port.control → PortStayed first s t
     stayed_as control = record {
       kept = here;
       idle = record { stands = ap (λ (c : Control). c.entering) control ∙ idle.stands; free = ap (λ (c : Control). c.owned) control ∙ idle.free };
@@ -176,7 +176,7 @@ module _ (table : TableId) (about : About) (s : Stand) (h : IsHeld table about s
           at_before (Some at) (IsApplied stamp) = refl
           at_before (Some at) (Overtaken by) = refl
 
-      ended_as : word_from r < stamp_limit → Attempted first d r s t
+      ended_as : word_from r < stamp_limit → UpdateAttempted first d r s t
       ended_as small = record {
         stayed = stayed_as over.control;
         place = length (history_of x.port.before) + noted.0;
@@ -236,7 +236,7 @@ module _ (table : TableId) (about : About) (s : Stand) (h : IsHeld table about s
     replies_first : reply_of (machine_at u) ≡ Some (reply_as d.expected (Overtaken old))
     replies_first = ap reply_of machine_first ∙ ap (λ q. Some (option_map_or (λ _. reply.Changed old) q (reply.Lost old))) (sym expected)
 
-    pub first_ends : Attempted first d (Overtaken old) s u
+    pub first_ends : UpdateAttempted first d (Overtaken old) s u
     first_ends =
         let record_is : IsRecord b.sizes old = makes.0.told.possible in
         let low = record_is.1 in
@@ -345,7 +345,7 @@ module _ (table : TableId) (about : About) (s : Stand) (h : IsHeld table about s
           by true a f = a
           by false a f = f
 
-      pub attempt_ends : Attempted first d r s t
+      pub attempt_ends : UpdateAttempted first d r s t
       attempt_ends = ended_as t (kept_all call_end.goes) began_same call_end r replies small
 
       -- the port's machine is at rest, and has no mark

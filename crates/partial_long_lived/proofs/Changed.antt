@@ -1,15 +1,15 @@
 -- A change of epoch, from its look to the epoch that is entered.
-use Rattle.partial_long_lived.proofs.Common.{ℕ, ◌≡◌, ◌<◌, ◌≤◌, Bool, List, None, refl, ap, subst, ◌∙◌, Noted, Place, Port, arrived, About, Stand, Began, SeatedPort, plan_of, port_at, Entered, StaysAt, Looked, Changed, Stays}
+use Rattle.partial_long_lived.proofs.Common.{ℕ, ◌≡◌, ◌<◌, ◌≤◌, Bool, List, None, refl, ap, subst, ◌∙◌, Noted, Place, Port, arrived_port, About, Stand, Began, SeatedPort, plan_of, port_at, EpochEntered, StaysAt, LookFound, Changed, Stays}
 use Rattle.partial_long_lived.proofs.Coming.{goes_on}
 use Rattle.partial_long_lived.proofs.Looking.{looked_keeps}
 
-module _ (first : Bool) (s t u v : Stand) (b : Bool) (kept : StaysAt s t) (looked : Looked first s b t) (stays : Stays t u) (entered : Entered u v) where
+module _ (first : Bool) (s t u v : Stand) (b : Bool) (kept : StaysAt s t) (looked : LookFound first s b t) (stays : Stays t u) (entered : EpochEntered u v) where
   abbrev place : Place
   place = record { epoch = v.epoch; arena = v.arena }
 
   -- a port that has come to that place
   abbrev come : About → ℕ → List Noted → Began → SeatedPort
-  come a k notes n = record { about = a; number = k; port = arrived (plan_of a) k place entered.before; notes = notes; began = n; found = None }
+  come a k notes n = record { about = a; number = k; port = arrived_port (plan_of a) k place entered.before; notes = notes; began = n; found = None }
 
   about_is : (port_at u).about ≡ (port_at s).about
   about_is = stays.goes.about ∙ kept.goes.about

@@ -1,5 +1,5 @@
 -- The steps of a change of epoch are allowed.
-use Rattle.partial_long_lived.proofs.Common.{ℕ, ◌≡◌, ◌≢◌, ◌+◌, ◌-◌, ◌%◌, ◌^◌, ◌<◌, ◌≤◌, ◌==◌, ◌⊎◌, Bool, true, false, cond, Option, Some, None, List, get_or, set, refl, sym, ap, subst, ◌∙◌, inl, inr, arith, nat_lt, cases_lt, lt-ltb, eqb_tells, get_or-set_other, some_same, either, Me, Allows, put, IsPlace, Place, Plan, at_word, base, component_words, control_words, entering_mark, marked, own_word, packed, seal, Control, Entering, Owned, Port, Stands, Marks, Loaded, IsPlaceWord, MayPut, Beside, LawfulEpochs, place_now, KeepsTime, passing, cleaner, having_given, having_loaded, just_taken, owning, gives_stay_lawful, loaded_marks_keep_time, marks_are_loaded, others_are_elsewhere, puts_keep_time, puts_stay_lawful, sealed_passes_stay_lawful, seals_stay_lawful, takes_stay_lawful, at_of, not_below, About, Began, IsRuleKept, IsSince, SeatedPort, one_of, plan_of, IsSeatKnown, IsOne, tells, SeatGives, LoadsPort, PassesSealed, PutsPort, Seals, Takes, elsewhere, passed_at, port_loaded, port_put, taken_at, unpacked}
+use Rattle.partial_long_lived.proofs.Common.{ℕ, ◌≡◌, ◌≢◌, ◌+◌, ◌-◌, ◌%◌, ◌^◌, ◌<◌, ◌≤◌, ◌==◌, ◌⊎◌, Bool, true, false, cond, Option, Some, None, List, get_or, set, refl, sym, ap, subst, ◌∙◌, inl, inr, arith, nat_lt, cases_lt, lt-ltb, eqb_tells, get_or-set_other, some_same, either, Me, Allows, put, IsPlace, Place, Plan, at_word, base, component_words, control_words, entering_mark, marked, own_word, packed, seal, Control, Entering, OwnedArena, Port, Stands, Marks, Loaded, IsPlaceWord, MayPut, Beside, LawfulEpochs, place_now, KeepsTime, passing_port, cleaner, having_given, having_loaded, just_taken, owning_port, gives_stay_lawful, loaded_marks_keep_time, marks_are_loaded, others_are_elsewhere, puts_keep_time, puts_stay_lawful, sealed_passes_stay_lawful, seals_stay_lawful, takes_stay_lawful, at_of, not_below, About, Began, IsRuleKept, IsSince, SeatedPort, one_of, plan_of, IsSeatKnown, IsOne, tells, SeatGives, LoadsPort, PassesSealed, PutsPort, Seals, Takes, elsewhere, passed_at, port_loaded, port_put, taken_at, unpacked}
 use Rattle.partial_long_lived.proofs.Asides.{IsQuiet}
 use Rattle.partial_long_lived.proofs.Control.{Quietly, lawful_itself, load_same, quietly, time_aside, unpacked_is}
 
@@ -9,36 +9,36 @@ either_cond true x y = refl
 either_cond false x y = refl
 
 -- a port that owns this arena owns it
-pub owning_same : (p : Port) (o : Owned) → p.control.owned ≡ Some o → owning p o ≡ p
-owning_same p o is = ap (λ (t : Option Owned). record p { control = record p.control { owned = t } }) (sym is)
+pub owning_same : (p : Port) (o : OwnedArena) → p.control.owned ≡ Some o → owning_port p o ≡ p
+owning_same p o is = ap (λ (t : Option OwnedArena). record p { control = record p.control { owned = t } }) (sym is)
 
 passed_quiet : (n : ℕ) → IsQuiet (passed_at n)
 passed_quiet n = record { part = λ p. by_part p (nat_lt n seal); before = λ p. by_before p (nat_lt n seal); here = λ p. by_here p (nat_lt n seal); passed = λ p. by_passed p (nat_lt n seal) }
   where
-    by_part : (p : Port) (c : Bool) → (cond c p (passing p)).part ≡ p.part
+    by_part : (p : Port) (c : Bool) → (cond c p (passing_port p)).part ≡ p.part
     by_part p true = refl
     by_part p false = refl
 
-    by_before : (p : Port) (c : Bool) → (cond c p (passing p)).before ≡ p.before
+    by_before : (p : Port) (c : Bool) → (cond c p (passing_port p)).before ≡ p.before
     by_before p true = refl
     by_before p false = refl
 
-    by_here : (p : Port) (c : Bool) → (cond c p (passing p)).control.here ≡ p.control.here
+    by_here : (p : Port) (c : Bool) → (cond c p (passing_port p)).control.here ≡ p.control.here
     by_here p true = refl
     by_here p false = refl
 
-    by_passed : (p : Port) (c : Bool) → p.passed ≤ (cond c p (passing p)).passed
+    by_passed : (p : Port) (c : Bool) → p.passed ≤ (cond c p (passing_port p)).passed
     by_passed p true = omega arith
     by_passed p false = omega arith
 
-owned_quiet : (g : Port → Owned) → IsQuiet (λ p. owning p (g p))
+owned_quiet : (g : Port → OwnedArena) → IsQuiet (λ p. owning_port p (g p))
 owned_quiet g = record { part = λ p. refl; before = λ p. refl; here = λ p. refl; passed = λ p. omega arith }
 
 taken_quiet : (i n : ℕ) → IsQuiet (taken_at i n)
 taken_quiet i n = record { part = λ p. by_part p (n == 0); before = λ p. by_before p (n == 0); here = λ p. by_here p (n == 0); passed = λ p. by_passed p (n == 0) }
   where
     then : Port → Bool → Port
-    then p c = cond c (owning p (just_taken i)) p
+    then p c = cond c (owning_port p (just_taken i)) p
 
     by_part : (p : Port) (c : Bool) → (then p c).part ≡ p.part
     by_part p true = refl
@@ -83,18 +83,18 @@ module _ (e : Plan) (words : List ℕ) (ports : ℕ → Port) (b : Beside) (w : 
       by (Loaded c) at = entering at
 
 -- what a port has found elsewhere
-module _ (e : Plan) (words : List ℕ) (ports : ℕ → Port) (b : Beside) (w : LawfulEpochs e words ports b) (k : ℕ) (below : k < e.ports) (o : Owned) (owned : (ports k).control.owned ≡ Some o)
+module _ (e : Plan) (words : List ℕ) (ports : ℕ → Port) (b : Beside) (w : LawfulEpochs e words ports b) (k : ℕ) (below : k < e.ports) (o : OwnedArena) (owned : (ports k).control.owned ≡ Some o)
     (looked : o.looked ≡ true) (none : o.set ≡ 0) (more : o.clean < e.ports) where
-  pub same_owned : LawfulEpochs e words (put k (owning (ports k) o) ports) b
+  pub same_owned : LawfulEpochs e words (put k (owning_port (ports k) o) ports) b
   same_owned = subst (λ (p : Port). LawfulEpochs e words (put k p ports) b) (sym (owning_same (ports k) o owned)) (lawful_itself e words ports b k w)
 
-  pub elsewhere_lawful : get_or words (at_word o.clean) 0 < entering_mark → LawfulEpochs e words (put k (owning (ports k) (elsewhere (get_or words (at_word o.clean) 0) o)) ports) b
+  pub elsewhere_lawful : get_or words (at_word o.clean) 0 < entering_mark → LawfulEpochs e words (put k (owning_port (ports k) (elsewhere (get_or words (at_word o.clean) 0) o)) ports) b
   elsewhere_lawful less =
       let n : ℕ = get_or words (at_word o.clean) 0 in
       let there = unmarked_place e words ports b w o.clean more less in
       elim (eqb_tells (unpacked n).arena o.arena) [
-        | inl is ↦ subst (λ (c : Bool). LawfulEpochs e words (put k (owning (ports k) (cond c o (cleaner o))) ports) b) (sym is.0) same_owned
-        | inr ne ↦ subst (λ (c : Bool). LawfulEpochs e words (put k (owning (ports k) (cond c o (cleaner o))) ports) b) (sym ne.0)
+        | inl is ↦ subst (λ (c : Bool). LawfulEpochs e words (put k (owning_port (ports k) (cond c o (cleaner o))) ports) b) (sym is.0) same_owned
+        | inr ne ↦ subst (λ (c : Bool). LawfulEpochs e words (put k (owning_port (ports k) (cond c o (cleaner o))) ports) b) (sym ne.0)
             (others_are_elsewhere e words ports b k o (unpacked n) w below owned looked none more there.1 there.0 ne.1)
       ]
 
@@ -126,23 +126,23 @@ store_at e words i v q low from = get_or-set_other words i (at_word q) v 0 (omeg
 none_puts : (c : Control) (R : Type 0) → c.owned ≡ None → (j : ℕ) (m : Place) → MayPut c j m → R
 none_puts c R none j m may = let bad : None ≡ Some may.owned = sym none ∙ may.is in absurd cc
 
-unmarked_puts : (c : Control) (R : Type 0) (o : Owned) → c.owned ≡ Some o → o.mark ≡ None → (j : ℕ) (m : Place) → MayPut c j m → R
+unmarked_puts : (c : Control) (R : Type 0) (o : OwnedArena) → c.owned ≡ Some o → o.mark ≡ None → (j : ℕ) (m : Place) → MayPut c j m → R
 unmarked_puts c R o is none j m may =
     let same : o ≡ may.owned = some_same (sym is ∙ may.is) in
-    let bad : None ≡ Some m = sym none ∙ ap (λ (t : Owned). t.mark) same ∙ may.mark in
+    let bad : None ≡ Some m = sym none ∙ ap (λ (t : OwnedArena). t.mark) same ∙ may.mark in
     absurd cc
 
 -- the arena as it was, or its next port
-elsewhere_puts : (p : Port) (o : Owned) (c : Bool) → p.control.owned ≡ Some o → (j : ℕ) (m : Place) → MayPut (owning p (cond c o (cleaner o))).control j m → MayPut p.control j m
+elsewhere_puts : (p : Port) (o : OwnedArena) (c : Bool) → p.control.owned ≡ Some o → (j : ℕ) (m : Place) → MayPut (owning_port p (cond c o (cleaner o))).control j m → MayPut p.control j m
 elsewhere_puts p o true is j m may = record {
   owned = o;
   is = is;
-  port = ap (λ (t : Owned). t.clean) (some_same may.is) ∙ may.port;
-  mark = ap (λ (t : Owned). t.mark) (some_same may.is)
+  port = ap (λ (t : OwnedArena). t.clean) (some_same may.is) ∙ may.port;
+  mark = ap (λ (t : OwnedArena). t.mark) (some_same may.is)
       ∙ may.mark;
-  again = ap (λ (t : Owned). t.again) (some_same may.is) ∙ may.again;
+  again = ap (λ (t : OwnedArena). t.again) (some_same may.is) ∙ may.again;
 }
-elsewhere_puts p o false is j m may = unmarked_puts (owning p (cleaner o)).control (MayPut p.control j m) (cleaner o) refl refl j m may
+elsewhere_puts p o false is j m may = unmarked_puts (owning_port p (cleaner o)).control (MayPut p.control j m) (cleaner o) refl refl j m may
 
 module _ {S : Type 0} (a : About) (slots id : ℕ) (me : Me S (List SeatedPort)) (one : IsOne me) (own : (one_of me.0).about ≡ a) (known : IsSeatKnown (one_of me.0)) where
   abbrev x : SeatedPort
@@ -159,7 +159,7 @@ module _ {S : Type 0} (a : About) (slots id : ℕ) (me : Me S (List SeatedPort))
       let k : ℕ = x.number in
       let i : ℕ = base e x.port.control.here.arena + x.port.passed in
       let n : ℕ = get_or words i 0 in
-      let P : Bool → Port = λ t. cond t (ports k) (passing (ports k)) in
+      let P : Bool → Port = λ t. cond t (ports k) (passing_port (ports k)) in
       (elim (cases_lt n seal) [
         | inl less ↦ subst (λ (t : Bool). Quietly a (set words i n) ports b since k x.began (P t)) (sym (lt-ltb n seal less))
             (still a words (set words i n) ports b b since time refl refl k x.began old (λ q low. load_at words i q) (ports k) refl refl (λ j m may. may)
@@ -172,15 +172,15 @@ module _ {S : Type 0} (a : About) (slots id : ℕ) (me : Me S (List SeatedPort))
             ∙ ap (λ j. get_or words (base e (ports k).control.here.arena + j) 0) (omega (arith, passed)) ∙ ap (λ z. get_or words (base e z + x.port.passed) 0) (sym here) in
             let to = sealed_passes_stay_lawful e words ports b k w.epochs below (ap (λ (p : Port). p.control.entering) (sym is) ∙ stands) (omega (arith, more, passed)) (omega (arith, at, from)) in
             subst (λ (t : Bool). Quietly a (set words i n) ports b since k x.began (P t)) (sym (not_below n seal from))
-            (still a words (set words i n) ports b to.beside since time to.same.log to.same.before k x.began old (λ q low. load_at words i q) (passing (ports k)) refl refl (λ j m may. may)
-            (subst (λ (l : List ℕ). LawfulEpochs e l (put k (passing (ports k)) ports) to.beside) (load_same words i) to.lawful))
+            (still a words (set words i n) ports b to.beside since time to.same.log to.same.before k x.began old (λ q low. load_at words i q) (passing_port (ports k)) refl refl (λ j m may. may)
+            (subst (λ (l : List ℕ). LawfulEpochs e l (put k (passing_port (ports k)) ports) to.beside) (load_same words i) to.lawful))
       ]))
       (λ words ports b w below is. refl)
 
   -- a seal on it
   pub may_seal : x.port.control.entering ≡ Stands → x.port.passed < a.sizes.m →
       Allows (IsRuleKept a) slots id me (base e x.port.control.here.arena + x.port.passed) (λ n. (n + seal) % 2 ^ 64) (tells Seals me)
-  may_seal stands more = quietly a slots id me one own known (base e x.port.control.here.arena + x.port.passed) (λ n. (n + seal) % 2 ^ 64) (λ n. passing) Seals
+  may_seal stands more = quietly a slots id me one own known (base e x.port.control.here.arena + x.port.passed) (λ n. (n + seal) % 2 ^ 64) (λ n. passing_port) Seals
       (λ n. record { part = λ p. refl; before = λ p. refl; here = λ p. refl; passed = λ p. omega arith })
       (λ words ports notes b since w time below is old come.
       let k : ℕ = x.number in
@@ -188,9 +188,9 @@ module _ {S : Type 0} (a : About) (slots id : ℕ) (me : Me S (List SeatedPort))
       let passed = ap (λ (p : Port). p.passed) is in
       let to = seals_stay_lawful e words ports b k w.epochs below (ap (λ (p : Port). p.control.entering) (sym is) ∙ stands) (omega (arith, more, passed)) in
       still a words (set words i ((get_or words i 0 + seal) % 2 ^ 64)) ports b to.beside since time to.same.log to.same.before k x.began old
-      (λ q low. store_at e words i ((get_or words i 0 + seal) % 2 ^ 64) q low (omega arith)) (passing (ports k)) refl refl (λ j m may. may)
+      (λ q low. store_at e words i ((get_or words i 0 + seal) % 2 ^ 64) q low (omega arith)) (passing_port (ports k)) refl refl (λ j m may. may)
       (subst (λ (p : Port). LawfulEpochs e (set words (base e p.control.here.arena + p.passed) ((get_or words (base e p.control.here.arena + p.passed) 0 + seal) % 2 ^ 64))
-      (put k (passing (ports k)) ports) to.beside) (sym is) to.lawful))
+      (put k (passing_port (ports k)) ports) to.beside) (sym is) to.lawful))
       (λ words ports b w below is. refl)
 
   -- the exchange of the owner word of arena i
@@ -201,16 +201,16 @@ module _ {S : Type 0} (a : About) (slots id : ℕ) (me : Me S (List SeatedPort))
       let k : ℕ = x.number in
       let n : ℕ = get_or words (own_word e i) 0 in
       let v : ℕ = either (n == 0) (k + 1) n in
-      let P : Bool → Port = λ t. cond t (owning (ports k) (just_taken i)) (ports k) in
+      let P : Bool → Port = λ t. cond t (owning_port (ports k) (just_taken i)) (ports k) in
       (elim (eqb_tells n 0) [
         | inl free ↦
             let to = takes_stay_lawful e words ports b k i w.epochs below (ap (λ (p : Port). p.control.entering) (sym is) ∙ stands) (ap (λ (p : Port). p.control.owned) (sym is) ∙ none) inside
             (λ same. apart (ap (λ (p : Port). p.control.here.arena) is ∙ same)) free.1 in
             subst (λ (t : Bool). Quietly a (set words (own_word e i) v) ports b since k x.began (P t)) (sym free.0)
             (still a words (set words (own_word e i) v) ports b b since time refl refl k x.began old (λ q low. store_at e words (own_word e i) v q low (omega arith))
-            (owning (ports k) (just_taken i)) refl refl
-            (λ j m may. unmarked_puts (owning (ports k) (just_taken i)).control (MayPut (ports k).control j m) (just_taken i) refl refl j m may)
-            (subst (λ v. LawfulEpochs e (set words (own_word e i) v) (put k (owning (ports k) (just_taken i)) ports) b) (either_cond (n == 0) (k + 1) n) to))
+            (owning_port (ports k) (just_taken i)) refl refl
+            (λ j m may. unmarked_puts (owning_port (ports k) (just_taken i)).control (MayPut (ports k).control j m) (just_taken i) refl refl j m may)
+            (subst (λ v. LawfulEpochs e (set words (own_word e i) v) (put k (owning_port (ports k) (just_taken i)) ports) b) (either_cond (n == 0) (k + 1) n) to))
         | inr held ↦
             subst (λ (t : Bool). Quietly a (set words (own_word e i) v) ports b since k x.began (P t)) (sym held.0)
             (still a words (set words (own_word e i) v) ports b b since time refl refl k x.began old (λ q low. store_at e words (own_word e i) v q low (omega arith)) (ports k) refl refl
@@ -221,7 +221,7 @@ module _ {S : Type 0} (a : About) (slots id : ℕ) (me : Me S (List SeatedPort))
       (λ words ports b w below is. refl)
 
   -- the store that gives the arena back
-  pub may_give : (o : Owned) → x.port.control.owned ≡ Some o → Allows (IsRuleKept a) slots id me (own_word e o.arena) (λ n. 0) (tells SeatGives me)
+  pub may_give : (o : OwnedArena) → x.port.control.owned ≡ Some o → Allows (IsRuleKept a) slots id me (own_word e o.arena) (λ n. 0) (tells SeatGives me)
   may_give o owned = quietly a slots id me one own known (own_word e o.arena) (λ n. 0) (λ n. having_given) SeatGives
       (λ n. record { part = λ p. refl; before = λ p. refl; here = λ p. refl; passed = λ p. omega arith })
       (λ words ports notes b since w time below is old come.
@@ -233,20 +233,20 @@ module _ {S : Type 0} (a : About) (slots id : ℕ) (me : Me S (List SeatedPort))
       (λ words ports b w below is. refl)
 
   -- the load of the next port's word
-  pub may_load_port : (o : Owned) → x.port.control.owned ≡ Some o → o.looked ≡ true → o.set ≡ 0 → o.clean < a.ports →
+  pub may_load_port : (o : OwnedArena) → x.port.control.owned ≡ Some o → o.looked ≡ true → o.set ≡ 0 → o.clean < a.ports →
       Allows (IsRuleKept a) slots id me (at_word o.clean) (λ n. n) (tells (LoadsPort o) me)
-  may_load_port o owned looked none more = quietly a slots id me one own known (at_word o.clean) (λ n. n) (λ n p. owning p (port_loaded n o)) (LoadsPort o) (λ n. owned_quiet (λ p. port_loaded n o))
+  may_load_port o owned looked none more = quietly a slots id me one own known (at_word o.clean) (λ n. n) (λ n p. owning_port p (port_loaded n o)) (LoadsPort o) (λ n. owned_quiet (λ p. port_loaded n o))
       (λ words ports notes b since w time below is old come.
       let k : ℕ = x.number in
       let n : ℕ = get_or words (at_word o.clean) 0 in
       let words' : List ℕ = set words (at_word o.clean) n in
       let owned' : (ports k).control.owned ≡ Some o = ap (λ (p : Port). p.control.owned) (sym is) ∙ owned in
-      let P : Bool → Port = λ t. owning (ports k) (cond t (elsewhere n o) (having_loaded o (unpacked (n - entering_mark)))) in
+      let P : Bool → Port = λ t. owning_port (ports k) (cond t (elsewhere n o) (having_loaded o (unpacked (n - entering_mark)))) in
       (elim (cases_lt n entering_mark) [
         | inl less ↦ subst (λ (t : Bool). Quietly a words' ports b since k x.began (P t)) (sym (lt-ltb n entering_mark less))
-            (still a words words' ports b b since time refl refl k x.began old (λ q low. load_at words (at_word o.clean) q) (owning (ports k) (elsewhere n o)) refl refl
+            (still a words words' ports b b since time refl refl k x.began old (λ q low. load_at words (at_word o.clean) q) (owning_port (ports k) (elsewhere n o)) refl refl
             (λ j m may. elsewhere_puts (ports k) o ((unpacked n).arena == o.arena) owned' j m may)
-            (subst (λ (l : List ℕ). LawfulEpochs e l (put k (owning (ports k) (elsewhere n o)) ports) b) (load_same words (at_word o.clean))
+            (subst (λ (l : List ℕ). LawfulEpochs e l (put k (owning_port (ports k) (elsewhere n o)) ports) b) (load_same words (at_word o.clean))
             (elsewhere_lawful e words ports b w.epochs k below o owned' looked none more less)))
         | inr from ↦
             let to = marks_are_loaded e words ports b k o w.epochs below owned' more from in
@@ -259,9 +259,9 @@ module _ {S : Type 0} (a : About) (slots id : ℕ) (me : Me S (List SeatedPort))
               beside = b;
               log = refl;
               before = refl;
-              lawful = subst (λ (l : List ℕ). LawfulEpochs e l (put k (owning (ports k) (having_loaded o d)) ports) b) (load_same words (at_word o.clean))
-                  (subst (λ (d : Place). LawfulEpochs e words (put k (owning (ports k) (having_loaded o d)) ports) b) (sym same) to.1);
-              time = subst (λ (l : List ℕ). KeepsTime e l (put k (owning (ports k) (having_loaded o d)) ports) (place_now b) since) (load_same words (at_word o.clean))
+              lawful = subst (λ (l : List ℕ). LawfulEpochs e l (put k (owning_port (ports k) (having_loaded o d)) ports) b) (load_same words (at_word o.clean))
+                  (subst (λ (d : Place). LawfulEpochs e words (put k (owning_port (ports k) (having_loaded o d)) ports) b) (sym same) to.1);
+              time = subst (λ (l : List ℕ). KeepsTime e l (put k (owning_port (ports k) (having_loaded o d)) ports) (place_now b) since) (load_same words (at_word o.clean))
                   (loaded_marks_keep_time e words ports (place_now b) d k o since below time);
               others = λ q ne. refl;
               entering = old;
@@ -270,9 +270,9 @@ module _ {S : Type 0} (a : About) (slots id : ℕ) (me : Me S (List SeatedPort))
       (λ words ports b w below is. refl)
 
   -- the exchange of its mark
-  pub may_put : (o : Owned) (m : Place) → x.port.control.owned ≡ Some o → o.looked ≡ true → o.set ≡ 0 → o.clean < a.ports → o.mark ≡ Some m → o.again ≡ true →
+  pub may_put : (o : OwnedArena) (m : Place) → x.port.control.owned ≡ Some o → o.looked ≡ true → o.set ≡ 0 → o.clean < a.ports → o.mark ≡ Some m → o.again ≡ true →
       Allows (IsRuleKept a) slots id me (at_word o.clean) (λ n. either (n == marked m) (packed x.port.control.here) n) (tells (PutsPort o m) me)
-  may_put o m owned looked none more mark again = quietly a slots id me one own known (at_word o.clean) (λ n. either (n == marked m) (packed x.port.control.here) n) (λ n p. owning p (port_put m n o))
+  may_put o m owned looked none more mark again = quietly a slots id me one own known (at_word o.clean) (λ n. either (n == marked m) (packed x.port.control.here) n) (λ n p. owning_port p (port_put m n o))
       (PutsPort o m)
       (λ n. owned_quiet (λ p. port_put m n o))
       (λ words ports notes b since w time below is old come.
@@ -282,7 +282,7 @@ module _ {S : Type 0} (a : About) (slots id : ℕ) (me : Me S (List SeatedPort))
       let there : ℕ = packed x.port.control.here in
       let v : ℕ = either (n == marked m) there n in
       let owned' : (ports k).control.owned ≡ Some o = ap (λ (p : Port). p.control.owned) (sym is) ∙ owned in
-      let P : Bool → Port = λ t. owning (ports k) (cond t (cleaner o) (cond (nat_lt n entering_mark) (elsewhere n o) o)) in
+      let P : Bool → Port = λ t. owning_port (ports k) (cond t (cleaner o) (cond (nat_lt n entering_mark) (elsewhere n o) o)) in
       (elim (eqb_tells n (marked m)) [
         | inl won ↦
             let to = puts_stay_lawful e words ports b k o m w.epochs below owned' looked more none mark again won.1 in
@@ -293,24 +293,24 @@ module _ {S : Type 0} (a : About) (slots id : ℕ) (me : Me S (List SeatedPort))
               beside = b;
               log = refl;
               before = refl;
-              lawful = subst (λ v. LawfulEpochs e (set words i v) (put k (owning (ports k) (cleaner o)) ports) b) word to;
-              time = subst (λ v. KeepsTime e (set words i v) (put k (owning (ports k) (cleaner o)) ports) (place_now b) since) word in_time;
+              lawful = subst (λ v. LawfulEpochs e (set words i v) (put k (owning_port (ports k) (cleaner o)) ports) b) word to;
+              time = subst (λ v. KeepsTime e (set words i v) (put k (owning_port (ports k) (cleaner o)) ports) (place_now b) since) word in_time;
               others = λ q ne. refl;
               entering = old;
             })
         | inr lost ↦
-            let Q : Bool → Port = λ t. owning (ports k) (cond t (elsewhere n o) o) in
+            let Q : Bool → Port = λ t. owning_port (ports k) (cond t (elsewhere n o) o) in
             let stays : Quietly a (set words i n) ports b since k x.began (Q (nat_lt n entering_mark)) =
             (elim (cases_lt n entering_mark) [
               | inl less ↦ subst (λ (t : Bool). Quietly a (set words i n) ports b since k x.began (Q t)) (sym (lt-ltb n entering_mark less))
-                  (still a words (set words i n) ports b b since time refl refl k x.began old (λ q low. load_at words i q) (owning (ports k) (elsewhere n o)) refl refl
+                  (still a words (set words i n) ports b b since time refl refl k x.began old (λ q low. load_at words i q) (owning_port (ports k) (elsewhere n o)) refl refl
                   (λ j d may. elsewhere_puts (ports k) o ((unpacked n).arena == o.arena) owned' j d may)
-                  (subst (λ (l : List ℕ). LawfulEpochs e l (put k (owning (ports k) (elsewhere n o)) ports) b) (load_same words i)
+                  (subst (λ (l : List ℕ). LawfulEpochs e l (put k (owning_port (ports k) (elsewhere n o)) ports) b) (load_same words i)
                   (elsewhere_lawful e words ports b w.epochs k below o owned' looked none more less)))
               | inr from ↦ subst (λ (t : Bool). Quietly a (set words i n) ports b since k x.began (Q t)) (sym (not_below n entering_mark from))
-                  (still a words (set words i n) ports b b since time refl refl k x.began old (λ q low. load_at words i q) (owning (ports k) o) refl refl
+                  (still a words (set words i n) ports b b since time refl refl k x.began old (λ q low. load_at words i q) (owning_port (ports k) o) refl refl
                   (λ j d may. elsewhere_puts (ports k) o true owned' j d may)
-                  (subst (λ (l : List ℕ). LawfulEpochs e l (put k (owning (ports k) o) ports) b) (load_same words i) (same_owned e words ports b w.epochs k below o owned' looked none more)))
+                  (subst (λ (l : List ℕ). LawfulEpochs e l (put k (owning_port (ports k) o) ports) b) (load_same words i) (same_owned e words ports b w.epochs k below o owned' looked none more)))
             ]) in
             subst (λ (t : Bool). Quietly a (set words i (either t there n)) ports b since k x.began (P t)) (sym lost.0) stays
       ]))

@@ -1,5 +1,5 @@
 -- A port between the parts of a call: it stands where it stood, or has come to a later epoch.
-use Rattle.partial_long_lived.proofs.Common.{ℕ, ◌≡◌, ◌<◌, ◌≤◌, ◌&&◌, ◌++◌, not, Bool, true, false, cond, Some, List, [], ◌∷◌, length, refl, sym, ap, subst, ◌∙◌, inl, inr, arith, append-nil, append_assoc, length-append, nat_lt, TableId, Applied, value_of, Noted, fresh, core_of, seal, unsealed, not_below, public_of, About, Stand, Began, SeatedPort, plan_of, seen_in, BeginsWith, SeatGoes, IsHeld, port_at, SeatSees, Wish, noted_by, opening_of, place_seen, stamp_seen, value_seen, Reads, HasCome, HasNotedRead, HasValue, IsIdle, StaysAt, Settled}
+use Rattle.partial_long_lived.proofs.Common.{ℕ, ◌≡◌, ◌<◌, ◌≤◌, ◌&&◌, ◌++◌, not, Bool, true, false, cond, Some, List, [], ◌∷◌, length, refl, sym, ap, subst, ◌∙◌, inl, inr, arith, append-nil, append_assoc, length-append, nat_lt, TableId, Applied, value_of, Noted, fresh, core_of, seal, unsealed, not_below, public_of, About, Stand, Began, SeatedPort, plan_of, seen_in, BeginsWith, SeatGoes, IsHeld, port_at, SeatSees, Wish, noted_by, opening_of, place_seen, stamp_seen, value_seen, Reads, HasCome, HasNotedRead, HasValue, IsIdle, StaysAt, EpochSettled}
 use Rattle.partial_model.specs.declared.call.Call.TheVariants as call
 use Rattle.partial_model.specs.declared.call.Answer.TheVariants as answer
 use Rattle.partial_model.specs.declared.call.Note.TheVariants as note
@@ -174,7 +174,7 @@ module _ (table : TableId) (about : About) (s u v : Stand) (h : IsHeld table abo
 -- the first load of a read, which found its component sealed
 module _ (table : TableId) (about : About) (s r u v : Stand) (h : IsHeld table about s) (idle : IsIdle s) (kept : StaysAt s r) (j a : ℕ) (w : SeatSees true Reads j (port_at s) a (port_at r))
     (sealed : seal ≤ a)
-    (settled : Settled r u) (held : IsHeld table about u) (c : ℕ) (last : SeatSees false Reads j (port_at u) c (port_at v)) where
+    (settled : EpochSettled r u) (held : IsHeld table about u) (c : ℕ) (last : SeatSees false Reads j (port_at u) c (port_at v)) where
   pub settled_come : HasCome s u
   settled_come = come_on s r u (come_seen s s r true Reads j a (come_itself table about s h idle) kept w) settled.come
 

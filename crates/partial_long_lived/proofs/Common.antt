@@ -22,18 +22,18 @@ pub use Rattle.partial_core.specs.Part.{IsBetween, IsMarkedLike, core_of, Part, 
 pub use Rattle.partial_machine.specs.Calls.{is_at_rest, answer_for, call_of, update_call, is_begun}
 pub use Rattle.partial_epochs.specs.History.{public_stamp, history_of, public_entry, public_log, stamp_limit, opening_behind, carried_after, carried_behind}
 pub use Rattle.partial_epochs.specs.Lists.{put, list_of}
-pub use Rattle.partial_epochs.specs.Ports.{Port, Owned, Control, Entering, Epoch}
+pub use Rattle.partial_epochs.specs.Ports.{Port, OwnedArena, Control, Entering, Epoch}
 pub use Rattle.partial_epochs.specs.Epochs.{Beside, LawfulEpochs, place_now, IsEpochPlan, IsStanding, numbers, controls, next_epoch_word}
 pub use Rattle.partial_epochs.specs.Time.{KeepsTime}
-pub use Rattle.partial_epochs.specs.Notes.{LawfulMemory, public_noted, one_history, having_seen, public_of, Reached, noting, ExpectedOne}
+pub use Rattle.partial_epochs.specs.Notes.{LawfulMemory, public_noted, one_history, having_seen, public_of, EpochReached, noting, ExpectedOne}
 pub use Rattle.partial_epochs.proofs.Lists.{put_other, put_same, at_of, put_all}
 pub use prog.Atomic.{either}
 pub use Rattle.atomic_table.specs.Table.{Me, Allows, State, keeps, Joins, Splits, opening}
 pub use Rattle.partial_words.specs.Chain.{opening_word, initial_record_word}
-pub use Rattle.partial_epochs.specs.Layout.{Place, Plan, arena_limit, at_word, base, entering_mark, marked, own_word, packed, seal, set_offset, set_word, unsealed, current_word, IsPlace, component_words, control_words, arena_words, IsSealed, plain, placed, whole, IsAsked, span}
+pub use Rattle.partial_epochs.specs.Layout.{Place, Plan, arena_limit, at_word, base, entering_mark, marked, own_word, packed, seal, set_offset, set_word, unsealed, current_word, IsPlace, component_words, control_words, arena_words, IsSealed, plain, placed_step, whole, IsAsked, span}
 pub use Rattle.partial_epochs.specs.Ports.Entering.{Stands, Marks, Loaded}
-pub use Rattle.partial_epochs.specs.Publishing.{next_place, IsWholeArena, having_published, next_beside, having_set, vacated, resting}
-pub use Rattle.partial_epochs.specs.Sealing.{passing, IsBesideAs}
+pub use Rattle.partial_epochs.specs.Publishing.{next_place, IsWholeArena, having_published, next_beside, having_set, vacated, resting_arena}
+pub use Rattle.partial_epochs.specs.Sealing.{passing_port, IsBesideAs}
 pub use Rattle.partial_core.proofs.Added.{not_below}
 pub use Rattle.partial_epochs.proofs.Places.{below_whole, set_place, packed_arena}
 pub use Rattle.partial_model.specs.declared.call.Call.{Call}
@@ -49,10 +49,10 @@ pub use Rattle.partial_core.specs.Steps.{AreNotesOf, IsNoteOf, IsPlacedAt, begun
 pub use Rattle.partial_lines.specs.declared.exchange.Exchanged.{Exchanged}
 pub use Rattle.partial_lines.specs.Replies.{RestsLike, update_reply, scan_reply}
 pub use Rattle.partial_epochs.proofs.Entering.{current_is, not_marked}
-pub use Rattle.partial_epochs.specs.Entering.{arrived, having_passed}
+pub use Rattle.partial_epochs.specs.Entering.{arrived_port, having_passed}
 pub use Rattle.partial_model.proofs.ListLemmas.{some_same}
 pub use Rattle.partial_epochs.specs.Control.{IsPlaceWord, MayPut, IsOld}
-pub use Rattle.partial_epochs.specs.Owning.{cleaner, having_given, having_loaded, just_taken, owning, having_looked}
+pub use Rattle.partial_epochs.specs.Owning.{cleaner, having_given, having_loaded, just_taken, owning_port, having_looked}
 pub use Rattle.partial_epochs.proofs.Laws.{gives_stay_lawful, loaded_marks_keep_time, marks_are_loaded, others_are_elsewhere, puts_keep_time, puts_stay_lawful, sealed_passes_stay_lawful, seals_stay_lawful, takes_stay_lawful, asides_keep_time, entries_keep_time, entries_load, looks_are_true, looks_keep_time, marks_keep_time, marks_stay_lawful, owners_look, owners_look_away, arrivals_keep_notes, arrivals_keep_time, arrivals_stay_lawful, components_name_records, epochs_are_histories, glances_stay_lawful, seen_records_stay, sights_stay_lawful, unsealed_is_present, machines_are_never_refused, notes_stay_lawful, steps_keep_places, machine_steps_stay_lawful, memories_open_lawful, openings_keep_time, publishes_keep_notes, publishes_keep_time, publishes_stay_lawful, sets_stay_lawful}
 pub use Rattle.partial_words.specs.declared.step.Step.{Step}
 pub use mathlib.Core.Option.{some, some-injective, some-ne-none}
@@ -79,7 +79,7 @@ pub use Rattle.partial_long_lived.specs.Seating.{IsStandOf, IsSeatingOf}
 pub use Rattle.partial_long_lived.specs.Resting.{IsResting}
 pub use Rattle.partial_long_lived.specs.Inner.Steps.{SeatGoes, IsSeatKnown, IsOne, tells, BeginsWith, HasStampsInWords}
 pub use Rattle.partial_long_lived.specs.Inner.Held.{IsHeld, epoch_at, port_at}
-pub use Rattle.partial_long_lived.specs.Inner.Calls.{HasCome, HasNotedRead, IsIdle, StaysAt, Entered, Looked, HasValue, Settled, MayEnter}
+pub use Rattle.partial_long_lived.specs.Inner.Calls.{HasCome, HasNotedRead, IsIdle, StaysAt, EpochEntered, LookFound, HasValue, EpochSettled, MayEnter}
 pub use Rattle.partial_long_lived.specs.Inner.Changing.{Changed, NotChanged, IsCarriedStamp, IsInitialValue, IsRight, IsFixedWord, MayPutPort, OfOwned, Owns, PutsBy, SetsLists, SetsNext, TakesBy, HasSetWords, Stays, HasTaken, HoldsMark, IsPast, Remains, IsCause, HasSamePart, HasLoadedPort, HasPassed}
 pub use Rattle.partial_long_lived.specs.Inner.Scans.{HasNotedScan, RestsUnmarked, ScanMade, noted_scan, SettledFirst}
 pub use Rattle.partial_long_lived.specs.Inner.Rests.{NotScanned, RestsAt}
@@ -89,7 +89,7 @@ pub use Rattle.partial_long_lived.specs.declared.shape.Shape.{Shape}
 pub use Rattle.partial_long_lived.specs.Inner.Loads.{opening_of, SeatSees, Wish, noted_by, place_seen, stamp_seen, value_seen, Recalls, found_by, component_at, sees}
 pub use Rattle.partial_long_lived.specs.Inner.Machine.{SeatMakes, MissesSeal, unsealed_answer, LeavesComponents, IsApart, MayMake, change_of, over_by, told_of, makes, word_at, goes_on, Exchanges, begins, exchanges}
 pub use Rattle.partial_long_lived.specs.Inner.Under.{CallMade, record_claim, IsGoing, ComesTo, MayBegin, machine_at, before_claim}
-pub use Rattle.partial_long_lived.specs.Inner.Updates.{Attempted, ExchangeDue, ExpectsOne, IsEntryOf, IsOwnMachine, NotesNothing, Stayed, noted_where, word_from, MayCall, CameBy, IsLate, Updated, noted_change, public_update, stamp_from}
+pub use Rattle.partial_long_lived.specs.Inner.Updates.{UpdateAttempted, ExchangeDue, ExpectsOne, IsEntryOf, IsOwnMachine, NotesNothing, PortStayed, noted_where, word_from, MayCall, CameBy, IsLate, Updated, noted_change, public_update, stamp_from}
 pub use Rattle.partial_long_lived.specs.Inner.Last.{HaveLast, ReadsLast, value_now, arena_now, component_now}
 pub use Rattle.partial_long_lived.specs.Inner.Loads.Wish.{Glances, Reads, Expects, Finds}
 pub use Rattle.partial_long_lived.specs.Inner.DoubleCollect.{AreCollected, HasGlanced, HasStayed, WasThere, AreInside, HadValue, HadValues, HasBegunCollect, MayNoteScan, NotesScan, noted_together, notes_scan}

@@ -1,5 +1,5 @@
 -- A conditional update of a port: the comparison, and how it ends in the port's epoch.
-use Rattle.partial_long_lived.proofs.Common.{ℕ, ◌≡◌, ◌<◌, ◌≤◌, ◌==◌, ◌&&◌, ◌++◌, Bool, true, false, not, cond, Some, List, [], ◌∷◌, length, refl, sym, ap, subst, ◌∙◌, inl, inr, arith, append-nil, nat_lt, cases_lt, TableId, Applied, Noted, stamp_of, total, Change, is_at_rest, CoreState, IsMarkedLike, core_of, Exchanged, public_stamp, seal, unsealed, public_of, not_below, About, UpdatedIf, Asked, Stand, Began, SeatedPort, plan_of, seen_in, IsIdle, StaysAt, EndedIf, HasCompared, HasLooked, IsExpected, IsPlaceOf, noted_if, outcome_of, IsHeld, port_at, SeatSees, noted_by, opening_of, place_seen, stamp_seen, Expects, BeganBy, Attempted, ExpectsOne, IsEntryOf, IsOwnMachine, MayCall, NotesNothing, Stayed, noted_where}
+use Rattle.partial_long_lived.proofs.Common.{ℕ, ◌≡◌, ◌<◌, ◌≤◌, ◌==◌, ◌&&◌, ◌++◌, Bool, true, false, not, cond, Some, List, [], ◌∷◌, length, refl, sym, ap, subst, ◌∙◌, inl, inr, arith, append-nil, nat_lt, cases_lt, TableId, Applied, Noted, stamp_of, total, Change, is_at_rest, CoreState, IsMarkedLike, core_of, Exchanged, public_stamp, seal, unsealed, public_of, not_below, About, UpdatedIf, Asked, Stand, Began, SeatedPort, plan_of, seen_in, IsIdle, StaysAt, EndedIf, HasCompared, HasLooked, IsExpected, IsPlaceOf, noted_if, outcome_of, IsHeld, port_at, SeatSees, noted_by, opening_of, place_seen, stamp_seen, Expects, BeganBy, UpdateAttempted, ExpectsOne, IsEntryOf, IsOwnMachine, MayCall, NotesNothing, PortStayed, noted_where}
 use Rattle.std.specs.Prelude.{take}
 use Rattle.partial_model.specs.declared.call.Call.TheVariants as call
 use Rattle.partial_model.specs.declared.call.Answer.TheVariants as answer
@@ -164,7 +164,7 @@ expects_one asked at t w = (length (port_at t).port.part.seen, omega arith, w.la
 
 -- an attempt behind the comparison
 module _ (first : Bool) (s u v : Stand) (looked : HasLooked first s u) (same : (port_at u).notes ≡ (port_at s).notes) where
-  stayed_on : Stayed false u v → Stayed first s v
+  stayed_on : PortStayed false u v → PortStayed first s v
   stayed_on w = record {
     kept = kept_on s u v looked.stayed.kept w.kept;
     idle = w.idle;
@@ -175,7 +175,7 @@ module _ (first : Bool) (s u v : Stand) (looked : HasLooked first s u) (same : (
   nothing_behind w = record { stayed = stayed_on w.stayed; notes = w.notes ∙ same }
 
   -- what it has noted, with public stamps
-  module _ (asked : Asked) (at : ℕ) (r : Exchanged) (expected : IsExpected asked at u) (w : Attempted false (record { component = asked.component; expected = Some at; value = asked.value }) r u v) where
+  module _ (asked : Asked) (at : ℕ) (r : Exchanged) (expected : IsExpected asked at u) (w : UpdateAttempted false (record { component = asked.component; expected = Some at; value = asked.value }) r u v) where
     abbrev d : Change
     d = record { component = asked.component; expected = Some at; value = asked.value }
 

@@ -1,5 +1,5 @@
 -- The steps of a change of epoch and of entering one are allowed.
-use Rattle.partial_long_lived.proofs.Common.{ℕ, ◌≡◌, ◌≢◌, ◌<◌, ◌≤◌, ◌==◌, ◌⊎◌, Bool, true, false, cond, Option, Some, None, IfSome, List, length, get_or, set, refl, sym, ap, subst, ◌∙◌, inl, inr, arith, eqb_tells, set-get_or, Me, Allows, Applied, Noted, put, IsPlace, Place, Plan, arena_limit, at_word, current_word, marked, packed, Entering, Owned, Port, Stands, Marks, Beside, LawfulEpochs, place_now, having_passed, having_looked, LawfulMemory, put_all, put_same, put_other, option_map_or, MayPut, KeepsTime, asides_keep_time, entries_keep_time, entries_load, looks_are_true, looks_keep_time, marks_keep_time, marks_stay_lawful, owners_look, owners_look_away, About, Began, IsRuleKept, IsSince, SeatedPort, one_of, plan_of, IsSeatKnown, IsOne, tells, LoadsCurrent, SeatLooks, StoresMark, becomes, having_found, loads, looked_at, marks, unpacked}
+use Rattle.partial_long_lived.proofs.Common.{ℕ, ◌≡◌, ◌≢◌, ◌<◌, ◌≤◌, ◌==◌, ◌⊎◌, Bool, true, false, cond, Option, Some, None, IfSome, List, length, get_or, set, refl, sym, ap, subst, ◌∙◌, inl, inr, arith, eqb_tells, set-get_or, Me, Allows, Applied, Noted, put, IsPlace, Place, Plan, arena_limit, at_word, current_word, marked, packed, Entering, OwnedArena, Port, Stands, Marks, Beside, LawfulEpochs, place_now, having_passed, having_looked, LawfulMemory, put_all, put_same, put_other, option_map_or, MayPut, KeepsTime, asides_keep_time, entries_keep_time, entries_load, looks_are_true, looks_keep_time, marks_keep_time, marks_stay_lawful, owners_look, owners_look_away, About, Began, IsRuleKept, IsSince, SeatedPort, one_of, plan_of, IsSeatKnown, IsOne, tells, LoadsCurrent, SeatLooks, StoresMark, becomes, having_found, loads, looked_at, marks, unpacked}
 use Rattle.partial_epochs.proofs.Present.{same_place}
 use Rattle.partial_long_lived.proofs.Asides.{IsQuiet, aside}
 use Rattle.partial_long_lived.proofs.Kept.{allowed, begun_grows, none_grown}
@@ -31,25 +31,25 @@ looked_quiet a = record {
   passed = λ p. by_passed p (a == packed p.control.here) p.control.owned;
 }
   where
-    then : Port → Bool → Option Owned → Port
+    then : Port → Bool → Option OwnedArena → Port
     then p c o = cond c (option_map_or (having_looked p) o p) (having_passed p)
 
-    by_part : (p : Port) (c : Bool) (o : Option Owned) → (then p c o).part ≡ p.part
+    by_part : (p : Port) (c : Bool) (o : Option OwnedArena) → (then p c o).part ≡ p.part
     by_part p true None = refl
     by_part p true (Some o) = refl
     by_part p false o = refl
 
-    by_before : (p : Port) (c : Bool) (o : Option Owned) → (then p c o).before ≡ p.before
+    by_before : (p : Port) (c : Bool) (o : Option OwnedArena) → (then p c o).before ≡ p.before
     by_before p true None = refl
     by_before p true (Some o) = refl
     by_before p false o = refl
 
-    by_here : (p : Port) (c : Bool) (o : Option Owned) → (then p c o).control.here ≡ p.control.here
+    by_here : (p : Port) (c : Bool) (o : Option OwnedArena) → (then p c o).control.here ≡ p.control.here
     by_here p true None = refl
     by_here p true (Some o) = refl
     by_here p false o = refl
 
-    by_passed : (p : Port) (c : Bool) (o : Option Owned) → p.passed ≤ (then p c o).passed
+    by_passed : (p : Port) (c : Bool) (o : Option OwnedArena) → p.passed ≤ (then p c o).passed
     by_passed p true None = omega arith
     by_passed p true (Some o) = omega arith
     by_passed p false o = omega arith
@@ -68,12 +68,12 @@ looked_lawful a words ports notes b k w below may = by (ports k).control.owned r
     at : ℕ
     at = get_or words current_word 0
 
-    by : (o : Option Owned) → (ports k).control.owned ≡ o → IfSome o (λ o. (o.mark ≡ None) ⊎ (o.clean < a.ports)) →
+    by : (o : Option OwnedArena) → (ports k).control.owned ≡ o → IfSome o (λ o. (o.mark ≡ None) ⊎ (o.clean < a.ports)) →
         (((at == packed (ports k).control.here) ≡ true) × (at ≡ packed (ports k).control.here)) ⊎ (((at == packed (ports k).control.here) ≡ false) × (at ≢ packed (ports k).control.here)) →
         LawfulEpochs (plan_of a) words (put k (looked_at (get_or words current_word 0) (ports k)) ports) b
     by None none tt (inl is) =
         let same : looked_at at (ports k) ≡ ports k = ap (λ c. cond c (having_found (ports k)) (having_passed (ports k))) is.0
-        ∙ ap (λ (o : Option Owned). option_map_or (having_looked (ports k)) o (ports k)) none in
+        ∙ ap (λ (o : Option OwnedArena). option_map_or (having_looked (ports k)) o (ports k)) none in
         subst (λ (p : Port). LawfulEpochs (plan_of a) words (put k p ports) b) (sym same) (lawful_itself (plan_of a) words ports b k w.epochs)
     by None none tt (inr ne) =
         let same : looked_at at (ports k) ≡ having_passed (ports k) = ap (λ c. cond c (having_found (ports k)) (having_passed (ports k))) ne.0 in
@@ -84,7 +84,7 @@ looked_lawful a words ports notes b k w below may = by (ports k).control.owned r
         ])
     by (Some o) is marks (inl here) =
         let same : looked_at at (ports k) ≡ having_looked (ports k) o = ap (λ c. cond c (having_found (ports k)) (having_passed (ports k))) here.0
-        ∙ ap (λ (o : Option Owned). option_map_or (having_looked (ports k)) o (ports k)) is in
+        ∙ ap (λ (o : Option OwnedArena). option_map_or (having_looked (ports k)) o (ports k)) is in
         subst (λ (p : Port). LawfulEpochs (plan_of a) words (put k p ports) b) (sym same) (owners_look (plan_of a) words ports b k o w.epochs below is marks here.1).1
     by (Some o) is marks (inr ne) =
         let same : looked_at at (ports k) ≡ having_passed (ports k) = ap (λ c. cond c (having_found (ports k)) (having_passed (ports k))) ne.0 in
@@ -93,7 +93,7 @@ looked_lawful a words ports notes b k w below may = by (ports k).control.owned r
 looked_stands : (n : ℕ) (p : Port) → p.control.entering ≡ Stands → (looked_at n p).control.entering ≡ Stands
 looked_stands n p is = by (n == packed p.control.here) p.control.owned
   where
-    by : (c : Bool) (o : Option Owned) → (cond c (option_map_or (having_looked p) o p) (having_passed p)).control.entering ≡ Stands
+    by : (c : Bool) (o : Option OwnedArena) → (cond c (option_map_or (having_looked p) o p) (having_passed p)).control.entering ≡ Stands
     by true None = is
     by true (Some o) = is
     by false o = is
@@ -129,13 +129,13 @@ looked_time a words ports notes b since k w time below = by (ports k).control.ow
     same p here entering puts is = subst (λ (p : Port). KeepsTime (plan_of a) words (put k p ports) (place_now b) since) (sym is)
         (time_aside a words words ports b b since time refl k p (λ q low. refl) here entering puts)
 
-    by : (o : Option Owned) → (ports k).control.owned ≡ o →
+    by : (o : Option OwnedArena) → (ports k).control.owned ≡ o →
         (((at == packed (ports k).control.here) ≡ true) × (at ≡ packed (ports k).control.here)) ⊎ (((at == packed (ports k).control.here) ≡ false) × (at ≢ packed (ports k).control.here)) →
         KeepsTime (plan_of a) words (put k (looked_at (get_or words current_word 0) (ports k)) ports) (place_now b) since
     by None none (inl is) = same (ports k) refl refl (λ j m may. may)
-        (ap (λ c. cond c (having_found (ports k)) (having_passed (ports k))) is.0 ∙ ap (λ (o : Option Owned). option_map_or (having_looked (ports k)) o (ports k)) none)
+        (ap (λ c. cond c (having_found (ports k)) (having_passed (ports k))) is.0 ∙ ap (λ (o : Option OwnedArena). option_map_or (having_looked (ports k)) o (ports k)) none)
     by (Some o) is (inl here) = subst (λ (p : Port). KeepsTime (plan_of a) words (put k p ports) (place_now b) since)
-        (sym (ap (λ c. cond c (having_found (ports k)) (having_passed (ports k))) here.0 ∙ ap (λ (o : Option Owned). option_map_or (having_looked (ports k)) o (ports k)) is))
+        (sym (ap (λ c. cond c (having_found (ports k)) (having_passed (ports k))) here.0 ∙ ap (λ (o : Option OwnedArena). option_map_or (having_looked (ports k)) o (ports k)) is))
         (looks_keep_time (plan_of a) words ports b k o since w.epochs below here.1 time)
     by o is (inr ne) = same (having_passed (ports k)) refl refl (λ j m may. record { owned = may.owned; is = may.is; port = may.port; mark = may.mark; again = may.again })
         (ap (λ c. cond c (having_found (ports k)) (having_passed (ports k))) ne.0)

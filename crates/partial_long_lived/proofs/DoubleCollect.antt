@@ -1,5 +1,5 @@
 -- A scan by a double collect: two equal collects stood together between them.
-use Rattle.partial_long_lived.proofs.Common.{ℕ, suc, ◌≡◌, ◌+◌, ◌-◌, ◌<◌, ◌≤◌, ◌&&◌, ◌++◌, not, Bool, true, false, cond, Option, None, Result, Ok, Err, IfOk, IfErr, List, [], ◌∷◌, length, map, take, set, refl, sym, ap, subst, ◌∙◌, inl, inr, arith, append-nil, length-append, nat_lt, slice_index, option_map_or, AllByRecursion, eqb_tells, ext_get_or, get_or-map, get_or-set_other, get_or-set_same, length-map, length-set, TableId, Applied, IsHistory, value_of, Noted, seen_by, legal_notes_are_shown, stamps_never_return, core_of, packed, seal, having_passed, having_looked, history_of, public_entry, public_log, Owned, Port, Refused, About, Stand, Began, SeatedPort, seen_in, IsHeld, port_at, having_found, looked_at, HasCome, IsIdle, StaysAt, Looked, SeatSees, noted_by, opening_of, Glances, HasNotedScan, ScanMade, SettledFirst, noted_scan, NotScanned, AreCollected, AreInside, HadValue, HadValues, HasBegunCollect, HasGlanced, HasStayed, MayNoteScan, NotesScan, WasThere}
+use Rattle.partial_long_lived.proofs.Common.{ℕ, suc, ◌≡◌, ◌+◌, ◌-◌, ◌<◌, ◌≤◌, ◌&&◌, ◌++◌, not, Bool, true, false, cond, Option, None, Result, Ok, Err, IfOk, IfErr, List, [], ◌∷◌, length, map, take, set, refl, sym, ap, subst, ◌∙◌, inl, inr, arith, append-nil, length-append, nat_lt, slice_index, option_map_or, AllByRecursion, eqb_tells, ext_get_or, get_or-map, get_or-set_other, get_or-set_same, length-map, length-set, TableId, Applied, IsHistory, value_of, Noted, seen_by, legal_notes_are_shown, stamps_never_return, core_of, packed, seal, having_passed, having_looked, history_of, public_entry, public_log, OwnedArena, Port, Refused, About, Stand, Began, SeatedPort, seen_in, IsHeld, port_at, having_found, looked_at, HasCome, IsIdle, StaysAt, LookFound, SeatSees, noted_by, opening_of, Glances, HasNotedScan, ScanMade, SettledFirst, noted_scan, NotScanned, AreCollected, AreInside, HadValue, HadValues, HasBegunCollect, HasGlanced, HasStayed, MayNoteScan, NotesScan, WasThere}
 use Rattle.partial_model.specs.History.{stamp_of}
 use Rattle.partial_lines.specs.declared.whole_scan.Scanned.{Scanned}
 use Rattle.partial_epochs.specs.Layout.{unsealed}
@@ -66,13 +66,13 @@ module _ (table : TableId) (about : About) (s u t : Stand) (h : IsHeld table abo
   fresh_unsealed less = let young = w.present less in let same = ap (λ (g : Began). g.epoch) began_is in omega (arith, young, same)
 
   -- and a look that finds the port's own place says that its epoch is the current one
-  module _ (b : Bool) (looked : Looked false u b t) where
+  module _ (b : Bool) (looked : LookFound false u b t) where
     pub look_same : b ≡ true → port_at t ≡ port_at u
     look_same here =
         let free : (port_at u).port.control.owned ≡ None = ap (λ (x : SeatedPort). x.port.control.owned) w.is ∙ idle.free in
         let port : looked_at looked.found (port_at u).port ≡ (port_at u).port =
         ap (λ (c : Bool). cond c (having_found (port_at u).port) (having_passed (port_at u).port)) (sym looked.is ∙ here)
-        ∙ ap (λ (o : Option Owned). option_map_or (having_looked (port_at u).port) o (port_at u).port) free in
+        ∙ ap (λ (o : Option OwnedArena). option_map_or (having_looked (port_at u).port) o (port_at u).port) free in
         looked.looks.2 ∙ ap (λ (n : Began). record (port_at u) { port = looked_at looked.found (port_at u).port; began = n }) looked.looks.1
         ∙ ap (λ (p : Port). record (port_at u) { port = p }) port
 

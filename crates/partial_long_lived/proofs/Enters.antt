@@ -1,5 +1,5 @@
 -- The exchange of the entering mark is allowed.
-use Rattle.partial_long_lived.proofs.Common.{ℕ, ◌≡◌, ◌<◌, ◌≤◌, ◌==◌, ◌++◌, cond, None, List, [], ◌∷◌, length, get_or, set, refl, sym, ap, subst, ◌∙◌, inl, inr, arith, append-nil, append_assoc, eqb_tells, either, Me, Allows, Applied, LegalNotes, Noted, put, IsPlace, Place, Plan, at_word, marked, packed, history_of, public_log, Entering, Port, Loaded, arrived, Beside, LawfulEpochs, place_now, KeepsTime, LawfulMemory, Reached, not_marked, arrivals_keep_notes, arrivals_keep_time, arrivals_stay_lawful, put_other, put_same, history_grows, history_longer, About, IsRuleKept, IsSeat, IsSeen, IsSince, SeatedPort, one_of, plan_of, seen_in, BeginsWith, IsSeatKnown, IsOne, tells, SeatArrives, place_found, unpacked}
+use Rattle.partial_long_lived.proofs.Common.{ℕ, ◌≡◌, ◌<◌, ◌≤◌, ◌==◌, ◌++◌, cond, None, List, [], ◌∷◌, length, get_or, set, refl, sym, ap, subst, ◌∙◌, inl, inr, arith, append-nil, append_assoc, eqb_tells, either, Me, Allows, Applied, LegalNotes, Noted, put, IsPlace, Place, Plan, at_word, marked, packed, history_of, public_log, Entering, Port, Loaded, arrived_port, Beside, LawfulEpochs, place_now, KeepsTime, LawfulMemory, EpochReached, not_marked, arrivals_keep_notes, arrivals_keep_time, arrivals_stay_lawful, put_other, put_same, history_grows, history_longer, About, IsRuleKept, IsSeat, IsSeen, IsSince, SeatedPort, one_of, plan_of, seen_in, BeginsWith, IsSeatKnown, IsOne, tells, SeatArrives, place_found, unpacked}
 use Rattle.partial_epochs.specs.Entering as law
 use Rattle.partial_epochs.proofs.Sights.{ends}
 use Rattle.partial_long_lived.proofs.Seen.{legal_begins}
@@ -28,10 +28,10 @@ arrival_place e words ports b k c lawful below w = elim w.is [
     here = (ports k).control.here
 
     there : IsPlace e w.place
-    there = subst (λ (p : Port). IsPlace e p.control.here) (put_same k (arrived e k w.place w.before) ports) (w.lawful.control.places k below)
+    there = subst (λ (p : Port). IsPlace e p.control.here) (put_same k (arrived_port e k w.place w.before) ports) (w.lawful.control.places k below)
 
 -- what the port has seen is a beginning of what lies behind it then
-arrival_seen : (b : Beside) (p q : Port) → IsSeen b p → Reached b p → Reached b q → length p.before < length q.before → q.part.seen ≡ [] → BeginsWith (seen_in p) (seen_in q)
+arrival_seen : (b : Beside) (p q : Port) → IsSeen b p → EpochReached b p → EpochReached b q → length p.before < length q.before → q.part.seen ≡ [] → BeginsWith (seen_in p) (seen_in q)
 arrival_seen b p q seen old new later none =
     let rest = seen old.later old.log old.is in
     let mid = ends old.later (old.log ∷ p.before) (new.later ++ new.log ∷ []) q.before (sym old.is ∙ new.is ∙ split new.later new.log q.before) (omega (arith, later)) in
@@ -57,13 +57,13 @@ arrival a words ports notes b since x w time s known c loaded v word =
     let own : x.about ≡ a = s.about in
     let loaded' : (ports k).control.entering ≡ Loaded c = ap (λ (p : Port). p.control.entering) (sym s.port) ∙ loaded in
     let to : law.Arrives (plan_of a) words ports b k c = arrivals_stay_lawful e words ports b k c w.epochs s.number loaded' in
-    let p : Port = arrived e k to.place to.before in
+    let p : Port = arrived_port e k to.place to.before in
     let lawful : LawfulMemory e (set words (at_word k) v) (put k p ports) b notes =
     subst (λ v. LawfulMemory e (set words (at_word k) v) (put k p ports) b notes) word (arrivals_keep_notes e words ports b notes k c w s.number to) in
     let in_time = arrivals_keep_time e words ports b k c since w.epochs s.number loaded' time to in
     let place : place_found x.port c n ≡ to.place = ap (λ (q : Port). place_found q c n) s.port ∙ arrival_place e words ports b k c w.epochs s.number to in
-    let old : Reached b x.port = subst (Reached b) (sym s.port) (w.noted.reached k s.number) in
-    let new : Reached b p = subst (Reached b) (put_same k p ports) (lawful.noted.reached k s.number) in
+    let old : EpochReached b x.port = subst (EpochReached b) (sym s.port) (w.noted.reached k s.number) in
+    let new : EpochReached b p = subst (EpochReached b) (put_same k p ports) (lawful.noted.reached k s.number) in
     let later : x.port.control.here.epoch < to.place.epoch = subst (λ (q : Port). q.control.here.epoch < to.place.epoch) (sym s.port) to.later in
     let few = old.epoch in
     let many = to.epoch in
@@ -101,8 +101,8 @@ arrival a words ports notes b since x w time s known c loaded v word =
         to.before,
         subst (λ (d : Place). x.port.control.here.epoch < d.epoch) (sym place) later,
         subst (λ (d : Place). x.began.epoch ≤ d.epoch) (sym place) (omega (arith, began, up)),
-        ap (λ (z : About). record x { port = arrived (plan_of z) k to.place to.before; found = None }) (sym own)
-            ∙ ap (λ (d : Place). record x { port = arrived (plan_of x.about) k d to.before; found = None }) (sym place),
+        ap (λ (z : About). record x { port = arrived_port (plan_of z) k to.place to.before; found = None }) (sym own)
+            ∙ ap (λ (d : Place). record x { port = arrived_port (plan_of x.about) k d to.before; found = None }) (sym place),
       );
     }
 

@@ -1,28 +1,28 @@
 -- What a look leaves of a port.
-use Rattle.partial_long_lived.proofs.Common.{ℕ, ◌≡◌, ◌==◌, Bool, true, false, cond, Option, Some, None, refl, sym, ap, ◌∙◌, option_map_or, packed, Owned, Port, having_passed, having_looked, Stand, SeatedPort, port_at, having_found, looked_at, StaysAt, Looked, HasTaken, HoldsMark, IsPast, MayPutPort, Owns, Remains, HasSetWords}
+use Rattle.partial_long_lived.proofs.Common.{ℕ, ◌≡◌, ◌==◌, Bool, true, false, cond, Option, Some, None, refl, sym, ap, ◌∙◌, option_map_or, packed, OwnedArena, Port, having_passed, having_looked, Stand, SeatedPort, port_at, having_found, looked_at, StaysAt, LookFound, HasTaken, HoldsMark, IsPast, MayPutPort, Owns, Remains, HasSetWords}
 
 -- what a look leaves as it was, whatever it finds
-looked_same : {A : Type 0} (f : Port → A) (n : ℕ) (p : Port) → ((o : Owned) → f (having_looked p o) ≡ f p) → f (having_passed p) ≡ f p → f (looked_at n p) ≡ f p
+looked_same : {A : Type 0} (f : Port → A) (n : ℕ) (p : Port) → ((o : OwnedArena) → f (having_looked p o) ≡ f p) → f (having_passed p) ≡ f p → f (looked_at n p) ≡ f p
 looked_same {A} f n p here away = by (n == packed p.control.here) p.control.owned
   where
-    by : (c : Bool) (o : Option Owned) → f (cond c (option_map_or (having_looked p) o p) (having_passed p)) ≡ f p
+    by : (c : Bool) (o : Option OwnedArena) → f (cond c (option_map_or (having_looked p) o p) (having_passed p)) ≡ f p
     by true None = refl
     by true (Some o) = here o
     by false o = away
 
-module _ (first : Bool) (s t : Stand) (b : Bool) (w : Looked first s b t) where
+module _ (first : Bool) (s t : Stand) (b : Bool) (w : LookFound first s b t) where
   port_is : (port_at t).port ≡ looked_at w.found (port_at s).port
   port_is = ap (λ (z : SeatedPort). z.port) w.looks.2
 
-  pub looked_keeps : {A : Type 0} (f : Port → A) → ((o : Owned) → f (having_looked (port_at s).port o) ≡ f (port_at s).port) → f (having_passed (port_at s).port) ≡ f (port_at s).port →
+  pub looked_keeps : {A : Type 0} (f : Port → A) → ((o : OwnedArena) → f (having_looked (port_at s).port o) ≡ f (port_at s).port) → f (having_passed (port_at s).port) ≡ f (port_at s).port →
       f (port_at t).port ≡ f (port_at s).port
   looked_keeps f here away = ap f port_is ∙ looked_same f w.found (port_at s).port here away
 
   -- it has found the port's own place, or another one
-  pub looked_own : b ≡ true → (o : Owned) → (port_at s).port.control.owned ≡ Some o → (port_at t).port ≡ having_looked (port_at s).port o
+  pub looked_own : b ≡ true → (o : OwnedArena) → (port_at s).port.control.owned ≡ Some o → (port_at t).port ≡ having_looked (port_at s).port o
   looked_own here o is =
       port_is ∙ ap (λ (c : Bool). cond c (having_found (port_at s).port) (having_passed (port_at s).port)) (sym w.is ∙ here)
-      ∙ ap (λ (o : Option Owned). option_map_or (having_looked (port_at s).port) o (port_at s).port) is
+      ∙ ap (λ (o : Option OwnedArena). option_map_or (having_looked (port_at s).port) o (port_at s).port) is
 
   pub looked_away : b ≡ false → (port_at t).port ≡ having_passed (port_at s).port
   looked_away away = port_is ∙ ap (λ (c : Bool). cond c (having_found (port_at s).port) (having_passed (port_at s).port)) (sym w.is ∙ away)
@@ -39,7 +39,7 @@ module _ (first : Bool) (s t : Stand) (b : Bool) (w : Looked first s b t) where
   }
 
 -- a look but the first step of a call
-pub looked_remains : (s t : Stand) (b : Bool) → StaysAt s t → Looked false s b t → Remains s t
+pub looked_remains : (s t : Stand) (b : Bool) → StaysAt s t → LookFound false s b t → Remains s t
 looked_remains s t b k w = record {
   stays = record {
     shape = k.shape;
@@ -62,7 +62,7 @@ looked_remains s t b k w = record {
 }
 
 -- the first look of an owner
-pub taken_works : (s t : Stand) (b : Bool) (y : ℕ) → HasTaken s y → Looked false s b t → b ≡ true → HasSetWords t y 0 0
+pub taken_works : (s t : Stand) (b : Bool) (y : ℕ) → HasTaken s y → LookFound false s b t → b ≡ true → HasSetWords t y 0 0
 taken_works s t b y taken w here =
     let is = looked_own false s t b w here _ taken.is in record {
       stands = ap (λ (p : Port). p.control.entering) is ∙ taken.stands;
@@ -76,7 +76,7 @@ taken_works s t b y taken w here =
     }
 
 -- and the look once it has loaded a mark
-pub marked_puts : (s t : Stand) (b : Bool) (y q a : ℕ) → HoldsMark s y q a → Looked false s b t → b ≡ true → MayPutPort t y q a
+pub marked_puts : (s t : Stand) (b : Bool) (y q a : ℕ) → HoldsMark s y q a → LookFound false s b t → b ≡ true → MayPutPort t y q a
 marked_puts s t b y q a holds w here =
     let is = looked_own false s t b w here holds.owned holds.is in record {
       holds = record {

@@ -1,5 +1,5 @@
 -- The steps of a port's machine are allowed.
-use Rattle.partial_long_lived.proofs.Common.{ℕ, ◌≡◌, ◌≢◌, ◌+◌, ◌<◌, ◌≤◌, ◌||◌, ◌++◌, Bool, true, false, cond, Option, Some, None, IfSome, List, [], ◌∷◌, length, map, take, drop, get_or, set, refl, sym, ap, subst, ◌∙◌, inl, inr, arith, append-nil, append_assoc, length-append, AllByRecursion, length-map, take-append-drop, take-append-le, set-get_or, Applied, Call, Answer, stamp_of, LegalNotes, Noted, seen_by, Step, Load, Store, Exchange, Add, answer_of, word_of, words_after, CoreState, advance, reply_of, answer_for, call_of, is_begun, Part, core_of, begun_with, since_with, put, IsSealed, Place, Plan, arena_words, base, component_words, plain, placed, history_of, opening_behind, public_entry, public_log, among, history_longer, known, Control, Entering, Epoch, Port, Stands, Marks, Loaded, IsOld, MayPut, option_map, present_history, all_back, Beside, IsStanding, LawfulEpochs, numbers, place_now, HaveSlots, MachineLeads, MeetsSeal, ends_over, ExpectedOne, LawfulMemory, Reached, noting, public_noted, KeepsTime, asides_keep_time, machines_are_never_refused, notes_stay_lawful, steps_keep_places, put_all, put_other, put_same, About, Began, Found, IsFinal, IsLast, IsSeat, SeatedPort, plan_of, seen_in, BeginsWith, IsSeatKnown, IsApart, SeatMakes, MayMake, unsealed_answer, change_of, over_by, told_of}
+use Rattle.partial_long_lived.proofs.Common.{ℕ, ◌≡◌, ◌≢◌, ◌+◌, ◌<◌, ◌≤◌, ◌||◌, ◌++◌, Bool, true, false, cond, Option, Some, None, IfSome, List, [], ◌∷◌, length, map, take, drop, get_or, set, refl, sym, ap, subst, ◌∙◌, inl, inr, arith, append-nil, append_assoc, length-append, AllByRecursion, length-map, take-append-drop, take-append-le, set-get_or, Applied, Call, Answer, stamp_of, LegalNotes, Noted, seen_by, Step, Load, Store, Exchange, Add, answer_of, word_of, words_after, CoreState, advance, reply_of, answer_for, call_of, is_begun, Part, core_of, begun_with, since_with, put, IsSealed, Place, Plan, arena_words, base, component_words, plain, placed_step, history_of, opening_behind, public_entry, public_log, among, history_longer, known, Control, Entering, Epoch, Port, Stands, Marks, Loaded, IsOld, MayPut, option_map, present_history, all_back, Beside, IsStanding, LawfulEpochs, numbers, place_now, HaveSlots, MachineLeads, MeetsSeal, ends_over, ExpectedOne, LawfulMemory, EpochReached, noting, public_noted, KeepsTime, asides_keep_time, machines_are_never_refused, notes_stay_lawful, steps_keep_places, put_all, put_other, put_same, About, Began, Found, IsFinal, IsLast, IsSeat, SeatedPort, plan_of, seen_in, BeginsWith, IsSeatKnown, IsApart, SeatMakes, MayMake, unsealed_answer, change_of, over_by, told_of}
 use Rattle.partial_model.specs.declared.call.Call.TheVariants as call
 use Rattle.partial_model.specs.declared.call.Answer.TheVariants as answer
 use Rattle.partial_epochs.proofs.NotesStay.{legal_notes_seen, one_or_none}
@@ -11,13 +11,13 @@ use Rattle.partial_long_lived.proofs.Seen.{legal_begins}
 use Rattle.partial_long_lived.proofs.Loads.{begun_place, seat_at}
 
 -- a step does the same to plain words as to those of a table
-pub words_then : (words : List ℕ) (e : Plan) (x : ℕ) (s : Step) → words_after words (placed e x s) ≡ set words (base e x + word_of s) (change_of s (get_or words (base e x + word_of s) 0))
+pub words_then : (words : List ℕ) (e : Plan) (x : ℕ) (s : Step) → words_after words (placed_step e x s) ≡ set words (base e x + word_of s) (change_of s (get_or words (base e x + word_of s) 0))
 words_then words e x (Load w) = sym (set-get_or words (base e x + w) 0)
 words_then words e x (Store w v) = refl
 words_then words e x (Exchange w old new) = refl
 words_then words e x (Add w k) = refl
 
-told_then : (words : List ℕ) (e : Plan) (x : ℕ) (s : Step) → answer_of words (placed e x s) ≡ told_of s (get_or words (base e x + word_of s) 0)
+told_then : (words : List ℕ) (e : Plan) (x : ℕ) (s : Step) → answer_of words (placed_step e x s) ≡ told_of s (get_or words (base e x + word_of s) 0)
 told_then words e x (Load w) = refl
 told_then words e x (Store w v) = refl
 told_then words e x (Exchange w old new) = refl
@@ -73,7 +73,7 @@ module _ (e : Plan) (words : List ℕ) (ports : ℕ → Port) (b : Beside) (w : 
     where
       inside_all : AllByRecursion (λ (a : Applied). a.component < e.sizes.m) lead.entries
       inside_all = all_back (λ (a : Applied). a.component < e.sizes.m) b.log lead.entries
-          (subst (AllByRecursion (λ (a : Applied). a.component < e.sizes.m)) lead.log (present_history e (words_after words (placed e (ports k).control.here.arena step)) (put k lead.port ports) lead.beside lead.lawful).components)
+          (subst (AllByRecursion (λ (a : Applied). a.component < e.sizes.m)) lead.log (present_history e (words_after words (placed_step e (ports k).control.here.arena step)) (put k lead.port ports) lead.beside lead.lawful).components)
 
       all_free : ((a : Applied) → a.component < e.sizes.m → a.component ≡ j → IsSealed (get_or (component_words e words (ports k).control.here.arena) a.component 0)) → (h : List Applied) →
           AllByRecursion (λ (a : Applied). a.component < e.sizes.m) h → AllByRecursion (λ (a : Applied). ¬ IsSealed (get_or (component_words e words (ports k).control.here.arena) a.component 0)) h →
@@ -211,7 +211,7 @@ module _ (a : About) (words : List ℕ) (ports : ℕ → Port) (notes : ℕ → 
       by (call.Read j) r made = tt
 
   abbrev words' : List ℕ
-  words' = words_after words (placed e (ports k).control.here.arena step)
+  words' = words_after words (placed_step e (ports k).control.here.arena step)
 
   abbrev ports' : ℕ → Port
   ports' = put k lead.port ports
@@ -249,13 +249,13 @@ module _ (a : About) (words : List ℕ) (ports : ℕ → Port) (notes : ℕ → 
       let words_is = words_then words e (ports k).control.here.arena step in
       let expected = expected_one lead.tells.new refl in
       let added : List Noted = map (public_noted e (ports k).before) lead.tells.new in
-      let whole : LawfulMemory e (words_after words (placed e (ports k).control.here.arena step)) (put k lead.port ports) lead.beside (noting k added notes) =
+      let whole : LawfulMemory e (words_after words (placed_step e (ports k).control.here.arena step)) (put k lead.port ports) lead.beside (noting k added notes) =
       notes_stay_lawful e words ports b notes k c step w below stands lead added (inr (refl, shown_then, expected)) in
       let lawful' : LawfulMemory e (set words i (change_of step n)) (put k lead.port ports) lead.beside (noting k added notes) =
       subst (λ (l : List ℕ). LawfulMemory e l (put k lead.port ports) lead.beside (noting k added notes)) words_is whole in
       let r = w.noted.reached k below in
       let again = whole.noted.reached k below in
-      let there : Reached lead.beside lead.port = subst (λ (p : Port). Reached lead.beside p) (put_same k lead.port ports) again in
+      let there : EpochReached lead.beside lead.port = subst (λ (p : Port). EpochReached lead.beside p) (put_same k lead.port ports) again in
       let d = began_by first X b (seen_few a words ports notes b since X w s) s.began in
       let longer = ap (λ (l : List (List Applied)). length l) lead.epochs in
       let more : length b.before ≤ length lead.beside.before = omega (arith, longer) in
@@ -277,7 +277,7 @@ module _ (a : About) (words : List ℕ) (ports : ℕ → Port) (notes : ℕ → 
         since' = since;
         lawful = lawful';
         time = subst (λ (l : List ℕ). KeepsTime e l (put k lead.port ports) (place_now lead.beside) since) words_is
-            (asides_keep_time e words (words_after words (placed e (ports k).control.here.arena step)) ports (put k lead.port ports) (place_now b) (place_now lead.beside) since (record {
+            (asides_keep_time e words (words_after words (placed_step e (ports k).control.here.arena step)) ports (put k lead.port ports) (place_now b) (place_now lead.beside) since (record {
               at = λ q low. (steps_keep_places e words q low).arena (ports k).control.here.arena step;
               here = λ q low. put_all (λ h (r : Port). r.control.here ≡ (ports h).control.here) k lead.port ports q (λ _. ap (λ (t : Control). t.here) lead.control) (λ _. refl);
               entering = λ q low. put_all (λ h (r : Port). r.control.entering ≡ (ports h).control.entering) k lead.port ports q (λ _. ap (λ (t : Control). t.entering) lead.control) (λ _. refl);

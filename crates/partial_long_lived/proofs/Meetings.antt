@@ -1,5 +1,5 @@
 -- How a meeting of two ports leaves each of them.
-use Rattle.partial_long_lived.proofs.Common.{◌≡◌, ◌<◌, ◌≤◌, List, [], length, take, inl, sym, ap, subst, ◌∙◌, arith, append-nil, take-append_seam, TableId, Applied, core_of, About, Stand, Seating, Began, SeatedPort, one_in, IsOf, MemoryView, PortView, port_view, seen_in, IsSeatingOf, IsStandOf, HasCome, IsIdle, StaysAt, Settled, IsHeld, port_at, BeginsWith}
+use Rattle.partial_long_lived.proofs.Common.{◌≡◌, ◌<◌, ◌≤◌, List, [], length, take, inl, sym, ap, subst, ◌∙◌, arith, append-nil, take-append_seam, TableId, Applied, core_of, About, Stand, Seating, Began, SeatedPort, one_in, IsOf, MemoryView, PortView, port_view, seen_in, IsSeatingOf, IsStandOf, HasCome, IsIdle, StaysAt, EpochSettled, IsHeld, port_at, BeginsWith}
 use Rattle.partial_long_lived.specs.Calls as calls
 use Rattle.partial_long_lived.specs.Inner.Meeting.{HasMet, Observes}
 use Rattle.partial_long_lived.proofs.Answering.{callers_see, goes_seen, view_kept, view_taken}
@@ -55,7 +55,7 @@ module _ (table : TableId) (about : About) (s o u p : Stand) (h : IsHeld table a
     }
 
   -- out of an earlier epoch the port comes to the current one, and looks again
-  module _ (r t q : Stand) (early : s.epoch < o.epoch) (settled : Settled u r) (held : IsHeld table about r) (kept_last : StaysAt r t) (kept_beside : StaysAt p q) (same_beside : port_at q ≡ port_at p)
+  module _ (r t q : Stand) (early : s.epoch < o.epoch) (settled : EpochSettled u r) (held : IsHeld table about r) (kept_last : StaysAt r t) (kept_beside : StaysAt p q) (same_beside : port_at q ≡ port_at p)
       (w' : Observes (port_at r) (port_at p) (port_at t)) where
     come_late : (port_at p).port.control.here.epoch ≤ (port_at r).port.control.here.epoch
     come_late =

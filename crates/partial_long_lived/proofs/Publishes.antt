@@ -1,5 +1,5 @@
 -- The exchange of the current word is allowed.
-use Rattle.partial_long_lived.proofs.Common.{ℕ, ◌≡◌, ◌<◌, ◌≤◌, ◌==◌, ◌++◌, cond, List, [], ◌∷◌, length, get_or, set, refl, sym, ap, subst, ◌∙◌, inl, inr, arith, append-nil, length-append, either, Me, Allows, Applied, LegalNotes, Noted, put, Plan, current_word, packed, Owned, Port, Beside, LawfulEpochs, place_now, KeepsTime, IsWholeArena, having_published, next_beside, next_place, LawfulMemory, publishes_keep_notes, publishes_keep_time, publishes_stay_lawful, put_other, put_same, About, IsRuleKept, IsSeat, SeatedPort, one_of, plan_of, seen_in, IsSeatKnown, IsOne, tells, SeatPublishes, becomes}
+use Rattle.partial_long_lived.proofs.Common.{ℕ, ◌≡◌, ◌<◌, ◌≤◌, ◌==◌, ◌++◌, cond, List, [], ◌∷◌, length, get_or, set, refl, sym, ap, subst, ◌∙◌, inl, inr, arith, append-nil, length-append, either, Me, Allows, Applied, LegalNotes, Noted, put, Plan, current_word, packed, OwnedArena, Port, Beside, LawfulEpochs, place_now, KeepsTime, IsWholeArena, having_published, next_beside, next_place, LawfulMemory, publishes_keep_notes, publishes_keep_time, publishes_stay_lawful, put_other, put_same, About, IsRuleKept, IsSeat, SeatedPort, one_of, plan_of, seen_in, IsSeatKnown, IsOne, tells, SeatPublishes, becomes}
 use Rattle.partial_long_lived.proofs.Kept.{Grows, HasGrown, HaveGrown, Moved, allowed, begun_grows, final_grows, seen_grows}
 use Rattle.partial_long_lived.proofs.Asides.{IsQuiet, aside, final_same}
 use Rattle.partial_long_lived.proofs.Changes.{either_cond}
@@ -19,11 +19,11 @@ next_grows P e b y before (l ∷ later) log few is = record {
   free = λ j low. tt;
 }
 
-published_quiet : (o : Owned) → IsQuiet (λ p. having_published p o)
+published_quiet : (o : OwnedArena) → IsQuiet (λ p. having_published p o)
 published_quiet o = record { part = λ p. refl; before = λ p. refl; here = λ p. refl; passed = λ p. omega arith }
 
 won : (a : About) (words words' : List ℕ) (ports : ℕ → Port) (notes : ℕ → List Noted) (b : Beside) (since : ℕ → ℕ) (x : SeatedPort) → LawfulMemory (plan_of a) words ports b notes →
-    IsSeat a ports notes b since x → IsSeatKnown x → (o : Owned) →
+    IsSeat a ports notes b since x → IsSeatKnown x → (o : OwnedArena) →
     LawfulEpochs (plan_of a) words' (put x.number (having_published (ports x.number) o) ports) (next_beside (plan_of a) b o.arena) →
     KeepsTime (plan_of a) words' (put x.number (having_published (ports x.number) o) ports) (place_now (next_beside (plan_of a) b o.arena)) since → (P : SeatedPort → Type 0) →
     P (becomes x x.began (having_published x.port o)) → Moved a words' ports notes b since x P
@@ -81,7 +81,7 @@ module _ {S : Type 0} (a : About) (slots id : ℕ) (me : Me S (List SeatedPort))
   abbrev x : SeatedPort
   x = one_of me.0
 
-  pub may_publish : (o : Owned) → IsWholeArena (plan_of a) x.port o →
+  pub may_publish : (o : OwnedArena) → IsWholeArena (plan_of a) x.port o →
       Allows (IsRuleKept a) slots id me current_word (λ n. either (n == packed x.port.control.here) (packed (next_place x.port.control.here o.arena)) n) (tells (SeatPublishes o) me)
   may_publish o whole = allowed a slots id me current_word (λ n. either (n == packed x.port.control.here) (packed (next_place x.port.control.here o.arena)) n) (SeatPublishes o) one own
       (λ words ports notes b since w time s small.

@@ -110,9 +110,9 @@ module _ (table : TableId) (about : About) (s : Stand) (h : IsHeld table about s
 
 -- a scan is noted at a place that it has seen
 saw_at : (collects : ℕ) (borrowed : Option ℕ) (n : Note) (seen : ℕ) → IsPlacedAt (reply.Scanned collects borrowed) n seen → (k : ℕ) × (n ≡ note.Saw k) × (k ≤ seen)
-saw_at collects borrowed (note.Saw k) seen placed = (k, refl, placed)
-saw_at collects borrowed (note.Wrote k) seen placed = absurd placed
-saw_at collects borrowed (note.Lost k) seen placed = absurd placed
+saw_at collects borrowed (note.Saw k) seen placed_step = (k, refl, placed_step)
+saw_at collects borrowed (note.Wrote k) seen placed_step = absurd placed_step
+saw_at collects borrowed (note.Lost k) seen placed_step = absurd placed_step
 
 -- The scan that the machine b began at the stand s, whose first step led to the stand u, has come to its reply at the stand t.
 module _ (table : TableId) (about : About) (s u t : Stand) (h : IsHeld table about s) (idle : IsIdle s) (core : CoreState) (which : List ℕ) (begins : MayBegin (scan_asked core which) (port_at s))

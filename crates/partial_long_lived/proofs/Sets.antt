@@ -1,5 +1,5 @@
 -- The stores of an owner are allowed.
-use Rattle.partial_long_lived.proofs.Common.{ℕ, ◌≡◌, ◌≢◌, ◌+◌, ◌-◌, ◌/◌, ◌%◌, ◌<◌, ◌≤◌, ◌==◌, ◌⊎◌, ◌++◌, true, false, cond, Option, Some, IfSome, List, [], ◌∷◌, length, get_or, set, refl, sym, ap, subst, ◌∙◌, inl, inr, arith, length-append, nat_lt, lt-ltb, eqb_tells, get_or-set_same, Me, Allows, Applied, Opening, value_of, Noted, some_same, Layout, first_free, initial_record, list_base, list_counter, pool_base, pool_counter, initial_record_word, opening_word, list_of, IsAsked, Place, Plan, control_words, current_word, packed, set_word, carried_behind, opening_behind, Owned, Port, MayPut, Beside, controls, next_epoch_word, numbers, place_now, having_set, vacated, LawfulMemory, many, sets_stay_lawful, at_of, below_whole, not_below, set_place, About, Found, IsFinal, IsRuleKept, IsLast, IsSeat, SeatedPort, one_of, plan_of, IsSeatKnown, IsOne, tells, Sets, FindsClear, becomes, LawfulEpochs, put, cases_lt}
+use Rattle.partial_long_lived.proofs.Common.{ℕ, ◌≡◌, ◌≢◌, ◌+◌, ◌-◌, ◌/◌, ◌%◌, ◌<◌, ◌≤◌, ◌==◌, ◌⊎◌, ◌++◌, true, false, cond, Option, Some, IfSome, List, [], ◌∷◌, length, get_or, set, refl, sym, ap, subst, ◌∙◌, inl, inr, arith, length-append, nat_lt, lt-ltb, eqb_tells, get_or-set_same, Me, Allows, Applied, Opening, value_of, Noted, some_same, Layout, first_free, initial_record, list_base, list_counter, pool_base, pool_counter, initial_record_word, opening_word, list_of, IsAsked, Place, Plan, control_words, current_word, packed, set_word, carried_behind, opening_behind, OwnedArena, Port, MayPut, Beside, controls, next_epoch_word, numbers, place_now, having_set, vacated, LawfulMemory, many, sets_stay_lawful, at_of, below_whole, not_below, set_place, About, Found, IsFinal, IsRuleKept, IsLast, IsSeat, SeatedPort, one_of, plan_of, IsSeatKnown, IsOne, tells, Sets, FindsClear, becomes, LawfulEpochs, put, cases_lt}
 use Rattle.partial_epochs.proofs.Sets as law
 use Rattle.partial_epochs.proofs.Laws.{clear_slots_count_as_set}
 use Rattle.partial_epochs.proofs.Places.{offset_behind, offset_front, slot_offset, slot_set}
@@ -96,18 +96,18 @@ before_is a words ports notes b k w below at =
         let both = length-append later (log ∷ before) in
         absurd (omega (arith, long, both, same))
 
-set_quiet : (o : Owned) (next : ℕ) → IsQuiet (λ p. having_set p o next)
+set_quiet : (o : OwnedArena) (next : ℕ) → IsQuiet (λ p. having_set p o next)
 set_quiet o next = record { part = λ p. refl; before = λ p. refl; here = λ p. refl; passed = λ p. omega arith }
 
-set_puts : (p : Port) (o : Owned) (next : ℕ) → p.control.owned ≡ Some o → (j : ℕ) (m : Place) → MayPut (having_set p o next).control j m → MayPut p.control j m
+set_puts : (p : Port) (o : OwnedArena) (next : ℕ) → p.control.owned ≡ Some o → (j : ℕ) (m : Place) → MayPut (having_set p o next).control j m → MayPut p.control j m
 set_puts p o next is j m may =
     let same : record o { set = next } ≡ may.owned = some_same may.is in
     record {
       owned = o;
       is = is;
-      port = ap (λ (t : Owned). t.clean) same ∙ may.port;
-      mark = ap (λ (t : Owned). t.mark) same ∙ may.mark;
-      again = ap (λ (t : Owned). t.again) same ∙ may.again;
+      port = ap (λ (t : OwnedArena). t.clean) same ∙ may.port;
+      mark = ap (λ (t : OwnedArena). t.mark) same ∙ may.mark;
+      again = ap (λ (t : OwnedArena). t.again) same ∙ may.again;
     }
 
 -- what a port has found in its own epoch is the last of all epochs, while that is the current one
@@ -125,12 +125,12 @@ module _ {S : Type 0} (a : About) (slots id : ℕ) (me : Me S (List SeatedPort))
   e = plan_of a
 
   -- the words that count as set behind the store are those of the next epoch, while the port's epoch is the current one
-  abbrev Right : Owned → ℕ → ℕ → Type 0
+  abbrev Right : OwnedArena → ℕ → ℕ → Type 0
   Right o v next = (words : List ℕ) (ports : ℕ → Port) (notes : ℕ → List Noted) (b : Beside) (since : ℕ → ℕ) → LawfulMemory (plan_of a) words ports b notes → IsSeat a ports notes b since x →
       get_or words current_word 0 ≡ packed (ports x.number).control.here → (i : ℕ) → o.set ≤ i → i < next → IsAsked a.sizes i →
       get_or (set words (set_word e o.arena o.set) v) (set_word e o.arena i) 0 ≡ next_epoch_word e b i
 
-  pub may_set : (o : Owned) (v next : ℕ) → x.port.control.owned ≡ Some o → o.clean ≡ a.ports → o.set < next → next ≤ first_free a.sizes + a.sizes.m → a.sizes.m ≤ x.port.passed →
+  pub may_set : (o : OwnedArena) (v next : ℕ) → x.port.control.owned ≡ Some o → o.clean ≡ a.ports → o.set < next → next ≤ first_free a.sizes + a.sizes.m → a.sizes.m ≤ x.port.passed →
       Right o v next → (o.set < a.sizes.slots → (v ≡ 0) × (next ≡ o.set + 1)) →
       Allows (IsRuleKept a) slots id me (set_word e o.arena o.set) (λ n. v) (tells (Sets o next) me)
   may_set o v next owned clean less most passed right zero = allowed a slots id me (set_word e o.arena o.set) (λ n. v) (Sets o next) one own (λ words ports notes b since w time s small.
@@ -161,7 +161,7 @@ module _ {S : Type 0} (a : About) (slots id : ℕ) (me : Me S (List SeatedPort))
           ∙ get_or-set_same words (set_word e o.arena o.set) v 0 (omega (arith, at, only, inside, count)) ∙ zero
 
   -- where the store is that of a word of the next epoch, and an opening asks nothing of the words behind it that count as set
-  may_set_word : (o : Owned) (v next : ℕ) → x.port.control.owned ≡ Some o → o.clean ≡ a.ports → o.set < next → next ≤ first_free a.sizes + a.sizes.m → a.sizes.m ≤ x.port.passed →
+  may_set_word : (o : OwnedArena) (v next : ℕ) → x.port.control.owned ≡ Some o → o.clean ≡ a.ports → o.set < next → next ≤ first_free a.sizes + a.sizes.m → a.sizes.m ≤ x.port.passed →
       ((i : ℕ) → o.set < i → i < next → ¬ IsAsked a.sizes i) →
       ((b : Beside) → length a.opening.values ≡ a.sizes.m → IfSome x.found (IsFinal (plan_of a) b x.port) → x.port.before ≡ b.before → v ≡ next_epoch_word e b o.set) →
       (o.set < a.sizes.slots → (v ≡ 0) × (next ≡ o.set + 1)) →
@@ -183,7 +183,7 @@ module _ {S : Type 0} (a : About) (slots id : ℕ) (me : Me S (List SeatedPort))
       ])) zero
 
   -- a word that is the same whatever the values are
-  pub may_set_same : (o : Owned) (v : ℕ) → x.port.control.owned ≡ Some o → o.clean ≡ a.ports → a.sizes.m ≤ x.port.passed → o.set < first_free a.sizes →
+  pub may_set_same : (o : OwnedArena) (v : ℕ) → x.port.control.owned ≡ Some o → o.clean ≡ a.ports → a.sizes.m ≤ x.port.passed → o.set < first_free a.sizes →
       (o.set < pool_base a.sizes) ⊎ ((o.set - pool_base a.sizes) % plain_record_size ≢ value_word 0) → v ≡ opening_word a.sizes [] (set_offset a.sizes o.set) →
       Allows (IsRuleKept a) slots id me (set_word e o.arena o.set) (λ n. v) (tells (Sets o (o.set + 1)) me)
   may_set_same o v owned clean passed low free is = may_set_word o v (o.set + 1) owned clean (omega arith) (omega (arith, low)) passed (λ i from up. absurd (omega (arith, from, up)))
@@ -191,7 +191,7 @@ module _ {S : Type 0} (a : About) (slots id : ℕ) (me : Me S (List SeatedPort))
       (λ slot. (is ∙ ap (opening_word a.sizes []) (slot_offset a.sizes o.set slot) ∙ slots_open a.sizes [] (a.sizes.slots - (o.set + 1)) (omega (arith, slot)), refl))
 
   -- the last word before the list words, of which an opening asks nothing
-  pub may_set_over_lists : (o : Owned) (v : ℕ) → x.port.control.owned ≡ Some o → o.clean ≡ a.ports → a.sizes.m ≤ x.port.passed → o.set + 1 ≡ list_base a.sizes → v ≡ opening_word a.sizes [] 0 →
+  pub may_set_over_lists : (o : OwnedArena) (v : ℕ) → x.port.control.owned ≡ Some o → o.clean ≡ a.ports → a.sizes.m ≤ x.port.passed → o.set + 1 ≡ list_base a.sizes → v ≡ opening_word a.sizes [] 0 →
       Allows (IsRuleKept a) slots id me (set_word e o.arena o.set) (λ n. v) (tells (Sets o (pool_base a.sizes)) me)
   may_set_over_lists o v owned clean passed last is = may_set_word o v (pool_base a.sizes) owned clean (omega (arith, last)) (omega arith) passed
       (λ i from up asked. elim asked [ inl low ↦ absurd (omega (arith, from, last, low)) | inr high ↦ absurd (omega (arith, up, high)) ])
@@ -202,7 +202,7 @@ module _ {S : Type 0} (a : About) (slots id : ℕ) (me : Me S (List SeatedPort))
       ∙ sym (next_below e b o.set 0 (omega (arith, last)))) (λ slot. absurd (omega (arith, slot, last)))
 
   -- the value that the port has found last of component j, in its initial record
-  pub may_set_value : (o : Owned) (f : Found) → x.port.control.owned ≡ Some o → o.clean ≡ a.ports → a.sizes.m ≤ x.port.passed → x.found ≡ Some f →
+  pub may_set_value : (o : OwnedArena) (f : Found) → x.port.control.owned ≡ Some o → o.clean ≡ a.ports → a.sizes.m ≤ x.port.passed → x.found ≡ Some f →
       o.set ≡ value_word (initial_record a.sizes f.component) → f.component < a.sizes.m →
       Allows (IsRuleKept a) slots id me (set_word e o.arena o.set) (λ n. f.value) (tells (Sets o (o.set + 1)) me)
   may_set_value o f owned clean passed found at inside = may_set_word o f.value (o.set + 1) owned clean (omega arith) (omega (arith, at, inside)) passed (λ i from up. absurd (omega (arith, from, up)))
@@ -211,7 +211,7 @@ module _ {S : Type 0} (a : About) (slots id : ℕ) (me : Me S (List SeatedPort))
       sym last.1.value ∙ sym (next_value e b o.set f.component long inside at)) (λ slot. absurd (omega (arith, slot, at)))
 
   -- the public stamp that it has found
-  pub may_set_stamp : (o : Owned) (f : Found) → x.port.control.owned ≡ Some o → o.clean ≡ a.ports → a.sizes.m ≤ x.port.passed → x.found ≡ Some f →
+  pub may_set_stamp : (o : OwnedArena) (f : Found) → x.port.control.owned ≡ Some o → o.clean ≡ a.ports → a.sizes.m ≤ x.port.passed → x.found ≡ Some f →
       o.set ≡ first_free a.sizes + f.component → f.component < a.sizes.m →
       Allows (IsRuleKept a) slots id me (set_word e o.arena o.set) (λ n. f.stamp) (tells (Sets o (o.set + 1)) me)
   may_set_stamp o f owned clean passed found at inside = may_set_word o f.stamp (o.set + 1) owned clean (omega arith) (omega (arith, at, inside)) passed (λ i from up. absurd (omega (arith, from, up)))
@@ -220,7 +220,7 @@ module _ {S : Type 0} (a : About) (slots id : ℕ) (me : Me S (List SeatedPort))
       sym last.1.stamp ∙ sym (next_stamp e b o.set f.component at)) (λ slot. absurd (omega (arith, slot, at)))
 
   -- the load of the slot counter of the arena, where no word is set yet
-  pub may_find_clear : (o : Owned) → x.port.control.owned ≡ Some o → o.clean ≡ a.ports → o.set ≡ 0 → a.sizes.m ≤ x.port.passed →
+  pub may_find_clear : (o : OwnedArena) → x.port.control.owned ≡ Some o → o.clean ≡ a.ports → o.set ≡ 0 → a.sizes.m ≤ x.port.passed →
       Allows (IsRuleKept a) slots id me (base e o.arena + slot_counter a.sizes) (λ n. n) (tells (FindsClear o) me)
   may_find_clear o owned clean none passed = quietly a slots id me one own known (base e o.arena + slot_counter a.sizes) (λ n. n) (λ n p. having_set p o (a.sizes.slots - n)) (FindsClear o)
       (λ n. set_quiet o (a.sizes.slots - n))

@@ -1,10 +1,10 @@
 -- What the owner of an arena has behind its steps.
-use Rattle.partial_long_lived.proofs.Common.{ℕ, ◌≡◌, ◌≢◌, ◌+◌, ◌-◌, ◌%◌, ◌<◌, ◌≤◌, Bool, true, cond, Option, Some, None, IfSome, refl, sym, ap, subst, ◌∙◌, inl, inr, arith, nat_lt, lt-ltb, Layout, first_free, pool_base, Place, arena_limit, entering_mark, marked, Owned, Stands, cleaner, having_loaded, owning, resting, not_below, About, Stand, SeatedPort, port_at, LoadsPort, SeatPublishes, PutsPort, Sets, becomes, elsewhere, port_loaded, port_put, unpacked, HasLoadedPort, IsRight, MayPutPort, OfOwned, Owns, PutsBy, SetsLists, SetsNext, HasSetWords, FindsClear}
+use Rattle.partial_long_lived.proofs.Common.{ℕ, ◌≡◌, ◌≢◌, ◌+◌, ◌-◌, ◌%◌, ◌<◌, ◌≤◌, Bool, true, cond, Option, Some, None, IfSome, refl, sym, ap, subst, ◌∙◌, inl, inr, arith, nat_lt, lt-ltb, Layout, first_free, pool_base, Place, arena_limit, entering_mark, marked, OwnedArena, Stands, cleaner, having_loaded, owning_port, resting_arena, not_below, About, Stand, SeatedPort, port_at, LoadsPort, SeatPublishes, PutsPort, Sets, becomes, elsewhere, port_loaded, port_put, unpacked, HasLoadedPort, IsRight, MayPutPort, OfOwned, Owns, PutsBy, SetsLists, SetsNext, HasSetWords, FindsClear}
 use Rattle.partial_long_lived.proofs.Sets.{alike, unlike}
 
 -- a step by the arena that the port owns
-own_told : (R : Owned → SeatedPort → ℕ → SeatedPort → Type 0) (x : SeatedPort) (a : ℕ) (y : SeatedPort) (o : Owned) → x.port.control.owned ≡ Some o → OfOwned R x a y → R o x a y
-own_told R x a y o is told = subst (λ (t : Option Owned). IfSome t (λ o. R o x a y)) is told
+own_told : (R : OwnedArena → SeatedPort → ℕ → SeatedPort → Type 0) (x : SeatedPort) (a : ℕ) (y : SeatedPort) (o : OwnedArena) → x.port.control.owned ≡ Some o → OfOwned R x a y → R o x a y
+own_told R x a y o is told = subst (λ (t : Option OwnedArena). IfSome t (λ o. R o x a y)) is told
 
 -- the words that are set are those of an opening, and carried stamps
 pub right_low : (about : About) (x : SeatedPort) (v i : ℕ) → x.about ≡ about → IsRight x v i → i < first_free about.sizes + about.sizes.m
@@ -16,7 +16,7 @@ right_low about x v i own right = subst (λ (a : About). i < first_free a.sizes 
     by z (inr (inr r)) = let low = r.inside in let at = r.at in omega (arith, low, at)
 
 -- the port with another state of its arena
-module _ (s t : Stand) (o : Owned) (is : port_at t ≡ becomes (port_at s) (port_at s).began (owning (port_at s).port o)) (stands : (port_at s).port.control.entering ≡ Stands) where
+module _ (s t : Stand) (o : OwnedArena) (is : port_at t ≡ becomes (port_at s) (port_at s).began (owning_port (port_at s).port o)) (stands : (port_at s).port.control.entering ≡ Stands) where
   stands_then : (port_at t).port.control.entering ≡ Stands
   stands_then = ap (λ (z : SeatedPort). z.port.control.entering) is ∙ stands
 
@@ -27,7 +27,7 @@ module _ (s t : Stand) (o : Owned) (is : port_at t ≡ becomes (port_at s) (port
   works_then y q i arena looked clean mark set = record { stands = stands_then; owned = o; is = owned_then; arena = arena; looked = looked; clean = clean; mark = mark; set = set }
 
 module _ (s t : Stand) (y q i a : ℕ) (w : HasSetWords s y q i) where
-  abbrev o : Owned
+  abbrev o : OwnedArena
   o = w.owned
 
   pub set_works : SetsNext (port_at s) a (port_at t) → HasSetWords t y q (i + 1)
@@ -48,21 +48,21 @@ module _ (s t : Stand) (y q i a : ℕ) (w : HasSetWords s y q i) where
   pub publish_owns : OfOwned SeatPublishes (port_at s) a (port_at t) → Owns t y
   publish_owns told =
       let r : SeatPublishes o (port_at s) a (port_at t) = own_told SeatPublishes (port_at s) a (port_at t) o w.is told in
-      record { stands = ap (λ (z : SeatedPort). z.port.control.entering) r ∙ w.stands; owned = resting o; is = ap (λ (z : SeatedPort). z.port.control.owned) r; arena = w.arena }
+      record { stands = ap (λ (z : SeatedPort). z.port.control.entering) r ∙ w.stands; owned = resting_arena o; is = ap (λ (z : SeatedPort). z.port.control.owned) r; arena = w.arena }
 
 -- the load of the word of the next port
 module _ (s t : Stand) (y q a : ℕ) (w : HasSetWords s y q 0) (told : OfOwned LoadsPort (port_at s) a (port_at t)) where
-  abbrev own : Owned
+  abbrev own : OwnedArena
   own = w.owned
 
-  abbrev holding : Owned
+  abbrev holding : OwnedArena
   holding = having_loaded own (unpacked (a - entering_mark))
 
-  told_is : port_at t ≡ becomes (port_at s) (port_at s).began (owning (port_at s).port (port_loaded a own))
+  told_is : port_at t ≡ becomes (port_at s) (port_at s).began (owning_port (port_at s).port (port_loaded a own))
   told_is = own_told LoadsPort (port_at s) a (port_at t) own w.is told
 
-  loaded_as : (o' : Owned) → port_loaded a own ≡ o' → port_at t ≡ becomes (port_at s) (port_at s).began (owning (port_at s).port o')
-  loaded_as o' same = told_is ∙ ap (λ (o : Owned). becomes (port_at s) (port_at s).began (owning (port_at s).port o)) same
+  loaded_as : (o' : OwnedArena) → port_loaded a own ≡ o' → port_at t ≡ becomes (port_at s) (port_at s).began (owning_port (port_at s).port o')
+  loaded_as o' same = told_is ∙ ap (λ (o : OwnedArena). becomes (port_at s) (port_at s).began (owning_port (port_at s).port o)) same
 
   unmarked : a < entering_mark → port_loaded a own ≡ elsewhere a own
   unmarked low = ap (λ (c : Bool). cond c (elsewhere a own) holding) (lt-ltb a entering_mark low)
@@ -96,23 +96,23 @@ module _ (s t : Stand) (y q a : ℕ) (w : HasSetWords s y q 0) (told : OfOwned L
 
 -- the exchange of its mark m
 module _ (s t : Stand) (y q m a : ℕ) (w : MayPutPort s y q m) (from : entering_mark ≤ m) (told : PutsBy m (port_at s) a (port_at t)) where
-  abbrev put : Owned
+  abbrev put : OwnedArena
   put = w.holds.owned
 
   abbrev mark : Place
   mark = unpacked (m - entering_mark)
 
-  put_is : port_at t ≡ becomes (port_at s) (port_at s).began (owning (port_at s).port (port_put mark a put))
+  put_is : port_at t ≡ becomes (port_at s) (port_at s).began (owning_port (port_at s).port (port_put mark a put))
   put_is = own_told (λ o. PutsPort o mark) (port_at s) a (port_at t) put w.holds.is told
 
   named : marked mark ≡ m
   named = omega (arith, from)
 
   put_as : port_put mark a put ≡ cleaner put → HasSetWords t y (q + 1) 0
-  put_as same = works_then s t (cleaner put) (put_is ∙ ap (λ (o : Owned). becomes (port_at s) (port_at s).began (owning (port_at s).port o)) same) w.holds.stands
+  put_as same = works_then s t (cleaner put) (put_is ∙ ap (λ (o : OwnedArena). becomes (port_at s) (port_at s).began (owning_port (port_at s).port o)) same) w.holds.stands
       y (q + 1) 0 w.holds.arena w.holds.looked (ap (λ n. n + 1) w.holds.clean) refl w.holds.set
 
-  abbrev others : Bool → Owned
+  abbrev others : Bool → OwnedArena
   others c = cond c (elsewhere a put) put
 
   pub put_won : a ≡ m → HasSetWords t y (q + 1) 0

@@ -11,7 +11,7 @@ use Rattle.partial_epochs.specs.Ports.{Entering, Port}
 use Rattle.partial_epochs.specs.Ports.Entering.{Stands}
 use Rattle.partial_epochs.specs.Epochs.{Beside, place_now}
 use Rattle.partial_epochs.specs.Opening.{first_place}
-use Rattle.partial_epochs.specs.Entering.{arrived}
+use Rattle.partial_epochs.specs.Entering.{arrived_port}
 use Rattle.partial_epochs.specs.Notes.{LawfulMemory}
 use Rattle.partial_epochs.specs.Time.{KeepsTime}
 use Rattle.partial_long_lived.specs.declared.rule.About.{About}
@@ -105,7 +105,7 @@ abbrev pub newcomer : About → ℕ → SeatedPort
 newcomer about k = record {
   about = about;
   number = k;
-  port = arrived (plan_of about) k first_place [];
+  port = arrived_port (plan_of about) k first_place [];
   notes = [];
   began = record { epoch = 0; length = 0 };
   found = None;

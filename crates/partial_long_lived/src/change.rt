@@ -3,7 +3,7 @@
 ghost use Rattle.std.specs.Prelude.{◌≡◌, ◌+◌, ◌<◌, ◌==◌, IfErr, IfOk, true};
 ghost use Rattle.partial_words.specs.Layout.{first_free};
 ghost use Rattle.partial_long_lived.specs.Inner.Held.{IsHeld, port_at};
-ghost use Rattle.partial_long_lived.specs.Inner.Calls.{IsIdle, StaysAt, Looked, MayLook};
+ghost use Rattle.partial_long_lived.specs.Inner.Calls.{IsIdle, StaysAt, LookFound, MayLook};
 ghost use Rattle.partial_long_lived.specs.Inner.Changing.{Changed, IsCause, IsPast, HasSamePart, NotChanged, Owns, Stays, HasSetWords};
 
 use crate::change_plays::Publish;
@@ -47,7 +47,7 @@ fn look_as(words: &Words, stand: &mut Stand, first: bool) -> bool
     requires may { MayLook stand.old }
     ensures held { IsHeld words.now.table_id words.now.key stand.new }
     ensures kept { StaysAt stand.old stand.new }
-    ensures looked { Looked first stand.old result stand.new }
+    ensures looked { LookFound first stand.old result stand.new }
 {
     if first {
         look_first(words, stand)

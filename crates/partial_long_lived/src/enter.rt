@@ -3,7 +3,7 @@
 ghost use Rattle.std.specs.Prelude.{◌≡◌, ◌<◌, true, false};
 ghost use Rattle.partial_epochs.specs.Layout.{packed};
 ghost use Rattle.partial_long_lived.specs.Inner.Held.{IsHeld};
-ghost use Rattle.partial_long_lived.specs.Inner.Calls.{StaysAt, Looked, MayLook, Entered, MayEnter};
+ghost use Rattle.partial_long_lived.specs.Inner.Calls.{StaysAt, LookFound, MayLook, EpochEntered, MayEnter};
 
 use crate::plays::{Arrive, FirstLook, LoadCurrent, Look, Mark};
 use crate::rule::Words;
@@ -32,7 +32,7 @@ pub fn look(words: &Words, stand: &mut Stand) -> bool
     requires may { MayLook stand.old }
     ensures held { IsHeld words.now.table_id words.now.key stand.new }
     ensures kept { StaysAt stand.old stand.new }
-    ensures looked { Looked false stand.old result stand.new }
+    ensures looked { LookFound false stand.old result stand.new }
 {
     let found = words.load::<Look>(&mut stand.seat, 0);
     found == stand.packed()
@@ -44,7 +44,7 @@ pub fn look_first(words: &Words, stand: &mut Stand) -> bool
     requires may { MayLook stand.old }
     ensures held { IsHeld words.now.table_id words.now.key stand.new }
     ensures kept { StaysAt stand.old stand.new }
-    ensures looked { Looked true stand.old result stand.new }
+    ensures looked { LookFound true stand.old result stand.new }
 {
     let found = words.load::<FirstLook>(&mut stand.seat, 0);
     found == stand.packed()
@@ -56,7 +56,7 @@ pub fn enter(words: &Words, stand: &mut Stand)
     requires held { IsHeld words.now.table_id words.now.key stand.old }
     requires may { MayEnter stand.old }
     ensures held { IsHeld words.now.table_id words.now.key stand.new }
-    ensures entered { Entered stand.old stand.new }
+    ensures entered { EpochEntered stand.old stand.new }
 {
     let mark = MARK + stand.packed();
     let at = 1 + stand.number as usize;

@@ -2,7 +2,7 @@
 
 ghost use Rattle.std.specs.Prelude.{◌<◌};
 ghost use Rattle.partial_long_lived.specs.Inner.Held.{IsHeld};
-ghost use Rattle.partial_long_lived.specs.Inner.Calls.{HasNotedRead, IsIdle, Settled};
+ghost use Rattle.partial_long_lived.specs.Inner.Calls.{HasNotedRead, IsIdle, EpochSettled};
 
 use crate::arena::{SEAL, load_value, public_stamp, read_again, read_first};
 use crate::enter::{enter, look};
@@ -14,7 +14,7 @@ pub fn settle(words: &Words, stand: &mut Stand)
     requires held { IsHeld words.now.table_id words.now.key stand.old }
     requires idle { IsIdle stand.old }
     ensures held { IsHeld words.now.table_id words.now.key stand.new }
-    ensures settled { Settled stand.old stand.new }
+    ensures settled { EpochSettled stand.old stand.new }
 {
     if !look(words, stand) {
         enter(words, stand);

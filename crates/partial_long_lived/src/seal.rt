@@ -2,7 +2,7 @@
 
 ghost use Rattle.std.specs.Prelude.{◌≡◌, ◌+◌, ◌<◌, ◌≤◌};
 ghost use Rattle.partial_epochs.specs.Ports.Entering.{Stands};
-ghost use Rattle.partial_epochs.specs.Sealing.{passing};
+ghost use Rattle.partial_epochs.specs.Sealing.{passing_port};
 ghost use Rattle.partial_long_lived.specs.Inner.Held.{IsHeld, port_at};
 ghost use Rattle.partial_long_lived.specs.Inner.Calls.{IsIdle};
 ghost use Rattle.partial_long_lived.specs.Inner.Changing.{HasSamePart, Stays};

@@ -13,7 +13,7 @@ ghost use Rattle.partial_long_lived.specs.Inner.Changing.{IsCause};
 ghost use Rattle.partial_long_lived.specs.Inner.Machine.{SeatBegins};
 ghost use Rattle.partial_long_lived.specs.Inner.Rests.{RestsAt};
 ghost use Rattle.partial_long_lived.specs.Inner.Under.{IsGoing, ComesTo, MayBegin, machine_at};
-ghost use Rattle.partial_long_lived.specs.Inner.Updates.{Attempted, CameBy, ExchangeDue, ExpectsOne, IsLate, IsOwnMachine, MayCall, NotesNothing, Updated};
+ghost use Rattle.partial_long_lived.specs.Inner.Updates.{UpdateAttempted, CameBy, ExchangeDue, ExpectsOne, IsLate, IsOwnMachine, MayCall, NotesNothing, Updated};
 
 use crate::arena::SEAL;
 use crate::change::change;
@@ -141,7 +141,7 @@ pub fn attempt(
     requires inside { change.component < words.now.key.sizes.m }
     requires expects { ExpectsOne (port_at stand.old) change }
     ensures held { IsHeld words.now.table_id words.now.key stand.new }
-    ensures attempted { IfSome result (λ r. Attempted first change r.0 stand.old stand.new) }
+    ensures attempted { IfSome result (λ r. UpdateAttempted first change r.0 stand.old stand.new) }
     ensures sealed { IfNone result (NotesNothing first stand.old stand.new) }
     ensures rests { IsOwnMachine (port_at stand.new) core.new }
     ensures spare { IfSome result (λ r. r.1 ≡ false → MayCall (port_at stand.new) core.new) }

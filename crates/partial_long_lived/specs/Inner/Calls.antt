@@ -11,7 +11,7 @@ use Rattle.partial_machine.specs.Machine.{fresh}
 use Rattle.partial_core.specs.Part.{core_of}
 use Rattle.partial_epochs.specs.Layout.{packed}
 use Rattle.partial_epochs.specs.Ports.Entering.{Stands}
-use Rattle.partial_epochs.specs.Entering.{arrived}
+use Rattle.partial_epochs.specs.Entering.{arrived_port}
 use Rattle.partial_long_lived.specs.declared.stand.Stand.{Stand}
 use Rattle.partial_long_lived.specs.Rule.{plan_of}
 use Rattle.partial_long_lived.specs.Inner.Steps.{SeatGoes}
@@ -36,7 +36,7 @@ pub record MayLook (s : Stand) : Type 0 where
   pub marks : IfSome (port_at s).port.control.owned (λ o. (o.mark ≡ None) ⊎ (o.clean < (port_at s).about.ports))
 
 -- the look has found the port's own place the current one, or not
-pub record Looked (first : Bool) (s : Stand) (here : Bool) (t : Stand) : Type 0 where
+pub record LookFound (first : Bool) (s : Stand) (here : Bool) (t : Stand) : Type 0 where
   pub found : ℕ
   pub looks : SeatLooks first (port_at s) found (port_at t)
   pub is : here ≡ (found == packed (port_at s).port.control.here)
@@ -48,13 +48,13 @@ pub record MayEnter (s : Stand) : Type 0 where
   pub free : (port_at s).port.control.owned ≡ None
 
 -- The port has entered a later epoch, no older than the one that was the current one as its call began, with a new part there.
-pub record Entered (s t : Stand) : Type 0 where
+pub record EpochEntered (s t : Stand) : Type 0 where
   pub shape : t.shape ≡ s.shape
   pub number : t.number ≡ s.number
   pub goes : SeatGoes (port_at s) (port_at t)
   pub before : List (List Applied)
   pub is : port_at t ≡ record (port_at s) {
-    port = arrived (plan_of (port_at s).about) (port_at s).number (record { epoch = t.epoch; arena = t.arena }) before;
+    port = arrived_port (plan_of (port_at s).about) (port_at s).number (record { epoch = t.epoch; arena = t.arena }) before;
     found = None;
   }
   pub later : (port_at s).port.control.here.epoch < t.epoch
@@ -77,7 +77,7 @@ pub record HasCome (s t : Stand) : Type 0 where
       × ((port_at t).port.over ≡ false))
 
 -- The port has come to an epoch that was the current one during its call, and has noted nothing.
-pub record Settled (s t : Stand) : Type 0 where
+pub record EpochSettled (s t : Stand) : Type 0 where
   pub come : HasCome s t
   pub notes : (port_at t).notes ≡ (port_at s).notes
   pub began : (port_at t).began ≡ (port_at s).began

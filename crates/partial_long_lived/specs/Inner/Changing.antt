@@ -5,9 +5,9 @@ use Rattle.partial_words.specs.Layout.{Layout, first_free, pool_base, initial_re
 use Rattle.partial_words.specs.Chain.{opening_word}
 use Rattle.partial_words.specs.Record.{value_word, plain_record_size}
 use Rattle.partial_epochs.specs.Layout.{arena_limit, entering_mark, epoch_limit, set_offset}
-use Rattle.partial_epochs.specs.Ports.{Owned}
+use Rattle.partial_epochs.specs.Ports.{OwnedArena}
 use Rattle.partial_epochs.specs.Ports.Entering.{Stands}
-use Rattle.partial_epochs.specs.Entering.{arrived}
+use Rattle.partial_epochs.specs.Entering.{arrived_port}
 use Rattle.partial_epochs.specs.Owning.{just_taken}
 use Rattle.partial_long_lived.specs.declared.claim.Claimed.{Claimed}
 use Rattle.partial_long_lived.specs.declared.claim.Claimed.TheVariants.{Clean, Taken, Ended}
@@ -22,7 +22,7 @@ use Rattle.partial_long_lived.specs.Inner.Loads.{stamp_seen, value_seen}
 use Rattle.partial_long_lived.specs.Inner.Held.{port_at}
 
 -- what a step does by the arena that the port owns
-abbrev pub OfOwned : (Owned → SeatedPort → ℕ → SeatedPort → Type 0) → SeatedPort → ℕ → SeatedPort → Type 0
+abbrev pub OfOwned : (OwnedArena → SeatedPort → ℕ → SeatedPort → Type 0) → SeatedPort → ℕ → SeatedPort → Type 0
 OfOwned R x a y = IfSome x.port.control.owned (λ o. R o x a y)
 
 -- the exchange of the owner word w
@@ -73,14 +73,14 @@ pub record Remains (s t : Stand) : Type 0 where
 -- the port stands, and owns arena x
 pub record Owns (s : Stand) (x : ℕ) : Type 0 where
   pub stands : (port_at s).port.control.entering ≡ Stands
-  pub owned : Owned
+  pub owned : OwnedArena
   pub is : (port_at s).port.control.owned ≡ Some owned
   pub arena : owned.arena ≡ x
 
 -- it has looked, is done with the ports below q, and has set so many words
 pub record HasSetWords (s : Stand) (x q n : ℕ) : Type 0 where
   pub stands : (port_at s).port.control.entering ≡ Stands
-  pub owned : Owned
+  pub owned : OwnedArena
   pub is : (port_at s).port.control.owned ≡ Some owned
   pub arena : owned.arena ≡ x
   pub looked : owned.looked ≡ true
@@ -101,7 +101,7 @@ Tried x false s = IsIdle s
 -- it has looked, is done with the ports below q, and has loaded the word a of port q, which is a mark
 pub record HoldsMark (s : Stand) (x q a : ℕ) : Type 0 where
   pub stands : (port_at s).port.control.entering ≡ Stands
-  pub owned : Owned
+  pub owned : OwnedArena
   pub is : (port_at s).port.control.owned ≡ Some owned
   pub arena : owned.arena ≡ x
   pub looked : owned.looked ≡ true
@@ -196,7 +196,7 @@ pub record Changed (first : Bool) (s t : Stand) : Type 0 where
   pub began : BeganBy first (port_at s) n
   pub before : List (List Applied)
   pub is : port_at t ≡ record (port_at s) {
-    port = arrived (plan_of (port_at s).about) (port_at s).number (record { epoch = t.epoch; arena = t.arena }) before;
+    port = arrived_port (plan_of (port_at s).about) (port_at s).number (record { epoch = t.epoch; arena = t.arena }) before;
     began = n;
     found = None;
   }

@@ -22,7 +22,7 @@ use Rattle.partial_long_lived.specs.Inner.Held.{port_at}
 use Rattle.partial_long_lived.specs.Inner.Loads.{opening_of}
 use Rattle.partial_long_lived.specs.Inner.Moves.{BeganBy}
 use Rattle.partial_long_lived.specs.Inner.Steps.{SeatGoes}
-use Rattle.partial_long_lived.specs.Inner.Updates.{Stayed}
+use Rattle.partial_long_lived.specs.Inner.Updates.{PortStayed}
 
 -- what a port notes of a conditional update that ended so, at that place
 abbrev pub noted_if : Asked → UpdatedIf → ℕ → Noted
@@ -43,7 +43,7 @@ IsPlaceOf (ended.Changed by) place n = place ≤ n
 
 -- The port has compared a component's stamp where it stood, with the same machine.
 pub record HasLooked (first : Bool) (s t : Stand) : Type 0 where
-  pub stayed : Stayed first s t
+  pub stayed : PortStayed first s t
   pub machine : core_of (port_at t).port.part ≡ core_of (port_at s).port.part
   pub over : (port_at t).port.over ≡ (port_at s).port.over
 
@@ -63,7 +63,7 @@ HasCompared a s (Other stamp) t =
 
 -- The conditional update has ended in the port's epoch: the port has noted this answer, at a place that is not before the call began.
 pub record EndedIf (first : Bool) (a : Asked) (r : UpdatedIf) (s t : Stand) : Type 0 where
-  pub stayed : Stayed first s t
+  pub stayed : PortStayed first s t
   pub place : ℕ
   pub notes : (port_at t).notes ≡ (port_at s).notes ++ noted_if a r place ∷ []
   pub behind : (port_at t).began.length ≤ place

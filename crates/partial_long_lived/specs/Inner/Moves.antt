@@ -3,11 +3,11 @@ use Rattle.std.specs.Prelude.{ℕ, ◌≡◌, ◌-◌, ◌/◌, ◌%◌, ◌<◌
 use Rattle.std.specs.Option.{option_map_or}
 use Rattle.partial_model.specs.declared.history.Applied.{Applied}
 use Rattle.partial_epochs.specs.Layout.{Place, IsPlace, arena_limit, entering_mark, marked, packed, seal}
-use Rattle.partial_epochs.specs.Ports.{Owned, Port}
+use Rattle.partial_epochs.specs.Ports.{OwnedArena, Port}
 use Rattle.partial_epochs.specs.Ports.Entering.{Marks, Loaded}
-use Rattle.partial_epochs.specs.Entering.{arrived, having_passed}
-use Rattle.partial_epochs.specs.Sealing.{passing}
-use Rattle.partial_epochs.specs.Owning.{cleaner, having_given, having_loaded, having_looked, just_taken, owning}
+use Rattle.partial_epochs.specs.Entering.{arrived_port, having_passed}
+use Rattle.partial_epochs.specs.Sealing.{passing_port}
+use Rattle.partial_epochs.specs.Owning.{cleaner, having_given, having_loaded, having_looked, just_taken, owning_port}
 use Rattle.partial_epochs.specs.Publishing.{having_published, having_set}
 use Rattle.partial_long_lived.specs.Rule.{Began, SeatedPort, plan_of}
 use Rattle.partial_long_lived.specs.Ports.{seen_in}
@@ -63,11 +63,11 @@ place_found p c a = if a == marked p.control.here then c else unpacked a
 abbrev pub SeatArrives : Place → SeatedPort → ℕ → SeatedPort → Type 0
 SeatArrives c x a y = (before : List (List Applied)) × (x.port.control.here.epoch < (place_found x.port c a).epoch)
     × (x.began.epoch ≤ (place_found x.port c a).epoch)
-    × (y ≡ record x { port = arrived (plan_of x.about) x.number (place_found x.port c a) before; found = None })
+    × (y ≡ record x { port = arrived_port (plan_of x.about) x.number (place_found x.port c a) before; found = None })
 
 -- a port in a change of epoch that has loaded a component word, which is a: it passes the component if that is sealed
 abbrev pub passed_at : ℕ → Port → Port
-passed_at a p = if nat_lt a seal then p else passing p
+passed_at a p = if nat_lt a seal then p else passing_port p
 
 -- that load
 abbrev pub PassesSealed : SeatedPort → ℕ → SeatedPort → Type 0
@@ -75,11 +75,11 @@ PassesSealed x a y = y ≡ becomes x x.began (passed_at a x.port)
 
 -- a seal
 abbrev pub Seals : SeatedPort → ℕ → SeatedPort → Type 0
-Seals x a y = y ≡ becomes x x.began (passing x.port)
+Seals x a y = y ≡ becomes x x.began (passing_port x.port)
 
 -- a port that has exchanged the owner word of arena i, and found a
 abbrev pub taken_at : ℕ → ℕ → Port → Port
-taken_at i a p = if a == 0 then owning p (just_taken i) else p
+taken_at i a p = if a == 0 then owning_port p (just_taken i) else p
 
 -- that exchange
 abbrev pub Takes : ℕ → SeatedPort → ℕ → SeatedPort → Type 0
@@ -90,33 +90,33 @@ abbrev pub SeatGives : SeatedPort → ℕ → SeatedPort → Type 0
 SeatGives x a y = y ≡ becomes x x.began (having_given x.port)
 
 -- what an owner does with the word of the next port, which is the unmarked word a: it is done with that port if the port is in another arena
-abbrev pub elsewhere : ℕ → Owned → Owned
+abbrev pub elsewhere : ℕ → OwnedArena → OwnedArena
 elsewhere a o = if (unpacked a).arena == o.arena then o else cleaner o
 
 -- the same where the word may be marked: the owner has loaded it
-abbrev pub port_loaded : ℕ → Owned → Owned
+abbrev pub port_loaded : ℕ → OwnedArena → OwnedArena
 port_loaded a o = if nat_lt a entering_mark then elsewhere a o else having_loaded o (unpacked (a - entering_mark))
 
 -- that load, by the owner o
-abbrev pub LoadsPort : Owned → SeatedPort → ℕ → SeatedPort → Type 0
-LoadsPort o x a y = y ≡ becomes x x.began (owning x.port (port_loaded a o))
+abbrev pub LoadsPort : OwnedArena → SeatedPort → ℕ → SeatedPort → Type 0
+LoadsPort o x a y = y ≡ becomes x x.began (owning_port x.port (port_loaded a o))
 
 -- an owner that has exchanged the mark m of that port for its own place, and found a
-abbrev pub port_put : Place → ℕ → Owned → Owned
+abbrev pub port_put : Place → ℕ → OwnedArena → OwnedArena
 port_put m a o = if a == marked m then cleaner o else (if nat_lt a entering_mark then elsewhere a o else o)
 
 -- that exchange, by the owner o
-abbrev pub PutsPort : Owned → Place → SeatedPort → ℕ → SeatedPort → Type 0
-PutsPort o m x a y = y ≡ becomes x x.began (owning x.port (port_put m a o))
+abbrev pub PutsPort : OwnedArena → Place → SeatedPort → ℕ → SeatedPort → Type 0
+PutsPort o m x a y = y ≡ becomes x x.began (owning_port x.port (port_put m a o))
 
 -- a store by which the words of the owned arena below that number count as set
-abbrev pub Sets : Owned → ℕ → SeatedPort → ℕ → SeatedPort → Type 0
+abbrev pub Sets : OwnedArena → ℕ → SeatedPort → ℕ → SeatedPort → Type 0
 Sets o next x a y = y ≡ becomes x x.began (having_set x.port o next)
 
 -- the load of the slot counter of the owned arena, by an owner that has set no word: the slots from there on count as set
-abbrev pub FindsClear : Owned → SeatedPort → ℕ → SeatedPort → Type 0
+abbrev pub FindsClear : OwnedArena → SeatedPort → ℕ → SeatedPort → Type 0
 FindsClear o x a y = y ≡ becomes x x.began (having_set x.port o (x.about.sizes.slots - a))
 
 -- the exchange of the current word
-abbrev pub SeatPublishes : Owned → SeatedPort → ℕ → SeatedPort → Type 0
+abbrev pub SeatPublishes : OwnedArena → SeatedPort → ℕ → SeatedPort → Type 0
 SeatPublishes o x a y = y ≡ becomes x x.began (having_published x.port o)

@@ -84,19 +84,19 @@ ExpectsOne x c = IfSome c.expected (λ at.
     (n : ℕ) × (n ≤ length x.port.part.seen) × (at ≡ stamp_of (opening_of x) (take n x.port.part.seen) c.component))
 
 -- The port stands where it stood, in a call that began as before or with its first step here, and owns no arena.
-pub record Stayed (first : Bool) (s t : Stand) : Type 0 where
+pub record PortStayed (first : Bool) (s t : Stand) : Type 0 where
   pub kept : StaysAt s t
   pub idle : IsIdle t
   pub began : BeganBy first (port_at s) (port_at t).began
 
 -- Nothing has come of the attempt, as where the component is sealed: the port has noted nothing.
 pub record NotesNothing (first : Bool) (s t : Stand) : Type 0 where
-  pub stayed : Stayed first s t
+  pub stayed : PortStayed first s t
   pub notes : (port_at t).notes ≡ (port_at s).notes
 
 -- The update has ended in the port's epoch: the port has noted this answer, with an entry that is not before the call began.
-pub record Attempted (first : Bool) (c : Change) (r : Exchanged) (s t : Stand) : Type 0 where
-  pub stayed : Stayed first s t
+pub record UpdateAttempted (first : Bool) (c : Change) (r : Exchanged) (s t : Stand) : Type 0 where
+  pub stayed : PortStayed first s t
   pub place : ℕ
   pub notes : (port_at t).notes ≡ (port_at s).notes ++ noted_where (port_at t) c.expected c r place ∷ []
   pub behind : (port_at t).began.length ≤ place

@@ -1,4 +1,4 @@
-use Rattle.partial_long_lived.proofs.Common.{rules, refl, arith, Attempted, NotesNothing}
+use Rattle.partial_long_lived.proofs.Common.{rules, refl, arith, UpdateAttempted, NotesNothing}
 use Rattle.partial_long_lived.proofs.Rounds.{came_on, came_rounds, late_of, may_own, one_later, round_ended, round_met, rounds_begin, rounds_came}
 use Rattle.partial_long_lived.proofs.update.rounds.Goals as goal
 
@@ -16,7 +16,7 @@ attempt-requires-clause-may c = c.loop.invariant.0.may
 
 pub returns-in-Some-clause-updated : goal.returns-in-Some-clause-updated
 returns-in-Some-clause-updated c =
-    let ended : Attempted c.loop.first_step c.args.change c.in-Some.exchanged c.loop.stand c.attempt.new.stand = search rules in
+    let ended : UpdateAttempted c.loop.first_step c.args.change c.in-Some.exchanged c.loop.stand c.attempt.new.stand = search rules in
     round_ended _ _ c.args.first c.loop.first_step c.args.stand.now c.loop.stand _ c.loop.invariant.0 _ _ c.requires.plain _ c.attempt.ensures.held ended
 
 pub returns-in-Err-clause-refused : goal.returns-in-Err-clause-refused
