@@ -4,8 +4,10 @@
 ghost use Rattle.std.specs.Prelude.{◌≡◌, ◌<◌, ◌≤◌, length, None, OnOk};
 ghost use Rattle.partial_machine.specs.declared.stage.Stage.TheVariants.{Idle, UpdateBegun};
 ghost use Rattle.partial_machine.specs.Calls.{core_update_refusal};
-ghost use Rattle.partial_machine.specs.Machine.{at_stage, expects};
+ghost use Rattle.partial_machine.specs.Lines.{scan_asked};
+ghost use Rattle.partial_machine.specs.Machine.{at_stage, expects, fresh};
 ghost use Rattle.partial_words.specs.Layout.{IsLayout};
+ghost use Rattle.lines_tests.specs.Plain.{IsPlain};
 
 use crate::plain::Plain;
 use partial_core::{Change, Core, Reply};
@@ -82,6 +84,32 @@ fn has_values(core: &Core, values: &[u64]) -> bool
     true
 }
 
+// Makes an update on the words, beside the machine that has begun it. The other machine makes it in straight lines.
+fn follow_update(lines: &mut Plain, core: &mut Core, sizes: Sizes, change: Change) -> Ending
+    requires going { IsPlain lines.old.words.items lines.old.beside lines.old.left lines.old.right }
+    requires begun { lines.old.beside ≡ at_stage core.old (UpdateBegun change) }
+    requires core { core.old ≡ fresh sizes 0 }
+    requires sizes { IsLayout sizes }
+    requires component { change.component < sizes.m }
+{
+    let component = sizes.component_word(change.component);
+    let old = lines.follow(Step::Load(component));
+    if !is_met(change, old) {
+        let reply = Reply::Changed { by: old };
+        return Ending::of(lines.ends_with(reply), reply);
+    }
+    let written = put(lines, core, change, old);
+    let Some(at) = written else {
+        let reply = Reply::Refused(Refused::PoolSpent);
+        return Ending::of(lines.ends_with(reply), reply);
+    };
+    let found = lines.follow(Step::Exchange(component, old, at));
+    let reply = reply_to(change, Exchanged::of(old, at, found));
+    let mut ending = Ending::of(lines.ends_with(reply), reply);
+    ending.viewed = !core.found_none();
+    ending
+}
+
 // Makes an update beside its machine.
 fn update_beside(
     alloc: Global,
@@ -94,31 +122,45 @@ fn update_beside(
     requires values { length initial.now ≡ sizes.m }
     requires component { change.component < sizes.m }
 {
-    let mut core = Core::new(alloc, sizes, 0)?;
     let mut beside = Core::new(alloc, sizes, 0)?;
     if let Err(cause) = begin(&mut beside, change) {
         return Ok(Ending::of(true, Reply::Refused(cause)));
     }
     let mut lines = Plain::open(alloc, sizes, initial, beside, seed)?;
-    let component = sizes.component_word(change.component);
-    let old = lines.follow(Step::Load(component));
-    if !is_met(change, old) {
-        let reply = Reply::Changed { by: old };
-        return Ok(Ending::of(lines.ends_with(reply), reply));
-    }
-    let written = put(&mut lines, &mut core, change, old);
-    let Some(at) = written else {
-        let reply = Reply::Refused(Refused::PoolSpent);
-        return Ok(Ending::of(lines.ends_with(reply), reply));
-    };
-    let found = lines.follow(Step::Exchange(component, old, at));
-    let reply = reply_to(change, Exchanged::of(old, at, found));
-    let mut ending = Ending::of(lines.ends_with(reply), reply);
-    ending.viewed = !core.found_none();
-    Ok(ending)
+    let mut core = Core::new(alloc, sizes, 0)?;
+    Ok(follow_update(&mut lines, &mut core, sizes, change))
 }
 
-// Makes a scan beside its machine. The values have to be the same too.
+// Makes a scan on the words, beside the machine that has begun it. The other machine makes it in straight lines. The
+// values have to be the same too.
+fn follow_scan(
+    lines: &mut Plain,
+    core: &mut Core,
+    sizes: Sizes,
+    which: &[u32],
+    into: &mut [u64],
+) -> Ending
+    requires going { IsPlain lines.old.words.items lines.old.beside lines.old.left lines.old.right }
+    requires begun { lines.old.beside ≡ scan_asked core.old which.now }
+    requires core { core.old ≡ fresh sizes 0 }
+    requires sizes { IsLayout sizes }
+    requires lengths { length into.old ≡ length which.now }
+{
+    let size = announcement_size(which.len() as u64);
+    let at = lines.follow(Step::Add(sizes.pool_counter(), size));
+    let scanned = scan(lines, core, which, at, into);
+    let reply = match scanned {
+        Ok(scanned) => Reply::Scanned {
+            collects: scanned.collects,
+            borrowed: scanned.borrowed,
+        },
+        Err(cause) => Reply::Refused(cause),
+    };
+    let same = scanned.is_err() || has_values(&lines.beside, into);
+    Ending::of(lines.ends_with(reply) && same, reply)
+}
+
+// Makes a scan beside its machine.
 fn scan_beside(
     alloc: Global,
     sizes: Sizes,
@@ -131,25 +173,14 @@ fn scan_beside(
     requires some { 0 < length which.now }
     requires few { length which.now ≤ sizes.m }
 {
-    let mut core = Core::new(alloc, sizes, 0)?;
     let mut beside = Core::new(alloc, sizes, 0)?;
     if let Err(cause) = beside.begin_scan(which) {
         return Ok(Ending::of(true, Reply::Refused(cause)));
     }
     let mut into = vec![in alloc; 0; which.len()]?;
     let mut lines = Plain::open(alloc, sizes, initial, beside, seed)?;
-    let size = announcement_size(which.len() as u64);
-    let at = lines.follow(Step::Add(sizes.pool_counter(), size));
-    let scanned = scan(&mut lines, &mut core, which, at, &mut into);
-    let reply = match scanned {
-        Ok(scanned) => Reply::Scanned {
-            collects: scanned.collects,
-            borrowed: scanned.borrowed,
-        },
-        Err(cause) => Reply::Refused(cause),
-    };
-    let same = scanned.is_err() || has_values(&lines.beside, &into);
-    Ok(Ending::of(lines.ends_with(reply) && same, reply))
+    let mut core = Core::new(alloc, sizes, 0)?;
+    Ok(follow_scan(&mut lines, &mut core, sizes, which, &mut into))
 }
 
 #[test]

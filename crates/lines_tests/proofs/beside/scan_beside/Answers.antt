@@ -1,7 +1,6 @@
 use Rattle.std.proofs.Common.{◌≤◌, length, sym, ap, subst, ◌∙◌, arith}
 use Rattle.partial_machine.specs.Lines.{scan_asked}
-use Rattle.partial_machine.specs.Machine.{CoreState, advance}
-use Rattle.partial_machine.specs.Possible.{IsPossible}
+use Rattle.partial_machine.specs.Machine.{CoreState}
 use Rattle.lines_tests.specs.Plain.{BeginsOn}
 use Rattle.lines_tests.proofs.Turning.{scan_begins, scan_is}
 use Rattle.lines_tests.proofs.beside.scan_beside.Goals as goal
@@ -13,16 +12,8 @@ open-requires-clause-begins c =
     let begins = scan_begins c.in_ok-beside.beside c.begin_scan.new.self c.args.which.now few (λ e. omega (arith, some, e)) c.in_default.ensures.ok.0 c.in_default.ensures.ok.1 in
     subst (λ (s : CoreState). BeginsOn s c.begin_scan.new.self) c.in_ok-beside.ensures begins
 
-pub scan-scanned-requires-clause-possible : goal.scan-scanned-requires-clause-possible
-scan-scanned-requires-clause-possible c =
+pub follow_scan-requires-clause-begun : goal.follow_scan-requires-clause-begun
+follow_scan-requires-clause-begun c =
     let some = c.requires.some in
     let begun = scan_is c.in_ok-beside.beside c.begin_scan.new.self c.args.which.now (λ e. omega (arith, some, e)) c.in_default.ensures.ok.1 in
-    let is = c.in_ok-lines.ensures.machine ∙ begun ∙ ap (λ (s : CoreState). scan_asked s c.args.which.now) (c.in_ok-beside.ensures ∙ sym c.in_ok-core.ensures) in
-    subst (λ (d : CoreState). IsPossible d c.follow-at.result) is c.follow-at.ensures.possible
-
-pub scan-scanned-requires-clause-machine : goal.scan-scanned-requires-clause-machine
-scan-scanned-requires-clause-machine c =
-    let some = c.requires.some in
-    let begun = scan_is c.in_ok-beside.beside c.begin_scan.new.self c.args.which.now (λ e. omega (arith, some, e)) c.in_default.ensures.ok.1 in
-    let is = c.in_ok-lines.ensures.machine ∙ begun ∙ ap (λ (s : CoreState). scan_asked s c.args.which.now) (c.in_ok-beside.ensures ∙ sym c.in_ok-core.ensures) in
-    c.follow-at.ensures.machine ∙ ap (λ (d : CoreState). advance d c.follow-at.result) is
+    c.in_ok-lines.ensures.machine ∙ begun ∙ ap (λ (s : CoreState). scan_asked s c.args.which.now) (c.in_ok-beside.ensures ∙ sym c.in_ok-core.ensures)

@@ -1,0 +1,10 @@
+use Rattle.std.proofs.Common.{ap, subst, ◌∙◌}
+use Rattle.partial_machine.specs.Machine.{CoreState, advance}
+use Rattle.partial_machine.specs.Possible.{IsPossible}
+use Rattle.lines_tests.proofs.beside.follow_scan.Goals as goal
+
+pub scan-scanned-requires-clause-possible : goal.scan-scanned-requires-clause-possible
+scan-scanned-requires-clause-possible c = subst (λ (d : CoreState). IsPossible d c.follow-at.result) c.requires.begun c.follow-at.ensures.possible
+
+pub scan-scanned-requires-clause-machine : goal.scan-scanned-requires-clause-machine
+scan-scanned-requires-clause-machine c = c.follow-at.ensures.machine ∙ ap (λ (d : CoreState). advance d c.follow-at.result) c.requires.begun
