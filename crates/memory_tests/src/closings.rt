@@ -1,42 +1,69 @@
 //! What a closed memory says of the runs of many threads: every applied update stands in the chain of
 //! its component once, in the order of its caller.
 
-ghost use Rattle.std.specs.Prelude.{◌≡◌, All, IfSome};
+ghost use Rattle.std.specs.Prelude.{◌≡◌, All, IfOk, IfSome, OnOk};
+ghost use Rattle.std.specs.List.{AllByRecursion};
 ghost use Rattle.partial_memory.specs.Ports.{IsOf};
 
 use super::workers::{Told, Worker};
-use partial_memory::{Closed, Memory};
+use partial_memory::{Closed, Memory, Port};
 use partial_words::Link;
-use std::alloc::Global;
+use std::alloc::{AllocError, Global};
 use std::process::Abort;
 use std::test::Fail;
+
+// Adds the ports of a worker and what it was told to those of the others.
+fn part(
+    memory: &Memory,
+    worker: Worker,
+    ports: &mut Vec<Port>,
+    all: &mut Vec<Told>,
+) -> Result<(), AllocError>
+    requires own { IsOf memory.now worker.port × IfSome worker.other (IsOf memory.now) }
+    requires ports { AllByRecursion (IsOf memory.now) ports.old.items }
+    ensures { OnOk result (AllByRecursion (IsOf memory.now) ports.new.items) }
+{
+    let Worker {
+        port,
+        other,
+        told,
+        ..
+    } = worker;
+    all.push(told)?;
+    ports.push(port)?;
+    if let Some(other) = other {
+        ports.push(other)?;
+    }
+    Ok(())
+}
+
+// The ports of all workers and what they were told, the last worker's first.
+fn parted(
+    alloc: Global,
+    memory: &Memory,
+    mut workers: Vec<Worker>,
+) -> Result<(Vec<Port>, Vec<Told>), AllocError>
+    requires { All (λ w. IsOf memory.now w.port × IfSome w.other (IsOf memory.now)) workers.items }
+    ensures { IfOk result (λ r. AllByRecursion (IsOf memory.now) r.0.items) }
+{
+    let mut ports = Vec::new(alloc);
+    let mut all = Vec::with_capacity(alloc, workers.len())?;
+    while let Some(worker) = workers.pop() {
+        part(memory, worker, &mut ports, &mut all)?;
+    }
+    Ok((ports, all))
+}
 
 /// Closes the memory with all its ports. What its workers were told comes back, the last worker's first.
 pub fn closed(
     alloc: Global,
     memory: Memory,
-    mut workers: Vec<Worker>,
+    workers: Vec<Worker>,
 ) -> Result<(Closed, Vec<Told>), Fail>
     requires { All (λ w. IsOf memory w.port × IfSome w.other (IsOf memory)) workers.items }
 {
-    let mut ports = Vec::new(alloc);
-    let mut all = Vec::with_capacity(alloc, workers.len())?;
-    while let Some(worker) = workers.pop() {
-        let Worker {
-            port,
-            other,
-            told,
-            ..
-        } = worker;
-        ports.push(port)?;
-        if let Some(other) = other {
-            ports.push(other)?;
-        }
-        all.push(told)?;
-    }
-    let Some(first) = ports.pop() else {
-        return Err(Fail::from("a port"));
-    };
+    let (mut ports, all) = parted(alloc, &memory, workers)?;
+    let first = ports.pop().ok_or("a port")?;
     let closed = memory.close(alloc, first, ports)?;
     Ok((closed, all))
 }

@@ -36,3 +36,13 @@ pub(super) fn pair(
     let first = ports.pop().ok_or("a first port")?;
     Ok((memory, first, second))
 }
+
+/// Opens a memory with one port.
+pub(super) fn single(alloc: Global, sizes: Sizes, initial: &[u64]) -> Result<(Memory, Port), Fail>
+    requires { length initial.now ≡ sizes.m }
+    ensures { IfOk result (λ r. (r.0.about.sizes ≡ sizes) × IsOf r.0 r.1) }
+{
+    let (memory, mut ports) = opened(alloc, sizes, initial, 1)?;
+    let port = ports.pop().ok_or("a port")?;
+    Ok((memory, port))
+}

@@ -5,12 +5,17 @@ ghost use Rattle.std.specs.List.{AllByRecursion};
 ghost use Rattle.partial_memory.specs.Ports.{IsOf};
 
 use super::calls::{applies, reads, updates_if};
-use super::memories::{opened, pair};
+use super::memories::{pair, single};
 use partial_memory::{Closed, Memory, OpenError, Port, UpdatedIf};
 use partial_words::Sizes;
 use std::alloc::Global;
 use std::process::Abort;
 use std::test::Fail;
+
+// The values of a closed memory are 10 and 8.
+fn holds_both(rt: &impl Abort, closed: &Closed) {
+    assert_eq!(rt; closed.values.as_slice(), [10, 8].as_slice());
+}
 
 // Closes a memory of two components, 10 and 20, behind an update of the second one to 8.
 fn closed(rt: &impl Abort, alloc: Global) -> Result<Closed, Fail> {
@@ -18,7 +23,7 @@ fn closed(rt: &impl Abort, alloc: Global) -> Result<Closed, Fail> {
     let (memory, mut first, _) = pair(alloc, sizes, &[10, 20])?;
     applies(rt, &memory, &mut first, 1, 8, 24);
     let closed = memory.close(alloc, first, Vec::new(alloc))?;
-    assert_eq!(rt; closed.values.as_slice(), [10, 8].as_slice());
+    holds_both(rt, &closed);
     Ok(closed)
 }
 
@@ -43,65 +48,127 @@ fn alone(alloc: Global, closed: &Closed, sizes: Sizes) -> Result<(Memory, Port),
     Ok((memory, port))
 }
 
-#[test]
-fn an_added_component_is_zero(rt: HostRuntime) -> Result<(), Fail> {
-    let closed = closed(&rt, rt.alloc())?;
-    let sizes = Sizes::new(3, 4, 8, 64)?;
-    let (memory, mut port) = alone(rt.alloc(), &closed, sizes)?;
-    assert_eq!(rt; port.number(), 0);
-    reads(&rt, &memory, &mut port, 0, 10, 19);
-    reads(&rt, &memory, &mut port, 1, 8, 22);
-    reads(&rt, &memory, &mut port, 2, 0, 25);
+// The port of a memory with an added component reads each of them.
+fn reads_three(rt: &impl Abort, memory: &Memory, me: &mut Port)
+    requires { IsOf memory.now me.old }
+{
+    assert_eq!(rt; me.number(), 0);
+    reads(rt, memory, me, 0, 10, 19);
+    reads(rt, memory, me, 1, 8, 22);
+    reads(rt, memory, me, 2, 0, 25);
     // The stamp that the update had in the closed memory says nothing here.
     let changed = UpdatedIf::Changed { by: 22 };
-    updates_if(&rt, &memory, &mut port, 1, 24, 9, changed);
+    updates_if(rt, memory, me, 1, 24, 9, changed);
+}
+
+// Reopens the memory that was closed behind an update, with one port.
+fn reopened_alone(rt: &impl Abort, alloc: Global, sizes: Sizes) -> Result<(Memory, Port), Fail>
+    ensures { IfOk result (λ r. IsOf r.0 r.1) }
+{
+    let closed = closed(rt, alloc)?;
+    alone(alloc, &closed, sizes)
+}
+
+#[test]
+fn an_added_component_is_zero(rt: HostRuntime) -> Result<(), Fail> {
+    let sizes = Sizes::new(3, 4, 8, 64)?;
+    let (memory, mut port) = reopened_alone(&rt, rt.alloc(), sizes)?;
+    reads_three(&rt, &memory, &mut port);
+    Ok(())
+}
+
+// What one of two reopened memories shows of an update of the other: nothing.
+fn are_apart(rt: &impl Abort, one: &Memory, of_one: &mut Port, other: &Memory, of_other: &mut Port)
+    requires { IsOf one.now of_one.old × IsOf other.now of_other.old }
+{
+    applies(rt, one, of_one, 0, 5, 24);
+    reads(rt, one, of_one, 0, 5, 24);
+    reads(rt, other, of_other, 0, 10, 18);
+    reads(rt, other, of_other, 1, 8, 21);
+}
+
+// Reopens a closed memory once more, beside the one that it was reopened as.
+fn reopened_beside(
+    rt: &impl Abort,
+    alloc: Global,
+    closed: &Closed,
+    one: &Memory,
+    of_one: &mut Port,
+) -> Result<(), Fail>
+    requires { IsOf one.now of_one.old }
+{
+    let sizes = Sizes::new(2, 4, 8, 64)?;
+    let (other, mut of_other) = alone(alloc, closed, sizes)?;
+    are_apart(rt, one, of_one, &other, &mut of_other);
     Ok(())
 }
 
 #[test]
 fn two_reopenings_are_apart(rt: HostRuntime) -> Result<(), Fail> {
-    let closed = closed(&rt, rt.alloc())?;
     let sizes = Sizes::new(2, 4, 8, 64)?;
+    let closed = closed(&rt, rt.alloc())?;
     let (one, mut of_one) = alone(rt.alloc(), &closed, sizes)?;
-    let (other, mut of_other) = alone(rt.alloc(), &closed, sizes)?;
-    applies(&rt, &one, &mut of_one, 0, 5, 24);
-    reads(&rt, &one, &mut of_one, 0, 5, 24);
-    reads(&rt, &other, &mut of_other, 0, 10, 18);
-    reads(&rt, &other, &mut of_other, 1, 8, 21);
+    reopened_beside(&rt, rt.alloc(), &closed, &one, &mut of_one)
+}
+
+// Why a closed memory isn't reopened with these sizes and so many ports.
+fn refusal(alloc: Global, closed: &Closed, sizes: Sizes, ports: u32) -> Option<OpenError> {
+    Memory::reopen(alloc, closed, sizes, ports).err()
+}
+
+// What is refused.
+fn refuses(rt: &impl Abort, alloc: Global, closed: &Closed) -> Result<(), Fail> {
+    for m in [1, 2, 3] {
+        let sizes = Sizes::new(m, 4, 8, 64)?;
+        for ports in [0, 65] {
+            let refused = refusal(alloc, closed, sizes, ports);
+            assert_eq!(rt; refused, Some(OpenError::Ports), "{m} components");
+        }
+    }
+    let sizes = Sizes::new(1, 4, 8, 64)?;
+    assert_eq!(rt; refusal(alloc, closed, sizes, 1), Some(OpenError::TooSmall));
+    assert_eq!(rt; OpenError::TooSmall.code(), 13);
+    assert_eq!(rt; OpenError::Ports.code(), 5);
+    Ok(())
+}
+
+// What was refused has left the closed memory as it was.
+fn reopens(rt: &impl Abort, alloc: Global, closed: &Closed) -> Result<(), Fail> {
+    let sizes = Sizes::new(2, 4, 8, 64)?;
+    let (memory, mut port) = alone(alloc, closed, sizes)?;
+    reads(rt, &memory, &mut port, 1, 8, 21);
     Ok(())
 }
 
 #[test]
 fn reopening_refused(rt: HostRuntime) -> Result<(), Fail> {
     let closed = closed(&rt, rt.alloc())?;
-    for m in [1, 2, 3] {
-        let sizes = Sizes::new(m, 4, 8, 64)?;
-        for ports in [0, 65] {
-            let refused = Memory::reopen(rt.alloc(), &closed, sizes, ports).err();
-            assert_eq!(rt; refused, Some(OpenError::Ports), "{m} components");
-        }
-    }
-    let sizes = Sizes::new(1, 4, 8, 64)?;
-    let refused = Memory::reopen(rt.alloc(), &closed, sizes, 1).err();
-    assert_eq!(rt; refused, Some(OpenError::TooSmall));
-    assert_eq!(rt; OpenError::TooSmall.code(), 13);
-    assert_eq!(rt; OpenError::Ports.code(), 5);
-    // What was refused has left the closed memory as it was.
-    let sizes = Sizes::new(2, 4, 8, 64)?;
-    let (memory, mut port) = alone(rt.alloc(), &closed, sizes)?;
-    reads(&rt, &memory, &mut port, 1, 8, 21);
-    Ok(())
+    refuses(&rt, rt.alloc(), &closed)?;
+    reopens(&rt, rt.alloc(), &closed)
+}
+
+// Opens the greatest memory, each of whose components is 7, and closes it.
+fn closed_greatest(alloc: Global, sizes: Sizes) -> Result<Closed, Fail>
+    requires { sizes.m ≡ 65536 }
+{
+    let initial = vec![in alloc; 7; 65_536]?;
+    let (memory, port) = single(alloc, sizes, &initial)?;
+    Ok(memory.close(alloc, port, Vec::new(alloc))?)
+}
+
+// The last component is 7.
+fn reads_last(rt: &impl Abort, memory: &Memory, me: &mut Port)
+    requires { IsOf memory.now me.old }
+{
+    let last = memory.read(me, 65_535).map(|(value, _)| value);
+    assert_eq!(rt; last, Ok(7));
 }
 
 #[test]
 fn the_greatest_memory_reopens(rt: HostRuntime) -> Result<(), Fail> {
     let sizes = Sizes::new(65_536, 65_536, 65_536, 4_194_304)?;
-    let initial = vec![in rt.alloc(); 7; 65_536]?;
-    let (memory, mut ports) = opened(rt.alloc(), sizes, &initial, 1)?;
-    let port = ports.pop().ok_or("a port")?;
-    let closed = memory.close(rt.alloc(), port, Vec::new(rt.alloc()))?;
+    let closed = closed_greatest(rt.alloc(), sizes)?;
     let (memory, mut port) = alone(rt.alloc(), &closed, sizes)?;
-    let last = memory.read(&mut port, 65_535).map(|(value, _)| value);
-    assert_eq!(rt; last, Ok(7));
+    reads_last(&rt, &memory, &mut port);
     Ok(())
 }

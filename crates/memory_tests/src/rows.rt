@@ -1,10 +1,10 @@
 //! Rows in one thread, each worked out by hand.
 
-ghost use Rattle.std.specs.Prelude.{◌≤◌};
+ghost use Rattle.std.specs.Prelude.{◌≡◌, ◌≤◌};
 ghost use Rattle.partial_memory.specs.Ports.{IsOf};
 
 use super::calls::{COLLECTED_TWICE, applies, reads, scans, updates_if};
-use super::memories::{opened, pair};
+use super::memories::{pair, single};
 use partial_memory::{Closed, Memory, OpenError, Port, Scanned, Updated, UpdatedIf};
 use partial_model::Refused;
 use partial_words::{Link, Sizes};
@@ -12,21 +12,28 @@ use std::alloc::Global;
 use std::process::Abort;
 use std::test::Fail;
 
-// Each call, and then the memory is closed with the first port, and with the second one where it is
-// handed in.
+// Each call.
+fn calls(rt: &impl Abort, memory: &Memory, first: &mut Port, second: &mut Port)
+    requires { IsOf memory.now first.old × IsOf memory.now second.old × (2 ≤ memory.now.about.sizes.m) }
+    ensures { IsOf memory.now first.new × IsOf memory.now second.new }
+{
+    assert_eq!(rt; (first.number(), second.number()), (0, 1));
+    let updated = memory.update(first, 1, 8);
+    assert_eq!(rt; updated, Ok(Updated::Applied { stamp: 24 }));
+    let mut into = [0u64; 2];
+    let scanned = memory.scan(second, &[0, 1], &mut into);
+    assert_eq!(rt; scanned, Ok(COLLECTED_TWICE));
+    assert_eq!(rt; into, [10, 8]);
+    memory.meet(first, second);
+    assert_eq!(rt; memory.read(second, 1), Ok((8, 24)));
+    assert_eq!(rt; memory.read(second, 2), Err(Refused::Component));
+}
+
+// Makes them, and then the memory is closed with the first port, and with the second one where it is handed in.
 fn one_thread(rt: &impl Abort, alloc: Global, both: bool) -> Result<Closed, Fail> {
     let sizes = Sizes::new(2, 4, 8, 64)?;
     let (memory, mut first, mut second) = pair(alloc, sizes, &[10, 20])?;
-    assert_eq!(rt; (first.number(), second.number()), (0, 1));
-    let updated = memory.update(&mut first, 1, 8);
-    assert_eq!(rt; updated, Ok(Updated::Applied { stamp: 24 }));
-    let mut into = [0u64; 2];
-    let scanned = memory.scan(&mut second, &[0, 1], &mut into);
-    assert_eq!(rt; scanned, Ok(COLLECTED_TWICE));
-    assert_eq!(rt; into, [10, 8]);
-    memory.meet(&mut first, &mut second);
-    assert_eq!(rt; memory.read(&mut second, 1), Ok((8, 24)));
-    assert_eq!(rt; memory.read(&mut second, 2), Err(Refused::Component));
+    calls(rt, &memory, &mut first, &mut second);
     let mut rest = Vec::new(alloc);
     if both {
         rest.push(second)?;
@@ -68,34 +75,46 @@ fn one_thread_without_the_second_port(rt: HostRuntime) -> Result<(), Fail> {
     Ok(())
 }
 
+// How many ports a memory has that opens with so many.
+fn ports_of(alloc: Global, sizes: Sizes, ports: u32) -> Result<usize, OpenError>
+    requires { sizes.m ≡ 2 }
+{
+    let (_, all) = Memory::open(alloc, sizes, &[10, 20], ports)?;
+    Ok(all.len())
+}
+
 #[test]
 fn ports_refused(rt: HostRuntime) -> Result<(), Fail> {
     let sizes = Sizes::new(2, 4, 8, 64)?;
     for ports in [0, 65] {
-        let refused = Memory::open(rt.alloc(), sizes, &[10, 20], ports).err();
+        let refused = ports_of(rt.alloc(), sizes, ports).err();
         assert_eq!(rt; refused, Some(OpenError::Ports), "{ports} ports");
     }
     for ports in [1, 64] {
-        let (_, all) = Memory::open(rt.alloc(), sizes, &[10, 20], ports)?;
-        assert_eq!(rt; all.len(), ports as usize);
+        let all = ports_of(rt.alloc(), sizes, ports)?;
+        assert_eq!(rt; all, ports as usize);
     }
     Ok(())
+}
+
+// Calls that are refused for a component that isn't there, and one that is applied behind them.
+fn refuses_component(rt: &impl Abort, memory: &Memory, me: &mut Port)
+    requires { IsOf memory.now me.old × (2 ≤ memory.now.about.sizes.m) }
+{
+    let absent = Refused::Component;
+    assert_eq!(rt; memory.update(me, 2, 1), Err(absent));
+    assert_eq!(rt; memory.update_if(me, 2, 18, 1), Err(absent));
+    let mut into = [3u64, 4];
+    assert_eq!(rt; memory.scan(me, &[0, 2], &mut into), Err(absent));
+    assert_eq!(rt; into, [3, 4]);
+    applies(rt, memory, me, 0, 7, 24);
 }
 
 #[test]
 fn component_refused(rt: HostRuntime) -> Result<(), Fail> {
     let sizes = Sizes::new(2, 4, 8, 64)?;
     let (memory, mut first, _) = pair(rt.alloc(), sizes, &[10, 20])?;
-    let absent = Refused::Component;
-    assert_eq!(rt; memory.update(&mut first, 2, 1), Err(absent));
-    assert_eq!(rt; memory.update_if(&mut first, 2, 18, 1), Err(absent));
-    let mut into = [3u64, 4];
-    assert_eq!(rt; memory.scan(&mut first, &[0, 2], &mut into), Err(absent));
-    assert_eq!(rt; into, [3, 4]);
-    assert_eq!(rt;
-        memory.update(&mut first, 0, 7),
-        Ok(Updated::Applied { stamp: 24 })
-    );
+    refuses_component(&rt, &memory, &mut first);
     Ok(())
 }
 
@@ -138,18 +157,22 @@ fn refused_for_slots(rt: &impl Abort, memory: &Memory, me: &mut Port)
     }
 }
 
+// The one scan for which there is a slot, two that are refused, and an update behind them.
+fn spends_slots(rt: &impl Abort, memory: &Memory, me: &mut Port)
+    requires { IsOf memory.now me.old × (1 ≤ memory.now.about.sizes.m) }
+{
+    let mut into = [0u64];
+    assert_eq!(rt; memory.scan(me, &[0], &mut into), Ok(COLLECTED_TWICE));
+    assert_eq!(rt; into, [10]);
+    refused_for_slots(rt, memory, me);
+    applies(rt, memory, me, 1, 5, 25);
+}
+
 #[test]
 fn slots_spent(rt: HostRuntime) -> Result<(), Fail> {
     let sizes = Sizes::new(2, 1, 8, 64)?;
     let (memory, mut port, _) = pair(rt.alloc(), sizes, &[10, 20])?;
-    let mut into = [0u64];
-    assert_eq!(rt;
-        memory.scan(&mut port, &[0], &mut into),
-        Ok(COLLECTED_TWICE)
-    );
-    assert_eq!(rt; into, [10]);
-    refused_for_slots(&rt, &memory, &mut port);
-    applies(&rt, &memory, &mut port, 1, 5, 25);
+    spends_slots(&rt, &memory, &mut port);
     Ok(())
 }
 
@@ -164,14 +187,21 @@ fn update_then_look(rt: &impl Abort, memory: &Memory, first: &mut Port, second: 
     reads(rt, memory, second, 0, k, stamp);
 }
 
+// The same with 50 values.
+fn update_and_look(rt: &impl Abort, memory: &Memory, first: &mut Port, second: &mut Port)
+    requires { IsOf memory.now first.old × IsOf memory.now second.old × (2 ≤ memory.now.about.sizes.m) }
+{
+    for value in 1..=50 {
+        update_then_look(rt, memory, first, second, value);
+    }
+}
+
 // Two ports that never meet: each scan and each read shows the update that ended before it began.
 #[test]
 fn never_met(rt: HostRuntime) -> Result<(), Fail> {
     let sizes = Sizes::new(2, 64, 0, 4096)?;
     let (memory, mut first, mut second) = pair(rt.alloc(), sizes, &[0, 0])?;
-    for value in 1..=50 {
-        update_then_look(&rt, &memory, &mut first, &mut second, value);
-    }
+    update_and_look(&rt, &memory, &mut first, &mut second);
     Ok(())
 }
 
@@ -188,28 +218,41 @@ fn conditional(rt: HostRuntime) -> Result<(), Fail> {
     Ok(())
 }
 
-#[test]
-fn empty_scan(rt: HostRuntime) -> Result<(), Fail> {
-    let sizes = Sizes::new(2, 1, 8, 9)?;
-    let (memory, mut first, _) = pair(rt.alloc(), sizes, &[10, 20])?;
-    let scanned = memory.scan(&mut first, &[], &mut []);
+// A scan of no position makes no collect.
+fn scans_nothing(rt: &impl Abort, memory: &Memory, me: &mut Port)
+    requires { IsOf memory.now me.old }
+{
+    let scanned = memory.scan(me, &[], &mut []);
     let none = Scanned {
         collects: 0,
         borrowed: None,
     };
     assert_eq!(rt; scanned, Ok(none));
+}
+
+#[test]
+fn empty_scan(rt: HostRuntime) -> Result<(), Fail> {
+    let sizes = Sizes::new(2, 1, 8, 9)?;
+    let (memory, mut first, _) = pair(rt.alloc(), sizes, &[10, 20])?;
+    scans_nothing(&rt, &memory, &mut first);
     Ok(())
+}
+
+// A scan of component 0 at two positions and of component 1.
+fn scans_twice(rt: &impl Abort, memory: &Memory, me: &mut Port)
+    requires { IsOf memory.now me.old × (3 ≤ memory.now.about.sizes.m) }
+{
+    let mut into = [0u64; 3];
+    let scanned = memory.scan(me, &[0, 0, 1], &mut into);
+    assert_eq!(rt; scanned, Ok(COLLECTED_TWICE));
+    assert_eq!(rt; into, [10, 10, 20]);
 }
 
 #[test]
 fn repeated_position(rt: HostRuntime) -> Result<(), Fail> {
     let sizes = Sizes::new(3, 4, 8, 64)?;
-    let (memory, mut ports) = opened(rt.alloc(), sizes, &[10, 20, 30], 1)?;
-    let mut port = ports.pop().ok_or("a port")?;
-    let mut into = [0u64; 3];
-    let scanned = memory.scan(&mut port, &[0, 0, 1], &mut into);
-    assert_eq!(rt; scanned, Ok(COLLECTED_TWICE));
-    assert_eq!(rt; into, [10, 10, 20]);
+    let (memory, mut port) = single(rt.alloc(), sizes, &[10, 20, 30])?;
+    scans_twice(&rt, &memory, &mut port);
     Ok(())
 }
 

@@ -50,32 +50,48 @@ fn applied_stamps(alloc: Global, all: &[Told]) -> Result<Vec<u64>, AllocError> {
     Ok(stamps)
 }
 
-/// No two updates were applied with one stamp, each lost or changed one names an update that another
-/// worker applied, no value fell that only rises, and each scan made 2 to 4 collects.
-fn judge(rt: &impl Abort, alloc: Global, all: &[Told]) -> Result<(), AllocError> {
-    let stamps = applied_stamps(alloc, all)?;
+/// No two updates were applied with one stamp.
+fn judge_stamps(rt: &impl Abort, stamps: &[u64]) {
     let mut past = 0;
-    for stamp in stamps.iter() {
+    for stamp in stamps {
         assert!(rt; past < *stamp, "{stamp} was applied twice");
         past = *stamp;
     }
-    for told in all {
-        told.ended?;
-        assert!(rt; !told.fell, "a value fell");
-        for stamp in told.named.iter() {
-            assert!(rt;
-                stamps.binary_search(stamp).is_ok(),
-                "{stamp} wasn't applied"
-            );
-            let own = told.applied.contains(stamp) || told.counted.contains(stamp);
-            assert!(rt; !own, "{stamp} is its own");
-        }
-        for scanned in told.scans.iter() {
-            let few = 2 <= scanned.collects && scanned.collects <= 4;
-            assert!(rt; few, "{} collects", scanned.collects);
-        }
+}
+
+/// Each lost or changed update of the worker names one that another worker applied, no value fell that only rises, and
+/// each scan made 2 to 4 collects.
+fn judge_told(rt: &impl Abort, stamps: &[u64], told: &Told) -> Result<(), AllocError> {
+    told.ended?;
+    assert!(rt; !told.fell, "a value fell");
+    for stamp in told.named.iter() {
+        assert!(rt;
+            stamps.binary_search(stamp).is_ok(),
+            "{stamp} wasn't applied"
+        );
+        let own = told.applied.contains(stamp) || told.counted.contains(stamp);
+        assert!(rt; !own, "{stamp} is its own");
+    }
+    for scanned in told.scans.iter() {
+        let few = 2 <= scanned.collects && scanned.collects <= 4;
+        assert!(rt; few, "{} collects", scanned.collects);
     }
     Ok(())
+}
+
+/// Both of all workers.
+fn judge_all(rt: &impl Abort, stamps: &[u64], all: &[Told]) -> Result<(), AllocError> {
+    judge_stamps(rt, stamps);
+    for told in all {
+        judge_told(rt, stamps, told)?;
+    }
+    Ok(())
+}
+
+/// The same with the stamps of all applied updates.
+fn judge(rt: &impl Abort, alloc: Global, all: &[Told]) -> Result<(), AllocError> {
+    let stamps = applied_stamps(alloc, all)?;
+    judge_all(rt, &stamps, all)
 }
 
 /// Component 0 was only counted with: its value is the number of its entries.
@@ -89,21 +105,23 @@ fn refused_in_all(all: &[Told], cause: Refused) -> usize {
     all.iter().fold(0usize, |sum, told| sum.saturating_add(told.refusals(cause)))
 }
 
+/// Each of these updates was applied or names one that was.
+fn each_ends(rt: &impl Abort, all: &[Told]) {
+    for told in all {
+        assert_eq!(rt; told.applied.len().saturating_add(told.named.len()), 100);
+    }
+}
+
 #[test]
 fn two_ports_at_one_component(rt: HostRuntime) -> Result<(), Fail> {
     let sizes = Sizes::new(2, 4, 8, 4096)?;
     let (_, all) = worked(&rt, rt.alloc(), sizes, 2, &[(FIRST, 100)])?;
-    for told in all.iter() {
-        assert_eq!(rt; told.applied.len().saturating_add(told.named.len()), 100);
-    }
+    each_ends(&rt, &all);
     Ok(())
 }
 
-#[test]
-fn two_writers(rt: HostRuntime) -> Result<(), Fail> {
-    let sizes = Sizes::new(2, 4, 8, 4096)?;
-    let jobs = [(FIRST, 100), (SECOND, 100)];
-    let (closed, _) = worked(&rt, rt.alloc(), sizes, 2, &jobs)?;
+/// Each component was set to 1, 2, 3 and so on to 100.
+fn rises_to_hundred(rt: &impl Abort, closed: &Closed) {
     for chain in closed.chains.iter() {
         assert_eq!(rt; chain.len(), 101);
         let mut value = 100;
@@ -112,7 +130,24 @@ fn two_writers(rt: HostRuntime) -> Result<(), Fail> {
             value = value.saturating_sub(1);
         }
     }
+}
+
+#[test]
+fn two_writers(rt: HostRuntime) -> Result<(), Fail> {
+    let sizes = Sizes::new(2, 4, 8, 4096)?;
+    let jobs = [(FIRST, 100), (SECOND, 100)];
+    let (closed, _) = worked(&rt, rt.alloc(), sizes, 2, &jobs)?;
+    rises_to_hundred(&rt, &closed);
     Ok(())
+}
+
+/// No call was refused, and both components are 100.
+fn write_and_scan(rt: &impl Abort, closed: &Closed, all: &[Told]) {
+    for told in all {
+        assert!(rt; told.refused.is_empty());
+        assert!(rt; told.applied.len() == 100 || told.scans.len() == 50);
+    }
+    assert_eq!(rt; closed.values.as_slice(), [100, 100].as_slice());
 }
 
 #[test]
@@ -120,20 +155,13 @@ fn a_scanner_beside_two_writers(rt: HostRuntime) -> Result<(), Fail> {
     let sizes = Sizes::new(2, 64, 8, 4096)?;
     let jobs = [(FIRST, 100), (SECOND, 100), (Job::ScanTwo, 50)];
     let (closed, all) = worked(&rt, rt.alloc(), sizes, 3, &jobs)?;
-    for told in all.iter() {
-        assert!(rt; told.refused.is_empty());
-        assert!(rt; told.applied.len() == 100 || told.scans.len() == 50);
-    }
-    assert_eq!(rt; closed.values.as_slice(), [100, 100].as_slice());
+    write_and_scan(&rt, &closed, &all);
     Ok(())
 }
 
-#[test]
-fn ten_applied_of_forty(rt: HostRuntime) -> Result<(), Fail> {
-    let sizes = Sizes::new(2, 1, 0, 36)?;
-    let jobs = [(FIRST, 20), (SECOND, 20)];
-    let (closed, all) = worked(&rt, rt.alloc(), sizes, 2, &jobs)?;
-    assert_eq!(rt; refused_in_all(&all, Refused::PoolSpent), 30);
+/// Ten updates were applied, and each component has the number of its own.
+fn apply_ten(rt: &impl Abort, closed: &Closed, all: &[Told]) {
+    assert_eq!(rt; refused_in_all(all, Refused::PoolSpent), 30);
     let mut sum = 0u64;
     for (told, value) in all.iter().rev().zip(closed.values.iter()) {
         assert!(rt; told.pool_spent);
@@ -141,22 +169,32 @@ fn ten_applied_of_forty(rt: HostRuntime) -> Result<(), Fail> {
         sum = sum.saturating_add(*value);
     }
     assert_eq!(rt; sum, 10);
-    Ok(())
 }
 
 #[test]
-fn five_scans_of_twenty(rt: HostRuntime) -> Result<(), Fail> {
-    let sizes = Sizes::new(2, 5, 0, 256)?;
-    let (closed, all) = worked(&rt, rt.alloc(), sizes, 2, &[(Job::ScanOne, 10)])?;
-    assert_eq!(rt; refused_in_all(&all, Refused::SlotsSpent), 15);
+fn ten_applied_of_forty(rt: HostRuntime) -> Result<(), Fail> {
+    let sizes = Sizes::new(2, 1, 0, 36)?;
+    let jobs = [(FIRST, 20), (SECOND, 20)];
+    let (closed, all) = worked(&rt, rt.alloc(), sizes, 2, &jobs)?;
+    apply_ten(&rt, &closed, &all);
+    Ok(())
+}
+
+/// Five scans were answered, and the others were refused for the slots.
+fn scan_five_times(rt: &impl Abort, all: &[Told]) {
+    assert_eq!(rt; refused_in_all(all, Refused::SlotsSpent), 15);
     let mut answered = 0usize;
-    for told in all.iter() {
+    for told in all {
         assert!(rt; told.slots_spent);
         answered = answered.saturating_add(told.scans.len());
     }
     assert_eq!(rt; answered, 5);
+}
+
+/// Both components have their initial records. Behind two components, four counters and five slots these take three
+/// words each.
+fn has_initial_records(rt: &impl Abort, closed: &Closed) {
     assert_eq!(rt; closed.values.as_slice(), [0, 0].as_slice());
-    // Behind two components, four counters and five slots: the initial records, of three words each.
     let mut stamp = 11;
     for chain in closed.chains.iter() {
         assert_eq!(rt; chain.len(), 1);
@@ -165,18 +203,37 @@ fn five_scans_of_twenty(rt: HostRuntime) -> Result<(), Fail> {
         }
         stamp = 14;
     }
+}
+
+#[test]
+fn five_scans_of_twenty(rt: HostRuntime) -> Result<(), Fail> {
+    let sizes = Sizes::new(2, 5, 0, 256)?;
+    let (closed, all) = worked(&rt, rt.alloc(), sizes, 2, &[(Job::ScanOne, 10)])?;
+    scan_five_times(&rt, &all);
+    has_initial_records(&rt, &closed);
     Ok(())
+}
+
+/// Each of these conditional updates was applied or names an update.
+fn each_counts(rt: &impl Abort, all: &[Told]) {
+    for told in all {
+        assert_eq!(rt; told.counted.len().saturating_add(told.named.len()), 100);
+    }
 }
 
 #[test]
 fn conditional_updates_count(rt: HostRuntime) -> Result<(), Fail> {
     let sizes = Sizes::new(2, 4, 8, 4096)?;
     let (closed, all) = worked(&rt, rt.alloc(), sizes, 2, &[(Job::Count, 100)])?;
-    for told in all.iter() {
-        assert_eq!(rt; told.counted.len().saturating_add(told.named.len()), 100);
-    }
+    each_counts(&rt, &all);
     judge_count(&rt, &closed);
     Ok(())
+}
+
+/// Some calls were refused for the pool, and some for the slots.
+fn spend_both(rt: &impl Abort, all: &[Told]) {
+    assert!(rt; refused_in_all(all, Refused::PoolSpent) > 0);
+    assert!(rt; refused_in_all(all, Refused::SlotsSpent) > 0);
 }
 
 // The pool and the slots are spent in the middle.
@@ -184,22 +241,32 @@ fn conditional_updates_count(rt: HostRuntime) -> Result<(), Fail> {
 fn eight_ports(rt: HostRuntime) -> Result<(), Fail> {
     let sizes = Sizes::new(2, 64, 64, 4096)?;
     let (closed, all) = worked(&rt, rt.alloc(), sizes, 8, &[(Job::Mix, 200)])?;
-    assert!(rt; refused_in_all(&all, Refused::PoolSpent) > 0);
-    assert!(rt; refused_in_all(&all, Refused::SlotsSpent) > 0);
+    spend_both(&rt, &all);
     judge_count(&rt, &closed);
     Ok(())
+}
+
+/// No call was refused, and each worker made so many scans.
+fn each_scans(rt: &impl Abort, all: &[Told], scans: usize) {
+    for told in all {
+        assert!(rt; told.refused.is_empty());
+        assert_eq!(rt; told.scans.len(), scans);
+    }
 }
 
 #[test]
 fn sixty_four_ports(rt: HostRuntime) -> Result<(), Fail> {
     let sizes = Sizes::new(2, 2048, 1024, 1_000_000)?;
     let (closed, all) = worked(&rt, rt.alloc(), sizes, 64, &[(Job::Mix, 20)])?;
-    for told in all.iter() {
-        assert!(rt; told.refused.is_empty());
-        assert_eq!(rt; told.scans.len(), 20);
-    }
+    each_scans(&rt, &all, 20);
     judge_count(&rt, &closed);
     Ok(())
+}
+
+/// There are four workers, which made each scan.
+fn four_scan(rt: &impl Abort, all: &[Told]) {
+    assert_eq!(rt; all.len(), 4);
+    each_scans(rt, all, 100);
 }
 
 // All five calls: each of four workers has two ports, which meet after each turn.
@@ -207,11 +274,7 @@ fn sixty_four_ports(rt: HostRuntime) -> Result<(), Fail> {
 fn four_pairs_that_meet(rt: HostRuntime) -> Result<(), Fail> {
     let sizes = Sizes::new(2, 512, 512, 200_000)?;
     let (closed, all) = worked(&rt, rt.alloc(), sizes, 8, &[(Job::Meet, 50)])?;
-    assert_eq!(rt; all.len(), 4);
-    for told in all.iter() {
-        assert!(rt; told.refused.is_empty());
-        assert_eq!(rt; told.scans.len(), 100);
-    }
+    four_scan(&rt, &all);
     judge_count(&rt, &closed);
     Ok(())
 }

@@ -2,12 +2,12 @@ use Rattle.std.proofs.Common.{length}
 use Rattle.std.specs.Prelude.{All, IfSome}
 use Rattle.std.specs.List.{AllByRecursion}
 use Rattle.partial_memory.specs.Ports.{IsOf}
-use Rattle.memory_tests.proofs.closings.closed.Given as goal
+use Rattle.memory_tests.proofs.closings.parted.Given as goal
 
 abbrev pub invariant-loop-worker : goal.invariant-loop-worker
 invariant-loop-worker l = record {
-  ports : AllByRecursion (IsOf l.fn.memory) l.ports.items;
-  workers : All (λ w. IsOf l.fn.memory w.port × IfSome w.other (IsOf l.fn.memory)) l.workers.items;
+  ports : AllByRecursion (IsOf l.memory) l.ports.items;
+  workers : All (λ w. IsOf l.memory w.port × IfSome w.other (IsOf l.memory)) l.workers.items;
 }
 
 abbrev pub decreases-loop-worker : goal.decreases-loop-worker

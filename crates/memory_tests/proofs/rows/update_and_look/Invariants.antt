@@ -1,6 +1,6 @@
 use Rattle.std.proofs.Common.{◌≡◌}
 use Rattle.partial_memory.specs.Ports.{IsOf}
-use Rattle.memory_tests.proofs.rows.never_met.Given as goal
+use Rattle.memory_tests.proofs.rows.update_and_look.Given as goal
 
 abbrev pub invariant-loop-value : goal.invariant-loop-value
 invariant-loop-value g l = record {
