@@ -22,10 +22,10 @@ use crate::error::{CloseError, OpenError};
 use crate::port::{Port, take_seat};
 use crate::rule::{About, BeginsRead, Deals, Gathers, GoesOn, Lawful, Looks, Place, View};
 use crate::scan::scan;
-use crate::update::update;
+use crate::update::{Ending, update};
 use atomic_table::Table;
-use partial_core::{Change, Core};
-use partial_lines::{Exchanged, Scanned};
+use partial_core::Core;
+use partial_lines::Scanned;
 use partial_model::{Opening, Refused, Sequence};
 use partial_words::{Sizes, value_word};
 use std::alloc::{AllocError, Global};
@@ -173,15 +173,11 @@ impl Memory {
         ensures led_to_refusal { IfErr result (λ cause. IsLedWhereLate me.old me.new (call.Update component value) cause) }
     {
         me.core.may_update(component)?;
-        let change = Change {
-            component,
-            expected: None,
-            value,
-        };
-        match update(&self.table.shared, &mut me.badge, &mut me.core, change) {
-            Ok(Exchanged::Applied { stamp }) => Ok(Updated::Applied { stamp }),
-            Ok(Exchanged::Overtaken { by }) => Ok(Updated::Lost { by }),
-            Err(cause) => Err(cause),
+        let words = &self.table.shared;
+        match update(&mut me.core, component, value, &mut me.badge, words, None) {
+            Ending::Applied { stamp } => Ok(Updated::Applied { stamp }),
+            Ending::Overtaken { by } => Ok(Updated::Lost { by }),
+            Ending::PoolSpent => Err(Refused::PoolSpent),
         }
     }
 
@@ -208,15 +204,18 @@ impl Memory {
         ensures led_to_refusal { IfErr result (λ cause. IsLedWhereLate me.old me.new (call.UpdateIf component expected value) cause) }
     {
         me.core.may_update(component)?;
-        let conditional = Change {
+        let words = &self.table.shared;
+        match update(
+            &mut me.core,
             component,
-            expected: Some(expected),
             value,
-        };
-        match update(&self.table.shared, &mut me.badge, &mut me.core, conditional) {
-            Ok(Exchanged::Applied { stamp }) => Ok(UpdatedIf::Applied { stamp }),
-            Ok(Exchanged::Overtaken { by }) => Ok(UpdatedIf::Changed { by }),
-            Err(cause) => Err(cause),
+            &mut me.badge,
+            words,
+            Some(expected),
+        ) {
+            Ending::Applied { stamp } => Ok(UpdatedIf::Applied { stamp }),
+            Ending::Overtaken { by } => Ok(UpdatedIf::Changed { by }),
+            Ending::PoolSpent => Err(Refused::PoolSpent),
         }
     }
 

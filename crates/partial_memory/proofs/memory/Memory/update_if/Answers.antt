@@ -1,11 +1,11 @@
-use Rattle.partial_memory.proofs.Common.{rules, ◌≡◌, refl, sym, ap, ◌∙◌, Some, Ok, inl, inr, err_from_is_err_and, update_reply, PortView, refusal, one_in}
+use Rattle.partial_memory.proofs.Common.{rules, ◌≡◌, refl, sym, ap, ◌∙◌, Some, inl, inr, err_from_is_err_and, PortView, refusal, one_in}
 use Rattle.partial_model.specs.declared.call.Call.TheVariants as call
-use Rattle.partial_machine.specs.declared.stage.Change.{Change}
 use Rattle.partial_machine.specs.declared.stage.Reply.TheVariants as reply
+use Rattle.partial_memory.specs.Inner.Endings.{change_of, ending_reply}
 use Rattle.partial_memory.proofs.Resting.{call_begins, refusal_here, rests, same_memory}
 use Rattle.partial_memory.proofs.Replies.{update_if_ended, at_once, ok_ok, err_ok, err_err, ok_err}
 use Rattle.partial_memory.proofs.memory.Memory.update_if.Goals as goal
-use Rattle.partial_memory.proofs.memory.Memory.update_if.Goals.{in-Ok-Applied, in-Ok-Overtaken, in-Err}
+use Rattle.partial_memory.proofs.memory.Memory.update_if.Goals.{in-Applied, in-Overtaken, in-PoolSpent}
 
 pub update-requires : goal.update-requires
 update-requires c =
@@ -28,44 +28,40 @@ pub returns-clause-answered : goal.returns-clause-answered
 returns-clause-answered c =
     let ok = c.in_ok-may_update.ensures.ok in
     let told = update_if_ended _ _ _ c.me.invariant _ _ c.update.ensures.table _ c.me.view_is _ _ _ _ c.update.ensures.ended c.args.component c.args.expected c.args.value ok refl in
-    let change : Change = record { component = c.args.component; expected = Some c.args.expected; value = c.args.value } in
     elim c.match-update.branch [
-      | in-Ok-Applied w ↦ ok_ok _ _ _ w.result-is (told (reply.Applied _) (ap (update_reply change) (w.in-Ok-Applied.is ∙ ap Ok w.in-Ok-Applied.field-0-is))).0
-      | in-Ok-Overtaken w ↦ ok_ok _ _ _ w.result-is (told (reply.Changed _) (ap (update_reply change) (w.in-Ok-Overtaken.is ∙ ap Ok w.in-Ok-Overtaken.field-0-is))).0
-      | in-Err w ↦ err_ok _ _ _ w.result-is
+      | in-Applied w ↦ ok_ok _ _ _ w.result-is (told (reply.Applied _) (ap (ending_reply (change_of c.args.component (Some c.args.expected) c.args.value)) w.in-Applied.is)).0
+      | in-Overtaken w ↦ ok_ok _ _ _ w.result-is (told (reply.Changed _) (ap (ending_reply (change_of c.args.component (Some c.args.expected) c.args.value)) w.in-Overtaken.is)).0
+      | in-PoolSpent w ↦ err_ok _ _ _ w.result-is
     ]
 
 pub returns-clause-led : goal.returns-clause-led
 returns-clause-led c =
     let ok = c.in_ok-may_update.ensures.ok in
     let told = update_if_ended _ _ _ c.me.invariant _ _ c.update.ensures.table _ c.me.view_is _ _ _ _ c.update.ensures.ended c.args.component c.args.expected c.args.value ok refl in
-    let change : Change = record { component = c.args.component; expected = Some c.args.expected; value = c.args.value } in
     elim c.match-update.branch [
-      | in-Ok-Applied w ↦ ok_ok _ _ _ w.result-is (told (reply.Applied _) (ap (update_reply change) (w.in-Ok-Applied.is ∙ ap Ok w.in-Ok-Applied.field-0-is))).1
-      | in-Ok-Overtaken w ↦ ok_ok _ _ _ w.result-is (told (reply.Changed _) (ap (update_reply change) (w.in-Ok-Overtaken.is ∙ ap Ok w.in-Ok-Overtaken.field-0-is))).1
-      | in-Err w ↦ err_ok _ _ _ w.result-is
+      | in-Applied w ↦ ok_ok _ _ _ w.result-is (told (reply.Applied _) (ap (ending_reply (change_of c.args.component (Some c.args.expected) c.args.value)) w.in-Applied.is)).1
+      | in-Overtaken w ↦ ok_ok _ _ _ w.result-is (told (reply.Changed _) (ap (ending_reply (change_of c.args.component (Some c.args.expected) c.args.value)) w.in-Overtaken.is)).1
+      | in-PoolSpent w ↦ err_ok _ _ _ w.result-is
     ]
 
 pub returns-clause-refused : goal.returns-clause-refused
 returns-clause-refused c =
     let ok = c.in_ok-may_update.ensures.ok in
     let told = update_if_ended _ _ _ c.me.invariant _ _ c.update.ensures.table _ c.me.view_is _ _ _ _ c.update.ensures.ended c.args.component c.args.expected c.args.value ok refl in
-    let change : Change = record { component = c.args.component; expected = Some c.args.expected; value = c.args.value } in
     elim c.match-update.branch [
-      | in-Ok-Applied w ↦ ok_err _ _ _ w.result-is
-      | in-Ok-Overtaken w ↦ ok_err _ _ _ w.result-is
-      | in-Err w ↦ err_err _ _ _ w.result-is (inr (told (reply.Refused _) (ap (update_reply change) w.in-Err.is)).0)
+      | in-Applied w ↦ ok_err _ _ _ w.result-is
+      | in-Overtaken w ↦ ok_err _ _ _ w.result-is
+      | in-PoolSpent w ↦ err_err _ _ _ w.result-is (inr (told (reply.Refused _) (ap (ending_reply (change_of c.args.component (Some c.args.expected) c.args.value)) w.in-PoolSpent.is)).0)
     ]
 
 pub returns-clause-led_to_refusal : goal.returns-clause-led_to_refusal
 returns-clause-led_to_refusal c =
     let ok = c.in_ok-may_update.ensures.ok in
     let told = update_if_ended _ _ _ c.me.invariant _ _ c.update.ensures.table _ c.me.view_is _ _ _ _ c.update.ensures.ended c.args.component c.args.expected c.args.value ok refl in
-    let change : Change = record { component = c.args.component; expected = Some c.args.expected; value = c.args.value } in
     elim c.match-update.branch [
-      | in-Ok-Applied w ↦ ok_err _ _ _ w.result-is
-      | in-Ok-Overtaken w ↦ ok_err _ _ _ w.result-is
-      | in-Err w ↦ err_err _ _ _ w.result-is (λ _. (told (reply.Refused _) (ap (update_reply change) w.in-Err.is)).1)
+      | in-Applied w ↦ ok_err _ _ _ w.result-is
+      | in-Overtaken w ↦ ok_err _ _ _ w.result-is
+      | in-PoolSpent w ↦ err_err _ _ _ w.result-is (λ _. (told (reply.Refused _) (ap (ending_reply (change_of c.args.component (Some c.args.expected) c.args.value)) w.in-PoolSpent.is)).1)
     ]
 
 pub returns-in_err-may_update-clause-refused : goal.returns-in_err-may_update-clause-refused
