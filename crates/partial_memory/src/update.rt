@@ -7,7 +7,7 @@ ghost use Rattle.partial_machine.specs.Machine.{CoreState, at_stage};
 ghost use Rattle.partial_machine.specs.Sound.{IsSound};
 ghost use Rattle.partial_lines.specs.Lines.{set_made};
 ghost use Rattle.partial_memory.specs.Rule.{IsBadgeOfOne, IsOne, SeatedPort, one_in, one_of};
-ghost use Rattle.partial_memory.specs.Inner.Endings.{change_of, ending_reply};
+ghost use Rattle.partial_memory.specs.Inner.Endings.{asked_change, ending_reply};
 ghost use Rattle.partial_memory.specs.Inner.Lines.{IsGoing, machine_of};
 ghost use Rattle.partial_memory.specs.Inner.Steps.{Begins, CallMade, Ended, IsAtRest};
 
@@ -62,11 +62,11 @@ pub fn update(
 ) -> Ending
     requires one { IsBadgeOfOne badge.old.views }
     requires rest { IsAtRest words.now.table_id words.now.key badge.old.table_id (one_in badge.old.views) core.old }
-    requires begins { Begins (at_stage core.old (UpdateBegun (change_of component expected value))) (one_in badge.old.views) }
+    requires begins { Begins (at_stage core.old (UpdateBegun (asked_change component expected value))) (one_in badge.old.views) }
     ensures table { badge.new.table_id ≡ badge.old.table_id }
     ensures one { IsBadgeOfOne badge.new.views }
-    ensures ended { Ended (at_stage core.old (UpdateBegun (change_of component expected value))) (one_in badge.old.views)
-        (ending_reply (change_of component expected value) result) core.new (one_in badge.new.views) }
+    ensures ended { Ended (at_stage core.old (UpdateBegun (asked_change component expected value))) (one_in badge.old.views)
+        (ending_reply (asked_change component expected value) result) core.new (one_in badge.new.views) }
 {
     let change = Change {
         component,

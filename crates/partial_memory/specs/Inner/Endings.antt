@@ -9,8 +9,8 @@ use Rattle.partial_memory.specs.declared.update.Ending.{Ending}
 use Rattle.partial_memory.specs.declared.update.Ending.TheVariants.{Applied, Overtaken, PoolSpent}
 
 -- component j is to be set to v, if it has the stamp that is expected
-abbrev pub change_of : ℕ → Option ℕ → ℕ → Change
-change_of j expected v = record { component = j; expected = expected; value = v }
+abbrev pub asked_change : ℕ → Option ℕ → ℕ → Change
+asked_change j expected v = record { component = j; expected = expected; value = v }
 
 -- the reply to an update that ended so
 abbrev pub ending_reply : Change → Ending → Reply

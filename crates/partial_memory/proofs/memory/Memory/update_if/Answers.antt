@@ -1,7 +1,7 @@
 use Rattle.partial_memory.proofs.Common.{rules, ◌≡◌, refl, sym, ap, ◌∙◌, Some, inl, inr, err_from_is_err_and, PortView, refusal, one_in}
 use Rattle.partial_model.specs.declared.call.Call.TheVariants as call
 use Rattle.partial_machine.specs.declared.stage.Reply.TheVariants as reply
-use Rattle.partial_memory.specs.Inner.Endings.{change_of, ending_reply}
+use Rattle.partial_memory.specs.Inner.Endings.{asked_change, ending_reply}
 use Rattle.partial_memory.proofs.Resting.{call_begins, refusal_here, rests, same_memory}
 use Rattle.partial_memory.proofs.Replies.{update_if_ended, at_once, ok_ok, err_ok, err_err, ok_err}
 use Rattle.partial_memory.proofs.memory.Memory.update_if.Goals as goal
@@ -29,8 +29,8 @@ returns-clause-answered c =
     let ok = c.in_ok-may_update.ensures.ok in
     let told = update_if_ended _ _ _ c.me.invariant _ _ c.update.ensures.table _ c.me.view_is _ _ _ _ c.update.ensures.ended c.args.component c.args.expected c.args.value ok refl in
     elim c.match-update.branch [
-      | in-Applied w ↦ ok_ok _ _ _ w.result-is (told (reply.Applied _) (ap (ending_reply (change_of c.args.component (Some c.args.expected) c.args.value)) w.in-Applied.is)).0
-      | in-Overtaken w ↦ ok_ok _ _ _ w.result-is (told (reply.Changed _) (ap (ending_reply (change_of c.args.component (Some c.args.expected) c.args.value)) w.in-Overtaken.is)).0
+      | in-Applied w ↦ ok_ok _ _ _ w.result-is (told (reply.Applied _) (ap (ending_reply (asked_change c.args.component (Some c.args.expected) c.args.value)) w.in-Applied.is)).0
+      | in-Overtaken w ↦ ok_ok _ _ _ w.result-is (told (reply.Changed _) (ap (ending_reply (asked_change c.args.component (Some c.args.expected) c.args.value)) w.in-Overtaken.is)).0
       | in-PoolSpent w ↦ err_ok _ _ _ w.result-is
     ]
 
@@ -39,8 +39,8 @@ returns-clause-led c =
     let ok = c.in_ok-may_update.ensures.ok in
     let told = update_if_ended _ _ _ c.me.invariant _ _ c.update.ensures.table _ c.me.view_is _ _ _ _ c.update.ensures.ended c.args.component c.args.expected c.args.value ok refl in
     elim c.match-update.branch [
-      | in-Applied w ↦ ok_ok _ _ _ w.result-is (told (reply.Applied _) (ap (ending_reply (change_of c.args.component (Some c.args.expected) c.args.value)) w.in-Applied.is)).1
-      | in-Overtaken w ↦ ok_ok _ _ _ w.result-is (told (reply.Changed _) (ap (ending_reply (change_of c.args.component (Some c.args.expected) c.args.value)) w.in-Overtaken.is)).1
+      | in-Applied w ↦ ok_ok _ _ _ w.result-is (told (reply.Applied _) (ap (ending_reply (asked_change c.args.component (Some c.args.expected) c.args.value)) w.in-Applied.is)).1
+      | in-Overtaken w ↦ ok_ok _ _ _ w.result-is (told (reply.Changed _) (ap (ending_reply (asked_change c.args.component (Some c.args.expected) c.args.value)) w.in-Overtaken.is)).1
       | in-PoolSpent w ↦ err_ok _ _ _ w.result-is
     ]
 
@@ -51,7 +51,7 @@ returns-clause-refused c =
     elim c.match-update.branch [
       | in-Applied w ↦ ok_err _ _ _ w.result-is
       | in-Overtaken w ↦ ok_err _ _ _ w.result-is
-      | in-PoolSpent w ↦ err_err _ _ _ w.result-is (inr (told (reply.Refused _) (ap (ending_reply (change_of c.args.component (Some c.args.expected) c.args.value)) w.in-PoolSpent.is)).0)
+      | in-PoolSpent w ↦ err_err _ _ _ w.result-is (inr (told (reply.Refused _) (ap (ending_reply (asked_change c.args.component (Some c.args.expected) c.args.value)) w.in-PoolSpent.is)).0)
     ]
 
 pub returns-clause-led_to_refusal : goal.returns-clause-led_to_refusal
@@ -61,7 +61,7 @@ returns-clause-led_to_refusal c =
     elim c.match-update.branch [
       | in-Applied w ↦ ok_err _ _ _ w.result-is
       | in-Overtaken w ↦ ok_err _ _ _ w.result-is
-      | in-PoolSpent w ↦ err_err _ _ _ w.result-is (λ _. (told (reply.Refused _) (ap (ending_reply (change_of c.args.component (Some c.args.expected) c.args.value)) w.in-PoolSpent.is)).1)
+      | in-PoolSpent w ↦ err_err _ _ _ w.result-is (λ _. (told (reply.Refused _) (ap (ending_reply (asked_change c.args.component (Some c.args.expected) c.args.value)) w.in-PoolSpent.is)).1)
     ]
 
 pub returns-in_err-may_update-clause-refused : goal.returns-in_err-may_update-clause-refused
