@@ -164,13 +164,13 @@ def is_built(name):
     return (built / f'{name}.rlib').exists() and all(it.stat().st_mtime <= built.stat().st_mtime for it in sources)
 
 
-def command_of(name, crates, proved):
-    """The prover's command for a crate, over the kit's libraries and the repository's, copied from where they were
-    proved to this folder."""
+def command_of(name, crates, proved, jobs=1):
+    """The prover's command for a crate, with so many jobs, over the kit's libraries and the repository's, copied from
+    where they were proved to this folder."""
     libraries = [f'{it}={KIT}/rlibs/{it}.rlib' for it in ['std', *crates[name]] if it not in crates]
     libraries += [f'{it}={proved}/{it}/{it}.rlib' for it in crates[name] if it in crates]
     folders = [f'{KIT}/rlibs', *[f'{proved}/{it}' for it in below(name, crates)]]
-    return [f'{KIT}/bin/rattle', 'check', '--crate-name', name, 'src/lib.rt', '--jobs', '1',
+    return [f'{KIT}/bin/rattle', 'check', '--crate-name', name, 'src/lib.rt', '--jobs', str(jobs),
             *[word for it in libraries for word in ('--extern', it)],
             *[word for it in folders for word in ('-L', f'dependency={it}')],
             '--antt-project', f'{KIT}/rattle/logic/antt-project.json', '--logic-built', f'{KIT}/logic_built',
@@ -408,17 +408,18 @@ def counted(edits, faults):
     return sum(it.name not in faulty for it in edits), len(faulty) + sum(name is None for name, _ in faults)
 
 
-def try_crate(name, crates, libraries):
-    """Tries a crate's edits over these libraries: the edits, how many functions were refused without an answer that did
-    not fit, and what is wrong."""
+def try_crate(name, crates, libraries, jobs_now):
+    """Tries a crate's edits over these libraries, with as many jobs in each round as there are then: the edits, how
+    many functions were refused without an answer that did not fit, and what is wrong."""
     crate = TOP / 'crates' / name
     (edits, faults), more = edits_of(crate), 0
-    command, left = command_of(name, crates, libraries.folder), edits
+    left = edits
     kept = crate / 'out' / 'incremental'
     with tempfile.TemporaryDirectory(prefix='edits-') as room:
         shutil.copytree(kept, f'{room}/kept') if kept.is_dir() else os.mkdir(f'{room}/kept')
         while left:
             members, places = first_round(left, crate)
+            command = command_of(name, crates, libraries.folder, jobs_now())
             asked = [*libraries.priority(), *command, *[word for it in members for word in asked_of(it)]]
 
             def again(without):
@@ -454,9 +455,22 @@ def in_turns(names, jobs, is_ready, is_beside, call):
 
 def try_crates(chosen, crates, jobs, libraries):
     """Tries the edits of these crates, the greatest ones first: how many passed and failed."""
+    undone = set(chosen)
+
+    def jobs_now():
+        """One job while the command is at work that proves the libraries, then the share of a crate that isn't done."""
+        return 1 if libraries.are_beside() else max(1, jobs // len(undone))
+
+    def tried_crate(name):
+        """What a crate's edits gave, which is done then."""
+        try:
+            return try_crate(name, crates, libraries, jobs_now)
+        finally:
+            undone.discard(name)
+
     size = {it: sum(path.stat().st_size for path in (TOP / 'crates' / it / 'src').glob('**/*.rt')) for it in chosen}
     tried = in_turns(sorted(chosen, key=lambda it: -size[it]), jobs, lambda it: libraries.has(below(it, crates)),
-                     libraries.are_beside, lambda it: try_crate(it, crates, libraries))
+                     libraries.are_beside, tried_crate)
     passed = failed = 0
     for name in chosen:
         if name not in tried:
