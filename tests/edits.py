@@ -23,8 +23,9 @@ those that they call: the first round has checked all others. The first round be
 here or in another copy of the repository on this machine; no edit is judged by that, since what it turns is checked.
 
 With words, it takes the crates with these names alone; with --jobs N, so many crates side by side, and so many jobs in
-all where fewer crates are left. What isn't proved yet of the crates below is proved first. The last line is 'N passed, M failed', where each edit counts once, one that
-can't be read or doesn't fit as failed, and so does each fault that is not one of an edit.
+all where fewer crates are left. What isn't proved yet of the crates below is proved first. The last line is
+'N passed, M failed', where each edit counts once, one that can't be read or doesn't fit as failed, and so does each
+fault that is not one of an edit.
 """
 import argparse
 import os
