@@ -1,5 +1,5 @@
 -- The steps of a change of epoch, as its code asks for them.
-use Rattle.partial_long_lived.proofs.Common.{ℕ, ◌≡◌, ◌≢◌, ◌+◌, ◌-◌, ◌*◌, ◌%◌, ◌^◌, ◌<◌, ◌≤◌, ◌==◌, Bool, cond, Option, Some, IfSome, List, [], sym, ap, subst, ◌∙◌, inl, inr, arith, lt-ltb, either, Me, Allows, TableId, first_free, list_base, pool_base, opening_word, Place, Plan, arena_limit, at_word, base, entering_mark, marked, own_word, packed, seal, set_word, OwnedArena, Port, Stands, next_place, passing_port, below_whole, set_place, About, Stand, IsRuleKept, SeatedPort, one_of, plan_of, bare, shape_plan, SeatGoes, IsOne, tells, IsHeld, port_at, SeatGives, LoadsPort, PassesSealed, SeatPublishes, PutsPort, Seals, Sets, Takes, passed_at, unpacked, IsIdle, IsCarriedStamp, IsInitialValue, IsRight, IsFixedWord, MayPutPort, OfOwned, Owns, PutsBy, SetsLists, SetsNext, TakesBy, HasSetWords, initial_words, set_offset, slot_counter, FindsClear}
+use Rattle.partial_long_lived.proofs.Common.{ℕ, ◌≡◌, ◌≢◌, ◌+◌, ◌-◌, ◌*◌, ◌%◌, ◌^◌, ◌<◌, ◌≤◌, ◌==◌, Bool, cond, Option, Some, IfSome, List, [], sym, ap, subst, ◌∙◌, inl, inr, arith, lt-ltb, either, Me, Allows, TableId, first_free, list_base, pool_base, opening_word, Place, Plan, arena_limit, at_word, base, entering_mark, marked, own_word, packed, seal, set_word, OwnedArena, Port, Stands, next_place, passing_port, below_whole, set_place, About, Stand, IsRuleKept, SeatedPort, one_of, plan_of, bare, shape_plan, SeatGoes, IsOne, tells, IsHeld, port_at, SeatGives, LoadsPort, PassesSealed, SeatPublishes, PutsPort, Seals, Sets, Takes, passed_at, unpacked, IsIdle, IsCarriedStamp, IsInitialValue, IsRight, IsFixedWord, MayPutPort, OfOwned, Owns, PutsBy, SetsLists, SetsNext, TakesBy, HasSetWords, initial_words, slot_counter, FindsClear}
 use Rattle.partial_long_lived.proofs.Changes.{may_give, may_load_port, may_pass, may_put, may_seal, may_take}
 use Rattle.partial_long_lived.proofs.Sets.{may_find_clear, may_set_over_lists, may_set_same, may_set_stamp, may_set_value}
 use Rattle.partial_long_lived.proofs.Publishes.{may_publish}
@@ -33,11 +33,6 @@ module _ (table : TableId) (about : About) (s : Stand) (h : IsHeld table about s
 
   pub arenas_are : s.shape.arenas ≡ about.arenas
   arenas_are = sym (ap (λ (e : Plan). e.arenas) h.shape)
-
-  -- a word before the list words
-  pub front_right : (v i : ℕ) → i < list_base about.sizes → v ≡ opening_word s.shape.sizes [] (set_offset s.shape.sizes i) → IsRight x v i
-  front_right v i low is = inl (subst (λ (a : About). IsFixedWord a.sizes v i) (sym h.own)
-      (record { within = omega (arith, low); free = inl (omega (arith, low)); is = is ∙ ap (λ z. opening_word z [] (set_offset z i)) sizes_are }))
 
   module _ (stands : x.port.control.entering ≡ Stands) (more : s.passed < about.sizes.m) where
     left : x.port.passed < about.sizes.m
