@@ -16,7 +16,7 @@ use Rattle.partial_machine.specs.declared.stage.Stage.{Stage}
 use Rattle.partial_machine.specs.declared.stage.Stage.TheVariants.{Idle, ReadBegun, UpdateBegun, ScanBegun, Finished}
 use Rattle.partial_machine.specs.Calls.{begin_scan, is_at_rest, is_begun, core_scan_refusal, core_update_refusal}
 use Rattle.partial_machine.specs.Machine.{CoreState, advance, at_stage, fresh, reply_at, step_at, step_of}
-use Rattle.partial_machine.specs.Lines.{asking, scan_asked}
+use Rattle.partial_machine.specs.Lines.{asking_machine, scan_asked}
 use Rattle.partial_machine.specs.Possible.{IsPossible}
 use Rattle.partial_machine.proofs.Laws.{rests_are_sound}
 use Rattle.partial_core.specs.Lawful.{Lawful}
@@ -172,4 +172,4 @@ asked_scan {A} c d which (Err e) few some ok err = inl err.1
 
 -- a scan of some positions that has begun
 pub scan_is : (c d : CoreState) (which : List ℕ) → (length which ≡ 0 → ⊥) → d ≡ begin_scan c which → d ≡ scan_asked c which
-scan_is c d which some is = is ∙ ap (λ b. at_stage (asking c which) (cond b (Finished (reply.Scanned 0 None)) ScanBegun)) (ne_eqb (length which) 0 some)
+scan_is c d which some is = is ∙ ap (λ b. at_stage (asking_machine c which) (cond b (Finished (reply.Scanned 0 None)) ScanBegun)) (ne_eqb (length which) 0 some)

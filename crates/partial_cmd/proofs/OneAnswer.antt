@@ -4,7 +4,7 @@ use Rattle.partial_model.specs.declared.call.Called.{Called}
 use Rattle.partial_model.specs.declared.history.Applied.{Applied}
 use Rattle.partial_model.specs.declared.history.Opening.{Opening}
 use Rattle.partial_text.specs.declared.outcome.Outcome.{Outcome}
-use Rattle.partial_text.specs.Judging.{judged}
+use Rattle.partial_text.specs.Judging.{judged_plan}
 use Rattle.partial_text.specs.OutcomeText.{outcome_text}
 use Rattle.partial_text.specs.PlanText.{PlanView, IsPlan, plan_text}
 use Rattle.partial_text.proofs.Laws.{judged_again}
@@ -17,7 +17,7 @@ use Rattle.partial_cmd.specs.Execution.{VerbWrites, PlansHaveOneAnswer}
 -- two plans of one text are the same
 same_plan : (p q : PlanView) → IsPlan p → IsPlan q → plan_text p ≡ plan_text q → p ≡ q
 same_plan p q a b same =
-    let both : Ok p ≡ Ok q = sym (judged_again p a) ∙ ap judged same ∙ judged_again q b in
+    let both : Ok p ≡ Ok q = sym (judged_again p a) ∙ ap judged_plan same ∙ judged_again q b in
     cc
 
 -- two outcomes of a plan have one text

@@ -2,7 +2,7 @@
 
 ghost use Rattle.std.specs.Prelude.{ℕ, ◌≡◌, ◌↔◌, ◌≢◌, List, true, false, take, OnOk, IfOk, IfErr, IfSome, IsErrOf};
 ghost use Rattle.std.specs.Io.KnownBytes.{Appends};
-ghost use Rattle.partial_text.specs.Judging.{judged};
+ghost use Rattle.partial_text.specs.Judging.{judged_plan};
 ghost use Rattle.partial_cmd.specs.Execution.{VerbWrites, IsBehindReading, IsJudged, WritesOutcome, WritesPart, reader_fault, verdict_of, writer_fault};
 
 use crate::fault::Fault;
@@ -61,7 +61,7 @@ pub fn execute<H: Threads + Wait + Sync, R: Read, W: Write>(
     ensures write_fault { IsErrOf result writer_fault ↔ (out.new.failed ≡ true) }
     // The fault is that of the plan, and a plan without a fault isn't refused for one.
     ensures plan { plan.new.failed ≡ false → IfSome (R.remaining plan.old.inner)
-        (λ bytes. IsJudged result (judged bytes)) }
+        (λ bytes. IsJudged result (judged_plan bytes)) }
     // A replay and a run end with `Done`, and a check finds the outcome legal, whatever the plan.
     ensures verdict { IfOk result (λ verdict. verdict ≡ verdict_of verb) }
     // Exactly the text that the verb asks for is written. Of a replay it is that of a legal outcome of the

@@ -1,7 +1,7 @@
 //! Two runs: the second one goes on with the memory of the first.
 
 ghost use Rattle.std.specs.Prelude.{◌≡◌, ◌↔◌, ◌≢◌, ◌⊎◌, true, false, IfOk, IfErr, IfSome, IsErr, IsErrOf, OnOk};
-ghost use Rattle.partial_text.specs.Judging.{judged};
+ghost use Rattle.partial_text.specs.Judging.{judged_plan};
 ghost use Rattle.partial_cmd.specs.declared.command.Verdict.TheVariants.{Done};
 ghost use Rattle.partial_cmd.specs.Execution.{reader_fault, writer_fault};
 ghost use Rattle.partial_cmd.specs.Next.{AreJudged, AreReports, WritesReports, WritesReportsPart};
@@ -43,10 +43,10 @@ pub fn execute_next<H: Threads + Wait + Sync, R: Read, N: Read, W: Write>(
     // When the first plan's reader fails, or its text isn't the text of a plan, the second plan isn't read.
     ensures unread { plan.new.failed ≡ true → next.new ≡ next.old }
     ensures refused { plan.new.failed ≡ false → IfSome (R.remaining plan.old.inner)
-        (λ bytes. IsErr (judged bytes) → next.new ≡ next.old) }
+        (λ bytes. IsErr (judged_plan bytes) → next.new ≡ next.old) }
     ensures plans { plan.new.failed ≡ false → next.new.failed ≡ false
         → IfSome (R.remaining plan.old.inner) (λ first. IfSome (N.remaining next.old.inner)
-        (λ second. AreJudged result (judged first) (judged second))) }
+        (λ second. AreJudged result (judged_plan first) (judged_plan second))) }
     ensures verdict { IfOk result (λ verdict. verdict ≡ Done) }
     ensures written { OnOk result (WritesReports (R.remaining plan.old.inner) (N.remaining next.old.inner)
         (W.contents out.old.inner) (W.contents out.new.inner)) }

@@ -267,8 +267,8 @@ module _ (z : Layout) (o : Opening) (words : List ℕ) (before : List Part) (x :
           begun_sizes = k.sizes;
           number = ap (λ (d : CoreState). d.port) mine ∙ number;
           port = port;
-          noted = subst (λ (d : CoreState). AreNotesOf y (reply_of (advance d (answer_of words step))) l.new) (sym mine)
-              (subst (λ (m : List Applied). AreNotesOf (gone (started c x) m (answer_of words step) l.new) (reply_of (advance (core_of (started c x)) (answer_of words step))) l.new) grown l.noted);
+          noted = subst (λ (d : CoreState). AreNotesOf o y (reply_of (advance d (answer_of words step))) l.new) (sym mine)
+              (subst (λ (m : List Applied). AreNotesOf o (gone (started c x) m (answer_of words step) l.new) (reply_of (advance (core_of (started c x)) (answer_of words step))) l.new) grown l.noted);
           fits = fits_here z o (words_after words step) before y after (log ++ added_by z (port_of x) words step) lawful;
         };
         lawful = lawful;

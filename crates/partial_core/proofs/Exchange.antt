@@ -22,7 +22,7 @@ use Rattle.partial_machine.specs.declared.stage.Reply.{Reply}
 use Rattle.partial_machine.specs.declared.stage.Reply.TheVariants as reply
 use Rattle.partial_machine.specs.declared.stage.Stage.{Stage}
 use Rattle.partial_machine.specs.declared.stage.Stage.TheVariants.{Exchanging, Finished}
-use Rattle.partial_machine.specs.Machine.{CoreState, at_stage, advance_at, step_at, step_of, overtaken}
+use Rattle.partial_machine.specs.Machine.{CoreState, at_stage, advance_at, step_at, step_of, overtaken_reply}
 use Rattle.partial_machine.specs.Sound.{IsRecord}
 use Rattle.partial_machine.specs.Possible.{IsPossible, IsPossibleAt}
 use Rattle.partial_state.specs.Holdings.{Holding, Due}
@@ -112,8 +112,8 @@ module _ (z : Layout) (o : Opening) (words : List ℕ) (before : List Part) (x :
       let known = old_known in
       let over = overtaken_at o log c.component (first_at x.kept) (λ same. eqb-false found old lost (now ∙ same ∙ sym known.stamp)) in
       let n : Noted = record { call = call.Update c.component c.value; answer = answer.Lost found; note = Some (note.Lost over.place) } in
-      let reply_is : overtaken c found ≡ reply.Lost found = ap (λ (f : Option ℕ). option_map_or (λ _. reply.Changed found) f (reply.Lost found)) is in
-      let leads : advance_at s (Exchanging c old at) found ≡ at_stage s (Finished (reply.Lost found)) = ap (λ (b : Bool). at_stage s (Finished (cond b (reply.Applied at) (overtaken c found)))) lost ∙
+      let reply_is : overtaken_reply c found ≡ reply.Lost found = ap (λ (f : Option ℕ). option_map_or (λ _. reply.Changed found) f (reply.Lost found)) is in
+      let leads : advance_at s (Exchanging c old at) found ≡ at_stage s (Finished (reply.Lost found)) = ap (λ (b : Bool). at_stage s (Finished (cond b (reply.Applied at) (overtaken_reply c found)))) lost ∙
       ap (λ (r : Reply). at_stage s (Finished r)) reply_is in
       let within = place_below log over.place over.entry over.stands in
       let low = g.low in
@@ -129,12 +129,13 @@ module _ (z : Layout) (o : Opening) (words : List ℕ) (before : List Part) (x :
         behind = let more = g.more (record { answer = found; at = length log }) in omega (arith, more, behind);
         within = omega (arith, within);
         placed = within;
+        stamps = tt;
       })
   lost_at (Some t) is lost =
       let g = going z o words before x after log w (Exchanging c old at) e refl refl in
       let n : Noted = record { call = call.UpdateIf c.component t c.value; answer = answer.Changed found; note = Some (note.Saw (length log)) } in
-      let reply_is : overtaken c found ≡ reply.Changed found = ap (λ (f : Option ℕ). option_map_or (λ _. reply.Changed found) f (reply.Lost found)) is in
-      let leads : advance_at s (Exchanging c old at) found ≡ at_stage s (Finished (reply.Changed found)) = ap (λ (b : Bool). at_stage s (Finished (cond b (reply.Applied at) (overtaken c found))))
+      let reply_is : overtaken_reply c found ≡ reply.Changed found = ap (λ (f : Option ℕ). option_map_or (λ _. reply.Changed found) f (reply.Lost found)) is in
+      let leads : advance_at s (Exchanging c old at) found ≡ at_stage s (Finished (reply.Changed found)) = ap (λ (b : Bool). at_stage s (Finished (cond b (reply.Applied at) (overtaken_reply c found))))
       lost ∙ ap (λ (r : Reply). at_stage s (Finished r)) reply_is in
       let other : found ≢ t = λ same. eqb-false found old lost (same ∙ expected_old t is) in
       let order = g.order in
@@ -150,6 +151,7 @@ module _ (z : Layout) (o : Opening) (words : List ℕ) (before : List Part) (x :
         behind = let more = g.more (record { answer = found; at = length log }) in omega (arith, more, order, last);
         within = omega arith;
         placed = omega arith;
+        stamps = tt;
       })
 
   -- the exchange is won: the history gains the entry
@@ -206,7 +208,7 @@ module _ (z : Layout) (o : Opening) (words : List ℕ) (before : List Part) (x :
       let is : found ≡ old = eqb-true found old same in
       let y = gone x won_log found (won_note ∷ []) in
       let t : CoreState = at_stage s (Finished (reply.Applied at)) in
-      let leads : advance_at s (Exchanging c old at) found ≡ t = ap (λ (b : Bool). at_stage s (Finished (cond b (reply.Applied at) (overtaken c found)))) same in
+      let leads : advance_at s (Exchanging c old at) found ≡ t = ap (λ (b : Bool). at_stage s (Finished (cond b (reply.Applied at) (overtaken_reply c found)))) same in
       let added : added_at s.port (Exchanging c old at) found ≡ entry ∷ [] = ap (λ b. cond {A = List Applied} b (entry ∷ []) []) same in
       let words' = words_after words step in
       let holds : holding_of y ≡ dropped = holding_gone z o words before x after log w (Exchanging c old at) t won_log found (won_note ∷ []) e leads in
@@ -233,7 +235,7 @@ module _ (z : Layout) (o : Opening) (words : List ℕ) (before : List Part) (x :
         answers = record { within = inside; gives = refl };
         possible = possible;
         new = won_note ∷ [];
-        noted = subst (λ (b : Bool). AreNotesOf (gone x (log ++ cond b (entry ∷ []) []) found (won_note ∷ [])) (Some (cond b (reply.Applied at) (overtaken c found)))
+        noted = subst (λ (b : Bool). AreNotesOf o (gone x (log ++ cond b (entry ∷ []) []) found (won_note ∷ [])) (Some (cond b (reply.Applied at) (overtaken_reply c found)))
             (won_note ∷ [])) (sym same) (record {
               call = update_call c.component c.expected c.value;
               note = note.Wrote (length log);
@@ -242,6 +244,7 @@ module _ (z : Layout) (o : Opening) (words : List ℕ) (before : List Part) (x :
               behind = let more = g.more (record { answer = found; at = length won_log }) in omega (arith, more, order, last);
               within = omega (arith, longer);
               placed = omega (arith, longer);
+              stamps = tt;
             });
         lawful = subst (λ (es : List Applied). Lawful z o words' (before ++ gone x (log ++ es) found (won_note ∷ []) ∷ after) (log ++ es)) (sym added) lawful;
         loads = λ n k l. subst (λ (es : List Applied). IsLoaded z o words' (holdings (before ++ gone x (log ++ es) found (won_note ∷ []) ∷ after)) (log ++ es) n k) (sym added)

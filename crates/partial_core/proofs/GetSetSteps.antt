@@ -178,8 +178,8 @@ module _ (z : Layout) (o : Opening) (words : List ℕ) (before : List Part) (x :
       (λ v k. getsets_know o words (holdings (before ++ x ∷ after)) log (first_at x.kept) (getting (core_of x)) v h.1 k) w.memory knows
 
   -- nothing is noted
-  silent : (a : ℕ) → AreNotesOf (gone x log a []) (reply_of (advance_at (core_of x) (GettingSet c old) a)) []
-  silent a = subst (λ (r : Option Reply). AreNotesOf (gone x log a []) r []) (sym (no_reply (with_getting (core_of x) (finding.advance_set (getting (core_of x)) a)) c old e)) refl
+  silent : (a : ℕ) → AreNotesOf o (gone x log a []) (reply_of (advance_at (core_of x) (GettingSet c old) a)) []
+  silent a = subst (λ (r : Option Reply). AreNotesOf o (gone x log a []) r []) (sym (no_reply (with_getting (core_of x) (finding.advance_set (getting (core_of x)) a)) c old e)) refl
 
   -- what the port holds behind an answer
   holds_then : (a : ℕ) (own : Option Own) (spent : Bool) → own_list (finding.advance_set (getting (core_of x)) a).1.next (finding.advance_set (getting (core_of x)) a).0.stage ≡ own →

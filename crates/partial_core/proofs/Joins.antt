@@ -98,7 +98,7 @@ module _ (z : Layout) (o : Opening) (words : List ℕ) (before : List Part) (x :
         (subst (λ (h : Holding). IsKept z o words (holdings before) h (holdings after) log (words_after words (Add (slot_counter z) 1)) (held (Storing n)) log) (sym (ap held at)) keeps) in
         quiet z o words before x after log w Joining (Add (slot_counter z) 1) t (held (Storing n)) e due (leads true room) refl inside possible
         (since_same t ∙ ap (λ (u : Stage). holding_in t u (joined_since x)) e) keeps_x (λ ks is. tt) refl
-        (subst (λ (u : Stage). AreNotesOf (gone x log n []) (reply_at u) []) (sym e) refl)
+        (subst (λ (u : Stage). AreNotesOf o (gone x log n []) (reply_at u) []) (sym e) refl)
 
     -- all slots were claimed before
     spent : nat_lt (get_or words (slot_counter z) 0) s.join.sizes.slots ≡ false → LeadsAt z o words before x after log s Joining (Add (slot_counter z) 1)

@@ -23,6 +23,7 @@ use Rattle.partial_state.specs.Effects.{IsKept}
 use Rattle.partial_state.proofs.SlotLaws.{leaves_are_kept}
 use Rattle.partial_words.specs.Step.{words_after}
 use Rattle.partial_knowledge.specs.Scans as scans
+use Rattle.partial_knowledge.specs.Scans.{AreStamps}
 use Rattle.partial_knowledge.proofs.Scans.{got}
 use Rattle.partial_machine.specs.Sound.{is_sound_at}
 use Rattle.partial_core.specs.Part.{Part, core_of}
@@ -95,6 +96,7 @@ module _ (z : Layout) (o : Opening) (words : List ℕ) (before : List Part) (x :
     prefix : ℕ
     from : joined_since x ≤ prefix
     together : SawTogether o log s.asked (scanned_values s) s.embedded.collects s.embedded.borrowed prefix
+    stamps : s.embedded.borrowed ≡ None → AreStamps o (take prefix log) s.asked s.rows.last
 
   -- the indices that the third record's view names, of this port's own announcement
   names_own : (stamp : ℕ) → scans.IsThird words log s.asked (joined_since x) (scanning s) stamp → ViewNames z words (unpublished hs) stamp s.asked
@@ -124,6 +126,7 @@ module _ (z : Layout) (o : Opening) (words : List ℕ) (before : List Part) (x :
           collects = are_collects (length s.asked) s.embedded.collects s.embedded.borrowed some own.0 few (λ is. absurd (no_some s.embedded.borrowed none is));
           borrowed = subst (λ (f : Option ℕ). IfSome f (λ t. (k j : ℕ) × (own.1 ≤ k) × Contains s.asked j × IsEntryFor log k j t)) (sym none) tt;
         };
+        stamps = λ _. own.3;
       }
     where
       no_some : (f : Option ℕ) → f ≡ None → IsSome f → ⊥
@@ -162,6 +165,7 @@ module _ (z : Layout) (o : Opening) (words : List ℕ) (before : List Part) (x :
             (third.entry, third.stands, third.component, third.is),
           );
         };
+        stamps = λ none. let bad : None ≡ Some stamp = sym none ∙ is in absurd cc;
       }
     where
       in_list : (js : List ℕ) (i : ℕ) → i < length js → slice_index_or js i (slice_index js i) ≡ slice_index js i
@@ -229,6 +233,7 @@ module _ (z : Layout) (o : Opening) (words : List ℕ) (before : List Part) (x :
         behind = let more = g.more (record { answer = 0; at = length log }) in omega (arith, more, first, from);
         within = inside;
         placed = inside;
+        stamps = λ none. subst (λ (c : CoreState). AreStamps o (take seen.prefix log) c.asked c.rows.last) (sym (core_is n)) (seen.stamps none);
       })
     where
       core_is : (n : Noted) → core_of (gone x log 0 (n ∷ [])) ≡ record s { leave = record s.leave { left = true }; stage = Finished (scanned_reply s) }

@@ -90,7 +90,7 @@ view_finished z o words hs log indices low high last y (Index at left) p inside 
 view_finished z o words hs log indices low high last y (PairValue at left index) p inside e knows = absurd cc
 view_finished z o words hs log indices low high last y (Value k) p inside e knows = absurd cc
 view_finished z o words hs log indices low high last y Done p inside e knows =
-    (λ none. let h = knows.0 none in (h.0, h.1, record { from = h.2.from; to = let to = h.2.to in omega (arith, to, inside); values = h.2.values }), knows.1, knows.2)
+    (λ none. let h = knows.0 none in (h.0, h.1, record { from = h.2.from; to = let to = h.2.to in omega (arith, to, inside); values = h.2.values }, h.3), knows.1, knows.2)
 
 -- each step of an embedded scan is a load
 pub view_loads : (y : Layout) (indices last : List ℕ) (stage : ViewStage) → IsSome (viewing.view_step_at y indices last stage) → (n : ℕ) × (viewing.view_step_at y indices last stage ≡ Some (Load n))
@@ -119,14 +119,14 @@ scan_begins z y shares o words hs log indices low high rows order = record {
 
 -- whether a borrowed view is shared stays what it was
 pub view_shares : (indices : List ℕ) (p : viewing.ViewPair) (stage : ViewStage) (x : ℕ) → (viewing.advance_view_at indices p stage x).0.shares ≡ p.0.shares
-view_shares indices p (Collect k) x = cond_both (viewing.differs p k x && viewing.was_changed p k) (viewing.borrow p x) (viewing.go_on (length indices) (viewing.noted p k x) k)
+view_shares indices p (Collect k) x = cond_both (viewing.differs p k x && viewing.was_changed p k) (viewing.borrow p x) (viewing.go_on (length indices) (viewing.noted_load p k x) k)
     (λ (q : viewing.ViewPair). q.0.shares ≡ p.0.shares) (λ e. refl)
-    (λ e. cond_both (nat_lt (k + 1) (length indices)) (viewing.view_at_stage (viewing.noted p k x) (Collect (k + 1))) (viewing.after_collect (viewing.noted p k x))
+    (λ e. cond_both (nat_lt (k + 1) (length indices)) (viewing.view_at_stage (viewing.noted_load p k x) (Collect (k + 1))) (viewing.after_collect (viewing.noted_load p k x))
     (λ (q : viewing.ViewPair). q.0.shares ≡ p.0.shares) (λ f. refl)
     (λ f. cond_both (viewing.is_first p || (p.0.moved || viewing.differs p k x)) (
-      record (viewing.noted p k x).0 { collects = p.0.collects + 1; moved = false; stage = Collect 0 },
-      (viewing.noted p k x).1,
-    ) (viewing.view_at_stage (viewing.noted p k x) (Value 0)) (λ (q : viewing.ViewPair). q.0.shares ≡ p.0.shares) (λ g. refl) (λ g. refl)))
+      record (viewing.noted_load p k x).0 { collects = p.0.collects + 1; moved = false; stage = Collect 0 },
+      (viewing.noted_load p k x).1,
+    ) (viewing.view_at_stage (viewing.noted_load p k x) (Value 0)) (λ (q : viewing.ViewPair). q.0.shares ≡ p.0.shares) (λ g. refl) (λ g. refl)))
 view_shares indices p (View stamp) x = refl
 view_shares indices p (Len at) x = refl
 view_shares indices p (Index at left) x = refl

@@ -14,9 +14,9 @@ use Rattle.partial_words.specs.VacatedList.{list_block}
 use Rattle.partial_words.proofs.RecordLemmas.{length-pairs}
 use Rattle.partial_words.specs.Record.{value_word}
 use Rattle.partial_active.specs.Orderly.{Orderly, IsSlotMove, IsSlotOf, IsHeadOf, slot_at}
-use Rattle.partial_state.specs.Views.{Joined, IsHead}
+use Rattle.partial_state.specs.Views.{JoinedAnnouncement, IsHead}
 use Rattle.partial_state.specs.Holdings.Space.{Pool, Lists}
-use Rattle.partial_state.specs.Holdings.{Holding, Claimed, Own, Space, space_begin, unpublished}
+use Rattle.partial_state.specs.Holdings.{Holding, ClaimedSlot, Own, Space, space_begin, unpublished}
 use Rattle.partial_state.specs.LawfulWords.{LawfulWords, IsOwn, IsTied, IsClaim}
 use Rattle.partial_state.specs.Loads.{IsSlotAnswer}
 use Rattle.partial_state.proofs.LoadLaw.{loads_are_true}
@@ -249,10 +249,10 @@ module _ (z : Layout) (o : Opening) (words : List ℕ) (before : List Part) (x :
       let memory = memory_at z o words before x after log w Leaving e in
       let held = holding_in s Leaving (joined_since x) in
       let hs = holdings before ++ held ∷ holdings after in
-      let announced : Joined = record { at = s.join.announcement; indices = s.asked; since = joined_since x } in
+      let announced : JoinedAnnouncement = record { at = s.join.announcement; indices = s.asked; since = joined_since x } in
       let claim : IfSome held.claimed (IsClaim z words hs log)
       = all_at (λ (g : Holding). IfSome g.claimed (IsClaim z words hs log)) (holdings before) held (holdings after) memory.claims in
-      let taken : Claimed = record { slot = s.leave.slot; joined = Some announced } in
+      let taken : ClaimedSlot = record { slot = s.leave.slot; joined = Some announced } in
       let mine : IsClaim z words hs log taken = if_some_at (IsClaim z words hs log) held.claimed taken refl claim in
       let stands = mine.holds in
       let same = stands.0 in

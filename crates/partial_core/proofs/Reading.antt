@@ -108,6 +108,7 @@ module _ (z : Layout) (o : Opening) (words : List ℕ) (before : List Part) (x :
         behind = let more = g.more (record { answer = a; at = length log }) in omega (arith, more);
         within = omega (arith, order, inside);
         placed = omega (arith, order, inside);
+        stamps = tt;
       })
 
   -- a call that has made no step keeps no answer, and its machine is the one that has begun it
@@ -143,6 +144,7 @@ module _ (z : Layout) (o : Opening) (words : List ℕ) (before : List Part) (x :
             in omega (arith, first);
         within = omega arith;
         placed = omega arith;
+        stamps = tt;
       })
 
   -- an update goes on where the component has the stamp that it expects
@@ -188,8 +190,8 @@ module _ (z : Layout) (o : Opening) (words : List ℕ) (before : List Part) (x :
       (either next t (at_stage t (ClaimingRecord c old)) (λ u. holding_at u (joined_since x) ≡ holding_in s (Viewing c old) (joined_since x))
       (ap (λ (u : Stage). holding_in t u (joined_since x)) e) refl)
       refl
-      (either next t (at_stage t (ClaimingRecord c old)) (λ u. AreNotesOf (gone x log (get_or words n 0) []) (reply_of u) [])
-      (subst (λ (u : Stage). AreNotesOf (gone x log (get_or words n 0) []) (reply_at u) []) (sym e) refl) refl))
+      (either next t (at_stage t (ClaimingRecord c old)) (λ u. AreNotesOf o (gone x log (get_or words n 0) []) (reply_of u) [])
+      (subst (λ (u : Stage). AreNotesOf o (gone x log (get_or words n 0) []) (reply_at u) []) (sym e) refl) refl))
 
   -- an embedded scan of a scan's positions
   pub scanning_leads : (step : Step) → (core_of x).stage ≡ Scanning → step_at (core_of x) Scanning ≡ Some step → LeadsAt z o words before x after log (core_of x) Scanning step
@@ -205,5 +207,5 @@ module _ (z : Layout) (o : Opening) (words : List ℕ) (before : List Part) (x :
       (load_quiet z o words before x after log w Scanning n (after_scanning t s.asked Leaving) e (due ∙ ap (λ (f : Step). Some f) now.1) refl refl now.2 now.3
       (either next t (at_stage t Leaving) (λ u. holding_at u (joined_since x) ≡ holding_in s Scanning (joined_since x)) (ap (λ (u : Stage). holding_in t u (joined_since x)) e) refl)
       refl
-      (either next t (at_stage t Leaving) (λ u. AreNotesOf (gone x log (get_or words n 0) []) (reply_of u) [])
-      (subst (λ (u : Stage). AreNotesOf (gone x log (get_or words n 0) []) (reply_at u) []) (sym e) refl) refl))
+      (either next t (at_stage t Leaving) (λ u. AreNotesOf o (gone x log (get_or words n 0) []) (reply_of u) [])
+      (subst (λ (u : Stage). AreNotesOf o (gone x log (get_or words n 0) []) (reply_at u) []) (sym e) refl) refl))

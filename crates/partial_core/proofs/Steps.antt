@@ -39,7 +39,7 @@ pub record LeadsAt (z : Layout) (o : Opening) (words : List ℕ) (before : List 
   pub answers : Answers words step (answer_of words step)
   pub possible : IsPossibleAt d s (answer_of words step)
   pub new : List Noted
-  pub noted : AreNotesOf (gone x (log ++ added_at d.port s (answer_of words step)) (answer_of words step) new) (reply_of (advance_at d s (answer_of words step))) new
+  pub noted : AreNotesOf o (gone x (log ++ added_at d.port s (answer_of words step)) (answer_of words step) new) (reply_of (advance_at d s (answer_of words step))) new
   pub lawful : Lawful z o (words_after words step) (before ++ gone x (log ++ added_at d.port s (answer_of words step)) (answer_of words step) new ∷ after)
       (log ++ added_at d.port s (answer_of words step))
   pub loads : (n : ℕ) (k : KeptAnswer) → IsLoaded z o words (holdings (before ++ x ∷ after)) log n k → IsLoaded z o (words_after words step)
@@ -163,7 +163,7 @@ module _ (z : Layout) (o : Opening) (words : List ℕ) (before : List Part) (x :
         subst (λ (hs : List Holding). IsLoaded z o (words_after words step) hs log n k) (sym split)
         (keeps.loads n k (subst (λ (hs : List Holding). IsLoaded z o words hs log n k) (holdings_split before x after) l))
 
-    made : (new : List Noted) → Lawful z o (words_after words step) (before ++ gone x log (answer_of words step) new ∷ after) log → AreNotesOf (gone x log (answer_of words step) new)
+    made : (new : List Noted) → Lawful z o (words_after words step) (before ++ gone x log (answer_of words step) new ∷ after) log → AreNotesOf o (gone x log (answer_of words step) new)
         (reply_of t) new → LeadsAt z o words before x after log (core_of x) s step
     made new lawful noted =
         let nothing : log ++ added_at (core_of x).port s (answer_of words step) ≡ log = ap (λ (es : List Applied). log ++ es) added ∙ append-nil log in
@@ -171,21 +171,21 @@ module _ (z : Layout) (o : Opening) (words : List ℕ) (before : List Part) (x :
           answers = record { within = within; gives = refl };
           possible = possible;
           new = new;
-          noted = subst (λ (m : List Applied). AreNotesOf (gone x m (answer_of words step) new) (reply_of (advance_at (core_of x) s (answer_of words step))) new) (sym nothing)
-              (subst (λ (c : CoreState). AreNotesOf (gone x log (answer_of words step) new) (reply_of c) new) (sym leads) noted);
+          noted = subst (λ (m : List Applied). AreNotesOf o (gone x m (answer_of words step) new) (reply_of (advance_at (core_of x) s (answer_of words step))) new) (sym nothing)
+              (subst (λ (c : CoreState). AreNotesOf o (gone x log (answer_of words step) new) (reply_of c) new) (sym leads) noted);
           lawful = subst (λ (m : List Applied). Lawful z o (words_after words step) (before ++ gone x m (answer_of words step) new ∷ after) m) (sym nothing) lawful;
           loads = λ n k l. subst (λ (m : List Applied). IsLoaded z o (words_after words step) (holdings (before ++ gone x m (answer_of words step) new ∷ after)) m n k) (sym nothing)
               (loads_then new n k l);
         }
 
     -- nothing is noted: the call goes on, or it is refused
-    pub quiet : is_at_rest s ≡ false → AreNotesOf (gone x log (answer_of words step) []) (reply_of t) [] → LeadsAt z o words before x after log (core_of x) s step
+    pub quiet : is_at_rest s ≡ false → AreNotesOf o (gone x log (answer_of words step) []) (reply_of t) [] → LeadsAt z o words before x after log (core_of x) s step
     quiet going noted = made [] (lawful_then [] refl (λ hs here true_now. known_on z o (words_after words step) hs log x (answer_of words step) here
         (ap is_at_rest e ∙ going) possible_here true_now)) noted
 
     -- the call ends with a note that claims no entry
     pub ends : (n : Noted) → places_written (n ∷ []) ≡ [] → IsLegal o log (port_of x) (seen_by 0 x.notes) n → seen_after (seen_by 0 x.notes) n.note ≤ length log → is_at_rest t.stage ≡ true →
-        AreNotesOf (gone x log (answer_of words step) (n ∷ [])) (reply_of t) (n ∷ []) → LeadsAt z o words before x after log (core_of x) s step
+        AreNotesOf o (gone x log (answer_of words step) (n ∷ [])) (reply_of t) (n ∷ []) → LeadsAt z o words before x after log (core_of x) s step
     ends n written legal shown rest noted =
         let pushed = seen_by-push 0 x.notes n in
         made (n ∷ []) (lawful_then (n ∷ []) written (λ hs here true_now. known_end z o (words_after words step) hs log x (answer_of words step) n here (ap is_at_rest e ∙ busy (core_of x) s step due)
@@ -209,11 +209,11 @@ module _ (z : Layout) (o : Opening) (words : List ℕ) (before : List Part) (x :
     load_within : n < length words
     load_within = let count = w.memory.count in let below = readable.0 in omega (arith, count, below)
 
-    pub load_quiet : is_at_rest s ≡ false → AreNotesOf (gone x log (get_or words n 0) []) (reply_of t) [] → LeadsAt z o words before x after log (core_of x) s (Load n)
+    pub load_quiet : is_at_rest s ≡ false → AreNotesOf o (gone x log (get_or words n 0) []) (reply_of t) [] → LeadsAt z o words before x after log (core_of x) s (Load n)
     load_quiet going noted = quiet s (Load n) t (holding_in (core_of x) s (joined_since x)) e due leads added load_within possible holds load_keeps load_yet going noted
 
     pub load_ends : (note : Noted) → places_written (note ∷ []) ≡ [] → IsLegal o log (port_of x) (seen_by 0 x.notes) note → seen_after (seen_by 0 x.notes) note.note ≤ length log →
-        is_at_rest t.stage ≡ true → AreNotesOf (gone x log (get_or words n 0) (note ∷ [])) (reply_of t) (note ∷ []) → LeadsAt z o words before x after log (core_of x) s (Load n)
+        is_at_rest t.stage ≡ true → AreNotesOf o (gone x log (get_or words n 0) (note ∷ [])) (reply_of t) (note ∷ []) → LeadsAt z o words before x after log (core_of x) s (Load n)
     load_ends note written legal shown rest noted = ends s (Load n) t (holding_in (core_of x) s (joined_since x)) e due leads added load_within possible holds load_keeps load_yet note
         written legal shown rest noted
 

@@ -14,8 +14,8 @@ use Rattle.partial_machine.specs.declared.stage.Stage.{Stage}
 use Rattle.partial_machine.specs.declared.stage.Stage.TheVariants.{StoringRecord, Exchanging}
 use Rattle.partial_machine.specs.Machine.{CoreState, at_stage, record_words, record_size, scanning}
 use Rattle.partial_machine.specs.Sound.{AreComponentIndices, is_sound_at}
-use Rattle.partial_state.specs.Views.{Joined, IsBegunSince}
-use Rattle.partial_state.specs.Holdings.{Claimed, Holding, Own, Due, IfJoined, unpublished}
+use Rattle.partial_state.specs.Views.{JoinedAnnouncement, IsBegunSince}
+use Rattle.partial_state.specs.Holdings.{ClaimedSlot, Holding, Own, Due, IfJoined, unpublished}
 use Rattle.partial_state.specs.Holdings.Space.{Pool}
 use Rattle.partial_state.specs.LawfulWords.{IsEntry}
 use Rattle.partial_state.specs.Loads.{IsPublished}
@@ -43,9 +43,9 @@ use Rattle.partial_model.proofs.AllLemmas.{all_where}
 finds_all : (hs : List Holding) (low : ℕ) (indices : List ℕ) → sets.FindsJoined hs low indices → AllByRecursion (λ v. IfJoined v (λ l j. j.since < low → sets.HasAll indices j)) hs
 finds_all hs low indices finds =
     all_where (λ (v : Holding). IfJoined v (λ l j. j.since < low → sets.HasAll indices j)) hs (λ i v is.
-    if_all (λ (c : Claimed). IfSome c.joined (λ j. j.since < low → sets.HasAll indices j)) v.claimed (λ c claimed.
-    if_all (λ (j : Joined). j.since < low → sets.HasAll indices j) c.joined (λ j joined.
-    finds c.slot j (i, v, is, claimed ∙ ap (λ (f : Option Joined). Some (record { slot = c.slot; joined = f })) joined))))
+    if_all (λ (c : ClaimedSlot). IfSome c.joined (λ j. j.since < low → sets.HasAll indices j)) v.claimed (λ c claimed.
+    if_all (λ (j : JoinedAnnouncement). j.since < low → sets.HasAll indices j) c.joined (λ j joined.
+    finds c.slot j (i, v, is, claimed ∙ ap (λ (f : Option JoinedAnnouncement). Some (record { slot = c.slot; joined = f })) joined))))
 
 -- what an update has viewed, in words in which the entries' records are the same
 viewed_then : (z : Layout) (o : Opening) (words words' : List ℕ) (hs : List Holding) (log : List Applied) (first : ℕ) (s : CoreState) → first ≤ length log →

@@ -16,7 +16,7 @@ use Rattle.partial_active.specs.IndexSet.{has_index}
 use Rattle.partial_machine.specs.declared.stage.Change.{Change}
 use Rattle.partial_machine.specs.Machine.{CoreState, record_words, record_size, own_pairs, view_at, scanning}
 use Rattle.partial_machine.specs.Sound.{AreComponentIndices}
-use Rattle.partial_state.specs.Views.{IsViewOf, Block, Joined, HasPairs, IsView, HasFreshView, IsWithin, IsBegunSince, Covers, ViewNames, AreApart, IsApartFrom}
+use Rattle.partial_state.specs.Views.{IsViewOf, Block, JoinedAnnouncement, HasPairs, IsView, HasFreshView, IsWithin, IsBegunSince, Covers, ViewNames, AreApart, IsApartFrom}
 use Rattle.partial_state.specs.Holdings.{Own, Holding, EachTwo, IfJoined, HaveOtherPorts, block_of, block_at, joined_in, other_holdings, unpublished}
 use Rattle.partial_state.specs.Holdings.Space.{Pool}
 use Rattle.partial_state.specs.LawfulWords.{LawfulWords, IsTied, IsOwn, IsDue, CoversAll}
@@ -237,7 +237,7 @@ module _ (z : Layout) (o : Opening) (words : List ℕ) (before : List Holding) (
     shown : HasPairs z words us at pairs
     shown = shown_by (length s.found.indices == 0) refl
 
-    names_found : (j : Joined) → HasAll s.found.indices j → ViewNames z words us at j.indices
+    names_found : (j : JoinedAnnouncement) → HasAll s.found.indices j → ViewNames z words us at j.indices
     names_found j all = (
       pairs,
       shown,

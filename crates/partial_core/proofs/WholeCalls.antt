@@ -117,7 +117,7 @@ module _ (z : Layout) (o : Opening) (log entries : List Applied) (y : Part) (c :
       let count : length v.kept ≡ length y.kept + 1 = ap length kept ∙ length_push y.kept k in
       let at : first_at v.kept ≡ first_at y.kept = ap first_at kept ∙ first_push y.kept k m.some in
       let answers : answers_of v.kept ≡ answers_of y.kept ++ a ∷ [] = ap answers_of kept ∙ map_push (λ (j : KeptAnswer). j.answer) y.kept k in
-      let nothing : m.new ≡ [] = subst (λ (f : Option Reply). AreNotesOf y f m.new) (idle_none c c.stage a t.possible) m.noted in
+      let nothing : m.new ≡ [] = subst (λ (f : Option Reply). AreNotesOf o y f m.new) (idle_none c c.stage a t.possible) m.noted in
       let before : y.notes ≡ x.notes = m.notes ∙ ap (λ (l : List Noted). x.notes ++ l) nothing ∙ append-nil x.notes in
       let first = m.first in
       record {

@@ -51,7 +51,7 @@ pub record Made (z : Layout) (o : Opening) (b : CoreState) (x : Part) (c : CoreS
   -- what is noted: nothing while the call goes on
   pub new : List Noted
   pub notes : y.notes ≡ x.notes ++ new
-  pub noted : AreNotesOf y (reply_of c) new
+  pub noted : AreNotesOf o y (reply_of c) new
   pub fits : FitsHistory o y.seen y
   -- the machine rests exactly with a reply, and else a step is due
   pub rests : is_at_rest c.stage ≡ is_some (reply_of c)

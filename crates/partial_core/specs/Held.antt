@@ -10,7 +10,7 @@ use Rattle.partial_intervals.specs.Intervals.{Ranges}
 use Rattle.partial_machine.specs.declared.stage.Stage.{Stage}
 use Rattle.partial_machine.specs.declared.stage.Stage.TheVariants.{GettingSet, StoringRecord, Exchanging, StoringAnnouncement, Joining, Scanning, Leaving}
 use Rattle.partial_machine.specs.Machine.{CoreState, advance, lists_spent, record_words}
-use Rattle.partial_state.specs.Holdings.{Claimed, Own, Due, Holding}
+use Rattle.partial_state.specs.Holdings.{ClaimedSlot, Own, Due, Holding}
 use Rattle.partial_state.specs.Holdings.Space.{Pool, Lists}
 use Rattle.partial_state.specs.Loads.{KeptAnswer}
 use Rattle.partial_core.specs.Part.{Part, core_of}
@@ -35,19 +35,19 @@ abbrev pub joined_since : Part → ℕ
 joined_since x = joined_from 0 x.begun x.kept
 
 -- the slot that a join has claimed
-abbrev pub slot_claimed : JoinStage → Option Claimed
+abbrev pub slot_claimed : JoinStage → Option ClaimedSlot
 slot_claimed (Storing slot) = Some (record { slot = slot; joined = None })
 slot_claimed _ = None
 
 -- the slot that a scan has claimed, and its announcement once it has joined
-abbrev pub scan_claimed : CoreState → ℕ → Option Claimed
+abbrev pub scan_claimed : CoreState → ℕ → Option ClaimedSlot
 scan_claimed s since = Some (record {
   slot = s.leave.slot;
   joined = Some (record { at = s.join.announcement; indices = s.asked; since = since });
 })
 
 -- the slot that a machine at this stage has claimed, with what stands there
-abbrev pub claimed_at : CoreState → Stage → ℕ → Option Claimed
+abbrev pub claimed_at : CoreState → Stage → ℕ → Option ClaimedSlot
 claimed_at s Joining since = slot_claimed s.join.stage
 claimed_at s Scanning since = scan_claimed s since
 claimed_at s Leaving since = scan_claimed s since

@@ -22,6 +22,7 @@ use Rattle.partial_machine.specs.Possible.{IsPossible}
 use Rattle.partial_machine.specs.Behind.{IsBehind}
 use Rattle.partial_state.specs.Holdings.{unpublished}
 use Rattle.partial_state.specs.Loads.{KeptAnswer, IsPublished}
+use Rattle.partial_knowledge.specs.Scans.{AreStamps}
 use Rattle.partial_core.specs.Part.{Part, port_of, core_of, first_at, IsLedTo, IsMachineOf}
 use Rattle.partial_core.specs.Held.{holdings}
 use Rattle.partial_core.specs.Lawful.{Lawful}
@@ -56,8 +57,8 @@ abbrev pub past_with : CoreState → Part → ℕ
 past_with c x = if is_begun c.stage then length x.notes else x.past
 
 -- The part once the machine's step has this answer: its port has seen the whole history, `log`, and has noted more.
-abbrev pub moved : CoreState → ℕ → List Applied → List Noted → Part → Part
-moved c a log new x = record {
+abbrev pub moved_part : CoreState → ℕ → List Applied → List Noted → Part → Part
+moved_part c a log new x = record {
   seen = log;
   notes = x.notes ++ new;
   begun = begun_with c x;
@@ -76,8 +77,14 @@ IsPlacedAt (reply.Read v stamp) (note.Saw k) n = k ≤ n
 IsPlacedAt (reply.Changed by) (note.Saw k) n = k ≤ n
 IsPlacedAt _ _ n = ⊥
 
+-- a scan that took no view has collected the stamps that its positions had together at its place
+abbrev pub CollectsStamps : Opening → Part → Reply → Note → Type 0
+CollectsStamps o y (reply.Scanned collects borrowed) (note.Saw k) =
+    borrowed ≡ None → AreStamps o (take k y.seen) (core_of y).asked (core_of y).rows.last
+CollectsStamps o y _ _ = ⊤
+
 -- what a port notes of a finished call: the call, the answer, and a place in the history within the call
-pub record IsNoteOf (y : Part) (r : Reply) (new : List Noted) : Type 0 where
+pub record IsNoteOf (o : Opening) (y : Part) (r : Reply) (new : List Noted) : Type 0 where
   pub call : Call
   pub note : Note
   pub is : new ≡ record { call = call; answer = answer_for (core_of y) r; note = Some note } ∷ []
@@ -85,6 +92,7 @@ pub record IsNoteOf (y : Part) (r : Reply) (new : List Noted) : Type 0 where
   pub behind : first_at y.kept ≤ place_of note
   pub within : shown_by note ≤ length y.seen
   pub placed : IsPlacedAt r note (length y.seen)
+  pub stamps : CollectsStamps o y r note
 
 -- a refused call isn't noted; it is one that may be refused for that cause
 pub record IsRefusal (y : Part) (cause : Refused) (new : List Noted) : Type 0 where
@@ -94,10 +102,10 @@ pub record IsRefusal (y : Part) (cause : Refused) (new : List Noted) : Type 0 wh
   pub may : MayBeRefused y.begun.sizes.m call cause
 
 -- nothing is noted while the call goes on, nor when it is refused
-abbrev pub AreNotesOf : Part → Option Reply → List Noted → Type 0
-AreNotesOf y None new = new ≡ []
-AreNotesOf y (Some (reply.Refused cause)) new = IsRefusal y cause new
-AreNotesOf y (Some r) new = IsNoteOf y r new
+abbrev pub AreNotesOf : Opening → Part → Option Reply → List Noted → Type 0
+AreNotesOf o y None new = new ≡ []
+AreNotesOf o y (Some (reply.Refused cause)) new = IsRefusal y cause new
+AreNotesOf o y (Some r) new = IsNoteOf o y r new
 
 -- a port's notes are legal in that history, and its entries there are those of its notes, each once and in their order
 pub record FitsHistory (o : Opening) (log : List Applied) (x : Part) : Type 0 where
@@ -110,7 +118,7 @@ pub record FitsHistory (o : Opening) (log : List Applied) (x : Part) : Type 0 wh
 -- entries: it leads from the part x to the part y.
 pub record Tells (z : Layout) (o : Opening) (log entries : List Applied) (x : Part) (c : CoreState) (a : ℕ) (y : Part) : Type 0 where
   pub new : List Noted
-  pub part : y ≡ moved c a (log ++ entries) new x
+  pub part : y ≡ moved_part c a (log ++ entries) new x
   -- the history begins with all that the port had seen
   pub seen : x.seen ≡ take (length x.seen) log
   -- the answer was possible, and the machine behind it is the part's
@@ -122,7 +130,7 @@ pub record Tells (z : Layout) (o : Opening) (log entries : List Applied) (x : Pa
   pub number : c.port ≡ port_of x
   pub port : port_of y ≡ port_of x
   -- what is noted, and what the port knows then
-  pub noted : AreNotesOf y (reply_of (advance c a)) new
+  pub noted : AreNotesOf o y (reply_of (advance c a)) new
   pub fits : FitsHistory o y.seen y
 
 -- what the due step of a machine leads to, answered by the plain meaning of the step

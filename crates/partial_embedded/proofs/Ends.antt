@@ -6,8 +6,8 @@ use Rattle.std.proofs.lemmas.List.{length_push}
 use Rattle.partial_words.specs.Record.{pairs_word, next_word}
 use Rattle.partial_embedded.specs.declared.embedded.Stage.{Stage}
 use Rattle.partial_embedded.specs.declared.embedded.Stage.TheVariants.{Collect, View, Len, Index, PairValue, Value, Done}
-use Rattle.partial_embedded.specs.Embedded.{ViewPair, ViewGoesTogether, view_goes_at, fresh_view, advance_view, advance_view_at, is_first, differs, was_changed, noted, borrow, after_view, view_at_stage, with_value, pairs_from, IsPossibleInViewAt}
-use Rattle.partial_embedded.specs.Runs.{ViewRun, LastTwoAreEqual, ShowsThirdRecord, written, LoadsValues, LoadsView, EndsWell, FinishedScansEndWell}
+use Rattle.partial_embedded.specs.Embedded.{ViewPair, ViewGoesTogether, view_goes_at, fresh_view, advance_view, advance_view_at, is_first, differs, was_changed, noted_load, borrow, after_view, view_at_stage, with_value, pairs_from, IsPossibleInViewAt}
+use Rattle.partial_embedded.specs.Runs.{ViewRun, LastTwoAreEqual, ShowsThirdRecord, written_values, LoadsValues, LoadsView, EndsWell, FinishedScansEndWell}
 use Rattle.partial_embedded.proofs.Keeps.{kept, fresh_together}
 use Rattle.partial_embedded.proofs.Traces.{trace_at, step_traced, fresh_traced}
 
@@ -25,7 +25,7 @@ ending_at indices p xs Done = EndsWell indices xs p
 ending_at indices p xs _ = Views (length indices) xs p
 
 -- one value more
-written_push : (js loads values : List ℕ) (k x : ℕ) → k < length js → length loads ≡ k → written (take (suc k) js) (loads ++ x ∷ []) values ≡ set (written (take k js) loads values) (get_or js k 0) x
+written_push : (js loads values : List ℕ) (k x : ℕ) → k < length js → length loads ≡ k → written_values (take (suc k) js) (loads ++ x ∷ []) values ≡ set (written_values (take k js) loads values) (get_or js k 0) x
 written_push [] loads values k x below long = absurd (omega (arith, below))
 written_push (j ∷ js) [] values zero x below long = refl
 written_push (j ∷ js) [] values (suc k) x below long = absurd (omega (arith, long))
@@ -81,8 +81,8 @@ module _ (indices : List ℕ) (p : ViewPair) (x : ℕ) (xs : List ℕ) where
 
   -- behind a load of a collect
   collect_ends : (k : ℕ) → p.0.borrowed ≡ None → (b c d : Bool) → let q =
-      cond b (borrow p x) (cond c (view_at_stage (noted p k x) (Collect (k + 1))) (cond d (record (noted p k x).0 { collects = p.0.collects + 1; moved = false; stage = Collect 0 }, (noted p k x).1)
-      (view_at_stage (noted p k x) (Value 0)))) in trace_at (length indices) q (xs ++ x ∷ []) q.0.stage → ending_at indices q (xs ++ x ∷ []) q.0.stage
+      cond b (borrow p x) (cond c (view_at_stage (noted_load p k x) (Collect (k + 1))) (cond d (record (noted_load p k x).0 { collects = p.0.collects + 1; moved = false; stage = Collect 0 }, (noted_load p k x).1)
+      (view_at_stage (noted_load p k x) (Value 0)))) in trace_at (length indices) q (xs ++ x ∷ []) q.0.stage → ending_at indices q (xs ++ x ∷ []) q.0.stage
   collect_ends k none true c d t = (refl, t)
   collect_ends k none false true d t = none
   collect_ends k none false false true t = none
@@ -108,8 +108,8 @@ module _ (indices : List ℕ) (p : ViewPair) (x : ℕ) (xs : List ℕ) where
       next q collects values =
           let one : suc k ≡ k + 1 = omega arith in
           let count = l.count in
-          let pushed : written (take (k + 1) indices) (l.loads ++ x ∷ []) l.before ≡ set (written (take k indices) l.loads l.before) (get_or indices k 0) x =
-          ap (λ n. written (take n indices) (l.loads ++ x ∷ []) l.before) (sym one) ∙ written_push indices l.loads l.before k x below count in
+          let pushed : written_values (take (k + 1) indices) (l.loads ++ x ∷ []) l.before ≡ set (written_values (take k indices) l.loads l.before) (get_or indices k 0) x =
+          ap (λ n. written_values (take n indices) (l.loads ++ x ∷ []) l.before) (sym one) ∙ written_push indices l.loads l.before k x below count in
           record {
             front = l.front;
             loads = l.loads ++ x ∷ [];
@@ -134,7 +134,7 @@ module _ (indices : List ℕ) (p : ViewPair) (x : ℕ) (xs : List ℕ) where
   step_ends : (s : Stage) → view_goes_at indices p s → IsPossibleInViewAt p.0.sizes s x → ending_at indices p xs s → let q = advance_view_at indices p s x in
       trace_at (length indices) q (xs ++ x ∷ []) q.0.stage →
       ending_at indices q (xs ++ x ∷ []) q.0.stage
-  step_ends (Collect k) goes possible none t = collect_ends k none (differs p k x && was_changed p k) (nat_lt (k + 1) (length indices)) (is_first p || (noted p k x).0.moved) t
+  step_ends (Collect k) goes possible none t = collect_ends k none (differs p k x && was_changed p k) (nat_lt (k + 1) (length indices)) (is_first p || (noted_load p k x).0.moved) t
   step_ends (View stamp) goes possible w t =
       let q : ViewPair = (after_view p.0 x, p.1) in
       view_or q ((x == 0) || p.0.shares) (Len x) (first_view q stamp w.0 w.1 refl refl refl) (λ v. v)

@@ -9,7 +9,7 @@ use Rattle.partial_words.specs.Layout.{Layout, pool_base, pool_end}
 use Rattle.partial_words.specs.Record.{pairs_word, next_word, view_size, pairs_size}
 use Rattle.partial_embedded.specs.declared.embedded.Stage.{Stage}
 use Rattle.partial_embedded.specs.declared.embedded.Stage.TheVariants.{Collect, View, Len, Index, PairValue, Value, Done}
-use Rattle.partial_embedded.specs.Embedded.{EmbeddedState, RowsState, ViewPair, AreRowsFor, ArePositions, AreLoaded, IsPlainRecord, ViewGoesTogether, IsPossibleInView, IsPossibleInViewAt, view_goes_at, view_left_at, view_left, count_true, changes, future, is_first, differs, was_changed, noted, borrow, go_on, after_collect, after_load, after_view, view_at_stage, with_value, pairs_from, advance_view, advance_view_at, most_view_steps, fresh_view}
+use Rattle.partial_embedded.specs.Embedded.{EmbeddedState, RowsState, ViewPair, AreRowsFor, ArePositions, AreLoaded, IsPlainRecord, ViewGoesTogether, IsPossibleInView, IsPossibleInViewAt, view_goes_at, view_left_at, view_left, count_true, changes, future, is_first, differs, was_changed, noted_load, borrow, go_on, after_collect, after_load, after_view, view_at_stage, with_value, pairs_from, advance_view, advance_view_at, most_view_steps, fresh_view}
 
 -- one position more has changed
 count_set : (l : List Bool) (r k : ℕ) → k < r → k < length l → get_or l k false ≡ false → count_true r (set l k true) ≡ count_true r l + 1
@@ -53,23 +53,23 @@ and_second false w e d = absurd (false≢true d)
 
 -- what a load notes leaves no more collects
 module _ (r : ℕ) (p : ViewPair) (k x : ℕ) (below : k < r) (within : k < length p.1.changed) (both : (differs p k x && was_changed p k) ≡ false) where
-  newly : differs p k x ≡ true → (changes r (noted p k x).1 ≡ changes r p.1 + 1) × (changes r (noted p k x).1 ≤ r)
+  newly : differs p k x ≡ true → (changes r (noted_load p k x).1 ≡ changes r p.1 + 1) × (changes r (noted_load p k x).1 ≤ r)
   newly d =
       let first : is_first p ≡ false = and_first (is_first p) (not (get_or p.1.last k 0 == x)) d in
       let was : was_changed p k ≡ false = and_second (differs p k x) (was_changed p k) both d in
       let unchanged : get_or p.1.changed k false ≡ false = ap (λ (f : Bool). not f && get_or p.1.changed k false) (sym first) ∙ was in
-      let is : changes r (noted p k x).1 ≡ count_true r (set p.1.changed k true) = ap (λ (b : Bool). count_true r (set p.1.changed k (b || was_changed p k))) d in
-      let more : changes r (noted p k x).1 ≡ changes r p.1 + 1 = is ∙ count_set p.1.changed r k below within unchanged in
-      (more, count_few (noted p k x).1.changed r)
+      let is : changes r (noted_load p k x).1 ≡ count_true r (set p.1.changed k true) = ap (λ (b : Bool). count_true r (set p.1.changed k (b || was_changed p k))) d in
+      let more : changes r (noted_load p k x).1 ≡ changes r p.1 + 1 = is ∙ count_set p.1.changed r k below within unchanged in
+      (more, count_few (noted_load p k x).1.changed r)
 
-  unmoved : is_first p ≡ false → differs p k x ≡ false → changes r (noted p k x).1 ≡ changes r p.1
+  unmoved : is_first p ≡ false → differs p k x ≡ false → changes r (noted_load p k x).1 ≡ changes r p.1
   unmoved first d =
       ap (λ (b : Bool). count_true r (set p.1.changed k (b || was_changed p k))) d
       ∙ ap (λ (f : Bool). count_true r (set p.1.changed k (not f && get_or p.1.changed k false))) first
       ∙ ap (λ (l : List Bool). count_true r l) (set-get_or p.1.changed k false)
 
-  noted_future : future r (noted p k x) ≤ future r p
-  noted_future = future_noted r (changes r p.1) (changes r (noted p k x).1) (is_first p) p.0.moved (differs p k x) newly unmoved
+  noted_future : future r (noted_load p k x) ≤ future r p
+  noted_future = future_noted r (changes r p.1) (changes r (noted_load p k x).1) (is_first p) p.0.moved (differs p k x) newly unmoved
 
 -- what an answer leaves: the machine, its positions and its buffers go together, and there are fewer steps
 pub record Keeps (indices : List ℕ) (p q : ViewPair) : Type 0 where
@@ -116,10 +116,10 @@ module _ (indices : List ℕ) (p : ViewPair) (k x : ℕ) (w : ViewGoesTogether i
   within_changed : k < length p.1.changed
   within_changed = let h = at_here in let k_r = h.0 in omega (arith, k_r, w.positions.few, w.rows.changed)
 
-  rows_noted : AreRowsFor p.0.sizes (noted p k x).1
+  rows_noted : AreRowsFor p.0.sizes (noted_load p k x).1
   rows_noted = record { last = length-set p.1.last k x ∙ w.rows.last; changed = length-set p.1.changed k (differs p k x || was_changed p k) ∙ w.rows.changed; values = w.rows.values }
 
-  loaded_noted : (n : ℕ) → ((i : ℕ) → i < n → (i < cond (is_first p) k (length indices)) ⊎ (i ≡ k)) → AreLoaded p.0.sizes (noted p k x).1 n
+  loaded_noted : (n : ℕ) → ((i : ℕ) → i < n → (i < cond (is_first p) k (length indices)) ⊎ (i ≡ k)) → AreLoaded p.0.sizes (noted_load p k x).1 n
   loaded_noted n all i below = loaded_more p.0.sizes p.1.last (cond (is_first p) k (length indices)) k x within_last rec at_here.3 i (all i below)
 
   borrowed : Keeps indices p (borrow p x)
@@ -127,10 +127,10 @@ module _ (indices : List ℕ) (p : ViewPair) (k x : ℕ) (w : ViewGoesTogether i
       record { together = record { positions = w.positions; rows = w.rows; collects = w.collects; stage = rec }; fewer = omega (arith, k_r, l) }
 
   module _ (both : (differs p k x && was_changed p k) ≡ false) where
-    fewer_collects : future (length indices) (noted p k x) ≤ future (length indices) p
+    fewer_collects : future (length indices) (noted_load p k x) ≤ future (length indices) p
     fewer_collects = noted_future (length indices) p k x (at_here.0) within_changed both
 
-    next_position : k + 1 < length indices → Keeps indices p (view_at_stage (noted p k x) (Collect (k + 1)))
+    next_position : k + 1 < length indices → Keeps indices p (view_at_stage (noted_load p k x) (Collect (k + 1)))
     next_position more =
         let f = fewer_collects in
         let h = at_here in
@@ -147,29 +147,29 @@ module _ (indices : List ℕ) (p : ViewPair) (k x : ℕ) (w : ViewGoesTogether i
           fewer = omega (arith, times, l, more);
         }
 
-    another : length indices ≡ k + 1 → (is_first p || (noted p k x).0.moved) ≡ true →
-        Keeps indices p (record (noted p k x).0 { collects = p.0.collects + 1; moved = false; stage = Collect 0 }, (noted p k x).1)
+    another : length indices ≡ k + 1 → (is_first p || (noted_load p k x).0.moved) ≡ true →
+        Keeps indices p (record (noted_load p k x).0 { collects = p.0.collects + 1; moved = false; stage = Collect 0 }, (noted_load p k x).1)
     another last e =
         let f = fewer_collects in
         let h = at_here in
         let l = left_here in
         let room = h.1 in
         let some = h.2 in
-        let q : ViewPair = (record (noted p k x).0 { collects = p.0.collects + 1; moved = false; stage = Collect 0 }, (noted p k x).1) in
+        let q : ViewPair = (record (noted_load p k x).0 { collects = p.0.collects + 1; moved = false; stage = Collect 0 }, (noted_load p k x).1) in
         let later : is_first q ≡ false = ne_eqb (p.0.collects + 1) 1 (λ same. omega (arith, some, same)) in
-        let next : future (length indices) q ≡ length indices - changes (length indices) (noted p k x).1 =
-        ap (λ (b : Bool). future_by (length indices) (changes (length indices) (noted p k x).1) b false) later in
-        let one = one_fewer (length indices) (changes (length indices) (noted p k x).1) (is_first p) (noted p k x).0.moved e in
+        let next : future (length indices) q ≡ length indices - changes (length indices) (noted_load p k x).1 =
+        ap (λ (b : Bool). future_by (length indices) (changes (length indices) (noted_load p k x).1) b false) later in
+        let one = one_fewer (length indices) (changes (length indices) (noted_load p k x).1) (is_first p) (noted_load p k x).0.moved e in
         let fewer : future (length indices) q + 1 ≤ future (length indices) p = omega (arith, next, one, f) in
         let times = mul-le-mul_left (length indices) fewer in
-        let all : AreLoaded p.0.sizes (noted p k x).1 (cond (is_first q) 0 (length indices)) = subst (λ (b : Bool). AreLoaded p.0.sizes (noted p k x).1 (cond b 0 (length indices))) (sym later)
+        let all : AreLoaded p.0.sizes (noted_load p k x).1 (cond (is_first q) 0 (length indices)) = subst (λ (b : Bool). AreLoaded p.0.sizes (noted_load p k x).1 (cond b 0 (length indices))) (sym later)
         (loaded_noted (length indices) (λ i below. all_loaded (is_first p) (length indices) k i last below)) in
         record {
           together = record { positions = w.positions; rows = rows_noted; collects = omega (arith, room, fewer); stage = (omega (arith, last), omega (arith, room, fewer), omega arith, all) };
           fewer = omega (arith, times, l, last);
         }
 
-    values : length indices ≡ k + 1 → Keeps indices p (view_at_stage (noted p k x) (Value 0))
+    values : length indices ≡ k + 1 → Keeps indices p (view_at_stage (noted_load p k x) (Value 0))
     values last =
         let l = left_here in
         let few = w.positions.few in
@@ -183,19 +183,19 @@ module _ (indices : List ℕ) (p : ViewPair) (k x : ℕ) (w : ViewGoesTogether i
           fewer = omega (arith, l, last, few);
         }
 
-    whole : length indices ≡ k + 1 → (b : Bool) → (is_first p || (noted p k x).0.moved) ≡ b →
-        Keeps indices p (cond b (record (noted p k x).0 { collects = p.0.collects + 1; moved = false; stage = Collect 0 }, (noted p k x).1) (view_at_stage (noted p k x) (Value 0)))
+    whole : length indices ≡ k + 1 → (b : Bool) → (is_first p || (noted_load p k x).0.moved) ≡ b →
+        Keeps indices p (cond b (record (noted_load p k x).0 { collects = p.0.collects + 1; moved = false; stage = Collect 0 }, (noted_load p k x).1) (view_at_stage (noted_load p k x) (Value 0)))
     whole last true e = another last e
     whole last false e = values last
 
-    on_from : (b : Bool) → nat_lt (k + 1) (length indices) ≡ b → Keeps indices p (cond b (view_at_stage (noted p k x) (Collect (k + 1))) (after_collect (noted p k x)))
+    on_from : (b : Bool) → nat_lt (k + 1) (length indices) ≡ b → Keeps indices p (cond b (view_at_stage (noted_load p k x) (Collect (k + 1))) (after_collect (noted_load p k x)))
     on_from true e = next_position (ltb-true (k + 1) (length indices) e)
-    on_from false e = let past = ltb-false (k + 1) (length indices) e in let h = at_here in let k_r = h.0 in whole (omega (arith, past, k_r)) (is_first p || (noted p k x).0.moved) refl
+    on_from false e = let past = ltb-false (k + 1) (length indices) e in let h = at_here in let k_r = h.0 in whole (omega (arith, past, k_r)) (is_first p || (noted_load p k x).0.moved) refl
 
   pub load_kept : Keeps indices p (after_load (length indices) p k x)
   load_kept = either (differs p k x && was_changed p k) refl
     where
-      either : (b : Bool) → (differs p k x && was_changed p k) ≡ b → Keeps indices p (cond b (borrow p x) (go_on (length indices) (noted p k x) k))
+      either : (b : Bool) → (differs p k x && was_changed p k) ≡ b → Keeps indices p (cond b (borrow p x) (go_on (length indices) (noted_load p k x) k))
       either true e = borrowed
       either false e = on_from e (nat_lt (k + 1) (length indices)) refl
 
@@ -311,9 +311,9 @@ on_sizes r p k true c = refl
 on_sizes r p k false true = refl
 on_sizes r p k false false = refl
 
-load_sizes : (r : ℕ) (p : ViewPair) (k x : ℕ) (b : Bool) → (cond b (borrow p x) (go_on r (noted p k x) k)).0.sizes ≡ p.0.sizes
+load_sizes : (r : ℕ) (p : ViewPair) (k x : ℕ) (b : Bool) → (cond b (borrow p x) (go_on r (noted_load p k x) k)).0.sizes ≡ p.0.sizes
 load_sizes r p k x true = refl
-load_sizes r p k x false = on_sizes r (noted p k x) k (nat_lt (k + 1) r) (is_first p || (noted p k x).0.moved)
+load_sizes r p k x false = on_sizes r (noted_load p k x) k (nat_lt (k + 1) r) (is_first p || (noted_load p k x).0.moved)
 
 sizes_at : (indices : List ℕ) (p : ViewPair) (s : Stage) (x : ℕ) → (advance_view_at indices p s x).0.sizes ≡ p.0.sizes
 sizes_at indices p (Collect k) x = load_sizes (length indices) p k x (differs p k x && was_changed p k)
@@ -334,9 +334,9 @@ on_collects r p k true c = omega arith
 on_collects r p k false true = omega arith
 on_collects r p k false false = omega arith
 
-load_collects : (r : ℕ) (p : ViewPair) (k x : ℕ) (b : Bool) → p.0.collects ≤ (cond b (borrow p x) (go_on r (noted p k x) k)).0.collects
+load_collects : (r : ℕ) (p : ViewPair) (k x : ℕ) (b : Bool) → p.0.collects ≤ (cond b (borrow p x) (go_on r (noted_load p k x) k)).0.collects
 load_collects r p k x true = omega arith
-load_collects r p k x false = on_collects r (noted p k x) k (nat_lt (k + 1) r) (is_first p || (noted p k x).0.moved)
+load_collects r p k x false = on_collects r (noted_load p k x) k (nat_lt (k + 1) r) (is_first p || (noted_load p k x).0.moved)
 
 pub collects_grow : (r : ℕ) (p : ViewPair) (k x : ℕ) → p.0.collects ≤ (after_load r p k x).0.collects
 collects_grow r p k x = load_collects r p k x (differs p k x && was_changed p k)

@@ -10,7 +10,7 @@ use Rattle.partial_words.specs.Layout.{Layout}
 use Rattle.partial_words.specs.Record.{pairs_word, next_word}
 use Rattle.partial_embedded.specs.declared.embedded.Stage.{Stage}
 use Rattle.partial_embedded.specs.declared.embedded.Stage.TheVariants.{Collect, View, Len, Index, PairValue, Value, Done}
-use Rattle.partial_embedded.specs.Embedded.{ViewPair, RowsState, ViewGoesTogether, view_goes_at, fresh_view, advance_view, advance_view_at, is_first, differs, was_changed, noted, borrow, go_on, after_collect, after_load, after_view, view_at_stage, with_value, pairs_from, IsPossibleInViewAt}
+use Rattle.partial_embedded.specs.Embedded.{ViewPair, RowsState, ViewGoesTogether, view_goes_at, fresh_view, advance_view, advance_view_at, is_first, differs, was_changed, noted_load, borrow, go_on, after_collect, after_load, after_view, view_at_stage, with_value, pairs_from, IsPossibleInViewAt}
 use Rattle.partial_embedded.specs.Runs.{ViewRun, load_in, Changes, LastTwoAreEqual, ShowsThirdRecord, EndsInEqualCollectsOrAThirdRecord}
 use Rattle.partial_embedded.proofs.Keeps.{kept, fresh_together, neither}
 
@@ -138,34 +138,34 @@ module _ (r : ℕ) (p : ViewPair) (k x : ℕ) (xs : List ℕ) (t : Traced r p k 
       and_right false b e = absurd (false≢true e)
 
   -- the latest loads and the marks once the load is noted
-  last_new : get_or (noted p k x).1.last k 0 ≡ x
+  last_new : get_or (noted_load p k x).1.last k 0 ≡ x
   last_new = get_or-set_same p.1.last k x 0 last_room
 
-  last_kept : (i : ℕ) → i ≢ k → get_or (noted p k x).1.last i 0 ≡ get_or p.1.last i 0
+  last_kept : (i : ℕ) → i ≢ k → get_or (noted_load p k x).1.last i 0 ≡ get_or p.1.last i 0
   last_kept i other = get_or-set_other p.1.last k i x 0 other
 
-  mark_new : get_or (noted p k x).1.changed k false ≡ (differs p k x || was_changed p k)
+  mark_new : get_or (noted_load p k x).1.changed k false ≡ (differs p k x || was_changed p k)
   mark_new = get_or-set_same p.1.changed k (differs p k x || was_changed p k) false changed_room
 
-  mark_kept : (i : ℕ) → i ≢ k → get_or (noted p k x).1.changed i false ≡ get_or p.1.changed i false
+  mark_kept : (i : ℕ) → i ≢ k → get_or (noted_load p k x).1.changed i false ≡ get_or p.1.changed i false
   mark_kept i other = get_or-set_other p.1.changed k i (differs p k x || was_changed p k) false other
 
-  now_next : (i : ℕ) → i < k + 1 → get_or (noted p k x).1.last i 0 ≡ load_in r (xs ++ x ∷ []) t.c i
+  now_next : (i : ℕ) → i < k + 1 → get_or (noted_load p k x).1.last i 0 ≡ load_in r (xs ++ x ∷ []) t.c i
   now_next i below = elim (eqb_tells i k) [
-    | inl e ↦ ap (λ n. get_or (noted p k x).1.last n 0) e.1 ∙ last_new ∙ sym now_is ∙ ap (λ n. load_in r (xs ++ x ∷ []) t.c n) (sym e.1)
+    | inl e ↦ ap (λ n. get_or (noted_load p k x).1.last n 0) e.1 ∙ last_new ∙ sym now_is ∙ ap (λ n. load_in r (xs ++ x ∷ []) t.c n) (sym e.1)
     | inr e ↦ let less : i < k = omega (arith, below, e.1) in last_kept i e.1 ∙ t.now i less ∙ sym (load_old r xs x t.c k t.long within t.c i (here r xs x t.c k t.long within i less))
   ]
 
-  cleared_next : t.c ≡ 0 → (i : ℕ) → i < k + 1 → get_or (noted p k x).1.changed i false ≡ false
+  cleared_next : t.c ≡ 0 → (i : ℕ) → i < k + 1 → get_or (noted_load p k x).1.changed i false ≡ false
   cleared_next first i below = elim (eqb_tells i k) [
-    | inl e ↦ ap (λ n. get_or (noted p k x).1.changed n false) e.1 ∙ mark_new ∙ ap (λ (f : Bool). (not f && not (get_or p.1.last k 0 == x)) || (not f && get_or p.1.changed k false)) (only_first first)
+    | inl e ↦ ap (λ n. get_or (noted_load p k x).1.changed n false) e.1 ∙ mark_new ∙ ap (λ (f : Bool). (not f && not (get_or p.1.last k 0 == x)) || (not f && get_or p.1.changed k false)) (only_first first)
     | inr e ↦ mark_kept i e.1 ∙ t.cleared first i (omega (arith, below, e.1))
   ]
 
-  changed_next : (b : ℕ) → t.c ≡ b + 1 → (i : ℕ) → i < r → get_or (noted p k x).1.changed i false ≡ true → HasChanged r (xs ++ x ∷ []) t.c (k + 1) i
+  changed_next : (b : ℕ) → t.c ≡ b + 1 → (i : ℕ) → i < r → get_or (noted_load p k x).1.changed i false ≡ true → HasChanged r (xs ++ x ∷ []) t.c (k + 1) i
   changed_next b later i inside marked = elim (eqb_tells i k) [
     | inl e ↦ subst (HasChanged r (xs ++ x ∷ []) t.c (k + 1)) (sym e.1)
-        (elim (one_of (differs p k x) (was_changed p k) (sym mark_new ∙ ap (λ n. get_or (noted p k x).1.changed n false) (sym e.1) ∙ marked)) [
+        (elim (one_of (differs p k x) (was_changed p k) (sym mark_new ∙ ap (λ n. get_or (noted_load p k x).1.changed n false) (sym e.1) ∙ marked)) [
           | inl d ↦
               let other : (get_or p.1.last k 0 == x) ≡ false = is_differing (is_first p) (get_or p.1.last k 0 == x) (first_is b later) d in
               let next : load_in r (xs ++ x ∷ []) (b + 1) k ≡ x = ap (λ n. load_in r (xs ++ x ∷ []) n k) (sym later) ∙ now_is in
@@ -181,7 +181,7 @@ module _ (r : ℕ) (p : ViewPair) (k x : ℕ) (xs : List ℕ) (t : Traced r p k 
     | inr e ↦ changed_old r xs x t.c k t.long within i inside (t.changed b later i inside (sym (mark_kept i e.1) ∙ marked))
   ]
 
-  unmoved_next : (b : ℕ) → t.c ≡ b + 1 → (noted p k x).0.moved ≡ false → (i : ℕ) → i < k + 1 → load_in r (xs ++ x ∷ []) t.c i ≡ load_in r (xs ++ x ∷ []) b i
+  unmoved_next : (b : ℕ) → t.c ≡ b + 1 → (noted_load p k x).0.moved ≡ false → (i : ℕ) → i < k + 1 → load_in r (xs ++ x ∷ []) t.c i ≡ load_in r (xs ++ x ∷ []) b i
   unmoved_next b later still i below =
       let both = neither p.0.moved (differs p k x) still in
       elim (eqb_tells i k) [
@@ -194,7 +194,7 @@ module _ (r : ℕ) (p : ViewPair) (k x : ℕ) (xs : List ℕ) (t : Traced r p k 
       ]
 
   -- the load is noted
-  noted_traced : Traced r (noted p k x) (k + 1) (xs ++ x ∷ [])
+  noted_traced : Traced r (noted_load p k x) (k + 1) (xs ++ x ∷ [])
   noted_traced = record {
     c = t.c;
     collects = t.collects;
@@ -265,7 +265,7 @@ module _ (indices : List ℕ) (p : ViewPair) (x : ℕ) (xs : List ℕ) (w : View
       changed_room : k < length p.1.changed
       changed_room = omega (arith, within, w.positions.few, w.rows.changed)
 
-      traced : Traced (length indices) (noted p k x) (k + 1) (xs ++ x ∷ [])
+      traced : Traced (length indices) (noted_load p k x) (k + 1) (xs ++ x ∷ [])
       traced = noted_traced (length indices) p k x xs t within last_room changed_room
 
       third_here : (differs p k x && was_changed p k) ≡ true → ShowsThirdRecord (length indices) (xs ++ x ∷ []) p.0.collects x
@@ -275,18 +275,18 @@ module _ (indices : List ℕ) (p : ViewPair) (x : ℕ) (xs : List ℕ) (w : View
             (only_first (length indices) p k x xs t within last_room changed_room (omega (arith, none)))) ∙ both))
       ]
 
-      whole : length indices ≡ k + 1 → (b : Bool) → (is_first p || (noted p k x).0.moved) ≡ b → let q =
-          cond b (record (noted p k x).0 { collects = p.0.collects + 1; moved = false; stage = Collect 0 }, (noted p k x).1) (view_at_stage (noted p k x) (Value 0)) in trace_at (length indices) q
+      whole : length indices ≡ k + 1 → (b : Bool) → (is_first p || (noted_load p k x).0.moved) ≡ b → let q =
+          cond b (record (noted_load p k x).0 { collects = p.0.collects + 1; moved = false; stage = Collect 0 }, (noted_load p k x).1) (view_at_stage (noted_load p k x) (Value 0)) in trace_at (length indices) q
           (xs ++ x ∷ []) q.0.stage
-      whole last true e = again_traced (length indices) (noted p k x) k (xs ++ x ∷ []) last traced
-      whole last false e = λ _. still_equal (length indices) (noted p k x) k (xs ++ x ∷ []) last traced e
+      whole last true e = again_traced (length indices) (noted_load p k x) k (xs ++ x ∷ []) last traced
+      whole last false e = λ _. still_equal (length indices) (noted_load p k x) k (xs ++ x ∷ []) last traced e
 
-      on_from : (b : Bool) → nat_lt (k + 1) (length indices) ≡ b → let q = cond b (view_at_stage (noted p k x) (Collect (k + 1))) (after_collect (noted p k x)) in trace_at (length indices) q
+      on_from : (b : Bool) → nat_lt (k + 1) (length indices) ≡ b → let q = cond b (view_at_stage (noted_load p k x) (Collect (k + 1))) (after_collect (noted_load p k x)) in trace_at (length indices) q
           (xs ++ x ∷ []) q.0.stage
-      on_from true e = retraced (length indices) (noted p k x) (Collect (k + 1)) (k + 1) (xs ++ x ∷ []) traced
-      on_from false e = let past = ltb-false (k + 1) (length indices) e in whole (omega (arith, past, within)) (is_first p || (noted p k x).0.moved) refl
+      on_from true e = retraced (length indices) (noted_load p k x) (Collect (k + 1)) (k + 1) (xs ++ x ∷ []) traced
+      on_from false e = let past = ltb-false (k + 1) (length indices) e in whole (omega (arith, past, within)) (is_first p || (noted_load p k x).0.moved) refl
 
-      either : (b : Bool) → (differs p k x && was_changed p k) ≡ b → let q = cond b (borrow p x) (go_on (length indices) (noted p k x) k) in trace_at (length indices) q (xs ++ x ∷ []) q.0.stage
+      either : (b : Bool) → (differs p k x && was_changed p k) ≡ b → let q = cond b (borrow p x) (go_on (length indices) (noted_load p k x) k) in trace_at (length indices) q (xs ++ x ∷ []) q.0.stage
       either true e = third_here e
       either false e = on_from (nat_lt (k + 1) (length indices)) refl
 

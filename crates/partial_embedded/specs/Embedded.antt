@@ -78,8 +78,8 @@ abbrev pub borrow : ViewPair → ℕ → ViewPair
 borrow p x = (record p.0 { borrowed = Some x; stage = View x }, p.1)
 
 -- the load of position k is noted
-abbrev pub noted : ViewPair → ℕ → ℕ → ViewPair
-noted p k x =
+abbrev pub noted_load : ViewPair → ℕ → ℕ → ViewPair
+noted_load p k x =
     let changed : List Bool = slice_set p.1.changed k (differs p k x || was_changed p k) in
     (record p.0 { moved = p.0.moved || differs p k x }, record p.1 { last = slice_set p.1.last k x; changed = changed })
 
@@ -95,7 +95,7 @@ go_on r p k = if nat_lt (k + 1) r then view_at_stage p (Collect (k + 1)) else af
 
 -- a load of position k in a collect: when it differs from the last one and the position had changed before, a view is borrowed
 abbrev pub after_load : ℕ → ViewPair → ℕ → ℕ → ViewPair
-after_load r p k x = if differs p k x && was_changed p k then borrow p x else go_on r (noted p k x) k
+after_load r p k x = if differs p k x && was_changed p k then borrow p x else go_on r (noted_load p k x) k
 
 -- the view of the borrowed record: it is shared, empty, or loaded
 abbrev pub after_view : EmbeddedState → ℕ → EmbeddedState

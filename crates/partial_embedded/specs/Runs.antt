@@ -68,10 +68,10 @@ EndsInEqualCollectsOrAThirdRecord =
     × ((stamp : ℕ) → q.0.stage ≡ View stamp → ShowsThirdRecord (length indices) xs q.0.collects stamp)
 
 -- the values of the components after these loads, position by position: when a component is repeated its last load counts
-abbrev pub written : List ℕ → List ℕ → List ℕ → List ℕ
-written [] loads values = values
-written (j ∷ js) [] values = values
-written (j ∷ js) (x ∷ xs) values = written js xs (slice_set values j x)
+abbrev pub written_values : List ℕ → List ℕ → List ℕ → List ℕ
+written_values [] loads values = values
+written_values (j ∷ js) [] values = values
+written_values (j ∷ js) (x ∷ xs) values = written_values js xs (slice_set values j x)
 
 -- the answers are whole collects, the last two of them equal, and then the values of so many positions
 pub record LoadsValues (indices xs : List ℕ) (q : ViewPair) (k : ℕ) : Type 0 where
@@ -81,7 +81,7 @@ pub record LoadsValues (indices xs : List ℕ) (q : ViewPair) (k : ℕ) : Type 0
   pub count : length loads ≡ k
   pub equal : LastTwoAreEqual (length indices) front q.0.collects
   pub before : List ℕ
-  pub values : q.1.values ≡ written (take k indices) loads before
+  pub values : q.1.values ≡ written_values (take k indices) loads before
 
 -- the answers are collects up to a third record at one position, and then loads of its view, whose reference comes first
 pub record LoadsView (r : ℕ) (xs : List ℕ) (q : ViewPair) (stamp : ℕ) : Type 0 where

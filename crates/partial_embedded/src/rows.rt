@@ -59,6 +59,15 @@ impl Rows {
         values[component as usize]
     }
 
+    /// The references that were loaded last, of each position. Behind a finished scan that took no view they are those
+    /// of its last two collects, at as many places as it has positions; what stands behind them says nothing.
+    #[inline(always)]
+    pub fn last(&self) -> &[u64]
+        ensures { result.now ≡ self.now.last }
+    {
+        self.last.as_slice()
+    }
+
     /// Copies the values of these components, as [`Rows::value`] returns them.
     pub fn copy_values(&self, components: &[u32], into: &mut [u64])
         requires lengths { length into.old ≡ length components.now }

@@ -59,14 +59,14 @@ written_public e before (n ∷ ns) =
     ∙ sym (map-append (λ i. length (history_of before) + i) (wrote n.note) (places_written ns))
 
 -- what a machine's step notes is nothing, or one call
-pub one_or_none : (y : Part) (t : Option Reply) (new : List Noted) → AreNotesOf y t new → (new ≡ []) ⊎ ((r : Reply) × IsNoteOf y r new)
-one_or_none y None new w = inl w
-one_or_none y (Some (reply.Applied s)) new w = inr (reply.Applied s, w)
-one_or_none y (Some (reply.Lost s)) new w = inr (reply.Lost s, w)
-one_or_none y (Some (reply.Scanned c b)) new w = inr (reply.Scanned c b, w)
-one_or_none y (Some (reply.Read v s)) new w = inr (reply.Read v s, w)
-one_or_none y (Some (reply.Refused cause)) new w = inl w.none
-one_or_none y (Some (reply.Changed s)) new w = inr (reply.Changed s, w)
+pub one_or_none : (o : Opening) (y : Part) (t : Option Reply) (new : List Noted) → AreNotesOf o y t new → (new ≡ []) ⊎ ((r : Reply) × IsNoteOf o y r new)
+one_or_none o y None new w = inl w
+one_or_none o y (Some (reply.Applied s)) new w = inr (reply.Applied s, w)
+one_or_none o y (Some (reply.Lost s)) new w = inr (reply.Lost s, w)
+one_or_none o y (Some (reply.Scanned c b)) new w = inr (reply.Scanned c b, w)
+one_or_none o y (Some (reply.Read v s)) new w = inr (reply.Read v s, w)
+one_or_none o y (Some (reply.Refused cause)) new w = inl w.none
+one_or_none o y (Some (reply.Changed s)) new w = inr (reply.Changed s, w)
 
 place_public : (off : ℕ) (n : Note) → place_of (public_note off n) ≡ off + place_of n
 place_public off (note.Wrote k) = refl
@@ -175,7 +175,7 @@ module _ (e : Plan) (words : List ℕ) (ports : ℕ → Port) (b : Beside) (note
       none : places_written lead.tells.new ≡ [] → public_log (length b.before) lead.entries ≡ []
       none is = ap (public_log (length b.before)) (no_places k (length lead.standing.epoch.log) lead.entries lead.own (own_places ∙ is))
 
-      by : (t : Option Reply) → reply_of (advance c (answer_of (arena_words e words (ports k).control.here.arena) step)) ≡ t → AreNotesOf lead.port.part t lead.tells.new →
+      by : (t : Option Reply) → reply_of (advance c (answer_of (arena_words e words (ports k).control.here.arena) step)) ≡ t → AreNotesOf (opening_behind e.opening (ports k).before) lead.port.part t lead.tells.new →
           (public_log (length b.before) lead.entries ≡ []) ⊎ MayAdd e words (ports k) (Makes c step)
       by None is h = inl (none (ap places_written h))
       by (Some (reply.Refused cause)) is h = inl (none (ap places_written h.none))
@@ -321,7 +321,7 @@ module _ (e : Plan) (words : List ℕ) (ports : ℕ → Port) (b : Beside) (note
         shown = subst (λ (l : List Noted). seen_by 0 l ≤ seen_of lead.port) (sym (append-nil (notes k))) (omega (arith, was, up));
       }
 
-  one_more : (r : Reply) (m : IsNoteOf lead.port.part r lead.tells.new) → seen_by 0 (notes k) ≤ length (history_of (ports k).before) + since_with c (ports k).part →
+  one_more : (r : Reply) (m : IsNoteOf (opening_behind e.opening (ports k).before) lead.port.part r lead.tells.new) → seen_by 0 (notes k) ≤ length (history_of (ports k).before) + since_with c (ports k).part →
       AllByRecursion (λ (n : Noted). ExpectedOne (opening_behind e.opening (ports k).before) lead.port.part.seen n.call n.answer) lead.tells.new →
       Noting (map (public_noted e (ports k).before) lead.tells.new)
   one_more r m seen expected =
@@ -342,7 +342,7 @@ module _ (e : Plan) (words : List ℕ) (ports : ℕ → Port) (b : Beside) (note
   noting_here : Noting added
   noting_here = elim may [
     | inl none ↦ subst Noting (sym none.0) quiet
-    | inr all ↦ subst Noting (sym all.0) (elim (one_or_none lead.port.part (reply_of (advance c (answer_of (arena_words e words (ports k).control.here.arena) step))) lead.tells.new lead.tells.noted) [
+    | inr all ↦ subst Noting (sym all.0) (elim (one_or_none (opening_behind e.opening (ports k).before) lead.port.part (reply_of (advance c (answer_of (arena_words e words (ports k).control.here.arena) step))) lead.tells.new lead.tells.noted) [
       | inl nothing ↦ subst (λ (l : List Noted). Noting (map (public_noted e (ports k).before) l)) (sym nothing) quiet
       | inr m ↦ one_more m.0 m.1 all.1 all.2
     ])
@@ -353,7 +353,7 @@ module _ (e : Plan) (words : List ℕ) (ports : ℕ → Port) (b : Beside) (note
       seen_by 0 (notes k) ≤ length (history_of (ports k).before) + since_with c (ports k).part →
       AllByRecursion (λ (n : Noted). ExpectedOne (opening_behind e.opening (ports k).before) lead.port.part.seen n.call n.answer) lead.tells.new →
       LegalNotes e.opening (history_of (lead.port.part.seen ∷ (ports k).before)) k 0 (notes k ++ map (public_noted e (ports k).before) lead.tells.new)
-  legal_notes_seen was seen expected = elim (one_or_none lead.port.part (reply_of (advance c (answer_of (arena_words e words (ports k).control.here.arena) step))) lead.tells.new lead.tells.noted) [
+  legal_notes_seen was seen expected = elim (one_or_none (opening_behind e.opening (ports k).before) lead.port.part (reply_of (advance c (answer_of (arena_words e words (ports k).control.here.arena) step))) lead.tells.new lead.tells.noted) [
     | inl nothing ↦ subst (λ (l : List Noted). LegalNotes e.opening (history_of (lead.port.part.seen ∷ (ports k).before)) k 0 (notes k ++ map (public_noted e (ports k).before) l)) (sym nothing)
         (subst (LegalNotes e.opening (history_of (lead.port.part.seen ∷ (ports k).before)) k 0) (sym (append-nil (notes k))) was)
     | inr some ↦

@@ -33,7 +33,7 @@ module _ (e : Plan) (plan : IsEpochPlan e) (before : List (List Applied)) (h : L
   first_is [] = refl
   first_is (x ∷ hs) = first_is hs
 
-  initial_low : (j : ℕ) → j < e.sizes.m → initial_stamp (opening_behind e.opening before) j < first_free e.sizes
+  pub initial_low : (j : ℕ) → j < e.sizes.m → initial_stamp (opening_behind e.opening before) j < first_free e.sizes
   initial_low j low = let f = plan.first in let same = first_is before in omega (arith, low, f, same)
 
   public_low : (j s : ℕ) → s < first_free e.sizes → public_of e before j s ≡ carried_behind e.opening before j

@@ -17,13 +17,13 @@ use Rattle.partial_words.proofs.BlockLemmas.{list_reads_back}
 use Rattle.partial_words.proofs.RecordLemmas.{length-pairs}
 use Rattle.partial_embedded.specs.declared.embedded.Stage.{Stage}
 use Rattle.partial_embedded.specs.declared.embedded.Stage.TheVariants.{Collect, View, Len, Index, PairValue, Value, Done}
-use Rattle.partial_embedded.specs.Embedded.{ViewPair, RowsState, ViewGoesTogether, IsPossibleInViewAt, view_goes_at, is_first, differs, was_changed, borrow, noted, go_on, after_collect, after_load, after_view, view_at_stage, with_value, pairs_from, view_step_at, advance_view_at}
+use Rattle.partial_embedded.specs.Embedded.{ViewPair, RowsState, ViewGoesTogether, IsPossibleInViewAt, view_goes_at, is_first, differs, was_changed, borrow, noted_load, go_on, after_collect, after_load, after_view, view_at_stage, with_value, pairs_from, view_step_at, advance_view_at}
 use Rattle.partial_state.specs.Views.{IsWithin, IsBegunSince, HasPairs, IsView, HasFreshView}
 use Rattle.partial_state.specs.Holdings.{Holding, unpublished}
 use Rattle.partial_state.specs.LawfulWords.{LawfulWords}
 use Rattle.partial_state.specs.Loads.{KeptAnswer, IsLoaded}
 use Rattle.partial_knowledge.specs.Sets.{IsReadable}
-use Rattle.partial_knowledge.specs.Scans.{HasEntry, IsLatest, IsCollecting, HasValues, Agreed, IsThird, HasLoaded, Loads, knows_at, ScanKnows, EmbeddedScansKnow}
+use Rattle.partial_knowledge.specs.Scans.{HasEntry, IsLatest, IsCollecting, HasValues, CollectsAgreed, IsThird, HasLoaded, Loads, knows_at, ScanKnows, EmbeddedScansKnow}
 use Rattle.partial_knowledge.proofs.Chains.{newer, begun_since, begun_within, stamp_within, standing, standing_word, IsStanding, apart_part}
 use Rattle.partial_embedded.proofs.Keeps.{neither}
 use Rattle.partial_model.proofs.Values.{element_at}
@@ -111,14 +111,14 @@ module _ (o : Opening) (words : List ℕ) (hs : List Holding) (log : List Applie
         (n.place, n.entry, n.stands, n.component_is, omega (arith, from, low_from), n.below)
 
     -- the load is noted
-    noted_other : (i s : ℕ) → i ≢ k → IsLatest o log indices low p.1 i s → IsLatest o log indices low (noted p k x).1 i s
+    noted_other : (i s : ℕ) → i ≢ k → IsLatest o log indices low p.1 i s → IsLatest o log indices low (noted_load p k x).1 i s
     noted_other i s other l = record {
       from = l.from;
       stamp = get_or-set_other p.1.last k i x 0 other ∙ l.stamp;
       change = λ c. l.change (sym (get_or-set_other p.1.changed k i (differs p k x || was_changed p k) false other) ∙ c);
     }
 
-    noted_here : IsLatest o log indices low (noted p k x).1 k t
+    noted_here : IsLatest o log indices low (noted_load p k x).1 k t
     noted_here = record {
       from = omega (arith, order, after);
       stamp = get_or-set_same p.1.last k x 0 in_last ∙ is;
@@ -139,14 +139,14 @@ module _ (o : Opening) (words : List ℕ) (hs : List Holding) (log : List Applie
     }
 
     -- the loads of this collect, up to this one
-    noted_loaded : (i : ℕ) → i < k + 1 → (s : ℕ) × IsLatest o log indices low (noted p k x).1 i s × (knows.middle ≤ s) × (s ≤ t)
+    noted_loaded : (i : ℕ) → i < k + 1 → (s : ℕ) × IsLatest o log indices low (noted_load p k x).1 i s × (knows.middle ≤ s) × (s ≤ t)
     noted_loaded i lt = elim (eqb_tells i k) [
-      | inl e ↦ let to = knows.to in subst (λ n. (s : ℕ) × IsLatest o log indices low (noted p k x).1 n s × (knows.middle ≤ s) × (s ≤ t)) (sym e.1)
+      | inl e ↦ let to = knows.to in subst (λ n. (s : ℕ) × IsLatest o log indices low (noted_load p k x).1 n s × (knows.middle ≤ s) × (s ≤ t)) (sym e.1)
           (t, noted_here, omega (arith, to, after), omega arith)
       | inr e ↦ let other = e.1 in let l = knows.loaded i (omega (arith, lt, other)) in let early = l.3 in (l.0, noted_other i l.0 other l.1, l.2, omega (arith, early, after))
     ]
 
-    noted_same : is_first p ≡ false → (p.0.moved || differs p k x) ≡ false → (i : ℕ) → i < k + 1 → slice_index (noted p k x).1.last i ≡ stamp_of o (take knows.middle log) (slice_index indices i)
+    noted_same : is_first p ≡ false → (p.0.moved || differs p k x) ≡ false → (i : ℕ) → i < k + 1 → slice_index (noted_load p k x).1.last i ≡ stamp_of o (take knows.middle log) (slice_index indices i)
     noted_same first unmoved i lt =
         let both = neither p.0.moved (differs p k x) unmoved in
         elim (eqb_tells i k) [
@@ -155,21 +155,21 @@ module _ (o : Opening) (words : List ℕ) (hs : List Holding) (log : List Applie
               let to = knows.to in
               let latest : get_or p.1.last k 0 ≡ x = agrees_tells p k x first both.1 in
               let then = stamps_never_return o log (slice_index indices k) b.0 t knows.middle w.history (there_is k here) b.2 (omega (arith, to, after)) (sym b.1.stamp ∙ latest ∙ is) in
-              subst (λ n. slice_index (noted p k x).1.last n ≡ stamp_of o (take knows.middle log) (slice_index indices n)) (sym e.1)
+              subst (λ n. slice_index (noted_load p k x).1.last n ≡ stamp_of o (take knows.middle log) (slice_index indices n)) (sym e.1)
               (get_or-set_same p.1.last k x 0 in_last ∙ sym latest ∙ b.1.stamp ∙ sym then.0)
           | inr e ↦ let other = e.1 in get_or-set_other p.1.last k i x 0 other ∙ knows.same first both.0 i (omega (arith, lt, other))
         ]
 
     -- in the first collect the load is no change
-    noted_calm : is_first p ≡ true → (i : ℕ) → i < k + 1 → slice_index_or (noted p k x).1.changed i false ≡ false
+    noted_calm : is_first p ≡ true → (i : ℕ) → i < k + 1 → slice_index_or (noted_load p k x).1.changed i false ≡ false
     noted_calm first i lt = elim (eqb_tells i k) [
-      | inl e ↦ ap (λ n. slice_index_or (noted p k x).1.changed n false) e.1 ∙ get_or-set_same p.1.changed k (differs p k x || was_changed p k) false in_changed ∙
+      | inl e ↦ ap (λ n. slice_index_or (noted_load p k x).1.changed n false) e.1 ∙ get_or-set_same p.1.changed k (differs p k x || was_changed p k) false in_changed ∙
           ap (λ (b : Bool). (not b && not (get_or p.1.last k 0 == x)) || (not b && slice_index_or p.1.changed k false)) first
       | inr e ↦ let other = e.1 in get_or-set_other p.1.changed k i (differs p k x || was_changed p k) false other ∙ knows.calm_first first i (omega (arith, lt, other))
     ]
 
     -- the collect goes on
-    collects_on : k + 1 < length indices → Known t (view_at_stage (noted p k x) (Collect (k + 1)))
+    collects_on : k + 1 < length indices → Known t (view_at_stage (noted_load p k x) (Collect (k + 1)))
     unfolding Known
     collects_on more = record {
       none = knows.none;
@@ -184,7 +184,7 @@ module _ (o : Opening) (words : List ℕ) (hs : List Holding) (log : List Applie
     }
 
     -- another collect begins
-    collects_again : length indices ≤ k + 1 → Known t (record (noted p k x).0 { collects = p.0.collects + 1; moved = false; stage = Collect 0 }, (noted p k x).1)
+    collects_again : length indices ≤ k + 1 → Known t (record (noted_load p k x).0 { collects = p.0.collects + 1; moved = false; stage = Collect 0 }, (noted_load p k x).1)
     unfolding Known
     collects_again last = record {
       none = knows.none;
@@ -199,7 +199,7 @@ module _ (o : Opening) (words : List ℕ) (hs : List Holding) (log : List Applie
     }
 
     -- two collects agreed
-    agreed : length indices ≤ k + 1 → is_first p ≡ false → (p.0.moved || differs p k x) ≡ false → Known t (view_at_stage (noted p k x) (Value 0))
+    agreed : length indices ≤ k + 1 → is_first p ≡ false → (p.0.moved || differs p k x) ≡ false → Known t (view_at_stage (noted_load p k x) (Value 0))
     unfolding Known
     agreed last first unmoved = record {
       none = knows.none;
@@ -241,16 +241,16 @@ module _ (o : Opening) (words : List ℕ) (hs : List Holding) (log : List Applie
               (begun_since o words log low n.place n.entry w.agrees (subst (λ c. c < length o.values) (sym n.component_is) (there_is k here)) n.stands has);
         }
 
-    whole_collect : length indices ≤ k + 1 → Known t (after_collect (noted p k x))
-    whole_collect last = cond_both (is_first p || (p.0.moved || differs p k x)) (record (noted p k x).0 { collects = p.0.collects + 1; moved = false; stage = Collect 0 }, (noted p k x).1)
-        (view_at_stage (noted p k x) (Value 0)) (λ q. Known t q)
+    whole_collect : length indices ≤ k + 1 → Known t (after_collect (noted_load p k x))
+    whole_collect last = cond_both (is_first p || (p.0.moved || differs p k x)) (record (noted_load p k x).0 { collects = p.0.collects + 1; moved = false; stage = Collect 0 }, (noted_load p k x).1)
+        (view_at_stage (noted_load p k x) (Value 0)) (λ q. Known t q)
         (λ e. collects_again last)
         (λ e. let none = neither (is_first p) (p.0.moved || differs p k x) e in agreed last none.0 none.1)
 
     pub step_collect : Known t (after_load (length indices) p k x)
-    step_collect = cond_both (differs p k x && was_changed p k) (borrow p x) (go_on (length indices) (noted p k x) k) (λ q. Known t q)
+    step_collect = cond_both (differs p k x && was_changed p k) (borrow p x) (go_on (length indices) (noted_load p k x) k) (λ q. Known t q)
         third
-        (λ e. cond_both (nat_lt (k + 1) (length indices)) (view_at_stage (noted p k x) (Collect (k + 1))) (after_collect (noted p k x)) (λ q. Known t q)
+        (λ e. cond_both (nat_lt (k + 1) (length indices)) (view_at_stage (noted_load p k x) (Collect (k + 1))) (after_collect (noted_load p k x)) (λ q. Known t q)
         (λ more. collects_on (ltb-true (k + 1) (length indices) more))
         (λ last. whole_collect (ltb-false (k + 1) (length indices) last)))
 
@@ -452,7 +452,7 @@ module _ (o : Opening) (words : List ℕ) (hs : List Holding) (log : List Applie
         omega (arith, more),
       ))
 
-  pub step_value : (k t x : ℕ) → k < length indices → slice_index indices k < length p.1.values → high ≤ t → Agreed o log indices low high p k → x ≡ get_or words (slice_index p.1.last k + 1) 0 →
+  pub step_value : (k t x : ℕ) → k < length indices → slice_index indices k < length p.1.values → high ≤ t → CollectsAgreed o log indices low high p k → x ≡ get_or words (slice_index p.1.last k + 1) 0 →
       Knows_at t (view_at_stage (with_value p (slice_index indices k) x) (cond (nat_lt (k + 1) (length indices)) (Value (k + 1)) Done))
   unfolding Knows_at
   step_value k t x here room after knows is =
@@ -474,7 +474,7 @@ module _ (o : Opening) (words : List ℕ) (hs : List Holding) (log : List Applie
       (λ e. record { none = knows.none; two = knows.two; prefix = knows.prefix; stamps = knows.stamps; values = next })
       (λ e.
       let last = ltb-false (k + 1) (length indices) e in (
-        λ none. (knows.two, knows.prefix, record { from = next.from; to = next.to; values = λ i lt. next.values i (omega (arith, lt, last)) }),
+        λ none. (knows.two, knows.prefix, record { from = next.from; to = next.to; values = λ i lt. next.values i (omega (arith, lt, last)) }, knows.stamps),
         λ s borrowed. let bad : None ≡ Some s = sym knows.none ∙ borrowed in absurd cc,
         λ s borrowed shares. let bad : None ≡ Some s = sym knows.none ∙ borrowed in absurd cc,
       ))

@@ -19,7 +19,7 @@ use Rattle.partial_active.specs.GetSetAnswers.{EndsBelow, is_possible_at, IsPoss
 use Rattle.partial_active.specs.Knowledge.{Facts, HasReadSo, knows_by}
 use Rattle.partial_active.proofs.Indices.{with_index_keeps, same_named}
 use Rattle.partial_active.proofs.Knowledge.{AreFacts, tells_at, ends_below, leads_at}
-use Rattle.partial_state.specs.Views.{Joined, IsAnnounced, IsPublishedList, IsApartFrom, Block}
+use Rattle.partial_state.specs.Views.{JoinedAnnouncement, IsAnnounced, IsPublishedList, IsApartFrom, Block}
 use Rattle.partial_state.specs.Holdings.{Holding, unpublished}
 use Rattle.partial_state.specs.LawfulWords.{LawfulWords}
 use Rattle.partial_state.specs.Loads.{KeptAnswer, IsLoaded, IsSlotAnswer}
@@ -29,7 +29,7 @@ use Rattle.partial_knowledge.proofs.Joined.{at_joined, shown, reference_above}
 
 module _ (z : Layout) (o : Opening) (words : List ℕ) (hs : List Holding) (log : List Applied) (low : ℕ) (w : LawfulWords z o words hs log) where
   -- a port joined in no slot whose word is EMPTY or VACATED
-  not_joined : (indices : List ℕ) (slot at : ℕ) → at ≤ 1 → ((j : Joined) → Joins hs slot j → j.since < low → j.at ≡ at) → FindsIn hs low indices slot
+  not_joined : (indices : List ℕ) (slot at : ℕ) → at ≤ 1 → ((j : JoinedAnnouncement) → Joins hs slot j → j.since < low → j.at ≡ at) → FindsIn hs low indices slot
   not_joined indices slot at small here j joins since =
       let above = reference_above z words hs slot j (shown z o words hs log w slot j joins) in
       let is = here j joins since in
@@ -105,7 +105,7 @@ module _ (o : Opening) (words : List ℕ) (hs : List Holding) (log : List Applie
   told_slot : (slot : ℕ) (k : KeptAnswer) → slot < p.0.sizes.slots → low ≤ k.at → IsLoaded p.0.sizes o words hs log (slot_word p.0.sizes slot) k → tells_at words Here (Slot slot) p k.answer
   told_slot slot k within after loaded = by_answer (loaded.slot slot within refl)
     where
-      here : (j : Joined) → Joins hs slot j → j.since < low → j.at ≡ k.answer
+      here : (j : JoinedAnnouncement) → Joins hs slot j → j.since < low → j.at ≡ k.answer
       here j joins since = sym (at_joined (λ n i. i.since < k.at → slot_word p.0.sizes slot ≡ slot_word p.0.sizes n → k.answer ≡ i.at) hs slot j loaded.joined joins (omega (arith, since, after)) refl)
 
       by_answer : IsSlotAnswer p.0.sizes words (unpublished hs) slot k.answer → tells_at words Here (Slot slot) p k.answer

@@ -47,12 +47,16 @@ pub record HasValues (o : Opening) (log : List Applied) (indices : List ℕ) (lo
   pub to : n ≤ high
   pub values : (i : ℕ) → i < count → slice_index rows.values (slice_index indices i) ≡ value_of o (take n log) (slice_index indices i)
 
+-- the latest loads are the stamps of the positions behind that history
+abbrev pub AreStamps : Opening → List Applied → List ℕ → List ℕ → Type 0
+AreStamps o log indices last = (i : ℕ) → i < length indices → slice_index last i ≡ stamp_of o log (slice_index indices i)
+
 -- two collects agreed: the latest loads are the stamps after the first n entries, and so many values are loaded
-pub record Agreed (o : Opening) (log : List Applied) (indices : List ℕ) (low high : ℕ) (p : ViewPair) (k : ℕ) : Type 0 where
+pub record CollectsAgreed (o : Opening) (log : List Applied) (indices : List ℕ) (low high : ℕ) (p : ViewPair) (k : ℕ) : Type 0 where
   pub none : p.0.borrowed ≡ None
   pub two : 2 ≤ p.0.collects
   pub prefix : ℕ
-  pub stamps : (i : ℕ) → i < length indices → slice_index p.1.last i ≡ stamp_of o (take prefix log) (slice_index indices i)
+  pub stamps : AreStamps o (take prefix log) indices p.1.last
   pub values : HasValues o log indices low high p.1 prefix k
 
 -- A position showed a third record: it is that of an entry for the position, and the record before it is one of an
@@ -98,9 +102,10 @@ knows_at z o words hs log indices low high (Index at left) p =
 knows_at z o words hs log indices low high (PairValue at left index) p =
     (p.0.shares ≡ false) × (l : Loads z o words hs log indices low p left) × (at ≡ pair_value_word p.0.view l.4) × (0 < left)
     × ((v : ℕ) × (slice_get l.3 l.4 ≡ Some (index, v)))
-knows_at z o words hs log indices low high (Value k) p = Agreed o log indices low high p k
+knows_at z o words hs log indices low high (Value k) p = CollectsAgreed o log indices low high p k
 knows_at z o words hs log indices low high Done p =
-    (p.0.borrowed ≡ None → (2 ≤ p.0.collects) × (n : ℕ) × HasValues o log indices low high p.1 n (length indices))
+    (p.0.borrowed ≡ None → (2 ≤ p.0.collects) × (n : ℕ) × HasValues o log indices low high p.1 n (length indices)
+    × AreStamps o (take n log) indices p.1.last)
     × ((stamp : ℕ) → p.0.borrowed ≡ Some stamp → IsThird words log indices low p stamp × (p.0.view ≡ view_of words stamp))
     × ((stamp : ℕ) → p.0.borrowed ≡ Some stamp → p.0.shares ≡ false → Loads z o words hs log indices low p 0)
 

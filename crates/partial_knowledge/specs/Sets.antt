@@ -8,23 +8,23 @@ use Rattle.partial_words.specs.Layout.{Layout, slot_word, list_base, total}
 use Rattle.partial_active.specs.GetSet.{SetPair, set_step_due, advance_set}
 use Rattle.partial_active.specs.GetSetAnswers.{IsPossibleInSet, SetGoesTogether}
 use Rattle.partial_active.specs.Knowledge.{Facts, HasEach, KnowsBy}
-use Rattle.partial_state.specs.Views.{Joined, IsAnnounced, IsPublishedList}
+use Rattle.partial_state.specs.Views.{JoinedAnnouncement, IsAnnounced, IsPublishedList}
 use Rattle.partial_state.specs.Holdings.{Holding, unpublished}
 use Rattle.partial_state.specs.LawfulWords.{LawfulWords}
 use Rattle.partial_state.specs.Loads.{KeptAnswer, IsLoaded, IsPublished}
 use Rattle.partial_knowledge.specs.Joins.{Joins}
 
 -- each index of the announcement was found
-abbrev pub HasAll : List ℕ → Joined → Type 0
+abbrev pub HasAll : List ℕ → JoinedAnnouncement → Type 0
 HasAll indices j = HasEach indices j.indices
 
 -- the announcement in the slot is the one at that word, for a port that joined below `low`
 abbrev pub IsInSlot : List Holding → ℕ → ℕ → ℕ → Type 0
-IsInSlot hs low slot at = (j : Joined) → Joins hs slot j → j.since < low → j.at ≡ at
+IsInSlot hs low slot at = (j : JoinedAnnouncement) → Joins hs slot j → j.since < low → j.at ≡ at
 
 -- the announcement in the slot was found, for a port that joined below `low`
 abbrev pub FindsIn : List Holding → ℕ → List ℕ → ℕ → Type 0
-FindsIn hs low indices slot = (j : Joined) → Joins hs slot j → j.since < low → HasAll indices j
+FindsIn hs low indices slot = (j : JoinedAnnouncement) → Joins hs slot j → j.since < low → HasAll indices j
 
 -- each announcement of a port that joined below `low` was found
 abbrev pub FindsJoined : List Holding → ℕ → List ℕ → Type 0

@@ -1,16 +1,16 @@
 -- The announcement of a scan in straight lines: which store is due, and where its answer leads.
-use Rattle.partial_lines.proofs.Common.{ℕ, ◌≡◌, ◌+◌, ◌<◌, ◌==◌, Bool, true, false, cond, length, Some, refl, sym, ap, ◌∙◌, arith, slice_index, ne_eqb, eq-eqb, eqb-true, eqb-false, le-ltb, pool_end, Stage, ScanBegun, StoringAnnouncement, CoreState, advance, advance_at, at_stage, begin_joining, pool_refused, step_of, announcing}
+use Rattle.partial_lines.proofs.Common.{ℕ, ◌≡◌, ◌+◌, ◌<◌, ◌==◌, Bool, true, false, cond, length, Some, refl, sym, ap, ◌∙◌, arith, slice_index, ne_eqb, eq-eqb, eqb-true, eqb-false, le-ltb, pool_end, Stage, ScanBegun, StoringAnnouncement, CoreState, advance, advance_at, at_stage, begin_joining, pool_refused, step_of, announcing_scan}
 use Rattle.partial_words.specs.declared.step.Step.TheVariants.{Store}
 use Rattle.partial_words.specs.Announcement.{announcement_block, announcement_size}
 
 abbrev either : CoreState → ℕ → ℕ → Bool → CoreState
 either s at k b = cond b (begin_joining s at) (at_stage s (StoringAnnouncement at k))
 
-pub storing : (s d : CoreState) (at k : ℕ) → d ≡ announcing s at k → k < announcement_size (length s.asked) → d ≡ at_stage s (StoringAnnouncement at k)
+pub storing : (s d : CoreState) (at k : ℕ) → d ≡ announcing_scan s at k → k < announcement_size (length s.asked) → d ≡ at_stage s (StoringAnnouncement at k)
 storing s d at k is less = is ∙ ap (either s at k) (ne_eqb k (announcement_size (length s.asked)) (λ e. omega (arith, e, less)))
 
 -- all are stored
-pub joining : (s d : CoreState) (at k : ℕ) → d ≡ announcing s at k → k ≡ announcement_size (length s.asked) → d ≡ begin_joining s at
+pub joining : (s d : CoreState) (at k : ℕ) → d ≡ announcing_scan s at k → k ≡ announcement_size (length s.asked) → d ≡ begin_joining s at
 joining s d at k is all = is ∙ ap (either s at k) (eq-eqb k (announcement_size (length s.asked)) all)
 
 module _ (s d : CoreState) (at k : ℕ) (storing : d ≡ at_stage s (StoringAnnouncement at k)) where
@@ -21,7 +21,7 @@ module _ (s d : CoreState) (at k : ℕ) (storing : d ≡ at_stage s (StoringAnno
   same_end true e = let last = eqb-true k (length s.asked) e in sym (eq-eqb (k + 1) (announcement_size (length s.asked)) (omega (arith, last)))
   same_end false e = let more = eqb-false k (length s.asked) e in sym (ne_eqb (k + 1) (announcement_size (length s.asked)) (λ e'. more (omega (arith, e'))))
 
-  pub store_then : (v : CoreState) (a : ℕ) → v ≡ advance d a → v ≡ announcing s at (k + 1)
+  pub store_then : (v : CoreState) (a : ℕ) → v ≡ advance d a → v ≡ announcing_scan s at (k + 1)
   store_then v a then = then ∙ ap (λ (t : CoreState). advance t a) storing ∙ ap (either s at (k + 1)) (same_end (k == length s.asked) refl)
 
 -- its words are past the end of the pool

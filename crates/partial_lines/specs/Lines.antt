@@ -16,12 +16,12 @@ IsQuiet (Exchanging c old at) = ⊥
 IsQuiet _ = ⊤
 
 -- where an update is that has stored so many words of its record
-abbrev pub writing : CoreState → Change → ℕ → ℕ → ℕ → Stage
-writing s c old at k = if k == record_size s then Exchanging c old at else StoringRecord c old at k
+abbrev pub writing_stage : CoreState → Change → ℕ → ℕ → ℕ → Stage
+writing_stage s c old at k = if k == record_size s then Exchanging c old at else StoringRecord c old at k
 
 -- a scan that has stored so many words of its announcement
-abbrev pub announcing : CoreState → ℕ → ℕ → CoreState
-announcing s at k = if k == announcement_size (length s.asked) then begin_joining s at else at_stage s (StoringAnnouncement at k)
+abbrev pub announcing_scan : CoreState → ℕ → ℕ → CoreState
+announcing_scan s at k = if k == announcement_size (length s.asked) then begin_joining s at else at_stage s (StoringAnnouncement at k)
 
 -- the machine whose getSet is under way, or over, and of which the caller keeps the stage
 abbrev pub set_made : CoreState → Change → ℕ → CoreState

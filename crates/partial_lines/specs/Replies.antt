@@ -5,7 +5,7 @@ use Rattle.partial_machine.specs.declared.stage.Change.{Change}
 use Rattle.partial_machine.specs.declared.stage.Reply.{Reply}
 use Rattle.partial_machine.specs.declared.stage.Reply.TheVariants as reply
 use Rattle.partial_machine.specs.declared.stage.Stage.TheVariants.{Idle}
-use Rattle.partial_machine.specs.Machine.{CoreState, overtaken}
+use Rattle.partial_machine.specs.Machine.{CoreState, overtaken_reply}
 use Rattle.partial_machine.specs.Sound.{IsSound}
 use Rattle.partial_core.specs.Part.{IsMarkedLike}
 use Rattle.partial_lines.specs.declared.exchange.Exchanged.{Exchanged}
@@ -15,7 +15,7 @@ use Rattle.partial_lines.specs.declared.whole_scan.Scanned.{Scanned}
 -- the reply to an update that ended so
 abbrev pub update_reply : Change → Result Exchanged Refused → Reply
 update_reply c (Ok (Applied stamp)) = reply.Applied stamp
-update_reply c (Ok (Overtaken by)) = overtaken c by
+update_reply c (Ok (Overtaken by)) = overtaken_reply c by
 update_reply c (Err cause) = reply.Refused cause
 
 -- the reply to a scan that ended so

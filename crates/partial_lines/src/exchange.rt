@@ -13,7 +13,7 @@ impl Exchanged {
     ghost use Rattle.std.specs.Prelude.{◌≡◌, ◌==◌, Ok, if◌then◌else◌};
     ghost use Rattle.partial_machine.specs.declared.stage.Change.{Change};
     ghost use Rattle.partial_machine.specs.declared.stage.Reply.TheVariants as reply;
-    ghost use Rattle.partial_machine.specs.Machine.{overtaken};
+    ghost use Rattle.partial_machine.specs.Machine.{overtaken_reply};
     ghost use Rattle.partial_lines.specs.Replies.{update_reply};
 
     /// Tells how an update ended whose record has the stamp `at`: the exchange of its component wanted to replace
@@ -21,7 +21,7 @@ impl Exchanged {
     #[inline(always)]
     pub fn of(old: u64, at: u64, found: u64) -> Exchanged
         ensures { (c : Change) → update_reply c (Ok result) ≡
-            (if found == old then reply.Applied at else overtaken c found) }
+            (if found == old then reply.Applied at else overtaken_reply c found) }
     {
         if found == old {
             Exchanged::Applied { stamp: at }

@@ -9,7 +9,7 @@ ghost use Rattle.partial_machine.specs.Lines.{set_begun};
 ghost use Rattle.partial_machine.specs.Machine.{at_stage, pool_refused, record_size, reply_of};
 ghost use Rattle.partial_machine.specs.Sound.{IsSound};
 ghost use Rattle.partial_core.specs.Part.{IsMarkedLike};
-ghost use Rattle.partial_lines.specs.Lines.{set_made, writing};
+ghost use Rattle.partial_lines.specs.Lines.{set_made, writing_stage};
 ghost use Rattle.partial_lines.specs.Replies.{RestsLike};
 
 use crate::embedded::scan_found;
@@ -109,12 +109,12 @@ fn write_record<M: Makes>(lines: &mut M, core: &mut Core, change: Change, old: u
 #[inline(always)]
 fn store_word<M: Makes>(lines: &mut M, core: &Core, change: Change, old: u64, at: u64, k: u64)
     requires goes { M.goes lines.old }
-    requires machine { M.machine lines.old ≡ at_stage core.now (writing core.now change old at k) }
+    requires machine { M.machine lines.old ≡ at_stage core.now (writing_stage core.now change old at k) }
     requires more { k < record_size core.now }
     requires fits { at + k < 2 ^ 32 }
     ensures goes { M.goes lines.new }
     ensures leads { M.leads lines.old lines.new }
-    ensures machine { M.machine lines.new ≡ at_stage core.now (writing core.now change old at (k + 1)) }
+    ensures machine { M.machine lines.new ≡ at_stage core.now (writing_stage core.now change old at (k + 1)) }
 {
     let word = core.record_word(change, old, at, k);
     lines.make(Step::Store((at + k) as u32, word));

@@ -7,7 +7,7 @@ ghost use Rattle.partial_machine.specs.Machine.{advance, at_stage, begin_joining
 ghost use Rattle.partial_machine.specs.Lines.{scan_joined, not_joined, scan_asked, scan_begun};
 ghost use Rattle.partial_machine.specs.Possible.{IsPossible};
 ghost use Rattle.partial_machine.specs.Sound.{IsSound};
-ghost use Rattle.partial_lines.specs.Lines.{announcing};
+ghost use Rattle.partial_lines.specs.Lines.{announcing_scan};
 ghost use Rattle.partial_lines.specs.Replies.{RestsLike, scan_reply};
 
 use crate::embedded::scan_asked;
@@ -87,7 +87,7 @@ fn store_index<M: Makes>(lines: &mut M, which: &[u32], at: u64, k: u64)
     requires fits { at + k < 2 ^ 32 }
     ensures goes { M.goes lines.new }
     ensures leads { M.leads lines.old lines.new }
-    ensures machine { M.machine lines.new ≡ announcing (M.machine lines.old) at (k + 1) }
+    ensures machine { M.machine lines.new ≡ announcing_scan (M.machine lines.old) at (k + 1) }
 {
     let word = announcement_block_word(which, k as usize);
     lines.make(Step::Store((at + k) as u32, word));

@@ -1,5 +1,5 @@
 -- An attempt of an update in the epoch where a port stands.
-use Rattle.partial_long_lived.proofs.Common.{ℕ, ◌≡◌, ◌≢◌, ◌+◌, ◌<◌, ◌≤◌, ◌==◌, ◌++◌, Bool, true, false, cond, Option, None, Some, Ok, List, [], ◌∷◌, length, map, refl, sym, ap, subst, ◌∙◌, inl, inr, arith, option_map_or, nat_lt, is_some, lt-ltb, eqb_tells, length-map, TableId, Applied, Call, Answer, Note, stamp_of, Noted, place_of, Load, Exchange, IsLayout, Layout, greatest_record, pool_end, Change, Reply, Stage, Exchanging, Finished, UpdateBegun, CoreState, advance_at, at_stage, begin_getting, lists_spent, overtaken, reply_of, step_at, step_of, answer_for, call_of, update_call, IsRecord, IsSound, is_sound_at, Part, AreNotesOf, IsNoteOf, IsPlacedAt, Exchanged, RestsLike, update_reply, Plan, seal, unsealed, history_of, public_entry, public_log, stamp_limit, public_noted, Control, About, Shape, Stand, Began, SeatedPort, plan_of, seen_in, SeatGoes, BeganBy, IsHeld, port_at, IsIdle, StaysAt, opening_of, SeatMakes, MissesSeal, unsealed_answer, RestsUnmarked, CallMade, record_claim, IsGoing, ComesTo, MayBegin, machine_at, UpdateAttempted, ExchangeDue, ExpectsOne, IsEntryOf, IsOwnMachine, NotesNothing, PortStayed, noted_where, word_from}
+use Rattle.partial_long_lived.proofs.Common.{ℕ, ◌≡◌, ◌≢◌, ◌+◌, ◌<◌, ◌≤◌, ◌==◌, ◌++◌, Bool, true, false, cond, Option, None, Some, Ok, List, [], ◌∷◌, length, map, refl, sym, ap, subst, ◌∙◌, inl, inr, arith, option_map_or, nat_lt, is_some, lt-ltb, eqb_tells, length-map, TableId, Applied, Call, Answer, Note, stamp_of, Noted, place_of, Load, Exchange, IsLayout, Layout, greatest_record, pool_end, Change, Reply, Stage, Exchanging, Finished, UpdateBegun, CoreState, advance_at, at_stage, begin_getting, lists_spent, overtaken_reply, reply_of, step_at, step_of, answer_for, call_of, update_call, IsRecord, IsSound, is_sound_at, Part, AreNotesOf, IsNoteOf, IsPlacedAt, Exchanged, RestsLike, update_reply, Plan, seal, unsealed, history_of, public_entry, public_log, stamp_limit, public_noted, Control, About, Shape, Stand, Began, SeatedPort, plan_of, seen_in, SeatGoes, BeganBy, IsHeld, port_at, IsIdle, StaysAt, opening_of, SeatMakes, MissesSeal, unsealed_answer, RestsUnmarked, CallMade, record_claim, IsGoing, ComesTo, MayBegin, machine_at, UpdateAttempted, ExchangeDue, ExpectsOne, IsEntryOf, IsOwnMachine, NotesNothing, PortStayed, noted_where, word_from}
 use Rattle.std.specs.Prelude.{◌||◌, IfSome, take}
 use Rattle.std.proofs.Math.Bool.{or-false}
 use Rattle.std.proofs.lemmas.List.{length-append}
@@ -56,7 +56,7 @@ reply_is d (IsApplied stamp) = refl
 reply_is d (Overtaken by) = refl
 
 -- the word of its record
-word_is : (r : Exchanged) (c : Bool) (at found : ℕ) → ((d : Change) → update_reply d (Ok r) ≡ cond c (reply.Applied at) (overtaken d found)) → word_from r ≡ cond c at found
+word_is : (r : Exchanged) (c : Bool) (at found : ℕ) → ((d : Change) → update_reply d (Ok r) ≡ cond c (reply.Applied at) (overtaken_reply d found)) → word_from r ≡ cond c at found
 word_is (IsApplied stamp) true at found ends = let is = ends (record { component = 0; expected = None; value = 0 }) in cc
 word_is (IsApplied stamp) false at found ends = let is : reply.Applied stamp ≡ reply.Lost found = ends (record { component = 0; expected = None; value = 0 }) in cc
 word_is (Overtaken by) true at found ends = let is : reply.Lost by ≡ reply.Applied at = ends (record { component = 0; expected = None; value = 0 }) in cc
@@ -106,11 +106,11 @@ entry_in None (Overtaken by) n k seen all is same = omega (arith, is, same)
 entry_in (Some at) (Overtaken by) n k seen all is same = omega (arith, is, same)
 
 -- an update that has ended is noted
-note_case : (y : Part) (new : List Noted) (e : Option ℕ) (r : Exchanged) → AreNotesOf y (Some (reply_as e r)) new → IsNoteOf y (reply_as e r) new
-note_case y new None (IsApplied stamp) w = w
-note_case y new (Some at) (IsApplied stamp) w = w
-note_case y new None (Overtaken by) w = w
-note_case y new (Some at) (Overtaken by) w = w
+note_case : (o : Opening) (y : Part) (new : List Noted) (e : Option ℕ) (r : Exchanged) → AreNotesOf o y (Some (reply_as e r)) new → IsNoteOf o y (reply_as e r) new
+note_case o y new None (IsApplied stamp) w = w
+note_case o y new (Some at) (IsApplied stamp) w = w
+note_case o y new None (Overtaken by) w = w
+note_case o y new (Some at) (Overtaken by) w = w
 
 -- The update of a port that stands at s, whose first step led to the stand u.
 module _ (table : TableId) (about : About) (s : Stand) (h : IsHeld table about s) (idle : IsIdle s) (core : CoreState) (d : Change) (begins : MayBegin (at_stage core (UpdateBegun d)) (port_at s))
@@ -148,8 +148,8 @@ module _ (table : TableId) (about : About) (s : Stand) (h : IsHeld table about s
       abbrev y : SeatedPort
       y = port_at t
 
-      note_of : IsNoteOf y.port.part (reply_as d.expected r) over.made.new
-      note_of = note_case y.port.part over.made.new d.expected r (subst (λ (q : Option Reply). AreNotesOf y.port.part q over.made.new) replies over.made.noted)
+      note_of : IsNoteOf (opening_of x) y.port.part (reply_as d.expected r) over.made.new
+      note_of = note_case (opening_of x) y.port.part over.made.new d.expected r (subst (λ (q : Option Reply). AreNotesOf (opening_of x) y.port.part q over.made.new) replies over.made.noted)
 
       call_is : note_of.call ≡ update_call d.component d.expected d.value
       call_is =
@@ -299,7 +299,7 @@ module _ (table : TableId) (about : About) (s : Stand) (h : IsHeld table about s
 
     -- it isn't, or its record is another
     module _ (exchanged : ExchangeDue v d old at found t) (misses : MissesSeal old found) (r : Exchanged)
-        (ends : (c : Change) → update_reply c (Ok r) ≡ cond (unsealed found == old) (reply.Applied at) (overtaken c (unsealed found))) where
+        (ends : (c : Change) → update_reply c (Ok r) ≡ cond (unsealed found == old) (reply.Applied at) (overtaken_reply c (unsealed found))) where
       inside : d.component < (port_at v).about.sizes.m
       inside = subst (λ (z : Layout). d.component < z.m) (begins.sizes ∙ ap (λ (a : About). a.sizes) (sym over_call.goes.about)) begins.sound.stage.0
 

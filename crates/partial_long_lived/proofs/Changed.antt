@@ -1,5 +1,5 @@
 -- A change of epoch, from its look to the epoch that is entered.
-use Rattle.partial_long_lived.proofs.Common.{ℕ, ◌≡◌, ◌<◌, ◌≤◌, Bool, List, None, refl, ap, subst, ◌∙◌, Noted, Place, Port, arrived_port, About, Stand, Began, SeatedPort, plan_of, port_at, EpochEntered, StaysAt, LookFound, Changed, Stays}
+use Rattle.partial_long_lived.proofs.Common.{ℕ, ◌≡◌, ◌<◌, ◌≤◌, Bool, List, None, refl, ap, subst, ◌∙◌, Noted, Place, Port, arrived_port, About, Stand, Began, SeatedPort, plan_of, port_at, EpochEntered, StaysAt, LookFound, EpochChanged, Stays}
 use Rattle.partial_long_lived.proofs.Coming.{goes_on}
 use Rattle.partial_long_lived.proofs.Looking.{looked_keeps}
 
@@ -23,7 +23,7 @@ module _ (first : Bool) (s t u v : Stand) (b : Bool) (kept : StaysAt s t) (looke
   began_is : (port_at u).began ≡ looked.looks.0
   began_is = stays.began ∙ ap (λ (x : SeatedPort). x.began) looked.looks.2
 
-  pub changed : Changed first s v
+  pub changed : EpochChanged first s v
   changed = record {
     shape = entered.shape ∙ stays.shape ∙ kept.shape;
     number = entered.number ∙ stays.number ∙ kept.number;

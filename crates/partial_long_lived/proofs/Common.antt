@@ -16,7 +16,7 @@ pub use Rattle.partial_model.specs.Outcome.{places_written, EachOnce, places_by,
 pub use Rattle.partial_model.proofs.AllLemmas.{all_after, all_append, all_at, all_back, all_before, all_front, all_weaker, all_join}
 pub use Rattle.partial_model.proofs.NotesLemmas.{AllByRecursion-get, LegalNotes-last, legal_notes_are_shown, LegalNotes-push, LegalNotes-grows}
 pub use Rattle.partial_words.specs.Layout.{Layout, first_free, list_base, pool_base, IsLayout, greatest_record, pool_end, list_counter, list_head, pool_counter, slot_counter, slot_word, total, initial_record, initial_words}
-pub use Rattle.partial_machine.specs.Machine.{CoreState, fresh, advance_at, at_stage, begin_getting, lists_spent, overtaken, reply_of, step_at, step_of, advance, after_joining, begin_joining, expects, fits_pool, getting, pool_refused, record_size, with_getting, scanned_values, reply_at}
+pub use Rattle.partial_machine.specs.Machine.{CoreState, fresh, advance_at, at_stage, begin_getting, lists_spent, overtaken_reply, reply_of, step_at, step_of, advance, after_joining, begin_joining, expects, fits_pool, getting, pool_refused, record_size, with_getting, scanned_values, reply_at}
 pub use Rattle.partial_machine.specs.Sound.{AreComponentIndices, IsSound, is_sound_at, IsRecord}
 pub use Rattle.partial_core.specs.Part.{IsBetween, IsMarkedLike, core_of, Part, first_at}
 pub use Rattle.partial_machine.specs.Calls.{is_at_rest, answer_for, call_of, update_call, is_begun}
@@ -45,7 +45,7 @@ pub use Rattle.partial_machine.specs.declared.stage.Change.{Change}
 pub use Rattle.partial_machine.specs.declared.stage.Reply.{Reply}
 pub use Rattle.partial_machine.specs.declared.stage.Stage.{Stage}
 pub use Rattle.partial_machine.specs.declared.stage.Stage.TheVariants.{Exchanging, Finished, UpdateBegun, Idle, ReadBegun, LoadingValue, GettingSet, Viewing, ClaimingRecord, StoringRecord, ScanBegun, StoringAnnouncement, Joining, Scanning, Leaving}
-pub use Rattle.partial_core.specs.Steps.{AreNotesOf, IsNoteOf, IsPlacedAt, begun_with, since_with, Tells, moved}
+pub use Rattle.partial_core.specs.Steps.{AreNotesOf, IsNoteOf, IsPlacedAt, begun_with, since_with, Tells, moved_part}
 pub use Rattle.partial_lines.specs.declared.exchange.Exchanged.{Exchanged}
 pub use Rattle.partial_lines.specs.Replies.{RestsLike, update_reply, scan_reply}
 pub use Rattle.partial_epochs.proofs.Entering.{current_is, not_marked}
@@ -80,7 +80,7 @@ pub use Rattle.partial_long_lived.specs.Resting.{IsResting}
 pub use Rattle.partial_long_lived.specs.Inner.Steps.{SeatGoes, IsSeatKnown, IsOne, tells, BeginsWith, HasStampsInWords}
 pub use Rattle.partial_long_lived.specs.Inner.Held.{IsHeld, epoch_at, port_at}
 pub use Rattle.partial_long_lived.specs.Inner.Calls.{HasCome, HasNotedRead, IsIdle, StaysAt, EpochEntered, LookFound, HasValue, EpochSettled, MayEnter}
-pub use Rattle.partial_long_lived.specs.Inner.Changing.{Changed, NotChanged, IsCarriedStamp, IsInitialValue, IsRight, IsFixedWord, MayPutPort, OfOwned, Owns, PutsBy, SetsLists, SetsNext, TakesBy, HasSetWords, Stays, HasTaken, HoldsMark, IsPast, Remains, IsCause, HasSamePart, HasLoadedPort, HasPassed}
+pub use Rattle.partial_long_lived.specs.Inner.Changing.{EpochChanged, NotChanged, IsCarriedStamp, IsInitialValue, IsRight, IsFixedWord, MayPutPort, OfOwned, Owns, PutsBy, SetsLists, SetsNext, TakesBy, HasSetWords, Stays, HasTaken, HoldsMark, IsPast, Remains, IsCause, HasSamePart, HasLoadedPort, HasPassed}
 pub use Rattle.partial_long_lived.specs.Inner.Scans.{HasNotedScan, RestsUnmarked, ScanMade, noted_scan, SettledFirst}
 pub use Rattle.partial_long_lived.specs.Inner.Rests.{NotScanned, RestsAt}
 pub use Rattle.partial_long_lived.specs.Inner.Moves.{becomes, FindsClear, SeatGives, LoadsPort, PassesSealed, SeatPublishes, PutsPort, Seals, Sets, Takes, passed_at, unpacked, BeganBy, elsewhere, port_loaded, port_put, taken_at, LoadsCurrent, SeatLooks, StoresMark, having_found, loads, looked_at, marks, SeatArrives, place_found}
@@ -89,7 +89,7 @@ pub use Rattle.partial_long_lived.specs.declared.shape.Shape.{Shape}
 pub use Rattle.partial_long_lived.specs.Inner.Loads.{opening_of, SeatSees, Wish, noted_by, place_seen, stamp_seen, value_seen, Recalls, found_by, component_at, sees}
 pub use Rattle.partial_long_lived.specs.Inner.Machine.{SeatMakes, MissesSeal, unsealed_answer, LeavesComponents, IsApart, MayMake, change_of, over_by, told_of, makes, word_at, goes_on, Exchanges, begins, exchanges}
 pub use Rattle.partial_long_lived.specs.Inner.Under.{CallMade, record_claim, IsGoing, ComesTo, MayBegin, machine_at, before_claim}
-pub use Rattle.partial_long_lived.specs.Inner.Updates.{UpdateAttempted, ExchangeDue, ExpectsOne, IsEntryOf, IsOwnMachine, NotesNothing, PortStayed, noted_where, word_from, MayCall, CameBy, IsLate, Updated, noted_change, public_update, stamp_from}
+pub use Rattle.partial_long_lived.specs.Inner.Updates.{UpdateAttempted, ExchangeDue, ExpectsOne, IsEntryOf, IsOwnMachine, NotesNothing, PortStayed, noted_where, word_from, MayCall, CameBy, IsLate, UpdateEnded, noted_change, public_update, stamp_from}
 pub use Rattle.partial_long_lived.specs.Inner.Last.{HaveLast, ReadsLast, value_now, arena_now, component_now}
 pub use Rattle.partial_long_lived.specs.Inner.Loads.Wish.{Glances, Reads, Expects, Finds}
 pub use Rattle.partial_long_lived.specs.Inner.DoubleCollect.{AreCollected, HasGlanced, HasStayed, WasThere, AreInside, HadValue, HadValues, HasBegunCollect, MayNoteScan, NotesScan, noted_together, notes_scan}

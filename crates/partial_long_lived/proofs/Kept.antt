@@ -1,7 +1,8 @@
 -- A step of one seat keeps the rule.
 use Rattle.partial_long_lived.proofs.Common.{ℕ, ◌≡◌, ◌≢◌, ◌+◌, ◌<◌, ◌≤◌, ◌==◌, ◌++◌, cond, Option, Some, None, IfSome, List, [], ◌∷◌, length, get_or, set, refl, sym, ap, subst, ◌∙◌, arith, append-nil, length-append, AllByRecursion, some, get_elem?, Me, Allows, keeps, Applied, LegalNotes, Noted, all_at, all_join, all_before, all_after, all_weaker, Port, Beside, IsEpochPlan, place_now, KeepsTime, history_longer, LawfulMemory, option_map_or, behind_both, IsPlace, carried_after, carried_behind, history_of, opening_behind, public_log, public_stamp, value_of, About, Began, Found, BeganInTime, IsFinal, IsRuleKept, IsSeat, IsSeen, IsSince, SeatedPort, one_of, plan_of, seats_of, Knows, seen_in, BeginsWith, SeatGoes, IsSeatKnown, IsOne, tells}
 use Rattle.partial_epochs.proofs.Last.{none_here, stays}
-use Rattle.partial_long_lived.proofs.Seen.{fits_of, knows_of, seen_begins}
+use Rattle.partial_long_lived.specs.Inner.Steps.{HasRecordStamps}
+use Rattle.partial_long_lived.proofs.Seen.{fits_of, knows_of, own_of, seen_begins}
 use Rattle.partial_long_lived.proofs.Views.{around, others_all, seat_own, seats_both}
 
 -- The histories of all epochs have grown: that of the epoch behind these has at most gained entries, for components of which that is so.
@@ -194,6 +195,7 @@ module _ {S : Type 0} (a : About) (me : Me S (List SeatedPort)) (one : IsOne me)
         knows = subst (λ (z : About). Knows z m.y.number (seen_in m.y.port) m.y.notes) (sym about)
             (subst (λ (ns : List Noted). Knows a m.y.number (seen_in m.y.port) ns) (sym noted) knows);
         fits = fits_of a words' m.ports' m.beside m.notes' m.lawful (seen_in m.y.port) (seen_begins m.beside m.y.port s.seen r.0 r.1 r.2);
+        own = subst (λ (z : About). HasRecordStamps z.sizes m.y.port.part.seen) (sym about) (own_of a words' m.ports' m.beside m.notes' m.lawful m.y.port s.seen r.0 r.1 r.2);
       }
 
   pub goes_then : x.about ≡ a → SeatGoes x m.y

@@ -185,7 +185,7 @@ module _ (a : About) (words : List ℕ) (ports : ℕ → Port) (notes : ℕ → 
 
   -- a conditional update that found another stamp expected one of the epoch's
   expected_one : (l : List Noted) → lead.tells.new ≡ l → AllByRecursion (λ (m : Noted). ExpectedOne (opening_behind a.opening (ports k).before) lead.port.part.seen m.call m.answer) l
-  expected_one l is = elim (one_or_none lead.port.part (reply_of (advance c A)) lead.tells.new lead.tells.noted) [
+  expected_one l is = elim (one_or_none (opening_behind a.opening (ports k).before) lead.port.part (reply_of (advance c A)) lead.tells.new lead.tells.noted) [
     | inl none ↦ subst (AllByRecursion (λ (m : Noted). ExpectedOne (opening_behind a.opening (ports k).before) lead.port.part.seen m.call m.answer)) (sym none ∙ is) tt
     | inr some ↦
         let m = some.1 in

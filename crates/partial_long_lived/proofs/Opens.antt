@@ -56,6 +56,7 @@ newcomer_known a words w k low = record {
   epoch = refl;
   knows = record { history = record { components = tt; distinct = tt; not_initial = tt }; legal = tt; once = refl; others = tt };
   fits = record { each = tt };
+  own = record { above = tt; below = tt };
 }
 
 -- and of all

@@ -1,5 +1,5 @@
 -- The rounds of an update: an attempt, and a change of epoch, and so on.
-use Rattle.partial_long_lived.proofs.Common.{ℕ, Option, None, Result, Ok, Err, IfOk, IfErr, ◌≡◌, ◌+◌, ◌<◌, ◌≤◌, ◌++◌, Bool, true, false, List, [], ◌∷◌, length, refl, sym, ap, subst, ◌∙◌, arith, append-nil, TableId, Noted, Change, CoreState, Exchanged, About, Refused, Component, Overtaken, NoArena, EpochsSpent, Stand, IsCause, Began, SeatedPort, seen_in, SeatGoes, BeganBy, IsHeld, epoch_at, port_at, IsIdle, UpdateAttempted, CameBy, IsEntryOf, IsLate, IsOwnMachine, MayCall, NotesNothing, Updated, noted_change, noted_where}
+use Rattle.partial_long_lived.proofs.Common.{ℕ, Option, None, Result, Ok, Err, IfOk, IfErr, ◌≡◌, ◌+◌, ◌<◌, ◌≤◌, ◌++◌, Bool, true, false, List, [], ◌∷◌, length, refl, sym, ap, subst, ◌∙◌, arith, append-nil, TableId, Noted, Change, CoreState, Exchanged, About, Refused, Component, Overtaken, NoArena, EpochsSpent, Stand, IsCause, Began, SeatedPort, seen_in, SeatGoes, BeganBy, IsHeld, epoch_at, port_at, IsIdle, UpdateAttempted, CameBy, IsEntryOf, IsLate, IsOwnMachine, MayCall, NotesNothing, UpdateEnded, noted_change, noted_where}
 use Rattle.partial_long_lived.proofs.Coming.{goes_on, seen_more}
 
 -- whether the call began with its first step here, or as before, where the next step may still be its first one
@@ -49,7 +49,7 @@ may_own x core may = record { idle = may.rests.between.idle; sound = may.rests.b
 
 module _ (table : TableId) (about : About) (first next : Bool) (s u : Stand) (core : CoreState) (on : RoundsOn table about first next s u core) (t : Stand) where
   -- the attempt has ended the update
-  pub round_ended : (c : Change) → c.expected ≡ None → (r : Exchanged) → IsHeld table about t → UpdateAttempted next c r u t → Updated first c r s t
+  pub round_ended : (c : Change) → c.expected ≡ None → (r : Exchanged) → IsHeld table about t → UpdateAttempted next c r u t → UpdateEnded first c r s t
   round_ended c plain r held attempt =
       let goes = attempt.stayed.kept.goes in
       let epoch = held.known.epoch ∙ sym held.epoch in
@@ -111,7 +111,7 @@ rounds_came table about first next s t core on later = record {
 }
 
 -- an update that began with a change of epoch
-pub updated_behind : (c : Change) (r : Exchanged) (s t v : Stand) → CameBy true s t → Updated false c r t v → Updated true c r s v
+pub updated_behind : (c : Change) (r : Exchanged) (s t v : Stand) → CameBy true s t → UpdateEnded false c r t v → UpdateEnded true c r s v
 updated_behind c r s t v came ended = record {
   shape = ended.shape ∙ came.shape;
   number = ended.number ∙ came.number;

@@ -130,8 +130,8 @@ module _ (table : TableId) (about : About) (s u t : Stand) (h : IsHeld table abo
   call_over : CallMade b x (machine_at t) y
   call_over = leads.call b x begins begun.made
 
-  note_of : IsNoteOf y.port.part (reply.Scanned collects borrowed) call_over.made.new
-  note_of = subst (λ (r : Option Reply). AreNotesOf y.port.part r call_over.made.new) replies call_over.made.noted
+  note_of : IsNoteOf (opening_of x) y.port.part (reply.Scanned collects borrowed) call_over.made.new
+  note_of = subst (λ (r : Option Reply). AreNotesOf (opening_of x) y.port.part r call_over.made.new) replies call_over.made.noted
 
   saw : (k : ℕ) × (note_of.note ≡ note.Saw k) × (k ≤ length y.port.part.seen)
   saw = saw_at collects borrowed note_of.note (length y.port.part.seen) note_of.placed

@@ -4,7 +4,13 @@ use Rattle.partial_model.specs.declared.call.Call.TheVariants as call
 use Rattle.partial_model.specs.declared.call.Answer.TheVariants as answer
 use Rattle.partial_model.specs.declared.call.Note.TheVariants as note
 use Rattle.partial_model.specs.History.{initial_stamp}
+use Rattle.partial_words.specs.Layout.{first_free}
+use Rattle.partial_core.proofs.Parts.{all_at}
+use Rattle.partial_epochs.specs.Notes.{IsEpochHistory}
 use Rattle.partial_epochs.proofs.NotesStay.{places_both}
+use Rattle.partial_epochs.proofs.OneHistory.{present_history}
+use Rattle.partial_epochs.specs.History.{stamp_limit}
+use Rattle.partial_long_lived.specs.Inner.Steps.{HasRecordStamps}
 
 distinct_front : (h rest : List Applied) → HaveDistinctStamps (h ++ rest) → HaveDistinctStamps h
 distinct_front [] rest w = tt
@@ -98,6 +104,18 @@ fits_of about words ports b notes w h begins = record {
   each = all_front (λ (a : Applied). a.stamp < 18446744073709551616) h begins.0
       (subst (AllByRecursion (λ (a : Applied). a.stamp < 18446744073709551616)) begins.1 (public_stamps_are_unique (plan_of about) words ports b notes w).fits);
 }
+
+-- and those of its epoch are stamps of records
+pub own_of : (about : About) (words : List ℕ) (ports : ℕ → Port) (b : Beside) (notes : ℕ → List Noted) → LawfulMemory (plan_of about) words ports b notes →
+    (p : Port) → IsSeen b p → (later : List (List Applied)) (log : List Applied) → b.log ∷ b.before ≡ later ++ log ∷ p.before → HasRecordStamps about.sizes p.part.seen
+own_of about words ports b notes w p seen later log is =
+    let s = seen later log is in
+    let h = all_at (IsEpochHistory (plan_of about)) later log p.before
+    (subst (AllByRecursion (IsEpochHistory (plan_of about))) is (present_history (plan_of about) words ports b w.epochs, w.noted.finished)) in
+    record {
+      above = all_front (λ (e : Applied). first_free about.sizes ≤ e.stamp) p.part.seen s.0 (subst (AllByRecursion (λ (e : Applied). first_free about.sizes ≤ e.stamp)) s.1 h.above);
+      below = all_front (λ (e : Applied). e.stamp < stamp_limit) p.part.seen s.0 (subst (AllByRecursion (λ (e : Applied). e.stamp < stamp_limit)) s.1 h.below);
+    }
 
 pub legal_begins : (o : Opening) (h l : List Applied) (k n : ℕ) (ns : List Noted) → BeginsWith h l → LegalNotes o h k n ns → LegalNotes o l k n ns
 legal_begins o h l k n ns begins w = subst (λ (t : List Applied). LegalNotes o t k n ns) (sym begins.1) (LegalNotes-grows o h begins.0 k n ns w)

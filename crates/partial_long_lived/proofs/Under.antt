@@ -1,5 +1,5 @@
 -- The steps of a call of a port's machine, one after the other.
-use Rattle.partial_long_lived.proofs.Common.{ℕ, ◌≡◌, ◌≢◌, ◌+◌, ◌<◌, ◌≤◌, ◌==◌, ◌⊎◌, ◌&&◌, ◌||◌, ◌++◌, Bool, true, false, cond, Option, Some, None, List, [], ◌∷◌, length, map, take, refl, sym, ap, subst, ◌∙◌, inl, inr, arith, append-nil, nat_lt, eqb_tells, append_cancel_left, Applied, Opening, stamp_of, Noted, seen_by, Step, Load, Store, Exchange, Add, Layout, IsLayout, greatest_record, pool_counter, total, word_of, Reply, Stage, Idle, ReadBegun, LoadingValue, UpdateBegun, GettingSet, Viewing, ClaimingRecord, StoringRecord, Exchanging, ScanBegun, StoringAnnouncement, Joining, Scanning, Leaving, Finished, some_same, not_below, cases_lt, CoreState, advance, record_size, reply_of, step_at, step_of, call_of, is_begun, IsSound, Part, first_at, AreNotesOf, Tells, begun_with, moved, take_within, first_steps_make_calls, further_steps_make_calls, history_of, opening_behind, Control, MayClaim, public_noted, About, Began, SeatedPort, plan_of, SeatGoes, opening_of, SeatMakes, MayMake, over_by, CallMade, MayBegin, before_claim, record_claim}
+use Rattle.partial_long_lived.proofs.Common.{ℕ, ◌≡◌, ◌≢◌, ◌+◌, ◌<◌, ◌≤◌, ◌==◌, ◌⊎◌, ◌&&◌, ◌||◌, ◌++◌, Bool, true, false, cond, Option, Some, None, List, [], ◌∷◌, length, map, take, refl, sym, ap, subst, ◌∙◌, inl, inr, arith, append-nil, nat_lt, eqb_tells, append_cancel_left, Applied, Opening, stamp_of, Noted, seen_by, Step, Load, Store, Exchange, Add, Layout, IsLayout, greatest_record, pool_counter, total, word_of, Reply, Stage, Idle, ReadBegun, LoadingValue, UpdateBegun, GettingSet, Viewing, ClaimingRecord, StoringRecord, Exchanging, ScanBegun, StoringAnnouncement, Joining, Scanning, Leaving, Finished, some_same, not_below, cases_lt, CoreState, advance, record_size, reply_of, step_at, step_of, call_of, is_begun, IsSound, Part, first_at, AreNotesOf, Tells, begun_with, moved_part, take_within, first_steps_make_calls, further_steps_make_calls, history_of, opening_behind, Control, MayClaim, public_noted, About, Began, SeatedPort, plan_of, SeatGoes, opening_of, SeatMakes, MayMake, over_by, CallMade, MayBegin, before_claim, record_claim}
 use Rattle.partial_model.specs.declared.call.Call.TheVariants as call
 use Rattle.partial_model.specs.declared.call.Refused.{Refused}
 use Rattle.partial_machine.specs.declared.stage.Reply.TheVariants as reply
@@ -139,7 +139,7 @@ first_may b x begins s due = record {
 -- the first step of a call
 module _ (b : CoreState) (x : SeatedPort) (begins : MayBegin b x) (first : Bool) (s : Step) (due : step_of b ≡ Some s) (a : ℕ) (y : SeatedPort) (goes : SeatGoes x y)
     (m : SeatMakes first b s x a y) where
-  part_is : y.port.part ≡ moved b a (m.log ++ m.entries) m.told.new x.port.part
+  part_is : y.port.part ≡ moved_part b a (m.log ++ m.entries) m.told.new x.port.part
   part_is = m.told.part
 
   begun_is : is_begun b.stage ≡ true
@@ -185,7 +185,7 @@ module _ (b : CoreState) (x : SeatedPort) (begins : MayBegin b x) (c : CoreState
 
   -- nothing is noted yet
   none_yet : had.made.new ≡ []
-  none_yet = subst (λ r. AreNotesOf y.port.part r had.made.new) (due_is_unreplied c s due) had.made.noted
+  none_yet = subst (λ r. AreNotesOf (opening_of x) y.port.part r had.made.new) (due_is_unreplied c s due) had.made.noted
 
   pub notes_same : y.notes ≡ x.notes
   notes_same = had.notes ∙ ap (λ (l : List Noted). x.notes ++ map (public_noted (plan_of x.about) x.port.before) l) none_yet ∙ append-nil x.notes
@@ -227,7 +227,7 @@ module _ (b : CoreState) (x : SeatedPort) (begins : MayBegin b x) (c : CoreState
       taken n few = ap (take n) had.made.seen ∙ take_within n (length x.port.part.seen) y.port.part.seen few
 
   module _ (a : ℕ) (z : SeatedPort) (goes : SeatGoes y z) (m : SeatMakes false c s y a z) where
-    next_part : z.port.part ≡ moved c a (m.log ++ m.entries) m.told.new y.port.part
+    next_part : z.port.part ≡ moved_part c a (m.log ++ m.entries) m.told.new y.port.part
     next_part = m.told.part
 
     told_there : Tells x.about.sizes (opening_of x) m.log m.entries y.port.part c a z.port.part

@@ -1,5 +1,5 @@
 -- An update of a port, as callers see it.
-use Rattle.partial_long_lived.proofs.Common.{ℕ, ◌≡◌, ◌<◌, Bool, true, false, [], sym, subst, ◌∙◌, arith, append-nil, ap, ◌+◌, TableId, Applied, IsLegal, LegalNotes, seen_by, AllByRecursion-get, LegalNotes-last, Change, CoreState, Exchanged, About, UpdatedIf, Asked, Refused, Component, Overtaken, NoArena, EpochsSpent, Stand, Seating, one_in, IsOf, MemoryView, PortView, port_view, seen_in, IsStandOf, IsSeatingOf, IsHeld, epoch_at, port_at, IsIdle, HasUpdatedIf, RestsAt, CameBy, IsLate, IsOwnMachine, MayCall, Updated, noted_change, public_update, stamp_from}
+use Rattle.partial_long_lived.proofs.Common.{ℕ, ◌≡◌, ◌<◌, Bool, true, false, [], sym, subst, ◌∙◌, arith, append-nil, ap, ◌+◌, TableId, Applied, IsLegal, LegalNotes, seen_by, AllByRecursion-get, LegalNotes-last, Change, CoreState, Exchanged, About, UpdatedIf, Asked, Refused, Component, Overtaken, NoArena, EpochsSpent, Stand, Seating, one_in, IsOf, MemoryView, PortView, port_view, seen_in, IsStandOf, IsSeatingOf, IsHeld, epoch_at, port_at, IsIdle, HasUpdatedIf, RestsAt, CameBy, IsLate, IsOwnMachine, MayCall, UpdateEnded, noted_change, public_update, stamp_from}
 use Rattle.partial_model.specs.declared.call.Call.TheVariants as call
 use Rattle.partial_lines.specs.declared.exchange.Exchanged.TheVariants.{Applied as IsApplied, Overtaken as IsOvertaken}
 use Rattle.partial_long_lived.specs.declared.answers.UpdatedIf.TheVariants as conditional
@@ -25,7 +25,7 @@ own_rests table about s core spent h free own may = record {
 }
 
 -- the public stamp of the entry that an update names fits a word
-module _ (s t : Stand) (c : Change) (r : Exchanged) (w : Updated true c r s t) where
+module _ (s t : Stand) (c : Change) (r : Exchanged) (w : UpdateEnded true c r s t) where
   legal_update : IsLegal (port_at t).about.opening (seen_in (port_at t).port) (port_at t).number (seen_by 0 (port_at s).notes) (noted_change t.epoch c r w.place)
   legal_update = LegalNotes-last (port_at t).about.opening (seen_in (port_at t).port) (port_at t).number 0 (port_at s).notes (noted_change t.epoch c r w.place)
       (subst (LegalNotes (port_at t).about.opening (seen_in (port_at t).port) (port_at t).number 0) w.notes w.goes.known.knows.legal)
@@ -40,7 +40,7 @@ module _ (s t : Stand) (c : Change) (r : Exchanged) (w : Updated true c r s t) w
   update_fits = fits_by r legal_update
 
 -- an update that ended, as callers see it
-has_updated_seen : (table : TableId) (s t : Stand) (c : Change) (r : Exchanged) → Updated true c r s t → c.component < (port_at s).about.sizes.m →
+has_updated_seen : (table : TableId) (s t : Stand) (c : Change) (r : Exchanged) → UpdateEnded true c r s t → c.component < (port_at s).about.sizes.m →
     calls.Updates (port_view table (port_at s)) c.component c.value (public_update t.epoch r) (port_view table (port_at t))
 has_updated_seen table s t c (IsApplied stamp) w inside =
     let first = w.began in
@@ -115,7 +115,7 @@ not_updated_if_seen table s t j e v EpochsSpent is late w inside = ((inside, tt)
 -- the same, from the seat that was taken out to the one that was put back
 module _ (m : MemoryView) (s : Seating) (t u : Stand) (s' : Seating) (p : PortView) (k : IsStandOf s t) (view : port_view s.badge.table_id (one_in s.badge.views) ≡ p) (own : IsOf m p)
     (held : IsHeld m.table m.about u) (k' : IsSeatingOf u s') where
-  pub update_answered : (c : Change) (r : Exchanged) → Updated true c r t u → c.component < m.about.sizes.m →
+  pub update_answered : (c : Change) (r : Exchanged) → UpdateEnded true c r t u → c.component < m.about.sizes.m →
       calls.Updates p c.component c.value (public_update u.epoch r) (port_view s'.badge.table_id (one_in s'.badge.views))
   update_answered c r w inside =
       callers_see m s t u s' p k view own held k' (λ (a b : PortView). calls.Updates a c.component c.value (public_update u.epoch r) b)

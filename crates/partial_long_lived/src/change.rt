@@ -4,7 +4,7 @@ ghost use Rattle.std.specs.Prelude.{◌≡◌, ◌+◌, ◌<◌, ◌==◌, IfErr
 ghost use Rattle.partial_words.specs.Layout.{first_free};
 ghost use Rattle.partial_long_lived.specs.Inner.Held.{IsHeld, port_at};
 ghost use Rattle.partial_long_lived.specs.Inner.Calls.{IsIdle, StaysAt, LookFound, MayLook};
-ghost use Rattle.partial_long_lived.specs.Inner.Changing.{Changed, IsCause, IsPast, HasSamePart, NotChanged, Owns, Stays, HasSetWords};
+ghost use Rattle.partial_long_lived.specs.Inner.Changing.{EpochChanged, IsCause, IsPast, HasSamePart, NotChanged, Owns, Stays, HasSetWords};
 
 use crate::change_plays::Publish;
 use crate::claim::{Claimed, claim, give};
@@ -28,7 +28,7 @@ pub fn change(words: &Words, stand: &mut Stand, first: bool) -> Result<(), Refus
     requires held { IsHeld words.now.table_id words.now.key stand.old }
     requires may { IsIdle stand.old }
     ensures held { IsHeld words.now.table_id words.now.key stand.new }
-    ensures changed { IfOk result (λ _. Changed first stand.old stand.new) }
+    ensures changed { IfOk result (λ _. EpochChanged first stand.old stand.new) }
     ensures refused { IfErr result (λ _. NotChanged first stand.old stand.new) }
     ensures cause { IfErr result (IsCause stand.new) }
 {

@@ -13,7 +13,7 @@ ghost use Rattle.partial_long_lived.specs.Inner.Changing.{IsCause};
 ghost use Rattle.partial_long_lived.specs.Inner.Machine.{SeatBegins};
 ghost use Rattle.partial_long_lived.specs.Inner.Rests.{RestsAt};
 ghost use Rattle.partial_long_lived.specs.Inner.Under.{IsGoing, ComesTo, MayBegin, machine_at};
-ghost use Rattle.partial_long_lived.specs.Inner.Updates.{UpdateAttempted, CameBy, ExchangeDue, ExpectsOne, IsLate, IsOwnMachine, MayCall, NotesNothing, Updated};
+ghost use Rattle.partial_long_lived.specs.Inner.Updates.{UpdateAttempted, CameBy, ExchangeDue, ExpectsOne, IsLate, IsOwnMachine, MayCall, NotesNothing, UpdateEnded};
 
 use crate::arena::SEAL;
 use crate::change::change;
@@ -49,7 +49,7 @@ pub fn update(
     requires plain { change.expected ≡ None }
     ensures held { IsHeld words.now.table_id words.now.key stand.new }
     ensures rests { RestsAt stand.new core.new spent.new }
-    ensures updated { IfOk result (λ r. Updated true change r stand.old stand.new) }
+    ensures updated { IfOk result (λ r. UpdateEnded true change r stand.old stand.new) }
     ensures refused { IfErr result (λ cause. IsLate 16 stand.old cause stand.new × CameBy true stand.old stand.new) }
 {
     if !*spent {
@@ -83,7 +83,7 @@ fn rounds(
     ensures idle { IsIdle stand.new }
     ensures rests { IsOwnMachine (port_at stand.new) core.new }
     ensures spare { spent.new ≡ false → MayCall (port_at stand.new) core.new }
-    ensures updated { IfOk result (λ r. Updated first change r stand.old stand.new) }
+    ensures updated { IfOk result (λ r. UpdateEnded first change r stand.old stand.new) }
     ensures refused { IfErr result (λ cause.
         IsLate times stand.old cause stand.new × CameBy first stand.old stand.new) }
 {

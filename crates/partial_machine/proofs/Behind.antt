@@ -27,7 +27,7 @@ use Rattle.partial_machine.specs.declared.stage.Reply.{Reply}
 use Rattle.partial_machine.specs.declared.stage.Reply.TheVariants as reply
 use Rattle.partial_machine.specs.declared.stage.Stage.{Stage}
 use Rattle.partial_machine.specs.declared.stage.Stage.TheVariants.{Idle, ReadBegun, LoadingValue, UpdateBegun, GettingSet, Viewing, ClaimingRecord, StoringRecord, Exchanging, ScanBegun, StoringAnnouncement, Joining, Scanning, Leaving, Finished}
-use Rattle.partial_machine.specs.Machine.{CoreState, at_stage, getting, scanning, with_getting, with_scanning, record_size, expects, overtaken, fits_pool, pool_refused, slots_refused, begin_getting, begin_joining, after_joining, scanned_reply, lists_spent, advance_at, advance, step_at, reply_at}
+use Rattle.partial_machine.specs.Machine.{CoreState, at_stage, getting, scanning, with_getting, with_scanning, record_size, expects, overtaken_reply, fits_pool, pool_refused, slots_refused, begin_getting, begin_joining, after_joining, scanned_reply, lists_spent, advance_at, advance, step_at, reply_at}
 use Rattle.partial_machine.specs.Calls.{is_begun, is_at_rest}
 use Rattle.partial_machine.specs.Sound.{IsSound, is_sound_at}
 use Rattle.partial_machine.specs.Possible.{IsPossibleAt}
@@ -122,7 +122,7 @@ either None s t P p q = q
 either (Some a) s t P p q = p
 
 -- the reply to an exchange refuses nothing
-exchanged : (c : Change) (at x : ℕ) (b : Bool) (f : Option ℕ) → c.expected ≡ f → is_refusal (Some (cond b (reply.Applied at) (overtaken c x))) ≡ false
+exchanged : (c : Change) (at x : ℕ) (b : Bool) (f : Option ℕ) → c.expected ≡ f → is_refusal (Some (cond b (reply.Applied at) (overtaken_reply c x))) ≡ false
 exchanged c at x true f e = refl
 exchanged c at x false None e = ap (λ (g : Option ℕ). is_refusal (Some (option_map_or (λ _. reply.Changed x) g (reply.Lost x)))) e
 exchanged c at x false (Some v) e = ap (λ (g : Option ℕ). is_refusal (Some (option_map_or (λ _. reply.Changed x) g (reply.Lost x)))) e
@@ -200,7 +200,7 @@ module _ (s : CoreState) (x : ℕ) (w : IsSound s) where
       (λ _. plain s x (at_stage s (Exchanging c old at)) (Exchanging c old at) refl refl refl refl refl)
       (λ _. plain s x (at_stage s (StoringRecord c old at (k + 1))) (StoringRecord c old at (k + 1)) refl refl refl refl refl)
   after_at (Exchanging c old at) e p =
-      let u : Stage = Finished (cond (x == old) (reply.Applied at) (overtaken c x)) in
+      let u : Stage = Finished (cond (x == old) (reply.Applied at) (overtaken_reply c x)) in
       plain s x (at_stage s u) u refl refl (exchanged c at x (x == old) c.expected refl) refl refl
   after_at ScanBegun e p = by (fits_pool s.sizes (announcement_size (length s.asked)) x) refl
     where

@@ -43,7 +43,7 @@ module _ (indices : List ℕ) (p : viewing.ViewPair) (made n x : ℕ) (w : viewi
   Counts : ℕ → viewing.ViewPair → Type 0
   Counts more q = counted_at (length indices) q (made + 1) (n + more) q.0.stage
 
-  load_counted : (k : ℕ) → k < length indices → counted_at (length indices) p made n (Collect k) → (a b c : Bool) → nat_lt (k + 1) (length indices) ≡ b → let q = viewing.noted p k x in let v =
+  load_counted : (k : ℕ) → k < length indices → counted_at (length indices) p made n (Collect k) → (a b c : Bool) → nat_lt (k + 1) (length indices) ≡ b → let q = viewing.noted_load p k x in let v =
       cond a (viewing.borrow p x) (cond b (viewing.view_at_stage q (Collect (k + 1)))
       (cond c (record q.0 { collects = q.0.collects + 1; moved = false; stage = Collect 0 }, q.1) (viewing.view_at_stage q (Value 0)))) in counted_at (length indices) v (made + 1) (n + 0) v.0.stage
   load_counted k within h true b c e = let made_is = h.0 in (omega (arith, made_is, within), refl)
@@ -80,7 +80,7 @@ module _ (indices : List ℕ) (p : viewing.ViewPair) (made n x : ℕ) (w : viewi
       viewing.advance_view_at indices p s x in counted_at
       (length indices) q (made + 1) (n + cond (is_len s) x 0) q.0.stage
   step_counted (Collect k) goes possible h = load_counted k goes.0 h (viewing.differs p k x && viewing.was_changed p k) (nat_lt (k + 1) (length indices))
-      (viewing.is_first p || (viewing.noted p k x).0.moved) refl
+      (viewing.is_first p || (viewing.noted_load p k x).0.moved) refl
   step_counted (View stamp) goes possible h = view_counted stamp h ((x == 0) || p.0.shares)
   step_counted (Len at) goes possible h = let few = h.0 in pairs_counted (pairs_word at) x x p refl refl h.1 (omega (arith, few)) (x == 0)
   step_counted (Index at left) goes possible h = let few = h.0 in (omega (arith, few), h.1)

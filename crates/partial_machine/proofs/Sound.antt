@@ -23,7 +23,7 @@ use Rattle.partial_machine.specs.declared.stage.Change.{Change}
 use Rattle.partial_machine.specs.declared.stage.Reply.TheVariants as reply
 use Rattle.partial_machine.specs.declared.stage.Stage.{Stage}
 use Rattle.partial_machine.specs.declared.stage.Stage.TheVariants.{Idle, ReadBegun, LoadingValue, UpdateBegun, GettingSet, Viewing, ClaimingRecord, StoringRecord, Exchanging, ScanBegun, StoringAnnouncement, Joining, Scanning, Leaving, Finished}
-use Rattle.partial_machine.specs.Machine.{CoreState, at_stage, getting, scanning, with_getting, with_scanning, record_size, expects, overtaken, fits_pool, pool_refused, slots_refused, begin_getting, begin_joining, after_joining, scanned_reply, advance_at, advance}
+use Rattle.partial_machine.specs.Machine.{CoreState, at_stage, getting, scanning, with_getting, with_scanning, record_size, expects, overtaken_reply, fits_pool, pool_refused, slots_refused, begin_getting, begin_joining, after_joining, scanned_reply, advance_at, advance}
 use Rattle.partial_machine.specs.Sound.{AreComponentIndices, IsRecord, IsInPool, IsSound, is_sound_at, IsMachine}
 use Rattle.partial_machine.specs.Possible.{IsPoolCount, IsPossible, IsPossibleAt}
 use Rattle.partial_machine.specs.Bounds.{left_at, steps_left}
@@ -288,7 +288,7 @@ module _ (s : CoreState) (layout : IsLayout s.sizes) (w : IsSound s) where
   kept_at (Viewing c old) x e possible = viewing_kept c old x e possible
   kept_at (ClaimingRecord c old) x e possible = record_claimed c old x e possible (fits_pool s.sizes (record_size s) x) refl
   kept_at (StoringRecord c old at k) x e possible = record_stored c old at k e (k + 1 == record_size s) refl
-  kept_at (Exchanging c old at) x e possible = staying (Exchanging c old at) (Finished (cond (x == old) (reply.Applied at) (overtaken c x))) e tt (omega arith)
+  kept_at (Exchanging c old at) x e possible = staying (Exchanging c old at) (Finished (cond (x == old) (reply.Applied at) (overtaken_reply c x))) e tt (omega arith)
   kept_at ScanBegun x e possible = announcement_claimed x e possible (fits_pool s.sizes (announcement_size (length s.asked)) x) refl
   kept_at (StoringAnnouncement at k) x e possible = announcement_stored at k e (k == length s.asked) refl
   kept_at Joining x e possible = joining_kept x e

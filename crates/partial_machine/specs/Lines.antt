@@ -33,8 +33,8 @@ abbrev pub scan_step : CoreState → List ℕ → Option Step
 scan_step s indices = viewing.view_step_due indices (scanning s)
 
 -- the machine with the positions of a scan
-abbrev pub asking : CoreState → List ℕ → CoreState
-asking s which = record s { asked = which }
+abbrev pub asking_machine : CoreState → List ℕ → CoreState
+asking_machine s which = record s { asked = which }
 
 -- the machine that has begun a scan of these positions
 abbrev pub scan_asked : CoreState → List ℕ → CoreState

@@ -131,8 +131,8 @@ abbrev pub expects : Change → ℕ → Bool
 expects c stamp = option_map_or (λ e. e == stamp) c.expected true
 
 -- the reply to an update whose component has another stamp
-abbrev pub overtaken : Change → ℕ → Reply
-overtaken c by = option_map_or (λ _. reply.Changed by) c.expected (reply.Lost by)
+abbrev pub overtaken_reply : Change → ℕ → Reply
+overtaken_reply c by = option_map_or (λ _. reply.Changed by) c.expected (reply.Lost by)
 
 -- a claim of so many words at `at` is within the pool
 abbrev pub fits_pool : Layout → ℕ → ℕ → Bool
@@ -193,7 +193,7 @@ advance_at s (Viewing c old) x = after_scanning (with_scanning s (viewing.advanc
 advance_at s (ClaimingRecord c old) x = if fits_pool s.sizes (record_size s) x then at_stage s (StoringRecord c old x 0) else pool_refused s
 advance_at s (StoringRecord c old at k) x = at_stage s
     (if k + 1 == record_size s then Exchanging c old at else StoringRecord c old at (k + 1))
-advance_at s (Exchanging c old at) x = at_stage s (Finished (if x == old then reply.Applied at else overtaken c x))
+advance_at s (Exchanging c old at) x = at_stage s (Finished (if x == old then reply.Applied at else overtaken_reply c x))
 advance_at s ScanBegun x = if fits_pool s.sizes (announcement_size (length s.asked)) x then at_stage s
     (StoringAnnouncement x 0) else pool_refused s
 advance_at s (StoringAnnouncement at k) x = if k == length s.asked then begin_joining s at else at_stage s (StoringAnnouncement at (k + 1))

@@ -6,7 +6,7 @@ ghost use Rattle.std.specs.Vec.{vec_capacity};
 ghost use Rattle.partial_words.specs.Record.{pair_words, pairs_size, plain_record_size};
 ghost use Rattle.partial_machine.specs.declared.stage.Stage.TheVariants.{Idle, ReadBegun, UpdateBegun, GettingSet, Viewing, ClaimingRecord, StoringRecord, Exchanging, ScanBegun, StoringAnnouncement, Joining, Scanning, Leaving, Finished};
 ghost use Rattle.partial_machine.specs.declared.stage.Reply.TheVariants as reply;
-ghost use Rattle.partial_machine.specs.Machine.{overtaken, CoreState};
+ghost use Rattle.partial_machine.specs.Machine.{overtaken_reply, CoreState};
 ghost use Rattle.partial_machine.specs.Possible.{IsPossibleAt};
 
 mod lines;
@@ -667,7 +667,7 @@ fn behind_set(found: &Found, change: Change, old: u64) -> Stage
 /// Returns the reply to an update whose exchange found the record `found`.
 #[inline(always)]
 pub fn exchanged(change: Change, old: u64, at: u64, found: u64) -> Reply
-    ensures { result ≡ (if found == old then reply.Applied at else overtaken change found) }
+    ensures { result ≡ (if found == old then reply.Applied at else overtaken_reply change found) }
 {
     if found == old {
         return Reply::Applied { stamp: at };

@@ -36,6 +36,6 @@ pub use Rattle.partial_memory.specs.declared.rule.About.{About}
 pub use Rattle.partial_memory.specs.Rule.{IsShuffle, newcomers, SeatedPort, AreByOpened, Told, AreSeatedOf, IsIn, IsRuleKept, IsLawfulWith, parts_of, AreOpened, flatten, having_met, looks, first_port, one_in, further_ports, newcomer, IsBadgeOfOne, IsOne, makes, one_of, reading}
 pub use Rattle.partial_memory.specs.Ports.{IsOf, MemoryView, PortView, new_ports, port_view, IsResting, Knows, Answered, Goes, IsRefused, refusal, CountsSteps, IsPastEnd, RefusedLate, is_pool, is_slots}
 pub use Rattle.partial_memory.specs.Closing.{Closes, IsPortOf, IsWholeChain, AreValues, AreChains, AreChainsFrom}
-pub use Rattle.partial_memory.specs.Inner.Steps.{Begins, CallMade, Ended}
-pub use Rattle.partial_memory.specs.Calls.{Meets, Updates, UpdatesIf, met, Reads, Scans}
+pub use Rattle.partial_memory.specs.Inner.Steps.{Begins, CallMade, CallEnded}
+pub use Rattle.partial_memory.specs.Calls.{Meets, Updates, UpdatesIf, met_port, Reads, Scans}
 pub use Rattle.partial_memory.specs.Inner.Lines.{IsGoing, IsUnderWay, ComesTo, machine_of}

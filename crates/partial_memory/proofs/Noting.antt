@@ -1,5 +1,5 @@
 -- What the calls of a memory leave in the notes of their ports.
-use Rattle.partial_memory.proofs.Common.{ℕ, ◌≡◌, List, [], ◌∷◌, sym, ap, ◌∙◌, inl, inr, Some, append-nil, Call, Refused, PortView, Answered, Goes, IsRefused, Updates, UpdatesIf, met}
+use Rattle.partial_memory.proofs.Common.{ℕ, ◌≡◌, List, [], ◌∷◌, sym, ap, ◌∙◌, inl, inr, Some, append-nil, Call, Refused, PortView, Answered, Goes, IsRefused, Updates, UpdatesIf, met_port}
 use Rattle.partial_model.specs.declared.history.Applied.{Applied as Entry}
 use Rattle.partial_model.specs.declared.call.Call.TheVariants as call
 use Rattle.partial_model.specs.declared.call.Answer.{Answer}
@@ -37,7 +37,7 @@ refused_noted : (p q : PortView) (c : Call) (cause : Refused) → IsRefused p c 
 refused_noted p q c cause (inl w) = unchanged p q w.1
 refused_noted p q c cause (inr w) = goes_on p q [] w.goes
 
-met_noted : (log : List Entry) (p q : PortView) → q ≡ met log p → NotesMore p q []
+met_noted : (log : List Entry) (p q : PortView) → q ≡ met_port log p → NotesMore p q []
 met_noted log p q e = record {
   memory = ap (λ (x : PortView). x.memory) e;
   number = ap (λ (x : PortView). x.number) e;

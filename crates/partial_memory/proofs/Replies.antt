@@ -1,5 +1,5 @@
 -- What a call that has ended leaves of its port, by its reply.
-use Rattle.partial_memory.proofs.Common.{ℕ, ◌≡◌, ◌≤◌, ◌<◌, ◌+◌, ◌++◌, ◌||◌, false, cond, Option, Some, None, List, [], ◌∷◌, length, map, slice_index, refl, sym, ap, subst, ◌∙◌, arith, inr, Result, Err, IfOk, IfErr, ne_eqb, TableId, Call, Refused, Finished, ScanBegun, CoreState, reply_of, scanned_values, answer_for, begin_scan, begun_of, call_of, core_scan_refusal, core_update_refusal, IsRefusedBy, refuses_pool, refuses_slots, KeptAnswer, answers_of, core_of, AreNotesOf, IsNoteOf, IsPlacedAt, IsRefusal, made_calls_make_their_steps, Layout, IsLayout, greatest_record, pool_end, About, scan_reply, SeatedPort, one_in, CallMade, Ended, PortView, port_view, refusal, IsResting, Knows, Goes, CountsSteps, Answered, IsPastEnd, RefusedLate, IsRefused, is_pool, is_slots, Updates, UpdatesIf, Reads, Scans}
+use Rattle.partial_memory.proofs.Common.{ℕ, ◌≡◌, ◌≤◌, ◌<◌, ◌+◌, ◌++◌, ◌||◌, false, cond, Option, Some, None, List, [], ◌∷◌, length, map, slice_index, refl, sym, ap, subst, ◌∙◌, arith, inr, Result, Err, IfOk, IfErr, ne_eqb, TableId, Call, Refused, Finished, ScanBegun, CoreState, reply_of, scanned_values, answer_for, begin_scan, begun_of, call_of, core_scan_refusal, core_update_refusal, IsRefusedBy, refuses_pool, refuses_slots, KeptAnswer, answers_of, core_of, AreNotesOf, IsNoteOf, IsPlacedAt, IsRefusal, made_calls_make_their_steps, Layout, IsLayout, greatest_record, pool_end, About, scan_reply, SeatedPort, one_in, CallMade, CallEnded, PortView, port_view, refusal, IsResting, Knows, Goes, CountsSteps, Answered, IsPastEnd, RefusedLate, IsRefused, is_pool, is_slots, Updates, UpdatesIf, Reads, Scans}
 use Rattle.std.specs.Prelude.{Ok}
 use Rattle.partial_model.specs.declared.call.Call.TheVariants as call
 use Rattle.partial_model.specs.declared.call.Answer.TheVariants as answer
@@ -123,7 +123,7 @@ module _ (t : TableId) (b : CoreState) (x : SeatedPort) (c : CoreState) (y : Sea
 
   pub refused_with : (cause : Refused) → reply_of c ≡ Some (reply.Refused cause) → RefusedLate p q call cause
   refused_with cause is =
-      let n : IsRefusal y.part cause m.made.new = subst (λ f. AreNotesOf y.part f m.made.new) is m.made.noted in
+      let n : IsRefusal y.part cause m.made.new = subst (λ f. AreNotesOf x.about.opening y.part f m.made.new) is m.made.noted in
       let same : Some n.call ≡ Some call = sym n.made ∙ ap call_of m.made.begun ∙ w.call in
       let one : n.call ≡ call = cc in
       let size : y.part.begun.sizes ≡ x.about.sizes = ap (λ (s : CoreState). s.sizes) m.made.begun ∙ m.made.begun_sizes in
@@ -139,7 +139,7 @@ module _ (t : TableId) (b : CoreState) (x : SeatedPort) (c : CoreState) (y : Sea
         slots = slots_behind (reply.Refused cause) is ∙ ap (λ f. f || p.slots_spent) (slots_refused_is cause);
       }
 
-  pub answered_with : (r : Reply) → reply_of c ≡ Some r → refuses_pool (Some r) ≡ false → refuses_slots (Some r) ≡ false → IsNoteOf y.part r m.made.new → IsAnswered p q call c r
+  pub answered_with : (r : Reply) → reply_of c ≡ Some r → refuses_pool (Some r) ≡ false → refuses_slots (Some r) ≡ false → IsNoteOf x.about.opening y.part r m.made.new → IsAnswered p q call c r
   answered_with r is plain plain' n =
       let same : Some n.call ≡ Some call = sym n.made ∙ ap call_of m.made.begun ∙ w.call in
       let one : n.call ≡ call = cc in
@@ -224,8 +224,8 @@ module _ (p q : PortView) (c : CoreState) where
   read_note j v s (note.Lost n) a f = absurd f
 
 module _ (t : TableId) (b : CoreState) (x : SeatedPort) (c : CoreState) (y : SeatedPort) (m : CallMade b x c y) where
-  noted_by : (r : Reply) → reply_of c ≡ Some r → AreNotesOf y.part (Some r) m.made.new
-  noted_by r is = subst (λ f. AreNotesOf y.part f m.made.new) is m.made.noted
+  noted_by : (r : Reply) → reply_of c ≡ Some r → AreNotesOf x.about.opening y.part (Some r) m.made.new
+  noted_by r is = subst (λ f. AreNotesOf x.about.opening y.part f m.made.new) is m.made.noted
 
   pub update_told : (j v : ℕ) → CallBegins t x b (call.Update j v) → (r : Reply) → reply_of c ≡ Some r → UpdateTold (port_view t x) j v r (port_view t y)
   update_told j v w (reply.Applied s) is =
@@ -292,7 +292,7 @@ module _ (t : TableId) (b : CoreState) (x : SeatedPort) (c : CoreState) (y : Sea
 
 -- the same at a call, from a port between calls that callers see as p, to one that they see as q
 module _ (views : List (List SeatedPort)) (core : CoreState) (number : ℕ) (w : IsResting views core number) (t t' : TableId) (same : t' ≡ t) (p : PortView) (seen : port_view t (one_in views) ≡ p)
-    (b : CoreState) (r : Reply) (next : CoreState) (y : SeatedPort) (e : Ended b (one_in views) r next y) where
+    (b : CoreState) (r : Reply) (next : CoreState) (y : SeatedPort) (e : CallEnded b (one_in views) r next y) where
   seen_as : (P : PortView → PortView → Type 0) → P (port_view t (one_in views)) (port_view t y) → P p (port_view t' y)
   seen_as P h = subst (λ (u : TableId). P p (port_view u y)) (sym same) (subst (λ (v : PortView). P v (port_view t y)) seen h)
 

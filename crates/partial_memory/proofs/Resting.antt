@@ -1,10 +1,10 @@
 -- A port between two calls: how it begins one, and that it is between two again once that has ended.
-use Rattle.partial_memory.proofs.Common.{ℕ, ◌≡◌, ◌≤◌, ◌==◌, true, false, cond, Some, None, List, [], ◌∷◌, length, refl, sym, ap, subst, ◌∙◌, is_some, ne_eqb, TableId, Call, Layout, IsLayout, Finished, ScanBegun, CoreState, at_stage, IsServed, begin_scan, begun_of, call_of, makes_steps, refusal_of, core_scan_refusal, calls_begin, IsMarkedLike, core_of, port_of, FitsHistory, calls_begin_between, ports_come_between, About, SeatedPort, IsBadgeOfOne, AreByOpened, one_in, Begins, Ended, IsOf, IsResting, MemoryView, PortView, port_view, refusal}
+use Rattle.partial_memory.proofs.Common.{ℕ, ◌≡◌, ◌≤◌, ◌==◌, true, false, cond, Some, None, List, [], ◌∷◌, length, refl, sym, ap, subst, ◌∙◌, is_some, ne_eqb, TableId, Call, Layout, IsLayout, Finished, ScanBegun, CoreState, at_stage, IsServed, begin_scan, begun_of, call_of, makes_steps, refusal_of, core_scan_refusal, calls_begin, IsMarkedLike, core_of, port_of, FitsHistory, calls_begin_between, ports_come_between, About, SeatedPort, IsBadgeOfOne, AreByOpened, one_in, Begins, CallEnded, IsOf, IsResting, MemoryView, PortView, port_view, refusal}
 use Rattle.partial_model.specs.declared.call.Call.TheVariants as call
 use Rattle.partial_model.specs.Refusals.{refusal_at_once}
 use Rattle.partial_machine.specs.declared.stage.Reply.{Reply}
 use Rattle.partial_machine.specs.declared.stage.Reply.TheVariants as reply
-use Rattle.partial_machine.specs.Lines.{asking, scan_asked}
+use Rattle.partial_machine.specs.Lines.{asking_machine, scan_asked}
 use Rattle.partial_machine.specs.Sound.{IsSound}
 
 -- a call that a port begins
@@ -50,7 +50,7 @@ some_positions (j ∷ js) some = refl
 pub asked_begins : (core : CoreState) (which : List ℕ) → (length which ≡ 0 → ⊥) → scan_asked core which ≡ begin_scan core which
 asked_begins core which some =
     let begins : (length which == 0) ≡ false = ne_eqb (length which) 0 some in
-    sym (ap (λ b. at_stage (asking core which) (cond b (Finished (reply.Scanned 0 None)) ScanBegun)) begins)
+    sym (ap (λ b. at_stage (asking_machine core which) (cond b (Finished (reply.Scanned 0 None)) ScanBegun)) begins)
 
 pub scan_begins : (views : List (List SeatedPort)) (core : CoreState) (number : ℕ) → IsResting views core number → (t : TableId) (b : CoreState) (which : List ℕ) → length which ≤ core.sizes.m →
     (length which ≡ 0 → ⊥) →
@@ -59,7 +59,7 @@ scan_begins views core number w t b which served some none is = call_begins view
 
 -- a call has ended, and its port is between calls
 pub rests : (views : List (List SeatedPort)) (b : CoreState) (x : SeatedPort) (r : Reply) (core : CoreState) (number : ℕ) → IsBadgeOfOne views → Begins b x →
-    Ended b x r core (one_in views) → number ≡ port_of x.part → IsResting views core number
+    CallEnded b x r core (one_in views) → number ≡ port_of x.part → IsResting views core number
 rests views b x r core number one begins e named =
     let y = one_in views in
     let c = e.machine in

@@ -35,15 +35,15 @@ Scans p (j ∷ js) values s q =
     (n : ℕ) × Answered p q (call.Scan (j ∷ js)) (answer.Scanned values s.collects s.borrowed) (note.Saw n)
 
 -- the port after it has observed that history in a meeting
-abbrev pub met : List Applied → PortView → PortView
-met log p = record p { seen = log; steps = p.steps + meeting_steps }
+abbrev pub met_port : List Applied → PortView → PortView
+met_port log p = record p { seen = log; steps = p.steps + meeting_steps }
 
 -- Two ports that met: both have seen one history, which begins with all that each had seen, and of which each one's entries are those
 -- of its notes. Nothing else has changed.
 pub record Meets (a b c d : PortView) : Type 0 where
   pub log : List Applied
-  pub first : c ≡ met log a
-  pub second : d ≡ met log b
+  pub first : c ≡ met_port log a
+  pub second : d ≡ met_port log b
   pub first_seen : a.seen ≡ take (length a.seen) log
   pub second_seen : b.seen ≡ take (length b.seen) log
   pub first_knows : Knows c

@@ -9,7 +9,7 @@ ghost use Rattle.partial_lines.specs.Lines.{set_made};
 ghost use Rattle.partial_memory.specs.Rule.{IsBadgeOfOne, IsOne, SeatedPort, one_in, one_of};
 ghost use Rattle.partial_memory.specs.Inner.Endings.{asked_change, ending_reply};
 ghost use Rattle.partial_memory.specs.Inner.Lines.{IsGoing, machine_of};
-ghost use Rattle.partial_memory.specs.Inner.Steps.{Begins, CallMade, Ended, IsAtRest};
+ghost use Rattle.partial_memory.specs.Inner.Steps.{Begins, CallMade, CallEnded, IsAtRest};
 
 use crate::lines::{SeatLines, begin_update, make};
 use crate::port::take_seat;
@@ -65,7 +65,7 @@ pub fn update(
     requires begins { Begins (at_stage core.old (UpdateBegun (asked_change component expected value))) (one_in badge.old.views) }
     ensures table { badge.new.table_id ≡ badge.old.table_id }
     ensures one { IsBadgeOfOne badge.new.views }
-    ensures ended { Ended (at_stage core.old (UpdateBegun (asked_change component expected value))) (one_in badge.old.views)
+    ensures ended { CallEnded (at_stage core.old (UpdateBegun (asked_change component expected value))) (one_in badge.old.views)
         (ending_reply (asked_change component expected value) result) core.new (one_in badge.new.views) }
 {
     let change = Change {
@@ -86,7 +86,7 @@ fn make_update(words: &Words, mut seat: Place, core: &mut Core, change: Change) 
     requires begins { Begins (at_stage core.old (UpdateBegun change)) (one_of seat.me.0) }
     ensures table { result.0.table_id ≡ seat.table_id }
     ensures one { IsOne result.0.me }
-    ensures ended { Ended (at_stage core.old (UpdateBegun change)) (one_of seat.me.0)
+    ensures ended { CallEnded (at_stage core.old (UpdateBegun change)) (one_of seat.me.0)
         (ending_reply change result.1) core.new (one_of result.0.me.0) }
 {
     let old = begin_update::<Brand>(words, &mut seat, core, change);
@@ -106,7 +106,7 @@ fn replace(words: &Words, seat: Place, core: &mut Core, change: Change, old: u64
     ensures table { result.0.table_id ≡ seat.table_id }
     ensures one { IsOne result.0.me }
     ensures ended { (b : CoreState) (x : SeatedPort) → Begins b x → CallMade b x (machine_of seat.me) (one_of seat.me.0) →
-        Ended b x (ending_reply change result.1) core.new (one_of result.0.me.0) }
+        CallEnded b x (ending_reply change result.1) core.new (one_of result.0.me.0) }
 {
     let mut lines = SeatLines { words, seat };
     let written = put(&mut lines, core, change, old);

@@ -16,6 +16,6 @@ pub use Rattle.partial_model.specs.declared.call.Called.{Called}
 pub use Rattle.partial_model.specs.History.{initial_stamp, value_of, stamp_of, HaveDistinctStamps, IsHistory, last_from, last_entry}
 pub use Rattle.partial_model.specs.Notes.{ClaimsPool, ClaimsSlot, MayBeRefused, Fits, IsEntryFor, AreCollects, SawTogether, IsTrueOf, IsLegal, indices_of, place_of, shown_by, Noted, LegalNotes, seen_after, LegalNotesAreShown, seen_by}
 pub use Rattle.partial_model.specs.Outcome.{Follows, IsInTime, RealTime, wrote, places_by, places_written, EachOnce, noted_of, notes_of, LegalOutcome}
-pub use Rattle.partial_model.specs.Inner.Checks.{is_initial, are_distinct, is_history, names_components, claims_pool, claims_slot, may_be_refused, stands_at, is_entry_for, are_collects, hold, shows_stamp, saw_together, is_right, is_refusal, is_legal, follows, ends_in_time, is_in_time, are_in_time, call_is_legal, seen_behind, notes_are_legal, claim_of, taken, no_place_left, none_between, none_above, claim_all, is_legal_outcome, places_from}
+pub use Rattle.partial_model.specs.Inner.Checks.{is_initial, are_distinct, is_history, names_components, claims_pool, claims_slot, may_be_refused, stands_at, is_entry_for, are_collects, hold, shows_stamp, saw_together, is_right, is_refusal, is_legal, follows, ends_in_time, is_in_time, are_in_time, call_is_legal, seen_behind, notes_are_legal, claim_of, places_left, no_place_left, none_between, none_above, claim_all, is_legal_outcome, places_from}
 pub use Rattle.partial_model.specs.Entries.{EntriesAreNoted, entries_by, entry_of, applied_by, LastEntriesDecide, RisingNeverFalls}
 pub use Rattle.partial_model.specs.Inner.Indexed.{ArePlacesOf, AreStampsOf, AreListsOf, list_at, IsIndexOf}

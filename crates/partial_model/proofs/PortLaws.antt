@@ -1,5 +1,5 @@
 -- The calls of one port after the other: what the tests of all calls decide of each port.
-use Rattle.partial_model.proofs.Common.{ℕ, zero, suc, ◌≡◌, ◌≢◌, ◌+◌, ◌<◌, ◌≤◌, ◌⊎◌, inl, inr, ◌==◌, nat_le, Bool, true, false, cond, ◌&&◌, ◌||◌, List, [], ◌∷◌, ◌++◌, length, refl, sym, ap, ◌∙◌, subst, Decides, Option, Some, None, IfSome, filter, filter_map, arith, list_all, option_map_or, true≢false, eq-eqb, ne_eqb, cases_lt, Decides-and, Decides-or, Decides-like, eqb_tells, Applied, Opening, Called, Finish, IsHistory, Noted, LegalNotes, IsLegal, Follows, RealTime, noted_of, notes_of, places_by, places_written, EachOnce, LegalOutcome, call_is_legal, seen_behind, notes_are_legal, claim_of, taken, no_place_left, none_between, none_above, claim_all, is_legal_outcome, is_history, are_in_time}
+use Rattle.partial_model.proofs.Common.{ℕ, zero, suc, ◌≡◌, ◌≢◌, ◌+◌, ◌<◌, ◌≤◌, ◌⊎◌, inl, inr, ◌==◌, nat_le, Bool, true, false, cond, ◌&&◌, ◌||◌, List, [], ◌∷◌, ◌++◌, length, refl, sym, ap, ◌∙◌, subst, Decides, Option, Some, None, IfSome, filter, filter_map, arith, list_all, option_map_or, true≢false, eq-eqb, ne_eqb, cases_lt, Decides-and, Decides-or, Decides-like, eqb_tells, Applied, Opening, Called, Finish, IsHistory, Noted, LegalNotes, IsLegal, Follows, RealTime, noted_of, notes_of, places_by, places_written, EachOnce, LegalOutcome, call_is_legal, seen_behind, notes_are_legal, claim_of, places_left, no_place_left, none_between, none_above, claim_all, is_legal_outcome, is_history, are_in_time}
 use Rattle.partial_model.proofs.Decisions.{Decides-nat_le, Decides-and3, Decides-never, Decides-always}
 use Rattle.partial_model.proofs.CheckLaws.{Decides-is_legal, Decides-is_history, Decides-are_in_time}
 
@@ -202,20 +202,20 @@ Decides-none_between q p h =
     (λ x. Decides-like (nat_le x q || nat_le p x) (not_within q p x) (outside_range q p x) (Decides-or (nat_le x q) (nat_le p x) (Decides-nat_le x q) (Decides-nat_le p x))) 0 h
 
 -- what is left once the claimed places were taken from the front
-Decides-taken : (places ks tail : List ℕ) (R : Type 0) (rest : List ℕ → Bool) → ((l : List ℕ) → Decides (rest l) ((l ≡ tail) × R)) → Decides (option_map_or rest (taken places ks) false)
+Decides-taken : (places ks tail : List ℕ) (R : Type 0) (rest : List ℕ → Bool) → ((l : List ℕ) → Decides (rest l) ((l ≡ tail) × R)) → Decides (option_map_or rest (places_left places ks) false)
     ((places ≡ ks ++ tail) × R)
 Decides-taken places [] tail R rest each = each places
 Decides-taken [] (k ∷ ks) tail R rest each = Decides-never (λ w. let no : [] ≡ k ∷ (ks ++ tail) = w.0 in cc)
 Decides-taken (i ∷ places) (k ∷ ks) tail R rest each =
     elim (eqb_tells i k) [
       | inl same ↦
-          subst (λ (b : Bool). Decides (option_map_or rest (cond b (taken places ks) None) false) ((i ∷ places ≡ k ∷ (ks ++ tail)) × R)) (sym same.0)
-          (Decides-like (option_map_or rest (taken places ks) false)
+          subst (λ (b : Bool). Decides (option_map_or rest (cond b (places_left places ks) None) false) ((i ∷ places ≡ k ∷ (ks ++ tail)) × R)) (sym same.0)
+          (Decides-like (option_map_or rest (places_left places ks) false)
           (λ w. (let first : i ≡ k = same.1 in let more : places ≡ ks ++ tail = w.0 in let whole : i ∷ places ≡ k ∷ (ks ++ tail) = cc in whole, w.1))
           (λ w. (let whole : i ∷ places ≡ k ∷ (ks ++ tail) = w.0 in let more : places ≡ ks ++ tail = cc in more, w.1))
           (Decides-taken places ks tail R rest each))
       | inr other ↦
-          subst (λ (b : Bool). Decides (option_map_or rest (cond b (taken places ks) None) false) ((i ∷ places ≡ k ∷ (ks ++ tail)) × R)) (sym other.0)
+          subst (λ (b : Bool). Decides (option_map_or rest (cond b (places_left places ks) None) false) ((i ∷ places ≡ k ∷ (ks ++ tail)) × R)) (sym other.0)
           (Decides-never (λ w. other.1 (let whole : i ∷ places ≡ k ∷ (ks ++ tail) = w.0 in let first : i ≡ k = cc in first)))
     ]
 
@@ -225,9 +225,9 @@ AreClaimedFrom h q places cs = (places ≡ written_by q cs) × ((p : ℕ) → q 
 
 -- a call of the port itself
 own_is_claimed : (h : List Applied) (places : List ℕ) (c : Called) (cs : List Called) (rest : List ℕ → Bool) → ((left : List ℕ) → Decides (rest left) (AreClaimedFrom h c.port left cs)) →
-    Decides (option_map_or rest (taken places (claim_of c.finish)) false) (AreClaimedFrom h c.port places (c ∷ cs))
+    Decides (option_map_or rest (places_left places (claim_of c.finish)) false) (AreClaimedFrom h c.port places (c ∷ cs))
 own_is_claimed h places c cs rest each =
-    Decides-like (option_map_or rest (taken places (claim_of c.finish)) false)
+    Decides-like (option_map_or rest (places_left places (claim_of c.finish)) false)
     (λ w. (w.0 ∙ sym (written_by-own c cs), λ p above. w.1 p above ∙ sym (written_by-other p c cs (omega arith))))
     (λ w. (w.0 ∙ written_by-own c cs, λ p above. w.1 p above ∙ written_by-other p c cs (omega arith)))
     (Decides-taken places (claim_of c.finish) (written_by c.port cs) ((p : ℕ) → c.port < p → places_by p 0 h ≡ written_by p cs) rest each)
@@ -258,12 +258,12 @@ Decides-claim_all h q places [] w = Decides-and (no_place_left places) (none_abo
 Decides-claim_all h q places (c ∷ cs) w =
     let rest : List ℕ → Bool = λ left. claim_all h c.port left cs in
     let each : (left : List ℕ) → Decides (rest left) (AreClaimedFrom h c.port left cs) = λ left. Decides-claim_all h c.port left cs w.1 in
-    let test : Bool → Bool = λ b. (b || (no_place_left places && none_between q c.port h)) && option_map_or rest (taken (cond b places (places_by c.port 0 h)) (claim_of c.finish)) false in
+    let test : Bool → Bool = λ b. (b || (no_place_left places && none_between q c.port h)) && option_map_or rest (places_left (cond b places (places_by c.port 0 h)) (claim_of c.finish)) false in
     elim (cases_lt q c.port) [
       | inl below ↦
           let other : (c.port == q) ≡ false = ne_eqb c.port q (omega arith) in
           subst (λ (b : Bool). Decides (test b) (AreClaimedFrom h q places (c ∷ cs))) (sym other)
-          (next_is_claimed h q places c cs (option_map_or rest (taken (places_by c.port 0 h) (claim_of c.finish)) false) below w.1 (own_is_claimed h (places_by c.port 0 h) c cs rest each))
+          (next_is_claimed h q places c cs (option_map_or rest (places_left (places_by c.port 0 h) (claim_of c.finish)) false) below w.1 (own_is_claimed h (places_by c.port 0 h) c cs rest each))
       | inr le ↦
           let rising : q ≤ c.port = w.0 in
           let same : c.port ≡ q = omega arith in

@@ -4,6 +4,6 @@ use Rattle.partial_model.specs.declared.history.Applied.{Applied}
 use Rattle.partial_model.specs.declared.history.Opening.{Opening}
 
 -- the opening and the history that lists of calls are checked against
-pub record Checked : Type 0 where
+pub record CheckedHistory : Type 0 where
   pub opening : Opening
   pub history : List Applied

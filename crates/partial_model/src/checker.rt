@@ -50,11 +50,11 @@ pub struct Checker<'a> {
 
 impl<'a> Model for Checker<'a> {
     ghost use Rattle.std.specs.Prelude.{◌≡◌, MatchOption, true, false};
-    ghost use Rattle.partial_model.specs.Checked.{Checked};
+    ghost use Rattle.partial_model.specs.Checked.{CheckedHistory};
     ghost use Rattle.partial_model.specs.Inner.Checks.{is_history};
     ghost use Rattle.partial_model.specs.Inner.Indexed.{IsIndexOf};
 
-    ghost Value = { Checked };
+    ghost Value = { CheckedHistory };
 
     ghost view = { λ c. record { opening = c.opening.now; history = c.history.now } };
 

@@ -3,7 +3,7 @@
 ghost use Rattle.std.specs.Prelude.{◌≡◌, ◌≢◌, ◌↔◌, ◌<◌, ℕ, List, length, true, false, IfErr, IfOk, IfSome, IsErrOf, OnOk};
 ghost use Rattle.std.specs.Io.KnownBytes.{Appends};
 ghost use Rattle.std.specs.String.{string_len};
-ghost use Rattle.partial_text.specs.Judging.{judged};
+ghost use Rattle.partial_text.specs.Judging.{judged_plan};
 ghost use Rattle.partial_picture.specs.Refusal.{IsDrawJudged, draw_reader_fault, draw_writer_fault};
 
 use crate::columns::table;
@@ -56,7 +56,7 @@ pub fn draw<R: Read, W: Write>(
     ensures write_fault { IsErrOf result draw_writer_fault ↔ (out.new.failed ≡ true) }
     // The fault is that of the plan, and a plan without a fault isn't refused for one.
     ensures plan { plan.new.failed ≡ false → IfSome (R.remaining plan.old.inner)
-        (λ bytes. IsDrawJudged result (judged bytes)) }
+        (λ bytes. IsDrawJudged result (judged_plan bytes)) }
     // The text of a picture is written whole, and it isn't empty.
     ensures written { OnOk result ((text : List ℕ) × (0 < length text)
         × Appends (W.contents out.old.inner) (W.contents out.new.inner) text) }

@@ -1,7 +1,7 @@
 //! Words as they stand in a drawing.
 
 ghost use Rattle.std.specs.Prelude.{◌≡◌, ◌≤◌, ◌<◌, ◌/◌, ◌++◌, [], length, IfOk, OnOk, string_bytes};
-ghost use Rattle.partial_picture.specs.Texts.{escaped, Escapes, cut_to};
+ghost use Rattle.partial_picture.specs.Texts.{escaped_letter, Escapes, cut_to};
 
 use crate::pixels::Pixels;
 use std::alloc::{AllocError, Global};
@@ -11,7 +11,7 @@ const LETTER: u64 = 7;
 
 /// Writes a letter, escaped when SVG gives it a meaning.
 fn push_letter(text: &mut String, letter: char) -> Result<(), AllocError>
-    ensures { OnOk result (string_bytes text.new ≡ string_bytes text.old ++ escaped letter) }
+    ensures { OnOk result (string_bytes text.new ≡ string_bytes text.old ++ escaped_letter letter) }
 {
     match letter {
         '&' => text.push_str("&amp;"),

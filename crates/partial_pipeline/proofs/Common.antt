@@ -16,6 +16,6 @@ pub use Rattle.partial_model.proofs.NotesLemmas.{AllByRecursion-get, LegalNotes-
 pub use Rattle.partial_long_lived.specs.Ports.{IsOf, MemoryView, PortView, Knows, new_ports}
 pub use Rattle.partial_long_lived.specs.Calls.{Goes, IsRefused, Meets, Reads, Scanned, Scans, Updates}
 pub use Rattle.partial_pipeline.specs.Pipeline.{AreFrom, IsPipeline, IsStageIn, Works, CountsStayOrdered, CountsNeverFall, AreOrdered, HaveEnded, HaveRisen, IsOrderly, NeverFall, last_of, HasWorked}
-pub use Rattle.partial_pipeline.specs.Stages.{last_value, published, EndEach, HasMetMonitor, IsEachStage, GoesOnNoting, Opens, Sees, Watched, EndsAt, IsStageDone, IsWorking, IsNewStage, IsOpened, IsStageStarted, IsWatching, AreRooms}
+pub use Rattle.partial_pipeline.specs.Stages.{last_value, published_count, EndEach, HasMetMonitor, IsEachStage, GoesOnNoting, Opens, Sees, StagesWatched, EndsAt, IsStageDone, IsWorking, IsNewStage, IsOpened, IsStageStarted, IsWatching, AreRooms}
 pub use Rattle.partial_pipeline.specs.declared.stage.StageEnd.{StageEnd}
 pub use Rattle.partial_pipeline.specs.declared.stage.StageEnd.TheVariants.{Finished, Stopped}

@@ -1,5 +1,5 @@
 -- The history of a pipeline: each stage's count only rises, and never passes that of the stage before it.
-use Rattle.partial_pipeline.proofs.Common.{ℕ, zero, suc, ◌≡◌, ◌+◌, ◌<◌, ◌≤◌, ◌==◌, ◌++◌, Bool, true, false, cond, List, [], ◌∷◌, length, take, slice_index, refl, sym, ◌∙◌, ap, subst, inl, inr, Option, Some, None, slice_get, arith, AllByRecursion, eq-eqb, ne_eqb, Applied, Opening, Call, Answer, Note, Noted, IsLegal, LegalNotes, seen_after, wrote, places_written, all_append, AllByRecursion-get, AreFrom, IsPipeline, IsStageIn, Works, CountsStayOrdered, CountsNeverFall, last_value, published}
+use Rattle.partial_pipeline.proofs.Common.{ℕ, zero, suc, ◌≡◌, ◌+◌, ◌<◌, ◌≤◌, ◌==◌, ◌++◌, Bool, true, false, cond, List, [], ◌∷◌, length, take, slice_index, refl, sym, ◌∙◌, ap, subst, inl, inr, Option, Some, None, slice_get, arith, AllByRecursion, eq-eqb, ne_eqb, Applied, Opening, Call, Answer, Note, Noted, IsLegal, LegalNotes, seen_after, wrote, places_written, all_append, AllByRecursion-get, AreFrom, IsPipeline, IsStageIn, Works, CountsStayOrdered, CountsNeverFall, last_value, published_count}
 use Rattle.std.specs.Option.{option_map_or}
 use Rattle.std.proofs.lemmas.Bool.Decides.{eqb_tells}
 use Rattle.partial_model.specs.declared.call.Call.TheVariants as call
@@ -198,7 +198,7 @@ module _ (o : Opening) (h : List Applied) (stages : List (List Noted)) (w : IsPi
       noted_at (IsReached o h j) h (j + 1) at.0 i e at.1.once (reached o h (j + 1) j 0 at.1.worked.from 0 at.0 at.1.worked.read at.1.worked.count refl at.1.legal at.1.worked.works had) s port e s
 
   -- behind all entries each stage's component has what the stage published last
-  pub stage_value : (k : ℕ) (ns : List Noted) → IsStageIn o h k ns → value_of o h k ≡ published k ns
+  pub stage_value : (k : ℕ) (ns : List Noted) → IsStageIn o h k ns → value_of o h k ≡ published_count k ns
   stage_value k ns s =
       let first = slice_index o.values k in
       let all : entries_by k h ≡ applied_by k ns = entries_are_noted o h k ns s.legal s.once in

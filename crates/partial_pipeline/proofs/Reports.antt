@@ -1,5 +1,5 @@
 -- What the closed memory of a pipeline tells of the monitor's scans.
-use Rattle.partial_pipeline.proofs.Common.{ℕ, zero, suc, inl, inr, ◌≡◌, ◌+◌, ◌<◌, ◌≤◌, ◌++◌, List, [], ◌∷◌, length, map, take, slice_index, refl, sym, ◌∙◌, ap, subst, Option, Some, None, slice_get, arith, AllByRecursion, ext_get_or, get_or-map, length-map, take_all, cases_lt, Applied, Opening, Call, Answer, Note, Noted, LegalNotes, IsLegal, seen_after, seen_by, EachOnce, places_written, wrote, AllByRecursion-get, LegalNotes-last, all_where, IsOf, MemoryView, PortView, AreFrom, AreOrdered, HaveEnded, HaveRisen, IsOrderly, IsPipeline, IsStageIn, NeverFall, last_of, EndEach, HasMetMonitor, IsEachStage, GoesOnNoting, Opens, Sees, Watched, StageEnd, Finished}
+use Rattle.partial_pipeline.proofs.Common.{ℕ, zero, suc, inl, inr, ◌≡◌, ◌+◌, ◌<◌, ◌≤◌, ◌++◌, List, [], ◌∷◌, length, map, take, slice_index, refl, sym, ◌∙◌, ap, subst, Option, Some, None, slice_get, arith, AllByRecursion, ext_get_or, get_or-map, length-map, take_all, cases_lt, Applied, Opening, Call, Answer, Note, Noted, LegalNotes, IsLegal, seen_after, seen_by, EachOnce, places_written, wrote, AllByRecursion-get, LegalNotes-last, all_where, IsOf, MemoryView, PortView, AreFrom, AreOrdered, HaveEnded, HaveRisen, IsOrderly, IsPipeline, IsStageIn, NeverFall, last_of, EndEach, HasMetMonitor, IsEachStage, GoesOnNoting, Opens, Sees, StagesWatched, StageEnd, Finished}
 use Rattle.std.specs.Prelude.{IfSome}
 use Rattle.std.specs.declared.alloc.Global.{Global}
 use Rattle.std.specs.declared.vec.Vec.{Vec}
@@ -87,7 +87,7 @@ scan_legal o h p seen n stages s c b is ans w =
     subst (λ (y : Answer). IsLegal o h p seen (record { call = call.Scan stages; answer = y; note = n.note })) ans
     (subst (λ (y : Call). IsLegal o h p seen (record { call = y; answer = n.answer; note = n.note })) is w)
 
-watched_saw : (o : Opening) (h : List Applied) (p n seen : ℕ) (stages : List ℕ) (ns : List Noted) (ss : List (List ℕ)) → IsEachStage n stages → Watched stages ns ss →
+watched_saw : (o : Opening) (h : List Applied) (p n seen : ℕ) (stages : List ℕ) (ns : List Noted) (ss : List (List ℕ)) → IsEachStage n stages → StagesWatched stages ns ss →
     LegalNotes o h p seen ns → Saw o h n seen ss
 watched_saw o h p n seen stages [] [] all w legal = tt
 watched_saw o h p n seen stages [] (s ∷ ss) all w legal = absurd w
@@ -97,7 +97,7 @@ watched_saw o h p n seen stages (x ∷ ns) (s ∷ ss) all w legal =
     (got.0, got.1, got.2, got.3, watched_saw o h p n got.0 stages ns ss all w.4 (subst (λ k. LegalNotes o h p k ns) got.4 legal.1))
 
 -- scans write nothing
-watched_none : (o : Opening) (h : List Applied) (p n seen : ℕ) (stages : List ℕ) (ns : List Noted) (ss : List (List ℕ)) → IsEachStage n stages → Watched stages ns ss →
+watched_none : (o : Opening) (h : List Applied) (p n seen : ℕ) (stages : List ℕ) (ns : List Noted) (ss : List (List ℕ)) → IsEachStage n stages → StagesWatched stages ns ss →
     LegalNotes o h p seen ns → places_written ns ≡ []
 watched_none o h p n seen stages [] [] all w legal = refl
 watched_none o h p n seen stages [] (s ∷ ss) all w legal = absurd w
@@ -129,10 +129,10 @@ last_number p q stages None w = w.number
 last_number p q stages (Some v) w = w.goes.number
 
 -- the scans with the last one
-last_watched : (p q : PortView) (stages : List ℕ) (ss : List (List ℕ)) (last : Option (Vec ℕ Global)) → Watched stages p.notes ss → LastSees p stages q last →
-    Watched stages q.notes (ss ++ last_of last)
+last_watched : (p q : PortView) (stages : List ℕ) (ss : List (List ℕ)) (last : Option (Vec ℕ Global)) → StagesWatched stages p.notes ss → LastSees p stages q last →
+    StagesWatched stages q.notes (ss ++ last_of last)
 last_watched p q stages ss None w s =
-    subst (Watched stages q.notes) (sym (append_nil ss)) (subst (λ ns. Watched stages ns ss) (sym (s.notes ∙ append_nil p.notes)) w)
+    subst (StagesWatched stages q.notes) (sym (append_nil ss)) (subst (λ ns. StagesWatched stages ns ss) (sym (s.notes ∙ append_nil p.notes)) w)
   where
     append_nil : {A : Type 0} (xs : List A) → xs ++ [] ≡ xs
     append_nil [] = refl
@@ -167,7 +167,7 @@ stages_within m log seen k (p ∷ ports) i e w told s from below = elim (cases_l
 -- what is known of a closed pipeline
 module _ (m : MemoryView) (p q : PortView) (ports : List PortView) (stages : List ℕ) (scans : Vec (Vec ℕ Global) Global) (last : Option (Vec ℕ Global)) (closed : Vec ℕ Global) (opens : Opens m)
     (met : AreFrom (HasMetMonitor m (length p.seen)) 0 ports) (count : length ports ≡ m.about.sizes.m) (own : IsOf m q) (number : q.number ≡ m.about.sizes.m) (all : IsEachStage m.about.sizes.m stages)
-    (watched : Watched stages p.notes (map (λ (v : Vec ℕ Global). v.items) scans.items)) (sees : LastSees p stages q last) (closes : Closes m (q ∷ ports) closed.items) where
+    (watched : StagesWatched stages p.notes (map (λ (v : Vec ℕ Global). v.items) scans.items)) (sees : LastSees p stages q last) (closes : Closes m (q ∷ ports) closed.items) where
   abbrev o : Opening
   o = m.about.opening
 
@@ -177,7 +177,7 @@ module _ (m : MemoryView) (p q : PortView) (ports : List PortView) (stages : Lis
   abbrev ss : List (List ℕ)
   ss = map (λ (v : Vec ℕ Global). v.items) scans.items
 
-  all_watched : Watched stages q.notes (ss ++ last_of last)
+  all_watched : StagesWatched stages q.notes (ss ++ last_of last)
   all_watched = last_watched p q stages ss last watched sees
 
   legal : LegalNotes o log m.about.sizes.m 0 q.notes
@@ -246,7 +246,7 @@ last_is p q stages counts (Some v) f w = f v w
 pub orderly : (m : MemoryView) (p q : PortView) (ports : List PortView) (stages : List ℕ) (scans : Vec (Vec ℕ Global) Global) (last : Option (Vec ℕ Global)) (closed : Vec ℕ Global)
     (ends : Vec StageEnd Global) → Opens m → AreFrom (HasMetMonitor m (length p.seen)) 0 ports → length ports ≡ m.about.sizes.m → IsOf m q → q.number ≡ m.about.sizes.m →
     IsEachStage m.about.sizes.m stages →
-    Watched stages p.notes (map (λ (v : Vec ℕ Global). v.items) scans.items) → LastSees p stages q last → Closes m (q ∷ ports) closed.items →
+    StagesWatched stages p.notes (map (λ (v : Vec ℕ Global). v.items) scans.items) → LastSees p stages q last → Closes m (q ∷ ports) closed.items →
     IsOrderly m.about.sizes.m (record { scans = scans; last = last; counts = closed; ends = ends })
 orderly m p q ports stages scans last closed ends opens met count own number all watched sees closes =
     let o = m.about.opening in
@@ -284,7 +284,7 @@ ends_told o h stages w items k (p ∷ ps) (x ∷ xs) s e (suc i) below =
 
 pub ended : (m : MemoryView) (p q : PortView) (ports : List PortView) (stages : List ℕ) (scans : Vec (Vec ℕ Global) Global) (last : Option (Vec ℕ Global)) (closed : Vec ℕ Global)
     (ends : Vec StageEnd Global) (items : ℕ) → Opens m → AreFrom (HasMetMonitor m (length p.seen)) 0 ports → length ports ≡ m.about.sizes.m → IsOf m q → q.number ≡ m.about.sizes.m →
-    IsEachStage m.about.sizes.m stages → Watched stages p.notes (map (λ (v : Vec ℕ Global). v.items) scans.items) → LastSees p stages q last → Closes m (q ∷ ports) closed.items →
+    IsEachStage m.about.sizes.m stages → StagesWatched stages p.notes (map (λ (v : Vec ℕ Global). v.items) scans.items) → LastSees p stages q last → Closes m (q ∷ ports) closed.items →
     EndEach items 0 ports ends.items → HaveEnded m.about.sizes.m items (record { scans = scans; last = last; counts = closed; ends = ends })
 ended m p q ports stages scans last closed ends items opens met count own number all watched sees closes each =
     let o = m.about.opening in

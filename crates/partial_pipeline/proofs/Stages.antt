@@ -1,5 +1,5 @@
 -- One call more of a stage, of the monitor, and a meeting.
-use Rattle.partial_pipeline.proofs.Common.{ℕ, zero, suc, ◌≡◌, ◌+◌, ◌<◌, ◌≤◌, ◌++◌, List, [], ◌∷◌, length, map, take, get_or, refl, sym, ◌∙◌, ap, subst, inl, inr, Option, Some, append-nil, append_assoc, length-take, arith, AllByRecursion, Applied, Opening, Call, Answer, Note, Noted, LegalNotes, seen_after, places_written, wrote, all_append, all_weaker, shown_within, Goes, IsRefused, Meets, Reads, Scanned, Scans, Updates, IsOf, Knows, MemoryView, PortView, AreFrom, HasWorked, Works, EndEach, EndsAt, HasMetMonitor, IsStageDone, IsWorking, GoesOnNoting, Sees, Watched, last_value, published, StageEnd, Finished}
+use Rattle.partial_pipeline.proofs.Common.{ℕ, zero, suc, ◌≡◌, ◌+◌, ◌<◌, ◌≤◌, ◌++◌, List, [], ◌∷◌, length, map, take, get_or, refl, sym, ◌∙◌, ap, subst, inl, inr, Option, Some, append-nil, append_assoc, length-take, arith, AllByRecursion, Applied, Opening, Call, Answer, Note, Noted, LegalNotes, seen_after, places_written, wrote, all_append, all_weaker, shown_within, Goes, IsRefused, Meets, Reads, Scanned, Scans, Updates, IsOf, Knows, MemoryView, PortView, AreFrom, HasWorked, Works, EndEach, EndsAt, HasMetMonitor, IsStageDone, IsWorking, GoesOnNoting, Sees, StagesWatched, last_value, published_count, StageEnd, Finished}
 use Rattle.partial_model.specs.declared.call.Call.TheVariants as call
 use Rattle.partial_model.specs.declared.call.Answer.TheVariants as answer
 use Rattle.partial_model.specs.declared.call.Note.TheVariants as note
@@ -77,7 +77,7 @@ applied_push k (m ∷ ns) n =
     let first = entry_of k m.note m.call m.answer in
     ap (λ (l : List Applied). first ++ l) (applied_push k ns n) ∙ sym (append_assoc first (applied_by k ns) (entry_of k n.note n.call n.answer))
 
-published_push : (k : ℕ) (ns : List Noted) (n : Noted) → published k (ns ++ n ∷ []) ≡ last_value (published k ns) (entry_of k n.note n.call n.answer)
+published_push : (k : ℕ) (ns : List Noted) (n : Noted) → published_count k (ns ++ n ∷ []) ≡ last_value (published_count k ns) (entry_of k n.note n.call n.answer)
 published_push k ns n = ap (last_value 0) (applied_push k ns n) ∙ last_append 0 (applied_by k ns) (entry_of k n.note n.call n.answer)
 
 -- ---- one call more of a stage
@@ -95,7 +95,7 @@ works_on m x q w own n =
       tried = w.tried;
       works = none_more (λ ns. Works q.number w.from 0 ns x.seen w.tried) x.port q n (subst (λ i. Works i w.from 0 x.port.notes x.seen w.tried) number w.works);
       next = w.next;
-      held = none_more (λ ns. published q.number ns ≡ x.count) x.port q n (subst (λ i. published i x.port.notes ≡ x.count) number w.held);
+      held = none_more (λ ns. published_count q.number ns ≡ x.count) x.port q n (subst (λ i. published_count i x.port.notes ≡ x.count) number w.held);
       most = w.most;
       all = λ zero. w.all (number ∙ zero);
     }
@@ -109,9 +109,9 @@ works_look m x q j v s w own is reads =
     let number : x.port.number ≡ q.number = sym goes.number in
     let noted : Noted = record { call = call.Read j; answer = answer.Read v s; note = Some place } in
     let before : Works q.number w.from 0 x.port.notes x.seen w.tried = subst (λ i. Works i w.from 0 x.port.notes x.seen w.tried) number w.works in
-    let none : published x.port.number (x.port.notes ++ noted ∷ []) ≡ published x.port.number x.port.notes =
-    published_push x.port.number x.port.notes noted ∙ ap (last_value (published x.port.number x.port.notes)) (read_makes_none x.port.number j (Some place) (answer.Read v s)) in
-    let held : published x.port.number q.notes ≡ x.count = ap (published x.port.number) goes.notes ∙ none ∙ w.held in
+    let none : published_count x.port.number (x.port.notes ++ noted ∷ []) ≡ published_count x.port.number x.port.notes =
+    published_push x.port.number x.port.notes noted ∙ ap (last_value (published_count x.port.number x.port.notes)) (read_makes_none x.port.number j (Some place) (answer.Read v s)) in
+    let held : published_count x.port.number q.notes ≡ x.count = ap (published_count x.port.number) goes.notes ∙ none ∙ w.held in
     record {
       own = own;
       inside = subst (λ i. i < m.about.sizes.m) number w.inside;
@@ -121,7 +121,7 @@ works_look m x q j v s w own is reads =
       works = subst (λ ns. Works q.number w.from 0 ns v w.tried) (sym goes.notes)
           (works_read q.number w.from 0 x.port.notes x.seen w.tried j v s noted before (goes.number ∙ is) refl refl);
       next = w.next;
-      held = subst (λ i. published i q.notes ≡ x.count) number held;
+      held = subst (λ i. published_count i q.notes ≡ x.count) number held;
       most = w.most;
       all = λ zero. absurd (omega (arith, is, number, zero));
     }
@@ -134,7 +134,7 @@ works_tried m x q v count n w own number notes set next most all near gives =
     let before : x.port.number ≡ q.number = sym number in
     let more : w.tried ≤ v = omega (arith, w.next, next) in
     let works : Works x.port.number w.from 0 (x.port.notes ++ n ∷ []) x.seen v = works_set x.port.number w.from 0 x.port.notes x.seen w.tried v n w.works set more most in
-    let held : published x.port.number q.notes ≡ count = ap (published x.port.number) notes ∙ published_push x.port.number x.port.notes n
+    let held : published_count x.port.number q.notes ≡ count = ap (published_count x.port.number) notes ∙ published_push x.port.number x.port.notes n
     ∙ ap (λ d. last_value d (entry_of x.port.number n.note n.call n.answer)) w.held ∙ gives in
     record {
       own = own;
@@ -144,7 +144,7 @@ works_tried m x q v count n w own number notes set next most all near gives =
       tried = v;
       works = subst (λ ns. Works q.number w.from 0 ns x.seen v) (sym notes) (subst (λ i. Works i w.from 0 (x.port.notes ++ n ∷ []) x.seen v) before works);
       next = near;
-      held = subst (λ i. published i q.notes ≡ count) before held;
+      held = subst (λ i. published_count i q.notes ≡ count) before held;
       most = all;
       all = λ zero. w.all (before ∙ zero);
     }
@@ -174,7 +174,7 @@ is_done m x k w working knows number same finished =
     let all : HasWorked x.port.number x.port.notes =
     record { from = working.from; read = x.seen; count = working.tried; none = working.none; works = working.works } in
     let worked : HasWorked k x.port.notes = subst (λ i. HasWorked i x.port.notes) number all in
-    let held : published k x.port.notes ≡ x.count = subst (λ i. published i x.port.notes ≡ x.count) number working.held in
+    let held : published_count k x.port.notes ≡ x.count = subst (λ i. published_count i x.port.notes ≡ x.count) number working.held in
     let ended : EndsAt x.items k x.port.notes w.end = record { most = omega (arith, held, working.most); finished = λ is. held ∙ finished is } in
     record {
       own = subst (IsOf m) (sym same) working.own;
@@ -191,17 +191,17 @@ done_alike m v all items k i w done memory same number =
 
 -- ---- the notes of the monitor
 
-pub watched_push : (stages : List ℕ) (ns : List Noted) (ss : List (List ℕ)) (n : Noted) (counts : List ℕ) (c : ℕ) (b : Option ℕ) → Watched stages ns ss → n.call ≡ call.Scan stages →
-    n.answer ≡ answer.Scanned counts c b → Watched stages (ns ++ n ∷ []) (ss ++ counts ∷ [])
+pub watched_push : (stages : List ℕ) (ns : List Noted) (ss : List (List ℕ)) (n : Noted) (counts : List ℕ) (c : ℕ) (b : Option ℕ) → StagesWatched stages ns ss → n.call ≡ call.Scan stages →
+    n.answer ≡ answer.Scanned counts c b → StagesWatched stages (ns ++ n ∷ []) (ss ++ counts ∷ [])
 watched_push stages [] [] n counts c b w is ans = (c, b, is, ans, tt)
 watched_push stages [] (s ∷ ss) n counts c b w is ans = absurd w
 watched_push stages (m ∷ ns) [] n counts c b w is ans = absurd w
 watched_push stages (m ∷ ns) (s ∷ ss) n counts c b w is ans = (w.0, w.1, w.2, w.3, watched_push stages ns ss n counts c b w.4 is ans)
 
-pub watched_sees : (p q : PortView) (stages counts : List ℕ) (ss : List (List ℕ)) → Watched stages p.notes ss → Sees p stages counts q → Watched stages q.notes (ss ++ counts ∷ [])
+pub watched_sees : (p q : PortView) (stages counts : List ℕ) (ss : List (List ℕ)) → StagesWatched stages p.notes ss → Sees p stages counts q → StagesWatched stages q.notes (ss ++ counts ∷ [])
 watched_sees p q stages counts ss w s =
     let n : Noted = record { call = call.Scan stages; answer = answer.Scanned counts s.collects s.borrowed; note = Some (note.Saw s.place) } in
-    subst (λ ns. Watched stages ns (ss ++ counts ∷ [])) (sym s.goes.notes) (watched_push stages p.notes ss n counts s.collects s.borrowed w refl refl)
+    subst (λ ns. StagesWatched stages ns (ss ++ counts ∷ [])) (sym s.goes.notes) (watched_push stages p.notes ss n counts s.collects s.borrowed w refl refl)
 
 -- a scan of some stages that was answered
 pub sees_scan : (p q : PortView) (stages counts : List ℕ) (s : Scanned) → 0 < length stages → length counts ≡ length stages → Scans p stages counts s q → Sees p stages counts q

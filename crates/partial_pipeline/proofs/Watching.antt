@@ -1,5 +1,5 @@
 -- The monitor: one scan more, and a meeting. And the threads of the stages.
-use Rattle.partial_pipeline.proofs.Common.{ℕ, zero, suc, ◌≡◌, ◌+◌, ◌<◌, ◌≤◌, ◌++◌, List, [], ◌∷◌, length, map, get_or, refl, sym, ◌∙◌, ap, subst, append-nil, arith, AllByRecursion, vec_capacity, length_push, map-append, all_append, all_front, Meets, IsOf, Knows, MemoryView, PortView, new_ports, AreFrom, HasWorked, EndEach, EndsAt, HasMetMonitor, IsStageDone, IsNewStage, IsOpened, IsStageStarted, IsWatching, GoesOnNoting, Sees, Watched, StageEnd}
+use Rattle.partial_pipeline.proofs.Common.{ℕ, zero, suc, ◌≡◌, ◌+◌, ◌<◌, ◌≤◌, ◌++◌, List, [], ◌∷◌, length, map, get_or, refl, sym, ◌∙◌, ap, subst, append-nil, arith, AllByRecursion, vec_capacity, length_push, map-append, all_append, all_front, Meets, IsOf, Knows, MemoryView, PortView, new_ports, AreFrom, HasWorked, EndEach, EndsAt, HasMetMonitor, IsStageDone, IsNewStage, IsOpened, IsStageStarted, IsWatching, GoesOnNoting, Sees, StagesWatched, StageEnd}
 use Rattle.std.specs.declared.alloc.Global.{Global}
 use Rattle.std.specs.declared.vec.Vec.{Vec}
 use Rattle.std.specs.declared.thread.PromisedHandle.{PromisedHandle}
@@ -30,7 +30,7 @@ watching_more m x q rooms scans room counts stages w popped same own sees pushed
       last = w.last;
       room = omega (arith, more, less, capacity, w.room);
       wide = subst (λ (l : List (Vec ℕ Global)). AllByRecursion Fits l) (sym pushed) (all_append Fits x.scans.items (counts ∷ []) w.wide (s.each ∙ w.each.count, tt));
-      watched = subst (Watched x.stages.items q.notes) (sym many) (watched_sees x.port q x.stages.items counts.items (map (λ (v : Vec ℕ Global). v.items) x.scans.items) w.watched s);
+      watched = subst (StagesWatched x.stages.items q.notes) (sym many) (watched_sees x.port q x.stages.items counts.items (map (λ (v : Vec ℕ Global). v.items) x.scans.items) w.watched s);
     }
 
 -- a scan of the monitor was refused
@@ -47,7 +47,7 @@ watching_refused m x q rooms room w popped own n =
       last = w.last;
       room = omega (arith, less, w.room);
       wide = w.wide;
-      watched = none_more (λ ns. Watched x.stages.items ns (map (λ (v : Vec ℕ Global). v.items) x.scans.items)) x.port q n w.watched;
+      watched = none_more (λ ns. StagesWatched x.stages.items ns (map (λ (v : Vec ℕ Global). v.items) x.scans.items)) x.port q n w.watched;
     }
 
 -- the monitor has met another port
@@ -63,7 +63,7 @@ watching_met m x b c d w own meets =
       last = w.last;
       room = w.room;
       wide = w.wide;
-      watched = none_more (λ ns. Watched x.stages.items ns (map (λ (v : Vec ℕ Global). v.items) x.scans.items)) x.port c n w.watched;
+      watched = none_more (λ ns. StagesWatched x.stages.items ns (map (λ (v : Vec ℕ Global). v.items) x.scans.items)) x.port c n w.watched;
     }
 
 -- ---- the threads

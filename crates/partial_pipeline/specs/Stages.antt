@@ -55,8 +55,8 @@ last_value d [] = d
 last_value d (e ∷ es) = last_value e.value es
 
 -- the count that the notes of stage k last published
-abbrev pub published : ℕ → List Noted → ℕ
-published k ns = last_value 0 (applied_by k ns)
+abbrev pub published_count : ℕ → List Noted → ℕ
+published_count k ns = last_value 0 (applied_by k ns)
 
 -- A stage at work: its count is what it published last, and what it has tried to publish is at most one more.
 pub record IsWorking (m : MemoryView) (s : Stage) : Type 0 where
@@ -67,14 +67,14 @@ pub record IsWorking (m : MemoryView) (s : Stage) : Type 0 where
   pub tried : ℕ
   pub works : Works s.port.number from 0 s.port.notes s.seen tried
   pub next : tried ≤ s.count + 1
-  pub held : published s.port.number s.port.notes ≡ s.count
+  pub held : published_count s.port.number s.port.notes ≡ s.count
   pub most : s.count ≤ s.items
   pub all : s.port.number ≡ 0 → s.seen ≡ s.items
 
 -- what a stage of so many items has published when it ends
 pub record EndsAt (items k : ℕ) (ns : List Noted) (end : StageEnd) : Type 0 where
-  pub most : published k ns ≤ items
-  pub finished : end ≡ Finished → published k ns ≡ items
+  pub most : published_count k ns ≤ items
+  pub finished : end ≡ Finished → published_count k ns ≡ items
 
 -- stage k has ended
 pub record IsStageDone (m : MemoryView) (items k : ℕ) (w : Worked) : Type 0 where
@@ -100,11 +100,11 @@ abbrev pub AreRooms : ℕ → List (Vec ℕ Global) → Type 0
 AreRooms stages rooms = AllByRecursion (λ room. length room.items ≡ stages) rooms
 
 -- the calls are scans of these stages, and gave these counts
-abbrev pub Watched : List ℕ → List Noted → List (List ℕ) → Type 0
-Watched stages [] [] = ⊤
-Watched stages (n ∷ ns) (counts ∷ more) =
-    (c : ℕ) × (b : Option ℕ) × (n.call ≡ call.Scan stages) × (n.answer ≡ answer.Scanned counts c b) × Watched stages ns more
-Watched stages _ _ = ⊥
+abbrev pub StagesWatched : List ℕ → List Noted → List (List ℕ) → Type 0
+StagesWatched stages [] [] = ⊤
+StagesWatched stages (n ∷ ns) (counts ∷ more) =
+    (c : ℕ) × (b : Option ℕ) × (n.call ≡ call.Scan stages) × (n.answer ≡ answer.Scanned counts c b) × StagesWatched stages ns more
+StagesWatched stages _ _ = ⊥
 
 -- the port has noted a scan of these stages, which gave these counts, at a place behind all that it had seen before
 pub record Sees (p : PortView) (stages counts : List ℕ) (q : PortView) : Type 0 where
@@ -128,7 +128,7 @@ pub record IsWatching (m : MemoryView) (x : Monitor) : Type 0 where
   pub last : length x.room.items ≡ m.about.sizes.m
   pub room : length x.scans.items + length x.rooms.items ≤ vec_capacity x.scans
   pub wide : AreRooms m.about.sizes.m x.scans.items
-  pub watched : Watched x.stages.items x.port.notes (map (λ v. v.items) x.scans.items)
+  pub watched : StagesWatched x.stages.items x.port.notes (map (λ v. v.items) x.scans.items)
 
 -- the port of stage k, which has ended and met the monitor: its entries lie within what the monitor has seen
 pub record HasMetMonitor (m : MemoryView) (seen k : ℕ) (p : PortView) : Type 0 where

@@ -110,7 +110,7 @@ module _ (z : Layout) (o : Opening) (words : List ℕ) (before : List Part) (x :
 
     goes_on_fits : new.number ≡ port.number → reply_of core2 ≡ None → steps_left core2 < steps_left port.core → CallGoesOn port new way core2 → PortFits o log2 calls p y new
     goes_on_fits number none falls g =
-        let no_new : l.tells.new ≡ [] = subst (λ (r : Option Reply). AreNotesOf y r l.tells.new) none l.tells.noted in
+        let no_new : l.tells.new ≡ [] = subst (λ (r : Option Reply). AreNotesOf o y r l.tells.new) none l.tells.noted in
         let b = l.tells.behind in
         let begun : is_begun new.core.stage ≡ false = ap (λ (s : CoreState). is_begun s.stage) g.machine ∙ b.begun in
         let core : new.core ≡ core_of y = g.machine ∙ sym core_y in
@@ -197,7 +197,7 @@ module _ (z : Layout) (o : Opening) (words : List ℕ) (before : List Part) (x :
         }) refl
 
     -- the note of the part is legal behind the others
-    legal_y : (r : Reply) (n : IsNoteOf y r l.tells.new) → IsLegal o log2 p (seen_by 0 x.notes) (record { call = n.call; answer = answer_for core2 r; note = Some (n.note) })
+    legal_y : (r : Reply) (n : IsNoteOf o y r l.tells.new) → IsLegal o log2 p (seen_by 0 x.notes) (record { call = n.call; answer = answer_for core2 r; note = Some (n.note) })
     legal_y r n =
         let is : l.tells.new ≡ record { call = n.call; answer = answer_for core2 r; note = Some (n.note) } ∷ [] =
         n.is ∙ ap (λ (s : CoreState). record { call = n.call; answer = answer_for s r; note = Some (n.note) } ∷ []) core_y in
@@ -206,7 +206,7 @@ module _ (z : Layout) (o : Opening) (words : List ℕ) (before : List Part) (x :
         (subst (λ (ns : List Noted). LegalNotes o log2 (port_of y) 0 (x.notes ++ ns)) is
         (subst (λ (ns : List Noted). LegalNotes o log2 (port_of y) 0 ns) notes_y (subst (λ (h : List Applied). LegalNotes o h (port_of y) 0 y.notes) seen_y l.tells.fits.legal))))
 
-    noted_fits : (r : Reply) → new.number ≡ port.number → steps_left core2 < steps_left port.core → reply_of core2 ≡ Some r → Ends calls words2 log2 port new way core2 r → IsNoteOf y r l.tells.new →
+    noted_fits : (r : Reply) → new.number ≡ port.number → steps_left core2 < steps_left port.core → reply_of core2 ≡ Some r → Ends calls words2 log2 port new way core2 r → IsNoteOf o y r l.tells.new →
         PortFits o log2 calls p y new
     noted_fits r number falls replied e n =
         let c = n.call in
@@ -237,7 +237,7 @@ module _ (z : Layout) (o : Opening) (words : List ℕ) (before : List Part) (x :
         }) (found.wrote' ∙ sym (append-nil (wrote (Some (n.note)))))
 
     replied_fits : (r : Reply) → new.number ≡ port.number → steps_left core2 < steps_left port.core → reply_of core2 ≡ Some r → Ends calls words2 log2 port new way core2 r →
-        AreNotesOf y (Some r) l.tells.new → PortFits o log2 calls p y new
+        AreNotesOf o y (Some r) l.tells.new → PortFits o log2 calls p y new
     replied_fits (reply.Refused cause) number falls replied e n = refused_fits_step cause number falls replied e n
     replied_fits (reply.Applied s) number falls replied e n = noted_fits (reply.Applied s) number falls replied e n
     replied_fits (reply.Lost by) number falls replied e n = noted_fits (reply.Lost by) number falls replied e n
@@ -248,10 +248,10 @@ module _ (z : Layout) (o : Opening) (words : List ℕ) (before : List Part) (x :
     pub step_fits : (found : Option Reply) → reply_of core2 ≡ found → new.number ≡ port.number → steps_left core2 < steps_left port.core → MatchOption found (CallGoesOn port new way core2)
         (Ends calls words2 log2 port new way core2) → PortFits o log2 calls p l.y new
     step_fits None is number falls g = goes_on_fits number is falls g
-    step_fits (Some r) is number falls e = replied_fits r number falls is e (subst (λ (f : Option Reply). AreNotesOf y f l.tells.new) is l.tells.noted)
+    step_fits (Some r) is number falls e = replied_fits r number falls is e (subst (λ (f : Option Reply). AreNotesOf o y f l.tells.new) is l.tells.noted)
 
     -- the answer of a call that ends is one that it may have
-    answer_may : (r : Reply) → AreNotesOf y (Some r) l.tells.new → MayAnswer port.core.sizes.m u.call (answer_for core2 r)
+    answer_may : (r : Reply) → AreNotesOf o y (Some r) l.tells.new → MayAnswer port.core.sizes.m u.call (answer_for core2 r)
     answer_may (reply.Scanned k b) n =
         let legal = legal_y (reply.Scanned k b) n in
         let values = scan_values o log2 p (length o.values) n.call (scanned_values core2) k b n.note legal.0 (legal.1.0) in
@@ -262,7 +262,7 @@ module _ (z : Layout) (o : Opening) (words : List ℕ) (before : List Part) (x :
     answer_may (reply.Refused cause) n = tt
     answer_may (reply.Changed by) n = tt
 
-    ends_may : (found : Option Reply) → AreNotesOf y found l.tells.new → IfSome found (λ r. MayAnswer port.core.sizes.m u.call (answer_for core2 r))
+    ends_may : (found : Option Reply) → AreNotesOf o y found l.tells.new → IfSome found (λ r. MayAnswer port.core.sizes.m u.call (answer_for core2 r))
     ends_may None n = tt
     ends_may (Some r) n = answer_may r n
 

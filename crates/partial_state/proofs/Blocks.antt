@@ -1,11 +1,11 @@
 -- The blocks of the words, with one port's holding in the place of another.
-use Rattle.partial_state.proofs.Common.{ℕ, ◌≡◌, ◌++◌, List, [], ◌∷◌, length, map, Option, Some, None, refl, sym, ◌∙◌, ap, cons_option, option_map, Applied, Layout, pool_base, Block, Joined, Own, Holding, block_of, block_at, announcements, unpublished, blocks_in, joined_in, initial_words}
+use Rattle.partial_state.proofs.Common.{ℕ, ◌≡◌, ◌++◌, List, [], ◌∷◌, length, map, Option, Some, None, refl, sym, ◌∙◌, ap, cons_option, option_map, Applied, Layout, pool_base, Block, JoinedAnnouncement, Own, Holding, block_of, block_at, announcements, unpublished, blocks_in, joined_in, initial_words}
 use Rattle.partial_state.proofs.ListLemmas.{Adds, adds_behind, adds_before}
 use Rattle.partial_state.proofs.HoldingLemmas.{filter_split}
 use Rattle.partial_words.specs.Announcement.{announcement_size}
 
 -- the block of an announcement
-abbrev pub announcement_of : Joined → Block
+abbrev pub announcement_of : JoinedAnnouncement → Block
 announcement_of j = record { at = j.at; size = announcement_size (length j.indices) }
 
 module _ (before : List Holding) (h : Holding) (after : List Holding) where
@@ -13,8 +13,8 @@ module _ (before : List Holding) (h : Holding) (after : List Holding) where
   unpublished_is f e = filter_split (λ (v : Holding). option_map block_of v.own) before h after ∙ ap (λ (f : Option Own). unpublished before ++
       cons_option (option_map block_of f) (unpublished after)) e
 
-  pub announcements_are : (f : Option Joined) → joined_in h.claimed ≡ f → announcements (before ++ h ∷ after) ≡ announcements before ++ cons_option (option_map announcement_of f) (announcements after)
-  announcements_are f e = filter_split (λ (v : Holding). option_map announcement_of (joined_in v.claimed)) before h after ∙ ap (λ (f : Option Joined). announcements before ++
+  pub announcements_are : (f : Option JoinedAnnouncement) → joined_in h.claimed ≡ f → announcements (before ++ h ∷ after) ≡ announcements before ++ cons_option (option_map announcement_of f) (announcements after)
+  announcements_are f e = filter_split (λ (v : Holding). option_map announcement_of (joined_in v.claimed)) before h after ∙ ap (λ (f : Option JoinedAnnouncement). announcements before ++
       cons_option (option_map announcement_of f) (announcements after)) e
 
 module _ (before : List Holding) (h h' : Holding) (after : List Holding) where
@@ -28,7 +28,7 @@ module _ (before : List Holding) (h h' : Holding) (after : List Holding) where
   pub own_added : (b : Own) → h'.own ≡ None → h.own ≡ Some b → Adds (block_of b) (unpublished (before ++ h' ∷ after)) (unpublished (before ++ h ∷ after))
   own_added b none some = (unpublished before, unpublished after, unpublished_is before h' after None none, unpublished_is before h after (Some b) some)
 
-  pub announcement_added : (j : Joined) → joined_in h'.claimed ≡ None → joined_in h.claimed ≡ Some j → Adds (announcement_of j) (announcements (before ++ h' ∷ after))
+  pub announcement_added : (j : JoinedAnnouncement) → joined_in h'.claimed ≡ None → joined_in h.claimed ≡ Some j → Adds (announcement_of j) (announcements (before ++ h' ∷ after))
       (announcements (before ++ h ∷ after))
   announcement_added j none some = (announcements before, announcements after, announcements_are before h' after None none, announcements_are before h after (Some j) some)
 

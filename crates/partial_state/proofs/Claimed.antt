@@ -1,5 +1,5 @@
 -- The blocks of lawful words: all their words are claimed, and those that are published are apart from the others.
-use Rattle.partial_state.proofs.Common.{ℕ, ◌≡◌, ◌+◌, ◌<◌, ◌≤◌, ◌==◌, ◌++◌, Bool, true, false, cond, List, [], ◌∷◌, length, map, get_or, Option, Some, None, IfSome, MatchOption, slice_get, refl, ◌∙◌, ap, subst, inl, inr, arith, AllByRecursion, cons_option, option_map, eqb-true, Applied, Opening, Layout, pool_counter, slot_word, pool_base, view_of, view_len, length-pairs, Block, AreApart, Joined, HasPairs, IsAnnounced, IsApartFrom, Claimed, Holding, Space, space_begin, end_of, counter_of, block_of, block_at, announcements, unpublished, blocks_in, joined_in, EachTwo, Pool, Lists, LawfulWords, IsOwn, IsTied, IsClaim, IsEntry, IsPublished, AllByRecursion-get, all_where, own_view, plain_record_size, full_record_size, initial_words}
+use Rattle.partial_state.proofs.Common.{ℕ, ◌≡◌, ◌+◌, ◌<◌, ◌≤◌, ◌==◌, ◌++◌, Bool, true, false, cond, List, [], ◌∷◌, length, map, get_or, Option, Some, None, IfSome, MatchOption, slice_get, refl, ◌∙◌, ap, subst, inl, inr, arith, AllByRecursion, cons_option, option_map, eqb-true, Applied, Opening, Layout, pool_counter, slot_word, pool_base, view_of, view_len, length-pairs, Block, AreApart, JoinedAnnouncement, HasPairs, IsAnnounced, IsApartFrom, ClaimedSlot, Holding, Space, space_begin, end_of, counter_of, block_of, block_at, announcements, unpublished, blocks_in, joined_in, EachTwo, Pool, Lists, LawfulWords, IsOwn, IsTied, IsClaim, IsEntry, IsPublished, AllByRecursion-get, all_where, own_view, plain_record_size, full_record_size, initial_words}
 use Rattle.partial_state.proofs.ListLemmas.{all_append, all_back, all_map, all_unmap, all_weaker, two_back, two_across}
 use Rattle.partial_state.proofs.Frames.{IsClaimedBlock, announcement_claimed, block_published}
 use Rattle.partial_state.proofs.HoldingLemmas.{if_some, if_all, all_unpublished}
@@ -35,11 +35,11 @@ all_announcements : (P : Block → Type 0) (hs : List Holding) → AllByRecursio
 all_announcements P [] w = tt
 all_announcements P (h ∷ hs) w = more P (joined_in h.claimed) (announcements hs) (joined P h.claimed w.0) (all_announcements P hs w.1)
   where
-    joined : (P : Block → Type 0) (f : Option Claimed) → IfSome f (λ c. IfSome c.joined (λ j. P (announcement_of j))) → IfSome (joined_in f) (λ j. P (announcement_of j))
+    joined : (P : Block → Type 0) (f : Option ClaimedSlot) → IfSome f (λ c. IfSome c.joined (λ j. P (announcement_of j))) → IfSome (joined_in f) (λ j. P (announcement_of j))
     joined P None w = tt
     joined P (Some c) w = w
 
-    more : (P : Block → Type 0) (f : Option Joined) (rest : List Block) → IfSome f (λ j. P (announcement_of j)) → AllByRecursion P rest →
+    more : (P : Block → Type 0) (f : Option JoinedAnnouncement) (rest : List Block) → IfSome f (λ j. P (announcement_of j)) → AllByRecursion P rest →
         AllByRecursion P (cons_option (option_map announcement_of f) rest)
     more P None rest w v = v
     more P (Some j) rest w v = (w, v)
@@ -78,7 +78,7 @@ module _ (z : Layout) (o : Opening) (words : List ℕ) (hs : List Holding) (log 
 
   announcements_claimed : AllByRecursion (IsClaimedBlock z words) (announcements hs)
   announcements_claimed =
-      let P : Joined → Type 0 = λ j. IsClaimedBlock z words (announcement_of j) in
+      let P : JoinedAnnouncement → Type 0 = λ j. IsClaimedBlock z words (announcement_of j) in
       all_announcements (IsClaimedBlock z words) hs (all_weaker (λ (h : Holding). IfSome h.claimed (IsClaim z words hs log)) (λ h. IfSome h.claimed (λ c. IfSome c.joined P))
       (λ h k. if_some (IsClaim z words hs log) (λ c. IfSome c.joined P) h.claimed (λ c e claim. if_all P c.joined (λ j is.
       announcement_claimed z words (unpublished hs) j.at j.indices (match_some (get_or words (slot_word z c.slot) 0 ≡ 0)

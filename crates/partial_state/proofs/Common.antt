@@ -15,8 +15,8 @@ pub use Rattle.partial_model.proofs.AllLemmas.{all_where}
 pub use Rattle.partial_model.specs.History.{IsHistory, stamp_of, initial_stamp}
 pub use Rattle.partial_model.proofs.HistoryLemmas.{place_below, stamp_of-push}
 pub use Rattle.partial_words.specs.Chain.{Agrees, opening_word, IsLink, IsChain, chain_of}
-pub use Rattle.partial_state.specs.Views.{Block, AreApart, IsApartFrom, IsPublishedList, IsHead, Joined, HasPairs, IsAnnounced, HasFreshView, IsWithin, Covers, IsViewOf, IsView, IsBegunSince, ViewNames}
-pub use Rattle.partial_state.specs.Holdings.{Own, Holding, Space, space_begin, end_of, counter_of, block_of, unpublished, blocks_in, other_holdings, EachTwo, pool_marks, list_marks, block_at, announcements, joined_in, Claimed, Due, IfJoined, HaveOtherPorts, HaveOtherSlots, slot_marks}
+pub use Rattle.partial_state.specs.Views.{Block, AreApart, IsApartFrom, IsPublishedList, IsHead, JoinedAnnouncement, HasPairs, IsAnnounced, HasFreshView, IsWithin, Covers, IsViewOf, IsView, IsBegunSince, ViewNames}
+pub use Rattle.partial_state.specs.Holdings.{Own, Holding, Space, space_begin, end_of, counter_of, block_of, unpublished, blocks_in, other_holdings, EachTwo, pool_marks, list_marks, block_at, announcements, joined_in, ClaimedSlot, Due, IfJoined, HaveOtherPorts, HaveOtherSlots, slot_marks}
 pub use Rattle.partial_state.specs.Holdings.Space.{Pool, Lists}
 pub use Rattle.partial_state.specs.LawfulWords.{LawfulWords, IsOwn, IsTied, IsDue, IsClaim, IsEntry, IsClaimedIn, CoversAll}
 pub use Rattle.partial_state.specs.Effects.{IsKept, ClaimsAreKept, StoresAreKept, PublishingsAreKept, LoadsAreTrue, DuesAreKept, DropsAreKept, PoolRefusalsAreKept, ListRefusalsAreKept, SlotRefusalsAreKept, idle_holdings, OpeningIsLawful, SlotClaimsAreKept, JoinsAreKept, LeavesAreKept, WinsAreKept}

@@ -1,5 +1,5 @@
 -- What a step changes, and that lawful words stay lawful by it and what was loaded true.
-use Rattle.partial_state.proofs.Common.{ℕ, ◌≡◌, ◌≢◌, ◌+◌, ◌*◌, ◌<◌, ◌≤◌, ◌⊎◌, ◌++◌, List, [], ◌∷◌, length, get_or, Option, Some, None, IfSome, IsSomeAnd, MatchOption, slice_get, refl, sym, ◌∙◌, ap, subst, inl, inr, arith, AllByRecursion, ne_eqb, cases_lt, Applied, Opening, IsHistory, stamp_of, place_below, Layout, slot_counter, list_head, pool_counter, list_counter, slot_word, list_end, pool_end, initial_record, view_word, prev_of, record_value, view_of, Agrees, Block, AreApart, Joined, HasFreshView, IsWithin, Covers, IsAnnounced, IsHead, Claimed, Own, Due, Holding, block_of, block_at, unpublished, blocks_in, other_holdings, IfJoined, joined_in, EachTwo, HaveOtherPorts, HaveOtherSlots, pool_marks, slot_marks, list_marks, Pool, LawfulWords, IsOwn, IsTied, IsClaimedIn, IsClaim, CoversAll, IsDue, IsEntry, KeptAnswer, IsLoaded, IsKept, AllByRecursion-get, all_where, greatest_record, greatest_list, prev_word, value_word}
+use Rattle.partial_state.proofs.Common.{ℕ, ◌≡◌, ◌≢◌, ◌+◌, ◌*◌, ◌<◌, ◌≤◌, ◌⊎◌, ◌++◌, List, [], ◌∷◌, length, get_or, Option, Some, None, IfSome, IsSomeAnd, MatchOption, slice_get, refl, sym, ◌∙◌, ap, subst, inl, inr, arith, AllByRecursion, ne_eqb, cases_lt, Applied, Opening, IsHistory, stamp_of, place_below, Layout, slot_counter, list_head, pool_counter, list_counter, slot_word, list_end, pool_end, initial_record, view_word, prev_of, record_value, view_of, Agrees, Block, AreApart, JoinedAnnouncement, HasFreshView, IsWithin, Covers, IsAnnounced, IsHead, ClaimedSlot, Own, Due, Holding, block_of, block_at, unpublished, blocks_in, other_holdings, IfJoined, joined_in, EachTwo, HaveOtherPorts, HaveOtherSlots, pool_marks, slot_marks, list_marks, Pool, LawfulWords, IsOwn, IsTied, IsClaimedIn, IsClaim, CoversAll, IsDue, IsEntry, KeptAnswer, IsLoaded, IsKept, AllByRecursion-get, all_where, greatest_record, greatest_list, prev_word, value_word}
 use Rattle.partial_state.proofs.ListLemmas.{all_at, all_before, all_after, all_join, all_weaker, two_before, two_after, two_join, length_same}
 use Rattle.partial_state.proofs.Frames.{Frame, Grows, within_more, within_grows, published_moves, announced_moves, head_moves, slot_moves, fresh_moves, covers_moves, covers_newer}
 use Rattle.partial_state.proofs.HoldingLemmas.{own_far, if_some, if_some_at, some_found, found_some, joined_weaker, HaveOtherBlocks, blocks_turn, ports_turn, slots_turn, others_split, block_stays, three_words}
@@ -35,9 +35,9 @@ pub record Changes (z : Layout) (o : Opening) (words words' : List ℕ) (before 
   pub lists_high : get_or words' (list_counter z) 0 ≤ list_end z + greatest_list z * list_marks (before ++ h' ∷ after)
 
 -- the port joined now, or has what it had: what holds of those joined before it, and of those since
-pub joined_moves : (h h' : Holding) (n : ℕ) (P Q : ℕ → Joined → Type 0) → ((l : ℕ) (j : Joined) → P l j → Q l j) → ((l : ℕ) (j : Joined) → n ≤ j.since → Q l j) → (h'.claimed ≡ h.claimed) ⊎
+pub joined_moves : (h h' : Holding) (n : ℕ) (P Q : ℕ → JoinedAnnouncement → Type 0) → ((l : ℕ) (j : JoinedAnnouncement) → P l j → Q l j) → ((l : ℕ) (j : JoinedAnnouncement) → n ≤ j.since → Q l j) → (h'.claimed ≡ h.claimed) ⊎
     IfJoined h' (λ l j. n ≤ j.since) → IfJoined h P → IfJoined h' Q
-joined_moves h h' n P Q f g (inl same) w = subst (λ (c : Option Claimed). IfSome c (λ c. IfSome c.joined (Q c.slot))) (sym same) (joined_weaker h P Q f w)
+joined_moves h h' n P Q f g (inl same) w = subst (λ (c : Option ClaimedSlot). IfSome c (λ c. IfSome c.joined (Q c.slot))) (sym same) (joined_weaker h P Q f w)
 joined_moves h h' n P Q f g (inr late) w = joined_weaker h' (λ l j. n ≤ j.since) Q g late
 
 -- a record that is due, where its words and what it covers stay
@@ -70,7 +70,7 @@ due_moves z o words words' v v' others others' log log' d f g own unjoined named
     }
 
 -- a claim whose slot stays
-pub claim_moves : (z : Layout) (words words' : List ℕ) (hs hs' : List Holding) (log log' : List Applied) (d : Claimed) → Frame z words words' (unpublished hs) (unpublished hs') →
+pub claim_moves : (z : Layout) (words words' : List ℕ) (hs hs' : List Holding) (log log' : List Applied) (d : ClaimedSlot) → Frame z words words' (unpublished hs) (unpublished hs') →
     length log ≤ length log' → get_or words' (slot_word z d.slot) 0 ≡ get_or words (slot_word z d.slot) 0 → IsClaim z words hs log d → IsClaim z words' hs' log' d
 claim_moves z words words' hs hs' log log' d f longer same k =
     let more = f.slots in
@@ -78,7 +78,7 @@ claim_moves z words words' hs hs' log log' d f longer same k =
     record { slot = k.slot; below = omega (arith, below, more); holds = holds z words words' hs hs' log log' f longer d.slot d.joined same k.holds }
   where
     holds : (z : Layout) (words words' : List ℕ) (hs hs' : List Holding) (log log' : List Applied) → Frame z words words' (unpublished hs) (unpublished hs') → length log ≤ length log' →
-        (l : ℕ) (j : Option Joined) → get_or words' (slot_word z l) 0 ≡ get_or words (slot_word z l) 0 → MatchOption j (get_or words (slot_word z l) 0 ≡ 0)
+        (l : ℕ) (j : Option JoinedAnnouncement) → get_or words' (slot_word z l) 0 ≡ get_or words (slot_word z l) 0 → MatchOption j (get_or words (slot_word z l) 0 ≡ 0)
         (λ j. (get_or words (slot_word z l) 0 ≡ j.at) × (j.since ≤ length log) × IsAnnounced z words (unpublished hs) j.at j.indices) → MatchOption j (get_or words' (slot_word z l) 0 ≡ 0)
         (λ j. (get_or words' (slot_word z l) 0 ≡ j.at) × (j.since ≤ length log') × IsAnnounced z words' (unpublished hs') j.at j.indices)
     holds z words words' hs hs' log log' f longer l None same k = same ∙ k
@@ -97,7 +97,7 @@ module _ (z : Layout) (o : Opening) (words words' : List ℕ) (before : List Hol
       let f = frame_of z words words' h h' c.moves front back in
       let P : Holding → Type 0 = λ v. IfJoined v (λ l j. Covers z words us log stamp j) in
       let Q : Holding → Type 0 = λ v. IfJoined v (λ l j. Covers z words' us' log' stamp j) in
-      let step : (j : Joined) → Covers z words us log stamp j → Covers z words' us' log' stamp j = λ j. covers_moves z words words' us us' f o log log' c.grows stamp prev view n j within in
+      let step : (j : JoinedAnnouncement) → Covers z words us log stamp j → Covers z words' us' log' stamp j = λ j. covers_moves z words words' us us' f o log log' c.grows stamp prev view n j within in
       let each : (v : Holding) → P v → Q v = λ v. joined_weaker v (λ l j. Covers z words us log stamp j) (λ l j. Covers z words' us' log' stamp j) (λ l j. step j) in
       all_join Q front h' back (all_weaker P Q each front (all_before P front h back all))
       (joined_moves h h' (length log) (λ l j. Covers z words us log stamp j) (λ l j. Covers z words' us' log' stamp j) (λ l j. step j)
@@ -278,8 +278,8 @@ module _ (z : Layout) (o : Opening) (words words' : List ℕ) (before : List Hol
       let us' = unpublished (before ++ h' ∷ after) in
       let within = l.within in
       let more = c.grows.more in
-      let C : ℕ → Joined → Type 0 = λ l j. j.since < k.at → l < k.answer in
-      let J : ℕ → Joined → Type 0 = λ l j. j.since < k.at → n ≡ slot_word z l → k.answer ≡ j.at in
+      let C : ℕ → JoinedAnnouncement → Type 0 = λ l j. j.since < k.at → l < k.answer in
+      let J : ℕ → JoinedAnnouncement → Type 0 = λ l j. j.since < k.at → n ≡ slot_word z l → k.answer ≡ j.at in
       record {
         within = omega (arith, within, more);
         component = λ below. l.component below ∙ ap (λ (t : List Applied). stamp_of o t n) (sym (c.grows.takes k.at within));
@@ -290,7 +290,7 @@ module _ (z : Layout) (o : Opening) (words words' : List ℕ) (before : List Hol
         joined = moved J (λ s j late since. absurd (omega (arith, late, since, within))) l.joined;
       }
     where
-      moved : (P : ℕ → Joined → Type 0) → ((s : ℕ) (j : Joined) → length log ≤ j.since → P s j) → AllByRecursion (λ v. IfJoined v P) (before ++ h ∷ after) →
+      moved : (P : ℕ → JoinedAnnouncement → Type 0) → ((s : ℕ) (j : JoinedAnnouncement) → length log ≤ j.since → P s j) → AllByRecursion (λ v. IfJoined v P) (before ++ h ∷ after) →
           AllByRecursion (λ v. IfJoined v P) (before ++ h' ∷ after)
       moved P late all = let Q : Holding → Type 0 = λ v. IfJoined v P in all_join Q before h' after (all_before Q before h after all)
           (joined_moves h h' (length log) P P (λ s j p. p) late c.joined (all_at Q before h after all)) (all_after Q before h after all)

@@ -1,5 +1,5 @@
 -- What a step leaves of all that is published: blocks, and all that is said by them.
-use Rattle.partial_state.proofs.Common.{ℕ, ◌≡◌, ◌+◌, ◌<◌, ◌≤◌, ◌⊎◌, List, length, take, get_or, slice_get, Some, refl, sym, ◌∙◌, ap, subst, inl, inr, arith, cases_lt, Applied, Opening, place_below, Layout, slot_counter, pool_counter, list_counter, slot_word, list_base, list_end, pool_base, StandsAt, view_block, prev_of, view_of, length-pairs, IsViewOf, Block, AreApart, Joined, HasFreshView, HasPairs, IsView, IsWithin, IsBegunSince, Covers, ViewNames, IsAnnounced, IsPublishedList, IsApartFrom, IsHead, IsPublished, IsSlotAnswer}
+use Rattle.partial_state.proofs.Common.{ℕ, ◌≡◌, ◌+◌, ◌<◌, ◌≤◌, ◌⊎◌, List, length, take, get_or, slice_get, Some, refl, sym, ◌∙◌, ap, subst, inl, inr, arith, cases_lt, Applied, Opening, place_below, Layout, slot_counter, pool_counter, list_counter, slot_word, list_base, list_end, pool_base, StandsAt, view_block, prev_of, view_of, length-pairs, IsViewOf, Block, AreApart, JoinedAnnouncement, HasFreshView, HasPairs, IsView, IsWithin, IsBegunSince, Covers, ViewNames, IsAnnounced, IsPublishedList, IsApartFrom, IsHead, IsPublished, IsSlotAnswer}
 use Rattle.partial_intervals.specs.Intervals.{Ranges}
 use Rattle.partial_model.specs.History.{value_of}
 use Rattle.partial_words.specs.Announcement.{announcement_block, announcement_size}
@@ -223,11 +223,11 @@ module _ (z : Layout) (words words' : List ℕ) (us us' : List Block) (f : Frame
               (λ pair h. h ∙ ap (λ (l : List Applied). value_of o l pair.0) (sym same)) w.pairs w.values;
         }
 
-    pub covers_moves : (n : ℕ) (j : Joined) → IsWithin o log n (prev_of words stamp) → Covers z words us log stamp j → Covers z words' us' log' stamp j
+    pub covers_moves : (n : ℕ) (j : JoinedAnnouncement) → IsWithin o log n (prev_of words stamp) → Covers z words us log stamp j → Covers z words' us' log' stamp j
     covers_moves n j within w begun = names_move stamp j.indices view (w (begun_back o log log' j.since n (prev_of words stamp) g within (subst (IsBegunSince log' j.since) prev begun)))
 
     -- an announcement whose port has joined since is covered by each record of the old history
-    pub covers_newer : (n : ℕ) (j : Joined) → IsWithin o log n (prev_of words stamp) → length log ≤ j.since → Covers z words' us' log' stamp j
+    pub covers_newer : (n : ℕ) (j : JoinedAnnouncement) → IsWithin o log n (prev_of words stamp) → length log ≤ j.since → Covers z words' us' log' stamp j
     covers_newer n j within late begun =
         let back = begun_back o log log' j.since n (prev_of words stamp) g within (subst (IsBegunSince log' j.since) prev begun) in
         let below = place_below log back.0 back.1 back.3 in

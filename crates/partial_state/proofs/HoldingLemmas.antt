@@ -1,5 +1,5 @@
 -- Holdings with one in the place of another: their blocks, the other ports' ones, and how many are marked.
-use Rattle.partial_state.proofs.Common.{ℕ, suc, ◌≡◌, ◌≢◌, ◌+◌, ◌<◌, ◌≤◌, ◌==◌, ◌++◌, Bool, true, false, cond, List, [], ◌∷◌, length, filter_map, get_or, Option, Some, None, IfSome, IsSomeAnd, refl, sym, ◌∙◌, ap, subst, inl, inr, arith, AllByRecursion, cons_option, option_map, ne_eqb, view_of, view_len, Layout, list_base, IsOwn, Pool, Lists, Block, AreApart, Joined, Own, Holding, Space, space_begin, EachTwo, IfJoined, block_of, block_at, unpublished, other_holdings, pool_marks, slot_marks, list_marks, HaveOtherPorts, HaveOtherSlots, own_view, plain_record_size, full_record_size, view_word}
+use Rattle.partial_state.proofs.Common.{ℕ, suc, ◌≡◌, ◌≢◌, ◌+◌, ◌<◌, ◌≤◌, ◌==◌, ◌++◌, Bool, true, false, cond, List, [], ◌∷◌, length, filter_map, get_or, Option, Some, None, IfSome, IsSomeAnd, refl, sym, ◌∙◌, ap, subst, inl, inr, arith, AllByRecursion, cons_option, option_map, ne_eqb, view_of, view_len, Layout, list_base, IsOwn, Pool, Lists, Block, AreApart, JoinedAnnouncement, Own, Holding, Space, space_begin, EachTwo, IfJoined, block_of, block_at, unpublished, other_holdings, pool_marks, slot_marks, list_marks, HaveOtherPorts, HaveOtherSlots, own_view, plain_record_size, full_record_size, view_word}
 
 -- what holds of the value in an option
 pub if_some : {A : Type 0} (P Q : A → Type 0) (found : Option A) → ((a : A) → found ≡ Some a → P a → Q a) → IfSome found P → IfSome found Q
@@ -23,7 +23,7 @@ some_found P (Some a) w = (a, refl, w)
 pub found_some : {A : Type 0} (P : A → Type 0) (found : Option A) (a : A) → found ≡ Some a → P a → IsSomeAnd found P
 found_some P found a e p = subst (λ (f : Option _). IsSomeAnd f P) (sym e) p
 
-pub joined_weaker : (h : Holding) (P Q : ℕ → Joined → Type 0) → ((l : ℕ) (j : Joined) → P l j → Q l j) → IfJoined h P → IfJoined h Q
+pub joined_weaker : (h : Holding) (P Q : ℕ → JoinedAnnouncement → Type 0) → ((l : ℕ) (j : JoinedAnnouncement) → P l j → Q l j) → IfJoined h P → IfJoined h Q
 joined_weaker h P Q f w = if_some (λ c. IfSome c.joined (P c.slot)) (λ c. IfSome c.joined (Q c.slot)) h.claimed (λ c e v. if_some (P c.slot) (Q c.slot) c.joined (λ j e' p. f c.slot j p) v) w
 
 -- the values that a list's elements have, with one element apart

@@ -1,11 +1,11 @@
 -- What a load answers is true from then on.
-use Rattle.partial_state.proofs.Common.{ℕ, ◌≡◌, ◌<◌, ◌≤◌, List, [], ◌∷◌, length, get_or, Option, Some, None, IfSome, MatchOption, refl, sym, ◌∙◌, ap, subst, inl, inr, arith, AllByRecursion, cases_lt, take_all, Applied, Opening, stamp_of, Layout, slot_counter, slot_word, Joined, IsAnnounced, IsHead, Claimed, Holding, unpublished, IfJoined, LawfulWords, IsClaimedIn, IsClaim, IsSlotAnswer, LoadsAreTrue}
+use Rattle.partial_state.proofs.Common.{ℕ, ◌≡◌, ◌<◌, ◌≤◌, List, [], ◌∷◌, length, get_or, Option, Some, None, IfSome, MatchOption, refl, sym, ◌∙◌, ap, subst, inl, inr, arith, AllByRecursion, cases_lt, take_all, Applied, Opening, stamp_of, Layout, slot_counter, slot_word, JoinedAnnouncement, IsAnnounced, IsHead, ClaimedSlot, Holding, unpublished, IfJoined, LawfulWords, IsClaimedIn, IsClaim, IsSlotAnswer, LoadsAreTrue}
 use Rattle.partial_state.proofs.ListLemmas.{all_weaker}
 use Rattle.partial_state.proofs.Claimed.{match_some}
 use Rattle.partial_state.proofs.HoldingLemmas.{if_some, if_all, if_some_at, some_found}
 
 -- what holds of each claim holds of the slot's
-pub claim_found : (P : Claimed → Type 0) (l : ℕ) (hs : List Holding) → IsClaimedIn l hs → AllByRecursion (λ h. IfSome h.claimed P) hs → (c : Claimed) × (c.slot ≡ l) × P c
+pub claim_found : (P : ClaimedSlot → Type 0) (l : ℕ) (hs : List Holding) → IsClaimedIn l hs → AllByRecursion (λ h. IfSome h.claimed P) hs → (c : ClaimedSlot) × (c.slot ≡ l) × P c
 claim_found P l [] k all = absurd k
 claim_found P l (h ∷ hs) (inl k) all = let found = some_found (λ c. c.slot ≡ l) h.claimed k in (found.0, found.2, if_some_at P h.claimed found.0 found.1 all.0)
 claim_found P l (h ∷ hs) (inr k) all = claim_found P l hs k all.1
@@ -22,7 +22,7 @@ slot_now z o words hs log l w room =
       ]
     ]
   where
-    held : (m : ℕ) (f : Option Joined) → m ≡ l → MatchOption f (get_or words (slot_word z m) 0 ≡ 0)
+    held : (m : ℕ) (f : Option JoinedAnnouncement) → m ≡ l → MatchOption f (get_or words (slot_word z m) 0 ≡ 0)
         (λ j. (get_or words (slot_word z m) 0 ≡ j.at) × (j.since ≤ length log) × IsAnnounced z words (unpublished hs) j.at j.indices) → IsSlotAnswer z words (unpublished hs) l
         (get_or words (slot_word z l) 0)
     held m None is k = inl (ap (λ n. get_or words (slot_word z n) 0) (sym is) ∙ k)
@@ -30,8 +30,8 @@ slot_now z o words hs log l w room =
         (inr (j.indices, subst (λ n. IsAnnounced z words (unpublished hs) n j.indices) (sym holds) k.2))
 
 -- what a joined port's claim says of its announcement
-joined_all : (z : Layout) (o : Opening) (words : List ℕ) (hs : List Holding) (log : List Applied) (P : ℕ → Joined → Type 0) → LawfulWords z o words hs log →
-    ((c : Claimed) (j : Joined) → IsClaim z words hs log c → get_or words (slot_word z c.slot) 0 ≡ j.at → P c.slot j) → AllByRecursion (λ h. IfJoined h P) hs
+joined_all : (z : Layout) (o : Opening) (words : List ℕ) (hs : List Holding) (log : List Applied) (P : ℕ → JoinedAnnouncement → Type 0) → LawfulWords z o words hs log →
+    ((c : ClaimedSlot) (j : JoinedAnnouncement) → IsClaim z words hs log c → get_or words (slot_word z c.slot) 0 ≡ j.at → P c.slot j) → AllByRecursion (λ h. IfJoined h P) hs
 joined_all z o words hs log P w f =
     all_weaker (λ (h : Holding). IfSome h.claimed (IsClaim z words hs log)) (λ h. IfJoined h P)
     (λ h k. if_some (IsClaim z words hs log) (λ c. IfSome c.joined (P c.slot)) h.claimed

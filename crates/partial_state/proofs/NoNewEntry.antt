@@ -1,5 +1,5 @@
 -- The steps that add nothing to the history, and what most steps leave as it was.
-use Rattle.partial_state.proofs.Common.{ℕ, ◌≡◌, ◌≢◌, ◌+◌, ◌*◌, ◌<◌, ◌≤◌, ◌⊎◌, ◌++◌, ◌^◌, ◌%◌, true, false, List, ◌∷◌, length, get_or, Option, None, IfSome, IsSomeAnd, refl, sym, ◌∙◌, ap, subst, inl, inr, arith, eq-eqb, Applied, Opening, place_below, Layout, IsLayout, slot_counter, list_head, pool_counter, list_counter, slot_word, list_base, list_end, pool_end, Block, AreApart, Covers, IsHead, Claimed, Own, Due, Holding, block_of, block_at, unpublished, blocks_in, other_holdings, IfJoined, joined_in, EachTwo, HaveOtherSlots, pool_marks, slot_marks, list_marks, Pool, LawfulWords, IsOwn, IsTied, IsClaim, IsDue, IsKept, greatest_record, greatest_list}
+use Rattle.partial_state.proofs.Common.{ℕ, ◌≡◌, ◌≢◌, ◌+◌, ◌*◌, ◌<◌, ◌≤◌, ◌⊎◌, ◌++◌, ◌^◌, ◌%◌, true, false, List, ◌∷◌, length, get_or, Option, None, IfSome, IsSomeAnd, refl, sym, ◌∙◌, ap, subst, inl, inr, arith, eq-eqb, Applied, Opening, place_below, Layout, IsLayout, slot_counter, list_head, pool_counter, list_counter, slot_word, list_base, list_end, pool_end, Block, AreApart, Covers, IsHead, ClaimedSlot, Own, Due, Holding, block_of, block_at, unpublished, blocks_in, other_holdings, IfJoined, joined_in, EachTwo, HaveOtherSlots, pool_marks, slot_marks, list_marks, Pool, LawfulWords, IsOwn, IsTied, IsClaim, IsDue, IsKept, greatest_record, greatest_list}
 use Rattle.std.proofs.Math.Nat.{mul-le-mul_left}
 use Rattle.partial_state.proofs.ListLemmas.{all_at, all_weaker}
 use Rattle.partial_state.proofs.Frames.{Frame, stays, head_moves, covers_moves}
@@ -113,7 +113,7 @@ fits_word z n s most = let m = s.components.1 in let l = s.slots.1 in let t = s.
 pub taken_stays : (z : Layout) (words words' : List ℕ) (h h' : Holding) → h'.claimed ≡ h.claimed →
     ((l : ℕ) → l < get_or words' (slot_counter z) 0 → l < z.slots → l < get_or words (slot_counter z) 0) → (l : ℕ) → l < get_or words' (slot_counter z) 0 → l < z.slots →
     IsSomeAnd h.claimed (λ c. c.slot ≡ l) ⊎ (get_or words (slot_counter z) 0 ≤ l) → (get_or words' (slot_word z l) 0 ≡ 1) ⊎ IsSomeAnd h'.claimed (λ c. c.slot ≡ l)
-taken_stays z words words' h h' same f l below room (inl k) = inr (subst (λ (c : Option Claimed). IsSomeAnd c (λ c. c.slot ≡ l)) (sym same) k)
+taken_stays z words words' h h' same f l below room (inl k) = inr (subst (λ (c : Option ClaimedSlot). IsSomeAnd c (λ c. c.slot ≡ l)) (sym same) k)
 taken_stays z words words' h h' same f l below room (inr k) = let old = f l below room in absurd (omega (arith, old, k))
 
 module _ (z : Layout) (o : Opening) (words words' : List ℕ) (before : List Holding) (h h' : Holding) (after : List Holding) (log : List Applied) (w : LawfulWords z o words (before ++ h ∷ after) log)
@@ -124,13 +124,13 @@ module _ (z : Layout) (o : Opening) (words words' : List ℕ) (before : List Hol
   pub claim_stays : (log' : List Applied) → length log ≤ length log' → h'.claimed ≡ h.claimed → ((l : ℕ) → l < z.slots → get_or words' (slot_word z l) 0 ≡ get_or words (slot_word z l) 0) →
       IfSome h'.claimed (IsClaim z words' (before ++ h' ∷ after) log')
   claim_stays log' longer same slots =
-      subst (λ (c : Option Claimed). IfSome c (IsClaim z words' (before ++ h' ∷ after) log')) (sym same)
+      subst (λ (c : Option ClaimedSlot). IfSome c (IsClaim z words' (before ++ h' ∷ after) log')) (sym same)
       (if_some (IsClaim z words (before ++ h ∷ after) log) (IsClaim z words' (before ++ h' ∷ after) log') h.claimed
       (λ d e k. claim_moves z words words' (before ++ h ∷ after) (before ++ h' ∷ after) log log' d frame longer (slots d.slot k.slot) k)
       (all_at (λ v. IfSome v.claimed (IsClaim z words (before ++ h ∷ after) log)) before h after w.claims))
 
   pub owners_stay : h'.claimed ≡ h.claimed → (v : Holding) → HaveOtherSlots h v → HaveOtherSlots h' v
-  owners_stay same v k = subst (λ (c : Option Claimed). IfSome c (λ c. IfSome v.claimed (λ d. c.slot ≢ d.slot))) (sym same) k
+  owners_stay same v k = subst (λ (c : Option ClaimedSlot). IfSome c (λ c. IfSome v.claimed (λ d. c.slot ≢ d.slot))) (sym same) k
 
   pub head_stays : get_or words' (list_head z) 0 ≡ get_or words (list_head z) 0 → IsHead z words' (unpublished (before ++ h' ∷ after)) (get_or words' (list_head z) 0)
   head_stays same = subst (IsHead z words' (unpublished (before ++ h' ∷ after))) (sym same)

@@ -1,5 +1,5 @@
 -- The steps on slots: a claim, a join and a leave.
-use Rattle.partial_state.proofs.Common.{ℕ, ◌≡◌, ◌≢◌, ◌+◌, ◌<◌, ◌≤◌, ◌++◌, ◌^◌, ◌%◌, ◌∷◌, length, get_or, set, Option, Some, None, IfSome, IsSomeAnd, refl, sym, ◌∙◌, ap, subst, inl, inr, arith, get_or-set_other, get_or-set_same, length-set, AllByRecursion, eqb_tells, slot_counter, list_head, pool_counter, list_counter, slot_word, list_base, list_end, pool_end, Block, AreApart, Joined, IsAnnounced, IsApartFrom, Claimed, Own, Holding, block_of, unpublished, blocks_in, other_holdings, joined_in, Pool, IsOwn, IsTied, IsClaim, IsDue, SlotClaimsAreKept, JoinsAreKept, LeavesAreKept, greatest_record, greatest_list}
+use Rattle.partial_state.proofs.Common.{ℕ, ◌≡◌, ◌≢◌, ◌+◌, ◌<◌, ◌≤◌, ◌++◌, ◌^◌, ◌%◌, ◌∷◌, length, get_or, set, Option, Some, None, IfSome, IsSomeAnd, refl, sym, ◌∙◌, ap, subst, inl, inr, arith, get_or-set_other, get_or-set_same, length-set, AllByRecursion, eqb_tells, slot_counter, list_head, pool_counter, list_counter, slot_word, list_base, list_end, pool_end, Block, AreApart, JoinedAnnouncement, IsAnnounced, IsApartFrom, ClaimedSlot, Own, Holding, block_of, unpublished, blocks_in, other_holdings, joined_in, Pool, IsOwn, IsTied, IsClaim, IsDue, SlotClaimsAreKept, JoinsAreKept, LeavesAreKept, greatest_record, greatest_list}
 use Rattle.partial_words.specs.Announcement.{announcement_block, announcement_size}
 use Rattle.partial_state.proofs.ListLemmas.{all_at, two_take, two_put}
 use Rattle.partial_state.proofs.Frames.{apart_turns}
@@ -12,17 +12,17 @@ use Rattle.partial_state.proofs.MarkLaws.{blocks_kept}
 use Rattle.partial_state.proofs.BlockLaws.{own_freed}
 
 -- no slot is claimed where there is no claim, and where there is one it is its own
-none_claimed : (P : Claimed → Type 0) (f : Option Claimed) → f ≡ None → IsSomeAnd f P → ⊥
-none_claimed P f e k = let h : IsSomeAnd None P = subst (λ (f : Option Claimed). IsSomeAnd f P) e k in h
+none_claimed : (P : ClaimedSlot → Type 0) (f : Option ClaimedSlot) → f ≡ None → IsSomeAnd f P → ⊥
+none_claimed P f e k = let h : IsSomeAnd None P = subst (λ (f : Option ClaimedSlot). IsSomeAnd f P) e k in h
 
-one_claimed : (P : Claimed → Type 0) (f : Option Claimed) (c : Claimed) → f ≡ Some c → IsSomeAnd f P → P c
-one_claimed P f c e k = let h : IsSomeAnd (Some c) P = subst (λ (f : Option Claimed). IsSomeAnd f P) e k in h
+one_claimed : (P : ClaimedSlot → Type 0) (f : Option ClaimedSlot) (c : ClaimedSlot) → f ≡ Some c → IsSomeAnd f P → P c
+one_claimed P f c e k = let h : IsSomeAnd (Some c) P = subst (λ (f : Option ClaimedSlot). IsSomeAnd f P) e k in h
 
 pub slot_claims_are_kept : SlotClaimsAreKept
 slot_claims_are_kept z o words before h after log w unclaimed room =
     let n = slot_counter z in
     let first = get_or words (slot_counter z) 0 in
-    let c : Claimed = record { slot = get_or words (slot_counter z) 0; joined = None } in
+    let c : ClaimedSlot = record { slot = get_or words (slot_counter z) 0; joined = None } in
     let h' : Holding = record h { claimed = Some (record { slot = get_or words (slot_counter z) 0; joined = None }) } in
     let v = (get_or words n 0 + 1) % 2 ^ 64 in
     let words' = set words n v in
@@ -77,7 +77,7 @@ slot_claims_are_kept z o words before h after log w unclaimed room =
 
 pub leaves_are_kept : LeavesAreKept
 leaves_are_kept z o words before h after log slot j w is =
-    let c : Claimed = record { slot = slot; joined = Some j } in
+    let c : ClaimedSlot = record { slot = slot; joined = Some j } in
     let h' : Holding = record h { claimed = None } in
     let n = slot_word z slot in
     let words' = set words n 1 in
@@ -131,9 +131,9 @@ leaves_are_kept z o words before h after log slot j w is =
 
 pub joins_are_kept : JoinsAreKept
 joins_are_kept z o words before h after log slot at indices w is idle owned few each =
-    let c : Claimed = record { slot = slot; joined = None } in
+    let c : ClaimedSlot = record { slot = slot; joined = None } in
     let b : Own = record { space = Pool; at = at; words = announcement_block indices; stored = announcement_size (length indices) } in
-    let j : Joined = record { at = at; indices = indices; since = length log } in
+    let j : JoinedAnnouncement = record { at = at; indices = indices; since = length log } in
     let h' : Holding = record h { own = None; claimed = Some (record { slot = slot; joined = Some (record { at = at; indices = indices; since = length log }) }) } in
     let between : Holding = record h { own = None } in
     let n = slot_word z slot in

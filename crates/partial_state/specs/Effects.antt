@@ -9,7 +9,7 @@ use Rattle.partial_words.specs.Announcement.{announcement_block, announcement_si
 use Rattle.partial_words.specs.VacatedList.{list_block}
 use Rattle.partial_words.specs.Chain.{OpensWith}
 use Rattle.partial_words.specs.Step.{words_after}
-use Rattle.partial_state.specs.Views.{Joined}
+use Rattle.partial_state.specs.Views.{JoinedAnnouncement}
 use Rattle.partial_state.specs.Holdings.{Own, Due, Holding, Space, counter_of, end_of, other_holdings, unpublished}
 use Rattle.partial_state.specs.Holdings.Space.{Pool, Lists}
 use Rattle.partial_state.specs.LawfulWords.{LawfulWords, IsDue}
@@ -125,14 +125,14 @@ JoinsAreKept =
     h.own ≡ Some (record { space = Pool; at = at; words = announcement_block indices; stored = announcement_size (length indices) }) →
     length indices ≤ z.m → ((k : ℕ) → k < length indices → slice_index indices k < z.m) →
     IsKept z o words before h after log (words_after words (Store (slot_word z slot) at))
-    (let j : Joined = record { at = at; indices = indices; since = length log } in
+    (let j : JoinedAnnouncement = record { at = at; indices = indices; since = length log } in
     record h { own = None; claimed = Some (record { slot = slot; joined = Some j }) }) log
 
 -- a leave: the slot is VACATED
 abbrev pub LeavesAreKept : Type 0
 LeavesAreKept =
     (z : Layout) (o : Opening) (words : List ℕ) (before : List Holding) (h : Holding) (after : List Holding) (log : List Applied) (slot : ℕ)
-    (j : Joined) →
+    (j : JoinedAnnouncement) →
     LawfulWords z o words (before ++ h ∷ after) log → h.claimed ≡ Some (record { slot = slot; joined = Some j }) →
     IsKept z o words before h after log (words_after words (Store (slot_word z slot) 1)) (record h { claimed = None }) log
 

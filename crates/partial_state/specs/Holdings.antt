@@ -6,12 +6,12 @@ use Rattle.partial_model.specs.declared.history.Applied.{Applied}
 use Rattle.partial_words.specs.Layout.{Layout, pool_counter, list_counter, list_base, list_end, pool_base, pool_end, initial_words, first_free}
 use Rattle.partial_words.specs.Record.{plain_record_size, full_record_size, own_view, view_of, view_len}
 use Rattle.partial_words.specs.Announcement.{announcement_size}
-use Rattle.partial_state.specs.Views.{Block, Joined}
+use Rattle.partial_state.specs.Views.{Block, JoinedAnnouncement}
 
 -- a slot that a port has claimed and not left: EMPTY until the port joins, then its announcement's reference
-pub record Claimed : Type 0 where
+pub record ClaimedSlot : Type 0 where
   pub slot : ℕ
-  pub joined : Option Joined
+  pub joined : Option JoinedAnnouncement
 
 -- where blocks are claimed: the pool words behind the initial records, or the list words
 pub data Space : Type 0 where
@@ -54,7 +54,7 @@ pub record Due : Type 0 where
 -- what a port holds
 pub record Holding : Type 0 where
   pub port : ℕ
-  pub claimed : Option Claimed
+  pub claimed : Option ClaimedSlot
   pub own : Option Own
   pub due : Option Due
   pub pool_spent : Bool
@@ -66,11 +66,11 @@ abbrev pub unpublished : List Holding → List Block
 unpublished hs = filter_map (λ h. option_map block_of h.own) hs
 
 -- the announcement of a joined port, with its slot
-abbrev pub IfJoined : Holding → (ℕ → Joined → Type 0) → Type 0
+abbrev pub IfJoined : Holding → (ℕ → JoinedAnnouncement → Type 0) → Type 0
 IfJoined h P = IfSome h.claimed (λ c. IfSome c.joined (P c.slot))
 
 -- the announcement of a port that is joined
-abbrev pub joined_in : Option Claimed → Option Joined
+abbrev pub joined_in : Option ClaimedSlot → Option JoinedAnnouncement
 joined_in None = None
 joined_in (Some c) = c.joined
 

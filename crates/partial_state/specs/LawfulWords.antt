@@ -9,7 +9,7 @@ use Rattle.partial_words.specs.Record.{plain_record_size, prev_of, record_value,
 use Rattle.partial_words.specs.Chain.{Agrees}
 use Rattle.partial_state.specs.Views.{AreApart, HasFreshView, Covers, IsWithin, IsAnnounced, IsHead}
 use Rattle.partial_state.specs.Holdings.Space.{Pool}
-use Rattle.partial_state.specs.Holdings.{Claimed, Own, Due, Holding, space_begin, end_of, counter_of, block_of, block_at, unpublished, blocks_in, other_holdings, IfJoined, joined_in, EachTwo, HaveOtherPorts, HaveOtherSlots, pool_marks, slot_marks, list_marks}
+use Rattle.partial_state.specs.Holdings.{ClaimedSlot, Own, Due, Holding, space_begin, end_of, counter_of, block_of, block_at, unpublished, blocks_in, other_holdings, IfJoined, joined_in, EachTwo, HaveOtherPorts, HaveOtherSlots, pool_marks, slot_marks, list_marks}
 
 -- a block of a port's own lies in its space and below the counter, and holds what is stored
 pub record IsOwn (z : Layout) (words : List ℕ) (b : Own) : Type 0 where
@@ -32,7 +32,7 @@ IsClaimedIn l [] = ⊥
 IsClaimedIn l (h ∷ hs) = IsSomeAnd h.claimed (λ c. c.slot ≡ l) ⊎ IsClaimedIn l hs
 
 -- a claimed slot lies below the counter, and holds 0 before its port has joined and its announcement's reference after
-pub record IsClaim (z : Layout) (words : List ℕ) (hs : List Holding) (log : List Applied) (c : Claimed) : Type 0 where
+pub record IsClaim (z : Layout) (words : List ℕ) (hs : List Holding) (log : List Applied) (c : ClaimedSlot) : Type 0 where
   pub slot : c.slot < z.slots
   pub below : c.slot < slice_index words (slot_counter z)
   pub holds : MatchOption c.joined (slice_index words (slot_word z c.slot) ≡ 0)

@@ -64,7 +64,7 @@ pub record HasFreshView (z : Layout) (o : Opening) (words : List ℕ) (unpublish
   pub values : AllByRecursion (λ pair. pair.1 ≡ value_of o (take prefix log) pair.0) pairs
 
 -- an announcement that stands in a slot: its reference, its indices, and how long the history was when its port joined
-pub record Joined : Type 0 where
+pub record JoinedAnnouncement : Type 0 where
   pub at : ℕ
   pub indices : List ℕ
   pub since : ℕ
@@ -80,7 +80,7 @@ ViewNames z words unpublished stamp indices =
     × AllByRecursion (λ j. Contains (map (λ pair. pair.0) pairs) j) indices
 
 -- the record at `stamp` covers the announcement: it names its indices when it was begun since the port joined
-abbrev pub Covers : Layout → List ℕ → List Block → List Applied → ℕ → Joined → Type 0
+abbrev pub Covers : Layout → List ℕ → List Block → List Applied → ℕ → JoinedAnnouncement → Type 0
 Covers z words unpublished log stamp j = IsBegunSince log j.since (prev_of words stamp) → ViewNames z words unpublished stamp j.indices
 
 -- a whole announcement stands at the word, published for ever

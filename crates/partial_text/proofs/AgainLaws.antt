@@ -1,10 +1,10 @@
 -- The text of a plan is read as the plan.
-use Rattle.partial_text.proofs.Common.{◌≡◌, ℕ, ◌+◌, ◌^◌, ◌<◌, ◌≤◌, Bool, true, false, cond, eqb, leb, ltb, ◌&&◌, List, [], ◌∷◌, ◌++◌, length, map, drop, codes, Result, Ok, Err, refl, sym, ap, subst, ◌∙◌, append_assoc, eq-eqb, arith, decimal, flat_map, AllByRecursion, bytes_eq, ne_eqb, le-leb, lt-ltb, le-ltb, append-nil, length-append, length-map, flat_map-map, bytes_eq-Decides, Call, PlanError, until, from, onto_first, pieces, ◌>>=◌, PlanView, field, number_field, sizes_line, initial_line, call_text, next_call, port_line, entry_text, rest_text, steps_line, ended, plan_text, IsCall, IsTurnEntry, IsPlan, Tail, greatest, greatest_index, fields_of, number_at, in_range, is_cut, call_texts, is_nil, is_rest, is_end, tail_at}
+use Rattle.partial_text.proofs.Common.{◌≡◌, ℕ, ◌+◌, ◌^◌, ◌<◌, ◌≤◌, Bool, true, false, cond, eqb, leb, ltb, ◌&&◌, List, [], ◌∷◌, ◌++◌, length, map, drop, codes, Result, Ok, Err, refl, sym, ap, subst, ◌∙◌, append_assoc, eq-eqb, arith, decimal, flat_map, AllByRecursion, bytes_eq, ne_eqb, le-leb, lt-ltb, le-ltb, append-nil, length-append, length-map, flat_map-map, bytes_eq-Decides, Call, PlanError, until, from, onto_first, pieces, ◌>>=◌, PlanView, field, number_field, sizes_line, initial_line, call_text, next_call, port_line, entry_text, rest_text, steps_line, ended_line, plan_text, IsCall, IsTurnEntry, IsPlan, Tail, greatest, greatest_index, fields_of, number_at, in_range, is_cut, call_texts, is_nil, is_rest, is_end, tail_at}
 use Rattle.partial_model.specs.declared.call.Call.TheVariants as call
 use Rattle.partial_words.specs.Layout.{Layout, IsLayout, initial_words}
 use Rattle.partial_text.specs.declared.fault.Cause.TheVariants as cause
 use Rattle.partial_text.specs.declared.fault.PlanError.TheVariants as plan
-use Rattle.partial_text.specs.Judging.{sizes_from, sizes_at, initial_at, update_from, scan_from, read_from, update_if_from, call_text_at, calls_at, port_line_at, entry_text_at, entries_at, line_at, more_ports, last_at, lines_judged, judged}
+use Rattle.partial_text.specs.Judging.{sizes_from, sizes_at, initial_at, update_from, scan_from, read_from, update_if_from, call_text_at, calls_at, port_line_at, entry_text_at, entries_at, line_at, more_ports, last_at, lines_judged, judged_plan}
 use Rattle.partial_text.proofs.CallCuts.{cut_more}
 use Rattle.partial_text.proofs.Steps.{tail_by, tail_step}
 use Rattle.partial_text.proofs.NumberLaws.{both_and, HasNo, HasNo-append, HasNo-decimal, IsNoDigit}
@@ -296,11 +296,11 @@ abbrev last_lines : List (List Call) → List ℕ → List (List ℕ)
 last_lines ports last = map port_line ports ++ last ∷ [] ∷ []
 
 pieces_last : (m : ℕ) (ports : List (List Call)) (last : List ℕ) → AllByRecursion (λ cs. AllByRecursion (IsCall m) cs) ports → HasNo 10 last →
-    pieces 10 (flat_map ended_port ports ++ ended last) ≡ last_lines ports last
+    pieces 10 (flat_map ended_port ports ++ ended_line last) ≡ last_lines ports last
 pieces_last m [] last fits none = pieces_before 10 last [] none
 pieces_last m (cs ∷ ports) last fits none =
-    let behind = flat_map ended_port ports ++ ended last in
-    let regroup : flat_map ended_port (cs ∷ ports) ++ ended last ≡ port_line cs ++ 10 ∷ behind = append_assoc (ended_port cs) (flat_map ended_port ports) (ended last) ∙ append_assoc
+    let behind = flat_map ended_port ports ++ ended_line last in
+    let regroup : flat_map ended_port (cs ∷ ports) ++ ended_line last ≡ port_line cs ++ 10 ∷ behind = append_assoc (ended_port cs) (flat_map ended_port ports) (ended_line last) ∙ append_assoc
     (port_line cs) (10 ∷ []) behind in
     ap (pieces 10) regroup ∙ pieces_before 10 (port_line cs) behind (HasNo-port m cs fits.0) ∙ ap (λ (ls : List (List ℕ)). port_line cs ∷ ls) (pieces_last m ports last fits.1 none)
 
@@ -384,10 +384,10 @@ lines_are p fits =
     let one = sizes_line p.sizes in
     let two = initial_line p.initial in
     let three = flat_map ended_port p.ports in
-    let four = ended (steps_line p.steps p.rest) in
+    let four = ended_line (steps_line p.steps p.rest) in
     let regroup : plan_text p ≡ one ++ 10 ∷ (two ++ 10 ∷ (three ++ four)) =
-    append_assoc (ended one ++ ended two) three four ∙ append_assoc (ended one) (ended two) (three ++ four) ∙ append_assoc one (10 ∷ [])
-    (ended two ++ (three ++ four)) ∙ ap (λ (l : List ℕ). one ++ 10 ∷ l) (append_assoc two (10 ∷ []) (three ++ four)) in
+    append_assoc (ended_line one ++ ended_line two) three four ∙ append_assoc (ended_line one) (ended_line two) (three ++ four) ∙ append_assoc one (10 ∷ [])
+    (ended_line two ++ (three ++ four)) ∙ ap (λ (l : List ℕ). one ++ 10 ∷ l) (append_assoc two (10 ∷ []) (three ++ four)) in
     let none = HasNo-steps (length p.ports) p.steps p.rest fits.few_ports fits.steps in
     ap (pieces 10) regroup ∙ pieces_before 10 one (two ++ 10 ∷ (three ++ four)) (HasNo-sizes p.sizes fits.sizes) ∙ ap (λ (ls : List (List ℕ)). one ∷ ls)
     (pieces_before 10 two (three ++ four) (HasNo-initial p.initial fits.values) ∙ ap (λ (ls : List (List ℕ)). two ∷ ls) (pieces_last p.sizes.m p.ports (steps_line p.steps p.rest) fits.calls none))
@@ -430,7 +430,7 @@ lines_again p fits =
     (tail_again p.sizes.m 3 [] p.ports p.steps p.rest fits.calls fits.some_port fits.few_ports fits.steps)
 
 -- the text of a plan is read as the plan
-pub judged_again : (p : PlanView) → IsPlan p → judged (plan_text p) ≡ Ok p
-unfolding judged
+pub judged_again : (p : PlanView) → IsPlan p → judged_plan (plan_text p) ≡ Ok p
+unfolding judged_plan
 judged_again p fits =
     rw (le-ltb 4194304 (length (plan_text p)) fits.short) (ap lines_judged (lines_are p fits) ∙ lines_again p fits)

@@ -13,7 +13,7 @@ pub use Rattle.partial_model.specs.declared.call.Call.{Call}
 pub use Rattle.partial_text.specs.declared.fault.PlanError.{PlanError}
 pub use Rattle.partial_text.specs.Pieces.{until, from, onto_first, pieces, pieces_behind}
 pub use Rattle.partial_text.specs.Fault.{◌>>=◌, Fails, Gives, IsReaderFault}
-pub use Rattle.partial_text.specs.PlanText.{PlanView, field, number_field, sizes_line, initial_line, call_text, next_call, port_line, entry_text, rest_text, steps_line, ended, plan_text, IsCall, IsTurnEntry, IsPlan, PlansHaveFewCalls}
-pub use Rattle.partial_text.specs.Judging.{Tail, greatest, greatest_index, fields_of, number_at, in_range, sizes_from, sizes_at, initial_at, update_from, scan_from, read_from, update_if_from, call_text_at, calls_at, is_cut, call_texts, port_line_at, entry_text_at, is_nil, is_rest, entries_at, line_at, more_ports, is_end, last_at, tail_at, lines_judged, judged, call_texts_behind, exactly_one, exactly_two, exactly_three, numbers_at, exactly_four}
+pub use Rattle.partial_text.specs.PlanText.{PlanView, field, number_field, sizes_line, initial_line, call_text, next_call, port_line, entry_text, rest_text, steps_line, ended_line, plan_text, IsCall, IsTurnEntry, IsPlan, PlansHaveFewCalls}
+pub use Rattle.partial_text.specs.Judging.{Tail, greatest, greatest_index, fields_of, number_at, in_range, sizes_from, sizes_at, initial_at, update_from, scan_from, read_from, update_if_from, call_text_at, calls_at, is_cut, call_texts, port_line_at, entry_text_at, is_nil, is_rest, entries_at, line_at, more_ports, is_end, last_at, tail_at, lines_judged, judged_plan, call_texts_behind, exactly_one, exactly_two, exactly_three, numbers_at, exactly_four}
 pub use Rattle.partial_text.specs.Number.{number_of, with_digit, number_from}
 pub use Rattle.partial_text.specs.OutcomeText.{values_of, call_line, entry_lines}

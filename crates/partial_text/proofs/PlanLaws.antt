@@ -1,8 +1,8 @@
 -- What is read as a plan is the plan's text.
-use Rattle.partial_text.proofs.Common.{◌≡◌, ℕ, ◌+◌, ◌<◌, ◌≤◌, Bool, true, cond, eqb, ltb, List, [], ◌∷◌, ◌++◌, length, codes, Ok, Err, refl, sym, ap, subst, ◌∙◌, append_assoc, inl, inr, arith, flat_map, AllByRecursion, bytes_eq, eqb-false, ltb-true, ltb-false, append-nil, length-append, bytes_eq-Decides, Call, until, from, pieces, ◌>>=◌, PlanView, sizes_line, initial_line, port_line, entry_text, field, rest_text, steps_line, ended, plan_text, IsCall, IsTurnEntry, IsPlan, Tail, fields_of, sizes_at, initial_at, port_line_at, entries_at, is_end}
+use Rattle.partial_text.proofs.Common.{◌≡◌, ℕ, ◌+◌, ◌<◌, ◌≤◌, Bool, true, cond, eqb, ltb, List, [], ◌∷◌, ◌++◌, length, codes, Ok, Err, refl, sym, ap, subst, ◌∙◌, append_assoc, inl, inr, arith, flat_map, AllByRecursion, bytes_eq, eqb-false, ltb-true, ltb-false, append-nil, length-append, bytes_eq-Decides, Call, until, from, pieces, ◌>>=◌, PlanView, sizes_line, initial_line, port_line, entry_text, field, rest_text, steps_line, ended_line, plan_text, IsCall, IsTurnEntry, IsPlan, Tail, fields_of, sizes_at, initial_at, port_line_at, entries_at, is_end}
 use Rattle.partial_text.specs.declared.fault.Cause.TheVariants as cause
 use Rattle.partial_text.specs.declared.fault.PlanError.TheVariants as plan
-use Rattle.partial_text.specs.Judging.{line_at, more_ports, last_at, tail_at, lines_judged, judged}
+use Rattle.partial_text.specs.Judging.{line_at, more_ports, last_at, tail_at, lines_judged, judged_plan}
 use Rattle.partial_text.proofs.PieceLaws.{behind_each, behind_pieces, until_from}
 use Rattle.partial_text.proofs.FieldLaws.{bind_ok, if_ok, unless_ok, ok_is, with_word}
 use Rattle.partial_text.proofs.CallLaws.{port_ok, chosen}
@@ -21,12 +21,12 @@ pub text_of_pieces : (xs : List ℕ) → text_of (pieces 10 xs) ≡ xs
 text_of_pieces xs = text_from_behind (pieces 10 xs) xs (behind_pieces 10 xs)
 
 -- a line that is there is ended, and the others come behind it
-line_ok : (line : ℕ) (ls : List (List ℕ)) (x : List ℕ × List (List ℕ)) → line_at line ls ≡ Ok x → text_of ls ≡ ended x.0 ++ text_of x.1
+line_ok : (line : ℕ) (ls : List (List ℕ)) (x : List ℕ × List (List ℕ)) → line_at line ls ≡ Ok x → text_of ls ≡ ended_line x.0 ++ text_of x.1
 unfolding line_at
 line_ok line [] x e = absurd cc
 line_ok line (l ∷ []) x e = absurd cc
 line_ok line (l ∷ k ∷ ls) x e =
-    subst (λ (y : List ℕ × List (List ℕ)). text_of (l ∷ k ∷ ls) ≡ ended y.0 ++ text_of y.1) (ok_is (l, k ∷ ls) x e) (sym (append_assoc l (10 ∷ []) (k ++ behind_each 10 ls)))
+    subst (λ (y : List ℕ × List (List ℕ)). text_of (l ∷ k ∷ ls) ≡ ended_line y.0 ++ text_of y.1) (ok_is (l, k ∷ ls) x e) (sym (append_assoc l (10 ∷ []) (k ++ behind_each 10 ls)))
 
 end_is : (ls : List (List ℕ)) → is_end ls ≡ true → text_of ls ≡ []
 end_is [] h = absurd cc
@@ -35,13 +35,13 @@ end_is ([] ∷ k ∷ ls) h = absurd cc
 end_is ((x ∷ l) ∷ ls) h = absurd cc
 
 abbrev pub ended_port : List Call → List ℕ
-ended_port cs = ended (port_line cs)
+ended_port cs = ended_line (port_line cs)
 
 -- the ports and the turns that lines give behind the ports so far
 pub record Tails (m : ℕ) (found : List (List Call)) (t : Tail) (ls : List (List ℕ)) : Type 0 where
   pub more : List (List Call)
   pub whole : t.ports ≡ found ++ more
-  pub text : text_of ls ≡ flat_map ended_port more ++ ended (steps_line t.steps t.rest)
+  pub text : text_of ls ≡ flat_map ended_port more ++ ended_line (steps_line t.steps t.rest)
   pub calls : AllByRecursion (λ cs. AllByRecursion (IsCall m) cs) more
   pub some_port : 1 ≤ length t.ports
   pub few_ports : length found ≤ 64 → length t.ports ≤ 64
@@ -49,7 +49,7 @@ pub record Tails (m : ℕ) (found : List (List Call)) (t : Tail) (ls : List (Lis
 
 -- the last line
 last_ok : (line m : ℕ) (found : List (List Call)) (l : List ℕ) (behind : List (List ℕ)) (s : List (ℕ × ℕ) × Bool) → last_at line (length found) l behind ≡ Ok s
-    → (ended l ++ text_of behind ≡ ended (steps_line s.0 s.1)) × (1 ≤ length found) × AllByRecursion (IsTurnEntry (length found)) s.0
+    → (ended_line l ++ text_of behind ≡ ended_line (steps_line s.0 s.1)) × (1 ≤ length found) × AllByRecursion (IsTurnEntry (length found)) s.0
 unfolding last_at
 last_ok line m found l behind s e =
     let n = length found in
@@ -64,7 +64,7 @@ last_ok line m found l behind s e =
     let fields : behind_each 32 (fields_of l) ≡ flat_map (λ (e : ℕ × ℕ). field (entry_text e)) s.0 ++ rest_text s.1 = t.text ∙ rw (turns, rest) refl in
     let whole : l ≡ steps_line s.0 s.1 = with_word (codes "steps") l a.0 ∙ ap (λ (x : List ℕ). codes "steps" ++ x) fields ∙
     sym (append_assoc (codes "steps") (flat_map (λ (e : ℕ × ℕ). field (entry_text e)) s.0) (rest_text s.1)) in
-    (ap (λ (x : List ℕ). ended l ++ x) (end_is behind d.0) ∙ append-nil (ended l) ∙ ap ended whole, omega (arith, eqb-false n 0 b.0), subst (AllByRecursion (IsTurnEntry n)) turns t.each)
+    (ap (λ (x : List ℕ). ended_line l ++ x) (end_is behind d.0) ∙ append-nil (ended_line l) ∙ ap ended_line whole, omega (arith, eqb-false n 0 b.0), subst (AllByRecursion (IsTurnEntry n)) turns t.each)
 
 -- a port line
 more_ok : (line m : ℕ) (found all : List (List Call)) (l : List ℕ) → bytes_eq (until 32 l) (codes "port") ≡ true → more_ports m line found (from 32 l) ≡ Ok all
@@ -82,7 +82,7 @@ unfolding tail_at
 tail_ok line m found [] t e = absurd cc
 tail_ok line m found (l ∷ []) t e = absurd cc
 tail_ok line m found (l ∷ k ∷ ls) t e =
-    let regroup : text_of (l ∷ k ∷ ls) ≡ ended l ++ text_of (k ∷ ls) = sym (append_assoc l (10 ∷ []) (k ++ behind_each 10 ls)) in
+    let regroup : text_of (l ∷ k ∷ ls) ≡ ended_line l ++ text_of (k ∷ ls) = sym (append_assoc l (10 ∷ []) (k ++ behind_each 10 ls)) in
     elim (chosen (bytes_eq (until 32 l) (codes "port")) (more_ports m line found (from 32 l) >>= λ ports. tail_at m (line + 1) ports (k ∷ ls))
     (last_at line (length found) l (k ∷ ls) >>= λ steps. Ok (record { ports = found; steps = steps.0; rest = steps.1 })) (Ok t) e) [
       | inl h ↦
@@ -93,8 +93,8 @@ tail_ok line m found (l ∷ k ∷ ls) t e =
           record {
             more = p.0 ∷ r.more;
             whole = r.whole ∙ ap (λ (x : List (List Call)). x ++ r.more) p.1 ∙ append_assoc found (p.0 ∷ []) r.more;
-            text = regroup ∙ ap (λ (x : List ℕ). ended x ++ text_of (k ∷ ls)) p.2 ∙ ap (λ (x : List ℕ). ended_port p.0 ++ x) r.text ∙
-                sym (append_assoc (ended_port p.0) (flat_map ended_port r.more) (ended (steps_line t.steps t.rest)));
+            text = regroup ∙ ap (λ (x : List ℕ). ended_line x ++ text_of (k ∷ ls)) p.2 ∙ ap (λ (x : List ℕ). ended_port p.0 ++ x) r.text ∙
+                sym (append_assoc (ended_port p.0) (flat_map ended_port r.more) (ended_line (steps_line t.steps t.rest)));
             calls = (p.3, r.calls);
             some_port = r.some_port;
             few_ports = λ few. r.few_ports (omega (arith, one, p.4));
@@ -109,8 +109,8 @@ tail_ok line m found (l ∷ k ∷ ls) t e =
     ]
 
 -- what is read as a plan is lawful, and is the plan's text
-pub judged_ok : (text : List ℕ) (p : PlanView) → judged text ≡ Ok p → IsPlan p × (text ≡ plan_text p)
-unfolding judged lines_judged
+pub judged_ok : (text : List ℕ) (p : PlanView) → judged_plan text ≡ Ok p → IsPlan p × (text ≡ plan_text p)
+unfolding judged_plan lines_judged
 judged_ok text p e =
     let u = unless_ok (ltb 4194304 (length text)) (lines_judged (pieces 10 text)) (plan.Line 0 cause.Size) p e in
     let short : length text ≤ 4194304 = ltb-false 4194304 (length text) u.0 in
@@ -127,15 +127,15 @@ judged_ok text p e =
     let i = initial_ok b.0.m c.0.0 d.0 d.1 in
     let t = tail_ok 3 b.0.m [] c.0.1 f.0 f.1 in
     let made : PlanView = record { sizes = b.0; initial = d.0; ports = f.0.ports; steps = f.0.steps; rest = f.0.rest } in
-    let first : text ≡ ended (sizes_line b.0) ++ text_of a.0.1 = sym (text_of_pieces text) ∙ line_ok 1 (pieces 10 text) a.0 a.1 ∙ ap (λ (l : List ℕ). ended l ++ text_of a.0.1) s.0 in
-    let second : text_of a.0.1 ≡ ended (initial_line d.0) ++ text_of c.0.1 = line_ok 2 a.0.1 c.0 c.1 ∙ ap (λ (l : List ℕ). ended l ++ text_of c.0.1) i.0 in
+    let first : text ≡ ended_line (sizes_line b.0) ++ text_of a.0.1 = sym (text_of_pieces text) ∙ line_ok 1 (pieces 10 text) a.0 a.1 ∙ ap (λ (l : List ℕ). ended_line l ++ text_of a.0.1) s.0 in
+    let second : text_of a.0.1 ≡ ended_line (initial_line d.0) ++ text_of c.0.1 = line_ok 2 a.0.1 c.0 c.1 ∙ ap (λ (l : List ℕ). ended_line l ++ text_of c.0.1) i.0 in
     let ports : t.more ≡ f.0.ports = sym t.whole in
-    let third : text_of c.0.1 ≡ flat_map ended_port f.0.ports ++ ended (steps_line f.0.steps f.0.rest) =
-    t.text ∙ ap (λ (x : List (List Call)). flat_map ended_port x ++ ended (steps_line f.0.steps f.0.rest)) ports in
-    let one = ended (sizes_line b.0) in
-    let two = ended (initial_line d.0) in
+    let third : text_of c.0.1 ≡ flat_map ended_port f.0.ports ++ ended_line (steps_line f.0.steps f.0.rest) =
+    t.text ∙ ap (λ (x : List (List Call)). flat_map ended_port x ++ ended_line (steps_line f.0.steps f.0.rest)) ports in
+    let one = ended_line (sizes_line b.0) in
+    let two = ended_line (initial_line d.0) in
     let three = flat_map ended_port f.0.ports in
-    let four = ended (steps_line f.0.steps f.0.rest) in
+    let four = ended_line (steps_line f.0.steps f.0.rest) in
     let whole : text ≡ plan_text made =
     first ∙ ap (λ (x : List ℕ). one ++ x) (second ∙ ap (λ (x : List ℕ). two ++ x) third) ∙ sym (append_assoc one two (three ++ four)) ∙ sym (append_assoc (one ++ two) three four) in
     let lawful : IsPlan made = record {

@@ -2,7 +2,7 @@
 use Rattle.partial_text.proofs.Common.{◌≡◌, ℕ, ◌<◌, ◌≤◌, true, false, List, ◌++◌, length, Option, None, Some, Result, Ok, Err, refl, sym, ap, subst, ◌∙◌, inl, inr, arith, IfSome, IfOk, Consumes, IsAtEnd, cases_lt, lt-ltb, append-nil, length-append, PlanError, Fails, Gives, IsReaderFault, PlanView, IsPlan, plan_text}
 use Rattle.partial_text.specs.declared.fault.Cause.TheVariants as cause
 use Rattle.partial_text.specs.declared.fault.PlanError.TheVariants as plan
-use Rattle.partial_text.specs.Judging.{judged}
+use Rattle.partial_text.specs.Judging.{judged_plan}
 use Rattle.partial_text.proofs.PlanLaws.{judged_ok}
 use Rattle.partial_text.proofs.AgainLaws.{judged_again}
 
@@ -10,36 +10,36 @@ pub each_some : {A : Type 0} (o : Option A) (P Q : A → Type 0) → ((x : A) �
 each_some None P Q h p = tt
 each_some (Some x) P Q h p = h x p
 
-too_long : (text : List ℕ) → 4194304 < length text → judged text ≡ Err (plan.Line 0 cause.Size)
-unfolding judged
+too_long : (text : List ℕ) → 4194304 < length text → judged_plan text ≡ Err (plan.Line 0 cause.Size)
+unfolding judged_plan
 too_long text long = rw (lt-ltb 4194304 (length text) long) refl
 
 -- the text that was taken is judged as all that the reader gives
-pub judged_all : (a b : Option (List ℕ)) (text : List ℕ) → Consumes a b text → (length text ≤ 4194304 → IsAtEnd b) → IfSome a (λ bytes. judged text ≡ judged bytes)
+pub judged_all : (a b : Option (List ℕ)) (text : List ℕ) → Consumes a b text → (length text ≤ 4194304 → IsAtEnd b) → IfSome a (λ bytes. judged_plan text ≡ judged_plan bytes)
 judged_all None b text taken end = tt
 judged_all (Some x) None text taken end = absurd taken
 judged_all (Some x) (Some y) text taken end =
     elim (cases_lt 4194304 (length text)) [
       | inl long ↦ too_long text long ∙ sym (too_long x (omega (arith, ap length taken, length-append text y)))
-      | inr short ↦ ap judged (sym (taken ∙ ap (λ (l : List ℕ). text ++ l) (end short) ∙ append-nil text))
+      | inr short ↦ ap judged_plan (sym (taken ∙ ap (λ (l : List ℕ). text ++ l) (end short) ∙ append-nil text))
     ]
 
 -- where the reader did not fail, no memory was left
-pub only_memory : (e : PlanError) (judged : Result PlanView PlanError) → IsReaderFault e → (e ≡ plan.Read → ⊥) → Fails e judged
-only_memory plan.Memory judged h other = tt
-only_memory plan.Read judged h other = absurd (other refl)
-only_memory (plan.Size x) judged h other = absurd h
-only_memory plan.Ports judged h other = absurd h
-only_memory (plan.Line l c) judged h other = absurd h
+pub only_memory : (e : PlanError) (judged_plan : Result PlanView PlanError) → IsReaderFault e → (e ≡ plan.Read → ⊥) → Fails e judged_plan
+only_memory plan.Memory judged_plan h other = tt
+only_memory plan.Read judged_plan h other = absurd (other refl)
+only_memory (plan.Size x) judged_plan h other = absurd h
+only_memory plan.Ports judged_plan h other = absurd h
+only_memory (plan.Line l c) judged_plan h other = absurd h
 
-pub found_from : (r : Result PlanView PlanError) (a : Option (List ℕ)) (text : List ℕ) → Gives (λ (p : PlanView). p) r (judged text) → IfSome a (λ bytes. judged text ≡ judged bytes) →
+pub found_from : (r : Result PlanView PlanError) (a : Option (List ℕ)) (text : List ℕ) → Gives (λ (p : PlanView). p) r (judged_plan text) → IfSome a (λ bytes. judged_plan text ≡ judged_plan bytes) →
     IfOk r (λ (p : PlanView). IfSome a (λ bytes. bytes ≡ plan_text p))
-found_from (Ok p) a text given same = each_some a (λ bytes. judged text ≡ judged bytes) (λ bytes. bytes ≡ plan_text p) (λ bytes e. (judged_ok bytes p (sym e ∙ given)).1) same
+found_from (Ok p) a text given same = each_some a (λ bytes. judged_plan text ≡ judged_plan bytes) (λ bytes. bytes ≡ plan_text p) (λ bytes e. (judged_ok bytes p (sym e ∙ given)).1) same
 found_from (Err e) a text given same = tt
 
-pub exact_from : (r : Result PlanView PlanError) (a : Option (List ℕ)) (text : List ℕ) → Gives (λ (p : PlanView). p) r (judged text) → IfSome a (λ bytes. judged text ≡ judged bytes) →
-    IfSome a (λ bytes. Gives (λ (p : PlanView). p) r (judged bytes))
-exact_from r a text given same = each_some a (λ bytes. judged text ≡ judged bytes) (λ bytes. Gives (λ (p : PlanView). p) r (judged bytes))
+pub exact_from : (r : Result PlanView PlanError) (a : Option (List ℕ)) (text : List ℕ) → Gives (λ (p : PlanView). p) r (judged_plan text) → IfSome a (λ bytes. judged_plan text ≡ judged_plan bytes) →
+    IfSome a (λ bytes. Gives (λ (p : PlanView). p) r (judged_plan bytes))
+exact_from r a text given same = each_some a (λ bytes. judged_plan text ≡ judged_plan bytes) (λ bytes. Gives (λ (p : PlanView). p) r (judged_plan bytes))
     (λ bytes e. subst (Gives (λ (p : PlanView). p) r) e given) same
 
 pub always : {A : Type 0} (o : Option A) (P : A → Type 0) → ((x : A) → P x) → IfSome o P
@@ -49,8 +49,8 @@ always (Some x) P h = h x
 pub true_not_false : true ≡ false → ⊥
 true_not_false e = cc
 
-pub only_from : (r : Result PlanView PlanError) (a : Option (List ℕ)) → IfSome a (λ bytes. Gives (λ (p : PlanView). p) r (judged bytes)) →
+pub only_from : (r : Result PlanView PlanError) (a : Option (List ℕ)) → IfSome a (λ bytes. Gives (λ (p : PlanView). p) r (judged_plan bytes)) →
     IfSome a (λ bytes. (p : PlanView) → IsPlan p → bytes ≡ plan_text p → Gives (λ (q : PlanView). q) r (Ok p))
 only_from r a exact =
-    each_some a (λ bytes. Gives (λ (p : PlanView). p) r (judged bytes)) (λ bytes. (p : PlanView) → IsPlan p → bytes ≡ plan_text p → Gives (λ (q : PlanView). q) r (Ok p))
-    (λ bytes given p fits same. subst (Gives (λ (q : PlanView). q) r) (ap judged same ∙ judged_again p fits) given) exact
+    each_some a (λ bytes. Gives (λ (p : PlanView). p) r (judged_plan bytes)) (λ bytes. (p : PlanView) → IsPlan p → bytes ≡ plan_text p → Gives (λ (q : PlanView). q) r (Ok p))
+    (λ bytes given p fits same. subst (Gives (λ (q : PlanView). q) r) (ap judged_plan same ∙ judged_again p fits) given) exact

@@ -226,5 +226,5 @@ lines_judged lines = do
   Ok (record { sizes = sizes; initial = initial; ports = tail.ports; steps = tail.steps; rest = tail.rest })
 
 -- The plan that a text is, or its first fault.
-unfoldable pub judged : List ℕ → Result PlanView PlanError
-judged text = if nat_lt 4194304 (length text) then Err (plan.Line 0 cause.Size) else lines_judged (pieces 10 text)
+unfoldable pub judged_plan : List ℕ → Result PlanView PlanError
+judged_plan text = if nat_lt 4194304 (length text) then Err (plan.Line 0 cause.Size) else lines_judged (pieces 10 text)

@@ -59,13 +59,13 @@ abbrev pub steps_line : List (ℕ × ℕ) → Bool → List ℕ
 steps_line es rest = codes "steps" ++ flat_map (λ e. field (entry_text e)) es ++ rest_text rest
 
 -- a line, ended by its newline
-abbrev pub ended : List ℕ → List ℕ
-ended l = l ++ 10 ∷ []
+abbrev pub ended_line : List ℕ → List ℕ
+ended_line l = l ++ 10 ∷ []
 
 -- the text of a plan
 abbrev pub plan_text : PlanView → List ℕ
-plan_text p = ended (sizes_line p.sizes) ++ ended (initial_line p.initial) ++ flat_map (λ cs. ended (port_line cs)) p.ports ++
-    ended (steps_line p.steps p.rest)
+plan_text p = ended_line (sizes_line p.sizes) ++ ended_line (initial_line p.initial) ++ flat_map (λ cs. ended_line (port_line cs)) p.ports ++
+    ended_line (steps_line p.steps p.rest)
 
 -- a call that may stand in a plan of m components; an index beyond them is refused when the call is made
 abbrev pub IsCall : ℕ → Call → Type 0

@@ -4,7 +4,7 @@ ghost use Rattle.std.specs.Prelude.{◌≡◌, ◌+◌, ◌≤◌, ◌↔◌, �
 ghost use Rattle.std.specs.Io.KnownBytes.{Consumes, IsAtEnd};
 ghost use Rattle.partial_text.specs.Fault.{Gives, IsReaderFault};
 ghost use Rattle.partial_text.specs.PlanText.{PlanView, IsPlan, plan_text};
-ghost use Rattle.partial_text.specs.Judging.{judged};
+ghost use Rattle.partial_text.specs.Judging.{judged_plan};
 ghost use Rattle.partial_text.specs.SeenParts.{seen_parts};
 
 use crate::device::Device;
@@ -19,9 +19,9 @@ use std::io::Read;
 const LONGEST: usize = 4_194_304;
 
 /// Reads the whole text. Returns its first fault if it isn't the text of a plan.
-#[tactic(auto, unfolding(crate::specs::Judging::judged, crate::specs::Judging::lines_judged))]
+#[tactic(auto, unfolding(crate::specs::Judging::judged_plan, crate::specs::Judging::lines_judged))]
 fn parts_of(alloc: Global, text: &[u8]) -> Result<Parts, PlanError>
-    ensures { Gives seen_parts result (judged text.now) }
+    ensures { Gives seen_parts result (judged_plan text.now) }
 {
     if text.len() > LONGEST {
         return Err(fault(0, Cause::Size));
@@ -68,7 +68,7 @@ fn read_text<R: Read>(alloc: Global, reader: &mut Device<R>) -> Result<Vec<u8>, 
 
 /// Reads the plan of a text. Returns its first fault if it isn't the text of a plan.
 fn plan_of(alloc: Global, text: &[u8]) -> Result<Plan, PlanError>
-    ensures { Gives (λ p. p) result (judged text.now) }
+    ensures { Gives (λ p. p) result (judged_plan text.now) }
 {
     let parts = parts_of(alloc, text)?;
     Ok(Plan::from_parts(parts))
@@ -94,7 +94,7 @@ impl Plan {
             (λ bytes. (p : PlanView) → IsPlan p → bytes ≡ plan_text p → Gives (λ q. q) result (Ok p)) }
         // The error is that of the first fault.
         ensures exact { reader.new.failed ≡ false → IfSome (R.remaining reader.old.inner)
-            (λ bytes. Gives (λ q. q) result (judged bytes)) }
+            (λ bytes. Gives (λ q. q) result (judged_plan bytes)) }
         ensures lawful { IfOk result IsPlan }
         ensures reads { reader.new.reads ≤ reader.old.reads + 4194306 }
     {

@@ -27,13 +27,13 @@ abbrev pub announced_len : List ℕ → ℕ → ℕ
 announced_len words at = slice_index words at
 
 -- index k of it, as it stands in the words
-abbrev pub announced : List ℕ → ℕ → ℕ → ℕ
-announced words at k = slice_index words (announced_word at k)
+abbrev pub announced_index : List ℕ → ℕ → ℕ → ℕ
+announced_index words at k = slice_index words (announced_word at k)
 
 -- what an announcement's writer gave, its readers read back
 pub record ReadsBackAnnouncement (words : List ℕ) (at : ℕ) (indices : List ℕ) : Type 0 where
   pub count : announced_len words at ≡ length indices
-  pub each : (k : ℕ) → k < length indices → announced words at k ≡ slice_index indices k
+  pub each : (k : ℕ) → k < length indices → announced_index words at k ≡ slice_index indices k
 
 -- every announcement that stands in the words is read back
 abbrev pub AnnouncementsReadBack : Type 0

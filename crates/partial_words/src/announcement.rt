@@ -1,7 +1,7 @@
 //! The words of an announcement: the indices of the components that a scan asks for.
 
 ghost use Rattle.std.specs.Prelude.{◌≡◌, ◌+◌, ◌^◌, ◌<◌, length, slice_index};
-ghost use Rattle.partial_words.specs.Announcement.{announcement_block, announcement_size, announced_word, announced_len, announced, indices_word, least_announcement};
+ghost use Rattle.partial_words.specs.Announcement.{announcement_block, announcement_size, announced_word, announced_len, announced_index, indices_word, least_announcement};
 
 /// How many words an announcement of so many indices has.
 pub fn announcement_size(indices: u64) -> u64
@@ -50,7 +50,7 @@ pub fn announced_len(words: &[u64], at: usize) -> u64
 /// Index `k`, counted from 0, of the announcement at word `at`.
 pub fn announced(words: &[u64], at: usize, k: usize) -> u64
     requires { announced_word at k < length words.now }
-    ensures { result ≡ announced words.now at k }
+    ensures { result ≡ announced_index words.now at k }
 {
     words[at + 1 + k]
 }

@@ -188,7 +188,7 @@ pub record FoundStamp (t : Stand) (j v : ℕ) : Type 0 where
   pub stamp : v ≡ found.stamp
 
 -- The port has come to a later epoch, no older than the one that was the current one as its call began, with a new part there.
-pub record Changed (first : Bool) (s t : Stand) : Type 0 where
+pub record EpochChanged (first : Bool) (s t : Stand) : Type 0 where
   pub shape : t.shape ≡ s.shape
   pub number : t.number ≡ s.number
   pub goes : SeatGoes (port_at s) (port_at t)

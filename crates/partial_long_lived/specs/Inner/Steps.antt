@@ -1,9 +1,11 @@
 -- What one atomic step of a call tells its port.
-use Rattle.std.specs.Prelude.{ℕ, ◌≡◌, ◌<◌, ◌++◌, List, [], ◌∷◌, length}
+use Rattle.std.specs.Prelude.{ℕ, ◌≡◌, ◌<◌, ◌≤◌, ◌++◌, List, [], ◌∷◌, length}
 use Rattle.std.specs.List.{AllByRecursion}
 use Rattle.atomic_table.specs.Table.{Me}
 use Rattle.partial_model.specs.declared.history.Applied.{Applied}
+use Rattle.partial_words.specs.Layout.{Layout, first_free}
 use Rattle.partial_epochs.specs.Layout.{IsPlace}
+use Rattle.partial_epochs.specs.History.{stamp_limit}
 use Rattle.partial_epochs.specs.Epochs.{IsEpochPlan}
 use Rattle.partial_long_lived.specs.Rule.{SeatedPort, one_of, plan_of}
 use Rattle.partial_long_lived.specs.Ports.{Knows, seen_in}
@@ -11,6 +13,11 @@ use Rattle.partial_long_lived.specs.Ports.{Knows, seen_in}
 -- each public stamp fits a word
 pub record HasStampsInWords (h : List Applied) : Type 0 where
   pub each : AllByRecursion (λ e. e.stamp < 18446744073709551616) h
+
+-- each entry of an epoch has the stamp of a record behind the initial ones, which fits below the epoch's number
+pub record HasRecordStamps (z : Layout) (h : List Applied) : Type 0 where
+  pub above : AllByRecursion (λ e. first_free z ≤ e.stamp) h
+  pub below : AllByRecursion (λ e. e.stamp < stamp_limit) h
 
 -- what is known of a seat, whatever its port does
 pub record IsSeatKnown (x : SeatedPort) : Type 0 where
@@ -20,6 +27,7 @@ pub record IsSeatKnown (x : SeatedPort) : Type 0 where
   pub epoch : length x.port.before ≡ x.port.control.here.epoch
   pub knows : Knows x.about x.number (seen_in x.port) x.notes
   pub fits : HasStampsInWords (seen_in x.port)
+  pub own : HasRecordStamps x.about.sizes x.port.part.seen
 
 -- the second history begins with the first
 abbrev pub BeginsWith : List Applied → List Applied → Type 0

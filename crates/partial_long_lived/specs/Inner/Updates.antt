@@ -130,7 +130,7 @@ pub record CameBy (first : Bool) (s t : Stand) : Type 0 where
   pub began : BeganBy first (port_at s) (port_at t).began
 
 -- The update has ended: the port has noted this answer, with an entry that is not before the call began.
-pub record Updated (first : Bool) (c : Change) (r : Exchanged) (s t : Stand) : Type 0 where
+pub record UpdateEnded (first : Bool) (c : Change) (r : Exchanged) (s t : Stand) : Type 0 where
   pub shape : t.shape ≡ s.shape
   pub number : t.number ≡ s.number
   pub goes : SeatGoes (port_at s) (port_at t)

@@ -180,6 +180,14 @@ impl Core {
         self.rows.copy_values(components, into);
     }
 
+    /// The references that the last embedded scan loaded last, of each of its positions.
+    #[inline(always)]
+    pub fn last_loaded(&self) -> &[u64]
+        ensures { result.now ≡ self.now.rows.last }
+    {
+        self.rows.last()
+    }
+
     /// Marks the port for the slots.
     #[inline(always)]
     pub fn mark_slots(&mut self)

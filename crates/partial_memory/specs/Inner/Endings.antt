@@ -4,7 +4,7 @@ use Rattle.partial_model.specs.declared.call.Refused.TheVariants as refused
 use Rattle.partial_machine.specs.declared.stage.Change.{Change}
 use Rattle.partial_machine.specs.declared.stage.Reply.{Reply}
 use Rattle.partial_machine.specs.declared.stage.Reply.TheVariants as reply
-use Rattle.partial_machine.specs.Machine.{overtaken}
+use Rattle.partial_machine.specs.Machine.{overtaken_reply}
 use Rattle.partial_memory.specs.declared.update.Ending.{Ending}
 use Rattle.partial_memory.specs.declared.update.Ending.TheVariants.{Applied, Overtaken, PoolSpent}
 
@@ -15,5 +15,5 @@ asked_change j expected v = record { component = j; expected = expected; value =
 -- the reply to an update that ended so
 abbrev pub ending_reply : Change → Ending → Reply
 ending_reply c (Applied stamp) = reply.Applied stamp
-ending_reply c (Overtaken by) = overtaken c by
+ending_reply c (Overtaken by) = overtaken_reply c by
 ending_reply c PoolSpent = reply.Refused refused.PoolSpent

@@ -39,7 +39,7 @@ pub record CallMade (b : CoreState) (x : SeatedPort) (c : CoreState) (y : Seated
   pub slots : c.slots_spent ≡ (refuses_slots (reply_of c) || b.slots_spent)
 
 -- The call has ended with that reply. The port goes on with an idle machine that has the marks of the call's.
-pub record Ended (b : CoreState) (x : SeatedPort) (r : Reply) (core : CoreState) (y : SeatedPort) : Type 0 where
+pub record CallEnded (b : CoreState) (x : SeatedPort) (r : Reply) (core : CoreState) (y : SeatedPort) : Type 0 where
   pub machine : CoreState
   pub made : CallMade b x machine y
   pub replies : reply_of machine ≡ Some r
@@ -49,6 +49,6 @@ pub record Ended (b : CoreState) (x : SeatedPort) (r : Reply) (core : CoreState)
 
 -- A scan of these positions has ended so, which the machine before had begun. The machine that goes on has its rows.
 pub record ScanEnded (before : CoreState) (which : List ℕ) (x : SeatedPort) (r : Reply) (core : CoreState) (y : SeatedPort) : Type 0 where
-  pub ended : Ended (scan_asked before which) x r core y
+  pub ended : CallEnded (scan_asked before which) x r core y
   pub asked : ended.machine.asked ≡ which
   pub rows : core.rows ≡ ended.machine.rows

@@ -134,10 +134,10 @@ claim_of None = []
 claim_of (Some f) = wrote f.note
 
 -- what is left of the places once the claimed ones were taken from their front
-abbrev pub taken : List ℕ → List ℕ → Option (List ℕ)
-taken places [] = Some places
-taken [] (k ∷ ks) = None
-taken (i ∷ places) (k ∷ ks) = if i == k then taken places ks else None
+abbrev pub places_left : List ℕ → List ℕ → Option (List ℕ)
+places_left places [] = Some places
+places_left [] (k ∷ ks) = None
+places_left (i ∷ places) (k ∷ ks) = if i == k then places_left places ks else None
 
 -- no place is left
 abbrev pub no_place_left : List ℕ → Bool
@@ -164,7 +164,7 @@ to_claim h q places p = if p == q then places else places_by p 0 h
 abbrev pub claim_all : List Applied → ℕ → List ℕ → List Called → Bool
 claim_all h q places [] = no_place_left places && none_above q h
 claim_all h q places (c ∷ cs) = may_go_on h q places c.port && option_map_or (λ left. claim_all h c.port left cs)
-    (taken (to_claim h q places c.port) (claim_of c.finish)) false
+    (places_left (to_claim h q places c.port) (claim_of c.finish)) false
 
 -- `Follows`
 abbrev pub follows : Option Called → Called → Bool

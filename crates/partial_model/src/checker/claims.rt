@@ -3,7 +3,7 @@
 ghost use Rattle.std.specs.Prelude.{◌≡◌, ◌+◌, ◌∷◌, ◌<◌, [], length, MatchOption};
 ghost use Rattle.std.specs.Option.{option_map};
 ghost use Rattle.partial_model.specs.Outcome.{places_by};
-ghost use Rattle.partial_model.specs.Inner.Checks.{claim_of, taken, places_from, none_between, none_above, may_go_on, claim_all};
+ghost use Rattle.partial_model.specs.Inner.Checks.{claim_of, places_left, places_from, none_between, none_above, may_go_on, claim_all};
 
 use crate::call::{Called, Finish, Note};
 use crate::history::Applied;
@@ -48,7 +48,7 @@ fn may_go_on(history: &[Applied], port: u32, from: usize, next: u32) -> bool
 // From which place on the entries by the port are left once the call has claimed its own, if it may.
 fn claim(history: &[Applied], port: u32, from: usize, finish: &Option<Finish>) -> Option<usize>
     ensures left { option_map (places_from history.now port) result
-        ≡ taken (places_from history.now port from) (claim_of finish.now) }
+        ≡ places_left (places_from history.now port from) (claim_of finish.now) }
 {
     match finish {
         Some(

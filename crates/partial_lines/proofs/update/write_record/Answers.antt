@@ -1,4 +1,4 @@
-use Rattle.partial_lines.proofs.Common.{sym, ap, ◌∙◌, at_stage, writing}
+use Rattle.partial_lines.proofs.Common.{sym, ap, ◌∙◌, at_stage, writing_stage}
 use Rattle.partial_lines.proofs.update.write_record.Goals as goal
 
 pub loop-k-init : goal.loop-k-init
@@ -7,7 +7,7 @@ loop-k-init g c =
     record {
       going = c.store_word-3.ensures.goes;
       leads = g.met.M.Makes.leads_on _ _ _ c.make-at.ensures.leads (g.met.M.Makes.leads_on _ _ _ c.store_word.ensures.leads last);
-      machine = c.store_word-3.ensures.machine ∙ ap (λ k. at_stage c.args.core.now (writing c.args.core.now c.args.change c.args.old c.make-at.result k)) (sym c.plain_record_size-k.ensures);
+      machine = c.store_word-3.ensures.machine ∙ ap (λ k. at_stage c.args.core.now (writing_stage c.args.core.now c.args.change c.args.old c.make-at.result k)) (sym c.plain_record_size-k.ensures);
     }
 
 pub loop-k-preserved : goal.loop-k-preserved

@@ -1,9 +1,9 @@
-use Rattle.partial_long_lived.proofs.Common.{rules, true, false, Exchanged, Refused, CameBy, IsLate, Updated}
+use Rattle.partial_long_lived.proofs.Common.{rules, true, false, Exchanged, Refused, CameBy, IsLate, UpdateEnded}
 use Rattle.partial_long_lived.proofs.Rounds.{came_on, err_as, late_behind, late_of, ok_as, updated_behind}
 use Rattle.partial_long_lived.proofs.update.update.Goals as goal
 
 pub returns-clause-updated : goal.returns-clause-updated
-returns-clause-updated c = ok_as Exchanged Refused c.rounds-2.result (λ r. Updated false c.args.change r c.renew.new.stand c.rounds-2.new.stand) (λ r. Updated true c.args.change r c.args.stand.now c.rounds-2.new.stand)
+returns-clause-updated c = ok_as Exchanged Refused c.rounds-2.result (λ r. UpdateEnded false c.args.change r c.renew.new.stand c.rounds-2.new.stand) (λ r. UpdateEnded true c.args.change r c.args.stand.now c.rounds-2.new.stand)
     (λ r w. updated_behind c.args.change r c.args.stand.now c.renew.new.stand c.rounds-2.new.stand c.renew.ensures.came w) c.rounds-2.ensures.updated
 
 pub returns-clause-refused : goal.returns-clause-refused

@@ -1,6 +1,6 @@
 use Rattle.partial_model.proofs.Common.{◌≡◌, ◌&&◌, Bool, true, false, List, length, Option, None, Decides, MatchOption, sym, ap, ◌∙◌, subst, Decides-at, Applied, Opening, Called, LegalOutcome, places_by, is_history, are_in_time, notes_are_legal, claim_all, is_legal_outcome, IsIndexOf}
 use Rattle.partial_model.specs.declared.checker.index.Index.{Index}
-use Rattle.partial_model.specs.Checked.{Checked}
+use Rattle.partial_model.specs.Checked.{CheckedHistory}
 use Rattle.partial_model.proofs.PortLaws.{Decides-is_legal_outcome}
 use Rattle.partial_model.proofs.checker.Checker.check.Goals as goal
 
@@ -21,7 +21,7 @@ returns-in-None c =
     let o : Opening = c.self.inside.opening.now in
     let h : List Applied = c.self.inside.history.now in
     let none : is_history o h ≡ false = subst (Says o h) c.in-None.is c.self.invariant in
-    subst (λ (k : Checked). Decides false (LegalOutcome k.opening k.history c.args.calls.now)) c.self.view_is (decided o h c.args.calls.now false (sym (first_is o h c.args.calls.now false none)))
+    subst (λ (k : CheckedHistory). Decides false (LegalOutcome k.opening k.history c.args.calls.now)) c.self.view_is (decided o h c.args.calls.now false (sym (first_is o h c.args.calls.now false none)))
 
 pub returns-in-Some : goal.returns-in-Some
 returns-in-Some c =
@@ -30,5 +30,5 @@ returns-in-Some c =
     let some : (is_history o h ≡ true) × IsIndexOf h c.in-Some.index = subst (Says o h) c.in-Some.is c.self.invariant in
     let same : is_history o h && c.passes_behind.result ≡ is_legal_outcome o h c.args.calls.now =
     subst (λ (g : List Applied). is_history o g && c.passes_behind.result ≡ is_legal_outcome o g c.args.calls.now) c.indexed.ensures c.passes_behind.ensures in
-    subst (λ (k : Checked). Decides c.passes_behind.result (LegalOutcome k.opening k.history c.args.calls.now)) c.self.view_is
+    subst (λ (k : CheckedHistory). Decides c.passes_behind.result (LegalOutcome k.opening k.history c.args.calls.now)) c.self.view_is
     (decided o h c.args.calls.now c.passes_behind.result (sym (ap (λ b. b && c.passes_behind.result) some.0) ∙ same))

@@ -1,4 +1,4 @@
-use Rattle.partial_pipeline.proofs.Common.{◌≡◌, ◌<◌, refl, sym, ap, subst, arith, Works, published}
+use Rattle.partial_pipeline.proofs.Common.{◌≡◌, ◌<◌, refl, sym, ap, subst, arith, Works, published_count}
 use Rattle.partial_pipeline.proofs.stage.Stage.new.Goals as goal
 use Rattle.partial_pipeline.proofs.stage.Stage.new.Goals.{then-number-eq0, else-number-eq0}
 
@@ -19,7 +19,7 @@ returns-clause-working c =
       tried = 0;
       works = subst (λ ns. Works p.number seen 0 ns seen 0) (sym c.requires.new.fresh) (refl, refl);
       next = omega arith;
-      held = ap (published p.number) c.requires.new.fresh;
+      held = ap (published_count p.number) c.requires.new.fresh;
       most = omega arith;
       all = begins.1;
     }
