@@ -1,8 +1,8 @@
 -- A call of a port: how it begins at the seat that was taken out, and what it leaves once the seat is put back.
 use Rattle.partial_long_lived.proofs.Common.{ℕ, zero, suc, None, append-nil, ◌≡◌, ◌<◌, ◌≤◌, ◌++◌, ◌∷◌, [], Option, Some, IfSome, Bool, true, false, true≢false, List, length, ap, ◌+◌, take, refl, sym, subst, ◌∙◌, inl, inr, arith, nat_lt, slice_index, AllByRecursion, list_all, option_map, take-append_seam, TableId, Applied, IsEntryFor, IsLegal, LegalNotes, Noted, seen_by, AllByRecursion-get, LegalNotes-last, Layout, CoreState, fresh, AreComponentIndices, IsSound, is_sound_at, IsBetween, IsMarkedLike, core_of, is_at_rest, public_stamp, Refused, Component, Overtaken, NoArena, EpochsSpent, About, Stand, Seating, Began, SeatedPort, one_in, IsOf, MemoryView, PortView, port_view, seen_in, IsStandOf, IsSeatingOf, IsResting, SeatGoes, IsHeld, epoch_at, port_at, HasCome, HasNotedRead, IsIdle, EpochChanged, NotChanged, HasNotedScan, RestsUnmarked, ScanMade, noted_scan, NotScanned, RestsAt, Result, Ok, Err, IfOk, IfErr}
 use Rattle.partial_lines.specs.declared.whole_scan.Scanned.{Scanned}
-use Rattle.partial_long_lived.specs.Inner.DoubleCollect.{ScannedStamped}
-use Rattle.std.specs.Prelude.{Contains}
+use Rattle.partial_long_lived.specs.Inner.Stamped.{MadeNamed, ScannedNamed, ScannedStamped}
+use Rattle.std.specs.Prelude.{Contains, is_some}
 use Rattle.partial_model.specs.declared.call.Call.TheVariants as call
 use Rattle.partial_model.specs.declared.call.Answer.TheVariants as answer
 use Rattle.partial_model.specs.declared.call.Note.TheVariants as note
@@ -201,7 +201,7 @@ module _ (table : TableId) (about : About) (s u : Stand) (core : CoreState) (spe
       let own : s.number ≡ (port_at s).number = h.number in
       (rests_unmarked table about u c false held (rests_anew s u core spent own changed_come w (λ same. omega (arith, up, epoch, same)) c is) refl).0
 
-  pub changed_scanned : (t : Stand) (which values : List ℕ) (collects : ℕ) (borrowed : Option ℕ) → ScanMade u t which values collects borrowed → HasNotedScan s t which values collects borrowed
+  changed_scanned : (t : Stand) (which values : List ℕ) (collects : ℕ) (borrowed : Option ℕ) → ScanMade u t which values collects borrowed → HasNotedScan s t which values collects borrowed
   changed_scanned t which values collects borrowed made = record {
     shape = made.shape ∙ changed.shape;
     number = made.number ∙ changed.number;
@@ -218,6 +218,12 @@ module _ (table : TableId) (about : About) (s u : Stand) (core : CoreState) (spe
     behind = made.behind;
     within = made.within;
   }
+
+  -- and the words that it has collected last name the stamps at its place
+  pub changed_named : (t : Stand) (which values : List ℕ) (collects : ℕ) (borrowed : Option ℕ) (ws : List ℕ) → MadeNamed u t which values collects borrowed ws →
+      ScannedNamed s t which values collects borrowed ws
+  unfolding changed_scanned
+  changed_named t which values collects borrowed ws named = record { scanned = changed_scanned t which values collects borrowed named.made; stamps = named.stamps }
 
 -- a port whose epoch couldn't be changed rests spent
 pub unchanged_rests : (s t : Stand) (core : CoreState) (spent : Bool) → RestsAt s core spent → NotChanged true s t → RestsAt t core true
@@ -282,13 +288,24 @@ has_scanned_seen table s t (j ∷ js) values collects borrowed public w is some 
     )
 
 -- a scan that told stamps, as callers see it
-pub has_stamped_seen : (table : TableId) (s t : Stand) (which values stamps : List ℕ) → ScannedStamped s t which values stamps → 0 < length which →
-    AllByRecursion (λ j. j < (port_at s).about.sizes.m) which → calls.ScansStamped (port_view table (port_at s)) which values stamps (port_view table (port_at t))
+pub has_stamped_seen : (table : TableId) (s t : Stand) (which values : List ℕ) (collects : ℕ) (borrowed public : Option ℕ) (stamps : List ℕ) →
+    ScannedStamped s t which values collects borrowed stamps → public ≡ option_map (public_stamp t.epoch) borrowed → 0 < length which →
+    AllByRecursion (λ j. j < (port_at s).about.sizes.m) which →
+    calls.ScansStamped (port_view table (port_at s)) which values stamps (record { collects = collects; borrowed = public }) (port_view table (port_at t))
 unfolding has_scanned_seen
-has_stamped_seen table s t [] values stamps w some inside = absurd (omega (arith, some))
-has_stamped_seen table s t (j ∷ js) values stamps w some inside =
-    let scan = has_scanned_seen table s t (j ∷ js) values 2 None None w.scanned refl some inside in
-    (scan.0, scan.1, w.stamps_are)
+has_stamped_seen table s t [] values collects borrowed public stamps w is some inside = absurd (omega (arith, some))
+has_stamped_seen table s t (j ∷ js) values collects borrowed public stamps w is some inside =
+    let scan = has_scanned_seen table s t (j ∷ js) values collects borrowed public w.scanned is some inside in
+    (scan.0, scan.1, λ none. w.stamps_are (unborrowed borrowed (sym is ∙ none)))
+  where
+    unborrowed : (b : Option ℕ) → option_map (public_stamp t.epoch) b ≡ None → b ≡ None
+    unborrowed None is_none = refl
+    unborrowed (Some at) is_none = let bad : Some (public_stamp t.epoch at) ≡ None = is_none in cc
+
+-- a view that was taken has a public stamp
+pub borrowed_public : (epoch : ℕ) (borrowed public : Option ℕ) → public ≡ option_map (public_stamp epoch) borrowed → is_some public ≡ is_some borrowed
+borrowed_public epoch None public is = ap is_some is
+borrowed_public epoch (Some at) public is = ap is_some is
 
 -- a scan that was refused, as callers see it
 pub not_scanned_seen : (table : TableId) (s t : Stand) (which : List ℕ) (cause : Refused) → (epoch_at t ≡ t.epoch) → NotScanned s t cause → AllByRecursion (λ j. j < (port_at s).about.sizes.m) which →
@@ -316,18 +333,20 @@ module _ (m : MemoryView) (s : Seating) (t u : Stand) (s' : Seating) (p : PortVi
       callers_see m s t u s' p k view own held k' (λ (a b : PortView). calls.IsRefused a (call.Scan which) cause b)
       (not_scanned_seen m.table t u which cause (sym held.epoch) w (below_there w.goes.about))
 
-  pub stamped_answered : (values stamps : List ℕ) → ScannedStamped t u which values stamps → 0 < length which →
-      calls.ScansStamped p which values stamps (port_view s'.badge.table_id (one_in s'.badge.views))
-  stamped_answered values stamps w some =
-      callers_see m s t u s' p k view own held k' (λ (a b : PortView). calls.ScansStamped a which values stamps b)
-      (has_stamped_seen m.table t u which values stamps w some (below_there w.scanned.goes.about))
-
-  pub came_seen : HasCome t u → (port_at u).notes ≡ (port_at t).notes → calls.Goes p (port_view s'.badge.table_id (one_in s'.badge.views)) []
-  came_seen come notes =
-      callers_see m s t u s' p k view own held k' (λ (a b : PortView). calls.Goes a b [])
-      (goes_seen m.table (port_at t) (port_at u) [] come.goes (notes ∙ sym (append-nil (port_at t).notes)))
+  pub stamped_answered : (values : List ℕ) (collects : ℕ) (borrowed public : Option ℕ) (stamps : List ℕ) → ScannedStamped t u which values collects borrowed stamps →
+      public ≡ option_map (public_stamp u.epoch) borrowed → 0 < length which →
+      calls.ScansStamped p which values stamps (record { collects = collects; borrowed = public }) (port_view s'.badge.table_id (one_in s'.badge.views))
+  stamped_answered values collects borrowed public stamps w is some =
+      callers_see m s t u s' p k view own held k' (λ (a b : PortView). calls.ScansStamped a which values stamps (record { collects = collects; borrowed = public }) b)
+      (has_stamped_seen m.table t u which values collects borrowed public stamps w is some (below_there w.scanned.goes.about))
 
 -- a scan leaves the shape of the memory
 pub scan_shape : (s t : Stand) (which values : List ℕ) (r : Result Scanned Refused) → IfOk r (λ q. HasNotedScan s t which values q.collects q.borrowed) → IfErr r (NotScanned s t) → t.shape ≡ s.shape
 scan_shape s t which values (Ok q) w e = w.shape
 scan_shape s t which values (Err cause) w e = e.shape
+
+-- so does one that tells stamps
+pub stamped_shape : (s t : Stand) (which values stamps : List ℕ) (r : Result Scanned Refused) → IfOk r (λ q. ScannedStamped s t which values q.collects q.borrowed stamps) → IfErr r (NotScanned s t) →
+    t.shape ≡ s.shape
+stamped_shape s t which values stamps (Ok q) w e = w.scanned.shape
+stamped_shape s t which values stamps (Err cause) w e = e.shape

@@ -2,13 +2,16 @@
 use Rattle.partial_long_lived.proofs.Common.{ℕ, suc, ◌≡◌, ◌+◌, ◌-◌, ◌<◌, ◌≤◌, ◌&&◌, ◌++◌, not, Bool, true, false, cond, Option, None, Result, Ok, Err, IfOk, IfErr, List, [], ◌∷◌, length, map, take, set, refl, sym, ap, subst, ◌∙◌, inl, inr, arith, append-nil, length-append, nat_lt, slice_index, option_map_or, AllByRecursion, eqb_tells, ext_get_or, get_or-map, get_or-set_other, get_or-set_same, length-map, length-set, TableId, Applied, IsHistory, value_of, Noted, seen_by, legal_notes_are_shown, stamps_never_return, core_of, packed, seal, having_passed, having_looked, history_of, public_entry, public_log, OwnedArena, Port, Refused, About, Stand, Began, SeatedPort, seen_in, IsHeld, port_at, having_found, looked_at, HasCome, IsIdle, StaysAt, LookFound, SeatSees, noted_by, opening_of, Glances, HasNotedScan, ScanMade, SettledFirst, noted_scan, NotScanned, AreCollected, AreInside, HadValue, HadValues, HasBegunCollect, HasGlanced, HasStayed, MayNoteScan, NotesScan, WasThere}
 use Rattle.partial_model.specs.History.{stamp_of}
 use Rattle.partial_lines.specs.declared.whole_scan.Scanned.{Scanned}
+use Rattle.partial_words.specs.Layout.{total}
+use Rattle.partial_words.specs.Record.{value_word}
 use Rattle.partial_epochs.specs.Layout.{unsealed}
 use Rattle.partial_epochs.specs.Notes.{public_of}
 use Rattle.partial_long_lived.specs.Rule.{plan_of}
-use Rattle.partial_long_lived.specs.Inner.DoubleCollect.{MadeNamed, NameStamps, ScannedNamed}
+use Rattle.partial_long_lived.specs.Inner.Stamped.{MadeNamed, NameStamps, ScannedNamed}
 use Rattle.partial_long_lived.proofs.Coming.{come_itself, come_on, come_same, come_seen, goes_on, seen_more}
 use Rattle.partial_long_lived.proofs.Looking.{looked_away}
 use Rattle.partial_long_lived.proofs.Seen.{begin_history}
+use Rattle.partial_long_lived.proofs.Conditional.{record_small}
 use Rattle.partial_long_lived.proofs.Collects.{glanced_come, glanced_idle, glanced_notes, glanced_seen, glanced_stayed, glanced_there, stayed_on, there_now}
 
 -- The first step of the scan led from the stand s to u, and perhaps a look on to t, of which nothing is new.
@@ -265,12 +268,13 @@ module _ (table : TableId) (about : About) (s u v : Stand) (h : IsHeld table abo
             omega (arith, long, seen, before, more, whole, both);
       }
 
-      pub together_named : MadeNamed s t js vs' ws
+      pub together_named : MadeNamed s t js vs' 2 None ws
       unfolding together_scanned
       together_named = record {
         made = together_scanned;
-        stamps = subst (λ (z : SeatedPort). NameStamps z (length (history_of x.port.before) + b) js ws) (sym told.is) (λ k low. (
-          (second k low).within,
+        stamps = λ _. subst (λ (z : SeatedPort). NameStamps z (length (history_of x.port.before) + b) js ws) (sym told.is) (λ k low. (
+          record_small table about s (unsealed (slice_index ws k)) h
+              (subst (λ (a : About). value_word (unsealed (slice_index ws k)) < total a.sizes) (about_is ∙ sym h.own) (second k low).within),
           ap (public_of (plan_of x.about) x.port.before (slice_index js k)) (stamp_stood second k low)
               ∙ told.stamps (slice_index js k) (subst (λ (a : About). slice_index js k < a.sizes.m) (sym about_is) (inside k low)),
         ));
@@ -298,19 +302,20 @@ module _ (s u t : Stand) (come : HasCome s u) (notes : (port_at u).notes ≡ (po
     within = w.within;
   }
 
-  -- a double collect names the same stamps for the whole call
-  pub come_named : (which values ws : List ℕ) → ScannedNamed u t which values ws → ScannedNamed s t which values ws
+  -- what it has collected last names the same stamps for the whole call
+  pub come_named : (which values : List ℕ) (collects : ℕ) (borrowed : Option ℕ) (ws : List ℕ) → ScannedNamed u t which values collects borrowed ws →
+      ScannedNamed s t which values collects borrowed ws
   unfolding come_scanned
-  come_named which values ws w = record { scanned = come_scanned which values 2 None w.scanned; stamps = w.stamps }
+  come_named which values collects borrowed ws w = record { scanned = come_scanned which values collects borrowed w.scanned; stamps = w.stamps }
 
-  come_refused : (cause : Refused) → NotScanned u t cause → NotScanned s t cause
+  pub come_refused : (cause : Refused) → NotScanned u t cause → NotScanned s t cause
   come_refused cause w = record { shape = w.shape ∙ come.shape; goes = goes_on (port_at s) (port_at u) (port_at t) come.goes w.goes; notes = w.notes ∙ notes; why = w.why }
 
   -- what a scan that is announced has ended with
-  pub come_ok : (r : Result Scanned Refused) (which values : List ℕ) → IfOk r (λ q. HasNotedScan u t which values q.collects q.borrowed) →
+  pub come_ok : (r : Result Scanned Refused) (which values ws : List ℕ) → IfOk r (λ q. ScannedNamed u t which values q.collects q.borrowed ws) →
       IfOk r (λ q. HasNotedScan s t which values q.collects q.borrowed)
-  come_ok (Ok q) which values w = come_scanned which values q.collects q.borrowed w
-  come_ok (Err cause) which values w = w
+  come_ok (Ok q) which values ws w = come_scanned which values q.collects q.borrowed w.scanned
+  come_ok (Err cause) which values ws w = w
 
   pub come_err : (r : Result Scanned Refused) → IfErr r (NotScanned u t) → IfErr r (NotScanned s t)
   come_err (Ok q) w = w

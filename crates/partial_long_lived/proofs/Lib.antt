@@ -32,6 +32,7 @@ pub mod Meets
 pub mod NewPorts
 pub mod Opens
 pub mod Publishes
+pub mod RecordStamps
 pub mod Resting
 pub mod Rounds
 pub mod Scans

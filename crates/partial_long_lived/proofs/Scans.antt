@@ -1,6 +1,17 @@
 -- A scan where a port stands: its first step is allowed, and what it leaves of its port.
 use Rattle.partial_long_lived.proofs.Common.{None, ℕ, ◌≡◌, ◌+◌, ◌-◌, ◌%◌, ◌^◌, ◌<◌, ◌≤◌, ◌||◌, ◌++◌, Bool, false, cond, Option, Some, List, [], ◌∷◌, length, map, refl, sym, ap, subst, ◌∙◌, inl, inr, arith, length-append, is_some, slice_index, length-map, Allows, TableId, Applied, Call, Note, Noted, place_of, Add, Layout, IsLayout, pool_counter, total, Reply, call_of, CoreState, advance, reply_of, scanned_values, step_of, AreComponentIndices, IsSound, AreNotesOf, IsNoteOf, IsPlacedAt, Plan, base, plain, unsealed, history_of, public_entry, public_log, public_noted, Control, not_below, RestsLike, About, Stand, Began, IsRuleKept, SeatedPort, plan_of, SeatGoes, IsOne, IsHeld, port_at, IsIdle, component_at, SeatMakes, unsealed_answer, makes, over_by, word_at, HasNotedScan, RestsUnmarked, ScanMade, SettledFirst, noted_scan, CallMade, IsGoing, ComesTo, MayBegin, machine_at}
-use Rattle.partial_long_lived.specs.Inner.DoubleCollect.{MadeNamed, ScannedNamed}
+use Rattle.std.specs.Prelude.{take}
+use Rattle.partial_model.specs.declared.history.Opening.{Opening}
+use Rattle.partial_model.specs.History.{stamp_of}
+use Rattle.partial_knowledge.specs.Scans.{AreStamps}
+use Rattle.partial_core.specs.Steps.{CollectsStamps}
+use Rattle.partial_epochs.specs.History.{opening_behind, stamp_limit}
+use Rattle.partial_epochs.specs.Notes.{public_of}
+use Rattle.partial_epochs.proofs.Public.{stamp_public}
+use Rattle.partial_long_lived.specs.Inner.Loads.{opening_of}
+use Rattle.partial_long_lived.specs.Inner.Stamped.{MadeNamed, NameStamps, ScannedNamed}
+use Rattle.partial_long_lived.specs.Inner.Unchanged.{stamp_at}
+use Rattle.partial_long_lived.proofs.RecordStamps.{stamp_small, unsealed_same}
 use Rattle.partial_model.specs.declared.call.Call.TheVariants as call
 use Rattle.partial_model.specs.declared.call.Answer.TheVariants as answer
 use Rattle.partial_model.specs.declared.call.Note.TheVariants as note
@@ -193,6 +204,40 @@ module _ (table : TableId) (about : About) (s u t : Stand) (h : IsHeld table abo
           omega (arith, few, before, all, len);
     }
 
+    -- and unless it has taken a view, the words that it loaded last name the stamps at its place
+    pub scan_named : x.began.epoch ≤ s.epoch → MadeNamed s t which values collects borrowed rows.last
+    unfolding scan_made
+    scan_named young = record { made = scan_made young; stamps = λ none. names none }
+      where
+        opening_same : opening_of x ≡ opening_of y
+        opening_same = ap (λ (a : About). opening_behind a.opening x.port.before) (sym call_over.goes.about) ∙ ap (opening_behind y.about.opening) (sym before_same)
+
+        collected : borrowed ≡ None → (k : ℕ) → k < length which → slice_index rows.last k ≡ stamp_of (opening_of y) (take saw.0 y.port.part.seen) (slice_index which k)
+        collected none k low =
+            let finds : CollectsStamps (opening_of x) y.port.part (reply.Scanned collects borrowed) (note.Saw saw.0) =
+            subst (CollectsStamps (opening_of x) y.port.part (reply.Scanned collects borrowed)) saw.1 note_of.stamps in
+            let own : AreStamps (opening_of x) (take saw.0 y.port.part.seen) which rows.last =
+            subst (λ (l : List ℕ). AreStamps (opening_of x) (take saw.0 y.port.part.seen) which l) (sym (ap (λ (r : RowsState). r.last) rows_are))
+            (subst (λ (js : List ℕ). AreStamps (opening_of x) (take saw.0 y.port.part.seen) js (machine_at t).rows.last) asked (finds none)) in
+            own k low ∙ ap (λ (o : Opening). stamp_of o (take saw.0 y.port.part.seen) (slice_index which k)) opening_same
+
+        names : borrowed ≡ None → NameStamps y (length (history_of x.port.before) + saw.0) which rows.last
+        names none k low =
+            let j = slice_index which k in
+            let known = call_over.goes.known in
+            let each = begins.sound.asked.each k low in
+            let sizes = ap (λ (z : Layout). z.m) begins.sizes in
+            let about = ap (λ (a : About). a.sizes.m) call_over.goes.about in
+            let inside : j < y.about.sizes.m = omega (arith, each, sizes, about) in
+            let is = collected none k low in
+            let small : slice_index rows.last k < stamp_limit = subst (λ n. n < stamp_limit) (sym is) (stamp_small y known saw.0 j inside) in
+            let bare : unsealed (slice_index rows.last k) ≡ slice_index rows.last k = unsealed_same (slice_index rows.last k) small in (
+              subst (λ n. n < stamp_limit) (sym bare) small,
+              ap (public_of (plan_of y.about) y.port.before j) (bare ∙ is)
+                  ∙ stamp_public (plan_of y.about) known.plan y.port.before y.port.part.seen known.own.above saw.0 j inside
+                  ∙ ap (λ n. stamp_at y (n + saw.0) j) (ap (λ (l : List (List Applied)). length (history_of l)) before_same),
+            )
+
   -- its machine is at rest, and has no mark
   pub scan_rests : (last : CoreState) → RestsUnmarked x core → RestsLike (machine_at t) last → RestsUnmarked y last
   scan_rests last rests end =
@@ -233,7 +278,8 @@ has_scanned s u t which values collects borrowed settled made = record {
   within = made.within;
 }
 
--- and the words that a double collect has found name the stamps at the place of its scan
-pub has_named : (s u t : Stand) (which values ws : List ℕ) → SettledFirst s u → MadeNamed u t which values ws → ScannedNamed s t which values ws
+-- and the words that it has collected last name the stamps at its place
+pub has_named : (s u t : Stand) (which values : List ℕ) (collects : ℕ) (borrowed : Option ℕ) (ws : List ℕ) → SettledFirst s u → MadeNamed u t which values collects borrowed ws →
+    ScannedNamed s t which values collects borrowed ws
 unfolding has_scanned
-has_named s u t which values ws settled named = record { scanned = has_scanned s u t which values 2 None settled named.made; stamps = named.stamps }
+has_named s u t which values collects borrowed ws settled named = record { scanned = has_scanned s u t which values collects borrowed settled named.made; stamps = named.stamps }

@@ -59,11 +59,12 @@ Scans p (j ∷ js) values s q =
 abbrev pub HasStampThen : PortView → ℕ → ℕ → ℕ → Type 0
 HasStampThen p n j s = stamp_of p.memory.about.opening (take n p.seen) j ≡ s
 
--- a scan that ended with stamps: the values and the stamps after one prefix of what is seen now; one of no position isn't noted
-abbrev pub ScansStamped : PortView → List ℕ → List ℕ → List ℕ → PortView → Type 0
-ScansStamped p [] values stamps q = (values ≡ []) × (stamps ≡ []) × (q ≡ p)
-ScansStamped p (j ∷ js) values stamps q = (n : ℕ) × Answered p q (call.Scan (j ∷ js)) (answer.Scanned values 2 None) (note.Saw n)
-    × (stamps ≡ map (λ i. stamp_of q.memory.about.opening (take n q.seen) i) (j ∷ js))
+-- a scan with stamps that ended: a scan, and unless it took the view of an update, the stamps after the same prefix
+abbrev pub ScansStamped : PortView → List ℕ → List ℕ → List ℕ → Scanned → PortView → Type 0
+ScansStamped p [] values stamps s q = Scans p [] values s q × (stamps ≡ [])
+ScansStamped p (j ∷ js) values stamps s q =
+    (n : ℕ) × Answered p q (call.Scan (j ∷ js)) (answer.Scanned values s.collects s.borrowed) (note.Saw n)
+    × (s.borrowed ≡ None → stamps ≡ map (λ i. stamp_of q.memory.about.opening (take n q.seen) i) (j ∷ js))
 
 -- Each of these components had this stamp at a place of the call. There is one place, behind all that the port had seen before the call, at
 -- which those stood together whose stamps the port had seen.

@@ -13,6 +13,7 @@ pub mod Calls
 pub mod Changing
 pub mod Conditional
 pub mod Scans
+pub mod Stamped
 pub mod DoubleCollect
 pub mod Unchanged
 pub mod Rests

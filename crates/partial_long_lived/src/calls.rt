@@ -1,10 +1,9 @@
 //! The calls of a port.
 
-ghost use Rattle.std.specs.Prelude.{◌≡◌, ◌≤◌, true, false, [], length, nat_lt, IfOk, IfErr};
+ghost use Rattle.std.specs.Prelude.{◌≡◌, ◌≤◌, true, false, length, nat_lt, is_some, IfOk, IfErr};
 ghost use Rattle.std.specs.List.{list_all};
 ghost use Rattle.partial_model.specs.declared.call.Call.TheVariants as call;
-ghost use Rattle.partial_long_lived.specs.declared.error.Refused.TheVariants.{Component};
-ghost use Rattle.partial_long_lived.specs.Calls.{Differ, Goes, IsRefused, Meets, Reads, Scans, ScansStamped, StillStand, Updates, UpdatesIf};
+ghost use Rattle.partial_long_lived.specs.Calls.{Differ, IsRefused, Meets, Reads, Scans, ScansStamped, StillStand, Updates, UpdatesIf};
 ghost use Rattle.partial_long_lived.specs.Ports.{IsOf};
 
 use crate::answers::{Updated, UpdatedIf};
@@ -167,52 +166,54 @@ impl LongLived {
         }
     }
 
-    /// Scans these components, in this order and with repeats, and tells their stamps too, if two collects of them are
-    /// equal; says whether it has. `into` has their values then, and `stamps` their stamps, as they stood together at one
-    /// moment of the call. A scan of no position makes no step.
+    /// Scans these components as [`scan`](LongLived::scan) does, and tells their stamps too, unless the scan took the view
+    /// of an update, which has none. `into` has the values and `stamps` the stamps as they stood together at one moment of
+    /// the call. Where `borrowed` names an update, `stamps` is unchanged.
     ///
-    /// It tries twice, and enters the current epoch between, if its own has ended. `false` says that an update or a change
-    /// of epoch came between the collects of both tries. Nothing is noted then, and `into` and `stamps` are unchanged.
-    /// [`scan`](LongLived::scan) gives the values whatever others do.
+    /// It makes the steps of `scan`, and behind them one load for each component that no update of its epoch has set.
     ///
     /// # Errors
-    /// [`Refused::Component`] exactly when an index isn't below the number of components: no step was made, and `into` and
-    /// `stamps` are unchanged.
+    /// As those of [`scan`](LongLived::scan). `into` and `stamps` are unchanged.
     pub fn scan_stamped(
         &self,
         me: &mut Port,
         which: &[u32],
         into: &mut [u64],
         stamps: &mut [u64],
-    ) -> Result<bool, Refused>
+    ) -> Result<Scanned, Refused>
         requires own { IsOf self.now me.old }
         requires few { length which.now ≤ self.now.about.sizes.m }
         requires lengths { (length into.old ≡ length which.now) × (length stamps.old ≡ length which.now) }
         ensures same { IsOf self.now me.new }
-        ensures scanned { IfOk result (λ is. is ≡ true → ScansStamped me.old which.now into.new stamps.new me.new) }
-        ensures goes { IfOk result (λ is. is ≡ false → Goes me.old me.new []) }
-        ensures unchanged { IfOk result (λ is. is ≡ false → (into.new ≡ into.old) × (stamps.new ≡ stamps.old)) }
+        ensures scanned { IfOk result (λ s. ScansStamped me.old which.now into.new stamps.new s me.new) }
+        ensures helped { IfOk result (λ s. is_some s.borrowed ≡ true → stamps.new ≡ stamps.old) }
         ensures refused { IfErr result (λ cause. IsRefused me.old (call.Scan which.now) cause me.new) }
-        ensures cause { IfErr result (λ cause. cause ≡ Component) }
-        ensures untouched { IfErr result (λ _. (into.new ≡ into.old) × (stamps.new ≡ stamps.old)) }
+        ensures unchanged { IfErr result (λ _. (into.new ≡ into.old) × (stamps.new ≡ stamps.old)) }
     {
         if which.is_empty() {
-            return Ok(true);
+            return Ok(Scanned {
+                collects: 0,
+                borrowed: None,
+            });
         }
         if !all_below(which, self.shape.sizes.m()) {
             return Err(Refused::Component);
         }
         let words = &self.table.shared;
         let mut stand = me.seating.take();
-        let before = stand.epoch;
         let kept = me.collected.as_mut_slice();
-        let is_told = scan_stamped(words, &mut stand, which, kept, into, stamps);
-        if stand.epoch != before {
-            me.core.clear_marks();
-            me.spent = false;
-        }
+        let core = &mut me.core;
+        let spent = &mut me.spent;
+        let scanned = scan_stamped(words, &mut stand, core, spent, which, kept, into, stamps);
+        let epoch = stand.epoch;
         me.seating.keep(stand);
-        Ok(is_told)
+        match scanned {
+            Ok(Scanned { collects, borrowed }) => Ok(Scanned {
+                collects,
+                borrowed: public_borrowed(epoch, borrowed),
+            }),
+            Err(cause) => Err(cause),
+        }
     }
 
     /// Says whether each of these components still has this stamp, as [`read`](LongLived::read) gives it. With `true`

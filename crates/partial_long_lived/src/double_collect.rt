@@ -1,6 +1,6 @@
 //! Scans by a double collect: two equal collects of the components, and no announcement.
 
-ghost use Rattle.std.specs.Prelude.{ℕ, ◌≡◌, ◌-◌, ◌<◌, ◌≤◌, true, false, length, slice_index, IfSome};
+ghost use Rattle.std.specs.Prelude.{ℕ, ◌≡◌, ◌-◌, ◌<◌, ◌≤◌, true, false, length, slice_index, IfSome, None};
 ghost use Rattle.partial_words.specs.Layout.{total};
 ghost use Rattle.partial_words.specs.Record.{value_word};
 ghost use Rattle.partial_epochs.specs.Layout.{unsealed};
@@ -8,7 +8,8 @@ ghost use Rattle.partial_epochs.specs.Ports.Entering.{Stands};
 ghost use Rattle.partial_long_lived.specs.Ports.{seen_in};
 ghost use Rattle.partial_long_lived.specs.Inner.Held.{IsHeld, port_at};
 ghost use Rattle.partial_long_lived.specs.Inner.Calls.{IsIdle, StaysAt};
-ghost use Rattle.partial_long_lived.specs.Inner.DoubleCollect.{AreCollected, AreInside, HadValue, HadValues, HasBegunCollect, HasGlanced, HasStayed, MadeNamed, MayNoteScan, NotesScan, ScannedNamed};
+ghost use Rattle.partial_long_lived.specs.Inner.DoubleCollect.{AreCollected, AreInside, HadValue, HadValues, HasBegunCollect, HasGlanced, HasStayed, MayNoteScan, NotesScan};
+ghost use Rattle.partial_long_lived.specs.Inner.Stamped.{MadeNamed, ScannedNamed};
 ghost use Rattle.partial_long_lived.specs.Inner.Loads.{SeatSees};
 ghost use Rattle.partial_long_lived.specs.Inner.Loads.Wish.{Glances};
 
@@ -40,7 +41,7 @@ pub fn double_collect(
     requires lengths { length into.old ≡ length which.now }
     ensures held { IsHeld words.now.table_id words.now.key stand.new }
     ensures stayed { HasStayed stand.old stand.new }
-    ensures scanned { result ≡ true → ScannedNamed stand.old stand.new which.now into.new kept.new }
+    ensures scanned { result ≡ true → ScannedNamed stand.old stand.new which.now into.new 2 None kept.new }
     ensures notes { result ≡ false → (port_at stand.new).notes ≡ (port_at stand.old).notes }
     ensures unchanged { result ≡ false → into.new ≡ into.old }
 {
@@ -142,7 +143,7 @@ fn confirm<G: Together>(
     requires time { (port_at stand.old).began.length ≤ length (seen_in (port_at stand.old).port) }
     ensures held { IsHeld words.now.table_id words.now.key stand.new }
     ensures stayed { HasStayed stand.old stand.new }
-    ensures scanned { result ≡ true → MadeNamed stand.old stand.new which.now into.new kept.now }
+    ensures scanned { result ≡ true → MadeNamed stand.old stand.new which.now into.new 2 None kept.now }
     ensures notes { result ≡ false → (port_at stand.new).notes ≡ (port_at stand.old).notes }
     ensures unchanged { result ≡ false → into.new ≡ into.old }
 {

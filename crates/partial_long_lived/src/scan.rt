@@ -12,7 +12,8 @@ ghost use Rattle.partial_epochs.specs.History.{public_stamp};
 ghost use Rattle.partial_long_lived.specs.Inner.Held.{IsHeld, port_at};
 ghost use Rattle.partial_long_lived.specs.Inner.Calls.{IsIdle};
 ghost use Rattle.partial_long_lived.specs.Inner.Rests.{NotScanned, RestsAt};
-ghost use Rattle.partial_long_lived.specs.Inner.Scans.{HasNotedScan, RestsUnmarked, ScanBegun, ScanMade, SettledFirst};
+ghost use Rattle.partial_long_lived.specs.Inner.Scans.{HasNotedScan, RestsUnmarked, ScanBegun, SettledFirst};
+ghost use Rattle.partial_long_lived.specs.Inner.Stamped.{MadeNamed, ScannedNamed};
 ghost use Rattle.partial_long_lived.specs.Inner.Under.{IsGoing, ComesTo, MayBegin, machine_at};
 
 use crate::arena::STAMPS;
@@ -82,9 +83,12 @@ pub fn scan_from(
     scan_announced(words, stand, core, spent, which, into)
 }
 
-// Makes a scan that is announced. A port that is spent in its epoch changes the epoch first, which may be refused: then
-// the port stands where it stood, spent, and `into` is unchanged.
-fn scan_announced(
+/// Makes a scan that is announced. Unless it took a view, `core` has the words that it collected last. A port that is spent
+/// in its epoch changes the epoch first.
+///
+/// # Errors
+/// As those of [`change`]: the port stands where it stood, spent, and `into` is unchanged.
+pub fn scan_announced(
     words: &Words,
     stand: &mut Stand,
     core: &mut Core,
@@ -99,7 +103,8 @@ fn scan_announced(
     requires lengths { length into.old ≡ length which.now }
     ensures held { IsHeld words.now.table_id words.now.key stand.new }
     ensures rests { RestsAt stand.new core.new spent.new }
-    ensures scanned { IfOk result (λ q. HasNotedScan stand.old stand.new which.now into.new q.collects q.borrowed) }
+    ensures scanned { IfOk result (λ q. ScannedNamed stand.old stand.new which.now into.new
+        q.collects q.borrowed core.new.rows.last) }
     ensures refused { IfErr result (NotScanned stand.old stand.new) }
     ensures unchanged { IfErr result (λ _. into.new ≡ into.old) }
 {
@@ -140,7 +145,8 @@ fn scan(
     requires some { 0 < length which.now }
     requires lengths { length into.old ≡ length which.now }
     ensures held { IsHeld words.now.table_id words.now.key stand.new }
-    ensures scanned { HasNotedScan stand.old stand.new which.now into.new result.collects result.borrowed }
+    ensures scanned { ScannedNamed stand.old stand.new which.now into.new
+        result.collects result.borrowed core.new.rows.last }
     ensures rests { RestsUnmarked (port_at stand.new) core.new }
     ensures spent { (port_at stand.new).port.over ≡ spent.new }
 {
@@ -166,7 +172,8 @@ fn make_scan(
     requires lengths { length into.old ≡ length which.now }
     requires fresh { (port_at stand.old).began.epoch ≤ stand.old.epoch }
     ensures held { IsHeld words.now.table_id words.now.key stand.new }
-    ensures scanned { ScanMade stand.old stand.new which.now into.new result.collects result.borrowed }
+    ensures scanned { MadeNamed stand.old stand.new which.now into.new
+        result.collects result.borrowed core.new.rows.last }
     ensures rests { RestsUnmarked (port_at stand.new) core.new }
     ensures spent { (port_at stand.new).port.over ≡ spent.new }
 {

@@ -1,75 +1,68 @@
 //! Scans that tell stamps.
 
-ghost use Rattle.std.specs.Prelude.{ℕ, ◌≡◌, ◌<◌, ◌≤◌, true, false, length, slice_index};
-ghost use Rattle.partial_words.specs.Layout.{total};
-ghost use Rattle.partial_words.specs.Record.{value_word};
+ghost use Rattle.std.specs.Prelude.{ℕ, ◌≡◌, ◌<◌, ◌≤◌, true, length, slice_index, is_some, IfErr, IfOk};
+ghost use Rattle.partial_machine.specs.Sound.{AreComponentIndices};
+ghost use Rattle.partial_epochs.specs.History.{stamp_limit};
 ghost use Rattle.partial_epochs.specs.Layout.{unsealed};
 ghost use Rattle.partial_epochs.specs.Ports.Entering.{Stands};
 ghost use Rattle.partial_long_lived.specs.Inner.Held.{IsHeld, port_at};
-ghost use Rattle.partial_long_lived.specs.Inner.Calls.{HasCome, IsIdle, StaysAt};
-ghost use Rattle.partial_long_lived.specs.Inner.DoubleCollect.{AreInside, ArePublic, ScannedNamed, ScannedStamped};
+ghost use Rattle.partial_long_lived.specs.Inner.Calls.{StaysAt};
+ghost use Rattle.partial_long_lived.specs.Inner.DoubleCollect.{AreInside};
+ghost use Rattle.partial_long_lived.specs.Inner.Rests.{NotScanned, RestsAt};
+ghost use Rattle.partial_long_lived.specs.Inner.Stamped.{ArePublic, ScannedStamped};
 
 use crate::arena::{SEAL, public_stamp};
 use crate::double_collect::double_collect;
-use crate::read::settle;
+use crate::error::Refused;
 use crate::rule::Words;
+use crate::scan::scan_announced;
 use crate::stand::Stand;
+use partial_core::Core;
+use partial_lines::Scanned;
 
-/// Tries to scan these positions by a double collect, twice at most, and says whether it has. `into` has their values then,
-/// and `stamps` their public stamps. `kept` is where words are kept.
+/// Makes a whole scan, by a double collect, or otherwise by one that is announced, and loads the public stamps of its
+/// components into `stamps`, unless it took a view: then `stamps` is unchanged. `spent` says whether the port is spent in
+/// its epoch, before and afterwards. Returns how the scan was made. `kept` is where a double collect keeps words.
+///
+/// # Errors
+/// As those of [`scan_announced`]: the port stands where it stood, spent, and `into` and `stamps` are unchanged.
 pub fn scan_stamped(
     words: &Words,
     stand: &mut Stand,
+    core: &mut Core,
+    spent: &mut bool,
     which: &[u32],
     kept: &mut [u64],
     into: &mut [u64],
     stamps: &mut [u64],
-) -> bool
+) -> Result<Scanned, Refused>
     requires held { IsHeld words.now.table_id words.now.key stand.old }
-    requires idle { IsIdle stand.old }
-    requires inside { AreInside words.now.key.sizes which.now }
+    requires rests { RestsAt stand.old core.old spent.old }
+    requires asked { AreComponentIndices core.old.sizes which.now }
     requires some { 0 < length which.now }
     requires room { length which.now ≤ length kept.old }
     requires values { length into.old ≡ length which.now }
     requires stamps { length stamps.old ≡ length which.now }
     ensures held { IsHeld words.now.table_id words.now.key stand.new }
-    ensures come { HasCome stand.old stand.new }
-    ensures scanned { result ≡ true → ScannedStamped stand.old stand.new which.now into.new stamps.new }
-    ensures notes { result ≡ false → (port_at stand.new).notes ≡ (port_at stand.old).notes }
-    ensures unchanged { result ≡ false → (into.new ≡ into.old) × (stamps.new ≡ stamps.old) }
-{
-    if !collect_now(words, stand, which, kept, into) {
-        return false;
-    }
-    load_stamps(words, stand, which, kept, stamps);
-    true
-}
-
-// Makes a double collect. Where it isn't one, the port enters the current epoch if its own has ended, and makes another.
-fn collect_now(
-    words: &Words,
-    stand: &mut Stand,
-    which: &[u32],
-    kept: &mut [u64],
-    into: &mut [u64],
-) -> bool
-    requires held { IsHeld words.now.table_id words.now.key stand.old }
-    requires idle { IsIdle stand.old }
-    requires inside { AreInside words.now.key.sizes which.now }
-    requires some { 0 < length which.now }
-    requires room { length which.now ≤ length kept.old }
-    requires lengths { length into.old ≡ length which.now }
-    ensures held { IsHeld words.now.table_id words.now.key stand.new }
-    ensures come { HasCome stand.old stand.new }
-    ensures scanned { result ≡ true → ScannedNamed stand.old stand.new which.now into.new kept.new }
-    ensures notes { result ≡ false → (port_at stand.new).notes ≡ (port_at stand.old).notes }
-    ensures unchanged { result ≡ false → into.new ≡ into.old }
+    ensures rests { RestsAt stand.new core.new spent.new }
+    ensures scanned { IfOk result (λ q. ScannedStamped stand.old stand.new which.now into.new
+        q.collects q.borrowed stamps.new) }
+    ensures helped { IfOk result (λ q. is_some q.borrowed ≡ true → stamps.new ≡ stamps.old) }
+    ensures refused { IfErr result (NotScanned stand.old stand.new) }
+    ensures unchanged { IfErr result (λ _. (into.new ≡ into.old) × (stamps.new ≡ stamps.old)) }
 {
     if double_collect(words, stand, which, kept, into) {
-        return true;
+        load_stamps(words, stand, which, kept, stamps);
+        return Ok(Scanned {
+            collects: 2,
+            borrowed: None,
+        });
     }
-    settle(words, stand);
-    double_collect(words, stand, which, kept, into)
+    let scanned = scan_announced(words, stand, core, spent, which, into)?;
+    if scanned.borrowed.is_none() {
+        load_stamps(words, stand, which, core.last_loaded(), stamps);
+    }
+    Ok(scanned)
 }
 
 // Loads the public stamps of the records that these component words name.
@@ -79,8 +72,7 @@ fn load_stamps(words: &Words, stand: &mut Stand, which: &[u32], kept: &[u64], st
     requires inside { AreInside words.now.key.sizes which.now }
     requires room { length which.now ≤ length kept.now }
     requires lengths { length stamps.old ≡ length which.now }
-    requires within { (k : ℕ) → k < length which.now →
-        value_word (unsealed (slice_index kept.now k)) < total words.now.key.sizes }
+    requires small { (k : ℕ) → k < length which.now → unsealed (slice_index kept.now k) < stamp_limit }
     ensures held { IsHeld words.now.table_id words.now.key stand.new }
     ensures kept { StaysAt stand.old stand.new }
     ensures same { port_at stand.new ≡ port_at stand.old }

@@ -20,8 +20,7 @@ use Rattle.partial_long_lived.specs.Inner.Steps.{BeginsWith, tells}
 use Rattle.partial_long_lived.specs.Inner.Held.{port_at}
 use Rattle.partial_long_lived.specs.Inner.Loads.{Recalls, opening_of}
 use Rattle.partial_long_lived.specs.Inner.Calls.{HasCome, StaysAt}
-use Rattle.partial_long_lived.specs.Inner.Scans.{HasNotedScan, ScanMade, SettledFirst}
-use Rattle.partial_long_lived.specs.Inner.Unchanged.{stamp_at}
+use Rattle.partial_long_lived.specs.Inner.Scans.{SettledFirst}
 
 -- each of these positions is one of a component
 abbrev pub AreInside : Layout → List ℕ → Type 0
@@ -100,29 +99,3 @@ pub record HasBegunCollect (s t : Stand) (j w : ℕ) : Type 0 where
   pub settled : SettledFirst s t
   pub there : WasThere (port_at t) 0 (length (port_at t).port.part.seen) j w
   pub time : (port_at t).began.length ≤ length (seen_in (port_at t).port)
-
--- These words name records of the arena, and the public stamps of those are the stamps that these components had behind the first n entries
--- of the one history.
-abbrev pub NameStamps : SeatedPort → ℕ → List ℕ → List ℕ → Type 0
-NameStamps x n js ws = (k : ℕ) → k < length js → (value_word (unsealed (slice_index ws k)) < total x.about.sizes)
-    × (public_of (plan_of x.about) x.port.before (slice_index js k) (unsealed (slice_index ws k)) ≡ stamp_at x n (slice_index js k))
-
--- the port has scanned by a double collect where it stood, and the words that it collected name the stamps at the place of the scan
-pub record MadeNamed (s t : Stand) (which values ws : List ℕ) : Type 0 where
-  pub made : ScanMade s t which values 2 None
-  pub stamps : NameStamps (port_at t) made.place which ws
-
--- the same over a whole call
-pub record ScannedNamed (s t : Stand) (which values ws : List ℕ) : Type 0 where
-  pub scanned : HasNotedScan s t which values 2 None
-  pub stamps : NameStamps (port_at t) scanned.place which ws
-
--- the port has scanned by a double collect, and these are the public stamps of its components at the place of the scan
-pub record ScannedStamped (s t : Stand) (which values stamps : List ℕ) : Type 0 where
-  pub scanned : HasNotedScan s t which values 2 None
-  pub stamps_are : stamps ≡ map (λ j. stamp_at (port_at t) scanned.place j) which
-
--- the first n of these are the public stamps of the records that these words name
-abbrev pub ArePublic : SeatedPort → List ℕ → List ℕ → List ℕ → ℕ → Type 0
-ArePublic x js ws ss n =
-    (k : ℕ) → k < n → slice_index ss k ≡ public_of (plan_of x.about) x.port.before (slice_index js k) (unsealed (slice_index ws k))

@@ -1,5 +1,14 @@
-use Rattle.partial_long_lived.proofs.DoubleCollect.{begun_collect, fresh_looked, look_same, look_stayed}
+use Rattle.partial_long_lived.proofs.Common.{refl}
+use Rattle.partial_long_lived.proofs.Collects.{glanced_itself}
+use Rattle.partial_long_lived.proofs.DoubleCollect.{begun_collect, fresh_looked, fresh_unsealed, look_same, look_stayed}
 use Rattle.partial_long_lived.proofs.double_collect.begin.Goals as goal
+
+pub returns-then-found-lt-SEAL-clause-begun : goal.returns-then-found-lt-SEAL-clause-begun
+returns-then-found-lt-SEAL-clause-begun c =
+    let r = c.requires in
+    let g = c.glance_first-found.ensures in
+    begun_collect _ _ _ _ _ r.held r.idle g.kept _ _ g.sees (glanced_itself _ _ _ g.held).kept refl
+    (fresh_unsealed _ _ _ _ _ r.held r.idle g.kept _ _ g.sees (glanced_itself _ _ _ g.held).kept c.if-found-lt-SEAL.true)
 
 pub returns-then-look-clause-begun : goal.returns-then-look-clause-begun
 returns-then-look-clause-begun c =

@@ -11,4 +11,4 @@ returns-clause-stayed c =
 pub returns-clause-scanned : goal.returns-clause-scanned
 returns-clause-scanned c = λ made.
     let begun = rw c.in-Some.is at c.begin.ensures.begun in
-    has_named _ _ _ _ _ _ (settled_on _ _ _ begun.settled c.collect.ensures.glanced) (c.confirm.ensures.scanned made)
+    has_named _ _ _ _ _ _ _ _ (settled_on _ _ _ begun.settled c.collect.ensures.glanced) (c.confirm.ensures.scanned made)

@@ -4,7 +4,7 @@ use Rattle.partial_long_lived.proofs.scan.scan_from.Goals as goal
 pub returns-clause-scanned : goal.returns-clause-scanned
 returns-clause-scanned c =
     let d = c.double_collect.ensures in
-    come_ok _ _ _ d.stayed.come (d.notes c.if-double_collect.false) _ _ _ c.scan_announced.ensures.scanned
+    come_ok _ _ _ d.stayed.come (d.notes c.if-double_collect.false) _ _ _ _ c.scan_announced.ensures.scanned
 
 pub returns-clause-refused : goal.returns-clause-refused
 returns-clause-refused c =

@@ -1,7 +1,8 @@
-use Rattle.partial_long_lived.proofs.Common.{rules, ◌≡◌, ◌<◌, length, refl, sym, ap, ◌∙◌, subst, AllByRecursion, vec_len, Shape, IsResting}
-use Rattle.partial_long_lived.specs.declared.port.Port.TheInside.{Inside}
-use Rattle.partial_long_lived.proofs.Answering.{are_below, came_seen, not_below, rests_anew, rests_here, rests_number, rests_put, rests_taken, stamped_answered}
-use Rattle.partial_long_lived.proofs.long_lived.LongLived.scan_stamped.Goals.{then-stand-before, else-stand-before}
+use Rattle.partial_long_lived.proofs.Common.{rules, ◌≡◌, ◌<◌, length, refl, sym, ◌∙◌, subst, is_some, true, IfOk, IfErr, AllByRecursion, IsRefused, port_view, one_in}
+use Rattle.partial_model.specs.declared.call.Call.TheVariants as call
+use Rattle.partial_long_lived.specs.Calls.{ScansStamped}
+use Rattle.partial_long_lived.proofs.Answering.{are_below, borrowed_fits, borrowed_public, not_below, scan_refused, stamped_answered, stamped_shape}
+use Rattle.partial_long_lived.proofs.long_lived.LongLived.scan_stamped.Goals.{in-Ok, in-Err}
 use Rattle.partial_long_lived.proofs.long_lived.LongLived.scan_stamped.Goals as goal
 
 pub returns-then-not-all_below-clause-refused : goal.returns-then-not-all_below-clause-refused
@@ -10,37 +11,53 @@ returns-then-not-all_below-clause-refused c =
     let none = not_below _ c.args.which.now _ c.all_below.ensures c.if-not-all_below.true in
     ((λ all. none (subst (λ n. AllByRecursion (λ j. j < n) c.args.which.now) (sym same) all)), refl)
 
+pub keep-requires-clause-shape : goal.keep-requires-clause-shape
+keep-requires-clause-shape c =
+    stamped_shape _ _ _ _ _ c.scan_stamped-scanned.result c.scan_stamped-scanned.ensures.scanned c.scan_stamped-scanned.ensures.refused
+    ∙ c.take-stand.ensures.stand.shape ∙ sym c.take-stand.ensures.shape
+
+pub public_borrowed-requires : goal.public_borrowed-requires
+public_borrowed-requires c = record { fits = borrowed_fits _ _ _ _ _ _ (rw c.in-Ok.is at c.scan_stamped-scanned.ensures.scanned).scanned }
+
 pub returns-clause-scanned : goal.returns-clause-scanned
-returns-clause-scanned c = λ told.
+returns-clause-scanned c =
     let own = c.requires.own ∙ sym c.self.view_is in
     let same : c.m.result ≡ c.self.inside.table.shared.key.sizes.m = search rules in
     let below = subst (λ n. AllByRecursion (λ j. j < n) c.args.which.now) same (are_below _ c.args.which.now _ c.all_below.ensures c.if-not-all_below.false) in
     let some : 0 < length c.args.which.now = search rules fits 5000 in
-    let end = c.scan_stamped-is_told.ensures in
-    stamped_answered _ c.me.inside.seating c.take-stand.result c.scan_stamped-is_told.new.stand c.keep.new.self _ c.take-stand.ensures.stand c.me.view_is own end.held c.keep.ensures
-    c.args.which.now below _ _ (end.scanned told) some
+    let kept = c.keep.new.self in
+    let into = c.scan_stamped-scanned.new.into in
+    let stamps = c.scan_stamped-scanned.new.stamps in
+    let held = c.scan_stamped-scanned.ensures.held in
+    elim c.match-scanned.branch [
+      | in-Ok w ↦
+          let scanned = rw w.in-Ok.is at c.scan_stamped-scanned.ensures.scanned in
+          subst (λ r. IfOk r (λ q. ScansStamped c.args.me.now c.args.which.now into stamps q (port_view kept.badge.table_id (one_in kept.badge.views)))) (sym w.result-is)
+          (stamped_answered _ c.me.inside.seating c.take-stand.result c.scan_stamped-scanned.new.stand kept _ c.take-stand.ensures.stand c.me.view_is own held c.keep.ensures c.args.which.now below
+          into _ _ _ stamps scanned w.public_borrowed.ensures some)
+      | in-Err w ↦ subst (λ r. IfOk r (λ q. ScansStamped c.args.me.now c.args.which.now into stamps q (port_view kept.badge.table_id (one_in kept.badge.views)))) (sym w.result-is) tt
+    ]
 
-pub returns-clause-goes : goal.returns-clause-goes
-returns-clause-goes c = λ not.
+pub returns-clause-helped : goal.returns-clause-helped
+returns-clause-helped c = elim c.match-scanned.branch [
+  | in-Ok w ↦
+      let told = rw w.in-Ok.is at c.scan_stamped-scanned.ensures.helped in
+      subst (λ r. IfOk r (λ q. is_some q.borrowed ≡ true → c.scan_stamped-scanned.new.stamps ≡ c.args.stamps.now)) (sym w.result-is)
+      (λ some. told (sym (borrowed_public _ _ _ w.public_borrowed.ensures) ∙ some))
+  | in-Err w ↦ subst (λ r. IfOk r (λ q. is_some q.borrowed ≡ true → c.scan_stamped-scanned.new.stamps ≡ c.args.stamps.now)) (sym w.result-is) tt
+]
+
+pub returns-clause-refused : goal.returns-clause-refused
+returns-clause-refused c =
     let own = c.requires.own ∙ sym c.self.view_is in
     let same : c.m.result ≡ c.self.inside.table.shared.key.sizes.m = search rules in
     let below = subst (λ n. AllByRecursion (λ j. j < n) c.args.which.now) same (are_below _ c.args.which.now _ c.all_below.ensures c.if-not-all_below.false) in
-    let end = c.scan_stamped-is_told.ensures in
-    came_seen _ c.me.inside.seating c.take-stand.result c.scan_stamped-is_told.new.stand c.keep.new.self _ c.take-stand.ensures.stand c.me.view_is own end.held c.keep.ensures
-    c.args.which.now below end.come (end.notes not)
-
-pub invariant_of-me : goal.invariant_of-me
-invariant_of-me c =
-    let t = c.take-stand.result in
-    let u = c.scan_stamped-is_told.new.stand in
-    let come = c.scan_stamped-is_told.ensures.come in
-    let rests = rests_taken _ t _ _ c.me.invariant.0 c.take-stand.ensures.stand in
-    let number = (rests_number _ t _ _ c.me.invariant.0 c.take-stand.ensures.stand) in
-    let same : c.keep.new.self.shape ≡ c.me.inside.seating.shape = c.keep.ensures.shape ∙ come.shape ∙ c.take-stand.ensures.stand.shape in
-    let room : vec_len c.me.inside.collected ≡ c.keep.new.self.shape.sizes.m = c.me.invariant.1 ∙ ap (λ (z : Shape). z.sizes.m) (sym same) in
-    elim c.if-stand-before.branch [
-      | then-stand-before w ↦ subst (λ (x : Inside). IsResting c.keep.new.self x.core x.spent × (vec_len x.collected ≡ c.keep.new.self.shape.sizes.m)) (sym w.me-inside-is)
-          (rests_put _ u c.keep.new.self _ _ c.scan_stamped-is_told.ensures.held c.keep.ensures (rests_anew t u _ _ number come rests w.if-stand-before.true _ w.clear_marks.ensures), room)
-      | else-stand-before w ↦ subst (λ (x : Inside). IsResting c.keep.new.self x.core x.spent × (vec_len x.collected ≡ c.keep.new.self.shape.sizes.m)) (sym w.me-inside-is)
-          (rests_put _ u c.keep.new.self _ _ c.scan_stamped-is_told.ensures.held c.keep.ensures (rests_here t u _ _ come rests w.if-stand-before.false), room)
+    let kept = c.keep.new.self in
+    let held = c.scan_stamped-scanned.ensures.held in
+    elim c.match-scanned.branch [
+      | in-Ok w ↦ subst (λ r. IfErr r (λ cause. IsRefused c.args.me.now (call.Scan c.args.which.now) cause (port_view kept.badge.table_id (one_in kept.badge.views)))) (sym w.result-is) tt
+      | in-Err w ↦
+          let not = rw w.in-Err.is at c.scan_stamped-scanned.ensures.refused in
+          subst (λ r. IfErr r (λ cause. IsRefused c.args.me.now (call.Scan c.args.which.now) cause (port_view kept.badge.table_id (one_in kept.badge.views)))) (sym w.result-is)
+          (scan_refused _ c.me.inside.seating c.take-stand.result c.scan_stamped-scanned.new.stand kept _ c.take-stand.ensures.stand c.me.view_is own held c.keep.ensures c.args.which.now below _ not)
     ]
