@@ -66,17 +66,18 @@ static void check_stamped_scan(partial_port *port)
     int read = partial_port_read(port, 0, &reads[0]) == 0 && partial_port_read(port, 1, &reads[1]) == 0;
     uint64_t into[3] = {5, 5, 5};
     uint64_t stamps[3] = {6, 6, 6};
-    uint32_t told = 9;
-    check(partial_port_scan_stamped(port, which, 2, into, 2, stamps, 2, &told) == 0 && told == 1, "a scan alone tells stamps");
+    partial_scan_answer told = {9, 9, 9};
+    check(partial_port_scan_stamped(port, which, 2, into, 2, stamps, 2, &told) == 0, "a scan alone tells stamps");
+    check(told.collects == 2 && told.borrowed == 0 && told.stamp == 0, "by two collects and no view");
     check(into[0] == 22 && into[1] == 10 && into[2] == 5, "its values are in its order");
     check(read && stamps[0] == reads[1].stamp && stamps[1] == reads[0].stamp && stamps[2] == 6, "with the stamps of reads");
     uint32_t same = 9;
     check(partial_port_unchanged(port, which, 2, stamps, 2, &same) == 0 && same == 1, "which the components have still");
     partial_update_answer set = {0, 0};
     check(partial_port_update_if(port, 1, stamps[0], 24, &set) == 0 && set.applied == 1, "and which an update may expect");
-    check(partial_port_scan_stamped(port, which, 2, into, 2, stamps, 2, &told) == 0 && told == 1, "another scan tells stamps");
+    check(partial_port_scan_stamped(port, which, 2, into, 2, stamps, 2, &told) == 0 && told.borrowed == 0, "another scan tells stamps");
     check(into[0] == 24 && stamps[0] == set.stamp && stamps[1] == reads[0].stamp, "the update's among them");
-    check(partial_port_scan_stamped(port, NULL, 0, NULL, 0, NULL, 0, &told) == 0 && told == 1, "a scan of no position is one");
+    check(partial_port_scan_stamped(port, NULL, 0, NULL, 0, NULL, 0, &told) == 0 && told.collects == 0, "a scan of no position is one");
 }
 
 static void test_one_port(void)
@@ -159,7 +160,7 @@ static void test_refused_calls(void)
     check(partial_port_meet(&none, &nobody) == PARTIAL_HOLDS_NONE, "no port meets none");
     check(partial_port_read(&none, 0, &read) == PARTIAL_HOLDS_NONE, "a read at no port is refused");
     check(partial_port_scan(&none, which, 1, into, 1, &scanned) == PARTIAL_HOLDS_NONE, "a scan at no port is refused");
-    check(partial_port_scan_stamped(&none, which, 1, into, 1, stamps, 1, &number) == PARTIAL_HOLDS_NONE && number == 5, "nor does one tell stamps there");
+    check(partial_port_scan_stamped(&none, which, 1, into, 1, stamps, 1, &scanned) == PARTIAL_HOLDS_NONE && scanned.collects == 5, "nor does one tell stamps there");
     check(partial_port_number(&none, &number) == PARTIAL_HOLDS_NONE && number == 5, "no port has no number");
     check(partial_memory_take_port(&nothing, &none) == PARTIAL_HOLDS_NONE, "no memory has no port");
     check(partial_memory_close(&nothing, into, 2) == PARTIAL_HOLDS_NONE, "an empty handle isn't closed");
@@ -177,12 +178,12 @@ static void test_refused_calls(void)
     check(partial_port_scan(&port, which + 1, 2, into, 2, &scanned) == PARTIAL_COMPONENT, "a scan past the end is refused");
     check(partial_port_unchanged(&port, which, 2, into, 1, &number) == PARTIAL_LENGTH && number == 5, "fewer stamps than components are refused");
     check(into[0] == 77 && into[1] == 77 && scanned.collects == 5, "a refused scan leaves the caller's values");
-    check(partial_port_scan_stamped(&port, which, 2, into, 1, stamps, 2, &number) == PARTIAL_LENGTH, "less room for values is refused");
-    check(partial_port_scan_stamped(&port, which, 2, into, 2, stamps, 1, &number) == PARTIAL_LENGTH, "less room for stamps is refused");
-    check(partial_port_scan_stamped(&port, which, 1, into, 1, stamps, 2, &number) == PARTIAL_LENGTH, "more room for stamps is refused");
-    check(partial_port_scan_stamped(&port, which, 3, into, 3, stamps, 3, &number) == PARTIAL_LENGTH, "more positions than components are");
-    check(partial_port_scan_stamped(&port, which + 1, 2, into, 2, stamps, 2, &number) == PARTIAL_COMPONENT, "stamps past the end are refused");
-    check(into[0] == 77 && into[1] == 77 && stamps[0] == 88 && stamps[1] == 88 && number == 5, "and the caller's places are as they were");
+    check(partial_port_scan_stamped(&port, which, 2, into, 1, stamps, 2, &scanned) == PARTIAL_LENGTH, "less room for values is refused");
+    check(partial_port_scan_stamped(&port, which, 2, into, 2, stamps, 1, &scanned) == PARTIAL_LENGTH, "less room for stamps is refused");
+    check(partial_port_scan_stamped(&port, which, 1, into, 1, stamps, 2, &scanned) == PARTIAL_LENGTH, "more room for stamps is refused");
+    check(partial_port_scan_stamped(&port, which, 3, into, 3, stamps, 3, &scanned) == PARTIAL_LENGTH, "more positions than components are");
+    check(partial_port_scan_stamped(&port, which + 1, 2, into, 2, stamps, 2, &scanned) == PARTIAL_COMPONENT, "stamps past the end are refused");
+    check(into[0] == 77 && into[1] == 77 && stamps[0] == 88 && stamps[1] == 88 && scanned.collects == 5, "and the caller's places are as they were");
     check(partial_port_update(&port, 2, 1, &set) == PARTIAL_COMPONENT && set.stamp == 5, "an update past the end is refused");
     check(partial_port_update_if(&port, 2, 1, 1, &set) == PARTIAL_COMPONENT && set.stamp == 5, "and a conditional one");
     check(partial_port_read(&port, 2, &read) == PARTIAL_COMPONENT && read.value == 5, "a read past the end is refused");
@@ -283,10 +284,10 @@ static void test_null(void)
     check(partial_port_scan(&port, NULL, 1, into, 1, &scanned) == PARTIAL_NULL, "null has no positions");
     check(partial_port_scan(&port, which, 1, NULL, 1, &scanned) == PARTIAL_NULL, "null has no room");
     check(partial_port_scan(&port, which, 1, into, 1, NULL) == PARTIAL_NULL, "a scan answers not to null");
-    check(partial_port_scan_stamped(NULL, which, 1, into, 1, into_stamps, 1, &number) == PARTIAL_NULL, "null tells no stamps");
-    check(partial_port_scan_stamped(&port, NULL, 1, into, 1, into_stamps, 1, &number) == PARTIAL_NULL, "nor of components at null");
-    check(partial_port_scan_stamped(&port, which, 1, NULL, 1, into_stamps, 1, &number) == PARTIAL_NULL, "nor with values to null");
-    check(partial_port_scan_stamped(&port, which, 1, into, 1, NULL, 1, &number) == PARTIAL_NULL, "nor with stamps to null");
+    check(partial_port_scan_stamped(NULL, which, 1, into, 1, into_stamps, 1, &scanned) == PARTIAL_NULL, "null tells no stamps");
+    check(partial_port_scan_stamped(&port, NULL, 1, into, 1, into_stamps, 1, &scanned) == PARTIAL_NULL, "nor of components at null");
+    check(partial_port_scan_stamped(&port, which, 1, NULL, 1, into_stamps, 1, &scanned) == PARTIAL_NULL, "nor with values to null");
+    check(partial_port_scan_stamped(&port, which, 1, into, 1, NULL, 1, &scanned) == PARTIAL_NULL, "nor with stamps to null");
     check(partial_port_scan_stamped(&port, which, 1, into, 1, into_stamps, 1, NULL) == PARTIAL_NULL, "nor with the answer to null");
     check(into[0] == 7 && into_stamps[0] == 8 && scanned.collects == 9, "refused scans leave the caller's values");
     check(partial_port_scan(&port, NULL, 0, NULL, 0, &scanned) == 0 && scanned.collects == 0, "no positions may be at null");

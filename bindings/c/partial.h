@@ -185,7 +185,8 @@ uint32_t partial_door_port_scan(partial_port *port, const uint32_t *which,
                                 partial_scan_answer *answer);
 uint32_t partial_door_port_scan_stamped(partial_port *port, const uint32_t *which,
                                         size_t positions, uint64_t *into, size_t room,
-                                        uint64_t *stamps, size_t count, uint32_t *answer);
+                                        uint64_t *stamps, size_t count,
+                                        partial_scan_answer *answer);
 uint32_t partial_door_port_unchanged(partial_port *port, const uint32_t *which,
                                      size_t positions, const uint64_t *stamps,
                                      size_t count, uint32_t *answer);
@@ -373,25 +374,21 @@ static inline uint32_t partial_port_scan(partial_port *port,
 }
 
 /*
- * Scans the components in `which`, in this order and with repeats, with their stamps, when
- * two collects of them are equal. `answer` is 1 then: `into` has their values and `stamps`
- * their stamps, as they stood together at one moment of the call. For no position `answer`
- * is 1. `count` is how many stamps there is room for.
- *
- * Otherwise `answer` is 0, and `into` and `stamps` are as they were: in both of its tries an
- * update or a change of epoch came between the collects. `partial_port_scan` gives the values
- * then, whatever other threads do.
+ * Scans the components in `which`, in this order and with repeats: `into` has their values
+ * and `stamps` their stamps as they stood together at one moment of the call. `count` is how
+ * many stamps there is room for. Where `answer` says that the scan took the view of an
+ * update, which has no stamps, `stamps` is as it was.
  *
  * 23: a pointer is null. 17: the handle holds no port. 19: `positions` and `room`, or
  * `positions` and `count`, differ, or there are more positions than components. 7: an index
- * in `which` isn't below the number of components. `into`, `stamps` and `answer` are as
- * they were.
+ * in `which` isn't below the number of components. 26, 27: the epoch has to be changed and
+ * can't be. `into`, `stamps` and `answer` are as they were.
  */
 static inline uint32_t partial_port_scan_stamped(partial_port *port,
                                                  const uint32_t *which, size_t positions,
                                                  uint64_t *into, size_t room,
                                                  uint64_t *stamps, size_t count,
-                                                 uint32_t *answer)
+                                                 partial_scan_answer *answer)
 {
     const uint32_t no_component = 0;
     uint64_t no_value = 0;

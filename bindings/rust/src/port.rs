@@ -216,9 +216,8 @@ impl Port {
     /// Scans these components, in this order and with repeats, and returns their stamps beside their values. Both are as
     /// they stood together at one moment of the call.
     ///
-    /// The stamps are `None` when an update to one of these components or a change of epoch came between the steps of the
-    /// call, in both of its tries. The values are then those of [`Port::scan_array`], which gives them whatever other threads
-    /// do. The call orders memory as a scan does.
+    /// The stamps are `None` when the scan was helped: it took the view of an update, which has values and no stamps. The
+    /// call orders memory as a scan does.
     ///
     /// ```
     /// use partial_door::{Memory, UpdatedIf};
@@ -238,23 +237,52 @@ impl Port {
         &mut self,
         which: [u32; N],
     ) -> Result<([u64; N], Option<[Stamp; N]>), Refused> {
-        let (mut into, mut words, mut told) = ([0; N], [0; N], 0);
-        // SAFETY: the handle, the arrays and the place for the answer are borrowed for the call.
+        let (mut into, mut words) = ([0; N], [0; N]);
+        let told = self.scan_words(&which, &mut into, &mut words)?;
+        Ok((into, told.then(|| words.map(|word| self.stamp(word)))))
+    }
+
+    /// Scans the components of a slice as [`Port::scan_stamped`] does: `into` has their values, and the list their stamps.
+    /// It is `None` when the scan was helped. The list is allocated.
+    ///
+    /// ```
+    /// use partial_door::Memory;
+    ///
+    /// let mut port = Memory::new(&[5, 8, 9])?.port()?;
+    /// let (which, mut values) = (vec![2, 0], vec![0; 2]);
+    /// let stamps = port.scan_stamped_slice(&which, &mut values)?.ok_or("no other port updates it")?;
+    /// assert_eq!(values, [9, 5]);
+    /// assert_eq!(stamps, [port.read(2)?.stamp, port.read(0)?.stamp]);
+    /// # Ok::<(), Box<dyn std::error::Error + Send + Sync>>(())
+    /// ```
+    ///
+    /// # Errors
+    /// As those of [`Port::scan`]. `into` is as it was.
+    pub fn scan_stamped_slice(&mut self, which: &[u32], into: &mut [u64]) -> Result<Option<Vec<Stamp>>, Refused> {
+        let mut words = vec![0; which.len()];
+        let told = self.scan_words(which, into, &mut words)?;
+        Ok(told.then(|| words.into_iter().map(|word| self.stamp(word)).collect()))
+    }
+
+    /// Scans these components, and says whether `words` has their stamps: unless the scan was helped.
+    #[inline]
+    fn scan_words(&mut self, which: &[u32], into: &mut [u64], words: &mut [u64]) -> Result<bool, Refused> {
+        let mut answer = raw::ScanAnswer::default();
+        // SAFETY: the handle, the slices and the place for the answer are borrowed for the call.
         let code = unsafe {
             raw::partial_door_port_scan_stamped(
                 &mut self.handle,
                 which.as_ptr(),
-                N,
+                which.len(),
                 into.as_mut_ptr(),
-                N,
+                into.len(),
                 words.as_mut_ptr(),
-                N,
-                &mut told,
+                words.len(),
+                &mut answer,
             )
         };
         match code {
-            0 if told == 1 => Ok((into, Some(words.map(|word| self.stamp(word))))),
-            0 => Ok((self.scan_array(which)?, None)),
+            0 => Ok(answer.borrowed == 0),
             code => Err(Refused::of(code)),
         }
     }

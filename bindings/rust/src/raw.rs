@@ -119,7 +119,7 @@ unsafe extern "C" {
         room: usize,
         stamps: *mut u64,
         count: usize,
-        answer: *mut u32,
+        answer: *mut ScanAnswer,
     ) -> u32;
     pub fn partial_door_port_unchanged(
         port: *mut Handle,

@@ -4,9 +4,15 @@ ghost use Rattle.std.specs.Prelude.{◌≤◌};
 ghost use Rattle.partial_long_lived.specs.Ports.{IsOf};
 
 use crate::memories::{SPENT, one, pair};
-use partial_long_lived::{LongLived, Options, Port, Refused, Updated, UpdatedIf};
+use partial_long_lived::{LongLived, Options, Port, Refused, Scanned, Updated, UpdatedIf};
 use std::process::Abort;
 use std::test::Fail;
+
+// A scan whose first two collects were equal.
+const AGREED: Scanned = Scanned {
+    collects: 2,
+    borrowed: None,
+};
 
 // Sets component 0, and returns its stamp.
 fn sets(rt: &impl Abort, memory: &LongLived, port: &mut Port, value: u64) -> u64
@@ -27,8 +33,8 @@ fn tells(rt: &impl Abort, memory: &LongLived, port: &mut Port, values: [u64; 2],
 {
     let mut into = [0u64; 2];
     let mut told = [0u64; 2];
-    let is_told = memory.scan_stamped(port, &[1, 0], &mut into, &mut told);
-    assert_eq!(rt; is_told, Ok(true));
+    let scanned = memory.scan_stamped(port, &[1, 0], &mut into, &mut told);
+    assert_eq!(rt; scanned, Ok(AGREED));
     assert_eq!(rt; into, values);
     assert_eq!(rt; told, stamps);
     assert_eq!(rt; memory.read(port, 1), Ok((values[0], stamps[0])));
@@ -47,7 +53,8 @@ fn carried(rt: &impl Abort, memory: &LongLived, port: &mut Port) -> u64
 }
 
 // The first port sets component 0 in two epochs, and scans with stamps in both. The other one, which stands in the first
-// epoch, is told those of the second one. An update may expect a stamp that a scan has told.
+// epoch, then announces its scan in the second one, and is told the stamps there. An update may expect a stamp that a scan
+// has told.
 fn tells_stamps(rt: &impl Abort, memory: &LongLived, first: &mut Port, last: &mut Port)
     requires first { IsOf memory.now first.old }
     requires last { IsOf memory.now last.old }
@@ -88,7 +95,11 @@ fn refuses(rt: &impl Abort, memory: &LongLived, port: &mut Port)
     assert_eq!(rt; into, [5, 5]);
     assert_eq!(rt; told, [6, 6]);
     let ended = memory.scan_stamped(port, &[], &mut [], &mut []);
-    assert_eq!(rt; ended, Ok(true));
+    let none = Scanned {
+        collects: 0,
+        borrowed: None,
+    };
+    assert_eq!(rt; ended, Ok(none));
 }
 
 #[test]

@@ -3,4 +3,3 @@ pub mod AsBox
 pub mod HandleSteps
 pub mod Opened
 pub mod OpenedLong
-pub mod Stamped

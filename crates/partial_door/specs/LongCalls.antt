@@ -1,5 +1,5 @@
 -- What the calls of a port of a long-lived memory leave of what its handle holds.
-use Rattle.std.specs.Prelude.{ℕ, ◌≡◌, ◌⊎◌, List, [], length}
+use Rattle.std.specs.Prelude.{ℕ, ◌≡◌, ◌⊎◌, true, List, length, is_some}
 use Rattle.std.specs.Arc.{arc_value}
 use Rattle.partial_model.specs.declared.call.Call.TheVariants as call
 use Rattle.partial_long_lived.specs.declared.answers.Updated.{Updated}
@@ -7,10 +7,9 @@ use Rattle.partial_long_lived.specs.declared.answers.Updated.TheVariants.{Applie
 use Rattle.partial_long_lived.specs.declared.answers.UpdatedIf.{UpdatedIf}
 use Rattle.partial_long_lived.specs.declared.answers.UpdatedIf.TheVariants as conditional
 use Rattle.partial_long_lived.specs.declared.error.Refused.{Refused}
-use Rattle.partial_long_lived.specs.declared.error.Refused.TheVariants.{Component}
 use Rattle.partial_long_lived.specs.Refusals.{refusal_code}
 use Rattle.partial_long_lived.specs.Ports.{PortView}
-use Rattle.partial_long_lived.specs.Calls.{Differ, Goes, IsRefused, Reads, Scanned, Scans, ScansStamped, StillStand, Updates, UpdatesIf}
+use Rattle.partial_long_lived.specs.Calls.{Differ, IsRefused, Reads, Scanned, Scans, ScansStamped, StillStand, Updates, UpdatesIf}
 use Rattle.partial_door.specs.declared.answers.UpdateAnswer.{UpdateAnswer}
 use Rattle.partial_door.specs.declared.answers.ReadAnswer.{ReadAnswer}
 use Rattle.partial_door.specs.declared.answers.ScanAnswer.{ScanAnswer}
@@ -72,19 +71,19 @@ LongScanEnds which before values old new p code q =
     × (((code ≡ 19) × IsMismatch p.memory.about.sizes.m which before × (q ≡ p))
     ⊎ ((cause : Refused) × (code ≡ refusal_code cause) × IsRefused p (call.Scan which) cause q)))
 
--- why a scan with stamps makes no step: the lengths don't fit, of a memory of m components, or a component isn't there
-abbrev pub MayNotScanStamped : List ℕ → List ℕ → List ℕ → PortView → ℕ → PortView → Type 0
-MayNotScanStamped which values stamps p code q =
+-- why a scan with stamps was refused: the lengths don't fit, of a memory of m components, or it has a cause as other scans have
+abbrev pub NotScannedStamped : List ℕ → List ℕ → List ℕ → PortView → ℕ → PortView → Type 0
+NotScannedStamped which values stamps p code q =
     ((code ≡ 19) × (IsMismatch p.memory.about.sizes.m which values ⊎ (length stamps ≡ length which → ⊥)) × (q ≡ p))
-    ⊎ ((code ≡ refusal_code Component) × IsRefused p (call.Scan which) Component q)
+    ⊎ ((cause : Refused) × (code ≡ refusal_code cause) × IsRefused p (call.Scan which) cause q)
 
--- A scan gave values with their stamps, and the answer is 1; or it gave none, and the answer is 0; or it was refused, and the answer stays.
--- Both arrays are as they were unless it gave values.
-abbrev pub LongScanStampedEnds : List ℕ → List ℕ → List ℕ → List ℕ → List ℕ → ℕ → ℕ → PortView → ℕ → PortView → Type 0
-LongScanStampedEnds which before values old stamps was after p code q =
-    ((code ≡ 0) × (after ≡ 1) × ScansStamped p which values stamps q)
-    ⊎ ((values ≡ before) × (stamps ≡ old)
-    × (((code ≡ 0) × (after ≡ 0) × Goes p q []) ⊎ ((after ≡ was) × MayNotScanStamped which before old p code q)))
+-- A scan was answered, with stamps unless it took the view of an update, and then they stay; or it was refused, and then the answer and both
+-- arrays stay.
+abbrev pub LongScanStampedEnds : List ℕ → List ℕ → List ℕ → List ℕ → List ℕ → ScanAnswer → ScanAnswer → PortView → ℕ → PortView → Type 0
+LongScanStampedEnds which before values before_stamps stamps old new p code q =
+    ((s : Scanned) × (code ≡ 0) × (new ≡ scan_answer s) × ScansStamped p which values stamps s q
+    × (is_some s.borrowed ≡ true → stamps ≡ before_stamps))
+    ⊎ ((values ≡ before) × (stamps ≡ before_stamps) × (new ≡ old) × NotScannedStamped which before before_stamps p code q)
 
 -- an answer was given whether components still have stamps, or the two lengths differ, and then the answer and the port are as they were
 abbrev pub LongUnchangedEnds : List ℕ → List ℕ → ℕ → ℕ → PortView → ℕ → PortView → Type 0

@@ -112,17 +112,18 @@ impl Held {
         }
     }
 
-    /// Scans the components `which` into `into`, and their stamps into `stamps`, when two collects of them are
-    /// equal. Says whether they were: 1 or 0.
+    /// Scans the components `which` into `into`, and their stamps into `stamps`, unless the scan took the view of an
+    /// update, which `answer` tells: then `stamps` stays.
     ///
     /// Returns 17 when this isn't a port of a long-lived memory, 19 when two of the three lengths differ or they
-    /// exceed the number of components, and 7 when an index isn't below that number.
+    /// exceed the number of components, 7 when an index isn't below that number, and 26 or 27 when the epoch has to
+    /// be changed and can't be.
     pub fn scan_stamped_long(
         &mut self,
         which: &[u32],
         into: &mut [u64],
         stamps: &mut [u64],
-        answer: &mut u32,
+        answer: &mut ScanAnswer,
     ) -> u32
         ensures { AtLongPort ((into.new ≡ into.old) × (stamps.new ≡ stamps.old) × (answer.new ≡ answer.old))
             (LongScanStampedEnds which.now into.old into.new stamps.old stamps.new answer.old answer.new)
@@ -140,8 +141,8 @@ impl Held {
                     return LENGTH;
                 }
                 match own.memory.scan_stamped(&mut own.port, which, into, stamps) {
-                    Ok(is_told) => {
-                        *answer = u32::from(is_told);
+                    Ok(stamped) => {
+                        *answer = scan_answer(stamped);
                         FINE
                     }
                     Err(cause) => u32::from(cause.code()),

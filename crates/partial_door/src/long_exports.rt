@@ -95,18 +95,19 @@ pub extern "C" fn partial_door_port_scan(
     held.scan_long(which, into, answer)
 }
 
-/// Scans the components `which` into `into`, and their stamps into `stamps`, when two collects of them are equal.
-/// `answer` says whether they were: 1 or 0. When they were not, `into` and `stamps` stay as they were.
+/// Scans the components `which` into `into`, and their stamps into `stamps`, unless the scan took the view of an
+/// update, which `answer` tells: then `stamps` stays.
 ///
 /// Returns 17 when the handle holds no port of a long-lived memory, 19 when two of the three lengths differ or
-/// they exceed the number of components, and 7 when an index isn't below that number.
+/// they exceed the number of components, 7 when an index isn't below that number, and 26 or 27 when the epoch has
+/// to be changed and can't be.
 #[unsafe(no_mangle)]
 pub extern "C" fn partial_door_port_scan_stamped(
     port: &mut Handle,
     which: &[u32],
     into: &mut [u64],
     stamps: &mut [u64],
-    answer: &mut u32,
+    answer: &mut ScanAnswer,
 ) -> u32
     ensures { AtLongHandle ((into.new ≡ into.old) × (stamps.new ≡ stamps.old) × (answer.new ≡ answer.old))
         (LongScanStampedEnds which.now into.old into.new stamps.old stamps.new answer.old answer.new)

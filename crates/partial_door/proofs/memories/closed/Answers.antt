@@ -1,4 +1,4 @@
-use Rattle.partial_door.proofs.Common.{rules, ◌≡◌, ◌∙◌, refl, sym, ap, subst, inl, inr, IsMemoryKept}
+use Rattle.partial_door.proofs.Common.{rules, ◌∙◌, refl, sym, ap, subst, inl, inr, IsMemoryKept}
 use Rattle.partial_door.specs.declared.held.Held.TheVariants as held
 use Rattle.partial_door.proofs.memories.closed.Goals as goal
 

@@ -1,30 +1,30 @@
 use Rattle.partial_door.proofs.Common.{rules, refl, inl, inr}
 use Rattle.partial_long_lived.specs.Ports.{MemoryView}
 use Rattle.partial_door.proofs.Opened.{more}
-use Rattle.partial_door.proofs.Stamped.{stamped_ends}
 use Rattle.partial_door.proofs.held.Held.scan_stamped_long.Goals as goal
 
 pub returns-in-Ok : goal.returns-in-Ok
 returns-in-Ok c =
-    let ends = stamped_ends c.in-Ok.is_told _ _ _ _ _ _ _ _ _ (search rules) c.in-Ok.ensures.scanned c.in-Ok.ensures.goes c.in-Ok.ensures.unchanged in
-    inr (c.in-LongPort.own, _, c.in-LongPort.is, refl, record { number = refl; memory = refl }, ends)
+    let ends = c.in-Ok.ensures in
+    inr (c.in-LongPort.own, _, c.in-LongPort.is, refl, record { number = refl; memory = refl }, inl (c.in-Ok.stamped, refl, search rules, ends.scanned, ends.helped))
 
 pub returns-in-Err : goal.returns-in-Err
 returns-in-Err c =
-    inr (c.in-LongPort.own, _, c.in-LongPort.is, refl, record { number = refl; memory = refl }, inr (search rules, search rules, inr (search rules, inr (search rules, search rules))))
+    let cause = c.in-Err.cause in
+    inr (c.in-LongPort.own, _, c.in-LongPort.is, refl, record { number = refl; memory = refl }, inr (search rules, search rules, refl, inr (cause, search rules, search rules)))
 
 pub returns-then-which-into : goal.returns-then-which-into
 returns-then-which-into c =
     let own = c.in-LongPort.own in
-    inr (own, own, c.in-LongPort.is, search rules, record { number = refl; memory = refl }, inr (refl, refl, inr (refl, inl (refl, inl (inl c.if-which-into.true), refl))))
+    inr (own, own, c.in-LongPort.is, search rules, record { number = refl; memory = refl }, inr (refl, refl, refl, inl (refl, inl (inl c.if-which-into.true), refl)))
 
 pub returns-then-stamps-which : goal.returns-then-stamps-which
 returns-then-stamps-which c =
     let own = c.in-LongPort.own in
-    inr (own, own, c.in-LongPort.is, search rules, record { number = refl; memory = refl }, inr (refl, refl, inr (refl, inl (refl, inr c.if-stamps-which.true, refl))))
+    inr (own, own, c.in-LongPort.is, search rules, record { number = refl; memory = refl }, inr (refl, refl, refl, inl (refl, inr c.if-stamps-which.true, refl)))
 
 pub returns-then-which-own : goal.returns-then-which-own
 returns-then-which-own c =
     let own = c.in-LongPort.own in
     let many = more (λ (v : MemoryView). v.about.sizes.m) _ _ _ _ own.size own.of c.if-which-own.true in
-    inr (own, own, c.in-LongPort.is, search rules, record { number = refl; memory = refl }, inr (refl, refl, inr (refl, inl (refl, inl (inr many), refl))))
+    inr (own, own, c.in-LongPort.is, search rules, record { number = refl; memory = refl }, inr (refl, refl, refl, inl (refl, inl (inr many), refl)))
