@@ -14,7 +14,7 @@ use Rattle.partial_words.specs.Step.{answer_of, word_of, words_after}
 use Rattle.partial_machine.specs.declared.stage.Reply.TheVariants as reply
 use Rattle.partial_machine.specs.declared.stage.Stage.{Stage}
 use Rattle.partial_machine.specs.declared.stage.Stage.TheVariants.{Idle, ReadBegun, UpdateBegun, ScanBegun, Finished}
-use Rattle.partial_machine.specs.Calls.{begin_scan, is_at_rest, is_begun, core_scan_refusal, core_update_refusal}
+use Rattle.partial_machine.specs.Calls.{begin_scan, is_at_rest, is_begun, core_read_refusal, core_scan_refusal, core_update_refusal}
 use Rattle.partial_machine.specs.Machine.{CoreState, advance, at_stage, fresh, reply_at, step_at, step_of}
 use Rattle.partial_machine.specs.Lines.{asking_machine, scan_asked}
 use Rattle.partial_machine.specs.Possible.{IsPossible}
@@ -151,6 +151,10 @@ opens sizes initial words beside left right layout values all b second third =
 pub update_begins : (c d : CoreState) (j : ℕ) (e : Option ℕ) (v : ℕ) → core_update_refusal c j ≡ None → d ≡ at_stage c (UpdateBegun (record { component = j; expected = e; value = v })) → BeginsOn c d
 update_begins c d j None v none is = record { call = call.Update j v; served = tt; allowed = none; steps = refl; is = is }
 update_begins c d j (Some e) v none is = record { call = call.UpdateIf j e v; served = tt; allowed = none; steps = refl; is = is }
+
+-- a machine that begins a read
+pub read_begins : (c d : CoreState) (j : ℕ) → core_read_refusal c j ≡ None → d ≡ at_stage c (ReadBegun j) → BeginsOn c d
+read_begins c d j none is = record { call = call.Read j; served = tt; allowed = none; steps = refl; is = is }
 
 -- a machine that begins a scan of some positions
 pub scan_begins : (c d : CoreState) (which : List ℕ) → length which ≤ c.sizes.m → (length which ≡ 0 → ⊥) → core_scan_refusal c which ≡ None → d ≡ begin_scan c which → BeginsOn c d

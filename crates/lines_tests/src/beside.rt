@@ -2,7 +2,7 @@
 //! replies.
 
 ghost use Rattle.std.specs.Prelude.{◌≡◌, ◌<◌, ◌≤◌, length, None, OnOk};
-ghost use Rattle.partial_machine.specs.declared.stage.Stage.TheVariants.{Idle, UpdateBegun};
+ghost use Rattle.partial_machine.specs.declared.stage.Stage.TheVariants.{Idle, ReadBegun, UpdateBegun};
 ghost use Rattle.partial_machine.specs.Calls.{core_update_refusal};
 ghost use Rattle.partial_machine.specs.Lines.{scan_asked};
 ghost use Rattle.partial_machine.specs.Machine.{at_stage, expects, fresh};
@@ -11,7 +11,7 @@ ghost use Rattle.lines_tests.specs.Plain.{IsPlain};
 
 use crate::plain::Plain;
 use partial_core::{Change, Core, Reply};
-use partial_lines::{Exchanged, put, scan};
+use partial_lines::{Exchanged, put, read, scan};
 use partial_model::Refused;
 use partial_words::{Sizes, Step, announcement_size};
 use std::alloc::{AllocError, Global};
@@ -82,6 +82,39 @@ fn has_values(core: &Core, values: &[u64]) -> bool
         }
     }
     true
+}
+
+// Makes a read on the words, beside the machine that has begun it.
+fn follow_read(lines: &mut Plain, sizes: Sizes, component: u32) -> Ending
+    requires going { IsPlain lines.old.words.items lines.old.beside lines.old.left lines.old.right }
+    requires begun { lines.old.beside ≡ at_stage (fresh sizes 0) (ReadBegun component) }
+    requires sizes { IsLayout sizes }
+    requires component { component < sizes.m }
+{
+    let stamp = lines.follow(Step::Load(sizes.component_word(component)));
+    let value = read(lines, stamp);
+    let reply = Reply::Read { value, stamp };
+    Ending::of(lines.ends_with(reply), reply)
+}
+
+// Makes a read beside its machine.
+fn read_beside(
+    alloc: Global,
+    sizes: Sizes,
+    initial: &[u64],
+    component: u32,
+    seed: u64,
+) -> Result<Ending, AllocError>
+    requires sizes { IsLayout sizes }
+    requires values { length initial.now ≡ sizes.m }
+    requires component { component < sizes.m }
+{
+    let mut beside = Core::new(alloc, sizes, 0)?;
+    if let Err(cause) = beside.begin_read(component) {
+        return Ok(Ending::of(true, Reply::Refused(cause)));
+    }
+    let mut lines = Plain::open(alloc, sizes, initial, beside, seed)?;
+    Ok(follow_read(&mut lines, sizes, component))
 }
 
 // Makes an update on the words, beside the machine that has begun it. The other machine makes it in straight lines.
@@ -181,6 +214,27 @@ fn scan_beside(
     let mut lines = Plain::open(alloc, sizes, initial, beside, seed)?;
     let mut core = Core::new(alloc, sizes, 0)?;
     Ok(follow_scan(&mut lines, &mut core, sizes, which, &mut into))
+}
+
+#[test]
+fn reads(rt: HostRuntime) -> Result<(), Fail> {
+    let sizes = Sizes::new(3, 8, 16, 2000)?;
+    let initial = [5, 6, 7];
+    let mut opening = false;
+    let mut written = false;
+    for seed in 0..300u64 {
+        let component = (seed % 3) as u32;
+        let ending = read_beside(rt.alloc(), sizes, &initial, component, seed)?;
+        assert!(rt; ending.same, "at {seed}");
+        if let Reply::Read { stamp, .. } = ending.reply {
+            let first = stamp == sizes.opening_word(&initial, component);
+            opening = opening || first;
+            written = written || !first;
+        }
+    }
+    assert!(rt; opening);
+    assert!(rt; written);
+    Ok(())
 }
 
 #[test]

@@ -7,6 +7,7 @@ mod exchange;
 mod get_set;
 mod makes;
 mod update;
+mod whole_read;
 mod whole_scan;
 
 pub use embedded::ScanLoads;
@@ -14,4 +15,5 @@ pub use exchange::Exchanged;
 pub use get_set::SetSteps;
 pub use makes::Makes;
 pub use update::put;
+pub use whole_read::read;
 pub use whole_scan::{Scanned, scan};

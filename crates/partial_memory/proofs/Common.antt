@@ -16,7 +16,7 @@ pub use Rattle.partial_words.specs.Step.{word_of, answer_of, words_after}
 pub use Rattle.partial_machine.specs.Machine.{CoreState, advance, step_of, reply_of, fresh, scanned_values, at_stage, advance_at}
 pub use Rattle.partial_machine.specs.Calls.{is_begun, refusal_of, answer_for, begin_scan, begun_of, call_of, core_scan_refusal, core_update_refusal, IsServed, makes_steps}
 pub use Rattle.partial_machine.specs.Behind.{refuses_pool, refuses_slots, IsOldMark, IsRefusedBy}
-pub use Rattle.partial_machine.proofs.Laws.{due_is_unreplied, due_words_are_there, calls_are_refused_at_once, calls_claim_once, rests_are_sound, calls_begin}
+pub use Rattle.partial_machine.proofs.Laws.{due_is_unreplied, due_words_are_there, calls_are_refused_at_once, calls_claim_once, calls_begin}
 pub use Rattle.partial_core.specs.Part.{Part, KeptAnswer, HasBegun, IsMachineOf, answers_of, port_of, with_seen, fresh_parts, IsBetween, IsMarkedLike, core_of}
 pub use Rattle.partial_core.specs.Steps.{Tells, FitsHistory, AreNotesOf, IsNoteOf, IsPlacedAt, IsRefusal, LeadsOn, added_by}
 pub use Rattle.partial_core.proofs.Laws.{first_steps_make_calls, further_steps_make_calls, lawful_ports_fit, lawful_records_are_within, looks_stay_lawful, opens_lawful, ports_come_between, made_calls_make_their_steps, calls_begin_between, steps_stay_lawful, lawful_machines_are_ready}
@@ -30,10 +30,10 @@ pub use Rattle.partial_model.specs.declared.call.Refused.{Refused}
 pub use Rattle.partial_words.specs.declared.step.Step.TheVariants.{Add, Load, Store, Exchange}
 pub use Rattle.partial_core.specs.Lawful.{Lawful}
 pub use Rattle.partial_model.specs.declared.call.Call.{Call}
-pub use Rattle.partial_machine.specs.declared.stage.Stage.TheVariants.{Finished, ScanBegun, Exchanging, UpdateBegun}
+pub use Rattle.partial_machine.specs.declared.stage.Stage.TheVariants.{Finished, ReadBegun, ScanBegun, Exchanging, UpdateBegun}
 pub use Rattle.partial_lines.specs.Replies.{scan_reply, update_reply}
 pub use Rattle.partial_memory.specs.declared.rule.About.{About}
-pub use Rattle.partial_memory.specs.Rule.{IsShuffle, newcomers, SeatedPort, AreByOpened, Told, AreSeatedOf, IsIn, IsRuleKept, IsLawfulWith, parts_of, AreOpened, flatten, having_met, looks, first_port, one_in, further_ports, newcomer, IsBadgeOfOne, IsOne, makes, one_of, reading}
+pub use Rattle.partial_memory.specs.Rule.{IsShuffle, newcomers, SeatedPort, AreByOpened, Told, AreSeatedOf, IsIn, IsRuleKept, IsLawfulWith, parts_of, AreOpened, flatten, having_met, looks, first_port, one_in, further_ports, newcomer, IsBadgeOfOne, IsOne, makes, one_of}
 pub use Rattle.partial_memory.specs.Ports.{IsOf, MemoryView, PortView, new_ports, port_view, IsResting, Knows, Answered, Goes, IsRefused, refusal, CountsSteps, IsPastEnd, RefusedLate, is_pool, is_slots}
 pub use Rattle.partial_memory.specs.Closing.{Closes, IsPortOf, IsWholeChain, AreValues, AreChains, AreChainsFrom}
 pub use Rattle.partial_memory.specs.Inner.Steps.{Begins, CallMade, CallEnded}

@@ -5,7 +5,6 @@ mod Steps
 mod Calls
 mod Resting
 mod Replies
-mod Reading
 mod Straight
 mod Opens
 mod Looks

@@ -1,5 +1,5 @@
 -- A memory as it opens, and its ports.
-use Rattle.partial_memory.proofs.Common.{ℕ, zero, suc, ◌≡◌, ◌+◌, ◌-◌, ◌<◌, ◌≤◌, ◌++◌, List, [], ◌∷◌, refl, sym, ap, subst, ◌∙◌, arith, append-nil, append_assoc, Me, opening, TableId, Layout, IsLayout, OpensWith, CoreState, fresh, rests_are_sound, fresh_parts, Lawful, opens_lawful, ports_come_between, About, SeatedPort, AreOpened, IsRuleKept, IsShuffle, newcomer, newcomers, parts_of, first_port, further_ports, one_in, PortView, port_view, IsResting, new_ports}
+use Rattle.partial_memory.proofs.Common.{ℕ, zero, suc, ◌≡◌, ◌+◌, ◌-◌, ◌<◌, ◌≤◌, ◌++◌, List, [], ◌∷◌, refl, sym, ap, subst, ◌∙◌, arith, append-nil, append_assoc, Me, opening, TableId, Layout, IsLayout, OpensWith, CoreState, fresh, fresh_parts, Lawful, opens_lawful, ports_come_between, About, SeatedPort, AreOpened, IsRuleKept, IsShuffle, newcomer, newcomers, parts_of, first_port, further_ports, one_in, PortView, port_view, IsResting, new_ports}
 use Rattle.partial_memory.proofs.Shuffles.{same_order}
 
 newcomers_parts : (about : About) (port n : ℕ) → parts_of (newcomers about port n) ≡ fresh_parts about.sizes port n
@@ -27,7 +27,6 @@ newcomer_rests : (about : About) (i : ℕ) → IsLayout about.sizes → IsRestin
 newcomer_rests about i layout = record {
   one = refl;
   between = ports_come_between.0 about.sizes i;
-  led = rests_are_sound.fresh about.sizes i;
   layout = layout;
   sizes = refl;
   number = refl;

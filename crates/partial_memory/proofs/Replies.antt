@@ -1,5 +1,5 @@
 -- What a call that has ended leaves of its port, by its reply.
-use Rattle.partial_memory.proofs.Common.{ℕ, ◌≡◌, ◌≤◌, ◌<◌, ◌+◌, ◌++◌, ◌||◌, false, cond, Option, Some, None, List, [], ◌∷◌, length, map, slice_index, refl, sym, ap, subst, ◌∙◌, arith, inr, Result, Err, IfOk, IfErr, ne_eqb, TableId, Call, Refused, Finished, ScanBegun, CoreState, reply_of, scanned_values, answer_for, begin_scan, begun_of, call_of, core_scan_refusal, core_update_refusal, IsRefusedBy, refuses_pool, refuses_slots, KeptAnswer, answers_of, core_of, AreNotesOf, IsNoteOf, IsPlacedAt, IsRefusal, made_calls_make_their_steps, Layout, IsLayout, greatest_record, pool_end, About, scan_reply, SeatedPort, one_in, CallMade, CallEnded, PortView, port_view, refusal, IsResting, Knows, Goes, CountsSteps, Answered, IsPastEnd, RefusedLate, IsRefused, is_pool, is_slots, Updates, UpdatesIf, Reads, Scans}
+use Rattle.partial_memory.proofs.Common.{ℕ, ◌≡◌, ◌≤◌, ◌<◌, ◌+◌, ◌++◌, ◌||◌, false, cond, Option, Some, None, List, [], ◌∷◌, length, map, slice_index, refl, sym, ap, subst, ◌∙◌, arith, inr, Result, Err, IfOk, IfErr, ne_eqb, TableId, Call, Refused, Finished, ReadBegun, ScanBegun, CoreState, at_stage, reply_of, scanned_values, answer_for, begin_scan, begun_of, call_of, core_scan_refusal, core_update_refusal, IsRefusedBy, refuses_pool, refuses_slots, KeptAnswer, answers_of, core_of, AreNotesOf, IsNoteOf, IsPlacedAt, IsRefusal, made_calls_make_their_steps, Layout, IsLayout, greatest_record, pool_end, About, scan_reply, SeatedPort, one_in, CallMade, CallEnded, PortView, port_view, refusal, IsResting, Knows, Goes, CountsSteps, Answered, IsPastEnd, RefusedLate, IsRefused, is_pool, is_slots, Updates, UpdatesIf, Reads, Scans}
 use Rattle.std.specs.Prelude.{Ok}
 use Rattle.partial_model.specs.declared.call.Call.TheVariants as call
 use Rattle.partial_model.specs.declared.call.Answer.TheVariants as answer
@@ -17,7 +17,7 @@ use Rattle.partial_lines.specs.declared.whole_scan.Scanned.{Scanned}
 use Rattle.partial_memory.specs.declared.answers.Updated.TheVariants as updated
 use Rattle.partial_memory.specs.declared.answers.UpdatedIf.TheVariants as conditional
 use Rattle.partial_memory.specs.Led.{BeganAs, IsLed, IsLedToAnswer, IsLedToRefusal, IsLedWhereLate, ScanIsLed, ScansLed}
-use Rattle.partial_memory.proofs.Resting.{CallBegins, call_begins, scan_begins}
+use Rattle.partial_memory.proofs.Resting.{CallBegins, call_begins, read_begins, scan_begins}
 
 -- a call that was answered: its note fits and has its place in what is seen now, and its answers led it there
 pub record IsAnswered (p q : PortView) (c : Call) (machine : CoreState) (r : Reply) : Type 0 where
@@ -303,6 +303,10 @@ module _ (views : List (List SeatedPort)) (core : CoreState) (number : ℕ) (w :
   pub update_if_ended : (j x v : ℕ) → core_update_refusal core j ≡ None → b ≡ begun_of core (call.UpdateIf j x v) → (s : Reply) → r ≡ s → UpdateIfTold p j x v s (port_view t' y)
   update_if_ended j x v none is s told = seen_as (λ a z. UpdateIfTold a j x v s z)
       (update_if_told t b (one_in views) e.machine y e.made j x v (call_begins views core number w t b (call.UpdateIf j x v) tt none refl is) s (e.replies ∙ ap Some told))
+
+  pub read_ended : (j : ℕ) → j < core.sizes.m → b ≡ at_stage core (ReadBegun j) → (s : Reply) → r ≡ s → ReadTold p j s (port_view t' y)
+  read_ended j below is s told = seen_as (λ a z. ReadTold a j s z)
+      (read_told t b (one_in views) e.machine y e.made j (read_begins views core number w t b j below is) s (e.replies ∙ ap Some told))
 
   pub scan_ended : (which : List ℕ) → length which ≤ core.sizes.m → (length which ≡ 0 → ⊥) → core_scan_refusal core which ≡ None → b ≡ begin_scan core which → (s : Reply) → r ≡ s →
       ScanTold p which e.machine s (port_view t' y)

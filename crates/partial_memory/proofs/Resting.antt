@@ -1,11 +1,11 @@
 -- A port between two calls: how it begins one, and that it is between two again once that has ended.
-use Rattle.partial_memory.proofs.Common.{ℕ, ◌≡◌, ◌≤◌, ◌==◌, true, false, cond, Some, None, List, [], ◌∷◌, length, refl, sym, ap, subst, ◌∙◌, is_some, ne_eqb, TableId, Call, Layout, IsLayout, Finished, ScanBegun, CoreState, at_stage, IsServed, begin_scan, begun_of, call_of, makes_steps, refusal_of, core_scan_refusal, calls_begin, IsMarkedLike, core_of, port_of, FitsHistory, calls_begin_between, ports_come_between, About, SeatedPort, IsBadgeOfOne, AreByOpened, one_in, Begins, CallEnded, IsOf, IsResting, MemoryView, PortView, port_view, refusal}
+use Rattle.partial_memory.proofs.Common.{ℕ, ◌≡◌, ◌≤◌, ◌<◌, ◌==◌, true, false, cond, Some, None, List, [], ◌∷◌, length, refl, sym, ap, subst, ◌∙◌, is_some, ne_eqb, lt-ltb, TableId, Call, Layout, IsLayout, Finished, ReadBegun, ScanBegun, CoreState, at_stage, IsServed, begin_scan, begun_of, call_of, makes_steps, refusal_of, core_scan_refusal, calls_begin, IsMarkedLike, core_of, port_of, FitsHistory, calls_begin_between, ports_come_between, About, SeatedPort, IsBadgeOfOne, AreByOpened, one_in, Begins, CallEnded, IsOf, IsResting, MemoryView, PortView, port_view, refusal}
 use Rattle.partial_model.specs.declared.call.Call.TheVariants as call
+use Rattle.partial_model.specs.declared.call.Refused.TheVariants as refused
 use Rattle.partial_model.specs.Refusals.{refusal_at_once}
 use Rattle.partial_machine.specs.declared.stage.Reply.{Reply}
 use Rattle.partial_machine.specs.declared.stage.Reply.TheVariants as reply
 use Rattle.partial_machine.specs.Lines.{asking_machine, scan_asked}
-use Rattle.partial_machine.specs.Sound.{IsSound}
 
 -- a call that a port begins
 pub record CallBegins (t : TableId) (x : SeatedPort) (b : CoreState) (c : Call) : Type 0 where
@@ -42,6 +42,14 @@ module _ (views : List (List SeatedPort)) (core : CoreState) (number : ℕ) (w :
         allowed = refusal_here t c ∙ none;
       }
 
+-- a read of a component that is there
+below_none : (s : CoreState) (j : ℕ) → j < s.sizes.m → refusal_of s (call.Read j) ≡ None
+below_none s j below = ap (λ b. cond b None (Some refused.Component)) (lt-ltb j s.sizes.m below)
+
+pub read_begins : (views : List (List SeatedPort)) (core : CoreState) (number : ℕ) → IsResting views core number → (t : TableId) (b : CoreState) (j : ℕ) → j < core.sizes.m →
+    b ≡ at_stage core (ReadBegun j) → CallBegins t (one_in views) b (call.Read j)
+read_begins views core number w t b j below is = call_begins views core number w t b (call.Read j) tt (below_none core j below) refl is
+
 -- a scan of some positions
 some_positions : (which : List ℕ) → (length which ≡ 0 → ⊥) → makes_steps (call.Scan which) ≡ true
 some_positions [] some = absurd (some refl)
@@ -70,7 +78,6 @@ rests views b x r core number one begins e named =
     record {
       one = one;
       between = record { rest = between.rest; like = subst (λ (d : CoreState). IsMarkedLike d core) is e.like; idle = e.idle; sound = e.sound };
-      led = subst IsSound is m.made.sound;
       layout = subst IsLayout (begins.sizes ∙ sym sizes) begins.layout;
       sizes = sizes ∙ ap (λ (o : About). o.sizes) (sym m.about);
       number = named ∙ sym m.made.port;

@@ -13,7 +13,6 @@ use Rattle.partial_model.specs.Outcome.{EachOnce}
 use Rattle.partial_model.specs.Refusals.{refusal_at_once}
 use Rattle.partial_words.specs.Layout.{Layout, IsLayout, greatest_record, pool_end}
 use Rattle.partial_machine.specs.Machine.{CoreState}
-use Rattle.partial_machine.specs.Sound.{IsSound}
 use Rattle.partial_machine.specs.Bounds.{most_steps}
 use Rattle.partial_core.specs.Part.{KeptAnswer, core_of, first_at, port_of, IsBetween}
 use Rattle.partial_core.specs.Steps.{FitsHistory}
@@ -72,8 +71,6 @@ pub record Knows (p : PortView) : Type 0 where
 pub record IsResting (views : List (List SeatedPort)) (core : CoreState) (named : ℕ) : Type 0 where
   pub one : IsBadgeOfOne views
   pub between : IsBetween (one_in views).part core
-  -- the machine to which the answers of its last call led
-  pub led : IsSound (core_of (one_in views).part)
   pub layout : IsLayout core.sizes
   pub sizes : core.sizes ≡ (one_in views).about.sizes
   pub number : named ≡ port_of (one_in views).part

@@ -3,7 +3,6 @@ use Rattle.std.specs.Prelude.{ℕ, zero, suc, ◌≡◌, ◌+◌, ◌<◌, List,
 use Rattle.std.specs.List.{AllByRecursion}
 use Rattle.atomic_table.specs.Table.{State, Step, Me}
 use Rattle.partial_model.specs.declared.history.Applied.{Applied}
-use Rattle.partial_machine.specs.declared.stage.Stage.TheVariants.{ReadBegun}
 use Rattle.partial_machine.specs.Machine.{CoreState}
 use Rattle.partial_machine.specs.Sound.{IsSound}
 use Rattle.partial_core.specs.Part.{Part, core_of, port_of, fresh_part, with_seen}
@@ -92,14 +91,6 @@ pub record Told (c : CoreState) (x : SeatedPort) (a : ℕ) (y : SeatedPort) : Ty
 -- the seat is of one port, and learns this by the step
 abbrev pub makes : {S : Type 0} → CoreState → Me S (List SeatedPort) → ℕ → Me S (List SeatedPort) → Type 0
 makes c me a me' = IsOne me' × Told c (one_of me.0) a (one_of me'.0)
-
--- the machine of a port that has begun a read of that component
-abbrev pub reading : Part → ℕ → CoreState
-reading x j = record (core_of x) { asked = []; stage = ReadBegun j }
-
--- a load begins a read
-abbrev pub begins_read : {S : Type 0} → Step S → Me S (List SeatedPort) → ℕ → Me S (List SeatedPort) → Type 0
-begins_read s me = makes (reading (one_of me.0).part s.word) me
 
 -- a further step of the call of a seat: of the machine to which the port's kept answers lead
 abbrev pub goes_on : {S : Type 0} → Step S → Me S (List SeatedPort) → ℕ → Me S (List SeatedPort) → Type 0

@@ -9,6 +9,7 @@ pub mod law;
 mod lines;
 mod memory;
 mod port;
+mod read;
 mod rule;
 mod scan;
 mod update;

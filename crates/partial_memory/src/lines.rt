@@ -1,9 +1,10 @@
 //! The atomic steps of a call that is written as straight-line code. Its machine is ghost state: it is
 //! where the kept answers of the seat's port lead.
 
-ghost use Rattle.std.specs.Prelude.{◌≡◌, Some};
+ghost use Rattle.std.specs.Prelude.{◌≡◌, ◌<◌, Some};
+ghost use Rattle.partial_words.specs.Layout.{component_word};
 ghost use Rattle.partial_words.specs.declared.step.Step.TheVariants.{Load};
-ghost use Rattle.partial_machine.specs.declared.stage.Stage.TheVariants.{UpdateBegun};
+ghost use Rattle.partial_machine.specs.declared.stage.Stage.TheVariants.{ReadBegun, UpdateBegun};
 ghost use Rattle.partial_machine.specs.Lines.{scan_asked};
 ghost use Rattle.partial_machine.specs.Machine.{advance, at_stage, step_of};
 ghost use Rattle.partial_machine.specs.Possible.{IsPossible};
@@ -53,8 +54,42 @@ impl<'a> Makes for SeatLines<'a> {
     ) };
 }
 
-/// Makes the first step of an update, the load of its component word, and returns the answer. `G` is the
-/// machine that begins the update.
+// Makes the first step of a call that begins with the load of its component's word, and returns the answer. `G` is the
+// machine that begins the call.
+#[inline(always)]
+fn begin_load<G: Moment>(words: &Words, seat: &mut Place, core: &Core, component: u32) -> u64
+    requires one { IsOne seat.old.me }
+    requires rest { IsAtRest words.now.table_id words.now.key seat.old.table_id (one_of seat.old.me.0) core.now }
+    requires component { component < core.now.sizes.m }
+    requires due { step_of G.core ≡ Some (Load (component_word core.now.sizes component)) }
+    requires begins { Begins G.core (one_of seat.old.me.0) }
+    ensures going { IsGoing words.now.table_id words.now.key seat.new.table_id seat.new.me }
+    ensures made { CallMade G.core (one_of seat.old.me.0) (machine_of seat.new.me) (one_of seat.new.me.0) }
+    ensures machine { machine_of seat.new.me ≡ advance G.core result }
+    ensures possible { IsPossible G.core result }
+{
+    let word = core.sizes().component_word(component);
+    words.load::<MachineStep<G>>(seat, word as usize)
+}
+
+/// Makes the first step of a read, the load of its component's word, and returns the answer. `G` is the machine that
+/// begins the read.
+#[inline(always)]
+pub fn begin_read<G: Moment>(words: &Words, seat: &mut Place, core: &Core, component: u32) -> u64
+    requires one { IsOne seat.old.me }
+    requires rest { IsAtRest words.now.table_id words.now.key seat.old.table_id (one_of seat.old.me.0) core.now }
+    requires moment { G.core ≡ at_stage core.now (ReadBegun component) }
+    requires begins { Begins G.core (one_of seat.old.me.0) }
+    ensures going { IsGoing words.now.table_id words.now.key seat.new.table_id seat.new.me }
+    ensures made { CallMade G.core (one_of seat.old.me.0) (machine_of seat.new.me) (one_of seat.new.me.0) }
+    ensures machine { machine_of seat.new.me ≡ advance G.core result }
+    ensures possible { IsPossible G.core result }
+{
+    begin_load::<G>(words, seat, core, component)
+}
+
+/// Makes the first step of an update, the load of its component's word, and returns the answer. `G` is the machine that
+/// begins the update.
 #[inline(always)]
 pub fn begin_update<G: Moment>(words: &Words, seat: &mut Place, core: &Core, change: Change) -> u64
     requires one { IsOne seat.old.me }
@@ -66,8 +101,7 @@ pub fn begin_update<G: Moment>(words: &Words, seat: &mut Place, core: &Core, cha
     ensures machine { machine_of seat.new.me ≡ advance G.core result }
     ensures possible { IsPossible G.core result }
 {
-    let word = core.sizes().component_word(change.component);
-    words.load::<MachineStep<G>>(seat, word as usize)
+    begin_load::<G>(words, seat, core, change.component)
 }
 
 /// Makes the first step of a scan of these positions, the claim of its announcement, and returns the

@@ -20,14 +20,15 @@ use crate::answers::{Updated, UpdatedIf};
 use crate::closed::{Closed, closed_of};
 use crate::error::{CloseError, OpenError};
 use crate::port::{Port, take_seat};
-use crate::rule::{About, BeginsRead, Deals, Gathers, GoesOn, Lawful, Looks, Place, View};
+use crate::read::read;
+use crate::rule::{About, Deals, Gathers, Lawful, Looks, Place, View};
 use crate::scan::scan;
 use crate::update::{Ending, update};
 use atomic_table::Table;
 use partial_core::Core;
 use partial_lines::Scanned;
 use partial_model::{Opening, Refused, Sequence};
-use partial_words::{Sizes, value_word};
+use partial_words::Sizes;
 use std::alloc::{AllocError, Global};
 use std::marker::Model;
 
@@ -233,13 +234,7 @@ impl Memory {
         if component >= self.sizes.m() {
             return Err(Refused::Component);
         }
-        let words = &self.table.shared;
-        let word = self.sizes.component_word(component);
-        let mut seat = take_seat(&mut me.badge);
-        let stamp = words.load::<BeginsRead>(&mut seat, word as usize);
-        let value = words.load::<GoesOn>(&mut seat, value_word(stamp) as usize);
-        me.badge = seat.into_badge();
-        Ok((value, stamp))
+        Ok(read(&self.table.shared, &mut me.badge, &me.core, component))
     }
 
     /// Scans these components, in this order and with repeats: `into` has their values as they stood

@@ -72,15 +72,6 @@ impl<G: Moment> Play<(), View> for MachineStep<G> {
     ghost then = { λ _. makes G.core };
 }
 
-/// The load of a component word, by which the seat's port begins a read.
-pub struct BeginsRead;
-
-impl Play<(), View> for BeginsRead {
-    ghost use Rattle.partial_memory.specs.Rule.{begins_read};
-
-    ghost then = { begins_read };
-}
-
 /// A further step of the call of the seat's port.
 pub struct GoesOn;
 

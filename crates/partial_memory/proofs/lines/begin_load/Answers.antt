@@ -1,12 +1,12 @@
-use Rattle.partial_memory.proofs.Common.{◌<◌, Some, refl, sym, ap, subst, ◌∙◌, inl, Load, total, step_of, About}
+use Rattle.partial_memory.proofs.Common.{◌<◌, Some, refl, sym, ap, subst, ◌∙◌, inl, Load, total, About}
 use Rattle.partial_memory.proofs.Calls.{runs_within}
 use Rattle.partial_memory.proofs.Steps.{step_asked}
 use Rattle.partial_memory.proofs.Straight.{first_leads}
-use Rattle.partial_memory.proofs.lines.begin_update.Goals as goal
+use Rattle.partial_memory.proofs.lines.begin_load.Goals as goal
 
 pub load-requires : goal.load-requires
 load-requires g c =
-    let due = ap step_of c.requires.moment ∙ ap (λ w. Some (Load w)) (sym c.component_word-word.ensures) in
+    let due = c.requires.due ∙ ap (λ w. Some (Load w)) (sym c.component_word-word.ensures) in
     let within = runs_within _ _ _ _ (Load c.component_word-word.result) c.requires.begins (inl (refl, refl)) due in
     let there = subst (λ n. c.component_word-word.result < n) (sym c.requires.rest.words) (subst (λ (o : About). c.component_word-word.result < total o.sizes) c.requires.rest.own within) in
     let r = step_asked _ _ _ _ _ _ _ _ (Load _) there c.requires.one c.requires.rest.own refl (inl c.requires.begins.begun, due) refl in
@@ -15,7 +15,7 @@ load-requires g c =
 pub returns-clause-going : goal.returns-clause-going
 returns-clause-going g c =
     let told = c.load.ensures.2.1 in
-    let due = ap step_of c.requires.moment ∙ ap (λ w. Some (Load w)) (sym c.component_word-word.ensures) in
+    let due = c.requires.due ∙ ap (λ w. Some (Load w)) (sym c.component_word-word.ensures) in
     record {
       fits = c.load.ensures.0 ∙ c.requires.rest.fits;
       words = c.requires.rest.words;

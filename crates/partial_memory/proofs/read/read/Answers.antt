@@ -1,0 +1,26 @@
+use Rattle.partial_memory.proofs.Common.{◌≡◌, refl, sym, ap, subst, ReadBegun, CoreState, at_stage, SeatedPort, one_in, one_of, CallMade, CallEnded, machine_of}
+use Rattle.partial_machine.specs.declared.stage.Reply.TheVariants as reply
+use Rattle.partial_lines.specs.Replies.{RestsLike}
+use Rattle.partial_memory.proofs.read.read.Goals as goal
+
+pub returns-clause-ended : goal.returns-clause-ended
+returns-clause-ended c =
+    let core = c.args.core.now in
+    let seat = c.begin_read-stamp.new.seat in
+    let seated : one_of c.take_seat-seat.result.me.0 ≡ one_in c.args.badge.now.views = ap (λ m. one_of m.0) c.take_seat-seat.ensures.one in
+    let made = subst (λ (x : SeatedPort). CallMade (at_stage core (ReadBegun c.args.component)) x (machine_of seat.me) (one_of seat.me.0)) seated c.begin_read-stamp.ensures.made in
+    let begun : RestsLike (machine_of seat.me) core =
+    subst (λ (d : CoreState). RestsLike d core) (sym c.begin_read-stamp.ensures.machine)
+    (record { like = record { sizes = refl; port = refl; pool = refl; slots = refl; lists = refl }; idle = c.requires.rest.idle; sound = c.requires.rest.sound }) in
+    let rests = c.read-value.ensures.rests core begun in
+    let me = c.read-value.new.lines.seat.me in
+    let ended : CallEnded (at_stage core (ReadBegun c.args.component)) (one_in c.args.badge.now.views) (reply.Read c.read-value.result c.begin_read-stamp.result) core (one_of me.0) = record {
+      machine = machine_of me;
+      made = c.read-value.ensures.leads.1 _ _ c.requires.begins made;
+      replies = c.read-value.ensures.replies;
+      like = rests.like;
+      idle = rests.idle;
+      sound = rests.sound;
+    } in
+    subst (λ (x : SeatedPort). CallEnded (at_stage core (ReadBegun c.args.component)) (one_in c.args.badge.now.views) (reply.Read c.read-value.result c.begin_read-stamp.result) core x)
+    (sym (ap one_in c.into_badge.ensures.2)) ended
