@@ -1,6 +1,5 @@
 -- Turns of ports on plain words keep the state lawful.
-use Rattle.std.proofs.Common.{ℕ, ◌≡◌, ◌<◌, ◌≤◌, ◌++◌, List, [], ◌∷◌, Option, Some, None, length, cond, true, refl, sym, ap, subst, ◌∙◌, inl, inr, arith}
-use Rattle.std.specs.Prelude.{Result, Ok, Err, OnOk, IfErr}
+use Rattle.lines_tests.proofs.Common.{ℕ, ◌≡◌, ◌<◌, ◌≤◌, ◌++◌, List, [], ◌∷◌, Option, Some, None, length, cond, true, refl, sym, ap, subst, ◌∙◌, inl, inr, arith, Result, Ok, Err, OnOk, IfErr, AreOpeningWords, Layout, IsLayout, pool_base, answer_of, word_of, words_after, Idle, ReadBegun, UpdateBegun, ScanBegun, Finished, CoreState, advance, at_stage, fresh, reply_at, step_at, step_of, asking_machine, scan_asked, IsPossible, BeginsOn, Begun, IsOfPort, IsPlain, MayTurn, Turned, Stepped, Taken, Started, Stayed}
 use Rattle.std.proofs.lemmas.Bool.{false≢true, ne_eqb}
 use Rattle.std.proofs.lemmas.Option.{none-some}
 use Rattle.partial_model.specs.declared.history.Applied.{Applied}
@@ -8,23 +7,14 @@ use Rattle.partial_model.specs.declared.history.Opening.{Opening}
 use Rattle.partial_model.specs.declared.call.Call.TheVariants as call
 use Rattle.partial_model.specs.declared.call.Refused.{Refused}
 use Rattle.partial_words.specs.declared.step.Step.{Step}
-use Rattle.partial_words.specs.Chain.{AreOpeningWords}
-use Rattle.partial_words.specs.Layout.{Layout, IsLayout, pool_base}
-use Rattle.partial_words.specs.Step.{answer_of, word_of, words_after}
 use Rattle.partial_machine.specs.declared.stage.Reply.TheVariants as reply
 use Rattle.partial_machine.specs.declared.stage.Stage.{Stage}
-use Rattle.partial_machine.specs.declared.stage.Stage.TheVariants.{Idle, ReadBegun, UpdateBegun, ScanBegun, Finished}
 use Rattle.partial_machine.specs.Calls.{begin_scan, is_at_rest, is_begun, core_read_refusal, core_scan_refusal, core_update_refusal}
-use Rattle.partial_machine.specs.Machine.{CoreState, advance, at_stage, fresh, reply_at, step_at, step_of}
-use Rattle.partial_machine.specs.Lines.{asking_machine, scan_asked}
-use Rattle.partial_machine.specs.Possible.{IsPossible}
 use Rattle.partial_machine.proofs.Laws.{rests_are_sound}
 use Rattle.partial_core.specs.Lawful.{Lawful}
 use Rattle.partial_core.specs.Part.{Part, fresh_part, port_of, HasBegun, IsBetween, IsLedTo, IsMachineOf, IsMarkedLike}
 use Rattle.partial_core.specs.Steps.{added_by}
 use Rattle.partial_core.proofs.Laws.{calls_begin_between, lawful_machines_are_ready, opens_lawful, ports_come_between, steps_stay_lawful}
-use Rattle.lines_tests.specs.Plain.{BeginsOn, Begun, IsOfPort, IsPlain, MayTurn, Turned}
-use Rattle.lines_tests.specs.Plain.Turned.{Stepped, Taken, Started, Stayed}
 
 -- a call that has begun is not at rest
 begun_moves : (t : Stage) → is_begun t ≡ true → is_at_rest t ≡ true → ⊥

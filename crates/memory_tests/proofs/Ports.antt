@@ -1,8 +1,5 @@
 -- What the tests know of the ports with which a memory opens, and of the last one of several.
-use Rattle.std.proofs.Common.{◌≡◌, List, [], ◌∷◌, ◌++◌, subst}
-use Rattle.std.specs.Prelude.{Result, Ok, Err, IfOk}
-use Rattle.std.specs.List.{AllByRecursion}
-use Rattle.partial_model.proofs.AllLemmas.{all_front, all_back}
+use Rattle.memory_tests.proofs.Common.{◌≡◌, List, [], ◌∷◌, ◌++◌, subst, Result, Ok, Err, IfOk, AllByRecursion, all_front, all_back}
 
 -- what follows from two facts about the value of a result
 pub both : {A E : Type 0} (r : Result A E) (P Q R : A → Type 0) → ((x : A) → P x → Q x → R x) → IfOk r P → IfOk r Q → IfOk r R

@@ -1,16 +1,8 @@
 -- What a verb asks to be written, by verbs.
-use Rattle.std.proofs.Common.{◌≡◌, ◌++◌, [], ◌∷◌, refl, sym, subst}
-use Rattle.std.specs.Prelude.{codes}
-use Rattle.partial_text.specs.declared.outcome.Outcome.{Outcome}
-use Rattle.partial_text.specs.declared.report.RunReport.{RunReport}
-use Rattle.partial_text.specs.OutcomeText.{outcome_text}
-use Rattle.partial_text.specs.PlanText.{PlanView}
+use Rattle.partial_cmd.proofs.Common.{◌≡◌, ◌++◌, [], ◌∷◌, refl, sym, subst, codes, Outcome, RunReport, outcome_text, PlanView, Verb, VerbWrites, IsReportOf}
 use Rattle.partial_text.specs.ReportText.{report_text}
 use Rattle.partial_replay.specs.Replayed.{IsReplayOf}
-use Rattle.partial_cmd.specs.declared.command.Verb.{Verb}
 use Rattle.partial_cmd.specs.declared.command.Verb.TheVariants as verb
-use Rattle.partial_cmd.specs.Execution.{VerbWrites}
-use Rattle.partial_cmd.specs.Reports.{IsReportOf}
 
 pub asked_replay : (v : Verb) (p : PlanView) (o : Outcome) → v ≡ verb.Replay → IsReplayOf p o → VerbWrites v p (outcome_text o.opening o.history.items o.calls.items o.steps)
 asked_replay v p o is w = subst (λ (x : Verb). VerbWrites x p (outcome_text o.opening o.history.items o.calls.items o.steps)) (sym is) (o, w, refl)

@@ -1,11 +1,6 @@
 -- The reports of two plans, of which the second goes on where the first ended.
-use Rattle.std.proofs.Common.{◌≡◌, ◌≤◌, length, sym, subst, arith}
-use Rattle.partial_model.specs.declared.history.Opening.{Opening}
-use Rattle.partial_text.specs.PlanText.{IsPlan, PlanView}
-use Rattle.partial_text.specs.declared.report.RunReport.{RunReport}
-use Rattle.partial_memory.specs.Reopening.{Continues, ContinuesAll}
+use Rattle.partial_cmd.proofs.Common.{◌≡◌, ◌≤◌, length, sym, subst, arith, Opening, IsPlan, PlanView, RunReport, Continues, ContinuesAll, IsReportFrom, IsReportOf, run_opening}
 use Rattle.partial_cmd.specs.Next.{AreReports, next_opening}
-use Rattle.partial_cmd.specs.Reports.{IsReportFrom, IsReportOf, run_opening}
 use Rattle.partial_cmd.proofs.Reported.{reported_of}
 
 pub both_reported : (p q : PlanView) (o next : Opening) (first second : RunReport) → o ≡ run_opening p → IsPlan p → IsReportFrom o p first → length first.values.items ≤ q.sizes.m →

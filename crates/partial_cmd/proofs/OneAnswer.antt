@@ -1,18 +1,11 @@
 -- What a verb asks to be written is told by the plan's text.
-use Rattle.std.proofs.Common.{ℕ, ◌≡◌, ◌≢◌, List, Ok, refl, sym, ◌∙◌, ap, subst}
+use Rattle.partial_cmd.proofs.Common.{ℕ, ◌≡◌, ◌≢◌, List, Ok, refl, sym, ◌∙◌, ap, subst, Opening, Outcome, outcome_text, PlanView, IsPlan, plan_text, judged_again, Verb, VerbWrites, PlansHaveOneAnswer}
 use Rattle.partial_model.specs.declared.call.Called.{Called}
 use Rattle.partial_model.specs.declared.history.Applied.{Applied}
-use Rattle.partial_model.specs.declared.history.Opening.{Opening}
-use Rattle.partial_text.specs.declared.outcome.Outcome.{Outcome}
 use Rattle.partial_text.specs.Judging.{judged_plan}
-use Rattle.partial_text.specs.OutcomeText.{outcome_text}
-use Rattle.partial_text.specs.PlanText.{PlanView, IsPlan, plan_text}
-use Rattle.partial_text.proofs.Laws.{judged_again}
 use Rattle.partial_replay.specs.OneOutcome.{TellTheSame}
 use Rattle.partial_replay.proofs.Laws.{plans_have_one_outcome}
-use Rattle.partial_cmd.specs.declared.command.Verb.{Verb}
 use Rattle.partial_cmd.specs.declared.command.Verb.TheVariants as verb
-use Rattle.partial_cmd.specs.Execution.{VerbWrites, PlansHaveOneAnswer}
 
 -- two plans of one text are the same
 same_plan : (p q : PlanView) → IsPlan p → IsPlan q → plan_text p ≡ plan_text q → p ≡ q

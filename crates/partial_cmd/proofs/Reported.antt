@@ -1,17 +1,10 @@
 -- The calls of a plan, and the report of the workers that made them.
-use Rattle.std.proofs.Common.{ℕ, ◌≡◌, ◌<◌, ◌^◌, Result, Ok, Err, List, [], ◌∷◌, length, sym, subst}
-use Rattle.std.specs.Prelude.{IfOk}
+use Rattle.partial_cmd.proofs.Common.{ℕ, ◌≡◌, ◌<◌, ◌^◌, Result, Ok, Err, List, [], ◌∷◌, length, sym, subst, IfOk, Opening, Call, IsCall, IsPlan, PlanView, RunReport, plans_have_few_calls, IsReportFrom, IsReportOf, run_opening, report_of}
 use Rattle.std.specs.List.{AllByRecursion}
-use Rattle.partial_model.specs.declared.history.Opening.{Opening}
-use Rattle.partial_model.specs.declared.call.Call.{Call}
 use Rattle.partial_model.specs.declared.call.Call.TheVariants as call
-use Rattle.partial_text.specs.PlanText.{IsCall, IsPlan, PlanView}
-use Rattle.partial_text.specs.declared.report.RunReport.{RunReport}
-use Rattle.partial_text.proofs.Laws.{plans_have_few_calls}
 use Rattle.partial_workers.specs.declared.error.RunError.{RunError}
 use Rattle.partial_workers.specs.declared.workers.Ran.{Ran}
 use Rattle.partial_workers.specs.Answered.{AreMakable, AreRight, IsCallWithin}
-use Rattle.partial_cmd.specs.Reports.{IsReportFrom, IsReportOf, run_opening, report_of}
 
 -- a report over the opening's values is one over the same by another name
 pub reported_of : (o : Opening) (p : PlanView) (report : RunReport) → o ≡ run_opening p → IsReportFrom o p report → IsReportOf p report

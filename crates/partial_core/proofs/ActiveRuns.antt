@@ -1,31 +1,12 @@
 -- Runs of lawful states are orderly, and the getSet of an update is one of a port's events in such a run.
-use Rattle.std.proofs.Common.{ℕ, ◌≡◌, ◌≢◌, ◌⊎◌, ◌++◌, Bool, Some, None, MatchBool, List, [], ◌∷◌, inl, inr, refl, sym, ap, subst, ◌∙◌}
-use Rattle.std.specs.List.{AllByRecursion}
-use Rattle.std.proofs.lemmas.Bool.{false≢true}
-use Rattle.std.proofs.lemmas.Bool.Decides.{eqb_tells}
-use Rattle.partial_model.specs.declared.history.Applied.{Applied}
-use Rattle.partial_model.specs.declared.history.Opening.{Opening}
+use Rattle.partial_core.proofs.Common.{ℕ, ◌≡◌, ◌≢◌, ◌⊎◌, ◌++◌, Bool, Some, None, MatchBool, List, [], ◌∷◌, inl, inr, refl, sym, ap, subst, ◌∙◌, AllByRecursion, false≢true, eqb_tells, Applied, Opening, Layout, answer_of, words_after, AreFoundFor, AreOrderly, IsOrderlyRun, words_behind, MakesOwn, Holding, all_weaker, all_join, Change, Stage, GettingSet, CoreState, step_of, step_at, advance, advance_at, getting, with_getting, lists_spent, is_begun, Part, HasBegun, IsLedTo, core_of, port_of, with_seen, holdings, holding_of, Lawful}
 use Rattle.partial_words.specs.declared.step.Event.{Event}
-use Rattle.partial_words.specs.Layout.{Layout}
-use Rattle.partial_words.specs.Step.{answer_of, words_after}
-use Rattle.partial_active.specs.Found.{AreFoundFor}
 use Rattle.partial_active.specs.GetSet as finding
-use Rattle.partial_active.specs.Moments.{AreOrderly, IsOrderlyRun, words_behind, MakesOwn}
 use Rattle.partial_active.specs.VacatedLists.{KeepsLists}
 use Rattle.partial_active.specs.ActiveSet.{FindsActiveSet, AreInOrder}
 use Rattle.partial_active.proofs.Finds.{finds_by_events}
 use Rattle.partial_active.proofs.Named.{names_by_events}
 use Rattle.partial_active.proofs.Lists.{lists_by_events}
-use Rattle.partial_state.specs.Holdings.{Holding}
-use Rattle.partial_state.proofs.ListLemmas.{all_weaker, all_join}
-use Rattle.partial_machine.specs.declared.stage.Change.{Change}
-use Rattle.partial_machine.specs.declared.stage.Stage.{Stage}
-use Rattle.partial_machine.specs.declared.stage.Stage.TheVariants.{GettingSet}
-use Rattle.partial_machine.specs.Machine.{CoreState, step_of, step_at, advance, advance_at, getting, with_getting, lists_spent}
-use Rattle.partial_machine.specs.Calls.{is_begun}
-use Rattle.partial_core.specs.Part.{Part, HasBegun, IsLedTo, core_of, port_of, with_seen}
-use Rattle.partial_core.specs.Held.{holdings, holding_of}
-use Rattle.partial_core.specs.Lawful.{Lawful}
 use Rattle.partial_core.specs.ActiveSet.{MemoryState, IsLawfulMemory, PortMove, HasPart, MakesStep, MakesLook, IsRun, events_of, LawfulRunsAreOrderly}
 use Rattle.partial_core.specs.ActiveSet.{IsGetting, OnlyGets, RunsGetSet, moments_in, UpdatesFind, UpdatesFindInOrder, UpdatesKeepLists}
 use Rattle.partial_core.specs.ActiveSet.PortMove.{Makes, Looks}

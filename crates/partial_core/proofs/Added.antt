@@ -1,28 +1,12 @@
 -- The entry that a step adds to the history: by the stage of the machine that makes it, and by the step and the words.
-use Rattle.std.proofs.Common.{ℕ, ◌≡◌, ◌<◌, ◌≤◌, ◌==◌, Bool, true, false, cond, Some, None, List, [], ◌∷◌, length, get_or, refl, sym, ap, subst, ◌∙◌, arith}
-use Rattle.std.specs.Prelude.{⊤, nat_lt, is_some, if◌then◌else◌}
-use Rattle.std.proofs.lemmas.Bool.{lt-ltb}
+use Rattle.partial_core.proofs.Common.{ℕ, ◌≡◌, ◌<◌, ◌≤◌, ◌==◌, Bool, true, false, cond, Some, None, List, [], ◌∷◌, length, get_or, refl, sym, ap, subst, ◌∙◌, arith, ⊤, nat_lt, is_some, if◌then◌else◌, lt-ltb, Applied, Step, Load, Store, Exchange, Add, Layout, slot_word, record_value, view_word, answer_of, join_step, JoinStage, Claiming, Storing, Joined, Spent, Change, Stage, CoreState, step_at, is_sound_at, added_by, PublishesWithin}
 use Rattle.partial_model.proofs.ListLemmas.{some_same}
-use Rattle.partial_model.specs.declared.history.Applied.{Applied}
-use Rattle.partial_words.specs.declared.step.Step.{Step}
-use Rattle.partial_words.specs.declared.step.Step.TheVariants.{Load, Store, Exchange, Add}
-use Rattle.partial_words.specs.Layout.{Layout, slot_word}
-use Rattle.partial_words.specs.Record.{record_value, view_word}
-use Rattle.partial_words.specs.Step.{answer_of}
-use Rattle.partial_active.specs.Join.{join_step}
-use Rattle.partial_active.specs.declared.join.JoinStage.{JoinStage}
-use Rattle.partial_active.specs.declared.join.JoinStage.TheVariants.{Claiming, Storing, Joined, Spent}
 use Rattle.partial_active.specs.declared.get_set.Stage.{Stage as SetStage}
 use Rattle.partial_active.specs.declared.get_set.Stage.TheVariants as set
 use Rattle.partial_active.specs.GetSet as finding
 use Rattle.partial_embedded.specs.declared.embedded.Stage.{Stage as ViewStage}
 use Rattle.partial_embedded.specs.Embedded as viewing
-use Rattle.partial_machine.specs.declared.stage.Change.{Change}
-use Rattle.partial_machine.specs.declared.stage.Stage.{Stage}
 use Rattle.partial_machine.specs.declared.stage.Stage.TheVariants.{Idle, ReadBegun, LoadingValue, UpdateBegun, GettingSet, Viewing, ClaimingRecord, StoringRecord, Exchanging, ScanBegun, StoringAnnouncement, Joining, Scanning, Leaving, Finished}
-use Rattle.partial_machine.specs.Machine.{CoreState, step_at}
-use Rattle.partial_machine.specs.Sound.{is_sound_at}
-use Rattle.partial_core.specs.Steps.{added_by, PublishesWithin}
 use Rattle.partial_core.proofs.MidCalls.{view_loads}
 
 -- a won exchange of a component adds one

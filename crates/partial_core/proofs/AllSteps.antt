@@ -1,36 +1,6 @@
 -- The one law of steps, over all stages, and how a call begins.
-use Rattle.std.proofs.Common.{ℕ, ◌≡◌, ◌<◌, ◌≤◌, ◌++◌, ◌⊎◌, Bool, true, false, cond, Some, None, List, [], ◌∷◌, length, take, get_or, refl, sym, ap, subst, ◌∙◌, inl, inr, arith}
-use Rattle.std.specs.Prelude.{IfSome}
-use Rattle.std.proofs.lemmas.Bool.{false≢true}
-use Rattle.std.proofs.lemmas.List.{append-nil, take_all}
-use Rattle.partial_model.specs.declared.history.Applied.{Applied}
-use Rattle.partial_model.specs.declared.history.Opening.{Opening}
-use Rattle.partial_model.specs.Notes.{LegalNotes, seen_by}
-use Rattle.partial_model.specs.Outcome.{places_by}
-use Rattle.partial_words.specs.declared.step.Step.{Step}
-use Rattle.partial_words.specs.declared.step.Step.TheVariants.{Add}
-use Rattle.partial_words.specs.Layout.{Layout, IsLayout, pool_counter, list_base, pool_end, total}
-use Rattle.partial_words.specs.Announcement.{announcement_size}
-use Rattle.partial_words.specs.Step.{answer_of, words_after}
-use Rattle.partial_machine.specs.declared.stage.Change.{Change}
-use Rattle.partial_machine.specs.declared.stage.Stage.{Stage}
+use Rattle.partial_core.proofs.Common.{ℕ, ◌≡◌, ◌<◌, ◌≤◌, ◌++◌, ◌⊎◌, Bool, true, false, cond, Some, None, List, [], ◌∷◌, length, take, get_or, refl, sym, ap, subst, ◌∙◌, inl, inr, arith, IfSome, false≢true, append-nil, take_all, Applied, Opening, LegalNotes, seen_by, places_by, Step, Add, Layout, IsLayout, pool_counter, list_base, pool_end, total, announcement_size, answer_of, words_after, Change, Stage, CoreState, lists_spent, record_size, advance, step_at, step_of, reply_of, is_begun, is_at_rest, IsPossible, IsBehind, size_few, answers_lead_on, Holding, unpublished, other_holdings, IsDue, IsLoaded, IsPublished, Keeps, loads_are_true, Part, core_of, port_of, HasBegun, IsLedTo, IsMarkedLike, has_no_step, holding_of, holdings, joined_since, IsKnown, Lawful, begun_with, kept_with, since_with, past_with, added_by, AreNotesOf, LeadsOn, StepsStayLawful}
 use Rattle.partial_machine.specs.declared.stage.Stage.TheVariants.{Idle, ReadBegun, LoadingValue, UpdateBegun, GettingSet, Viewing, ClaimingRecord, StoringRecord, Exchanging, ScanBegun, StoringAnnouncement, Joining, Scanning, Leaving, Finished}
-use Rattle.partial_machine.specs.Machine.{CoreState, lists_spent, record_size, advance, step_at, step_of, reply_of}
-use Rattle.partial_machine.specs.Calls.{is_begun, is_at_rest}
-use Rattle.partial_machine.specs.Possible.{IsPossible}
-use Rattle.partial_machine.specs.Behind.{IsBehind}
-use Rattle.partial_machine.proofs.Sound.{size_few}
-use Rattle.partial_machine.proofs.Behind.{answers_lead_on}
-use Rattle.partial_state.specs.Holdings.{Holding, unpublished, other_holdings}
-use Rattle.partial_state.specs.LawfulWords.{IsDue}
-use Rattle.partial_state.specs.Loads.{IsLoaded, IsPublished}
-use Rattle.partial_state.specs.Effects.{Keeps}
-use Rattle.partial_state.proofs.LoadLaw.{loads_are_true}
-use Rattle.partial_core.specs.Part.{Part, core_of, port_of, HasBegun, IsLedTo, IsMarkedLike, has_no_step}
-use Rattle.partial_core.specs.Held.{holding_of, holdings, joined_since}
-use Rattle.partial_core.specs.Known.{IsKnown}
-use Rattle.partial_core.specs.Lawful.{Lawful}
-use Rattle.partial_core.specs.Steps.{begun_with, kept_with, since_with, past_with, added_by, AreNotesOf, LeadsOn, StepsStayLawful}
 use Rattle.partial_core.proofs.Added.{added_at, IsExchange, StepAdds, step_adds}
 use Rattle.partial_core.proofs.Parts.{changed, gone, gone_core, all_at, holdings_split, once_same}
 use Rattle.partial_core.proofs.Ports.{fits_here}

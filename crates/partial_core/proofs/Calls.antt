@@ -1,25 +1,7 @@
 -- A port's call under way: where its answers lead its machine, and what it knows then.
-use Rattle.std.proofs.Common.{ℕ, true, ◌≡◌, ◌<◌, ◌≤◌, ◌++◌, cond, List, [], ◌∷◌, length, refl, sym, ap, subst, ◌∙◌, arith}
-use Rattle.std.proofs.lemmas.Bool.{false≢true, cond_both}
-use Rattle.partial_model.specs.declared.history.Applied.{Applied}
-use Rattle.partial_model.specs.declared.history.Opening.{Opening}
-use Rattle.partial_words.specs.Layout.{Layout, IsLayout}
-use Rattle.partial_words.specs.Announcement.{announcement_size}
+use Rattle.partial_core.proofs.Common.{ℕ, true, ◌≡◌, ◌<◌, ◌≤◌, ◌++◌, cond, List, [], ◌∷◌, length, refl, sym, ap, subst, ◌∙◌, arith, false≢true, cond_both, Applied, Opening, Layout, IsLayout, announcement_size, Stage, Idle, ReadBegun, UpdateBegun, ScanBegun, StoringAnnouncement, Finished, CoreState, at_stage, expects, fits_pool, pool_refused, begin_getting, advance_at, advance, step_at, IsSound, IsPossibleAt, Holding, LawfulWords, KeptAnswer, led_by, joins_at, joined_from, IsTrueYet, AreAnswersKept, has_no_step, is_sound_at}
 use Rattle.partial_machine.specs.declared.stage.Reply.TheVariants as reply
-use Rattle.partial_machine.specs.declared.stage.Stage.{Stage}
-use Rattle.partial_machine.specs.declared.stage.Stage.TheVariants.{Idle, ReadBegun, UpdateBegun, ScanBegun, StoringAnnouncement, Finished}
-use Rattle.partial_machine.specs.Machine.{CoreState, at_stage, expects, fits_pool, pool_refused, begin_getting, advance_at, advance, step_at}
-use Rattle.partial_machine.specs.Sound.{IsSound}
-use Rattle.partial_machine.specs.Possible.{IsPossibleAt}
 use Rattle.partial_machine.proofs.Sound.{Keeps, kept}
-use Rattle.partial_state.specs.Holdings.{Holding}
-use Rattle.partial_state.specs.LawfulWords.{LawfulWords}
-use Rattle.partial_state.specs.Loads.{KeptAnswer}
-use Rattle.partial_core.specs.Part.{led_by}
-use Rattle.partial_core.specs.Held.{joins_at, joined_from}
-use Rattle.partial_core.specs.Known.{IsTrueYet, AreAnswersKept}
-use Rattle.partial_core.specs.Part.{has_no_step}
-use Rattle.partial_machine.specs.Sound.{is_sound_at}
 use Rattle.partial_core.proofs.MidCalls.{Knows, on_at}
 
 -- how long the history was at the last of the answers

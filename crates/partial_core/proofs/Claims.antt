@@ -1,36 +1,7 @@
 -- The claims of pool words, and the stores of an announcement.
-use Rattle.std.proofs.Common.{ℕ, suc, ◌≡◌, ◌+◌, ◌<◌, ◌≤◌, ◌==◌, ◌++◌, Bool, true, false, cond, Option, Some, None, List, [], ◌∷◌, length, map, get_or, refl, sym, ap, subst, ◌∙◌, arith}
-use Rattle.std.specs.Prelude.{slice_index}
-use Rattle.std.proofs.lemmas.Bool.{ne_eqb, ltb-true, ltb-false, eqb-true}
-use Rattle.partial_model.specs.declared.history.Applied.{Applied}
-use Rattle.partial_model.specs.declared.history.Opening.{Opening}
+use Rattle.partial_core.proofs.Common.{ℕ, suc, ◌≡◌, ◌+◌, ◌<◌, ◌≤◌, ◌==◌, ◌++◌, Bool, true, false, cond, Option, Some, None, List, [], ◌∷◌, length, map, get_or, refl, sym, ap, subst, ◌∙◌, arith, slice_index, ne_eqb, ltb-true, ltb-false, eqb-true, Applied, Opening, MayBeRefused, Store, Add, Layout, pool_counter, pool_end, greatest_record, words_after, announcement_block, announcement_size, record_block, plain_record_size, full_record_size, length-record_block, Change, Stage, ClaimingRecord, StoringRecord, ScanBegun, StoringAnnouncement, CoreState, at_stage, step_at, record_size, record_words, fits_pool, pool_refused, begin_joining, IsPoolCount, size_few, Holding, Own, Pool, LawfulWords, IsKept, pool_refusals_are_kept, claims_are_kept, stores_are_kept, pool_bound, is_sound_at, Part, core_of, Lawful, holding_of, holding_at, holdings, joined_since, call_at, update_call}
 use Rattle.partial_model.specs.declared.call.Call.TheVariants as call
 use Rattle.partial_model.specs.declared.call.Refused.TheVariants as refused
-use Rattle.partial_model.specs.Notes.{MayBeRefused}
-use Rattle.partial_words.specs.declared.step.Step.TheVariants.{Store, Add}
-use Rattle.partial_words.specs.Layout.{Layout, pool_counter, pool_end, greatest_record}
-use Rattle.partial_words.specs.Step.{words_after}
-use Rattle.partial_words.specs.Announcement.{announcement_block, announcement_size}
-use Rattle.partial_words.specs.Record.{record_block, plain_record_size, full_record_size}
-use Rattle.partial_words.proofs.RecordLemmas.{length-record_block}
-use Rattle.partial_machine.specs.declared.stage.Change.{Change}
-use Rattle.partial_machine.specs.declared.stage.Stage.{Stage}
-use Rattle.partial_machine.specs.declared.stage.Stage.TheVariants.{ClaimingRecord, StoringRecord, ScanBegun, StoringAnnouncement}
-use Rattle.partial_machine.specs.Machine.{CoreState, at_stage, step_at, record_size, record_words, fits_pool, pool_refused, begin_joining}
-use Rattle.partial_machine.specs.Possible.{IsPoolCount}
-use Rattle.partial_machine.proofs.Sound.{size_few}
-use Rattle.partial_state.specs.Holdings.{Holding, Own}
-use Rattle.partial_state.specs.Holdings.Space.{Pool}
-use Rattle.partial_state.specs.LawfulWords.{LawfulWords}
-use Rattle.partial_state.specs.Effects.{IsKept}
-use Rattle.partial_state.proofs.MarkLaws.{pool_refusals_are_kept}
-use Rattle.partial_state.proofs.BlockLaws.{claims_are_kept, stores_are_kept}
-use Rattle.partial_state.proofs.NoNewEntry.{pool_bound}
-use Rattle.partial_machine.specs.Sound.{is_sound_at}
-use Rattle.partial_core.specs.Part.{Part, core_of}
-use Rattle.partial_core.specs.Lawful.{Lawful}
-use Rattle.partial_core.specs.Held.{holding_of, holding_at, holdings, joined_since}
-use Rattle.partial_machine.specs.Calls.{call_at, update_call}
 use Rattle.partial_core.proofs.Leaves.{names_all}
 use Rattle.partial_core.proofs.Steps.{LeadsAt, holding_in, known_here, sizes_here, sound_here, sound_at, memory_at, going, quiet}
 use Rattle.partial_core.proofs.Reading.{begun_here}

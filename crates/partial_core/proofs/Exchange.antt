@@ -1,43 +1,11 @@
 -- The exchange of a component word: won, it adds one entry to the history; lost, it changes nothing.
+use Rattle.partial_core.proofs.Common.{option_map_or, eqb-false, eqb-true, append-nil, set-get_or, take_at, length_push, Applied, Opening, stamp_of, Noted, IsLegal, seen_by, places_by, places_written, overtaken_at, place_below, seen_by-push, places_written-append, places_by-push, slice_get_last, Step, Exchange, Layout, words_after, Change, Reply, Stage, Exchanging, Finished, CoreState, at_stage, advance_at, step_at, step_of, overtaken_reply, IsRecord, IsPossible, IsPossibleAt, Holding, Due, IsLoaded, IsKept, all_weaker, drops_are_kept, wins_are_kept, Part, core_of, port_of, first_at, Lawful, IsKnown, notes_by, IsTrueYet, holding_of, holdings, joined_since, is_at_rest, call_at, update_call, AreNotesOf}
 use Rattle.std.proofs.Common.{ℕ, ◌≡◌, ◌≢◌, ◌+◌, ◌<◌, ◌==◌, ◌++◌, Bool, true, false, cond, Option, Some, None, List, [], ◌∷◌, length, get_or, set, slice_get, take, refl, sym, ap, subst, ◌∙◌, arith}
-use Rattle.std.specs.Option.{option_map_or}
-use Rattle.std.proofs.lemmas.Bool.{eqb-false, eqb-true}
-use Rattle.std.proofs.lemmas.List.{append-nil, set-get_or, take_at, length_push}
-use Rattle.partial_model.specs.declared.history.Applied.{Applied}
-use Rattle.partial_model.specs.declared.history.Opening.{Opening}
 use Rattle.partial_model.specs.declared.call.Call.TheVariants as call
 use Rattle.partial_model.specs.declared.call.Answer.TheVariants as answer
 use Rattle.partial_model.specs.declared.call.Note.TheVariants as note
-use Rattle.partial_model.specs.History.{stamp_of}
-use Rattle.partial_model.specs.Notes.{Noted, IsLegal, seen_by}
-use Rattle.partial_model.specs.Outcome.{places_by, places_written}
-use Rattle.partial_model.proofs.HistoryLemmas.{overtaken_at, place_below}
-use Rattle.partial_model.proofs.NotesLemmas.{seen_by-push, places_written-append, places_by-push, slice_get_last}
-use Rattle.partial_words.specs.declared.step.Step.{Step}
-use Rattle.partial_words.specs.declared.step.Step.TheVariants.{Exchange}
-use Rattle.partial_words.specs.Layout.{Layout}
-use Rattle.partial_words.specs.Step.{words_after}
-use Rattle.partial_machine.specs.declared.stage.Change.{Change}
-use Rattle.partial_machine.specs.declared.stage.Reply.{Reply}
 use Rattle.partial_machine.specs.declared.stage.Reply.TheVariants as reply
-use Rattle.partial_machine.specs.declared.stage.Stage.{Stage}
-use Rattle.partial_machine.specs.declared.stage.Stage.TheVariants.{Exchanging, Finished}
-use Rattle.partial_machine.specs.Machine.{CoreState, at_stage, advance_at, step_at, step_of, overtaken_reply}
-use Rattle.partial_machine.specs.Sound.{IsRecord}
-use Rattle.partial_machine.specs.Possible.{IsPossible, IsPossibleAt}
-use Rattle.partial_state.specs.Holdings.{Holding, Due}
-use Rattle.partial_state.specs.Loads.{IsLoaded}
-use Rattle.partial_state.specs.Effects.{IsKept}
-use Rattle.partial_state.proofs.ListLemmas.{all_weaker}
-use Rattle.partial_state.proofs.MarkLaws.{drops_are_kept}
-use Rattle.partial_state.proofs.WinLaw.{wins_are_kept}
-use Rattle.partial_core.specs.Part.{Part, core_of, port_of, first_at}
-use Rattle.partial_core.specs.Lawful.{Lawful}
 use Rattle.partial_core.proofs.Added.{added_at}
-use Rattle.partial_core.specs.Known.{IsKnown, notes_by, IsTrueYet}
-use Rattle.partial_core.specs.Held.{holding_of, holdings, joined_since}
-use Rattle.partial_machine.specs.Calls.{is_at_rest, call_at, update_call}
-use Rattle.partial_core.specs.Steps.{AreNotesOf}
 use Rattle.partial_core.proofs.MidCalls.{KnowsOld}
 use Rattle.partial_core.proofs.Parts.{known_grows, known_end, gone, changed, holdings_split, once_own, once_other}
 use Rattle.partial_core.proofs.Steps.{LeadsAt, holding_in, known_here, sizes_here, sound_at, port_here, seen_here, memory_at, holding_gone, going, ends}

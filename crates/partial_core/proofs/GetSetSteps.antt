@@ -1,48 +1,15 @@
 -- The steps of a getSet under way in an update.
-use Rattle.std.proofs.Common.{ℕ, ◌≡◌, ◌+◌, ◌-◌, ◌<◌, ◌≤◌, ◌==◌, ◌⊎◌, ◌&&◌, ◌++◌, not, eqb, ltb, Bool, true, false, cond, Option, Some, None, List, [], ◌∷◌, length, get_or, inl, inr, refl, sym, ap, subst, ◌∙◌, arith, min}
-use Rattle.std.proofs.lemmas.Bool.{cond_both, ltb-true, ltb-false, eqb-true}
-use Rattle.std.specs.Option.{option_map_or}
-use Rattle.partial_model.specs.declared.history.Applied.{Applied}
-use Rattle.partial_model.specs.declared.history.Opening.{Opening}
-use Rattle.partial_intervals.specs.Intervals.{Ranges, highest}
-use Rattle.partial_words.specs.declared.step.Step.{Step}
-use Rattle.partial_words.specs.declared.step.Step.TheVariants.{Load, Store, Exchange, Add}
-use Rattle.partial_words.specs.Layout.{Layout, list_counter, list_end, list_head, greatest_list}
-use Rattle.partial_words.specs.Step.{answer_of, words_after, word_of}
-use Rattle.partial_words.specs.VacatedList.{list_block, list_size, intervals_word}
-use Rattle.partial_words.proofs.RecordLemmas.{length-pairs}
-use Rattle.partial_words.specs.Record.{next_word}
-use Rattle.partial_words.specs.Announcement.{indices_word}
+use Rattle.partial_core.proofs.Common.{ℕ, ◌≡◌, ◌+◌, ◌-◌, ◌<◌, ◌≤◌, ◌==◌, ◌⊎◌, ◌&&◌, ◌++◌, not, eqb, ltb, Bool, true, false, cond, Option, Some, None, List, [], ◌∷◌, length, get_or, inl, inr, refl, sym, ap, subst, ◌∙◌, arith, min, cond_both, ltb-true, ltb-false, eqb-true, option_map_or, Applied, Opening, Ranges, highest, Step, Load, Store, Exchange, Add, Layout, list_counter, list_end, list_head, greatest_list, answer_of, words_after, word_of, list_block, list_size, intervals_word, length-pairs, next_word, indices_word, begins_at, with_index, Change, Reply, Stage, is_sound_at, Own, Holding, Lists, IsKept, lists_bound, list_refusals_are_kept, claims_are_kept, stores_are_kept, publishings_are_kept, loads_are_true, LawfulWords, getsets_know, Part, core_of, first_at, Lawful, holdings, holding_of, joined_since, own_list, holding_at, AreNotesOf, IsTrueYet}
 use Rattle.partial_active.specs.GetSet as finding
-use Rattle.partial_active.specs.Found.{begins_at}
-use Rattle.partial_active.specs.IndexSet.{with_index}
 use Rattle.partial_active.specs.GetSetAnswers as finding_answers
 use Rattle.partial_active.specs.Knowledge.{knows_by}
 use Rattle.partial_active.specs.declared.get_set.Stage.{Stage as SetStage}
 use Rattle.partial_active.specs.declared.get_set.Stage.TheVariants.{Head, ListLen, ListLow, ListHigh, Counter, Slot, Len, Index, Claim, Write, Publish, Done}
 use Rattle.partial_active.proofs.Extended.{length_normal}
 use Rattle.partial_embedded.specs.Embedded as viewing
-use Rattle.partial_machine.specs.declared.stage.Change.{Change}
-use Rattle.partial_machine.specs.declared.stage.Reply.{Reply}
-use Rattle.partial_machine.specs.declared.stage.Stage.{Stage}
 use Rattle.partial_machine.specs.declared.stage.Stage.TheVariants.{GettingSet, Viewing, ClaimingRecord}
 use Rattle.partial_machine.specs.Machine.{CoreState, getting, with_getting, after_getting, advance_at, step_at, reply_of, reply_at}
-use Rattle.partial_machine.specs.Sound.{is_sound_at}
-use Rattle.partial_state.specs.Holdings.{Own, Holding}
-use Rattle.partial_state.specs.Holdings.Space.{Lists}
-use Rattle.partial_state.specs.Effects.{IsKept}
-use Rattle.partial_state.proofs.NoNewEntry.{lists_bound}
-use Rattle.partial_state.proofs.MarkLaws.{list_refusals_are_kept}
-use Rattle.partial_state.proofs.BlockLaws.{claims_are_kept, stores_are_kept, publishings_are_kept}
-use Rattle.partial_state.proofs.LoadLaw.{loads_are_true}
-use Rattle.partial_state.specs.LawfulWords.{LawfulWords}
 use Rattle.partial_knowledge.specs.Sets as sets
-use Rattle.partial_knowledge.proofs.Sets.{getsets_know}
-use Rattle.partial_core.specs.Part.{Part, core_of, first_at}
-use Rattle.partial_core.specs.Lawful.{Lawful}
-use Rattle.partial_core.specs.Held.{holdings, holding_of, joined_since, own_list, holding_at}
-use Rattle.partial_core.specs.Steps.{AreNotesOf}
-use Rattle.partial_core.specs.Known.{IsTrueYet}
 use Rattle.partial_core.proofs.Parts.{gone}
 use Rattle.partial_core.proofs.Steps.{LeadsAt, holding_in, sizes_here, sound_at, memory_at, going, quiet, load_quiet}
 

@@ -1,34 +1,8 @@
 -- The steps of a join: the claim of a slot, and the store of the announcement in it.
-use Rattle.std.proofs.Common.{ℕ, ◌≡◌, ◌+◌, ◌<◌, ◌≤◌, ◌++◌, Bool, true, false, cond, Some, None, List, [], ◌∷◌, length, get_or, refl, sym, ap, subst, ◌∙◌, arith}
-use Rattle.std.specs.Prelude.{nat_lt, IsTrue}
-use Rattle.std.proofs.lemmas.Bool.{ltb-true, ltb-false}
-use Rattle.partial_model.specs.declared.history.Applied.{Applied}
-use Rattle.partial_model.specs.declared.history.Opening.{Opening}
+use Rattle.partial_core.proofs.Common.{ℕ, ◌≡◌, ◌+◌, ◌<◌, ◌≤◌, ◌++◌, Bool, true, false, cond, Some, None, List, [], ◌∷◌, length, get_or, refl, sym, ap, subst, ◌∙◌, arith, nat_lt, IsTrue, ltb-true, ltb-false, Applied, Opening, MayBeRefused, Step, Store, Add, Layout, slot_word, slot_counter, words_after, join_step, join_after, fits_join, JoinStage, Claiming, Storing, Spent, Stage, ScanBegun, Joining, CoreState, advance_at, step_at, after_joining, slots_refused, reply_at, IsSound, is_sound_at, Holding, LawfulWords, State, Keeps, IsKept, drops_are_kept, slot_refusals_are_kept, slot_claims_are_kept, joins_are_kept, slots_bound, Part, core_of, Lawful, holding_of, holding_at, holdings, joined_since, is_storing, joins_at, call_at, AreNotesOf}
 use Rattle.partial_model.specs.declared.call.Call.TheVariants as call
 use Rattle.partial_model.specs.declared.call.Refused.TheVariants as refused
-use Rattle.partial_model.specs.Notes.{MayBeRefused}
-use Rattle.partial_words.specs.declared.step.Step.{Step}
-use Rattle.partial_words.specs.declared.step.Step.TheVariants.{Store, Add}
-use Rattle.partial_words.specs.Layout.{Layout, slot_word, slot_counter}
-use Rattle.partial_words.specs.Step.{words_after}
-use Rattle.partial_active.specs.Join.{join_step, join_after, fits_join}
-use Rattle.partial_active.specs.declared.join.JoinStage.{JoinStage}
-use Rattle.partial_active.specs.declared.join.JoinStage.TheVariants.{Claiming, Storing, Joined as JoinedIn, Spent}
-use Rattle.partial_machine.specs.declared.stage.Stage.{Stage}
-use Rattle.partial_machine.specs.declared.stage.Stage.TheVariants.{ScanBegun, Joining}
-use Rattle.partial_machine.specs.Machine.{CoreState, advance_at, step_at, after_joining, slots_refused, reply_at}
-use Rattle.partial_machine.specs.Sound.{IsSound, is_sound_at}
-use Rattle.partial_state.specs.Holdings.{Holding}
-use Rattle.partial_state.specs.LawfulWords.{LawfulWords}
-use Rattle.partial_state.specs.Effects.{State, Keeps, IsKept}
-use Rattle.partial_state.proofs.MarkLaws.{drops_are_kept, slot_refusals_are_kept}
-use Rattle.partial_state.proofs.SlotLaws.{slot_claims_are_kept, joins_are_kept}
-use Rattle.partial_state.proofs.NoNewEntry.{slots_bound}
-use Rattle.partial_core.specs.Part.{Part, core_of}
-use Rattle.partial_core.specs.Lawful.{Lawful}
-use Rattle.partial_core.specs.Held.{holding_of, holding_at, holdings, joined_since, is_storing, joins_at}
-use Rattle.partial_machine.specs.Calls.{call_at}
-use Rattle.partial_core.specs.Steps.{AreNotesOf}
+use Rattle.partial_active.specs.declared.join.JoinStage.TheVariants.{Joined as JoinedIn}
 use Rattle.partial_core.proofs.Parts.{gone}
 use Rattle.partial_core.proofs.Leaves.{names_all}
 use Rattle.partial_core.proofs.Steps.{LeadsAt, holding_in, known_here, sizes_here, sound_here, sound_at, memory_at, going, quiet}

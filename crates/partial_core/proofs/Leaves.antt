@@ -1,40 +1,13 @@
 -- The last step of a scan: what it answers stood together after one prefix of the history.
-use Rattle.std.proofs.Common.{ℕ, zero, suc, ◌≡◌, ◌+◌, ◌<◌, ◌≤◌, ◌++◌, Bool, true, false, cond, Option, Some, None, IfSome, IsSome, List, [], ◌∷◌, length, map, slice_get, take, inl, inr, refl, sym, ap, subst, ◌∙◌, arith}
-use Rattle.std.specs.Prelude.{Contains, slice_index, slice_index_or}
-use Rattle.std.specs.List.{AllByRecursion}
-use Rattle.partial_model.specs.declared.history.Applied.{Applied}
-use Rattle.partial_model.specs.declared.history.Opening.{Opening}
+use Rattle.partial_core.proofs.Common.{ℕ, zero, suc, ◌≡◌, ◌+◌, ◌<◌, ◌≤◌, ◌++◌, Bool, true, false, cond, Option, Some, None, IfSome, IsSome, List, [], ◌∷◌, length, map, slice_get, take, inl, inr, refl, sym, ap, subst, ◌∙◌, arith, Contains, slice_index, slice_index_or, AllByRecursion, Applied, Opening, value_of, Noted, NamesComponents, SawTogether, AreCollects, IsEntryFor, place_below, Store, Layout, slot_word, view_of, list_reads_back, Leaving, Finished, CoreState, scanning, scanned_values, scanned_reply, advance_at, step_at, HasPairs, Covers, ViewNames, Holding, IfJoined, unpublished, CoversAll, IsKept, leaves_are_kept, words_after, AreStamps, got, is_sound_at, Part, core_of, Lawful, holding_of, holdings, joined_since, call_at, AllByRecursion-get}
 use Rattle.partial_model.specs.declared.call.Call.TheVariants as call
 use Rattle.partial_model.specs.declared.call.Answer.TheVariants as answer
 use Rattle.partial_model.specs.declared.call.Note.TheVariants as note
-use Rattle.partial_model.specs.History.{value_of}
-use Rattle.partial_model.specs.Notes.{Noted, NamesComponents, SawTogether, AreCollects, IsEntryFor}
-use Rattle.partial_model.proofs.HistoryLemmas.{place_below}
-use Rattle.partial_words.specs.declared.step.Step.TheVariants.{Store}
-use Rattle.partial_words.specs.Layout.{Layout, slot_word}
-use Rattle.partial_words.specs.Record.{view_of}
-use Rattle.partial_words.proofs.BlockLemmas.{list_reads_back}
-use Rattle.partial_machine.specs.declared.stage.Stage.TheVariants.{Leaving, Finished}
-use Rattle.partial_machine.specs.Machine.{CoreState, scanning, scanned_values, scanned_reply, advance_at, step_at}
-use Rattle.partial_state.specs.Views.{HasPairs, Covers, ViewNames}
-use Rattle.partial_state.specs.Holdings.{Holding, IfJoined, unpublished}
-use Rattle.partial_state.specs.LawfulWords.{CoversAll}
-use Rattle.partial_state.specs.Effects.{IsKept}
-use Rattle.partial_state.proofs.SlotLaws.{leaves_are_kept}
-use Rattle.partial_words.specs.Step.{words_after}
 use Rattle.partial_knowledge.specs.Scans as scans
-use Rattle.partial_knowledge.specs.Scans.{AreStamps}
-use Rattle.partial_knowledge.proofs.Scans.{got}
-use Rattle.partial_machine.specs.Sound.{is_sound_at}
-use Rattle.partial_core.specs.Part.{Part, core_of}
-use Rattle.partial_core.specs.Lawful.{Lawful}
-use Rattle.partial_core.specs.Held.{holding_of, holdings, joined_since}
-use Rattle.partial_machine.specs.Calls.{call_at}
 use Rattle.partial_core.proofs.MidCalls.{is_finished}
 use Rattle.partial_core.proofs.Parts.{gone, gone_core, all_at, holdings_split}
 use Rattle.partial_core.proofs.Steps.{LeadsAt, holding_in, known_here, sizes_here, sound_here, sound_at, memory_at, going, ends}
 use Rattle.partial_model.proofs.Values.{element_at}
-use Rattle.partial_model.proofs.NotesLemmas.{AllByRecursion-get}
 
 -- each of the indices names a component
 pub names_all : (m : ℕ) (js : List ℕ) → ((k : ℕ) → k < length js → slice_index js k < m) → AllByRecursion (λ j. j < m) js

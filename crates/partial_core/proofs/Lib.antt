@@ -1,3 +1,4 @@
+mod Common
 pub mod MidCalls
 pub mod Calls
 pub mod Parts

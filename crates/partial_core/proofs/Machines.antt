@@ -1,10 +1,5 @@
 -- The machines of a lawful state.
-use Rattle.std.proofs.Common.{◌⊎◌, sym, ap, subst, ◌∙◌, inl, inr}
-use Rattle.partial_machine.specs.Machine.{CoreState}
-use Rattle.partial_machine.specs.Sound.{IsSound}
-use Rattle.partial_machine.proofs.Behind.{due_at}
-use Rattle.partial_core.specs.Part.{HasBegun, IsLedTo}
-use Rattle.partial_core.specs.Ports.{IsReady, LawfulMachinesAreReady}
+use Rattle.partial_core.proofs.Common.{◌⊎◌, sym, ap, subst, ◌∙◌, inl, inr, CoreState, IsSound, due_at, HasBegun, IsLedTo, IsReady, LawfulMachinesAreReady}
 use Rattle.partial_core.proofs.Steps.{known_here, sizes_here, sound_here, port_here}
 use Rattle.partial_core.proofs.AllSteps.{fresh_call, begin_lawful}
 

@@ -1,19 +1,6 @@
 -- A memory as it opens is lawful.
-use Rattle.std.proofs.Common.{ℕ, zero, suc, ◌≡◌, ◌+◌, ◌≤◌, ◌==◌, ◌++◌, Bool, true, false, cond, None, List, [], ◌∷◌, refl, sym, ◌∙◌, ap, subst, arith}
-use Rattle.std.specs.List.{AllByRecursion}
-use Rattle.partial_model.specs.declared.history.Opening.{Opening}
-use Rattle.partial_model.specs.Notes.{Noted}
-use Rattle.partial_model.specs.Outcome.{places_written}
-use Rattle.partial_words.specs.Layout.{Layout}
-use Rattle.partial_machine.proofs.Laws.{rests_are_sound}
-use Rattle.partial_state.specs.Holdings.{Holding}
-use Rattle.partial_state.specs.LawfulWords.{LawfulWords}
-use Rattle.partial_state.specs.Effects.{idle_holdings}
+use Rattle.partial_core.proofs.Common.{ℕ, zero, suc, ◌≡◌, ◌+◌, ◌≤◌, ◌==◌, ◌++◌, Bool, true, false, cond, None, List, [], ◌∷◌, refl, sym, ◌∙◌, ap, subst, arith, AllByRecursion, Opening, Noted, places_written, Layout, rests_are_sound, Holding, LawfulWords, idle_holdings, IsKnown, notes_by, holdings, fresh_parts, OpensLawful}
 use Rattle.partial_state.proofs.OpeningLaw.{opening_is_lawful}
-use Rattle.partial_core.specs.Known.{IsKnown, notes_by}
-use Rattle.partial_core.specs.Held.{holdings}
-use Rattle.partial_core.specs.Part.{fresh_parts}
-use Rattle.partial_core.specs.Lawful.{OpensLawful}
 
 -- a port that has made no call holds nothing
 pub hold_nothing : (z : Layout) (p n : ℕ) → holdings (fresh_parts z p n) ≡ idle_holdings p n

@@ -1,28 +1,5 @@
 -- A lawful state with one part in the place of another, and with other words.
-use Rattle.std.proofs.Common.{ℕ, ◌+◌, ◌≡◌, ◌≢◌, ◌≤◌, ◌==◌, ◌++◌, Bool, true, false, cond, Option, Some, None, List, [], ◌∷◌, length, take, drop, min, refl, sym, ap, subst, ◌∙◌, arith, append_assoc, length-append, length-take}
-use Rattle.std.specs.List.{AllByRecursion}
-use Rattle.std.proofs.lemmas.Bool.{false≢true, ne_eqb, eq-eqb}
-use Rattle.std.proofs.lemmas.List.{append-nil, take_all, take-append-drop, take-append-le}
-use Rattle.partial_model.specs.declared.history.Applied.{Applied}
-use Rattle.partial_model.specs.declared.history.Opening.{Opening}
-use Rattle.partial_model.specs.Notes.{Noted, LegalNotes, IsLegal, seen_by}
-use Rattle.partial_model.specs.Outcome.{places_by, places_written}
-use Rattle.partial_model.proofs.NotesLemmas.{LegalNotes-push, LegalNotes-grows, places_written-append}
-use Rattle.partial_words.specs.declared.step.Step.{Step}
-use Rattle.partial_words.specs.declared.step.Step.TheVariants.{Load, Store, Exchange, Add}
-use Rattle.partial_words.specs.Layout.{Layout}
-use Rattle.partial_machine.specs.Machine.{CoreState, advance, step_of}
-use Rattle.partial_machine.specs.Possible.{IsPossible}
-use Rattle.partial_state.specs.Holdings.{Holding}
-use Rattle.partial_state.specs.LawfulWords.{LawfulWords}
-use Rattle.partial_state.specs.Loads.{KeptAnswer, IsLoaded}
-use Rattle.partial_state.specs.Effects.{Keeps}
-use Rattle.partial_state.proofs.ListLemmas.{all_weaker}
-use Rattle.partial_core.specs.Part.{Part, led_by, core_of, port_of}
-use Rattle.partial_core.specs.Lawful.{Lawful}
-use Rattle.partial_core.specs.Held.{holding_of, holdings}
-use Rattle.partial_machine.specs.Calls.{is_at_rest}
-use Rattle.partial_core.specs.Known.{IsTrueYet, AreAnswersKept, IsKnown, notes_by}
+use Rattle.partial_core.proofs.Common.{ℕ, ◌+◌, ◌≡◌, ◌≢◌, ◌≤◌, ◌==◌, ◌++◌, Bool, true, false, cond, Option, Some, None, List, [], ◌∷◌, length, take, drop, min, refl, sym, ap, subst, ◌∙◌, arith, append_assoc, length-append, length-take, AllByRecursion, false≢true, ne_eqb, eq-eqb, append-nil, take_all, take-append-drop, take-append-le, Applied, Opening, Noted, LegalNotes, IsLegal, seen_by, places_by, places_written, LegalNotes-push, LegalNotes-grows, places_written-append, Step, Load, Store, Exchange, Add, Layout, CoreState, advance, step_of, IsPossible, Holding, LawfulWords, KeptAnswer, IsLoaded, Keeps, all_weaker, Part, led_by, core_of, port_of, Lawful, holding_of, holdings, is_at_rest, IsTrueYet, AreAnswersKept, IsKnown, notes_by}
 use Rattle.partial_core.proofs.Calls.{led_push}
 
 -- a beginning of a list is no longer than the list

@@ -1,29 +1,5 @@
 -- What a lawful state says of its ports: they are distinct, fit the history, may look, and make few steps.
-use Rattle.std.proofs.Common.{ℕ, suc, ◌≡◌, ◌≢◌, ◌+◌, ◌<◌, ◌≤◌, ◌==◌, ◌++◌, ◌⊎◌, Bool, true, false, cond, List, [], ◌∷◌, length, map, refl, sym, ap, subst, ◌∙◌, inl, inr, arith, append_assoc}
-use Rattle.std.specs.Prelude.{Contains}
-use Rattle.std.specs.List.{AllByRecursion}
-use Rattle.std.proofs.lemmas.Bool.{eq-eqb}
-use Rattle.std.proofs.lemmas.Bool.Decides.{eqb_tells}
-use Rattle.std.proofs.lemmas.List.{take_all, length-map}
-use Rattle.partial_model.specs.declared.history.Applied.{Applied}
-use Rattle.partial_model.specs.declared.history.Opening.{Opening}
-use Rattle.partial_model.specs.Outcome.{places_by, places_written}
-use Rattle.partial_words.specs.Layout.{Layout, IsLayout}
-use Rattle.partial_words.specs.Record.{view_word}
-use Rattle.partial_machine.specs.Machine.{CoreState, advance}
-use Rattle.partial_machine.specs.Bounds.{most_steps}
-use Rattle.partial_machine.specs.Steps.{Run}
-use Rattle.partial_machine.proofs.StepCounts.{makes_few_steps}
-use Rattle.partial_state.specs.Holdings.{Holding, HaveOtherPorts}
-use Rattle.partial_state.specs.LawfulWords.{LawfulWords, IsEntry}
-use Rattle.partial_state.specs.Loads.{KeptAnswer}
-use Rattle.partial_state.proofs.ListLemmas.{all_unmap, all_before, all_after, all_weaker, two_before, two_after}
-use Rattle.partial_core.specs.Part.{Part, led_by, core_of, port_of, answers_of, with_seen}
-use Rattle.partial_core.specs.Held.{holding_of, holdings}
-use Rattle.partial_core.specs.Known.{AreAnswersKept, IsKnown, notes_by}
-use Rattle.partial_core.specs.Lawful.{Lawful}
-use Rattle.partial_core.specs.Steps.{FitsHistory}
-use Rattle.partial_core.specs.Ports.{LawfulPortsFit, LawfulRecordsAreWithin, LooksStayLawful, HasFewSteps, LawfulCallsAreBounded}
+use Rattle.partial_core.proofs.Common.{ℕ, suc, ◌≡◌, ◌≢◌, ◌+◌, ◌<◌, ◌≤◌, ◌==◌, ◌++◌, ◌⊎◌, Bool, true, false, cond, List, [], ◌∷◌, length, map, refl, sym, ap, subst, ◌∙◌, inl, inr, arith, append_assoc, Contains, AllByRecursion, eq-eqb, eqb_tells, take_all, length-map, Applied, Opening, places_by, places_written, Layout, IsLayout, view_word, CoreState, advance, most_steps, Run, makes_few_steps, Holding, HaveOtherPorts, LawfulWords, IsEntry, KeptAnswer, all_unmap, all_before, all_after, all_weaker, two_before, two_after, Part, led_by, core_of, port_of, answers_of, with_seen, holding_of, holdings, AreAnswersKept, IsKnown, notes_by, Lawful, FitsHistory, LawfulPortsFit, LawfulRecordsAreWithin, LooksStayLawful, HasFewSteps, LawfulCallsAreBounded}
 use Rattle.partial_core.proofs.Calls.{led}
 use Rattle.partial_core.proofs.Parts.{seen_within, legal_on, all_changed, holdings_split, once_same, once_own}
 use Rattle.partial_core.proofs.Steps.{known_here, memory_here, port_here}

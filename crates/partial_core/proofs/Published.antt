@@ -1,29 +1,5 @@
 -- The blocks that lawful words publish: none of their words changes behind any step, and so each step is an orderly event.
-use Rattle.std.proofs.Common.{ℕ, ◌≡◌, ◌+◌, ◌<◌, ◌≤◌, ◌++◌, Some, List, [], ◌∷◌, length, inl, inr, sym, subst, ◌∙◌, arith}
-use Rattle.partial_intervals.specs.Intervals.{Ranges}
-use Rattle.partial_model.specs.declared.history.Applied.{Applied}
-use Rattle.partial_model.specs.declared.history.Opening.{Opening}
-use Rattle.partial_words.specs.declared.step.Step.{Step}
-use Rattle.partial_words.specs.Layout.{Layout, list_base, total}
-use Rattle.partial_words.specs.Record.{StandsAt}
-use Rattle.partial_words.specs.Step.{words_after}
-use Rattle.partial_words.specs.Announcement.{announcement_block, announcement_size}
-use Rattle.partial_words.specs.VacatedList.{list_block}
-use Rattle.partial_words.proofs.BlockLemmas.{list_reads_back}
-use Rattle.partial_words.proofs.RecordLemmas.{length-pairs}
-use Rattle.partial_active.specs.Orderly.{IsAnnouncement, IsVacatedList, Publishes, slot_at, head_at}
-use Rattle.partial_active.specs.Moments.{AtSome, IsOrderlyEvent}
-use Rattle.partial_state.specs.Views.{IsAnnounced, IsPublishedList, IsHead}
-use Rattle.partial_state.specs.Holdings.{Holding, unpublished}
-use Rattle.partial_state.specs.LawfulWords.{LawfulWords}
-use Rattle.partial_state.specs.Loads.{IsSlotAnswer, IsPublished}
-use Rattle.partial_state.proofs.Frames.{announcement_claimed, list_claimed, block_published}
-use Rattle.partial_machine.specs.Machine.{CoreState, step_of}
-use Rattle.partial_core.specs.Part.{Part, IsMachineOf}
-use Rattle.partial_core.specs.Held.{holdings}
-use Rattle.partial_core.specs.Lawful.{Lawful}
-use Rattle.partial_core.specs.Steps.{LeadsOn}
-use Rattle.partial_core.specs.Orderly.{StepsAreOrderly}
+use Rattle.partial_core.proofs.Common.{ℕ, ◌≡◌, ◌+◌, ◌<◌, ◌≤◌, ◌++◌, Some, List, [], ◌∷◌, length, inl, inr, sym, subst, ◌∙◌, arith, Ranges, Applied, Opening, Step, Layout, list_base, total, StandsAt, words_after, announcement_block, announcement_size, list_block, list_reads_back, length-pairs, IsAnnouncement, IsVacatedList, Publishes, slot_at, head_at, AtSome, IsOrderlyEvent, IsAnnounced, IsPublishedList, IsHead, Holding, unpublished, LawfulWords, IsSlotAnswer, IsPublished, announcement_claimed, list_claimed, block_published, CoreState, step_of, Part, IsMachineOf, holdings, Lawful, LeadsOn, StepsAreOrderly}
 use Rattle.partial_core.proofs.AllSteps.{steps_stay_lawful}
 use Rattle.partial_core.proofs.Ordered.{slot_now, lawful_is_orderly, same_long, steps_move_slots}
 use Rattle.partial_active.proofs.Indices.{same_named}

@@ -1,43 +1,17 @@
 -- The loads of a read, the first load of an update, and those of embedded scans.
-use Rattle.std.proofs.Common.{ℕ, ◌≡◌, ◌≢◌, ◌<◌, ◌≤◌, ◌==◌, ◌++◌, Bool, true, false, cond, Option, Some, None, IsSome, List, [], ◌∷◌, length, get_or, take, refl, sym, ap, subst, ◌∙◌, arith}
-use Rattle.std.specs.Option.{option_map_or}
+use Rattle.partial_core.proofs.Common.{ℕ, ◌≡◌, ◌≢◌, ◌<◌, ◌≤◌, ◌==◌, ◌++◌, Bool, true, false, cond, Option, Some, None, IsSome, List, [], ◌∷◌, length, get_or, take, refl, sym, ap, subst, ◌∙◌, arith, option_map_or, take_all, Applied, Opening, stamp_of, value_of, Noted, Step, Load, Layout, value_word, Change, Stage, CoreState, at_stage, scanning, with_scanning, expects, begin_getting, after_scanning, step_at, reply_of, reply_at, is_sound_at, IsRecord, IsWithin, Holding, KeptAnswer, loads_are_true, IsReadable, stamp_within, standing, standing_word, Part, core_of, led_by, first_at, Lawful, holding_at, holdings, joined_since, is_begun, call_at, update_call, AreNotesOf, either}
 use Rattle.std.proofs.lemmas.Bool.{false≢true, eqb-false}
-use Rattle.std.proofs.lemmas.List.{take_all}
-use Rattle.partial_model.specs.declared.history.Applied.{Applied}
-use Rattle.partial_model.specs.declared.history.Opening.{Opening}
 use Rattle.partial_model.specs.declared.call.Call.TheVariants as call
 use Rattle.partial_model.specs.declared.call.Answer.TheVariants as answer
 use Rattle.partial_model.specs.declared.call.Note.TheVariants as note
-use Rattle.partial_model.specs.History.{stamp_of, value_of}
-use Rattle.partial_model.specs.Notes.{Noted}
-use Rattle.partial_words.specs.declared.step.Step.{Step}
-use Rattle.partial_words.specs.declared.step.Step.TheVariants.{Load}
-use Rattle.partial_words.specs.Layout.{Layout}
 use Rattle.partial_words.proofs.ChainLemmas.{value_behind_stamp}
-use Rattle.partial_words.specs.Record.{value_word}
 use Rattle.partial_embedded.specs.Embedded as viewing
-use Rattle.partial_machine.specs.declared.stage.Change.{Change}
 use Rattle.partial_machine.specs.declared.stage.Reply.TheVariants as reply
-use Rattle.partial_machine.specs.declared.stage.Stage.{Stage}
 use Rattle.partial_machine.specs.declared.stage.Stage.TheVariants.{ReadBegun, LoadingValue, UpdateBegun, Viewing, ClaimingRecord, Scanning, Leaving, Finished}
-use Rattle.partial_machine.specs.Machine.{CoreState, at_stage, scanning, with_scanning, expects, begin_getting, after_scanning, step_at, reply_of, reply_at}
-use Rattle.partial_machine.specs.Sound.{is_sound_at, IsRecord}
-use Rattle.partial_state.specs.Views.{IsWithin}
-use Rattle.partial_state.specs.Holdings.{Holding}
-use Rattle.partial_state.specs.Loads.{KeptAnswer}
-use Rattle.partial_state.proofs.LoadLaw.{loads_are_true}
-use Rattle.partial_knowledge.specs.Sets.{IsReadable}
 use Rattle.partial_knowledge.specs.Scans as scans
-use Rattle.partial_knowledge.proofs.Chains.{stamp_within, standing, standing_word}
-use Rattle.partial_core.specs.Part.{Part, core_of, led_by, first_at}
-use Rattle.partial_core.specs.Lawful.{Lawful}
-use Rattle.partial_core.specs.Held.{holding_at, holdings, joined_since}
-use Rattle.partial_machine.specs.Calls.{is_begun, call_at, update_call}
-use Rattle.partial_core.specs.Steps.{AreNotesOf}
 use Rattle.partial_core.proofs.MidCalls.{view_leads, view_loads}
 use Rattle.partial_core.proofs.Parts.{gone}
 use Rattle.partial_core.proofs.Steps.{LeadsAt, holding_in, known_here, sizes_here, sound_at, seen_here, going, load_quiet, load_ends, starting}
-use Rattle.partial_machine.proofs.Behind.{either}
 
 module _ (z : Layout) (o : Opening) (words : List ℕ) (before : List Part) (x : Part) (after : List Part) (log : List Applied) (w : Lawful z o words (before ++ x ∷ after) log) where
   -- what all ports hold

@@ -1,35 +1,9 @@
 -- What one step of a port's machine leads to, from what it does to the words and to what the port holds.
-use Rattle.std.proofs.Common.{ℕ, ◌≡◌, ◌<◌, ◌≤◌, ◌++◌, true, false, cond, Option, Some, List, [], ◌∷◌, length, get_or, refl, sym, ap, subst, ◌∙◌, arith}
-use Rattle.std.proofs.lemmas.Bool.{false≢true}
-use Rattle.std.proofs.lemmas.List.{append-nil, take_all}
-use Rattle.partial_model.specs.declared.history.Applied.{Applied}
-use Rattle.partial_model.specs.declared.history.Opening.{Opening}
-use Rattle.partial_model.specs.Notes.{Noted, IsLegal, seen_by, seen_after}
-use Rattle.partial_model.specs.Outcome.{places_by, places_written}
-use Rattle.partial_model.proofs.NotesLemmas.{seen_by-push, places_written-append}
-use Rattle.partial_words.specs.declared.step.Step.{Step}
-use Rattle.partial_words.specs.declared.step.Step.TheVariants.{Load}
-use Rattle.partial_words.specs.Layout.{Layout}
-use Rattle.partial_words.specs.Step.{Answers, answer_of, words_after, word_of}
-use Rattle.partial_machine.specs.declared.stage.Stage.{Stage}
+use Rattle.partial_core.proofs.Common.{ℕ, ◌≡◌, ◌<◌, ◌≤◌, ◌++◌, true, false, cond, Option, Some, List, [], ◌∷◌, length, get_or, refl, sym, ap, subst, ◌∙◌, arith, false≢true, append-nil, take_all, Applied, Opening, Noted, IsLegal, seen_by, seen_after, places_by, places_written, seen_by-push, places_written-append, Step, Load, Layout, Answers, answer_of, words_after, word_of, Stage, CoreState, lists_spent, advance_at, step_at, step_of, reply_of, IsSound, is_sound_at, IsPossible, IsPossibleAt, Holding, LawfulWords, KeptAnswer, IsLoaded, Keeps, loads_are_true, IsReadable, Part, core_of, port_of, led_by, first_at, Lawful, holding_of, holding_at, holdings, joined_from, joined_since, joins_at, own_at, is_begun, is_at_rest, IsTrueYet, IsKnown, AreAnswersKept, AreNotesOf, has_no_step}
 use Rattle.partial_machine.specs.declared.stage.Stage.TheVariants.{Idle, ReadBegun, LoadingValue, UpdateBegun, GettingSet, Viewing, ClaimingRecord, StoringRecord, Exchanging, ScanBegun, StoringAnnouncement, Joining, Scanning, Leaving, Finished}
-use Rattle.partial_machine.specs.Machine.{CoreState, lists_spent, advance_at, step_at, step_of, reply_of}
-use Rattle.partial_machine.specs.Sound.{IsSound, is_sound_at}
-use Rattle.partial_machine.specs.Possible.{IsPossible, IsPossibleAt}
-use Rattle.partial_state.specs.Holdings.{Holding}
-use Rattle.partial_state.specs.LawfulWords.{LawfulWords}
-use Rattle.partial_state.specs.Loads.{KeptAnswer, IsLoaded}
-use Rattle.partial_state.specs.Effects.{Keeps, IsKept as IsKeptBy}
-use Rattle.partial_state.proofs.LoadLaw.{loads_are_true}
-use Rattle.partial_knowledge.specs.Sets.{IsReadable}
-use Rattle.partial_core.specs.Part.{Part, core_of, port_of, led_by, first_at}
-use Rattle.partial_core.specs.Lawful.{Lawful}
+use Rattle.partial_state.specs.Effects.{IsKept as IsKeptBy}
 use Rattle.partial_core.proofs.Added.{added_at}
-use Rattle.partial_core.specs.Held.{holding_of, holding_at, holdings, joined_from, joined_since, joins_at, claimed_at, own_at, due_at}
-use Rattle.partial_machine.specs.Calls.{is_begun, is_at_rest}
-use Rattle.partial_core.specs.Known.{IsTrueYet, IsKnown, AreAnswersKept}
-use Rattle.partial_core.specs.Steps.{AreNotesOf}
-use Rattle.partial_core.specs.Part.{has_no_step}
+use Rattle.partial_core.specs.Held.{claimed_at, due_at}
 use Rattle.partial_core.proofs.MidCalls.{knows_at, Knows}
 use Rattle.partial_core.proofs.Calls.{led, IsLed, called_on, last_at, joined_push}
 use Rattle.partial_core.proofs.Parts.{seen_within, known_grows, gone, gone_core, known_on, known_end, holdings_split, all_at, changed, once_same}

@@ -1,42 +1,11 @@
 -- The store of a word of an update's record: behind the last one the exchange is due.
-use Rattle.std.proofs.Common.{ℕ, ◌≡◌, ◌+◌, ◌<◌, ◌≤◌, ◌==◌, ◌++◌, Bool, true, false, cond, Option, Some, None, IfSome, List, ◌∷◌, length, get_or, slice_get, inl, inr, refl, sym, ap, subst, ◌∙◌, arith}
-use Rattle.std.specs.List.{AllByRecursion}
-use Rattle.std.proofs.lemmas.Bool.{eqb-true}
-use Rattle.partial_model.specs.declared.history.Applied.{Applied}
-use Rattle.partial_model.specs.declared.history.Opening.{Opening}
-use Rattle.partial_words.specs.declared.step.Step.{Step}
-use Rattle.partial_words.specs.declared.step.Step.TheVariants.{Store}
-use Rattle.partial_words.specs.Layout.{Layout, pool_end}
-use Rattle.partial_words.specs.Step.{words_after}
-use Rattle.partial_words.specs.Record.{prev_of, prev_word, view_word, plain_record_size}
-use Rattle.partial_machine.specs.declared.stage.Change.{Change}
-use Rattle.partial_machine.specs.declared.stage.Stage.{Stage}
-use Rattle.partial_machine.specs.declared.stage.Stage.TheVariants.{StoringRecord, Exchanging}
-use Rattle.partial_machine.specs.Machine.{CoreState, at_stage, record_words, record_size, scanning}
-use Rattle.partial_machine.specs.Sound.{AreComponentIndices, is_sound_at}
-use Rattle.partial_state.specs.Views.{JoinedAnnouncement, IsBegunSince}
-use Rattle.partial_state.specs.Holdings.{ClaimedSlot, Holding, Own, Due, IfJoined, unpublished}
-use Rattle.partial_state.specs.Holdings.Space.{Pool}
-use Rattle.partial_state.specs.LawfulWords.{IsEntry}
-use Rattle.partial_state.specs.Loads.{IsPublished}
-use Rattle.partial_state.specs.Effects.{IsKept}
-use Rattle.partial_state.proofs.BlockLaws.{stores_are_kept}
-use Rattle.partial_state.proofs.MarkLaws.{dues_are_kept}
-use Rattle.partial_state.proofs.LoadLaw.{loads_are_true}
-use Rattle.partial_state.proofs.Claimed.{entry_published}
-use Rattle.partial_state.proofs.HoldingLemmas.{if_all, three_words}
-use Rattle.partial_state.proofs.ListLemmas.{all_before, all_after, all_append}
+use Rattle.partial_core.proofs.Common.{ℕ, ◌≡◌, ◌+◌, ◌<◌, ◌≤◌, ◌==◌, ◌++◌, Bool, true, false, cond, Option, Some, None, IfSome, List, ◌∷◌, length, get_or, slice_get, inl, inr, refl, sym, ap, subst, ◌∙◌, arith, AllByRecursion, eqb-true, Applied, Opening, Step, Store, Layout, pool_end, words_after, prev_of, prev_word, view_word, plain_record_size, Change, Stage, StoringRecord, Exchanging, CoreState, at_stage, record_words, record_size, scanning, AreComponentIndices, is_sound_at, JoinedAnnouncement, IsBegunSince, ClaimedSlot, Holding, Own, Due, IfJoined, unpublished, Pool, IsEntry, IsPublished, IsKept, stores_are_kept, dues_are_kept, loads_are_true, entry_published, if_all, three_words, all_before, all_after, all_append, IsThird, Part, core_of, first_at, Lawful, holding_of, holdings, joined_since, AllByRecursion-get}
 use Rattle.partial_knowledge.specs.Sets as sets
-use Rattle.partial_knowledge.specs.Scans.{IsThird}
-use Rattle.partial_core.specs.Part.{Part, core_of, first_at}
-use Rattle.partial_core.specs.Lawful.{Lawful}
-use Rattle.partial_core.specs.Held.{holding_of, holdings, joined_since}
 use Rattle.partial_core.proofs.MidCalls.{IsViewed}
 use Rattle.partial_core.proofs.Parts.{holdings_split}
 use Rattle.partial_core.proofs.Steps.{LeadsAt, holding_in, sizes_here, sound_here, sound_at, memory_at, going, quiet}
 use Rattle.partial_core.proofs.Joins.{keeps_then}
 use Rattle.partial_core.proofs.StoredFacts.{HasViewed, length_record, record_due}
-use Rattle.partial_model.proofs.NotesLemmas.{AllByRecursion-get}
 use Rattle.partial_model.proofs.AllLemmas.{all_where}
 
 -- the announcement of each port that had joined was AllByRecursion-get

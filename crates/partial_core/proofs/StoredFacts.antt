@@ -1,36 +1,6 @@
 -- The record that an update writes: how many words it has, and what its view shows once all of them stand.
-use Rattle.std.proofs.Common.{ℕ, ◌≡◌, ◌≢◌, ◌+◌, ◌<◌, ◌≤◌, ◌==◌, ◌++◌, ◌⊎◌, Bool, true, false, cond, suc, zero, Option, Some, None, List, [], ◌∷◌, length, get_or, slice_get, take, map, inl, inr, refl, sym, ap, subst, ◌∙◌, arith}
-use Rattle.std.specs.Prelude.{Contains, nat_eq}
-use Rattle.std.specs.List.{AllByRecursion, IsDistinct}
-use Rattle.std.specs.Option.{option_map_or, option_map}
-use Rattle.std.proofs.lemmas.Bool.{ne_eqb, eq-eqb, eqb-true, eqb-false, or_cases, false≢true}
-use Rattle.std.proofs.lemmas.List.{length-map}
-use Rattle.partial_model.specs.declared.history.Applied.{Applied}
-use Rattle.partial_model.specs.declared.history.Opening.{Opening}
-use Rattle.partial_model.specs.History.{stamp_of, value_of}
-use Rattle.partial_model.proofs.HistoryLemmas.{place_below}
-use Rattle.partial_words.specs.Layout.{Layout}
-use Rattle.partial_words.specs.Record.{record_block, view_block, StandsAt, ReadsBackRecord, prev_of, view_of, own_view, plain_record_size, full_record_size}
-use Rattle.partial_words.proofs.RecordLemmas.{length-record_block, reads_back}
-use Rattle.partial_active.specs.IndexSet.{has_index}
-use Rattle.partial_machine.specs.declared.stage.Change.{Change}
-use Rattle.partial_machine.specs.Machine.{CoreState, record_words, record_size, own_pairs, view_at, scanning}
-use Rattle.partial_machine.specs.Sound.{AreComponentIndices}
-use Rattle.partial_state.specs.Views.{IsViewOf, Block, JoinedAnnouncement, HasPairs, IsView, HasFreshView, IsWithin, IsBegunSince, Covers, ViewNames, AreApart, IsApartFrom}
-use Rattle.partial_state.specs.Holdings.{Own, Holding, EachTwo, IfJoined, HaveOtherPorts, block_of, block_at, joined_in, other_holdings, unpublished}
-use Rattle.partial_state.specs.Holdings.Space.{Pool}
-use Rattle.partial_state.specs.LawfulWords.{LawfulWords, IsTied, IsOwn, IsDue, CoversAll}
-use Rattle.partial_state.proofs.ListLemmas.{all_weaker, all_at, all_before, all_after, all_append, all_front, all_back, all_map, two_before, two_after}
-use Rattle.partial_state.proofs.HoldingLemmas.{if_some_at, joined_weaker, found_some, filter_append, others_gone, others_all, ports_turn, three_words}
+use Rattle.partial_core.proofs.Common.{ℕ, ◌≡◌, ◌≢◌, ◌+◌, ◌<◌, ◌≤◌, ◌==◌, ◌++◌, ◌⊎◌, Bool, true, false, cond, suc, zero, Option, Some, None, List, [], ◌∷◌, length, get_or, slice_get, take, map, inl, inr, refl, sym, ap, subst, ◌∙◌, arith, Contains, nat_eq, AllByRecursion, IsDistinct, option_map_or, option_map, ne_eqb, eq-eqb, eqb-true, eqb-false, or_cases, false≢true, length-map, Applied, Opening, stamp_of, value_of, place_below, Layout, record_block, view_block, StandsAt, ReadsBackRecord, prev_of, view_of, own_view, plain_record_size, full_record_size, length-record_block, reads_back, has_index, Change, CoreState, record_words, record_size, own_pairs, view_at, scanning, AreComponentIndices, IsViewOf, Block, JoinedAnnouncement, HasPairs, IsView, HasFreshView, IsWithin, IsBegunSince, Covers, ViewNames, AreApart, IsApartFrom, Own, Holding, EachTwo, IfJoined, HaveOtherPorts, block_of, block_at, joined_in, other_holdings, unpublished, Pool, LawfulWords, IsTied, IsOwn, IsDue, CoversAll, all_weaker, all_at, all_before, all_after, all_append, all_front, all_back, all_map, two_before, two_after, if_some_at, joined_weaker, found_some, filter_append, others_gone, others_all, ports_turn, three_words, own_freed, entry_free, unpublished_two, Frame, parts_apart, within_more, pairs_move, own_in_pool, HasAll, HasValues, IsThird, stamp_within, begun_within, AllByRecursion-get}
 use Rattle.partial_state.proofs.Blocks.{unpublished_is}
-use Rattle.partial_state.proofs.BlockLaws.{own_freed}
-use Rattle.partial_state.proofs.Claimed.{entry_free, unpublished_two}
-use Rattle.partial_state.proofs.Frames.{Frame, parts_apart, within_more, pairs_move}
-use Rattle.partial_state.proofs.WinLaw.{own_in_pool}
-use Rattle.partial_knowledge.specs.Sets.{HasAll}
-use Rattle.partial_knowledge.specs.Scans.{HasValues, IsThird}
-use Rattle.partial_knowledge.proofs.Chains.{stamp_within, begun_within}
-use Rattle.partial_model.proofs.NotesLemmas.{AllByRecursion-get}
 
 length_by : (f : Option ℕ) (js : List ℕ) (value : ℕ → ℕ) (old v view : ℕ) → length (record_block old v view (option_map_or (λ _. []) f (map (λ j. (j, value j)) js)))
     ≡ option_map_or (λ _. plain_record_size) f

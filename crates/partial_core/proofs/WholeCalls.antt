@@ -1,31 +1,11 @@
 -- A whole call, step by step.
-use Rattle.std.proofs.Common.{ℕ, ◌≡◌, ◌+◌, ◌<◌, ◌≤◌, ◌++◌, ◌||◌, Bool, true, false, cond, Option, Some, None, List, [], ◌∷◌, length, take, refl, sym, ap, subst, ◌∙◌, arith, length-append}
-use Rattle.std.proofs.lemmas.List.{append-nil, length-map, length_push, map_push, take-append-le}
+use Rattle.partial_core.proofs.Common.{ℕ, ◌≡◌, ◌+◌, ◌<◌, ◌≤◌, ◌++◌, ◌||◌, Bool, true, false, cond, Option, Some, None, List, [], ◌∷◌, length, take, refl, sym, ap, subst, ◌∙◌, arith, length-append, append-nil, length-map, length_push, map_push, take-append-le, Applied, Opening, Noted, Layout, IsLayout, Reply, Stage, Idle, Finished, CoreState, at_stage, advance, reply_at, reply_of, is_begun, is_at_rest, begun_of, begin_scan, IsSound, IsPossible, IsPossibleAt, Run, AreOfScan, pairs_loaded, most_steps, IsMarkedFor, refuses_pool, refuses_slots, IsBehind, calls_begin, rests_are_sound, makes_few_steps, reads_in_two, KeptAnswer, Part, core_of, answers_of, first_at, HasBegun, IsMarkedLike, AreNotesOf, Tells}
 use Rattle.partial_model.specs.declared.call.Call.{Call}
 use Rattle.partial_model.specs.declared.call.Call.TheVariants as call
 use Rattle.partial_model.specs.declared.call.Refused.{Refused}
 use Rattle.partial_model.specs.declared.call.Refused.TheVariants as refused
-use Rattle.partial_model.specs.declared.history.Applied.{Applied}
-use Rattle.partial_model.specs.declared.history.Opening.{Opening}
-use Rattle.partial_model.specs.Notes.{Noted}
-use Rattle.partial_words.specs.Layout.{Layout, IsLayout}
-use Rattle.partial_machine.specs.declared.stage.Reply.{Reply}
 use Rattle.partial_machine.specs.declared.stage.Reply.TheVariants as reply
-use Rattle.partial_machine.specs.declared.stage.Stage.{Stage}
-use Rattle.partial_machine.specs.declared.stage.Stage.TheVariants.{Idle, Finished}
-use Rattle.partial_machine.specs.Machine.{CoreState, at_stage, advance, reply_at, reply_of}
-use Rattle.partial_machine.specs.Calls.{is_begun, is_at_rest, begun_of, begin_scan}
-use Rattle.partial_machine.specs.Sound.{IsSound}
-use Rattle.partial_machine.specs.Possible.{IsPossible, IsPossibleAt}
-use Rattle.partial_machine.specs.Steps.{Run, AreOfScan, pairs_loaded}
-use Rattle.partial_machine.specs.Bounds.{most_steps}
-use Rattle.partial_machine.specs.Behind.{IsMarkedFor, refuses_pool, refuses_slots, IsBehind}
-use Rattle.partial_machine.proofs.Begins.{calls_begin, rests_are_sound}
-use Rattle.partial_machine.proofs.StepCounts.{makes_few_steps, reads_in_two}
 use Rattle.partial_machine.proofs.ScanCounts.{scans_make_their_steps}
-use Rattle.partial_state.specs.Loads.{KeptAnswer}
-use Rattle.partial_core.specs.Part.{Part, core_of, answers_of, first_at, HasBegun, IsMarkedLike}
-use Rattle.partial_core.specs.Steps.{AreNotesOf, Tells}
 use Rattle.partial_core.specs.Calls.{IsRefusedLast, Made, FirstStepsMakeCalls, FurtherStepsMakeCalls, MadeCallsMakeTheirSteps, CallsBeginBetween, PortsComeBetween}
 use Rattle.partial_core.proofs.Parts.{seen_within}
 use Rattle.partial_model.proofs.StampsStay.{take_within}

@@ -1,6 +1,5 @@
 -- The ports of a memory that has opened, and what is held then.
-use Rattle.partial_door.proofs.Common.{◌≡◌, ◌<◌, ℕ, sym, subst, Layout, pool_base, IsOf, MemoryView, new_ports}
-use Rattle.std.proofs.Common.{◌++◌, List, [], ◌∷◌}
+use Rattle.partial_door.proofs.Common.{◌≡◌, ◌<◌, ℕ, sym, subst, Layout, pool_base, IsOf, MemoryView, new_ports, ◌++◌, List, [], ◌∷◌, HasOpened}
 use Rattle.std.specs.List.{AllByRecursion}
 use Rattle.std.specs.Arc.{arc_value}
 use Rattle.partial_model.proofs.AllLemmas.{all_back, all_front}
@@ -8,7 +7,6 @@ use Rattle.partial_memory.specs.Rule.{newcomers}
 use Rattle.partial_memory.specs.Ports.{PortView}
 use Rattle.partial_memory.proofs.Laws.{opened_ports_are_all}
 use Rattle.partial_door.specs.declared.held.OpenMemory.{OpenMemory}
-use Rattle.partial_door.specs.Memories.{HasOpened}
 
 pub homes : (m v : MemoryView) (ports : ℕ) (all : List PortView) → m ≡ v → v.about.ports ≡ ports
     → all ≡ new_ports v.table (newcomers v.about 0 ports) → AllByRecursion (IsOf m) all

@@ -1,11 +1,8 @@
 -- What is held of a long-lived memory that has opened, and why it isn't closed.
-use Rattle.partial_door.proofs.Common.{◌≡◌, ◌∙◌, ℕ, length, sym, ap, subst, inl, inr, Option, Some, PortView, Held}
-use Rattle.std.proofs.Common.{List}
+use Rattle.partial_door.proofs.Common.{◌≡◌, ◌∙◌, ℕ, length, sym, ap, subst, inl, inr, Option, Some, PortView, Held, List, IsNewMemory, MayNotCloseLong, IsUnclosedLong}
 use Rattle.partial_long_lived.specs.declared.options.Options.{Options}
 use Rattle.partial_long_lived.specs.Ports.{MemoryView}
-use Rattle.partial_door.specs.LongMemories.{IsNewMemory, MayNotCloseLong}
 use Rattle.partial_door.specs.LongExports.{ClosesLongAt}
-use Rattle.partial_door.specs.Inner.Long.{IsUnclosedLong}
 
 -- there are as many components as values, by the same memory alone
 pub count_of : (components : ℕ) (m v : MemoryView) → components ≡ length m.about.opening.values → v ≡ m → components ≡ length v.about.opening.values

@@ -1,15 +1,5 @@
 -- Each possible answer keeps the machine, its positions and its buffers together, and leaves fewer steps.
-use Rattle.std.proofs.Common.{ℕ, zero, suc, ◌≡◌, ◌+◌, ◌-◌, ◌*◌, ◌<◌, ◌≤◌, ◌==◌, Bool, true, false, cond, not, ◌&&◌, ◌||◌, ◌⊎◌, List, [], ◌∷◌, length, get_or, set, refl, sym, ◌∙◌, ap, subst, inl, inr, arith, get_or-set_other, get_or-set_same, length-set}
-use Rattle.std.proofs.lemmas.List.{set-get_or}
-use Rattle.std.proofs.lemmas.Bool.{eqb-false, eq-eqb, eqb-false, eq-eqb, ne_eqb, ltb-true, ltb-false, cases_lt, false≢true}
-use Rattle.std.proofs.lemmas.Bool.Decides.{eqb_tells}
-use Rattle.std.proofs.Math.Nat.{mul-le-mul_left}
-use Rattle.std.specs.Prelude.{nat_lt}
-use Rattle.partial_words.specs.Layout.{Layout, pool_base, pool_end}
-use Rattle.partial_words.specs.Record.{pairs_word, next_word, view_size, pairs_size}
-use Rattle.partial_embedded.specs.declared.embedded.Stage.{Stage}
-use Rattle.partial_embedded.specs.declared.embedded.Stage.TheVariants.{Collect, View, Len, Index, PairValue, Value, Done}
-use Rattle.partial_embedded.specs.Embedded.{EmbeddedState, RowsState, ViewPair, AreRowsFor, ArePositions, AreLoaded, IsPlainRecord, ViewGoesTogether, IsPossibleInView, IsPossibleInViewAt, view_goes_at, view_left_at, view_left, count_true, changes, future, is_first, differs, was_changed, noted_load, borrow, go_on, after_collect, after_load, after_view, view_at_stage, with_value, pairs_from, advance_view, advance_view_at, most_view_steps, fresh_view}
+use Rattle.partial_embedded.proofs.Common.{ℕ, zero, suc, ◌≡◌, ◌+◌, ◌-◌, ◌*◌, ◌<◌, ◌≤◌, ◌==◌, Bool, true, false, cond, not, ◌&&◌, ◌||◌, ◌⊎◌, List, [], ◌∷◌, length, get_or, set, refl, sym, ◌∙◌, ap, subst, inl, inr, arith, get_or-set_other, get_or-set_same, length-set, set-get_or, eqb-false, eq-eqb, ne_eqb, ltb-true, ltb-false, cases_lt, false≢true, eqb_tells, mul-le-mul_left, nat_lt, Layout, pool_base, pool_end, pairs_word, next_word, view_size, pairs_size, Stage, Collect, View, Len, Index, PairValue, Value, Done, EmbeddedState, RowsState, ViewPair, AreRowsFor, ArePositions, AreLoaded, IsPlainRecord, ViewGoesTogether, IsPossibleInView, IsPossibleInViewAt, view_goes_at, view_left_at, view_left, count_true, changes, future, is_first, differs, was_changed, noted_load, borrow, go_on, after_collect, after_load, after_view, view_at_stage, with_value, pairs_from, advance_view, advance_view_at, most_view_steps, fresh_view}
 
 -- one position more has changed
 count_set : (l : List Bool) (r k : ℕ) → k < r → k < length l → get_or l k false ≡ false → count_true r (set l k true) ≡ count_true r l + 1

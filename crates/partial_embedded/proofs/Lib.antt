@@ -1,3 +1,4 @@
+mod Common
 pub mod Keeps
 mod Loaded
 pub mod RunLaws

@@ -1,8 +1,5 @@
 -- What a load of an embedded scan leaves, where its answer comes from elsewhere.
-use Rattle.std.proofs.Common.{ℕ, ◌≡◌, ◌≢◌, ◌<◌, List, length, sym, ◌∙◌, ap, subst, arith}
-use Rattle.partial_words.specs.Layout.{Layout}
-use Rattle.partial_embedded.specs.declared.embedded.Stage.TheVariants.{Collect}
-use Rattle.partial_embedded.specs.Embedded.{ViewPair, ViewGoesTogether, IsPossibleInView, advance_view, after_load, view_goes_at, view_left}
+use Rattle.partial_embedded.proofs.Common.{ℕ, ◌≡◌, ◌≢◌, ◌<◌, List, length, sym, ◌∙◌, ap, subst, arith, Layout, Collect, ViewPair, ViewGoesTogether, IsPossibleInView, advance_view, after_load, view_goes_at, view_left}
 use Rattle.partial_embedded.proofs.Keeps.{kept, sizes_stay, collects_grow}
 
 -- the loads are at the scan q, which goes together with its positions and is nearer to its end than p

@@ -1,13 +1,7 @@
 -- Over every run the machine goes together with its positions, so its steps and collects are bounded.
-use Rattle.std.proofs.Common.{ℕ, ◌≡◌, ◌+◌, ◌<◌, ◌≤◌, Bool, Some, List, [], ◌∷◌, length, get_or, refl, sym, ◌∙◌, ap, subst, arith}
+use Rattle.partial_embedded.proofs.Common.{ℕ, ◌≡◌, ◌+◌, ◌<◌, ◌≤◌, Bool, Some, List, [], ◌∷◌, length, get_or, refl, sym, ◌∙◌, ap, subst, arith, Layout, view_word, Stage, Collect, View, Len, Index, PairValue, Value, Done, ViewPair, RowsState, ViewGoesTogether, view_goes_at, fresh_view, advance_view, view_step_at, view_left, ViewRun, RunsTo, IsOfPosition, LoadsItsPositionsAlone, MakesFewCollects}
 use Rattle.partial_words.specs.declared.step.Step.{Step}
 use Rattle.partial_words.specs.declared.step.Step.TheVariants.{Load}
-use Rattle.partial_words.specs.Layout.{Layout}
-use Rattle.partial_words.specs.Record.{view_word}
-use Rattle.partial_embedded.specs.declared.embedded.Stage.{Stage}
-use Rattle.partial_embedded.specs.declared.embedded.Stage.TheVariants.{Collect, View, Len, Index, PairValue, Value, Done}
-use Rattle.partial_embedded.specs.Embedded.{ViewPair, RowsState, ViewGoesTogether, view_goes_at, fresh_view, advance_view, view_step_at, view_left}
-use Rattle.partial_embedded.specs.Runs.{ViewRun, RunsTo, IsOfPosition, LoadsItsPositionsAlone, MakesFewCollects}
 use Rattle.partial_embedded.proofs.Keeps.{kept, sizes_stay, fresh_together, fresh_left}
 
 -- what holds behind a run

@@ -1,21 +1,11 @@
 -- No due step stores or adds to a component word, and an exchange of one is of two references; the pool's counter grows by claims alone.
-use Rattle.partial_epochs.proofs.Common.{ℕ, ◌≡◌, ◌<◌, ◌≤◌, ◌⊎◌, ◌++◌, Bool, true, false, cond, Some, None, IfSome, List, [], ◌∷◌, length, refl, sym, ap, subst, ◌∙◌, inl, inr, arith, ⊤, is_some, Applied, Opening, all_at, some_same, Step, Load, Store, Exchange, Add, Layout, IsLayout, slot_counter, slot_word, list_base, list_head, list_counter, pool_counter, greatest_record, CoreState, record_size, step_at, step_of, is_begun, IsSound, is_sound_at, Holding, IsOwn, IsTied, Part, IsMachineOf, core_of, holdings, joined_since, own_list, lawful_machines_are_ready, seal}
-use Rattle.partial_words.specs.Announcement.{announcement_size}
-use Rattle.partial_active.specs.Join.{join_step}
-use Rattle.partial_active.specs.declared.join.JoinStage.{JoinStage}
-use Rattle.partial_active.specs.declared.join.JoinStage.TheVariants.{Claiming, Storing, Joined, Spent}
+use Rattle.partial_epochs.proofs.Common.{ℕ, ◌≡◌, ◌<◌, ◌≤◌, ◌⊎◌, ◌++◌, Bool, true, false, cond, Some, None, IfSome, List, [], ◌∷◌, length, refl, sym, ap, subst, ◌∙◌, inl, inr, arith, ⊤, is_some, Applied, Opening, all_at, some_same, Step, Load, Store, Exchange, Add, Layout, IsLayout, slot_counter, slot_word, list_base, list_head, list_counter, pool_counter, greatest_record, CoreState, record_size, step_at, step_of, is_begun, IsSound, is_sound_at, Holding, IsOwn, IsTied, Part, IsMachineOf, core_of, holdings, joined_since, own_list, lawful_machines_are_ready, seal, announcement_size, join_step, JoinStage, Claiming, Storing, Joined, Spent, Change, Stage, Idle, ReadBegun, LoadingValue, UpdateBegun, GettingSet, Viewing, ClaimingRecord, StoringRecord, Exchanging, ScanBegun, StoringAnnouncement, Joining, Scanning, Leaving, Finished, size_few, view_loads, holding_in, memory_at, sizes_here, sound_at, sound_here}
 use Rattle.partial_active.specs.declared.get_set.Stage.{Stage as SetStage}
 use Rattle.partial_active.specs.declared.get_set.Stage.TheVariants as set
 use Rattle.partial_active.specs.GetSet as finding
 use Rattle.partial_embedded.specs.declared.embedded.Stage.{Stage as ViewStage}
 use Rattle.partial_embedded.specs.Embedded as viewing
-use Rattle.partial_machine.specs.declared.stage.Change.{Change}
-use Rattle.partial_machine.specs.declared.stage.Stage.{Stage}
-use Rattle.partial_machine.specs.declared.stage.Stage.TheVariants.{Idle, ReadBegun, LoadingValue, UpdateBegun, GettingSet, Viewing, ClaimingRecord, StoringRecord, Exchanging, ScanBegun, StoringAnnouncement, Joining, Scanning, Leaving, Finished}
-use Rattle.partial_machine.proofs.Sound.{size_few}
 use Rattle.partial_core.specs.Lawful.{Lawful}
-use Rattle.partial_core.proofs.MidCalls.{view_loads}
-use Rattle.partial_core.proofs.Steps.{holding_in, memory_at, sizes_here, sound_at, sound_here}
 
 abbrev pub IsApart : Layout → Step → Type 0
 IsApart z (Load w) = ⊤

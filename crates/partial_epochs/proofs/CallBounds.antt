@@ -1,11 +1,10 @@
 -- Each step of a call leaves fewer steps, so a call makes few.
-use Rattle.partial_epochs.proofs.Common.{ℕ, zero, suc, ◌≡◌, ◌+◌, ◌*◌, ◌-◌, ◌<◌, ◌≤◌, ◌==◌, Bool, true, false, cond, Option, Some, None, List, [], ◌∷◌, length, refl, sym, ap, subst, arith, inl, inr, ◌∙◌, nat_lt, list_all, Call, Noted, indices_of, IsLayout, Layout, first_free, Step, most_steps, steps_left, CoreState, reply_of, call_of, IsSound, Reply, Plan, Port, Beside, MayMove, Makes, LawfulMemory, Act, ChangeLeads, Changing, next_arena, next_component, next_load, next_pass, next_port, next_set, passes, CallStep, Doing, IsCallOf, IsUpdate, CallLeads, MayAct, RunsCall, after_step, behind_answer, begun, changed, ran, round, started, last_loads}
+use Rattle.partial_epochs.proofs.Common.{ℕ, zero, suc, ◌≡◌, ◌+◌, ◌*◌, ◌-◌, ◌<◌, ◌≤◌, ◌==◌, Bool, true, false, cond, Option, Some, None, List, [], ◌∷◌, length, refl, sym, ap, subst, arith, inl, inr, ◌∙◌, nat_lt, list_all, Call, Noted, indices_of, IsLayout, Layout, first_free, Step, most_steps, steps_left, CoreState, reply_of, call_of, IsSound, Reply, Plan, Port, Beside, MayMove, Makes, LawfulMemory, Act, ChangeLeads, Changing, next_arena, next_component, next_load, next_pass, next_port, next_set, passes, CallStep, Doing, IsCallOf, IsUpdate, CallLeads, MayAct, RunsCall, after_step, behind_answer, begun, changed, ran, round, started, last_loads, ChangesAreBounded, ConditionalUpdatesAreBounded, ReadsMakeEight, ScansAreBounded, UpdatesAreBounded, most_of_change, opening_steps, pass_steps}
 use Rattle.partial_model.specs.declared.call.Call.TheVariants as call
 use Rattle.partial_machine.proofs.Laws.{makes_few_steps}
 use Rattle.partial_machine.specs.declared.stage.Reply.TheVariants as reply
 use Rattle.partial_epochs.specs.Changing as changing
 use Rattle.partial_epochs.specs.Calls as calls
-use Rattle.partial_epochs.specs.Bounds.{ChangesAreBounded, ConditionalUpdatesAreBounded, ReadsMakeEight, ScansAreBounded, UpdatesAreBounded, most_of_change, opening_steps, pass_steps}
 use Rattle.partial_epochs.proofs.Left.{arenas_left, behind, change_left, fresh_left, left}
 use Rattle.partial_epochs.proofs.MachineSteps.{machine_ready, makes_fewer}
 

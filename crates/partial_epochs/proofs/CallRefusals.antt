@@ -1,11 +1,9 @@
 -- Why calls are refused, and that a refused call has applied nothing.
-use Rattle.partial_epochs.proofs.Common.{ℕ, zero, suc, ◌≡◌, ◌≢◌, ◌+◌, ◌<◌, ◌≤◌, Bool, true, false, cond, Option, Some, None, List, [], ◌∷◌, refl, sym, ap, subst, ◌∙◌, inl, inr, arith, ◌&&◌, nat_lt, AllByRecursion, list_all, cases_lt, lt-ltb, Applied, Call, Noted, indices_of, CoreState, reply_of, Reply, Plan, epoch_limit, Port, Beside, Move, Act, Changing, IsHere, Refusal, ActLeads, CallStep, Doing, IsUpdate, CallLeads, RunsCall, after_step, behind_answer, begun, changed, ran, round, started, Moves, Sees, Answered, Changes, Judges, LoadsWord, Looks, Refused, Runs, Starts, Tells, Arrived, EndsPass, LooksFirst, Refuses, not_below}
+use Rattle.partial_epochs.proofs.Common.{ℕ, zero, suc, ◌≡◌, ◌≢◌, ◌+◌, ◌<◌, ◌≤◌, Bool, true, false, cond, Option, Some, None, List, [], ◌∷◌, refl, sym, ap, subst, ◌∙◌, inl, inr, arith, ◌&&◌, nat_lt, AllByRecursion, list_all, cases_lt, lt-ltb, Applied, Call, Noted, indices_of, CoreState, reply_of, Reply, Plan, epoch_limit, Port, Beside, Move, Act, Changing, IsHere, Refusal, ActLeads, CallStep, Doing, IsUpdate, CallLeads, RunsCall, after_step, behind_answer, begun, changed, ran, round, started, Moves, Sees, Answered, Changes, Judges, LoadsWord, Looks, Refused, Runs, Starts, Tells, Arrived, EndsPass, LooksFirst, Refuses, not_below, Component, EpochsSpent, NoArena, Overtaken, AppliesNothing, ChangesAreRefused, ComponentsAreMissing, OvertakenCallsMovedOn, RefusedCallsApplyNothing}
 use Rattle.partial_model.specs.declared.call.Call.TheVariants as call
 use Rattle.partial_machine.specs.declared.stage.Reply.TheVariants as reply
 use Rattle.partial_epochs.specs.EveryStep as every
-use Rattle.partial_epochs.specs.Changing.Refusal.{Component, EpochsSpent, NoArena, Overtaken}
 use Rattle.partial_epochs.specs.Calls as calls
-use Rattle.partial_epochs.specs.Refusals.{AppliesNothing, ChangesAreRefused, ComponentsAreMissing, OvertakenCallsMovedOn, RefusedCallsApplyNothing}
 use Rattle.partial_epochs.proofs.CallBounds.{steps_leave_fewer}
 use Rattle.partial_epochs.proofs.CallEnds.{Ends, IsGoing, arrive_place, change_causes, change_ends, leads_here, step_none, still_epoch}
 use Rattle.partial_epochs.proofs.Room.{not_true}

@@ -1,8 +1,6 @@
 -- Every step of every port keeps the memory lawful.
-use Rattle.partial_epochs.proofs.Common.{ℕ, ◌≡◌, ◌+◌, ◌<◌, ◌≤◌, ◌⊎◌, ◌++◌, List, [], ◌∷◌, length, get_or, refl, sym, ap, subst, ◌∙◌, inl, inr, arith, append-nil, Applied, eqb_tells, Noted, Step, Add, CoreState, put, Place, Plan, at_word, current_word, packed, seal, Control, Port, history_of, public_log, Marks, Loaded, Beside, LawfulEpochs, place_now, arrived_port, having_passed, MayPut, cleaner, having_given, having_loaded, having_looked, having_put, just_taken, owning_port, having_published, having_set, next_beside, vacated, EveryStepStaysLawful, IsPlacedBy, MayAdd, MayMove, MemoriesOpenLawful, Move, MoveLeads, moved_words, since_behind, Makes, Seals, PassesSealed, LooksAsOwner, StoresMark, LoadsCurrent, ExchangesMark, Takes, Gives, FindsElsewhere, LoadsMark, Puts, Sets, Notes, MachineLeads, IsAside, LawfulMemory, having_seen, noting, one_history, FindsClear}
-use Rattle.partial_epochs.specs.Sealing.{passing_port}
+use Rattle.partial_epochs.proofs.Common.{ℕ, ◌≡◌, ◌+◌, ◌<◌, ◌≤◌, ◌⊎◌, ◌++◌, List, [], ◌∷◌, length, get_or, refl, sym, ap, subst, ◌∙◌, inl, inr, arith, append-nil, Applied, eqb_tells, Noted, Step, Add, CoreState, put, Place, Plan, at_word, current_word, packed, seal, Control, Port, history_of, public_log, Marks, Loaded, Beside, LawfulEpochs, place_now, arrived_port, having_passed, MayPut, cleaner, having_given, having_loaded, having_looked, having_put, just_taken, owning_port, having_published, having_set, next_beside, vacated, EveryStepStaysLawful, IsPlacedBy, MayAdd, MayMove, MemoriesOpenLawful, Move, MoveLeads, moved_words, since_behind, Makes, Seals, PassesSealed, LooksAsOwner, StoresMark, LoadsCurrent, ExchangesMark, Takes, Gives, FindsElsewhere, LoadsMark, Puts, Sets, Notes, MachineLeads, IsAside, LawfulMemory, having_seen, noting, one_history, FindsClear, passing_port, KeepsTime}
 use Rattle.partial_epochs.specs.EveryStep.Move.{Looks, Publishes}
-use Rattle.partial_epochs.specs.Time.{KeepsTime}
 use Rattle.partial_epochs.proofs.Entering.{arrivals_stay_lawful, entries_load, looks_are_true, marks_stay_lawful}
 use Rattle.partial_epochs.proofs.Lists.{put_other, put_same}
 use Rattle.partial_epochs.proofs.MachineSteps.{machine_steps_stay_lawful}

@@ -1,10 +1,8 @@
 -- How many steps of a call are left at most: a number that each step lowers.
-use Rattle.partial_epochs.proofs.Common.{if◌then◌else◌, Call, first_free, most_steps, steps_left, Plan, Changing, passes, Doing}
-use Rattle.std.specs.Prelude.{ℕ, zero, suc, ◌+◌, ◌*◌, ◌-◌, Bool, true, false}
+use Rattle.partial_epochs.proofs.Common.{if◌then◌else◌, Call, first_free, most_steps, steps_left, Plan, Changing, passes, Doing, ℕ, zero, suc, ◌+◌, ◌*◌, ◌-◌, Bool, true, false, arena_steps, most_of_change, opening_steps, pass_steps}
 use Rattle.partial_model.specs.declared.call.Call.TheVariants as call
 use Rattle.partial_epochs.specs.Changing as changing
 use Rattle.partial_epochs.specs.Calls as calls
-use Rattle.partial_epochs.specs.Bounds.{arena_steps, most_of_change, opening_steps, pass_steps}
 
 -- what is left of a change of epoch behind arena x, with so many passes left behind this one
 abbrev pub arenas_left : Plan → ℕ → ℕ → ℕ

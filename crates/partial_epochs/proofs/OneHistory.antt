@@ -1,6 +1,5 @@
 -- The histories of all epochs, one behind the other, are one history.
-use Rattle.partial_epochs.proofs.Common.{ℕ, zero, suc, ◌≡◌, ◌≢◌, ◌+◌, ◌*◌, ◌<◌, ◌≤◌, ◌++◌, Some, List, [], ◌∷◌, length, map, slice_get, Contains, get_or, refl, sym, ap, subst, ◌∙◌, inl, inr, arith, length-append, append_assoc, AllByRecursion, mul-le-mul_right, cases_lt, eqb_tells, length-map, Applied, HaveDistinctStamps, IsHistory, initial_stamp, all_append, all_map, all_weaker, distinct_at, first_free, total, IsEntry, Part, port_of, lawful_ports_fit, list_of, Plan, arena_words, epoch_limit, history_of, opening_behind, public_entry, public_log, stamp_limit, Epoch, Port, Beside, IsEpochPlan, LawfulEpochs, EpochsFitOneHistory, IsEpochHistory, PublicStampsAreUnique, EpochReached, one_history, seen_of}
-use Rattle.partial_words.specs.Record.{plain_record_size}
+use Rattle.partial_epochs.proofs.Common.{ℕ, zero, suc, ◌≡◌, ◌≢◌, ◌+◌, ◌*◌, ◌<◌, ◌≤◌, ◌++◌, Some, List, [], ◌∷◌, length, map, slice_get, Contains, get_or, refl, sym, ap, subst, ◌∙◌, inl, inr, arith, length-append, append_assoc, AllByRecursion, mul-le-mul_right, cases_lt, eqb_tells, length-map, Applied, HaveDistinctStamps, IsHistory, initial_stamp, all_append, all_map, all_weaker, distinct_at, first_free, total, IsEntry, Part, port_of, lawful_ports_fit, list_of, Plan, arena_words, epoch_limit, history_of, opening_behind, public_entry, public_log, stamp_limit, Epoch, Port, Beside, IsEpochPlan, LawfulEpochs, EpochsFitOneHistory, IsEpochHistory, PublicStampsAreUnique, EpochReached, one_history, seen_of, plain_record_size}
 
 -- two histories whose stamps lie apart
 distinct_both : (n : ℕ) (a b : List Applied) → HaveDistinctStamps a → HaveDistinctStamps b → AllByRecursion (λ (x : Applied). x.stamp < n) a → AllByRecursion (λ (x : Applied). n ≤ x.stamp) b →

@@ -1,9 +1,7 @@
 -- A memory opens lawful.
-use Rattle.partial_epochs.proofs.Common.{ℕ, ◌≡◌, ◌≢◌, ◌+◌, ◌<◌, ◌≤◌, ◌⊎◌, Some, None, List, [], length, get_or, refl, sym, ap, subst, ◌∙◌, inl, inr, arith, option_map, cases_lt, eqb_tells, some_same, first_free, pool_counter, slot_counter, total, Part, fresh_part, Plan, arena_words, base, carried_word, carried_words, component_words, control_size, control_words, plain, seal, Epoch, LawfulControl, Beside, IsArena, LawfulEpochs, awaits_slot, controls, numbers, place_now, EpochsOpenLawful, OpensAll, first_beside, first_place, first_ports, first_epoch, nothing_held, OpensOver}
+use Rattle.partial_epochs.proofs.Common.{ℕ, ◌≡◌, ◌≢◌, ◌+◌, ◌<◌, ◌≤◌, ◌⊎◌, Some, None, List, [], length, get_or, refl, sym, ap, subst, ◌∙◌, inl, inr, arith, option_map, cases_lt, eqb_tells, some_same, first_free, pool_counter, slot_counter, total, Part, fresh_part, Plan, arena_words, base, carried_word, carried_words, component_words, control_size, control_words, plain, seal, Epoch, LawfulControl, Beside, IsArena, LawfulEpochs, awaits_slot, controls, numbers, place_now, EpochsOpenLawful, OpensAll, first_beside, first_place, first_ports, first_epoch, nothing_held, OpensOver, opening_component, pool_opens, slot_opens}
 use Rattle.partial_core.specs.Lawful as one
 use Rattle.partial_epochs.proofs.Lists.{at_of, count_none, length_of, put_other, put_same}
-use Rattle.partial_words.proofs.LayoutLemmas.{opening_component}
-use Rattle.partial_state.proofs.OpeningLaw.{pool_opens, slot_opens}
 use Rattle.partial_epochs.proofs.Opens.{opens_over}
 use Rattle.partial_epochs.proofs.Places.{packed_arena}
 use Rattle.partial_epochs.proofs.Publishes.{fresh_list}

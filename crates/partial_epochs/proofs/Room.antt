@@ -1,11 +1,10 @@
 -- No machine is marked for the pool nor for the slots, and none is refused.
-use Rattle.partial_epochs.proofs.Common.{Option, ℕ, ◌≡◌, ◌≢◌, ◌<◌, ◌++◌, Bool, true, false, Some, List, ◌∷◌, refl, sym, ap, subst, ◌∙◌, inl, inr, arith, ◌||◌, Opening, all_at, Step, answer_of, words_after, Reply, CoreState, advance, reply_of, IsTied, IsMachineOf, Part, core_of, holdings, joined_since, put, Plan, arena_words, carried_words, component_words, placed_step, opening_behind, Control, Epoch, Port, Stands, Beside, IsArena, IsStanding, LawfulEpochs, HaveSlots, MachineLeads, MachinesAreNeverRefused, MarksNeverCome}
+use Rattle.partial_epochs.proofs.Common.{Option, ℕ, ◌≡◌, ◌≢◌, ◌<◌, ◌++◌, Bool, true, false, Some, List, ◌∷◌, refl, sym, ap, subst, ◌∙◌, inl, inr, arith, ◌||◌, Opening, all_at, Step, answer_of, words_after, Reply, CoreState, advance, reply_of, IsTied, IsMachineOf, Part, core_of, holdings, joined_since, put, Plan, arena_words, carried_words, component_words, placed_step, opening_behind, Control, Epoch, Port, Stands, Beside, IsArena, IsStanding, LawfulEpochs, HaveSlots, MachineLeads, MachinesAreNeverRefused, MarksNeverCome, holding_in, memory_at}
 use Rattle.partial_model.specs.declared.call.Refused.{Refused}
 use Rattle.partial_model.specs.declared.call.Refused.TheVariants as refused
 use Rattle.partial_machine.specs.declared.stage.Reply.TheVariants as reply
 use Rattle.partial_machine.specs.Behind.{refuses_pool, refuses_slots}
 use Rattle.partial_core.specs.Lawful as one
-use Rattle.partial_core.proofs.Steps.{holding_in, memory_at}
 use Rattle.partial_epochs.proofs.Lists.{Around, around_of, put_same}
 use Rattle.partial_epochs.proofs.Slots.{pool_within}
 

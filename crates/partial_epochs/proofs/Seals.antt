@@ -1,6 +1,5 @@
 -- A seal, and the load of a component that is sealed already.
-use Rattle.partial_epochs.proofs.Common.{ℕ, ◌≡◌, ◌≢◌, ◌+◌, ◌/◌, ◌%◌, ◌^◌, ◌<◌, ◌≤◌, ◌⊎◌, true, List, [], length, get_or, set, refl, sym, ap, subst, ◌∙◌, inl, inr, arith, nat_lt, cases_lt, lt-ltb, eqb_tells, append-nil, get_or-set_same, get_or-set_other, length-set, set-get_or, Add, total, words_after, count, put, Plan, IsSealed, arena_words, base, carried_words, component_words, plain, seal, seals, Port, Epoch, Beside, IsArena, IsStanding, LawfulEpochs, Stands, not_below}
-use Rattle.partial_epochs.specs.Sealing.{PassLeads, SealsStayLawful, SealedPassesStayLawful, passing_port}
+use Rattle.partial_epochs.proofs.Common.{ℕ, ◌≡◌, ◌≢◌, ◌+◌, ◌/◌, ◌%◌, ◌^◌, ◌<◌, ◌≤◌, ◌⊎◌, true, List, [], length, get_or, set, refl, sym, ap, subst, ◌∙◌, inl, inr, arith, nat_lt, cases_lt, lt-ltb, eqb_tells, append-nil, get_or-set_same, get_or-set_other, length-set, set-get_or, Add, total, words_after, count, put, Plan, IsSealed, arena_words, base, carried_words, component_words, plain, seal, seals, Port, Epoch, Beside, IsArena, IsStanding, LawfulEpochs, Stands, not_below, PassLeads, SealsStayLawful, SealedPassesStayLawful, passing_port}
 use Rattle.partial_epochs.proofs.Change.{Changes, beside_then, change_kept}
 use Rattle.partial_epochs.proofs.Lists.{count_few, count_more, count_same, put_all, put_other, put_same}
 use Rattle.partial_epochs.proofs.Places.{below_whole}

@@ -1,7 +1,5 @@
 -- What a port has seen of its epoch it finds in the words of its arena.
-use Rattle.partial_epochs.proofs.Common.{ℕ, ◌≡◌, ◌+◌, ◌<◌, ◌≤◌, List, length, take, get_or, sym, ap, subst, ◌∙◌, arith, Applied, Opening, stamp_of, value_of, stamp_all, take_within, total, RecordsAreWithin, lawful_records_are_within, list_of, Plan, arena_words, base, opening_behind, Port, Beside, IsStanding, LawfulEpochs, IsSeenRecord, SeenRecordsStay}
-use Rattle.partial_words.proofs.ChainLemmas.{value_behind_stamp}
-use Rattle.partial_words.specs.Record.{value_word, view_word}
+use Rattle.partial_epochs.proofs.Common.{ℕ, ◌≡◌, ◌+◌, ◌<◌, ◌≤◌, List, length, take, get_or, sym, ap, subst, ◌∙◌, arith, Applied, Opening, stamp_of, value_of, stamp_all, take_within, total, RecordsAreWithin, lawful_records_are_within, list_of, Plan, arena_words, base, opening_behind, Port, Beside, IsStanding, LawfulEpochs, IsSeenRecord, SeenRecordsStay, value_behind_stamp, value_word, view_word}
 use Rattle.partial_core.specs.Lawful as one
 use Rattle.partial_epochs.proofs.Continue.{all_taken, carried_there, epoch_behind}
 use Rattle.partial_epochs.proofs.Places.{below_whole}

@@ -1,10 +1,7 @@
 -- What each edit of `add` makes of the list: a normal form of the set with one number more.
-use Rattle.std.proofs.Common.{◌≡◌, ℕ, ◌+◌, ◌-◌, ◌<◌, ◌≤◌, ◌↔◌, ◌⊎◌, length, get_or, set, inl, inr, ap, subst, ◌∙◌, arith}
-use Rattle.std.specs.List.{insert, remove}
-use Rattle.std.proofs.lemmas.Bool.{cases_eq, cases_lt, cases_order}
+use Rattle.partial_intervals.proofs.Common.{◌≡◌, ℕ, ◌+◌, ◌-◌, ◌<◌, ◌≤◌, ◌↔◌, ◌⊎◌, length, get_or, set, inl, inr, ap, subst, ◌∙◌, arith, insert, remove, cases_eq, cases_lt, cases_order, Ranges, lowest, highest, Holds, IsNormal, IsCountUpTo}
 use Rattle.std.proofs.lemmas.List.{length-set, get_or_read, get_or-set_same, get_or-set_other}
 use Rattle.std.proofs.lemmas.List.Edits.{length-insert, get_or-insert_below, get_or-insert_at, get_or-insert_above, length-remove, get_or-remove_below, get_or-remove_above}
-use Rattle.partial_intervals.specs.Intervals.{Ranges, lowest, highest, Holds, IsNormal, IsCountUpTo}
 
 -- the new list is the normal form of the old set with l
 pub record Adds (old new : Ranges) (l : ℕ) : Type 0 where

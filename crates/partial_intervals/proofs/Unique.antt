@@ -1,7 +1,5 @@
 -- The normal form of a set is one.
-use Rattle.std.proofs.Common.{ℕ, zero, suc, ◌≡◌, ◌+◌, ◌<◌, ◌≤◌, [], ◌∷◌, refl, sym, ap, ◌∙◌, inl, inr, arith}
-use Rattle.std.proofs.lemmas.Bool.{cases_lt}
-use Rattle.partial_intervals.specs.Intervals.{Ranges, lowest, Holds, IsNormal, NormalFormsAreUnique}
+use Rattle.partial_intervals.proofs.Common.{ℕ, zero, suc, ◌≡◌, ◌+◌, ◌<◌, ◌≤◌, [], ◌∷◌, refl, sym, ap, ◌∙◌, inl, inr, arith, cases_lt, Ranges, lowest, Holds, IsNormal, NormalFormsAreUnique}
 
 normal_tail : (r : ℕ × ℕ) (a : Ranges) → IsNormal (r ∷ a) → IsNormal a
 normal_tail r a w = record {

@@ -1,24 +1,8 @@
 -- Records of a history in lawful words: what stands before a record, and which words may be loaded.
-use Rattle.std.proofs.Common.{ℕ, zero, suc, ◌≡◌, ◌≢◌, ◌+◌, ◌<◌, ◌≤◌, ◌++◌, cond, List, [], ◌∷◌, length, map, take, get_or, slice_get, Some, None, refl, sym, ◌∙◌, ap, subst, inl, inr, arith}
-use Rattle.std.specs.List.{AllByRecursion}
-use Rattle.std.proofs.lemmas.Bool.{cases_lt, eq-eqb}
+use Rattle.partial_knowledge.proofs.Common.{ℕ, zero, suc, ◌≡◌, ◌≢◌, ◌+◌, ◌<◌, ◌≤◌, ◌++◌, cond, List, [], ◌∷◌, length, map, take, get_or, slice_get, Some, None, refl, sym, ◌∙◌, ap, subst, inl, inr, arith, AllByRecursion, cases_lt, eq-eqb, Applied, Opening, IsHistory, initial_stamp, stamp_of, last_entry, last_from-push, last_at, overtaken_at, take_within, in_whole, distinct_at, stamp_told, Layout, pool_base, pool_end, pool_counter, initial_words, prev_of, plain_record_size, prev_before_entry, Block, AreApart, IsApartFrom, IsWithin, IsBegunSince, Holding, unpublished, announcements, block_at, EachTwo, LawfulWords, IsEntry, IsReadable, HasEntry, AllByRecursion-get}
 use Rattle.partial_model.proofs.AllLemmas.{all_back}
-use Rattle.partial_model.specs.declared.history.Applied.{Applied}
-use Rattle.partial_model.specs.declared.history.Opening.{Opening}
-use Rattle.partial_model.specs.History.{IsHistory, initial_stamp, stamp_of, last_entry}
-use Rattle.partial_model.proofs.HistoryLemmas.{last_from-push, last_at, overtaken_at}
-use Rattle.partial_model.proofs.StampsStay.{take_within, in_whole, distinct_at, stamp_told}
-use Rattle.partial_words.specs.Layout.{Layout, pool_base, pool_end, pool_counter, initial_words}
-use Rattle.partial_words.specs.Record.{prev_of, plain_record_size}
 use Rattle.partial_words.specs.Chain.{Agrees}
-use Rattle.partial_words.proofs.ChainLemmas.{prev_before_entry}
-use Rattle.partial_state.specs.Views.{Block, AreApart, IsApartFrom, IsWithin, IsBegunSince}
-use Rattle.partial_state.specs.Holdings.{Holding, unpublished, announcements, block_at, EachTwo}
-use Rattle.partial_state.specs.LawfulWords.{LawfulWords, IsEntry}
-use Rattle.partial_knowledge.specs.Sets.{IsReadable}
-use Rattle.partial_knowledge.specs.Scans.{HasEntry}
 use Rattle.partial_state.proofs.HoldingLemmas.{three_words}
-use Rattle.partial_model.proofs.NotesLemmas.{AllByRecursion-get}
 
 -- a changed stamp is that of an entry between
 pub record IsNewer (log : List Applied) (component a b stamp : ℕ) : Type 0 where

@@ -1,14 +1,5 @@
 -- What lawful words tell of a port that is joined.
-use Rattle.std.proofs.Common.{ℕ, ◌≡◌, ◌<◌, List, slice_index, Option, Some, IfSome, subst, arith}
-use Rattle.std.specs.List.{AllByRecursion}
-use Rattle.partial_model.specs.declared.history.Applied.{Applied}
-use Rattle.partial_model.specs.declared.history.Opening.{Opening}
-use Rattle.partial_words.specs.Layout.{Layout, slot_word, slot_counter}
-use Rattle.partial_state.specs.Views.{JoinedAnnouncement, IsAnnounced}
-use Rattle.partial_state.specs.Holdings.{ClaimedSlot, Holding, IfJoined, unpublished}
-use Rattle.partial_state.specs.LawfulWords.{LawfulWords, IsClaim}
-use Rattle.partial_knowledge.specs.Joins.{Joins}
-use Rattle.partial_model.proofs.NotesLemmas.{AllByRecursion-get}
+use Rattle.partial_knowledge.proofs.Common.{ℕ, ◌≡◌, ◌<◌, List, slice_index, Option, Some, IfSome, subst, arith, AllByRecursion, Applied, Opening, Layout, slot_word, slot_counter, JoinedAnnouncement, IsAnnounced, ClaimedSlot, Holding, IfJoined, unpublished, LawfulWords, IsClaim, Joins, AllByRecursion-get}
 
 -- what holds of each announcement holds of this one
 pub at_joined : (P : ℕ → JoinedAnnouncement → Type 0) (hs : List Holding) (l : ℕ) (j : JoinedAnnouncement) → AllByRecursion (λ h. IfJoined h P) hs → Joins hs l j → P l j

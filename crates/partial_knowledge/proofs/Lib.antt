@@ -1,3 +1,4 @@
+mod Common
 pub mod Joined
 pub mod Sets
 pub mod Chains

@@ -1,33 +1,15 @@
 -- What an embedded scan knows leads on, in lawful words.
-use Rattle.std.proofs.Common.{ℕ, zero, suc, ◌≡◌, ◌≢◌, ◌+◌, ◌-◌, ◌<◌, ◌≤◌, ◌==◌, Bool, true, false, ◌&&◌, ◌||◌, not, cond, Option, Some, None, List, [], ◌∷◌, length, take, get_or, set, slice_get, inl, inr, refl, sym, ap, subst, ◌∙◌, arith, get_or-set_other, get_or-set_same}
+use Rattle.partial_knowledge.proofs.Common.{ℕ, zero, suc, ◌≡◌, ◌≢◌, ◌+◌, ◌-◌, ◌<◌, ◌≤◌, ◌==◌, Bool, true, false, ◌&&◌, ◌||◌, not, cond, Option, Some, None, List, [], ◌∷◌, length, take, get_or, set, slice_get, inl, inr, refl, sym, ap, subst, ◌∙◌, arith, get_or-set_other, get_or-set_same, slice_index, false≢true, eq-eqb, cond_both, or_cases, and_parts, ltb-true, ltb-false, eqb-true, eqb-false, Applied, Opening, value_of, stamp_of, place_below, stamps_never_return, Load, Layout, list_base, pool_end, prev_of, view_of, view_block, view_size, view_word, pairs_word, next_word, pair_index_word, pair_value_word, value_word, value_behind_stamp, length-pairs, IsWithin, IsBegunSince, HasPairs, IsView, HasFreshView, Holding, unpublished, LawfulWords, KeptAnswer, IsLoaded, IsReadable, HasEntry, IsLatest, IsCollecting, HasValues, CollectsAgreed, IsThird, HasLoaded, Loads, knows_at, ScanKnows, EmbeddedScansKnow, AllByRecursion-get}
 use Rattle.std.specs.Option.{option_map_or}
-use Rattle.std.specs.Prelude.{nat_lt, slice_index, slice_index_or}
-use Rattle.std.proofs.lemmas.Bool.{false≢true, eq-eqb, cond_both, or_cases, and_parts, ltb-true, ltb-false, eqb-true, eqb-false}
+use Rattle.std.specs.Prelude.{nat_lt, slice_index_or}
 use Rattle.std.proofs.lemmas.Bool.Decides.{eqb_tells}
-use Rattle.partial_model.specs.declared.history.Applied.{Applied}
-use Rattle.partial_model.specs.declared.history.Opening.{Opening}
-use Rattle.partial_model.specs.History.{value_of, stamp_of}
-use Rattle.partial_model.proofs.HistoryLemmas.{place_below}
-use Rattle.partial_model.proofs.StampsStay.{stamps_never_return}
-use Rattle.partial_words.specs.declared.step.Step.TheVariants.{Load}
-use Rattle.partial_words.specs.Layout.{Layout, list_base, pool_end}
-use Rattle.partial_words.specs.Record.{prev_of, view_of, view_block, view_size, view_word, pairs_word, next_word, pair_index_word, pair_value_word, value_word}
-use Rattle.partial_words.proofs.ChainLemmas.{value_behind_stamp}
 use Rattle.partial_words.proofs.BlockLemmas.{list_reads_back}
-use Rattle.partial_words.proofs.RecordLemmas.{length-pairs}
 use Rattle.partial_embedded.specs.declared.embedded.Stage.{Stage}
 use Rattle.partial_embedded.specs.declared.embedded.Stage.TheVariants.{Collect, View, Len, Index, PairValue, Value, Done}
 use Rattle.partial_embedded.specs.Embedded.{ViewPair, RowsState, ViewGoesTogether, IsPossibleInViewAt, view_goes_at, is_first, differs, was_changed, borrow, noted_load, go_on, after_collect, after_load, after_view, view_at_stage, with_value, pairs_from, view_step_at, advance_view_at}
-use Rattle.partial_state.specs.Views.{IsWithin, IsBegunSince, HasPairs, IsView, HasFreshView}
-use Rattle.partial_state.specs.Holdings.{Holding, unpublished}
-use Rattle.partial_state.specs.LawfulWords.{LawfulWords}
-use Rattle.partial_state.specs.Loads.{KeptAnswer, IsLoaded}
-use Rattle.partial_knowledge.specs.Sets.{IsReadable}
-use Rattle.partial_knowledge.specs.Scans.{HasEntry, IsLatest, IsCollecting, HasValues, CollectsAgreed, IsThird, HasLoaded, Loads, knows_at, ScanKnows, EmbeddedScansKnow}
 use Rattle.partial_knowledge.proofs.Chains.{newer, begun_since, begun_within, stamp_within, standing, standing_word, IsStanding, apart_part}
 use Rattle.partial_embedded.proofs.Keeps.{neither}
 use Rattle.partial_model.proofs.Values.{element_at}
-use Rattle.partial_model.proofs.NotesLemmas.{AllByRecursion-get}
 
 -- an entry between two lengths stands between wider ones
 wider : (log : List Applied) (low a b c : ℕ) → a ≤ b → HasEntry log low a c → HasEntry log low b c

@@ -1,7 +1,5 @@
 -- The announcement of a scan in straight lines: which store is due, and where its answer leads.
-use Rattle.partial_lines.proofs.Common.{ℕ, ◌≡◌, ◌+◌, ◌<◌, ◌==◌, Bool, true, false, cond, length, Some, refl, sym, ap, ◌∙◌, arith, slice_index, ne_eqb, eq-eqb, eqb-true, eqb-false, le-ltb, pool_end, Stage, ScanBegun, StoringAnnouncement, CoreState, advance, advance_at, at_stage, begin_joining, pool_refused, step_of, announcing_scan}
-use Rattle.partial_words.specs.declared.step.Step.TheVariants.{Store}
-use Rattle.partial_words.specs.Announcement.{announcement_block, announcement_size}
+use Rattle.partial_lines.proofs.Common.{ℕ, ◌≡◌, ◌+◌, ◌<◌, ◌==◌, Bool, true, false, cond, length, Some, refl, sym, ap, ◌∙◌, arith, slice_index, ne_eqb, eq-eqb, eqb-true, eqb-false, le-ltb, pool_end, Stage, ScanBegun, StoringAnnouncement, CoreState, advance, advance_at, at_stage, begin_joining, pool_refused, step_of, announcing_scan, Store, announcement_block, announcement_size}
 
 abbrev either : CoreState → ℕ → ℕ → Bool → CoreState
 either s at k b = cond b (begin_joining s at) (at_stage s (StoringAnnouncement at k))

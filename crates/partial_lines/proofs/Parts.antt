@@ -1,13 +1,11 @@
 -- The getSet and the embedded scan of a call in straight lines: where an answer leads its machine.
-use Rattle.partial_lines.proofs.Common.{ℕ, ◌≡◌, ◌==◌, cond, length, Option, Some, None, true, refl, sym, ap, subst, ◌∙◌, IsSome, false≢true, Stage, GettingSet, Viewing, ClaimingRecord, Scanning, Leaving, scan_begun, scan_step, set_begun, set_step, CoreState, advance, at_stage, getting, scanning, step_at, step_of, with_getting, with_scanning, IsSound, is_sound_at, GetsOn, IsScanStage, IsViewing, behind_scan, positions_at, set_kept, set_made}
-use Rattle.std.specs.Option.{option_map_or, is_some}
+use Rattle.partial_lines.proofs.Common.{ℕ, ◌≡◌, ◌==◌, cond, length, Option, Some, None, true, refl, sym, ap, subst, ◌∙◌, IsSome, false≢true, Stage, GettingSet, Viewing, ClaimingRecord, Scanning, Leaving, scan_begun, scan_step, set_begun, set_step, CoreState, advance, at_stage, getting, scanning, step_at, step_of, with_getting, with_scanning, IsSound, is_sound_at, GetsOn, IsScanStage, IsViewing, behind_scan, positions_at, set_kept, set_made, option_map_or, is_some, Change}
 use Rattle.partial_words.specs.declared.step.Step.{Step}
 use Rattle.partial_active.specs.GetSet as finding
 use Rattle.partial_active.specs.GetSetAnswers as finding_answers
 use Rattle.partial_embedded.specs.Embedded as viewing
 use Rattle.partial_embedded.specs.declared.embedded.Stage as viewed
 use Rattle.partial_embedded.specs.declared.embedded.Stage.TheVariants.{Done}
-use Rattle.partial_machine.specs.declared.stage.Change.{Change}
 use Rattle.partial_machine.specs.Possible.{IsPossible, IsPossibleAt}
 
 -- what a getSet leaves that is over

@@ -1,8 +1,5 @@
 -- A call of a port: how it begins at the seat that was taken out, and what it leaves once the seat is put back.
-use Rattle.partial_long_lived.proofs.Common.{ℕ, zero, suc, None, append-nil, ◌≡◌, ◌<◌, ◌≤◌, ◌++◌, ◌∷◌, [], Option, Some, IfSome, Bool, true, false, true≢false, List, length, ap, ◌+◌, take, refl, sym, subst, ◌∙◌, inl, inr, arith, nat_lt, slice_index, AllByRecursion, list_all, option_map, take-append_seam, TableId, Applied, IsEntryFor, IsLegal, LegalNotes, Noted, seen_by, AllByRecursion-get, LegalNotes-last, Layout, CoreState, fresh, AreComponentIndices, IsSound, is_sound_at, IsBetween, IsMarkedLike, core_of, is_at_rest, public_stamp, Refused, Component, Overtaken, NoArena, EpochsSpent, About, Stand, Seating, Began, SeatedPort, one_in, IsOf, MemoryView, PortView, port_view, seen_in, IsStandOf, IsSeatingOf, IsResting, SeatGoes, IsHeld, epoch_at, port_at, HasCome, HasNotedRead, IsIdle, EpochChanged, NotChanged, HasNotedScan, RestsUnmarked, ScanMade, noted_scan, NotScanned, RestsAt, Result, Ok, Err, IfOk, IfErr}
-use Rattle.partial_lines.specs.declared.whole_scan.Scanned.{Scanned}
-use Rattle.partial_long_lived.specs.Inner.Stamped.{MadeNamed, ScannedNamed, ScannedStamped}
-use Rattle.std.specs.Prelude.{Contains, is_some}
+use Rattle.partial_long_lived.proofs.Common.{ℕ, zero, suc, None, append-nil, ◌≡◌, ◌<◌, ◌≤◌, ◌++◌, ◌∷◌, [], Option, Some, IfSome, Bool, true, false, true≢false, List, length, ap, ◌+◌, take, refl, sym, subst, ◌∙◌, inl, inr, arith, nat_lt, slice_index, AllByRecursion, list_all, option_map, take-append_seam, TableId, Applied, IsEntryFor, IsLegal, LegalNotes, Noted, seen_by, AllByRecursion-get, LegalNotes-last, Layout, CoreState, fresh, AreComponentIndices, IsSound, is_sound_at, IsBetween, IsMarkedLike, core_of, is_at_rest, public_stamp, Refused, Component, Overtaken, NoArena, EpochsSpent, About, Stand, Seating, Began, SeatedPort, one_in, IsOf, MemoryView, PortView, port_view, seen_in, IsStandOf, IsSeatingOf, IsResting, SeatGoes, IsHeld, epoch_at, port_at, HasCome, HasNotedRead, IsIdle, EpochChanged, NotChanged, HasNotedScan, RestsUnmarked, ScanMade, noted_scan, NotScanned, RestsAt, Result, Ok, Err, IfOk, IfErr, Scanned, MadeNamed, ScannedNamed, ScannedStamped, Contains, is_some}
 use Rattle.partial_model.specs.declared.call.Call.TheVariants as call
 use Rattle.partial_model.specs.declared.call.Answer.TheVariants as answer
 use Rattle.partial_model.specs.declared.call.Note.TheVariants as note

@@ -1,14 +1,10 @@
 -- An attempt of an update in the epoch where a port stands.
-use Rattle.partial_long_lived.proofs.Common.{Opening, ℕ, ◌≡◌, ◌≢◌, ◌+◌, ◌<◌, ◌≤◌, ◌==◌, ◌++◌, Bool, true, false, cond, Option, None, Some, Ok, List, [], ◌∷◌, length, map, refl, sym, ap, subst, ◌∙◌, inl, inr, arith, option_map_or, nat_lt, is_some, lt-ltb, eqb_tells, length-map, TableId, Applied, Call, Answer, Note, stamp_of, Noted, place_of, Load, Exchange, IsLayout, Layout, greatest_record, pool_end, Change, Reply, Stage, Exchanging, Finished, UpdateBegun, CoreState, advance_at, at_stage, begin_getting, lists_spent, overtaken_reply, reply_of, step_at, step_of, answer_for, call_of, update_call, IsRecord, IsSound, is_sound_at, Part, AreNotesOf, IsNoteOf, IsPlacedAt, Exchanged, RestsLike, update_reply, Plan, seal, unsealed, history_of, public_entry, public_log, stamp_limit, public_noted, Control, About, Shape, Stand, Began, SeatedPort, plan_of, seen_in, SeatGoes, BeganBy, IsHeld, port_at, IsIdle, StaysAt, opening_of, SeatMakes, MissesSeal, unsealed_answer, RestsUnmarked, CallMade, record_claim, IsGoing, ComesTo, MayBegin, machine_at, UpdateAttempted, ExchangeDue, ExpectsOne, IsEntryOf, IsOwnMachine, NotesNothing, PortStayed, noted_where, word_from}
-use Rattle.std.specs.Prelude.{◌||◌, IfSome, take}
+use Rattle.partial_long_lived.proofs.Common.{Opening, ℕ, ◌≡◌, ◌≢◌, ◌+◌, ◌<◌, ◌≤◌, ◌==◌, ◌++◌, Bool, true, false, cond, Option, None, Some, Ok, List, [], ◌∷◌, length, map, refl, sym, ap, subst, ◌∙◌, inl, inr, arith, option_map_or, nat_lt, is_some, lt-ltb, eqb_tells, length-map, TableId, Applied, Call, Answer, Note, stamp_of, Noted, place_of, Load, Exchange, IsLayout, Layout, greatest_record, pool_end, Change, Reply, Stage, Exchanging, Finished, UpdateBegun, CoreState, advance_at, at_stage, begin_getting, lists_spent, overtaken_reply, reply_of, step_at, step_of, answer_for, call_of, update_call, IsRecord, IsSound, is_sound_at, Part, AreNotesOf, IsNoteOf, IsPlacedAt, Exchanged, RestsLike, update_reply, Plan, seal, unsealed, history_of, public_entry, public_log, stamp_limit, public_noted, Control, About, Shape, Stand, Began, SeatedPort, plan_of, seen_in, SeatGoes, BeganBy, IsHeld, port_at, IsIdle, StaysAt, opening_of, SeatMakes, MissesSeal, unsealed_answer, RestsUnmarked, CallMade, record_claim, IsGoing, ComesTo, MayBegin, machine_at, UpdateAttempted, ExchangeDue, ExpectsOne, IsEntryOf, IsOwnMachine, NotesNothing, PortStayed, noted_where, word_from, ◌||◌, IfSome, take, length-append, IsPossibleAt, SeatBegins}
 use Rattle.std.proofs.Math.Bool.{or-false}
-use Rattle.std.proofs.lemmas.List.{length-append}
 use Rattle.partial_model.specs.declared.call.Call.TheVariants as call
 use Rattle.partial_model.specs.declared.call.Note.TheVariants as note
 use Rattle.partial_machine.specs.declared.stage.Reply.TheVariants as reply
-use Rattle.partial_machine.specs.Possible.{IsPossibleAt}
 use Rattle.partial_lines.specs.declared.exchange.Exchanged.TheVariants.{Applied as IsApplied, Overtaken}
-use Rattle.partial_long_lived.specs.Inner.Machine.{SeatBegins}
 use Rattle.partial_long_lived.proofs.Coming.{goes_on}
 use Rattle.partial_long_lived.proofs.Under.{first_made, next_made, notes_same}
 

@@ -1,10 +1,8 @@
 -- A conditional update of a port: the comparison, and how it ends in the port's epoch.
-use Rattle.partial_long_lived.proofs.Common.{ℕ, ◌≡◌, ◌<◌, ◌≤◌, ◌==◌, ◌&&◌, ◌++◌, Bool, true, false, not, cond, Some, List, [], ◌∷◌, length, refl, sym, ap, subst, ◌∙◌, inl, inr, arith, append-nil, nat_lt, cases_lt, TableId, Applied, Noted, stamp_of, total, Change, is_at_rest, CoreState, IsMarkedLike, core_of, Exchanged, public_stamp, seal, unsealed, public_of, not_below, About, UpdatedIf, Asked, Stand, Began, SeatedPort, plan_of, seen_in, IsIdle, StaysAt, EndedIf, HasCompared, HasLooked, IsExpected, IsPlaceOf, noted_if, outcome_of, IsHeld, port_at, SeatSees, noted_by, opening_of, place_seen, stamp_seen, Expects, BeganBy, UpdateAttempted, ExpectsOne, IsEntryOf, IsOwnMachine, MayCall, NotesNothing, PortStayed, noted_where}
-use Rattle.std.specs.Prelude.{take}
+use Rattle.partial_long_lived.proofs.Common.{ℕ, ◌≡◌, ◌<◌, ◌≤◌, ◌==◌, ◌&&◌, ◌++◌, Bool, true, false, not, cond, Some, List, [], ◌∷◌, length, refl, sym, ap, subst, ◌∙◌, inl, inr, arith, append-nil, nat_lt, cases_lt, TableId, Applied, Noted, stamp_of, total, Change, is_at_rest, CoreState, IsMarkedLike, core_of, Exchanged, public_stamp, seal, unsealed, public_of, not_below, About, UpdatedIf, Asked, Stand, Began, SeatedPort, plan_of, seen_in, IsIdle, StaysAt, EndedIf, HasCompared, HasLooked, IsExpected, IsPlaceOf, noted_if, outcome_of, IsHeld, port_at, SeatSees, noted_by, opening_of, place_seen, stamp_seen, Expects, BeganBy, UpdateAttempted, ExpectsOne, IsEntryOf, IsOwnMachine, MayCall, NotesNothing, PortStayed, noted_where, take, value_word}
 use Rattle.partial_model.specs.declared.call.Call.TheVariants as call
 use Rattle.partial_model.specs.declared.call.Answer.TheVariants as answer
 use Rattle.partial_model.specs.declared.call.Note.TheVariants as note
-use Rattle.partial_words.specs.Record.{value_word}
 use Rattle.partial_lines.specs.declared.exchange.Exchanged.TheVariants.{Applied as IsApplied, Overtaken}
 use Rattle.partial_long_lived.specs.declared.answers.UpdatedIf.TheVariants as ended
 use Rattle.partial_long_lived.specs.declared.update_if.Compared.TheVariants.{Sealed, Same, Other}

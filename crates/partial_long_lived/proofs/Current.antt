@@ -1,7 +1,6 @@
 -- The words of the current arena tell the last values.
-use Rattle.partial_long_lived.proofs.Common.{ℕ, ◌≡◌, ◌+◌, ◌<◌, ◌≤◌, List, length, take, get_or, sym, ap, subst, ◌∙◌, arith, take_all, Applied, Opening, stamp_of, value_of, all_weaker, stamp_all, total, lawful_records_are_within, list_of, Plan, arena_words, base, unsealed, opening_behind, Port, Beside, LawfulEpochs, one_history, epochs_continue, current_is, below_whole, HaveLast, arena_now, component_now, value_now}
+use Rattle.partial_long_lived.proofs.Common.{ℕ, ◌≡◌, ◌+◌, ◌<◌, ◌≤◌, List, length, take, get_or, sym, ap, subst, ◌∙◌, arith, take_all, Applied, Opening, stamp_of, value_of, all_weaker, stamp_all, total, lawful_records_are_within, list_of, Plan, arena_words, base, unsealed, opening_behind, Port, Beside, LawfulEpochs, one_history, epochs_continue, current_is, below_whole, HaveLast, arena_now, component_now, value_now, view_word, value_word}
 use Rattle.partial_words.proofs.ChainLemmas.{records_within, value_behind_stamp}
-use Rattle.partial_words.specs.Record.{view_word, value_word}
 use Rattle.partial_core.specs.Lawful as one
 use Rattle.partial_epochs.proofs.Worded.{plain_at, plain_component, plain_other}
 

@@ -1,6 +1,5 @@
 -- The values that are read in the arena of the current word.
-use Rattle.partial_long_lived.proofs.Common.{ℕ, zero, suc, ◌≡◌, ◌+◌, ◌%◌, ◌<◌, List, [], ◌∷◌, ◌++◌, length, get_or, sym, ap, ◌∙◌, inl, inr, arith, cases_lt, get_or_push, get_or_append_left, some, some-injective, some-ne-none, get_elem?, Plan, base, seal, arena_now, value_now}
-use Rattle.partial_words.specs.Record.{value_word}
+use Rattle.partial_long_lived.proofs.Common.{ℕ, zero, suc, ◌≡◌, ◌+◌, ◌%◌, ◌<◌, List, [], ◌∷◌, ◌++◌, length, get_or, sym, ap, ◌∙◌, inl, inr, arith, cases_lt, get_or_push, get_or_append_left, some, some-injective, some-ne-none, get_elem?, Plan, base, seal, arena_now, value_now, value_word}
 
 -- a word that is there
 pub word_there : (words : List ℕ) (i x : ℕ) → get_elem? words i ≡ some x → get_or words i 0 ≡ x

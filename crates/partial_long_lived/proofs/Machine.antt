@@ -1,8 +1,7 @@
 -- The steps of a port's machine are allowed.
-use Rattle.partial_long_lived.proofs.Common.{ℕ, ◌≡◌, ◌≢◌, ◌+◌, ◌<◌, ◌≤◌, ◌||◌, ◌++◌, Bool, true, false, cond, Option, Some, None, IfSome, List, [], ◌∷◌, length, map, take, drop, get_or, set, refl, sym, ap, subst, ◌∙◌, inl, inr, arith, append-nil, append_assoc, length-append, AllByRecursion, length-map, take-append-drop, take-append-le, set-get_or, Applied, Call, Answer, stamp_of, LegalNotes, Noted, seen_by, Step, Load, Store, Exchange, Add, answer_of, word_of, words_after, CoreState, advance, reply_of, answer_for, call_of, is_begun, Part, core_of, begun_with, since_with, put, IsSealed, Place, Plan, arena_words, base, component_words, plain, placed_step, history_of, opening_behind, public_entry, public_log, among, history_longer, known, Control, Entering, Epoch, Port, Stands, Marks, Loaded, IsOld, MayPut, option_map, present_history, all_back, Beside, IsStanding, LawfulEpochs, numbers, place_now, HaveSlots, MachineLeads, MeetsSeal, ends_over, ExpectedOne, LawfulMemory, EpochReached, noting, public_noted, KeepsTime, asides_keep_time, machines_are_never_refused, notes_stay_lawful, steps_keep_places, put_all, put_other, put_same, About, Began, Found, IsFinal, IsLast, IsSeat, SeatedPort, plan_of, seen_in, BeginsWith, IsSeatKnown, IsApart, SeatMakes, MayMake, unsealed_answer, change_of, over_by, told_of}
+use Rattle.partial_long_lived.proofs.Common.{ℕ, ◌≡◌, ◌≢◌, ◌+◌, ◌<◌, ◌≤◌, ◌||◌, ◌++◌, Bool, true, false, cond, Option, Some, None, IfSome, List, [], ◌∷◌, length, map, take, drop, get_or, set, refl, sym, ap, subst, ◌∙◌, inl, inr, arith, append-nil, append_assoc, length-append, AllByRecursion, length-map, take-append-drop, take-append-le, set-get_or, Applied, Call, Answer, stamp_of, LegalNotes, Noted, seen_by, Step, Load, Store, Exchange, Add, answer_of, word_of, words_after, CoreState, advance, reply_of, answer_for, call_of, is_begun, Part, core_of, begun_with, since_with, put, IsSealed, Place, Plan, arena_words, base, component_words, plain, placed_step, history_of, opening_behind, public_entry, public_log, among, history_longer, known, Control, Entering, Epoch, Port, Stands, Marks, Loaded, IsOld, MayPut, option_map, present_history, all_back, Beside, IsStanding, LawfulEpochs, numbers, place_now, HaveSlots, MachineLeads, MeetsSeal, ends_over, ExpectedOne, LawfulMemory, EpochReached, noting, public_noted, KeepsTime, asides_keep_time, machines_are_never_refused, notes_stay_lawful, steps_keep_places, put_all, put_other, put_same, About, Began, Found, IsFinal, IsLast, IsSeat, SeatedPort, plan_of, seen_in, BeginsWith, IsSeatKnown, IsApart, SeatMakes, MayMake, unsealed_answer, change_of, over_by, told_of, legal_notes_seen, one_or_none}
 use Rattle.partial_model.specs.declared.call.Call.TheVariants as call
 use Rattle.partial_model.specs.declared.call.Answer.TheVariants as answer
-use Rattle.partial_epochs.proofs.NotesStay.{legal_notes_seen, one_or_none}
 use Rattle.partial_long_lived.proofs.Begins.{began_by, seen_few}
 use Rattle.partial_long_lived.proofs.Control.{stands_since}
 use Rattle.partial_long_lived.proofs.Kept.{Grows, HasGrown, HaveGrown, Moved, begun_grows, final_grows, moved_says}

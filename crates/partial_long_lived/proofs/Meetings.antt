@@ -1,7 +1,6 @@
 -- How a meeting of two ports leaves each of them.
-use Rattle.partial_long_lived.proofs.Common.{◌≡◌, ◌<◌, ◌≤◌, List, [], length, take, inl, sym, ap, subst, ◌∙◌, arith, append-nil, take-append_seam, TableId, Applied, core_of, About, Stand, Seating, Began, SeatedPort, one_in, IsOf, MemoryView, PortView, port_view, seen_in, IsSeatingOf, IsStandOf, HasCome, IsIdle, StaysAt, EpochSettled, IsHeld, port_at, BeginsWith}
+use Rattle.partial_long_lived.proofs.Common.{◌≡◌, ◌<◌, ◌≤◌, List, [], length, take, inl, sym, ap, subst, ◌∙◌, arith, append-nil, take-append_seam, TableId, Applied, core_of, About, Stand, Seating, Began, SeatedPort, one_in, IsOf, MemoryView, PortView, port_view, seen_in, IsSeatingOf, IsStandOf, HasCome, IsIdle, StaysAt, EpochSettled, IsHeld, port_at, BeginsWith, HasMet, Observes}
 use Rattle.partial_long_lived.specs.Calls as calls
-use Rattle.partial_long_lived.specs.Inner.Meeting.{HasMet, Observes}
 use Rattle.partial_long_lived.proofs.Answering.{callers_see, goes_seen, view_kept, view_taken}
 use Rattle.partial_long_lived.proofs.Coming.{begins_on, come_on}
 

@@ -1,6 +1,5 @@
 -- A memory as it opens, and its ports.
-use Rattle.partial_long_lived.proofs.Common.{AllByRecursion, ℕ, zero, suc, ◌≡◌, ◌+◌, ◌-◌, ◌<◌, ◌++◌, false, List, [], ◌∷◌, refl, sym, ap, subst, ◌∙◌, arith, append_assoc, Me, TableId, Opening, Layout, pool_base, CoreState, fresh, IsBetween, ports_come_between, Plan, base, OpensAll, About, Shape, Seating, SeatedPort, first_port, newcomer, newcomers, one_in, further_ports, plan_of, IsShapeOf, shape_plan, IsOf, PortView, new_ports, port_view, IsResting, IsSeatKnown}
-use Rattle.partial_long_lived.specs.Inner.Opening.{OpensShape}
+use Rattle.partial_long_lived.proofs.Common.{AllByRecursion, ℕ, zero, suc, ◌≡◌, ◌+◌, ◌-◌, ◌<◌, ◌++◌, false, List, [], ◌∷◌, refl, sym, ap, subst, ◌∙◌, arith, append_assoc, Me, TableId, Opening, Layout, pool_base, CoreState, fresh, IsBetween, ports_come_between, Plan, base, OpensAll, About, Shape, Seating, SeatedPort, first_port, newcomer, newcomers, one_in, further_ports, plan_of, IsShapeOf, shape_plan, IsOf, PortView, new_ports, port_view, IsResting, IsSeatKnown, OpensShape}
 use Rattle.partial_long_lived.proofs.Opens.{newcomer_known}
 
 -- the opening words are those of what the memory is opened with

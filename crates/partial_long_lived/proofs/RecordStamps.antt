@@ -1,10 +1,5 @@
 -- The stamps that components have had in a port's epoch fit below the epoch's number, and a component word that is one has no seal.
-use Rattle.partial_long_lived.proofs.Common.{ℕ, ◌≡◌, ◌<◌, Option, Some, None, IfSome, take, option_map_or, arith, Applied, stamp_limit, SeatedPort, plan_of, IsSeatKnown, opening_of}
-use Rattle.partial_model.specs.History.{initial_stamp, last_entry, stamp_of}
-use Rattle.partial_model.proofs.AllLemmas.{all_take}
-use Rattle.partial_epochs.specs.Layout.{unsealed}
-use Rattle.partial_epochs.proofs.Continue.{last_all}
-use Rattle.partial_epochs.proofs.Public.{initial_low}
+use Rattle.partial_long_lived.proofs.Common.{ℕ, ◌≡◌, ◌<◌, Option, Some, None, IfSome, take, option_map_or, arith, Applied, stamp_limit, SeatedPort, plan_of, IsSeatKnown, opening_of, initial_stamp, last_entry, stamp_of, all_take, unsealed, last_all, initial_low}
 
 pub stamp_small : (x : SeatedPort) → IsSeatKnown x → (n j : ℕ) → j < x.about.sizes.m → stamp_of (opening_of x) (take n x.port.part.seen) j < stamp_limit
 stamp_small x known n j inside =

@@ -1,16 +1,9 @@
 -- What a port knows of the history that it has seen.
-use Rattle.partial_long_lived.proofs.Common.{ℕ, ◌≡◌, ◌≢◌, ◌+◌, ◌<◌, ◌≤◌, ◌==◌, ◌++◌, Bool, true, false, cond, Option, Some, None, IfSome, List, [], ◌∷◌, length, refl, sym, ap, subst, ◌∙◌, arith, append_assoc, AllByRecursion, Applied, Opening, Call, Answer, Note, HaveDistinctStamps, IsHistory, IsTrueOf, LegalNotes, Noted, place_of, seen_after, EachOnce, places_by, places_written, wrote, all_append, all_front, place_below, LegalNotes-grows, history_of, public_log, Port, Beside, LawfulMemory, one_history, epochs_fit_one_history, public_stamps_are_unique, history_grows, history_longer, About, IsSeen, plan_of, Knows, seen_in, BeginsWith, HasStampsInWords}
+use Rattle.partial_long_lived.proofs.Common.{ℕ, ◌≡◌, ◌≢◌, ◌+◌, ◌<◌, ◌≤◌, ◌==◌, ◌++◌, Bool, true, false, cond, Option, Some, None, IfSome, List, [], ◌∷◌, length, refl, sym, ap, subst, ◌∙◌, arith, append_assoc, AllByRecursion, Applied, Opening, Call, Answer, Note, HaveDistinctStamps, IsHistory, IsTrueOf, LegalNotes, Noted, place_of, seen_after, EachOnce, places_by, places_written, wrote, all_append, all_front, place_below, LegalNotes-grows, history_of, public_log, Port, Beside, LawfulMemory, one_history, epochs_fit_one_history, public_stamps_are_unique, history_grows, history_longer, About, IsSeen, plan_of, Knows, seen_in, BeginsWith, HasStampsInWords, initial_stamp, first_free, IsEpochHistory, places_both, present_history, stamp_limit, HasRecordStamps}
 use Rattle.partial_model.specs.declared.call.Call.TheVariants as call
 use Rattle.partial_model.specs.declared.call.Answer.TheVariants as answer
 use Rattle.partial_model.specs.declared.call.Note.TheVariants as note
-use Rattle.partial_model.specs.History.{initial_stamp}
-use Rattle.partial_words.specs.Layout.{first_free}
 use Rattle.partial_core.proofs.Parts.{all_at}
-use Rattle.partial_epochs.specs.Notes.{IsEpochHistory}
-use Rattle.partial_epochs.proofs.NotesStay.{places_both}
-use Rattle.partial_epochs.proofs.OneHistory.{present_history}
-use Rattle.partial_epochs.specs.History.{stamp_limit}
-use Rattle.partial_long_lived.specs.Inner.Steps.{HasRecordStamps}
 
 distinct_front : (h rest : List Applied) → HaveDistinctStamps (h ++ rest) → HaveDistinctStamps h
 distinct_front [] rest w = tt

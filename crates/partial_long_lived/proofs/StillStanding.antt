@@ -1,6 +1,5 @@
 -- Components that still have the stamps that they had.
-use Rattle.partial_long_lived.proofs.Common.{ℕ, ◌≡◌, ◌+◌, ◌<◌, ◌≤◌, List, [], ◌∷◌, length, take, sym, ap, subst, ◌∙◌, inl, inr, arith, append-nil, slice_index, eqb_tells, take-append-le, TableId, Applied, stamp_of, stamps_never_return, About, Stand, Seating, SeatedPort, one_in, IsOf, MemoryView, PortView, port_view, seen_in, Differ, HasStampThen, StillStand, IsStandOf, IsSeatingOf, SeatGoes, IsHeld, port_at, SettledFirst, HasGlanced}
-use Rattle.partial_long_lived.specs.Inner.Unchanged.{HadAnother, HadStamp, HadStamps, HasStamp, stamp_at}
+use Rattle.partial_long_lived.proofs.Common.{ℕ, ◌≡◌, ◌+◌, ◌<◌, ◌≤◌, List, [], ◌∷◌, length, take, sym, ap, subst, ◌∙◌, inl, inr, arith, append-nil, slice_index, eqb_tells, take-append-le, TableId, Applied, stamp_of, stamps_never_return, About, Stand, Seating, SeatedPort, one_in, IsOf, MemoryView, PortView, port_view, seen_in, Differ, HasStampThen, StillStand, IsStandOf, IsSeatingOf, SeatGoes, IsHeld, port_at, SettledFirst, HasGlanced, HadAnother, HadStamp, HadStamps, HasStamp, stamp_at}
 use Rattle.partial_long_lived.proofs.Answering.{callers_see, goes_seen}
 use Rattle.partial_long_lived.proofs.Coming.{seen_more}
 

@@ -1,12 +1,9 @@
 -- A call that is not refused leaves its machine without marks.
-use Rattle.partial_long_lived.proofs.Common.{ℕ, ◌≡◌, ◌≢◌, ◌||◌, false, Option, Some, None, List, [], ◌∷◌, refl, sym, ap, subst, ◌∙◌, IsLayout, Reply, Stage, Finished, CoreState, advance, reply_at, reply_of, IsSound}
+use Rattle.partial_long_lived.proofs.Common.{ℕ, ◌≡◌, ◌≢◌, ◌||◌, false, Option, Some, None, List, [], ◌∷◌, refl, sym, ap, subst, ◌∙◌, IsLayout, Reply, Stage, Finished, CoreState, advance, reply_at, reply_of, IsSound, refuses_pool, refuses_slots, IsPossibleAt, answers_lead_on}
 use Rattle.partial_model.specs.declared.call.Refused.{Refused}
 use Rattle.partial_model.specs.declared.call.Refused.TheVariants as refused
 use Rattle.partial_machine.specs.declared.stage.Reply.TheVariants as reply
-use Rattle.partial_machine.specs.Behind.{refuses_pool, refuses_slots}
-use Rattle.partial_machine.specs.Possible.{IsPossibleAt}
 use Rattle.partial_machine.specs.Steps.{Run}
-use Rattle.partial_machine.proofs.Laws.{answers_lead_on}
 
 -- the reply is no refusal
 abbrev IsUnrefused : Option Reply → Type 0

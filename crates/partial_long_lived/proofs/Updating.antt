@@ -1,6 +1,5 @@
 -- The first step of an update, and the exchange of its component.
-use Rattle.partial_long_lived.proofs.Common.{ℕ, ◌≡◌, ◌+◌, ◌-◌, ◌<◌, ◌==◌, Bool, Some, List, sym, ap, subst, ◌∙◌, refl, arith, either, Me, Allows, TableId, Load, Exchange, Change, UpdateBegun, Exchanging, CoreState, step_at, step_of, base, About, Stand, IsRuleKept, SeatedPort, one_of, plan_of, tells, IsHeld, port_at, component_at, Exchanges, MayMake, begins, change_of, exchanges, word_at, IsGoing, MayBegin, machine_at}
-use Rattle.partial_long_lived.specs.Inner.Machine.{SeatBegins}
+use Rattle.partial_long_lived.proofs.Common.{ℕ, ◌≡◌, ◌+◌, ◌-◌, ◌<◌, ◌==◌, Bool, Some, List, sym, ap, subst, ◌∙◌, refl, arith, either, Me, Allows, TableId, Load, Exchange, Change, UpdateBegun, Exchanging, CoreState, step_at, step_of, base, About, Stand, IsRuleKept, SeatedPort, one_of, plan_of, tells, IsHeld, port_at, component_at, Exchanges, MayMake, begins, change_of, exchanges, word_at, IsGoing, MayBegin, machine_at, SeatBegins}
 use Rattle.partial_long_lived.proofs.Changes.{either_cond}
 use Rattle.partial_long_lived.proofs.Making.{may_begin, may_exchange}
 use Rattle.partial_long_lived.proofs.Standing.{base_is, room_of}

@@ -1,25 +1,11 @@
 -- How a call begins at a machine, and why one is refused at once.
-use Rattle.std.proofs.Common.{ℕ, ◌≡◌, ◌<◌, ◌≤◌, ◌==◌, Bool, true, false, cond, Option, Some, None, List, [], ◌∷◌, length, refl, sym, ap, subst, ◌∙◌, arith}
-use Rattle.std.specs.Prelude.{nat_lt}
-use Rattle.std.specs.List.{AllByRecursion, list_all}
-use Rattle.std.proofs.lemmas.Bool.{false≢true, ltb-true, ltb-false, ne_eqb}
-use Rattle.partial_model.specs.declared.call.Call.{Call}
+use Rattle.partial_machine.proofs.Common.{ℕ, ◌≡◌, ◌<◌, ◌≤◌, ◌==◌, Bool, true, false, cond, Option, Some, None, List, [], ◌∷◌, length, refl, sym, ap, subst, ◌∙◌, arith, nat_lt, AllByRecursion, list_all, false≢true, ltb-true, ltb-false, ne_eqb, Call, Refused, Stage, ReadBegun, UpdateBegun, ScanBegun, Finished, CoreState, at_stage, call_at, is_begun, begun_like, begin_scan, begun_of, refusal_of, makes_steps, most_of_update, most_steps, left_at, steps_left, AreComponentIndices, IsSound, is_sound_at, IsBegunWith, IsOldMark, CallsBegin, RestsAreSound, CallsAreRefusedAtOnce, no_index, length-replicate}
 use Rattle.partial_model.specs.declared.call.Call.TheVariants as call
-use Rattle.partial_model.specs.declared.call.Refused.{Refused}
 use Rattle.partial_model.specs.declared.call.Refused.TheVariants as refused
 use Rattle.partial_model.specs.Notes.{MayBeRefused}
 use Rattle.partial_model.proofs.Decisions.{Decides-list_all, Decides-nat_lt}
 use Rattle.partial_model.proofs.AllLemmas.{position_below}
 use Rattle.partial_machine.specs.declared.stage.Reply.TheVariants as reply
-use Rattle.partial_machine.specs.declared.stage.Stage.{Stage}
-use Rattle.partial_machine.specs.declared.stage.Stage.TheVariants.{ReadBegun, UpdateBegun, ScanBegun, Finished}
-use Rattle.partial_machine.specs.Machine.{CoreState, at_stage}
-use Rattle.partial_machine.specs.Calls.{call_at, is_begun, begun_like, begin_scan, begun_of, refusal_of, makes_steps}
-use Rattle.partial_machine.specs.Bounds.{most_of_update, most_steps, left_at, steps_left}
-use Rattle.partial_machine.specs.Sound.{AreComponentIndices, IsSound, is_sound_at}
-use Rattle.partial_machine.specs.Behind.{IsBegunWith, IsOldMark, CallsBegin, RestsAreSound, CallsAreRefusedAtOnce}
-use Rattle.partial_active.proofs.Distinct.{no_index}
-use Rattle.std.proofs.lemmas.List.{length-replicate}
 
 -- the components of a list are there, or some is not
 all_below : (m : ℕ) (js : List ℕ) → list_all (λ i. nat_lt i m) js ≡ true → AllByRecursion (λ j. j < m) js

@@ -1,23 +1,9 @@
 -- Which component words a call loads, and how its embedded scan ends, over every run.
-use Rattle.std.proofs.Common.{ℕ, ◌≡◌, ◌+◌, ◌-◌, ◌<◌, ◌≤◌, ◌⊎◌, inl, inr, ◌==◌, ◌&&◌, ◌++◌, Bool, true, false, cond, min, not, Option, Some, None, List, [], ◌∷◌, length, refl, sym, ap, subst, ◌∙◌, arith, append_assoc, append-nil}
-use Rattle.std.specs.Prelude.{nat_lt, ⊤}
-use Rattle.std.specs.Option.{option_map_or}
-use Rattle.std.proofs.lemmas.Bool.{eqb-true, eqb-false}
-use Rattle.partial_model.specs.declared.call.Call.{Call}
+use Rattle.partial_machine.proofs.Common.{ℕ, ◌≡◌, ◌+◌, ◌-◌, ◌<◌, ◌≤◌, ◌⊎◌, inl, inr, ◌==◌, ◌&&◌, ◌++◌, Bool, true, false, cond, min, not, Option, Some, None, List, [], ◌∷◌, length, refl, sym, ap, subst, ◌∙◌, arith, append_assoc, append-nil, nat_lt, ⊤, option_map_or, eqb-true, eqb-false, Call, Step, Load, Store, Layout, IsLayout, slot_word, next_word, indices_word, advance_join, join_step, JoinStage, Claiming, Storing, Joined, Spent, begins_at, with_index, Change, Stage, CoreState, at_stage, getting, scanning, with_getting, with_scanning, begin_joining, after_joining, record_size, expects, fits_pool, pool_refused, begin_getting, advance_at, advance, step_at, step_of, call_at, update_call, IsSound, is_sound_at, IsPossible, IsPossibleAt, Run}
 use Rattle.partial_model.specs.declared.call.Call.TheVariants as call
-use Rattle.partial_words.specs.declared.step.Step.{Step}
-use Rattle.partial_words.specs.declared.step.Step.TheVariants.{Load, Store}
-use Rattle.partial_words.specs.Layout.{Layout, IsLayout, slot_word}
-use Rattle.partial_words.specs.Record.{next_word}
-use Rattle.partial_words.specs.Announcement.{indices_word}
 use Rattle.partial_words.specs.VacatedList.{intervals_word}
-use Rattle.partial_active.specs.Join.{advance_join, join_step}
-use Rattle.partial_active.specs.declared.join.JoinStage.{JoinStage}
-use Rattle.partial_active.specs.declared.join.JoinStage.TheVariants.{Claiming, Storing, Joined, Spent}
 use Rattle.partial_active.specs.declared.get_set.Stage.{Stage as SetStage}
 use Rattle.partial_active.specs.declared.get_set.Stage.TheVariants as set
-use Rattle.partial_active.specs.Found.{begins_at}
-use Rattle.partial_active.specs.IndexSet.{with_index}
 use Rattle.partial_active.specs.GetSet as finding
 use Rattle.partial_active.specs.GetSetAnswers as finding_answers
 use Rattle.partial_embedded.specs.declared.embedded.Stage.{Stage as ViewStage}
@@ -26,16 +12,9 @@ use Rattle.partial_embedded.specs.Embedded as viewing
 use Rattle.partial_embedded.specs.Runs as runs
 use Rattle.partial_embedded.proofs.RunLaws.{loads_its_positions_alone, makes_few_collects}
 use Rattle.partial_embedded.proofs.Ends.{finished_scans_end_well}
-use Rattle.partial_machine.specs.declared.stage.Change.{Change}
 use Rattle.partial_machine.specs.declared.stage.Reply.TheVariants as reply
-use Rattle.partial_machine.specs.declared.stage.Stage.{Stage}
 use Rattle.partial_machine.specs.declared.stage.Stage.TheVariants.{Idle, ReadBegun, LoadingValue, UpdateBegun, GettingSet, Viewing, ClaimingRecord, StoringRecord, Exchanging, ScanBegun, StoringAnnouncement, Joining, Scanning, Leaving, Finished}
-use Rattle.partial_machine.specs.Machine.{CoreState, at_stage, getting, scanning, with_getting, with_scanning, begin_joining, after_joining, record_size, expects, fits_pool, pool_refused, begin_getting, advance_at, advance, step_at, step_of}
-use Rattle.partial_machine.specs.Calls.{call_at, update_call}
 use Rattle.partial_machine.specs.Components.{EndsInScan, HasScanned, scans_at, CallsLoadTheirComponents, CallsMakeEmbeddedScans, EmbeddedScansEndWell, MayLoad}
-use Rattle.partial_machine.specs.Sound.{IsSound, is_sound_at}
-use Rattle.partial_machine.specs.Possible.{IsPossible, IsPossibleAt}
-use Rattle.partial_machine.specs.Steps.{Run}
 use Rattle.partial_machine.proofs.Sound.{Keeps, kept}
 use Rattle.partial_machine.proofs.StepCounts.{stays_sound}
 

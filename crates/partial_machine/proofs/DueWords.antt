@@ -1,14 +1,5 @@
 -- The word of a step that is due is one of the words.
-use Rattle.std.proofs.Common.{ℕ, ◌≡◌, ◌<◌, Bool, true, false, cond, Option, Some, None, List, get_or, sym, ap, subst, arith}
-use Rattle.std.specs.Prelude.{IfSome, IsTrue}
-use Rattle.std.proofs.lemmas.Bool.{ltb-true}
-use Rattle.partial_words.specs.declared.step.Step.{Step}
-use Rattle.partial_words.specs.declared.step.Step.TheVariants.{Store}
-use Rattle.partial_words.specs.Layout.{Layout, IsLayout, slot_word, total}
-use Rattle.partial_words.specs.Step.{word_of}
-use Rattle.partial_active.specs.Join.{fits_join, join_step}
-use Rattle.partial_active.specs.declared.join.JoinStage.{JoinStage}
-use Rattle.partial_active.specs.declared.join.JoinStage.TheVariants.{Claiming, Storing, Joined, Spent}
+use Rattle.partial_machine.proofs.Common.{ℕ, ◌≡◌, ◌<◌, Bool, true, false, cond, Option, Some, None, List, get_or, sym, ap, subst, arith, IfSome, IsTrue, ltb-true, Step, Store, Layout, IsLayout, slot_word, total, word_of, fits_join, join_step, JoinStage, Claiming, Storing, Joined, Spent, Stage, CoreState, getting, scanning, step_at, IsSound, is_sound_at, DueWordsAreThere}
 use Rattle.partial_active.specs.declared.get_set.Stage.{Stage as SetStage}
 use Rattle.partial_active.specs.declared.get_set.Stage.TheVariants as set
 use Rattle.partial_active.specs.GetSet as finding
@@ -16,11 +7,7 @@ use Rattle.partial_active.specs.GetSetAnswers as finding_answers
 use Rattle.partial_embedded.specs.declared.embedded.Stage.{Stage as ViewStage}
 use Rattle.partial_embedded.specs.declared.embedded.Stage.TheVariants as view
 use Rattle.partial_embedded.specs.Embedded as viewing
-use Rattle.partial_machine.specs.declared.stage.Stage.{Stage}
 use Rattle.partial_machine.specs.declared.stage.Stage.TheVariants.{Idle, ReadBegun, LoadingValue, UpdateBegun, GettingSet, Viewing, ClaimingRecord, StoringRecord, Exchanging, ScanBegun, StoringAnnouncement, Joining, Scanning, Leaving, Finished}
-use Rattle.partial_machine.specs.Machine.{CoreState, getting, scanning, step_at}
-use Rattle.partial_machine.specs.Sound.{IsSound, is_sound_at}
-use Rattle.partial_machine.specs.Behind.{DueWordsAreThere}
 
 -- the word of the step, where one is due
 abbrev IsThere : Layout → Option Step → Type 0

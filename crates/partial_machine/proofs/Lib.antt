@@ -1,3 +1,4 @@
+mod Common
 pub mod Pairs
 pub mod Parts
 pub mod Sound

@@ -1,9 +1,6 @@
 -- The words of the pairs of a record that has the values of a list of indices.
-use Rattle.std.proofs.Common.{ℕ, ◌≡◌, ◌/◌, ◌%◌, ◌<◌, List, length, get_or, map, sym, ◌∙◌, ap, arith}
-use Rattle.std.proofs.lemmas.List.{length-map}
+use Rattle.partial_machine.proofs.Common.{ℕ, ◌≡◌, ◌/◌, ◌%◌, ◌<◌, List, length, get_or, map, sym, ◌∙◌, ap, arith, length-map, flat_map, pair_words, pairs_size}
 use Rattle.std.proofs.Math.ListN as lists
-use Rattle.std.specs.List.{flat_map}
-use Rattle.partial_words.specs.Record.{pair_words, pairs_size}
 use Rattle.partial_words.proofs.RecordLemmas.{word_even, word_odd}
 
 module _ (value : ℕ → ℕ) (l : List ℕ) (k : ℕ) (within : k < pairs_size (length l)) where

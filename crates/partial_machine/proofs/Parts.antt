@@ -1,16 +1,10 @@
 -- An idle machine, whose getSet or embedded scan was made.
-use Rattle.std.proofs.Common.{ℕ, ◌≡◌, sym, subst}
-use Rattle.partial_words.specs.Layout.{Layout}
+use Rattle.partial_machine.proofs.Common.{ℕ, ◌≡◌, sym, subst, Layout, Idle, CoreState, IsMachine, is_sound_at, AreIndices, few_indices}
 use Rattle.partial_active.specs.Found.{AreFoundFor as AreBuffersFor}
 use Rattle.partial_active.specs.GetSet as finding
 use Rattle.partial_active.specs.GetSetAnswers as finding_answers
 use Rattle.partial_embedded.specs.Embedded as viewing
-use Rattle.partial_machine.specs.declared.stage.Stage.TheVariants.{Idle}
-use Rattle.partial_machine.specs.Machine.{CoreState}
-use Rattle.partial_machine.specs.Sound.{IsMachine, is_sound_at}
 use Rattle.partial_machine.specs.Lines.{with_embedded, with_set}
-use Rattle.partial_active.specs.IndexSet.{AreIndices}
-use Rattle.partial_active.proofs.Distinct.{few_indices}
 
 pub found_idle : (s : CoreState) (room : ℕ) (p : finding.SetPair) → IsMachine s room → s.stage ≡ Idle → p.0.sizes ≡ s.sizes → finding_answers.SetGoesTogether p → AreIndices p.0.sizes.m p.1.indices →
     IsMachine (record s { found = p.1 }) room

@@ -1,26 +1,10 @@
 -- How many steps a scan has made at each stage, from its beginning on.
-use Rattle.std.proofs.Common.{ℕ, ◌≡◌, ◌+◌, ◌-◌, ◌*◌, ◌<◌, ◌≤◌, ◌==◌, Bool, true, false, cond, ◌&&◌, ◌||◌, List, [], ◌∷◌, length, get_or, Option, Some, None, refl, sym, ◌∙◌, ap, subst, arith}
-use Rattle.std.proofs.lemmas.Bool.{false≢true, eqb-true, ltb-false}
-use Rattle.std.specs.Prelude.{nat_lt, IsSome}
-use Rattle.std.specs.Option.{option_map_or}
-use Rattle.partial_words.specs.declared.step.Step.{Step}
-use Rattle.partial_words.specs.Layout.{IsLayout}
-use Rattle.partial_words.specs.Announcement.{announcement_size}
-use Rattle.partial_words.specs.Record.{pairs_word, next_word, view_size, pairs_size}
-use Rattle.partial_active.specs.Join.{join_after, join_left, join_step, advance_join}
-use Rattle.partial_active.specs.declared.join.JoinStage.{JoinStage}
-use Rattle.partial_active.specs.declared.join.JoinStage.TheVariants.{Claiming, Storing, Joined, Spent}
+use Rattle.partial_machine.proofs.Common.{ℕ, ◌≡◌, ◌+◌, ◌-◌, ◌*◌, ◌<◌, ◌≤◌, ◌==◌, Bool, true, false, cond, ◌&&◌, ◌||◌, List, [], ◌∷◌, length, get_or, Option, Some, None, refl, sym, ◌∙◌, ap, subst, arith, false≢true, eqb-true, ltb-false, nat_lt, IsSome, option_map_or, Step, IsLayout, announcement_size, pairs_word, next_word, view_size, pairs_size, join_after, join_left, join_step, advance_join, JoinStage, Claiming, Storing, Joined, Spent, Reply, Stage, CoreState, at_stage, scanning, with_scanning, begin_joining, after_joining, pool_refused, fits_pool, advance, advance_at, reply_at, IsSound, is_sound_at, IsPossibleAt, Run, is_len, loads_len, pairs_loaded, AreOfScan, ScansMakeTheirSteps}
 use Rattle.partial_embedded.specs.declared.embedded.Stage.{Stage as ViewStage}
 use Rattle.partial_embedded.specs.declared.embedded.Stage.TheVariants.{Collect, View, Len, Index, PairValue, Value, Done}
 use Rattle.partial_embedded.specs.Embedded as viewing
-use Rattle.partial_machine.specs.declared.stage.Reply.{Reply}
 use Rattle.partial_machine.specs.declared.stage.Reply.TheVariants as reply
-use Rattle.partial_machine.specs.declared.stage.Stage.{Stage}
 use Rattle.partial_machine.specs.declared.stage.Stage.TheVariants.{Idle, ReadBegun, LoadingValue, UpdateBegun, GettingSet, Viewing, ClaimingRecord, StoringRecord, Exchanging, ScanBegun, StoringAnnouncement, Joining, Scanning, Leaving, Finished}
-use Rattle.partial_machine.specs.Machine.{CoreState, at_stage, scanning, with_scanning, begin_joining, after_joining, pool_refused, fits_pool, advance, advance_at, reply_at}
-use Rattle.partial_machine.specs.Sound.{IsSound, is_sound_at}
-use Rattle.partial_machine.specs.Possible.{IsPossibleAt}
-use Rattle.partial_machine.specs.Steps.{Run, is_len, loads_len, pairs_loaded, AreOfScan, ScansMakeTheirSteps}
 use Rattle.partial_machine.proofs.Sound.{kept}
 
 -- the steps that an embedded scan of r positions has made at a stage, where n pairs were announced

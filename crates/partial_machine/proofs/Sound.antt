@@ -1,34 +1,16 @@
 -- A possible answer leaves a sound machine, with fewer steps to make.
-use Rattle.std.proofs.Common.{ℕ, ◌≡◌, ◌+◌, ◌<◌, ◌≤◌, ◌==◌, Bool, true, false, cond, length, Option, Some, None, IsSome, refl, sym, ◌∙◌, ap, subst, arith}
-use Rattle.std.proofs.lemmas.Bool.{false≢true, eqb-true, eqb-false, ltb-true}
+use Rattle.partial_machine.proofs.Common.{ℕ, ◌≡◌, ◌+◌, ◌<◌, ◌≤◌, ◌==◌, Bool, true, false, cond, length, Option, Some, None, IsSome, refl, sym, ◌∙◌, ap, subst, arith, false≢true, eqb-true, eqb-false, ltb-true, IsTrue, nat_lt, option_map_or, Step, Layout, IsLayout, pool_end, greatest_record, plain_record_size, full_record_size, announcement_size, fits_join, join_step, join_after, join_left, step_of_join, advance_join, JoinStage, Claiming, Storing, Joined, Spent, Change, Stage, CoreState, at_stage, getting, scanning, with_getting, with_scanning, record_size, expects, overtaken_reply, fits_pool, pool_refused, slots_refused, begin_getting, begin_joining, after_joining, scanned_reply, advance_at, advance, AreComponentIndices, IsRecord, IsInPool, IsSound, is_sound_at, IsMachine, IsPoolCount, IsPossible, IsPossibleAt, left_at, steps_left, AreIndices, few_indices, found_kept}
 use Rattle.std.proofs.Math.Nat.{mul-le-mul}
-use Rattle.std.specs.Prelude.{IsTrue, nat_lt}
-use Rattle.std.specs.Option.{option_map_or}
 use Rattle.partial_model.specs.declared.call.Refused.TheVariants as refused
-use Rattle.partial_words.specs.declared.step.Step.{Step}
-use Rattle.partial_words.specs.Layout.{Layout, IsLayout, pool_end, greatest_record}
-use Rattle.partial_words.specs.Record.{plain_record_size, full_record_size}
-use Rattle.partial_words.specs.Announcement.{announcement_size}
 use Rattle.partial_active.specs.Found.{AreFoundFor as AreBuffersFor}
-use Rattle.partial_active.specs.Join.{fits_join, join_step, join_after, join_left, step_of_join, advance_join}
-use Rattle.partial_active.specs.declared.join.JoinStage.{JoinStage}
-use Rattle.partial_active.specs.declared.join.JoinStage.TheVariants.{Claiming, Storing, Joined, Spent}
 use Rattle.partial_active.specs.GetSet as finding
 use Rattle.partial_active.specs.GetSetAnswers as finding_answers
 use Rattle.partial_active.proofs.Answered as answered
 use Rattle.partial_active.proofs.Sizes.{sizes_kept}
 use Rattle.partial_embedded.specs.Embedded as viewing
 use Rattle.partial_embedded.proofs.Keeps as viewed
-use Rattle.partial_machine.specs.declared.stage.Change.{Change}
 use Rattle.partial_machine.specs.declared.stage.Reply.TheVariants as reply
-use Rattle.partial_machine.specs.declared.stage.Stage.{Stage}
 use Rattle.partial_machine.specs.declared.stage.Stage.TheVariants.{Idle, ReadBegun, LoadingValue, UpdateBegun, GettingSet, Viewing, ClaimingRecord, StoringRecord, Exchanging, ScanBegun, StoringAnnouncement, Joining, Scanning, Leaving, Finished}
-use Rattle.partial_machine.specs.Machine.{CoreState, at_stage, getting, scanning, with_getting, with_scanning, record_size, expects, overtaken_reply, fits_pool, pool_refused, slots_refused, begin_getting, begin_joining, after_joining, scanned_reply, advance_at, advance}
-use Rattle.partial_machine.specs.Sound.{AreComponentIndices, IsRecord, IsInPool, IsSound, is_sound_at, IsMachine}
-use Rattle.partial_machine.specs.Possible.{IsPoolCount, IsPossible, IsPossibleAt}
-use Rattle.partial_machine.specs.Bounds.{left_at, steps_left}
-use Rattle.partial_active.specs.IndexSet.{AreIndices}
-use Rattle.partial_active.proofs.Distinct.{few_indices, found_kept}
 
 -- what an answer leaves of a machine
 pub record Keeps (s q : CoreState) : Type 0 where

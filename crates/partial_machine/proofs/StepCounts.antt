@@ -1,19 +1,8 @@
 -- How many steps a call has made, over every run.
-use Rattle.std.proofs.Common.{ℕ, ◌≡◌, ◌+◌, ◌≤◌, Option, List, [], ◌∷◌, length, Some, None, refl, sym, ◌∙◌, ap, subst, arith}
-use Rattle.partial_model.specs.declared.call.Call.{Call}
+use Rattle.partial_machine.proofs.Common.{ℕ, ◌≡◌, ◌+◌, ◌≤◌, Option, List, [], ◌∷◌, length, Some, None, refl, sym, ◌∙◌, ap, subst, arith, Call, IsLayout, update_call, call_at, Reply, Stage, ReadBegun, LoadingValue, UpdateBegun, ScanBegun, Finished, CoreState, at_stage, advance, advance_at, reply_of, reply_at, IsSound, is_sound_at, IsPossibleAt, most_steps, left_at, steps_left, Run, StaysSound, MakesFewSteps, ReadsInTwo}
 use Rattle.partial_model.specs.declared.call.Call.TheVariants as call
-use Rattle.partial_words.specs.Layout.{IsLayout}
 use Rattle.partial_embedded.specs.Embedded as viewing
-use Rattle.partial_machine.specs.Calls.{update_call, call_at}
-use Rattle.partial_machine.specs.declared.stage.Reply.{Reply}
 use Rattle.partial_machine.specs.declared.stage.Reply.TheVariants as reply
-use Rattle.partial_machine.specs.declared.stage.Stage.{Stage}
-use Rattle.partial_machine.specs.declared.stage.Stage.TheVariants.{ReadBegun, LoadingValue, UpdateBegun, ScanBegun, Finished}
-use Rattle.partial_machine.specs.Machine.{CoreState, at_stage, advance, advance_at, reply_of, reply_at}
-use Rattle.partial_machine.specs.Sound.{IsSound, is_sound_at}
-use Rattle.partial_machine.specs.Possible.{IsPossibleAt}
-use Rattle.partial_machine.specs.Bounds.{most_steps, left_at, steps_left}
-use Rattle.partial_machine.specs.Steps.{Run, StaysSound, MakesFewSteps, ReadsInTwo}
 use Rattle.partial_machine.proofs.Sound.{kept}
 
 pub stays_sound : StaysSound

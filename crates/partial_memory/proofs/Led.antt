@@ -1,8 +1,6 @@
 -- What follows from how a call was led to its reply, and why a call is refused at once.
-use Rattle.partial_memory.proofs.Common.{ℕ, ◌≡◌, ◌+◌, ◌<◌, ◌≤◌, Some, subst, ◌∙◌, Refused, Add, Layout, greatest_record, pool_counter, pool_end, slot_counter, CoreState, fresh, step_of, IsOldMark, IsRefusedBy, calls_are_refused_at_once, calls_claim_once, answers_of, PortView}
+use Rattle.partial_memory.proofs.Common.{ℕ, ◌≡◌, ◌+◌, ◌<◌, ◌≤◌, Some, subst, ◌∙◌, Refused, Add, Layout, greatest_record, pool_counter, pool_end, slot_counter, CoreState, fresh, step_of, IsOldMark, IsRefusedBy, calls_are_refused_at_once, calls_claim_once, answers_of, PortView, HasMark, LateRefusalsArePastEnd, LedCallsClaimOnce, RefusalsAtOnceFit, run_sizes}
 use Rattle.partial_model.specs.declared.call.Refused.TheVariants as refused
-use Rattle.partial_memory.specs.Led.{HasMark, LateRefusalsArePastEnd, LedCallsClaimOnce, RefusalsAtOnceFit}
-use Rattle.partial_machine.proofs.Behind.{run_sizes}
 
 pub led_calls_claim_once : LedCallsClaimOnce
 led_calls_claim_once p q c r w = calls_claim_once w.begun w.machine (answers_of q.kept) w.began.layout w.began.sound w.run

@@ -1,6 +1,5 @@
 -- Two ports that meet.
-use Rattle.partial_memory.proofs.Common.{ℕ, ◌≡◌, ◌++◌, List, [], ◌∷◌, map, refl, sym, ap, subst, ◌∙◌, AllByRecursion, Me, TableId, Applied, CoreState, About, SeatedPort, AreSeatedOf, IsIn, IsLawfulWith, first_port, having_met, looks, one_in, further_ports, IsResting, Knows, MemoryView, PortView, port_view, Meets}
-use Rattle.partial_memory.specs.Lawfulness.{MeetsLawfully}
+use Rattle.partial_memory.proofs.Common.{ℕ, ◌≡◌, ◌++◌, List, [], ◌∷◌, map, refl, sym, ap, subst, ◌∙◌, AllByRecursion, Me, TableId, Applied, CoreState, About, SeatedPort, AreSeatedOf, IsIn, IsLawfulWith, first_port, having_met, looks, one_in, further_ports, IsResting, Knows, MemoryView, PortView, port_view, Meets, MeetsLawfully}
 
 -- what a port knows of the history that it has seen in a meeting
 knows_met : (t : TableId) (log : List Applied) (x : SeatedPort) → IsIn log x → Knows (port_view t (having_met log x))

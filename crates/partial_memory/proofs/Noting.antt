@@ -1,11 +1,9 @@
 -- What the calls of a memory leave in the notes of their ports.
-use Rattle.partial_memory.proofs.Common.{ℕ, ◌≡◌, List, [], ◌∷◌, sym, ap, ◌∙◌, inl, inr, Some, append-nil, Call, Refused, PortView, Answered, Goes, IsRefused, Updates, UpdatesIf, met_port}
+use Rattle.partial_memory.proofs.Common.{ℕ, ◌≡◌, List, [], ◌∷◌, sym, ap, ◌∙◌, inl, inr, Some, append-nil, Call, Refused, PortView, Answered, Goes, IsRefused, Updates, UpdatesIf, met_port, Note, Noted}
 use Rattle.partial_model.specs.declared.history.Applied.{Applied as Entry}
 use Rattle.partial_model.specs.declared.call.Call.TheVariants as call
 use Rattle.partial_model.specs.declared.call.Answer.{Answer}
 use Rattle.partial_model.specs.declared.call.Answer.TheVariants as answer
-use Rattle.partial_model.specs.declared.call.Note.{Note}
-use Rattle.partial_model.specs.Notes.{Noted}
 use Rattle.partial_memory.specs.declared.answers.Updated.{Updated}
 use Rattle.partial_memory.specs.declared.answers.Updated.TheVariants.{Applied, Lost}
 use Rattle.partial_memory.specs.declared.answers.UpdatedIf.{UpdatedIf}

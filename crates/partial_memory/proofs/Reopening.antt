@@ -1,9 +1,8 @@
 -- A memory that opens with the values of a closed one goes on where its history ended.
-use Rattle.partial_memory.proofs.Common.{ℕ, zero, suc, ◌≡◌, ◌-◌, ◌<◌, ◌≤◌, ◌++◌, Bool, cond, List, [], ◌∷◌, length, get_or, replicate, take, slice_index, refl, sym, ◌∙◌, ap, inl, inr, Option, Some, None, arith, AllByRecursion, ne_eqb, cases_lt, get_or_past, take_all, Applied, Opening, AreValues}
+use Rattle.partial_memory.proofs.Common.{ℕ, zero, suc, ◌≡◌, ◌-◌, ◌<◌, ◌≤◌, ◌++◌, Bool, cond, List, [], ◌∷◌, length, get_or, replicate, take, slice_index, refl, sym, ◌∙◌, ap, inl, inr, Option, Some, None, arith, AllByRecursion, ne_eqb, cases_lt, get_or_past, take_all, Applied, Opening, AreValues, ClosedMemoriesContinue, extended_values, with_zeros}
 use Rattle.std.specs.Option.{option_map_or}
 use Rattle.partial_model.proofs.HistoryLemmas.{behind_both}
 use Rattle.partial_model.specs.History.{IsHistory, last_from, last_entry, value_of}
-use Rattle.partial_memory.specs.Reopening.{ClosedMemoriesContinue, extended_values, with_zeros}
 
 -- values to which zeros were added
 pub grown_is_extended : (m n : ℕ) (all old values : List ℕ) → all ≡ take m old ++ replicate (m - n) 0 → old ≡ values → n ≡ length values → length values ≤ m → all ≡ extended_values m values

@@ -1,22 +1,16 @@
 -- What a call that has ended leaves of its port, by its reply.
-use Rattle.partial_memory.proofs.Common.{ℕ, ◌≡◌, ◌≤◌, ◌<◌, ◌+◌, ◌++◌, ◌||◌, false, cond, Option, Some, None, List, [], ◌∷◌, length, map, slice_index, refl, sym, ap, subst, ◌∙◌, arith, inr, Result, Err, IfOk, IfErr, ne_eqb, TableId, Call, Refused, Finished, ReadBegun, ScanBegun, CoreState, at_stage, reply_of, scanned_values, answer_for, begin_scan, begun_of, call_of, core_scan_refusal, core_update_refusal, IsRefusedBy, refuses_pool, refuses_slots, KeptAnswer, answers_of, core_of, AreNotesOf, IsNoteOf, IsPlacedAt, IsRefusal, made_calls_make_their_steps, Layout, IsLayout, greatest_record, pool_end, About, scan_reply, SeatedPort, one_in, CallMade, CallEnded, PortView, port_view, refusal, IsResting, Knows, Goes, CountsSteps, Answered, IsPastEnd, RefusedLate, IsRefused, is_pool, is_slots, Updates, UpdatesIf, Reads, Scans}
-use Rattle.std.specs.Prelude.{Ok}
+use Rattle.partial_memory.proofs.Common.{ℕ, ◌≡◌, ◌≤◌, ◌<◌, ◌+◌, ◌++◌, ◌||◌, false, cond, Option, Some, None, List, [], ◌∷◌, length, map, slice_index, refl, sym, ap, subst, ◌∙◌, arith, inr, Result, Err, IfOk, IfErr, ne_eqb, TableId, Call, Refused, Finished, ReadBegun, ScanBegun, CoreState, at_stage, reply_of, scanned_values, answer_for, begin_scan, begun_of, call_of, core_scan_refusal, core_update_refusal, IsRefusedBy, refuses_pool, refuses_slots, KeptAnswer, answers_of, core_of, AreNotesOf, IsNoteOf, IsPlacedAt, IsRefusal, made_calls_make_their_steps, Layout, IsLayout, greatest_record, pool_end, About, scan_reply, SeatedPort, one_in, CallMade, CallEnded, PortView, port_view, refusal, IsResting, Knows, Goes, CountsSteps, Answered, IsPastEnd, RefusedLate, IsRefused, is_pool, is_slots, Updates, UpdatesIf, Reads, Scans, Ok, Note, LegalNotes-last, Noted, LegalNotes, Reply, run_sizes, BeganAs, IsLed, IsLedToAnswer, IsLedToRefusal, IsLedWhereLate, ScanIsLed, ScansLed}
 use Rattle.partial_model.specs.declared.call.Call.TheVariants as call
 use Rattle.partial_model.specs.declared.call.Answer.TheVariants as answer
-use Rattle.partial_model.specs.declared.call.Note.{Note}
 use Rattle.partial_model.specs.declared.call.Note.TheVariants as note
 use Rattle.partial_model.specs.declared.call.Refused.TheVariants as refused
-use Rattle.partial_model.proofs.NotesLemmas.{LegalNotes-last}
-use Rattle.partial_model.specs.Notes.{Noted, Fits as NoteFits, LegalNotes, MayBeRefused}
+use Rattle.partial_model.specs.Notes.{Fits as NoteFits, MayBeRefused}
 use Rattle.partial_embedded.specs.Embedded.{RowsState}
-use Rattle.partial_machine.specs.declared.stage.Reply.{Reply}
 use Rattle.partial_machine.specs.declared.stage.Reply.TheVariants as reply
-use Rattle.partial_machine.proofs.Behind.{run_sizes}
 use Rattle.partial_machine.specs.Steps.{Run, AreOfScan, pairs_loaded}
 use Rattle.partial_lines.specs.declared.whole_scan.Scanned.{Scanned}
 use Rattle.partial_memory.specs.declared.answers.Updated.TheVariants as updated
 use Rattle.partial_memory.specs.declared.answers.UpdatedIf.TheVariants as conditional
-use Rattle.partial_memory.specs.Led.{BeganAs, IsLed, IsLedToAnswer, IsLedToRefusal, IsLedWhereLate, ScanIsLed, ScansLed}
 use Rattle.partial_memory.proofs.Resting.{CallBegins, call_begins, read_begins, scan_begins}
 
 -- a call that was answered: its note fits and has its place in what is seen now, and its answers led it there

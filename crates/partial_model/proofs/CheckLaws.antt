@@ -1,7 +1,5 @@
 -- Each test of the checker decides its clause of a legal outcome.
-use Rattle.partial_model.proofs.Common.{ℕ, zero, suc, ◌≡◌, ◌≢◌, ◌+◌, ◌-◌, ◌*◌, ◌/◌, ◌%◌, ◌<◌, ◌≤◌, inl, inr, ◌==◌, nat_le, nat_lt, Bool, true, false, not, ◌&&◌, ◌||◌, List, [], ◌∷◌, length, map, take, drop, slice_get, refl, sym, ap, ◌∙◌, subst, Decides, Contains, Option, Some, None, IfSome, IsSome, IsSomeAnd, arith, AllByRecursion, list_all, list_any, option_map_or, is_none, true≢false, or_cases, Decides-and, Decides-or, Decides-not, Decides-like, Decides-eqb, Decides-by_or, slice_get_past, Applied, Opening, Call, Answer, Note, Finish, Called, initial_stamp, value_of, stamp_of, HaveDistinctStamps, IsHistory, ClaimsPool, ClaimsSlot, MayBeRefused, Fits, IsEntryFor, AreCollects, SawTogether, IsTrueOf, IsLegal, indices_of, place_of, shown_by, Follows, IsInTime, RealTime, is_initial, are_distinct, is_history, names_components, claims_pool, claims_slot, may_be_refused, stands_at, is_entry_for, are_collects, hold, shows_stamp, saw_together, is_right, is_refusal, is_legal, follows, ends_in_time, is_in_time, are_in_time}
-use Rattle.std.proofs.lemmas.List.Elements.{Decides-contains}
-use Rattle.std.proofs.lemmas.Map.Keys.{any_passes_from_place}
+use Rattle.partial_model.proofs.Common.{ℕ, zero, suc, ◌≡◌, ◌≢◌, ◌+◌, ◌-◌, ◌*◌, ◌/◌, ◌%◌, ◌<◌, ◌≤◌, inl, inr, ◌==◌, nat_le, nat_lt, Bool, true, false, not, ◌&&◌, ◌||◌, List, [], ◌∷◌, length, map, take, drop, slice_get, refl, sym, ap, ◌∙◌, subst, Decides, Contains, Option, Some, None, IfSome, IsSome, IsSomeAnd, arith, AllByRecursion, list_all, list_any, option_map_or, is_none, true≢false, or_cases, Decides-and, Decides-or, Decides-not, Decides-like, Decides-eqb, Decides-by_or, slice_get_past, Applied, Opening, Call, Answer, Note, Finish, Called, initial_stamp, value_of, stamp_of, HaveDistinctStamps, IsHistory, ClaimsPool, ClaimsSlot, MayBeRefused, Fits, IsEntryFor, AreCollects, SawTogether, IsTrueOf, IsLegal, indices_of, place_of, shown_by, Follows, IsInTime, RealTime, is_initial, are_distinct, is_history, names_components, claims_pool, claims_slot, may_be_refused, stands_at, is_entry_for, are_collects, hold, shows_stamp, saw_together, is_right, is_refusal, is_legal, follows, ends_in_time, is_in_time, are_in_time, Decides-contains, any_passes_from_place}
 use Rattle.partial_model.specs.declared.call.Call.TheVariants as call
 use Rattle.partial_model.specs.declared.call.Refused.{Refused}
 use Rattle.partial_model.specs.declared.call.Refused.TheVariants as refused

@@ -1,6 +1,5 @@
 -- The entries of a port in a history are the updates of its notes; and what holds of its places and entries.
-use Rattle.partial_model.proofs.Common.{ℕ, zero, suc, ◌≡◌, ◌+◌, ◌==◌, ◌++◌, Bool, true, false, cond, List, [], ◌∷◌, map, get_or, refl, sym, ◌∙◌, ap, subst, Option, Some, None, slice_get, arith, ◌≤◌, Contains, AllByRecursion, get_or_from_slice_get, eq-eqb, eqb-true, Applied, Opening, Call, Answer, Note, Noted, IsTrueOf, IsLegal, LegalNotes, seen_after, wrote, places_by, places_written, EachOnce, EntriesAreNoted, entries_by, entry_of, applied_by}
-use Rattle.std.proofs.lemmas.List.Elements.{All-contains, All-contains_itself, All-from_recursion, recursion_from_All}
+use Rattle.partial_model.proofs.Common.{ℕ, zero, suc, ◌≡◌, ◌+◌, ◌==◌, ◌++◌, Bool, true, false, cond, List, [], ◌∷◌, map, get_or, refl, sym, ◌∙◌, ap, subst, Option, Some, None, slice_get, arith, ◌≤◌, Contains, AllByRecursion, get_or_from_slice_get, eq-eqb, eqb-true, Applied, Opening, Call, Answer, Note, Noted, IsTrueOf, IsLegal, LegalNotes, seen_after, wrote, places_by, places_written, EachOnce, EntriesAreNoted, entries_by, entry_of, applied_by, All-contains, All-contains_itself, All-from_recursion, recursion_from_All}
 use Rattle.partial_model.specs.declared.call.Call.TheVariants as call
 use Rattle.partial_model.specs.declared.call.Answer.TheVariants as answer
 use Rattle.partial_model.specs.declared.call.Note.TheVariants as note

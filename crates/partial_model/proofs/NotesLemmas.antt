@@ -1,6 +1,5 @@
 -- What a longer history and one note more leave of a port's notes.
-use Rattle.partial_model.proofs.Common.{ℕ, zero, suc, ◌≡◌, ◌≢◌, ◌+◌, ◌≤◌, ◌==◌, ◌++◌, Bool, true, false, cond, List, [], ◌∷◌, length, map, refl, sym, ◌∙◌, ap, subst, Option, Some, None, slice_get, IfSome, Contains, arith, append_assoc, append-nil, AllByRecursion, take-append-le, Applied, Opening, Call, Answer, Note, HaveDistinctStamps, value_of, stamp_of, Noted, IsEntryFor, IsTrueOf, IsLegal, LegalNotes, LegalNotesAreShown, seen_after, seen_by, place_of, shown_by, wrote, places_by, places_written}
-use Rattle.std.proofs.Common.{length-append}
+use Rattle.partial_model.proofs.Common.{ℕ, zero, suc, ◌≡◌, ◌≢◌, ◌+◌, ◌≤◌, ◌==◌, ◌++◌, Bool, true, false, cond, List, [], ◌∷◌, length, map, refl, sym, ◌∙◌, ap, subst, Option, Some, None, slice_get, IfSome, Contains, arith, append_assoc, append-nil, AllByRecursion, take-append-le, Applied, Opening, Call, Answer, Note, HaveDistinctStamps, value_of, stamp_of, Noted, IsEntryFor, IsTrueOf, IsLegal, LegalNotes, LegalNotesAreShown, seen_after, seen_by, place_of, shown_by, wrote, places_by, places_written, length-append}
 use Rattle.partial_model.specs.declared.call.Call.TheVariants as call
 use Rattle.partial_model.specs.declared.call.Answer.TheVariants as answer
 use Rattle.partial_model.specs.declared.call.Note.TheVariants as note

@@ -1,5 +1,5 @@
 -- The words of labels are those of the texts of plans and outcomes.
-use Rattle.std.proofs.Common.{rules, ℕ, ◌≡◌, ◌++◌, ◌∷◌, [], List, Option, Some, Result, Ok, Err, IfOk, string_bytes, codes, decimal, sym, ap, ◌∙◌}
+use Rattle.partial_picture.proofs.Common.{rules, ℕ, ◌≡◌, ◌++◌, ◌∷◌, [], List, Option, Some, Result, Ok, Err, IfOk, string_bytes, codes, decimal, sym, ap, ◌∙◌, call_text}
 use Rattle.std.proofs.lemmas.List.{append-nil, append_assoc}
 use Rattle.std.specs.declared.alloc.AllocError.{AllocError}
 use Rattle.std.specs.declared.alloc.Global.{Global}
@@ -12,7 +12,6 @@ use Rattle.partial_model.specs.declared.call.Finish.{Finish}
 use Rattle.partial_model.specs.declared.call.Refused.{Refused}
 use Rattle.partial_model.specs.declared.history.Applied.{Applied}
 use Rattle.partial_model.specs.Refusals.{refused_code}
-use Rattle.partial_text.specs.PlanText.{call_text}
 use Rattle.partial_text.specs.OutcomeText.{answer_text, entry_line, finish_text, told_place}
 
 -- what is made of words, once it is known which they are

@@ -1,14 +1,11 @@
 -- The history of a pipeline: each stage's count only rises, and never passes that of the stage before it.
-use Rattle.partial_pipeline.proofs.Common.{ℕ, zero, suc, ◌≡◌, ◌+◌, ◌<◌, ◌≤◌, ◌==◌, ◌++◌, Bool, true, false, cond, List, [], ◌∷◌, length, take, slice_index, refl, sym, ◌∙◌, ap, subst, inl, inr, Option, Some, None, slice_get, arith, AllByRecursion, eq-eqb, ne_eqb, Applied, Opening, Call, Answer, Note, Noted, IsLegal, LegalNotes, seen_after, wrote, places_written, all_append, AllByRecursion-get, AreFrom, IsPipeline, IsStageIn, Works, CountsStayOrdered, CountsNeverFall, last_value, published_count}
+use Rattle.partial_pipeline.proofs.Common.{ℕ, zero, suc, ◌≡◌, ◌+◌, ◌<◌, ◌≤◌, ◌==◌, ◌++◌, Bool, true, false, cond, List, [], ◌∷◌, length, take, slice_index, refl, sym, ◌∙◌, ap, subst, inl, inr, Option, Some, None, slice_get, arith, AllByRecursion, eq-eqb, ne_eqb, Applied, Opening, Call, Answer, Note, Noted, IsLegal, LegalNotes, seen_after, wrote, places_written, all_append, AllByRecursion-get, AreFrom, IsPipeline, IsStageIn, Works, CountsStayOrdered, CountsNeverFall, last_value, published_count, OnlyRises, entries_by, entry_of, applied_by, entries_are_noted, entry_holds, noted_at, value_at_first, value_set, value_kept, element_at, rising_never_falls}
 use Rattle.std.specs.Option.{option_map_or}
 use Rattle.std.proofs.lemmas.Bool.Decides.{eqb_tells}
 use Rattle.partial_model.specs.declared.call.Call.TheVariants as call
 use Rattle.partial_model.specs.declared.call.Answer.TheVariants as answer
 use Rattle.partial_model.specs.declared.call.Note.TheVariants as note
 use Rattle.partial_model.specs.History.{last_from, value_of}
-use Rattle.partial_model.specs.Entries.{OnlyRises, entries_by, entry_of, applied_by}
-use Rattle.partial_model.proofs.Entries.{entries_are_noted, entry_holds, noted_at}
-use Rattle.partial_model.proofs.Values.{value_at_first, value_set, value_kept, element_at, rising_never_falls}
 
 -- ---- the entries of stage k: component k alone, to values that never fall
 

@@ -1,14 +1,10 @@
 -- What the closed memory of a pipeline tells of the monitor's scans.
-use Rattle.partial_pipeline.proofs.Common.{ℕ, zero, suc, inl, inr, ◌≡◌, ◌+◌, ◌<◌, ◌≤◌, ◌++◌, List, [], ◌∷◌, length, map, take, slice_index, refl, sym, ◌∙◌, ap, subst, Option, Some, None, slice_get, arith, AllByRecursion, ext_get_or, get_or-map, length-map, take_all, cases_lt, Applied, Opening, Call, Answer, Note, Noted, LegalNotes, IsLegal, seen_after, seen_by, EachOnce, places_written, wrote, AllByRecursion-get, LegalNotes-last, all_where, IsOf, MemoryView, PortView, AreFrom, AreOrdered, HaveEnded, HaveRisen, IsOrderly, IsPipeline, IsStageIn, NeverFall, last_of, EndEach, HasMetMonitor, IsEachStage, GoesOnNoting, Opens, Sees, StagesWatched, StageEnd, Finished}
+use Rattle.partial_pipeline.proofs.Common.{ℕ, zero, suc, inl, inr, ◌≡◌, ◌+◌, ◌<◌, ◌≤◌, ◌++◌, List, [], ◌∷◌, length, map, take, slice_index, refl, sym, ◌∙◌, ap, subst, Option, Some, None, slice_get, arith, AllByRecursion, ext_get_or, get_or-map, length-map, take_all, cases_lt, Applied, Opening, Call, Answer, Note, Noted, LegalNotes, IsLegal, seen_after, seen_by, EachOnce, places_written, wrote, AllByRecursion-get, LegalNotes-last, all_where, IsOf, MemoryView, PortView, AreFrom, AreOrdered, HaveEnded, HaveRisen, IsOrderly, IsPipeline, IsStageIn, NeverFall, last_of, EndEach, HasMetMonitor, IsEachStage, GoesOnNoting, Opens, Sees, StagesWatched, StageEnd, Finished, Global, Vec, noted_at, element_at}
 use Rattle.std.specs.Prelude.{IfSome}
-use Rattle.std.specs.declared.alloc.Global.{Global}
-use Rattle.std.specs.declared.vec.Vec.{Vec}
 use Rattle.partial_model.specs.declared.call.Call.TheVariants as call
 use Rattle.partial_model.specs.declared.call.Answer.TheVariants as answer
 use Rattle.partial_model.specs.declared.call.Note.TheVariants as note
 use Rattle.partial_model.specs.History.{value_of}
-use Rattle.partial_model.proofs.Entries.{noted_at}
-use Rattle.partial_model.proofs.Values.{element_at}
 use Rattle.partial_long_lived.specs.Closing.{Closes, IsPortOf}
 use Rattle.partial_pipeline.proofs.Pipes.{counts_never_fall, counts_stay_ordered, stage_value}
 use Rattle.partial_pipeline.proofs.Stages.{ends_many, watched_sees}

@@ -1,16 +1,12 @@
 -- One call more of a stage, of the monitor, and a meeting.
-use Rattle.partial_pipeline.proofs.Common.{ℕ, zero, suc, ◌≡◌, ◌+◌, ◌<◌, ◌≤◌, ◌++◌, List, [], ◌∷◌, length, map, take, get_or, refl, sym, ◌∙◌, ap, subst, inl, inr, Option, Some, append-nil, append_assoc, length-take, arith, AllByRecursion, Applied, Opening, Call, Answer, Note, Noted, LegalNotes, seen_after, places_written, wrote, all_append, all_weaker, shown_within, Goes, IsRefused, Meets, Reads, Scanned, Scans, Updates, IsOf, Knows, MemoryView, PortView, AreFrom, HasWorked, Works, EndEach, EndsAt, HasMetMonitor, IsStageDone, IsWorking, GoesOnNoting, Sees, StagesWatched, last_value, published_count, StageEnd, Finished}
+use Rattle.partial_pipeline.proofs.Common.{ℕ, zero, suc, ◌≡◌, ◌+◌, ◌<◌, ◌≤◌, ◌++◌, List, [], ◌∷◌, length, map, take, get_or, refl, sym, ◌∙◌, ap, subst, inl, inr, Option, Some, append-nil, append_assoc, length-take, arith, AllByRecursion, Applied, Opening, Call, Answer, Note, Noted, LegalNotes, seen_after, places_written, wrote, all_append, all_weaker, shown_within, Goes, IsRefused, Meets, Reads, Scanned, Scans, Updates, IsOf, Knows, MemoryView, PortView, AreFrom, HasWorked, Works, EndEach, EndsAt, HasMetMonitor, IsStageDone, IsWorking, GoesOnNoting, Sees, StagesWatched, last_value, published_count, StageEnd, Finished, applied_by, entry_of, Updated, Stage, Worked}
 use Rattle.partial_model.specs.declared.call.Call.TheVariants as call
 use Rattle.partial_model.specs.declared.call.Answer.TheVariants as answer
 use Rattle.partial_model.specs.declared.call.Note.TheVariants as note
-use Rattle.partial_model.specs.Entries.{applied_by, entry_of}
-use Rattle.partial_long_lived.specs.declared.answers.Updated.{Updated}
 use Rattle.partial_long_lived.specs.declared.answers.Updated.TheVariants.{Applied as IsApplied, Lost}
 use Rattle.partial_long_lived.specs.declared.error.Refused.{Refused}
 use Rattle.partial_long_lived.specs.declared.error.Refused.TheVariants as refused
 use Rattle.partial_pipeline.proofs.Pipes.{read_makes_none}
-use Rattle.partial_pipeline.specs.declared.stage.Stage.{Stage}
-use Rattle.partial_pipeline.specs.declared.stage.Worked.{Worked}
 
 -- ---- what a call leaves of its port
 

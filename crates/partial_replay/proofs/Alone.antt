@@ -1,9 +1,8 @@
 -- In the replay of a plan with one port each call is alone.
-use Rattle.partial_replay.proofs.Common.{ℕ, zero, suc, ◌≡◌, ◌+◌, ◌<◌, ◌≤◌, ◌==◌, ◌++◌, Bool, true, false, cond, List, [], ◌∷◌, length, map, take, Option, Some, None, IfSome, IsSomeAnd, refl, sym, ◌∙◌, ap, subst, inl, inr, arith, AllByRecursion, filter_map, cons_option, range_with_len, option_map, option_map_or, eqb_tells, Applied, Opening, Call, Answer, Note, Called, Finish, stamp_of, Noted, Fits, IsTrueOf, IsLegal, LegalNotes, seen_after, shown_by, place_of, noted_of, places_by, places_written, wrote, Follows, RealTime, LegalOutcome, calls_by, AreFirstOf}
+use Rattle.partial_replay.proofs.Common.{ℕ, zero, suc, ◌≡◌, ◌+◌, ◌<◌, ◌≤◌, ◌==◌, ◌++◌, Bool, true, false, cond, List, [], ◌∷◌, length, map, take, Option, Some, None, IfSome, IsSomeAnd, refl, sym, ◌∙◌, ap, subst, inl, inr, arith, AllByRecursion, filter_map, cons_option, range_with_len, option_map, option_map_or, eqb_tells, Applied, Opening, Call, Answer, Note, Called, Finish, stamp_of, Noted, Fits, IsTrueOf, IsLegal, LegalNotes, seen_after, shown_by, place_of, noted_of, places_by, places_written, wrote, Follows, RealTime, LegalOutcome, calls_by, AreFirstOf, value_of}
 use Rattle.partial_model.specs.declared.call.Call.TheVariants as call
 use Rattle.partial_model.specs.declared.call.Answer.TheVariants as answer
 use Rattle.partial_model.specs.declared.call.Note.TheVariants as note
-use Rattle.partial_model.specs.History.{value_of}
 use Rattle.partial_replay.specs.Alone.{AddsAlone, AnswersAlone, IsAlone, OnePortIsAlone}
 use Rattle.partial_replay.proofs.PortLaws.{same_eqb}
 use Rattle.partial_replay.proofs.Replays.{past_get}

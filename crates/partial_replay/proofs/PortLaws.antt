@@ -1,14 +1,9 @@
 -- How a port of a replay goes on as its part's port.
-use Rattle.partial_replay.proofs.Common.{ℕ, ◌==◌, ◌≢◌, set, inl, inr, zero, suc, ◌≡◌, ◌+◌, ◌<◌, ◌≤◌, ◌++◌, Bool, true, false, cond, List, [], ◌∷◌, length, take, map, get_or, Option, Some, None, IfSome, IsSomeAnd, MatchOption, slice_get, refl, sym, ◌∙◌, ap, subst, arith, length-append, AllByRecursion, cons_option, option_map, option_map_or, eqb_tells, false≢true, append-nil, length_push, map_push, take-append-le, Applied, Opening, Call, Refused, Answer, Note, Shows, IsLeastFrom, HasLeastPlace, Called, Finish, Noted, LegalNotes, IsLegal, MayBeRefused, seen_by, seen_after, shown_by, place_of, noted_of, places_written, wrote, AllByRecursion-push, LegalNotes-push, LegalNotes-grows, seen_by-push, places_written-push, Step, Event, Layout, answer_of, words_after, Reply, Idle, ReadBegun, UpdateBegun, ScanBegun, Finished, CoreState, at_stage, advance, step_of, reply_at, reply_of, AreComponentIndices, IsSound, IsPossible, begin_scan, is_begun, is_at_rest, makes_steps, call_of, answer_for, begun_of, refusal_of, IsServed, steps_left, most_steps, Part, port_of, IsMachineOf, IsBetween, calls_begin, calls_are_refused_at_once, calls_begin_between, Port, UnderWay, IsRefusedAtOnce, IsFinishedAtOnce, end_of_call, ends_of, IsFinishedCall, AreFinished, notes_in, IsCallUnderWay, PortFits, IsDoneAtOnce, entry_at, one_step_more, IsEndedCall, CallGoesOn, Ends, StepMade, AreFew, place_below}
-use Rattle.std.proofs.Common.{IsSome}
+use Rattle.partial_replay.proofs.Common.{ℕ, ◌==◌, ◌≢◌, set, inl, inr, zero, suc, ◌≡◌, ◌+◌, ◌<◌, ◌≤◌, ◌++◌, Bool, true, false, cond, List, [], ◌∷◌, length, take, map, get_or, Option, Some, None, IfSome, IsSomeAnd, MatchOption, slice_get, refl, sym, ◌∙◌, ap, subst, arith, length-append, AllByRecursion, cons_option, option_map, option_map_or, eqb_tells, false≢true, append-nil, length_push, map_push, take-append-le, Applied, Opening, Call, Refused, Answer, Note, Shows, IsLeastFrom, HasLeastPlace, Called, Finish, Noted, LegalNotes, IsLegal, MayBeRefused, seen_by, seen_after, shown_by, place_of, noted_of, places_written, wrote, AllByRecursion-push, LegalNotes-push, LegalNotes-grows, seen_by-push, places_written-push, Step, Event, Layout, answer_of, words_after, Reply, Idle, ReadBegun, UpdateBegun, ScanBegun, Finished, CoreState, at_stage, advance, step_of, reply_at, reply_of, AreComponentIndices, IsSound, IsPossible, begin_scan, is_begun, is_at_rest, makes_steps, call_of, answer_for, begun_of, refusal_of, IsServed, steps_left, most_steps, Part, port_of, IsMachineOf, IsBetween, calls_begin, calls_are_refused_at_once, calls_begin_between, Port, UnderWay, IsRefusedAtOnce, IsFinishedAtOnce, end_of_call, ends_of, IsFinishedCall, AreFinished, notes_in, IsCallUnderWay, PortFits, IsDoneAtOnce, entry_at, one_step_more, IsEndedCall, CallGoesOn, Ends, StepMade, AreFew, place_below, IsSome, Vec, Global, HasBegun, Stage}
 use Rattle.partial_model.specs.declared.call.Call.TheVariants as call
 use Rattle.partial_model.specs.declared.call.Answer.TheVariants as answer
 use Rattle.partial_model.specs.declared.call.Note.TheVariants as note
-use Rattle.std.specs.declared.vec.Vec.{Vec}
-use Rattle.std.specs.declared.alloc.Global.{Global}
 use Rattle.partial_machine.specs.declared.stage.Reply.TheVariants as reply
-use Rattle.partial_core.specs.Part.{HasBegun}
-use Rattle.partial_machine.specs.declared.stage.Stage.{Stage}
 
 pub same_eqb : (a b : ℕ) → a ≡ b → (a == b) ≡ true
 same_eqb a b h = elim (eqb_tells a b) [ inl w ↦ w.0 | inr w ↦ absurd (w.1 h) ]

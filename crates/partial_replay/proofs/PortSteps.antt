@@ -1,6 +1,5 @@
 -- The events of a port are the steps of its calls.
-use Rattle.partial_replay.proofs.Common.{ℕ, ◌≢◌, ◌≤◌, suc, ◌≡◌, ◌+◌, ◌<◌, ◌==◌, ◌++◌, Bool, true, false, cond, List, [], ◌∷◌, length, map, set, Option, Some, None, IfSome, MatchOption, slice_get, refl, sym, ◌∙◌, ap, subst, inl, inr, arith, append_assoc, length-append, AllByRecursion, filter, filter_map, cons_option, sum_by, option_map, is_some, IsSome, append-nil, length_push, length-map, sum_by-cons, false≢true, ne_eqb, filter-append, eqb_tells, Applied, Call, Called, Finish, Opening, Step, Event, Layout, word_of, answer_of, Reply, Idle, Finished, CoreState, at_stage, advance, step_of, reply_at, reply_of, fresh, IsPossible, Part, IsBetween, answer_for, is_at_rest, begun_of, refusal_of, Port, UnderWay, Moment, last_behind, adds, is_won, new_of, event_entry, moments_from, moments_by, ports_of, events_in, EndInStep, Makes, IsCallRun, AreStepsOf, IsCallUnderWay, PortFits, IsCallGoing, PortMade, KeepsMade, unfinished_call, began_at, IsDoneAtOnce, ended_call, one_step_more, CallGoesOn, Ends, StepMade, ArePortsMade, AreStarted, AreStartedBut, left_over, unvalued, StopsAtStep}
-use Rattle.partial_machine.specs.declared.stage.Stage.{Stage}
+use Rattle.partial_replay.proofs.Common.{ℕ, ◌≢◌, ◌≤◌, suc, ◌≡◌, ◌+◌, ◌<◌, ◌==◌, ◌++◌, Bool, true, false, cond, List, [], ◌∷◌, length, map, set, Option, Some, None, IfSome, MatchOption, slice_get, refl, sym, ◌∙◌, ap, subst, inl, inr, arith, append_assoc, length-append, AllByRecursion, filter, filter_map, cons_option, sum_by, option_map, is_some, IsSome, append-nil, length_push, length-map, sum_by-cons, false≢true, ne_eqb, filter-append, eqb_tells, Applied, Call, Called, Finish, Opening, Step, Event, Layout, word_of, answer_of, Reply, Idle, Finished, CoreState, at_stage, advance, step_of, reply_at, reply_of, fresh, IsPossible, Part, IsBetween, answer_for, is_at_rest, begun_of, refusal_of, Port, UnderWay, Moment, last_behind, adds, is_won, new_of, event_entry, moments_from, moments_by, ports_of, events_in, EndInStep, Makes, IsCallRun, AreStepsOf, IsCallUnderWay, PortFits, IsCallGoing, PortMade, KeepsMade, unfinished_call, began_at, IsDoneAtOnce, ended_call, one_step_more, CallGoesOn, Ends, StepMade, ArePortsMade, AreStarted, AreStartedBut, left_over, unvalued, StopsAtStep, Stage}
 use Rattle.partial_replay.proofs.PortLaws.{same_eqb, get_set, get_set_other}
 use Rattle.partial_replay.proofs.Opens.{over_none}
 use Rattle.partial_replay.proofs.LegalOutcomes.{begun_by}

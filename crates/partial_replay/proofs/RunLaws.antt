@@ -1,12 +1,9 @@
 -- A step of a port keeps a replay's state lawful.
-use Rattle.partial_replay.proofs.Common.{ℕ, ◌≡◌, ◌<◌, ◌≤◌, ◌++◌, Bool, true, false, cond, List, [], ◌∷◌, length, Option, Some, None, IfSome, MatchOption, slice_get, inr, refl, sym, ◌∙◌, ap, subst, arith, length-append, append-nil, length-map, Applied, Opening, Call, Refused, Note, Called, Noted, LegalNotes, IsLegal, MayBeRefused, seen_by, shown_by, place_of, Fits, IsTrueOf, places_written, wrote, places_written-append, AllByRecursion-push, AllByRecursion-weaker, LegalNotes-last, Step, Event, Layout, Answers, Leads, answer_of, words_after, Reply, Idle, CoreState, at_stage, scanned_values, advance, step_of, reply_of, IsSound, rests_are_sound, steps_left, most_steps, Part, KeptAnswer, core_of, port_of, IsBetween, IsMarkedLike, first_at, is_begun, is_at_rest, call_of, answer_for, Port, UnderWay, ends_of, notes_in, IsCallUnderWay, PortFits, AreWithin, ScanHasValues, MayAnswer, one_step_more, ended_call, CallGoesOn, Ends, AreFew, IsNoteFrom, IsLeastFrom, view_word, lawful_records_are_within, initial_stamp, AllByRecursion, value_word}
-use Rattle.std.specs.Prelude.{is_some}
+use Rattle.partial_replay.proofs.Common.{ℕ, ◌≡◌, ◌<◌, ◌≤◌, ◌++◌, Bool, true, false, cond, List, [], ◌∷◌, length, Option, Some, None, IfSome, MatchOption, slice_get, inr, refl, sym, ◌∙◌, ap, subst, arith, length-append, append-nil, length-map, Applied, Opening, Call, Refused, Note, Called, Noted, LegalNotes, IsLegal, MayBeRefused, seen_by, shown_by, place_of, Fits, IsTrueOf, places_written, wrote, places_written-append, AllByRecursion-push, AllByRecursion-weaker, LegalNotes-last, Step, Event, Layout, Answers, Leads, answer_of, words_after, Reply, Idle, CoreState, at_stage, scanned_values, advance, step_of, reply_of, IsSound, rests_are_sound, steps_left, most_steps, Part, KeptAnswer, core_of, port_of, IsBetween, IsMarkedLike, first_at, is_begun, is_at_rest, call_of, answer_for, Port, UnderWay, ends_of, notes_in, IsCallUnderWay, PortFits, AreWithin, ScanHasValues, MayAnswer, one_step_more, ended_call, CallGoesOn, Ends, AreFew, IsNoteFrom, IsLeastFrom, view_word, lawful_records_are_within, initial_stamp, AllByRecursion, value_word, is_some, Lawful, begun_with, kept_with, added_by, LeadsOn, IsNoteOf, IsRefusal, AreNotesOf}
 use Rattle.partial_model.specs.declared.call.Answer.TheVariants as answer
 use Rattle.partial_model.specs.declared.call.Call.TheVariants as call
 use Rattle.partial_model.specs.declared.call.Note.TheVariants as note
 use Rattle.partial_machine.specs.declared.stage.Reply.TheVariants as reply
-use Rattle.partial_core.specs.Lawful.{Lawful}
-use Rattle.partial_core.specs.Steps.{begun_with, kept_with, added_by, LeadsOn, IsNoteOf, IsRefusal, AreNotesOf}
 use Rattle.partial_replay.proofs.ScanPlaces.{has_records, has_record}
 use Rattle.partial_replay.proofs.Places.{finds_place}
 use Rattle.partial_replay.proofs.PortLaws.{some_is, DoneFits, EndedCall, done_of, done_grows, push_fits, fits_with}

@@ -1,8 +1,6 @@
 -- What a trace says, event by event.
-use Rattle.partial_replay.proofs.Common.{ℕ, suc, ◌-◌, ◌≡◌, ◌+◌, ◌<◌, ◌==◌, ◌++◌, Bool, true, false, cond, List, [], ◌∷◌, length, map, get_or, take, nat_lt, Option, Some, None, slice_get, refl, sym, ◌∙◌, ap, arith, filter_map, cons_option, filter_map-append, map-append, get_or_from_slice_get, Applied, Opening, IsHistory, initial_stamp, last_entry, stamp_of, option_map_or, word_of, last_entry-found, place_below, AllByRecursion-get, Step, Event, record_value, Agrees, is_won, new_of, event_entry, entry_at, unvalued}
+use Rattle.partial_replay.proofs.Common.{ℕ, suc, ◌-◌, ◌≡◌, ◌+◌, ◌<◌, ◌==◌, ◌++◌, Bool, true, false, cond, List, [], ◌∷◌, length, map, get_or, take, nat_lt, Option, Some, None, slice_get, refl, sym, ◌∙◌, ap, arith, filter_map, cons_option, filter_map-append, map-append, get_or_from_slice_get, Applied, Opening, IsHistory, initial_stamp, last_entry, stamp_of, option_map_or, word_of, last_entry-found, place_below, AllByRecursion-get, Step, Event, record_value, Agrees, is_won, new_of, event_entry, entry_at, unvalued, Load, Store, Exchange, Add, value_behind_stamp}
 use Rattle.partial_model.specs.History as history
-use Rattle.partial_words.specs.declared.step.Step.TheVariants.{Load, Store, Exchange, Add}
-use Rattle.partial_words.proofs.ChainLemmas.{value_behind_stamp}
 
 entry_won : (p w old new v : ℕ) (c b : Bool) → cons_option (cond (cond c b false) (Some (record { port = p; component = w; value = 0; stamp = new })) None) [] ≡ map unvalued
     (cond c (cond b (record { port = p; component = w; value = v; stamp = new } ∷ []) []) [])

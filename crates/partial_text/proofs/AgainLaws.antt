@@ -1,7 +1,6 @@
 -- The text of a plan is read as the plan.
-use Rattle.partial_text.proofs.Common.{◌≡◌, ℕ, ◌+◌, ◌^◌, ◌<◌, ◌≤◌, Bool, true, false, cond, eqb, leb, ltb, ◌&&◌, List, [], ◌∷◌, ◌++◌, length, map, drop, codes, Result, Ok, Err, refl, sym, ap, subst, ◌∙◌, append_assoc, eq-eqb, arith, decimal, flat_map, AllByRecursion, bytes_eq, ne_eqb, le-leb, lt-ltb, le-ltb, append-nil, length-append, length-map, flat_map-map, bytes_eq-Decides, Call, PlanError, until, from, onto_first, pieces, ◌>>=◌, PlanView, field, number_field, sizes_line, initial_line, call_text, next_call, port_line, entry_text, rest_text, steps_line, ended_line, plan_text, IsCall, IsTurnEntry, IsPlan, Tail, greatest, greatest_index, fields_of, number_at, in_range, is_cut, call_texts, is_nil, is_rest, is_end, tail_at}
+use Rattle.partial_text.proofs.Common.{◌≡◌, ℕ, ◌+◌, ◌^◌, ◌<◌, ◌≤◌, Bool, true, false, cond, eqb, leb, ltb, ◌&&◌, List, [], ◌∷◌, ◌++◌, length, map, drop, codes, Result, Ok, Err, refl, sym, ap, subst, ◌∙◌, append_assoc, eq-eqb, arith, decimal, flat_map, AllByRecursion, bytes_eq, ne_eqb, le-leb, lt-ltb, le-ltb, append-nil, length-append, length-map, flat_map-map, bytes_eq-Decides, Call, PlanError, until, from, onto_first, pieces, ◌>>=◌, PlanView, field, number_field, sizes_line, initial_line, call_text, next_call, port_line, entry_text, rest_text, steps_line, ended_line, plan_text, IsCall, IsTurnEntry, IsPlan, Tail, greatest, greatest_index, fields_of, number_at, in_range, is_cut, call_texts, is_nil, is_rest, is_end, tail_at, Layout, IsLayout, initial_words}
 use Rattle.partial_model.specs.declared.call.Call.TheVariants as call
-use Rattle.partial_words.specs.Layout.{Layout, IsLayout, initial_words}
 use Rattle.partial_text.specs.declared.fault.Cause.TheVariants as cause
 use Rattle.partial_text.specs.declared.fault.PlanError.TheVariants as plan
 use Rattle.partial_text.specs.Judging.{sizes_from, sizes_at, initial_at, update_from, scan_from, read_from, update_if_from, call_text_at, calls_at, port_line_at, entry_text_at, entries_at, line_at, more_ports, last_at, lines_judged, judged_plan}

@@ -1,7 +1,5 @@
 -- The calls of a port are fewer than the bytes of its line, so their numbers fit 32 bits.
-use Rattle.partial_text.proofs.Common.{ℕ, ◌+◌, ◌<◌, ◌≤◌, ◌^◌, ◌≡◌, ◌++◌, List, [], ◌∷◌, length, arith, flat_map, AllByRecursion, Call, PlansHaveFewCalls, sizes_line, initial_line, call_text, next_call, field, port_line, steps_line, ended_line, plan_text}
-use Rattle.std.proofs.Common.{length-append}
-use Rattle.std.specs.Prelude.{codes}
+use Rattle.partial_text.proofs.Common.{ℕ, ◌+◌, ◌<◌, ◌≤◌, ◌^◌, ◌≡◌, ◌++◌, List, [], ◌∷◌, length, arith, flat_map, AllByRecursion, Call, PlansHaveFewCalls, sizes_line, initial_line, call_text, next_call, field, port_line, steps_line, ended_line, plan_text, length-append, codes}
 
 next_long : (cs : List Call) → length cs ≤ length (flat_map next_call cs)
 next_long [] = omega arith

@@ -1,6 +1,5 @@
 -- How the pieces of a text come one after the other.
-use Rattle.partial_text.proofs.Common.{◌≡◌, ℕ, ◌+◌, ◌<◌, ◌≤◌, Bool, true, false, cond, eqb, List, [], ◌∷◌, ◌++◌, length, get_or, take, drop, refl, sym, ap, ◌∙◌, append_assoc, arith, append-nil, at_drop_more, at_drop_all, take_more, take_all, until, from, onto_first, pieces, pieces_behind, is_nil, is_end}
-use Rattle.std.proofs.Math.Dec.{eqb-suc-zero}
+use Rattle.partial_text.proofs.Common.{◌≡◌, ℕ, ◌+◌, ◌<◌, ◌≤◌, Bool, true, false, cond, eqb, List, [], ◌∷◌, ◌++◌, length, get_or, take, drop, refl, sym, ap, ◌∙◌, append_assoc, arith, append-nil, at_drop_more, at_drop_all, take_more, take_all, until, from, onto_first, pieces, pieces_behind, is_nil, is_end, eqb-suc-zero}
 
 cut_step : (b : Bool) (c x : ℕ) (xs : List ℕ) → pieces c xs ≡ until c xs ∷ pieces_behind c (from c xs)
     → cond b ([] ∷ pieces c xs) (onto_first x (pieces c xs)) ≡ cond b [] (x ∷ until c xs) ∷ pieces_behind c (cond b (x ∷ xs) (from c xs))

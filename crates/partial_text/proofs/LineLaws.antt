@@ -1,7 +1,5 @@
 -- Each line is read exactly from its text.
-use Rattle.partial_text.proofs.Common.{◌≡◌, ℕ, ◌^◌, ◌<◌, ◌≤◌, Bool, true, false, cond, eqb, leb, ltb, ◌&&◌, List, [], ◌∷◌, ◌++◌, length, map, drop, codes, Ok, Err, refl, sym, ap, subst, ◌∙◌, append_assoc, ◌⊎◌, inl, inr, arith, decimal, ok_or, flat_map, AllByRecursion, bytes_eq, eqb-true, leb-true, ltb-true, append-nil, length-map, bytes_eq-Decides, until, from, ◌>>=◌, field, sizes_line, initial_line, entry_text, rest_text, IsTurnEntry, greatest, greatest_index, fields_of, exactly_four, number_at, numbers_at, in_range, is_nil, is_rest}
-use Rattle.std.proofs.lemmas.Fmt.{decimal_nonempty}
-use Rattle.partial_words.specs.Layout.{Layout, IsLayout, initial_words}
+use Rattle.partial_text.proofs.Common.{◌≡◌, ℕ, ◌^◌, ◌<◌, ◌≤◌, Bool, true, false, cond, eqb, leb, ltb, ◌&&◌, List, [], ◌∷◌, ◌++◌, length, map, drop, codes, Ok, Err, refl, sym, ap, subst, ◌∙◌, append_assoc, ◌⊎◌, inl, inr, arith, decimal, ok_or, flat_map, AllByRecursion, bytes_eq, eqb-true, leb-true, ltb-true, append-nil, length-map, bytes_eq-Decides, until, from, ◌>>=◌, field, sizes_line, initial_line, entry_text, rest_text, IsTurnEntry, greatest, greatest_index, fields_of, exactly_four, number_at, numbers_at, in_range, is_nil, is_rest, decimal_nonempty, Layout, IsLayout, initial_words}
 use Rattle.partial_words.specs.declared.sizes.SizeError.TheVariants as size
 use Rattle.partial_text.specs.declared.fault.Cause.TheVariants as cause
 use Rattle.partial_text.specs.declared.fault.PlanError.TheVariants as plan

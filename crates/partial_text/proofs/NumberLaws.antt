@@ -1,7 +1,6 @@
 -- A text is read as a number exactly where it is the digits of that number.
-use Rattle.partial_text.proofs.Common.{◌≡◌, ℕ, zero, suc, ◌+◌, ◌*◌, ◌-◌, ◌/◌, ◌%◌, ◌^◌, ◌<◌, ◌≤◌, ◌≢◌, Bool, true, false, cond, eqb, leb, ◌&&◌, List, [], ◌∷◌, ◌++◌, length, get_or, Option, None, Some, refl, sym, ap, ◌∙◌, append_assoc, arith, decimal, option_and_then, AllByRecursion, append-nil, eqb-false, ne_eqb, leb-true, le-leb, with_digit, number_from, number_of}
+use Rattle.partial_text.proofs.Common.{◌≡◌, ℕ, zero, suc, ◌+◌, ◌*◌, ◌-◌, ◌/◌, ◌%◌, ◌^◌, ◌<◌, ◌≤◌, ◌≢◌, Bool, true, false, cond, eqb, leb, ◌&&◌, List, [], ◌∷◌, ◌++◌, length, get_or, Option, None, Some, refl, sym, ap, ◌∙◌, append_assoc, arith, decimal, option_and_then, AllByRecursion, append-nil, eqb-false, ne_eqb, leb-true, le-leb, with_digit, number_from, number_of, decimal_digit, decimal_step, decimal_by_steps, first_decimal, decimal_nonempty}
 use Rattle.std.specs.Char.{is_ascii_digit}
-use Rattle.std.proofs.lemmas.Fmt.{decimal_digit, decimal_step, decimal_by_steps, first_decimal, decimal_nonempty}
 
 pub and_both : (a b : Bool) → (a && b) ≡ true → (a ≡ true) × (b ≡ true)
 and_both true b e = (refl, e)

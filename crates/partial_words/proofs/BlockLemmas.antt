@@ -1,7 +1,5 @@
 -- What is read back from announcements and lists.
-use Rattle.std.proofs.Common.{ℕ, suc, ◌≡◌, ◌+◌, ◌-◌, ◌*◌, ◌/◌, ◌%◌, ◌<◌, List, ◌∷◌, length, get_or, ◌∙◌, sym, ap, arith}
-use Rattle.std.specs.List.{flat_map}
-use Rattle.partial_words.specs.Record.{pair_words, StandsAt}
+use Rattle.partial_words.proofs.Common.{ℕ, suc, ◌≡◌, ◌+◌, ◌-◌, ◌*◌, ◌/◌, ◌%◌, ◌<◌, List, ◌∷◌, length, get_or, ◌∙◌, sym, ap, arith, flat_map, pair_words, StandsAt}
 use Rattle.partial_words.specs.Announcement.{announcement_block, ReadsBackAnnouncement}
 use Rattle.partial_words.specs.VacatedList.{list_block, ReadsBackList}
 use Rattle.partial_words.proofs.RecordLemmas.{length-pairs, pairs_even, pairs_odd, word_even, word_odd}

@@ -1,14 +1,10 @@
 -- Chains of records: what a step elsewhere leaves of them, what one entry more adds, and what they hold.
-use Rattle.std.proofs.Common.{◌≤◌, ℕ, zero, suc, ◌≡◌, ◌≢◌, ◌+◌, ◌<◌, ◌==◌, ◌++◌, ◌⊎◌, Bool, true, false, cond, List, [], ◌∷◌, length, take, get_or, set, slice_get, refl, sym, ◌∙◌, ap, subst, inl, inr, Option, Some, None, get_or-set_other, length-set, arith}
-use Rattle.std.proofs.lemmas.Bool.{eq-eqb}
+use Rattle.partial_words.proofs.Common.{◌≤◌, ℕ, zero, suc, ◌≡◌, ◌≢◌, ◌+◌, ◌<◌, ◌==◌, ◌++◌, ◌⊎◌, Bool, true, false, cond, List, [], ◌∷◌, length, take, get_or, set, slice_get, refl, sym, ◌∙◌, ap, subst, inl, inr, Option, Some, None, get_or-set_other, length-set, arith, eq-eqb, AllByRecursion, Opening, view_word, prev_of, record_value}
 use Rattle.std.proofs.lemmas.List.{take_all}
-use Rattle.std.specs.List.{AllByRecursion}
 use Rattle.std.specs.Option.{option_map_or}
 use Rattle.partial_model.specs.declared.history.Applied.{Applied}
-use Rattle.partial_model.specs.declared.history.Opening.{Opening}
 use Rattle.partial_model.specs.History.{last_from, initial_stamp, stamp_of, value_of as value_after}
 use Rattle.partial_model.proofs.HistoryLemmas.{stamp_of-push}
-use Rattle.partial_words.specs.Record.{view_word, prev_of, record_value}
 use Rattle.partial_words.specs.declared.record.Link.{Link}
 use Rattle.partial_words.specs.Chain.{IsLink, IsChain, links_from, chain_of, Agrees, LastEntriesHeadChains, LieWithin}
 

@@ -1,3 +1,4 @@
+mod Common
 pub mod RecordLemmas
 pub mod LayoutLemmas
 pub mod BlockLemmas

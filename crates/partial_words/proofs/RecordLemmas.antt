@@ -1,7 +1,5 @@
 -- The words of pairs, one after the other, and what is read back from a record.
-use Rattle.std.proofs.Common.{ℕ, zero, suc, ◌≡◌, ◌+◌, ◌-◌, ◌*◌, ◌/◌, ◌%◌, ◌<◌, ◌≤◌, List, [], ◌∷◌, length, get_or, refl, sym, ◌∙◌, ap, lit<, arith}
-use Rattle.std.specs.List.{flat_map}
-use Rattle.partial_words.specs.Record.{pair_words, record_block, StandsAt, ReadsBackRecord, view_pair}
+use Rattle.partial_words.proofs.Common.{ℕ, zero, suc, ◌≡◌, ◌+◌, ◌-◌, ◌*◌, ◌/◌, ◌%◌, ◌<◌, ◌≤◌, List, [], ◌∷◌, length, get_or, refl, sym, ◌∙◌, ap, lit<, arith, flat_map, pair_words, record_block, StandsAt, ReadsBackRecord, view_pair}
 
 pub length-pairs : (ps : List (ℕ × ℕ)) → length (flat_map pair_words ps) ≡ 2 * length ps
 length-pairs [] = refl

@@ -1,11 +1,6 @@
 -- Workers for the ports of a memory, and what their threads come to.
-use Rattle.partial_workers.proofs.Common.{ℕ, suc, ◌≡◌, ◌+◌, ◌<◌, ◌≤◌, ◌++◌, List, [], ◌∷◌, length, take, get_or, sym, ap, subst, ◌∙◌, arith, AllByRecursion, vec_capacity, take-suc, get_or_default, length-map, map-append, Call, all_append, all_back, all_front, MemoryView, PortView, AreEach, IsCallWithin, ScanHasRoom, HaveCome, HaveRooms, IsWorkDone, IsHired, IsNewWork, IsWorkStarted, calls_of}
-use Rattle.partial_workers.specs.declared.worker.Job.{Job}
-use Rattle.partial_workers.specs.declared.worker.Worked.{Worked}
-use Rattle.partial_workers.specs.declared.worker.Worker.{Worker}
-use Rattle.partial_workers.specs.declared.workers.Results.{Results}
+use Rattle.partial_workers.proofs.Common.{ℕ, suc, ◌≡◌, ◌+◌, ◌<◌, ◌≤◌, ◌++◌, List, [], ◌∷◌, length, take, get_or, sym, ap, subst, ◌∙◌, arith, AllByRecursion, vec_capacity, take-suc, get_or_default, length-map, map-append, Call, all_append, all_back, all_front, MemoryView, PortView, AreEach, IsCallWithin, ScanHasRoom, HaveCome, HaveRooms, IsWorkDone, IsHired, IsNewWork, IsWorkStarted, calls_of, Job, Worked, Worker, Results, Works}
 use Rattle.std.specs.declared.thread.PromisedHandle.{PromisedHandle}
-use Rattle.partial_workers.specs.declared.workers.Works.{Works}
 use Rattle.partial_workers.proofs.Pairs.{each_at, each_length, each_push}
 
 -- one call more of a port

@@ -1,11 +1,9 @@
 -- The calls of a port, one after the other: what is known of those that it doesn't note.
-use Rattle.partial_workers.proofs.Common.{ℕ, suc, ◌≡◌, ◌+◌, ◌<◌, ◌++◌, ◌⊎◌, Some, None, List, [], ◌∷◌, length, take, get_or, refl, sym, ap, subst, ◌∙◌, inl, inr, arith, take-suc, map-append, append-nil, Call, Answer, IsOf, MemoryView, PortView, Answered, IsRefused, AreMade, Fills, IsMade, IsUnnoted}
+use Rattle.partial_workers.proofs.Common.{ℕ, suc, ◌≡◌, ◌+◌, ◌<◌, ◌++◌, ◌⊎◌, Some, None, List, [], ◌∷◌, length, take, get_or, refl, sym, ap, subst, ◌∙◌, inl, inr, arith, take-suc, map-append, append-nil, Call, Answer, IsOf, MemoryView, PortView, Answered, IsRefused, AreMade, Fills, IsMade, IsUnnoted, Note, Noted, seen_after, seen_by}
 use Rattle.partial_model.specs.declared.call.Call.TheVariants as call
 use Rattle.partial_model.specs.declared.call.Answer.TheVariants as answer
-use Rattle.partial_model.specs.declared.call.Note.{Note}
 use Rattle.partial_model.specs.declared.call.Note.TheVariants as note
 use Rattle.partial_model.specs.declared.call.Refused.{Refused}
-use Rattle.partial_model.specs.Notes.{Noted, seen_after, seen_by}
 use Rattle.partial_memory.specs.Calls.{Scanned, Scans}
 use Rattle.partial_memory.proofs.Laws.{refusals_at_once_fit}
 

@@ -1,22 +1,18 @@
 -- The answers of workers that have ended are right in the history of the memory that was closed with their ports.
-use Rattle.partial_workers.proofs.Common.{ℕ, ◌≡◌, ◌+◌, ◌<◌, ◌≤◌, ◌++◌, Option, Some, None, List, [], ◌∷◌, length, map, refl, sym, ap, subst, ◌∙◌, inl, inr, arith, AllByRecursion, length-map, Call, Answer, all_append, all_back, all_front, IsOf, MemoryView, PortView, new_ports, AreAnswered, AreEach, AreMakable, AreRight, Fills, HasNumber, HaveCome, IsWorkDone, IsNewWork, IsOpenedFor, IsUnnoted, WasClosedLawfully, WasEmpty, WasRefused}
+use Rattle.partial_workers.proofs.Common.{ℕ, ◌≡◌, ◌+◌, ◌<◌, ◌≤◌, ◌++◌, Option, Some, None, List, [], ◌∷◌, length, map, refl, sym, ap, subst, ◌∙◌, inl, inr, arith, AllByRecursion, length-map, Call, Answer, all_append, all_back, all_front, IsOf, MemoryView, PortView, new_ports, AreAnswered, AreEach, AreMakable, AreRight, Fills, HasNumber, HaveCome, IsWorkDone, IsNewWork, IsOpenedFor, IsUnnoted, WasClosedLawfully, WasEmpty, WasRefused, Note, Noted, LegalNotes, IsLegal, seen_after, Worked, Results}
 use Rattle.std.specs.declared.alloc.Global.{Global}
 use Rattle.std.specs.declared.vec.Vec.{Vec}
 use Rattle.partial_model.specs.declared.history.Applied.{Applied}
 use Rattle.partial_model.specs.declared.history.Opening.{Opening}
 use Rattle.partial_model.specs.declared.call.Call.TheVariants as call
 use Rattle.partial_model.specs.declared.call.Answer.TheVariants as answer
-use Rattle.partial_model.specs.declared.call.Note.{Note}
 use Rattle.partial_model.specs.declared.call.Note.TheVariants as note
-use Rattle.partial_model.specs.Notes.{Noted, LegalNotes, IsLegal, seen_after}
 use Rattle.partial_model.specs.Outcome.{EachOnce, places_written, wrote}
 use Rattle.partial_model.proofs.NotesLemmas.{note_within}
 use Rattle.partial_memory.specs.Rule.{newcomers}
 use Rattle.partial_memory.specs.Closing.{Closes, IsPortOf}
 use Rattle.partial_memory.specs.Lawfulness.{ClosesLawfully}
 use Rattle.partial_memory.specs.declared.closed.Closed.{Closed}
-use Rattle.partial_workers.specs.declared.worker.Worked.{Worked}
-use Rattle.partial_workers.specs.declared.workers.Results.{Results}
 use Rattle.partial_workers.proofs.Made.{unnoted_seen}
 use Rattle.partial_workers.proofs.Pairs.{each_length}
 

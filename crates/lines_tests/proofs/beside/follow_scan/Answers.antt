@@ -1,6 +1,4 @@
-use Rattle.std.proofs.Common.{ap, subst, ◌∙◌}
-use Rattle.partial_machine.specs.Machine.{CoreState, advance}
-use Rattle.partial_machine.specs.Possible.{IsPossible}
+use Rattle.lines_tests.proofs.Common.{ap, subst, ◌∙◌, CoreState, advance, IsPossible}
 use Rattle.lines_tests.proofs.beside.follow_scan.Goals as goal
 
 pub scan-scanned-requires-clause-possible : goal.scan-scanned-requires-clause-possible

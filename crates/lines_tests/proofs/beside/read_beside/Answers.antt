@@ -1,6 +1,4 @@
-use Rattle.std.proofs.Common.{subst}
-use Rattle.partial_machine.specs.Machine.{CoreState}
-use Rattle.lines_tests.specs.Plain.{BeginsOn}
+use Rattle.lines_tests.proofs.Common.{subst, CoreState, BeginsOn}
 use Rattle.lines_tests.proofs.Turning.{read_begins}
 use Rattle.lines_tests.proofs.beside.read_beside.Goals as goal
 

@@ -1,7 +1,4 @@
-use Rattle.std.proofs.Common.{◌≤◌, length, sym, ap, subst, ◌∙◌, arith}
-use Rattle.partial_machine.specs.Lines.{scan_asked}
-use Rattle.partial_machine.specs.Machine.{CoreState}
-use Rattle.lines_tests.specs.Plain.{BeginsOn}
+use Rattle.lines_tests.proofs.Common.{◌≤◌, length, sym, ap, subst, ◌∙◌, arith, scan_asked, CoreState, BeginsOn}
 use Rattle.lines_tests.proofs.Turning.{scan_begins, scan_is}
 use Rattle.lines_tests.proofs.beside.scan_beside.Goals as goal
 

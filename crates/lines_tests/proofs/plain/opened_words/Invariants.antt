@@ -1,6 +1,4 @@
-use Rattle.std.proofs.Common.{◌≡◌, ℕ, ◌<◌, ◌≤◌, length, slice_index}
-use Rattle.partial_words.specs.Chain.{opening_word}
-use Rattle.partial_words.specs.Layout.{total}
+use Rattle.lines_tests.proofs.Common.{◌≡◌, ℕ, ◌<◌, ◌≤◌, length, slice_index, opening_word, total}
 use Rattle.lines_tests.proofs.plain.opened_words.Given as goal
 
 -- the first w words are those of an opening, and the others 0

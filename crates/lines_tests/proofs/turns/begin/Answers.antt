@@ -1,4 +1,4 @@
-use Rattle.std.proofs.Common.{rules, ◌≤◌, [], ◌∷◌}
+use Rattle.lines_tests.proofs.Common.{rules, ◌≤◌, [], ◌∷◌}
 use Rattle.lines_tests.proofs.Turning.{asked_scan, asked_update}
 use Rattle.lines_tests.proofs.turns.begin.Goals as goal
 

@@ -1,10 +1,5 @@
-use Rattle.std.proofs.Common.{◌≡◌, Option, Some, None, sym, ap, ◌∙◌, refl}
-use Rattle.std.specs.Prelude.{MatchOption}
+use Rattle.lines_tests.proofs.Common.{◌≡◌, Option, Some, None, sym, ap, ◌∙◌, refl, MatchOption, Idle, advance, at_stage, reply_of, Turned, Stepped, Taken, Stayed}
 use Rattle.partial_machine.specs.declared.stage.Reply.{Reply}
-use Rattle.partial_machine.specs.declared.stage.Stage.TheVariants.{Idle}
-use Rattle.partial_machine.specs.Machine.{advance, at_stage, reply_of}
-use Rattle.lines_tests.specs.Plain.{Turned}
-use Rattle.lines_tests.specs.Plain.Turned.{Stepped, Taken, Stayed}
 use Rattle.lines_tests.proofs.turns.turn.Goals as goal
 
 pub returns-in-Some : goal.returns-in-Some

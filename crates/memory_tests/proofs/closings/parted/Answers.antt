@@ -1,7 +1,4 @@
-use Rattle.std.proofs.Common.{rules, subst, IfSome}
-use Rattle.std.proofs.lemmas.List.Elements.{All-pop}
-use Rattle.memory_tests.specs.declared.workers.Worker.{Worker}
-use Rattle.partial_memory.specs.Ports.{IsOf, PortView}
+use Rattle.memory_tests.proofs.Common.{rules, subst, IfSome, All-pop, Worker, IsOf, PortView}
 use Rattle.memory_tests.proofs.closings.parted.Goals as goal
 
 pub part-requires-clause-own : goal.part-requires-clause-own

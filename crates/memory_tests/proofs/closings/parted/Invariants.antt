@@ -1,7 +1,4 @@
-use Rattle.std.proofs.Common.{length}
-use Rattle.std.specs.Prelude.{All, IfSome}
-use Rattle.std.specs.List.{AllByRecursion}
-use Rattle.partial_memory.specs.Ports.{IsOf}
+use Rattle.memory_tests.proofs.Common.{length, All, IfSome, AllByRecursion, IsOf}
 use Rattle.memory_tests.proofs.closings.parted.Given as goal
 
 abbrev pub invariant-loop-worker : goal.invariant-loop-worker

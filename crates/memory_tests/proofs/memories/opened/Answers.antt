@@ -1,8 +1,4 @@
-use Rattle.std.proofs.Common.{sym, subst}
-use Rattle.std.specs.List.{AllByRecursion}
-use Rattle.partial_memory.specs.Rule.{newcomers}
-use Rattle.partial_memory.specs.Ports.{IsOf, new_ports}
-use Rattle.partial_memory.proofs.Laws.{opened_ports_are_all}
+use Rattle.memory_tests.proofs.Common.{sym, subst, AllByRecursion, newcomers, IsOf, new_ports, opened_ports_are_all}
 use Rattle.memory_tests.proofs.Ports.{both}
 use Rattle.memory_tests.proofs.memories.opened.Goals as goal
 

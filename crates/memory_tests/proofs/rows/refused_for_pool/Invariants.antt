@@ -1,5 +1,4 @@
-use Rattle.std.proofs.Common.{◌≡◌}
-use Rattle.partial_memory.specs.Ports.{IsOf}
+use Rattle.memory_tests.proofs.Common.{◌≡◌, IsOf}
 use Rattle.memory_tests.proofs.rows.refused_for_pool.Given as goal
 
 abbrev pub invariant-loop : goal.invariant-loop

@@ -1,5 +1,4 @@
-use Rattle.std.proofs.Common.{◌≡◌}
-use Rattle.partial_memory.specs.Ports.{IsOf}
+use Rattle.memory_tests.proofs.Common.{◌≡◌, IsOf}
 use Rattle.memory_tests.proofs.rows.update_and_look.Given as goal
 
 abbrev pub invariant-loop-value : goal.invariant-loop-value

@@ -1,11 +1,6 @@
-use Rattle.std.proofs.Common.{rules, ◌≡◌, List, [], ◌∷◌, ◌++◌, sym, subst, Option, Some, None, IfSome, Vec, Global}
-use Rattle.std.specs.List.{All, AllByRecursion}
+use Rattle.memory_tests.proofs.Common.{rules, ◌≡◌, List, [], ◌∷◌, ◌++◌, sym, subst, Option, Some, None, IfSome, Vec, Global, All, AllByRecursion, All-push, all_front, Worker, PortView, IsOf}
 use Rattle.std.specs.Option.{option_to_list}
-use Rattle.std.proofs.lemmas.List.Elements.{All-push}
-use Rattle.partial_model.proofs.AllLemmas.{all_front}
 use Rattle.partial_memory.specs.declared.port.Port.{Port}
-use Rattle.memory_tests.specs.declared.workers.Worker.{Worker}
-use Rattle.partial_memory.specs.Ports.{PortView, IsOf}
 use Rattle.memory_tests.proofs.Ports.{of_last}
 use Rattle.memory_tests.proofs.workers.hire.Goals as goal
 use Rattle.memory_tests.proofs.workers.hire.Goals.{in-Meet, in_default-job}

@@ -1,7 +1,4 @@
-use Rattle.std.proofs.Common.{◌<◌, length}
-use Rattle.std.specs.Prelude.{All, IfSome}
-use Rattle.std.specs.List.{AllByRecursion}
-use Rattle.partial_memory.specs.Ports.{PortView, IsOf}
+use Rattle.memory_tests.proofs.Common.{◌<◌, length, All, IfSome, AllByRecursion, PortView, IsOf}
 use Rattle.memory_tests.proofs.workers.hire.Given as goal
 
 abbrev pub invariant-loop : goal.invariant-loop

@@ -1,4 +1,4 @@
-use Rattle.std.proofs.Common.{refl}
+use Rattle.partial_cmd.proofs.Common.{refl}
 use Rattle.partial_cmd.proofs.next.execute_next.Goals as goal
 
 pub returns-in_err-write_reports-clause-part : goal.returns-in_err-write_reports-clause-part

@@ -1,8 +1,4 @@
-use Rattle.std.proofs.Common.{◌≤◌, length, ap, subst, ◌∙◌}
-use Rattle.partial_model.proofs.HistoryLemmas.{opening_is}
-use Rattle.partial_words.specs.Layout.{Layout, pool_base}
-use Rattle.partial_memory.specs.Reopening.{extended_values}
-use Rattle.partial_cmd.specs.Reports.{report_of}
+use Rattle.partial_cmd.proofs.Common.{◌≤◌, length, ap, subst, ◌∙◌, opening_is, Layout, pool_base, extended_values, report_of}
 use Rattle.partial_cmd.proofs.Nexts.{both_alike, both_reported}
 use Rattle.partial_cmd.proofs.next.run_both.Goals as goal
 

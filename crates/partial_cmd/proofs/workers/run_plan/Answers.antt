@@ -1,6 +1,4 @@
-use Rattle.std.proofs.Common.{◌≡◌, List, map, Bor, ap, ◌∙◌}
-use Rattle.partial_model.specs.declared.call.Call.{Call}
-use Rattle.partial_words.specs.Layout.{Layout}
+use Rattle.partial_cmd.proofs.Common.{◌≡◌, List, map, Bor, ap, ◌∙◌, Call, Layout}
 use Rattle.partial_cmd.proofs.Reported.{plan_makable, plan_ran}
 use Rattle.partial_cmd.proofs.workers.run_plan.Goals as goal
 

@@ -1,7 +1,4 @@
-use Rattle.std.proofs.Common.{ap, sym, subst, ◌∙◌}
-use Rattle.partial_model.proofs.HistoryLemmas.{opening_is}
-use Rattle.partial_words.specs.Layout.{pool_base}
-use Rattle.partial_cmd.specs.Reports.{IsReportFrom}
+use Rattle.partial_cmd.proofs.Common.{ap, sym, subst, ◌∙◌, opening_is, pool_base, IsReportFrom}
 use Rattle.partial_cmd.proofs.Reported.{reported_of}
 use Rattle.partial_cmd.proofs.workers.run_workers.Goals as goal
 

@@ -1,5 +1,4 @@
-use Rattle.partial_door.proofs.Common.{refl, sym, subst, ap, ◌∙◌, inl, inr, IsUnclosed}
-use Rattle.std.proofs.Common.{Some}
+use Rattle.partial_door.proofs.Common.{refl, sym, subst, ap, ◌∙◌, inl, inr, IsUnclosed, Some}
 use Rattle.partial_door.proofs.exports.partial_door_close.Goals as goal
 
 pub returns-in-Ok : goal.returns-in-Ok

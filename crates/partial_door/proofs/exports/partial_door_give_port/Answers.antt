@@ -1,5 +1,4 @@
-use Rattle.partial_door.proofs.Common.{refl, inl, inr, ap, sym, ◌∙◌}
-use Rattle.std.proofs.Common.{Some}
+use Rattle.partial_door.proofs.Common.{refl, inl, inr, ap, sym, ◌∙◌, Some}
 use Rattle.partial_door.proofs.exports.partial_door_give_port.Goals as goal
 
 pub returns-in-Ok : goal.returns-in-Ok

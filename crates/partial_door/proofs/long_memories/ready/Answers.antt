@@ -1,6 +1,5 @@
-use Rattle.partial_door.proofs.Common.{◌∙◌, refl, sym, ap, subst, inl, inr}
+use Rattle.partial_door.proofs.Common.{◌∙◌, refl, sym, ap, subst, inl, inr, IsUnready}
 use Rattle.partial_door.specs.declared.held.Held.TheVariants as held
-use Rattle.partial_door.specs.Inner.Long.{IsUnready}
 use Rattle.partial_door.proofs.long_memories.ready.Goals as goal
 
 pub returns-in-Err-Away-clause-err : goal.returns-in-Err-Away-clause-err

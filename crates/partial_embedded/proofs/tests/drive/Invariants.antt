@@ -1,5 +1,4 @@
-use Rattle.std.proofs.Common.{◌≡◌}
-use Rattle.partial_embedded.specs.Embedded.{ViewGoesTogether, view_left}
+use Rattle.partial_embedded.proofs.Common.{◌≡◌, ViewGoesTogether, view_left}
 use Rattle.partial_embedded.proofs.tests.drive.Given as goal
 
 -- the machine, its positions and its buffers go together

@@ -1,5 +1,4 @@
-use Rattle.partial_lines.proofs.Common.{◌≡◌, rules, refl, sym, ap, ◌∙◌, subst, Stage, Leaving, at_stage, scanning, with_scanning, IsScanStage, behind_scan, positions_at}
-use Rattle.partial_embedded.specs.Embedded.{ViewGoesTogether}
+use Rattle.partial_lines.proofs.Common.{◌≡◌, rules, refl, sym, ap, ◌∙◌, subst, Stage, Leaving, at_stage, scanning, with_scanning, IsScanStage, behind_scan, positions_at, ViewGoesTogether}
 use Rattle.partial_lines.proofs.Parts.{at_asked, scan_made, scan_over}
 use Rattle.partial_lines.proofs.embedded.scan_asked.Goals as goal
 

@@ -1,7 +1,5 @@
-use Rattle.partial_lines.proofs.Common.{◌≡◌, rules, true, Bool, cond, IfSome, IfNone, Option, Some, None, refl, ap, sym, subst, ◌∙◌, ClaimingRecord, Viewing, Exchanging, Idle, scan_begun, with_set, CoreState, at_stage, pool_refused, with_getting, IsSound, behind_scan, set_made}
+use Rattle.partial_lines.proofs.Common.{◌≡◌, rules, true, Bool, cond, IfSome, IfNone, Option, Some, None, refl, ap, sym, subst, ◌∙◌, ClaimingRecord, Viewing, Exchanging, Idle, scan_begun, with_set, CoreState, at_stage, pool_refused, with_getting, IsSound, behind_scan, set_made, IsMarkedLike, RestsLike}
 use Rattle.partial_active.specs.GetSet as finding
-use Rattle.partial_core.specs.Part.{IsMarkedLike}
-use Rattle.partial_lines.specs.Replies.{RestsLike}
 use Rattle.partial_lines.proofs.Parts.{set_ended}
 use Rattle.partial_lines.proofs.Resting.{rests_there, update_rests}
 use Rattle.partial_lines.proofs.update.put.Goals as goal

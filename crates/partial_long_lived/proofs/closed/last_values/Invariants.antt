@@ -1,5 +1,4 @@
-use Rattle.partial_long_lived.proofs.Common.{◌≡◌, ◌≤◌, ◌<◌, length, ℕ, vec_capacity, slots_items, base, bare, shape_plan, arena_now, value_now}
-use Rattle.std.proofs.Common.{slice_index}
+use Rattle.partial_long_lived.proofs.Common.{◌≡◌, ◌≤◌, ◌<◌, length, ℕ, vec_capacity, slots_items, base, bare, shape_plan, arena_now, value_now, slice_index}
 use Rattle.partial_long_lived.proofs.closed.last_values.Given as goal
 
 -- the values of the first j components

@@ -1,6 +1,4 @@
-use Rattle.partial_long_lived.proofs.Common.{rules, ℕ, ◌≡◌, ◌<◌, ◌+◌, arith, Plan, base, slice_index, shape_plan, pool_base}
-use Rattle.partial_words.specs.Layout.{slot_word}
-use Rattle.partial_epochs.proofs.Places.{bases_up}
+use Rattle.partial_long_lived.proofs.Common.{rules, ℕ, ◌≡◌, ◌<◌, ◌+◌, arith, Plan, base, slice_index, shape_plan, pool_base, slot_word, bases_up}
 use Rattle.partial_long_lived.proofs.long_lived.opening_words.Goals as goal
 
 pub returns : goal.returns

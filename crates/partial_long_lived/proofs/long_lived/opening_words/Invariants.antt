@@ -1,5 +1,4 @@
-use Rattle.partial_long_lived.proofs.Common.{◌≡◌, ◌+◌, length, ℕ, ◌<◌, ◌≤◌, first_free, initial_record, total, opening_word, whole, bare, shape_plan}
-use Rattle.std.proofs.Common.{slice_index}
+use Rattle.partial_long_lived.proofs.Common.{◌≡◌, ◌+◌, length, ℕ, ◌<◌, ◌≤◌, first_free, initial_record, total, opening_word, whole, bare, shape_plan, slice_index}
 use Rattle.partial_long_lived.proofs.long_lived.opening_words.Given as goal
 
 -- the first w words of the arena are those of an opening, and the control words and those of the other arenas are 0

@@ -1,4 +1,4 @@
-use Rattle.partial_machine.specs.Lines.{scan_asked}
+use Rattle.partial_long_lived.proofs.Common.{scan_asked}
 use Rattle.partial_long_lived.proofs.scan.make_scan.Given as goal
 
 -- the machine that begins the scan

@@ -1,5 +1,4 @@
-use Rattle.partial_long_lived.proofs.Common.{◌≡◌, length, IsHeld, port_at, StaysAt}
-use Rattle.partial_long_lived.specs.Inner.Stamped.{ArePublic}
+use Rattle.partial_long_lived.proofs.Common.{◌≡◌, length, IsHeld, port_at, StaysAt, ArePublic}
 use Rattle.partial_long_lived.proofs.stamped.load_stamps.Given as goal
 
 abbrev pub invariant-loop-k : goal.invariant-loop-k

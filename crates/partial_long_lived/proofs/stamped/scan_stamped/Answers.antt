@@ -1,12 +1,6 @@
-use Rattle.partial_long_lived.proofs.Common.{◌∙◌, not, refl, sym, ap, subst, IfErr, slice_index, length}
-use Rattle.std.specs.Prelude.{◌<◌}
+use Rattle.partial_long_lived.proofs.Common.{◌∙◌, not, refl, sym, ap, subst, IfErr, slice_index, length, ◌<◌, stamp_limit, unsealed, port_at, NotScanned, ArePublic}
 use Rattle.std.proofs.lemmas.Result.{err_from_is_err_and}
 use Rattle.partial_model.proofs.IndexLaws.{none_of}
-use Rattle.partial_epochs.specs.History.{stamp_limit}
-use Rattle.partial_epochs.specs.Layout.{unsealed}
-use Rattle.partial_long_lived.specs.Inner.Held.{port_at}
-use Rattle.partial_long_lived.specs.Inner.Rests.{NotScanned}
-use Rattle.partial_long_lived.specs.Inner.Stamped.{ArePublic}
 use Rattle.partial_long_lived.proofs.DoubleCollect.{come_named, come_refused}
 use Rattle.partial_long_lived.proofs.Stamps.{stamped_behind, stamped_none}
 use Rattle.partial_long_lived.proofs.stamped.scan_stamped.Goals as goal

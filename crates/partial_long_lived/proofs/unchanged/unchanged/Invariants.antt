@@ -1,5 +1,4 @@
-use Rattle.partial_long_lived.proofs.Common.{IsHeld, port_at, IsIdle, SettledFirst}
-use Rattle.partial_long_lived.specs.Inner.Unchanged.{HadStamps}
+use Rattle.partial_long_lived.proofs.Common.{IsHeld, port_at, IsIdle, SettledFirst, HadStamps}
 use Rattle.partial_long_lived.proofs.unchanged.unchanged.Given as goal
 
 abbrev pub invariant-loop-k : goal.invariant-loop-k

@@ -1,6 +1,4 @@
-use Rattle.std.proofs.Common.{◌≡◌, ◌&&◌, drop}
-use Rattle.std.specs.Prelude.{nat_lt}
-use Rattle.std.specs.List.{list_all}
+use Rattle.partial_machine.proofs.Common.{◌≡◌, ◌&&◌, drop, nat_lt, list_all}
 use Rattle.partial_machine.proofs.machine.all_below.Given as goal
 
 -- what was looked at with what is left is all

@@ -1,6 +1,5 @@
-use Rattle.partial_memory.proofs.Common.{◌≡◌, refl, sym, ap, subst, ReadBegun, CoreState, at_stage, SeatedPort, one_in, one_of, CallMade, CallEnded, machine_of}
+use Rattle.partial_memory.proofs.Common.{◌≡◌, refl, sym, ap, subst, ReadBegun, CoreState, at_stage, SeatedPort, one_in, one_of, CallMade, CallEnded, machine_of, RestsLike}
 use Rattle.partial_machine.specs.declared.stage.Reply.TheVariants as reply
-use Rattle.partial_lines.specs.Replies.{RestsLike}
 use Rattle.partial_memory.proofs.read.read.Goals as goal
 
 pub returns-clause-ended : goal.returns-clause-ended

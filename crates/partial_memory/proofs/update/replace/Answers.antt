@@ -1,8 +1,7 @@
-use Rattle.partial_memory.proofs.Common.{rules, ◌≡◌, Some, ap, subst, sym, ◌∙◌, Exchanging, CoreState, advance_at, reply_of, IsMarkedLike, machine_of}
+use Rattle.partial_memory.proofs.Common.{rules, ◌≡◌, Some, ap, subst, sym, ◌∙◌, Exchanging, CoreState, advance_at, reply_of, IsMarkedLike, machine_of, ending_reply}
 use Rattle.partial_model.specs.declared.call.Refused.TheVariants as refused
 use Rattle.partial_machine.specs.declared.stage.Reply.TheVariants as reply
 use Rattle.partial_machine.specs.declared.stage.Stage.{Stage}
-use Rattle.partial_memory.specs.Inner.Endings.{ending_reply}
 use Rattle.partial_memory.proofs.update.replace.Goals as goal
 
 pub returns-in_default-clause-ended : goal.returns-in_default-clause-ended

@@ -1,4 +1,4 @@
-use Rattle.std.proofs.Common.{◌<◌}
+use Rattle.partial_picture.proofs.Common.{◌<◌}
 use Rattle.std.specs.String.{string_len}
 use Rattle.partial_picture.proofs.columns.push_steps.Given as goal
 

@@ -1,4 +1,4 @@
-use Rattle.std.proofs.Common.{arith}
+use Rattle.partial_picture.proofs.Common.{arith}
 use Rattle.partial_picture.proofs.command.draw.Goals as goal
 
 pub returns-clause-written : goal.returns-clause-written

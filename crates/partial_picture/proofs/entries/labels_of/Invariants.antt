@@ -1,4 +1,4 @@
-use Rattle.std.proofs.Common.{◌≡◌, length}
+use Rattle.partial_picture.proofs.Common.{◌≡◌, length}
 use Rattle.partial_picture.proofs.entries.labels_of.Given as goal
 
 abbrev pub invariant-loop-place : goal.invariant-loop-place

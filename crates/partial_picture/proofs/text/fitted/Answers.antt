@@ -1,4 +1,4 @@
-use Rattle.std.proofs.Common.{rules, ◌/◌, ◌-◌}
+use Rattle.partial_picture.proofs.Common.{rules, ◌/◌, ◌-◌}
 use Rattle.std.proofs.lemmas.Iterator.{YieldsList-from_chars, YieldsList-from_take, text_from_collect}
 use Rattle.partial_picture.proofs.text.fitted.Goals as goal
 

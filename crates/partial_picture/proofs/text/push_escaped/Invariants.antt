@@ -1,5 +1,4 @@
-use Rattle.std.proofs.Common.{◌≡◌, ◌++◌, string_bytes}
-use Rattle.std.specs.List.{flat_map}
+use Rattle.partial_picture.proofs.Common.{◌≡◌, ◌++◌, string_bytes, flat_map}
 use Rattle.partial_picture.specs.Texts.{escaped_letter}
 use Rattle.partial_picture.proofs.text.push_escaped.Given as goal
 

@@ -1,4 +1,4 @@
-use Rattle.std.proofs.Common.{◌++◌, ◌∷◌, []}
+use Rattle.partial_picture.proofs.Common.{◌++◌, ◌∷◌, []}
 use Rattle.partial_picture.proofs.Labels.{entry_is, made_of}
 use Rattle.partial_picture.proofs.words.entry_words.Goals as goal
 

@@ -1,4 +1,4 @@
-use Rattle.std.proofs.Common.{◌∷◌}
+use Rattle.partial_picture.proofs.Common.{◌∷◌}
 use Rattle.partial_picture.proofs.Labels.{applied_is, changed_is, lost_is, made_of, refused_is, shown_is}
 use Rattle.partial_picture.proofs.words.finish_words.Goals as goal
 

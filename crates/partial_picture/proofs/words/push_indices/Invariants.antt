@@ -1,6 +1,4 @@
-use Rattle.std.proofs.Common.{◌≡◌, ◌++◌, take, string_bytes}
-use Rattle.std.specs.List.{flat_map}
-use Rattle.partial_text.specs.PlanText.{number_field}
+use Rattle.partial_picture.proofs.Common.{◌≡◌, ◌++◌, take, string_bytes, flat_map, number_field}
 use Rattle.partial_picture.proofs.words.push_indices.Given as goal
 
 abbrev pub invariant-loop-index : goal.invariant-loop-index

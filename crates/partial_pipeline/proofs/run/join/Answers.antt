@@ -1,6 +1,4 @@
-use Rattle.partial_pipeline.proofs.Common.{rules, ◌+◌, length, refl, sym, ap, ◌∙◌, length_push}
-use Rattle.std.proofs.lemmas.Iterator.Adapters.{YieldsList-from_vec}
-use Rattle.std.proofs.lemmas.Iterator.Consumers.{YieldsList-turn, YieldsList-end}
+use Rattle.partial_pipeline.proofs.Common.{rules, ◌+◌, length, refl, sym, ap, ◌∙◌, length_push, YieldsList-from_vec, YieldsList-turn, YieldsList-end}
 use Rattle.partial_pipeline.proofs.Watching.{ended_more, joined_more, started_done, watching_met}
 use Rattle.partial_pipeline.proofs.run.join.Goals as goal
 

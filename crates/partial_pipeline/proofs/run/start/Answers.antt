@@ -1,6 +1,4 @@
-use Rattle.partial_pipeline.proofs.Common.{rules, ◌+◌, length, sym, ap, subst, ◌∙◌, arith, length_push, AreFrom, IsStageStarted}
-use Rattle.std.proofs.lemmas.Iterator.Adapters.{YieldsList-from_vec}
-use Rattle.std.proofs.lemmas.Iterator.Consumers.{YieldsList-turn}
+use Rattle.partial_pipeline.proofs.Common.{rules, ◌+◌, length, sym, ap, subst, ◌∙◌, arith, length_push, AreFrom, IsStageStarted, YieldsList-from_vec, YieldsList-turn}
 use Rattle.partial_pipeline.specs.declared.run.Works.{Works}
 use Rattle.partial_pipeline.proofs.Stages.{from_push}
 use Rattle.partial_pipeline.proofs.Watching.{new_at, new_self}

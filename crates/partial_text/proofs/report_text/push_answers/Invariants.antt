@@ -1,5 +1,4 @@
-use Rattle.partial_text.proofs.Common.{◌≡◌, ◌++◌, drop}
-use Rattle.partial_text.specs.ReportText.{answer_lines}
+use Rattle.partial_text.proofs.Common.{◌≡◌, ◌++◌, drop, answer_lines}
 use Rattle.partial_text.proofs.report_text.push_answers.Given as goal
 
 abbrev pub invariant-loop-number : goal.invariant-loop-number

@@ -1,5 +1,4 @@
-use Rattle.partial_text.proofs.Common.{◌≡◌, ◌++◌, drop}
-use Rattle.partial_text.specs.ReportText.{port_lines}
+use Rattle.partial_text.proofs.Common.{◌≡◌, ◌++◌, drop, port_lines}
 use Rattle.partial_text.proofs.report_text.push_ports.Given as goal
 
 abbrev pub invariant-loop-port : goal.invariant-loop-port

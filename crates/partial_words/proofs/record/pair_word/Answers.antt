@@ -1,4 +1,4 @@
-use Rattle.std.proofs.Common.{◌∙◌}
+use Rattle.partial_words.proofs.Common.{◌∙◌}
 use Rattle.partial_words.proofs.RecordLemmas.{word_even, word_odd}
 use Rattle.partial_words.proofs.record.pair_word.Goals as goal
 

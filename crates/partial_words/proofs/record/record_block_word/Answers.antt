@@ -1,4 +1,4 @@
-use Rattle.std.proofs.Common.{arith}
+use Rattle.partial_words.proofs.Common.{arith}
 use Rattle.partial_words.proofs.RecordLemmas.{block_tail}
 use Rattle.partial_words.proofs.record.record_block_word.Goals as goal
 

@@ -1,9 +1,4 @@
-use Rattle.std.proofs.Common.{ℕ, ◌<◌, List, length, sym, ap, subst, ◌∙◌, arith}
-use Rattle.std.proofs.lemmas.List.{with_items_is}
-use Rattle.partial_words.specs.Step.{answer_of, word_of, words_after}
-use Rattle.partial_machine.specs.Machine.{CoreState, advance}
-use Rattle.partial_machine.specs.Possible.{IsPossible}
-use Rattle.lines_tests.specs.Plain.{IsPlain}
+use Rattle.lines_tests.proofs.Common.{ℕ, ◌<◌, List, length, sym, ap, subst, ◌∙◌, arith, with_items_is, answer_of, word_of, words_after, CoreState, advance, IsPossible, IsPlain}
 use Rattle.lines_tests.proofs.Turning.{stepped}
 use Rattle.lines_tests.proofs.plain.Plain.answered.Goals as goal
 

@@ -1,5 +1,4 @@
-use Rattle.std.proofs.Common.{◌≡◌}
-use Rattle.lines_tests.specs.Plain.{IsPlain}
+use Rattle.lines_tests.proofs.Common.{◌≡◌, IsPlain}
 use Rattle.lines_tests.proofs.plain.Plain.others.Given as goal
 
 abbrev pub invariant-loop-turn : goal.invariant-loop-turn

@@ -1,5 +1,4 @@
-use Rattle.std.proofs.Common.{◌≤◌, IfSome}
-use Rattle.partial_memory.specs.Ports.{IsOf}
+use Rattle.memory_tests.proofs.Common.{◌≤◌, IfSome, IsOf}
 use Rattle.memory_tests.proofs.workers.Worker.work.Given as goal
 
 abbrev pub invariant-loop-value : goal.invariant-loop-value

@@ -1,5 +1,4 @@
-use Rattle.partial_active.proofs.Common.{arith}
-use Rattle.partial_words.proofs.RecordLemmas.{length-pairs}
+use Rattle.partial_active.proofs.Common.{arith, length-pairs}
 use Rattle.partial_active.proofs.get_set.GetSet.after_write.Goals as goal
 
 pub next_word-requires : goal.next_word-requires

@@ -1,15 +1,11 @@
 -- A handle may go to another thread, since what it holds may.
+use Rattle.partial_door.proofs.Common.{lone, Ptr, Option, None, Some, exits_of, shape, fields, to, Global, handle_owns}
 use mir.Raw.{raw}
 use base.Shift.{Keyless}
-use Rattle.partial_door.proofs.Common.{lone, Ptr, Option, None, Some}
-use denote.Struct.Struct.{exits_of}
-use denote.Struct.Owning.{shape, fields, to}
 use denote.Param.Send.{IsSend, AllSend, owning_send, struct_send, sendable}
 use Rattle.std.proofs.Crossing as heap
 use Rattle.std_alloc.proofs.SendSync.{quiet, lies}
-use Rattle.std_heap.specs.declared.Global.{Global}
 use Rattle.std_heap.proofs.Global.TheSendSync as handle
-use Rattle.partial_door.specs.Owned.{handle_owns}
 use Rattle.partial_door.specs.contracts.held.Held as Held
 use Rattle.partial_door.proofs.held.Held.TheSendSync.{the_send as held}
 use Rattle.partial_door.specs.contracts.handle.Handle.{the_row, the_type}

@@ -1,6 +1,5 @@
-use Rattle.partial_door.proofs.Common.{rules, ◌≡◌, subst, Held, IsUnclosed}
+use Rattle.partial_door.proofs.Common.{rules, ◌≡◌, subst, Held, IsUnclosed, ClosesAt}
 use Rattle.partial_door.specs.declared.held.Held.TheVariants as held
-use Rattle.partial_door.specs.Memories.{ClosesAt}
 use Rattle.partial_door.proofs.held.Held.close.Goals as goal
 
 pub returns-in-Ok-clause-ok : goal.returns-in-Ok-clause-ok

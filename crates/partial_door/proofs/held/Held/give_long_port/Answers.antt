@@ -1,5 +1,4 @@
-use Rattle.partial_door.proofs.Common.{rules, ◌∙◌, ap, sym, refl, inl, inr, PortView}
-use Rattle.std.proofs.Common.{◌++◌, ◌∷◌, [], List}
+use Rattle.partial_door.proofs.Common.{rules, ◌∙◌, ap, sym, refl, inl, inr, PortView, ◌++◌, ◌∷◌, [], List}
 use Rattle.partial_door.proofs.held.Held.give_long_port.Goals as goal
 
 pub returns-then-is_err-clause-err : goal.returns-then-is_err-clause-err

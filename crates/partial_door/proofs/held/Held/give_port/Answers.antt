@@ -1,5 +1,4 @@
-use Rattle.partial_door.proofs.Common.{rules, ◌∙◌, ap, sym, refl, inl, inr}
-use Rattle.std.proofs.Common.{◌++◌, ◌∷◌, [], List}
+use Rattle.partial_door.proofs.Common.{rules, ◌∙◌, ap, sym, refl, inl, inr, ◌++◌, ◌∷◌, [], List}
 use Rattle.partial_memory.specs.Ports.{PortView}
 use Rattle.partial_door.proofs.held.Held.give_port.Goals as goal
 

@@ -1,5 +1,4 @@
-use Rattle.partial_door.proofs.Common.{inr, if_ok_then}
-use Rattle.std.proofs.lemmas.Result.{IfErr-weaker}
+use Rattle.partial_door.proofs.Common.{inr, if_ok_then, IfErr-weaker}
 use Rattle.partial_door.proofs.held.Held.reopen.Goals as goal
 
 pub returns-in-Closed-clause-ok : goal.returns-in-Closed-clause-ok

@@ -1,5 +1,4 @@
-use Rattle.std.proofs.Common.{sym, ap, ◌∙◌}
-use Rattle.partial_embedded.specs.Embedded.{EmbeddedState, advance_view_at, buffers}
+use Rattle.partial_embedded.proofs.Common.{sym, ap, ◌∙◌, EmbeddedState, advance_view_at, buffers}
 use Rattle.partial_embedded.proofs.embedded.Embedded.after_answer.Goals as goal
 
 pub returns-in-Value : goal.returns-in-Value

@@ -1,5 +1,4 @@
-use Rattle.std.proofs.Common.{◌<◌, subst, sym}
-use Rattle.partial_embedded.specs.Embedded.{ViewPair, ViewGoesTogether, view_left}
+use Rattle.partial_embedded.proofs.Common.{◌<◌, subst, sym, ViewPair, ViewGoesTogether, view_left}
 use Rattle.partial_embedded.proofs.Keeps.{kept}
 use Rattle.partial_embedded.proofs.embedded.Embedded.answer.Goals as goal
 

@@ -1,6 +1,4 @@
-use Rattle.std.proofs.Common.{ℕ, ◌≡◌, ◌≢◌}
-use Rattle.partial_embedded.specs.declared.embedded.Stage.TheVariants.{Collect}
-use Rattle.partial_embedded.specs.Embedded.{ViewPair, ViewGoesTogether, buffers, view_left}
+use Rattle.partial_embedded.proofs.Common.{ℕ, ◌≡◌, ◌≢◌, Collect, ViewPair, ViewGoesTogether, buffers, view_left}
 use Rattle.partial_embedded.proofs.embedded.Embedded.make_loads.Given as goal
 
 -- the loads are at this scan and its buffers, and they have made no others

@@ -1,4 +1,4 @@
-use Rattle.std.proofs.Common.{◌≡◌, ℕ, ◌<◌, length, slice_index}
+use Rattle.partial_embedded.proofs.Common.{◌≡◌, ℕ, ◌<◌, length, slice_index}
 use Rattle.partial_embedded.proofs.rows.Rows.copy_values.Given as goal
 
 -- the first values are there

@@ -1,8 +1,5 @@
-use Rattle.std.proofs.Common.{◌≡◌, refl, ap, ◌∙◌, arith}
-use Rattle.std.specs.List.{insert, remove}
-use Rattle.std.proofs.lemmas.Bool.{false≢true, iff_false}
+use Rattle.partial_intervals.proofs.Common.{◌≡◌, refl, ap, ◌∙◌, arith, insert, remove, false≢true, iff_false, Set}
 use Rattle.std.proofs.lemmas.Grind.{common_steps}
-use Rattle.partial_intervals.specs.Intervals.{Set}
 use Rattle.partial_intervals.proofs.Edits.{adds_before, adds_after, adds_between, adds_alone}
 use Rattle.partial_intervals.proofs.intervals.Intervals.add.Goals as goal
 

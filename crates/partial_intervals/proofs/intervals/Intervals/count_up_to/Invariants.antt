@@ -1,5 +1,4 @@
-use Rattle.std.proofs.Common.{ℕ, ◌-◌, ◌<◌, ◌≤◌, length}
-use Rattle.partial_intervals.specs.Intervals.{lowest}
+use Rattle.partial_intervals.proofs.Common.{ℕ, ◌-◌, ◌<◌, ◌≤◌, length, lowest}
 use Rattle.partial_intervals.proofs.intervals.Intervals.count_up_to.Given as goal
 
 -- the intervals below low begin at l or below, and those from high on beyond it

@@ -1,5 +1,4 @@
-use Rattle.partial_long_lived.proofs.Common.{rules, [], ◌∷◌, ◌≡◌, ◌<◌, refl, ap, sym, ◌∙◌, subst, List, AllByRecursion, Me, TableId, all_front, base, OpensAll, About, SeatedPort, one_in, plan_of, IsShapeOf, IsOf, port_view}
-use Rattle.partial_long_lived.specs.Inner.Opening.{OpensShape}
+use Rattle.partial_long_lived.proofs.Common.{rules, [], ◌∷◌, ◌≡◌, ◌<◌, refl, ap, sym, ◌∙◌, subst, List, AllByRecursion, Me, TableId, all_front, base, OpensAll, About, SeatedPort, one_in, plan_of, IsShapeOf, IsOf, port_view, OpensShape}
 use Rattle.partial_long_lived.proofs.Opens.{opens}
 use Rattle.partial_long_lived.proofs.NewPorts.{deals_next, made_next, new_own, opens_as, rests_new, shape_here}
 use Rattle.partial_long_lived.proofs.Meets.{deals}

@@ -1,5 +1,4 @@
-use Rattle.partial_long_lived.proofs.Common.{rules, ◌≡◌, ◌<◌, sym, ap, ◌∙◌, subst, vec_len, Shape, IsResting}
-use Rattle.partial_long_lived.specs.declared.port.Port.TheInside.{Inside}
+use Rattle.partial_long_lived.proofs.Common.{rules, ◌≡◌, ◌<◌, sym, ap, ◌∙◌, subst, vec_len, Shape, IsResting, Inside}
 use Rattle.partial_long_lived.proofs.Answering.{read_seen, rests_anew, rests_here, rests_number, rests_put, rests_taken}
 use Rattle.partial_long_lived.proofs.long_lived.LongLived.read.Goals.{then-stand-epoch, else-stand-epoch}
 use Rattle.partial_long_lived.proofs.long_lived.LongLived.read.Goals as goal

@@ -1,6 +1,5 @@
-use Rattle.partial_long_lived.proofs.Common.{rules, ◌≡◌, ◌<◌, length, refl, sym, ◌∙◌, subst, is_some, true, IfOk, IfErr, AllByRecursion, IsRefused, port_view, one_in}
+use Rattle.partial_long_lived.proofs.Common.{rules, ◌≡◌, ◌<◌, length, refl, sym, ◌∙◌, subst, is_some, true, IfOk, IfErr, AllByRecursion, IsRefused, port_view, one_in, ScansStamped}
 use Rattle.partial_model.specs.declared.call.Call.TheVariants as call
-use Rattle.partial_long_lived.specs.Calls.{ScansStamped}
 use Rattle.partial_long_lived.proofs.Answering.{are_below, borrowed_fits, borrowed_public, not_below, scan_refused, stamped_answered, stamped_shape}
 use Rattle.partial_long_lived.proofs.long_lived.LongLived.scan_stamped.Goals.{in-Ok, in-Err}
 use Rattle.partial_long_lived.proofs.long_lived.LongLived.scan_stamped.Goals as goal

@@ -1,4 +1,4 @@
-use Rattle.std.proofs.Common.{not, ◌∙◌, ap}
+use Rattle.partial_machine.proofs.Common.{not, ◌∙◌, ap}
 use Rattle.partial_machine.proofs.Submachines.{got_more, got_all}
 use Rattle.partial_machine.proofs.machine.Core.after_set.Goals as goal
 

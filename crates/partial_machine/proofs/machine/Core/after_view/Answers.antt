@@ -1,4 +1,4 @@
-use Rattle.std.proofs.Common.{not, ◌∙◌, ap}
+use Rattle.partial_machine.proofs.Common.{not, ◌∙◌, ap}
 use Rattle.partial_machine.proofs.Submachines.{viewed_more}
 use Rattle.partial_machine.proofs.machine.Core.after_view.Goals as goal
 

@@ -1,9 +1,5 @@
-use Rattle.std.specs.Vec.{vec_capacity}
-use Rattle.std.proofs.Common.{sym, ◌∙◌, ap, subst}
+use Rattle.partial_machine.proofs.Common.{vec_capacity, sym, ◌∙◌, ap, subst, CoreState, IsMachine, IsPossibleAt}
 use Rattle.partial_machine.specs.declared.stage.Stage.TheVariants.{GettingSet, Viewing, Joining, Scanning}
-use Rattle.partial_machine.specs.Machine.{CoreState}
-use Rattle.partial_machine.specs.Sound.{IsMachine}
-use Rattle.partial_machine.specs.Possible.{IsPossibleAt}
 use Rattle.partial_machine.proofs.Sound.{fewer_on}
 use Rattle.partial_machine.proofs.machine.Core.answer.Goals as goal
 

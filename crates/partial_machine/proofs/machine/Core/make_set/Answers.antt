@@ -1,6 +1,5 @@
-use Rattle.std.proofs.Common.{ap, ◌∙◌}
+use Rattle.partial_machine.proofs.Common.{ap, ◌∙◌, CoreState}
 use Rattle.partial_active.specs.GetSet.{GetSetState}
-use Rattle.partial_machine.specs.Machine.{CoreState}
 use Rattle.partial_machine.proofs.Parts.{found_idle}
 use Rattle.partial_machine.proofs.machine.Core.make_set.Goals as goal
 

@@ -1,5 +1,4 @@
-use Rattle.std.proofs.Common.{arith}
-use Rattle.partial_active.proofs.Distinct.{no_index}
+use Rattle.partial_machine.proofs.Common.{arith, no_index}
 use Rattle.partial_machine.proofs.machine.Core.new.Goals as goal
 
 pub invariant_of-result : goal.invariant_of-result

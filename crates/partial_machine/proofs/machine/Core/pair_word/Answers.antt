@@ -1,4 +1,4 @@
-use Rattle.std.proofs.Common.{◌∙◌, get_or}
+use Rattle.partial_machine.proofs.Common.{◌∙◌, get_or}
 use Rattle.partial_machine.proofs.Pairs.{index_word, value_word}
 use Rattle.partial_machine.proofs.machine.Core.pair_word.Goals as goal
 

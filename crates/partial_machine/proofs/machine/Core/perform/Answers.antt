@@ -1,7 +1,4 @@
-use Rattle.std.specs.Vec.{vec_capacity}
-use Rattle.std.proofs.Common.{subst}
-use Rattle.partial_machine.specs.Machine.{CoreState}
-use Rattle.partial_machine.specs.Sound.{IsMachine}
+use Rattle.partial_machine.proofs.Common.{vec_capacity, subst, CoreState, IsMachine}
 use Rattle.partial_machine.proofs.Submachines.{performs_fewer}
 use Rattle.partial_machine.proofs.machine.Core.perform.Goals as goal
 

@@ -1,5 +1,4 @@
-use Rattle.std.proofs.Common.{not, ◌∙◌, ap}
-use Rattle.partial_machine.specs.declared.stage.Stage.TheVariants.{GettingSet}
+use Rattle.partial_machine.proofs.Common.{not, ◌∙◌, ap, GettingSet}
 use Rattle.partial_machine.proofs.Submachines.{got_more, got_all, possible_at}
 use Rattle.partial_machine.proofs.machine.Core.perform_set.Goals as goal
 

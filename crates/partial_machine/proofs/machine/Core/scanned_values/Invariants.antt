@@ -1,5 +1,4 @@
-use Rattle.std.proofs.Common.{◌≡◌, take}
-use Rattle.partial_machine.specs.Machine.{scanned_values}
+use Rattle.partial_machine.proofs.Common.{◌≡◌, take, scanned_values}
 use Rattle.partial_machine.proofs.machine.Core.scanned_values.Given as goal
 
 -- the first k values are read

@@ -1,6 +1,4 @@
-use Rattle.partial_memory.proofs.Common.{rules, ◌≡◌, ◌∙◌, ◌-◌, ◌≤◌, ◌++◌, length, take, replicate, vec_len, Result, Err, IfOk}
-use Rattle.std.specs.Prelude.{Ok}
-use Rattle.partial_memory.specs.Reopening.{extended_values}
+use Rattle.partial_memory.proofs.Common.{rules, ◌≡◌, ◌∙◌, ◌-◌, ◌≤◌, ◌++◌, length, take, replicate, vec_len, Result, Err, IfOk, Ok, extended_values}
 use Rattle.partial_memory.proofs.Reopening.{closed_memories_continue, grown_is_extended}
 use Rattle.partial_memory.proofs.memory.Memory.reopen.Goals as goal
 

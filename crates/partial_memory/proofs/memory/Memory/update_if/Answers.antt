@@ -1,7 +1,6 @@
-use Rattle.partial_memory.proofs.Common.{rules, ◌≡◌, refl, sym, ap, ◌∙◌, Some, inl, inr, err_from_is_err_and, PortView, refusal, one_in}
+use Rattle.partial_memory.proofs.Common.{rules, ◌≡◌, refl, sym, ap, ◌∙◌, Some, inl, inr, err_from_is_err_and, PortView, refusal, one_in, asked_change, ending_reply}
 use Rattle.partial_model.specs.declared.call.Call.TheVariants as call
 use Rattle.partial_machine.specs.declared.stage.Reply.TheVariants as reply
-use Rattle.partial_memory.specs.Inner.Endings.{asked_change, ending_reply}
 use Rattle.partial_memory.proofs.Resting.{call_begins, refusal_here, rests, same_memory}
 use Rattle.partial_memory.proofs.Replies.{update_if_ended, at_once, ok_ok, err_ok, err_err, ok_err}
 use Rattle.partial_memory.proofs.memory.Memory.update_if.Goals as goal

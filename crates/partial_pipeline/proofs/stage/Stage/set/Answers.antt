@@ -1,5 +1,4 @@
-use Rattle.partial_pipeline.proofs.Common.{◌≤◌, subst, arith, Updates}
-use Rattle.partial_long_lived.specs.declared.answers.Updated.{Updated}
+use Rattle.partial_pipeline.proofs.Common.{◌≤◌, subst, arith, Updates, Updated}
 use Rattle.partial_long_lived.specs.declared.answers.Updated.TheVariants.{Applied, Lost}
 use Rattle.partial_pipeline.proofs.Stages.{update_refused, works_applied, works_lost, works_on}
 use Rattle.partial_pipeline.proofs.stage.Stage.set.Goals as goal

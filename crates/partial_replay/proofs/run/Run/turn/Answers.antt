@@ -1,5 +1,4 @@
-use Rattle.partial_replay.proofs.Common.{Bool, subst, AreStarted, IsTurnReady, IsPortDone}
-use Rattle.std.specs.Bool.{MatchBool}
+use Rattle.partial_replay.proofs.Common.{Bool, subst, AreStarted, IsTurnReady, IsPortDone, MatchBool}
 use Rattle.partial_replay.proofs.RunTurns.{turn_done, turn_stepped}
 use Rattle.partial_replay.proofs.run.Run.turn.Goals as goal
 
