@@ -26,6 +26,7 @@ use std::marker::Brand;
 ///
 /// There is no scan when the two collects differ, or when the first component is sealed and the port's epoch has ended.
 /// Then nothing is noted, and `into` is unchanged.
+#[inline(always)]
 pub fn double_collect(
     words: &Words,
     stand: &mut Stand,
