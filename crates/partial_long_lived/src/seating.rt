@@ -16,14 +16,14 @@ pub struct Seating {
     pub badge: Badge<View>,
     /// The sizes of the memory.
     pub shape: Shape,
-    /// The number of the port.
-    pub number: u32,
     /// The epoch in which it stands.
     pub epoch: u64,
-    /// The arena of that epoch.
-    pub arena: u32,
-    /// The first word of the arena.
+    /// The first word of the arena of that epoch.
     pub base: u64,
+    /// The number of the port.
+    pub number: u32,
+    /// The arena of the epoch.
+    pub arena: u32,
     /// How many of its components it has passed in a change of epoch.
     pub passed: u32,
 }
@@ -39,10 +39,10 @@ impl Seating {
         Stand {
             seat: mem::replace(&mut self.badge, Badge::blank()).into_seat(),
             shape: self.shape,
-            number: self.number,
             epoch: self.epoch,
-            arena: self.arena,
             base: self.base,
+            number: self.number,
+            arena: self.arena,
             passed: self.passed,
         }
     }
@@ -57,17 +57,17 @@ impl Seating {
         let Stand {
             seat,
             shape: _,
-            number,
             epoch,
-            arena,
             base,
+            number,
+            arena,
             passed,
         } = stand;
         self.badge = seat.into_badge();
-        self.number = number;
         self.epoch = epoch;
-        self.arena = arena;
         self.base = base;
+        self.number = number;
+        self.arena = arena;
         self.passed = passed;
     }
 }
