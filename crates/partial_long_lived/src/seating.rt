@@ -2,6 +2,7 @@
 
 ghost use Rattle.std.specs.Prelude.{◌≡◌, []};
 ghost use Rattle.partial_long_lived.specs.Seating.{IsBadgeOfOne, IsStandOf, IsSeatingOf};
+ghost use Rattle.partial_long_lived.specs.Inner.Late.{HasPlaceOf};
 
 use crate::rule::View;
 use crate::shape::Shape;
@@ -35,6 +36,7 @@ impl Seating {
         requires { IsBadgeOfOne self.old.badge.views }
         ensures stand { IsStandOf self.old result }
         ensures shape { self.new.shape ≡ self.old.shape }
+        ensures here { HasPlaceOf self.new result }
     {
         Stand {
             seat: mem::replace(&mut self.badge, Badge::blank()).into_seat(),
@@ -69,5 +71,16 @@ impl Seating {
         self.number = number;
         self.arena = arena;
         self.passed = passed;
+    }
+
+    /// Puts the seat back where its port stands as before. The place stays as it is, so nothing is written.
+    #[inline(always)]
+    pub fn keep_here(&mut self, stand: Stand)
+        requires none { stand.seat.me.1 ≡ [] }
+        requires here { HasPlaceOf self.old stand }
+        ensures { IsSeatingOf stand self.new }
+    {
+        let Stand { seat, .. } = stand;
+        self.badge = seat.into_badge();
     }
 }
