@@ -19,7 +19,7 @@ IsRefused Knows MayNotOpen Meets MemoryView OpenedPortsAreAll PortView Reads Sca
 port_view
 
 CallMade ComesTo IsBadgeOfOne IsGoing IsOne IsResting IsRuleKept IsUnderWay SeatedPort first_port flatten further_ports
-goes_on leads_itself leads_on makes newcomer newcomers nobody one_in one_of
+asked_change goes_on leads_itself leads_on makes newcomer newcomers nobody one_in one_of
 '''.split())
 COMMENT = re.compile(r'(?<!\S)--.*')
 WORDS = r'(?:(?:abbrev|pub|unfoldable|block|record|data|module)\s+)*'

@@ -83,7 +83,6 @@ pub use Rattle.partial_lines.specs.Replies.{RestsLike, update_reply}
 pub use Rattle.partial_long_lived.specs.declared.answers.UpdatedIf.{UpdatedIf}
 pub use Rattle.partial_long_lived.specs.declared.error.Refused.{Refused}
 pub use Rattle.partial_long_lived.specs.declared.error.Refused.TheVariants.{Component, Overtaken, NoArena, EpochsSpent}
-pub use Rattle.partial_long_lived.specs.declared.port.Port.TheInside.{Inside}
 pub use Rattle.partial_long_lived.specs.declared.rule.About.{About}
 pub use Rattle.partial_long_lived.specs.declared.seating.Seating.{Seating}
 pub use Rattle.partial_long_lived.specs.declared.shape.Shape.{Shape}
@@ -109,7 +108,7 @@ pub use Rattle.partial_long_lived.specs.Inner.Stamped.{ScannedNamed, ArePublic, 
 pub use Rattle.partial_long_lived.specs.Inner.Steps.{SeatGoes, IsSeatKnown, IsOne, tells, BeginsWith, HasStampsInWords, HasRecordStamps}
 pub use Rattle.partial_long_lived.specs.Inner.Unchanged.{stamp_at, HadStamps, HadAnother, HadStamp, HasStamp}
 pub use Rattle.partial_long_lived.specs.Inner.Under.{CallMade, record_claim, IsGoing, ComesTo, MayBegin, machine_at, before_claim}
-pub use Rattle.partial_long_lived.specs.Inner.Updates.{UpdateAttempted, ExchangeDue, ExpectsOne, IsEntryOf, IsOwnMachine, NotesNothing, PortStayed, noted_where, word_from, MayCall, CameBy, IsLate, UpdateEnded, noted_change, public_update, stamp_from}
+pub use Rattle.partial_long_lived.specs.Inner.Updates.{UpdateAttempted, ExchangeDue, ExpectsOne, IsEntryOf, IsOwnMachine, NotesNothing, PortStayed, noted_where, word_from, MayCall, CameBy, IsLate, UpdateEnded, noted_change, public_update, stamp_from, asked_change}
 pub use Rattle.partial_long_lived.specs.Ports.{IsOf, MemoryView, PortView, new_ports, port_view, seen_in, AreByOpened, Knows}
 pub use Rattle.partial_long_lived.specs.Resting.{IsResting}
 pub use Rattle.partial_long_lived.specs.Rule.{newcomers, Began, SeatedPort, one_in, Found, BeganInTime, IsFinal, IsLast, IsSeat, IsSeen, IsSince, plan_of, IsRuleKept, one_of, seats_of, first_port, flatten, further_ports, newcomer}

@@ -17,3 +17,4 @@ pub mod Stamped
 pub mod DoubleCollect
 pub mod Unchanged
 pub mod Rests
+pub mod Late

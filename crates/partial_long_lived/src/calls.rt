@@ -11,7 +11,7 @@ use crate::error::Refused;
 use crate::long_lived::LongLived;
 use crate::meet::meet;
 use crate::port::Port;
-use crate::read::read;
+use crate::read::{read_here, read_late};
 use crate::scan::{public_borrowed, scan_from};
 use crate::stamped::scan_stamped;
 use crate::unchanged::unchanged;
@@ -109,15 +109,21 @@ impl LongLived {
         if component >= self.shape.sizes.m() {
             return Err(Refused::Component);
         }
-        let stand = me.seating.take();
-        let epoch = stand.epoch;
-        let (stand, value, stamp) = read(&self.table.shared, stand, component);
-        if stand.epoch != epoch {
-            me.core.clear_marks();
-            me.spent = false;
+        let words = &self.table.shared;
+        let mut stand = me.seating.take();
+        let found = read_here(words, &mut stand, component);
+        me.seating.keep_here(stand);
+        if let Some((value, stamp)) = found {
+            return Ok((value, stamp));
         }
-        me.seating.keep(stand);
-        Ok((value, stamp))
+        let late = read_late(
+            words,
+            &mut me.seating,
+            &mut me.core,
+            &mut me.spent,
+            component,
+        );
+        Ok(late)
     }
 
     /// Scans these components, in this order and with repeats: `into` has their values as they stood together at one

@@ -2,6 +2,7 @@
 
 ghost use Rattle.std.specs.Prelude.{◌≡◌, []};
 ghost use Rattle.partial_long_lived.specs.Seating.{IsBadgeOfOne, IsStandOf, IsSeatingOf};
+ghost use Rattle.partial_long_lived.specs.Inner.Late.{HasPlaceOf};
 
 use crate::rule::View;
 use crate::shape::Shape;
@@ -16,14 +17,14 @@ pub struct Seating {
     pub badge: Badge<View>,
     /// The sizes of the memory.
     pub shape: Shape,
-    /// The number of the port.
-    pub number: u32,
     /// The epoch in which it stands.
     pub epoch: u64,
-    /// The arena of that epoch.
-    pub arena: u32,
-    /// The first word of the arena.
+    /// The first word of the arena of that epoch.
     pub base: u64,
+    /// The number of the port.
+    pub number: u32,
+    /// The arena of the epoch.
+    pub arena: u32,
     /// How many of its components it has passed in a change of epoch.
     pub passed: u32,
 }
@@ -35,14 +36,15 @@ impl Seating {
         requires { IsBadgeOfOne self.old.badge.views }
         ensures stand { IsStandOf self.old result }
         ensures shape { self.new.shape ≡ self.old.shape }
+        ensures here { HasPlaceOf self.new result }
     {
         Stand {
             seat: mem::replace(&mut self.badge, Badge::blank()).into_seat(),
             shape: self.shape,
-            number: self.number,
             epoch: self.epoch,
-            arena: self.arena,
             base: self.base,
+            number: self.number,
+            arena: self.arena,
             passed: self.passed,
         }
     }
@@ -57,17 +59,28 @@ impl Seating {
         let Stand {
             seat,
             shape: _,
-            number,
             epoch,
-            arena,
             base,
+            number,
+            arena,
             passed,
         } = stand;
         self.badge = seat.into_badge();
-        self.number = number;
         self.epoch = epoch;
-        self.arena = arena;
         self.base = base;
+        self.number = number;
+        self.arena = arena;
         self.passed = passed;
+    }
+
+    /// Puts the seat back where its port stands as before. The place stays as it is, so nothing is written.
+    #[inline(always)]
+    pub fn keep_here(&mut self, stand: Stand)
+        requires none { stand.seat.me.1 ≡ [] }
+        requires here { HasPlaceOf self.old stand }
+        ensures { IsSeatingOf stand self.new }
+    {
+        let Stand { seat, .. } = stand;
+        self.badge = seat.into_badge();
     }
 }

@@ -10,14 +10,14 @@ pub struct Stand {
     pub seat: Token,
     /// The sizes of the memory.
     pub shape: Shape,
-    /// The number of the port.
-    pub number: u32,
     /// The epoch in which it stands.
     pub epoch: u64,
-    /// The arena of that epoch.
-    pub arena: u32,
-    /// The first word of the arena.
+    /// The first word of the arena of that epoch.
     pub base: u64,
+    /// The number of the port.
+    pub number: u32,
+    /// The arena of the epoch.
+    pub arena: u32,
     /// How many components of the arena it has passed in changes of epoch: each of them is sealed.
     pub passed: u32,
 }

@@ -13,7 +13,7 @@ ghost use Rattle.partial_long_lived.specs.Inner.Changing.{IsCause};
 ghost use Rattle.partial_long_lived.specs.Inner.Machine.{SeatBegins};
 ghost use Rattle.partial_long_lived.specs.Inner.Rests.{RestsAt};
 ghost use Rattle.partial_long_lived.specs.Inner.Under.{IsGoing, ComesTo, MayBegin, machine_at};
-ghost use Rattle.partial_long_lived.specs.Inner.Updates.{UpdateAttempted, CameBy, ExchangeDue, ExpectsOne, IsLate, IsOwnMachine, MayCall, NotesNothing, UpdateEnded};
+ghost use Rattle.partial_long_lived.specs.Inner.Updates.{UpdateAttempted, CameBy, ExchangeDue, ExpectsOne, IsLate, IsOwnMachine, MayCall, NotesNothing, UpdateEnded, asked_change, exchanged_in};
 
 use crate::arena::SEAL;
 use crate::change::change;
@@ -26,6 +26,45 @@ use partial_core::{Change, Core};
 use partial_lines::{Exchanged, put};
 use partial_words::full_record_size;
 use std::marker::Brand;
+
+/// How an attempt of an update ended. It is a tag and one word, so a function returns it in registers.
+#[derive(Clone, Copy)]
+pub enum Attempted {
+    /// The update took effect, and its record has this stamp.
+    Applied { stamp: u64 },
+    /// It had no effect: the component had this stamp in place of the one that the update wanted to replace.
+    Overtaken { by: u64 },
+    /// The component is sealed: nothing was applied.
+    Sealed,
+}
+
+impl Attempted {
+    ghost use Rattle.std.specs.Prelude.{◌≡◌, Some};
+    ghost use Rattle.partial_long_lived.specs.Inner.Updates.{exchanged_in};
+
+    // The end of an attempt that ended the update so.
+    #[inline(always)]
+    fn ended(exchanged: Exchanged) -> Attempted
+        ensures { exchanged_in result ≡ Some exchanged }
+    {
+        match exchanged {
+            Exchanged::Applied { stamp } => Attempted::Applied { stamp },
+            Exchanged::Overtaken { by } => Attempted::Overtaken { by },
+        }
+    }
+
+    /// How the update ended, unless the component is sealed.
+    #[inline(always)]
+    pub fn exchanged(self) -> Option<Exchanged>
+        ensures { result ≡ exchanged_in self }
+    {
+        match self {
+            Attempted::Applied { stamp } => Some(Exchanged::Applied { stamp }),
+            Attempted::Overtaken { by } => Some(Exchanged::Overtaken { by }),
+            Attempted::Sealed => None,
+        }
+    }
+}
 
 /// How many epochs an update may change before it is refused.
 pub const MOST_CHANGES: u32 = 16;
@@ -89,8 +128,15 @@ fn rounds(
 {
     let mut first_step = first;
     for _ in 0..times {
-        if let Some((exchanged, used)) = attempt(words, stand, core, change, first_step) {
-            *spent = used;
+        let Change {
+            component,
+            expected,
+            value,
+        } = change;
+        let attempted = attempt(
+            words, stand, core, component, value, spent, expected, first_step,
+        );
+        if let Some(exchanged) = attempted.exchanged() {
             return Ok(exchanged);
         }
         if let Err(cause) = renew(words, stand, core, false) {
@@ -126,43 +172,56 @@ pub fn renew(words: &Words, stand: &mut Stand, core: &mut Core, first: bool) -> 
 }
 
 /// Makes an update of a port that is not spent, in the port's epoch. Returns how it ended, with stamps of the epoch's own,
-/// and whether the port is spent then; or `None` when the component is sealed. Then nothing was applied, and the port is
-/// spent. `first` says that the first step of the update is the first one of its call.
+/// and says whether the port is spent then; or finds the component sealed. Then nothing was applied, and the port is spent.
+/// `first` says that the first step of the update is the first one of its call.
+///
+/// It is a function of its own in every program, whose parameters and answer stay in registers where they can.
+#[inline(never)]
 pub fn attempt(
     words: &Words,
     stand: &mut Stand,
     core: &mut Core,
-    change: Change,
+    component: u32,
+    value: u64,
+    spent: &mut bool,
+    expected: Option<u64>,
     first: bool,
-) -> Option<(Exchanged, bool)>
+) -> Attempted
     requires held { IsHeld words.now.table_id words.now.key stand.old }
     requires idle { IsIdle stand.old }
     requires may { MayCall (port_at stand.old) core.old }
-    requires inside { change.component < words.now.key.sizes.m }
-    requires expects { ExpectsOne (port_at stand.old) change }
+    requires inside { component < words.now.key.sizes.m }
+    requires expects { ExpectsOne (port_at stand.old) (asked_change component expected value) }
     ensures held { IsHeld words.now.table_id words.now.key stand.new }
-    ensures attempted { IfSome result (λ r. UpdateAttempted first change r.0 stand.old stand.new) }
-    ensures sealed { IfNone result (NotesNothing first stand.old stand.new) }
+    ensures attempted { IfSome (exchanged_in result) (λ r.
+        UpdateAttempted first (asked_change component expected value) r stand.old stand.new) }
+    ensures sealed { IfNone (exchanged_in result) (NotesNothing first stand.old stand.new) }
     ensures rests { IsOwnMachine (port_at stand.new) core.new }
-    ensures spare { IfSome result (λ r. r.1 ≡ false → MayCall (port_at stand.new) core.new) }
+    ensures spare { IfSome (exchanged_in result) (λ _. spent.new ≡ false → MayCall (port_at stand.new) core.new) }
 {
+    let change = Change {
+        component,
+        expected,
+        value,
+    };
     let old = begin::<Brand>(words, stand, core, change, first);
     if old >= SEAL {
-        return None;
+        return Attempted::Sealed;
     }
     if let Some(expected) = change.expected {
         if expected != old {
-            return Some((Exchanged::Overtaken { by: old }, false));
+            *spent = false;
+            return Attempted::Overtaken { by: old };
         }
     }
     let at = write(words, stand, core, change, old);
     let found = exchange(words, stand, change, old, at);
     if found >= SEAL && found % SEAL == old {
-        return None;
+        return Attempted::Sealed;
     }
     let greatest = full_record_size(u64::from(stand.shape.sizes.m()));
-    let spent = at + greatest > stand.shape.limit;
-    Some((Exchanged::of(old, at, found % SEAL), spent))
+    *spent = at + greatest > stand.shape.limit;
+    Attempted::ended(Exchanged::of(old, at, found % SEAL))
 }
 
 // Makes the first step of an update in the port's epoch, the load of its component word, and returns the word. `G` is the

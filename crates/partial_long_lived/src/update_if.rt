@@ -16,7 +16,7 @@ use crate::plays::{SeeAgain, SeeFirst, Wishes};
 use crate::rule::Words;
 use crate::stand::Stand;
 use crate::update::{MOST_CHANGES, attempt, renew};
-use partial_core::{Change, Core};
+use partial_core::Core;
 use partial_lines::Exchanged;
 use std::marker::Brand;
 
@@ -109,16 +109,22 @@ fn round(
     if spent {
         return None;
     }
-    let change = Change {
-        component: asked.component,
-        expected: Some(at),
-        value: asked.value,
-    };
-    let Some((exchanged, spent)) = attempt(words, stand, core, change, false) else {
+    let mut used = false;
+    let attempted = attempt(
+        words,
+        stand,
+        core,
+        asked.component,
+        asked.value,
+        &mut used,
+        Some(at),
+        false,
+    );
+    let Some(exchanged) = attempted.exchanged() else {
         return None;
     };
     let updated = public_outcome(words, stand, asked.component, exchanged);
-    Some((updated, spent))
+    Some((updated, used))
 }
 
 // Compares the public stamp of a component with the expected one.

@@ -19,6 +19,8 @@ use Rattle.partial_long_lived.specs.declared.answers.Updated.TheVariants as ende
 use Rattle.partial_long_lived.specs.declared.error.Refused.{Refused}
 use Rattle.partial_long_lived.specs.declared.error.Refused.TheVariants.{Overtaken as IsOvertaken}
 use Rattle.partial_long_lived.specs.declared.stand.Stand.{Stand}
+use Rattle.partial_long_lived.specs.declared.update.Attempted.{Attempted}
+use Rattle.partial_long_lived.specs.declared.update.Attempted.TheVariants as attempted
 use Rattle.partial_long_lived.specs.Rule.{SeatedPort, plan_of}
 use Rattle.partial_long_lived.specs.Ports.{seen_in}
 use Rattle.partial_long_lived.specs.Inner.Moves.{BeganBy}
@@ -34,6 +36,16 @@ use Rattle.partial_long_lived.specs.Inner.Under.{machine_at}
 -- the exchange of the component has found this word
 abbrev pub ExchangeDue : Stand → Change → ℕ → ℕ → ℕ → Stand → Type 0
 ExchangeDue s c old at found t = Exchanges (machine_at s) old (Exchange c.component old at) (port_at s) found (port_at t)
+
+-- the change that an update asks for
+abbrev pub asked_change : ℕ → Option ℕ → ℕ → Change
+asked_change component expected value = record { component = component; expected = expected; value = value }
+
+-- how an attempt ended the update, unless it met a seal
+abbrev pub exchanged_in : Attempted → Option Exchanged
+exchanged_in (attempted.Applied stamp) = Some (Applied stamp)
+exchanged_in (attempted.Overtaken by) = Some (Overtaken by)
+exchanged_in attempted.Sealed = None
 
 -- what a port notes of an update in that epoch that ended so, with an entry at that place
 abbrev pub noted_change : ℕ → Change → Exchanged → ℕ → Noted

@@ -5,34 +5,34 @@ use Rattle.partial_long_lived.proofs.update.rounds.Goals as goal
 pub loop-init : goal.loop-init
 loop-init c = let r = c.requires in (rounds_begin _ _ c.args.first c.args.stand.now _ r.held r.idle r.may, λ some. absurd (omega (arith, some)), omega (arith))
 
-pub attempt-requires-clause-held : goal.attempt-requires-clause-held
-attempt-requires-clause-held c = c.loop.invariant.0.held
+pub attempt-attempted-requires-clause-held : goal.attempt-attempted-requires-clause-held
+attempt-attempted-requires-clause-held c = c.loop.invariant.0.held
 
-pub attempt-requires-clause-idle : goal.attempt-requires-clause-idle
-attempt-requires-clause-idle c = c.loop.invariant.0.idle
+pub attempt-attempted-requires-clause-idle : goal.attempt-attempted-requires-clause-idle
+attempt-attempted-requires-clause-idle c = c.loop.invariant.0.idle
 
-pub attempt-requires-clause-may : goal.attempt-requires-clause-may
-attempt-requires-clause-may c = c.loop.invariant.0.may
+pub attempt-attempted-requires-clause-may : goal.attempt-attempted-requires-clause-may
+attempt-attempted-requires-clause-may c = c.loop.invariant.0.may
 
 pub returns-in-Some-clause-updated : goal.returns-in-Some-clause-updated
 returns-in-Some-clause-updated c =
-    let ended : UpdateAttempted c.loop.first_step c.args.change c.in-Some.exchanged c.loop.stand c.attempt.new.stand = search rules in
-    round_ended _ _ c.args.first c.loop.first_step c.args.stand.now c.loop.stand _ c.loop.invariant.0 _ _ c.requires.plain _ c.attempt.ensures.held ended
+    let ended : UpdateAttempted c.loop.first_step c.args.change c.in-Some.exchanged c.loop.stand c.attempt-attempted.new.stand = search rules in
+    round_ended _ _ c.args.first c.loop.first_step c.args.stand.now c.loop.stand _ c.loop.invariant.0 _ _ c.requires.plain _ c.attempt-attempted.ensures.held ended
 
 pub returns-in-Err-clause-refused : goal.returns-in-Err-clause-refused
 returns-in-Err-clause-refused c =
-    let met : NotesNothing c.loop.first_step c.loop.stand c.attempt.new.stand = search rules in (
+    let met : NotesNothing c.loop.first_step c.loop.stand c.attempt-attempted.new.stand = search rules in (
       late_of c.args.times c.args.stand.now c.renew.new.stand c.in-Err.cause (rw c.in-Err.is at c.renew.ensures.cause),
-      came_on c.args.first c.args.stand.now c.attempt.new.stand _ (round_met _ _ c.args.first c.loop.first_step c.args.stand.now c.loop.stand _ c.loop.invariant.0 _ met) c.renew.ensures.came,
+      came_on c.args.first c.args.stand.now c.attempt-attempted.new.stand _ (round_met _ _ c.args.first c.loop.first_step c.args.stand.now c.loop.stand _ c.loop.invariant.0 _ met) c.renew.ensures.came,
     )
 
 pub loop-preserved : goal.loop-preserved
 loop-preserved c =
-    let met : NotesNothing c.loop.first_step c.loop.stand c.attempt.new.stand = search rules in
-    let came = came_on c.args.first c.args.stand.now c.attempt.new.stand _ (round_met _ _ c.args.first c.loop.first_step c.args.stand.now c.loop.stand _ c.loop.invariant.0 _ met) c.renew.ensures.came in (
+    let met : NotesNothing c.loop.first_step c.loop.stand c.attempt-attempted.new.stand = search rules in
+    let came = came_on c.args.first c.args.stand.now c.attempt-attempted.new.stand _ (round_met _ _ c.args.first c.loop.first_step c.args.stand.now c.loop.stand _ c.loop.invariant.0 _ met) c.renew.ensures.came in (
       came_rounds _ _ c.args.first c.args.stand.now _ _ c.renew.ensures.held c.renew.ensures.idle (search rules) came,
       λ some. refl,
-      one_later _ _ c.args.stand.now c.loop.stand c.attempt.new.stand c.renew.new.stand _ c.loop.invariant.0.held c.attempt.ensures.held met.stayed.kept.epoch c.loop.invariant.2 (search rules),
+      one_later _ _ c.args.stand.now c.loop.stand c.attempt-attempted.new.stand c.renew.new.stand _ c.loop.invariant.0.held c.attempt-attempted.ensures.held met.stayed.kept.epoch c.loop.invariant.2 (search rules),
     )
 
 pub returns-clause-held : goal.returns-clause-held

@@ -1,14 +1,15 @@
+use Rattle.partial_long_lived.proofs.Common.{sym, ◌∙◌}
 use Rattle.partial_long_lived.proofs.Conditional.{ended_behind, nothing_behind}
 use Rattle.partial_long_lived.proofs.update_if.round.Goals as goal
 
 pub returns-in_default-clause-none : goal.returns-in_default-clause-none
 returns-in_default-clause-none c =
     let found = rw c.in-Same.is at c.compare.ensures.found in
-    nothing_behind c.args.first c.args.stand.now c.compare.new.stand c.attempt.new.stand c.compare.ensures.looked found.0 (rw c.in_default.is at c.attempt.ensures.sealed)
+    nothing_behind c.args.first c.args.stand.now c.compare.new.stand c.attempt-attempted.new.stand c.compare.ensures.looked found.0 (rw (sym c.exchanged.ensures ∙ c.in_default.is) at c.attempt-attempted.ensures.sealed)
 
 pub returns-clause-ended : goal.returns-clause-ended
 returns-clause-ended c =
     let found = rw c.in-Same.is at c.compare.ensures.found in
     let outcome = c.public_outcome-updated.ensures in
-    ended_behind c.args.first c.args.stand.now c.compare.new.stand c.attempt.new.stand c.compare.ensures.looked found.0 c.args.asked c.in-Same.at c.in-Some.exchanged found.1
-    (rw c.in-Some.is at c.attempt.ensures.attempted) c.public_outcome-updated.new.stand outcome.kept outcome.same c.public_outcome-updated.result outcome.public
+    ended_behind c.args.first c.args.stand.now c.compare.new.stand c.attempt-attempted.new.stand c.compare.ensures.looked found.0 c.args.asked c.in-Same.at c.in-Some.exchanged found.1
+    (rw (sym c.exchanged.ensures ∙ c.in-Some.is) at c.attempt-attempted.ensures.attempted) c.public_outcome-updated.new.stand outcome.kept outcome.same c.public_outcome-updated.result outcome.public

@@ -1,7 +1,8 @@
-use Rattle.partial_long_lived.proofs.Common.{◌≡◌, sym, ap, ◌∙◌, subst, vec_len, Shape, IsResting, Inside}
+use Rattle.partial_long_lived.proofs.Common.{◌≡◌, sym, ap, ◌∙◌, subst, vec_len, Shape, IsResting}
 use Rattle.partial_long_lived.proofs.Answering.{rests_anew, rests_here, rests_number, rests_put, rests_taken}
 use Rattle.partial_long_lived.proofs.Meetings.{all_seen, goes_met}
 use Rattle.partial_long_lived.proofs.long_lived.LongLived.meet.Goals.{then-one-first_epoch, else-one-first_epoch, then-other-second_epoch, else-other-second_epoch}
+use Rattle.partial_long_lived.specs.declared.port.Port.TheInside.{Inside}
 use Rattle.partial_long_lived.proofs.long_lived.LongLived.meet.Goals as goal
 
 pub invariant_of-first : goal.invariant_of-first

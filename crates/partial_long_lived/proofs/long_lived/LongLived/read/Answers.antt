@@ -1,27 +1,45 @@
-use Rattle.partial_long_lived.proofs.Common.{rules, ◌≡◌, ◌<◌, sym, ap, ◌∙◌, subst, vec_len, Shape, IsResting, Inside}
-use Rattle.partial_long_lived.proofs.Answering.{read_seen, rests_anew, rests_here, rests_number, rests_put, rests_taken}
-use Rattle.partial_long_lived.proofs.long_lived.LongLived.read.Goals.{then-stand-epoch, else-stand-epoch}
+use Rattle.partial_long_lived.proofs.Common.{rules, ◌<◌, sym, ap, ◌∙◌, MemoryView, PortView, IsHeld}
+use Rattle.partial_long_lived.proofs.Answering.{read_seen, rests_taken}
+use Rattle.partial_long_lived.proofs.Resting.{held_taken, own_kept}
 use Rattle.partial_long_lived.proofs.long_lived.LongLived.read.Goals as goal
+
+pub keep_here-requires-clause-here : goal.keep_here-requires-clause-here
+keep_here-requires-clause-here c =
+    let place = c.take-stand.ensures.here in
+    let kept = c.read_here-found.ensures.kept in
+    record {
+      shape = place.shape ∙ sym kept.shape;
+      number = place.number ∙ sym kept.number;
+      epoch = place.epoch ∙ sym kept.epoch;
+      arena = place.arena ∙ sym kept.arena;
+      base = place.base ∙ sym kept.base;
+      passed = place.passed ∙ sym kept.passed;
+    }
+
+pub returns-in-Some-clause-answered : goal.returns-in-Some-clause-answered
+returns-in-Some-clause-answered c =
+    let own = c.requires ∙ sym c.self.view_is in
+    let inside : c.args.component < c.self.inside.table.shared.key.sizes.m = search rules in
+    read_seen _ c.me.inside.seating c.take-stand.result c.read_here-found.new.stand c.keep_here.new.self _ c.take-stand.ensures.stand c.me.view_is own c.read_here-found.ensures.held c.keep_here.ensures
+    _ _ _ c.in-Some.ensures.read inside
+
+pub returns-clause-same : goal.returns-clause-same
+returns-clause-same c =
+    let m : MemoryView = record { table = c.self.inside.table.shared.table_id; about = c.self.inside.table.shared.key } in
+    let t = c.take-stand.result in
+    let own = c.requires ∙ sym c.self.view_is in
+    let held : IsHeld m.table m.about t = held_taken m _ t _ _ c.me.invariant.0 c.take-stand.ensures.stand c.self.invariant.1 (ap (λ (q : PortView). q.memory) c.me.view_is ∙ own) in
+    let idle = (rests_taken _ t _ _ c.me.invariant.0 c.take-stand.ensures.stand).free in
+    let late = c.read_late-late.ensures.read t c.read_here-found.new.stand held idle c.read_here-found.ensures.kept c.in_default.ensures.sealed c.keep_here.ensures in
+    own_kept m late.0 c.read_late-late.new.seating late.1 late.2 ∙ c.self.view_is
 
 pub returns-clause-answered : goal.returns-clause-answered
 returns-clause-answered c =
+    let m : MemoryView = record { table = c.self.inside.table.shared.table_id; about = c.self.inside.table.shared.key } in
+    let t = c.take-stand.result in
     let own = c.requires ∙ sym c.self.view_is in
     let inside : c.args.component < c.self.inside.table.shared.key.sizes.m = search rules in
-    read_seen _ c.me.inside.seating c.take-stand.result c.read-stand.result.0 c.keep.new.self _ c.take-stand.ensures.stand c.me.view_is own c.read-stand.ensures.held c.keep.ensures _ _ _
-    c.read-stand.ensures.read inside
-
-pub invariant_of-me : goal.invariant_of-me
-invariant_of-me c =
-    let t = c.take-stand.result in
-    let u = c.read-stand.result.0 in
-    let come = c.read-stand.ensures.read.come in
-    let rests = rests_taken _ t _ _ c.me.invariant.0 c.take-stand.ensures.stand in
-    let number = (rests_number _ t _ _ c.me.invariant.0 c.take-stand.ensures.stand) in
-    let same : c.keep.new.self.shape ≡ c.me.inside.seating.shape = c.keep.ensures.shape ∙ come.shape ∙ c.take-stand.ensures.stand.shape in
-    let room : vec_len c.me.inside.collected ≡ c.keep.new.self.shape.sizes.m = c.me.invariant.1 ∙ ap (λ (z : Shape). z.sizes.m) (sym same) in
-    elim c.if-stand-epoch.branch [
-      | then-stand-epoch w ↦ subst (λ (x : Inside). IsResting c.keep.new.self x.core x.spent × (vec_len x.collected ≡ c.keep.new.self.shape.sizes.m)) (sym w.me-inside-is)
-          (rests_put _ u c.keep.new.self _ _ c.read-stand.ensures.held c.keep.ensures (rests_anew t u _ _ number come rests w.if-stand-epoch.true _ w.clear_marks.ensures), room)
-      | else-stand-epoch w ↦ subst (λ (x : Inside). IsResting c.keep.new.self x.core x.spent × (vec_len x.collected ≡ c.keep.new.self.shape.sizes.m)) (sym w.me-inside-is)
-          (rests_put _ u c.keep.new.self _ _ c.read-stand.ensures.held c.keep.ensures (rests_here t u _ _ come rests w.if-stand-epoch.false), room)
-    ]
+    let held : IsHeld m.table m.about t = held_taken m _ t _ _ c.me.invariant.0 c.take-stand.ensures.stand c.self.invariant.1 (ap (λ (q : PortView). q.memory) c.me.view_is ∙ own) in
+    let idle = (rests_taken _ t _ _ c.me.invariant.0 c.take-stand.ensures.stand).free in
+    let late = c.read_late-late.ensures.read t c.read_here-found.new.stand held idle c.read_here-found.ensures.kept c.in_default.ensures.sealed c.keep_here.ensures in
+    read_seen m c.me.inside.seating t late.0 c.read_late-late.new.seating _ c.take-stand.ensures.stand c.me.view_is own late.1 late.2 _ _ _ late.3 inside
