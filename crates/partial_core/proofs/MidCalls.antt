@@ -9,7 +9,7 @@ use Rattle.partial_model.specs.History.{stamp_of}
 use Rattle.partial_words.specs.declared.step.Step.{Step}
 use Rattle.partial_words.specs.declared.step.Step.TheVariants.{Load, Store, Exchange, Add}
 use Rattle.partial_words.specs.Layout.{Layout}
-use Rattle.partial_words.specs.Record.{view_word}
+use Rattle.partial_words.specs.Record.{value_word, view_word}
 use Rattle.partial_active.specs.Join.{join_after, join_step}
 use Rattle.partial_active.specs.declared.join.JoinStage.{JoinStage}
 use Rattle.partial_active.specs.declared.join.JoinStage.TheVariants.{Claiming, Storing, Joined as JoinedIn, Spent}
@@ -99,7 +99,7 @@ view_loads y indices last (View stamp) due = (view_word stamp, refl)
 view_loads y indices last (Len at) due = (at, refl)
 view_loads y indices last (Index at left) due = (at, refl)
 view_loads y indices last (PairValue at left index) due = (at, refl)
-view_loads y indices last (Value k) due = (slice_index last k + 1, refl)
+view_loads y indices last (Value k) due = (value_word (slice_index last k), refl)
 view_loads y indices last Done due = absurd (false≢true due)
 
 -- an embedded scan that has made no step knows nothing yet
