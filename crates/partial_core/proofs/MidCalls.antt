@@ -1,5 +1,5 @@
 -- What a machine in the middle of a call knows by the answers that it has kept, in lawful words.
-use Rattle.partial_core.proofs.Common.{nat_lt, slice_index, option_map_or, false≢true, cond_both, eqb-true, Applied, Opening, stamp_of, Step, Load, Store, Exchange, Add, Layout, view_word, join_after, join_step, JoinStage, Claiming, Storing, Spent, Change, CoreState, at_stage, getting, scanning, with_getting, with_scanning, record_size, expects, fits_pool, pool_refused, begin_joining, after_getting, after_scanning, after_joining, advance_at, step_at, IsSound, is_sound_at, IsPossibleAt, Holding, LawfulWords, KeptAnswer, getsets_know, embedded_scans_know, is_storing, joins_at, IsTrueYet}
+use Rattle.partial_core.proofs.Common.{nat_lt, slice_index, option_map_or, false≢true, cond_both, eqb-true, Applied, Opening, stamp_of, Step, Load, Store, Exchange, Add, Layout, value_word, view_word, join_after, join_step, JoinStage, Claiming, Storing, Spent, Change, CoreState, at_stage, getting, scanning, with_getting, with_scanning, record_size, expects, fits_pool, pool_refused, begin_joining, after_getting, after_scanning, after_joining, advance_at, step_at, IsSound, is_sound_at, IsPossibleAt, Holding, LawfulWords, KeptAnswer, getsets_know, embedded_scans_know, is_storing, joins_at, IsTrueYet}
 use Rattle.std.proofs.Common.{ℕ, ◌≡◌, ◌+◌, ◌≤◌, ◌==◌, ◌⊎◌, ◌&&◌, ◌||◌, Bool, true, false, cond, Option, Some, None, IsSome, List, length, take, inl, inr, refl, sym, subst, ◌∙◌, arith}
 use Rattle.partial_active.specs.declared.join.JoinStage.TheVariants.{Joined as JoinedIn}
 use Rattle.partial_active.specs.GetSet as finding
@@ -77,7 +77,7 @@ view_loads y indices last (View stamp) due = (view_word stamp, refl)
 view_loads y indices last (Len at) due = (at, refl)
 view_loads y indices last (Index at left) due = (at, refl)
 view_loads y indices last (PairValue at left index) due = (at, refl)
-view_loads y indices last (Value k) due = (slice_index last k + 1, refl)
+view_loads y indices last (Value k) due = (value_word (slice_index last k), refl)
 view_loads y indices last Done due = absurd (false≢true due)
 
 -- an embedded scan that has made no step knows nothing yet

@@ -72,7 +72,7 @@ module _ (z : Layout) (o : Opening) (words : List ℕ) (before : List Part) (x :
       let s = standing z o words hs log w.memory first stamp (subst (IsWithin o log first) (sym known.2) (stamp_within o log first j below)) in
       let value : a ≡ value_of o (take first log) j = ap (λ m. get_or words (value_word m) 0) known.2 ∙ value_behind_stamp o words log j first w.memory.agrees below in
       load_ends z o words before x after log w (LoadingValue stamp) (value_word stamp) (at_stage (core_of x) (Finished (reply.Read a stamp))) e refl refl refl
-      (standing_word z o words hs log w.memory stamp (value_word 0) (omega arith) s) tt refl
+      (subst (IsReadable z words hs) (omega arith) (standing_word z o words hs log w.memory stamp (value_word 0) (omega arith) s)) tt refl
       n refl (below, ((omega (arith, order, inside), value, known.2), g.low)) (omega (arith, order, inside)) refl
       (record {
         call = call.Read j;

@@ -1,5 +1,5 @@
 -- Over every run the machine goes together with its positions, so its steps and collects are bounded.
-use Rattle.partial_embedded.proofs.Common.{ℕ, ◌≡◌, ◌+◌, ◌<◌, ◌≤◌, Bool, Some, List, [], ◌∷◌, length, get_or, refl, sym, ◌∙◌, ap, subst, arith, Layout, view_word, Stage, Collect, View, Len, Index, PairValue, Value, Done, ViewPair, RowsState, ViewGoesTogether, view_goes_at, fresh_view, advance_view, view_step_at, view_left, ViewRun, RunsTo, IsOfPosition, LoadsItsPositionsAlone, MakesFewCollects}
+use Rattle.partial_embedded.proofs.Common.{ℕ, ◌≡◌, ◌+◌, ◌<◌, ◌≤◌, Bool, Some, List, [], ◌∷◌, length, get_or, refl, sym, ◌∙◌, ap, subst, arith, Layout, value_word, view_word, Stage, Collect, View, Len, Index, PairValue, Value, Done, ViewPair, RowsState, ViewGoesTogether, view_goes_at, fresh_view, advance_view, view_step_at, view_left, ViewRun, RunsTo, IsOfPosition, LoadsItsPositionsAlone, MakesFewCollects}
 use Rattle.partial_words.specs.declared.step.Step.{Step}
 use Rattle.partial_words.specs.declared.step.Step.TheVariants.{Load}
 use Rattle.partial_embedded.proofs.Keeps.{kept, sizes_stay, fresh_together, fresh_left}
@@ -44,7 +44,7 @@ loads_at s indices q (Len at) step is goes due = let base = goes.0 in let same =
 loads_at s indices q (Index at left) step is goes due = let base = goes.3 in let same = ap (λ (l : Layout). l.m) is in (at, cc, λ below. absurd (omega (arith, base, below, same)))
 loads_at s indices q (PairValue at left index) step is goes due = let base = goes.4 in let same = ap (λ (l : Layout). l.m) is in (at, cc, λ below. absurd (omega (arith, base, below, same)))
 loads_at s indices q (Value k) step is goes due = let base = (goes.1 k goes.0).0 in let same =
-    ap (λ (l : Layout). l.m) is in (get_or q.1.last k 0 + 1, cc, λ below. absurd (omega (arith, base, below, same)))
+    ap (λ (l : Layout). l.m) is in (value_word (get_or q.1.last k 0), cc, λ below. absurd (omega (arith, base, below, same)))
 loads_at s indices q Done step is goes due = cc
 
 pub loads_its_positions_alone : LoadsItsPositionsAlone

@@ -24,7 +24,7 @@ pub use Rattle.partial_words.specs.declared.step.Step.TheVariants.{Load, Store, 
 pub use Rattle.partial_words.specs.Announcement.{announcement_size, least_announcement}
 pub use Rattle.partial_words.specs.Chain.{opening_word}
 pub use Rattle.partial_words.specs.Layout.{Layout, IsLayout, slot_counter, slot_word, list_base, list_head, list_counter, pool_counter, greatest_record, first_free, total, pool_base, initial_record, pool_end, initial_words}
-pub use Rattle.partial_words.specs.Record.{value_word, view_word, plain_record_size, prev_of, view_of}
+pub use Rattle.partial_words.specs.Record.{value_word, view_word, plain_record_size, view_of, prev_word}
 pub use Rattle.partial_words.specs.Step.{answer_of, word_of, words_after}
 pub use Rattle.partial_words.proofs.ChainLemmas.{value_behind_stamp, records_within}
 pub use Rattle.partial_words.proofs.LayoutLemmas.{opening_component, initial_prev, initial_value, initial_view, opening_record}

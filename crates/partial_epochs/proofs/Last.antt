@@ -94,7 +94,7 @@ module _ (e : Plan) (words : List ℕ) (ports : ℕ → Port) (b : Beside) (k j 
       plain_at e words x (value_word (unsealed raw)) (omega (arith, up, is)) in
       let values = w.plan.values in
       sym (there ∙ plain_other e words x (value_word (unsealed raw)) (get_or words (base e x + value_word (unsealed raw)) 0) (omega (arith, at, from)))
-      ∙ ap (λ n. get_or bw (n + 1) 0) named
+      ∙ ap (λ n. get_or bw (value_word n) 0) named
       ∙ ap (λ (h : List Applied). get_or bw (value_word (stamp_of (opening_behind e.opening (ports k).before) h j)) 0) (sym (take_all (length s.epoch.log) s.epoch.log (omega arith)))
       ∙ value_behind_stamp (opening_behind e.opening (ports k).before) bw s.epoch.log j (length s.epoch.log) lawful.memory.agrees (omega (arith, l, inside))
       ∙ ap (λ (h : List Applied). value_of (opening_behind e.opening (ports k).before) h j) (take_all (length s.epoch.log) s.epoch.log (omega arith))

@@ -1,5 +1,5 @@
 -- Each due step of a machine in the arena where its port stands keeps the lawful state of all epochs.
-use Rattle.partial_epochs.proofs.Common.{ℕ, ◌≡◌, ◌≢◌, ◌+◌, ◌*◌, ◌%◌, ◌^◌, ◌<◌, ◌≤◌, ◌==◌, ◌⊎◌, ◌++◌, Bool, true, false, cond, Some, List, [], ◌∷◌, length, get_or, set, refl, sym, ap, subst, ◌∙◌, inl, inr, arith, ◌&&◌, ◌||◌, nat_lt, AllByRecursion, cases_lt, lt-ltb, eqb_tells, get_or-set_same, get_or-set_other, Applied, Opening, Step, Load, Store, Exchange, Add, IsLayout, Layout, first_free, total, pool_counter, slot_counter, greatest_record, answer_of, word_of, words_after, steps_left, CoreState, advance, step_of, Part, IsMachineOf, port_of, IsReady, LeadsOn, added_by, lawful_machines_are_ready, steps_stay_lawful, count, list_of, put, Plan, arena_words, carried_words, component_words, placed_step, opening_behind, Port, Epoch, Beside, IsArena, IsStanding, LawfulEpochs, IsPresent, awaits_slot, MachineLeads, MachineStepsStayLawful, MayClaim, MeetsSeal, ends_over, Stands, not_below, least_announcement}
+use Rattle.partial_epochs.proofs.Common.{ℕ, ◌≡◌, ◌≢◌, ◌+◌, ◌*◌, ◌%◌, ◌^◌, ◌<◌, ◌≤◌, ◌==◌, ◌⊎◌, ◌++◌, Bool, true, false, cond, Some, List, [], ◌∷◌, length, get_or, set, refl, sym, ap, subst, ◌∙◌, inl, inr, arith, ◌&&◌, ◌||◌, nat_lt, AllByRecursion, cases_lt, lt-ltb, eqb_tells, get_or-set_same, get_or-set_other, Applied, Opening, Step, Load, Store, Exchange, Add, IsLayout, Layout, first_free, total, pool_counter, slot_counter, greatest_record, answer_of, word_of, words_after, steps_left, CoreState, advance, step_of, Part, IsMachineOf, port_of, IsReady, LeadsOn, added_by, lawful_machines_are_ready, steps_stay_lawful, count, list_of, put, Plan, arena_words, carried_words, component_words, placed_step, opening_behind, Port, Epoch, Beside, IsArena, IsStanding, LawfulEpochs, IsPresent, awaits_slot, MachineLeads, MachineStepsStayLawful, MayClaim, MeetsSeal, ends_over, Stands, not_below, value_word, least_announcement}
 use Rattle.partial_core.specs.Lawful as one
 use Rattle.partial_core.specs.Steps.{Tells}
 use Rattle.partial_epochs.proofs.Apart.{IsApart, due_apart}
@@ -73,7 +73,7 @@ added_own z p words (Store v u) = tt
 added_own z p words (Add v u) = tt
 added_own z p words (Exchange v old new) = by (nat_lt v z.m) (get_or words v 0 == old)
   where
-    by : (b c : Bool) → AllByRecursion (λ (a : Applied). a.port ≡ p) (cond b (cond c (record { port = p; component = v; value = get_or words (new + 1) 0; stamp = new } ∷ []) []) [])
+    by : (b c : Bool) → AllByRecursion (λ (a : Applied). a.port ≡ p) (cond b (cond c (record { port = p; component = v; value = get_or words (value_word new) 0; stamp = new } ∷ []) []) [])
     by true true = (refl, tt)
     by true false = tt
     by false c = tt

@@ -1,5 +1,5 @@
 -- An arena that was used before opens lawful again once the words below the first free one are set: what stands behind them doesn't matter.
-use Rattle.partial_epochs.proofs.Common.{ℕ, ◌≡◌, ◌+◌, ◌*◌, ◌<◌, ◌≤◌, ◌++◌, List, [], ◌∷◌, length, get_or, Some, None, IfSome, sym, ap, subst, inl, inr, arith, ◌∙◌, Opening, places_written, Layout, slot_counter, list_head, pool_counter, list_counter, slot_word, list_base, pool_base, total, initial_record, Holding, EachTwo, announcements, unpublished, IsTied, LawfulWords, holdings, fresh_parts, OpensOver, OpensOverLawful, initial_words, first_free, initial_stamp, slice_index, view_word, view_of, prev_of, value_word, plain_record_size, opening_component, opening_record, initial_value, initial_prev, initial_view, idle_length, idle_all, idle_ports, idle_slots, none_unpublished, none_announced, pool_opens, slot_opens, list_opens, lists_open, slots_open}
+use Rattle.partial_epochs.proofs.Common.{ℕ, ◌≡◌, ◌+◌, ◌*◌, ◌<◌, ◌≤◌, ◌++◌, List, [], ◌∷◌, length, get_or, Some, None, IfSome, sym, ap, subst, inl, inr, arith, ◌∙◌, Opening, places_written, Layout, slot_counter, list_head, pool_counter, list_counter, slot_word, list_base, pool_base, total, initial_record, Holding, EachTwo, announcements, unpublished, IsTied, LawfulWords, holdings, fresh_parts, OpensOver, OpensOverLawful, initial_words, first_free, initial_stamp, slice_index, view_word, view_of, prev_word, value_word, plain_record_size, opening_component, opening_record, initial_value, initial_prev, initial_view, idle_length, idle_all, idle_ports, idle_slots, none_unpublished, none_announced, pool_opens, slot_opens, list_opens, lists_open, slots_open}
 use Rattle.partial_model.specs.History.{last_from}
 use Rattle.partial_words.specs.Chain.{Agrees, links_from}
 use Rattle.partial_state.specs.Views.{Block, AreApart}
@@ -22,16 +22,19 @@ opening_agrees s o words opens j below =
     let in' : j < s.m = omega (arith, opens.values, below) in
     let pool : initial_words s ≤ s.pool = opens.sizes.pool.0 in
     let named : slice_index words j ≡ initial_record s j = opens.each j (omega arith) (inl (omega (arith, in'))) ∙ opening_component s o.values j in' in
-    let prev : prev_of words (initial_record s j) ≡ 0 = opens.each (initial_record s j) (omega arith) (inr (omega arith)) ∙ opening_record s o.values (plain_record_size * j) (omega arith)
-    ∙ initial_prev o.values j in
+    let prev : slice_index words (pool_base s + prev_word (plain_record_size * j)) ≡ 0 =
+    opens.each (pool_base s + prev_word (plain_record_size * j)) (omega arith) (inr (omega arith))
+    ∙ opening_record s o.values (prev_word (plain_record_size * j))
+    (omega arith) ∙ initial_prev o.values j in
     let value : slice_index words (pool_base s + value_word (plain_record_size * j)) ≡ slice_index o.values j =
     opens.each (pool_base s + value_word (plain_record_size * j)) (omega arith) (inr (omega arith))
     ∙ opening_record s o.values (value_word (plain_record_size * j))
     (omega arith) ∙ initial_value o.values j in
     let stamp : initial_stamp o j ≡ initial_record s j = ap (λ n. n + plain_record_size * j) opens.stamps in
     let next : value_word (slice_index words j) ≡ pool_base s + value_word (plain_record_size * j) = omega (arith, named) in
+    let before : prev_word (slice_index words j) ≡ pool_base s + prev_word (plain_record_size * j) = omega (arith, named) in
     let count : length words ≡ total s = opens.count in
-    (named ∙ sym stamp, (record { stamp = stamp ∙ sym named; within = omega (arith, named, count, pool, in'); value = ap (slice_index words) next ∙ value }, ap (slice_index words) named ∙ prev))
+    (named ∙ sym stamp, (record { stamp = stamp ∙ sym named; within = omega (arith, named, count, pool, in'); value = ap (slice_index words) next ∙ value }, ap (slice_index words) before ∙ prev))
 
 opening_is_lawful : (z : Layout) (o : Opening) (words : List ℕ) (n : ℕ) → OpensOver z o words → n ≤ 64 → LawfulWords z o words (idle_holdings 0 n) []
 opening_is_lawful z o words n opens few =

@@ -1,5 +1,5 @@
 -- A step of an inner memory that is made in the words of its arena, seen with the seals taken off.
-use Rattle.partial_epochs.proofs.Common.{ℕ, ◌≡◌, ◌≢◌, ◌+◌, ◌%◌, ◌^◌, ◌<◌, ◌≤◌, ◌==◌, ◌⊎◌, Bool, true, false, cond, List, [], ◌∷◌, length, get_or, set, refl, sym, ap, subst, ◌∙◌, inl, inr, arith, nat_lt, AllByRecursion, cases_lt, lt-ltb, eqb_tells, get_or-set_same, get_or-set_other, length-set, set-get_or, Applied, Step, Load, Store, Exchange, Add, total, answer_of, word_of, words_after, added_by, Plan, IsSealed, arena_words, base, component_words, placed_step, plain, seal, seals, unsealed, MeetsSeal, not_below}
+use Rattle.partial_epochs.proofs.Common.{ℕ, ◌≡◌, ◌≢◌, ◌+◌, ◌%◌, ◌^◌, ◌<◌, ◌≤◌, ◌==◌, ◌⊎◌, Bool, true, false, cond, List, [], ◌∷◌, length, get_or, set, refl, sym, ap, subst, ◌∙◌, inl, inr, arith, nat_lt, AllByRecursion, cases_lt, lt-ltb, eqb_tells, get_or-set_same, get_or-set_other, length-set, set-get_or, Applied, Step, Load, Store, Exchange, Add, total, answer_of, word_of, words_after, added_by, Plan, IsSealed, arena_words, base, component_words, placed_step, plain, seal, seals, unsealed, MeetsSeal, not_below, value_word}
 use Rattle.partial_epochs.proofs.Apart.{IsApart}
 use Rattle.partial_epochs.proofs.Lists.{at_of, same_of, set_of}
 use Rattle.partial_epochs.proofs.Places.{below_whole}
@@ -117,7 +117,7 @@ module _ (e : Plan) (words : List ℕ) (x : ℕ) where
         keeps_same (words_after words (placed_step e x (Exchange w old new))) (Exchange w old new) (lost sealed)
         (ap (λ (b : Bool). set (arena_words e words x) w (cond b new (get_or (arena_words e words x) w 0))) plain_lost ∙ set-get_or (arena_words e words x) w 0)
         gives_here
-        (λ p. ap (λ (b : Bool). cond (nat_lt w e.sizes.m) (cond b (record { port = p; component = w; value = get_or (arena_words e words x) (new + 1) 0; stamp = new } ∷ []) []) []) plain_lost
+        (λ p. ap (λ (b : Bool). cond (nat_lt w e.sizes.m) (cond b (record { port = p; component = w; value = get_or (arena_words e words x) (value_word new) 0; stamp = new } ∷ []) []) []) plain_lost
         ∙ both (nat_lt w e.sizes.m))
       where
         both : (b : Bool) → cond {A = List Applied} b [] [] ≡ []
@@ -143,7 +143,7 @@ module _ (e : Plan) (words : List ℕ) (x : ℕ) where
       where
         added_free : (p : ℕ) (b c : Bool) → (¬ IsSealed (get_or (component_words e words x) w 0)) →
             AllByRecursion (λ (a : Applied). ¬ IsSealed (get_or (component_words e words x) a.component 0))
-            (cond b (cond c (record { port = p; component = w; value = get_or (arena_words e words x) (new + 1) 0; stamp = new } ∷ []) []) [])
+            (cond b (cond c (record { port = p; component = w; value = get_or (arena_words e words x) (value_word new) 0; stamp = new } ∷ []) []) [])
         added_free p true true not_sealed = (not_sealed, tt)
         added_free p true false not_sealed = tt
         added_free p false c not_sealed = tt
@@ -202,7 +202,7 @@ module _ (e : Plan) (words : List ℕ) (x : ℕ) where
         keeps_other (Exchange w old new) (cond (raw == old) new raw) low (omega (arith, there, count)) from
             (ap (λ v. set (arena_words e words x) w (cond (v == old) new v)) found) (plain_other w raw from ∙ sym found)
             (λ p. ap (λ (c : Bool). cond c (cond (get_or (arena_words e words x) w 0 == old)
-            (record { port = p; component = w; value = get_or (arena_words e words x) (new + 1) 0; stamp = new } ∷ []) []) [])
+            (record { port = p; component = w; value = get_or (arena_words e words x) (value_word new) 0; stamp = new } ∷ []) []) [])
             (not_below w e.sizes.m from)),
       )
   worded (Exchange w old new) within count low (inl (inside, small, small')) some =

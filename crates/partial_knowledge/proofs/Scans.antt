@@ -219,7 +219,7 @@ module _ (o : Opening) (words : List ℕ) (hs : List Holding) (log : List Applie
           position = k;
           within = here;
           component = n.component_is;
-          begun = subst (λ s. IsBegunSince log low (slice_index words s)) stamp_is
+          begun = subst (λ s. IsBegunSince log low (prev_of words s)) stamp_is
               (begun_since o words log low n.place n.entry w.agrees (subst (λ c. c < length o.values) (sym n.component_is) (there_is k here)) n.stands has);
         }
 
@@ -434,13 +434,13 @@ module _ (o : Opening) (words : List ℕ) (hs : List Holding) (log : List Applie
         omega (arith, more),
       ))
 
-  pub step_value : (k t x : ℕ) → k < length indices → slice_index indices k < length p.1.values → high ≤ t → CollectsAgreed o log indices low high p k → x ≡ get_or words (slice_index p.1.last k + 1) 0 →
+  pub step_value : (k t x : ℕ) → k < length indices → slice_index indices k < length p.1.values → high ≤ t → CollectsAgreed o log indices low high p k → x ≡ get_or words (value_word (slice_index p.1.last k)) 0 →
       Knows_at t (view_at_stage (with_value p (slice_index indices k) x) (cond (nat_lt (k + 1) (length indices)) (Value (k + 1)) Done))
   unfolding Knows_at
   step_value k t x here room after knows is =
       let j = slice_index indices k in
       let below : j < length o.values = let b = together.positions.components k here in let values = w.values in omega (arith, b, values) in
-      let value : x ≡ value_of o (take knows.prefix log) j = is ∙ ap (λ n. get_or words (n + 1) 0) (knows.stamps k here) ∙ value_behind_stamp o words log j knows.prefix w.agrees below in
+      let value : x ≡ value_of o (take knows.prefix log) j = is ∙ ap (λ n. get_or words (value_word n) 0) (knows.stamps k here) ∙ value_behind_stamp o words log j knows.prefix w.agrees below in
       let next : HasValues o log indices low t (with_value p j x).1 knows.prefix (k + 1) = record {
         from = knows.values.from;
         to = let to = knows.values.to in omega (arith, to, after);
@@ -500,12 +500,12 @@ module _ (o : Opening) (words : List ℕ) (hs : List Holding) (log : List Applie
       subst (IsReadable p.0.sizes words hs) (omega (arith, is, at_is, view_is))
       (view_readable p.0.sizes words hs (view_of words l.0) (pair_value_word 0 l.4) l.3 view (let size = length-pairs l.3 in omega (arith, sum, some, size)))
   readable_at (Value k) n e goes knows =
-      let is : slice_index p.1.last k + 1 ≡ n = cc in
+      let is : value_word (slice_index p.1.last k) ≡ n = cc in
       let here = goes.0 in
       let below : slice_index indices k < length o.values = let b = together.positions.components k here in let values = w.values in omega (arith, b, values) in
       let within : IsWithin o log knows.prefix (slice_index p.1.last k) = subst (IsWithin o log knows.prefix) (sym (knows.stamps k here))
       (stamp_within o log knows.prefix (slice_index indices k) below) in
-      subst (IsReadable p.0.sizes words hs) is (standing_word p.0.sizes o words hs log w (slice_index p.1.last k) (value_word 0) (omega arith)
+      subst (IsReadable p.0.sizes words hs) (omega (arith, is)) (standing_word p.0.sizes o words hs log w (slice_index p.1.last k) (value_word 0) (omega arith)
       (standing p.0.sizes o words hs log w knows.prefix (slice_index p.1.last k) within))
   readable_at Done n e goes knows = absurd cc
 
@@ -569,7 +569,7 @@ module _ (o : Opening) (words : List ℕ) (hs : List Holding) (log : List Applie
       step_pair o words hs log indices low high p w together order at left index k.at k.answer (omega (arith, below, room)) knows
       (still n k (omega (arith, is, above)) l ∙ ap (λ m. get_or words m 0) (sym is))
   on_at (Value i) n k stage e goes knows l after =
-      let is : slice_index p.1.last i + 1 ≡ n = cc in
+      let is : value_word (slice_index p.1.last i) ≡ n = cc in
       let here = goes.0 in
       let component = together.positions.components i here in
       let room = together.rows.values in

@@ -62,14 +62,14 @@ module _ (e : Plan) (words : List ℕ) (ports : ℕ → Port) (b : Beside) (w : 
         let here = plain_at e words b.arena (value_word (unsealed raw)) (omega (arith, up)) in
         let other = plain_other e words b.arena (value_word (unsealed raw)) (get_or words (base e b.arena + value_word (unsealed raw)) 0) (omega (arith, at, from)) in
         sym (here ∙ other)
-        ∙ ap (λ n. get_or inner (n + 1) 0) named
+        ∙ ap (λ n. get_or inner (value_word n) 0) named
         ∙ ap (λ (h : List Applied). get_or inner (value_word (stamp_of o h j)) 0) (sym all)
         ∙ value_behind_stamp o inner b.log j (length b.log) lawful.1.memory.agrees (omega (arith, long, inside))
         ∙ ap (λ (h : List Applied). value_of o h j) all
         ∙ sym (epochs_continue e.opening b.log b.before j (omega (arith, values, inside))).value
 
     pub value_last : get_or words (value_now e words j) 0 ≡ value_of e.opening (one_history b) j
-    value_last = ap (λ x. get_or words (base e x + (unsealed (get_or words (base e x + j) 0) + 1)) 0) arena_is ∙ value
+    value_last = ap (λ x. get_or words (base e x + value_word (unsealed (get_or words (base e x + j) 0))) 0) arena_is ∙ value
 
     component_there : component_now e words j < length words
     component_there =
@@ -80,7 +80,7 @@ module _ (e : Plan) (words : List ℕ) (ports : ℕ → Port) (b : Beside) (w : 
     value_there =
         let up = within in
         let low = below_whole e b.arena (value_word (unsealed raw)) w.control.place.arena (omega (arith, up)) in
-        subst (λ x. base e x + (unsealed (get_or words (base e x + j) 0) + 1) < length words) (sym arena_is) (let all = w.count in omega (arith, low, all))
+        subst (λ x. base e x + value_word (unsealed (get_or words (base e x + j) 0)) < length words) (sym arena_is) (let all = w.count in omega (arith, low, all))
 
   pub have_last : HaveLast e words
   have_last = record {

@@ -49,10 +49,11 @@ pub due_moves : (z : Layout) (o : Opening) (words words' : List ℕ) (v v' : Hol
     CoversAll z words' others' log' d.at) → IsDue z o words v others log d → IsDue z o words' v' others' log' d
 due_moves z o words words' v v' others others' log log' d f g own unjoined named same covers w =
     let size = three_words words d.at in
-    let none : d.at ≡ d.at + 0 = omega arith in
+    let none : prev_word d.at ≡ d.at + prev_word 0 = omega arith in
+    let there : value_word d.at ≡ d.at + value_word 0 = omega arith in
     let prev : prev_of words' d.at ≡ prev_of words d.at = ap (λ n. get_or words' n 0) none ∙ same (prev_word 0) (omega (arith, size)) ∙ ap (λ n. get_or words n 0) (sym none) in
     let view : view_of words' d.at ≡ view_of words d.at = same (view_word 0) (omega (arith, size)) in
-    let value : record_value words' d.at ≡ record_value words d.at = same (value_word 0) (omega (arith, size)) in
+    let value : record_value words' d.at ≡ record_value words d.at = ap (λ n. get_or words' n 0) there ∙ same (value_word 0) (omega (arith, size)) ∙ ap (λ n. get_or words n 0) (sym there) in
     let block : block_at words' d.at ≡ block_at words d.at = block_stays words words' d.at same in
     let found = some_found (λ (b : Own). (b.space ≡ Pool) × (block_of b ≡ block_at words d.at) × (b.stored ≡ length b.words)) v.own w.own in
     let more = g.more in

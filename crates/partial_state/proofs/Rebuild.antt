@@ -132,6 +132,10 @@ module _ (z : Layout) (o : Opening) (words words' : List ℕ) (before : List Hol
   entry_prev k e s = let none : prev_word e.stamp ≡ e.stamp + prev_word 0 = omega arith in ap (λ n. get_or words' n 0) none ∙ entry_three k e (prev_word 0) s (omega arith)
       ∙ ap (λ n. get_or words n 0) (sym none)
 
+  pub entry_value : (k : ℕ) (e : Applied) → slice_get log k ≡ Some e → record_value words' e.stamp ≡ record_value words e.stamp
+  entry_value k e s = let there : value_word e.stamp ≡ e.stamp + value_word 0 = omega arith in ap (λ n. get_or words' n 0) there ∙ entry_three k e (value_word 0) s (omega arith)
+      ∙ ap (λ n. get_or words n 0) (sym there)
+
   pub initial_word : (n : ℕ) → pool_base z ≤ n → n < first_free z → get_or words' n 0 ≡ get_or words n 0
   initial_word n from to =
       let b : Block = record { at = pool_base z; size = initial_words z } in
@@ -146,8 +150,8 @@ module _ (z : Layout) (o : Opening) (words words' : List ℕ) (before : List Hol
       let values = w.values in
       let P : ℕ → Type 0 = λ s. (prev_of words' s ≡ prev_of words s) × (record_value words' s ≡ record_value words s) in
       chain_stays words words' m.count (get_or words j 0) (chain_of o j log)
-      (chain_all P o j log (all_where (λ (e : Applied). P e.stamp) log (λ k e s. (entry_prev k e s, entry_three k e (value_word 0) s (omega arith)))) (
-        initial_word (initial_stamp o j) (omega (arith, base)) (omega (arith, base, values, below)),
+      (chain_all P o j log (all_where (λ (e : Applied). P e.stamp) log (λ k e s. (entry_prev k e s, entry_value k e s))) (
+        initial_word (prev_word (initial_stamp o j)) (omega (arith, base)) (omega (arith, base, values, below)),
         initial_word (value_word (initial_stamp o j)) (omega (arith, base))
             (omega (arith, base, values, below)),
       ))

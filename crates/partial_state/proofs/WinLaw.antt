@@ -1,5 +1,5 @@
 -- A won exchange of a component: its record is published, and the history gains its entry.
-use Rattle.partial_state.proofs.Common.{ℕ, ◌≡◌, ◌≢◌, ◌+◌, ◌<◌, ◌≤◌, ◌==◌, ◌++◌, Bool, true, false, cond, List, [], ◌∷◌, length, map, get_or, set, Option, Some, None, IfSome, slice_get, refl, sym, ◌∙◌, ap, subst, inl, inr, arith, append_assoc, get_or-set_other, get_or-set_same, length-set, AllByRecursion, option_map, eq-eqb, eqb-true, eqb-false, eqb_tells, length_push, take-append-le, Applied, Opening, IsHistory, initial_stamp, stamp_of, stamp_of-push, distinct_push, slice_get_grows, AllByRecursion-push, AllByRecursion-get, Layout, slot_counter, list_head, pool_counter, list_counter, slot_word, list_end, pool_base, pool_end, prev_of, view_of, IsLink, IsChain, chain_of, Block, AreApart, JoinedAnnouncement, HasFreshView, Covers, IsWithin, ClaimedSlot, Own, Due, Holding, Space, space_begin, end_of, counter_of, block_of, block_at, announcements, unpublished, blocks_in, other_holdings, IfJoined, joined_in, EachTwo, HaveOtherPorts, Pool, LawfulWords, IsOwn, IsTied, IsDue, IsKept, WinsAreKept, all_where, initial_words, first_free, greatest_record, greatest_list, view_word, value_word, plain_record_size, record_value, chain_cons, links_from-push}
+use Rattle.partial_state.proofs.Common.{ℕ, ◌≡◌, ◌≢◌, ◌+◌, ◌<◌, ◌≤◌, ◌==◌, ◌++◌, Bool, true, false, cond, List, [], ◌∷◌, length, map, get_or, set, Option, Some, None, IfSome, slice_get, refl, sym, ◌∙◌, ap, subst, inl, inr, arith, append_assoc, get_or-set_other, get_or-set_same, length-set, AllByRecursion, option_map, eq-eqb, eqb-true, eqb-false, eqb_tells, length_push, take-append-le, Applied, Opening, IsHistory, initial_stamp, stamp_of, stamp_of-push, distinct_push, slice_get_grows, AllByRecursion-push, AllByRecursion-get, Layout, slot_counter, list_head, pool_counter, list_counter, slot_word, list_end, pool_base, pool_end, prev_word, prev_of, view_of, IsLink, IsChain, chain_of, Block, AreApart, JoinedAnnouncement, HasFreshView, Covers, IsWithin, ClaimedSlot, Own, Due, Holding, Space, space_begin, end_of, counter_of, block_of, block_at, announcements, unpublished, blocks_in, other_holdings, IfJoined, joined_in, EachTwo, HaveOtherPorts, Pool, LawfulWords, IsOwn, IsTied, IsDue, IsKept, WinsAreKept, all_where, initial_words, first_free, greatest_record, greatest_list, view_word, value_word, plain_record_size, record_value, chain_cons, links_from-push}
 use Rattle.partial_state.proofs.ListLemmas.{all_at, all_front, all_back, all_join, all_weaker, all_unmap, two_before, two_after, two_take, two_put, Adds, adds_behind, found_before, found_last}
 use Rattle.partial_state.proofs.Frames.{Frame, Grows, apart_turns, fresh_moves, covers_moves}
 use Rattle.partial_state.proofs.HoldingLemmas.{if_some_at, some_found, joined_weaker, ports_turn, others_gone, others_all, filter_append, three_words, block_stays}
@@ -166,7 +166,7 @@ module _ (z : Layout) (o : Opening) (words : List ℕ) (before : List Holding) (
       let chain : chain_of o i longer ≡ record { stamp = at; value = d.value } ∷ chain_of o i log = links_from-push (record { stamp = initial_stamp o i; value = get_or o.values i 0 } ∷ []) i log
       entry ∙ ap (λ (b : Bool). cond b (record { stamp = at; value = d.value } ∷ chain_of o i log) (chain_of o i log)) same in
       let value : record_value exchanged at ≡ d.value = higher (value_word at) (omega (arith, far)) ∙ due.value in
-      let prev : get_or exchanged at 0 ≡ old = higher at (omega (arith, far)) ∙ due.prev in
+      let prev : prev_of exchanged at ≡ old = higher (prev_word at) (omega (arith, far)) ∙ due.prev in
       let count : length exchanged ≡ length words = moves.count in
       let size = three in
       let whole = published.within in
@@ -223,7 +223,7 @@ module _ (z : Layout) (o : Opening) (words : List ℕ) (before : List Holding) (
       )
 
   prev_now : prev_of exchanged d.at ≡ prev_of words d.at
-  prev_now = let far = published.far in higher d.at (omega (arith, far))
+  prev_now = let far = published.far in higher (prev_word d.at) (omega (arith, far))
 
   view_now : view_of exchanged d.at ≡ view_of words d.at
   view_now = let far = published.far in higher (view_word d.at) (omega (arith, far))
