@@ -89,9 +89,8 @@ pub fn public_stamp(words: &Words, stand: &mut Stand, component: u32, at: u64) -
     ensures same { port_at stand.new ≡ port_at stand.old }
     ensures stamp { result ≡ public_of (plan_of words.now.key) (port_at stand.old).port.before component at }
 {
-    let sizes = stand.shape.sizes;
-    if at < u64::from(sizes.first_free()) {
-        let carried = stand.base + u64::from(sizes.total()) + u64::from(component);
+    if at < stand.shape.own {
+        let carried = stand.base + stand.shape.carried + u64::from(component);
         recall(words, stand, carried)
     } else {
         stand.epoch * STAMPS + at

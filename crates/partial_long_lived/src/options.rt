@@ -69,11 +69,13 @@ pub fn shape(count: usize, ports: u32, options: Options) -> Result<Shape, OpenEr
     let Ok(sizes) = Sizes::new(m, slots, options.lists, initial + behind) else {
         unreachable!()
     };
-    let limit = u64::from(sizes.first_free()) + u64::from(options.pool);
+    let own = u64::from(sizes.first_free());
     Ok(Shape {
         sizes,
         ports,
         arenas: 2 * ports,
-        limit,
+        limit: own + u64::from(options.pool),
+        own,
+        carried: u64::from(sizes.total()),
     })
 }

@@ -1,6 +1,6 @@
 //! The sizes of a long-lived memory.
 
-ghost use Rattle.partial_long_lived.specs.Sized.{IsSized};
+ghost use Rattle.partial_long_lived.specs.Sized.{IsPlaced, IsSized};
 
 use partial_words::Sizes;
 
@@ -15,5 +15,10 @@ pub struct Shape {
     pub arenas: u32,
     /// The word of an arena's pool at which the claim of an update ends, or it is its port's last one in the epoch.
     pub limit: u64,
+    /// The word of an arena behind the initial records, where those of an epoch's own begin.
+    pub own: u64,
+    /// The word of an arena where the carried stamps begin.
+    pub carried: u64,
     pub ghost sized: { IsSized sizes ports arenas limit },
+    pub ghost placed: { IsPlaced sizes own carried },
 }

@@ -1,16 +1,15 @@
 use Rattle.partial_long_lived.proofs.Common.{◌≡◌, ◌+◌, ◌*◌, Bool, cond, length, sym, ap, ◌∙◌, arith, first_free, Plan, carried_behind, public_stamp, not_below, port_at}
 use Rattle.partial_long_lived.proofs.arena.public_stamp.Goals as goal
 
-pub returns-else-at-from-clause-stamp : goal.returns-else-at-from-clause-stamp
-returns-else-at-from-clause-stamp c =
+pub returns-else-at-stand-clause-stamp : goal.returns-else-at-stand-clause-stamp
+returns-else-at-stand-clause-stamp c =
     let h = c.requires.held in
     let epoch = h.known.epoch in
     let same = h.epoch in
     let sizes = ap (λ (e : Plan). first_free e.sizes) h.shape in
-    let first = c.first_free.ensures in
-    let from = c.from.ensures in
-    let above = c.if-at-from.false in
+    let first = c.args.stand.now.shape.placed.own in
+    let above = c.if-at-stand.false in
     let before = (port_at c.args.stand.now).port.before in
     let is : c.args.stand.now.epoch * 8388608 + c.args.at ≡ public_stamp (length before) c.args.at = omega (arith, epoch, same) in
     is ∙ sym (ap (λ (t : Bool). cond t (carried_behind c.args.words.now.key.opening before c.args.component) (public_stamp (length before) c.args.at))
-    (not_below c.args.at (first_free c.args.words.now.key.sizes) (omega (arith, sizes, first, from, above))))
+    (not_below c.args.at (first_free c.args.words.now.key.sizes) (omega (arith, sizes, first, above))))

@@ -1,4 +1,4 @@
-use Rattle.partial_long_lived.proofs.Common.{◌≡◌, Bool, true, false, refl, ◌∙◌, subst, sym, CoreState, MemoryView, Seating, Stand, SeatedPort, HasCome, SeatGoes, SeatSees, StaysAt, IsResting, port_at, Reads}
+use Rattle.partial_long_lived.proofs.Common.{◌≡◌, Bool, true, false, refl, ◌∙◌, subst, sym, CoreState, MemoryView, Seating, SeatedPort, HasCome, SeatGoes, SeatSees, StaysAt, IsResting, port_at, Reads}
 use Rattle.partial_long_lived.proofs.Answering.{rests_anew, rests_here, rests_number, rests_put, rests_taken}
 use Rattle.partial_long_lived.proofs.Coming.{come_same, come_seen, read_ends, settled_began, settled_come, settled_fresh, settled_notes}
 use Rattle.partial_long_lived.proofs.Resting.{kept_is, taken_is}

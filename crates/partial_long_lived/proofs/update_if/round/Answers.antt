@@ -1,6 +1,14 @@
-use Rattle.partial_long_lived.proofs.Common.{sym, ◌∙◌}
+use Rattle.partial_long_lived.proofs.Common.{ap, arith, length, sym, take_all, ◌∙◌, Applied, List, opening_of, port_at}
+use Rattle.partial_model.specs.History.{stamp_of}
 use Rattle.partial_long_lived.proofs.Conditional.{ended_behind, nothing_behind}
 use Rattle.partial_long_lived.proofs.update_if.round.Goals as goal
+
+pub attempt-attempted-requires-clause-expects : goal.attempt-attempted-requires-clause-expects
+attempt-attempted-requires-clause-expects c =
+    let found = rw c.in-Same.is at c.compare.ensures.found in
+    let port = port_at c.compare.new.stand in
+    let seen = port.port.part.seen in
+    (length seen, omega arith, found.1.last ∙ ap (λ (l : List Applied). stamp_of (opening_of port) l c.args.asked.component) (sym (take_all (length seen) seen (omega arith))))
 
 pub returns-in_default-clause-none : goal.returns-in_default-clause-none
 returns-in_default-clause-none c =
