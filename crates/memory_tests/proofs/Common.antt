@@ -7,4 +7,3 @@ pub use Rattle.partial_model.proofs.AllLemmas.{all_front, all_back}
 pub use Rattle.partial_memory.specs.Ports.{IsOf, PortView, new_ports}
 pub use Rattle.partial_memory.specs.Rule.{newcomers}
 pub use Rattle.partial_memory.proofs.Laws.{opened_ports_are_all}
-pub use Rattle.memory_tests.specs.declared.workers.Worker.{Worker}

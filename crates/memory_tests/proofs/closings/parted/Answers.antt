@@ -1,4 +1,5 @@
-use Rattle.memory_tests.proofs.Common.{rules, subst, IfSome, All-pop, Worker, IsOf, PortView}
+use Rattle.memory_tests.proofs.Common.{rules, subst, IfSome, All-pop, IsOf, PortView}
+use Rattle.memory_tests.specs.declared.workers.Worker.{Worker}
 use Rattle.memory_tests.proofs.closings.parted.Goals as goal
 
 pub part-requires-clause-own : goal.part-requires-clause-own

@@ -1,4 +1,5 @@
-use Rattle.memory_tests.proofs.Common.{rules, ◌≡◌, List, [], ◌∷◌, ◌++◌, sym, subst, Option, Some, None, IfSome, Vec, Global, All, AllByRecursion, All-push, all_front, Worker, PortView, IsOf}
+use Rattle.memory_tests.proofs.Common.{rules, ◌≡◌, List, [], ◌∷◌, ◌++◌, sym, subst, Option, Some, None, IfSome, Vec, Global, All, AllByRecursion, All-push, all_front, PortView, IsOf}
+use Rattle.memory_tests.specs.declared.workers.Worker.{Worker}
 use Rattle.std.specs.Option.{option_to_list}
 use Rattle.partial_memory.specs.declared.port.Port.{Port}
 use Rattle.memory_tests.proofs.Ports.{of_last}
