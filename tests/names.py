@@ -18,8 +18,8 @@ Answered AreAllPorts AreByOpened ClosedWithAllPorts Closes ClosesWithAll Goes Is
 IsRefused Knows MayNotOpen Meets MemoryView OpenedPortsAreAll PortView Reads Scans Updates UpdatesIf new_ports open_code
 port_view
 
-CallMade ComesTo IsBadgeOfOne IsGoing IsOne IsResting IsRuleKept IsUnderWay SeatedPort first_port flatten further_ports
-asked_change goes_on leads_itself leads_on makes newcomer newcomers nobody one_in one_of
+CallMade ComesTo IsGoing IsOne IsResting IsRuleKept IsUnderWay SeatedPort first_port flatten further_ports
+asked_change goes_on leads_itself leads_on makes newcomer newcomers nobody one_of
 '''.split())
 COMMENT = re.compile(r'(?<!\S)--.*')
 WORDS = r'(?:(?:abbrev|pub|unfoldable|block|record|data|module)\s+)*'

@@ -11,9 +11,9 @@ use Rattle.partial_machine.specs.declared.stage.Reply.TheVariants as reply
 use Rattle.partial_machine.specs.declared.stage.Stage.{Stage}
 use Rattle.partial_machine.specs.Calls.{begin_scan, is_at_rest, is_begun, core_read_refusal, core_scan_refusal, core_update_refusal}
 use Rattle.partial_machine.proofs.Laws.{rests_are_sound}
-use Rattle.partial_core.specs.Lawful.{Lawful}
-use Rattle.partial_core.specs.Part.{Part, fresh_part, port_of, HasBegun, IsBetween, IsLedTo, IsMachineOf, IsMarkedLike}
-use Rattle.partial_core.specs.Steps.{added_by}
+use Rattle.partial_core.specs.Lawful.{LawfulAmong}
+use Rattle.partial_core.specs.Part.{Part, PartAmong, fresh_part, port_of, HasBegun, IsBetween, IsLedTo, IsMachineOf, IsMarkedLike}
+use Rattle.partial_core.specs.Steps.{added_by, memory_after}
 use Rattle.partial_core.proofs.Laws.{calls_begin_between, lawful_machines_are_ready, opens_lawful, ports_come_between, steps_stay_lawful}
 
 -- a call that has begun is not at rest
@@ -28,10 +28,11 @@ replied_rests : (t : Stage) (r : _) → reply_at t ≡ Some r → is_at_rest t �
 replied_rests (Finished r) s e = refl
 replied_rests _ s e = absurd (none-some _ e)
 
-module _ (n : Layout) (o : Opening) (words : List ℕ) (before : List Part) (x : Part) (after : List Part) (log : List Applied)
-    (lawful : Lawful n o words (before ++ x ∷ after) log) (c : CoreState) where
+module _ (n : Layout) (o : Opening) (m : PartAmong) (lawful : LawfulAmong n o m) (c : CoreState) where
+  open m use {words, part as x, log}
+
   pub may_turn : IsOfPort c x → MayTurn c words
-  may_turn (inl m) s due = let l = steps_stay_lawful n o words before x after log c s lawful m due in (l.answers.within, l.tells.possible)
+  may_turn (inl its) s due = let l = steps_stay_lawful n o m c s lawful its due in (l.answers.within, l.tells.possible)
   may_turn (inr w) s due = absurd (none-some _ (sym (ap (step_at c) w.idle) ∙ due))
 
   -- a machine at rest is between two calls once its reply is taken
@@ -41,31 +42,31 @@ module _ (n : Layout) (o : Opening) (words : List ℕ) (before : List Part) (x :
     rest = subst (λ (d : CoreState). is_at_rest d.stage ≡ true) l.is rest;
     like = subst (λ (d : CoreState). IsMarkedLike d (at_stage c Idle)) l.is (record { sizes = refl; port = refl; pool = refl; slots = refl; lists = refl });
     idle = refl;
-    sound = rests_are_sound.idle c (lawful_machines_are_ready n o words before x after log c lawful (inr l)).sound;
+    sound = rests_are_sound.idle c (lawful_machines_are_ready n o m c lawful (inr l)).sound;
   }
 
   idle_between : IsOfPort c x → c.stage ≡ Idle → IsBetween x c
-  idle_between (inl m) idle = subst (IsBetween x) (ap (at_stage c) (sym idle)) (rested m (ap is_at_rest idle))
+  idle_between (inl its) idle = subst (IsBetween x) (ap (at_stage c) (sym idle)) (rested its (ap is_at_rest idle))
   idle_between (inr w) idle = w
 
   -- a turn leads to a lawful state
   abbrev Kept : CoreState → List ℕ → Type 0
-  Kept d words' = (x' : Part) × (log' : List Applied) × Lawful n o words' (before ++ x' ∷ after) log' × IsOfPort d x'
+  Kept d words' = (x' : Part) × (log' : List Applied) × LawfulAmong n o (record m { words = words'; part = x'; log = log' }) × IsOfPort d x'
 
   pub kept : (d : CoreState) (words' : List ℕ) → IsOfPort c x → Turned c words d words' → Kept d words'
-  kept d words' (inl m) (Stepped s due is behind) =
-      let l = steps_stay_lawful n o words before x after log c s lawful m due in
+  kept d words' (inl its) (Stepped s due is behind) =
+      let l = steps_stay_lawful n o m c s lawful its due in
       let longer : List Applied = log ++ added_by n (port_of x) words s in
       let led = subst (λ (e : CoreState). IsLedTo e l.y) (sym is) l.tells.machine in
-      (l.y, longer, subst (λ ws. Lawful n o ws (before ++ l.y ∷ after) longer) (sym behind) l.lawful, inl (inr led))
+      (l.y, longer, subst (λ ws. LawfulAmong n o (record m { words = ws; part = l.y; log = longer })) (sym behind) l.lawful, inl (inr led))
   kept d words' (inr w) (Stepped s due is behind) = absurd (none-some _ (sym (ap (step_at c) w.idle) ∙ due))
-  kept d words' (inl m) (Taken r replies is behind) =
-      (x, log, subst (λ ws. Lawful n o ws (before ++ x ∷ after) log) (sym behind) lawful, inr (subst (IsBetween x) (sym is) (rested m (replied_rests c.stage r replies))))
+  kept d words' (inl its) (Taken r replies is behind) =
+      (x, log, subst (λ ws. LawfulAmong n o (record m { words = ws })) (sym behind) lawful, inr (subst (IsBetween x) (sym is) (rested its (replied_rests c.stage r replies))))
   kept d words' (inr w) (Taken r replies is behind) = absurd (none-some _ (sym (ap reply_at w.idle) ∙ replies))
   kept d words' w (Started idle b behind) =
       let begins = (calls_begin_between x c (idle_between w idle)).begins b.call b.served b.allowed b.steps in
-      (x, log, subst (λ ws. Lawful n o ws (before ++ x ∷ after) log) (sym behind) lawful, inl (inl (subst (λ (e : CoreState). HasBegun e x) (sym b.is) begins)))
-  kept d words' w (Stayed is behind) = (x, log, subst (λ ws. Lawful n o ws (before ++ x ∷ after) log) (sym behind) lawful, subst (λ (e : CoreState). IsOfPort e x) (sym is) w)
+      (x, log, subst (λ ws. LawfulAmong n o (record m { words = ws })) (sym behind) lawful, inl (inl (subst (λ (e : CoreState). HasBegun e x) (sym b.is) begins)))
+  kept d words' w (Stayed is behind) = (x, log, subst (λ ws. LawfulAmong n o (record m { words = ws })) (sym behind) lawful, subst (λ (e : CoreState). IsOfPort e x) (sym is) w)
 
 -- a step of the first port
 pub record Stepping (words : List ℕ) (beside left right : CoreState) (s : Step) : Type 0 where
@@ -75,22 +76,21 @@ pub record Stepping (words : List ℕ) (beside left right : CoreState) (s : Step
 
 pub stepped : (words : List ℕ) (beside left right : CoreState) (w : IsPlain words beside left right) (s : Step) → step_of beside ≡ Some s → Stepping words beside left right s
 stepped words beside left right w s due =
-    let others : List Part = w.y ∷ w.z ∷ [] in
-    let l = steps_stay_lawful w.sizes w.opening words [] w.x others w.log beside s w.lawful w.first due in
-    let log : List Applied = w.log ++ added_by w.sizes (port_of w.x) words s in
+    let m : PartAmong = record { words = words; before = []; part = w.x; after = w.y ∷ w.z ∷ []; log = w.log } in
+    let l = steps_stay_lawful w.sizes w.opening m beside s w.lawful w.first due in
     record {
       within = l.answers.within;
       possible = l.tells.possible;
       going = record {
         sizes = w.sizes;
         opening = w.opening;
-        log = log;
+        log = w.log ++ added_by w.sizes (port_of w.x) words s;
         x = l.y;
         y = w.y;
         z = w.z;
         lawful = l.lawful;
         first = inr l.tells.machine;
-        sound = (lawful_machines_are_ready w.sizes w.opening (words_after words s) [] l.y others log (advance beside (answer_of words s)) l.lawful (inr l.tells.machine)).sound;
+        sound = (lawful_machines_are_ready w.sizes w.opening (memory_after w.sizes m s l.y) (advance beside (answer_of words s)) l.lawful (inr l.tells.machine)).sound;
         second = w.second;
         third = w.third;
       };
@@ -98,20 +98,26 @@ stepped words beside left right w s due =
 
 -- a turn of the second or the third one
 module _ (words words' : List ℕ) (beside left right d : CoreState) (w : IsPlain words beside left right) where
+  abbrev at_second : PartAmong
+  at_second = record { words = words; before = w.x ∷ []; part = w.y; after = w.z ∷ []; log = w.log }
+
+  abbrev at_third : PartAmong
+  at_third = record { words = words; before = w.x ∷ w.y ∷ []; part = w.z; after = []; log = w.log }
+
   pub left_may : MayTurn left words
-  left_may = may_turn w.sizes w.opening words (w.x ∷ []) w.y (w.z ∷ []) w.log w.lawful left w.second
+  left_may = may_turn w.sizes w.opening at_second w.lawful left w.second
 
   pub right_may : MayTurn right words
-  right_may = may_turn w.sizes w.opening words (w.x ∷ w.y ∷ []) w.z [] w.log w.lawful right w.third
+  right_may = may_turn w.sizes w.opening at_third w.lawful right w.third
 
   pub left_turned : Turned left words d words' → IsPlain words' beside d right
   left_turned turned =
-      let k = kept w.sizes w.opening words (w.x ∷ []) w.y (w.z ∷ []) w.log w.lawful left d words' w.second turned in
+      let k = kept w.sizes w.opening at_second w.lawful left d words' w.second turned in
       record { sizes = w.sizes; opening = w.opening; log = k.1; x = w.x; y = k.0; z = w.z; lawful = k.2; first = w.first; sound = w.sound; second = k.3; third = w.third }
 
   pub right_turned : Turned right words d words' → IsPlain words' beside left d
   right_turned turned =
-      let k = kept w.sizes w.opening words (w.x ∷ w.y ∷ []) w.z [] w.log w.lawful right d words' w.third turned in
+      let k = kept w.sizes w.opening at_third w.lawful right d words' w.third turned in
       record { sizes = w.sizes; opening = w.opening; log = k.1; x = w.x; y = w.y; z = k.0; lawful = k.2; first = w.first; sound = w.sound; second = w.second; third = k.3 }
 
 -- words as they open, and a first call that is begun
@@ -122,6 +128,7 @@ opens sizes initial words beside left right layout values all b second third =
     let lawful = opens_lawful sizes o words 3 (record { sizes = layout; values = values; stamps = refl; words = all }) (omega arith) in
     let between = ports_come_between.0 sizes in
     let begun = (calls_begin_between (fresh_part sizes 0) (fresh sizes 0) (between 0)).begins b.call b.served b.allowed b.steps in
+    let m : PartAmong = record { words = words; before = []; part = fresh_part sizes 0; after = fresh_part sizes 1 ∷ fresh_part sizes 2 ∷ []; log = [] } in
     let first : IsMachineOf beside (fresh_part sizes 0) = inl (subst (λ (d : CoreState). HasBegun d (fresh_part sizes 0)) (sym b.is) begun) in
     record {
       sizes = sizes;
@@ -132,7 +139,7 @@ opens sizes initial words beside left right layout values all b second third =
       z = fresh_part sizes 2;
       lawful = lawful;
       first = first;
-      sound = (lawful_machines_are_ready sizes o words [] (fresh_part sizes 0) (fresh_part sizes 1 ∷ fresh_part sizes 2 ∷ []) [] beside lawful first).sound;
+      sound = (lawful_machines_are_ready sizes o m beside lawful first).sound;
       second = inr (subst (IsBetween (fresh_part sizes 1)) (sym second) (between 1));
       third = inr (subst (IsBetween (fresh_part sizes 2)) (sym third) (between 2));
     }

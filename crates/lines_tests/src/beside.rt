@@ -9,7 +9,7 @@ ghost use Rattle.partial_machine.specs.Machine.{at_stage, expects, fresh};
 ghost use Rattle.partial_words.specs.Layout.{IsLayout};
 ghost use Rattle.lines_tests.specs.Plain.{IsPlain};
 
-use crate::plain::Plain;
+use crate::plain::{Course, Plain};
 use partial_core::{Change, Core, Reply};
 use partial_lines::{Exchanged, put, read, scan};
 use partial_model::Refused;
@@ -22,10 +22,12 @@ use std::test::Fail;
 struct Ending {
     // Whether both made the same steps, and gave the same reply.
     same: bool,
-    // The reply.
-    reply: Reply,
+    // The reply. `None` when the machine has not ended the call.
+    reply: Option<Reply>,
     // Whether the record of an update has a view.
     viewed: bool,
+    // Whether the straight lines were broken off, so that the machine has ended the call alone.
+    broken: bool,
 }
 
 impl Ending {
@@ -33,9 +35,32 @@ impl Ending {
     fn of(same: bool, reply: Reply) -> Ending {
         Ending {
             same,
+            reply: Some(reply),
+            viewed: false,
+            broken: false,
+        }
+    }
+
+    // The end of a call that was broken off: its machine has ended it alone.
+    fn of_broken(lines: &mut Plain) -> Ending
+        requires { IsPlain lines.old.words.items lines.old.beside lines.old.left lines.old.right }
+    {
+        lines.end();
+        let reply = lines.reply();
+        Ending {
+            same: reply.is_some(),
             reply,
             viewed: false,
+            broken: true,
         }
+    }
+}
+
+// The course of a call that is never broken off.
+fn whole(seed: u64) -> Course {
+    Course {
+        seed,
+        allowed: u64::MAX,
     }
 }
 
@@ -92,7 +117,9 @@ fn follow_read(lines: &mut Plain, sizes: Sizes, component: u32) -> Ending
     requires component { component < sizes.m }
 {
     let stamp = lines.follow(Step::Load(sizes.component_word(component)));
-    let value = read(lines, stamp);
+    let Ok(value) = read(lines, stamp) else {
+        return Ending::of_broken(lines);
+    };
     let reply = Reply::Read { value, stamp };
     Ending::of(lines.ends_with(reply), reply)
 }
@@ -103,7 +130,7 @@ fn read_beside(
     sizes: Sizes,
     initial: &[u64],
     component: u32,
-    seed: u64,
+    course: Course,
 ) -> Result<Ending, AllocError>
     requires sizes { IsLayout sizes }
     requires values { length initial.now ≡ sizes.m }
@@ -113,7 +140,7 @@ fn read_beside(
     if let Err(cause) = beside.begin_read(component) {
         return Ok(Ending::of(true, Reply::Refused(cause)));
     }
-    let mut lines = Plain::open(alloc, sizes, initial, beside, seed)?;
+    let mut lines = Plain::open(alloc, sizes, initial, beside, course)?;
     Ok(follow_read(&mut lines, sizes, component))
 }
 
@@ -131,7 +158,9 @@ fn follow_update(lines: &mut Plain, core: &mut Core, sizes: Sizes, change: Chang
         let reply = Reply::Changed { by: old };
         return Ending::of(lines.ends_with(reply), reply);
     }
-    let written = put(lines, core, change, old);
+    let Ok(written) = put(lines, core, change, old) else {
+        return Ending::of_broken(lines);
+    };
     let Some(at) = written else {
         let reply = Reply::Refused(Refused::PoolSpent);
         return Ending::of(lines.ends_with(reply), reply);
@@ -149,7 +178,7 @@ fn update_beside(
     sizes: Sizes,
     initial: &[u64],
     change: Change,
-    seed: u64,
+    course: Course,
 ) -> Result<Ending, AllocError>
     requires sizes { IsLayout sizes }
     requires values { length initial.now ≡ sizes.m }
@@ -159,7 +188,7 @@ fn update_beside(
     if let Err(cause) = begin(&mut beside, change) {
         return Ok(Ending::of(true, Reply::Refused(cause)));
     }
-    let mut lines = Plain::open(alloc, sizes, initial, beside, seed)?;
+    let mut lines = Plain::open(alloc, sizes, initial, beside, course)?;
     let mut core = Core::new(alloc, sizes, 0)?;
     Ok(follow_update(&mut lines, &mut core, sizes, change))
 }
@@ -181,7 +210,9 @@ fn follow_scan(
 {
     let size = announcement_size(which.len() as u64);
     let at = lines.follow(Step::Add(sizes.pool_counter(), size));
-    let scanned = scan(lines, core, which, at, into);
+    let Ok(scanned) = scan(lines, core, which, at, into) else {
+        return Ending::of_broken(lines);
+    };
     let reply = match scanned {
         Ok(scanned) => Reply::Scanned {
             collects: scanned.collects,
@@ -199,7 +230,7 @@ fn scan_beside(
     sizes: Sizes,
     initial: &[u64],
     which: &[u32],
-    seed: u64,
+    course: Course,
 ) -> Result<Ending, AllocError>
     requires sizes { IsLayout sizes }
     requires values { length initial.now ≡ sizes.m }
@@ -211,7 +242,7 @@ fn scan_beside(
         return Ok(Ending::of(true, Reply::Refused(cause)));
     }
     let mut into = vec![in alloc; 0; which.len()]?;
-    let mut lines = Plain::open(alloc, sizes, initial, beside, seed)?;
+    let mut lines = Plain::open(alloc, sizes, initial, beside, course)?;
     let mut core = Core::new(alloc, sizes, 0)?;
     Ok(follow_scan(&mut lines, &mut core, sizes, which, &mut into))
 }
@@ -224,9 +255,9 @@ fn reads(rt: HostRuntime) -> Result<(), Fail> {
     let mut written = false;
     for seed in 0..300u64 {
         let component = (seed % 3) as u32;
-        let ending = read_beside(rt.alloc(), sizes, &initial, component, seed)?;
+        let ending = read_beside(rt.alloc(), sizes, &initial, component, whole(seed))?;
         assert!(rt; ending.same, "at {seed}");
-        if let Reply::Read { stamp, .. } = ending.reply {
+        if let Some(Reply::Read { stamp, .. }) = ending.reply {
             let first = stamp == sizes.opening_word(&initial, component);
             opening = opening || first;
             written = written || !first;
@@ -253,11 +284,11 @@ fn updates(rt: HostRuntime) -> Result<(), Fail> {
             value: seed,
         };
         let sizes = if seed % 4 == 0 { small } else { large };
-        let ending = update_beside(rt.alloc(), sizes, &initial, change, seed)?;
+        let ending = update_beside(rt.alloc(), sizes, &initial, change, whole(seed))?;
         assert!(rt; ending.same, "at {seed}");
-        applied = applied || matches!(ending.reply, Reply::Applied { .. });
-        lost = lost || matches!(ending.reply, Reply::Lost { .. });
-        refused = refused || ending.reply == Reply::Refused(Refused::PoolSpent);
+        applied = applied || matches!(ending.reply, Some(Reply::Applied { .. }));
+        lost = lost || matches!(ending.reply, Some(Reply::Lost { .. }));
+        refused = refused || ending.reply == Some(Reply::Refused(Refused::PoolSpent));
         viewed = viewed || ending.viewed;
     }
     assert!(rt; applied);
@@ -280,10 +311,10 @@ fn conditional_updates(rt: HostRuntime) -> Result<(), Fail> {
             expected: Some(sizes.opening_word(&initial, component)),
             value: seed,
         };
-        let ending = update_beside(rt.alloc(), sizes, &initial, change, seed)?;
+        let ending = update_beside(rt.alloc(), sizes, &initial, change, whole(seed))?;
         assert!(rt; ending.same, "at {seed}");
-        applied = applied || matches!(ending.reply, Reply::Applied { .. });
-        changed = changed || matches!(ending.reply, Reply::Changed { .. });
+        applied = applied || matches!(ending.reply, Some(Reply::Applied { .. }));
+        changed = changed || matches!(ending.reply, Some(Reply::Changed { .. }));
     }
     assert!(rt; applied && changed);
     Ok(())
@@ -305,23 +336,65 @@ fn scans(rt: HostRuntime) -> Result<(), Fail> {
             1 => few_slots,
             _ => large,
         };
-        let ending = scan_beside(rt.alloc(), sizes, &initial, &[2, 0, 1], seed)?;
+        let ending = scan_beside(rt.alloc(), sizes, &initial, &[2, 0, 1], whole(seed))?;
         assert!(rt; ending.same, "at {seed}");
-        own = own || matches!(ending.reply, Reply::Scanned { borrowed: None, .. });
+        own = own || matches!(ending.reply, Some(Reply::Scanned { borrowed: None, .. }));
         borrowed = borrowed
             || matches!(
                 ending.reply,
-                Reply::Scanned {
+                Some(Reply::Scanned {
                     borrowed: Some(_),
                     ..
-                }
+                })
             );
-        pool = pool || ending.reply == Reply::Refused(Refused::PoolSpent);
-        slots = slots || ending.reply == Reply::Refused(Refused::SlotsSpent);
+        pool = pool || ending.reply == Some(Reply::Refused(Refused::PoolSpent));
+        slots = slots || ending.reply == Some(Reply::Refused(Refused::SlotsSpent));
     }
     assert!(rt; own);
     assert!(rt; borrowed);
     assert!(rt; pool);
     assert!(rt; slots);
+    Ok(())
+}
+
+#[test]
+fn calls_that_are_broken_off(rt: HostRuntime) -> Result<(), Fail> {
+    let sizes = Sizes::new(3, 64, 16, 4000)?;
+    let initial = [5, 6, 7];
+    let mut broken = false;
+    let mut whole = false;
+    for seed in 0..20u64 {
+        for allowed in 0..16u64 {
+            let course = Course { seed, allowed };
+            let read = read_beside(rt.alloc(), sizes, &initial, 0, course)?;
+            assert!(rt;
+                read.same && read.broken == (allowed < 1),
+                "{seed}, {allowed}"
+            );
+            assert!(rt;
+                matches!(read.reply, Some(Reply::Read { .. })),
+                "{seed}, {allowed}"
+            );
+            let change = Change {
+                component: 1,
+                expected: None,
+                value: seed,
+            };
+            let update = update_beside(rt.alloc(), sizes, &initial, change, course)?;
+            assert!(rt;
+                update.same && (update.broken || allowed > 3),
+                "{seed}, {allowed}"
+            );
+            broken = broken || update.broken && matches!(update.reply, Some(Reply::Applied { .. }));
+            whole = whole || !update.broken;
+            let scan = scan_beside(rt.alloc(), sizes, &initial, &[2, 0, 1], course)?;
+            assert!(rt; scan.same && scan.broken, "{seed}, {allowed}");
+            assert!(rt;
+                matches!(scan.reply, Some(Reply::Scanned { .. })),
+                "{seed}, {allowed}"
+            );
+        }
+    }
+    assert!(rt; broken && whole);
     Ok(())
 }

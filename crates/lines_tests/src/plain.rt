@@ -13,6 +13,19 @@ use partial_lines::Makes;
 use partial_words::{Sizes, Step};
 use std::alloc::{AllocError, Global};
 
+/// A call is broken off: it has made all steps that it was allowed.
+#[derive(Clone, Copy)]
+pub struct BrokenOff;
+
+/// The course of a call.
+#[derive(Clone, Copy)]
+pub struct Course {
+    /// Chooses which steps of the others come between.
+    pub seed: u64,
+    /// How many steps the call may make in straight lines.
+    pub allowed: u64,
+}
+
 /// Plain words on which three ports work. The first port's call is made in straight lines, and its machine is
 /// told the answers. The machines of the others make their calls.
 #[derive(Drop)]
@@ -25,29 +38,33 @@ pub struct Plain {
     pub left: Core,
     /// The machine of the third port.
     pub right: Core,
-    /// Chooses which steps of the others come next.
-    pub seed: u64,
+    /// What is left of the course.
+    pub course: Course,
     /// Whether a step was not the due one of the machine beside.
     pub differs: bool,
 }
 
 impl Makes for Plain {
+    type Break = BrokenOff;
+
     ghost goes = { λ l. IsPlain l.words.items l.beside l.left l.right };
 
     ghost machine = { λ l. l.beside };
 
     ghost leads = { λ _ _. ⊤ };
 
-    fn make(&mut self, step: Step) -> u64 {
+    fn make(&mut self, step: Step) -> Result<u64, BrokenOff> {
+        self.allow()?;
         let due = self.beside.step();
         self.compare(due == Some(step));
-        self.follow(step)
+        Ok(self.follow(step))
     }
 
-    fn load(&mut self, word: u64) -> u64 {
+    fn load(&mut self, word: u64) -> Result<u64, BrokenOff> {
+        self.allow()?;
         let due = self.beside.step().unwrap();
         self.compare(due == Step::Load(due.word()) && u64::from(due.word()) == word);
-        self.follow(due)
+        Ok(self.follow(due))
     }
 
     ghost sound = { λ _ w. w.sound };
@@ -76,7 +93,7 @@ impl Plain {
         sizes: Sizes,
         initial: &[u64],
         beside: Core,
-        seed: u64,
+        course: Course,
     ) -> Result<Plain, AllocError>
         requires sizes { IsLayout sizes }
         requires values { length initial.now ≡ sizes.m }
@@ -92,7 +109,7 @@ impl Plain {
             beside,
             left,
             right,
-            seed,
+            course,
             differs: false,
         };
         plain.others(80);
@@ -123,6 +140,17 @@ impl Plain {
         let answer = self.answered(step);
         self.others(20);
         answer
+    }
+
+    // Lets the call make one more step, if it is allowed.
+    fn allow(&mut self) -> Result<(), BrokenOff>
+        ensures allowed { self.new ≡ record self.old { course = self.new.course } }
+    {
+        if self.course.allowed == 0 {
+            return Err(BrokenOff);
+        }
+        self.course.allowed -= 1;
+        Ok(())
     }
 
     // Keeps whether a step was the due one.
@@ -161,17 +189,37 @@ impl Plain {
 
     // The next number of a linear congruence.
     fn draw(&mut self) -> u64
-        ensures { self.new ≡ record self.old { seed = self.new.seed } }
+        ensures { self.new ≡ record self.old { course = self.new.course } }
     {
-        self.seed = self
+        self.course.seed = self
+            .course
             .seed
             .wrapping_mul(6_364_136_223_846_793_005)
             .wrapping_add(1_442_695_040_888_963_407);
-        self.seed >> 33
+        self.course.seed >> 33
+    }
+
+    /// Lets the machine beside end a call that was broken off, in at most 10,000 steps.
+    pub fn end(&mut self)
+        requires going { IsPlain self.old.words.items self.old.beside self.old.left self.old.right }
+        ensures going { IsPlain self.new.words.items self.new.beside self.new.left self.new.right }
+    {
+        for _step in 0..10_000 {
+            let Some(step) = self.beside.step() else {
+                return;
+            };
+            self.follow(step);
+        }
     }
 
     /// Whether the machine beside was asked for each step that was made, and has this reply.
     pub fn ends_with(&mut self, reply: Reply) -> bool {
         !self.differs && self.beside.take() == Some(reply)
+    }
+
+    /// The reply of the machine beside, if it was asked for each step that was made, and has one.
+    pub fn reply(&mut self) -> Option<Reply> {
+        let reply = self.beside.take();
+        if self.differs { None } else { reply }
     }
 }

@@ -1,6 +1,6 @@
 //! What a getSet needs of the words on which it works.
 
-ghost use Rattle.std.specs.Prelude.{◌≡◌, Some};
+ghost use Rattle.std.specs.Prelude.{◌≡◌, Some, IfOk, IfErr};
 ghost use Rattle.partial_active.specs.GetSet.{SetPair, advance_set, set_step_due};
 ghost use Rattle.partial_active.specs.GetSetAnswers.{IsPossibleInSet};
 
@@ -9,6 +9,9 @@ use partial_words::Step;
 /// The steps of one getSet. Other ports may make steps between them. To contracts it is the getSet with its
 /// buffers, as its answers so far have left them.
 pub trait Steps {
+    /// What is told of a call that is broken off: [`Infallible`](std::convert::Infallible) where none ever is.
+    type Break: Drop;
+
     /// The call that makes the steps is under way.
     ghost goes: { Self → Type 0 };
 
@@ -19,12 +22,16 @@ pub trait Steps {
     ghost follows: { Self → Self → Type 0 };
 
     /// Makes the step that is due, and returns its answer.
-    fn make(&mut self, step: Step) -> u64
+    ///
+    /// # Errors
+    /// [`Steps::Break`] when the call is not to go on: no step was made, and the getSet stays where it is.
+    fn make(&mut self, step: Step) -> Result<u64, Self::Break>
         requires goes { goes self.old }
         requires due { set_step_due (set self.old).0 ≡ Some step }
         ensures goes { goes self.new }
-        ensures possible { IsPossibleInSet (set self.old) result }
-        ensures set { set self.new ≡ advance_set (set self.old) result }
+        ensures possible { IfOk result (λ answer. IsPossibleInSet (set self.old) answer) }
+        ensures set { IfOk result (λ answer. set self.new ≡ advance_set (set self.old) answer) }
+        ensures stays { IfErr result (λ _. set self.new ≡ set self.old) }
         ensures follows { follows self.old self.new };
 
     /// Without a step it stays the same.

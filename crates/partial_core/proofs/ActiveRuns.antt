@@ -1,5 +1,5 @@
 -- Runs of lawful states are orderly, and the getSet of an update is one of a port's events in such a run.
-use Rattle.partial_core.proofs.Common.{ℕ, ◌≡◌, ◌≢◌, ◌⊎◌, ◌++◌, Bool, Some, None, MatchBool, List, [], ◌∷◌, inl, inr, refl, sym, ap, subst, ◌∙◌, AllByRecursion, false≢true, eqb_tells, Applied, Opening, Layout, answer_of, words_after, AreFoundFor, AreOrderly, IsOrderlyRun, words_behind, MakesOwn, Holding, all_weaker, all_join, Change, Stage, GettingSet, CoreState, step_of, step_at, advance, advance_at, getting, with_getting, lists_spent, is_begun, Part, HasBegun, IsLedTo, core_of, port_of, with_seen, holdings, holding_of, Lawful}
+use Rattle.partial_core.proofs.Common.{ℕ, ◌≡◌, ◌≢◌, ◌⊎◌, ◌++◌, Bool, Some, None, MatchBool, List, [], ◌∷◌, inl, inr, refl, sym, ap, subst, ◌∙◌, AllByRecursion, false≢true, eqb_tells, Opening, Layout, answer_of, words_after, AreFoundFor, AreOrderly, IsOrderlyRun, words_behind, MakesOwn, all_weaker, all_join, Change, Stage, GettingSet, CoreState, step_of, step_at, advance, advance_at, getting, with_getting, lists_spent, is_begun, Part, HasBegun, IsLedTo, core_of, port_of, with_seen, holdings, PartAmong, LawfulAmong, all_parts, memory_after, IsOrderlyEvent}
 use Rattle.partial_words.specs.declared.step.Event.{Event}
 use Rattle.partial_active.specs.GetSet as finding
 use Rattle.partial_active.specs.VacatedLists.{KeepsLists}
@@ -7,7 +7,7 @@ use Rattle.partial_active.specs.ActiveSet.{FindsActiveSet, AreInOrder}
 use Rattle.partial_active.proofs.Finds.{finds_by_events}
 use Rattle.partial_active.proofs.Named.{names_by_events}
 use Rattle.partial_active.proofs.Lists.{lists_by_events}
-use Rattle.partial_core.specs.ActiveSet.{MemoryState, IsLawfulMemory, PortMove, HasPart, MakesStep, MakesLook, IsRun, events_of, LawfulRunsAreOrderly}
+use Rattle.partial_core.specs.ActiveSet.{MemoryState, IsLawfulMemory, whole_memory, PortMove, HasPart, MakesStep, MakesLook, IsRun, events_of, LawfulRunsAreOrderly}
 use Rattle.partial_core.specs.ActiveSet.{IsGetting, OnlyGets, RunsGetSet, moments_in, UpdatesFind, UpdatesFindInOrder, UpdatesKeepLists}
 use Rattle.partial_core.specs.ActiveSet.PortMove.{Makes, Looks}
 use Rattle.partial_core.proofs.Parts.{all_at, all_changed, holdings_split}
@@ -18,8 +18,8 @@ use Rattle.partial_core.proofs.Ordered.{lawful_is_orderly}
 use Rattle.partial_core.proofs.Published.{KeepsPublished, keeps_now, keeps_on, step_orderly}
 
 -- the state, with the port's part in its place
-lawful_at : (z : Layout) (o : Opening) (s : MemoryState) (own : ℕ) (p : HasPart own s.parts) → IsLawfulMemory z o s → Lawful z o s.words (p.before ++ p.part ∷ p.after) s.log
-lawful_at z o s own p w = subst (λ (ps : List Part). Lawful z o s.words ps s.log) p.is w
+lawful_at : (z : Layout) (o : Opening) (s : MemoryState) (own : ℕ) (p : HasPart own s) → IsLawfulMemory z o s → LawfulAmong z o p.among
+lawful_at z o s own p w = subst (IsLawfulMemory z o) p.is w
 
 -- what is published behind a state is so yet
 abbrev Keeps : Layout → List (List ℕ) → MemoryState → Type 0
@@ -30,28 +30,28 @@ module _ (z : Layout) (o : Opening) (e : Event) (s u : MemoryState) (m : MakesSt
   step_lawful = subst (IsLawfulMemory z o) (sym m.next) m.leads.lawful
 
   step_words : u.words ≡ words_after s.words e.step
-  step_words = ap (λ (v : MemoryState). v.words) m.next
+  step_words = ap (λ (v : MemoryState). v.words) m.next ∙ ap (λ (v : MemoryState). words_after v.words e.step) (sym m.own.is)
 
   step_keeps : (past : List (List ℕ)) → Keeps z past s → Keeps z past u
-  step_keeps past keeps =
-      let here : KeepsPublished z past s.words (holdings (m.own.before ++ m.own.part ∷ m.own.after))
-      = subst (λ (ps : List Part). KeepsPublished z past s.words (holdings ps)) m.own.is keeps in
-      subst (Keeps z past) (sym m.next) (keeps_on z o s.words m.own.before m.own.part m.own.after s.log m.machine e.step m.leads past here)
+  step_keeps past keeps = subst (Keeps z past) (sym m.next) (keeps_on z o m.own.among m.machine e.step m.leads past (subst (Keeps z past) m.own.is keeps))
+
+  event_orderly : (past : List (List ℕ)) → IsLawfulMemory z o s → Keeps z past s → IsOrderlyEvent z past s.words (words_after s.words e.step)
+  event_orderly past w keeps = subst (λ (v : MemoryState). IsOrderlyEvent z past v.words (words_after v.words e.step)) (sym m.own.is)
+      (step_orderly z o m.own.among m.machine e.step m.leads past (lawful_at z o s e.port m.own w) m.its m.due (subst (Keeps z past) m.own.is keeps))
 
 module _ (z : Layout) (o : Opening) (number : ℕ) (s u : MemoryState) (m : MakesLook number s u) where
   look_lawful : IsLawfulMemory z o s → IsLawfulMemory z o u
-  look_lawful w = subst (IsLawfulMemory z o) (sym m.next) (looks_stay_lawful z o s.words m.own.before m.own.part m.own.after s.log (lawful_at z o s number m.own w)).lawful
+  look_lawful w = subst (IsLawfulMemory z o) (sym m.next) (looks_stay_lawful z o m.own.among (lawful_at z o s number m.own w)).lawful
 
   look_words : u.words ≡ s.words
-  look_words = ap (λ (v : MemoryState). v.words) m.next
+  look_words = ap (λ (v : MemoryState). v.words) m.next ∙ ap (λ (v : MemoryState). v.words) (sym m.own.is)
 
   look_keeps : (past : List (List ℕ)) → Keeps z past s → Keeps z past u
   look_keeps past keeps =
-      let parts : u.parts ≡ m.own.before ++ with_seen s.log m.own.part ∷ m.own.after = ap (λ (v : MemoryState). v.parts) m.next in
-      let split : holdings (m.own.before ++ with_seen s.log m.own.part ∷ m.own.after) ≡ holdings m.own.before ++ holding_of m.own.part ∷ holdings m.own.after
-      = holdings_split m.own.before (with_seen s.log m.own.part) m.own.after in
-      let same : holdings s.parts ≡ holdings u.parts = ap holdings m.own.is ∙ holdings_split m.own.before m.own.part m.own.after ∙ sym split ∙ sym (ap holdings parts) in
-      subst (λ (ws : List ℕ). KeepsPublished z past ws (holdings u.parts)) (sym look_words) (subst (λ (hs : List Holding). KeepsPublished z past s.words hs) same keeps)
+      let same : holdings (all_parts m.own.among) ≡ holdings (before ++ with_seen log part ∷ after) = holdings_split before part after ∙ sym (holdings_split before (with_seen log part) after) in
+      subst (Keeps z past) (sym m.next) (subst (KeepsPublished z past words) same (subst (Keeps z past) m.own.is keeps))
+    where
+      open m.own.among use {words, before, part, after, log}
 
 -- the events of a run are orderly
 events_orderly : (z : Layout) (o : Opening) (moves : List PortMove) (s t : MemoryState) (past : List (List ℕ)) → IsLawfulMemory z o s → Keeps z past s → IsRun z o moves s t →
@@ -60,10 +60,8 @@ events_orderly z o [] s t past w keeps run = tt
 events_orderly z o (Makes e ∷ moves) s t past w keeps run =
     let u = run.0 in
     let m = run.1 in
-    let now : Keeps z (s.words ∷ past) s = keeps_now z o s.words (holdings s.parts) s.log past w.memory keeps in
-    let here : KeepsPublished z (s.words ∷ past) s.words (holdings (m.own.before ++ m.own.part ∷ m.own.after))
-    = subst (λ (ps : List Part). KeepsPublished z (s.words ∷ past) s.words (holdings ps)) m.own.is now in (
-      step_orderly z o s.words m.own.before m.own.part m.own.after s.log m.machine e.step m.leads (s.words ∷ past) (lawful_at z o s e.port m.own w) m.its m.due here,
+    let now : Keeps z (s.words ∷ past) s = keeps_now z o s.words (holdings s.parts) s.log past w.memory keeps in (
+      event_orderly z o e s u m (s.words ∷ past) w now,
       subst (λ (ws : List ℕ). AreOrderly z (s.words ∷ past) ws (events_of moves)) (step_words z o e s u m)
           (events_orderly z o moves u t (s.words ∷ past) (step_lawful z o e s u m) (step_keeps z o e s u m (s.words ∷ past) now) run.2),
     )
@@ -101,13 +99,14 @@ abbrev AllHave : ℕ → CoreState → List Part → Type 0
 AllHave own c parts = AllByRecursion (Has own c) parts
 
 -- a port has one machine
-one_machine : (z : Layout) (o : Opening) (words : List ℕ) (before : List Part) (x : Part) (after : List Part) (log : List Applied) →
-    Lawful z o words (before ++ x ∷ after) log → (own : ℕ) → port_of x ≡ own → AllHave own (core_of x) (before ++ x ∷ after)
-one_machine z o words before x after log w own is =
-    let apart = others z o words before x after log w in
+one_machine : (z : Layout) (o : Opening) (m : PartAmong) → LawfulAmong z o m → (own : ℕ) → port_of m.part ≡ own → AllHave own (core_of m.part) (all_parts m)
+one_machine z o m w own is =
+    let apart = others z o m w in
     let other : (y : Part) → port_of x ≢ port_of y → Has own (core_of x) y = λ y differs same. absurd (differs (is ∙ sym same)) in
     all_join (Has own (core_of x)) before x after (all_weaker (λ (y : Part). port_of x ≢ port_of y) (Has own (core_of x)) other before apart.0) (λ same. refl)
     (all_weaker (λ (y : Part). port_of x ≢ port_of y) (Has own (core_of x)) other after apart.1)
+  where
+    open m use {before, part as x, after}
 
 -- the machine is at a getSet, or its getSet is finished
 abbrev IsAtGetSet : CoreState → Type 0
@@ -121,23 +120,24 @@ answer_goes c change old a is =
     (by_due (with_getting c p) change old is (λ (d : CoreState). (getting d ≡ p) × IsAtGetSet d) (refl, inl (change, old, is)) (λ v ended next. (refl, inr ended)))
 
 module _ (z : Layout) (o : Opening) (own : ℕ) (e : Event) (s u : MemoryState) (m : MakesStep z o e s u) (w : IsLawfulMemory z o s) (c : CoreState) (has : AllHave own c s.parts) where
-  has_here : AllHave own c (m.own.before ++ m.own.part ∷ m.own.after)
-  has_here = subst (AllHave own c) m.own.is has
+  open m.own.among use {words, before, part as x, after}
+
+  has_here : AllHave own c (all_parts m.own.among)
+  has_here = subst (λ (v : MemoryState). AllHave own c v.parts) m.own.is has
 
   -- another port's step
   other_has : e.port ≢ own → AllHave own c u.parts
   other_has other =
       let port : port_of m.leads.y ≡ e.port = m.leads.tells.port ∙ m.own.port in
-      let changed : AllHave own c (m.own.before ++ m.leads.y ∷ m.own.after)
-      = all_changed (Has own c) (Has own c) (λ y h. h) m.own.before m.own.part m.leads.y m.own.after has_here (λ same. absurd (other (sym port ∙ same))) in
+      let changed : AllHave own c (before ++ m.leads.y ∷ after) = all_changed (Has own c) (Has own c) (λ y h. h) before x m.leads.y after has_here (λ same. absurd (other (sym port ∙ same))) in
       subst (λ (v : MemoryState). AllHave own c v.parts) (sym m.next) changed
 
   -- its own step, which is one of a getSet
   module _ (mine : e.port ≡ own) (at : IsGetting m.machine) where
     machine_is : m.machine ≡ c
-    machine_is = by m.its ∙ all_at (Has own c) m.own.before m.own.part m.own.after has_here (m.own.port ∙ mine)
+    machine_is = by m.its ∙ all_at (Has own c) before x after has_here (m.own.port ∙ mine)
       where
-        by : HasBegun m.machine m.own.part ⊎ IsLedTo m.machine m.own.part → m.machine ≡ core_of m.own.part
+        by : HasBegun m.machine x ⊎ IsLedTo m.machine x → m.machine ≡ core_of x
         by (inl begun) = absurd (false≢true (sym (ap is_begun at.2) ∙ begun.begun))
         by (inr led) = led.is
 
@@ -149,28 +149,28 @@ module _ (z : Layout) (o : Opening) (own : ℕ) (e : Event) (s u : MemoryState) 
 
     own_goes : (getting (core_of m.leads.y) ≡ finding.advance_set (getting c) (answer_of s.words e.step)) × IsAtGetSet (core_of m.leads.y)
     own_goes =
-        let next : advance c (answer_of s.words e.step) ≡ core_of m.leads.y = ap (λ (d : CoreState). advance d (answer_of s.words e.step)) (sym machine_is) ∙ m.leads.tells.machine.is in
-        subst (λ (d : CoreState). (getting d ≡ finding.advance_set (getting c) (answer_of s.words e.step)) × IsAtGetSet d) next (answer_goes c at.0 at.1 (answer_of s.words e.step) at_stage)
+        let next : advance c (answer_of words e.step) ≡ core_of m.leads.y = ap (λ (d : CoreState). advance d (answer_of words e.step)) (sym machine_is) ∙ m.leads.tells.machine.is in
+        subst (λ (v : MemoryState). (getting (core_of m.leads.y) ≡ finding.advance_set (getting c) (answer_of v.words e.step)) × IsAtGetSet (core_of m.leads.y)) (sym m.own.is)
+        (subst (λ (d : CoreState). (getting d ≡ finding.advance_set (getting c) (answer_of words e.step)) × IsAtGetSet d) next (answer_goes c at.0 at.1 (answer_of words e.step) at_stage))
 
     own_has : AllHave own (core_of m.leads.y) u.parts
-    own_has =
-        let w' = m.leads.lawful in
-        subst (λ (v : MemoryState). AllHave own (core_of m.leads.y) v.parts) (sym m.next)
-        (one_machine z o (words_after s.words e.step) m.own.before m.leads.y m.own.after _ w' own (m.leads.tells.port ∙ m.own.port ∙ mine))
+    own_has = subst (λ (v : MemoryState). AllHave own (core_of m.leads.y) v.parts) (sym m.next)
+        (one_machine z o (memory_after z m.own.among e.step m.leads.y) m.leads.lawful own (m.leads.tells.port ∙ m.own.port ∙ mine))
 
 look_has : (own number : ℕ) (s u : MemoryState) (m : MakesLook number s u) (c : CoreState) → AllHave own c s.parts → AllHave own c u.parts
 look_has own number s u m c has =
-    let here : AllHave own c (m.own.before ++ m.own.part ∷ m.own.after) = subst (AllHave own c) m.own.is has in
-    subst (λ (v : MemoryState). AllHave own c v.parts) (sym m.next)
-    (all_changed (Has own c) (Has own c) (λ y h. h) m.own.before m.own.part (with_seen s.log m.own.part) m.own.after here (all_at (Has own c) m.own.before m.own.part m.own.after here))
+    let here : AllHave own c (all_parts m.own.among) = subst (λ (v : MemoryState). AllHave own c v.parts) m.own.is has in
+    subst (λ (v : MemoryState). AllHave own c v.parts) (sym m.next) (all_changed (Has own c) (Has own c) (λ y h. h) before x (with_seen log x) after here (all_at (Has own c) before x after here))
+  where
+    open m.own.among use {before, part as x, after, log}
 
 -- the port's events are its getSet's steps
 makes_own : (z : Layout) (o : Opening) (own : ℕ) (moves : List PortMove) (s t : MemoryState) (run : IsRun z o moves s t) (c : CoreState) →
-    IsLawfulMemory z o s → AllHave own c s.parts → OnlyGets z o own moves s t run → IsAtGetSet c → (last : HasPart own t.parts) →
+    IsLawfulMemory z o s → AllHave own c s.parts → OnlyGets z o own moves s t run → IsAtGetSet c → (last : HasPart own t) →
     MakesOwn own (getting c) s.words (events_of moves) (getting (core_of last.part)) × IsAtGetSet (core_of last.part)
 makes_own z o own [] s t run c w has only at last =
-    let there : s.parts ≡ last.before ++ last.part ∷ last.after = sym (ap (λ (v : MemoryState). v.parts) run) ∙ last.is in
-    let same : core_of last.part ≡ c = all_at (Has own c) last.before last.part last.after (subst (AllHave own c) there has) last.port in
+    let there : s ≡ whole_memory last.among = sym run ∙ last.is in
+    let same : core_of last.part ≡ c = all_at (Has own c) last.among.before last.part last.among.after (subst (λ (v : MemoryState). AllHave own c v.parts) there has) last.port in
     (ap getting same, subst IsAtGetSet (sym same) at)
 makes_own z o own (Makes e ∷ moves) s t run c w has only at last =
     let u = run.0 in
@@ -209,16 +209,16 @@ module _ (z : Layout) (o : Opening) (own : ℕ) (moves : List PortMove) (s t : M
   abbrev d : CoreState
   d = core_of gets.last.part
 
-  at_first : Lawful z o s.words (gets.first.before ++ gets.first.part ∷ gets.first.after) s.log
+  at_first : LawfulAmong z o gets.first.among
   at_first = lawful_at z o s own gets.first gets.lawful
 
   made : MakesOwn own (getting c) s.words (events_of moves) (getting d) × IsAtGetSet d
   made =
-      let one = one_machine z o s.words gets.first.before gets.first.part gets.first.after s.log at_first own gets.first.port in
-      makes_own z o own moves s t gets.run c gets.lawful (subst (AllHave own c) (sym gets.first.is) one) gets.only (inl gets.begins.getting) gets.last
+      let one = one_machine z o gets.first.among at_first own gets.first.port in
+      makes_own z o own moves s t gets.run c gets.lawful (subst (λ (v : MemoryState). AllHave own c v.parts) (sym gets.first.is) one) gets.only (inl gets.begins.getting) gets.last
 
   sizes : c.sizes ≡ z
-  sizes = sizes_here z o s.words gets.first.before gets.first.part gets.first.after s.log at_first
+  sizes = sizes_here z o gets.first.among at_first
 
   begun : getting c ≡ (finding.fresh_set z (lists_spent c), c.found)
   begun = ap (λ (g : finding.GetSetState). (g, c.found)) (gets.begins.first ∙ ap (λ (y : Layout). finding.fresh_set y (lists_spent c)) sizes)
@@ -226,7 +226,7 @@ module _ (z : Layout) (o : Opening) (own : ℕ) (moves : List PortMove) (s t : M
   for_sizes : AreFoundFor z c.found
   for_sizes =
       let at = gets.begins.getting in
-      let sound = sound_at z o s.words gets.first.before gets.first.part gets.first.after s.log at_first (GettingSet at.0 at.1) at.2 in
+      let sound = sound_at z o gets.first.among at_first (GettingSet at.0 at.1) at.2 in
       subst (λ (y : Layout). AreFoundFor y c.found) (sound.2 ∙ sizes) sound.1.sizes
 
   from_fresh : MakesOwn own (finding.fresh_set z (lists_spent c), c.found) s.words (events_of moves) (getting d)

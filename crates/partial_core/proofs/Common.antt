@@ -46,6 +46,7 @@ pub use Rattle.partial_machine.proofs.Behind.{answers_lead_on, due_at, either}
 pub use Rattle.partial_machine.proofs.Sound.{size_few}
 pub use Rattle.partial_machine.proofs.StepCounts.{makes_few_steps, reads_in_two}
 pub use Rattle.partial_state.specs.Effects.{IsKept, Keeps, State, idle_holdings}
+pub use Rattle.partial_state.specs.Holdings.Counted.{PoolWords, Slots, ListWords}
 pub use Rattle.partial_state.specs.Holdings.{Holding, unpublished, Own, IfJoined, ClaimedSlot, Due, HaveOtherPorts, other_holdings, EachTwo, Space, block_at, block_of, joined_in, space_begin}
 pub use Rattle.partial_state.specs.Holdings.Space.{Pool, Lists}
 pub use Rattle.partial_state.specs.LawfulWords.{LawfulWords, CoversAll, IsDue, IsEntry, IsOwn, IsTied, IsClaim}
@@ -57,8 +58,8 @@ pub use Rattle.partial_state.proofs.Frames.{Frame, announcement_claimed, block_p
 pub use Rattle.partial_state.proofs.HoldingLemmas.{if_some_at, three_words, filter_append, found_some, if_all, joined_weaker, others_all, others_gone, ports_turn}
 pub use Rattle.partial_state.proofs.ListLemmas.{all_weaker, all_after, all_before, all_append, two_after, two_before, all_at, all_back, all_front, all_join, all_map, all_unmap}
 pub use Rattle.partial_state.proofs.LoadLaw.{loads_are_true}
-pub use Rattle.partial_state.proofs.MarkLaws.{drops_are_kept, dues_are_kept, list_refusals_are_kept, pool_refusals_are_kept, slot_refusals_are_kept}
-pub use Rattle.partial_state.proofs.NoNewEntry.{lists_bound, pool_bound, slots_bound}
+pub use Rattle.partial_state.proofs.MarkLaws.{drops_are_kept, dues_are_kept, refusals_are_kept}
+pub use Rattle.partial_state.proofs.NoNewEntry.{counter_bound}
 pub use Rattle.partial_state.proofs.SlotLaws.{joins_are_kept, leaves_are_kept, slot_claims_are_kept}
 pub use Rattle.partial_state.proofs.WinLaw.{own_in_pool, wins_are_kept}
 pub use Rattle.partial_knowledge.specs.Scans.{IsThird, AreStamps, HasValues}
@@ -68,8 +69,8 @@ pub use Rattle.partial_knowledge.proofs.Scans.{embedded_scans_know, got}
 pub use Rattle.partial_knowledge.proofs.Sets.{getsets_know}
 pub use Rattle.partial_core.specs.Held.{holdings, holding_of, joined_since, holding_at, joins_at, is_storing, joined_from, own_at, own_list, slot_claimed}
 pub use Rattle.partial_core.specs.Known.{IsKnown, IsTrueYet, AreAnswersKept, notes_by}
-pub use Rattle.partial_core.specs.Lawful.{Lawful, OpensLawful}
+pub use Rattle.partial_core.specs.Lawful.{Lawful, LawfulAmong, OpensLawful}
 pub use Rattle.partial_core.specs.Orderly.{LawfulIsOrderly, StepsAreOrderly}
-pub use Rattle.partial_core.specs.Part.{Part, core_of, first_at, port_of, HasBegun, led_by, IsLedTo, has_no_step, IsMachineOf, IsMarkedLike, answers_of, with_seen, fresh_parts}
+pub use Rattle.partial_core.specs.Part.{Part, PartAmong, all_parts, core_of, first_at, port_of, HasBegun, led_by, IsLedTo, has_no_step, IsMachineOf, IsMarkedLike, answers_of, with_seen, fresh_parts}
 pub use Rattle.partial_core.specs.Ports.{HasFewSteps, IsReady, LawfulCallsAreBounded, LawfulMachinesAreReady, LawfulPortsFit, LawfulRecordsAreWithin, LooksStayLawful}
-pub use Rattle.partial_core.specs.Steps.{AreNotesOf, LeadsOn, added_by, FitsHistory, PublishesWithin, StepsStayLawful, Tells, begun_with, kept_with, past_with, since_with}
+pub use Rattle.partial_core.specs.Steps.{AreNotesOf, LeadsOn, memory_after, added_by, FitsHistory, PublishesWithin, StepsStayLawful, Tells, begun_with, kept_with, past_with, since_with}

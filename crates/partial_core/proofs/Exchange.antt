@@ -1,5 +1,5 @@
 -- The exchange of a component word: won, it adds one entry to the history; lost, it changes nothing.
-use Rattle.partial_core.proofs.Common.{option_map_or, eqb-false, eqb-true, append-nil, set-get_or, take_at, length_push, Applied, Opening, stamp_of, Noted, IsLegal, seen_by, places_by, places_written, overtaken_at, place_below, seen_by-push, places_written-append, places_by-push, slice_get_last, Step, Exchange, Layout, words_after, Change, Reply, Stage, Exchanging, Finished, CoreState, at_stage, advance_at, step_at, step_of, overtaken_reply, IsRecord, IsPossible, IsPossibleAt, Holding, Due, IsLoaded, IsKept, all_weaker, drops_are_kept, wins_are_kept, Part, core_of, port_of, first_at, Lawful, IsKnown, notes_by, IsTrueYet, holding_of, holdings, joined_since, is_at_rest, call_at, update_call, AreNotesOf}
+use Rattle.partial_core.proofs.Common.{option_map_or, eqb-false, eqb-true, append-nil, set-get_or, take_at, length_push, Applied, Opening, stamp_of, Noted, IsLegal, seen_by, places_by, places_written, overtaken_at, place_below, seen_by-push, places_written-append, places_by-push, slice_get_last, Step, Exchange, Layout, words_after, Change, Reply, Stage, Exchanging, Finished, CoreState, at_stage, advance_at, step_at, step_of, overtaken_reply, IsRecord, IsPossible, IsPossibleAt, Holding, Due, IsLoaded, all_weaker, drops_are_kept, wins_are_kept, Part, core_of, port_of, first_at, IsKnown, notes_by, IsTrueYet, holding_of, holdings, joined_since, is_at_rest, call_at, update_call, AreNotesOf, PartAmong, LawfulAmong}
 use Rattle.std.proofs.Common.{ℕ, ◌≡◌, ◌≢◌, ◌+◌, ◌<◌, ◌==◌, ◌++◌, Bool, true, false, cond, Option, Some, None, List, [], ◌∷◌, length, get_or, set, slice_get, take, refl, sym, ap, subst, ◌∙◌, arith}
 use Rattle.partial_model.specs.declared.call.Call.TheVariants as call
 use Rattle.partial_model.specs.declared.call.Answer.TheVariants as answer
@@ -7,13 +7,15 @@ use Rattle.partial_model.specs.declared.call.Note.TheVariants as note
 use Rattle.partial_machine.specs.declared.stage.Reply.TheVariants as reply
 use Rattle.partial_core.proofs.Added.{added_at}
 use Rattle.partial_core.proofs.MidCalls.{KnowsOld}
-use Rattle.partial_core.proofs.Parts.{known_grows, known_end, gone, changed, holdings_split, once_own, once_other}
+use Rattle.partial_core.proofs.Parts.{IsKeptAmong, known_grows, known_end, gone, changed, holdings_split, once_own, once_other}
 use Rattle.partial_core.proofs.Steps.{LeadsAt, holding_in, known_here, sizes_here, sound_at, port_here, seen_here, memory_at, holding_gone, going, ends}
 use Rattle.partial_core.proofs.Ports.{others}
 use Rattle.partial_core.proofs.Reading.{stamp_now, stamp_then, component_record}
 
-module _ (z : Layout) (o : Opening) (words : List ℕ) (before : List Part) (x : Part) (after : List Part) (log : List Applied) (w : Lawful z o words (before ++ x ∷ after) log) (c : Change)
-    (old at : ℕ) (e : (core_of x).stage ≡ Exchanging c old at) where
+module _ (z : Layout) (o : Opening) (m : PartAmong) (w : LawfulAmong z o m) (c : Change)
+    (old at : ℕ) (e : (core_of m.part).stage ≡ Exchanging c old at) where
+  open m use {words, before, part as x, after, log}
+
   abbrev s : CoreState
   s = core_of x
 
@@ -27,10 +29,10 @@ module _ (z : Layout) (o : Opening) (words : List ℕ) (before : List Part) (x :
   due = record { component = c.component; old = old; value = c.value; at = at }
 
   old_known : KnowsOld o log x.begun (first_at x.kept) c old
-  old_known = let g = going z o words before x after log w (Exchanging c old at) e refl refl in let known = g.knows in known.0
+  old_known = let g = going z o m w (Exchanging c old at) e refl refl in let known = g.knows in known.0
 
   below : c.component < z.m
-  below = subst (λ (y : Layout). c.component < y.m) (sizes_here z o words before x after log w) (sound_at z o words before x after log w (Exchanging c old at) e).0.0
+  below = subst (λ (y : Layout). c.component < y.m) (sizes_here z o m w) (sound_at z o m w (Exchanging c old at) e).0.0
 
   below_values : c.component < length o.values
   below_values = let b = below in let values = w.memory.values in omega (arith, values, b)
@@ -43,15 +45,14 @@ module _ (z : Layout) (o : Opening) (words : List ℕ) (before : List Part) (x :
   call_made f is = let known = old_known in ap (call_at x.begun) known.called ∙ ap (λ (g : Option ℕ). Some (update_call c.component g c.value)) is
 
   possible : IsRecord s.sizes (get_or words c.component 0)
-  possible = subst (λ (y : Layout). IsRecord y (get_or words c.component 0)) (sym (sizes_here z o words before x after log w)) (component_record z o words before x after log w c.component below)
+  possible = subst (λ (y : Layout). IsRecord y (get_or words c.component 0)) (sym (sizes_here z o m w)) (component_record z o m w c.component below)
 
   inside : c.component < length words
   inside = let count = w.memory.count in let b = below in omega (arith, count, b)
 
   -- what the part holds, with its stage named
-  kept_here : (words' : List ℕ) (h : Holding) (log' : List Applied) → IsKept z o words (holdings before) held (holdings after) log words' h log' → IsKept z o words (holdings before) (holding_of x)
-      (holdings after) log words' h log'
-  kept_here words' h log' k = subst (λ (u : Stage). IsKept z o words (holdings before) (holding_in s u (joined_since x)) (holdings after) log words' h log') (sym e) k
+  kept_here : (words' : List ℕ) (h : Holding) (log' : List Applied) → IsKeptAmong z o m held words' h log' → IsKeptAmong z o m (holding_of x) words' h log'
+  kept_here words' h log' k = subst (λ (u : Stage). IsKeptAmong z o m (holding_in s u (joined_since x)) words' h log') (sym e) k
 
   abbrev step : Step
   step = Exchange c.component old at
@@ -66,17 +67,17 @@ module _ (z : Layout) (o : Opening) (words : List ℕ) (before : List Part) (x :
   abbrev dropped : Holding
   dropped = record held { own = None; due = None }
 
-  lost_keeps : (found == old) ≡ false → IsKept z o words (holdings before) (holding_of x) (holdings after) log (words_after words step) dropped log
-  lost_keeps lost = subst (λ (ws : List ℕ). IsKept z o words (holdings before) (holding_of x) (holdings after) log ws dropped log) (sym (words_stay lost))
-      (kept_here words dropped log (drops_are_kept z o words (holdings before) held (holdings after) log (memory_at z o words before x after log w (Exchanging c old at) e)))
+  lost_keeps : (found == old) ≡ false → IsKeptAmong z o m (holding_of x) (words_after words step) dropped log
+  lost_keeps lost = subst (λ (ws : List ℕ). IsKeptAmong z o m (holding_of x) ws dropped log) (sym (words_stay lost))
+      (kept_here words dropped log (drops_are_kept z o words (holdings before) held (holdings after) log (memory_at z o m w (Exchanging c old at) e)))
 
   nothing_added : (found == old) ≡ false → added_at s.port (Exchanging c old at) found ≡ []
   nothing_added lost = ap (λ b. cond {A = List Applied} b (record { port = s.port; component = c.component; value = c.value; stamp = at } ∷ []) []) lost
 
-  lost_at : (f : Option ℕ) → c.expected ≡ f → (found == old) ≡ false → LeadsAt z o words before x after log s (Exchanging c old at) step
+  lost_at : (f : Option ℕ) → c.expected ≡ f → (found == old) ≡ false → LeadsAt z o m (Exchanging c old at) step
   lost_at None is lost =
-      let g = going z o words before x after log w (Exchanging c old at) e refl refl in
-      let now = stamp_now z o words before x after log w c.component below in
+      let g = going z o m w (Exchanging c old at) e refl refl in
+      let now = stamp_now z o m w c.component below in
       let known = old_known in
       let over = overtaken_at o log c.component (first_at x.kept) (λ same. eqb-false found old lost (now ∙ same ∙ sym known.stamp)) in
       let n : Noted = record { call = call.Update c.component c.value; answer = answer.Lost found; note = Some (note.Lost over.place) } in
@@ -86,7 +87,7 @@ module _ (z : Layout) (o : Opening) (words : List ℕ) (before : List Part) (x :
       let within = place_below log over.place over.entry over.stands in
       let low = g.low in
       let behind = over.behind in
-      ends z o words before x after log w (Exchanging c old at) step (at_stage s (Finished (reply.Lost found))) dropped e refl leads (nothing_added lost) inside possible refl
+      ends z o m w (Exchanging c old at) step (at_stage s (Finished (reply.Lost found))) dropped e refl leads (nothing_added lost) inside possible refl
       (lost_keeps lost) (λ ks is. tt)
       n refl (below_values, ((over.entry, over.stands, over.component, over.stamp ∙ sym now), omega (arith, low, behind))) (omega (arith, within)) refl
       (record {
@@ -100,7 +101,7 @@ module _ (z : Layout) (o : Opening) (words : List ℕ) (before : List Part) (x :
         stamps = tt;
       })
   lost_at (Some t) is lost =
-      let g = going z o words before x after log w (Exchanging c old at) e refl refl in
+      let g = going z o m w (Exchanging c old at) e refl refl in
       let n : Noted = record { call = call.UpdateIf c.component t c.value; answer = answer.Changed found; note = Some (note.Saw (length log)) } in
       let reply_is : overtaken_reply c found ≡ reply.Changed found = ap (λ (f : Option ℕ). option_map_or (λ _. reply.Changed found) f (reply.Lost found)) is in
       let leads : advance_at s (Exchanging c old at) found ≡ at_stage s (Finished (reply.Changed found)) = ap (λ (b : Bool). at_stage s (Finished (cond b (reply.Applied at) (overtaken_reply c found))))
@@ -108,9 +109,9 @@ module _ (z : Layout) (o : Opening) (words : List ℕ) (before : List Part) (x :
       let other : found ≢ t = λ same. eqb-false found old lost (same ∙ expected_old t is) in
       let order = g.order in
       let last = g.inside in
-      ends z o words before x after log w (Exchanging c old at) step (at_stage s (Finished (reply.Changed found))) dropped e refl leads (nothing_added lost) inside possible refl
+      ends z o m w (Exchanging c old at) step (at_stage s (Finished (reply.Changed found))) dropped e refl leads (nothing_added lost) inside possible refl
       (lost_keeps lost) (λ ks is. tt)
-      n refl (below_values, ((omega arith, sym (stamp_then z o words before x after log w c.component below), other), seen_here z o words before x after log w)) (omega arith) refl
+      n refl (below_values, ((omega arith, sym (stamp_then z o m w c.component below), other), seen_here z o m w)) (omega arith) refl
       (record {
         call = call.UpdateIf c.component t c.value;
         note = note.Saw (length log);
@@ -133,7 +134,7 @@ module _ (z : Layout) (o : Opening) (words : List ℕ) (before : List Part) (x :
   won_once p y port more = either (s.port == p) refl
     where
       mine : s.port ≡ port_of x
-      mine = port_here z o words before x after log w
+      mine = port_here z o m w
 
       away : (v : Part) → port_of x ≢ port_of v → port_of y ≢ port_of v
       away v d same = d (sym port ∙ same)
@@ -142,10 +143,10 @@ module _ (z : Layout) (o : Opening) (words : List ℕ) (before : List Part) (x :
       either true h =
           let is : port_of x ≡ p = sym mine ∙ eqb-true s.port p h in
           let own_x : places_written (notes_by p (before ++ x ∷ after)) ≡ places_written x.notes = ap (λ n. places_written (notes_by n (before ++ x ∷ after))) (sym is) ∙ once_own before x after
-          (others z o words before x after log w).0 (others z o words before x after log w).1 in
+          (others z o m w).0 (others z o m w).1 in
           let own_y : places_written (notes_by p (before ++ y ∷ after)) ≡ places_written y.notes = ap (λ n. places_written (notes_by n (before ++ y ∷ after))) (sym (port ∙ is)) ∙ once_own before y
-          after (all_weaker (λ (v : Part). port_of x ≢ port_of v) (λ (v : Part). port_of y ≢ port_of v) away before (others z o words before x after log w).0)
-          (all_weaker (λ (v : Part). port_of x ≢ port_of v) (λ (v : Part). port_of y ≢ port_of v) away after (others z o words before x after log w).1) in
+          after (all_weaker (λ (v : Part). port_of x ≢ port_of v) (λ (v : Part). port_of y ≢ port_of v) away before (others z o m w).0)
+          (all_weaker (λ (v : Part). port_of x ≢ port_of v) (λ (v : Part). port_of y ≢ port_of v) away after (others z o m w).1) in
           places_by-push p 0 log entry ∙ ap (λ (b : Bool). places_by p 0 log ++ cond b ((0 + length log) ∷ []) []) h ∙ ap (λ n. places_by p 0 log ++ n ∷ [])
           (omega arith) ∙ ap (λ (l : List ℕ). l ++ length log ∷ []) (w.once p ∙ own_x) ∙ sym more ∙ sym own_y
       either false h =
@@ -157,21 +158,21 @@ module _ (z : Layout) (o : Opening) (words : List ℕ) (before : List Part) (x :
   won_legal f is won = legal f is
     where
       stands : slice_get won_log (length log) ≡ Some (record { port = port_of x; component = c.component; value = c.value; stamp = at })
-      stands = slice_get_last log entry ∙ ap (λ n. Some (record { port = n; component = c.component; value = c.value; stamp = at })) (port_here z o words before x after log w)
+      stands = slice_get_last log entry ∙ ap (λ n. Some (record { port = n; component = c.component; value = c.value; stamp = at })) (port_here z o m w)
 
       legal : (f : Option ℕ) → c.expected ≡ f → IsLegal o won_log (port_of x) (seen_by 0 x.notes)
           (record { call = update_call c.component f c.value; answer = answer.Applied at; note = Some (note.Wrote (length log)) })
-      legal None is = (below_values, (stands, seen_here z o words before x after log w))
+      legal None is = (below_values, (stands, seen_here z o m w))
       legal (Some t) is =
           let front : take (length log) won_log ≡ log = take_at log (entry ∷ []) (length log) refl in
           let stamp : stamp_of o (take (length log) won_log) c.component ≡ t =
-          ap (λ (l : List Applied). stamp_of o l c.component) front ∙ sym (stamp_now z o words before x after log w c.component below) ∙ won ∙ sym (expected_old t is) in
-          (below_values, ((stands, stamp), seen_here z o words before x after log w))
+          ap (λ (l : List Applied). stamp_of o l c.component) front ∙ sym (stamp_now z o m w c.component below) ∙ won ∙ sym (expected_old t is) in
+          (below_values, ((stands, stamp), seen_here z o m w))
 
   abbrev won_note : Noted
   won_note = record { call = update_call c.component c.expected c.value; answer = answer.Applied at; note = Some (note.Wrote (length log)) }
 
-  won : (found == old) ≡ true → LeadsAt z o words before x after log s (Exchanging c old at) step
+  won : (found == old) ≡ true → LeadsAt z o m (Exchanging c old at) step
   won same =
       let is : found ≡ old = eqb-true found old same in
       let y = gone x won_log found (won_note ∷ []) in
@@ -179,14 +180,14 @@ module _ (z : Layout) (o : Opening) (words : List ℕ) (before : List Part) (x :
       let leads : advance_at s (Exchanging c old at) found ≡ t = ap (λ (b : Bool). at_stage s (Finished (cond b (reply.Applied at) (overtaken_reply c found)))) same in
       let added : added_at s.port (Exchanging c old at) found ≡ entry ∷ [] = ap (λ b. cond {A = List Applied} b (entry ∷ []) []) same in
       let words' = words_after words step in
-      let holds : holding_of y ≡ dropped = holding_gone z o words before x after log w (Exchanging c old at) t won_log found (won_note ∷ []) e leads in
-      let keeps : IsKept z o words (holdings before) (holding_of x) (holdings after) log words' (holding_of y) won_log =
-      subst (λ (h : Holding). IsKept z o words (holdings before) (holding_of x) (holdings after) log words' h won_log) (sym holds)
-      (kept_here words' dropped won_log (wins_are_kept z o words (holdings before) held (holdings after) log due (memory_at z o words before x after log w (Exchanging c old at) e) refl is)) in
+      let holds : holding_of y ≡ dropped = holding_gone z o m w (Exchanging c old at) t won_log found (won_note ∷ []) e leads in
+      let keeps : IsKeptAmong z o m (holding_of x) words' (holding_of y) won_log =
+      subst (λ (h : Holding). IsKeptAmong z o m (holding_of x) words' h won_log) (sym holds)
+      (kept_here words' dropped won_log (wins_are_kept z o words (holdings before) held (holdings after) log due (memory_at z o m w (Exchanging c old at) e) refl is)) in
       let split = holdings_split before y after in
       let here : IsKnown z o words' (holdings (before ++ y ∷ after)) won_log x = known_grows z o words words' hs (holdings (before ++ y ∷ after)) log (entry ∷ [])
       (λ n k l. subst (λ (ks : List Holding). IsLoaded z o words' ks won_log n k) (sym split)
-      (keeps.loads n k (subst (λ (ks : List Holding). IsLoaded z o words ks log n k) (holdings_split before x after) l))) x (known_here z o words before x after log w) in
+      (keeps.loads n k (subst (λ (ks : List Holding). IsLoaded z o words ks log n k) (holdings_split before x after) l))) x (known_here z o m w) in
       let longer : length won_log ≡ length log + 1 = length_push log entry in
       let pushed = seen_by-push 0 x.notes won_note in
       let due_step : step_of s ≡ Some step = ap (λ (u : Stage). step_at s u) e in
@@ -194,9 +195,9 @@ module _ (z : Layout) (o : Opening) (words : List ℕ) (before : List Part) (x :
       let known : IsKnown z o words' (holdings (before ++ y ∷ after)) won_log y = known_end z o words' (holdings (before ++ y ∷ after)) won_log x found won_note here (ap is_at_rest e) possible_here
       (subst (λ (f : Option Step). IsTrueYet z o words' (holdings (before ++ y ∷ after)) won_log f (record { answer = found; at = length won_log })) (sym due_step) tt)
       (won_legal c.expected refl is) (omega (arith, pushed, longer)) (ap (λ (u : Stage). is_at_rest (advance_at s u found).stage) e ∙ ap (λ (d : CoreState). is_at_rest d.stage) leads) in
-      let lawful : Lawful z o words' (before ++ y ∷ after) won_log = changed z o words words' before x y after log (entry ∷ []) w keeps
+      let lawful : LawfulAmong z o (record m { words = words'; part = y; log = won_log }) = changed z o m words' y (entry ∷ []) w keeps
       (λ p. won_once p y refl (places_written-append x.notes (won_note ∷ []))) known in
-      let g = going z o words before x after log w (Exchanging c old at) e refl refl in
+      let g = going z o m w (Exchanging c old at) e refl refl in
       let order = g.order in
       let last = g.inside in
       record {
@@ -214,15 +215,15 @@ module _ (z : Layout) (o : Opening) (words : List ℕ) (before : List Part) (x :
               placed = omega (arith, longer);
               stamps = tt;
             });
-        lawful = subst (λ (es : List Applied). Lawful z o words' (before ++ gone x (log ++ es) found (won_note ∷ []) ∷ after) (log ++ es)) (sym added) lawful;
+        lawful = subst (λ (es : List Applied). LawfulAmong z o (record m { words = words'; part = gone x (log ++ es) found (won_note ∷ []); log = log ++ es })) (sym added) lawful;
         loads = λ n k l. subst (λ (es : List Applied). IsLoaded z o words' (holdings (before ++ gone x (log ++ es) found (won_note ∷ []) ∷ after)) (log ++ es) n k) (sym added)
             (subst (λ (ks : List Holding). IsLoaded z o words' ks won_log n k) (sym split)
             (keeps.loads n k (subst (λ (ks : List Holding). IsLoaded z o words ks log n k) (holdings_split before x after) l)));
       }
 
-  pub record_exchanged : LeadsAt z o words before x after log s (Exchanging c old at) step
+  pub record_exchanged : LeadsAt z o m (Exchanging c old at) step
   record_exchanged = either (found == old) refl
     where
-      either : (b : Bool) → (found == old) ≡ b → LeadsAt z o words before x after log s (Exchanging c old at) step
+      either : (b : Bool) → (found == old) ≡ b → LeadsAt z o m (Exchanging c old at) step
       either true is = won is
       either false is = lost_at c.expected refl is

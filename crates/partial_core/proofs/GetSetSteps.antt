@@ -1,5 +1,5 @@
 -- The steps of a getSet under way in an update.
-use Rattle.partial_core.proofs.Common.{ℕ, ◌≡◌, ◌+◌, ◌-◌, ◌<◌, ◌≤◌, ◌==◌, ◌⊎◌, ◌&&◌, ◌++◌, not, eqb, ltb, Bool, true, false, cond, Option, Some, None, List, [], ◌∷◌, length, get_or, inl, inr, refl, sym, ap, subst, ◌∙◌, arith, min, cond_both, ltb-true, ltb-false, eqb-true, option_map_or, Applied, Opening, Ranges, highest, Step, Load, Store, Exchange, Add, Layout, list_counter, list_end, list_head, greatest_list, answer_of, words_after, word_of, list_block, list_size, intervals_word, length-pairs, next_word, indices_word, begins_at, with_index, Change, Reply, Stage, is_sound_at, Own, Holding, Lists, IsKept, lists_bound, list_refusals_are_kept, claims_are_kept, stores_are_kept, publishings_are_kept, loads_are_true, LawfulWords, getsets_know, Part, core_of, first_at, Lawful, holdings, holding_of, joined_since, own_list, holding_at, AreNotesOf, IsTrueYet}
+use Rattle.partial_core.proofs.Common.{ℕ, ◌≡◌, ◌+◌, ◌-◌, ◌<◌, ◌≤◌, ◌==◌, ◌⊎◌, ◌&&◌, ◌++◌, not, eqb, ltb, Bool, true, false, cond, Option, Some, None, List, [], ◌∷◌, length, get_or, inl, inr, refl, sym, ap, subst, ◌∙◌, arith, min, cond_both, ltb-true, ltb-false, eqb-true, option_map_or, Opening, Ranges, highest, Step, Load, Store, Exchange, Add, Layout, list_counter, list_end, list_head, greatest_list, answer_of, words_after, word_of, list_block, list_size, intervals_word, length-pairs, next_word, indices_word, begins_at, with_index, Change, Reply, Stage, is_sound_at, Own, Holding, Lists, claims_are_kept, stores_are_kept, publishings_are_kept, loads_are_true, LawfulWords, getsets_know, core_of, first_at, holdings, holding_of, joined_since, own_list, holding_at, AreNotesOf, IsTrueYet, PartAmong, LawfulAmong, ListWords, counter_bound, refusals_are_kept}
 use Rattle.partial_active.specs.GetSet as finding
 use Rattle.partial_active.specs.GetSetAnswers as finding_answers
 use Rattle.partial_active.specs.Knowledge.{knows_by}
@@ -10,7 +10,7 @@ use Rattle.partial_embedded.specs.Embedded as viewing
 use Rattle.partial_machine.specs.declared.stage.Stage.TheVariants.{GettingSet, Viewing, ClaimingRecord}
 use Rattle.partial_machine.specs.Machine.{CoreState, getting, with_getting, after_getting, advance_at, step_at, reply_of, reply_at}
 use Rattle.partial_knowledge.specs.Sets as sets
-use Rattle.partial_core.proofs.Parts.{gone}
+use Rattle.partial_core.proofs.Parts.{LawfulWith, IsKeptAmong, gone}
 use Rattle.partial_core.proofs.Steps.{LeadsAt, holding_in, sizes_here, sound_at, memory_at, going, quiet, load_quiet}
 
 -- what a port holds in a getSet
@@ -125,16 +125,18 @@ calm_load y head n (Write at k count word) p a e = absurd cc
 calm_load y head n (Publish at) p a e = absurd cc
 calm_load y head n Done p a e = absurd cc
 
-module _ (z : Layout) (o : Opening) (words : List ℕ) (before : List Part) (x : Part) (after : List Part) (log : List Applied) (w : Lawful z o words (before ++ x ∷ after) log) (c : Change) (old : ℕ)
-    (e : (core_of x).stage ≡ GettingSet c old) where
+module _ (z : Layout) (o : Opening) (m : PartAmong) (w : LawfulAmong z o m) (c : Change) (old : ℕ)
+    (e : (core_of m.part).stage ≡ GettingSet c old) where
+  open m use {words, before, part as x, after, log}
+
   gets : is_sound_at (core_of x) (GettingSet c old)
-  gets = sound_at z o words before x after log w (GettingSet c old) e
+  gets = sound_at z o m w (GettingSet c old) e
 
   same_sizes : (core_of x).get_set.sizes ≡ z
-  same_sizes = let h = gets in h.2 ∙ sizes_here z o words before x after log w
+  same_sizes = let h = gets in h.2 ∙ sizes_here z o m w
 
   knows : sets.SetKnows z words (holdings (before ++ x ∷ after)) (first_at x.kept) (getting (core_of x))
-  knows = let g = going z o words before x after log w (GettingSet c old) e refl refl in g.knows.1
+  knows = let g = going z o m w (GettingSet c old) e refl refl in g.knows.1
 
   -- it leads on
   leads_on : sets.SetKnowsOn z o words (holdings (before ++ x ∷ after)) log (first_at x.kept) (getting (core_of x))
@@ -158,17 +160,17 @@ module _ (z : Layout) (o : Opening) (words : List ℕ) (before : List Part) (x :
       ∙ ap (λ (b : Bool). in_set (core_of x) own b) marks
 
   -- a load
-  load_leads : (n : ℕ) → step_at (core_of x) (GettingSet c old) ≡ Some (Load n) → LeadsAt z o words before x after log (core_of x) (GettingSet c old) (Load n)
+  load_leads : (n : ℕ) → step_at (core_of x) (GettingSet c old) ≡ Some (Load n) → LeadsAt z o m (GettingSet c old) (Load n)
   load_leads n due =
       let s : CoreState = core_of x in
-      let g = going z o words before x after log w (GettingSet c old) e refl refl in
+      let g = going z o m w (GettingSet c old) e refl refl in
       let order = g.order in
       let inside = g.inside in
       let leads = leads_on in
       let readable = leads.readable n due in
       let possible = leads.possible n due (loads_are_true z o words (holdings (before ++ x ∷ after)) log n w.memory readable.0 readable.1) (omega (arith, order, inside)) in
       let calm = calm_load s.get_set.sizes s.get_set.head n s.get_set.stage (getting (core_of x)) (get_or words n 0) due in
-      load_quiet z o words before x after log w (GettingSet c old) n (advance_at (core_of x) (GettingSet c old) (get_or words n 0)) e due refl refl readable possible
+      load_quiet z o m w (GettingSet c old) n (advance_at (core_of x) (GettingSet c old) (get_or words n 0)) e due refl refl readable possible
       (holds_then (get_or words n 0) (own_list s.found.next s.get_set.stage) s.get_set.lists_spent (calm.1.0 ∙ sym calm.0) calm.1.1)
       refl (silent (get_or words n 0))
 
@@ -185,11 +187,11 @@ module _ (z : Layout) (o : Opening) (words : List ℕ) (before : List Part) (x :
 
   -- the words with what the port holds, as it is named
   memory_in : (own : Option Own) (spent : Bool) → own_list (core_of x).found.next (core_of x).get_set.stage ≡ own → (core_of x).get_set.lists_spent ≡ spent →
-      LawfulWords z o words (holdings before ++ in_set (core_of x) own spent ∷ holdings after) log
+      LawfulWith z o m (in_set (core_of x) own spent)
   memory_in own spent owns marks =
-      subst (λ (b : Bool). LawfulWords z o words (holdings before ++ in_set (core_of x) own b ∷ holdings after) log) marks
-      (subst (λ (f : Option Own). LawfulWords z o words (holdings before ++ in_set (core_of x) f (core_of x).get_set.lists_spent ∷ holdings after) log) owns
-      (memory_at z o words before x after log w (GettingSet c old) e))
+      subst (λ (b : Bool). LawfulWith z o m (in_set (core_of x) own b)) marks
+      (subst (λ (f : Option Own). LawfulWith z o m (in_set (core_of x) f (core_of x).get_set.lists_spent)) owns
+      (memory_at z o m w (GettingSet c old) e))
 
   -- a step that isn't a load, from what it does to the words and to what the port holds
   made : (stage : SetStage) (step : Step) (own own' : Option Own) (spent spent' : Bool) → (core_of x).get_set.stage ≡ stage → finding.set_step_at z (core_of x).get_set.head stage ≡ Some step →
@@ -198,23 +200,23 @@ module _ (z : Layout) (o : Opening) (words : List ℕ) (before : List Part) (x :
       finding_answers.is_possible_at stage (getting (core_of x)) (answer_of words step) →
       own_list (finding.advance_set_at stage (getting (core_of x)) (answer_of words step)).1.next (finding.advance_set_at stage (getting (core_of x)) (answer_of words step)).0.stage ≡ own' →
       (finding.advance_set_at stage (getting (core_of x)) (answer_of words step)).0.lists_spent ≡ spent' →
-      (LawfulWords z o words (holdings before ++ in_set (core_of x) own spent ∷ holdings after) log → IsKept z o words (holdings before) (in_set (core_of x) own spent) (holdings after) log
+      (LawfulWith z o m (in_set (core_of x) own spent) → IsKeptAmong z o m (in_set (core_of x) own spent)
       (words_after words step) (in_set (core_of x) own' spent') log) →
       ((hs : List Holding) → IsTrueYet z o (words_after words step) hs log (Some step) (record { answer = answer_of words step; at = length log })) →
-      LeadsAt z o words before x after log (core_of x) (GettingSet c old) step
+      LeadsAt z o m (GettingSet c old) step
   made stage step own own' spent spent' is due within owns marks possible owns' marks' kept yet =
       let a : ℕ = answer_of words step in
       let now : own_list (core_of x).found.next (core_of x).get_set.stage ≡ own = ap (own_list (core_of x).found.next) is ∙ owns in
-      let keeps : IsKept z o words (holdings before) (in_set (core_of x) own spent) (holdings after) log (words_after words step) (in_set (core_of x) own' spent') log =
+      let keeps : IsKeptAmong z o m (in_set (core_of x) own spent) (words_after words step) (in_set (core_of x) own' spent') log =
       kept (memory_in own spent now marks) in
-      let keeps_marked = subst (λ (b : Bool). IsKept z o words (holdings before) (in_set (core_of x) own b) (holdings after) log (words_after words step)
+      let keeps_marked = subst (λ (b : Bool). IsKeptAmong z o m (in_set (core_of x) own b) (words_after words step)
       (in_set (core_of x) own' spent') log) (sym marks) keeps in
-      let keeps_owned = subst (λ (f : Option Own). IsKept z o words (holdings before) (in_set (core_of x) f (core_of x).get_set.lists_spent) (holdings after) log (words_after words step)
+      let keeps_owned = subst (λ (f : Option Own). IsKeptAmong z o m (in_set (core_of x) f (core_of x).get_set.lists_spent) (words_after words step)
       (in_set (core_of x) own' spent') log) (sym now) keeps_marked in
-      let keeps_here : IsKept z o words (holdings before) (holding_of x) (holdings after) log (words_after words step) (in_set (core_of x) own' spent') log =
-      subst (λ (v : Stage). IsKept z o words (holdings before) (holding_in (core_of x) v (joined_since x)) (holdings after) log (words_after words step)
+      let keeps_here : IsKeptAmong z o m (holding_of x) (words_after words step) (in_set (core_of x) own' spent') log =
+      subst (λ (v : Stage). IsKeptAmong z o m (holding_in (core_of x) v (joined_since x)) (words_after words step)
       (in_set (core_of x) own' spent') log) (sym e) keeps_owned in
-      quiet z o words before x after log w (GettingSet c old) step (advance_at (core_of x) (GettingSet c old) (answer_of words step)) (in_set (core_of x) own' spent') e
+      quiet z o m w (GettingSet c old) step (advance_at (core_of x) (GettingSet c old) (answer_of words step)) (in_set (core_of x) own' spent') e
       (due_at stage step is due) refl refl within
       (subst (λ (t : SetStage). finding_answers.is_possible_at t (getting (core_of x)) (answer_of words step)) (sym is) possible)
       (holds_then a own' spent' (ap (λ (t : SetStage). own_list (finding.advance_set_at t (getting (core_of x)) a).1.next (finding.advance_set_at t (getting (core_of x)) a).0.stage) is ∙ owns')
@@ -230,7 +232,7 @@ module _ (z : Layout) (o : Opening) (words : List ℕ) (before : List Part) (x :
   listed at stored = Some (record { space = Lists; at = at; words = list_block (core_of x).found.next; stored = stored })
 
   -- the claim of the words of a list, within the list words or past their end
-  claim_leads : (count : ℕ) → (core_of x).get_set.stage ≡ Claim count → LeadsAt z o words before x after log (core_of x) (GettingSet c old) (Add (list_counter z) count)
+  claim_leads : (count : ℕ) → (core_of x).get_set.stage ≡ Claim count → LeadsAt z o m (GettingSet c old) (Add (list_counter z) count)
   claim_leads count is = by_room (ltb (list_end s.get_set.sizes) (n + count)) refl
     where
       s : CoreState
@@ -252,7 +254,7 @@ module _ (z : Layout) (o : Opening) (words : List ℕ) (before : List Part) (x :
       within = let long = w.memory.count in let some = w.memory.sizes.slots.0 in omega (arith, long, some)
 
       possible : finding_answers.IsListClaim s.get_set.sizes n
-      possible = subst (λ (y : Layout). finding_answers.IsListClaim y n) (sym same_sizes) (w.memory.lists_low, lists_bound z o words (holdings (before ++ x ∷ after)) log w.memory)
+      possible = subst (λ (y : Layout). finding_answers.IsListClaim y n) (sym same_sizes) ((w.memory.counters ListWords).low, counter_bound z o words (holdings (before ++ x ∷ after)) log w.memory ListWords)
 
       length_is : length (list_block s.found.next) ≡ count
       length_is = let long = block_length s.found.next in let counts = has.count in omega (arith, long, counts)
@@ -264,14 +266,14 @@ module _ (z : Layout) (o : Opening) (words : List ℕ) (before : List Part) (x :
           let slots : s.get_set.sizes.slots ≡ z.slots = ap (λ (y : Layout). y.slots) same_sizes in
           omega (arith, counts, most, slots)
 
-      by_room : (b : Bool) → ltb (list_end s.get_set.sizes) (n + count) ≡ b → LeadsAt z o words before x after log s (GettingSet c old) (Add (list_counter z) count)
+      by_room : (b : Bool) → ltb (list_end s.get_set.sizes) (n + count) ≡ b → LeadsAt z o m (GettingSet c old) (Add (list_counter z) count)
       by_room true over =
           let beyond = ltb-true (list_end s.get_set.sizes) (n + count) over in
           let p : finding.SetPair = getting s in
           let spent : Bool → finding.SetPair = λ b. cond b (record p.0 { lists_spent = true; stage = Done }, p.1) (finding.in_stage p (Write n 0 count (length p.1.next))) in
           made (Claim count) (Add (list_counter z) count) None None false true is refl within refl unmarked possible
           (ap (λ (b : Bool). own_list (spent b).1.next (spent b).0.stage) over) (ap (λ (b : Bool). (spent b).0.lists_spent) over)
-          (λ m. list_refusals_are_kept z o words (holdings before) (in_set s None false) (holdings after) log count m refl few (omega (arith, beyond, end_is)))
+          (λ memory. refusals_are_kept z o words (holdings before) (in_set s None false) (holdings after) log ListWords count memory refl few (omega (arith, beyond, end_is)))
           (λ hs. tt)
       by_room false fits =
           let room = ltb-false (list_end s.get_set.sizes) (n + count) fits in
@@ -279,12 +281,12 @@ module _ (z : Layout) (o : Opening) (words : List ℕ) (before : List Part) (x :
           let claimed : Bool → finding.SetPair = λ b. cond b (record p.0 { lists_spent = true; stage = Done }, p.1) (finding.in_stage p (Write n 0 count (length p.1.next))) in
           made (Claim count) (Add (list_counter z) count) None (listed n 0) false false is refl within refl unmarked possible
           (ap (λ (b : Bool). own_list (claimed b).1.next (claimed b).0.stage) fits) (ap (λ (b : Bool). (claimed b).0.lists_spent) fits ∙ unmarked)
-          (λ m. subst (λ i. IsKept z o words (holdings before) (in_set s None false) (holdings after) log (words_after words (Add (list_counter z) i)) (in_set s (listed n 0) false) log) length_is
-          (claims_are_kept z o words (holdings before) (in_set s None false) (holdings after) log Lists (list_block s.found.next) m refl refl (omega (arith, room, end_is, length_is))))
+          (λ memory. subst (λ i. IsKeptAmong z o m (in_set s None false) (words_after words (Add (list_counter z) i)) (in_set s (listed n 0) false) log) length_is
+          (claims_are_kept z o words (holdings before) (in_set s None false) (holdings after) log Lists (list_block s.found.next) memory refl refl (omega (arith, room, end_is, length_is))))
           (λ hs. tt)
 
   -- the store of the next word of the list
-  write_leads : (at k count word : ℕ) → (core_of x).get_set.stage ≡ Write at k count word → LeadsAt z o words before x after log (core_of x) (GettingSet c old) (Store (at + k) word)
+  write_leads : (at k count word : ℕ) → (core_of x).get_set.stage ≡ Write at k count word → LeadsAt z o m (GettingSet c old) (Store (at + k) word)
   write_leads at k count word is =
       let s : CoreState = core_of x in
       let goes = goes_at (Write at k count word) is in
@@ -299,14 +301,14 @@ module _ (z : Layout) (o : Opening) (words : List ℕ) (before : List Part) (x :
       (λ last. let whole = eqb-true (k + 1) count last in ap (listed at) (omega (arith, whole, length_is)))
       (λ more. refl))
       refl
-      (λ m. subst (λ v. IsKept z o words (holdings before) (in_set s (listed at k) s.get_set.lists_spent) (holdings after) log (words_after words (Store (at + k) v))
+      (λ memory. subst (λ v. IsKeptAmong z o m (in_set s (listed at k) s.get_set.lists_spent) (words_after words (Store (at + k) v))
       (in_set s (listed at (k + 1)) s.get_set.lists_spent) log) (sym goes.3)
       (stores_are_kept z o words (holdings before) (in_set s (listed at k) s.get_set.lists_spent) (holdings after) log (record { space = Lists; at = at; words = list_block s.found.next; stored = k })
-      m refl refl (omega (arith, less, length_is))))
+      memory refl refl (omega (arith, less, length_is))))
       (λ hs. tt)
 
   -- the exchange of the list head
-  publish_leads : (at : ℕ) → (core_of x).get_set.stage ≡ Publish at → LeadsAt z o words before x after log (core_of x) (GettingSet c old) (Exchange (list_head z) (core_of x).get_set.head at)
+  publish_leads : (at : ℕ) → (core_of x).get_set.stage ≡ Publish at → LeadsAt z o m (GettingSet c old) (Exchange (list_head z) (core_of x).get_set.head at)
   publish_leads at is =
       let s : CoreState = core_of x in
       let goes = goes_at (Publish at) is in
@@ -315,18 +317,18 @@ module _ (z : Layout) (o : Opening) (words : List ℕ) (before : List Part) (x :
       let some = w.memory.sizes.slots.0 in
       made (Publish at) (Exchange (list_head z) s.get_set.head at) (listed at (length (list_block s.found.next))) None s.get_set.lists_spent s.get_set.lists_spent is refl
       (omega (arith, long, some)) refl refl tt refl refl
-      (λ m. publishings_are_kept z o words (holdings before) (in_set s (listed at (length (list_block s.found.next))) s.get_set.lists_spent) (holdings after) log s.get_set.head at s.found.next m
+      (λ memory. publishings_are_kept z o words (holdings before) (in_set s (listed at (length (list_block s.found.next))) s.get_set.lists_spent) (holdings after) log s.get_set.head at s.found.next memory
       refl refl goes.0 known.0)
       (λ hs. tt)
 
   -- the step that is due at a stage of the getSet
   stage_leads : (stage : SetStage) (step : Step) → (core_of x).get_set.stage ≡ stage → finding.set_step_at z (core_of x).get_set.head stage ≡ Some step →
-      LeadsAt z o words before x after log (core_of x)
+      LeadsAt z o m
       (GettingSet c old) step
   stage_leads stage step is due = by_step stage step is due (due_at stage step is due)
     where
       Led : Step → Type 0
-      Led t = LeadsAt z o words before x after log (core_of x) (GettingSet c old) t
+      Led t = LeadsAt z o m (GettingSet c old) t
 
       by_step : (u : SetStage) (t : Step) → (core_of x).get_set.stage ≡ u → finding.set_step_at z (core_of x).get_set.head u ≡ Some t → step_at (core_of x) (GettingSet c old) ≡ Some t → Led t
       by_step u (Load n) at due here = load_leads n here
@@ -337,8 +339,8 @@ module _ (z : Layout) (o : Opening) (words : List ℕ) (before : List Part) (x :
       by_step u t at due here = absurd cc
 
 -- the due step of a getSet under way in an update
-pub getting_leads : (z : Layout) (o : Opening) (words : List ℕ) (before : List Part) (x : Part) (after : List Part) (log : List Applied) (w : Lawful z o words (before ++ x ∷ after) log) (c : Change)
-    (old : ℕ) (step : Step) → (core_of x).stage ≡ GettingSet c old → step_at (core_of x) (GettingSet c old) ≡ Some step → LeadsAt z o words before x after log (core_of x) (GettingSet c old) step
-getting_leads z o words before x after log w c old step e due =
-    stage_leads z o words before x after log w c old e (core_of x).get_set.stage step refl
-    (ap (λ (y : Layout). finding.set_step_at y (core_of x).get_set.head (core_of x).get_set.stage) (sym (same_sizes z o words before x after log w c old e)) ∙ due)
+pub getting_leads : (z : Layout) (o : Opening) (m : PartAmong) (w : LawfulAmong z o m) (c : Change) (old : ℕ) (step : Step) → (core_of m.part).stage ≡ GettingSet c old →
+    step_at (core_of m.part) (GettingSet c old) ≡ Some step → LeadsAt z o m (GettingSet c old) step
+getting_leads z o m w c old step e due =
+    stage_leads z o m w c old e (core_of m.part).get_set.stage step refl
+    (ap (λ (y : Layout). finding.set_step_at y (core_of m.part).get_set.head (core_of m.part).get_set.stage) (sym (same_sizes z o m w c old e)) ∙ due)

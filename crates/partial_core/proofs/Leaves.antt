@@ -1,11 +1,11 @@
 -- The last step of a scan: what it answers stood together after one prefix of the history.
-use Rattle.partial_core.proofs.Common.{ℕ, zero, suc, ◌≡◌, ◌+◌, ◌<◌, ◌≤◌, ◌++◌, Bool, true, false, cond, Option, Some, None, IfSome, IsSome, List, [], ◌∷◌, length, map, slice_get, take, inl, inr, refl, sym, ap, subst, ◌∙◌, arith, Contains, slice_index, slice_index_or, AllByRecursion, Applied, Opening, value_of, Noted, NamesComponents, SawTogether, AreCollects, IsEntryFor, place_below, Store, Layout, slot_word, view_of, list_reads_back, Leaving, Finished, CoreState, scanning, scanned_values, scanned_reply, advance_at, step_at, HasPairs, Covers, ViewNames, Holding, IfJoined, unpublished, CoversAll, IsKept, leaves_are_kept, words_after, AreStamps, got, is_sound_at, Part, core_of, Lawful, holding_of, holdings, joined_since, call_at, AllByRecursion-get}
+use Rattle.partial_core.proofs.Common.{ℕ, zero, suc, ◌≡◌, ◌+◌, ◌<◌, ◌≤◌, ◌++◌, Bool, true, false, cond, Option, Some, None, IfSome, IsSome, List, [], ◌∷◌, length, map, slice_get, take, inl, inr, refl, sym, ap, subst, ◌∙◌, arith, Contains, slice_index, slice_index_or, AllByRecursion, Applied, Opening, value_of, Noted, NamesComponents, SawTogether, AreCollects, IsEntryFor, place_below, Store, Layout, slot_word, view_of, list_reads_back, Leaving, Finished, CoreState, scanning, scanned_values, scanned_reply, advance_at, step_at, HasPairs, Covers, ViewNames, Holding, IfJoined, unpublished, CoversAll, leaves_are_kept, words_after, AreStamps, got, is_sound_at, core_of, holding_of, holdings, joined_since, call_at, AllByRecursion-get, PartAmong, LawfulAmong}
 use Rattle.partial_model.specs.declared.call.Call.TheVariants as call
 use Rattle.partial_model.specs.declared.call.Answer.TheVariants as answer
 use Rattle.partial_model.specs.declared.call.Note.TheVariants as note
 use Rattle.partial_knowledge.specs.Scans as scans
 use Rattle.partial_core.proofs.MidCalls.{is_finished}
-use Rattle.partial_core.proofs.Parts.{gone, gone_core, all_at, holdings_split}
+use Rattle.partial_core.proofs.Parts.{IsKeptAmong, gone, gone_core, all_at, holdings_split}
 use Rattle.partial_core.proofs.Steps.{LeadsAt, holding_in, known_here, sizes_here, sound_here, sound_at, memory_at, going, ends}
 use Rattle.partial_model.proofs.Values.{element_at}
 
@@ -56,8 +56,10 @@ are_collects : (r c : ℕ) (b : Option ℕ) → 0 < r → 2 ≤ c → c ≤ r + 
 are_collects zero c b some two few three = absurd (omega (arith, some))
 are_collects (suc r) c b some two few three = (two, omega (arith, few), three)
 
-module _ (z : Layout) (o : Opening) (words : List ℕ) (before : List Part) (x : Part) (after : List Part) (log : List Applied) (w : Lawful z o words (before ++ x ∷ after) log)
-    (e : (core_of x).stage ≡ Leaving) where
+module _ (z : Layout) (o : Opening) (m : PartAmong) (w : LawfulAmong z o m)
+    (e : (core_of m.part).stage ≡ Leaving) where
+  open m use {words, before, part as x, after, log}
+
   abbrev hs : List Holding
   hs = holdings (before ++ x ∷ after)
 
@@ -148,9 +150,9 @@ module _ (z : Layout) (o : Opening) (words : List ℕ) (before : List Part) (x :
 
   saw : Saw
   saw =
-      let g = going z o words before x after log w Leaving e refl refl in
+      let g = going z o m w Leaving e refl refl in
       let known = g.knows in
-      let k = known_here z o words before x after log w in
+      let k = known_here z o m w in
       let begun = subst (is_sound_at x.begun) known.0.called k.sound.stage in
       let some : 0 < length s.asked = let same : length s.asked ≡ length x.begun.asked = ap length known.0.asked in let first = begun.0 in omega (arith, same, first) in
       by_borrowed s.embedded.borrowed refl known.5 some known.4 known.3
@@ -163,29 +165,29 @@ module _ (z : Layout) (o : Opening) (words : List ℕ) (before : List Part) (x :
   -- the step that is due
   pub leave_due : step_at s Leaving ≡ Some (Store (slot_word z s.leave.slot) 1)
   leave_due =
-      let sound = sound_at z o words before x after log w Leaving e in
-      let leave_sizes : s.leave.sizes ≡ z = sound.0 ∙ sizes_here z o words before x after log w in
+      let sound = sound_at z o m w Leaving e in
+      let leave_sizes : s.leave.sizes ≡ z = sound.0 ∙ sizes_here z o m w in
       ap (λ (b : Bool). cond b None (Some (Store (slot_word s.leave.sizes s.leave.slot) 1))) sound.2 ∙ ap (λ (y : Layout). Some (Store (slot_word y s.leave.slot) 1)) leave_sizes
 
   -- the scan's store that leaves its slot
-  pub leaves : LeadsAt z o words before x after log s Leaving (Store (slot_word z s.leave.slot) 1)
+  pub leaves : LeadsAt z o m Leaving (Store (slot_word z s.leave.slot) 1)
   leaves =
       let seen = saw in
-      let g = going z o words before x after log w Leaving e refl refl in
+      let g = going z o m w Leaving e refl refl in
       let known = g.knows in
-      let k = known_here z o words before x after log w in
-      let sound = sound_at z o words before x after log w Leaving e in
-      let sizes = sizes_here z o words before x after log w in
+      let k = known_here z o m w in
+      let sound = sound_at z o m w Leaving e in
+      let sizes = sizes_here z o m w in
       let slot : s.leave.slot < z.slots = subst (λ (y : Layout). s.leave.slot < y.slots) sizes sound.1 in
       let t : CoreState = record s { leave = record s.leave { left = true }; stage = Finished (scanned_reply s) } in
       let held = holding_in s Leaving (joined_since x) in
       let keeps = leaves_are_kept z o words (holdings before) held (holdings after) log s.leave.slot (record { at = s.join.announcement; indices = s.asked; since = joined_since x })
-      (memory_at z o words before x after log w Leaving e) refl in
-      let keeps_x : IsKept z o words (holdings before) (holding_of x) (holdings after) log (words_after words (Store (slot_word z s.leave.slot) 1)) (record held { claimed = None }) log =
-      subst (λ u. IsKept z o words (holdings before) (holding_in s u (joined_since x)) (holdings after) log (words_after words (Store (slot_word z s.leave.slot) 1))
+      (memory_at z o m w Leaving e) refl in
+      let keeps_x : IsKeptAmong z o m (holding_of x) (words_after words (Store (slot_word z s.leave.slot) 1)) (record held { claimed = None }) log =
+      subst (λ u. IsKeptAmong z o m (holding_in s u (joined_since x)) (words_after words (Store (slot_word z s.leave.slot) 1))
       (record held { claimed = None }) log) (sym e) keeps in
       let n : Noted = record { call = call.Scan s.asked; answer = answer.Scanned (scanned_values s) s.embedded.collects s.embedded.borrowed; note = Some (note.Saw seen.prefix) } in
-      let each = sound_here z o words before x after log w in
+      let each = sound_here z o m w in
       let m_is = ap (λ (y : Layout). y.m) sizes in
       let values = w.memory.values in
       let names : NamesComponents (length o.values) (call.Scan s.asked) = names_all (length o.values) s.asked (λ i lt. let below = each.asked.each i lt in omega (arith, below, m_is, values)) in
@@ -194,7 +196,7 @@ module _ (z : Layout) (o : Opening) (words : List ℕ) (before : List Part) (x :
       let from = seen.from in
       let inside = seen.together.within in
       let count = w.memory.count in
-      ends z o words before x after log w Leaving (Store (slot_word z s.leave.slot) 1) t (record held { claimed = None }) e leave_due refl refl
+      ends z o m w Leaving (Store (slot_word z s.leave.slot) 1) t (record held { claimed = None }) e leave_due refl refl
       (omega (arith, slot, count)) refl refl keeps_x (λ ks is. tt)
       n refl (names, (seen.together, omega (arith, low, first, from))) inside refl
       (record {

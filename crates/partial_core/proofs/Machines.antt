@@ -4,18 +4,18 @@ use Rattle.partial_core.proofs.Steps.{known_here, sizes_here, sound_here, port_h
 use Rattle.partial_core.proofs.AllSteps.{fresh_call, begin_lawful}
 
 pub lawful_machines_are_ready : LawfulMachinesAreReady
-lawful_machines_are_ready z o words before x after log c w m = by m
+lawful_machines_are_ready z o m c w its = by its
   where
-    by : HasBegun c x ⊎ IsLedTo c x → IsReady z c x
+    by : HasBegun c m.part ⊎ IsLedTo c m.part → IsReady z c m.part
     by (inl h) =
-        let k = known_here z o words before (fresh_call c x) after log (begin_lawful z o words before x after log w c h) in
+        let k = known_here z o (record m { part = fresh_call c m.part }) (begin_lawful z o m w c h) in
         let sound = k.sound in
-        record { sound = sound; sizes = k.sizes; number = h.like.port ∙ port_here z o words before x after log w; due = due_at c c.stage sound.stage }
+        record { sound = sound; sizes = k.sizes; number = h.like.port ∙ port_here z o m w; due = due_at c c.stage sound.stage }
     by (inr l) =
-        let sound : IsSound c = subst IsSound (sym l.is) (sound_here z o words before x after log w) in
+        let sound : IsSound c = subst IsSound (sym l.is) (sound_here z o m w) in
         record {
           sound = sound;
-          sizes = ap (λ (s : CoreState). s.sizes) l.is ∙ sizes_here z o words before x after log w;
-          number = ap (λ (s : CoreState). s.port) l.is ∙ port_here z o words before x after log w;
+          sizes = ap (λ (s : CoreState). s.sizes) l.is ∙ sizes_here z o m w;
+          number = ap (λ (s : CoreState). s.port) l.is ∙ port_here z o m w;
           due = due_at c c.stage sound.stage;
         }

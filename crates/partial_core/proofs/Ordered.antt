@@ -1,5 +1,5 @@
 -- Lawful words are orderly, and the due step of a port moves a slot only as it may.
-use Rattle.partial_core.proofs.Common.{ℕ, ◌≡◌, ◌≢◌, ◌+◌, ◌<◌, ◌≤◌, ◌==◌, ◌⊎◌, ◌++◌, cond, Option, Some, None, IfSome, IsSome, List, ◌∷◌, length, get_or, inl, inr, refl, sym, ap, subst, ◌∙◌, arith, get_or-set_other, get_or-set_same, length-set, IsTrue, nat_lt, slice_index, ltb-true, eqb_tells, Applied, Opening, Step, Load, Store, Exchange, Add, Layout, slot_counter, list_head, pool_counter, list_counter, slot_word, list_base, word_of, words_after, announcement_block, announcement_size, list_block, length-pairs, value_word, Orderly, IsSlotMove, IsSlotOf, IsHeadOf, slot_at, JoinedAnnouncement, IsHead, Pool, Lists, Holding, ClaimedSlot, Own, Space, space_begin, unpublished, LawfulWords, IsOwn, IsTied, IsClaim, IsSlotAnswer, loads_are_true, if_some_at, lists_bound, join_step, fits_join, JoinStage, Claiming, Storing, Spent, Stage, CoreState, getting, record_size, record_words, step_at, step_of, is_sound_at, HasBegun, IsLedTo, IsMachineOf, Part, core_of, Lawful, holding_of, holdings, joined_since, own_list, own_at, slot_claimed, LawfulIsOrderly}
+use Rattle.partial_core.proofs.Common.{ℕ, ◌≡◌, ◌≢◌, ◌+◌, ◌<◌, ◌≤◌, ◌==◌, ◌⊎◌, ◌++◌, cond, Option, Some, None, IfSome, IsSome, List, ◌∷◌, length, get_or, inl, inr, refl, sym, ap, subst, ◌∙◌, arith, get_or-set_other, get_or-set_same, length-set, IsTrue, nat_lt, slice_index, ltb-true, eqb_tells, Applied, Opening, Step, Load, Store, Exchange, Add, Layout, slot_counter, list_head, pool_counter, list_counter, slot_word, list_base, word_of, words_after, announcement_block, announcement_size, list_block, length-pairs, value_word, Orderly, IsSlotMove, IsSlotOf, IsHeadOf, slot_at, JoinedAnnouncement, IsHead, Pool, Lists, Holding, ClaimedSlot, Own, Space, space_begin, unpublished, LawfulWords, IsOwn, IsTied, IsClaim, IsSlotAnswer, loads_are_true, if_some_at, join_step, fits_join, JoinStage, Claiming, Storing, Spent, Stage, CoreState, getting, record_size, record_words, step_at, step_of, is_sound_at, HasBegun, IsLedTo, IsMachineOf, core_of, holding_of, holdings, joined_since, own_list, own_at, slot_claimed, LawfulIsOrderly, PartAmong, LawfulAmong, ListWords, counter_bound}
 use Rattle.partial_active.specs.declared.join.JoinStage.TheVariants.{Joined as JoinedIn}
 use Rattle.partial_active.specs.GetSet as finding
 use Rattle.partial_active.specs.GetSetAnswers.{set_goes_at}
@@ -32,8 +32,8 @@ module _ (z : Layout) (o : Opening) (words : List ℕ) (hs : List Holding) (log 
     slots = λ l below. slot_of l (get_or words (slot_word z l) 0) (slot_now l below);
     unclaimed = w.unclaimed;
     head = head_of (get_or words (list_head z) 0) w.head;
-    lists_from = w.lists_low;
-    lists_to = lists_bound z o words hs log w;
+    lists_from = (w.counters ListWords).low;
+    lists_to = counter_bound z o words hs log w ListWords;
   }
 
 pub lawful_is_orderly : LawfulIsOrderly
@@ -139,12 +139,14 @@ set_touches z y words head (Publish at) p step e goes due = touches_same z words
     (inr (inl (let m = ap (λ (l : Layout). l.m) e in omega (arith, m))))
 set_touches z y words head SetDone p step e goes due = let bad : None ≡ Some step = due in absurd cc
 
-module _ (z : Layout) (o : Opening) (words : List ℕ) (before : List Part) (x : Part) (after : List Part) (log : List Applied) (w : Lawful z o words (before ++ x ∷ after) log) where
+module _ (z : Layout) (o : Opening) (m : PartAmong) (w : LawfulAmong z o m) where
+  open m use {words, before, part as x, after, log}
+
   abbrev s : CoreState
   s = core_of x
 
   sizes : s.sizes ≡ z
-  sizes = sizes_here z o words before x after log w
+  sizes = sizes_here z o m w
 
   of_size : (P : Layout → Type 0) → P s.sizes → P z
   of_size P p = subst P sizes p
@@ -154,10 +156,10 @@ module _ (z : Layout) (o : Opening) (words : List ℕ) (before : List Part) (x :
   join_touches step i e at due = by_stage i at
     where
       sound : is_sound_at (core_of x) Joining
-      sound = sound_at z o words before x after log w Joining e
+      sound = sound_at z o m w Joining e
 
       join_sizes : (core_of x).join.sizes ≡ z
-      join_sizes = sound.2 ∙ sizes_here z o words before x after log w
+      join_sizes = sound.2 ∙ sizes_here z o m w
 
       by_stage : (i : JoinStage) → s.join.stage ≡ i → Touches z words (own_at s Joining) step
       by_stage Claiming is =
@@ -167,7 +169,7 @@ module _ (z : Layout) (o : Opening) (words : List ℕ) (before : List Part) (x :
           let due' : Some (Store (slot_word s.join.sizes slot) s.join.announcement) ≡ Some step = sym (ap (λ (j : JoinStage). join_step s.join.sizes s.join.announcement j) is) ∙ due in
           let fits : IsTrue (nat_lt slot s.join.sizes.slots) = subst (λ (j : JoinStage). IsTrue (fits_join s.join.sizes j)) is sound.5 in
           let below : slot < z.slots = subst (λ (y : Layout). slot < y.slots) join_sizes (ltb-true slot s.join.sizes.slots fits) in
-          let memory = memory_at z o words before x after log w Joining e in
+          let memory = memory_at z o m w Joining e in
           let held = holding_in s Joining (joined_since x) in
           let claim : IfSome held.claimed (IsClaim z words (holdings before ++ held ∷ holdings after) log) =
           all_at (λ (g : Holding). IfSome g.claimed (IsClaim z words (holdings before ++ held ∷ holdings after) log)) (holdings before) held (holdings after) memory.claims in
@@ -187,25 +189,25 @@ module _ (z : Layout) (o : Opening) (words : List ℕ) (before : List Part) (x :
   touches_at (ReadBegun j) step e due = touches_same z words None (Load j) step due (inl (j, refl))
   touches_at (LoadingValue stamp) step e due = touches_same z words None (Load (value_word stamp)) step due (inl (value_word stamp, refl))
   touches_at (UpdateBegun c) step e due = touches_same z words None (Load c.component) step due (inl (c.component, refl))
-  touches_at (GettingSet c old) step e due = let sound = sound_at z o words before x after log w (GettingSet c old) e in set_touches z s.get_set.sizes words s.get_set.head s.get_set.stage
+  touches_at (GettingSet c old) step e due = let sound = sound_at z o m w (GettingSet c old) e in set_touches z s.get_set.sizes words s.get_set.head s.get_set.stage
       (getting s) step (sound.2 ∙ sizes) sound.1.stage due
   touches_at (Viewing c old) step e due = let load = view_loads s.embedded.sizes s.found.indices s.rows.last s.embedded.stage (subst (λ (f : Option Step). IsSome f) (sym due) refl) in touches_same z
       words None (Load load.0) step (sym load.1 ∙ due) (inl (load.0, refl))
   touches_at (ClaimingRecord c old) step e due = touches_same z words None (Add (pool_counter s.sizes) (record_size s)) step due
       (inr (inl (let m = ap (λ (l : Layout). l.m) sizes in omega (arith, m))))
   touches_at (StoringRecord c old at k) step e due =
-      let sound = sound_at z o words before x after log w (StoringRecord c old at k) e in
+      let sound = sound_at z o m w (StoringRecord c old at k) e in
       let less = sound.2 in
       let size = length_record s c old at in
       touches_same z words (own_at s (StoringRecord c old at k)) (Store (at + k) (slice_index (record_words s c old at) k)) step due
       (inr (inr (inl (record { space = Pool; at = at; words = record_words s c old at; stored = k }, slice_index (record_words s c old at) k, refl, omega (arith, size, less), refl))))
   touches_at (Exchanging c old at) step e due =
-      let below : c.component < z.m = of_size (λ (y : Layout). c.component < y.m) (sound_at z o words before x after log w (Exchanging c old at) e).0.0 in
+      let below : c.component < z.m = of_size (λ (y : Layout). c.component < y.m) (sound_at z o m w (Exchanging c old at) e).0.0 in
       touches_same z words (own_at s (Exchanging c old at)) (Exchange c.component old at) step due (inr (inl (omega (arith, below))))
   touches_at ScanBegun step e due = touches_same z words None (Add (pool_counter s.sizes) (announcement_size (length s.asked))) step due
       (inr (inl (let m = ap (λ (l : Layout). l.m) sizes in omega (arith, m))))
   touches_at (StoringAnnouncement at k) step e due =
-      let sound = sound_at z o words before x after log w (StoringAnnouncement at k) e in
+      let sound = sound_at z o m w (StoringAnnouncement at k) e in
       let less = sound.3 in
       touches_same z words (own_at s (StoringAnnouncement at k)) (Store (at + k) (slice_index (announcement_block s.asked) k)) step due
       (inr (inr (inl (record { space = Pool; at = at; words = announcement_block s.asked; stored = k }, slice_index (announcement_block s.asked) k, refl, omega (arith, less), refl))))
@@ -213,9 +215,9 @@ module _ (z : Layout) (o : Opening) (words : List ℕ) (before : List Part) (x :
   touches_at Scanning step e due = let load = view_loads s.embedded.sizes s.asked s.rows.last s.embedded.stage (subst (λ (f : Option Step). IsSome f) (sym due) refl) in touches_same z words None
       (Load load.0) step (sym load.1 ∙ due) (inl (load.0, refl))
   touches_at Leaving step e due =
-      let sound = sound_at z o words before x after log w Leaving e in
+      let sound = sound_at z o m w Leaving e in
       let below : s.leave.slot < z.slots = of_size (λ (y : Layout). s.leave.slot < y.slots) sound.1 in
-      let memory = memory_at z o words before x after log w Leaving e in
+      let memory = memory_at z o m w Leaving e in
       let held = holding_in s Leaving (joined_since x) in
       let hs = holdings before ++ held ∷ holdings after in
       let announced : JoinedAnnouncement = record { at = s.join.announcement; indices = s.asked; since = joined_since x } in
@@ -226,18 +228,18 @@ module _ (z : Layout) (o : Opening) (words : List ℕ) (before : List Part) (x :
       let stands = mine.holds in
       let same = stands.0 in
       let from = stands.2.whole.from in
-      touches_same z words None (Store (slot_word z s.leave.slot) 1) step (sym (leave_due z o words before x after log w e) ∙ due)
+      touches_same z words None (Store (slot_word z s.leave.slot) 1) step (sym (leave_due z o m w e) ∙ due)
       (inr (inr (inr (s.leave.slot, 1, below, refl, inr (refl, omega (arith, same, from))))))
   touches_at (Finished r) step e due = let bad : None ≡ Some step = due in absurd cc
 
   core_moves : (step : Step) → step_of s ≡ Some step → Orderly z (words_after words step) → (l : ℕ) → l < z.slots → IsSlotMove z words (words_after words step) l
-  core_moves step due later = slot_moves z o words (holdings before) (holding_of x) (holdings after) log (memory_here z o words before x after log w) step later (touches_at s.stage step refl due)
+  core_moves step due later = slot_moves z o words (holdings before) (holding_of x) (holdings after) log (memory_here z o m w) step later (touches_at s.stage step refl due)
 
 -- the due step of a port moves a slot only as it may
-pub steps_move_slots : (z : Layout) (o : Opening) (words : List ℕ) (before : List Part) (x : Part) (after : List Part) (log : List Applied) (c : CoreState) (step : Step) →
-    Lawful z o words (before ++ x ∷ after) log → IsMachineOf c x → step_of c ≡ Some step → Orderly z (words_after words step) → (l : ℕ) → l < z.slots → IsSlotMove z words (words_after words step) l
-steps_move_slots z o words before x after log c step w m due later = by m
+pub steps_move_slots : (z : Layout) (o : Opening) (m : PartAmong) (c : CoreState) (step : Step) → LawfulAmong z o m → IsMachineOf c m.part → step_of c ≡ Some step →
+    Orderly z (words_after m.words step) → (l : ℕ) → l < z.slots → IsSlotMove z m.words (words_after m.words step) l
+steps_move_slots z o m c step w its due later = by its
   where
-    by : HasBegun c x ⊎ IsLedTo c x → (l : ℕ) → l < z.slots → IsSlotMove z words (words_after words step) l
-    by (inl h) = core_moves z o words before (fresh_call c x) after log (begin_lawful z o words before x after log w c h) step due later
-    by (inr l) = core_moves z o words before x after log w step (ap step_of (sym l.is) ∙ due) later
+    by : HasBegun c m.part ⊎ IsLedTo c m.part → (l : ℕ) → l < z.slots → IsSlotMove z m.words (words_after m.words step) l
+    by (inl h) = core_moves z o (record m { part = fresh_call c m.part }) (begin_lawful z o m w c h) step due later
+    by (inr l) = core_moves z o m w step (ap step_of (sym l.is) ∙ due) later

@@ -1,5 +1,5 @@
 -- A lawful state with one part in the place of another, and with other words.
-use Rattle.partial_core.proofs.Common.{ℕ, ◌+◌, ◌≡◌, ◌≢◌, ◌≤◌, ◌==◌, ◌++◌, Bool, true, false, cond, Option, Some, None, List, [], ◌∷◌, length, take, drop, min, refl, sym, ap, subst, ◌∙◌, arith, append_assoc, length-append, length-take, AllByRecursion, false≢true, ne_eqb, eq-eqb, append-nil, take_all, take-append-drop, take-append-le, Applied, Opening, Noted, LegalNotes, IsLegal, seen_by, places_by, places_written, LegalNotes-push, LegalNotes-grows, places_written-append, Step, Load, Store, Exchange, Add, Layout, CoreState, advance, step_of, IsPossible, Holding, LawfulWords, KeptAnswer, IsLoaded, Keeps, all_weaker, Part, led_by, core_of, port_of, Lawful, holding_of, holdings, is_at_rest, IsTrueYet, AreAnswersKept, IsKnown, notes_by}
+use Rattle.partial_core.proofs.Common.{ℕ, ◌+◌, ◌≡◌, ◌≢◌, ◌≤◌, ◌==◌, ◌++◌, Bool, true, false, cond, Option, Some, None, List, [], ◌∷◌, length, take, drop, min, refl, sym, ap, subst, ◌∙◌, arith, append_assoc, length-append, length-take, AllByRecursion, false≢true, ne_eqb, eq-eqb, append-nil, take_all, take-append-drop, take-append-le, Applied, Opening, Noted, LegalNotes, IsLegal, seen_by, places_by, places_written, LegalNotes-push, LegalNotes-grows, places_written-append, Step, Load, Store, Exchange, Add, Layout, CoreState, advance, step_of, IsPossible, Holding, LawfulWords, KeptAnswer, IsLoaded, all_weaker, Part, led_by, core_of, port_of, holding_of, holdings, is_at_rest, IsTrueYet, AreAnswersKept, IsKnown, notes_by, PartAmong, LawfulAmong, IsKept}
 use Rattle.partial_core.proofs.Calls.{led_push}
 
 -- a beginning of a list is no longer than the list
@@ -133,14 +133,21 @@ pub all_changed : {A : Type 0} (P Q : A → Type 0) → ((x : A) → P x → Q x
 all_changed P Q f [] x y after w here = (here, all_weaker P Q f after w.1)
 all_changed P Q f (b ∷ before) x y after w here = (f b w.0, all_changed P Q f before x y after w.1 here)
 
--- the state with the part y in the place of x, and with other words
-pub changed : (z : Layout) (o : Opening) (words words' : List ℕ) (before : List Part) (x y : Part) (after : List Part) (log es : List Applied) → Lawful z o words (before ++ x ∷ after) log →
-    Keeps z o (record { words = words; holdings = holdings before ++ holding_of x ∷ holdings after; log = log })
-    (record { words = words'; holdings = holdings before ++ holding_of y ∷ holdings after; log = log ++ es }) →
-    ((p : ℕ) → places_by p 0 (log ++ es) ≡ places_written (notes_by p (before ++ y ∷ after))) →
-    IsKnown z o words' (holdings (before ++ y ∷ after)) (log ++ es) y →
-    Lawful z o words' (before ++ y ∷ after) (log ++ es)
-changed z o words words' before x y after log es w keeps once known =
+-- the memory's words are lawful when its port holds that
+abbrev pub LawfulWith : Layout → Opening → PartAmong → Holding → Type 0
+LawfulWith z o m h = LawfulWords z o m.words (holdings m.before ++ h ∷ holdings m.after) m.log
+
+-- from its port's holding h, the words, what it holds and the history become these others: the words stay lawful, and what was loaded true
+abbrev pub IsKeptAmong : Layout → Opening → PartAmong → Holding → List ℕ → Holding → List Applied → Type 0
+IsKeptAmong z o m h words' h' log' = IsKept z o m.words (holdings m.before) h (holdings m.after) m.log words' h' log'
+
+-- the memory with the part y in the place of its port's, and with other words
+pub changed : (z : Layout) (o : Opening) (m : PartAmong) (words' : List ℕ) (y : Part) (es : List Applied) → LawfulAmong z o m →
+    IsKeptAmong z o m (holding_of m.part) words' (holding_of y) (m.log ++ es) →
+    ((p : ℕ) → places_by p 0 (m.log ++ es) ≡ places_written (notes_by p (m.before ++ y ∷ m.after))) →
+    IsKnown z o words' (holdings (m.before ++ y ∷ m.after)) (m.log ++ es) y →
+    LawfulAmong z o (record m { words = words'; part = y; log = m.log ++ es })
+changed z o m words' y es w keeps once known =
     let old = holdings_split before x after in
     let new = holdings_split before y after in
     record {
@@ -151,6 +158,8 @@ changed z o words words' before x y after log es w keeps once known =
           (λ n k l. subst (λ (hs : List Holding). IsLoaded z o words' hs (log ++ es) n k) (sym new) (keeps.loads n k (subst (λ (hs : List Holding). IsLoaded z o words hs log n k) old l))) v h)
           before x y after w.known known;
     }
+  where
+    open m use {words, before, part as x, after, log}
 
 -- no other part has the port
 notes_none : (p : ℕ) (xs : List Part) → AllByRecursion (λ y. p ≢ port_of y) xs → notes_by p xs ≡ []

@@ -1,5 +1,5 @@
 -- What a lawful state says of its ports: they are distinct, fit the history, may look, and make few steps.
-use Rattle.partial_core.proofs.Common.{ℕ, suc, ◌≡◌, ◌≢◌, ◌+◌, ◌<◌, ◌≤◌, ◌==◌, ◌++◌, ◌⊎◌, Bool, true, false, cond, List, [], ◌∷◌, length, map, refl, sym, ap, subst, ◌∙◌, inl, inr, arith, append_assoc, Contains, AllByRecursion, eq-eqb, eqb_tells, take_all, length-map, Applied, Opening, places_by, places_written, Layout, IsLayout, view_word, CoreState, advance, most_steps, Run, makes_few_steps, Holding, HaveOtherPorts, LawfulWords, IsEntry, KeptAnswer, all_unmap, all_before, all_after, all_weaker, two_before, two_after, Part, led_by, core_of, port_of, answers_of, with_seen, holding_of, holdings, AreAnswersKept, IsKnown, notes_by, Lawful, FitsHistory, LawfulPortsFit, LawfulRecordsAreWithin, LooksStayLawful, HasFewSteps, LawfulCallsAreBounded}
+use Rattle.partial_core.proofs.Common.{ℕ, suc, ◌≡◌, ◌≢◌, ◌+◌, ◌<◌, ◌≤◌, ◌==◌, ◌++◌, ◌⊎◌, Bool, true, false, cond, List, [], ◌∷◌, length, map, refl, sym, ap, subst, ◌∙◌, inl, inr, arith, append_assoc, Contains, AllByRecursion, eq-eqb, eqb_tells, take_all, length-map, Applied, Opening, places_by, places_written, Layout, IsLayout, view_word, CoreState, advance, most_steps, Run, makes_few_steps, Holding, HaveOtherPorts, LawfulWords, IsEntry, KeptAnswer, all_unmap, all_before, all_after, all_weaker, two_before, two_after, Part, led_by, core_of, port_of, answers_of, with_seen, holding_of, holdings, AreAnswersKept, IsKnown, notes_by, Lawful, FitsHistory, LawfulPortsFit, LawfulRecordsAreWithin, LooksStayLawful, HasFewSteps, LawfulCallsAreBounded, PartAmong, LawfulAmong}
 use Rattle.partial_core.proofs.Calls.{led}
 use Rattle.partial_core.proofs.Parts.{seen_within, legal_on, all_changed, holdings_split, once_same, once_own}
 use Rattle.partial_core.proofs.Steps.{known_here, memory_here, port_here}
@@ -9,18 +9,20 @@ both_all : {A : Type 0} (P Q R : A → Type 0) → ((x : A) → P x → Q x → 
 both_all P Q R f [] v w = tt
 both_all P Q R f (x ∷ xs) v w = (f x v.0 w.0, both_all P Q R f xs v.1 w.1)
 
-module _ (z : Layout) (o : Opening) (words : List ℕ) (before : List Part) (x : Part) (after : List Part) (log : List Applied) (w : Lawful z o words (before ++ x ∷ after) log) where
+module _ (z : Layout) (o : Opening) (m : PartAmong) (w : LawfulAmong z o m) where
+  open m use {words, before, part as x, after, log}
+
   abbrev hs : List Holding
   hs = holdings (before ++ x ∷ after)
 
   -- the port of each other part
   other_ports : (xs : List Part) → AllByRecursion (λ y. HaveOtherPorts (holding_of x) (holding_of y)) xs → AllByRecursion (IsKnown z o words hs log) xs → AllByRecursion (λ y. port_of x ≢ port_of y) xs
   other_ports xs others known = both_all (λ y. HaveOtherPorts (holding_of x) (holding_of y)) (IsKnown z o words hs log) (λ y. port_of x ≢ port_of y)
-      (λ y other k same. other (port_here z o words before x after log w ∙ same ∙ sym (led z o words hs log y.since y.begun y.kept w.memory.sizes k.sizes k.sound k.kept).port)) xs others known
+      (λ y other k same. other (port_here z o m w ∙ same ∙ sym (led z o words hs log y.since y.begun y.kept w.memory.sizes k.sizes k.sound k.kept).port)) xs others known
 
   pub others : AllByRecursion (λ y. port_of x ≢ port_of y) before × AllByRecursion (λ y. port_of x ≢ port_of y) after
   others =
-      let memory = memory_here z o words before x after log w in
+      let memory = memory_here z o m w in
       let turn : (a b : Holding) → HaveOtherPorts a b → HaveOtherPorts b a = λ a b other same. other (sym same) in (
         other_ports before (all_unmap (HaveOtherPorts (holding_of x)) holding_of before (two_before HaveOtherPorts turn (holdings before) (holding_of x) (holdings after) memory.ports))
             (all_before (IsKnown z o words hs log) before x after w.known),
@@ -30,7 +32,7 @@ module _ (z : Layout) (o : Opening) (words : List ℕ) (before : List Part) (x :
 
   pub fits_here : FitsHistory o log x
   fits_here =
-      let k = known_here z o words before x after log w in
+      let k = known_here z o m w in
       let seen = seen_within x.seen log k.seen in
       let shown = k.shown in
       let apart = others in
@@ -45,7 +47,7 @@ module _ (z : Layout) (o : Opening) (words : List ℕ) (before : List Part) (x :
 each_fits : (z : Layout) (o : Opening) (words : List ℕ) (before xs : List Part) (log : List Applied) → Lawful z o words (before ++ xs) log → AllByRecursion (FitsHistory o log) xs
 each_fits z o words before [] log w = tt
 each_fits z o words before (x ∷ xs) log w = (
-  fits_here z o words before x xs log w,
+  fits_here z o (record { words = words; before = before; part = x; after = xs; log = log }) w,
   each_fits z o words (before ++ x ∷ []) xs log
       (subst (λ (l : List Part). Lawful z o words l log) (sym (append_assoc before (x ∷ []) xs)) w),
 )
@@ -96,11 +98,11 @@ lawful_ports_fit z o words parts log w = record {
     either p (inr none) = inr (w.once p ∙ ap places_written none)
 
 pub looks_stay_lawful : LooksStayLawful
-looks_stay_lawful z o words before x after log w =
+looks_stay_lawful z o m w =
     let y : Part = with_seen log x in
     let same : holdings (before ++ x ∷ after) ≡ holdings (before ++ y ∷ after) = holdings_split before x after ∙ sym (holdings_split before y after) in
     let P : Part → Type 0 = IsKnown z o words (holdings (before ++ x ∷ after)) log in
-    let k : IsKnown z o words (holdings (before ++ x ∷ after)) log x = known_here z o words before x after log w in
+    let k : IsKnown z o words (holdings (before ++ x ∷ after)) log x = known_here z o m w in
     let seen = seen_within x.seen log k.seen in
     let shown = k.shown in
     let since = k.since in
@@ -121,7 +123,7 @@ looks_stay_lawful z o words before x after log w =
     } in
     let count = w.memory.count in
     let some = w.memory.sizes.components.0 in
-    let lawful : Lawful z o words (before ++ y ∷ after) log = record {
+    let lawful : LawfulAmong z o (record m { part = y }) = record {
       memory = subst (λ (hs : List Holding). LawfulWords z o words hs log) same w.memory;
       once = λ p. w.once p ∙ sym (once_same p before x y after refl refl);
       known = subst (λ (hs : List Holding). AllByRecursion (IsKnown z o words hs log) (before ++ y ∷ after)) same (all_changed P P (λ v h. h) before x y after w.known here);
@@ -129,9 +131,11 @@ looks_stay_lawful z o words before x after log w =
     record {
       there = omega (arith, count, some);
       seen = k.seen;
-      fits = fits_here z o words before y after log lawful;
+      fits = fits_here z o (record m { part = y }) lawful;
       lawful = lawful;
     }
+  where
+    open m use {words, before, part as x, after, log}
 
 pub lawful_records_are_within : LawfulRecordsAreWithin
 lawful_records_are_within z o words parts log w =

@@ -1,5 +1,5 @@
 -- The blocks that lawful words publish: none of their words changes behind any step, and so each step is an orderly event.
-use Rattle.partial_core.proofs.Common.{ℕ, ◌≡◌, ◌+◌, ◌<◌, ◌≤◌, ◌++◌, Some, List, [], ◌∷◌, length, inl, inr, sym, subst, ◌∙◌, arith, Ranges, Applied, Opening, Step, Layout, list_base, total, StandsAt, words_after, announcement_block, announcement_size, list_block, list_reads_back, length-pairs, IsAnnouncement, IsVacatedList, Publishes, slot_at, head_at, AtSome, IsOrderlyEvent, IsAnnounced, IsPublishedList, IsHead, Holding, unpublished, LawfulWords, IsSlotAnswer, IsPublished, announcement_claimed, list_claimed, block_published, CoreState, step_of, Part, IsMachineOf, holdings, Lawful, LeadsOn, StepsAreOrderly}
+use Rattle.partial_core.proofs.Common.{ℕ, ◌≡◌, ◌+◌, ◌<◌, ◌≤◌, Some, List, [], ◌∷◌, length, inl, inr, sym, subst, ◌∙◌, arith, Ranges, Applied, Opening, Step, Layout, list_base, total, StandsAt, words_after, announcement_block, announcement_size, list_block, list_reads_back, length-pairs, IsAnnouncement, IsVacatedList, Publishes, slot_at, head_at, AtSome, IsOrderlyEvent, IsAnnounced, IsPublishedList, IsHead, Holding, unpublished, LawfulWords, IsSlotAnswer, IsPublished, announcement_claimed, list_claimed, block_published, CoreState, step_of, IsMachineOf, holdings, LeadsOn, StepsAreOrderly, PartAmong, LawfulAmong, all_parts, memory_after}
 use Rattle.partial_core.proofs.AllSteps.{steps_stay_lawful}
 use Rattle.partial_core.proofs.Ordered.{slot_now, lawful_is_orderly, same_long, steps_move_slots}
 use Rattle.partial_active.proofs.Indices.{same_named}
@@ -84,10 +84,11 @@ pub keeps_now : (z : Layout) (o : Opening) (words : List ℕ) (hs : List Holding
     LawfulWords z o words hs log → KeepsPublished z past words hs → KeepsPublished z (words ∷ past) words hs
 keeps_now z o words hs log past w keeps at block some = elim some [ inl now ↦ published_now z o words hs log w at block now | inr before ↦ keeps at block before ]
 
-module _ (z : Layout) (o : Opening) (words : List ℕ) (before : List Part) (x : Part) (after : List Part) (log : List Applied) (c : CoreState) (step : Step)
-    (leads : LeadsOn z o words before x after log c step) where
+module _ (z : Layout) (o : Opening) (m : PartAmong) (c : CoreState) (step : Step) (leads : LeadsOn z o m c step) where
+  open m use {words}
+
   -- a published block stands yet, and goes on being published
-  stands_yet : (at : ℕ) (block : List ℕ) → ArePublished z words (holdings (before ++ x ∷ after)) at (length block) → StandsAt words at block → StandsAt (words_after words step) at block
+  stands_yet : (at : ℕ) (block : List ℕ) → ArePublished z words (holdings (all_parts m)) at (length block) → StandsAt words at block → StandsAt (words_after words step) at block
   stands_yet at block published stands k lt =
       let p = published k lt in
       let s = stands k lt in
@@ -95,21 +96,22 @@ module _ (z : Layout) (o : Opening) (words : List ℕ) (before : List Part) (x :
       let long = same_long words step in
       (omega (arith, inside, long), (leads.keeps (at + k) p.0 p.1 p.2).0 ∙ s.1)
 
-  pub keeps_on : (past : List (List ℕ)) → KeepsPublished z past words (holdings (before ++ x ∷ after)) → KeepsPublished z past (words_after words step) (holdings (before ++ leads.y ∷ after))
+  pub keeps_on : (past : List (List ℕ)) → KeepsPublished z past words (holdings (all_parts m)) →
+      KeepsPublished z past (words_after words step) (holdings (all_parts (memory_after z m step leads.y)))
   keeps_on past keeps at block some k lt = let p = keeps at block some k lt in (p.0, p.1, (leads.keeps (at + k) p.0 p.1 p.2).1)
 
-  pub step_orderly : (past : List (List ℕ)) → Lawful z o words (before ++ x ∷ after) log → IsMachineOf c x → step_of c ≡ Some step → KeepsPublished z past words (holdings (before ++ x ∷ after)) →
+  pub step_orderly : (past : List (List ℕ)) → LawfulAmong z o m → IsMachineOf c m.part → step_of c ≡ Some step → KeepsPublished z past words (holdings (all_parts m)) →
       IsOrderlyEvent z past words (words_after words step)
-  step_orderly past w m due keeps =
-      let later = lawful_is_orderly z o (words_after words step) (before ++ leads.y ∷ after) _ leads.lawful in
+  step_orderly past w its due keeps =
+      let later = lawful_is_orderly z o (words_after words step) (all_parts (memory_after z m step leads.y)) _ leads.lawful in
       record {
         orderly = later;
-        slots = steps_move_slots z o words before x after log c step w m due later;
+        slots = steps_move_slots z o m c step w its due later;
         blocks = λ at block some. stands_yet at block (keeps at block some);
       }
 
 pub steps_are_orderly : StepsAreOrderly
-steps_are_orderly z o words before x after log c step w m due =
-    let none : KeepsPublished z [] words (holdings (before ++ x ∷ after)) = λ at block some. absurd some in
-    let keeps = keeps_now z o words (holdings (before ++ x ∷ after)) log [] w.memory none in
-    step_orderly z o words before x after log c step (steps_stay_lawful z o words before x after log c step w m due) (words ∷ []) w m due keeps
+steps_are_orderly z o m c step w its due =
+    let none : KeepsPublished z [] m.words (holdings (all_parts m)) = λ at block some. absurd some in
+    let keeps = keeps_now z o m.words (holdings (all_parts m)) m.log [] w.memory none in
+    step_orderly z o m c step (steps_stay_lawful z o m c step w its due) (m.words ∷ []) w its due keeps

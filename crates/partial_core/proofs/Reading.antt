@@ -1,5 +1,5 @@
 -- The loads of a read, the first load of an update, and those of embedded scans.
-use Rattle.partial_core.proofs.Common.{ℕ, ◌≡◌, ◌≢◌, ◌<◌, ◌≤◌, ◌==◌, ◌++◌, Bool, true, false, cond, Option, Some, None, IsSome, List, [], ◌∷◌, length, get_or, take, refl, sym, ap, subst, ◌∙◌, arith, option_map_or, take_all, Applied, Opening, stamp_of, value_of, Noted, Step, Load, Layout, value_word, Change, Stage, CoreState, at_stage, scanning, with_scanning, expects, begin_getting, after_scanning, step_at, reply_of, reply_at, is_sound_at, IsRecord, IsWithin, Holding, KeptAnswer, loads_are_true, IsReadable, stamp_within, standing, standing_word, Part, core_of, led_by, first_at, Lawful, holding_at, holdings, joined_since, is_begun, call_at, update_call, AreNotesOf, either}
+use Rattle.partial_core.proofs.Common.{ℕ, ◌≡◌, ◌≢◌, ◌<◌, ◌≤◌, ◌==◌, ◌++◌, Bool, true, false, cond, Option, Some, None, IsSome, List, [], ◌∷◌, length, get_or, take, refl, sym, ap, subst, ◌∙◌, arith, option_map_or, take_all, Applied, Opening, stamp_of, value_of, Noted, Step, Load, Layout, value_word, Change, Stage, CoreState, at_stage, scanning, with_scanning, expects, begin_getting, after_scanning, step_at, reply_of, reply_at, is_sound_at, IsRecord, IsWithin, Holding, KeptAnswer, loads_are_true, IsReadable, stamp_within, standing, standing_word, core_of, led_by, first_at, holding_at, holdings, joined_since, is_begun, call_at, update_call, AreNotesOf, either, PartAmong, LawfulAmong}
 use Rattle.std.proofs.lemmas.Bool.{false≢true, eqb-false}
 use Rattle.partial_model.specs.declared.call.Call.TheVariants as call
 use Rattle.partial_model.specs.declared.call.Answer.TheVariants as answer
@@ -13,7 +13,9 @@ use Rattle.partial_core.proofs.MidCalls.{view_leads, view_loads}
 use Rattle.partial_core.proofs.Parts.{gone}
 use Rattle.partial_core.proofs.Steps.{LeadsAt, holding_in, known_here, sizes_here, sound_at, seen_here, going, load_quiet, load_ends, starting}
 
-module _ (z : Layout) (o : Opening) (words : List ℕ) (before : List Part) (x : Part) (after : List Part) (log : List Applied) (w : Lawful z o words (before ++ x ∷ after) log) where
+module _ (z : Layout) (o : Opening) (m : PartAmong) (w : LawfulAmong z o m) where
+  open m use {words, before, part as x, after, log}
+
   -- what all ports hold
   abbrev hs : List Holding
   hs = holdings (before ++ x ∷ after)
@@ -37,28 +39,28 @@ module _ (z : Layout) (o : Opening) (words : List ℕ) (before : List Part) (x :
 
   -- a machine's sizes are those of the memory
   at_sizes : (P : Layout → Type 0) → P z → P (core_of x).sizes
-  at_sizes P p = subst P (sym (sizes_here z o words before x after log w)) p
+  at_sizes P p = subst P (sym (sizes_here z o m w)) p
 
   of_sizes : (P : Layout → Type 0) → P (core_of x).sizes → P z
-  of_sizes P p = subst P (sizes_here z o words before x after log w) p
+  of_sizes P p = subst P (sizes_here z o m w) p
 
   -- what is sound of the machine as its call began
   begun_at : (t : Stage) → x.begun.stage ≡ t → (P : Layout → Type 0) → (is_sound_at x.begun t → P x.begun.sizes) → P z
   begun_at t is P f =
-      let k = known_here z o words before x after log w in
+      let k = known_here z o m w in
       let sound = k.sound in
       subst P k.sizes (f (subst (is_sound_at x.begun) is sound.stage))
 
-  pub read_begun : (j : ℕ) → (core_of x).stage ≡ ReadBegun j → LeadsAt z o words before x after log (core_of x) (ReadBegun j) (Load j)
+  pub read_begun : (j : ℕ) → (core_of x).stage ≡ ReadBegun j → LeadsAt z o m (ReadBegun j) (Load j)
   read_begun j e =
-      let below : j < z.m = of_sizes (λ y. j < y.m) (sound_at z o words before x after log w (ReadBegun j) e) in
-      load_quiet z o words before x after log w (ReadBegun j) j (at_stage (core_of x) (LoadingValue (get_or words j 0))) e refl refl refl (component_readable j below)
+      let below : j < z.m = of_sizes (λ y. j < y.m) (sound_at z o m w (ReadBegun j) e) in
+      load_quiet z o m w (ReadBegun j) j (at_stage (core_of x) (LoadingValue (get_or words j 0))) e refl refl refl (component_readable j below)
       (at_sizes (λ y. IsRecord y (get_or words j 0)) (component_record j below)) refl refl refl
 
   -- the value behind the stamp that a read has loaded
-  pub value_loaded : (stamp : ℕ) → (core_of x).stage ≡ LoadingValue stamp → LeadsAt z o words before x after log (core_of x) (LoadingValue stamp) (Load (value_word stamp))
+  pub value_loaded : (stamp : ℕ) → (core_of x).stage ≡ LoadingValue stamp → LeadsAt z o m (LoadingValue stamp) (Load (value_word stamp))
   value_loaded stamp e =
-      let g = going z o words before x after log w (LoadingValue stamp) e refl refl in
+      let g = going z o m w (LoadingValue stamp) e refl refl in
       let known = g.knows in
       let j = known.0 in
       let first = first_at x.kept in
@@ -71,7 +73,7 @@ module _ (z : Layout) (o : Opening) (words : List ℕ) (before : List Part) (x :
       let n : Noted = record { call = call.Read j; answer = answer.Read a stamp; note = Some (note.Saw first) } in
       let s = standing z o words hs log w.memory first stamp (subst (IsWithin o log first) (sym known.2) (stamp_within o log first j below)) in
       let value : a ≡ value_of o (take first log) j = ap (λ m. get_or words (value_word m) 0) known.2 ∙ value_behind_stamp o words log j first w.memory.agrees below in
-      load_ends z o words before x after log w (LoadingValue stamp) (value_word stamp) (at_stage (core_of x) (Finished (reply.Read a stamp))) e refl refl refl
+      load_ends z o m w (LoadingValue stamp) (value_word stamp) (at_stage (core_of x) (Finished (reply.Read a stamp))) e refl refl refl
       (subst (IsReadable z words hs) (omega arith) (standing_word z o words hs log w.memory stamp (value_word 0) (omega arith) s)) tt refl
       n refl (below, ((omega (arith, order, inside), value, known.2), g.low)) (omega (arith, order, inside)) refl
       (record {
@@ -87,27 +89,26 @@ module _ (z : Layout) (o : Opening) (words : List ℕ) (before : List Part) (x :
 
   -- a call that has made no step keeps no answer, and its machine is the one that has begun it
   pub none_kept : (t : Stage) → (core_of x).stage ≡ t → is_begun t ≡ true → x.kept ≡ []
-  none_kept t e begun = starting z o words hs log x w.memory (known_here z o words before x after log w) (ap is_begun e ∙ begun)
+  none_kept t e begun = starting z o words hs log x w.memory (known_here z o m w) (ap is_begun e ∙ begun)
 
   pub begun_here : (t : Stage) → (core_of x).stage ≡ t → is_begun t ≡ true → core_of x ≡ x.begun
   begun_here t e begun = ap (led_by x.begun) (none_kept t e begun)
 
   -- the component has another stamp than the update expects
-  stamp_changed : (c : Change) (found : Option ℕ) → c.expected ≡ found → (core_of x).stage ≡ UpdateBegun c → expects c (get_or words c.component 0) ≡ false → LeadsAt z o words before x after log
-      (core_of x) (UpdateBegun c) (Load c.component)
+  stamp_changed : (c : Change) (found : Option ℕ) → c.expected ≡ found → (core_of x).stage ≡ UpdateBegun c → expects c (get_or words c.component 0) ≡ false → LeadsAt z o m (UpdateBegun c) (Load c.component)
   stamp_changed c None is e other = absurd (false≢true (sym other ∙ ap (λ (f : Option ℕ). option_map_or (λ m. m == get_or words c.component 0) f true) is))
   stamp_changed c (Some expected) is e other =
       let a = get_or words c.component 0 in
-      let below : c.component < z.m = of_sizes (λ y. c.component < y.m) (sound_at z o words before x after log w (UpdateBegun c) e).0 in
+      let below : c.component < z.m = of_sizes (λ y. c.component < y.m) (sound_at z o m w (UpdateBegun c) e).0 in
       let values = w.memory.values in
       let n : Noted = record { call = call.UpdateIf c.component expected c.value; answer = answer.Changed a; note = Some (note.Saw (length log)) } in
       let differs : a ≢ expected = λ same. eqb-false expected a (ap (λ (f : Option ℕ). option_map_or (λ m. m == a) f true) (sym is) ∙ other) (sym same) in
       let begun = begun_here (UpdateBegun c) e refl in
       let kept = none_kept (UpdateBegun c) e refl in
-      load_ends z o words before x after log w (UpdateBegun c) c.component (at_stage (core_of x) (Finished (reply.Changed a))) e refl
+      load_ends z o m w (UpdateBegun c) c.component (at_stage (core_of x) (Finished (reply.Changed a))) e refl
       (ap (λ b. cond b (begin_getting (core_of x) c a) (at_stage (core_of x) (Finished (reply.Changed a)))) other) refl
       (component_readable c.component below) (at_sizes (λ y. IsRecord y a) (component_record c.component below)) refl
-      n refl (omega (arith, below, values), ((omega arith, sym (stamp_then c.component below), differs), seen_here z o words before x after log w)) (omega arith) refl
+      n refl (omega (arith, below, values), ((omega arith, sym (stamp_then c.component below), differs), seen_here z o m w)) (omega arith) refl
       (record {
         call = call.UpdateIf c.component expected c.value;
         note = note.Saw (length log);
@@ -122,14 +123,14 @@ module _ (z : Layout) (o : Opening) (words : List ℕ) (before : List Part) (x :
       })
 
   -- an update goes on where the component has the stamp that it expects
-  pub update_begun : (c : Change) → (core_of x).stage ≡ UpdateBegun c → LeadsAt z o words before x after log (core_of x) (UpdateBegun c) (Load c.component)
+  pub update_begun : (c : Change) → (core_of x).stage ≡ UpdateBegun c → LeadsAt z o m (UpdateBegun c) (Load c.component)
   update_begun c e = by_expected (expects c (get_or words c.component 0)) refl
     where
-      by_expected : (b : Bool) → expects c (get_or words c.component 0) ≡ b → LeadsAt z o words before x after log (core_of x) (UpdateBegun c) (Load c.component)
+      by_expected : (b : Bool) → expects c (get_or words c.component 0) ≡ b → LeadsAt z o m (UpdateBegun c) (Load c.component)
       by_expected true is =
           let a = get_or words c.component 0 in
-          let below : c.component < z.m = of_sizes (λ y. c.component < y.m) (sound_at z o words before x after log w (UpdateBegun c) e).0 in
-          load_quiet z o words before x after log w (UpdateBegun c) c.component (begin_getting (core_of x) c a) e refl
+          let below : c.component < z.m = of_sizes (λ y. c.component < y.m) (sound_at z o m w (UpdateBegun c) e).0 in
+          load_quiet z o m w (UpdateBegun c) c.component (begin_getting (core_of x) c a) e refl
           (ap (λ b. cond b (begin_getting (core_of x) c a) (at_stage (core_of x) (Finished (reply.Changed a)))) is) refl
           (component_readable c.component below) (at_sizes (λ y. IsRecord y a) (component_record c.component below)) refl refl refl
       by_expected false is = stamp_changed c c.expected refl e is
@@ -143,24 +144,23 @@ module _ (z : Layout) (o : Opening) (words : List ℕ) (before : List Part) (x :
   view_now indices low high step same together order inside knows due =
       let s = core_of x in
       let load = view_loads s.embedded.sizes indices s.rows.last s.embedded.stage (subst (λ (f : Option Step). IsSome f) (sym due) refl) in
-      let leads = view_leads z o words hs log indices low high (scanning s) (same ∙ sizes_here z o words before x after log w) w.memory together order inside knows in
+      let leads = view_leads z o words hs log indices low high (scanning s) (same ∙ sizes_here z o m w) w.memory together order inside knows in
       let readable = leads.readable load.0 load.1 in
       let is : step ≡ Load load.0 = cc in
       (load.0, is, readable, leads.possible load.0 load.1 (loads_are_true z o words hs log load.0 w.memory readable.0 readable.1))
 
   -- an embedded scan of the indices found
-  pub viewing_leads : (c : Change) (old : ℕ) (step : Step) → (core_of x).stage ≡ Viewing c old → step_at (core_of x) (Viewing c old) ≡ Some step → LeadsAt z o words before x after log
-      (core_of x) (Viewing c old) step
+  pub viewing_leads : (c : Change) (old : ℕ) (step : Step) → (core_of x).stage ≡ Viewing c old → step_at (core_of x) (Viewing c old) ≡ Some step → LeadsAt z o m (Viewing c old) step
   viewing_leads c old step e due =
       let s = core_of x in
-      let g = going z o words before x after log w (Viewing c old) e refl refl in
-      let sound = sound_at z o words before x after log w (Viewing c old) e in
+      let g = going z o m w (Viewing c old) e refl refl in
+      let sound = sound_at z o m w (Viewing c old) e in
       let now = view_now s.found.indices (first_at x.kept) g.high step sound.2 sound.1 g.order g.inside g.knows.2 due in
       let n = now.0 in
       let t : CoreState = with_scanning s (viewing.advance_view s.found.indices (scanning s) (get_or words n 0)) in
       let next = viewing.view_step_due s.found.indices (scanning t) in
-      subst (λ (f : Step). LeadsAt z o words before x after log s (Viewing c old) f) (sym now.1)
-      (load_quiet z o words before x after log w (Viewing c old) n (after_scanning t s.found.indices (ClaimingRecord c old)) e (due ∙ ap (λ (f : Step). Some f) now.1) refl refl now.2 now.3
+      subst (λ (f : Step). LeadsAt z o m (Viewing c old) f) (sym now.1)
+      (load_quiet z o m w (Viewing c old) n (after_scanning t s.found.indices (ClaimingRecord c old)) e (due ∙ ap (λ (f : Step). Some f) now.1) refl refl now.2 now.3
       (either next t (at_stage t (ClaimingRecord c old)) (λ u. holding_at u (joined_since x) ≡ holding_in s (Viewing c old) (joined_since x))
       (ap (λ (u : Stage). holding_in t u (joined_since x)) e) refl)
       refl
@@ -168,17 +168,17 @@ module _ (z : Layout) (o : Opening) (words : List ℕ) (before : List Part) (x :
       (subst (λ (u : Stage). AreNotesOf o (gone x log (get_or words n 0) []) (reply_at u) []) (sym e) refl) refl))
 
   -- an embedded scan of a scan's positions
-  pub scanning_leads : (step : Step) → (core_of x).stage ≡ Scanning → step_at (core_of x) Scanning ≡ Some step → LeadsAt z o words before x after log (core_of x) Scanning step
+  pub scanning_leads : (step : Step) → (core_of x).stage ≡ Scanning → step_at (core_of x) Scanning ≡ Some step → LeadsAt z o m Scanning step
   scanning_leads step e due =
       let s = core_of x in
-      let g = going z o words before x after log w Scanning e refl refl in
-      let sound = sound_at z o words before x after log w Scanning e in
+      let g = going z o m w Scanning e refl refl in
+      let sound = sound_at z o m w Scanning e in
       let now = view_now s.asked (joined_since x) g.high step sound.1 sound.0 g.knows.2 g.inside g.knows.4 due in
       let n = now.0 in
       let t : CoreState = with_scanning s (viewing.advance_view s.asked (scanning s) (get_or words n 0)) in
       let next = viewing.view_step_due s.asked (scanning t) in
-      subst (λ (f : Step). LeadsAt z o words before x after log s Scanning f) (sym now.1)
-      (load_quiet z o words before x after log w Scanning n (after_scanning t s.asked Leaving) e (due ∙ ap (λ (f : Step). Some f) now.1) refl refl now.2 now.3
+      subst (λ (f : Step). LeadsAt z o m Scanning f) (sym now.1)
+      (load_quiet z o m w Scanning n (after_scanning t s.asked Leaving) e (due ∙ ap (λ (f : Step). Some f) now.1) refl refl now.2 now.3
       (either next t (at_stage t Leaving) (λ u. holding_at u (joined_since x) ≡ holding_in s Scanning (joined_since x)) (ap (λ (u : Stage). holding_in t u (joined_since x)) e) refl)
       refl
       (either next t (at_stage t Leaving) (λ u. AreNotesOf o (gone x log (get_or words n 0) []) (reply_of u) [])

@@ -1,23 +1,28 @@
 -- What one step of a port's machine leads to, from what it does to the words and to what the port holds.
-use Rattle.partial_core.proofs.Common.{ℕ, ◌≡◌, ◌<◌, ◌≤◌, ◌++◌, true, false, cond, Option, Some, List, [], ◌∷◌, length, get_or, refl, sym, ap, subst, ◌∙◌, arith, false≢true, append-nil, take_all, Applied, Opening, Noted, IsLegal, seen_by, seen_after, places_by, places_written, seen_by-push, places_written-append, Step, Load, Layout, Answers, answer_of, words_after, word_of, Stage, CoreState, lists_spent, advance_at, step_at, step_of, reply_of, IsSound, is_sound_at, IsPossible, IsPossibleAt, Holding, LawfulWords, KeptAnswer, IsLoaded, Keeps, loads_are_true, IsReadable, Part, core_of, port_of, led_by, first_at, Lawful, holding_of, holding_at, holdings, joined_from, joined_since, joins_at, own_at, is_begun, is_at_rest, IsTrueYet, IsKnown, AreAnswersKept, AreNotesOf, has_no_step}
+use Rattle.partial_core.proofs.Common.{ℕ, ◌≡◌, ◌<◌, ◌≤◌, ◌++◌, true, false, cond, Option, Some, List, [], ◌∷◌, length, get_or, refl, sym, ap, subst, ◌∙◌, arith, false≢true, append-nil, take_all, Applied, Opening, Noted, IsLegal, seen_by, seen_after, places_by, places_written, seen_by-push, places_written-append, Step, Load, Layout, Answers, answer_of, words_after, word_of, Stage, CoreState, lists_spent, advance_at, step_at, step_of, reply_of, IsSound, is_sound_at, IsPossible, IsPossibleAt, Holding, LawfulWords, KeptAnswer, IsLoaded, loads_are_true, IsReadable, Part, core_of, port_of, led_by, first_at, holding_of, holding_at, holdings, joined_from, joined_since, joins_at, own_at, is_begun, is_at_rest, IsTrueYet, IsKnown, AreAnswersKept, AreNotesOf, has_no_step, PartAmong, LawfulAmong, all_parts}
 use Rattle.partial_machine.specs.declared.stage.Stage.TheVariants.{Idle, ReadBegun, LoadingValue, UpdateBegun, GettingSet, Viewing, ClaimingRecord, StoringRecord, Exchanging, ScanBegun, StoringAnnouncement, Joining, Scanning, Leaving, Finished}
-use Rattle.partial_state.specs.Effects.{IsKept as IsKeptBy}
 use Rattle.partial_core.proofs.Added.{added_at}
 use Rattle.partial_core.specs.Held.{claimed_at, due_at}
 use Rattle.partial_core.proofs.MidCalls.{knows_at, Knows}
 use Rattle.partial_core.proofs.Calls.{led, IsLed, called_on, last_at, joined_push}
-use Rattle.partial_core.proofs.Parts.{seen_within, known_grows, gone, gone_core, known_on, known_end, holdings_split, all_at, changed, once_same}
+use Rattle.partial_core.proofs.Parts.{LawfulWith, IsKeptAmong, seen_within, known_grows, gone, gone_core, known_on, known_end, holdings_split, all_at, changed, once_same}
+
+-- the memory behind a step of the part's machine at a stage, with what is noted
+abbrev pub memory_gone : PartAmong → Stage → Step → List Noted → PartAmong
+memory_gone m s step new =
+    let a = answer_of m.words step in
+    let log = m.log ++ added_at (core_of m.part).port s a in
+    record m { words = words_after m.words step; part = gone m.part log a new; log = log }
 
 -- what a step of the part's machine at a stage leads to
-pub record LeadsAt (z : Layout) (o : Opening) (words : List ℕ) (before : List Part) (x : Part) (after : List Part) (log : List Applied) (d : CoreState) (s : Stage) (step : Step) : Type 0 where
-  pub answers : Answers words step (answer_of words step)
-  pub possible : IsPossibleAt d s (answer_of words step)
+pub record LeadsAt (z : Layout) (o : Opening) (m : PartAmong) (s : Stage) (step : Step) : Type 0 where
+  pub answers : Answers m.words step (answer_of m.words step)
+  pub possible : IsPossibleAt (core_of m.part) s (answer_of m.words step)
   pub new : List Noted
-  pub noted : AreNotesOf o (gone x (log ++ added_at d.port s (answer_of words step)) (answer_of words step) new) (reply_of (advance_at d s (answer_of words step))) new
-  pub lawful : Lawful z o (words_after words step) (before ++ gone x (log ++ added_at d.port s (answer_of words step)) (answer_of words step) new ∷ after)
-      (log ++ added_at d.port s (answer_of words step))
-  pub loads : (n : ℕ) (k : KeptAnswer) → IsLoaded z o words (holdings (before ++ x ∷ after)) log n k → IsLoaded z o (words_after words step)
-      (holdings (before ++ gone x (log ++ added_at d.port s (answer_of words step)) (answer_of words step) new ∷ after)) (log ++ added_at d.port s (answer_of words step)) n k
+  pub noted : AreNotesOf o (memory_gone m s step new).part (reply_of (advance_at (core_of m.part) s (answer_of m.words step))) new
+  pub lawful : LawfulAmong z o (memory_gone m s step new)
+  pub loads : (n : ℕ) (k : KeptAnswer) → IsLoaded z o m.words (holdings (all_parts m)) m.log n k → IsLoaded z o (words_after m.words step)
+      (holdings (all_parts (memory_gone m s step new))) (memory_gone m s step new).log n k
 
 -- a machine with a due step isn't at rest
 pub busy : (s : CoreState) (t : Stage) (step : Step) → step_at s t ≡ Some step → is_at_rest t ≡ false
@@ -41,10 +46,12 @@ holding_in s stage since = record {
 pub written_same : (ns new : List Noted) → places_written new ≡ [] → places_written (ns ++ new) ≡ places_written ns
 written_same ns new e = places_written-append ns new ∙ ap (λ (l : List ℕ). places_written ns ++ l) e ∙ append-nil (places_written ns)
 
-module _ (z : Layout) (o : Opening) (words : List ℕ) (before : List Part) (x : Part) (after : List Part) (log : List Applied) (w : Lawful z o words (before ++ x ∷ after) log) where
+module _ (z : Layout) (o : Opening) (m : PartAmong) (w : LawfulAmong z o m) where
+  open m use {words, before, part as x, after, log}
+
   -- what all ports hold
   abbrev pub all_hold : List Holding
-  all_hold = holdings (before ++ x ∷ after)
+  all_hold = holdings (all_parts m)
 
   pub known_here : IsKnown z o words all_hold log x
   known_here = all_at (IsKnown z o words all_hold log) before x after w.known
@@ -68,11 +75,11 @@ module _ (z : Layout) (o : Opening) (words : List ℕ) (before : List Part) (x :
   seen_here = let k = known_here in let seen = seen_within x.seen log k.seen in let shown = k.shown in omega (arith, shown, seen)
 
   -- the words with what this port holds beside the others
-  pub memory_here : LawfulWords z o words (holdings before ++ holding_of x ∷ holdings after) log
+  pub memory_here : LawfulWith z o m (holding_of x)
   memory_here = subst (λ (hs : List Holding). LawfulWords z o words hs log) (holdings_split before x after) w.memory
 
-  pub memory_at : (s : Stage) → (core_of x).stage ≡ s → LawfulWords z o words (holdings before ++ holding_in (core_of x) s (joined_since x) ∷ holdings after) log
-  memory_at s e = subst (λ (t : Stage). LawfulWords z o words (holdings before ++ holding_in (core_of x) t (joined_since x) ∷ holdings after) log) e memory_here
+  pub memory_at : (s : Stage) → (core_of x).stage ≡ s → LawfulWith z o m (holding_in (core_of x) s (joined_since x))
+  memory_at s e = subst (λ (t : Stage). LawfulWith z o m (holding_in (core_of x) t (joined_since x))) e memory_here
 
   -- what the part holds behind one answer more
   pub holding_gone : (s : Stage) (t : CoreState) (l : List Applied) (a : ℕ) (new : List Noted) → (core_of x).stage ≡ s → advance_at (core_of x) s a ≡ t → holding_of (gone x l a new) ≡ holding_at t
@@ -86,7 +93,7 @@ module _ (z : Layout) (o : Opening) (words : List ℕ) (before : List Part) (x :
   module _ (s : Stage) (step : Step) (t : CoreState) (h' : Holding) (e : (core_of x).stage ≡ s) (due : step_at (core_of x) s ≡ Some step) (leads : advance_at (core_of x) s (answer_of words step) ≡ t)
       (added : added_at (core_of x).port s (answer_of words step) ≡ []) (within : word_of step < length words) (possible : IsPossibleAt (core_of x) s (answer_of words step))
       (holds : holding_at t (cond (joins_at (core_of x) s) (length log) (joined_since x)) ≡ h')
-      (keeps : IsKeptBy z o words (holdings before) (holding_of x) (holdings after) log (words_after words step) h' log)
+      (keeps : IsKeptAmong z o m (holding_of x) (words_after words step) h' log)
       (yet : (hs : List Holding) → hs ≡ holdings before ++ h' ∷ holdings after → IsTrueYet z o (words_after words step) hs log (Some step)
       (record { answer = answer_of words step; at = length log })) where
     a : ℕ
@@ -104,30 +111,27 @@ module _ (z : Layout) (o : Opening) (words : List ℕ) (before : List Part) (x :
     -- the state behind the step, with what is noted
     lawful_then : (new : List Noted) → places_written new ≡ [] → ((hs : List Holding) → IsKnown z o (words_after words step) hs log x → IsTrueYet z o (words_after words step) hs log
         (step_of (core_of x)) (record { answer = answer_of words step; at = length log }) → IsKnown z o (words_after words step) hs log (gone x log (answer_of words step) new)) →
-        Lawful z o (words_after words step) (before ++ gone x log (answer_of words step) new ∷ after) log
+        LawfulAmong z o (record m { words = words_after words step; part = gone x log (answer_of words step) new })
     lawful_then new written known =
         let y = gone x log (answer_of words step) new in
         let split = holdings_split before y after ∙ ap (λ (h : Holding). holdings before ++ h ∷ holdings after) (holding_then new) in
         let nil = append-nil log in
         let grown = known_grows z o words (words_after words step) all_hold (holdings (before ++ y ∷ after)) log []
         (λ n k l. subst (λ (hs : List Holding). IsLoaded z o (words_after words step) hs (log ++ []) n k) (sym split)
-        (subst (λ (m : List Applied). IsLoaded z o (words_after words step) (holdings before ++ h' ∷ holdings after) m n k) (sym nil)
+        (subst (λ (es : List Applied). IsLoaded z o (words_after words step) (holdings before ++ h' ∷ holdings after) es n k) (sym nil)
         (keeps.loads n k (subst (λ (hs : List Holding). IsLoaded z o words hs log n k) (holdings_split before x after) l)))) x known_here in
         let here : IsKnown z o (words_after words step) (holdings (before ++ y ∷ after)) log x =
-        subst (λ (m : List Applied). IsKnown z o (words_after words step) (holdings (before ++ y ∷ after)) m x) nil grown in
+        subst (λ (l : List Applied). IsKnown z o (words_after words step) (holdings (before ++ y ∷ after)) l x) nil grown in
         let true_now : IsTrueYet z o (words_after words step) (holdings (before ++ y ∷ after)) log (step_of (core_of x)) (record { answer = answer_of words step; at = length log }) =
         subst (λ (f : Option Step). IsTrueYet z o (words_after words step) (holdings (before ++ y ∷ after)) log f (record { answer = answer_of words step; at = length log })) (sym due_here)
         (yet (holdings (before ++ y ∷ after)) split) in
-        let keeps_nil : Keeps z o (record { words = words; holdings = holdings before ++ holding_of x ∷ holdings after; log = log })
-        (record { words = words_after words step; holdings = holdings before ++ holding_of y ∷ holdings after; log = log ++ [] }) =
-        subst (λ (h : Holding). Keeps z o (record { words = words; holdings = holdings before ++ holding_of x ∷ holdings after; log = log })
-        (record { words = words_after words step; holdings = holdings before ++ h ∷ holdings after; log = log ++ [] })) (sym (holding_then new))
-        (subst (λ (m : List Applied). Keeps z o (record { words = words; holdings = holdings before ++ holding_of x ∷ holdings after; log = log })
-        (record { words = words_after words step; holdings = holdings before ++ h' ∷ holdings after; log = m })) (sym nil) keeps) in
-        subst (λ (m : List Applied). Lawful z o (words_after words step) (before ++ y ∷ after) m) nil
-        (changed z o words (words_after words step) before x y after log [] w keeps_nil
-        (λ p. ap (λ (m : List Applied). places_by p 0 m) nil ∙ w.once p ∙ sym (once_same p before x y after refl (written_same x.notes new written)))
-        (subst (λ (m : List Applied). IsKnown z o (words_after words step) (holdings (before ++ y ∷ after)) m y) (sym nil) (known (holdings (before ++ y ∷ after)) here true_now)))
+        let keeps_nil : IsKeptAmong z o m (holding_of x) (words_after words step) (holding_of y) (log ++ []) =
+        subst (λ (h : Holding). IsKeptAmong z o m (holding_of x) (words_after words step) h (log ++ [])) (sym (holding_then new))
+        (subst (λ (l : List Applied). IsKeptAmong z o m (holding_of x) (words_after words step) h' l) (sym nil) keeps) in
+        subst (λ (l : List Applied). LawfulAmong z o (record m { words = words_after words step; part = y; log = l })) nil
+        (changed z o m (words_after words step) y [] w keeps_nil
+        (λ p. ap (places_by p 0) nil ∙ w.once p ∙ sym (once_same p before x y after refl (written_same x.notes new written)))
+        (subst (λ (l : List Applied). IsKnown z o (words_after words step) (holdings (before ++ y ∷ after)) l y) (sym nil) (known (holdings (before ++ y ∷ after)) here true_now)))
 
     -- what was loaded goes on being true
     loads_then : (new : List Noted) (n : ℕ) (k : KeptAnswer) → IsLoaded z o words all_hold log n k → IsLoaded z o (words_after words step)
@@ -137,29 +141,29 @@ module _ (z : Layout) (o : Opening) (words : List ℕ) (before : List Part) (x :
         subst (λ (hs : List Holding). IsLoaded z o (words_after words step) hs log n k) (sym split)
         (keeps.loads n k (subst (λ (hs : List Holding). IsLoaded z o words hs log n k) (holdings_split before x after) l))
 
-    made : (new : List Noted) → Lawful z o (words_after words step) (before ++ gone x log (answer_of words step) new ∷ after) log → AreNotesOf o (gone x log (answer_of words step) new)
-        (reply_of t) new → LeadsAt z o words before x after log (core_of x) s step
+    made : (new : List Noted) → LawfulAmong z o (record m { words = words_after words step; part = gone x log (answer_of words step) new }) →
+        AreNotesOf o (gone x log (answer_of words step) new) (reply_of t) new → LeadsAt z o m s step
     made new lawful noted =
         let nothing : log ++ added_at (core_of x).port s (answer_of words step) ≡ log = ap (λ (es : List Applied). log ++ es) added ∙ append-nil log in
         record {
           answers = record { within = within; gives = refl };
           possible = possible;
           new = new;
-          noted = subst (λ (m : List Applied). AreNotesOf o (gone x m (answer_of words step) new) (reply_of (advance_at (core_of x) s (answer_of words step))) new) (sym nothing)
+          noted = subst (λ (l : List Applied). AreNotesOf o (gone x l (answer_of words step) new) (reply_of (advance_at (core_of x) s (answer_of words step))) new) (sym nothing)
               (subst (λ (c : CoreState). AreNotesOf o (gone x log (answer_of words step) new) (reply_of c) new) (sym leads) noted);
-          lawful = subst (λ (m : List Applied). Lawful z o (words_after words step) (before ++ gone x m (answer_of words step) new ∷ after) m) (sym nothing) lawful;
-          loads = λ n k l. subst (λ (m : List Applied). IsLoaded z o (words_after words step) (holdings (before ++ gone x m (answer_of words step) new ∷ after)) m n k) (sym nothing)
+          lawful = subst (λ (l : List Applied). LawfulAmong z o (record m { words = words_after words step; part = gone x l (answer_of words step) new; log = l })) (sym nothing) lawful;
+          loads = λ n k l. subst (λ (es : List Applied). IsLoaded z o (words_after words step) (holdings (before ++ gone x es (answer_of words step) new ∷ after)) es n k) (sym nothing)
               (loads_then new n k l);
         }
 
     -- nothing is noted: the call goes on, or it is refused
-    pub quiet : is_at_rest s ≡ false → AreNotesOf o (gone x log (answer_of words step) []) (reply_of t) [] → LeadsAt z o words before x after log (core_of x) s step
+    pub quiet : is_at_rest s ≡ false → AreNotesOf o (gone x log (answer_of words step) []) (reply_of t) [] → LeadsAt z o m s step
     quiet going noted = made [] (lawful_then [] refl (λ hs here true_now. known_on z o (words_after words step) hs log x (answer_of words step) here
         (ap is_at_rest e ∙ going) possible_here true_now)) noted
 
     -- the call ends with a note that claims no entry
     pub ends : (n : Noted) → places_written (n ∷ []) ≡ [] → IsLegal o log (port_of x) (seen_by 0 x.notes) n → seen_after (seen_by 0 x.notes) n.note ≤ length log → is_at_rest t.stage ≡ true →
-        AreNotesOf o (gone x log (answer_of words step) (n ∷ [])) (reply_of t) (n ∷ []) → LeadsAt z o words before x after log (core_of x) s step
+        AreNotesOf o (gone x log (answer_of words step) (n ∷ [])) (reply_of t) (n ∷ []) → LeadsAt z o m s step
     ends n written legal shown rest noted =
         let pushed = seen_by-push 0 x.notes n in
         made (n ∷ []) (lawful_then (n ∷ []) written (λ hs here true_now. known_end z o (words_after words step) hs log x (answer_of words step) n here (ap is_at_rest e ∙ busy (core_of x) s step due)
@@ -170,8 +174,8 @@ module _ (z : Layout) (o : Opening) (words : List ℕ) (before : List Part) (x :
   module _ (s : Stage) (n : ℕ) (t : CoreState) (e : (core_of x).stage ≡ s) (due : step_at (core_of x) s ≡ Some (Load n)) (leads : advance_at (core_of x) s (get_or words n 0) ≡ t)
       (added : added_at (core_of x).port s (get_or words n 0) ≡ []) (readable : IsReadable z words all_hold n) (possible : IsPossibleAt (core_of x) s (get_or words n 0))
       (holds : holding_at t (cond (joins_at (core_of x) s) (length log) (joined_since x)) ≡ holding_in (core_of x) s (joined_since x)) where
-    load_keeps : IsKeptBy z o words (holdings before) (holding_of x) (holdings after) log words (holding_in (core_of x) s (joined_since x)) log
-    load_keeps = subst (λ (u : Stage). IsKeptBy z o words (holdings before) (holding_of x) (holdings after) log words (holding_in (core_of x) u (joined_since x)) log) e
+    load_keeps : IsKeptAmong z o m (holding_of x) words (holding_in (core_of x) s (joined_since x)) log
+    load_keeps = subst (λ (u : Stage). IsKeptAmong z o m (holding_of x) words (holding_in (core_of x) u (joined_since x)) log) e
         (record { lawful = memory_here; loads = λ m k l. l })
 
     load_yet : (hs : List Holding) → hs ≡ holdings before ++ holding_in (core_of x) s (joined_since x) ∷ holdings after →
@@ -183,11 +187,11 @@ module _ (z : Layout) (o : Opening) (words : List ℕ) (before : List Part) (x :
     load_within : n < length words
     load_within = let count = w.memory.count in let below = readable.0 in omega (arith, count, below)
 
-    pub load_quiet : is_at_rest s ≡ false → AreNotesOf o (gone x log (get_or words n 0) []) (reply_of t) [] → LeadsAt z o words before x after log (core_of x) s (Load n)
+    pub load_quiet : is_at_rest s ≡ false → AreNotesOf o (gone x log (get_or words n 0) []) (reply_of t) [] → LeadsAt z o m s (Load n)
     load_quiet going noted = quiet s (Load n) t (holding_in (core_of x) s (joined_since x)) e due leads added load_within possible holds load_keeps load_yet going noted
 
     pub load_ends : (note : Noted) → places_written (note ∷ []) ≡ [] → IsLegal o log (port_of x) (seen_by 0 x.notes) note → seen_after (seen_by 0 x.notes) note.note ≤ length log →
-        is_at_rest t.stage ≡ true → AreNotesOf o (gone x log (get_or words n 0) (note ∷ [])) (reply_of t) (note ∷ []) → LeadsAt z o words before x after log (core_of x) s (Load n)
+        is_at_rest t.stage ≡ true → AreNotesOf o (gone x log (get_or words n 0) (note ∷ [])) (reply_of t) (note ∷ []) → LeadsAt z o m s (Load n)
     load_ends note written legal shown rest noted = ends s (Load n) t (holding_in (core_of x) s (joined_since x)) e due leads added load_within possible holds load_keeps load_yet note
         written legal shown rest noted
 
@@ -237,9 +241,11 @@ going_from z o words hs log x (f ∷ ks) s is w k e begun rest =
           (subst (λ (t : Stage). knows_at z o words hs log x.begun f.at (joined_since x) (last_at x.since (f ∷ ks)) (core_of x) t) e knows_x);
     }
 
-module _ (z : Layout) (o : Opening) (words : List ℕ) (before : List Part) (x : Part) (after : List Part) (log : List Applied) (w : Lawful z o words (before ++ x ∷ after) log) where
+module _ (z : Layout) (o : Opening) (m : PartAmong) (w : LawfulAmong z o m) where
+  open m use {words, before, part as x, after, log}
+
   pub going : (s : Stage) → (core_of x).stage ≡ s → is_begun s ≡ false → is_at_rest s ≡ false → IsGoing z o words (holdings (before ++ x ∷ after)) log x s
-  going s e begun rest = going_from z o words (holdings (before ++ x ∷ after)) log x x.kept s refl w.memory (known_here z o words before x after log w) e begun rest
+  going s e begun rest = going_from z o words (holdings (before ++ x ∷ after)) log x x.kept s refl w.memory (known_here z o m w) e begun rest
 
 -- a machine behind its first answer isn't begun
 not_begun : (z : Layout) (o : Opening) (words : List ℕ) (hs : List Holding) (log : List Applied) (begun : CoreState) (first since high : ℕ) (s : CoreState) (t : Stage) →

@@ -1,8 +1,8 @@
 -- The store of a word of an update's record: behind the last one the exchange is due.
-use Rattle.partial_core.proofs.Common.{ℕ, ◌≡◌, ◌+◌, ◌<◌, ◌≤◌, ◌==◌, ◌++◌, Bool, true, false, cond, Option, Some, None, IfSome, List, ◌∷◌, length, get_or, slice_get, inl, inr, refl, sym, ap, subst, ◌∙◌, arith, AllByRecursion, eqb-true, Applied, Opening, Step, Store, Layout, pool_end, words_after, prev_of, prev_word, view_word, plain_record_size, Change, Stage, StoringRecord, Exchanging, CoreState, at_stage, record_words, record_size, scanning, AreComponentIndices, is_sound_at, JoinedAnnouncement, IsBegunSince, ClaimedSlot, Holding, Own, Due, IfJoined, unpublished, Pool, IsEntry, IsPublished, IsKept, stores_are_kept, dues_are_kept, loads_are_true, entry_published, if_all, three_words, all_before, all_after, all_append, IsThird, Part, core_of, first_at, Lawful, holding_of, holdings, joined_since, AllByRecursion-get}
+use Rattle.partial_core.proofs.Common.{ℕ, ◌≡◌, ◌+◌, ◌<◌, ◌≤◌, ◌==◌, ◌++◌, Bool, true, false, cond, Option, Some, None, IfSome, List, ◌∷◌, length, get_or, slice_get, inl, inr, refl, sym, ap, subst, ◌∙◌, arith, AllByRecursion, eqb-true, Applied, Opening, Step, Store, Layout, pool_end, words_after, prev_of, prev_word, view_word, plain_record_size, Change, Stage, StoringRecord, Exchanging, CoreState, at_stage, record_words, record_size, scanning, AreComponentIndices, is_sound_at, JoinedAnnouncement, IsBegunSince, ClaimedSlot, Holding, Own, Due, IfJoined, unpublished, Pool, IsEntry, IsPublished, stores_are_kept, dues_are_kept, loads_are_true, entry_published, if_all, three_words, all_before, all_after, all_append, IsThird, core_of, first_at, holding_of, holdings, joined_since, AllByRecursion-get, PartAmong, LawfulAmong}
 use Rattle.partial_knowledge.specs.Sets as sets
 use Rattle.partial_core.proofs.MidCalls.{IsViewed}
-use Rattle.partial_core.proofs.Parts.{holdings_split}
+use Rattle.partial_core.proofs.Parts.{IsKeptAmong, holdings_split}
 use Rattle.partial_core.proofs.Steps.{LeadsAt, holding_in, sizes_here, sound_here, sound_at, memory_at, going, quiet}
 use Rattle.partial_core.proofs.Joins.{keeps_then}
 use Rattle.partial_core.proofs.StoredFacts.{HasViewed, length_record, record_due}
@@ -49,8 +49,10 @@ viewed_then z o words words' hs log first s inside same viewed = elim viewed.1 [
   }
 ]
 
-module _ (z : Layout) (o : Opening) (words : List ℕ) (before : List Part) (x : Part) (after : List Part) (log : List Applied) (w : Lawful z o words (before ++ x ∷ after) log) (c : Change)
-    (old at k : ℕ) (e : (core_of x).stage ≡ StoringRecord c old at k) where
+module _ (z : Layout) (o : Opening) (m : PartAmong) (w : LawfulAmong z o m) (c : Change)
+    (old at k : ℕ) (e : (core_of m.part).stage ≡ StoringRecord c old at k) where
+  open m use {words, before, part as x, after, log}
+
   abbrev s : CoreState
   s = core_of x
 
@@ -68,30 +70,30 @@ module _ (z : Layout) (o : Opening) (words : List ℕ) (before : List Part) (x :
   block n = record { space = Pool; at = at; words = record_words s c old at; stored = n }
 
   sound : is_sound_at s (StoringRecord c old at k)
-  sound = sound_at z o words before x after log w (StoringRecord c old at k) e
+  sound = sound_at z o m w (StoringRecord c old at k) e
 
   -- what the part holds, with its stage named
-  kept_here : (h : Holding) → IsKept z o words (holdings before) held (holdings after) log words' h log → IsKept z o words (holdings before) (holding_of x) (holdings after) log words' h log
-  kept_here h kept = subst (λ (u : Stage). IsKept z o words (holdings before) (holding_in s u (joined_since x)) (holdings after) log words' h log) (sym e) kept
+  kept_here : (h : Holding) → IsKeptAmong z o m held words' h log → IsKeptAmong z o m (holding_of x) words' h log
+  kept_here h kept = subst (λ (u : Stage). IsKeptAmong z o m (holding_in s u (joined_since x)) words' h log) (sym e) kept
 
-  stored : IsKept z o words (holdings before) held (holdings after) log words' (record held { own = Some (block (k + 1)) }) log
+  stored : IsKeptAmong z o m held words' (record held { own = Some (block (k + 1)) }) log
   stored =
       let size = length_record s c old at in
       let more = sound.2 in
-      stores_are_kept z o words (holdings before) held (holdings after) log (block k) (memory_at z o words before x after log w (StoringRecord c old at k) e) refl refl (omega (arith, size, more))
+      stores_are_kept z o words (holdings before) held (holdings after) log (block k) (memory_at z o m w (StoringRecord c old at k) e) refl refl (omega (arith, size, more))
 
   inside : at + k < length words
   inside =
       let count = w.memory.count in
       let more = sound.2 in
-      let room : at + record_size s ≤ pool_end z = subst (λ (y : Layout). at + record_size s ≤ pool_end y) (sizes_here z o words before x after log w) sound.1.1 in
+      let room : at + record_size s ≤ pool_end z = subst (λ (y : Layout). at + record_size s ≤ pool_end y) (sizes_here z o m w) sound.1.1 in
       omega (arith, count, more, room)
 
   -- more words follow
-  word_stored : (k + 1 == record_size s) ≡ false → LeadsAt z o words before x after log s (StoringRecord c old at k) step
+  word_stored : (k + 1 == record_size s) ≡ false → LeadsAt z o m (StoringRecord c old at k) step
   word_stored more =
       let t : CoreState = at_stage s (StoringRecord c old at (k + 1)) in
-      quiet z o words before x after log w (StoringRecord c old at k) step t (record held { own = Some (block (k + 1)) }) e refl
+      quiet z o m w (StoringRecord c old at k) step t (record held { own = Some (block (k + 1)) }) e refl
       (ap (λ (b : Bool). at_stage s (cond b (Exchanging c old at) (StoringRecord c old at (k + 1)))) more) refl inside refl refl (kept_here (record held { own = Some (block (k + 1)) }) stored)
       (λ ks is. tt) refl refl
 
@@ -102,7 +104,7 @@ module _ (z : Layout) (o : Opening) (words : List ℕ) (before : List Part) (x :
   -- the store leaves the words of the entries' records
   entry_stays : (q : ℕ) (d : Applied) (n : ℕ) → slice_get log q ≡ Some d → n < plain_record_size → get_or words' (d.stamp + n) 0 ≡ get_or words (d.stamp + n) 0
   entry_stays q d n is few =
-      let memory = memory_at z o words before x after log w (StoringRecord c old at k) e in
+      let memory = memory_at z o m w (StoringRecord c old at k) e in
       let size = three_words words d.stamp in
       let published : IsPublished z words (unpublished hs) (d.stamp + n) = entry_published z o words hs log memory q d n is (omega (arith, few, size)) in
       let entry = AllByRecursion-get (IsEntry z words) log q d memory.entries is in
@@ -120,8 +122,8 @@ module _ (z : Layout) (o : Opening) (words : List ℕ) (before : List Part) (x :
     abbrev whole : Own
     whole = block (length (record_words s c old at))
 
-    all_stored : IsKept z o words (holdings before) held (holdings after) log words' (record held { own = Some whole }) log
-    all_stored = subst (λ n. IsKept z o words (holdings before) held (holdings after) log words' (record held { own = Some (block n) }) log)
+    all_stored : IsKeptAmong z o m held words' (record held { own = Some whole }) log
+    all_stored = subst (λ n. IsKeptAmong z o m held words' (record held { own = Some (block n) }) log)
         (eqb-true (k + 1) (record_size s) last ∙ sym (length_record s c old at)) stored
 
     others_found : (first : ℕ) → sets.FindsJoined (holdings (before ++ x ∷ after)) first s.found.indices → AllByRecursion (λ v. IfJoined v (λ l j. j.since < first → sets.HasAll s.found.indices j))
@@ -132,17 +134,17 @@ module _ (z : Layout) (o : Opening) (words : List ℕ) (before : List Part) (x :
         (finds_all (holdings (before ++ x ∷ after)) first s.found.indices finds) in
         all_append P (holdings before) (holdings after) (all_before P (holdings before) (holding_of x) (holdings after) all) (all_after P (holdings before) (holding_of x) (holdings after) all)
 
-    comes_due : IsKept z o words (holdings before) held (holdings after) log words' (record held { own = Some whole; due = Some due }) log
+    comes_due : IsKeptAmong z o m held words' (record held { own = Some whole; due = Some due }) log
     comes_due =
-        let g = going z o words before x after log w (StoringRecord c old at k) e refl refl in
+        let g = going z o m w (StoringRecord c old at k) e refl refl in
         let first = first_at x.kept in
         let known = g.knows in
         let order = g.order in
         let end = g.inside in
         let inside : first ≤ length log = omega (arith, order, end) in
-        let sizes = sizes_here z o words before x after log w in
+        let sizes = sizes_here z o m w in
         let below : c.component < z.m = subst (λ (y : Layout). c.component < y.m) sizes sound.0.0 in
-        let sound_part = sound_here z o words before x after log w in
+        let sound_part = sound_here z o m w in
         let indices : AreComponentIndices z s.found.indices = subst (λ (y : Layout). AreComponentIndices y s.found.indices) sizes sound_part.indices in
         let viewed : HasViewed o words' log first s = viewed_then z o words words' (holdings (before ++ x ∷ after)) log first s inside entry_stays known.1 in
         let dues = dues_are_kept z o words' (holdings before) (record held { own = Some whole }) (holdings after) log due all_stored.lawful
@@ -151,17 +153,17 @@ module _ (z : Layout) (o : Opening) (words : List ℕ) (before : List Part) (x :
         keeps_then z o (record { words = words; holdings = hs; log = log }) (record { words = words'; holdings = holdings before ++ record held { own = Some whole } ∷ holdings after; log = log })
         (record { words = words'; holdings = holdings before ++ record held { own = Some whole; due = Some due } ∷ holdings after; log = log }) all_stored dues
 
-    last_stored : LeadsAt z o words before x after log s (StoringRecord c old at k) step
+    last_stored : LeadsAt z o m (StoringRecord c old at k) step
     last_stored =
         let t : CoreState = at_stage s (Exchanging c old at) in
         let h' : Holding = record held { own = Some whole; due = Some due } in
-        quiet z o words before x after log w (StoringRecord c old at k) step t h' e refl (ap (λ (b : Bool). at_stage s (cond b (Exchanging c old at) (StoringRecord c old at (k + 1)))) last) refl
+        quiet z o m w (StoringRecord c old at k) step t h' e refl (ap (λ (b : Bool). at_stage s (cond b (Exchanging c old at) (StoringRecord c old at (k + 1)))) last) refl
         inside refl refl (kept_here h' comes_due) (λ ks is. tt) refl refl
 
   -- a word of the record is stored
-  pub record_stored : LeadsAt z o words before x after log s (StoringRecord c old at k) step
+  pub record_stored : LeadsAt z o m (StoringRecord c old at k) step
   record_stored = either (k + 1 == record_size s) refl
     where
-      either : (b : Bool) → (k + 1 == record_size s) ≡ b → LeadsAt z o words before x after log s (StoringRecord c old at k) step
+      either : (b : Bool) → (k + 1 == record_size s) ≡ b → LeadsAt z o m (StoringRecord c old at k) step
       either true last = last_stored last
       either false more = word_stored more

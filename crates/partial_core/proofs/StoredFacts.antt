@@ -120,7 +120,7 @@ module _ (z : Layout) (o : Opening) (words : List ℕ) (before : List Holding) (
       )
 
   frame : Frame z words words (unpublished hs) us
-  frame = record { count = refl; pool = omega arith; lists = omega arith; slots = omega arith; same = λ n far p. refl; apart = λ b claimed apart. (apart_less b apart).0; vacated = λ l room one. one }
+  frame = record { count = refl; rises = λ c. omega arith; same = λ n far p. refl; apart = λ b claimed apart. (apart_less b apart).0; vacated = λ l room one. one }
 
   old_within : IsWithin o log first old
   old_within = let values = w.values in let b = below in subst (IsWithin o log first) (sym loaded) (stamp_within o log first c.component (omega (arith, values, b)))

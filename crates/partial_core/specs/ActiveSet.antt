@@ -1,10 +1,10 @@
 -- Runs of lawful states, and what the getSet of an update finds in them.
-use Rattle.std.specs.Prelude.{ℕ, ◌≡◌, ◌++◌, ⊤, List, [], ◌∷◌, Some}
+use Rattle.std.specs.Prelude.{ℕ, ◌≡◌, ⊤, List, [], ◌∷◌, Some}
 use Rattle.partial_model.specs.declared.history.Applied.{Applied}
 use Rattle.partial_model.specs.declared.history.Opening.{Opening}
 use Rattle.partial_words.specs.declared.step.Event.{Event}
 use Rattle.partial_words.specs.Layout.{Layout}
-use Rattle.partial_words.specs.Step.{answer_of, words_after}
+use Rattle.partial_words.specs.Step.{answer_of}
 use Rattle.partial_active.specs.GetSet as finding
 use Rattle.partial_active.specs.Moments.{IsOrderlyRun, words_behind, own_moments}
 use Rattle.partial_active.specs.ActiveSet.{FindsActiveSet, AreInOrder}
@@ -12,9 +12,9 @@ use Rattle.partial_active.specs.VacatedLists.{KeepsLists}
 use Rattle.partial_machine.specs.declared.stage.Change.{Change}
 use Rattle.partial_machine.specs.declared.stage.Stage.TheVariants.{GettingSet}
 use Rattle.partial_machine.specs.Machine.{CoreState, step_of, getting, lists_spent}
-use Rattle.partial_core.specs.Part.{Part, core_of, port_of, IsMachineOf, with_seen}
+use Rattle.partial_core.specs.Part.{Part, PartAmong, all_parts, core_of, port_of, IsMachineOf, with_seen}
 use Rattle.partial_core.specs.Lawful.{Lawful}
-use Rattle.partial_core.specs.Steps.{LeadsOn, added_by}
+use Rattle.partial_core.specs.Steps.{LeadsOn, memory_after}
 
 -- the words, the parts of the ports, and the history
 pub record MemoryState : Type 0 where
@@ -26,38 +26,37 @@ pub record MemoryState : Type 0 where
 abbrev pub IsLawfulMemory : Layout → Opening → MemoryState → Type 0
 IsLawfulMemory z o s = Lawful z o s.words s.parts s.log
 
+-- a memory as one of its ports stands in it, with all parts in one list
+abbrev pub whole_memory : PartAmong → MemoryState
+whole_memory m = record { words = m.words; parts = all_parts m; log = m.log }
+
 -- What a port does in a run: it makes the step that is due, or it looks at the whole history. To begin a call, and to
 -- take its reply, changes nothing in a state.
 pub data PortMove : Type 0 where
   Makes : (event : Event) → PortMove
   Looks : (port : ℕ) → PortMove
 
--- the port of that number has this part, beside the others
-pub record HasPart (number : ℕ) (parts : List Part) : Type 0 where
-  pub before : List Part
-  pub part : Part
-  pub after : List Part
-  pub is : parts ≡ before ++ part ∷ after
+-- the port of that number has a part in the state
+pub record HasPart (number : ℕ) (s : MemoryState) : Type 0 where
+  pub among : PartAmong
+  pub open among use {part}
+  pub is : s ≡ whole_memory among
   pub port : port_of part ≡ number
 
 -- the event is the due step of the machine of its port, and leads from s to t as the law of steps has it
 pub record MakesStep (z : Layout) (o : Opening) (e : Event) (s t : MemoryState) : Type 0 where
-  pub own : HasPart e.port s.parts
+  pub own : HasPart e.port s
   pub machine : CoreState
   pub its : IsMachineOf machine own.part
   pub due : step_of machine ≡ Some e.step
   pub answer : e.answer ≡ answer_of s.words e.step
-  pub leads : LeadsOn z o s.words own.before own.part own.after s.log machine e.step
-  pub next : t ≡ record {
-    words = words_after s.words e.step;
-    parts = own.before ++ leads.y ∷ own.after;
-    log = s.log ++ added_by z (port_of own.part) s.words e.step;
-  }
+  pub leads : LeadsOn z o own.among machine e.step
+  pub next : t ≡ whole_memory (memory_after z own.among e.step leads.y)
 
 -- a look by that port leads from s to t: the port has seen the whole history then
 pub record MakesLook (number : ℕ) (s t : MemoryState) : Type 0 where
-  pub own : HasPart number s.parts
-  pub next : t ≡ record s { parts = own.before ++ with_seen s.log own.part ∷ own.after }
+  pub own : HasPart number s
+  pub next : t ≡ whole_memory (record own.among { part = with_seen own.among.log own.part })
 
 -- the move leads from s to t
 abbrev pub IsMove : Layout → Opening → PortMove → MemoryState → MemoryState → Type 0
@@ -104,11 +103,11 @@ OnlyGets z o own (Looks port ∷ moves) s t run = OnlyGets z o own moves run.0 t
 -- a run from a lawful state in which a port is at the first step of an update's getSet, and makes steps of that getSet alone
 pub record RunsGetSet (z : Layout) (o : Opening) (own : ℕ) (moves : List PortMove) (s t : MemoryState) : Type 0 where
   pub lawful : IsLawfulMemory z o s
-  pub first : HasPart own s.parts
+  pub first : HasPart own s
   pub begins : BeginsGetSet (core_of first.part)
   pub run : IsRun z o moves s t
   pub only : OnlyGets z o own moves s t run
-  pub last : HasPart own t.parts
+  pub last : HasPart own t
 
 -- the moments of the port's steps
 abbrev pub moments_in : ℕ → List PortMove → MemoryState → List (List ℕ)

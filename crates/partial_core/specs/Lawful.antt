@@ -7,7 +7,7 @@ use Rattle.partial_model.specs.Outcome.{places_by, places_written}
 use Rattle.partial_words.specs.Layout.{Layout}
 use Rattle.partial_words.specs.Chain.{OpensWith}
 use Rattle.partial_state.specs.LawfulWords.{LawfulWords}
-use Rattle.partial_core.specs.Part.{Part, fresh_parts}
+use Rattle.partial_core.specs.Part.{Part, PartAmong, all_parts, fresh_parts}
 use Rattle.partial_core.specs.Held.{holdings}
 use Rattle.partial_core.specs.Known.{IsKnown, notes_by}
 
@@ -19,6 +19,10 @@ pub record Lawful (z : Layout) (o : Opening) (words : List ℕ) (parts : List Pa
   pub once : (p : ℕ) → places_by p 0 log ≡ places_written (notes_by p parts)
   -- each port has seen a beginning of the history, its notes are legal, and its machine is where its answers lead it
   pub known : AllByRecursion (IsKnown z o words (holdings parts) log) parts
+
+-- the memory, as one of its ports stands in it, is lawful
+abbrev pub LawfulAmong : Layout → Opening → PartAmong → Type 0
+LawfulAmong z o m = Lawful z o m.words (all_parts m) m.log
 
 -- an opened memory of at most 64 ports is lawful, with nothing applied
 abbrev pub OpensLawful : Type 0

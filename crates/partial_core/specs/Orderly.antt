@@ -1,5 +1,5 @@
 -- The words of a lawful state are orderly, as the active set asks, and each step of a port keeps them so.
-use Rattle.std.specs.Prelude.{ℕ, ◌≡◌, List, [], ◌∷◌, ◌++◌, Some}
+use Rattle.std.specs.Prelude.{ℕ, ◌≡◌, List, [], ◌∷◌, Some}
 use Rattle.partial_model.specs.declared.history.Applied.{Applied}
 use Rattle.partial_model.specs.declared.history.Opening.{Opening}
 use Rattle.partial_words.specs.declared.step.Step.{Step}
@@ -8,8 +8,8 @@ use Rattle.partial_words.specs.Step.{words_after}
 use Rattle.partial_active.specs.Orderly.{Orderly}
 use Rattle.partial_active.specs.Moments.{IsOrderlyEvent}
 use Rattle.partial_machine.specs.Machine.{CoreState, step_of}
-use Rattle.partial_core.specs.Part.{Part, IsMachineOf}
-use Rattle.partial_core.specs.Lawful.{Lawful}
+use Rattle.partial_core.specs.Part.{Part, PartAmong, IsMachineOf}
+use Rattle.partial_core.specs.Lawful.{Lawful, LawfulAmong}
 
 -- lawful words are orderly
 abbrev pub LawfulIsOrderly : Type 0
@@ -18,7 +18,6 @@ LawfulIsOrderly = (z : Layout) (o : Opening) (words : List ℕ) (parts : List Pa
 
 -- the due step of any port is an orderly event, behind the words that it changes
 abbrev pub StepsAreOrderly : Type 0
-StepsAreOrderly = (z : Layout) (o : Opening) (words : List ℕ) (before : List Part) (x : Part) (after : List Part)
-    (log : List Applied) (c : CoreState) (step : Step) →
-    Lawful z o words (before ++ x ∷ after) log → IsMachineOf c x → step_of c ≡ Some step →
-    IsOrderlyEvent z (words ∷ []) words (words_after words step)
+StepsAreOrderly = (z : Layout) (o : Opening) (m : PartAmong) (c : CoreState) (step : Step) →
+    LawfulAmong z o m → IsMachineOf c m.part → step_of c ≡ Some step →
+    IsOrderlyEvent z (m.words ∷ []) m.words (words_after m.words step)

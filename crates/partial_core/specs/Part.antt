@@ -1,5 +1,5 @@
 -- What is known of a port: what it has seen and noted, and the answers of its last call that made a step.
-use Rattle.std.specs.Prelude.{ℕ, zero, suc, ◌≡◌, ◌+◌, ◌⊎◌, Bool, true, false, List, [], ◌∷◌, map}
+use Rattle.std.specs.Prelude.{ℕ, zero, suc, ◌≡◌, ◌+◌, ◌⊎◌, Bool, true, false, List, [], ◌∷◌, ◌++◌, map}
 use Rattle.partial_model.specs.declared.history.Applied.{Applied}
 use Rattle.partial_model.specs.Notes.{Noted}
 use Rattle.partial_words.specs.Layout.{Layout}
@@ -22,6 +22,18 @@ pub record Part : Type 0 where
   -- how many entries it had seen, and how many notes it had, as that call began
   pub since : ℕ
   pub past : ℕ
+
+-- A memory as one of its ports stands in it: the words, the port's part between those of the other ports, and the history.
+pub record PartAmong : Type 0 where
+  pub words : List ℕ
+  pub before : List Part
+  pub part : Part
+  pub after : List Part
+  pub log : List Applied
+
+-- the parts of all ports
+abbrev pub all_parts : PartAmong → List Part
+all_parts m = m.before ++ m.part ∷ m.after
 
 -- the machine behind these answers
 abbrev pub led_by : CoreState → List KeptAnswer → CoreState

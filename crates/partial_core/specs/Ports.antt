@@ -1,5 +1,5 @@
 -- What a lawful state says of its ports: how they fit the history, what they learn by a look, and how many steps their calls have made.
-use Rattle.std.specs.Prelude.{ℕ, ◌≡◌, ◌+◌, ◌<◌, ◌≤◌, List, ◌∷◌, ◌++◌, length, map, take, Contains, Some, is_some, not}
+use Rattle.std.specs.Prelude.{ℕ, ◌≡◌, ◌+◌, ◌<◌, ◌≤◌, List, length, map, take, Contains, Some, is_some, not}
 use Rattle.std.specs.List.{AllByRecursion}
 use Rattle.partial_model.specs.declared.call.Call.{Call}
 use Rattle.partial_model.specs.declared.history.Applied.{Applied}
@@ -12,8 +12,8 @@ use Rattle.partial_machine.specs.Machine.{CoreState, step_of}
 use Rattle.partial_machine.specs.Calls.{is_at_rest, call_of}
 use Rattle.partial_machine.specs.Sound.{IsSound}
 use Rattle.partial_machine.specs.Bounds.{most_steps, steps_left}
-use Rattle.partial_core.specs.Part.{Part, core_of, port_of, IsMachineOf, with_seen}
-use Rattle.partial_core.specs.Lawful.{Lawful}
+use Rattle.partial_core.specs.Part.{Part, PartAmong, core_of, port_of, IsMachineOf, with_seen}
+use Rattle.partial_core.specs.Lawful.{Lawful, LawfulAmong}
 use Rattle.partial_core.specs.Steps.{FitsHistory}
 
 -- each port fits the whole history, with a machine of the memory's sizes, and each entry is by one of the ports
@@ -42,17 +42,15 @@ LawfulRecordsAreWithin = (z : Layout) (o : Opening) (words : List ℕ) (parts : 
     Lawful z o words parts log → RecordsAreWithin z o words log
 
 -- what a look at the whole history leads to: the load of a component word by a port, between two of its calls or within one
-pub record Looks (z : Layout) (o : Opening) (words : List ℕ) (before : List Part) (x : Part) (after : List Part)
-    (log : List Applied) : Type 0 where
-  pub there : 0 < length words
-  pub seen : x.seen ≡ take (length x.seen) log
-  pub fits : FitsHistory o log (with_seen log x)
-  pub lawful : Lawful z o words (before ++ with_seen log x ∷ after) log
+pub record Looks (z : Layout) (o : Opening) (m : PartAmong) : Type 0 where
+  pub there : 0 < length m.words
+  pub seen : m.part.seen ≡ take (length m.part.seen) m.log
+  pub fits : FitsHistory o m.log (with_seen m.log m.part)
+  pub lawful : LawfulAmong z o (record m { part = with_seen m.log m.part })
 
 -- a look leads to a lawful state
 abbrev pub LooksStayLawful : Type 0
-LooksStayLawful = (z : Layout) (o : Opening) (words : List ℕ) (before : List Part) (x : Part) (after : List Part)
-    (log : List Applied) → Lawful z o words (before ++ x ∷ after) log → Looks z o words before x after log
+LooksStayLawful = (z : Layout) (o : Opening) (m : PartAmong) → LawfulAmong z o m → Looks z o m
 
 -- the steps of the port's last call, with those that are left of it at most, are no more than such a call may make
 abbrev pub HasFewSteps : Layout → Part → Type 0
@@ -73,5 +71,5 @@ pub record IsReady (z : Layout) (c : CoreState) (x : Part) : Type 0 where
 
 -- the machines of a lawful state are ready
 abbrev pub LawfulMachinesAreReady : Type 0
-LawfulMachinesAreReady = (z : Layout) (o : Opening) (words : List ℕ) (before : List Part) (x : Part) (after : List Part)
-    (log : List Applied) (c : CoreState) → Lawful z o words (before ++ x ∷ after) log → IsMachineOf c x → IsReady z c x
+LawfulMachinesAreReady = (z : Layout) (o : Opening) (m : PartAmong) (c : CoreState) →
+    LawfulAmong z o m → IsMachineOf c m.part → IsReady z c m.part

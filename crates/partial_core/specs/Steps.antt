@@ -23,9 +23,9 @@ use Rattle.partial_machine.specs.Behind.{IsBehind}
 use Rattle.partial_state.specs.Holdings.{unpublished}
 use Rattle.partial_state.specs.Loads.{KeptAnswer, IsPublished}
 use Rattle.partial_knowledge.specs.Scans.{AreStamps}
-use Rattle.partial_core.specs.Part.{Part, port_of, core_of, first_at, IsLedTo, IsMachineOf}
+use Rattle.partial_core.specs.Part.{Part, PartAmong, all_parts, port_of, core_of, first_at, IsLedTo, IsMachineOf}
 use Rattle.partial_core.specs.Held.{holdings}
-use Rattle.partial_core.specs.Lawful.{Lawful}
+use Rattle.partial_core.specs.Lawful.{LawfulAmong}
 
 -- The entries that a step of that port adds to the history: a won exchange of a component word adds the record that it
 -- publishes, and no other step adds any.
@@ -133,21 +133,24 @@ pub record Tells (z : Layout) (o : Opening) (log entries : List Applied) (x : Pa
   pub noted : AreNotesOf o y (reply_of (advance c a)) new
   pub fits : FitsHistory o y.seen y
 
+-- the memory behind the port's step, with the part that the step leads to
+abbrev pub memory_after : Layout → PartAmong → Step → Part → PartAmong
+memory_after z m step y =
+    record m { words = words_after m.words step; part = y; log = m.log ++ added_by z (port_of m.part) m.words step }
+
 -- what the due step of a machine leads to, answered by the plain meaning of the step
-pub record LeadsOn (z : Layout) (o : Opening) (words : List ℕ) (before : List Part) (x : Part) (after : List Part)
-    (log : List Applied) (c : CoreState) (step : Step) : Type 0 where
-  pub answers : Answers words step (answer_of words step)
-  pub publishes : PublishesWithin z words step
+pub record LeadsOn (z : Layout) (o : Opening) (m : PartAmong) (c : CoreState) (step : Step) : Type 0 where
+  pub answers : Answers m.words step (answer_of m.words step)
+  pub publishes : PublishesWithin z m.words step
   pub y : Part
-  pub tells : Tells z o log (added_by z (port_of x) words step) x c (answer_of words step) y
-  pub lawful : Lawful z o (words_after words step) (before ++ y ∷ after) (log ++ added_by z (port_of x) words step)
+  pub tells : Tells z o m.log (added_by z (port_of m.part) m.words step) m.part c (answer_of m.words step) y
+  pub lawful : LawfulAmong z o (memory_after z m step y)
   -- a published word stays the same forever
-  pub keeps : (w : ℕ) → list_base z ≤ w → w < total z → IsPublished z words (unpublished (holdings (before ++ x ∷ after))) w →
-      (slice_index (words_after words step) w ≡ slice_index words w)
-      × IsPublished z (words_after words step) (unpublished (holdings (before ++ y ∷ after))) w
+  pub keeps : (w : ℕ) → list_base z ≤ w → w < total z → IsPublished z m.words (unpublished (holdings (all_parts m))) w →
+      (slice_index (words_after m.words step) w ≡ slice_index m.words w)
+      × IsPublished z (words_after m.words step) (unpublished (holdings (all_parts (memory_after z m step y)))) w
 
 -- the one law of steps: from a lawful state the due step of any port leads to a lawful state
 abbrev pub StepsStayLawful : Type 0
-StepsStayLawful = (z : Layout) (o : Opening) (words : List ℕ) (before : List Part) (x : Part) (after : List Part)
-    (log : List Applied) (c : CoreState) (step : Step) →
-    Lawful z o words (before ++ x ∷ after) log → IsMachineOf c x → step_of c ≡ Some step → LeadsOn z o words before x after log c step
+StepsStayLawful = (z : Layout) (o : Opening) (m : PartAmong) (c : CoreState) (step : Step) →
+    LawfulAmong z o m → IsMachineOf c m.part → step_of c ≡ Some step → LeadsOn z o m c step

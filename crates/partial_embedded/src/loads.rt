@@ -1,12 +1,15 @@
 //! What an embedded scan needs of the words that it loads.
 
-ghost use Rattle.std.specs.Prelude.{◌≡◌, ℕ, List, Some};
+ghost use Rattle.std.specs.Prelude.{◌≡◌, ℕ, List, Some, IfOk, IfErr};
 ghost use Rattle.partial_words.specs.declared.step.Step.TheVariants.{Load};
 ghost use Rattle.partial_embedded.specs.Embedded.{ViewPair, IsPossibleInView, advance_view, view_step_due};
 
 /// The loads of one embedded scan. Other ports may make steps between them. To contracts it is the scan
 /// with its buffers and its positions, as its answers so far have left them.
 pub trait Loads {
+    /// What is told of a call that is broken off: [`Infallible`](std::convert::Infallible) where none ever is.
+    type Break: Drop;
+
     /// The call that makes the loads is under way.
     ghost goes: { Self → Type 0 };
 
@@ -20,12 +23,17 @@ pub trait Loads {
     ghost follows: { Self → Self → Type 0 };
 
     /// Loads the word that is due, and returns its value.
-    fn load(&mut self, word: u64) -> u64
+    ///
+    /// # Errors
+    /// [`Loads::Break`] when the call is not to go on: nothing was loaded, and the scan stays where it is.
+    fn load(&mut self, word: u64) -> Result<u64, Self::Break>
         requires goes { goes self.old }
         requires due { view_step_due (positions self.old) (scan self.old) ≡ Some (Load word) }
         ensures goes { goes self.new }
-        ensures possible { IsPossibleInView (scan self.old) result }
-        ensures scan { scan self.new ≡ advance_view (positions self.old) (scan self.old) result }
+        ensures possible { IfOk result (λ answer. IsPossibleInView (scan self.old) answer) }
+        ensures scan { IfOk result (λ answer.
+            scan self.new ≡ advance_view (positions self.old) (scan self.old) answer) }
+        ensures stays { IfErr result (λ _. scan self.new ≡ scan self.old) }
         ensures positions { positions self.new ≡ positions self.old }
         ensures follows { follows self.old self.new };
 

@@ -1,11 +1,11 @@
 -- No due step stores or adds to a component word, and an exchange of one is of two references; the pool's counter grows by claims alone.
-use Rattle.partial_epochs.proofs.Common.{ℕ, ◌≡◌, ◌<◌, ◌≤◌, ◌⊎◌, ◌++◌, Bool, true, false, cond, Some, None, IfSome, List, [], ◌∷◌, length, refl, sym, ap, subst, ◌∙◌, inl, inr, arith, ⊤, is_some, Applied, Opening, all_at, some_same, Step, Load, Store, Exchange, Add, Layout, IsLayout, slot_counter, slot_word, list_base, list_head, list_counter, pool_counter, greatest_record, CoreState, record_size, step_at, step_of, is_begun, IsSound, is_sound_at, Holding, IsOwn, IsTied, Part, IsMachineOf, core_of, holdings, joined_since, own_list, lawful_machines_are_ready, seal, announcement_size, join_step, JoinStage, Claiming, Storing, Joined, Spent, Change, Stage, Idle, ReadBegun, LoadingValue, UpdateBegun, GettingSet, Viewing, ClaimingRecord, StoringRecord, Exchanging, ScanBegun, StoringAnnouncement, Joining, Scanning, Leaving, Finished, size_few, view_loads, holding_in, memory_at, sizes_here, sound_at, sound_here}
+use Rattle.partial_epochs.proofs.Common.{ℕ, ◌≡◌, ◌<◌, ◌≤◌, ◌⊎◌, Bool, true, false, cond, Some, None, IfSome, List, [], length, refl, sym, ap, subst, ◌∙◌, inl, inr, arith, ⊤, is_some, Opening, all_at, some_same, Step, Load, Store, Exchange, Add, Layout, IsLayout, slot_counter, slot_word, list_base, list_head, list_counter, pool_counter, greatest_record, CoreState, record_size, step_at, step_of, is_begun, IsSound, is_sound_at, Holding, IsOwn, IsTied, IsMachineOf, core_of, PartAmong, holdings, joined_since, own_list, lawful_machines_are_ready, seal, announcement_size, join_step, JoinStage, Claiming, Storing, Joined, Spent, Change, Stage, Idle, ReadBegun, LoadingValue, UpdateBegun, GettingSet, Viewing, ClaimingRecord, StoringRecord, Exchanging, ScanBegun, StoringAnnouncement, Joining, Scanning, Leaving, Finished, size_few, view_loads, holding_in, memory_at, sizes_here, sound_at, sound_here}
 use Rattle.partial_active.specs.declared.get_set.Stage.{Stage as SetStage}
 use Rattle.partial_active.specs.declared.get_set.Stage.TheVariants as set
 use Rattle.partial_active.specs.GetSet as finding
 use Rattle.partial_embedded.specs.declared.embedded.Stage.{Stage as ViewStage}
 use Rattle.partial_embedded.specs.Embedded as viewing
-use Rattle.partial_core.specs.Lawful.{Lawful}
+use Rattle.partial_core.specs.Lawful.{LawfulAmong}
 
 abbrev pub IsApart : Layout → Step → Type 0
 IsApart z (Load w) = ⊤
@@ -59,11 +59,13 @@ leaving_apart : (y : Layout) (slot : ℕ) (b : Bool) (step : Step) → cond b No
 leaving_apart y slot true step e = absurd cc
 leaving_apart y slot false step e = subst (IsApart y) (some_same e) (omega arith)
 
-module _ (z : Layout) (o : Opening) (words : List ℕ) (before : List Part) (x : Part) (after : List Part) (log : List Applied) (w : Lawful z o words (before ++ x ∷ after) log) where
+module _ (z : Layout) (o : Opening) (m : PartAmong) (w : LawfulAmong z o m) where
+  open m use {words, before, part as x, after}
+
   -- the list that a getSet writes lies in the list words
   list_above : (c : Change) (old : ℕ) → (core_of x).stage ≡ GettingSet c old → (at k count word : ℕ) → (core_of x).get_set.stage ≡ set.Write at k count word → list_base z ≤ at
   list_above c old e at k count word is =
-      let memory = memory_at z o words before x after log w (GettingSet c old) e in
+      let memory = memory_at z o m w (GettingSet c old) e in
       let held : Holding = holding_in (core_of x) (GettingSet c old) (joined_since x) in
       let tied = all_at (IsTied z words) (holdings before) held (holdings after) memory.tied in
       let own : IfSome (own_list (core_of x).found.next (set.Write at k count word)) (IsOwn z words) =
@@ -72,9 +74,9 @@ module _ (z : Layout) (o : Opening) (words : List ℕ) (before : List Part) (x :
 
   apart_at : (t : Stage) (step : Step) → (core_of x).stage ≡ t → step_at (core_of x) t ≡ Some step → IsApart z step
   apart_at t step is e =
-      let sizes = sizes_here z o words before x after log w in
-      let sound = sound_here z o words before x after log w in
-      let here = sound_at z o words before x after log w t is in
+      let sizes = sizes_here z o m w in
+      let sound = sound_here z o m w in
+      let here = sound_at z o m w t is in
       by t is here sizes sound e
     where
       to : (y : Layout) → y ≡ z → (u : Step) → Some u ≡ Some step → IsApart y u → IsApart z step
@@ -125,6 +127,6 @@ module _ (z : Layout) (o : Opening) (words : List ℕ) (before : List Part) (x :
   -- of each machine of a port
   pub due_apart : (c : CoreState) (step : Step) → IsMachineOf c x → step_of c ≡ Some step → IsApart z step
   due_apart c step (inl begun) due =
-      let ready = lawful_machines_are_ready z o words before x after log c w (inl begun) in
+      let ready = lawful_machines_are_ready z o m c w (inl begun) in
       subst (λ (l : Layout). IsApart l step) ready.sizes (begun_apart c c.stage step begun.begun ready.sound due)
   due_apart c step (inr led) due = apart_at (core_of x).stage step refl (ap step_of (sym led.is) ∙ due)

@@ -1,5 +1,5 @@
 -- How a step of a call ends a change of epoch, and what it adds and where its port is then.
-use Rattle.partial_epochs.proofs.Common.{ℕ, zero, suc, ◌≡◌, ◌≢◌, ◌+◌, ◌<◌, ◌≤◌, ◌==◌, ◌⊎◌, Bool, true, false, cond, Option, Some, None, List, [], refl, sym, ap, subst, ◌∙◌, inl, inr, arith, ⊤, nat_lt, Applied, Call, Noted, CoreState, reply_of, Reply, first_free, Place, Plan, epoch_limit, Port, Beside, Move, is_applied, Act, ChangeLeads, Changing, IsHere, next_arena, next_component, next_load, next_pass, next_port, next_set, passes, CallsStayLawful, ActLeads, CallStep, Doing, CallLeads, after_step, ran, Moves, Sees, Answered, Arrived, EndsPass, LoadsComponent, LoadsPort, LooksFirst, Publishes, Refuses, SetsWord, TakesArena, last_loads, Component, EpochsSpent, NoArena, Overtaken}
+use Rattle.partial_epochs.proofs.Common.{ℕ, zero, suc, ◌≡◌, ◌≢◌, ◌+◌, ◌<◌, ◌≤◌, ◌==◌, ◌⊎◌, Bool, true, false, cond, Option, Some, None, List, [], refl, sym, ap, subst, ◌∙◌, inl, inr, arith, ⊤, nat_lt, Applied, Call, Noted, CoreState, reply_of, Reply, first_free, Place, Plan, epoch_limit, Port, Beside, Move, is_applied, Act, ChangeLeads, Changing, IsHere, next_arena, next_component, next_load, next_pass, next_port, next_set, passes, CallsStayLawful, ActLeads, CallStep, Doing, CallLeads, after_step, ran, Moves, Sees, Answered, Arrived, EndsPass, LoadsComponent, LoadsPort, LooksFirst, Publishes, Refuses, SetsWord, TakesArena, last_loads, EpochsSpent, NoArena}
 use Rattle.partial_machine.specs.declared.stage.Reply.TheVariants as reply
 use Rattle.partial_epochs.specs.EveryStep as every
 use Rattle.partial_epochs.specs.Changing as changing

@@ -1,5 +1,6 @@
 -- What a step in the arena of an epoch leaves of all the others.
-use Rattle.partial_epochs.proofs.Common.{ℕ, ◌≡◌, ◌≢◌, ◌+◌, ◌<◌, ◌≤◌, ◌==◌, ◌⊎◌, ◌++◌, true, false, Option, Some, None, IfSome, List, [], ◌∷◌, length, refl, sym, ap, subst, ◌∙◌, inl, inr, arith, slice_index, option_map, append-nil, eqb_tells, Applied, some_same, total, put, IsAsked, Plan, IsSealed, packed, current_word, base, control_words, arena_words, component_words, carried_words, set_word, Control, OwnedArena, Port, Epoch, LawfulControl, IsOwner, Beside, IsArena, IsFinished, IsNewPart, IsSetting, IsStanding, LawfulEpochs, controls, next_epoch_word, numbers, place_now, Stands, HasClearSlots, slot_counter, slot_word}
+use Rattle.partial_epochs.proofs.Common.{ℕ, ◌≡◌, ◌≢◌, ◌+◌, ◌<◌, ◌≤◌, ◌==◌, ◌⊎◌, ◌++◌, true, false, Option, Some, None, IfSome, List, [], ◌∷◌, length, refl, sym, ap, subst, ◌∙◌, inl, inr, arith, slice_index, option_map, append-nil, eqb_tells, Applied, some_same, total, put, IsToBeSet, Plan, IsSealed, packed, current_word, base, control_words, arena_words, component_words, carried_words, set_word, Control, OwnedArena, Port, Epoch, LawfulControl, IsOwner, Beside, IsArena, IsFinished, IsNewPart, IsSetting, IsStanding, LawfulEpochs, controls, next_epoch_word, numbers, place_now, Stands, HasClearRecords, HasClearSlots, slot_counter, slot_word}
+use Rattle.partial_epochs.proofs.ClearRecords.{records_same}
 use Rattle.partial_epochs.proofs.Lists.{at_of, put_all, put_other, put_same}
 use Rattle.partial_epochs.proofs.Places.{arena_same, carried_same, components_same, control_same, other_arena, packed_arena, set_place}
 use Rattle.partial_epochs.proofs.Present.{standing, numbered}
@@ -213,7 +214,7 @@ module _ (e : Plan) (words : List ℕ) (ports : ℕ → Port) (b : Beside) (k : 
             let other = sets_other q o inside is (omega (arith, low)) in
             ap (slice_index words') at.2 ∙ h.outside (base e o.arena + at.0) (other_arena e x o.arena at.0 other at.1) ∙ ap (slice_index words) (sym at.2)
 
-        each : slice_index words' current_word ≡ packed p.control.here → (i : ℕ) → i < o.set → IsAsked e.sizes i → slice_index words' (set_word e o.arena i) ≡ next_epoch_word e b' i
+        each : slice_index words' current_word ≡ packed p.control.here → (i : ℕ) → i < o.set → IsToBeSet e.sizes i → slice_index words' (set_word e o.arena i) ≡ next_epoch_word e b' i
         each at i low asked = elim h.grows [
           | inl is ↦
               let log : b.log ≡ b.log ++ entries = sym (append-nil b.log) ∙ ap (λ (l : List Applied). b.log ++ l) (sym is) in
@@ -241,6 +242,15 @@ module _ (e : Plan) (words : List ℕ) (ports : ℕ → Port) (b : Beside) (k : 
           ∙ w.clear y inside (sym (put_other x (Some r') b.holds y other.1) ∙ is) l (subst (λ n. n ≤ l) count from) less
     ]
 
+    records_then : (y : ℕ) → y < e.arenas → b'.holds y ≡ None → HasClearRecords e words' y
+    records_then y inside is = elim (eqb_tells y x) [
+      | inl same ↦ let none : Some r' ≡ None = sym (put_same x (Some r') b.holds) ∙ sym (ap b'.holds same.1) ∙ is in absurd cc
+      | inr other ↦
+          let pool = w.plan.sizes.pool.0 in
+          records_same e words words' y (λ i from low. h.outside (base e y + i) (other_arena e x y i other.1 (omega (arith, low, pool))))
+          (w.records y inside (sym (put_other x (Some r') b.holds y other.1) ∙ is))
+    ]
+
     pub change_kept : LawfulEpochs e words' ports' b'
     change_kept = record {
       plan = w.plan;
@@ -253,4 +263,5 @@ module _ (e : Plan) (words : List ℕ) (ports : ℕ → Port) (b : Beside) (k : 
       new = new_then;
       setting = setting_then;
       clear = clear_then;
+      records = records_then;
     }

@@ -40,12 +40,13 @@ pub use Rattle.partial_machine.specs.Calls.{is_begun, call_of, answer_for, is_at
 pub use Rattle.partial_machine.specs.Machine.{CoreState, record_size, step_at, step_of, reply_of, advance, advance_at, after_joining, at_stage, begin_getting, expects, fits_pool, getting, pool_refused, scanning, with_getting, with_scanning}
 pub use Rattle.partial_machine.specs.Sound.{IsSound, is_sound_at}
 pub use Rattle.partial_machine.proofs.Sound.{size_few}
+pub use Rattle.partial_state.specs.Holdings.Counted.{PoolWords, Slots}
 pub use Rattle.partial_state.specs.Holdings.{Holding, EachTwo, announcements, unpublished}
 pub use Rattle.partial_state.specs.LawfulWords.{IsOwn, IsTied, IsEntry, LawfulWords}
-pub use Rattle.partial_state.proofs.OpeningLaw.{pool_opens, slot_opens, slots_open, idle_all, idle_length, idle_ports, idle_slots, list_opens, lists_open, none_announced, none_unpublished}
+pub use Rattle.partial_state.proofs.OpeningLaw.{counters_open, none_marked, pool_opens, slot_opens, slots_open, idle_all, idle_length, idle_ports, idle_slots, list_opens, lists_open, none_announced, none_unpublished}
 pub use Rattle.partial_core.specs.Held.{holdings, joined_since, own_list}
 pub use Rattle.partial_core.specs.Known.{AreAnswersKept, IsKnown}
-pub use Rattle.partial_core.specs.Part.{Part, IsMachineOf, core_of, port_of, first_at, fresh_parts, fresh_part, with_seen}
+pub use Rattle.partial_core.specs.Part.{Part, PartAmong, IsMachineOf, core_of, port_of, first_at, fresh_parts, fresh_part, with_seen}
 pub use Rattle.partial_core.specs.Ports.{IsReady, RecordsAreWithin}
 pub use Rattle.partial_core.specs.Steps.{LeadsOn, added_by, AreNotesOf, IsNoteOf, kept_with, since_with, IsPlacedAt, FitsHistory}
 pub use Rattle.partial_core.proofs.Added.{not_below}
@@ -61,16 +62,16 @@ pub use Rattle.partial_epochs.specs.Changing.Changing.{Arrived, EndsPass, LoadsC
 pub use Rattle.partial_epochs.specs.Changing.Refusal.{Component, EpochsSpent, NoArena, Overtaken}
 pub use Rattle.partial_epochs.specs.Control.{LawfulControl, IsOwner, IsPlaceWord, IsEarlier, IsStillMarked, IsOld, IsOut, MayPut, NotInto}
 pub use Rattle.partial_epochs.specs.Entering.{Arrives, ArrivalsStayLawful, EntriesLoad, LooksAreTrue, MarksStayLawful, arrived_port, having_passed}
-pub use Rattle.partial_epochs.specs.Epochs.{Beside, HasClearSlots, IsArena, IsFinished, IsNewPart, IsSetting, IsStanding, LawfulEpochs, controls, next_epoch_word, numbers, place_now, IsPresent, awaits_slot, IsEpochPlan, awaits_at, is_claiming}
+pub use Rattle.partial_epochs.specs.Epochs.{Beside, HasClearRecords, HasClearSlots, IsArena, IsFinished, IsNewPart, IsSetting, IsStanding, LawfulEpochs, controls, next_epoch_word, numbers, place_now, IsPresent, awaits_slot, IsEpochPlan, awaits_at, is_claiming}
 pub use Rattle.partial_epochs.specs.EveryStep.{MayMove, MayAdd, Move, is_applied, EveryStepStaysLawful, IsPlacedBy, MemoriesOpenLawful, MoveLeads, moved_words, since_behind}
 pub use Rattle.partial_epochs.specs.EveryStep.Move.{FindsClear, Makes, Seals, PassesSealed, LooksAsOwner, StoresMark, LoadsCurrent, ExchangesMark, Takes, Gives, FindsElsewhere, LoadsMark, Puts, Sets, Notes}
 pub use Rattle.partial_epochs.specs.History.{opening_behind, carried_after, carried_behind, history_of, public_entry, public_log, public_stamp, EpochsContinue, stamp_limit}
-pub use Rattle.partial_epochs.specs.Layout.{seal, set_offset, Plan, Place, epoch_limit, IsAsked, IsSealed, packed, current_word, base, control_words, arena_words, component_words, carried_words, set_word, carried_word, IsPlace, at_word, control_size, marked, plain, arena_limit, unsealed, placed_step, span, whole, seals, entering_mark, own_word}
+pub use Rattle.partial_epochs.specs.Layout.{seal, set_offset, Plan, Place, epoch_limit, IsAsked, IsSealed, IsToBeSet, packed, current_word, base, control_words, arena_words, component_words, carried_words, set_word, carried_word, IsPlace, at_word, control_size, marked, plain, arena_limit, unsealed, placed_step, span, whole, seals, entering_mark, own_word}
 pub use Rattle.partial_epochs.specs.Lists.{put, list_of, count}
 pub use Rattle.partial_epochs.specs.MachineSteps.{MachineLeads, MachineStepsStayLawful, MayClaim, MeetsSeal, ends_over, ClaimsHaveRoom, UnsealedIsPresent, HaveSlots, MachinesAreNeverRefused, MarksNeverCome}
 pub use Rattle.partial_epochs.specs.Notes.{LawfulMemory, IsAside, having_seen, noting, one_history, ExpectedOne, IsEpochHistory, LawfulNotes, MayNote, NotesStayLawful, EpochReached, public_answer, public_call, public_note, public_noted, seen_of, EpochsFitOneHistory, PublicStampsAreUnique, public_of, ArrivalsKeepNotes, AsidesStayLawful, GlanceLeads, GlancesStayLawful, IsSight, PublishesKeepNotes, SightLeads, SightsStayLawful}
 pub use Rattle.partial_epochs.specs.Opening.{OpensOver, OpensOverLawful, EpochsOpenLawful, OpensAll, first_beside, first_place, first_ports, first_epoch, nothing_held}
-pub use Rattle.partial_epochs.specs.Owning.{cleaner, having_given, having_loaded, having_looked, having_put, just_taken, owning_port, OwnersLook, PutsStayLawful, GivesStayLawful, MarksAreLoaded, OthersAreElsewhere, OwnersLookAway, TakesStayLawful}
+pub use Rattle.partial_epochs.specs.Owning.{at_next_port, having_given, having_loaded, having_looked, having_put, just_taken, owning_port, OwnersLook, PutsStayLawful, GivesStayLawful, MarksAreLoaded, OthersAreElsewhere, OwnersLookAway, TakesStayLawful}
 pub use Rattle.partial_epochs.specs.Ports.{Port, Control, OwnedArena, Epoch, Entering}
 pub use Rattle.partial_epochs.specs.Ports.Entering.{Stands, Marks, Loaded}
 pub use Rattle.partial_epochs.specs.Publishing.{ClearSlotsCountAsSet, ClearsSlots, having_published, having_set, next_beside, vacated, IsWholeArena, PublishesStayLawful, next_place, next_epoch, resting_arena, SetsStayLawful}

@@ -1,5 +1,6 @@
 -- The steps by which a port comes to the present epoch.
-use Rattle.partial_epochs.proofs.Common.{ℕ, ◌≡◌, ◌≢◌, ◌+◌, ◌<◌, ◌≤◌, ◌==◌, ◌⊎◌, Bool, true, false, cond, Option, Some, None, IfSome, List, length, get_or, set, refl, sym, ap, subst, ◌∙◌, inl, inr, arith, option_map, eqb_tells, get_or-set_same, get_or-set_other, length-set, set-get_or, Applied, some_same, total, slot_counter, slot_word, HasClearSlots, put, Plan, Place, IsPlace, at_word, arena_words, base, carried_word, carried_words, component_words, control_size, control_words, current_word, marked, packed, plain, set_word, arena_limit, Control, OwnedArena, Port, Epoch, IsPlaceWord, IsEarlier, IsOld, IsOut, IsOwner, LawfulControl, MayPut, NotInto, Beside, IsArena, IsNewPart, IsSetting, IsStanding, LawfulEpochs, controls, numbers, place_now, IsPresent, Arrives, ArrivalsStayLawful, EntriesLoad, LooksAreTrue, MarksStayLawful, arrived_port, Stands, Marks, Loaded}
+use Rattle.partial_epochs.proofs.Common.{ℕ, ◌≡◌, ◌≢◌, ◌+◌, ◌<◌, ◌≤◌, ◌==◌, ◌⊎◌, Bool, true, false, cond, Option, Some, None, IfSome, List, length, get_or, set, refl, sym, ap, subst, ◌∙◌, inl, inr, arith, option_map, eqb_tells, get_or-set_same, get_or-set_other, length-set, set-get_or, Applied, some_same, total, slot_counter, slot_word, HasClearRecords, HasClearSlots, put, Plan, Place, IsPlace, at_word, arena_words, base, carried_word, carried_words, component_words, control_size, control_words, current_word, marked, packed, plain, set_word, arena_limit, Control, OwnedArena, Port, Epoch, IsPlaceWord, IsEarlier, IsOld, IsOut, IsOwner, LawfulControl, MayPut, NotInto, Beside, IsArena, IsNewPart, IsSetting, IsStanding, LawfulEpochs, controls, numbers, place_now, IsPresent, Arrives, ArrivalsStayLawful, EntriesLoad, LooksAreTrue, MarksStayLawful, arrived_port, Stands, Marks, Loaded}
+use Rattle.partial_epochs.proofs.ClearRecords.{records_same}
 use Rattle.partial_epochs.proofs.ControlChange.{Goes, control_goes, own, putter}
 use Rattle.partial_epochs.proofs.Lists.{at_of, length_of, put_all, put_other, put_same, same_of, set_of}
 use Rattle.partial_epochs.proofs.Places.{packed_arena, set_place}
@@ -27,6 +28,9 @@ module _ (e : Plan) (words words' : List ℕ) (high : (i : ℕ) → control_size
   pub high_clear : (y : ℕ) → HasClearSlots e words y → HasClearSlots e words' y
   high_clear y clear l from less = high (base e y + slot_word e.sizes l) (omega arith) ∙ clear l (subst (λ n. n ≤ l) (high (base e y + slot_counter e.sizes) (omega arith)) from) less
 
+  pub high_records : (y : ℕ) → HasClearRecords e words y → HasClearRecords e words' y
+  high_records y = records_same e words words' y (λ i from low. high (base e y + i) (omega arith))
+
 -- port k comes to be p'
 module _ (e : Plan) (words words' : List ℕ) (high : (i : ℕ) → control_size e ≤ i → get_or words' i 0 ≡ get_or words i 0) (ports : ℕ → Port) (b : Beside) (k : ℕ) (p' : Port)
     (w : LawfulEpochs e words ports b) (long : length words' ≡ length words) (first : get_or words' current_word 0 ≡ get_or words current_word 0)
@@ -51,6 +55,7 @@ module _ (e : Plan) (words words' : List ℕ) (high : (i : ℕ) → control_size
         (λ _ _. settled)
         (λ _ low. set_on q (ports q).control.owned refl low (w.setting q low)) low;
     clear = λ y inside is. high_clear e words words' high y (w.clear y inside is);
+    records = λ y inside is. high_records e words words' high y (w.records y inside is);
   }
     where
       set_on : (q : ℕ) (t : Option OwnedArena) → (ports q).control.owned ≡ t → q < e.ports → IfSome t (IsSetting e words b (ports q)) → IfSome t (IsSetting e words' b (ports q))

@@ -1,5 +1,5 @@
 -- Every step of every port keeps the memory lawful.
-use Rattle.partial_epochs.proofs.Common.{ℕ, ◌≡◌, ◌+◌, ◌<◌, ◌≤◌, ◌⊎◌, ◌++◌, List, [], ◌∷◌, length, get_or, refl, sym, ap, subst, ◌∙◌, inl, inr, arith, append-nil, Applied, eqb_tells, Noted, Step, Add, CoreState, put, Place, Plan, at_word, current_word, packed, seal, Control, Port, history_of, public_log, Marks, Loaded, Beside, LawfulEpochs, place_now, arrived_port, having_passed, MayPut, cleaner, having_given, having_loaded, having_looked, having_put, just_taken, owning_port, having_published, having_set, next_beside, vacated, EveryStepStaysLawful, IsPlacedBy, MayAdd, MayMove, MemoriesOpenLawful, Move, MoveLeads, moved_words, since_behind, Makes, Seals, PassesSealed, LooksAsOwner, StoresMark, LoadsCurrent, ExchangesMark, Takes, Gives, FindsElsewhere, LoadsMark, Puts, Sets, Notes, MachineLeads, IsAside, LawfulMemory, having_seen, noting, one_history, FindsClear, passing_port, KeepsTime}
+use Rattle.partial_epochs.proofs.Common.{ℕ, ◌≡◌, ◌+◌, ◌<◌, ◌≤◌, ◌⊎◌, ◌++◌, List, [], ◌∷◌, length, get_or, refl, sym, ap, subst, ◌∙◌, inl, inr, arith, append-nil, Applied, eqb_tells, Noted, Step, Add, CoreState, put, Place, Plan, at_word, current_word, packed, seal, Control, Port, history_of, public_log, Marks, Loaded, Beside, LawfulEpochs, place_now, arrived_port, having_passed, MayPut, at_next_port, having_given, having_loaded, having_looked, having_put, just_taken, owning_port, having_published, having_set, next_beside, vacated, EveryStepStaysLawful, IsPlacedBy, MayAdd, MayMove, MemoriesOpenLawful, Move, MoveLeads, moved_words, since_behind, Makes, Seals, PassesSealed, LooksAsOwner, StoresMark, LoadsCurrent, ExchangesMark, Takes, Gives, FindsElsewhere, LoadsMark, Puts, Sets, Notes, MachineLeads, IsAside, LawfulMemory, having_seen, noting, one_history, FindsClear, passing_port, KeepsTime}
 use Rattle.partial_epochs.specs.EveryStep.Move.{Looks, Publishes}
 use Rattle.partial_epochs.proofs.Entering.{arrivals_stay_lawful, entries_load, looks_are_true, marks_stay_lawful}
 use Rattle.partial_epochs.proofs.Lists.{put_other, put_same}
@@ -173,7 +173,7 @@ module _ (e : Plan) (words : List ℕ) (ports : ℕ → Port) (b : Beside) (note
       (λ j a may. absurd (puts_nobody (having_given (ports k)).control j a refl may)) (omega arith)) (gives_stay_lawful e words ports b k o w.epochs below may)
   every_step (FindsElsewhere o d) may =
       aside (FindsElsewhere o d) (λ then is. is) words (having_put (ports k) o) b (here (having_put (ports k) o) refl refl refl)
-      (keeps_words (having_put (ports k) o) refl refl (λ j a may. absurd (not_again (having_put (ports k) o).control (cleaner o) j a refl refl may)))
+      (keeps_words (having_put (ports k) o) refl refl (λ j a may. absurd (not_again (having_put (ports k) o).control (at_next_port o) j a refl refl may)))
       (others_are_elsewhere e words ports b k o d w.epochs below may.0 may.1 may.2 may.3 may.4 may.5 may.6)
   every_step (LoadsMark o) may =
       let p : Port = owning_port (ports k) (having_loaded o (ports o.clean).control.here) in
@@ -188,7 +188,7 @@ module _ (e : Plan) (words : List ℕ) (ports : ℕ → Port) (b : Beside) (note
       (record { log = refl; epochs = refl; part = refl; before = refl; here = refl })
       (keeps (moved_words e words (ports k) k (Sets o v next)) (having_set (ports k) o next) (vacated b o.arena) (λ q low. (steps_keep_places e words q low).set o.arena o.set v) refl refl
       (λ j a may'. set_puts (ports k).control (having_set (ports k) o next).control o next j a may.0 refl may') (omega arith))
-      (sets_stay_lawful e words ports b k o v next w.epochs below may.0 may.1 may.2 may.3 may.4 may.5 may.6)
+      (sets_stay_lawful e words ports b k o v next w.epochs below may.0 may.1 may.2 may.3 may.4 may.5 may.6 may.7)
   every_step (FindsClear o next) may =
       aside (FindsClear o next) (λ then is. is) words (having_set (ports k) o next) (vacated b o.arena)
       (record { log = refl; epochs = refl; part = refl; before = refl; here = refl })

@@ -5,6 +5,7 @@ pub mod Present
 pub mod Change
 pub mod Apart
 pub mod Worded
+pub mod ClearRecords
 pub mod Slots
 pub mod MachineSteps
 pub mod Room

@@ -1,5 +1,5 @@
 -- Each due step of a machine in the arena where its port stands keeps the lawful state of all epochs.
-use Rattle.partial_epochs.proofs.Common.{ℕ, ◌≡◌, ◌≢◌, ◌+◌, ◌*◌, ◌%◌, ◌^◌, ◌<◌, ◌≤◌, ◌==◌, ◌⊎◌, ◌++◌, Bool, true, false, cond, Some, List, [], ◌∷◌, length, get_or, set, refl, sym, ap, subst, ◌∙◌, inl, inr, arith, ◌&&◌, ◌||◌, nat_lt, AllByRecursion, cases_lt, lt-ltb, eqb_tells, get_or-set_same, get_or-set_other, Applied, Opening, Step, Load, Store, Exchange, Add, IsLayout, Layout, first_free, total, pool_counter, slot_counter, greatest_record, answer_of, word_of, words_after, steps_left, CoreState, advance, step_of, Part, IsMachineOf, port_of, IsReady, LeadsOn, added_by, lawful_machines_are_ready, steps_stay_lawful, count, list_of, put, Plan, arena_words, carried_words, component_words, placed_step, opening_behind, Port, Epoch, Beside, IsArena, IsStanding, LawfulEpochs, IsPresent, awaits_slot, MachineLeads, MachineStepsStayLawful, MayClaim, MeetsSeal, ends_over, Stands, not_below, value_word, least_announcement}
+use Rattle.partial_epochs.proofs.Common.{ℕ, ◌≡◌, ◌≢◌, ◌+◌, ◌*◌, ◌%◌, ◌^◌, ◌<◌, ◌≤◌, ◌==◌, ◌⊎◌, ◌++◌, Bool, true, false, cond, Some, List, [], ◌∷◌, length, get_or, set, refl, sym, ap, subst, ◌∙◌, inl, inr, arith, ◌&&◌, ◌||◌, nat_lt, AllByRecursion, cases_lt, lt-ltb, eqb_tells, get_or-set_same, get_or-set_other, Applied, Opening, Step, Load, Store, Exchange, Add, IsLayout, Layout, first_free, total, pool_counter, slot_counter, greatest_record, answer_of, word_of, words_after, steps_left, CoreState, advance, step_of, Part, PartAmong, IsMachineOf, port_of, IsReady, LeadsOn, added_by, lawful_machines_are_ready, steps_stay_lawful, count, list_of, put, Plan, arena_words, carried_words, component_words, placed_step, opening_behind, Port, Epoch, Beside, IsArena, IsStanding, LawfulEpochs, IsPresent, awaits_slot, MachineLeads, MachineStepsStayLawful, MayClaim, MeetsSeal, ends_over, Stands, not_below, value_word, least_announcement}
 use Rattle.partial_core.specs.Lawful as one
 use Rattle.partial_core.specs.Steps.{Tells}
 use Rattle.partial_epochs.proofs.Apart.{IsApart, due_apart}
@@ -101,17 +101,21 @@ module _ (e : Plan) (words : List ℕ) (ports : ℕ → Port) (b : Beside) (k : 
   around : Around r.part 0 e.ports k
   around = around_of r.part 0 e.ports k (omega arith) (omega (arith, below))
 
-  lawful_here : one.Lawful e.sizes o bw (around.before ++ r.part k ∷ around.after) r.log
+  -- the memory of that arena, as the port stands in it
+  abbrev m : PartAmong
+  m = record { words = bw; before = around.before; part = r.part k; after = around.after; log = r.log }
+
+  lawful_here : one.LawfulAmong e.sizes o m
   lawful_here = subst (λ (l : List Part). one.Lawful e.sizes o bw l r.log) around.is arena.lawful
 
   machine_here : IsMachineOf c (r.part k)
   machine_here = subst (IsMachineOf c) (sym s.part) machine
 
-  leads : LeadsOn e.sizes o bw around.before (r.part k) around.after r.log c step
-  leads = steps_stay_lawful e.sizes o bw around.before (r.part k) around.after r.log c step lawful_here machine_here due
+  leads : LeadsOn e.sizes o m c step
+  leads = steps_stay_lawful e.sizes o m c step lawful_here machine_here due
 
   apart : IsApart e.sizes step
-  apart = due_apart e.sizes o bw around.before (r.part k) around.after r.log lawful_here c step machine_here due
+  apart = due_apart e.sizes o m lawful_here c step machine_here due
 
   low : word_of step < total e.sizes
   low = let within = leads.answers.within in let count = length_of (λ i. i) 0 0 in subst (λ n. word_of step < n) lawful_here.memory.count within
@@ -127,7 +131,7 @@ module _ (e : Plan) (words : List ℕ) (ports : ℕ → Port) (b : Beside) (k : 
 
   counts : Counts e.sizes (awaits_slot (r.part k)) (awaits_slot leads.y)
   counts =
-      let ready = lawful_machines_are_ready e.sizes o bw around.before (r.part k) around.after r.log c lawful_here machine_here in
+      let ready = lawful_machines_are_ready e.sizes o m c lawful_here machine_here in
       let long = lawful_here.memory.count in
       let z = w.plan.sizes in
       let pool = z.pool.0 in
@@ -254,7 +258,7 @@ module _ (e : Plan) (words : List ℕ) (ports : ℕ → Port) (b : Beside) (k : 
 
   -- the machine is sound, with the sizes of the plan
   pub machine_ready : IsReady e.sizes c (r.part k)
-  machine_ready = lawful_machines_are_ready e.sizes o bw around.before (r.part k) around.after r.log c lawful_here machine_here
+  machine_ready = lawful_machines_are_ready e.sizes o m c lawful_here machine_here
 
   -- the machine has fewer steps left then
   pub makes_fewer : steps_left (advance c (answer_of (arena_words e words (ports k).control.here.arena) step)) < steps_left c

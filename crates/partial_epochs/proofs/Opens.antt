@@ -1,5 +1,5 @@
 -- An arena that was used before opens lawful again once the words below the first free one are set: what stands behind them doesn't matter.
-use Rattle.partial_epochs.proofs.Common.{ℕ, ◌≡◌, ◌+◌, ◌*◌, ◌<◌, ◌≤◌, ◌++◌, List, [], ◌∷◌, length, get_or, Some, None, IfSome, sym, ap, subst, inl, inr, arith, ◌∙◌, Opening, places_written, Layout, slot_counter, list_head, pool_counter, list_counter, slot_word, list_base, pool_base, total, initial_record, Holding, EachTwo, announcements, unpublished, IsTied, LawfulWords, holdings, fresh_parts, OpensOver, OpensOverLawful, initial_words, first_free, initial_stamp, slice_index, view_word, view_of, prev_word, value_word, plain_record_size, opening_component, opening_record, initial_value, initial_prev, initial_view, idle_length, idle_all, idle_ports, idle_slots, none_unpublished, none_announced, pool_opens, slot_opens, list_opens, lists_open, slots_open}
+use Rattle.partial_epochs.proofs.Common.{ℕ, ◌≡◌, ◌+◌, ◌*◌, ◌<◌, ◌≤◌, ◌++◌, List, [], ◌∷◌, length, get_or, Some, None, IfSome, sym, ap, subst, inl, inr, arith, ◌∙◌, Opening, places_written, Layout, slot_counter, list_head, pool_counter, list_counter, slot_word, list_base, pool_base, total, initial_record, Holding, EachTwo, announcements, unpublished, IsTied, LawfulWords, holdings, fresh_parts, OpensOver, OpensOverLawful, initial_words, first_free, initial_stamp, slice_index, view_word, view_of, prev_word, value_word, plain_record_size, opening_component, opening_record, initial_value, initial_prev, initial_view, idle_length, idle_all, idle_ports, idle_slots, none_unpublished, none_announced, pool_opens, slot_opens, list_opens, lists_open, slots_open, counters_open, none_marked}
 use Rattle.partial_model.specs.History.{last_from}
 use Rattle.partial_words.specs.Chain.{Agrees, links_from}
 use Rattle.partial_state.specs.Views.{Block, AreApart}
@@ -58,7 +58,7 @@ opening_is_lawful z o words n opens few =
       agrees = opening_agrees z o words opens;
       initial = λ j below. view_opens z o words j opens below;
       entries = tt;
-      tied = idle_all (IsTied z words) (λ p. record { own = tt; pool_marked = λ m. cc; slots_marked = λ m. cc; lists_marked = λ m. cc }) 0 n;
+      tied = idle_all (IsTied z words) (λ p. record { own = tt; marked = λ c m. absurd (none_marked p c m) }) 0 n;
       apart = subst (λ (l : List Block). EachTwo AreApart (record { at = pool_base z; size = initial_words z } ∷ l)) (sym blocks) (tt, tt);
       fresh = λ k e s. let bad : None ≡ Some e = s in cc;
       covering = tt;
@@ -68,11 +68,7 @@ opening_is_lawful z o words n opens few =
       claims = idle_all (λ h. IfSome h.claimed _) (λ p. tt) 0 n;
       owners = idle_slots 0 n;
       head = inl head;
-      pool_low = omega (arith, pool);
-      pool_high = omega (arith, pool, room);
-      slots_high = omega (arith, slots);
-      lists_low = omega (arith, lists);
-      lists_high = omega (arith, lists);
+      counters = counters_open z words (idle_holdings 0 n) pool slots lists room;
     }
 
 pub opens_over : OpensOverLawful

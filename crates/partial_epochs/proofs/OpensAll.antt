@@ -113,6 +113,10 @@ module _ (e : Plan) (words : List ℕ) (w : OpensAll e words) where
       | inl same ↦ let none : Some (first_epoch e) ≡ None = sym (put_same 0 (Some (first_epoch e)) nothing_held) ∙ sym (ap b.holds same.1) ∙ is in absurd cc
       | inr ne ↦ let other = ne.1 in w.clear y l (omega (arith, other)) inside less
     ];
+    records = λ y inside is. elim (eqb_tells y 0) [
+      | inl same ↦ let none : Some (first_epoch e) ≡ None = sym (put_same 0 (Some (first_epoch e)) nothing_held) ∙ sym (ap b.holds same.1) ∙ is in absurd cc
+      | inr ne ↦ let other = ne.1 in w.records y (omega (arith, other)) inside
+    ];
   }
 
 pub epochs_open_lawful : EpochsOpenLawful

@@ -1,5 +1,5 @@
 -- Where the words of control and of arenas stand.
-use Rattle.partial_epochs.proofs.Common.{ℕ, ◌≡◌, ◌≢◌, ◌+◌, ◌-◌, ◌*◌, ◌<◌, ◌≤◌, ◌⊎◌, Bool, cond, List, ap, ◌∙◌, inl, inr, arith, slice_index, mul-le-mul_right, cases_lt, lt-ltb, total, first_free, not_below, Plan, Place, packed, base, span, whole, control_words, control_size, arena_words, component_words, carried_words, carried_word, plain, set_word, arena_limit, initial_words, Layout, list_base, slot_counter, slot_word, IsAsked, set_offset, eqb_tells, sym}
+use Rattle.partial_epochs.proofs.Common.{ℕ, ◌≡◌, ◌≢◌, ◌+◌, ◌-◌, ◌*◌, ◌<◌, ◌≤◌, ◌⊎◌, Bool, cond, List, ap, ◌∙◌, inl, inr, arith, slice_index, mul-le-mul_right, cases_lt, lt-ltb, total, first_free, not_below, Plan, Place, packed, base, span, whole, control_words, control_size, arena_words, component_words, carried_words, carried_word, plain, set_word, arena_limit, initial_words, Layout, list_base, slot_counter, slot_word, IsToBeSet, set_offset, eqb_tells, sym}
 use Rattle.partial_epochs.proofs.Lists.{same_of}
 
 -- arenas lie one behind the other
@@ -33,9 +33,10 @@ offset_low s i low = elim (cases_lt i (list_base s)) [
   | inr behind ↦ let at = offset_behind s i behind in omega (arith, at, low)
 ]
 
-pub offset_asked : (s : Layout) (i : ℕ) → IsAsked s i → IsAsked s (set_offset s i)
-offset_asked s i (inl front) = let at = offset_front s i front in inl (omega (arith, at, front))
-offset_asked s i (inr high) = let at = offset_behind s i (omega (arith, high)) in inr (omega (arith, at, high))
+pub offset_to_be_set : (s : Layout) (i : ℕ) → IsToBeSet s i → IsToBeSet s (set_offset s i)
+offset_to_be_set s i (inl front) = let at = offset_front s i front in inl (omega (arith, at, front))
+offset_to_be_set s i (inr (inl high)) = let at = offset_behind s i (omega (arith, high)) in inr (inl (omega (arith, at, high)))
+offset_to_be_set s i (inr (inr (j, less, is))) = let at = offset_behind s i (omega (arith, is)) in inr (inr (j, less, at ∙ is))
 
 pub offset_back : (s : Layout) (i : ℕ) → set_offset s (set_offset s i) ≡ i
 offset_back s i = elim (cases_lt i (list_base s)) [

@@ -1,11 +1,12 @@
 -- The exchange of the current word opens the next epoch.
-use Rattle.partial_epochs.proofs.Common.{ℕ, zero, suc, ◌≡◌, ◌≢◌, ◌+◌, ◌-◌, ◌<◌, ◌≤◌, ◌==◌, ◌⊎◌, Bool, true, false, cond, Option, Some, None, IfSome, List, [], ◌∷◌, length, get_or, set, refl, sym, ap, subst, ◌∙◌, inl, inr, arith, option_map, cases_lt, lt-ltb, eqb_tells, get_or-set_same, get_or-set_other, length-set, set-get_or, Applied, Opening, value_of, some_same, Layout, total, first_free, pool_counter, slot_counter, slot_word, set_offset, HasClearSlots, Part, fresh_part, fresh_parts, list_of, put, IsAsked, Plan, Place, IsSealed, at_word, arena_words, base, carried_word, carried_words, component_words, control_size, control_words, current_word, packed, plain, seal, carried_behind, opening_behind, Control, OwnedArena, Port, Epoch, IsPlaceWord, IsOut, IsOwner, LawfulControl, MayPut, Beside, IsArena, IsFinished, IsNewPart, IsSetting, IsStanding, LawfulEpochs, awaits_slot, controls, numbers, place_now, IsPresent, IsWholeArena, PublishesStayLawful, having_published, next_beside, next_place, next_epoch, resting_arena, OpensOver, Stands, not_below, opening_word, opening_component, pool_opens, slot_opens}
+use Rattle.partial_epochs.proofs.Common.{ℕ, zero, suc, ◌≡◌, ◌≢◌, ◌+◌, ◌-◌, ◌<◌, ◌≤◌, ◌==◌, ◌⊎◌, Bool, true, false, cond, Option, Some, None, IfSome, List, [], ◌∷◌, length, get_or, set, refl, sym, ap, subst, ◌∙◌, inl, inr, arith, option_map, cases_lt, lt-ltb, eqb_tells, get_or-set_same, get_or-set_other, length-set, set-get_or, Applied, Opening, value_of, some_same, Layout, total, first_free, pool_counter, slot_counter, slot_word, set_offset, HasClearRecords, HasClearSlots, Part, fresh_part, fresh_parts, list_of, put, IsToBeSet, Plan, Place, IsSealed, at_word, arena_words, base, carried_word, carried_words, component_words, control_size, control_words, current_word, packed, plain, seal, carried_behind, opening_behind, Control, OwnedArena, Port, Epoch, IsPlaceWord, IsOut, IsOwner, LawfulControl, MayPut, Beside, IsArena, IsFinished, IsNewPart, IsSetting, IsStanding, LawfulEpochs, awaits_slot, controls, numbers, place_now, IsPresent, IsWholeArena, PublishesStayLawful, having_published, next_beside, next_place, next_epoch, resting_arena, OpensOver, Stands, not_below, opening_word, opening_component, pool_opens, slot_opens}
 use Rattle.partial_core.specs.Lawful as one
-use Rattle.partial_epochs.proofs.Entering.{control_lifted, current_is, cw_long, high_arenaed, high_clear}
+use Rattle.partial_epochs.proofs.ClearRecords.{opens_by_set, records_before}
+use Rattle.partial_epochs.proofs.Entering.{control_lifted, current_is, cw_long, high_arenaed, high_clear, high_records}
 use Rattle.partial_epochs.proofs.Lists.{at_of, count_none, length_of, put_all, put_other, put_same, set_of}
 use Rattle.partial_epochs.proofs.Opens.{opens_over}
 use Rattle.partial_epochs.proofs.Owning.{knows_more, out_then}
-use Rattle.partial_epochs.proofs.Places.{offset_asked, offset_back, offset_low, packed_arena, set_high, set_low}
+use Rattle.partial_epochs.proofs.Places.{offset_back, offset_low, offset_to_be_set, packed_arena, set_high, set_low}
 use Rattle.partial_epochs.proofs.Present.{present, same_place}
 use Rattle.partial_epochs.proofs.Publishing.{published}
 use Rattle.partial_epochs.proofs.Worded.{component_at, plain_at, plain_component, plain_other}
@@ -188,14 +189,14 @@ module _ (e : Plan) (words : List ℕ) (ports : ℕ → Port) (b : Beside) (k : 
         subst (λ (d : Place). LawfulControl e (control_words e words') (controls (put k p' ports)) d (numbers b')) (same_place next (place_now b') epoch_is refl) w7
 
     -- the arena that was set
-    word_set : (i : ℕ) → i < first_free e.sizes → IsAsked e.sizes i → get_or words (base e o.arena + i) 0 ≡ opening_word e.sizes (opening_behind e.opening (b.log ∷ b.before)).values i
-    word_set i low asked =
+    word_set : (i : ℕ) → i < first_free e.sizes → IsToBeSet e.sizes i → get_or words (base e o.arena + i) 0 ≡ opening_word e.sizes (opening_behind e.opening (b.log ∷ b.before)).values i
+    word_set i low to_set =
         let set = whole.set in
         let j : ℕ = set_offset e.sizes i in
         let less = offset_low e.sizes i low in
         let back = offset_back e.sizes i in
         ap (λ n. get_or words (base e o.arena + n) 0) (sym back) ∙ ap (λ n. get_or words n 0) (sym (set_low e o.arena j less))
-        ∙ setting.each at j (omega (arith, set, less)) (offset_asked e.sizes i asked)
+        ∙ setting.each at j (omega (arith, set, less)) (offset_to_be_set e.sizes i to_set)
         ∙ ap (λ (c : Bool). cond c (opening_word e.sizes (opening_behind e.opening (b.log ∷ b.before)).values (set_offset e.sizes j))
         (carried_behind e.opening (b.log ∷ b.before) (j - first_free e.sizes))) (lt-ltb j (first_free e.sizes) less)
         ∙ ap (opening_word e.sizes (opening_behind e.opening (b.log ∷ b.before)).values) back
@@ -207,7 +208,7 @@ module _ (e : Plan) (words : List ℕ) (ports : ℕ → Port) (b : Beside) (k : 
         let off : i - first_free e.sizes ≡ j = omega arith in
         let test = not_below i (first_free e.sizes) (omega arith) in
         sym (ap (λ n. get_or words n 0) (set_high e o.arena i (omega arith)) ∙ ap (λ n. get_or words (base e o.arena + total e.sizes + n) 0) off)
-        ∙ setting.each at i (omega (arith, set, low)) (inr (omega arith))
+        ∙ setting.each at i (omega (arith, set, low)) (inr (inl (omega arith)))
         ∙ ap (λ (c : Bool). cond c (opening_word e.sizes (opening_behind e.opening (b.log ∷ b.before)).values (set_offset e.sizes i)) (carried_behind e.opening (b.log ∷ b.before) (i - first_free e.sizes))) test
         ∙ ap (carried_behind e.opening (b.log ∷ b.before)) off
 
@@ -225,7 +226,8 @@ module _ (e : Plan) (words : List ℕ) (ports : ℕ → Port) (b : Beside) (k : 
       values = values_long e.opening (b.log ∷ b.before) ∙ w.plan.values;
       stamps = first_same e.opening (b.log ∷ b.before) ∙ w.plan.first;
       count = length_of (λ i. plain e i (get_or words (base e o.arena + i) 0)) 0 (total e.sizes);
-      each = λ i low asked. let pool = w.plan.sizes.pool.0 in plain_at e words o.arena i (omega (arith, low, pool)) ∙ as_is i low (cases_lt i e.sizes.m) ∙ word_set i low asked;
+      each = λ i low asked. let pool = w.plan.sizes.pool.0 in plain_at e words o.arena i (omega (arith, low, pool)) ∙ as_is i low (cases_lt i e.sizes.m)
+          ∙ opens_by_set e words (opening_behind e.opening (b.log ∷ b.before)).values o.arena i (records_before e words ports b w o.arena own.arena) low asked (word_set i low);
     }
       where
         as_is : (i : ℕ) → i < first_free e.sizes → (i < e.sizes.m) ⊎ (e.sizes.m ≤ i) → plain e i (get_or words (base e o.arena + i) 0) ≡ get_or words (base e o.arena + i) 0
@@ -355,6 +357,12 @@ module _ (e : Plan) (words : List ℕ) (ports : ℕ → Port) (b : Beside) (k : 
       | inr ne ↦ high_clear e words words' high y (w.clear y inside (sym (put_other o.arena (Some (next_epoch e b)) b.holds y ne.1) ∙ is)) l from less
     ]
 
+    records_then : (y : ℕ) → y < e.arenas → b'.holds y ≡ None → HasClearRecords e words' y
+    records_then y inside is = elim (eqb_tells y o.arena) [
+      | inl same ↦ let none : Some (next_epoch e b) ≡ None = sym (put_same o.arena (Some (next_epoch e b)) b.holds) ∙ sym (ap b'.holds same.1) ∙ is in absurd cc
+      | inr ne ↦ high_records e words words' high y (w.records y inside (sym (put_other o.arena (Some (next_epoch e b)) b.holds y ne.1) ∙ is))
+    ]
+
     won : LawfulEpochs e words' (put k (having_published (ports k) o) ports) (next_beside e b o.arena)
     won = record {
       plan = w.plan;
@@ -367,6 +375,7 @@ module _ (e : Plan) (words : List ℕ) (ports : ℕ → Port) (b : Beside) (k : 
       new = new_then;
       setting = setting_then;
       clear = clear_then;
+      records = records_then;
     }
 
   pub publishes : ((get_or words current_word 0 ≡ packed (ports k).control.here) × IsPresent b k (ports k)

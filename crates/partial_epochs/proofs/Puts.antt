@@ -1,5 +1,5 @@
 -- A port puts another one where it stands itself.
-use Rattle.partial_epochs.proofs.Common.{ℕ, ◌≡◌, ◌≢◌, ◌+◌, ◌<◌, ◌≤◌, ◌==◌, ◌⊎◌, Bool, true, false, cond, Option, Some, None, IfSome, List, length, get_or, set, refl, sym, ap, subst, ◌∙◌, inl, inr, arith, eqb_tells, get_or-set_same, get_or-set_other, length-set, put, Plan, Place, IsPlace, at_word, control_size, control_words, current_word, marked, packed, arena_limit, Control, Entering, OwnedArena, Port, IsPlaceWord, IsEarlier, IsStillMarked, IsOut, IsOwner, LawfulControl, MayPut, Beside, LawfulEpochs, controls, numbers, place_now, PutsStayLawful, cleaner, having_put, Stands, Marks, Loaded}
+use Rattle.partial_epochs.proofs.Common.{ℕ, ◌≡◌, ◌≢◌, ◌+◌, ◌<◌, ◌≤◌, ◌==◌, ◌⊎◌, Bool, true, false, cond, Option, Some, None, IfSome, List, length, get_or, set, refl, sym, ap, subst, ◌∙◌, inl, inr, arith, eqb_tells, get_or-set_same, get_or-set_other, length-set, put, Plan, Place, IsPlace, at_word, control_size, control_words, current_word, marked, packed, arena_limit, Control, Entering, OwnedArena, Port, IsPlaceWord, IsEarlier, IsStillMarked, IsOut, IsOwner, LawfulControl, MayPut, Beside, LawfulEpochs, controls, numbers, place_now, PutsStayLawful, at_next_port, having_put, Stands, Marks, Loaded}
 use Rattle.partial_epochs.proofs.Entering.{control_lifted, cw_at, cw_long, marked_epoch, not_marked}
 use Rattle.partial_epochs.proofs.Lists.{set_of}
 use Rattle.partial_epochs.proofs.Owning.{knows_more}
@@ -139,10 +139,10 @@ module _ (e : Plan) (words : List ℕ) (cs : ℕ → Control) (now : Place) (hol
   }
 
   abbrev c : Control
-  c = record (cs k) { owned = Some (cleaner o) }
+  c = record (cs k) { owned = Some (at_next_port o) }
 
-  own_cleaner : IsOwner e words' cs now holds k (cleaner o)
-  own_cleaner = record {
+  own_at_next_port : IsOwner e words' cs now holds k (at_next_port o)
+  own_at_next_port = record {
     stands = own.stands;
     arena = own.arena;
     apart = own.apart;
@@ -163,12 +163,12 @@ module _ (e : Plan) (words : List ℕ) (cs : ℕ → Control) (now : Place) (hol
 
   no_puts : (j : ℕ) (d : Place) → MayPut c j d → ⊥
   no_puts j d may =
-      let same : cleaner o ≡ may.owned = cc in
+      let same : at_next_port o ≡ may.owned = cc in
       let bad : None ≡ Some d = ap (λ (t : OwnedArena). t.mark) same ∙ may.mark in
       cc
 
   pub puts_on : LawfulControl e words' (put k c cs) now holds
-  puts_on = knows_more e words' cs now holds helped k below c refl refl (w.past k below) (λ j d may. absurd (no_puts j d may)) own_cleaner
+  puts_on = knows_more e words' cs now holds helped k below c refl refl (w.past k below) (λ j d may. absurd (no_puts j d may)) own_at_next_port
 
 module _ (e : Plan) (words : List ℕ) (ports : ℕ → Port) (b : Beside) (k : ℕ) (o : OwnedArena) (a : Place) (w : LawfulEpochs e words ports b) (below : k < e.ports) (owned : (ports k).control.owned ≡ Some o)
     (looked : o.looked ≡ true) (within : o.clean < e.ports) (none : o.set ≡ 0) (mark : o.mark ≡ Some a) (again : o.again ≡ true) (there : get_or words (at_word o.clean) 0 ≡ marked a) where

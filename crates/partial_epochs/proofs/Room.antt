@@ -1,5 +1,5 @@
 -- No machine is marked for the pool nor for the slots, and none is refused.
-use Rattle.partial_epochs.proofs.Common.{Option, ℕ, ◌≡◌, ◌≢◌, ◌<◌, ◌++◌, Bool, true, false, Some, List, ◌∷◌, refl, sym, ap, subst, ◌∙◌, inl, inr, arith, ◌||◌, Opening, all_at, Step, answer_of, words_after, Reply, CoreState, advance, reply_of, IsTied, IsMachineOf, Part, core_of, holdings, joined_since, put, Plan, arena_words, carried_words, component_words, placed_step, opening_behind, Control, Epoch, Port, Stands, Beside, IsArena, IsStanding, LawfulEpochs, HaveSlots, MachineLeads, MachinesAreNeverRefused, MarksNeverCome, holding_in, memory_at}
+use Rattle.partial_epochs.proofs.Common.{Option, ℕ, ◌≡◌, ◌≢◌, ◌<◌, Bool, true, false, Some, List, refl, sym, ap, subst, ◌∙◌, inl, inr, arith, ◌||◌, Opening, all_at, Step, answer_of, words_after, Reply, CoreState, advance, reply_of, IsTied, IsMachineOf, Part, PartAmong, core_of, holdings, joined_since, put, Plan, arena_words, carried_words, component_words, placed_step, opening_behind, Control, Epoch, Port, Stands, Beside, IsArena, IsStanding, LawfulEpochs, HaveSlots, MachineLeads, MachinesAreNeverRefused, MarksNeverCome, holding_in, memory_at, PoolWords, Slots}
 use Rattle.partial_model.specs.declared.call.Refused.{Refused}
 use Rattle.partial_model.specs.declared.call.Refused.TheVariants as refused
 use Rattle.partial_machine.specs.declared.stage.Reply.TheVariants as reply
@@ -37,8 +37,9 @@ module _ (e : Plan) (words : List ℕ) (ports : ℕ → Port) (b : Beside) (k : 
 
   tied : IsTied e.sizes bw (holding_in (core_of (r.part k)) (core_of (r.part k)).stage (joined_since (r.part k)))
   tied =
-      let lawful : one.Lawful e.sizes o bw (around.before ++ r.part k ∷ around.after) r.log = subst (λ (l : List Part). one.Lawful e.sizes o bw l r.log) around.is arena.lawful in
-      let memory = memory_at e.sizes o bw around.before (r.part k) around.after r.log lawful (core_of (r.part k)).stage refl in
+      let m : PartAmong = record { words = bw; before = around.before; part = r.part k; after = around.after; log = r.log } in
+      let lawful : one.LawfulAmong e.sizes o m = subst (λ (l : List Part). one.Lawful e.sizes o bw l r.log) around.is arena.lawful in
+      let memory = memory_at e.sizes o m lawful (core_of (r.part k)).stage refl in
       all_at (IsTied e.sizes bw) (holdings around.before) (holding_in (core_of (r.part k)) (core_of (r.part k)).stage (joined_since (r.part k))) (holdings around.after) memory.tied
 
   -- neither counter is past its end
@@ -48,8 +49,8 @@ module _ (e : Plan) (words : List ℕ) (ports : ℕ → Port) (b : Beside) (k : 
       let claimed = arena.slots in
       let opens = w.plan.sizes.pool.0 in
       let marked = tied in (
-        not_true (core_of (r.part k)).pool_spent (λ on. let past = marked.pool_marked on in omega (arith, past, within)),
-        not_true (core_of (r.part k)).slots_spent (λ on. let past = marked.slots_marked on in omega (arith, past, within, claimed, opens, have)),
+        not_true (core_of (r.part k)).pool_spent (λ on. let past = marked.marked PoolWords on in omega (arith, past, within)),
+        not_true (core_of (r.part k)).slots_spent (λ on. let past = marked.marked Slots on in omega (arith, past, within, claimed, opens, have)),
       )
 
   pub unmarked : (c : CoreState) → IsMachineOf c (ports k).part → (c.pool_spent ≡ false) × (c.slots_spent ≡ false)

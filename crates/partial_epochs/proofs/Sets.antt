@@ -1,5 +1,6 @@
 -- A word of an owned arena is set.
-use Rattle.partial_epochs.proofs.Common.{ℕ, ◌≡◌, ◌≢◌, ◌+◌, ◌-◌, ◌<◌, ◌≤◌, Bool, cond, Option, Some, None, IfSome, List, length, get_or, set, refl, sym, ap, subst, ◌∙◌, inl, inr, arith, option_map, cases_lt, lt-ltb, eqb_tells, get_or-set_other, length-set, first_free, total, put, IsAsked, Plan, Place, IsPlace, at_word, arena_words, base, carried_word, carried_words, component_words, control_size, control_words, current_word, packed, plain, span, set_word, Control, OwnedArena, Port, Epoch, IsPlaceWord, IsStillMarked, IsOwner, LawfulControl, MayPut, NotInto, Beside, IsArena, IsNewPart, IsSetting, IsStanding, LawfulEpochs, controls, next_epoch_word, numbers, place_now, SetsStayLawful, having_set, vacated, Stands, Loaded, ClearSlotsCountAsSet, ClearsSlots, HasClearSlots, set-get_or, slot_counter, slot_word, ◌∷◌, carried_behind, opening_behind, set_offset, opening_word, slots_open}
+use Rattle.partial_epochs.proofs.Common.{ℕ, ◌≡◌, ◌≢◌, ◌+◌, ◌-◌, ◌<◌, ◌≤◌, Bool, cond, Option, Some, None, IfSome, List, length, get_or, set, refl, sym, ap, subst, ◌∙◌, inl, inr, arith, option_map, cases_lt, lt-ltb, eqb_tells, get_or-set_other, length-set, first_free, total, put, IsToBeSet, Plan, Place, IsPlace, at_word, arena_words, base, carried_word, carried_words, component_words, control_size, control_words, current_word, packed, plain, span, set_word, Control, OwnedArena, Port, Epoch, IsPlaceWord, IsStillMarked, IsOwner, LawfulControl, MayPut, NotInto, Beside, IsArena, IsNewPart, IsSetting, IsStanding, LawfulEpochs, controls, next_epoch_word, numbers, place_now, SetsStayLawful, having_set, vacated, Stands, Loaded, ClearSlotsCountAsSet, ClearsSlots, HasClearRecords, HasClearSlots, set-get_or, slot_counter, slot_word, ◌∷◌, carried_behind, opening_behind, set_offset, opening_word, slots_open}
+use Rattle.partial_epochs.proofs.ClearRecords.{records_before, records_same}
 use Rattle.partial_epochs.proofs.Lists.{put_all, put_other, put_same, same_of}
 use Rattle.partial_epochs.proofs.Owning.{knows_more}
 use Rattle.partial_epochs.proofs.Places.{bases_up, counter_number, packed_arena, set_apart, set_place, slot_number, slot_offset, slot_set}
@@ -126,9 +127,9 @@ module _ (e : Plan) (words : List ℕ) (ports : ℕ → Port) (b : Beside) (w : 
 module _ (e : Plan) (words : List ℕ) (ports : ℕ → Port) (b : Beside) (k : ℕ) (o : OwnedArena) (v next : ℕ) (w : LawfulEpochs e words ports b) (below : k < e.ports)
     (owned : (ports k).control.owned ≡ Some o)
     (done : o.clean ≡ e.ports) (goes : o.set < next) (most : next ≤ first_free e.sizes + e.sizes.m) (passed : e.sizes.m ≤ (ports k).passed)
-    (value : get_or words current_word 0 ≡ packed (ports k).control.here → (i : ℕ) → o.set ≤ i → i < next → IsAsked e.sizes i →
+    (value : get_or words current_word 0 ≡ packed (ports k).control.here → (i : ℕ) → o.set ≤ i → i < next → IsToBeSet e.sizes i →
     get_or (set words (set_word e o.arena o.set) v) (set_word e o.arena i) 0 ≡ next_epoch_word e b i)
-    (clears : ClearsSlots e o next (set words (set_word e o.arena o.set) v)) where
+    (clears : ClearsSlots e o next (set words (set_word e o.arena o.set) v)) (records : HasClearRecords e (set words (set_word e o.arena o.set) v) o.arena) where
   more : o.set < first_free e.sizes + e.sizes.m
   more = omega (arith, goes, most)
 
@@ -275,6 +276,15 @@ module _ (e : Plan) (words : List ℕ) (ports : ℕ → Port) (b : Beside) (k : 
             ∙ clear_before e words ports b w o.arena m.arena l (omega (arith, count, from)) less
       ]
 
+  -- and so are the initial records
+  records_then : (y : ℕ) → y < e.arenas → HasClearRecords e after y
+  records_then y inside = elim (eqb_tells y o.arena) [
+    | inl same ↦ subst (HasClearRecords e after) (sym same.1) records
+    | inr ne ↦
+        let pool = w.plan.sizes.pool.0 in
+        records_same e words after y (λ i from low. other (base e y + i) (away y i ne.1 (omega (arith, low, pool)))) (records_before e words ports b w y inside)
+  ]
+
   set_more : IsSetting e after b' q' (record o { set = next })
   set_more =
       let h = own_setting in
@@ -318,10 +328,11 @@ module _ (e : Plan) (words : List ℕ) (ports : ℕ → Port) (b : Beside) (k : 
             (λ _ low less. w.new k y r low (held y r is).1 less) (λ _ low less. w.new q y r low (held y r is).1 less) low;
         setting = setting_then;
         clear = λ y inside _. clear_then y inside;
+        records = λ y inside _. records_then y inside;
       }
 
 pub sets_stay_lawful : SetsStayLawful
-sets_stay_lawful e words ports b k o v next w below owned done goes most passed value clears = sets_on e words ports b k o v next w below owned done goes most passed value clears
+sets_stay_lawful e words ports b k o v next w below owned done goes most passed value clears records = sets_on e words ports b k o v next w below owned done goes most passed value clears records
 
 -- a store of 0 in a slot that is 0 changes nothing
 pub clear_slots_count_as_set : ClearSlotsCountAsSet
@@ -330,15 +341,19 @@ clear_slots_count_as_set e words ports b k o next w below owned done goes free p
     (sets_on e words ports b k o (get_or words (set_word e o.arena o.set) 0) next w below owned done goes (omega (arith, free)) passed
     (λ at i from less asked. ap (λ (l : List ℕ). get_or l (set_word e o.arena i) 0) same ∙ ap (λ n. get_or words n 0) (slot_set e o.arena i (omega (arith, free, less)))
     ∙ zero (e.sizes.slots - (i + 1)) (omega (arith, free, less)) (omega (arith, free, less)) ∙ sym (slot_next i (omega (arith, free, less))))
-    (λ l now set. ap (λ (l' : List ℕ). get_or l' (base e o.arena + slot_word e.sizes l) 0) same ∙ zero l (omega (arith, now)) (omega (arith, set, free))))
+    (λ l now set. ap (λ (l' : List ℕ). get_or l' (base e o.arena + slot_word e.sizes l) 0) same ∙ zero l (omega (arith, now)) (omega (arith, set, free)))
+    (subst (λ (l : List ℕ). HasClearRecords e l o.arena) (sym same) (records_before e words ports b w o.arena mine.arena)))
   where
+    mine : IsOwner e (control_words e words) (controls ports) (place_now b) (numbers b) k o
+    mine = own e (control_words e words) (controls ports) (place_now b) (numbers b) w.control k below o owned done
+
     same : set words (set_word e o.arena o.set) (get_or words (set_word e o.arena o.set) 0) ≡ words
     same = set-get_or words (set_word e o.arena o.set) 0
 
     zero : (l : ℕ) → l < e.sizes.slots → get_or words (base e o.arena + slot_counter e.sizes) 0 ≤ l → get_or words (base e o.arena + slot_word e.sizes l) 0 ≡ 0
     zero l less from =
-        let mine = own e (control_words e words) (controls ports) (place_now b) (numbers b) w.control k below o owned done in
-        clear_before e words ports b w o.arena mine.arena l from less
+        let m = mine in
+        clear_before e words ports b w o.arena m.arena l from less
 
     slot_next : (i : ℕ) → i < e.sizes.slots → next_epoch_word e b i ≡ 0
     slot_next i less =

@@ -1,5 +1,5 @@
 -- The steps that aren't a machine's keep the notes lawful, and a port notes what it has seen by a look.
-use Rattle.partial_epochs.proofs.Common.{ℕ, ◌≡◌, ◌≢◌, ◌+◌, ◌<◌, ◌≤◌, ◌==◌, ◌⊎◌, ◌++◌, true, false, Option, IfSome, List, [], ◌∷◌, length, refl, sym, ap, subst, ◌∙◌, inl, inr, arith, length-append, AllByRecursion, eqb_tells, append-nil, length-map, Applied, Note, IsLegal, IsTrueOf, LegalNotes, Noted, place_of, seen_after, seen_by, EachOnce, places_by, places_written, wrote, some_same, words_after, Exchange, Part, port_of, with_seen, looks_stay_lawful, count, list_of, put, Place, Plan, arena_words, at_word, carried_words, component_words, marked, packed, history_of, opening_behind, public_entry, public_log, Epoch, Port, Stands, Beside, IsArena, IsStanding, LawfulEpochs, awaits_slot, arrived_port, having_published, next_beside, ArrivalsKeepNotes, AsidesStayLawful, GlanceLeads, GlancesStayLawful, IsEpochHistory, IsSight, LawfulMemory, LawfulNotes, PublishesKeepNotes, EpochReached, SightLeads, SightsStayLawful, having_seen, noting, one_history, seen_of, IsTrueOf-grows, LegalNotes-push, places_written-append, seen_by-push}
+use Rattle.partial_epochs.proofs.Common.{ℕ, ◌≡◌, ◌≢◌, ◌+◌, ◌<◌, ◌≤◌, ◌==◌, ◌⊎◌, ◌++◌, true, false, Option, IfSome, List, [], ◌∷◌, length, refl, sym, ap, subst, ◌∙◌, inl, inr, arith, length-append, AllByRecursion, eqb_tells, append-nil, length-map, Applied, Note, IsLegal, IsTrueOf, LegalNotes, Noted, place_of, seen_after, seen_by, EachOnce, places_by, places_written, wrote, some_same, words_after, Exchange, Part, PartAmong, port_of, with_seen, looks_stay_lawful, count, list_of, put, Place, Plan, arena_words, at_word, carried_words, component_words, marked, packed, history_of, opening_behind, public_entry, public_log, Epoch, Port, Stands, Beside, IsArena, IsStanding, LawfulEpochs, awaits_slot, arrived_port, having_published, next_beside, ArrivalsKeepNotes, AsidesStayLawful, GlanceLeads, GlancesStayLawful, IsEpochHistory, IsSight, LawfulMemory, LawfulNotes, PublishesKeepNotes, EpochReached, SightLeads, SightsStayLawful, having_seen, noting, one_history, seen_of, IsTrueOf-grows, LegalNotes-push, places_written-append, seen_by-push}
 use Rattle.partial_model.specs.declared.call.Note.TheVariants as note
 use Rattle.partial_core.specs.Lawful as one
 use Rattle.partial_core.specs.Ports.{Looks}
@@ -123,8 +123,12 @@ module _ (e : Plan) (words : List ℕ) (ports : ℕ → Port) (b : Beside) (k : 
   around : Around r.part 0 e.ports k
   around = around_of r.part 0 e.ports k (omega arith) (omega (arith, below))
 
-  looks : Looks e.sizes (opening_behind e.opening r.before) (arena_words e words x) around.before (r.part k) around.after r.log
-  looks = looks_stay_lawful e.sizes (opening_behind e.opening r.before) (arena_words e words x) around.before (r.part k) around.after r.log
+  -- the memory of that arena, as the port stands in it
+  abbrev m : PartAmong
+  m = record { words = arena_words e words x; before = around.before; part = r.part k; after = around.after; log = r.log }
+
+  looks : Looks e.sizes (opening_behind e.opening r.before) m
+  looks = looks_stay_lawful e.sizes (opening_behind e.opening r.before) m
       (subst (λ (l : List Part). one.Lawful e.sizes (opening_behind e.opening r.before) (arena_words e words x) l r.log) around.is arena.lawful)
 
   arena_then : IsArena e (arena_words e words x) (component_words e words x) (carried_words e words x) r' (x ≢ b.arena)

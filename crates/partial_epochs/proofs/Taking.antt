@@ -1,5 +1,5 @@
 -- A port takes an arena and gives it back, finds the others elsewhere, and loads their marks.
-use Rattle.partial_epochs.proofs.Common.{ℕ, ◌≡◌, ◌≢◌, ◌+◌, ◌<◌, ◌≤◌, ◌==◌, ◌⊎◌, Bool, true, false, cond, Option, Some, None, IfSome, List, length, get_or, set, refl, sym, ap, subst, ◌∙◌, inl, inr, arith, eqb_tells, get_or-set_same, get_or-set_other, length-set, put, Plan, Place, IsPlace, at_word, control_size, control_words, current_word, entering_mark, marked, own_word, packed, arena_limit, Control, Entering, OwnedArena, Port, Stands, Marks, Loaded, IsPlaceWord, IsEarlier, IsOut, IsOwner, LawfulControl, MayPut, Beside, IsSetting, IsStanding, LawfulEpochs, controls, numbers, place_now, GivesStayLawful, MarksAreLoaded, OthersAreElsewhere, OwnersLookAway, TakesStayLawful, cleaner, having_given, having_loaded, having_put, just_taken, owning_port, having_passed}
+use Rattle.partial_epochs.proofs.Common.{ℕ, ◌≡◌, ◌≢◌, ◌+◌, ◌<◌, ◌≤◌, ◌==◌, ◌⊎◌, Bool, true, false, cond, Option, Some, None, IfSome, List, length, get_or, set, refl, sym, ap, subst, ◌∙◌, inl, inr, arith, eqb_tells, get_or-set_same, get_or-set_other, length-set, put, Plan, Place, IsPlace, at_word, control_size, control_words, current_word, entering_mark, marked, own_word, packed, arena_limit, Control, Entering, OwnedArena, Port, Stands, Marks, Loaded, IsPlaceWord, IsEarlier, IsOut, IsOwner, LawfulControl, MayPut, Beside, IsSetting, IsStanding, LawfulEpochs, controls, numbers, place_now, GivesStayLawful, MarksAreLoaded, OthersAreElsewhere, OwnersLookAway, TakesStayLawful, at_next_port, having_given, having_loaded, having_put, just_taken, owning_port, having_passed}
 use Rattle.partial_epochs.proofs.Entering.{control_lifted, current_is, cw_at, cw_long, not_marked}
 use Rattle.partial_epochs.proofs.Lists.{put_all, set_of}
 use Rattle.partial_epochs.proofs.Owning.{knows_more}
@@ -144,11 +144,11 @@ module _ (e : Plan) (words : List ℕ) (cs : ℕ → Control) (now : Place) (hol
 
   module _ (looked : o.looked ≡ true) (none : o.set ≡ 0) (d : Place) (place : IsPlace e d) (there : get_or words (at_word o.clean) 0 ≡ packed d) (apart : d.arena ≢ o.arena) where
     abbrev done : Control
-    done = record (cs k) { owned = Some (cleaner o) }
+    done = record (cs k) { owned = Some (at_next_port o) }
 
     no_puts_done : (j : ℕ) (a : Place) → MayPut done j a → ⊥
     no_puts_done j a may =
-        let same : cleaner o ≡ may.owned = cc in
+        let same : at_next_port o ≡ may.owned = cc in
         let bad : None ≡ Some a = ap (λ (t : OwnedArena). t.mark) same ∙ may.mark in
         cc
 
@@ -290,7 +290,7 @@ others_are_elsewhere e words ports b k o d w below owned looked none within plac
     let at = cw_at e words ports b k (ports k) 0 w below (at_word o.clean) (omega (arith, within)) in
     known_lifted e words ports b k (having_put (ports k) o) w below
     (elsewhere_on e (control_words e words) (controls ports) (place_now b) (numbers b) w.control k below o w.plan.arenas owned within looked none d place (at ∙ there) apart)
-    (nothing_set e words b (having_put (ports k) o) (cleaner o) none) (λ _. still b k (ports k) (Some (cleaner o)) (w.standing k below own.stands)) (omega arith)
+    (nothing_set e words b (having_put (ports k) o) (at_next_port o) none) (λ _. still b k (ports k) (Some (at_next_port o)) (w.standing k below own.stands)) (omega arith)
 
 pub marks_are_loaded : MarksAreLoaded
 marks_are_loaded e words ports b k o w below owned within high =

@@ -1,6 +1,7 @@
 -- The lawful state of a memory over all epochs.
 use Rattle.std.specs.Prelude.{ℕ, ◌+◌, ◌*◌, ◌<◌, ◌≤◌, nat_lt, Bool, true, List, ◌∷◌, slice_index, if◌then◌else◌, ◌++◌, length, Option, ◌≡◌, ◌≢◌, None, Some, IfSome, ◌-◌, false}
-use Rattle.partial_words.specs.Layout.{IsLayout, pool_base, pool_counter, pool_end, first_free, greatest_record, slot_counter, slot_word}
+use Rattle.partial_words.specs.Layout.{IsLayout, pool_base, pool_counter, pool_end, first_free, greatest_record, initial_record, slot_counter, slot_word}
+use Rattle.partial_words.specs.Record.{prev_word, view_word}
 use Rattle.std.specs.Option.{option_map}
 use Rattle.partial_model.specs.declared.history.Applied.{Applied}
 use Rattle.partial_active.specs.declared.join.JoinStage.{JoinStage}
@@ -14,7 +15,7 @@ use Rattle.partial_words.specs.Announcement.{least_announcement}
 use Rattle.partial_core.specs.Lawful.{Lawful}
 use Rattle.partial_core.specs.Lawful as one
 use Rattle.partial_epochs.specs.Lists.{list_of, count}
-use Rattle.partial_epochs.specs.Layout.{arena_limit, Plan, Place, packed, current_word, control_words, component_words, carried_words, whole, seals, IsAsked, IsSealed, arena_words, base, set_offset, set_word}
+use Rattle.partial_epochs.specs.Layout.{arena_limit, Plan, Place, packed, current_word, control_words, component_words, carried_words, whole, seals, IsSealed, IsToBeSet, arena_words, base, set_offset, set_word}
 use Rattle.partial_epochs.specs.History.{opening_behind, carried_behind}
 use Rattle.partial_epochs.specs.Ports.{OwnedArena, Control, Port, Epoch}
 use Rattle.partial_epochs.specs.Control.{LawfulControl}
@@ -132,7 +133,7 @@ pub record IsSetting (e : Plan) (words : List ℕ) (b : Beside) (p : Port) (w : 
   -- it has passed each component of its own epoch before
   pub sealed : 0 < w.set → e.sizes.m ≤ p.passed
   -- while its epoch is the current one, the words that it has set are those of the next epoch
-  pub each : slice_index words current_word ≡ packed p.control.here → (i : ℕ) → i < w.set → IsAsked e.sizes i →
+  pub each : slice_index words current_word ≡ packed p.control.here → (i : ℕ) → i < w.set → IsToBeSet e.sizes i →
       slice_index words (set_word e w.arena i) ≡ next_epoch_word e b i
   -- a slot that it has set is 0, whichever epoch is the current one
   pub cleared : (l : ℕ) → l < e.sizes.slots → e.sizes.slots ≤ l + w.set → slice_index words (base e w.arena + slot_word e.sizes l) ≡ 0
@@ -141,6 +142,11 @@ pub record IsSetting (e : Plan) (words : List ℕ) (b : Beside) (p : Port) (w : 
 abbrev pub HasClearSlots : Plan → List ℕ → ℕ → Type 0
 HasClearSlots e words x = (l : ℕ) → slice_index words (base e x + slot_counter e.sizes) ≤ l → l < e.sizes.slots →
     slice_index words (base e x + slot_word e.sizes l) ≡ 0
+
+-- in arena x the first word and the view of each initial record are 0
+abbrev pub HasClearRecords : Plan → List ℕ → ℕ → Type 0
+HasClearRecords e words x = (j : ℕ) → j < e.sizes.m → (slice_index words (base e x + prev_word (initial_record e.sizes j)) ≡ 0)
+    × (slice_index words (base e x + view_word (initial_record e.sizes j)) ≡ 0)
 
 -- The lawful state of a memory over all epochs.
 pub record LawfulEpochs (e : Plan) (words : List ℕ) (ports : ℕ → Port) (b : Beside) : Type 0 where
@@ -164,8 +170,9 @@ pub record LawfulEpochs (e : Plan) (words : List ℕ) (ports : ℕ → Port) (b 
       (ports k).control.here.epoch < length r.before → IsNewPart e k r
   -- what an owner has set in its arena is the beginning of the next epoch
   pub setting : (k : ℕ) → k < e.ports → IfSome (ports k).control.owned (IsSetting e words b (ports k))
-  -- an arena that holds no epoch has clear slots too
+  -- an arena that holds no epoch has clear slots and clear initial records too
   pub clear : (x : ℕ) → x < e.arenas → b.holds x ≡ None → HasClearSlots e words x
+  pub records : (x : ℕ) → x < e.arenas → b.holds x ≡ None → HasClearRecords e words x
 
 -- the port stands in the current epoch
 pub record IsPresent (b : Beside) (k : ℕ) (p : Port) : Type 0 where

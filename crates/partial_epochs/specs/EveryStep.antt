@@ -12,10 +12,10 @@ use Rattle.partial_machine.specs.Machine.{CoreState, advance, reply_of, step_of}
 use Rattle.partial_core.specs.Part.{IsMachineOf}
 use Rattle.partial_core.specs.Steps.{since_with}
 use Rattle.partial_epochs.specs.Lists.{put}
-use Rattle.partial_epochs.specs.Layout.{IsAsked, IsPlace, IsSealed, Place, Plan, arena_words, at_word, base, component_words, current_word, entering_mark, marked, own_word, packed, placed_step, seal, set_word}
+use Rattle.partial_epochs.specs.Layout.{IsPlace, IsSealed, IsToBeSet, Place, Plan, arena_words, at_word, base, component_words, current_word, entering_mark, marked, own_word, packed, placed_step, seal, set_word}
 use Rattle.partial_epochs.specs.Ports.{OwnedArena, Port}
 use Rattle.partial_epochs.specs.Ports.Entering.{Stands, Marks, Loaded}
-use Rattle.partial_epochs.specs.Epochs.{Beside, IsStanding, next_epoch_word, place_now}
+use Rattle.partial_epochs.specs.Epochs.{Beside, HasClearRecords, IsStanding, next_epoch_word, place_now}
 use Rattle.partial_epochs.specs.MachineSteps.{MachineLeads, MayClaim, MeetsSeal}
 use Rattle.partial_epochs.specs.Publishing.{ClearsSlots, IsWholeArena, next_place}
 use Rattle.partial_epochs.specs.Opening.{OpensAll, first_beside, first_ports}
@@ -92,9 +92,10 @@ MayMove e words ports b notes k (Puts o a) = ((ports k).control.owned ≡ Some o
     × (o.mark ≡ Some a) × (o.again ≡ true) × (slice_index words (at_word o.clean) ≡ marked a)
 MayMove e words ports b notes k (Sets o v next) = ((ports k).control.owned ≡ Some o) × (o.clean ≡ e.ports) × (o.set < next)
     × (next ≤ first_free e.sizes + e.sizes.m) × (e.sizes.m ≤ (ports k).passed)
-    × (slice_index words current_word ≡ packed (ports k).control.here → (i : ℕ) → o.set ≤ i → i < next → IsAsked e.sizes i →
+    × (slice_index words current_word ≡ packed (ports k).control.here → (i : ℕ) → o.set ≤ i → i < next → IsToBeSet e.sizes i →
     slice_index (words_after words (Store (set_word e o.arena o.set) v)) (set_word e o.arena i) ≡ next_epoch_word e b i)
     × ClearsSlots e o next (words_after words (Store (set_word e o.arena o.set) v))
+    × HasClearRecords e (words_after words (Store (set_word e o.arena o.set) v)) o.arena
 MayMove e words ports b notes k (FindsClear o next) = ((ports k).control.owned ≡ Some o) × (o.clean ≡ e.ports) × (o.set < next)
     × (slice_index words (base e o.arena + slot_counter e.sizes) + next ≤ e.sizes.slots) × (e.sizes.m ≤ (ports k).passed)
 MayMove e words ports b notes k (Publishes o) = IsWholeArena e (ports k) o

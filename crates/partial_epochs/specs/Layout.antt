@@ -1,7 +1,8 @@
 -- The words of a memory whose arenas are used again and again, one place for each offset: control words, and arenas.
-use Rattle.std.specs.Prelude.{ℕ, ◌+◌, ◌*◌, ◌/◌, ◌%◌, ◌<◌, ◌≤◌, ◌⊎◌, nat_lt, List, slice_index, if◌then◌else◌, ◌-◌}
+use Rattle.std.specs.Prelude.{ℕ, ◌≡◌, ◌+◌, ◌*◌, ◌/◌, ◌%◌, ◌<◌, ◌≤◌, ◌⊎◌, nat_lt, List, slice_index, if◌then◌else◌, ◌-◌}
 use Rattle.partial_model.specs.declared.history.Opening.{Opening}
-use Rattle.partial_words.specs.Layout.{Layout, total, first_free, list_base, pool_base}
+use Rattle.partial_words.specs.Layout.{Layout, total, first_free, initial_record, list_base, pool_base}
+use Rattle.partial_words.specs.Record.{value_word}
 use Rattle.partial_words.specs.declared.step.Step.{Step}
 use Rattle.partial_words.specs.declared.step.Step.TheVariants.{Load, Store, Exchange, Add}
 use Rattle.partial_epochs.specs.Lists.{list_of}
@@ -142,3 +143,8 @@ set_word e x i =
 -- an opening asks of that word what stands there: it asks nothing of list words
 abbrev pub IsAsked : Layout → ℕ → Type 0
 IsAsked s w = (w < list_base s) ⊎ (pool_base s ≤ w)
+
+-- An owner has to set the word of that number: those before the list words, the values of the initial records, and the carried stamps. What
+-- an initial record has beside its value is 0 in any arena.
+abbrev pub IsToBeSet : Layout → ℕ → Type 0
+IsToBeSet s i = (i < list_base s) ⊎ ((first_free s ≤ i) ⊎ ((j : ℕ) × (j < s.m) × (i ≡ value_word (initial_record s j))))

@@ -9,7 +9,7 @@ use Rattle.partial_core.specs.Lawful.{Lawful}
 use Rattle.partial_epochs.specs.Lists.{put}
 use Rattle.partial_epochs.specs.Layout.{IsAsked, Plan, Place, base, carried_word, control_size, whole}
 use Rattle.partial_epochs.specs.Ports.{Port, Epoch}
-use Rattle.partial_epochs.specs.Epochs.{IsEpochPlan, Beside, LawfulEpochs}
+use Rattle.partial_epochs.specs.Epochs.{IsEpochPlan, Beside, HasClearRecords, LawfulEpochs}
 use Rattle.partial_epochs.specs.Entering.{arrived_port}
 
 -- the words below the first free one are those of an opening, but for list words; behind it anything may stand
@@ -25,8 +25,8 @@ abbrev pub OpensOverLawful : Type 0
 OpensOverLawful = (z : Layout) (o : Opening) (words : List ℕ) (n : ℕ) → OpensOver z o words → n ≤ 64 →
     Lawful z o words (fresh_parts z 0 n) []
 
--- the words at opening: no arena is owned, each port stands in epoch 0, and arena 0 is set; the slots of the other arenas are 0, and their
--- other words may be anything
+-- the words at opening: no arena is owned, each port stands in epoch 0, and arena 0 is set; the slots of the other arenas are 0, and so is what
+-- their initial records have beside their values, and their other words may be anything
 pub record OpensAll (e : Plan) (words : List ℕ) : Type 0 where
   pub plan : IsEpochPlan e
   pub some : 0 < e.arenas
@@ -36,6 +36,7 @@ pub record OpensAll (e : Plan) (words : List ℕ) : Type 0 where
       slice_index words (base e 0 + i) ≡ opening_word e.sizes e.opening.values i
   pub carried : (j : ℕ) → j < e.sizes.m → slice_index words (carried_word e 0 j) ≡ initial_stamp e.opening j
   pub clear : (x l : ℕ) → 0 < x → x < e.arenas → l < e.sizes.slots → slice_index words (base e x + slot_word e.sizes l) ≡ 0
+  pub records : (x : ℕ) → 0 < x → x < e.arenas → HasClearRecords e words x
 
 -- the place of the first epoch: arena 0
 abbrev pub first_place : Place

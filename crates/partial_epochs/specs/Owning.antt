@@ -20,13 +20,13 @@ OwnersLook = (e : Plan) (words : List ℕ) (ports : ℕ → Port) (b : Beside) (
     slice_index words current_word ≡ packed (ports k).control.here →
     IsPresent b k (ports k) × LawfulEpochs e words (put k (having_looked (ports k) o) ports) b
 
--- a port that owns an arena is done with the port `clean`, and comes to the next one
-abbrev pub cleaner : OwnedArena → OwnedArena
-cleaner o = record o { clean = o.clean + 1; mark = None; again = false }
+-- the arena of an owner that is done with the port `clean`, and comes to the next one
+abbrev pub at_next_port : OwnedArena → OwnedArena
+at_next_port o = record o { clean = o.clean + 1; mark = None; again = false }
 
 -- the port once it is done with the port `clean`
 abbrev pub having_put : Port → OwnedArena → Port
-having_put p o = record p { control = record p.control { owned = Some (cleaner o) } }
+having_put p o = record p { control = record p.control { owned = Some (at_next_port o) } }
 
 -- A port that has loaded the mark of another, and has seen since that its own epoch is the current one, puts that port where it stands
 -- itself, and is done with it: where the exchange of the mark is won.

@@ -5,9 +5,9 @@ use Rattle.partial_words.specs.declared.step.Step.TheVariants.{Store, Exchange}
 use Rattle.partial_core.specs.Part.{fresh_part}
 use Rattle.partial_words.specs.Step.{words_after}
 use Rattle.partial_epochs.specs.Lists.{put}
-use Rattle.partial_epochs.specs.Layout.{IsAsked, epoch_limit, Plan, Place, base, packed, current_word, set_word}
+use Rattle.partial_epochs.specs.Layout.{IsToBeSet, epoch_limit, Plan, Place, base, packed, current_word, set_word}
 use Rattle.partial_epochs.specs.Ports.{OwnedArena, Port, Epoch}
-use Rattle.partial_epochs.specs.Epochs.{Beside, next_epoch_word, LawfulEpochs, IsPresent}
+use Rattle.partial_epochs.specs.Epochs.{Beside, HasClearRecords, next_epoch_word, LawfulEpochs, IsPresent}
 
 -- a port that has set the words of its arena below that number
 abbrev pub having_set : Port → OwnedArena → ℕ → Port
@@ -23,14 +23,16 @@ ClearsSlots e o next words = (l : ℕ) → l + o.set < e.sizes.slots → e.sizes
     slice_index words (base e o.arena + slot_word e.sizes l) ≡ 0
 
 -- A port that is done with all others, and has found all components of its epoch sealed, sets the next word of its arena. The words from it
--- on that count as set behind the store are those of the next epoch, if its own epoch is the current one yet.
+-- on that count as set behind the store are those of the next epoch, if its own epoch is the current one yet; and slots that count as set, and
+-- what initial records have beside their values, are 0 whichever epoch that is.
 abbrev pub SetsStayLawful : Type 0
 SetsStayLawful = (e : Plan) (words : List ℕ) (ports : ℕ → Port) (b : Beside) (k : ℕ) (o : OwnedArena) (v next : ℕ) →
     LawfulEpochs e words ports b → k < e.ports → (ports k).control.owned ≡ Some o → o.clean ≡ e.ports → o.set < next →
     next ≤ first_free e.sizes + e.sizes.m → e.sizes.m ≤ (ports k).passed →
-    (slice_index words current_word ≡ packed (ports k).control.here → (i : ℕ) → o.set ≤ i → i < next → IsAsked e.sizes i →
+    (slice_index words current_word ≡ packed (ports k).control.here → (i : ℕ) → o.set ≤ i → i < next → IsToBeSet e.sizes i →
     slice_index (words_after words (Store (set_word e o.arena o.set) v)) (set_word e o.arena i) ≡ next_epoch_word e b i) →
     ClearsSlots e o next (words_after words (Store (set_word e o.arena o.set) v)) →
+    HasClearRecords e (words_after words (Store (set_word e o.arena o.set) v)) o.arena →
     LawfulEpochs e (words_after words (Store (set_word e o.arena o.set) v)) (put k (having_set (ports k) o next) ports) (vacated b o.arena)
 
 -- Such a port that loads the slot counter of its arena knows that the slots from there on are 0: they count as set.

@@ -1,5 +1,5 @@
 -- Records of a history in lawful words: what stands before a record, and which words may be loaded.
-use Rattle.partial_knowledge.proofs.Common.{ℕ, zero, suc, ◌≡◌, ◌≢◌, ◌+◌, ◌<◌, ◌≤◌, ◌++◌, cond, List, [], ◌∷◌, length, map, take, get_or, slice_get, Some, None, refl, sym, ◌∙◌, ap, subst, inl, inr, arith, AllByRecursion, cases_lt, eq-eqb, Applied, Opening, IsHistory, initial_stamp, stamp_of, last_entry, last_from-push, last_at, overtaken_at, take_within, in_whole, distinct_at, stamp_told, Layout, pool_base, pool_end, pool_counter, initial_words, prev_of, plain_record_size, prev_before_entry, Block, AreApart, IsApartFrom, IsWithin, IsBegunSince, Holding, unpublished, announcements, block_at, EachTwo, LawfulWords, IsEntry, IsReadable, HasEntry, AllByRecursion-get}
+use Rattle.partial_knowledge.proofs.Common.{ℕ, zero, suc, ◌≡◌, ◌≢◌, ◌+◌, ◌<◌, ◌≤◌, ◌++◌, cond, List, [], ◌∷◌, length, map, take, get_or, slice_get, Some, None, refl, sym, ◌∙◌, ap, subst, inl, inr, arith, AllByRecursion, cases_lt, eq-eqb, Applied, Opening, IsHistory, initial_stamp, stamp_of, last_entry, last_from-push, last_at, overtaken_at, take_within, in_whole, distinct_at, stamp_told, Layout, pool_base, pool_end, pool_counter, initial_words, prev_of, plain_record_size, prev_before_entry, Block, AreApart, IsApartFrom, IsWithin, IsBegunSince, Holding, unpublished, announcements, block_at, EachTwo, LawfulWords, IsEntry, IsReadable, HasEntry, AllByRecursion-get, PoolWords}
 use Rattle.partial_model.proofs.AllLemmas.{all_back}
 use Rattle.partial_words.specs.Chain.{Agrees}
 use Rattle.partial_state.proofs.HoldingLemmas.{three_words}
@@ -118,7 +118,7 @@ module _ (z : Layout) (o : Opening) (words : List ℕ) (hs : List Holding) (log 
       let is = initial.2 in
       let values = w.values in
       let stamps = w.stamps in
-      let low = w.pool_low in
+      let low = (w.counters PoolWords).low in
       let pool = w.sizes.pool.0 in
       let free : IsApartFrom (unpublished hs) (record { at = pool_base z; size = initial_words z }) =
       all_back (AreApart (record { at = pool_base z; size = initial_words z })) (announcements hs) (unpublished hs)

@@ -13,6 +13,7 @@ pub use Rattle.partial_words.specs.Layout.{Layout, list_base, pool_end, slot_cou
 pub use Rattle.partial_words.specs.Record.{prev_of, StandsAt, next_word, pair_index_word, pair_value_word, pairs_word, plain_record_size, value_word, view_block, view_of, view_size, view_word}
 pub use Rattle.partial_words.proofs.ChainLemmas.{prev_before_entry, value_behind_stamp}
 pub use Rattle.partial_words.proofs.RecordLemmas.{length-pairs}
+pub use Rattle.partial_state.specs.Holdings.Counted.{PoolWords}
 pub use Rattle.partial_state.specs.Holdings.{Holding, unpublished, ClaimedSlot, EachTwo, IfJoined, announcements, block_at}
 pub use Rattle.partial_state.specs.LawfulWords.{LawfulWords, IsClaim, IsEntry}
 pub use Rattle.partial_state.specs.Loads.{IsLoaded, KeptAnswer, IsSlotAnswer}

@@ -1,6 +1,6 @@
 //! The embedded scan of an update or a scan. Its loads are steps of the call.
 
-ghost use Rattle.std.specs.Prelude.{◌≡◌, true, false};
+ghost use Rattle.std.specs.Prelude.{◌≡◌, true, false, IfOk, OnOk};
 ghost use Rattle.std.proofs.Common.{refl, ◌∙◌};
 ghost use Rattle.partial_embedded.specs.Embedded.{fresh_view};
 ghost use Rattle.partial_machine.specs.declared.stage.Stage.TheVariants.{Idle, Scanning, Leaving};
@@ -20,6 +20,8 @@ pub struct ScanLoads<'a, M> {
 }
 
 impl<'a, M: Makes> Loads for ScanLoads<'a, M> {
+    type Break = M::Break;
+
     ghost goes = { λ l. M.goes l.lines.now × IsScanStage (M.machine l.lines.now) (M.machine l.lines.now).stage };
 
     ghost scan = { λ l. scanning (M.machine l.lines.now) };
@@ -30,7 +32,7 @@ impl<'a, M: Makes> Loads for ScanLoads<'a, M> {
         ScansOn (M.machine l.lines.now) (M.machine k.lines.now) };
 
     #[inline(always)]
-    fn load(&mut self, word: u64) -> u64 {
+    fn load(&mut self, word: u64) -> Result<u64, M::Break> {
         self.lines.load(word)
     }
 
@@ -44,8 +46,15 @@ impl<'a, M: Makes> Loads for ScanLoads<'a, M> {
 
 /// Makes the embedded scan of a scan of these positions, and returns it. The port's machine does not hold it
 /// meanwhile, so its stage needs no memory.
+///
+/// # Errors
+/// [`Makes::Break`] when `lines` break the call off.
 #[inline(always)]
-pub fn scan_asked<M: Makes>(lines: &mut M, core: &mut Core, which: &[u32]) -> Embedded
+pub fn scan_asked<M: Makes>(
+    lines: &mut M,
+    core: &mut Core,
+    which: &[u32],
+) -> Result<Embedded, M::Break>
     requires goes { M.goes lines.old }
     requires idle { core.old.stage ≡ Idle }
     requires stage { (M.machine lines.old).stage ≡ Scanning }
@@ -54,8 +63,8 @@ pub fn scan_asked<M: Makes>(lines: &mut M, core: &mut Core, which: &[u32]) -> Em
     requires scan { scanning (M.machine lines.old) ≡ (fresh_view core.old.sizes false, core.old.rows) }
     ensures goes { M.goes lines.new }
     ensures leads { M.leads lines.old lines.new }
-    ensures machine { M.machine lines.new ≡
-        at_stage (with_scanning (M.machine lines.old) (result, core.new.rows)) Leaving }
+    ensures machine { IfOk result (λ made. M.machine lines.new ≡
+        at_stage (with_scanning (M.machine lines.old) (made, core.new.rows)) Leaving) }
     ensures core { core.new ≡ record core.old { rows = core.new.rows } }
 {
     let begun = core.begin_scanning(false);
@@ -66,19 +75,23 @@ pub fn scan_asked<M: Makes>(lines: &mut M, core: &mut Core, which: &[u32]) -> Em
 /// Makes the embedded scan of an update, of the indices that its getSet found. The port's machine holds it
 /// afterwards. This function is never inlined: mostly nobody scans, and then an update needs no stack for
 /// it.
+///
+/// # Errors
+/// [`Makes::Break`] when `lines` break the call off: the port's machine holds the scan as it was before.
 #[inline(never)]
-pub fn scan_found<M: Makes>(lines: &mut M, core: &mut Core)
+pub fn scan_found<M: Makes>(lines: &mut M, core: &mut Core) -> Result<(), M::Break>
     requires goes { M.goes lines.old }
     requires idle { core.old.stage ≡ Idle }
     requires stage { IsViewing (M.machine lines.old).stage }
     requires machine { M.machine lines.old ≡ at_stage (scan_begun core.old true) (M.machine lines.old).stage }
     ensures goes { M.goes lines.new }
     ensures leads { M.leads lines.old lines.new }
-    ensures machine { M.machine lines.new ≡ at_stage core.new (behind_scan (M.machine lines.old).stage) }
+    ensures machine { OnOk result (M.machine lines.new ≡ at_stage core.new (behind_scan (M.machine lines.old).stage)) }
     ensures core { core.new ≡ with_scanning core.old (scanning core.new) }
 {
     let begun = core.begin_scanning(true);
     let mut loads = ScanLoads { lines };
-    let embedded = core.scan_found(begun, &mut loads);
+    let embedded = core.scan_found(begun, &mut loads)?;
     core.keep_scan(embedded);
+    Ok(())
 }

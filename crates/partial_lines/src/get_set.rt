@@ -17,6 +17,8 @@ pub struct SetSteps<'a, M> {
 }
 
 impl<'a, M: Makes> Steps for SetSteps<'a, M> {
+    type Break = M::Break;
+
     ghost goes = { λ l. M.goes l.lines.now × HasReachedSet (M.machine l.lines.now) };
 
     ghost set = { λ l. getting (M.machine l.lines.now) };
@@ -25,7 +27,7 @@ impl<'a, M: Makes> Steps for SetSteps<'a, M> {
         GetsOn (M.machine l.lines.now) (M.machine k.lines.now) };
 
     #[inline(always)]
-    fn make(&mut self, step: Step) -> u64 {
+    fn make(&mut self, step: Step) -> Result<u64, M::Break> {
         self.lines.make(step)
     }
 

@@ -1,6 +1,6 @@
 //! Whoever makes the steps of a call.
 
-ghost use Rattle.std.specs.Prelude.{◌≡◌, Some};
+ghost use Rattle.std.specs.Prelude.{◌≡◌, Some, IfErr, IfOk};
 ghost use Rattle.partial_words.specs.declared.step.Step.TheVariants.{Load};
 ghost use Rattle.partial_machine.specs.Machine.{CoreState, advance, step_of};
 ghost use Rattle.partial_machine.specs.Possible.{IsPossible};
@@ -12,6 +12,9 @@ use partial_words::Step;
 /// The steps of one call of a port, which steps of other ports may come between. To contracts it is the machine
 /// of the call, as the answers of its steps have led it.
 pub trait Makes {
+    /// What is told of a call that is broken off: [`Infallible`](std::convert::Infallible) where none ever is.
+    type Break: Drop;
+
     /// The call is under way.
     ghost goes: { Self → Type 0 };
 
@@ -22,23 +25,31 @@ pub trait Makes {
     ghost leads: { Self → Self → Type 0 };
 
     /// Makes the step that is due, which exchanges no component word, and returns its answer.
-    fn make(&mut self, step: Step) -> u64
+    ///
+    /// # Errors
+    /// [`Makes::Break`] when the call is not to go on: no step was made, and the machine stays where it is.
+    fn make(&mut self, step: Step) -> Result<u64, Self::Break>
         requires goes { goes self.old }
         requires due { step_of (machine self.old) ≡ Some step }
         requires quiet { IsQuiet (machine self.old).stage }
         ensures goes { goes self.new }
-        ensures possible { IsPossible (machine self.old) result }
-        ensures machine { machine self.new ≡ advance (machine self.old) result }
+        ensures possible { IfOk result (λ answer. IsPossible (machine self.old) answer) }
+        ensures machine { IfOk result (λ answer. machine self.new ≡ advance (machine self.old) answer) }
+        ensures stays { IfErr result (λ _. machine self.new ≡ machine self.old) }
         ensures leads { leads self.old self.new };
 
     /// Makes a load that is due, and returns its answer. It takes the word as a `u64`, so a caller that has one
     /// need not cut it to the `u32` of a [`Step`].
-    fn load(&mut self, word: u64) -> u64
+    ///
+    /// # Errors
+    /// As those of [`Makes::make`].
+    fn load(&mut self, word: u64) -> Result<u64, Self::Break>
         requires goes { goes self.old }
         requires due { step_of (machine self.old) ≡ Some (Load word) }
         ensures goes { goes self.new }
-        ensures possible { IsPossible (machine self.old) result }
-        ensures machine { machine self.new ≡ advance (machine self.old) result }
+        ensures possible { IfOk result (λ answer. IsPossible (machine self.old) answer) }
+        ensures machine { IfOk result (λ answer. machine self.new ≡ advance (machine self.old) answer) }
+        ensures stays { IfErr result (λ _. machine self.new ≡ machine self.old) }
         ensures leads { leads self.old self.new };
 
     /// The machine of a call under way is sound.

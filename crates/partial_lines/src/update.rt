@@ -1,7 +1,7 @@
 //! An update in straight lines, from its getSet up to the exchange of its component. Its getSet and its
 //! embedded scan are made by their own machines, in loops.
 
-ghost use Rattle.std.specs.Prelude.{◌≡◌, ◌+◌, ◌^◌, ◌<◌, true, [], Some, None, IfSome, IfNone};
+ghost use Rattle.std.specs.Prelude.{◌≡◌, ◌+◌, ◌^◌, ◌<◌, true, [], Some, None, IfOk, IfSome, IfNone, OnOk};
 ghost use Rattle.partial_model.specs.declared.call.Refused.TheVariants as refused;
 ghost use Rattle.partial_machine.specs.declared.stage.Reply.TheVariants as reply;
 ghost use Rattle.partial_machine.specs.declared.stage.Stage.TheVariants.{Idle, ClaimingRecord, Exchanging};
@@ -22,34 +22,48 @@ use partial_words::{Step, plain_record_size, prev_word, value_word, view_word};
 /// component, and returns the reference of its record. The exchange of `old` for it is due then, and the caller
 /// makes it. Returns `None` when the claim of the record went past the end of the pool: the update is refused,
 /// and the port marked.
+///
+/// # Errors
+/// [`Makes::Break`] when `lines` break the call off.
 #[inline(always)]
-pub fn put<M: Makes>(lines: &mut M, core: &mut Core, change: Change, old: u64) -> Option<u64>
+pub fn put<M: Makes>(
+    lines: &mut M,
+    core: &mut Core,
+    change: Change,
+    old: u64,
+) -> Result<Option<u64>, M::Break>
     requires goes { M.goes lines.old }
     requires idle { core.old.stage ≡ Idle }
     requires sound { IsSound core.old }
     requires machine { M.machine lines.old ≡ set_made (set_begun core.old) change old }
     ensures goes { M.goes lines.new }
     ensures leads { M.leads lines.old lines.new }
-    ensures due { IfSome result (λ at. (M.machine lines.new).stage ≡ Exchanging change old at) }
-    ensures refused { IfNone result (reply_of (M.machine lines.new) ≡ Some (reply.Refused refused.PoolSpent)) }
-    ensures rests { RestsLike (M.machine lines.new) core.new }
+    ensures due { IfOk result (λ put. IfSome put (λ at. (M.machine lines.new).stage ≡ Exchanging change old at)) }
+    ensures refused { IfOk result (λ put.
+        IfNone put (reply_of (M.machine lines.new) ≡ Some (reply.Refused refused.PoolSpent))) }
+    ensures rests { OnOk result (RestsLike (M.machine lines.new) core.new) }
 {
     let mut steps = SetSteps { lines };
-    let set = core.make_set(&mut steps);
+    let set = core.make_set(&mut steps)?;
     let SetSteps { lines } = steps;
     if core.found_none() {
         core.keep_list_mark(&set);
         return write_plain(lines, core, change, old);
     }
     core.keep_set(set);
-    scan_found(lines, core);
+    scan_found(lines, core)?;
     write_record(lines, core, change, old)
 }
 
 // Claims and writes the record of an update that found no announced index. The record has no view. Returns its
 // reference, or `None` when the claim is refused.
 #[inline(always)]
-fn write_plain<M: Makes>(lines: &mut M, core: &mut Core, change: Change, old: u64) -> Option<u64>
+fn write_plain<M: Makes>(
+    lines: &mut M,
+    core: &mut Core,
+    change: Change,
+    old: u64,
+) -> Result<Option<u64>, M::Break>
     requires goes { M.goes lines.old }
     requires idle { core.old.stage ≡ Idle }
     requires stage { (M.machine lines.old).stage ≡ ClaimingRecord change old }
@@ -58,64 +72,81 @@ fn write_plain<M: Makes>(lines: &mut M, core: &mut Core, change: Change, old: u6
     requires like { IsMarkedLike (M.machine lines.old) core.old }
     ensures goes { M.goes lines.new }
     ensures leads { M.leads lines.old lines.new }
-    ensures due { IfSome result (λ at.
-        M.machine lines.new ≡ at_stage (M.machine lines.old) (Exchanging change old at)) }
-    ensures refused { IfNone result (M.machine lines.new ≡ pool_refused (M.machine lines.old)) }
-    ensures like { IsMarkedLike (M.machine lines.new) core.new }
+    ensures due { IfOk result (λ put. IfSome put (λ at.
+        M.machine lines.new ≡ at_stage (M.machine lines.old) (Exchanging change old at))) }
+    ensures refused { IfOk result (λ put.
+        IfNone put (M.machine lines.new ≡ pool_refused (M.machine lines.old))) }
+    ensures like { OnOk result (IsMarkedLike (M.machine lines.new) core.new) }
     ensures core { core.new ≡ record core.old { pool_spent = core.new.pool_spent } }
 {
     let sizes = core.sizes();
     let size = plain_record_size();
-    let at = lines.make(Step::Add(sizes.pool_counter(), size));
+    let at = lines.make(Step::Add(sizes.pool_counter(), size))?;
     if at + size > u64::from(sizes.pool_end()) {
         core.mark_pool();
-        return None;
+        return Ok(None);
     }
-    lines.make(Step::Store(prev_word(at) as u32, old));
-    lines.make(Step::Store(value_word(at) as u32, change.value));
-    lines.make(Step::Store(view_word(at) as u32, 0));
-    Some(at)
+    lines.make(Step::Store(prev_word(at) as u32, old))?;
+    lines.make(Step::Store(value_word(at) as u32, change.value))?;
+    lines.make(Step::Store(view_word(at) as u32, 0))?;
+    Ok(Some(at))
 }
 
 // Claims and writes the record of an update that made an embedded scan. Returns its reference, or `None` when
 // the claim is refused.
-fn write_record<M: Makes>(lines: &mut M, core: &mut Core, change: Change, old: u64) -> Option<u64>
+fn write_record<M: Makes>(
+    lines: &mut M,
+    core: &mut Core,
+    change: Change,
+    old: u64,
+) -> Result<Option<u64>, M::Break>
     requires goes { M.goes lines.old }
     requires idle { core.old.stage ≡ Idle }
     requires machine { M.machine lines.old ≡ at_stage core.old (ClaimingRecord change old) }
     ensures goes { M.goes lines.new }
     ensures leads { M.leads lines.old lines.new }
-    ensures due { IfSome result (λ at. M.machine lines.new ≡ at_stage core.new (Exchanging change old at)) }
-    ensures refused { IfNone result ((M.machine lines.new ≡ pool_refused core.old) × (core.new.pool_spent ≡ true)) }
+    ensures due { IfOk result (λ put. IfSome put (λ at.
+        M.machine lines.new ≡ at_stage core.new (Exchanging change old at))) }
+    ensures refused { IfOk result (λ put.
+        IfNone put ((M.machine lines.new ≡ pool_refused core.old) × (core.new.pool_spent ≡ true))) }
     ensures core { core.new ≡ record core.old { pool_spent = core.new.pool_spent } }
 {
     let sizes = core.sizes();
     let size = core.record_size();
-    let at = lines.make(Step::Add(sizes.pool_counter(), size));
+    let at = lines.make(Step::Add(sizes.pool_counter(), size))?;
     if at + size > u64::from(sizes.pool_end()) {
         core.mark_pool();
-        return None;
+        return Ok(None);
     }
-    store_word(lines, core, change, old, at, 0);
-    store_word(lines, core, change, old, at, 1);
-    store_word(lines, core, change, old, at, 2);
+    store_word(lines, core, change, old, at, 0)?;
+    store_word(lines, core, change, old, at, 1)?;
+    store_word(lines, core, change, old, at, 2)?;
     for k in plain_record_size()..size {
-        store_word(lines, core, change, old, at, k);
+        store_word(lines, core, change, old, at, k)?;
     }
-    Some(at)
+    Ok(Some(at))
 }
 
 // Stores word `k` of the record.
 #[inline(always)]
-fn store_word<M: Makes>(lines: &mut M, core: &Core, change: Change, old: u64, at: u64, k: u64)
+fn store_word<M: Makes>(
+    lines: &mut M,
+    core: &Core,
+    change: Change,
+    old: u64,
+    at: u64,
+    k: u64,
+) -> Result<(), M::Break>
     requires goes { M.goes lines.old }
     requires machine { M.machine lines.old ≡ at_stage core.now (writing_stage core.now change old at k) }
     requires more { k < record_size core.now }
     requires fits { at + k < 2 ^ 32 }
     ensures goes { M.goes lines.new }
     ensures leads { M.leads lines.old lines.new }
-    ensures machine { M.machine lines.new ≡ at_stage core.now (writing_stage core.now change old at (k + 1)) }
+    ensures machine { OnOk result
+        (M.machine lines.new ≡ at_stage core.now (writing_stage core.now change old at (k + 1))) }
 {
     let word = core.record_word(change, old, at, k);
-    lines.make(Step::Store((at + k) as u32, word));
+    lines.make(Step::Store((at + k) as u32, word))?;
+    Ok(())
 }

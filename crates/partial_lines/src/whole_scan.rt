@@ -1,6 +1,6 @@
 //! A scan in straight lines, behind its first step. Its embedded scan is made by its own machine, in loops.
 
-ghost use Rattle.std.specs.Prelude.{◌≡◌, ◌<◌, ◌+◌, ◌^◌, length, map, slice_index, false, Some, IfSome, IfNone, IfOk, IfErr};
+ghost use Rattle.std.specs.Prelude.{◌≡◌, ◌<◌, ◌+◌, ◌^◌, length, map, slice_index, false, Some, IfSome, IfNone, IfOk, IfErr, OnOk};
 ghost use Rattle.partial_words.specs.Announcement.{announcement_size};
 ghost use Rattle.partial_machine.specs.declared.stage.Stage.TheVariants.{Idle, StoringAnnouncement, Scanning};
 ghost use Rattle.partial_machine.specs.Machine.{advance, at_stage, begin_joining, reply_of};
@@ -31,7 +31,8 @@ pub struct Scanned {
 ///
 /// # Errors
 /// [`Refused::PoolSpent`] when the announcement lies past the end of the pool, and [`Refused::SlotsSpent`] when
-/// no slot is left for it: the port is marked, and `into` is unchanged.
+/// no slot is left for it: the port is marked, and `into` is unchanged. The outer one is [`Makes::Break`], when
+/// `lines` break the call off: `into` is unchanged, or has the values.
 #[inline(always)]
 pub fn scan<M: Makes>(
     lines: &mut M,
@@ -39,7 +40,7 @@ pub fn scan<M: Makes>(
     which: &[u32],
     at: u64,
     into: &mut [u64],
-) -> Result<Scanned, Refused>
+) -> Result<Result<Scanned, Refused>, M::Break>
     requires goes { M.goes lines.old }
     requires idle { core.old.stage ≡ Idle }
     requires sound { IsSound core.old }
@@ -48,38 +49,39 @@ pub fn scan<M: Makes>(
     requires lengths { length into.old ≡ length which.now }
     ensures goes { M.goes lines.new }
     ensures leads { M.leads lines.old lines.new }
-    ensures replies { reply_of (M.machine lines.new) ≡ Some (scan_reply result) }
-    ensures asked { (M.machine lines.new).asked ≡ which.now }
-    ensures rows { core.new.rows ≡ (M.machine lines.new).rows }
-    ensures rests { RestsLike (M.machine lines.new) core.new }
-    ensures copied { IfOk result (λ _. into.new ≡ map (slice_index core.new.rows.values) which.now) }
-    ensures unchanged { IfErr result (λ _. into.new ≡ into.old) }
+    ensures replies { IfOk result (λ made. reply_of (M.machine lines.new) ≡ Some (scan_reply made)) }
+    ensures asked { OnOk result ((M.machine lines.new).asked ≡ which.now) }
+    ensures rows { OnOk result (core.new.rows ≡ (M.machine lines.new).rows) }
+    ensures rests { OnOk result (RestsLike (M.machine lines.new) core.new) }
+    ensures copied { IfOk result (λ made. IfOk made (λ _.
+        into.new ≡ map (slice_index core.new.rows.values) which.now)) }
+    ensures unchanged { IfOk result (λ made. IfErr made (λ _. into.new ≡ into.old)) }
 {
     let sizes = core.sizes();
     let size = announcement_size(which.len() as u64);
     if at + size > u64::from(sizes.pool_end()) {
         core.mark_pool();
-        return Err(Refused::PoolSpent);
+        return Ok(Err(Refused::PoolSpent));
     }
     for k in 0..size {
-        store_index(lines, which, at, k);
+        store_index(lines, which, at, k)?;
     }
-    let Some(slot) = join(lines, sizes, at) else {
+    let Some(slot) = join(lines, sizes, at)? else {
         core.mark_slots();
-        return Err(Refused::SlotsSpent);
+        return Ok(Err(Refused::SlotsSpent));
     };
-    let embedded = scan_asked(lines, core, which);
+    let embedded = scan_asked(lines, core, which)?;
     core.copy_values(which, into);
-    lines.make(Step::Store(sizes.slot_word(slot), 1));
-    Ok(Scanned {
+    lines.make(Step::Store(sizes.slot_word(slot), 1))?;
+    Ok(Ok(Scanned {
         collects: embedded.collects(),
         borrowed: embedded.borrowed(),
-    })
+    }))
 }
 
 // Stores word `k` of the announcement of these positions, whose block begins at word `at`.
 #[inline(always)]
-fn store_index<M: Makes>(lines: &mut M, which: &[u32], at: u64, k: u64)
+fn store_index<M: Makes>(lines: &mut M, which: &[u32], at: u64, k: u64) -> Result<(), M::Break>
     requires goes { M.goes lines.old }
     requires asked { (M.machine lines.old).asked ≡ which.now }
     requires stage { (M.machine lines.old).stage ≡ StoringAnnouncement at k }
@@ -87,31 +89,32 @@ fn store_index<M: Makes>(lines: &mut M, which: &[u32], at: u64, k: u64)
     requires fits { at + k < 2 ^ 32 }
     ensures goes { M.goes lines.new }
     ensures leads { M.leads lines.old lines.new }
-    ensures machine { M.machine lines.new ≡ announcing_scan (M.machine lines.old) at (k + 1) }
+    ensures machine { OnOk result (M.machine lines.new ≡ announcing_scan (M.machine lines.old) at (k + 1)) }
 {
     let word = announcement_block_word(which, k as usize);
-    lines.make(Step::Store((at + k) as u32, word));
+    lines.make(Step::Store((at + k) as u32, word))?;
+    Ok(())
 }
 
 // Joins the active set with the announcement at word `at`. Returns its slot, or `None` when no slot is
 // left.
 #[inline(always)]
-fn join<M: Makes>(lines: &mut M, sizes: Sizes, at: u64) -> Option<u32>
+fn join<M: Makes>(lines: &mut M, sizes: Sizes, at: u64) -> Result<Option<u32>, M::Break>
     requires goes { M.goes lines.old }
     requires sizes { (M.machine lines.old).sizes ≡ sizes }
     requires machine { M.machine lines.old ≡ begin_joining (M.machine lines.old) at }
     ensures goes { M.goes lines.new }
     ensures leads { M.leads lines.old lines.new }
-    ensures slot { IfSome result (λ slot. slot < sizes.slots) }
-    ensures joined { IfSome result (λ slot.
-        M.machine lines.new ≡ at_stage (scan_begun (scan_joined (M.machine lines.old) at slot) false) Scanning) }
-    ensures spent { IfNone result (M.machine lines.new ≡ not_joined (M.machine lines.old) at) }
+    ensures slot { IfOk result (λ joined. IfSome joined (λ slot. slot < sizes.slots)) }
+    ensures joined { IfOk result (λ joined. IfSome joined (λ slot.
+        M.machine lines.new ≡ at_stage (scan_begun (scan_joined (M.machine lines.old) at slot) false) Scanning)) }
+    ensures spent { IfOk result (λ joined. IfNone joined (M.machine lines.new ≡ not_joined (M.machine lines.old) at)) }
 {
-    let found = lines.make(Step::Add(sizes.slot_counter(), 1));
+    let found = lines.make(Step::Add(sizes.slot_counter(), 1))?;
     if found >= u64::from(sizes.slots()) {
-        return None;
+        return Ok(None);
     }
     let slot = found as u32;
-    lines.make(Step::Store(sizes.slot_word(slot), at));
-    Some(slot)
+    lines.make(Step::Store(sizes.slot_word(slot), at))?;
+    Ok(Some(slot))
 }

@@ -1,5 +1,5 @@
 -- A call of a port: how it begins at the seat that was taken out, and what it leaves once the seat is put back.
-use Rattle.partial_long_lived.proofs.Common.{ℕ, zero, suc, None, append-nil, ◌≡◌, ◌<◌, ◌≤◌, ◌++◌, ◌∷◌, [], Option, Some, IfSome, Bool, true, false, true≢false, List, length, ap, ◌+◌, take, refl, sym, subst, ◌∙◌, inl, inr, arith, nat_lt, slice_index, AllByRecursion, list_all, option_map, take-append_seam, TableId, Applied, IsEntryFor, IsLegal, LegalNotes, Noted, seen_by, AllByRecursion-get, LegalNotes-last, Layout, CoreState, fresh, AreComponentIndices, IsSound, is_sound_at, IsBetween, IsMarkedLike, core_of, is_at_rest, public_stamp, Refused, Component, Overtaken, NoArena, EpochsSpent, About, Stand, Seating, Began, SeatedPort, one_in, IsOf, MemoryView, PortView, port_view, seen_in, IsStandOf, IsSeatingOf, IsResting, SeatGoes, IsHeld, epoch_at, port_at, HasCome, HasNotedRead, IsIdle, EpochChanged, NotChanged, HasNotedScan, RestsUnmarked, ScanMade, noted_scan, NotScanned, RestsAt, Result, Ok, Err, IfOk, IfErr, Scanned, MadeNamed, ScannedNamed, ScannedStamped, Contains, is_some}
+use Rattle.partial_long_lived.proofs.Common.{ℕ, zero, suc, None, append-nil, ◌≡◌, ◌<◌, ◌≤◌, ◌++◌, ◌∷◌, [], Option, Some, IfSome, Bool, true, false, true≢false, List, length, ap, ◌+◌, take, refl, sym, subst, ◌∙◌, inl, inr, arith, nat_lt, slice_index, AllByRecursion, list_all, option_map, take-append_seam, TableId, Applied, IsEntryFor, IsLegal, LegalNotes, Noted, seen_by, AllByRecursion-get, LegalNotes-last, Layout, CoreState, fresh, AreComponentIndices, IsSound, is_sound_at, IsMarkedLike, core_of, is_at_rest, public_stamp, Refused, Component, Overtaken, NoArena, EpochsSpent, About, Stand, Began, SeatedPort, IsOf, MemoryView, PortView, port_view, seen_in, SeatGoes, IsHeld, epoch_at, port_at, HasCome, HasNotedRead, IsIdle, EpochChanged, NotChanged, HasNotedScan, RestsUnmarked, ScanMade, noted_scan, NotScanned, RestsAt, MadeNamed, ScannedNamed, ScannedStamped, Contains, is_some}
 use Rattle.partial_model.specs.declared.call.Call.TheVariants as call
 use Rattle.partial_model.specs.declared.call.Answer.TheVariants as answer
 use Rattle.partial_model.specs.declared.call.Note.TheVariants as note
@@ -7,17 +7,16 @@ use Rattle.partial_model.proofs.Decisions.{Decides-list_all, Decides-nat_lt}
 use Rattle.partial_active.specs.GetSet.{fresh_set as unmarked}
 use Rattle.partial_long_lived.specs.Calls as calls
 use Rattle.partial_long_lived.proofs.Coming.{goes_on}
-use Rattle.partial_long_lived.proofs.Resting.{kept_is, rests_kept, taken_is}
 
--- the port of the seat that was taken out, as callers see it
-pub view_taken : (m : MemoryView) (s : Seating) (t : Stand) (p : PortView) → IsStandOf s t → port_view s.badge.table_id (one_in s.badge.views) ≡ p → IsOf m p → port_view m.table (port_at t) ≡ p
-view_taken m s t p k view own =
-    let table : s.badge.table_id ≡ m.table = ap (λ (q : PortView). q.memory.table) view ∙ ap (λ (v : MemoryView). v.table) own in
-    ap (port_view m.table) (taken_is s t k) ∙ ap (λ (i : TableId). port_view i (one_in s.badge.views)) (sym table) ∙ view
+-- the port of a seat in a call, as callers saw it before
+pub view_before : (m : MemoryView) (t : Stand) (p : PortView) → port_view t.seat.table_id (port_at t) ≡ p → IsOf m p → port_view m.table (port_at t) ≡ p
+view_before m t p view own =
+    let table : t.seat.table_id ≡ m.table = ap (λ (q : PortView). q.memory.table) view ∙ ap (λ (v : MemoryView). v.table) own in
+    ap (λ (i : TableId). port_view i (port_at t)) (sym table) ∙ view
 
--- and that of the seat that was put back
-pub view_kept : (m : MemoryView) (t : Stand) (s : Seating) → IsHeld m.table m.about t → IsSeatingOf t s → port_view m.table (port_at t) ≡ port_view s.badge.table_id (one_in s.badge.views)
-view_kept m t s h k = ap (λ (i : TableId). port_view i (port_at t)) (sym (k.table ∙ h.fits)) ∙ ap (port_view s.badge.table_id) (sym (kept_is t s k))
+-- and as they see it behind the call
+pub view_behind : (m : MemoryView) (t : Stand) → IsHeld m.table m.about t → port_view m.table (port_at t) ≡ port_view t.seat.table_id (port_at t)
+view_behind m t h = ap (λ (i : TableId). port_view i (port_at t)) (sym h.fits)
 
 -- what callers see of the steps of a call
 pub goes_seen : (table : TableId) (x y : SeatedPort) (new : List Noted) → SeatGoes x y → y.notes ≡ x.notes ++ new → calls.Goes (port_view table x) (port_view table y) new
@@ -44,38 +43,16 @@ has_read_seen table s t j value stamp w inside =
       },
     )
 
--- what holds of the port as its seat was taken out, and as it was put back, is what callers see
-module _ (m : MemoryView) (s : Seating) (t u : Stand) (s' : Seating) (p : PortView) (k : IsStandOf s t) (view : port_view s.badge.table_id (one_in s.badge.views) ≡ p) (own : IsOf m p)
-    (held : IsHeld m.table m.about u) (k' : IsSeatingOf u s') where
-  pub callers_see : (P : PortView → PortView → Type 0) → P (port_view m.table (port_at t)) (port_view m.table (port_at u)) → P p (port_view s'.badge.table_id (one_in s'.badge.views))
-  callers_see P is = subst (λ (a : PortView). P a (port_view s'.badge.table_id (one_in s'.badge.views))) (view_taken m s t p k view own)
-      (subst (λ (a : PortView). P (port_view m.table (port_at t)) a) (view_kept m u s' held k') is)
+-- what holds of the port as its call begins and as it ends is what callers see
+module _ (m : MemoryView) (t u : Stand) (p : PortView) (view : port_view t.seat.table_id (port_at t) ≡ p) (own : IsOf m p) (held : IsHeld m.table m.about u) where
+  pub callers_see : (P : PortView → PortView → Type 0) → P (port_view m.table (port_at t)) (port_view m.table (port_at u)) → P p (port_view u.seat.table_id (port_at u))
+  callers_see P is = subst (λ (a : PortView). P a (port_view u.seat.table_id (port_at u))) (view_before m t p view own)
+      (subst (λ (a : PortView). P (port_view m.table (port_at t)) a) (view_behind m u held) is)
 
-  pub read_seen : (j value stamp : ℕ) → HasNotedRead t u j value stamp → j < m.about.sizes.m → calls.Reads p j value stamp (port_view s'.badge.table_id (one_in s'.badge.views))
+  pub read_seen : (j value stamp : ℕ) → HasNotedRead t u j value stamp → j < m.about.sizes.m → calls.Reads p j value stamp (port_view u.seat.table_id (port_at u))
   read_seen j value stamp w inside =
       let about : (port_at t).about ≡ m.about = sym w.come.goes.about ∙ held.own in
       callers_see (λ (a b : PortView). calls.Reads a j value stamp b) (has_read_seen m.table t u j value stamp w (subst (λ (a : About). j < a.sizes.m) (sym about) inside))
-
--- a port between two calls rests in the seat that is taken out
-pub rests_taken : (s : Seating) (t : Stand) (core : CoreState) (spent : Bool) → IsResting s core spent → IsStandOf s t → RestsAt t core spent
-rests_taken s t core spent w k =
-    let is = sym (taken_is s t k) in record {
-      free = record { stands = ap (λ (x : SeatedPort). x.port.control.entering) (taken_is s t k) ∙ w.stands; free = ap (λ (x : SeatedPort). x.port.control.owned) (taken_is s t k) ∙ w.free };
-      idle = w.idle;
-      sound = w.sound;
-      sizes = subst (λ (x : SeatedPort). core.sizes ≡ x.about.sizes) is w.sizes;
-      port = w.port ∙ sym k.number;
-      between = λ no. subst (λ (x : SeatedPort). IsBetween x.port.part core × (x.port.over ≡ false) × (core.pool_spent ≡ false) × (core.slots_spent ≡ false)) is (w.between no);
-    }
-
--- the seat that is taken out has its port's number
-pub rests_number : (s : Seating) (t : Stand) (core : CoreState) (spent : Bool) → IsResting s core spent → IsStandOf s t → t.number ≡ (port_at t).number
-rests_number s t core spent w k = k.number ∙ w.number ∙ ap (λ (x : SeatedPort). x.number) (sym (taken_is s t k))
-
--- and rests once it is put back
-pub rests_put : (m : MemoryView) (t : Stand) (s : Seating) (core : CoreState) (spent : Bool) → IsHeld m.table m.about t → IsSeatingOf t s → RestsAt t core spent → IsResting s core spent
-rests_put m t s core spent h k w =
-    rests_kept m.table m.about t s core spent h k w.free.stands w.free.free w.idle w.sound (w.sizes ∙ ap (λ (a : About). a.sizes) h.own) w.port w.between
 
 -- a port that has come to no later epoch rests with the machine that it had
 pub rests_here : (s t : Stand) (core : CoreState) (spent : Bool) → HasCome s t → RestsAt s core spent → t.epoch ≡ s.epoch → RestsAt t core spent
@@ -312,38 +289,26 @@ not_scanned_seen table s t which Overtaken is w inside = absurd w.why
 not_scanned_seen table s t which NoArena is w inside = (inside, goes_seen table (port_at s) (port_at t) [] w.goes (w.notes ∙ sym (append-nil (port_at s).notes)), w.why.1)
 not_scanned_seen table s t which EpochsSpent is w inside = (inside, goes_seen table (port_at s) (port_at t) [] w.goes (w.notes ∙ sym (append-nil (port_at s).notes)), ap (λ (n : ℕ). n + 1) is ∙ w.why)
 
--- the same, from the seat that was taken out to the one that was put back
-module _ (m : MemoryView) (s : Seating) (t u : Stand) (s' : Seating) (p : PortView) (k : IsStandOf s t) (view : port_view s.badge.table_id (one_in s.badge.views) ≡ p) (own : IsOf m p)
-    (held : IsHeld m.table m.about u) (k' : IsSeatingOf u s') (which : List ℕ) (below : AllByRecursion (λ j. j < m.about.sizes.m) which) where
+-- the same, as callers see the port
+module _ (m : MemoryView) (t u : Stand) (p : PortView) (view : port_view t.seat.table_id (port_at t) ≡ p) (own : IsOf m p) (held : IsHeld m.table m.about u) (which : List ℕ) (below : AllByRecursion (λ j. j < m.about.sizes.m) which) where
   below_there : (port_at u).about ≡ (port_at t).about → AllByRecursion (λ j. j < (port_at t).about.sizes.m) which
   below_there same = subst (λ (a : About). AllByRecursion (λ j. j < a.sizes.m) which) (sym (sym same ∙ held.own)) below
 
   pub scan_answered : (values : List ℕ) (collects : ℕ) (borrowed public : Option ℕ) → HasNotedScan t u which values collects borrowed →
       public ≡ option_map (public_stamp u.epoch) borrowed → 0 < length which →
-      calls.Scans p which values (record { collects = collects; borrowed = public }) (port_view s'.badge.table_id (one_in s'.badge.views))
+      calls.Scans p which values (record { collects = collects; borrowed = public }) (port_view u.seat.table_id (port_at u))
   scan_answered values collects borrowed public w is some =
-      callers_see m s t u s' p k view own held k' (λ (a b : PortView). calls.Scans a which values (record { collects = collects; borrowed = public }) b)
+      callers_see m t u p view own held (λ (a b : PortView). calls.Scans a which values (record { collects = collects; borrowed = public }) b)
       (has_scanned_seen m.table t u which values collects borrowed public w is some (below_there w.goes.about))
 
-  pub scan_refused : (cause : Refused) → NotScanned t u cause → calls.IsRefused p (call.Scan which) cause (port_view s'.badge.table_id (one_in s'.badge.views))
+  pub scan_refused : (cause : Refused) → NotScanned t u cause → calls.IsRefused p (call.Scan which) cause (port_view u.seat.table_id (port_at u))
   scan_refused cause w =
-      callers_see m s t u s' p k view own held k' (λ (a b : PortView). calls.IsRefused a (call.Scan which) cause b)
+      callers_see m t u p view own held (λ (a b : PortView). calls.IsRefused a (call.Scan which) cause b)
       (not_scanned_seen m.table t u which cause (sym held.epoch) w (below_there w.goes.about))
 
   pub stamped_answered : (values : List ℕ) (collects : ℕ) (borrowed public : Option ℕ) (stamps : List ℕ) → ScannedStamped t u which values collects borrowed stamps →
       public ≡ option_map (public_stamp u.epoch) borrowed → 0 < length which →
-      calls.ScansStamped p which values stamps (record { collects = collects; borrowed = public }) (port_view s'.badge.table_id (one_in s'.badge.views))
+      calls.ScansStamped p which values stamps (record { collects = collects; borrowed = public }) (port_view u.seat.table_id (port_at u))
   stamped_answered values collects borrowed public stamps w is some =
-      callers_see m s t u s' p k view own held k' (λ (a b : PortView). calls.ScansStamped a which values stamps (record { collects = collects; borrowed = public }) b)
+      callers_see m t u p view own held (λ (a b : PortView). calls.ScansStamped a which values stamps (record { collects = collects; borrowed = public }) b)
       (has_stamped_seen m.table t u which values collects borrowed public stamps w is some (below_there w.scanned.goes.about))
-
--- a scan leaves the shape of the memory
-pub scan_shape : (s t : Stand) (which values : List ℕ) (r : Result Scanned Refused) → IfOk r (λ q. HasNotedScan s t which values q.collects q.borrowed) → IfErr r (NotScanned s t) → t.shape ≡ s.shape
-scan_shape s t which values (Ok q) w e = w.shape
-scan_shape s t which values (Err cause) w e = e.shape
-
--- so does one that tells stamps
-pub stamped_shape : (s t : Stand) (which values stamps : List ℕ) (r : Result Scanned Refused) → IfOk r (λ q. ScannedStamped s t which values q.collects q.borrowed stamps) → IfErr r (NotScanned s t) →
-    t.shape ≡ s.shape
-stamped_shape s t which values stamps (Ok q) w e = w.scanned.shape
-stamped_shape s t which values stamps (Err cause) w e = e.shape

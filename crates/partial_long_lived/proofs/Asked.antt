@@ -1,7 +1,7 @@
 -- The steps of a change of epoch, as its code asks for them.
-use Rattle.partial_long_lived.proofs.Common.{ℕ, ◌≡◌, ◌≢◌, ◌+◌, ◌-◌, ◌*◌, ◌%◌, ◌^◌, ◌<◌, ◌≤◌, ◌==◌, Bool, cond, Option, Some, IfSome, List, [], sym, ap, subst, ◌∙◌, inl, inr, arith, lt-ltb, either, Me, Allows, TableId, first_free, list_base, pool_base, opening_word, Place, Plan, arena_limit, at_word, base, entering_mark, marked, own_word, packed, seal, set_word, OwnedArena, Port, Stands, next_place, passing_port, below_whole, set_place, About, Stand, IsRuleKept, SeatedPort, one_of, plan_of, bare, shape_plan, SeatGoes, IsOne, tells, IsHeld, port_at, SeatGives, LoadsPort, PassesSealed, SeatPublishes, PutsPort, Seals, Sets, Takes, passed_at, unpacked, IsIdle, IsCarriedStamp, IsInitialValue, IsRight, IsFixedWord, MayPutPort, OfOwned, Owns, PutsBy, SetsLists, SetsNext, TakesBy, HasSetWords, initial_words, slot_counter, FindsClear}
+use Rattle.partial_long_lived.proofs.Common.{ℕ, ◌≡◌, ◌≢◌, ◌+◌, ◌-◌, ◌*◌, ◌%◌, ◌^◌, ◌<◌, ◌≤◌, ◌==◌, Bool, cond, Option, Some, IfSome, List, [], sym, ap, subst, ◌∙◌, inl, inr, arith, lt-ltb, either, Me, Allows, TableId, first_free, list_base, opening_word, Place, Plan, arena_limit, at_word, base, entering_mark, marked, own_word, packed, seal, set_word, OwnedArena, Port, Stands, next_place, passing_port, below_whole, set_place, About, Stand, IsRuleKept, SeatedPort, one_of, plan_of, bare, shape_plan, SeatGoes, IsOne, tells, IsHeld, port_at, SeatGives, LoadsPort, PassesSealed, SeatPublishes, PutsPort, Seals, Sets, Takes, passed_at, unpacked, IsIdle, IsCarriedStamp, IsRight, IsFixedWord, MayPutPort, OfOwned, Owns, PutsBy, SetsLists, SetsNext, TakesBy, HasSetWords, initial_words, slot_counter, FindsClear, behind_value, behind_values, value_word, initial_record, SetsValue, FoundValue}
 use Rattle.partial_long_lived.proofs.Changes.{may_give, may_load_port, may_pass, may_put, may_seal, may_take}
-use Rattle.partial_long_lived.proofs.Sets.{may_find_clear, may_set_over_lists, may_set_same, may_set_stamp, may_set_value}
+use Rattle.partial_long_lived.proofs.Sets.{may_find_clear, may_set_over_lists, may_set_same, may_set_stamp, may_set_value, value_at}
 use Rattle.partial_long_lived.proofs.Publishes.{may_publish}
 use Rattle.partial_long_lived.proofs.Standing.{base_is, place_is}
 
@@ -139,12 +139,8 @@ module _ (table : TableId) (about : About) (s : Stand) (h : IsHeld table about s
       by (inl r) =
           let own = h.own in
           let t : IsFixedWord about.sizes v o.set = subst (λ (a : About). IsFixedWord a.sizes v o.set) own r in
-          may_set_same about slots id s.seat.me h.one h.own h.known o v works.is works.clean passed t.within t.free t.is
-      by (inr (inl r)) =
-          let t : IsInitialValue about.sizes x.found v o.set = subst (λ (a : About). IsInitialValue a.sizes x.found v o.set) h.own r in
-          subst (λ v. Allows (IsRuleKept about) slots id s.seat.me (set_word e o.arena o.set) (λ n. v) (tells (Sets o (o.set + 1)) s.seat.me)) (sym t.is)
-          (may_set_value about slots id s.seat.me h.one h.own h.known o t.f works.is works.clean passed t.found_is t.at t.inside)
-      by (inr (inr r)) =
+          may_set_same about slots id s.seat.me h.one h.own h.known o v works.is works.clean passed t.within t.is
+      by (inr r) =
           let t : IsCarriedStamp about.sizes x.found v o.set = subst (λ (a : About). IsCarriedStamp a.sizes x.found v o.set) h.own r in
           subst (λ v. Allows (IsRuleKept about) slots id s.seat.me (set_word e o.arena o.set) (λ n. v) (tells (Sets o (o.set + 1)) s.seat.me)) (sym t.is)
           (may_set_stamp about slots id s.seat.me h.one h.own h.known o t.f works.is works.clean passed t.found_is t.at t.inside)
@@ -153,11 +149,25 @@ module _ (table : TableId) (about : About) (s : Stand) (h : IsHeld table about s
       w ≡ set_word (shape_plan s.shape bare) y i → Allows (IsRuleKept about) slots id s.seat.me w (λ n. v) (tells SetsLists s.seat.me)
   set_lists_asked y i works passed last v right slots id w word =
       let o = works.owned in
-      of_owned about slots id w (λ n. v) s.seat.me (λ o. Sets o (pool_base x.about.sizes)) o works.is
-      (subst (λ i. Allows (IsRuleKept about) slots id s.seat.me i (λ n. v) (tells (Sets o (pool_base x.about.sizes)) s.seat.me))
+      of_owned about slots id w (λ n. v) s.seat.me (λ o. Sets o (behind_values x.about.sizes 0)) o works.is
+      (subst (λ i. Allows (IsRuleKept about) slots id s.seat.me i (λ n. v) (tells (Sets o (behind_values x.about.sizes 0)) s.seat.me))
       (ap (λ y. set_word e y o.set) works.arena ∙ ap (set_word e y) works.set ∙ sym (set_is y i w word))
-      (subst (λ (a : About). Allows (IsRuleKept about) slots id s.seat.me (set_word e o.arena o.set) (λ n. v) (tells (Sets o (pool_base a.sizes)) s.seat.me)) (sym h.own)
+      (subst (λ (a : About). Allows (IsRuleKept about) slots id s.seat.me (set_word e o.arena o.set) (λ n. v) (tells (Sets o (behind_values a.sizes 0)) s.seat.me)) (sym h.own)
       (may_set_over_lists about slots id s.seat.me h.one h.own h.known o v works.is works.clean passed (ap (λ n. n + 1) works.set ∙ last) right)))
+
+  pub set_value_asked : (y j v : ℕ) → HasSetWords s y about.ports (behind_values about.sizes j) → about.sizes.m ≤ x.port.passed → j < about.sizes.m → FoundValue s j v → (slots id w : ℕ) →
+      w ≡ set_word (shape_plan s.shape bare) y (value_word (initial_record about.sizes j)) → Allows (IsRuleKept about) slots id s.seat.me w (λ n. v) (tells SetsValue s.seat.me)
+  set_value_asked y j v works passed low found slots id w word =
+      let o = works.owned in
+      let at : o.set ≡ value_word (initial_record about.sizes j) = works.set ∙ value_at about.sizes j low in
+      let component = found.component in
+      of_owned about slots id w (λ n. v) s.seat.me (λ o. Sets o (behind_value x.about.sizes o.set)) o works.is
+      (subst (λ i. Allows (IsRuleKept about) slots id s.seat.me i (λ n. v) (tells (Sets o (behind_value x.about.sizes o.set)) s.seat.me))
+      (ap (λ y. set_word e y o.set) works.arena ∙ ap (set_word e y) at ∙ sym (set_is y (value_word (initial_record about.sizes j)) w word))
+      (subst (λ (a : About). Allows (IsRuleKept about) slots id s.seat.me (set_word e o.arena o.set) (λ n. v) (tells (Sets o (behind_value a.sizes o.set)) s.seat.me)) (sym h.own)
+      (subst (λ v. Allows (IsRuleKept about) slots id s.seat.me (set_word e o.arena o.set) (λ n. v) (tells (Sets o (behind_value about.sizes o.set)) s.seat.me)) (sym found.value)
+      (may_set_value about slots id s.seat.me h.one h.own h.known o found.found works.is works.clean passed found.is
+      (at ∙ ap (λ j. value_word (initial_record about.sizes j)) (sym component)) (omega (arith, component, low))))))
 
   -- the load of the slot counter
   pub clear_there : (y w : ℕ) → y < about.arenas → w ≡ base (shape_plan s.shape bare) y + slot_counter s.shape.sizes → w < table.words

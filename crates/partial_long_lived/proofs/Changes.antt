@@ -1,5 +1,5 @@
 -- The steps of a change of epoch are allowed.
-use Rattle.partial_long_lived.proofs.Common.{ℕ, ◌≡◌, ◌≢◌, ◌+◌, ◌-◌, ◌%◌, ◌^◌, ◌<◌, ◌≤◌, ◌==◌, ◌⊎◌, Bool, true, false, cond, Option, Some, None, List, get_or, set, refl, sym, ap, subst, ◌∙◌, inl, inr, arith, nat_lt, cases_lt, lt-ltb, eqb_tells, get_or-set_other, some_same, either, Me, Allows, put, IsPlace, Place, Plan, at_word, base, component_words, control_words, entering_mark, marked, own_word, packed, seal, Control, Entering, OwnedArena, Port, Stands, Marks, Loaded, IsPlaceWord, MayPut, Beside, LawfulEpochs, place_now, KeepsTime, passing_port, cleaner, having_given, having_loaded, just_taken, owning_port, gives_stay_lawful, loaded_marks_keep_time, marks_are_loaded, others_are_elsewhere, puts_keep_time, puts_stay_lawful, sealed_passes_stay_lawful, seals_stay_lawful, takes_stay_lawful, at_of, not_below, About, Began, IsRuleKept, IsSince, SeatedPort, one_of, plan_of, IsSeatKnown, IsOne, tells, SeatGives, LoadsPort, PassesSealed, PutsPort, Seals, Takes, elsewhere, passed_at, port_loaded, port_put, taken_at, unpacked}
+use Rattle.partial_long_lived.proofs.Common.{ℕ, ◌≡◌, ◌≢◌, ◌+◌, ◌-◌, ◌%◌, ◌^◌, ◌<◌, ◌≤◌, ◌==◌, ◌⊎◌, Bool, true, false, cond, Option, Some, None, List, get_or, set, refl, sym, ap, subst, ◌∙◌, inl, inr, arith, nat_lt, cases_lt, lt-ltb, eqb_tells, get_or-set_other, some_same, either, Me, Allows, put, IsPlace, Place, Plan, at_word, base, component_words, control_words, entering_mark, marked, own_word, packed, seal, Control, Entering, OwnedArena, Port, Stands, Marks, Loaded, IsPlaceWord, MayPut, Beside, LawfulEpochs, place_now, KeepsTime, passing_port, at_next_port, having_given, having_loaded, just_taken, owning_port, gives_stay_lawful, loaded_marks_keep_time, marks_are_loaded, others_are_elsewhere, puts_keep_time, puts_stay_lawful, sealed_passes_stay_lawful, seals_stay_lawful, takes_stay_lawful, at_of, not_below, About, Began, IsRuleKept, IsSince, SeatedPort, one_of, plan_of, IsSeatKnown, IsOne, tells, SeatGives, LoadsPort, PassesSealed, PutsPort, Seals, Takes, elsewhere, passed_at, port_loaded, port_put, taken_at, unpacked}
 use Rattle.partial_long_lived.proofs.Asides.{IsQuiet}
 use Rattle.partial_long_lived.proofs.Control.{Quietly, lawful_itself, load_same, quietly, time_aside, unpacked_is}
 
@@ -93,8 +93,8 @@ module _ (e : Plan) (words : List ℕ) (ports : ℕ → Port) (b : Beside) (w : 
       let n : ℕ = get_or words (at_word o.clean) 0 in
       let there = unmarked_place e words ports b w o.clean more less in
       elim (eqb_tells (unpacked n).arena o.arena) [
-        | inl is ↦ subst (λ (c : Bool). LawfulEpochs e words (put k (owning_port (ports k) (cond c o (cleaner o))) ports) b) (sym is.0) same_owned
-        | inr ne ↦ subst (λ (c : Bool). LawfulEpochs e words (put k (owning_port (ports k) (cond c o (cleaner o))) ports) b) (sym ne.0)
+        | inl is ↦ subst (λ (c : Bool). LawfulEpochs e words (put k (owning_port (ports k) (cond c o (at_next_port o))) ports) b) (sym is.0) same_owned
+        | inr ne ↦ subst (λ (c : Bool). LawfulEpochs e words (put k (owning_port (ports k) (cond c o (at_next_port o))) ports) b) (sym ne.0)
             (others_are_elsewhere e words ports b k o (unpacked n) w below owned looked none more there.1 there.0 ne.1)
       ]
 
@@ -133,7 +133,7 @@ unmarked_puts c R o is none j m may =
     absurd cc
 
 -- the arena as it was, or its next port
-elsewhere_puts : (p : Port) (o : OwnedArena) (c : Bool) → p.control.owned ≡ Some o → (j : ℕ) (m : Place) → MayPut (owning_port p (cond c o (cleaner o))).control j m → MayPut p.control j m
+elsewhere_puts : (p : Port) (o : OwnedArena) (c : Bool) → p.control.owned ≡ Some o → (j : ℕ) (m : Place) → MayPut (owning_port p (cond c o (at_next_port o))).control j m → MayPut p.control j m
 elsewhere_puts p o true is j m may = record {
   owned = o;
   is = is;
@@ -142,7 +142,7 @@ elsewhere_puts p o true is j m may = record {
       ∙ may.mark;
   again = ap (λ (t : OwnedArena). t.again) (some_same may.is) ∙ may.again;
 }
-elsewhere_puts p o false is j m may = unmarked_puts (owning_port p (cleaner o)).control (MayPut p.control j m) (cleaner o) refl refl j m may
+elsewhere_puts p o false is j m may = unmarked_puts (owning_port p (at_next_port o)).control (MayPut p.control j m) (at_next_port o) refl refl j m may
 
 module _ {S : Type 0} (a : About) (slots id : ℕ) (me : Me S (List SeatedPort)) (one : IsOne me) (own : (one_of me.0).about ≡ a) (known : IsSeatKnown (one_of me.0)) where
   abbrev x : SeatedPort
@@ -282,7 +282,7 @@ module _ {S : Type 0} (a : About) (slots id : ℕ) (me : Me S (List SeatedPort))
       let there : ℕ = packed x.port.control.here in
       let v : ℕ = either (n == marked m) there n in
       let owned' : (ports k).control.owned ≡ Some o = ap (λ (p : Port). p.control.owned) (sym is) ∙ owned in
-      let P : Bool → Port = λ t. owning_port (ports k) (cond t (cleaner o) (cond (nat_lt n entering_mark) (elsewhere n o) o)) in
+      let P : Bool → Port = λ t. owning_port (ports k) (cond t (at_next_port o) (cond (nat_lt n entering_mark) (elsewhere n o) o)) in
       (elim (eqb_tells n (marked m)) [
         | inl won ↦
             let to = puts_stay_lawful e words ports b k o m w.epochs below owned' looked more none mark again won.1 in
@@ -293,8 +293,8 @@ module _ {S : Type 0} (a : About) (slots id : ℕ) (me : Me S (List SeatedPort))
               beside = b;
               log = refl;
               before = refl;
-              lawful = subst (λ v. LawfulEpochs e (set words i v) (put k (owning_port (ports k) (cleaner o)) ports) b) word to;
-              time = subst (λ v. KeepsTime e (set words i v) (put k (owning_port (ports k) (cleaner o)) ports) (place_now b) since) word in_time;
+              lawful = subst (λ v. LawfulEpochs e (set words i v) (put k (owning_port (ports k) (at_next_port o)) ports) b) word to;
+              time = subst (λ v. KeepsTime e (set words i v) (put k (owning_port (ports k) (at_next_port o)) ports) (place_now b) since) word in_time;
               others = λ q ne. refl;
               entering = old;
             })

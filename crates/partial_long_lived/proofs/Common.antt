@@ -33,7 +33,7 @@ pub use Rattle.partial_words.specs.declared.step.Step.TheVariants.{Load, Exchang
 pub use Rattle.partial_words.specs.Announcement.{announcement_size}
 pub use Rattle.partial_words.specs.Chain.{opening_word, initial_record_word}
 pub use Rattle.partial_words.specs.Layout.{Layout, first_free, list_base, pool_base, IsLayout, greatest_record, pool_end, list_counter, list_head, pool_counter, slot_counter, slot_word, total, initial_record, initial_words}
-pub use Rattle.partial_words.specs.Record.{value_word, plain_record_size, view_word}
+pub use Rattle.partial_words.specs.Record.{value_word, plain_record_size, view_word, prev_word}
 pub use Rattle.partial_words.specs.Step.{answer_of, word_of, words_after}
 pub use Rattle.partial_machine.specs.declared.stage.Change.{Change}
 pub use Rattle.partial_machine.specs.declared.stage.Reply.{Reply}
@@ -52,14 +52,14 @@ pub use Rattle.partial_core.proofs.Added.{not_below}
 pub use Rattle.partial_core.proofs.Laws.{lawful_records_are_within, ports_come_between, first_steps_make_calls, further_steps_make_calls}
 pub use Rattle.partial_epochs.specs.Control.{IsPlaceWord, MayPut, IsOld}
 pub use Rattle.partial_epochs.specs.Entering.{arrived_port, having_passed}
-pub use Rattle.partial_epochs.specs.Epochs.{Beside, LawfulEpochs, place_now, IsEpochPlan, IsStanding, numbers, controls, next_epoch_word}
+pub use Rattle.partial_epochs.specs.Epochs.{Beside, LawfulEpochs, place_now, IsEpochPlan, IsStanding, numbers, controls, next_epoch_word, HasClearRecords}
 pub use Rattle.partial_epochs.specs.History.{public_stamp, history_of, public_entry, public_log, stamp_limit, opening_behind, carried_after, carried_behind}
-pub use Rattle.partial_epochs.specs.Layout.{Place, Plan, arena_limit, at_word, base, entering_mark, marked, own_word, packed, seal, set_offset, set_word, unsealed, current_word, IsPlace, component_words, control_words, arena_words, IsSealed, plain, placed_step, whole, IsAsked, span}
+pub use Rattle.partial_epochs.specs.Layout.{Place, Plan, arena_limit, at_word, base, entering_mark, marked, own_word, packed, seal, set_offset, set_word, unsealed, current_word, IsPlace, component_words, control_words, arena_words, IsSealed, plain, placed_step, whole, span, IsToBeSet}
 pub use Rattle.partial_epochs.specs.Lists.{put, list_of}
 pub use Rattle.partial_epochs.specs.MachineSteps.{HaveSlots, MachineLeads, MeetsSeal, ends_over, MayClaim}
 pub use Rattle.partial_epochs.specs.Notes.{LawfulMemory, public_noted, one_history, having_seen, public_of, EpochReached, noting, ExpectedOne, IsEpochHistory}
 pub use Rattle.partial_epochs.specs.Opening.{OpensAll, first_beside, first_ports}
-pub use Rattle.partial_epochs.specs.Owning.{cleaner, having_given, having_loaded, just_taken, owning_port, having_looked}
+pub use Rattle.partial_epochs.specs.Owning.{at_next_port, having_given, having_loaded, just_taken, owning_port, having_looked}
 pub use Rattle.partial_epochs.specs.Ports.{Port, OwnedArena, Control, Entering, Epoch}
 pub use Rattle.partial_epochs.specs.Ports.Entering.{Stands, Marks, Loaded}
 pub use Rattle.partial_epochs.specs.Publishing.{next_place, IsWholeArena, having_published, next_beside, having_set, vacated, resting_arena}
@@ -84,14 +84,13 @@ pub use Rattle.partial_long_lived.specs.declared.answers.UpdatedIf.{UpdatedIf}
 pub use Rattle.partial_long_lived.specs.declared.error.Refused.{Refused}
 pub use Rattle.partial_long_lived.specs.declared.error.Refused.TheVariants.{Component, Overtaken, NoArena, EpochsSpent}
 pub use Rattle.partial_long_lived.specs.declared.rule.About.{About}
-pub use Rattle.partial_long_lived.specs.declared.seating.Seating.{Seating}
 pub use Rattle.partial_long_lived.specs.declared.shape.Shape.{Shape}
 pub use Rattle.partial_long_lived.specs.declared.stand.Stand.{Stand}
 pub use Rattle.partial_long_lived.specs.declared.update_if.Asked.{Asked}
 pub use Rattle.partial_long_lived.specs.Calls.{Differ, HasStampThen, StillStand, IsRefused, Scans, Updates, ScansStamped}
 pub use Rattle.partial_long_lived.specs.Closing.{Closes, IsPortOf}
 pub use Rattle.partial_long_lived.specs.Inner.Calls.{HasCome, HasNotedRead, IsIdle, StaysAt, EpochEntered, LookFound, HasValue, EpochSettled, MayEnter}
-pub use Rattle.partial_long_lived.specs.Inner.Changing.{EpochChanged, NotChanged, IsCarriedStamp, IsInitialValue, IsRight, IsFixedWord, MayPutPort, OfOwned, Owns, PutsBy, SetsLists, SetsNext, TakesBy, HasSetWords, Stays, HasTaken, HoldsMark, IsPast, Remains, IsCause, HasSamePart, HasLoadedPort, HasPassed}
+pub use Rattle.partial_long_lived.specs.Inner.Changing.{EpochChanged, NotChanged, IsCarriedStamp, IsRight, IsFixedWord, MayPutPort, OfOwned, Owns, PutsBy, SetsLists, SetsNext, TakesBy, HasSetWords, Stays, HasTaken, HoldsMark, IsPast, Remains, IsCause, HasSamePart, HasLoadedPort, HasPassed, SetsValue, behind_value, behind_values, FoundValue, HasControl}
 pub use Rattle.partial_long_lived.specs.Inner.Conditional.{EndedIf, HasCompared, HasLooked, IsExpected, IsPlaceOf, noted_if, outcome_of, HasUpdatedIf}
 pub use Rattle.partial_long_lived.specs.Inner.DoubleCollect.{AreCollected, HasGlanced, HasStayed, WasThere, AreInside, HadValue, HadValues, HasBegunCollect, MayNoteScan, NotesScan, noted_together, notes_scan}
 pub use Rattle.partial_long_lived.specs.Inner.Held.{IsHeld, epoch_at, port_at}
@@ -111,6 +110,5 @@ pub use Rattle.partial_long_lived.specs.Inner.Under.{CallMade, record_claim, IsG
 pub use Rattle.partial_long_lived.specs.Inner.Updates.{UpdateAttempted, ExchangeDue, ExpectsOne, IsEntryOf, IsOwnMachine, NotesNothing, PortStayed, noted_where, word_from, MayCall, CameBy, IsLate, UpdateEnded, noted_change, public_update, stamp_from, asked_change}
 pub use Rattle.partial_long_lived.specs.Ports.{IsOf, MemoryView, PortView, new_ports, port_view, seen_in, AreByOpened, Knows}
 pub use Rattle.partial_long_lived.specs.Resting.{IsResting}
-pub use Rattle.partial_long_lived.specs.Rule.{newcomers, Began, SeatedPort, one_in, Found, BeganInTime, IsFinal, IsLast, IsSeat, IsSeen, IsSince, plan_of, IsRuleKept, one_of, seats_of, first_port, flatten, further_ports, newcomer}
-pub use Rattle.partial_long_lived.specs.Seating.{IsStandOf, IsSeatingOf}
+pub use Rattle.partial_long_lived.specs.Rule.{newcomers, Began, SeatedPort, Found, BeganInTime, IsFinal, IsLast, IsSeat, IsSeen, IsSince, plan_of, IsRuleKept, one_of, seats_of, first_port, flatten, further_ports, newcomer}
 pub use Rattle.partial_long_lived.specs.Shape.{bare, shape_plan, IsShapeOf}

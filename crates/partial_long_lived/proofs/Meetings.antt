@@ -1,7 +1,7 @@
 -- How a meeting of two ports leaves each of them.
-use Rattle.partial_long_lived.proofs.Common.{◌≡◌, ◌<◌, ◌≤◌, List, [], length, take, inl, sym, ap, subst, ◌∙◌, arith, append-nil, take-append_seam, TableId, Applied, core_of, About, Stand, Seating, Began, SeatedPort, one_in, IsOf, MemoryView, PortView, port_view, seen_in, IsSeatingOf, IsStandOf, HasCome, IsIdle, StaysAt, EpochSettled, IsHeld, port_at, BeginsWith, HasMet, Observes}
+use Rattle.partial_long_lived.proofs.Common.{◌≡◌, ◌<◌, ◌≤◌, List, [], ◌∷◌, length, take, inl, sym, ap, subst, ◌∙◌, arith, append-nil, take-append_seam, Me, TableId, Applied, core_of, About, Stand, Began, SeatedPort, first_port, one_of, IsOf, MemoryView, PortView, port_view, seen_in, HasCome, IsIdle, StaysAt, EpochSettled, IsHeld, port_at, BeginsWith, IsOne, HasMet, Observes}
 use Rattle.partial_long_lived.specs.Calls as calls
-use Rattle.partial_long_lived.proofs.Answering.{callers_see, goes_seen, view_kept, view_taken}
+use Rattle.partial_long_lived.proofs.Answering.{callers_see, goes_seen, view_before, view_behind}
 use Rattle.partial_long_lived.proofs.Coming.{begins_on, come_on}
 
 -- a port that has seen all of its epoch stands where it stood
@@ -81,15 +81,34 @@ module _ (table : TableId) (about : About) (s o u p : Stand) (h : IsHeld table a
     }
 
 -- what a port has seen that had seen no less than another one, as callers see both
-pub all_seen : (m : MemoryView) (s : Seating) (t : Stand) (p : PortView) → IsStandOf s t → port_view s.badge.table_id (one_in s.badge.views) ≡ p → IsOf m p → (u : Stand) (s' : Seating) →
-    IsHeld m.table m.about u → IsSeatingOf u s' → BeginsWith (seen_in (port_at t).port) (seen_in (port_at u).port) → p.seen ≡ take (length p.seen) (port_view s'.badge.table_id (one_in s'.badge.views)).seen
-all_seen m s t p k view own u s' held k' all =
-    subst (λ (a : PortView). a.seen ≡ take (length a.seen) (port_view s'.badge.table_id (one_in s'.badge.views)).seen) (view_taken m s t p k view own)
-    (subst (λ (b : PortView). seen_in (port_at t).port ≡ take (length (seen_in (port_at t).port)) b.seen) (view_kept m u s' held k')
+pub all_seen : (m : MemoryView) (t : Stand) (p : PortView) → port_view t.seat.table_id (port_at t) ≡ p → IsOf m p → (u : Stand) → IsHeld m.table m.about u →
+    BeginsWith (seen_in (port_at t).port) (seen_in (port_at u).port) → p.seen ≡ take (length p.seen) (port_view u.seat.table_id (port_at u)).seen
+all_seen m t p view own u held all =
+    subst (λ (a : PortView). a.seen ≡ take (length a.seen) (port_view u.seat.table_id (port_at u)).seen) (view_before m t p view own)
+    (subst (λ (b : PortView). seen_in (port_at t).port ≡ take (length (seen_in (port_at t).port)) b.seen) (view_behind m u held)
     (sym (take-append_seam (seen_in (port_at t).port) all.0) ∙ ap (λ (l : List Applied). take (length (seen_in (port_at t).port)) l) (sym all.1)))
 
 -- a port that has met another one, as callers see it
-pub goes_met : (m : MemoryView) (s : Seating) (t o u : Stand) (s' : Seating) (p : PortView) → IsStandOf s t → port_view s.badge.table_id (one_in s.badge.views) ≡ p → IsOf m p → IsHeld m.table m.about u → IsSeatingOf u s' →
-    HasMet t o u → calls.Goes p (port_view s'.badge.table_id (one_in s'.badge.views)) []
-goes_met m s t o u s' p k view own held k' w =
-    callers_see m s t u s' p k view own held k' (λ (a b : PortView). calls.Goes a b []) (goes_seen m.table (port_at t) (port_at u) [] w.come.goes (w.notes ∙ sym (append-nil (port_at t).notes)))
+pub goes_met : (m : MemoryView) (t o u : Stand) (p : PortView) → port_view t.seat.table_id (port_at t) ≡ p → IsOf m p → IsHeld m.table m.about u → HasMet t o u →
+    calls.Goes p (port_view u.seat.table_id (port_at u)) []
+goes_met m t o u p view own held w =
+    callers_see m t u p view own held (λ (a b : PortView). calls.Goes a b []) (goes_seen m.table (port_at t) (port_at u) [] w.come.goes (w.notes ∙ sym (append-nil (port_at t).notes)))
+
+-- the port that is taken out of a seat of one is that port
+pub taken_same : (v : List SeatedPort) (me : Me (Unit {0}) (List SeatedPort)) → v ≡ one_of v ∷ [] → me ≡ (first_port v, []) → one_of me.0 ≡ one_of v
+taken_same v me one is = ap (λ (m : Me (Unit {0}) (List SeatedPort)). one_of m.0) is ∙ ap (λ (l : List SeatedPort). one_of (first_port l)) one
+
+-- and its seat is of one port
+pub taken_one : (v : List SeatedPort) (me : Me (Unit {0}) (List SeatedPort)) → v ≡ one_of v ∷ [] → me ≡ (first_port v, []) → IsOne me
+taken_one v me one is = (
+  ap (λ (m : Me (Unit {0}) (List SeatedPort)). m.0) is ∙ ap first_port one ∙ ap (λ (x : SeatedPort). x ∷ []) (sym (taken_same v me one is)),
+  ap (λ (m : Me (Unit {0}) (List SeatedPort)). m.1) is,
+)
+
+-- a meeting of ports that were taken out for it is one of the ports as they stood before
+pub met_out : (s t o p u : Stand) → IsIdle s → StaysAt s t → port_at t ≡ port_at s → port_at p ≡ port_at o → HasMet t p u → HasMet s o u
+met_out s t o p u idle kept same beside w = record {
+  come = come_on s t u (beside_come s t idle kept same) w.come;
+  notes = w.notes ∙ ap (λ (z : SeatedPort). z.notes) same;
+  all = subst (λ (z : SeatedPort). BeginsWith (seen_in z.port) (seen_in (port_at u).port)) beside w.all;
+}

@@ -1,5 +1,5 @@
 -- A memory as it opens, and its ports.
-use Rattle.partial_long_lived.proofs.Common.{AllByRecursion, ℕ, zero, suc, ◌≡◌, ◌+◌, ◌-◌, ◌<◌, ◌++◌, false, List, [], ◌∷◌, refl, sym, ap, subst, ◌∙◌, arith, append_assoc, Me, TableId, Opening, Layout, pool_base, CoreState, fresh, IsBetween, ports_come_between, Plan, base, OpensAll, About, Shape, Seating, SeatedPort, first_port, newcomer, newcomers, one_in, further_ports, plan_of, IsShapeOf, shape_plan, IsOf, PortView, new_ports, port_view, IsResting, IsSeatKnown, OpensShape}
+use Rattle.partial_long_lived.proofs.Common.{AllByRecursion, ℕ, zero, suc, ◌≡◌, ◌+◌, ◌-◌, ◌<◌, ◌++◌, false, List, [], ◌∷◌, length, refl, sym, ap, subst, ◌∙◌, arith, append_assoc, Me, TableId, Opening, Layout, pool_base, CoreState, fresh, IsBetween, ports_come_between, Plan, base, whole, OpensAll, About, Shape, Stand, SeatedPort, first_port, newcomer, newcomers, one_of, further_ports, plan_of, IsShapeOf, shape_plan, IsOf, PortView, new_ports, port_view, IsResting, IsSeatKnown, port_at, OpensShape}
 use Rattle.partial_long_lived.proofs.Opens.{newcomer_known}
 
 -- the opening words are those of what the memory is opened with
@@ -23,51 +23,57 @@ next_new : (a : About) (i n : ℕ) → i < n → newcomers a i (n - i) ≡ newco
 next_new a i n l = let e : n - i ≡ suc (n - (i + 1)) = omega arith in ap (newcomers a i) e
 
 -- a port that has made no call rests
-newcomer_rests : (a : About) (words : List ℕ) → OpensAll (plan_of a) words → (i : ℕ) → i < a.ports → (s : Seating) (core : CoreState) → s.badge.views ≡ (newcomer a i ∷ []) ∷ [] → IsShapeOf s.shape a →
-    s.number ≡ i → s.epoch ≡ 0 → s.arena ≡ 0 → s.base ≡ base (plan_of a) 0 → s.passed ≡ 0 → core ≡ fresh a.sizes i → IsResting s core false
-newcomer_rests a words w i low s core views shape number epoch arena base_is passed machine =
-    let is : one_in s.badge.views ≡ newcomer a i = ap one_in views in
-    let own : (one_in s.badge.views).about ≡ a = ap (λ (x : SeatedPort). x.about) is in
+newcomer_rests : (a : About) (words : List ℕ) → OpensAll (plan_of a) words → (i : ℕ) → i < a.ports → (s : Stand) (core : CoreState) → s.seat.table_id.words ≡ length words → s.seat.me ≡ (newcomer a i ∷ [], []) →
+    IsShapeOf s.shape a → s.number ≡ i → s.epoch ≡ 0 → s.arena ≡ 0 → s.base ≡ base (plan_of a) 0 → s.passed ≡ 0 → core ≡ fresh a.sizes i → IsResting s core false
+newcomer_rests a words w i low s core count me shape number epoch arena base_is passed machine =
+    let is : port_at s ≡ newcomer a i = ap (λ (m : Me (Unit {0}) (List SeatedPort)). one_of m.0) me in
+    let own : (port_at s).about ≡ a = ap (λ (x : SeatedPort). x.about) is in
     let between : IsBetween (newcomer a i).port.part core = subst (IsBetween (newcomer a i).port.part) (sym machine) (ports_come_between.0 a.sizes i) in
     record {
-      one = views ∙ ap (λ (x : SeatedPort). (x ∷ []) ∷ []) (sym is);
-      stands = ap (λ (x : SeatedPort). x.port.control.entering) is;
-      free = ap (λ (x : SeatedPort). x.port.control.owned) is;
-      known = subst IsSeatKnown (sym is) (newcomer_known a words w i low);
-      shape = subst (IsShapeOf s.shape) (sym own) shape;
-      number = number ∙ ap (λ (x : SeatedPort). x.number) (sym is);
-      epoch = epoch ∙ ap (λ (x : SeatedPort). x.port.control.here.epoch) (sym is);
-      arena = arena ∙ ap (λ (x : SeatedPort). x.port.control.here.arena) (sym is);
-      base = base_is ∙ ap (λ (b : About). base (plan_of b) 0) (sym own) ∙ ap (base (plan_of (one_in s.badge.views).about)) (sym arena);
-      passed = passed ∙ ap (λ (x : SeatedPort). x.port.passed) (sym is);
-      idle = between.idle;
-      sound = between.sound;
-      sizes = ap (λ (c : CoreState). c.sizes) machine ∙ ap (λ (b : About). b.sizes) (sym own);
-      port = ap (λ (c : CoreState). c.port) machine ∙ sym number;
-      between = λ fresh. (
-        subst (λ (x : SeatedPort). IsBetween x.port.part core) (sym is) between,
-        ap (λ (x : SeatedPort). x.port.over) is,
-        ap (λ (c : CoreState). c.pool_spent) machine,
-        ap (λ (c : CoreState). c.slots_spent) machine,
-      );
+      held = record {
+        fits = refl;
+        words = count ∙ w.count ∙ ap (λ (b : About). whole (plan_of b)) (sym own);
+        shape = subst (IsShapeOf s.shape) (sym own) shape;
+        one = (ap (λ (m : Me (Unit {0}) (List SeatedPort)). m.0) me ∙ ap (λ (x : SeatedPort). x ∷ []) (sym is), ap (λ (m : Me (Unit {0}) (List SeatedPort)). m.1) me);
+        own = refl;
+        known = subst IsSeatKnown (sym is) (newcomer_known a words w i low);
+        number = number ∙ ap (λ (x : SeatedPort). x.number) (sym is);
+        epoch = epoch ∙ ap (λ (x : SeatedPort). x.port.control.here.epoch) (sym is);
+        arena = arena ∙ ap (λ (x : SeatedPort). x.port.control.here.arena) (sym is);
+        base = base_is ∙ ap (λ (b : About). base (plan_of b) 0) (sym own) ∙ ap (base (plan_of (port_at s).about)) (sym arena);
+        passed = passed ∙ ap (λ (x : SeatedPort). x.port.passed) (sym is);
+      };
+      rests = record {
+        free = record { stands = ap (λ (x : SeatedPort). x.port.control.entering) is; free = ap (λ (x : SeatedPort). x.port.control.owned) is };
+        idle = between.idle;
+        sound = between.sound;
+        sizes = ap (λ (c : CoreState). c.sizes) machine ∙ ap (λ (b : About). b.sizes) (sym own);
+        port = ap (λ (c : CoreState). c.port) machine ∙ sym number;
+        between = λ fresh. (
+          subst (λ (x : SeatedPort). IsBetween x.port.part core) (sym is) between,
+          ap (λ (x : SeatedPort). x.port.over) is,
+          ap (λ (c : CoreState). c.pool_spent) machine,
+          ap (λ (c : CoreState). c.slots_spent) machine,
+        );
+      };
     }
 
 module _ (a : About) (i n : ℕ) (inside : i < n) (v : List SeatedPort) (left : v ≡ newcomers a i (n - i)) where
   pub newcomer_next : first_port v ≡ newcomer a i ∷ []
   newcomer_next = ap first_port (left ∙ next_new a i n inside)
 
-  pub rests_new : (words : List ℕ) → OpensAll (plan_of a) words → i < a.ports → (s : Seating) (core : CoreState) (z : Layout) → s.badge.views ≡ first_port v ∷ [] → IsShapeOf s.shape a → s.number ≡ i →
-      s.epoch ≡ 0 → s.arena ≡ 0 → s.base ≡ base (plan_of a) 0 → s.passed ≡ 0 → core ≡ fresh z i → a.sizes ≡ z → IsResting s core false
-  rests_new words w low s core z views shape number epoch arena base_is passed machine sizes =
-      newcomer_rests a words w i low s core (views ∙ ap (λ (u : List SeatedPort). u ∷ []) newcomer_next) shape number epoch arena base_is passed (machine ∙ ap (λ (y : Layout). fresh y i) (sym sizes))
+  pub rests_new : (words : List ℕ) → OpensAll (plan_of a) words → i < a.ports → (s : Stand) (core : CoreState) (z : Layout) → s.seat.table_id.words ≡ length words → s.seat.me ≡ (first_port v, []) →
+      IsShapeOf s.shape a → s.number ≡ i → s.epoch ≡ 0 → s.arena ≡ 0 → s.base ≡ base (plan_of a) 0 → s.passed ≡ 0 → core ≡ fresh z i → a.sizes ≡ z → IsResting s core false
+  rests_new words w low s core z count me shape number epoch arena base_is passed machine sizes =
+      newcomer_rests a words w i low s core count (me ∙ ap (λ (u : List SeatedPort). (u, [])) newcomer_next) shape number epoch arena base_is passed (machine ∙ ap (λ (y : Layout). fresh y i) (sym sizes))
 
   pub deals_next : {S : Type 0} (me : Me S (List SeatedPort)) (at : List (ℕ × S)) → me ≡ (further_ports v, at) → at ≡ [] → (me.0 ≡ newcomers a (i + 1) (n - (i + 1))) × (me.1 ≡ [])
   deals_next {S} me at is none = (ap (λ (m : Me S (List SeatedPort)). m.0) is ∙ ap further_ports (left ∙ next_new a i n inside), ap (λ (m : Me S (List SeatedPort)). m.1) is ∙ none)
 
-  pub made_next : {S : Type 0} (t : TableId) (all old new : List PortView) (p : PortView) (views : List (List SeatedPort)) (me : Me S (List SeatedPort)) (at : List (ℕ × S)) →
-      all ≡ old ++ new_ports t v → new ≡ old ++ p ∷ [] → views ≡ first_port v ∷ [] → p ≡ port_view t (one_in views) → me ≡ (further_ports v, at) → all ≡ new ++ new_ports t me.0
-  made_next {S} t all old new p views me at made is here port less =
-      let one : p ≡ port_view t (newcomer a i) = port ∙ ap (λ (w : List (List SeatedPort)). port_view t (one_in w)) here ∙ ap (λ (w : List SeatedPort). port_view t (one_in (w ∷ []))) newcomer_next in
+  pub made_next : {S : Type 0} (t : TableId) (all old new : List PortView) (p : PortView) (u : List SeatedPort) (me : Me S (List SeatedPort)) (at : List (ℕ × S)) →
+      all ≡ old ++ new_ports t v → new ≡ old ++ p ∷ [] → u ≡ first_port v → p ≡ port_view t (one_of u) → me ≡ (further_ports v, at) → all ≡ new ++ new_ports t me.0
+  made_next {S} t all old new p u me at made is here port less =
+      let one : p ≡ port_view t (newcomer a i) = port ∙ ap (λ (w : List SeatedPort). port_view t (one_of w)) (here ∙ newcomer_next) in
       let rest : new_ports t me.0 ≡ new_ports t (newcomers a (i + 1) (n - (i + 1))) =
       ap (λ (m : Me S (List SeatedPort)). new_ports t m.0) less ∙ ap (λ (w : List SeatedPort). new_ports t (further_ports w)) (left ∙ next_new a i n inside) in
       let this : new_ports t v ≡ p ∷ new_ports t me.0 =

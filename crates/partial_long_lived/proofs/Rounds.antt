@@ -110,13 +110,13 @@ rounds_came table about first next s t core on later = record {
   began = subst (λ (n : Bool). BeganSo first n s t) later on.began;
 }
 
--- an update that began with a change of epoch
-pub updated_behind : (c : Change) (r : Exchanged) (s t v : Stand) → CameBy true s t → UpdateEnded false c r t v → UpdateEnded true c r s v
-updated_behind c r s t v came ended = record {
+-- an update that ended behind a part of its call
+pub updated_behind : (first : Bool) (c : Change) (r : Exchanged) (s t v : Stand) → CameBy first s t → UpdateEnded false c r t v → UpdateEnded first c r s v
+updated_behind first c r s t v came ended = record {
   shape = ended.shape ∙ came.shape;
   number = ended.number ∙ came.number;
   goes = goes_on (port_at s) (port_at t) (port_at v) came.goes ended.goes;
-  began = subst (BeganBy true (port_at s)) (sym ended.began) came.began;
+  began = subst (BeganBy first (port_at s)) (sym ended.began) came.began;
   place = ended.place;
   notes = ended.notes ∙ ap (λ (l : List Noted). l ++ noted_change v.epoch c r ended.place ∷ []) came.notes;
   behind = ended.behind;
@@ -136,6 +136,13 @@ late_behind times s t v Component later is = absurd is
 late_behind times s t v Overtaken later is = omega (arith, later, is)
 late_behind times s t v NoArena later is = is
 late_behind times s t v EpochsSpent later is = is
+
+-- and one that began with an attempt to as many
+pub late_from : (times : ℕ) (s t v : Stand) (cause : Refused) → epoch_at s ≤ epoch_at t → IsLate times t cause v → IsLate times s cause v
+late_from times s t v Component before is = absurd is
+late_from times s t v Overtaken before is = omega (arith, before, is)
+late_from times s t v NoArena before is = is
+late_from times s t v EpochsSpent before is = is
 
 -- behind so many later epochs, a round that met a seal and a change of epoch lead to one more
 pub one_later : (table : TableId) (about : About) (s u t v : Stand) (n : ℕ) → IsHeld table about u → IsHeld table about t → t.epoch ≡ u.epoch → epoch_at s + n ≤ epoch_at u →

@@ -1,5 +1,6 @@
 -- The stores of an owner are allowed.
-use Rattle.partial_long_lived.proofs.Common.{ℕ, ◌≡◌, ◌≢◌, ◌+◌, ◌-◌, ◌/◌, ◌%◌, ◌<◌, ◌≤◌, ◌==◌, ◌⊎◌, ◌++◌, true, false, cond, Option, Some, IfSome, List, [], ◌∷◌, length, get_or, set, refl, sym, ap, subst, ◌∙◌, inl, inr, arith, length-append, nat_lt, lt-ltb, eqb_tells, get_or-set_same, Me, Allows, Applied, Opening, value_of, Noted, some_same, Layout, first_free, initial_record, list_base, list_counter, pool_base, pool_counter, initial_record_word, opening_word, list_of, IsAsked, Place, Plan, control_words, current_word, packed, set_word, carried_behind, opening_behind, OwnedArena, Port, MayPut, Beside, controls, next_epoch_word, numbers, place_now, having_set, vacated, LawfulMemory, many, sets_stay_lawful, at_of, below_whole, not_below, set_place, About, Found, IsFinal, IsRuleKept, IsLast, IsSeat, SeatedPort, one_of, plan_of, IsSeatKnown, IsOne, tells, Sets, FindsClear, becomes, LawfulEpochs, put, cases_lt, clear_slots_count_as_set, offset_behind, offset_front, slot_offset, slot_set, base, set_offset, slot_counter, slot_word, value_word, plain_record_size}
+use Rattle.partial_long_lived.proofs.Common.{ℕ, ◌≡◌, ◌≢◌, ◌+◌, ◌-◌, ◌/◌, ◌%◌, ◌<◌, ◌≤◌, ◌==◌, ◌⊎◌, ◌++◌, true, false, cond, Option, Some, IfSome, List, [], ◌∷◌, length, get_or, set, refl, sym, ap, subst, ◌∙◌, inl, inr, arith, length-append, nat_lt, lt-ltb, eqb_tells, get_or-set_same, Me, Allows, Applied, Opening, value_of, Noted, some_same, Layout, first_free, initial_record, list_base, list_counter, pool_base, pool_counter, initial_record_word, opening_word, list_of, IsToBeSet, behind_value, behind_values, Place, Plan, control_words, current_word, packed, set_word, carried_behind, opening_behind, OwnedArena, Port, MayPut, Beside, controls, next_epoch_word, numbers, place_now, having_set, vacated, LawfulMemory, many, sets_stay_lawful, at_of, below_whole, not_below, set_place, About, Found, IsFinal, IsRuleKept, IsLast, IsSeat, SeatedPort, one_of, plan_of, IsSeatKnown, IsOne, tells, Sets, FindsClear, becomes, LawfulEpochs, put, cases_lt, clear_slots_count_as_set, offset_behind, offset_front, slot_offset, slot_set, base, set_offset, slot_counter, slot_word, value_word, plain_record_size}
+use Rattle.partial_epochs.proofs.ClearRecords.{records_before, records_kept}
 use Rattle.partial_epochs.proofs.Sets as law
 use Rattle.partial_state.proofs.OpeningLaw.{slots_open}
 use Rattle.partial_long_lived.proofs.Asides.{IsQuiet, aside}
@@ -8,27 +9,85 @@ use Rattle.partial_long_lived.proofs.Changes.{load_at, owning_same, still, store
 use Rattle.partial_long_lived.proofs.Control.{Quietly, lawful_itself, load_same, quietly, time_aside}
 use Rattle.partial_long_lived.proofs.Kept.{allowed, begun_grows, none_grown}
 
--- a word of an opening that is the same whatever the values are
-same_word : (s : Layout) (l : List ℕ) (i : ℕ) → (i < pool_base s) ⊎ ((i - pool_base s) % plain_record_size ≢ value_word 0) → opening_word s l i ≡ opening_word s [] i
-same_word s l i free = ap (λ t. cond (nat_lt i s.m) (initial_record s i) (cond (i == pool_counter s) (first_free s) (cond (i == list_counter s) (list_base s) t))) (by free)
+-- a word of an opening before the list words is the same whatever the values are
+same_word : (s : Layout) (l : List ℕ) (i : ℕ) → i < list_base s → opening_word s l i ≡ opening_word s [] i
+same_word s l i low = ap (λ t. cond (nat_lt i s.m) (initial_record s i) (cond (i == pool_counter s) (first_free s) (cond (i == list_counter s) (list_base s) t)))
+    (ap (λ c. cond c 0 (rest l)) below ∙ sym (ap (λ c. cond c 0 (rest [])) below))
   where
     rest : List ℕ → ℕ
     rest l = cond (nat_lt i (first_free s)) (initial_record_word l (i - pool_base s)) 0
 
-    by : (i < pool_base s) ⊎ ((i - pool_base s) % plain_record_size ≢ value_word 0) → cond (nat_lt i (pool_base s)) 0 (rest l) ≡ cond (nat_lt i (pool_base s)) 0 (rest [])
-    by (inl below) = ap (λ c. cond c 0 (rest l)) (lt-ltb i (pool_base s) below) ∙ sym (ap (λ c. cond c 0 (rest [])) (lt-ltb i (pool_base s) below))
-    by (inr ne) = (elim (eqb_tells ((i - pool_base s) % plain_record_size) (value_word 0)) [
-      | inl same ↦ absurd (ne same.1)
-      | inr other ↦ ap (λ t. cond (nat_lt i (pool_base s)) 0 (cond (nat_lt i (first_free s)) t 0))
-          (ap (λ c. cond c (get_or l ((i - pool_base s) / plain_record_size) 0) 0) other.0 ∙ sym (ap (λ c. cond c (get_or [] ((i - pool_base s) / plain_record_size) 0) 0) other.0))
-    ])
+    below : nat_lt i (pool_base s) ≡ true
+    below = lt-ltb i (pool_base s) (omega (arith, low))
 
 -- and the same by the number with which it is set
-same_set : (s : Layout) (l : List ℕ) (i : ℕ) → (i < pool_base s) ⊎ ((i - pool_base s) % plain_record_size ≢ value_word 0) → opening_word s l (set_offset s i) ≡ opening_word s [] (set_offset s i)
-same_set s l i free = elim (cases_lt i (list_base s)) [
-  | inl front ↦ let at = offset_front s i front in same_word s l (set_offset s i) (inl (omega (arith, at, front)))
-  | inr behind ↦ subst (λ n. opening_word s l n ≡ opening_word s [] n) (sym (offset_behind s i behind)) (same_word s l i free)
+same_set : (s : Layout) (l : List ℕ) (i : ℕ) → i < list_base s → opening_word s l (set_offset s i) ≡ opening_word s [] (set_offset s i)
+same_set s l i front = let at = offset_front s i front in same_word s l (set_offset s i) (omega (arith, at, front))
+
+-- where the next value is set, or the first carried stamp
+pub behind_values_is : (z : Layout) (n : ℕ) → ((n < z.m) × (behind_values z n ≡ value_word (initial_record z n))) ⊎ ((z.m ≤ n) × (behind_values z n ≡ first_free z))
+behind_values_is z n = elim (cases_lt n z.m) [
+  | inl low ↦ inl (low, ap (λ c. cond c (value_word (initial_record z n)) (first_free z)) (lt-ltb n z.m low))
+  | inr from ↦ inr (from, ap (λ c. cond c (value_word (initial_record z n)) (first_free z)) (not_below n z.m from))
 ]
+
+behind_value_is : (z : Layout) (i : ℕ) → ((i + plain_record_size < first_free z) × (behind_value z i ≡ i + plain_record_size)) ⊎ ((first_free z ≤ i + plain_record_size) × (behind_value z i ≡ first_free z))
+behind_value_is z i = elim (cases_lt (i + plain_record_size) (first_free z)) [
+  | inl low ↦ inl (low, ap (λ c. cond c (i + plain_record_size) (first_free z)) (lt-ltb (i + plain_record_size) (first_free z) low))
+  | inr from ↦ inr (from, ap (λ c. cond c (i + plain_record_size) (first_free z)) (not_below (i + plain_record_size) (first_free z) from))
+]
+
+pub value_at : (z : Layout) (j : ℕ) → j < z.m → behind_values z j ≡ value_word (initial_record z j)
+value_at z j low = elim (behind_values_is z j) [ inl here ↦ here.1 | inr all ↦ let from = all.0 in absurd (omega (arith, from, low)) ]
+
+pub value_behind : (z : Layout) (j : ℕ) → j < z.m → behind_value z (behind_values z j) ≡ behind_values z (j + 1)
+value_behind z j low = by (behind_value_is z (behind_values z j)) (behind_values_is z (j + 1))
+  where
+    at : behind_values z j ≡ value_word (initial_record z j)
+    at = value_at z j low
+
+    by : ((behind_values z j + plain_record_size < first_free z) × (behind_value z (behind_values z j) ≡ behind_values z j + plain_record_size))
+        ⊎ ((first_free z ≤ behind_values z j + plain_record_size) × (behind_value z (behind_values z j) ≡ first_free z)) →
+        ((j + 1 < z.m) × (behind_values z (j + 1) ≡ value_word (initial_record z (j + 1)))) ⊎ ((z.m ≤ j + 1) × (behind_values z (j + 1) ≡ first_free z)) →
+        behind_value z (behind_values z j) ≡ behind_values z (j + 1)
+    by (inl (a, is)) (inl (c, next)) = let here = at in omega (arith, here, is, next)
+    by (inl (a, is)) (inr (c, next)) = let here = at in absurd (omega (arith, here, a, c))
+    by (inr (a, is)) (inl (c, next)) = let here = at in absurd (omega (arith, here, a, c))
+    by (inr (a, is)) (inr (c, next)) = is ∙ sym next
+
+-- nothing has to be set between the words before the list words and the first value
+lists_before : (z : Layout) → (list_base z ≤ behind_values z 0) × (behind_values z 0 ≤ first_free z)
+lists_before z = elim (behind_values_is z 0) [
+  | inl here ↦ let some = here.0 in let is = here.1 in (omega (arith, is), omega (arith, is, some))
+  | inr none ↦ let is = none.1 in (omega (arith, is), omega (arith, is))
+]
+
+none_over_lists : (z : Layout) (i : ℕ) → list_base z ≤ i → i < behind_values z 0 → ¬ IsToBeSet z i
+none_over_lists z i from up to_set = by (behind_values_is z 0) to_set
+  where
+    by : ((0 < z.m) × (behind_values z 0 ≡ value_word (initial_record z 0))) ⊎ ((z.m ≤ 0) × (behind_values z 0 ≡ first_free z)) → IsToBeSet z i → ⊥
+    by all (inl front) = omega (arith, from, front)
+    by (inl (some, is)) (inr (inl high)) = omega (arith, some, is, high, up)
+    by (inl (some, is)) (inr (inr (j, less, at))) = omega (arith, is, at, up)
+    by (inr (none, is)) (inr (inl high)) = omega (arith, is, high, up)
+    by (inr (none, is)) (inr (inr (j, less, at))) = omega (arith, none, less)
+
+-- nor between two values, or behind the last one
+values_before : (z : Layout) (j i : ℕ) → j < z.m → i ≡ value_word (initial_record z j) → (i < behind_value z i) × (behind_value z i ≤ first_free z)
+values_before z j i low at = elim (behind_value_is z i) [
+  | inl here ↦ let less = here.0 in let is = here.1 in (omega (arith, is), omega (arith, is, less))
+  | inr last ↦ let is = last.1 in (omega (arith, is, at, low), omega (arith, is))
+]
+
+none_over_value : (z : Layout) (j i n : ℕ) → i ≡ value_word (initial_record z j) → i < n → n < behind_value z i → ¬ IsToBeSet z n
+none_over_value z j i n at from up to_set = by (behind_value_is z i) to_set
+  where
+    by : ((i + plain_record_size < first_free z) × (behind_value z i ≡ i + plain_record_size)) ⊎ ((first_free z ≤ i + plain_record_size) × (behind_value z i ≡ first_free z)) → IsToBeSet z n → ⊥
+    by all (inl front) = omega (arith, at, from, front)
+    by (inl (less, is)) (inr (inl high)) = omega (arith, less, is, high, up)
+    by (inl (less, is)) (inr (inr (k, inside, at'))) = omega (arith, is, at, at', from, up)
+    by (inr (most, is)) (inr (inl high)) = omega (arith, is, high, up)
+    by (inr (most, is)) (inr (inr (k, inside, at'))) = omega (arith, most, is, at, at', from, up)
 
 pub unlike : (n m : ℕ) → n ≢ m → (n == m) ≡ false
 unlike n m ne = elim (eqb_tells n m) [ inl same ↦ absurd (ne same.1) | inr other ↦ other.0 ]
@@ -122,13 +181,13 @@ module _ {S : Type 0} (a : About) (slots id : ℕ) (me : Me S (List SeatedPort))
   -- the words that count as set behind the store are those of the next epoch, while the port's epoch is the current one
   abbrev Right : OwnedArena → ℕ → ℕ → Type 0
   Right o v next = (words : List ℕ) (ports : ℕ → Port) (notes : ℕ → List Noted) (b : Beside) (since : ℕ → ℕ) → LawfulMemory (plan_of a) words ports b notes → IsSeat a ports notes b since x →
-      get_or words current_word 0 ≡ packed (ports x.number).control.here → (i : ℕ) → o.set ≤ i → i < next → IsAsked a.sizes i →
+      get_or words current_word 0 ≡ packed (ports x.number).control.here → (i : ℕ) → o.set ≤ i → i < next → IsToBeSet a.sizes i →
       get_or (set words (set_word e o.arena o.set) v) (set_word e o.arena i) 0 ≡ next_epoch_word e b i
 
   pub may_set : (o : OwnedArena) (v next : ℕ) → x.port.control.owned ≡ Some o → o.clean ≡ a.ports → o.set < next → next ≤ first_free a.sizes + a.sizes.m → a.sizes.m ≤ x.port.passed →
-      Right o v next → (o.set < a.sizes.slots → (v ≡ 0) × (next ≡ o.set + 1)) →
+      Right o v next → (o.set < a.sizes.slots → (v ≡ 0) × (next ≡ o.set + 1)) → IsToBeSet a.sizes o.set →
       Allows (IsRuleKept a) slots id me (set_word e o.arena o.set) (λ n. v) (tells (Sets o next) me)
-  may_set o v next owned clean less most passed right zero = allowed a slots id me (set_word e o.arena o.set) (λ n. v) (Sets o next) one own (λ words ports notes b since w time s small.
+  may_set o v next owned clean less most passed right zero to_set = allowed a slots id me (set_word e o.arena o.set) (λ n. v) (Sets o next) one own (λ words ports notes b since w time s small.
       let k : ℕ = x.number in
       let i : ℕ = set_word e o.arena o.set in
       let c : Beside = vacated b o.arena in
@@ -138,7 +197,9 @@ module _ {S : Type 0} (a : About) (slots id : ℕ) (me : Me S (List SeatedPort))
       let at = place.2 in
       let to = sets_stay_lawful e words ports b k o v next w.epochs s.number owned' clean less most (subst (λ (p : Port). a.sizes.m ≤ p.passed) s.port passed)
       (λ current i from up asked. right words ports notes b since w s current i from up asked)
-      (λ l now set. let both = zero (omega (arith, now)) in let only = both.1 in clears words ports notes b w l owned' s.number now (omega (arith, now, set, only)) both.0) in
+      (λ l now set. let both = zero (omega (arith, now)) in let only = both.1 in clears words ports notes b w l owned' s.number now (omega (arith, now, set, only)) both.0)
+      (let mine = law.own e (control_words e words) (controls ports) (place_now b) (numbers b) w.epochs.control k s.number o owned' clean in
+      records_kept e words o.arena o.set v pool to_set (records_before e words ports b w.epochs o.arena mine.arena)) in
       aside a words (set words i v) ports notes b c since since x w s known (λ p. having_set p o next) (set_quiet o next) x.began s.entering
       (begun_grows b c x.began (omega arith) (none_grown b c refl refl) s.began)
       (time_aside a words (set words i v) ports b c since time refl k (having_set (ports k) o next)
@@ -155,13 +216,13 @@ module _ {S : Type 0} (a : About) (slots id : ℕ) (me : Me S (List SeatedPort))
           ap (λ i. get_or (set words (set_word e o.arena o.set) v) i 0) (omega (arith, at, only))
           ∙ get_or-set_same words (set_word e o.arena o.set) v 0 (omega (arith, at, only, inside, count)) ∙ zero
 
-  -- where the store is that of a word of the next epoch, and an opening asks nothing of the words behind it that count as set
+  -- where the store is that of a word of the next epoch, and none of the words behind it that count as set has to be set
   may_set_word : (o : OwnedArena) (v next : ℕ) → x.port.control.owned ≡ Some o → o.clean ≡ a.ports → o.set < next → next ≤ first_free a.sizes + a.sizes.m → a.sizes.m ≤ x.port.passed →
-      ((i : ℕ) → o.set < i → i < next → ¬ IsAsked a.sizes i) →
+      ((i : ℕ) → o.set < i → i < next → ¬ IsToBeSet a.sizes i) →
       ((b : Beside) → length a.opening.values ≡ a.sizes.m → IfSome x.found (IsFinal (plan_of a) b x.port) → x.port.before ≡ b.before → v ≡ next_epoch_word e b o.set) →
-      (o.set < a.sizes.slots → (v ≡ 0) × (next ≡ o.set + 1)) →
+      (o.set < a.sizes.slots → (v ≡ 0) × (next ≡ o.set + 1)) → IsToBeSet a.sizes o.set →
       Allows (IsRuleKept a) slots id me (set_word e o.arena o.set) (λ n. v) (tells (Sets o next) me)
-  may_set_word o v next owned clean less most passed between value zero = may_set o v next owned clean less most passed (λ words ports notes b since w s current i from up asked.
+  may_set_word o v next owned clean less most passed between value zero to_set = may_set o v next owned clean less most passed (λ words ports notes b since w s current i from up asked.
       let k : ℕ = x.number in
       (elim (eqb_tells i o.set) [
         | inl same ↦
@@ -175,35 +236,42 @@ module _ {S : Type 0} (a : About) (slots id : ℕ) (me : Me S (List SeatedPort))
             ap (λ j. get_or (set words (set_word e o.arena o.set) v) (set_word e o.arena j) 0) same.1 ∙ get_or-set_same words (set_word e o.arena o.set) v 0 (omega (arith, at, inside, count))
             ∙ value b w.epochs.plan.values s.found (ap (λ (p : Port). p.before) s.port ∙ before_is a words ports notes b k w s.number current) ∙ ap (next_epoch_word e b) (sym same.1)
         | inr other ↦ let ne = other.1 in absurd (between i (omega (arith, from, ne)) up asked)
-      ])) zero
+      ])) zero to_set
 
-  -- a word that is the same whatever the values are
-  pub may_set_same : (o : OwnedArena) (v : ℕ) → x.port.control.owned ≡ Some o → o.clean ≡ a.ports → a.sizes.m ≤ x.port.passed → o.set < first_free a.sizes →
-      (o.set < pool_base a.sizes) ⊎ ((o.set - pool_base a.sizes) % plain_record_size ≢ value_word 0) → v ≡ opening_word a.sizes [] (set_offset a.sizes o.set) →
-      Allows (IsRuleKept a) slots id me (set_word e o.arena o.set) (λ n. v) (tells (Sets o (o.set + 1)) me)
-  may_set_same o v owned clean passed low free is = may_set_word o v (o.set + 1) owned clean (omega arith) (omega (arith, low)) passed (λ i from up. absurd (omega (arith, from, up)))
-      (λ b long found before. is ∙ sym (same_set a.sizes (opening_behind a.opening (b.log ∷ b.before)).values o.set free) ∙ sym (next_below e b o.set 0 low))
-      (λ slot. (is ∙ ap (opening_word a.sizes []) (slot_offset a.sizes o.set slot) ∙ slots_open a.sizes [] (a.sizes.slots - (o.set + 1)) (omega (arith, slot)), refl))
+  -- a word before the list words
+  pub may_set_same : (o : OwnedArena) (v : ℕ) → x.port.control.owned ≡ Some o → o.clean ≡ a.ports → a.sizes.m ≤ x.port.passed → o.set < list_base a.sizes →
+      v ≡ opening_word a.sizes [] (set_offset a.sizes o.set) → Allows (IsRuleKept a) slots id me (set_word e o.arena o.set) (λ n. v) (tells (Sets o (o.set + 1)) me)
+  may_set_same o v owned clean passed low is = may_set_word o v (o.set + 1) owned clean (omega arith) (omega (arith, low)) passed (λ i from up. absurd (omega (arith, from, up)))
+      (λ b long found before. is ∙ sym (same_set a.sizes (opening_behind a.opening (b.log ∷ b.before)).values o.set low) ∙ sym (next_below e b o.set 0 (omega (arith, low))))
+      (λ slot. (is ∙ ap (opening_word a.sizes []) (slot_offset a.sizes o.set slot) ∙ slots_open a.sizes [] (a.sizes.slots - (o.set + 1)) (omega (arith, slot)), refl)) (inl low)
 
-  -- the last word before the list words, of which an opening asks nothing
+  -- the last one of them
   pub may_set_over_lists : (o : OwnedArena) (v : ℕ) → x.port.control.owned ≡ Some o → o.clean ≡ a.ports → a.sizes.m ≤ x.port.passed → o.set + 1 ≡ list_base a.sizes → v ≡ opening_word a.sizes [] 0 →
-      Allows (IsRuleKept a) slots id me (set_word e o.arena o.set) (λ n. v) (tells (Sets o (pool_base a.sizes)) me)
-  may_set_over_lists o v owned clean passed last is = may_set_word o v (pool_base a.sizes) owned clean (omega (arith, last)) (omega arith) passed
-      (λ i from up asked. elim asked [ inl low ↦ absurd (omega (arith, from, last, low)) | inr high ↦ absurd (omega (arith, up, high)) ])
+      Allows (IsRuleKept a) slots id me (set_word e o.arena o.set) (λ n. v) (tells (Sets o (behind_values a.sizes 0)) me)
+  may_set_over_lists o v owned clean passed last is =
+      let around = lists_before a.sizes in
+      let low = around.0 in
+      let high = around.1 in
+      may_set_word o v (behind_values a.sizes 0) owned clean (omega (arith, last, low)) (omega (arith, high)) passed
+      (λ i from up. none_over_lists a.sizes i (omega (arith, from, last)) up)
       (λ b long found before.
       let first = offset_front a.sizes o.set (omega (arith, last)) in
       let at : set_offset a.sizes o.set ≡ 0 = omega (arith, first, last) in
-      is ∙ ap (opening_word a.sizes []) (sym at) ∙ sym (same_set a.sizes (opening_behind a.opening (b.log ∷ b.before)).values o.set (inl (omega (arith, last))))
-      ∙ sym (next_below e b o.set 0 (omega (arith, last)))) (λ slot. absurd (omega (arith, slot, last)))
+      is ∙ ap (opening_word a.sizes []) (sym at) ∙ sym (same_set a.sizes (opening_behind a.opening (b.log ∷ b.before)).values o.set (omega (arith, last)))
+      ∙ sym (next_below e b o.set 0 (omega (arith, last)))) (λ slot. absurd (omega (arith, slot, last))) (inl (omega (arith, last)))
 
   -- the value that the port has found last of component j, in its initial record
   pub may_set_value : (o : OwnedArena) (f : Found) → x.port.control.owned ≡ Some o → o.clean ≡ a.ports → a.sizes.m ≤ x.port.passed → x.found ≡ Some f →
       o.set ≡ value_word (initial_record a.sizes f.component) → f.component < a.sizes.m →
-      Allows (IsRuleKept a) slots id me (set_word e o.arena o.set) (λ n. f.value) (tells (Sets o (o.set + 1)) me)
-  may_set_value o f owned clean passed found at inside = may_set_word o f.value (o.set + 1) owned clean (omega arith) (omega (arith, at, inside)) passed (λ i from up. absurd (omega (arith, from, up)))
+      Allows (IsRuleKept a) slots id me (set_word e o.arena o.set) (λ n. f.value) (tells (Sets o (behind_value a.sizes o.set)) me)
+  may_set_value o f owned clean passed found at inside =
+      let around = values_before a.sizes f.component o.set inside at in
+      let high = around.1 in
+      may_set_word o f.value (behind_value a.sizes o.set) owned clean around.0 (omega (arith, high)) passed
+      (λ i from up. none_over_value a.sizes f.component o.set i at from up)
       (λ b long final before.
       let last = found_last a b x.port x.found f found final before in
-      sym last.1.value ∙ sym (next_value e b o.set f.component long inside at)) (λ slot. absurd (omega (arith, slot, at)))
+      sym last.1.value ∙ sym (next_value e b o.set f.component long inside at)) (λ slot. absurd (omega (arith, slot, at))) (inr (inr (f.component, inside, at)))
 
   -- the public stamp that it has found
   pub may_set_stamp : (o : OwnedArena) (f : Found) → x.port.control.owned ≡ Some o → o.clean ≡ a.ports → a.sizes.m ≤ x.port.passed → x.found ≡ Some f →
@@ -212,7 +280,7 @@ module _ {S : Type 0} (a : About) (slots id : ℕ) (me : Me S (List SeatedPort))
   may_set_stamp o f owned clean passed found at inside = may_set_word o f.stamp (o.set + 1) owned clean (omega arith) (omega (arith, at, inside)) passed (λ i from up. absurd (omega (arith, from, up)))
       (λ b long final before.
       let last = found_last a b x.port x.found f found final before in
-      sym last.1.stamp ∙ sym (next_stamp e b o.set f.component at)) (λ slot. absurd (omega (arith, slot, at)))
+      sym last.1.stamp ∙ sym (next_stamp e b o.set f.component at)) (λ slot. absurd (omega (arith, slot, at))) (inr (inl (omega (arith, at))))
 
   -- the load of the slot counter of the arena, where no word is set yet
   pub may_find_clear : (o : OwnedArena) → x.port.control.owned ≡ Some o → o.clean ≡ a.ports → o.set ≡ 0 → a.sizes.m ≤ x.port.passed →

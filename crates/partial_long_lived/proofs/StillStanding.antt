@@ -1,5 +1,5 @@
 -- Components that still have the stamps that they had.
-use Rattle.partial_long_lived.proofs.Common.{ℕ, ◌≡◌, ◌+◌, ◌<◌, ◌≤◌, List, [], ◌∷◌, length, take, sym, ap, subst, ◌∙◌, inl, inr, arith, append-nil, slice_index, eqb_tells, take-append-le, TableId, Applied, stamp_of, stamps_never_return, About, Stand, Seating, SeatedPort, one_in, IsOf, MemoryView, PortView, port_view, seen_in, Differ, HasStampThen, StillStand, IsStandOf, IsSeatingOf, SeatGoes, IsHeld, port_at, SettledFirst, HasGlanced, HadAnother, HadStamp, HadStamps, HasStamp, stamp_at}
+use Rattle.partial_long_lived.proofs.Common.{ℕ, ◌≡◌, ◌+◌, ◌<◌, ◌≤◌, List, [], ◌∷◌, length, take, sym, ap, subst, ◌∙◌, inl, inr, arith, append-nil, slice_index, eqb_tells, take-append-le, TableId, Applied, stamp_of, stamps_never_return, About, Stand, SeatedPort, IsOf, MemoryView, PortView, port_view, seen_in, Differ, HasStampThen, StillStand, SeatGoes, IsHeld, port_at, SettledFirst, HasGlanced, HadAnother, HadStamp, HadStamps, HasStamp, stamp_at}
 use Rattle.partial_long_lived.proofs.Answering.{callers_see, goes_seen}
 use Rattle.partial_long_lived.proofs.Coming.{seen_more}
 
@@ -92,11 +92,10 @@ module _ (table : TableId) (s t : Stand) (settled : SettledFirst s t) where
     ];
   }
 
--- from the seat that was taken out to the one that was put back
-module _ (m : MemoryView) (s : Seating) (t u : Stand) (s' : Seating) (p : PortView) (k : IsStandOf s t) (view : port_view s.badge.table_id (one_in s.badge.views) ≡ p) (own : IsOf m p)
-    (held : IsHeld m.table m.about u) (k' : IsSeatingOf u s') (settled : SettledFirst t u) (js ss : List ℕ) where
-  pub still_seen : HadStamps (port_at u) js ss (length js) → StillStand p (port_view s'.badge.table_id (one_in s'.badge.views)) js ss
-  still_seen had = callers_see m s t u s' p k view own held k' (λ (a b : PortView). StillStand a b js ss) (still m.table t u settled js ss had)
+-- the same, as callers see the port
+module _ (m : MemoryView) (t u : Stand) (p : PortView) (view : port_view t.seat.table_id (port_at t) ≡ p) (own : IsOf m p) (held : IsHeld m.table m.about u) (settled : SettledFirst t u) (js ss : List ℕ) where
+  pub still_seen : HadStamps (port_at u) js ss (length js) → StillStand p (port_view u.seat.table_id (port_at u)) js ss
+  still_seen had = callers_see m t u p view own held (λ (a b : PortView). StillStand a b js ss) (still m.table t u settled js ss had)
 
-  pub differ_seen : HadAnother (port_at u) js ss → Differ p (port_view s'.badge.table_id (one_in s'.badge.views)) js ss
-  differ_seen had = callers_see m s t u s' p k view own held k' (λ (a b : PortView). Differ a b js ss) (differ m.table t u settled js ss had)
+  pub differ_seen : HadAnother (port_at u) js ss → Differ p (port_view u.seat.table_id (port_at u)) js ss
+  differ_seen had = callers_see m t u p view own held (λ (a b : PortView). Differ a b js ss) (differ m.table t u settled js ss had)

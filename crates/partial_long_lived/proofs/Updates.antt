@@ -1,5 +1,5 @@
 -- An update of a port, as callers see it.
-use Rattle.partial_long_lived.proofs.Common.{ℕ, ◌≡◌, ◌<◌, Bool, true, false, [], sym, subst, ◌∙◌, arith, append-nil, ap, ◌+◌, TableId, Applied, IsLegal, LegalNotes, seen_by, AllByRecursion-get, LegalNotes-last, Change, CoreState, Exchanged, About, UpdatedIf, Asked, Refused, Component, Overtaken, NoArena, EpochsSpent, Stand, Seating, one_in, IsOf, MemoryView, PortView, port_view, seen_in, IsStandOf, IsSeatingOf, IsHeld, epoch_at, port_at, IsIdle, HasUpdatedIf, RestsAt, CameBy, IsLate, IsOwnMachine, MayCall, UpdateEnded, noted_change, public_update, stamp_from}
+use Rattle.partial_long_lived.proofs.Common.{ℕ, ◌≡◌, ◌<◌, Bool, true, false, [], sym, subst, ◌∙◌, arith, append-nil, ap, ◌+◌, TableId, Applied, IsLegal, LegalNotes, seen_by, AllByRecursion-get, LegalNotes-last, Change, CoreState, Exchanged, About, UpdatedIf, Asked, Refused, Component, Overtaken, NoArena, EpochsSpent, Stand, IsOf, MemoryView, PortView, port_view, seen_in, IsHeld, epoch_at, port_at, IsIdle, HasUpdatedIf, RestsAt, CameBy, IsLate, IsOwnMachine, MayCall, UpdateEnded, noted_change, public_update, stamp_from}
 use Rattle.partial_model.specs.declared.call.Call.TheVariants as call
 use Rattle.partial_lines.specs.declared.exchange.Exchanged.TheVariants.{Applied as IsApplied, Overtaken as IsOvertaken}
 use Rattle.partial_long_lived.specs.declared.answers.UpdatedIf.TheVariants as conditional
@@ -112,29 +112,28 @@ not_updated_if_seen table s t j e v Overtaken is late w inside = ((inside, tt), 
 not_updated_if_seen table s t j e v NoArena is late w inside = ((inside, tt), goes_seen table (port_at s) (port_at t) [] w.goes (w.notes ∙ sym (append-nil (port_at s).notes)), late.1)
 not_updated_if_seen table s t j e v EpochsSpent is late w inside = ((inside, tt), goes_seen table (port_at s) (port_at t) [] w.goes (w.notes ∙ sym (append-nil (port_at s).notes)), ap (λ (n : ℕ). n + 1) is ∙ late)
 
--- the same, from the seat that was taken out to the one that was put back
-module _ (m : MemoryView) (s : Seating) (t u : Stand) (s' : Seating) (p : PortView) (k : IsStandOf s t) (view : port_view s.badge.table_id (one_in s.badge.views) ≡ p) (own : IsOf m p)
-    (held : IsHeld m.table m.about u) (k' : IsSeatingOf u s') where
+-- the same, as callers see the port
+module _ (m : MemoryView) (t u : Stand) (p : PortView) (view : port_view t.seat.table_id (port_at t) ≡ p) (own : IsOf m p) (held : IsHeld m.table m.about u) where
   pub update_answered : (c : Change) (r : Exchanged) → UpdateEnded true c r t u → c.component < m.about.sizes.m →
-      calls.Updates p c.component c.value (public_update u.epoch r) (port_view s'.badge.table_id (one_in s'.badge.views))
+      calls.Updates p c.component c.value (public_update u.epoch r) (port_view u.seat.table_id (port_at u))
   update_answered c r w inside =
-      callers_see m s t u s' p k view own held k' (λ (a b : PortView). calls.Updates a c.component c.value (public_update u.epoch r) b)
+      callers_see m t u p view own held (λ (a b : PortView). calls.Updates a c.component c.value (public_update u.epoch r) b)
       (has_updated_seen m.table t u c r w (subst (λ (a : About). c.component < a.sizes.m) (sym (sym w.goes.about ∙ held.own)) inside))
 
   pub update_refused : (j v : ℕ) (cause : Refused) → IsLate 16 t cause u → CameBy true t u → j < m.about.sizes.m →
-      calls.IsRefused p (call.Update j v) cause (port_view s'.badge.table_id (one_in s'.badge.views))
+      calls.IsRefused p (call.Update j v) cause (port_view u.seat.table_id (port_at u))
   update_refused j v cause late w inside =
-      callers_see m s t u s' p k view own held k' (λ (a b : PortView). calls.IsRefused a (call.Update j v) cause b)
+      callers_see m t u p view own held (λ (a b : PortView). calls.IsRefused a (call.Update j v) cause b)
       (not_updated_seen m.table t u j v cause (sym held.epoch) late w (subst (λ (a : About). j < a.sizes.m) (sym (sym w.goes.about ∙ held.own)) inside))
 
   pub update_if_answered : (a : Asked) (r : UpdatedIf) → HasUpdatedIf a r t u → a.component < m.about.sizes.m →
-      calls.UpdatesIf p a.component a.expected a.value r (port_view s'.badge.table_id (one_in s'.badge.views))
+      calls.UpdatesIf p a.component a.expected a.value r (port_view u.seat.table_id (port_at u))
   update_if_answered a r w inside =
-      callers_see m s t u s' p k view own held k' (λ (x y : PortView). calls.UpdatesIf x a.component a.expected a.value r y)
+      callers_see m t u p view own held (λ (x y : PortView). calls.UpdatesIf x a.component a.expected a.value r y)
       (has_updated_if_seen m.table t u a r w (subst (λ (b : About). a.component < b.sizes.m) (sym (sym w.goes.about ∙ held.own)) inside))
 
   pub update_if_refused : (j e v : ℕ) (cause : Refused) → IsLate 16 t cause u → CameBy true t u → j < m.about.sizes.m →
-      calls.IsRefused p (call.UpdateIf j e v) cause (port_view s'.badge.table_id (one_in s'.badge.views))
+      calls.IsRefused p (call.UpdateIf j e v) cause (port_view u.seat.table_id (port_at u))
   update_if_refused j e v cause late w inside =
-      callers_see m s t u s' p k view own held k' (λ (a b : PortView). calls.IsRefused a (call.UpdateIf j e v) cause b)
+      callers_see m t u p view own held (λ (a b : PortView). calls.IsRefused a (call.UpdateIf j e v) cause b)
       (not_updated_if_seen m.table t u j e v cause (sym held.epoch) late w (subst (λ (a : About). j < a.sizes.m) (sym (sym w.goes.about ∙ held.own)) inside))

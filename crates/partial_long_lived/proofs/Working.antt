@@ -1,6 +1,6 @@
 -- What the owner of an arena has behind its steps.
-use Rattle.partial_long_lived.proofs.Common.{ℕ, ◌≡◌, ◌≢◌, ◌+◌, ◌-◌, ◌%◌, ◌<◌, ◌≤◌, Bool, true, cond, Option, Some, None, IfSome, refl, sym, ap, subst, ◌∙◌, inl, inr, arith, nat_lt, lt-ltb, Layout, first_free, pool_base, Place, arena_limit, entering_mark, marked, OwnedArena, Stands, cleaner, having_loaded, owning_port, resting_arena, not_below, About, Stand, SeatedPort, port_at, LoadsPort, SeatPublishes, PutsPort, Sets, becomes, elsewhere, port_loaded, port_put, unpacked, HasLoadedPort, IsRight, MayPutPort, OfOwned, Owns, PutsBy, SetsLists, SetsNext, HasSetWords, FindsClear}
-use Rattle.partial_long_lived.proofs.Sets.{alike, unlike}
+use Rattle.partial_long_lived.proofs.Common.{ℕ, ◌≡◌, ◌≢◌, ◌+◌, ◌-◌, ◌%◌, ◌<◌, ◌≤◌, Bool, true, cond, Option, Some, None, IfSome, refl, sym, ap, subst, ◌∙◌, inl, inr, arith, nat_lt, lt-ltb, Layout, first_free, Place, arena_limit, entering_mark, marked, OwnedArena, Stands, at_next_port, having_loaded, owning_port, resting_arena, not_below, About, Stand, SeatedPort, port_at, LoadsPort, SeatPublishes, PutsPort, Sets, becomes, elsewhere, port_loaded, port_put, unpacked, HasLoadedPort, IsRight, MayPutPort, OfOwned, Owns, PutsBy, SetsLists, SetsValue, HasControl, Control, behind_value, behind_values, SetsNext, HasSetWords, FindsClear}
+use Rattle.partial_long_lived.proofs.Sets.{alike, unlike, value_behind}
 
 -- a step by the arena that the port owns
 own_told : (R : OwnedArena → SeatedPort → ℕ → SeatedPort → Type 0) (x : SeatedPort) (a : ℕ) (y : SeatedPort) (o : OwnedArena) → x.port.control.owned ≡ Some o → OfOwned R x a y → R o x a y
@@ -12,8 +12,20 @@ right_low about x v i own right = subst (λ (a : About). i < first_free a.sizes 
   where
     by : (z : Layout) → IsRight x v i → i < first_free x.about.sizes + x.about.sizes.m
     by z (inl r) = let low = r.within in omega (arith, low)
-    by z (inr (inl r)) = let low = r.inside in let at = r.at in omega (arith, low, at)
-    by z (inr (inr r)) = let low = r.inside in let at = r.at in omega (arith, low, at)
+    by z (inr r) = let low = r.inside in let at = r.at in omega (arith, low, at)
+
+-- the port with the same control has set as much
+pub set_kept : (s t : Stand) (y q i : ℕ) → HasControl s t → HasSetWords s y q i → HasSetWords t y q i
+set_kept s t y q i same w = record {
+  stands = ap (λ (c : Control). c.entering) same ∙ w.stands;
+  owned = w.owned;
+  is = ap (λ (c : Control). c.owned) same ∙ w.is;
+  arena = w.arena;
+  looked = w.looked;
+  clean = w.clean;
+  mark = w.mark;
+  set = w.set;
+}
 
 -- the port with another state of its arena
 module _ (s t : Stand) (o : OwnedArena) (is : port_at t ≡ becomes (port_at s) (port_at s).began (owning_port (port_at s).port o)) (stands : (port_at s).port.control.entering ≡ Stands) where
@@ -35,10 +47,18 @@ module _ (s t : Stand) (y q i a : ℕ) (w : HasSetWords s y q i) where
       let r : Sets o (o.set + 1) (port_at s) a (port_at t) = own_told (λ o. Sets o (o.set + 1)) (port_at s) a (port_at t) o w.is told in
       works_then s t (record o { set = o.set + 1 }) r w.stands y q (i + 1) w.arena w.looked w.clean w.mark (ap (λ n. n + 1) w.set)
 
-  pub set_lists_works : (z : Layout) → (port_at s).about.sizes ≡ z → SetsLists (port_at s) a (port_at t) → HasSetWords t y q (pool_base z)
+  pub set_lists_works : (z : Layout) → (port_at s).about.sizes ≡ z → SetsLists (port_at s) a (port_at t) → HasSetWords t y q (behind_values z 0)
   set_lists_works z same told =
-      let r : Sets o (pool_base (port_at s).about.sizes) (port_at s) a (port_at t) = own_told (λ o. Sets o (pool_base (port_at s).about.sizes)) (port_at s) a (port_at t) o w.is told in
-      works_then s t (record o { set = pool_base (port_at s).about.sizes }) r w.stands y q (pool_base z) w.arena w.looked w.clean w.mark (ap pool_base same)
+      let n : Layout → ℕ = λ z. behind_values z 0 in
+      let r : Sets o (n (port_at s).about.sizes) (port_at s) a (port_at t) = own_told (λ o. Sets o (n (port_at s).about.sizes)) (port_at s) a (port_at t) o w.is told in
+      works_then s t (record o { set = n (port_at s).about.sizes }) r w.stands y q (n z) w.arena w.looked w.clean w.mark (ap n same)
+
+  pub set_value_works : (z : Layout) → (port_at s).about.sizes ≡ z → (j : ℕ) → j < z.m → i ≡ behind_values z j → SetsValue (port_at s) a (port_at t) → HasSetWords t y q (behind_values z (j + 1))
+  set_value_works z same j low at told =
+      let n : OwnedArena → ℕ = λ o. behind_value (port_at s).about.sizes o.set in
+      let r : Sets o (n o) (port_at s) a (port_at t) = own_told (λ o. Sets o (n o)) (port_at s) a (port_at t) o w.is told in
+      works_then s t (record o { set = n o }) r w.stands y q (behind_values z (j + 1)) w.arena w.looked w.clean w.mark
+      (ap (λ (z : Layout). behind_value z o.set) same ∙ ap (behind_value z) (w.set ∙ at) ∙ value_behind z j low)
 
   pub find_clear_works : (z : Layout) → (port_at s).about.sizes ≡ z → (n : ℕ) → n ≡ z.slots - a → OfOwned FindsClear (port_at s) a (port_at t) → HasSetWords t y q n
   find_clear_works z same n is told =
@@ -67,18 +87,18 @@ module _ (s t : Stand) (y q a : ℕ) (w : HasSetWords s y q 0) (told : OfOwned L
   unmarked : a < entering_mark → port_loaded a own ≡ elsewhere a own
   unmarked low = ap (λ (c : Bool). cond c (elsewhere a own) holding) (lt-ltb a entering_mark low)
 
-  is_away : a < entering_mark → a % arena_limit ≢ y → port_loaded a own ≡ cleaner own
-  is_away low ne = unmarked low ∙ ap (λ (c : Bool). cond c own (cleaner own)) (unlike (unpacked a).arena own.arena (λ same. ne (same ∙ w.arena)))
+  is_away : a < entering_mark → a % arena_limit ≢ y → port_loaded a own ≡ at_next_port own
+  is_away low ne = unmarked low ∙ ap (λ (c : Bool). cond c own (at_next_port own)) (unlike (unpacked a).arena own.arena (λ same. ne (same ∙ w.arena)))
 
   is_there : a < entering_mark → a % arena_limit ≡ y → port_loaded a own ≡ own
-  is_there low same = unmarked low ∙ ap (λ (c : Bool). cond c own (cleaner own)) (alike (unpacked a).arena own.arena (same ∙ sym w.arena))
+  is_there low same = unmarked low ∙ ap (λ (c : Bool). cond c own (at_next_port own)) (alike (unpacked a).arena own.arena (same ∙ sym w.arena))
 
   is_marked : entering_mark ≤ a → port_loaded a own ≡ holding
   is_marked from = ap (λ (c : Bool). cond c (elsewhere a own) holding) (not_below a entering_mark from)
 
   pub port_load : HasLoadedPort t y q a
   port_load = record {
-    away = λ low ne. works_then s t (cleaner own) (loaded_as (cleaner own) (is_away low ne)) w.stands y (q + 1) 0 w.arena w.looked (ap (λ n. n + 1) w.clean) refl w.set;
+    away = λ low ne. works_then s t (at_next_port own) (loaded_as (at_next_port own) (is_away low ne)) w.stands y (q + 1) 0 w.arena w.looked (ap (λ n. n + 1) w.clean) refl w.set;
     there = λ low same. works_then s t own (loaded_as own (is_there low same)) w.stands y q 0 w.arena w.looked w.clean w.mark w.set;
     marked = λ from.
         let now = loaded_as holding (is_marked from) in
@@ -108,16 +128,16 @@ module _ (s t : Stand) (y q m a : ℕ) (w : MayPutPort s y q m) (from : entering
   named : marked mark ≡ m
   named = omega (arith, from)
 
-  put_as : port_put mark a put ≡ cleaner put → HasSetWords t y (q + 1) 0
-  put_as same = works_then s t (cleaner put) (put_is ∙ ap (λ (o : OwnedArena). becomes (port_at s) (port_at s).began (owning_port (port_at s).port o)) same) w.holds.stands
+  put_as : port_put mark a put ≡ at_next_port put → HasSetWords t y (q + 1) 0
+  put_as same = works_then s t (at_next_port put) (put_is ∙ ap (λ (o : OwnedArena). becomes (port_at s) (port_at s).began (owning_port (port_at s).port o)) same) w.holds.stands
       y (q + 1) 0 w.holds.arena w.holds.looked (ap (λ n. n + 1) w.holds.clean) refl w.holds.set
 
   abbrev others : Bool → OwnedArena
   others c = cond c (elsewhere a put) put
 
   pub put_won : a ≡ m → HasSetWords t y (q + 1) 0
-  put_won same = put_as (ap (λ (c : Bool). cond c (cleaner put) (others (nat_lt a entering_mark))) (alike a (marked mark) (same ∙ sym named)))
+  put_won same = put_as (ap (λ (c : Bool). cond c (at_next_port put) (others (nat_lt a entering_mark))) (alike a (marked mark) (same ∙ sym named)))
 
   pub put_away : a < entering_mark → a % arena_limit ≢ y → HasSetWords t y (q + 1) 0
-  put_away low ne = put_as (ap (λ (c : Bool). cond c (cleaner put) (others (nat_lt a entering_mark))) (unlike a (marked mark) (λ same. absurd (omega (arith, same, low))))
-      ∙ ap others (lt-ltb a entering_mark low) ∙ ap (λ (c : Bool). cond c put (cleaner put)) (unlike (unpacked a).arena put.arena (λ same. ne (same ∙ w.holds.arena))))
+  put_away low ne = put_as (ap (λ (c : Bool). cond c (at_next_port put) (others (nat_lt a entering_mark))) (unlike a (marked mark) (λ same. absurd (omega (arith, same, low))))
+      ∙ ap others (lt-ltb a entering_mark low) ∙ ap (λ (c : Bool). cond c put (at_next_port put)) (unlike (unpacked a).arena put.arena (λ same. ne (same ∙ w.holds.arena))))

@@ -7,6 +7,5 @@ pub mod Ports
 pub mod Refusals
 pub mod Resting
 pub mod Rule
-pub mod Seating
 pub mod Shape
 pub mod Sized

@@ -131,11 +131,6 @@ abbrev pub one_of : List SeatedPort → SeatedPort
 one_of [] = nobody
 one_of (x ∷ xs) = x
 
--- the first seat of the first view
-abbrev pub one_in : List (List SeatedPort) → SeatedPort
-one_in [] = nobody
-one_in (v ∷ vs) = one_of v
-
 -- the first port of a view, as a view of its own
 abbrev pub first_port : List SeatedPort → List SeatedPort
 first_port [] = []

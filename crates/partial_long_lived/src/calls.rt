@@ -9,7 +9,7 @@ ghost use Rattle.partial_long_lived.specs.Ports.{IsOf};
 use crate::answers::{Updated, UpdatedIf};
 use crate::error::Refused;
 use crate::long_lived::LongLived;
-use crate::meet::meet;
+use crate::meet::{meet, take_out};
 use crate::port::Port;
 use crate::read::{read_here, read_late};
 use crate::scan::{public_borrowed, scan_from};
@@ -17,7 +17,6 @@ use crate::stamped::scan_stamped;
 use crate::unchanged::unchanged;
 use crate::update::update;
 use crate::update_if::{Asked, update_if};
-use partial_core::Change;
 use partial_lines::Scanned;
 
 impl LongLived {
@@ -40,18 +39,11 @@ impl LongLived {
         if component >= self.shape.sizes.m() {
             return Err(Refused::Component);
         }
-        let change = Change {
-            component,
-            expected: None,
-            value,
-        };
-        let mut stand = me.seating.take();
         let words = &self.table.shared;
-        let ended = update(words, &mut stand, &mut me.core, change, &mut me.spent);
-        let epoch = stand.epoch;
-        me.seating.keep(stand);
+        let stand = &mut me.stand;
+        let ended = update(words, stand, &mut me.core, component, value, &mut me.spent);
         match ended {
-            Ok(exchanged) => Ok(Updated::of(epoch, exchanged)),
+            Ok(exchanged) => Ok(Updated::of(me.stand.epoch, exchanged)),
             Err(cause) => Err(cause),
         }
     }
@@ -88,11 +80,8 @@ impl LongLived {
             expected,
             value,
         };
-        let mut stand = me.seating.take();
         let words = &self.table.shared;
-        let ended = update_if(words, &mut stand, &mut me.core, asked, &mut me.spent);
-        me.seating.keep(stand);
-        ended
+        update_if(words, &mut me.stand, &mut me.core, asked, &mut me.spent)
     }
 
     /// Reads component `component`: its value and its stamp, as they stood at one moment of the call. No two updates
@@ -110,19 +99,10 @@ impl LongLived {
             return Err(Refused::Component);
         }
         let words = &self.table.shared;
-        let mut stand = me.seating.take();
-        let found = read_here(words, &mut stand, component);
-        me.seating.keep_here(stand);
-        if let Some((value, stamp)) = found {
+        if let Some((value, stamp)) = read_here(words, &mut me.stand, component) {
             return Ok((value, stamp));
         }
-        let late = read_late(
-            words,
-            &mut me.seating,
-            &mut me.core,
-            &mut me.spent,
-            component,
-        );
+        let late = read_late(words, &mut me.stand, &mut me.core, &mut me.spent, component);
         Ok(late)
     }
 
@@ -156,17 +136,15 @@ impl LongLived {
             return Err(Refused::Component);
         }
         let words = &self.table.shared;
-        let mut stand = me.seating.take();
+        let stand = &mut me.stand;
         let kept = me.collected.as_mut_slice();
         let core = &mut me.core;
         let spent = &mut me.spent;
-        let scanned = scan_from(words, &mut stand, core, spent, which, kept, into);
-        let epoch = stand.epoch;
-        me.seating.keep(stand);
+        let scanned = scan_from(words, stand, core, spent, which, kept, into);
         match scanned {
             Ok(Scanned { collects, borrowed }) => Ok(Scanned {
                 collects,
-                borrowed: public_borrowed(epoch, borrowed),
+                borrowed: public_borrowed(me.stand.epoch, borrowed),
             }),
             Err(cause) => Err(cause),
         }
@@ -206,17 +184,15 @@ impl LongLived {
             return Err(Refused::Component);
         }
         let words = &self.table.shared;
-        let mut stand = me.seating.take();
+        let stand = &mut me.stand;
         let kept = me.collected.as_mut_slice();
         let core = &mut me.core;
         let spent = &mut me.spent;
-        let scanned = scan_stamped(words, &mut stand, core, spent, which, kept, into, stamps);
-        let epoch = stand.epoch;
-        me.seating.keep(stand);
+        let scanned = scan_stamped(words, stand, core, spent, which, kept, into, stamps);
         match scanned {
             Ok(Scanned { collects, borrowed }) => Ok(Scanned {
                 collects,
-                borrowed: public_borrowed(epoch, borrowed),
+                borrowed: public_borrowed(me.stand.epoch, borrowed),
             }),
             Err(cause) => Err(cause),
         }
@@ -233,28 +209,25 @@ impl LongLived {
         ensures still { result ≡ true → StillStand me.old me.new which.now stamps.now }
         ensures differ { result ≡ false → Differ me.old me.new which.now stamps.now }
     {
-        let mut stand = me.seating.take();
-        let epoch = stand.epoch;
-        let answer = unchanged(&self.table.shared, &mut stand, which, stamps);
-        let entered = stand.epoch != epoch;
-        if entered {
+        let epoch = me.stand.epoch;
+        let answer = unchanged(&self.table.shared, &mut me.stand, which, stamps);
+        if me.stand.epoch != epoch {
             me.core.clear_marks();
             me.spent = false;
         }
-        me.seating.keep(stand);
         answer
     }
 
     /// Has two ports meet: afterwards each has observed all that either had observed before, so their later calls take
-    /// effect behind that. It makes at most 6 atomic steps, and notes nothing.
+    /// effect behind that. It makes at most 12 atomic steps, those that split and join seats among them, and notes nothing.
     pub fn meet(&self, first: &mut Port, second: &mut Port)
         requires { IsOf self.now first.old × IsOf self.now second.old }
         ensures same { IsOf self.now first.new × IsOf self.now second.new }
         ensures met { Meets first.old second.old first.new second.new }
     {
         let words = &self.table.shared;
-        let one = first.seating.take();
-        let other = second.seating.take();
+        let one = take_out(words, &mut first.stand);
+        let other = take_out(words, &mut second.stand);
         let first_epoch = one.epoch;
         let second_epoch = other.epoch;
         let (one, other) = meet(words, one, other);
@@ -266,8 +239,8 @@ impl LongLived {
             second.core.clear_marks();
             second.spent = false;
         }
-        first.seating.keep(one);
-        second.seating.keep(other);
+        first.stand = one;
+        second.stand = other;
     }
 }
 

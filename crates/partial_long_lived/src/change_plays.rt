@@ -95,6 +95,16 @@ impl Play<(), View> for SetLists {
     ghost then = { λ _. tells SetsLists };
 }
 
+/// The store of the value of the next initial record.
+pub struct SetValue;
+
+impl Play<(), View> for SetValue {
+    ghost use Rattle.partial_long_lived.specs.Inner.Steps.{tells};
+    ghost use Rattle.partial_long_lived.specs.Inner.Changing.{SetsValue};
+
+    ghost then = { λ _. tells SetsValue };
+}
+
 /// The load of a component word that is sealed, for what the next epoch begins with.
 pub struct Find;
 

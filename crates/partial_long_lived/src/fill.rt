@@ -1,17 +1,16 @@
 //! How the owner of an arena sets its words to those with which the next epoch begins.
 
 ghost use Rattle.std.specs.Prelude.{◌≡◌, ◌+◌, ◌<◌, ◌≤◌, []};
-ghost use Rattle.partial_words.specs.Layout.{first_free, list_base, pool_base, initial_record};
+ghost use Rattle.partial_words.specs.Layout.{first_free, list_base};
 ghost use Rattle.partial_words.specs.Chain.{opening_word};
-ghost use Rattle.partial_words.specs.Record.{plain_record_size};
 ghost use Rattle.partial_long_lived.specs.Inner.Held.{IsHeld, port_at};
-ghost use Rattle.partial_long_lived.specs.Inner.Changing.{HasPassed, IsRight, Stays, HasSetWords};
+ghost use Rattle.partial_long_lived.specs.Inner.Changing.{HasPassed, IsRight, Stays, HasSetWords, behind_values};
 
-use crate::change_plays::{FindClear, SetLists, SetWord};
+use crate::change_plays::{FindClear, SetLists, SetValue, SetWord};
 use crate::find::{find_stamp, find_value};
 use crate::rule::Words;
 use crate::stand::Stand;
-use partial_words::{Sizes, prev_word, value_word, view_word};
+use partial_words::{Sizes, value_word};
 
 /// Sets all words of the arena.
 pub fn fill(words: &Words, stand: &mut Stand, arena: u32)
@@ -74,7 +73,7 @@ fn find_clear(words: &Words, stand: &mut Stand, arena: u32) -> u32
 }
 
 // Sets the words before the slots, from the last one down: counters and components. An opening asks nothing of list
-// words.
+// words, and the first word of an initial record is 0 in any arena.
 fn fill_front(words: &Words, stand: &mut Stand, arena: u32)
     requires held { IsHeld words.now.table_id words.now.key stand.old }
     requires works { HasSetWords stand.old arena words.now.key.ports words.now.key.sizes.slots }
@@ -83,7 +82,7 @@ fn fill_front(words: &Words, stand: &mut Stand, arena: u32)
     ensures held { IsHeld words.now.table_id words.now.key stand.new }
     ensures stays { Stays stand.old stand.new }
     ensures passed { HasPassed stand.old stand.new }
-    ensures works { HasSetWords stand.new arena words.now.key.ports (pool_base words.now.key.sizes) }
+    ensures works { HasSetWords stand.new arena words.now.key.ports (behind_values words.now.key.sizes 0) }
 {
     let sizes = stand.shape.sizes;
     let last = sizes.list_base() - 1;
@@ -110,10 +109,10 @@ fn front_word(sizes: &Sizes, word: u32) -> u64
     }
 }
 
-// Sets the initial record of a component.
+// Sets the value in the initial record of a component. The other words of that record are 0 in any arena.
 fn fill_record(words: &Words, stand: &mut Stand, arena: u32, component: u32)
     requires held { IsHeld words.now.table_id words.now.key stand.old }
-    requires works { HasSetWords stand.old arena words.now.key.ports (initial_record words.now.key.sizes component) }
+    requires works { HasSetWords stand.old arena words.now.key.ports (behind_values words.now.key.sizes component) }
     requires inside { arena < words.now.key.arenas }
     requires within { component < words.now.key.sizes.m }
     requires sealed { words.now.key.sizes.m ≤ (port_at stand.old).port.passed }
@@ -121,13 +120,12 @@ fn fill_record(words: &Words, stand: &mut Stand, arena: u32, component: u32)
     ensures stays { Stays stand.old stand.new }
     ensures passed { HasPassed stand.old stand.new }
     ensures works { HasSetWords stand.new arena words.now.key.ports
-        (initial_record words.now.key.sizes component + plain_record_size) }
+        (behind_values words.now.key.sizes (component + 1)) }
 {
-    let at = stand.shape.sizes.initial_record(component);
-    set_word(words, stand, arena, prev_word(u64::from(at)) as u32, 0);
     let value = find_value(words, stand, component);
-    set_word(words, stand, arena, value_word(u64::from(at)) as u32, value);
-    set_word(words, stand, arena, view_word(u64::from(at)) as u32, 0);
+    let record = u64::from(stand.shape.sizes.initial_record(component));
+    let at = stand.shape.set_word(arena, value_word(record) as u32) as usize;
+    words.store::<SetValue>(&mut stand.seat, at, value);
 }
 
 // Sets the stamp that a component carries into the next epoch.
@@ -164,7 +162,7 @@ fn set_word(words: &Words, stand: &mut Stand, arena: u32, number: u32, value: u6
     words.store::<SetWord>(&mut stand.seat, at, value);
 }
 
-// Sets the last of the words before the list words, which stand for set then.
+// Sets the last of the words before the list words. Those before the first value count as set then.
 fn set_lists(words: &Words, stand: &mut Stand, arena: u32, number: u32, value: u64)
     requires held { IsHeld words.now.table_id words.now.key stand.old }
     requires works { HasSetWords stand.old arena words.now.key.ports number }
@@ -175,7 +173,7 @@ fn set_lists(words: &Words, stand: &mut Stand, arena: u32, number: u32, value: u
     ensures held { IsHeld words.now.table_id words.now.key stand.new }
     ensures stays { Stays stand.old stand.new }
     ensures passed { HasPassed stand.old stand.new }
-    ensures works { HasSetWords stand.new arena words.now.key.ports (pool_base words.now.key.sizes) }
+    ensures works { HasSetWords stand.new arena words.now.key.ports (behind_values words.now.key.sizes 0) }
 {
     let at = stand.shape.set_word(arena, number) as usize;
     words.store::<SetLists>(&mut stand.seat, at, value);

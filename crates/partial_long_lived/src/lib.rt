@@ -29,7 +29,6 @@ mod read;
 mod rule;
 mod scan;
 mod seal;
-mod seating;
 mod shape;
 mod stamped;
 mod stand;

@@ -14,8 +14,9 @@ use crate::rule::Words;
 use crate::stand::Stand;
 use partial_lines::Makes;
 use partial_words::Step;
+use std::convert::Infallible;
 
-/// The steps of the call of a port, made in its arena.
+/// The steps of the call of a port, made in its arena. No call is broken off.
 #[derive(Drop)]
 pub struct ArenaLines<'a> {
     /// The words that all threads share.
@@ -25,6 +26,8 @@ pub struct ArenaLines<'a> {
 }
 
 impl<'a> Makes for ArenaLines<'a> {
+    type Break = Infallible;
+
     ghost goes = { λ l. IsGoing l.words.now.table_id l.words.now.key l.stand.now };
 
     ghost machine = { λ l. machine_at l.stand.now };
@@ -33,13 +36,13 @@ impl<'a> Makes for ArenaLines<'a> {
         ComesTo l.stand.now k.stand.now };
 
     #[inline(always)]
-    fn make(&mut self, step: Step) -> u64 {
-        make(self.words, self.stand, step)
+    fn make(&mut self, step: Step) -> Result<u64, Infallible> {
+        Ok(make(self.words, self.stand, step))
     }
 
     #[inline(always)]
-    fn load(&mut self, word: u64) -> u64 {
-        make_load(self.words, self.stand, word)
+    fn load(&mut self, word: u64) -> Result<u64, Infallible> {
+        Ok(make_load(self.words, self.stand, word))
     }
 
     ghost sound = { λ l w. let m = w.under.3 in m.made.sound };

@@ -14,8 +14,8 @@ use crate::open_error::OpenError;
 use crate::options::{Options, shape};
 use crate::port::Port;
 use crate::rule::{About, Deals, Gathers, Lawful, View};
-use crate::seating::Seating;
 use crate::shape::Shape;
+use crate::stand::Stand;
 use atomic_table::Table;
 use partial_core::Core;
 use partial_model::{Opening, Sequence};
@@ -118,8 +118,8 @@ impl LongLived {
             let collected = vec![in alloc; 0; shape.sizes.m() as usize]?;
             let token = table.shared.split_seat::<Deals>(&mut seat);
             all.push_reserved(Port {
-                seating: Seating {
-                    badge: token.into_badge(),
+                stand: Stand {
+                    seat: token,
                     shape,
                     number,
                     epoch: 0,

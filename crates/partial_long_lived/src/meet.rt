@@ -30,6 +30,24 @@ pub fn meet(words: &Words, first: Stand, second: Stand) -> (Stand, Stand)
     (first, second)
 }
 
+/// Takes the port of a seat out for a meeting, which needs the seat by value. The seat that is left is of no port.
+pub fn take_out(words: &Words, stand: &mut Stand) -> Stand
+    requires held { IsHeld words.now.table_id words.now.key stand.old }
+    ensures held { IsHeld words.now.table_id words.now.key result }
+    ensures kept { StaysAt stand.old result }
+    ensures same { port_at result ≡ port_at stand.old }
+{
+    Stand {
+        seat: words.split_seat::<Deals>(&mut stand.seat),
+        shape: stand.shape,
+        epoch: stand.epoch,
+        base: stand.base,
+        number: stand.number,
+        arena: stand.arena,
+        passed: stand.passed,
+    }
+}
+
 // The same where the first port stands in no later epoch than the second one.
 fn meet_later(words: &Words, earlier: Stand, later: Stand) -> (Stand, Stand)
     requires earlier { IsHeld words.now.table_id words.now.key earlier }

@@ -6,7 +6,7 @@ ghost use Rattle.partial_long_lived.specs.Inner.Steps.{IsSeatKnown};
 ghost use Rattle.partial_long_lived.specs.Ports.{Knows, port_view};
 
 use crate::rule::Token;
-use crate::seating::Seating;
+use crate::stand::Stand;
 use partial_core::Core;
 use std::marker::Model;
 
@@ -14,7 +14,7 @@ use std::marker::Model;
 /// memory, its number, the history that it has observed, and the notes of its calls.
 #[derive(Drop)]
 pub struct Port {
-    pub(crate) seating: Seating,
+    pub(crate) stand: Stand,
     pub(crate) core: Core,
     // Whether the port has claimed past the limit in its epoch, or its machine has met a seal there.
     pub(crate) spent: bool,
@@ -25,7 +25,7 @@ pub struct Port {
 }
 
 impl Model for Port {
-    ghost use Rattle.partial_long_lived.specs.Rule.{one_in};
+    ghost use Rattle.partial_long_lived.specs.Inner.Held.{port_at};
     ghost use Rattle.partial_long_lived.specs.Ports.{PortView, port_view};
     ghost use Rattle.std.specs.Prelude.{◌≡◌};
     ghost use Rattle.std.specs.Vec.{vec_len};
@@ -33,9 +33,9 @@ impl Model for Port {
 
     ghost Value = { PortView };
 
-    ghost view = { λ p. port_view p.seating.badge.table_id (one_in p.seating.badge.views) };
+    ghost view = { λ p. port_view p.stand.seat.table_id (port_at p.stand) };
 
-    ghost invariant = { λ p. IsResting p.seating p.core p.spent × (vec_len p.collected ≡ p.seating.shape.sizes.m) };
+    ghost invariant = { λ p. IsResting p.stand p.core p.spent × (vec_len p.collected ≡ p.stand.shape.sizes.m) };
 }
 
 impl Port {
@@ -46,7 +46,7 @@ impl Port {
         ensures value { result ≡ self.now.number }
         ensures knows { Knows self.now.memory.about self.now.number self.now.seen self.now.notes }
     {
-        self.seating.number
+        self.stand.number
     }
 
     // Takes the seat of a port that makes no further call.
@@ -56,13 +56,13 @@ impl Port {
             IsSeatKnown x }
     {
         let Port {
-            seating,
+            stand,
             core: _,
             spent: _,
             collected: _,
             apart: _,
         } = self;
-        let Seating { badge, .. } = seating;
-        badge.into_seat()
+        let Stand { seat, .. } = stand;
+        seat
     }
 }

@@ -207,7 +207,7 @@ fn announce(
     ensures copied { into.new ≡ map (slice_index core.new.rows.values) which.now }
 {
     let mut lines = ArenaLines { words, stand };
-    let Ok(scanned) = partial_lines::scan(&mut lines, core, which, at, into) else {
+    let Ok(Ok(scanned)) = partial_lines::scan(&mut lines, core, which, at, into) else {
         unreachable!()
     };
     scanned

@@ -79,63 +79,92 @@ pub fn update(
     words: &Words,
     stand: &mut Stand,
     core: &mut Core,
-    change: Change,
+    component: u32,
+    value: u64,
     spent: &mut bool,
 ) -> Result<Exchanged, Refused>
     requires held { IsHeld words.now.table_id words.now.key stand.old }
     requires rests { RestsAt stand.old core.old spent.old }
-    requires inside { change.component < words.now.key.sizes.m }
-    requires plain { change.expected ≡ None }
+    requires inside { component < words.now.key.sizes.m }
     ensures held { IsHeld words.now.table_id words.now.key stand.new }
     ensures rests { RestsAt stand.new core.new spent.new }
-    ensures updated { IfOk result (λ r. UpdateEnded true change r stand.old stand.new) }
+    ensures updated { IfOk result (λ r. UpdateEnded true (asked_change component None value) r stand.old stand.new) }
     ensures refused { IfErr result (λ cause. IsLate 16 stand.old cause stand.new × CameBy true stand.old stand.new) }
 {
-    if !*spent {
-        return rounds(words, stand, core, change, spent, true, MOST_CHANGES);
+    if *spent {
+        return update_late(words, stand, core, component, value, spent, true);
     }
-    if let Err(cause) = renew(words, stand, core, true) {
+    let attempted = attempt(words, stand, core, component, value, spent, None, true);
+    if let Some(exchanged) = attempted.exchanged() {
+        return Ok(exchanged);
+    }
+    update_late(words, stand, core, component, value, spent, false)
+}
+
+// Makes an update of a port that is spent in its epoch, from a change of epoch on. `first` says that the first step of that
+// is the first one of the call.
+//
+// It isn't put in line, so that an update in the port's epoch pays nothing for it.
+#[inline(never)]
+fn update_late(
+    words: &Words,
+    stand: &mut Stand,
+    core: &mut Core,
+    component: u32,
+    value: u64,
+    spent: &mut bool,
+    first: bool,
+) -> Result<Exchanged, Refused>
+    requires held { IsHeld words.now.table_id words.now.key stand.old }
+    requires idle { IsIdle stand.old }
+    requires rests { IsOwnMachine (port_at stand.old) core.old }
+    requires inside { component < words.now.key.sizes.m }
+    ensures held { IsHeld words.now.table_id words.now.key stand.new }
+    ensures rests { RestsAt stand.new core.new spent.new }
+    ensures updated { IfOk result (λ r. UpdateEnded first (asked_change component None value) r stand.old stand.new) }
+    ensures refused { IfErr result (λ cause. IsLate 16 stand.old cause stand.new × CameBy first stand.old stand.new) }
+{
+    if let Err(cause) = renew(words, stand, core, first) {
+        *spent = true;
         return Err(cause);
     }
-    rounds(words, stand, core, change, spent, false, MOST_CHANGES - 1)
+    rounds(
+        words,
+        stand,
+        core,
+        component,
+        value,
+        spent,
+        MOST_CHANGES - 1,
+    )
 }
 
 // Makes an update of a port that is not spent, and changes the epoch behind each attempt that met a seal, so many times.
-// `first` says that the first step of the update is the first one of its call.
+// None of its steps is the first one of the call.
 #[inline(always)]
 fn rounds(
     words: &Words,
     stand: &mut Stand,
     core: &mut Core,
-    change: Change,
+    component: u32,
+    value: u64,
     spent: &mut bool,
-    first: bool,
     times: u32,
 ) -> Result<Exchanged, Refused>
     requires held { IsHeld words.now.table_id words.now.key stand.old }
     requires idle { IsIdle stand.old }
     requires may { MayCall (port_at stand.old) core.old }
-    requires inside { change.component < words.now.key.sizes.m }
-    requires plain { change.expected ≡ None }
-    requires some { 0 < times }
+    requires inside { component < words.now.key.sizes.m }
     ensures held { IsHeld words.now.table_id words.now.key stand.new }
     ensures idle { IsIdle stand.new }
     ensures rests { IsOwnMachine (port_at stand.new) core.new }
     ensures spare { spent.new ≡ false → MayCall (port_at stand.new) core.new }
-    ensures updated { IfOk result (λ r. UpdateEnded first change r stand.old stand.new) }
+    ensures updated { IfOk result (λ r. UpdateEnded false (asked_change component None value) r stand.old stand.new) }
     ensures refused { IfErr result (λ cause.
-        IsLate times stand.old cause stand.new × CameBy first stand.old stand.new) }
+        IsLate times stand.old cause stand.new × CameBy false stand.old stand.new) }
 {
-    let mut first_step = first;
     for _ in 0..times {
-        let Change {
-            component,
-            expected,
-            value,
-        } = change;
-        let attempted = attempt(
-            words, stand, core, component, value, spent, expected, first_step,
-        );
+        let attempted = attempt(words, stand, core, component, value, spent, None, false);
         if let Some(exchanged) = attempted.exchanged() {
             return Ok(exchanged);
         }
@@ -143,7 +172,6 @@ fn rounds(
             *spent = true;
             return Err(cause);
         }
-        first_step = false;
     }
     *spent = false;
     Err(Refused::Overtaken)
@@ -264,7 +292,7 @@ fn write(words: &Words, stand: &mut Stand, core: &mut Core, change: Change, old:
     ensures rests { RestsLike (machine_at stand.new) core.new }
 {
     let mut lines = ArenaLines { words, stand };
-    let Some(at) = put(&mut lines, core, change, old) else {
+    let Ok(Some(at)) = put(&mut lines, core, change, old) else {
         unreachable!()
     };
     at

@@ -1,8 +1,9 @@
 -- A look at the whole history in a meeting, and the ports of two seats that come together.
 use Rattle.partial_memory.proofs.Common.{ℕ, zero, suc, ◌≡◌, ◌<◌, ◌++◌, List, [], ◌∷◌, map, set, refl, sym, ap, subst, ◌∙◌, append_assoc, AllByRecursion, some, some-injective, some-ne-none, get_elem?, Me, keeps, Allows, Joins, Applied, all_at, all_join, all_before, all_after, port_of, with_seen, Lawful, FitsHistory, lawful_ports_fit, looks_stay_lawful, About, SeatedPort, AreByOpened, AreSeatedOf, AreOpened, IsIn, IsRuleKept, IsShuffle, parts_of, flatten, having_met, looks, set-get_or}
+use Rattle.partial_core.specs.Lawful.{LawfulAmong}
 use Rattle.partial_memory.proofs.Shuffles.{find, put_elsewhere}
 use Rattle.partial_memory.proofs.Views.{around, reordered}
-use Rattle.partial_memory.proofs.Steps.{parts_split, entries_opened}
+use Rattle.partial_memory.proofs.Steps.{among, parts_split, entries_opened}
 
 -- the state with the ports of a view that have seen all
 pub record SeenAll (about : About) (words : List ℕ) (log : List Applied) (b v a : List SeatedPort) : Type 0 where
@@ -20,9 +21,9 @@ see_all about words log b (x ∷ xs) a all own shuffle lawful opened =
     let P : SeatedPort → Type 0 = λ h. port_of h.part < about.ports in
     let f = find b x (xs ++ a) all shuffle in
     let y : SeatedPort = having_met log x in
-    let here : Lawful about.sizes about.opening words (parts_of f.before ++ x.part ∷ parts_of f.after) log =
+    let here : LawfulAmong about.sizes about.opening (among words f.before x f.after log) =
     subst (λ l. Lawful about.sizes about.opening words l log) (ap parts_of f.is ∙ parts_split f.before x f.after) lawful in
-    let look = looks_stay_lawful about.sizes about.opening words (parts_of f.before) x.part (parts_of f.after) log here in
+    let look = looks_stay_lawful about.sizes about.opening (among words f.before x f.after log) here in
     let fit = lawful_ports_fit about.sizes about.opening words (parts_of all) log lawful in
     let others = entries_opened about all log opened fit.others in
     let before : AllByRecursion P (f.before ++ x ∷ f.after) = subst (AllByRecursion P) f.is opened in

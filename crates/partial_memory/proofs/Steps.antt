@@ -1,6 +1,8 @@
 -- Each step that is due is allowed: whatever the table is then, the words and the ports of all seats stay those of a lawful state.
 use Rattle.partial_memory.proofs.Common.{ℕ, zero, suc, ◌≡◌, ◌+◌, ◌<◌, ◌==◌, ◌%◌, ◌^◌, ◌++◌, Bool, true, false, cond, Some, List, [], ◌∷◌, map, get_or, set, refl, sym, ap, subst, ◌∙◌, arith, AllByRecursion, some, get_elem?, Me, keeps, Allows, Applied, Step, Load, Store, Exchange, Add, word_of, answer_of, words_after, CoreState, step_of, all_at, all_join, all_before, all_after, Part, IsMachineOf, port_of, Lawful, LeadsOn, added_by, steps_stay_lawful, lawful_ports_fit, lawful_machines_are_ready, About, SeatedPort, AreOpened, AreByOpened, Told, IsRuleKept, IsShuffle, IsOne, one_of, parts_of, makes, Contains, set-get_or}
 use prog.Atomic.{either}
+use Rattle.partial_core.specs.Lawful.{LawfulAmong}
+use Rattle.partial_core.specs.Part.{PartAmong}
 use Rattle.partial_memory.proofs.Shuffles.{find}
 use Rattle.partial_memory.proofs.Views.{around}
 
@@ -21,6 +23,10 @@ told_of (Add w k) n = n
 pub parts_split : (before : List SeatedPort) (x : SeatedPort) (after : List SeatedPort) → parts_of (before ++ x ∷ after) ≡ parts_of before ++ x.part ∷ parts_of after
 parts_split [] x after = refl
 parts_split (b ∷ before) x after = ap (λ l. b.part ∷ l) (parts_split before x after)
+
+-- a memory as one of the ports stands in it
+abbrev pub among : List ℕ → List SeatedPort → SeatedPort → List SeatedPort → List Applied → PartAmong
+among words before x after log = record { words = words; before = parts_of before; part = x.part; after = parts_of after; log = log }
 
 either_cond : (b : Bool) (x y : ℕ) → either b x y ≡ cond b x y
 either_cond true x y = refl
@@ -54,11 +60,11 @@ entries_opened about xs (e ∷ log) w each = (contained_opened about.ports e.por
 module _ (words : List ℕ) (before : List SeatedPort) (x : SeatedPort) (after : List SeatedPort) (log : List Applied) (c : CoreState) (s : Step)
     (w : Lawful x.about.sizes x.about.opening words (parts_of (before ++ x ∷ after)) log) (opened : AreOpened x.about.ports (before ++ x ∷ after))
     (machine : IsMachineOf c x.part) (due : step_of c ≡ Some s) where
-  lawful_here : Lawful x.about.sizes x.about.opening words (parts_of before ++ x.part ∷ parts_of after) log
+  lawful_here : LawfulAmong x.about.sizes x.about.opening (among words before x after log)
   lawful_here = subst (λ l. Lawful x.about.sizes x.about.opening words l log) (parts_split before x after) w
 
-  pub leads : LeadsOn x.about.sizes x.about.opening words (parts_of before) x.part (parts_of after) log c s
-  leads = steps_stay_lawful x.about.sizes x.about.opening words (parts_of before) x.part (parts_of after) log c s lawful_here machine due
+  pub leads : LeadsOn x.about.sizes x.about.opening (among words before x after log) c s
+  leads = steps_stay_lawful x.about.sizes x.about.opening (among words before x after log) c s lawful_here machine due
 
   -- the port behind the step, and the history
   abbrev pub next : SeatedPort
@@ -79,7 +85,7 @@ module _ (words : List ℕ) (before : List SeatedPort) (x : SeatedPort) (after :
 
   pub told_here : Told c x (answer_of words s) next
   told_here =
-      let ready = lawful_machines_are_ready x.about.sizes x.about.opening words (parts_of before) x.part (parts_of after) log c lawful_here machine in
+      let ready = lawful_machines_are_ready x.about.sizes x.about.opening (among words before x after log) c lawful_here machine in
       let fit = lawful_ports_fit x.about.sizes x.about.opening (words_after words s) (parts_of (before ++ next ∷ after)) longer lawful_then in
       let seen : leads.y.seen ≡ longer = ap (λ (v : Part). v.seen) leads.tells.part in
       record {

@@ -17,8 +17,9 @@ use crate::rule::{GoesOn, MachineStep, Moment, Place, PutsOn, Words};
 use partial_core::{Change, Core};
 use partial_lines::Makes;
 use partial_words::{Step, announcement_size};
+use std::convert::Infallible;
 
-/// The steps of the call of a seat's port, made on the shared words.
+/// The steps of the call of a seat's port, made on the shared words. No call is broken off.
 #[derive(Drop)]
 pub struct SeatLines<'a> {
     /// The words that all threads share.
@@ -28,6 +29,8 @@ pub struct SeatLines<'a> {
 }
 
 impl<'a> Makes for SeatLines<'a> {
+    type Break = Infallible;
+
     ghost goes = { λ l. IsGoing l.words.now.table_id l.words.now.key l.seat.table_id l.seat.me };
 
     ghost machine = { λ l. machine_of l.seat.me };
@@ -35,13 +38,13 @@ impl<'a> Makes for SeatLines<'a> {
     ghost leads = { λ l k. (k.words ≡ l.words) × ComesTo (one_of l.seat.me.0) (one_of k.seat.me.0) };
 
     #[inline(always)]
-    fn make(&mut self, step: Step) -> u64 {
-        make(self.words, &mut self.seat, step)
+    fn make(&mut self, step: Step) -> Result<u64, Infallible> {
+        Ok(make(self.words, &mut self.seat, step))
     }
 
     #[inline(always)]
-    fn load(&mut self, word: u64) -> u64 {
-        make_load(self.words, &mut self.seat, word)
+    fn load(&mut self, word: u64) -> Result<u64, Infallible> {
+        Ok(make_load(self.words, &mut self.seat, word))
     }
 
     ghost sound = { λ l w. let m = w.under.3 in m.made.sound };

@@ -28,7 +28,7 @@ pub fn read(words: &Words, badge: &mut Badge<View>, core: &Core, component: u32)
     let mut seat = take_seat(badge);
     let stamp = begin_read::<Brand>(words, &mut seat, core, component);
     let mut lines = SeatLines { words, seat };
-    let value = partial_lines::read(&mut lines, stamp);
+    let Ok(value) = partial_lines::read(&mut lines, stamp);
     let SeatLines { words: _, seat } = lines;
     *badge = seat.into_badge();
     (value, stamp)

@@ -64,7 +64,7 @@ fn make_scan(
 {
     let at = begin_scan::<Brand>(words, &mut seat, core, which);
     let mut lines = SeatLines { words, seat };
-    let scanned = partial_lines::scan(&mut lines, core, which, at, into);
+    let Ok(scanned) = partial_lines::scan(&mut lines, core, which, at, into);
     let SeatLines { words: _, seat } = lines;
     (seat, scanned)
 }

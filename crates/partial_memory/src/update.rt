@@ -109,7 +109,7 @@ fn replace(words: &Words, seat: Place, core: &mut Core, change: Change, old: u64
         CallEnded b x (ending_reply change result.1) core.new (one_of result.0.me.0) }
 {
     let mut lines = SeatLines { words, seat };
-    let written = put(&mut lines, core, change, old);
+    let Ok(written) = put(&mut lines, core, change, old);
     let SeatLines {
         words: _,
         seat: mut behind,

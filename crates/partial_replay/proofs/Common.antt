@@ -24,6 +24,7 @@ pub use Rattle.partial_model.specs.Notes.{Noted, Fits, IsTrueOf, IsLegal, LegalN
 pub use Rattle.partial_model.specs.Outcome.{noted_of, places_by, places_written, wrote, Follows, RealTime, LegalOutcome, notes_of, IsInTime}
 pub use Rattle.partial_model.proofs.AllLemmas.{position_below, all_take}
 pub use Rattle.partial_model.proofs.HistoryLemmas.{opening_is, place_below, LastAt, last_at, last_entry-passed, stamp_all, last_entry-found}
+pub use Rattle.partial_model.proofs.ListLemmas.{some_same}
 pub use Rattle.partial_model.proofs.NotesLemmas.{AllByRecursion-append, AllByRecursion-get, AllByRecursion-push, LegalNotes-push, LegalNotes-grows, seen_by-push, places_written-push, slice_get_grows, slice_get_last, places_written-append, AllByRecursion-weaker, LegalNotes-last}
 pub use Rattle.partial_words.specs.declared.step.Event.{Event}
 pub use Rattle.partial_words.specs.declared.step.Step.{Step}
@@ -53,9 +54,9 @@ pub use Rattle.partial_replay.specs.declared.port.Port.{Port}
 pub use Rattle.partial_replay.specs.declared.port.UnderWay.{UnderWay}
 pub use Rattle.partial_replay.specs.declared.run.Run.{Run}
 pub use Rattle.partial_replay.specs.CallSteps.{Makes, HasSteps, IsFinishedAtOnce, IsRefusedAtOnce, IsCallRun, AreStepsOf}
-pub use Rattle.partial_replay.specs.Inner.PortState.{AreFinished, IsCallUnderWay, PortFits, end_of_call, ends_of, notes_in, unfinished_call, IsCallGoing, HasTurned, steps_under_way, IsFinishedCall, IsDoneAtOnce, entry_at, one_step_more, IsEndedCall, CallGoesOn, Ends, StepMade, PortMade, KeepsMade, began_at, ended_call, core_behind, AreWithin, ScanHasValues, MayAnswer, IsExchangeWithin, MayStep, KeepsFit, BeginsInTurn}
-pub use Rattle.partial_replay.specs.Inner.RunState.{PortsFit, IsRunOf, left_over, calls_in, FreshFrom, AreFreshPorts, AreListed, ArePlans, ArePortsMade, AreStarted, AreStartedBut, unvalued, IsBetweenTurns, TellsOutcome, left_for, port_left, port_left_at, IsReplayState, IsTurnReady, ChangesPortsOnly, IsSameOpening}
-pub use Rattle.partial_replay.specs.Inner.TurnState.{MakeTurns, HasTurns, StopsAtStep, StopAtSteps, IsPortDone, HasMadeTurns, BeganInTurns, lengths_so_far, HaveBegun, StayDone, StayStopped, StayStoppedBut, StayStoppedWith, GoesOnBy, own_turns, BeginsIn, StepsIn, GoesOnIn, moments_behind, TurnMade, StepsMade, TurnsMade}
+pub use Rattle.partial_replay.specs.Inner.PortState.{AreFinished, IsCallUnderWay, PortFits, end_of_call, ends_of, notes_in, unfinished_call, IsCallGoing, HasTurned, steps_under_way, IsFinishedCall, IsDoneAtOnce, entry_at, one_step_more, IsEndedCall, CallGoesOn, Ends, StepMade, PortMade, KeepsMade, began_at, ended_call, core_behind, event_of, AreWithin, ScanHasValues, MayAnswer, IsExchangeWithin, MayStep, KeepsFit, BeginsInTurn}
+pub use Rattle.partial_replay.specs.Inner.RunState.{ReplayState, state_of, PortAt, PortsFit, no_ports, first_port, IsRunOf, left_over, calls_in, FreshFrom, AreFreshPorts, AreListed, ArePlans, ArePortsMade, AreStarted, AreStartedBut, unvalued, IsBetweenTurns, TellsOutcome, left_for, port_left, port_left_at, IsTurnReady, ChangesPortsOnly, IsSameOpening}
+pub use Rattle.partial_replay.specs.Inner.TurnState.{MakeTurns, HasTurns, StopsAtStep, StopAtSteps, IsPortDone, HasMadeTurns, BeganInTurns, lengths_so_far, HaveBegun, StayDone, StayStopped, StayStoppedBut, StayStoppedWith, GoesOnBy, own_turns, BeginsIn, StepsIn, GoesOnIn, moments_behind, TurnMade, StepsMade, TurnsMade, HasReplayed}
 pub use Rattle.partial_replay.specs.Listed.{calls_by, AreFirstOf, AreAllMade, AreFew, EndInStep, steps_by, HaveMade, steps_in}
 pub use Rattle.partial_replay.specs.Place.{HasLeastPlace, Shows, IsLeastFrom, IsPlaceFrom, IsNoteFrom, prefix_from, HasNoneFrom}
 pub use Rattle.partial_replay.specs.Replayed.{IsReplayOf, turn_lengths}

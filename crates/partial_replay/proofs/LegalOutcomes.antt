@@ -1,5 +1,5 @@
 -- The calls that a replay tells are a legal outcome.
-use Rattle.partial_replay.proofs.Common.{ℕ, zero, suc, ◌⊎◌, map, take, ◌≡◌, ◌≢◌, ◌+◌, ◌<◌, ◌≤◌, ◌++◌, ◌==◌, Bool, true, false, cond, List, [], ◌∷◌, length, Option, Some, None, IfSome, IsSomeAnd, MatchOption, slice_get, refl, sym, ◌∙◌, ap, subst, inl, inr, arith, append_assoc, filter, filter_map, AllByRecursion, filter-append, filter_map-append, append-nil, length_push, map_push, ne_eqb, eqb_tells, Applied, Opening, Call, Called, Finish, Noted, LegalNotes, shown_by, place_of, noted_of, notes_of, places_written, Follows, RealTime, LegalOutcome, Layout, CoreState, most_steps, Event, AllByRecursion-append, Part, core_of, port_of, IsBetween, IsMachineOf, Port, UnderWay, HasLeastPlace, calls_by, AreFirstOf, AreAllMade, AreFew, IsSome, AreFinished, IsCallUnderWay, PortFits, end_of_call, ends_of, notes_in, unfinished_call, PortsFit, IsRunOf, left_over, calls_in}
+use Rattle.partial_replay.proofs.Common.{ℕ, zero, suc, ◌⊎◌, map, take, ◌≡◌, ◌≢◌, ◌+◌, ◌<◌, ◌≤◌, ◌++◌, ◌==◌, Bool, true, false, cond, List, [], ◌∷◌, length, Option, Some, None, IfSome, IsSomeAnd, MatchOption, slice_get, refl, sym, ◌∙◌, ap, subst, inl, inr, arith, append_assoc, filter, filter_map, AllByRecursion, filter-append, filter_map-append, append-nil, length_push, map_push, ne_eqb, eqb_tells, Applied, Opening, Call, Called, Finish, Noted, LegalNotes, shown_by, place_of, noted_of, notes_of, places_written, Follows, RealTime, LegalOutcome, Layout, CoreState, most_steps, AllByRecursion-append, Part, core_of, port_of, IsBetween, IsMachineOf, Port, UnderWay, HasLeastPlace, calls_by, AreFirstOf, AreAllMade, AreFew, IsSome, AreFinished, IsCallUnderWay, PortFits, end_of_call, ends_of, notes_in, unfinished_call, PortsFit, IsRunOf, left_over, calls_in, ReplayState, some_same, no_ports, first_port}
 use Rattle.partial_core.specs.Known.{notes_by}
 use Rattle.partial_replay.proofs.PortLaws.{take_next, same_eqb}
 use Rattle.partial_replay.proofs.Opens.{over_none, none_over}
@@ -50,53 +50,42 @@ over_other p port None way h = refl
 over_other p port (Some call) None h = refl
 
 -- a port that isn't p lists no call of port p
-split_other : (o : Opening) (log : List Applied) (p q : ℕ) (calls : List Call) (plans : List (List Call)) (x : Part) (port : Port) (ports : List Port) → q ≢ p → PortFits o log calls q x port →
+split_other : {o : Opening} {log : List Applied} {q : ℕ} {calls : List Call} {x : Part} {port : Port} (p : ℕ) (plans : List (List Call)) (ports : List Port) → q ≢ p → PortFits o log calls q x port →
     calls_by p (calls_in (calls ∷ plans) (port ∷ ports)) ≡ calls_by p (calls_in plans ports)
-split_other o log p q calls plans x port ports away w =
+split_other {log} {q} {calls} {port} p plans ports away w =
     split_calls p calls plans port ports
     ∙ ap (λ (l : List Called). (l ++ calls_by p (left_over port (slice_get calls (length port.finished.items)) port.under_way)) ++ calls_by p (calls_in plans ports))
     (other_filter (length log) q p 0 0 port.finished.items w.finished away)
     ∙ ap (λ (l : List Called). l ++ calls_by p (calls_in plans ports)) (over_other p port (slice_get calls (length port.finished.items)) port.under_way (λ h. away (sym w.number ∙ h)))
 
 -- ports behind number p list no call of port p, and neither do those before it
-pub none_listed : (o : Opening) (log : List Applied) (p q : ℕ) (plans : List (List Call)) (parts : List Part) (ports : List Port) → (p < q) ⊎ (q + length plans ≤ p) →
+pub none_listed : {o : Opening} {log : List Applied} {q : ℕ} {plans : List (List Call)} {parts : List Part} {ports : List Port} (p : ℕ) → (p < q) ⊎ (q + length plans ≤ p) →
     PortsFit o log q plans parts ports → calls_by p (calls_in plans ports) ≡ []
-none_listed o log p q [] [] [] out w = refl
-none_listed o log p q [] [] (t ∷ ports) out w = absurd w
-none_listed o log p q [] (x ∷ parts) ports out w = absurd w
-none_listed o log p q (c ∷ plans) [] ports out w = absurd w
-none_listed o log p q (c ∷ plans) (x ∷ parts) [] out w = absurd w
-none_listed o log p q (c ∷ plans) (x ∷ parts) (t ∷ ports) out w =
+none_listed p out no_ports = refl
+none_listed {q} p out (first_port {plans = plans} {ports = ports} f rest) =
     let away : q ≢ p = λ h. elim out [ inl less ↦ omega (arith, less, h) | inr more ↦ omega (arith, more, h) ] in
-    let rest : (p < q + 1) ⊎ (q + 1 + length plans ≤ p) = elim out [ inl less ↦ inl (omega (arith, less)) | inr more ↦ inr (omega (arith, more)) ] in
-    split_other o log p q c plans x t ports away w.0 ∙ none_listed o log p (q + 1) plans parts ports rest w.1
+    let behind : (p < q + 1) ⊎ (q + 1 + length plans ≤ p) = elim out [ inl less ↦ inl (omega (arith, less)) | inr more ↦ inr (omega (arith, more)) ] in
+    split_other p plans ports away f ∙ none_listed p behind rest
 
 -- the calls that a port has begun: the finished ones, and the one under way
 abbrev pub begun_by : List Call → Port → List Called
 begun_by calls port = port.finished.items ++ left_over port (slice_get calls (length port.finished.items)) port.under_way
 
-pub listed_at : (o : Opening) (log : List Applied) (q i : ℕ) (plans : List (List Call)) (parts : List Part) (ports : List Port) (calls : List Call) (port : Port) →
-    PortsFit o log q plans parts ports → slice_get plans i ≡ Some calls → slice_get ports i ≡ Some port → calls_by (q + i) (calls_in plans ports) ≡ begun_by calls port
-listed_at o log q i [] parts ports calls port w c t = let bad : None ≡ Some calls = c in cc
-listed_at o log q i (d ∷ plans) [] ports calls port w c t = absurd w
-listed_at o log q i (d ∷ plans) (x ∷ parts) [] calls port w c t = absurd w
-listed_at o log q zero (d ∷ plans) (x ∷ parts) (u ∷ ports) calls port w c t =
-    let is : d ≡ calls = cc in
-    let same : u ≡ port = cc in
-    let here : q + 0 ≡ q = omega arith in
-    ap (λ n. calls_by n (calls_in (d ∷ plans) (u ∷ ports))) here
+pub listed_at : {o : Opening} {log : List Applied} {q : ℕ} {plans : List (List Call)} {parts : List Part} {ports : List Port} (i p : ℕ) {calls : List Call} {port : Port} →
+    PortsFit o log q plans parts ports → p ≡ q + i → slice_get plans i ≡ Some calls → slice_get ports i ≡ Some port → calls_by p (calls_in plans ports) ≡ begun_by calls port
+listed_at i p {calls} no_ports n c t = let bad : None ≡ Some calls = c in cc
+listed_at {log} {q} zero p {calls} (first_port {calls = d} {plans = plans} {port = u} {ports = ports} f rest) n c t =
+    let here : p ≡ q = omega (arith, n) in
+    ap (λ k. calls_by k (calls_in (d ∷ plans) (u ∷ ports))) here
     ∙ split_calls q d plans u ports
     ∙ ap (λ (l : List Called). (l ++ calls_by q (left_over u (slice_get d (length u.finished.items)) u.under_way)) ++ calls_by q (calls_in plans ports))
-    (own_filter (length log) q 0 0 u.finished.items w.0.finished)
-    ∙ ap (λ (l : List Called). (u.finished.items ++ l) ++ calls_by q (calls_in plans ports)) (over_own q u (slice_get d (length u.finished.items)) u.under_way w.0.number)
-    ∙ ap (λ (l : List Called). begun_by d u ++ l) (none_listed o log q (q + 1) plans parts ports (inl (omega arith)) w.1)
+    (own_filter (length log) q 0 0 u.finished.items f.finished)
+    ∙ ap (λ (l : List Called). (u.finished.items ++ l) ++ calls_by q (calls_in plans ports)) (over_own q u (slice_get d (length u.finished.items)) u.under_way f.number)
+    ∙ ap (λ (l : List Called). begun_by d u ++ l) (none_listed q (inl (omega arith)) rest)
     ∙ append-nil (begun_by d u)
-    ∙ ap (λ (e : List Call). begun_by e u) is ∙ ap (begun_by calls) same
-listed_at o log q (suc i) (d ∷ plans) (x ∷ parts) (u ∷ ports) calls port w c t =
-    let next : q + suc i ≡ q + 1 + i = omega arith in
-    ap (λ n. calls_by n (calls_in (d ∷ plans) (u ∷ ports))) next
-    ∙ split_other o log (q + 1 + i) q d plans x u ports (λ h. omega (arith, h)) w.0
-    ∙ listed_at o log (q + 1) i plans parts ports calls port w.1 c t
+    ∙ ap (λ (e : List Call). begun_by e u) (some_same c) ∙ ap (begun_by calls) (some_same t)
+listed_at (suc i) p (first_port {plans = plans} {ports = ports} f rest) n c t =
+    split_other p plans ports (λ h. omega (arith, n, h)) f ∙ listed_at i p rest (omega (arith, n)) c t
 
 -- the calls that a port has begun are the first of the plan's
 first_over : (n : ℕ) (calls : List Call) (x : Part) (port : Port) (way : Option UnderWay) → map (λ (c : Called). c.call) port.finished.items ≡ take (length port.finished.items) calls →
@@ -114,8 +103,8 @@ first_over n calls x port (Some way) made w =
     ∙ ap (λ (l : List Call). l ++ w.call ∷ []) made
     ∙ sym (ap (λ k. take k calls) (length_push port.finished.items c) ∙ take_next calls (length port.finished.items) (w.call) w.next))
 
-pub first_begun : (o : Opening) (log : List Applied) (calls : List Call) (p : ℕ) (x : Part) (port : Port) → PortFits o log calls p x port → AreFirstOf calls (begun_by calls port)
-first_begun o log calls p x port w = first_over (length log) calls x port port.under_way w.made w.way
+pub first_begun : {o : Opening} {log : List Applied} {calls : List Call} {p : ℕ} {x : Part} {port : Port} → PortFits o log calls p x port → AreFirstOf calls (begun_by calls port)
+first_begun {log} {calls} {x} {port} w = first_over (length log) calls x port port.under_way w.made w.way
 
 -- where no call is under way, the calls that a port has begun are finished
 ended_calls : (n p k low : ℕ) (cs : List Called) → AreFinished n p k low cs → AllByRecursion (λ (c : Called). IsSome c.finish) cs
@@ -126,9 +115,9 @@ ended_calls n p k low (c ∷ cs) w = (has_ended c.finish _ w.2.ended, ended_call
     has_ended None P h = absurd h
     has_ended (Some g) P h = refl
 
-pub all_made : (o : Opening) (log : List Applied) (calls : List Call) (p : ℕ) (x : Part) (port : Port) → PortFits o log calls p x port → port.under_way ≡ None →
+pub all_made : {o : Opening} {log : List Applied} {calls : List Call} {p : ℕ} {x : Part} {port : Port} → PortFits o log calls p x port → port.under_way ≡ None →
     length port.finished.items ≡ length calls → AreAllMade calls (begun_by calls port)
-all_made o log calls p x port w none all =
+all_made {log} {calls} {p} {port} w none all =
     let is : begun_by calls port ≡ port.finished.items = ap (λ (l : List Called). port.finished.items ++ l) (sym (none_over port (slice_get calls (length port.finished.items)) none)) ∙
     append-nil port.finished.items in
     subst (AreAllMade calls) (sym is) (all, ended_calls (length log) p 0 0 port.finished.items w.finished)
@@ -143,36 +132,28 @@ head_notes p calls plans port ports own h =
     (over_notes p port (slice_get calls (length port.finished.items)) port.under_way) ∙ append-nil (notes_of p port.finished.items) ∙ h)
 
 -- ports behind number p have no note of port p
-none_behind : (o : Opening) (log : List Applied) (p q : ℕ) (plans : List (List Call)) (parts : List Part) (ports : List Port) → p < q → PortsFit o log q plans parts ports →
+none_behind : {o : Opening} {log : List Applied} {q : ℕ} {plans : List (List Call)} {parts : List Part} {ports : List Port} (p : ℕ) → p < q → PortsFit o log q plans parts ports →
     (notes_of p (calls_in plans ports) ≡ []) × (notes_by p parts ≡ [])
-none_behind o log p q [] [] [] less w = (refl, refl)
-none_behind o log p q [] [] (t ∷ ports) less w = absurd w
-none_behind o log p q [] (x ∷ parts) ports less w = absurd w
-none_behind o log p q (c ∷ plans) [] ports less w = absurd w
-none_behind o log p q (c ∷ plans) (x ∷ parts) [] less w = absurd w
-none_behind o log p q (c ∷ plans) (x ∷ parts) (t ∷ ports) less w =
-    let rest = none_behind o log p (q + 1) plans parts ports (omega (arith, less)) w.1 in
+none_behind p less no_ports = (refl, refl)
+none_behind {log} {q} p less (first_port {calls = c} {plans = plans} {x = x} {parts = parts} {port = t} {ports = ports} f rest) =
+    let behind = none_behind p (omega (arith, less)) rest in
     let away : q ≢ p = λ h. omega (arith, less, h) in
-    let part : port_of x ≢ p = λ h. away (sym w.0.part ∙ h) in (
-      head_notes p c plans t ports [] (ap (filter_map noted_of) (other_filter (length log) q p 0 0 t.finished.items w.0.finished away)) ∙ rest.0,
-      ap (λ (b : Bool). cond b x.notes [] ++ notes_by p parts) (ne_eqb (port_of x) p part) ∙ rest.1,
+    let part : port_of x ≢ p = λ h. away (sym f.part ∙ h) in (
+      head_notes p c plans t ports [] (ap (filter_map noted_of) (other_filter (length log) q p 0 0 t.finished.items f.finished away)) ∙ behind.0,
+      ap (λ (b : Bool). cond b x.notes [] ++ notes_by p parts) (ne_eqb (port_of x) p part) ∙ behind.1,
     )
 
 -- a port's notes are legal, and claim what its part's notes claim
 abbrev NotesTold : Opening → List Applied → ℕ → List Noted → List Noted → Type 0
 NotesTold o log p ns ms = LegalNotes o log p 0 ns × (places_written ns ≡ places_written ms)
 
-notes_told : (o : Opening) (log : List Applied) (p q : ℕ) (plans : List (List Call)) (parts : List Part) (ports : List Port) → PortsFit o log q plans parts ports →
+notes_told : {o : Opening} {log : List Applied} {q : ℕ} {plans : List (List Call)} {parts : List Part} {ports : List Port} (p : ℕ) → PortsFit o log q plans parts ports →
     NotesTold o log p (notes_of p (calls_in plans ports)) (notes_by p parts)
-notes_told o log p q [] [] [] w = (tt, refl)
-notes_told o log p q [] [] (t ∷ ports) w = absurd w
-notes_told o log p q [] (x ∷ parts) ports w = absurd w
-notes_told o log p q (c ∷ plans) [] ports w = absurd w
-notes_told o log p q (c ∷ plans) (x ∷ parts) [] w = absurd w
-notes_told o log p q (c ∷ plans) (x ∷ parts) (t ∷ ports) w = elim (eqb_tells q p) [
+notes_told p no_ports = (tt, refl)
+notes_told {o} {log} {q} p (first_port {calls = c} {plans = plans} {x = x} {parts = parts} {port = t} {ports = ports} f tail) = elim (eqb_tells q p) [
   | inl same ↦
-      let behind = none_behind o log p (q + 1) plans parts ports (let e = same.1 in omega (arith, e)) w.1 in
-      let fits : PortFits o log c p x t = subst (λ (i : ℕ). PortFits o log c i x t) same.1 w.0 in
+      let behind = none_behind p (let e = same.1 in omega (arith, e)) tail in
+      let fits : PortFits o log c p x t = subst (λ (i : ℕ). PortFits o log c i x t) same.1 f in
       let own : notes_of p (calls_in (c ∷ plans) (t ∷ ports)) ≡ notes_in t.finished.items =
       head_notes p c plans t ports (notes_in t.finished.items) (ap (filter_map noted_of) (own_filter (length log) p 0 0 t.finished.items fits.finished))
       ∙ ap (λ (l : List Noted). notes_in t.finished.items ++ l) behind.0 ∙ append-nil (notes_in t.finished.items) in
@@ -183,11 +164,11 @@ notes_told o log p q (c ∷ plans) (x ∷ parts) (t ∷ ports) w = elim (eqb_tel
         ap places_written own ∙ fits.written ∙ ap places_written (sym part),
       )
   | inr other ↦
-      let rest = notes_told o log p (q + 1) plans parts ports w.1 in
+      let rest = notes_told p tail in
       let away : q ≢ p = other.1 in
-      let part : port_of x ≢ p = λ h. away (sym w.0.part ∙ h) in
+      let part : port_of x ≢ p = λ h. away (sym f.part ∙ h) in
       let own : notes_of p (calls_in (c ∷ plans) (t ∷ ports)) ≡ notes_of p (calls_in plans ports) =
-      head_notes p c plans t ports [] (ap (filter_map noted_of) (other_filter (length log) q p 0 0 t.finished.items w.0.finished away)) in
+      head_notes p c plans t ports [] (ap (filter_map noted_of) (other_filter (length log) q p 0 0 t.finished.items f.finished away)) in
       let left : notes_by p (x ∷ parts) ≡ notes_by p parts = ap (λ (b : Bool). cond b x.notes [] ++ notes_by p parts) (ne_eqb (port_of x) p part) in (
         subst (λ (l : List Noted). LegalNotes o log p 0 l) (sym own) rest.0,
         ap places_written own ∙ rest.1 ∙ ap places_written (sym left),
@@ -238,24 +219,20 @@ over_time n p calls x port (Some call) (Some way) b tail number w goes begins on
 over_time n p calls x port None way b tail number w goes begins on = on b begins
 over_time n p calls x port (Some call) None b tail number w goes begins on = on b begins
 
-time_told : (o : Opening) (log : List Applied) (q : ℕ) (plans : List (List Call)) (parts : List Part) (ports : List Port) (b : Option Called) → PortsFit o log q plans parts ports → BeginsPort b q →
+time_told : {o : Opening} {log : List Applied} {q : ℕ} {plans : List (List Call)} {parts : List Part} {ports : List Port} (b : Option Called) → PortsFit o log q plans parts ports → BeginsPort b q →
     RealTime (length log) b (calls_in plans ports)
-time_told o log q [] [] [] b w begins = tt
-time_told o log q [] [] (t ∷ ports) b w begins = absurd w
-time_told o log q [] (x ∷ parts) ports b w begins = absurd w
-time_told o log q (c ∷ plans) [] ports b w begins = absurd w
-time_told o log q (c ∷ plans) (x ∷ parts) [] b w begins = absurd w
-time_told o log q (c ∷ plans) (x ∷ parts) (t ∷ ports) b w begins =
+time_told b no_ports begins = tt
+time_told {log} {q} b (first_port {calls = c} {plans = plans} {x = x} {port = t} {ports = ports} f rest) begins =
     let n = length log in
     let call = slice_get c (length t.finished.items) in
     let over = left_over t call t.under_way in
     let tail = calls_in plans ports in
     subst (λ (l : List Called). RealTime n b l) (sym (append_assoc t.finished.items over tail))
-    (finished_time n q 0 0 t.finished.items b (over ++ tail) w.0.finished
+    (finished_time n q 0 0 t.finished.items b (over ++ tail) f.finished
     (λ d at number late. begins d (omega (arith, at)) number)
     (λ d at number. begins d (omega (arith, at)) number)
-    (λ d goes next. over_time n q c x t call t.under_way d tail w.0.number w.0.way (subst (λ (m : ℕ). GoesBehind d q m (ends_of 0 t.finished.items)) (omega arith) goes) next
-    (λ e more. time_told o log (q + 1) plans parts ports e w.1 more)))
+    (λ d goes next. over_time n q c x t call t.under_way d tail f.number f.way (subst (λ (m : ℕ). GoesBehind d q m (ends_of 0 t.finished.items)) (omega arith) goes) next
+    (λ e more. time_told e rest more)))
 
 -- what each call saw is the least prefix that shows it
 least_over : (o : Opening) (log : List Applied) (port : Port) (call : Option Call) (way : Option UnderWay) → AllByRecursion (HasLeastPlace o log) (left_over port call way)
@@ -263,18 +240,13 @@ least_over o log port (Some call) (Some way) = (tt, tt)
 least_over o log port None way = tt
 least_over o log port (Some call) None = tt
 
-pub least_told : (o : Opening) (log : List Applied) (q : ℕ) (plans : List (List Call)) (parts : List Part) (ports : List Port) → PortsFit o log q plans parts ports →
+pub least_told : {o : Opening} {log : List Applied} {q : ℕ} {plans : List (List Call)} {parts : List Part} {ports : List Port} → PortsFit o log q plans parts ports →
     AllByRecursion (HasLeastPlace o log) (calls_in plans ports)
-least_told o log q [] [] [] w = tt
-least_told o log q [] [] (t ∷ ports) w = absurd w
-least_told o log q [] (x ∷ parts) ports w = absurd w
-least_told o log q (c ∷ plans) [] ports w = absurd w
-least_told o log q (c ∷ plans) (x ∷ parts) [] w = absurd w
-least_told o log q (c ∷ plans) (x ∷ parts) (t ∷ ports) w =
+least_told no_ports = tt
+least_told {o} {log} (first_port {calls = c} {plans = plans} {port = t} {ports = ports} f rest) =
     let over = left_over t (slice_get c (length t.finished.items)) t.under_way in
     AllByRecursion-append (HasLeastPlace o log) (t.finished.items ++ over) (calls_in plans ports)
-    (AllByRecursion-append (HasLeastPlace o log) t.finished.items over w.0.least (least_over o log t (slice_get c (length t.finished.items)) t.under_way))
-    (least_told o log (q + 1) plans parts ports w.1)
+    (AllByRecursion-append (HasLeastPlace o log) t.finished.items over f.least (least_over o log t (slice_get c (length t.finished.items)) t.under_way)) (least_told rest)
 
 -- the machine of a port has the sizes of its part's
 sizes_at : (z : Layout) (core : CoreState) (x : Part) → (core_of x).sizes ≡ z → IsMachineOf core x → core.sizes ≡ z
@@ -296,26 +268,21 @@ few_over z n calls x port (Some way) sizes w =
     subst (λ (f : Option Call). AreFew z (left_over port f (Some way))) (sym w.next) (omega (arith, steps, most), tt)
 
 -- no call that is listed has made more steps than it may
-pub few_told : (z : Layout) (o : Opening) (log : List Applied) (q : ℕ) (plans : List (List Call)) (parts : List Part) (ports : List Port) → PortsFit o log q plans parts ports →
+pub few_told : {o : Opening} {log : List Applied} {q : ℕ} {plans : List (List Call)} {parts : List Part} {ports : List Port} (z : Layout) → PortsFit o log q plans parts ports →
     AllByRecursion (λ (x : Part). (core_of x).sizes ≡ z) parts → AreFew z (calls_in plans ports)
-few_told z o log q [] [] [] w same = tt
-few_told z o log q [] [] (t ∷ ports) w same = absurd w
-few_told z o log q [] (x ∷ parts) ports w same = absurd w
-few_told z o log q (c ∷ plans) [] ports w same = absurd w
-few_told z o log q (c ∷ plans) (x ∷ parts) [] w same = absurd w
-few_told z o log q (c ∷ plans) (x ∷ parts) (t ∷ ports) w same =
-    let sizes = port_sizes z (length log) c x t.core t.finished.items t.under_way same.0 w.0.way in
+few_told z no_ports same = tt
+few_told {log} z (first_port {calls = c} {plans = plans} {x = x} {port = t} {ports = ports} f rest) same =
+    let sizes = port_sizes z (length log) c x t.core t.finished.items t.under_way same.0 f.way in
     let over = left_over t (slice_get c (length t.finished.items)) t.under_way in
     AllByRecursion-append (λ (d : Called). d.steps ≤ most_steps z d.call) (t.finished.items ++ over) (calls_in plans ports)
-    (AllByRecursion-append (λ (d : Called). d.steps ≤ most_steps z d.call) t.finished.items over (subst (λ (y : Layout). AreFew y t.finished.items) sizes w.0.bounded)
-    (few_over z (length log) c x t t.under_way sizes w.0.way)) (few_told z o log (q + 1) plans parts ports w.1 same.1)
+    (AllByRecursion-append (λ (d : Called). d.steps ≤ most_steps z d.call) t.finished.items over (subst (λ (y : Layout). AreFew y t.finished.items) sizes f.bounded)
+    (few_over z (length log) c x t t.under_way sizes f.way)) (few_told z rest same.1)
 
 -- the calls of a replay are a legal outcome of its history
-pub run_legal : (plans : List (List Call)) (z : Layout) (o : Opening) (words : List ℕ) (ports : List Port) (log : List Applied) (trace : List Event) → IsRunOf plans z o words ports log trace →
-    LegalOutcome o log (calls_in plans ports)
-run_legal plans z o words ports log trace w = record {
+pub run_legal : {plans : List (List Call)} {s : ReplayState} → IsRunOf plans s → LegalOutcome s.opening s.memory.history.items (calls_in plans s.ports)
+run_legal w = record {
   history = w.lawful.memory.history;
-  notes = λ p. (notes_told o log p 0 plans w.parts ports w.fit).0;
-  once = λ p. w.lawful.once p ∙ sym ((notes_told o log p 0 plans w.parts ports w.fit).1);
-  time = time_told o log 0 plans w.parts ports None w.fit (λ c at number. number);
+  notes = λ p. (notes_told p w.fit).0;
+  once = λ p. w.lawful.once p ∙ sym ((notes_told p w.fit).1);
+  time = time_told None w.fit (λ c at number. number);
 }

@@ -1,6 +1,6 @@
 -- A replay as it opens, and what it lists in the end.
-use Rattle.partial_replay.proofs.Common.{ℕ, zero, suc, ◌^◌, append_assoc, ◌≡◌, ◌+◌, ◌<◌, ◌≤◌, ◌++◌, List, [], ◌∷◌, length, take, get_or, Option, Some, None, MatchOption, slice_get, refl, sym, ◌∙◌, ap, subst, arith, map, IfSome, AllByRecursion, Opening, Call, Called, LegalNotes, seen_by, places_written, Layout, IsLayout, pool_base, AreOpeningWords, CoreState, fresh, IsSound, rests_are_sound, Part, fresh_parts, IsBetween, IsMarkedLike, opens_lawful, Port, UnderWay, unfinished_call, AreFinished, IsCallUnderWay, PortFits, notes_in, ends_of, IsCallGoing, HasTurned, steps_under_way, PortsFit, IsRunOf, FreshFrom, AreFreshPorts, AreListed, ArePlans, left_over, calls_in, ArePortsMade, AreStarted, IsSome, zip, append-nil, Applied, HasLeastPlace, Moment, AreStepsOf, BeginInTurns, StopsAtStep, steps_in, EndInStep, AreFew, place_below}
-use Rattle.partial_replay.proofs.PortLaws.{some_is}
+use Rattle.partial_replay.proofs.Common.{ℕ, zero, suc, ◌^◌, append_assoc, ◌≡◌, ◌+◌, ◌<◌, ◌≤◌, ◌++◌, List, [], ◌∷◌, length, take, get_or, Option, Some, None, MatchOption, slice_get, refl, sym, ◌∙◌, ap, subst, arith, map, IfSome, AllByRecursion, Opening, Call, Called, LegalNotes, seen_by, places_written, Layout, IsLayout, pool_base, AreOpeningWords, CoreState, fresh, IsSound, rests_are_sound, Part, fresh_parts, IsBetween, IsMarkedLike, opens_lawful, Port, UnderWay, unfinished_call, AreFinished, IsCallUnderWay, PortFits, notes_in, ends_of, IsCallGoing, HasTurned, steps_under_way, PortsFit, IsRunOf, FreshFrom, AreFreshPorts, AreListed, ArePlans, left_over, calls_in, ArePortsMade, AreStarted, IsSome, zip, append-nil, Applied, HasLeastPlace, Moment, AreStepsOf, BeginInTurns, StopsAtStep, steps_in, EndInStep, AreFew, place_below, filter_map, Event, Leads, Lawful, ReplayState, unvalued, event_entry, moments_by, no_ports, first_port, some_same, PortAt}
+use Rattle.partial_replay.proofs.PortLaws.{some_is, under_way}
 
 -- one fresh port more
 pub fresh_push : (z : Layout) (p : ℕ) (ports : List Port) (port : Port) → FreshFrom z p ports → port.number ≡ p + length ports → port.core ≡ fresh z port.number → port.finished.items ≡ [] →
@@ -36,10 +36,10 @@ fresh_fits z o calls p port m number core finished none =
 
 fresh_ports_fit : (z : Layout) (o : Opening) (p : ℕ) (plans : List (List Call)) (ports : List Port) → z.m ≡ length o.values → FreshFrom z p ports → length ports ≡ length plans →
     PortsFit o [] p plans (fresh_parts z p (length plans)) ports
-fresh_ports_fit z o p [] [] m w n = tt
+fresh_ports_fit z o p [] [] m w n = no_ports
 fresh_ports_fit z o p [] (t ∷ ports) m w n = absurd (omega (arith, n))
 fresh_ports_fit z o p (c ∷ plans) [] m w n = absurd (omega (arith, n))
-fresh_ports_fit z o p (c ∷ plans) (t ∷ ports) m w n = (fresh_fits z o c p t m w.0 w.1 w.2 w.3, fresh_ports_fit z o (p + 1) plans ports m w.4 (omega (arith, n)))
+fresh_ports_fit z o p (c ∷ plans) (t ∷ ports) m w n = first_port (fresh_fits z o c p t m w.0 w.1 w.2 w.3) (fresh_ports_fit z o (p + 1) plans ports m w.4 (omega (arith, n)))
 
 fresh_at : (z : Layout) (p i : ℕ) (ports : List Port) (port : Port) → FreshFrom z p ports → slice_get ports i ≡ Some port → (port.core ≡ fresh z (p + i)) × (port.finished.items ≡ []) ×
     (port.under_way ≡ None)
@@ -54,19 +54,20 @@ fresh_at z p (suc i) (u ∷ ports) port w t =
     (f.0 ∙ ap (fresh z) next, f.1, f.2)
 
 -- fresh ports have made no call
-fresh_made : (plans : List (List Call)) (z : Layout) (ports : List Port) → FreshFrom z 0 ports → ArePortsMade plans z ports [] []
-fresh_made plans z ports w q calls port c t =
-    let f = fresh_at z 0 q ports port w t in
+fresh_made : (plans : List (List Call)) (s : ReplayState) → s.memory.trace.items ≡ [] → FreshFrom s.sizes 0 s.ports → ArePortsMade plans s
+fresh_made plans s none w q calls port at =
+    let f = fresh_at s.sizes 0 q s.ports port w at.is in
     let here : 0 + q ≡ q = omega arith in
-    let core : port.core ≡ fresh z q = f.0 ∙ ap (fresh z) here in
+    let core : port.core ≡ fresh s.sizes q = f.0 ∙ ap (fresh s.sizes) here in
     let nil : List Moment = [] in
     record {
       done = [];
       own = [];
-      at = fresh z q;
-      is = refl;
-      led = subst (λ (d : List Called). AreStepsOf (fresh z q) d [] (fresh z q)) (sym f.1) (refl, refl);
-      going = subst (λ (g : Option UnderWay). MatchOption g ((nil ≡ []) × (port.core ≡ fresh z q)) (IsCallGoing 0 calls port.finished.items (fresh z q) port.core [])) (sym f.2) (refl, core);
+      at = fresh s.sizes q;
+      is = ap (moments_by s.sizes.m q) none;
+      led = subst (λ (d : List Called). AreStepsOf (fresh s.sizes q) d [] (fresh s.sizes q)) (sym f.1) (refl, refl);
+      going = subst (λ (g : Option UnderWay). MatchOption g ((nil ≡ []) × (port.core ≡ fresh s.sizes q))
+          (IsCallGoing (length s.memory.history.items) calls port.finished.items (fresh s.sizes q) port.core [])) (sym f.2) (refl, core);
     }
 
 pub fresh_started : (z : Layout) (ports : List Port) → FreshFrom z 0 ports → AreStarted ports
@@ -88,20 +89,23 @@ fresh_turned z ports w q calls port t =
     }
 
 -- a replay opens lawful
-pub opens_run : (plans : List (List Call)) (z : Layout) (o : Opening) (words : List ℕ) (ports : List Port) → IsLayout z → length o.values ≡ z.m → o.first ≡ pool_base z →
-    AreOpeningWords z o.values words → length plans ≤ 64 → AreFreshPorts z (length plans) ports → IsRunOf plans z o words ports [] []
-opens_run plans z o words ports sizes values first opening few fresh =
-    let lawful = opens_lawful z o words (length plans) (record { sizes = sizes; values = values; stamps = first; words = opening }) few in
+pub opens_run : (plans : List (List Call)) (s : ReplayState) → IsLayout s.sizes → length s.opening.values ≡ s.sizes.m → s.opening.first ≡ pool_base s.sizes →
+    AreOpeningWords s.sizes s.opening.values s.memory.words.items → s.memory.history.items ≡ [] → s.memory.trace.items ≡ [] → length plans ≤ 64 → AreFreshPorts s.sizes (length plans) s.ports →
+    IsRunOf plans s
+opens_run plans s sizes values first opening empty none few fresh =
+    let words = s.memory.words.items in
+    let parts = fresh_parts s.sizes 0 (length plans) in
     record {
-      parts = fresh_parts z 0 (length plans);
+      parts = parts;
       opened = words;
       opens = opening;
-      lawful = lawful;
-      fit = fresh_ports_fit z o 0 plans ports (sym values) fresh.1 fresh.0;
-      leads = refl;
-      entries = refl;
-      senders = tt;
-      made = fresh_made plans z ports fresh.1;
+      lawful = subst (λ (h : List Applied). Lawful s.sizes s.opening words parts h) (sym empty)
+          (opens_lawful s.sizes s.opening words (length plans) (record { sizes = sizes; values = values; stamps = first; words = opening }) few);
+      fit = subst (λ (h : List Applied). PortsFit s.opening h 0 plans parts s.ports) (sym empty) (fresh_ports_fit s.sizes s.opening 0 plans s.ports (sym values) fresh.1 fresh.0);
+      leads = subst (λ (es : List Event). Leads words es words) (sym none) refl;
+      entries = ap (filter_map (event_entry s.sizes.m (λ _. 0))) none ∙ sym (ap (map unvalued) empty);
+      senders = subst (AllByRecursion (λ (e : Event). e.port < length plans)) (sym none) tt;
+      made = fresh_made plans s none fresh.1;
     }
 
 pub listed_length : (plans : List (List Call)) (ports : List Port) → AreListed plans ports → length ports ≡ length plans
@@ -111,46 +115,35 @@ listed_length [] (t ∷ ports) w = absurd w
 listed_length (c ∷ plans) [] w = absurd w
 
 -- the ports of a run list their calls
-pub run_listed : (o : Opening) (log : List Applied) (q : ℕ) (plans : List (List Call)) (parts : List Part) (ports : List Port) (m : ℕ) → PortsFit o log q plans parts ports →
-    ArePlans m plans → AreListed plans ports
-run_listed o log q [] [] [] m w p = tt
-run_listed o log q (c ∷ plans) (x ∷ parts) (t ∷ ports) m w p = (
-  p.0.0,
-  (λ some. let way = some_is t.under_way some in let u : IsCallUnderWay (length log) c x t.core t.finished.items (way.0) =
-      subst (λ (f : Option UnderWay). MatchOption f (IsBetween x t.core) (IsCallUnderWay (length log) c x t.core t.finished.items)) way.1 w.0.way in place_below c (length t.finished.items)
-      (u.call) u.next),
-  run_listed o log (q + 1) plans parts ports m w.1 p.1,
+pub run_listed : {o : Opening} {log : List Applied} {q : ℕ} {plans : List (List Call)} {parts : List Part} {ports : List Port} (m : ℕ) → PortsFit o log q plans parts ports → ArePlans m plans →
+    AreListed plans ports
+run_listed m no_ports served = tt
+run_listed m (first_port {calls = c} {port = t} f rest) served = (
+  served.0.0,
+  λ some. let way = some_is t.under_way some in let u = under_way f way.1 in place_below c (length t.finished.items) u.call u.next,
+  run_listed m rest served.1,
 )
-run_listed o log q [] [] (t ∷ ports) m w p = absurd w
-run_listed o log q [] (x ∷ parts) ports m w p = absurd w
-run_listed o log q (c ∷ plans) [] ports m w p = absurd w
-run_listed o log q (c ∷ plans) (x ∷ parts) [] m w p = absurd w
 
 -- the port at a place with its calls
 pub pair_at : (ports : List Port) (plans : List (List Call)) (n : ℕ) (port : Port) (calls : List Call) → (n < length (zip ports plans)) × ((port, calls) ≡ get_or (zip ports plans) n (port, calls)) →
-    (slice_get ports n ≡ Some port) × (slice_get plans n ≡ Some calls)
+    PortAt plans ports n calls port
 pair_at [] plans n port calls here = let below = here.0 in absurd (omega (arith, below))
 pair_at (u ∷ ports) [] n port calls here = let below = here.0 in absurd (omega (arith, below))
-pair_at (u ∷ ports) (d ∷ plans) zero port calls here =
-    let one : port ≡ u = ap (λ (x : Port × List Call). x.0) here.1 in
-    let two : calls ≡ d = ap (λ (x : Port × List Call). x.1) here.1 in
-    (ap Some (sym one), ap Some (sym two))
-pair_at (u ∷ ports) (d ∷ plans) (suc n) port calls here = let below = here.0 in pair_at ports plans n port calls (omega (arith, below), here.1)
+pair_at (u ∷ ports) (d ∷ plans) zero port calls here = record { plan = ap (λ (x : Port × List Call). Some x.1) (sym here.1); is = ap (λ (x : Port × List Call). Some x.0) (sym here.1) }
+pair_at (u ∷ ports) (d ∷ plans) (suc n) port calls here =
+    let below = here.0 in let at = pair_at ports plans n port calls (omega (arith, below), here.1) in record { plan = at.plan; is = at.is }
 
 -- a call under way is one of the port's calls, and its number fits
-pub listed_at_place : (plans : List (List Call)) (ports : List Port) (n : ℕ) (calls : List Call) (port : Port) → AreListed plans ports → slice_get plans n ≡ Some calls →
-    slice_get ports n ≡ Some port →
+pub listed_at_place : (plans : List (List Call)) (ports : List Port) (n : ℕ) {calls : List Call} {port : Port} → AreListed plans ports → PortAt plans ports n calls port →
     (length calls < 2 ^ 32) × (IsSome port.under_way → length port.finished.items < length calls)
-listed_at_place [] ports n calls port w c t = let bad : None ≡ Some calls = c in cc
-listed_at_place (d ∷ plans) [] n calls port w c t = absurd w
-listed_at_place (d ∷ plans) (u ∷ ports) zero calls port w c t =
-    let is : d ≡ calls = cc in
-    let same : u ≡ port = cc in (
-      subst (λ (e : List Call). length e < 2 ^ 32) is w.0,
-      subst (λ (v : Port). IsSome v.under_way → length v.finished.items < length calls) same
-          (subst (λ (e : List Call). IsSome u.under_way → length u.finished.items < length e) is w.1),
-    )
-listed_at_place (d ∷ plans) (u ∷ ports) (suc n) calls port w c t = listed_at_place plans ports n calls port w.2 c t
+listed_at_place [] ports n {calls} w at = let bad : None ≡ Some calls = at.plan in cc
+listed_at_place (d ∷ plans) [] n w at = absurd w
+listed_at_place (d ∷ plans) (u ∷ ports) zero {calls} w at = (
+  subst (λ (e : List Call). length e < 2 ^ 32) (some_same at.plan) w.0,
+  subst (λ (v : Port). IsSome v.under_way → length v.finished.items < length calls) (some_same at.is)
+      (subst (λ (e : List Call). IsSome u.under_way → length u.finished.items < length e) (some_same at.plan) w.1),
+)
+listed_at_place (d ∷ plans) (u ∷ ports) (suc n) w at = listed_at_place plans ports n w.2 (record { plan = at.plan; is = at.is })
 
 pub length-zip : (plans : List (List Call)) (ports : List Port) → AreListed plans ports → length (zip ports plans) ≡ length ports
 length-zip [] [] w = refl
@@ -163,35 +156,32 @@ none_in [] = refl
 none_in (d ∷ plans) = refl
 
 -- one port's calls behind those of the ports in front of it
-calls_next : (plans : List (List Call)) (ports : List Port) (n : ℕ) (calls : List Call) (port : Port) → slice_get plans n ≡ Some calls → slice_get ports n ≡ Some port →
+calls_next : (plans : List (List Call)) (ports : List Port) (n : ℕ) {calls : List Call} {port : Port} → PortAt plans ports n calls port →
     calls_in plans (take (suc n) ports) ≡ (calls_in plans (take n ports) ++ port.finished.items) ++ left_over port (slice_get calls (length port.finished.items)) port.under_way
-calls_next [] ports n calls port c t = let bad : None ≡ Some calls = c in cc
-calls_next (d ∷ plans) [] n calls port c t = let bad : None ≡ Some port = t in cc
-calls_next (d ∷ plans) (u ∷ ports) zero calls port c t =
-    let same : u ≡ port = cc in
-    let is : d ≡ calls = cc in
+calls_next [] ports n {calls} at = let bad : None ≡ Some calls = at.plan in cc
+calls_next (d ∷ plans) [] n {port} at = let bad : None ≡ Some port = at.is in cc
+calls_next (d ∷ plans) (u ∷ ports) zero {port} at =
     ap (λ (l : List Called). (u.finished.items ++ left_over u (slice_get d (length u.finished.items)) u.under_way) ++ l) (none_in plans)
     ∙ append-nil (u.finished.items ++ left_over u (slice_get d (length u.finished.items)) u.under_way)
-    ∙ ap (λ (v : Port). v.finished.items ++ left_over v (slice_get d (length v.finished.items)) v.under_way) same
-    ∙ ap (λ (e : List Call). port.finished.items ++ left_over port (slice_get e (length port.finished.items)) port.under_way) is
-calls_next (d ∷ plans) (u ∷ ports) (suc n) calls port c t =
+    ∙ ap (λ (v : Port). v.finished.items ++ left_over v (slice_get d (length v.finished.items)) v.under_way) (some_same at.is)
+    ∙ ap (λ (e : List Call). port.finished.items ++ left_over port (slice_get e (length port.finished.items)) port.under_way) (some_same at.plan)
+calls_next (d ∷ plans) (u ∷ ports) (suc n) {calls} {port} at =
     let over = left_over u (slice_get d (length u.finished.items)) u.under_way in
     let own = left_over port (slice_get calls (length port.finished.items)) port.under_way in
     let front = calls_in plans (take n ports) in
-    ap (λ (l : List Called). (u.finished.items ++ over) ++ l) (calls_next plans ports n calls port c t)
+    ap (λ (l : List Called). (u.finished.items ++ over) ++ l) (calls_next plans ports n (record { plan = at.plan; is = at.is }))
     ∙ sym (append_assoc (u.finished.items ++ over) (front ++ port.finished.items) own)
     ∙ ap (λ (l : List Called). l ++ own) (sym (append_assoc (u.finished.items ++ over) front port.finished.items))
 
-pub calls_more : (plans : List (List Call)) (ports : List Port) (n k : ℕ) (calls : List Call) (port : Port) (over so_far now : List Called) → k ≡ n + 1 → slice_get plans n ≡ Some calls →
-    slice_get ports n ≡ Some port →
+pub calls_more : {plans : List (List Call)} {ports : List Port} {n : ℕ} {calls : List Call} {port : Port} (k : ℕ) (over so_far now : List Called) → k ≡ n + 1 → PortAt plans ports n calls port →
     so_far ≡ calls_in plans (take n ports) → over ≡ left_over port (slice_get calls (length port.finished.items)) port.under_way → now ≡ (so_far ++ port.finished.items) ++ over →
     now ≡ calls_in plans (take k ports)
-calls_more plans ports n k calls port over so_far now long c t told o is =
+calls_more {plans} {ports} {n} {calls} {port} k over so_far now long at told o is =
     let one : suc n ≡ k = omega (arith, long) in
     is
     ∙ ap (λ (l : List Called). (so_far ++ port.finished.items) ++ l) o
     ∙ ap (λ (l : List Called). (l ++ port.finished.items) ++ left_over port (slice_get calls (length port.finished.items)) port.under_way) told
-    ∙ sym (calls_next plans ports n calls port c t)
+    ∙ sym (calls_next plans ports n at)
     ∙ ap (λ i. calls_in plans (take i ports)) one
 
 -- the call that a port leaves unfinished

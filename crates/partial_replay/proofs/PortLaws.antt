@@ -1,5 +1,5 @@
 -- How a port of a replay goes on as its part's port.
-use Rattle.partial_replay.proofs.Common.{ℕ, ◌==◌, ◌≢◌, set, inl, inr, zero, suc, ◌≡◌, ◌+◌, ◌<◌, ◌≤◌, ◌++◌, Bool, true, false, cond, List, [], ◌∷◌, length, take, map, get_or, Option, Some, None, IfSome, IsSomeAnd, MatchOption, slice_get, refl, sym, ◌∙◌, ap, subst, arith, length-append, AllByRecursion, cons_option, option_map, option_map_or, eqb_tells, false≢true, append-nil, length_push, map_push, take-append-le, Applied, Opening, Call, Refused, Answer, Note, Shows, IsLeastFrom, HasLeastPlace, Called, Finish, Noted, LegalNotes, IsLegal, MayBeRefused, seen_by, seen_after, shown_by, place_of, noted_of, places_written, wrote, AllByRecursion-push, LegalNotes-push, LegalNotes-grows, seen_by-push, places_written-push, Step, Event, Layout, answer_of, words_after, Reply, Idle, ReadBegun, UpdateBegun, ScanBegun, Finished, CoreState, at_stage, advance, step_of, reply_at, reply_of, AreComponentIndices, IsSound, IsPossible, begin_scan, is_begun, is_at_rest, makes_steps, call_of, answer_for, begun_of, refusal_of, IsServed, steps_left, most_steps, Part, port_of, IsMachineOf, IsBetween, calls_begin, calls_are_refused_at_once, calls_begin_between, Port, UnderWay, IsRefusedAtOnce, IsFinishedAtOnce, end_of_call, ends_of, IsFinishedCall, AreFinished, notes_in, IsCallUnderWay, PortFits, IsDoneAtOnce, entry_at, one_step_more, IsEndedCall, CallGoesOn, Ends, StepMade, AreFew, place_below, IsSome, Vec, Global, HasBegun, Stage}
+use Rattle.partial_replay.proofs.Common.{ℕ, ◌==◌, ◌≢◌, set, inl, inr, zero, suc, ◌≡◌, ◌+◌, ◌<◌, ◌≤◌, ◌++◌, Bool, true, false, cond, List, [], ◌∷◌, length, take, map, get_or, Option, Some, None, IfSome, IsSomeAnd, MatchOption, slice_get, refl, sym, ◌∙◌, ap, subst, arith, length-append, AllByRecursion, cons_option, option_map, option_map_or, eqb_tells, false≢true, append-nil, length_push, map_push, take-append-le, Applied, Opening, Call, Refused, Answer, Note, Shows, IsLeastFrom, HasLeastPlace, Called, Finish, Noted, LegalNotes, IsLegal, MayBeRefused, seen_by, seen_after, shown_by, place_of, noted_of, places_written, wrote, AllByRecursion-push, LegalNotes-push, LegalNotes-grows, seen_by-push, places_written-push, Step, Layout, answer_of, words_after, Reply, Idle, ReadBegun, UpdateBegun, ScanBegun, Finished, CoreState, at_stage, advance, step_of, reply_at, reply_of, AreComponentIndices, IsSound, IsPossible, begin_scan, is_begun, is_at_rest, makes_steps, call_of, answer_for, begun_of, refusal_of, IsServed, steps_left, most_steps, Part, port_of, IsMachineOf, IsBetween, calls_begin, calls_are_refused_at_once, calls_begin_between, Port, UnderWay, IsRefusedAtOnce, IsFinishedAtOnce, end_of_call, ends_of, IsFinishedCall, AreFinished, notes_in, IsCallUnderWay, PortFits, IsDoneAtOnce, entry_at, one_step_more, IsEndedCall, CallGoesOn, Ends, StepMade, AreFew, place_below, IsSome, Vec, Global, HasBegun, Stage, some_same, Memory, core_behind, PortAt}
 use Rattle.partial_model.specs.declared.call.Call.TheVariants as call
 use Rattle.partial_model.specs.declared.call.Answer.TheVariants as answer
 use Rattle.partial_model.specs.declared.call.Note.TheVariants as note
@@ -45,6 +45,28 @@ get_set_other (x ∷ xs) zero zero b d = absurd (d refl)
 get_set_other (x ∷ xs) zero (suc q) b d = refl
 get_set_other (x ∷ xs) (suc i) zero b d = refl
 get_set_other (x ∷ xs) (suc i) (suc q) b d = get_set_other xs i q b (λ h. d (ap suc h))
+
+-- what holds of the port that was set, and of the others as they were, holds of each port then
+pub port_set : (ports : List Port) (i : ℕ) {port : Port} (new : Port) → slice_get ports i ≡ Some port → (q : ℕ) (R : Port → Type 0) → (q ≡ i → R new) →
+    (q ≢ i → (u : Port) → slice_get ports q ≡ Some u → R u) → (u : Port) → slice_get (set ports i new) q ≡ Some u → R u
+port_set ports i {port} new t q R own others u is = elim (eqb_tells q i) [
+  | inl same ↦ subst R (some_same (sym (get_set ports i port new t) ∙ ap (slice_get (set ports i new)) (sym same.1) ∙ is)) (own same.1)
+  | inr other ↦ others other.1 u (sym (get_set_other ports i q new other.1) ∙ is)
+]
+
+-- the same of a port and its calls
+pub at_set : {plans : List (List Call)} {ports : List Port} {i : ℕ} {calls : List Call} {port : Port} (new : Port) → PortAt plans ports i calls port → (q : ℕ) (R : List Call → Port → Type 0) →
+    (q ≡ i → PortAt plans ports q calls port → R calls new) → (q ≢ i → (ds : List Call) (u : Port) → PortAt plans ports q ds u → R ds u) →
+    (ds : List Call) (u : Port) → PortAt plans (set ports i new) q ds u → R ds u
+at_set {plans} {ports} {i} {calls} {port} new at q R own others ds u now = port_set ports i new at.is q (R ds)
+    (λ same. subst (λ (l : List Call). R l new) (some_same (sym at.plan ∙ ap (slice_get plans) (sym same) ∙ now.plan))
+    (own same (subst (λ n. PortAt plans ports n calls port) (sym same) at)))
+    (λ other v t. others other ds v (record { plan = now.plan; is = t })) u now.is
+
+-- one port stands at a place, with its calls
+pub same_at : {plans : List (List Call)} {ports : List Port} {p q : ℕ} {calls ds : List Call} {port u : Port} → PortAt plans ports p calls port → PortAt plans ports q ds u → q ≡ p →
+    (calls ≡ ds) × (port ≡ u)
+same_at {plans} {ports} a b same = (some_same (sym a.plan ∙ ap (slice_get plans) (sym same) ∙ b.plan), some_same (sym a.is ∙ ap (slice_get ports) (sym same) ∙ b.is))
 
 -- the finished calls with one more
 ended_here : (n low : ℕ) (c : Called) → low ≤ n → IsFinishedCall n low c → end_of_call low c ≤ n
@@ -138,13 +160,13 @@ pub record DoneFits (o : Opening) (log : List Applied) (calls : List Call) (p : 
   pub few : length done ≤ length calls
   pub least : AllByRecursion (HasLeastPlace o log) done
 
-pub done_of : (o : Opening) (log : List Applied) (calls : List Call) (p : ℕ) (x : Part) (port : Port) → PortFits o log calls p x port → DoneFits o log calls p port.finished.items
-    (places_written x.notes)
-done_of o log calls p x port w = record { finished = w.finished; legal = w.legal; shown = w.shown; written = w.written; made = w.made; few = w.few; least = w.least }
+pub done_of : {o : Opening} {log : List Applied} {calls : List Call} {p : ℕ} {x : Part} {port : Port} → PortFits o log calls p x port →
+    DoneFits o log calls p port.finished.items (places_written x.notes)
+done_of w = record { finished = w.finished; legal = w.legal; shown = w.shown; written = w.written; made = w.made; few = w.few; least = w.least }
 
-pub done_grows : (o : Opening) (log es : List Applied) (calls : List Call) (p : ℕ) (done : List Called) (places : List ℕ) → DoneFits o log calls p done places →
+pub done_grows : {o : Opening} {log : List Applied} {calls : List Call} {p : ℕ} {done : List Called} {places : List ℕ} (es : List Applied) → DoneFits o log calls p done places →
     DoneFits o (log ++ es) calls p done places
-done_grows o log es calls p done places w =
+done_grows {o} {log} {p} {done} es w =
     record {
       finished = finished_grows (length log) (length (log ++ es)) p 0 0 done (omega (arith, length-append log es)) w.finished;
       legal = LegalNotes-grows o log es p 0 (notes_in done) w.legal;
@@ -155,8 +177,8 @@ done_grows o log es calls p done places w =
       least = least_grow o log es p 0 0 done w.finished w.least;
     }
 
-ended_finish : (o : Opening) (log : List Applied) (p number low seen : ℕ) (call : Call) (c : Called) (e : EndedCall o log p number low seen call c) → IsFinishedCall (length log) low c
-ended_finish o log p number low seen call c e =
+ended_finish : {o : Opening} {log : List Applied} {p number low seen : ℕ} {call : Call} {c : Called} → EndedCall o log p number low seen call c → IsFinishedCall (length log) low c
+ended_finish {log} {c} e =
     record {
       behind = e.behind;
       ended = subst (λ (f : Option Finish). IsSomeAnd f
@@ -168,10 +190,10 @@ seen_next : (seen low n began : ℕ) (note : Option Note) → seen ≤ low → l
 seen_next seen low n began None s l w = omega arith
 seen_next seen low n began (Some a) s l w = w.1
 
-pub push_fits : (o : Opening) (log : List Applied) (calls : List Call) (p : ℕ) (done : List Called) (places : List ℕ) (call : Call) (c : Called) → DoneFits o log calls p done places →
+pub push_fits : {o : Opening} {log : List Applied} {calls : List Call} {p : ℕ} {done : List Called} {places : List ℕ} {call : Call} {c : Called} → DoneFits o log calls p done places →
     slice_get calls (length done) ≡ Some call → (e : EndedCall o log p (length done) (ends_of 0 done) (seen_by 0 (notes_in done)) call c) → DoneFits o log calls p (done ++ c ∷ [])
     (places ++ wrote (e.note))
-push_fits o log calls p done places call c w next e =
+push_fits {o} {log} {calls} {p} {done} {call} {c} w next e =
     let n : Noted = record { call = call; answer = e.answer; note = e.note } in
     let noted : noted_of c ≡ Some n = ap (λ (f : Option Finish). option_map (λ (f : Finish). record { call = c.call; answer = f.answer; note = f.note }) f)
     (e.finish) ∙ ap (λ (d : Call). Some (record { call = d; answer = e.answer; note = e.note })) (e.call') in
@@ -182,7 +204,7 @@ push_fits o log calls p done places call c w next e =
     let seen : seen_by 0 (notes_in (done ++ c ∷ [])) ≡ seen_after (seen_by 0 (notes_in done)) (e.note) = ap (seen_by 0) pushed ∙ seen_by-push 0 (notes_in done) n in
     let below = place_below calls (length done) call next in
     record {
-      finished = finished_push (length log) p 0 0 done c w.finished (e.port) (e.number' ∙ omega arith) (ended_finish o log p (length done) (ends_of 0 done) (seen_by 0 (notes_in done)) call c e);
+      finished = finished_push (length log) p 0 0 done c w.finished (e.port) (e.number' ∙ omega arith) (ended_finish e);
       legal = subst (LegalNotes o log p 0) (sym pushed) (LegalNotes-push o log p 0 (notes_in done) n w.legal (e.legal));
       shown = let top = seen_next (seen_by 0 (notes_in done)) (ends_of 0 done) (length log) c.began (e.note) w.shown low (e.placed) in omega (arith, end, seen, top);
       written = ap places_written pushed ∙ places_written-push (notes_in done) n ∙ ap (λ (l : List ℕ). l ++ wrote (e.note)) w.written;
@@ -194,10 +216,10 @@ push_fits o log calls p done places call c w next e =
     }
 
 -- a port with these finished calls
-pub fits_with : (o : Opening) (log : List Applied) (calls : List Call) (p : ℕ) (x : Part) (port : Port) (places : List ℕ) → port.number ≡ p → port_of x ≡ p → port.core.sizes.m ≡ length o.values →
+pub fits_with : {o : Opening} {log : List Applied} {calls : List Call} {p : ℕ} {x : Part} {port : Port} {places : List ℕ} → port.number ≡ p → port_of x ≡ p → port.core.sizes.m ≡ length o.values →
     DoneFits o log calls p port.finished.items places → AreFew port.core.sizes port.finished.items → places ≡ places_written x.notes → MatchOption port.under_way (IsBetween x port.core)
     (IsCallUnderWay (length log) calls x port.core port.finished.items) → PortFits o log calls p x port
-fits_with o log calls p x port places number part sizes w bounded same way =
+fits_with number part sizes w bounded same way =
     record {
       number = number;
       part = part;
@@ -257,15 +279,20 @@ begun_sizes s (call.Read j) = refl
 begun_sizes s (call.UpdateIf j x v) = refl
 
 -- what is between calls
-pub between_of : (o : Opening) (log : List Applied) (calls : List Call) (p : ℕ) (x : Part) (port : Port) → PortFits o log calls p x port → port.under_way ≡ None → IsBetween x port.core
-between_of o log calls p x port w none = subst (λ (f : Option UnderWay). MatchOption f (IsBetween x port.core) (IsCallUnderWay (length log) calls x port.core port.finished.items)) none w.way
+pub between_of : {o : Opening} {log : List Applied} {calls : List Call} {p : ℕ} {x : Part} {port : Port} → PortFits o log calls p x port → port.under_way ≡ None → IsBetween x port.core
+between_of {log} {calls} {x} {port} w none = subst (λ (f : Option UnderWay). MatchOption f (IsBetween x port.core) (IsCallUnderWay (length log) calls x port.core port.finished.items)) none w.way
+
+-- the call under way of a port
+pub under_way : {o : Opening} {log : List Applied} {calls : List Call} {p : ℕ} {x : Part} {port : Port} {way : UnderWay} → PortFits o log calls p x port → port.under_way ≡ Some way →
+    IsCallUnderWay (length log) calls x port.core port.finished.items way
+under_way {log} {calls} {x} {port} w is = subst (λ (f : Option UnderWay). MatchOption f (IsBetween x port.core) (IsCallUnderWay (length log) calls x port.core port.finished.items)) is w.way
 
 -- a call begins at a port between calls
-pub begun_fits : (o : Opening) (log : List Applied) (calls : List Call) (p : ℕ) (x : Part) (port new : Port) (call : Call) → PortFits o log calls p x port → port.under_way ≡ None →
+pub begun_fits : {o : Opening} {log : List Applied} {calls : List Call} {p : ℕ} {x : Part} {port new : Port} {call : Call} → PortFits o log calls p x port → port.under_way ≡ None →
     slice_get calls (length port.finished.items) ≡ Some call → IsServed port.core.sizes.m call → refusal_of port.core call ≡ None → reply_of (begun_of port.core call) ≡ None →
     new.number ≡ port.number → new.core ≡ begun_of port.core call → new.finished ≡ port.finished → new.under_way ≡ Some (record { began = length log; steps = 0 }) → PortFits o log calls p x new
-begun_fits o log calls p x port new call w none next served refusal reply number core finished way =
-    let between = between_of o log calls p x port w none in
+begun_fits {o} {log} {calls} {p} {x} {port} {new} {call} w none next served refusal reply number core finished way =
+    let between = between_of w none in
     let done : new.finished.items ≡ port.finished.items = ap (λ (v : Vec Called Global). v.items) finished in
     let c = new.core in
     let b = begins port.core call between.sound.asked served refusal reply in
@@ -286,8 +313,8 @@ begun_fits o log calls p x port new call w none next served refusal reply number
       steps = let left : steps_left c ≡ steps_left (begun_of port.core call) = ap steps_left core in let few = b.few in let most : most_steps c.sizes call ≡ most_steps port.core.sizes call =
           ap (λ (z : Layout). most_steps z call) sizes in omega (arith, left, few, most);
     } in
-    fits_with o log calls p x new (places_written x.notes) (number ∙ w.number) w.part (ap (λ (z : Layout). z.m) sizes ∙ w.sizes)
-    (subst (λ (l : List Called). DoneFits o log calls p l (places_written x.notes)) (sym done) (done_of o log calls p x port w))
+    fits_with (number ∙ w.number) w.part (ap (λ (z : Layout). z.m) sizes ∙ w.sizes)
+    (subst (λ (l : List Called). DoneFits o log calls p l (places_written x.notes)) (sym done) (done_of w))
     (subst (λ (l : List Called). AreFew c.sizes l) (sym done) (subst (λ (z : Layout). AreFew z port.finished.items) (sym sizes) w.bounded)) refl
     (subst (λ (f : Option UnderWay). MatchOption f (IsBetween x c) (IsCallUnderWay (length log) calls x c new.finished.items)) (sym way) going)
 
@@ -313,9 +340,9 @@ once_empty s (call.Scan js) r is = at (length js == 0) refl
 once_empty s (call.Read j) r is = let bad : None ≡ Some r = is in cc
 once_empty s (call.UpdateIf j x v) r is = let bad : None ≡ Some r = is in cc
 
-once_refused : (o : Opening) (log : List Applied) (p number low seen : ℕ) (call : Call) (c : Called) (s t : CoreState) (x : Part) → IsDoneAtOnce p number call (length log) s t c →
+once_refused : {o : Opening} {log : List Applied} {p number low seen : ℕ} {call : Call} {c : Called} {s t : CoreState} {x : Part} → IsDoneAtOnce p number call (length log) s t c →
     IsRefusedAtOnce s c t → low ≤ length log → s.sizes.m ≡ length o.values → IsBetween x s → OnceEnded o log p number low seen call c s t x
-once_refused o log p number low seen call c s t x d r behind sizes between =
+once_refused {o} {call} {s} {x} d r behind sizes between =
     let may : MayBeRefused (length o.values) call r.cause = subst (λ m. MayBeRefused m call r.cause) sizes (may_be_refused s call r.cause (ap (refusal_of s) (sym d.call') ∙ r.refused)) in
     record {
       ended = record {
@@ -336,9 +363,9 @@ once_refused o log p number low seen call c s t x d r behind sizes between =
       sizes = ap (λ (v : CoreState). v.sizes) r.rests;
     }
 
-once_finished : (o : Opening) (log : List Applied) (p number low seen : ℕ) (made : Call) (c : Called) (s t : CoreState) (x : Part) → IsDoneAtOnce p number made (length log) s t c →
+once_finished : {o : Opening} {log : List Applied} {p number low seen : ℕ} {made : Call} {c : Called} {s t : CoreState} {x : Part} → IsDoneAtOnce p number made (length log) s t c →
     IsFinishedAtOnce s c t → low ≤ length log → seen ≤ low → IsBetween x s → OnceEnded o log p number low seen made c s t x
-once_finished o log p number low seen made c s t x d f behind earlier between =
+once_finished {o} {log} {p} {seen} {made} {c} {s} {t} {x} d f behind earlier between =
     let e = once_empty s c.call f.reply f.replied in
     let is : made ≡ call.Scan [] = sym d.call' ∙ e.0 in
     let a : answer_for (begun_of s c.call) f.reply ≡ answer.Scanned [] 0 None = ap (λ (v : Call). answer_for (begun_of s v) f.reply) e.0 ∙ ap (answer_for (begin_scan s [])) e.1 in
@@ -367,36 +394,35 @@ once_finished o log p number low seen made c s t x d f behind earlier between =
     }
 
 -- the machine behind such a call is idle, and has the same sizes
-pub once_idle : (p number : ℕ) (made : Call) (seen : ℕ) (s t : CoreState) (c : Called) → IsDoneAtOnce p number made seen s t c → s.stage ≡ Idle → t.stage ≡ Idle
-once_idle p number made seen s t c d idle = elim d.done [
+pub once_idle : {p number : ℕ} {made : Call} {seen : ℕ} {s t : CoreState} {c : Called} → IsDoneAtOnce p number made seen s t c → s.stage ≡ Idle → t.stage ≡ Idle
+once_idle d idle = elim d.done [
   | inl r ↦ ap (λ (v : CoreState). v.stage) r.rests ∙ idle
   | inr f ↦ ap (λ (v : CoreState). v.stage) f.rests
 ]
 
-pub once_sizes : (p number : ℕ) (made : Call) (seen : ℕ) (s t : CoreState) (c : Called) → IsDoneAtOnce p number made seen s t c → t.sizes ≡ s.sizes
-once_sizes p number made seen s t c d = elim d.done [
+pub once_sizes : {p number : ℕ} {made : Call} {seen : ℕ} {s t : CoreState} {c : Called} → IsDoneAtOnce p number made seen s t c → t.sizes ≡ s.sizes
+once_sizes {s} {c} d = elim d.done [
   | inl r ↦ ap (λ (v : CoreState). v.sizes) r.rests
   | inr f ↦ ap (λ (v : CoreState). v.sizes) f.rests ∙ begun_sizes s c.call
 ]
 
 -- a call is finished at once at a port between calls
-pub once_fits : (o : Opening) (log : List Applied) (calls : List Call) (p : ℕ) (x : Part) (port new : Port) (call : Call) (c : Called) → PortFits o log calls p x port → port.under_way ≡ None →
+pub once_fits : {o : Opening} {log : List Applied} {calls : List Call} {p : ℕ} {x : Part} {port new : Port} {call : Call} {c : Called} → PortFits o log calls p x port → port.under_way ≡ None →
     slice_get calls (length port.finished.items) ≡ Some call → IsDoneAtOnce port.number (length port.finished.items) call (length log) port.core new.core c → new.number ≡ port.number →
     new.finished.items ≡ port.finished.items ++ c ∷ [] → new.under_way ≡ None → PortFits o log calls p x new
-once_fits o log calls p x port new call c w none next d number finished way =
-    let between = between_of o log calls p x port w none in
+once_fits {o} {log} {calls} {p} {x} {port} {new} {call} {c} w none next d number finished way =
+    let between = between_of w none in
     let low = ends_within (length log) p 0 0 port.finished.items (omega arith) w.finished in
     let at : IsDoneAtOnce p (length port.finished.items) call (length log) port.core new.core c =
     subst (λ n. IsDoneAtOnce n (length port.finished.items) call (length log) port.core new.core c) w.number d in
     let e : OnceEnded o log p (length port.finished.items) (ends_of 0 port.finished.items) (seen_by 0 (notes_in port.finished.items)) call c port.core new.core x = elim d.done [
-      | inl r ↦ once_refused o log p (length port.finished.items) (ends_of 0 port.finished.items) (seen_by 0 (notes_in port.finished.items)) call c port.core new.core x at r low w.sizes between
-      | inr f ↦ once_finished o log p (length port.finished.items) (ends_of 0 port.finished.items) (seen_by 0 (notes_in port.finished.items)) call c port.core new.core x at f low w.shown between
+      | inl r ↦ once_refused at r low w.sizes between
+      | inr f ↦ once_finished at f low w.shown between
     ] in
-    let pushed : DoneFits o log calls p (port.finished.items ++ c ∷ []) (places_written x.notes ++ wrote (e.ended).note) = push_fits o log calls p port.finished.items (places_written x.notes) call c
-    (done_of o log calls p x port w) next e.ended in
+    let pushed : DoneFits o log calls p (port.finished.items ++ c ∷ []) (places_written x.notes ++ wrote (e.ended).note) = push_fits (done_of w) next e.ended in
     let bounded : AreFew new.core.sizes (port.finished.items ++ c ∷ []) = AllByRecursion-push (λ (f : Called). f.steps ≤ most_steps new.core.sizes f.call) port.finished.items c
     (subst (λ (z : Layout). AreFew z port.finished.items) (sym e.sizes) w.bounded) (let steps = d.steps in omega (arith, steps)) in
-    fits_with o log calls p x new (places_written x.notes ++ wrote (e.ended).note) (number ∙ w.number) w.part (ap (λ (z : Layout). z.m) e.sizes ∙ w.sizes)
+    fits_with (number ∙ w.number) w.part (ap (λ (z : Layout). z.m) e.sizes ∙ w.sizes)
     (subst (λ (l : List Called). DoneFits o log calls p l (places_written x.notes ++ wrote (e.ended).note)) (sym finished) pushed)
     (subst (λ (l : List Called). AreFew new.core.sizes l) (sym finished) bounded)
     (ap (λ (l : List ℕ). places_written x.notes ++ l) e.writes ∙ append-nil (places_written x.notes))
@@ -416,19 +442,19 @@ answer_idle s (reply.Refused cause) = refl
 answer_idle s (reply.Changed by) = refl
 
 -- a step that ends its call
-pub step_ended : (calls : List Call) (words words' : List ℕ) (trace trace' : List Event) (log log' : List Applied) (port new : Port) (step : Step) (way : UnderWay) (a : ℕ) (core' core'' : CoreState)
-    (r : Reply) (call : Call) (called : Called) → step_of port.core ≡ Some step → port.under_way ≡ Some way → IsPossible port.core (answer_of words step) → a ≡ answer_of words step →
-    words' ≡ words_after words step → trace' ≡ trace ++ record { port = port.number; step = step; answer = a } ∷ [] → log' ≡ log ++ entry_at port.core.sizes.m words' port.number step a →
-    core' ≡ advance port.core a → steps_left core' < steps_left port.core → reply_of core' ≡ Some r → core'' ≡ at_stage core' Idle → slice_get calls (length port.finished.items) ≡ Some call →
-    IsEndedCall port.number (length port.finished.items) call (one_step_more way) words' log' (answer_for core' r) called → new.number ≡ port.number → new.core ≡ core'' → new.under_way ≡ None →
-    new.finished.items ≡ port.finished.items ++ called ∷ [] → StepMade calls words words' trace trace' log log' port new
-step_ended calls words words' trace trace' log log' port new step way a core' core'' r call called due was possible answer words_are trace_is log_is core falls replied taken next ended number
-    machine none finished =
-    let moved : core' ≡ advance port.core (answer_of words step) = core ∙ ap (advance port.core) answer in
-    let reply' : reply_of (advance port.core (answer_of words step)) ≡ Some r = ap reply_of (sym moved) ∙ replied in
-    let ended' : IsEndedCall port.number (length port.finished.items) call (one_step_more way) words' log' (answer_for (advance port.core (answer_of words step)) r) called =
-    subst (λ (s : CoreState). IsEndedCall port.number (length port.finished.items) call (one_step_more way) words' log' (answer_for s r) called) moved ended in
-    let after : Ends calls words' log' port new way (advance port.core (answer_of words step)) r = record {
+pub step_ended : (calls : List Call) (old now : Memory) (port new : Port) (step : Step) (way : UnderWay) (a : ℕ) (core' core'' : CoreState) (r : Reply) (call : Call) (called : Called) →
+    step_of port.core ≡ Some step → port.under_way ≡ Some way → IsPossible port.core (answer_of old.words.items step) → a ≡ answer_of old.words.items step →
+    now.words.items ≡ words_after old.words.items step → now.trace.items ≡ old.trace.items ++ record { port = port.number; step = step; answer = a } ∷ [] →
+    now.history.items ≡ old.history.items ++ entry_at port.core.sizes.m now.words.items port.number step a → core' ≡ advance port.core a → steps_left core' < steps_left port.core →
+    reply_of core' ≡ Some r → core'' ≡ at_stage core' Idle → slice_get calls (length port.finished.items) ≡ Some call →
+    IsEndedCall port.number (length port.finished.items) call (one_step_more way) now.words.items now.history.items (answer_for core' r) called → new.number ≡ port.number → new.core ≡ core'' →
+    new.under_way ≡ None → new.finished.items ≡ port.finished.items ++ called ∷ [] → StepMade calls old now port new
+step_ended calls old now port new step way a core' core'' r call called due was possible answer words_are trace_is log_is core falls replied taken next ended number machine none finished =
+    let moved : core' ≡ core_behind old step port = core ∙ ap (advance port.core) answer in
+    let reply' : reply_of (core_behind old step port) ≡ Some r = ap reply_of (sym moved) ∙ replied in
+    let ended' : IsEndedCall port.number (length port.finished.items) call (one_step_more way) now.words.items now.history.items (answer_for (core_behind old step port) r) called =
+    subst (λ (s : CoreState). IsEndedCall port.number (length port.finished.items) call (one_step_more way) now.words.items now.history.items (answer_for s r) called) moved ended in
+    let after : Ends calls now.words.items now.history.items port new way (core_behind old step port) r = record {
       machine = machine ∙ taken ∙ ap (λ (s : CoreState). at_stage s Idle) moved;
       none = none;
       call = call;
@@ -444,10 +470,20 @@ step_ended calls words words' trace trace' log log' port new step way a core' co
       was = was;
       possible = possible;
       words_are = words_are;
-      trace_is = trace_is ∙ ap (λ n. trace ++ record { port = port.number; step = step; answer = n } ∷ []) answer;
-      log_is = log_is ∙ ap (λ n. log ++ entry_at port.core.sizes.m words' port.number step n) answer;
+      trace_is = trace_is ∙ ap (λ n. old.trace.items ++ record { port = port.number; step = step; answer = n } ∷ []) answer;
+      log_is = log_is ∙ ap (λ n. old.history.items ++ entry_at port.core.sizes.m now.words.items port.number step n) answer;
       number = number;
       falls = subst (λ (s : CoreState). steps_left s < steps_left port.core) moved falls;
-      after = subst (λ (f : Option Reply). MatchOption f (CallGoesOn port new way (advance port.core (answer_of words step)))
-          (Ends calls words' log' port new way (advance port.core (answer_of words step)))) (sym reply') after;
+      after = subst (λ (f : Option Reply). MatchOption f (CallGoesOn port new way (core_behind old step port))
+          (Ends calls now.words.items now.history.items port new way (core_behind old step port))) (sym reply') after;
     }
+
+-- a step's call goes on, or it ends
+pub step_cases : {calls : List Call} {old now : Memory} {port new : Port} (m : StepMade calls old now port new) (P : Type 0) → (CallGoesOn port new m.way (core_behind old m.step port) → P) →
+    ((r : Reply) → reply_of (core_behind old m.step port) ≡ Some r → Ends calls now.words.items now.history.items port new m.way (core_behind old m.step port) r → P) → P
+step_cases {calls} {old} {now} {port} {new} m P goes ends = at (reply_of (core_behind old m.step port)) refl m.after
+  where
+    at : (found : Option Reply) → reply_of (core_behind old m.step port) ≡ found → MatchOption found (CallGoesOn port new m.way (core_behind old m.step port))
+        (Ends calls now.words.items now.history.items port new m.way (core_behind old m.step port)) → P
+    at None is g = goes g
+    at (Some r) is e = ends r is e

@@ -1,6 +1,6 @@
 -- The events of a port are the steps of its calls.
-use Rattle.partial_replay.proofs.Common.{ℕ, ◌≢◌, ◌≤◌, suc, ◌≡◌, ◌+◌, ◌<◌, ◌==◌, ◌++◌, Bool, true, false, cond, List, [], ◌∷◌, length, map, set, Option, Some, None, IfSome, MatchOption, slice_get, refl, sym, ◌∙◌, ap, subst, inl, inr, arith, append_assoc, length-append, AllByRecursion, filter, filter_map, cons_option, sum_by, option_map, is_some, IsSome, append-nil, length_push, length-map, sum_by-cons, false≢true, ne_eqb, filter-append, eqb_tells, Applied, Call, Called, Finish, Opening, Step, Event, Layout, word_of, answer_of, Reply, Idle, Finished, CoreState, at_stage, advance, step_of, reply_at, reply_of, fresh, IsPossible, Part, IsBetween, answer_for, is_at_rest, begun_of, refusal_of, Port, UnderWay, Moment, last_behind, adds, is_won, new_of, event_entry, moments_from, moments_by, ports_of, events_in, EndInStep, Makes, IsCallRun, AreStepsOf, IsCallUnderWay, PortFits, IsCallGoing, PortMade, KeepsMade, unfinished_call, began_at, IsDoneAtOnce, ended_call, one_step_more, CallGoesOn, Ends, StepMade, ArePortsMade, AreStarted, AreStartedBut, left_over, unvalued, StopsAtStep, Stage}
-use Rattle.partial_replay.proofs.PortLaws.{same_eqb, get_set, get_set_other}
+use Rattle.partial_replay.proofs.Common.{ℕ, ◌≢◌, ◌≤◌, suc, ◌≡◌, ◌+◌, ◌<◌, ◌==◌, ◌++◌, Bool, true, false, cond, List, [], ◌∷◌, length, map, set, Option, Some, None, IfSome, MatchOption, slice_get, refl, sym, ◌∙◌, ap, subst, arith, append_assoc, length-append, AllByRecursion, filter, filter_map, cons_option, sum_by, option_map, is_some, IsSome, append-nil, length_push, length-map, sum_by-cons, false≢true, ne_eqb, filter-append, Applied, Call, Called, Finish, Opening, Step, Event, Layout, word_of, Reply, Idle, Finished, CoreState, at_stage, advance, step_of, reply_at, reply_of, fresh, IsPossible, Part, IsBetween, answer_for, is_at_rest, begun_of, refusal_of, Port, UnderWay, Moment, last_behind, adds, is_won, new_of, event_entry, moments_from, moments_by, ports_of, events_in, EndInStep, Makes, IsCallRun, AreStepsOf, IsCallUnderWay, PortFits, IsCallGoing, PortMade, KeepsMade, unfinished_call, began_at, IsDoneAtOnce, ended_call, one_step_more, CallGoesOn, Ends, StepMade, ArePortsMade, AreStarted, AreStartedBut, left_over, unvalued, StopsAtStep, Stage, some_same, Memory, core_behind, event_of, ReplayState, PortAt}
+use Rattle.partial_replay.proofs.PortLaws.{same_eqb, get_set_other, port_set, at_set, step_cases}
 use Rattle.partial_replay.proofs.Opens.{over_none}
 use Rattle.partial_replay.proofs.LegalOutcomes.{begun_by}
 
@@ -47,10 +47,10 @@ call_of s t last c (y ∷ own) x begins makes began answered ended rests =
     }
 
 -- a call begins at a port between calls
-pub begun_made : (z : Layout) (n : ℕ) (calls : List Call) (p : ℕ) (xs : List Moment) (port new : Port) (call : Call) → PortMade z n calls p xs port → port.under_way ≡ None →
+pub begun_made : {z : Layout} {n : ℕ} {calls : List Call} {p : ℕ} {xs : List Moment} {port new : Port} {call : Call} → PortMade z n calls p xs port → port.under_way ≡ None →
     slice_get calls (length port.finished.items) ≡ Some call → refusal_of port.core call ≡ None → new.core ≡ begun_of port.core call → new.finished.items ≡ port.finished.items →
     new.under_way ≡ Some (record { began = n; steps = 0 }) → PortMade z n calls p xs new
-begun_made z n calls p xs port new call w none next refusal core finished way =
+begun_made {z} {n} {calls} {p} {port} {new} {call} w none next refusal core finished way =
     let nil : List Moment = [] in
     let idle : (w.own ≡ []) × (port.core ≡ w.at) = subst (λ (f : Option UnderWay). MatchOption f ((w.own ≡ []) × (port.core ≡ w.at))
     (IsCallGoing n calls port.finished.items w.at port.core w.own)) none w.going in
@@ -72,9 +72,9 @@ begun_made z n calls p xs port new call w none next refusal core finished way =
     }
 
 -- a call is finished at once at a port between calls
-pub once_made : (z : Layout) (n : ℕ) (calls : List Call) (p : ℕ) (xs : List Moment) (port new : Port) (call : Call) (c : Called) → PortMade z n calls p xs port → port.under_way ≡ None →
+pub once_made : {z : Layout} {n : ℕ} {calls : List Call} {p : ℕ} {xs : List Moment} {port new : Port} {call : Call} {c : Called} → PortMade z n calls p xs port → port.under_way ≡ None →
     IsDoneAtOnce port.number (length port.finished.items) call n port.core new.core c → new.finished.items ≡ port.finished.items ++ c ∷ [] → new.under_way ≡ None → PortMade z n calls p xs new
-once_made z n calls p xs port new call c w none d finished way =
+once_made {z} {n} {calls} {p} {port} {new} {c} w none d finished way =
     let nil : List Moment = [] in
     let idle : (w.own ≡ []) × (port.core ≡ w.at) = subst (λ (f : Option UnderWay). MatchOption f ((w.own ≡ []) × (port.core ≡ w.at))
     (IsCallGoing n calls port.finished.items w.at port.core w.own)) none w.going in
@@ -89,76 +89,69 @@ once_made z n calls p xs port new call c w none d finished way =
       going = subst (λ (f : Option UnderWay). MatchOption f ((nil ≡ []) × (new.core ≡ new.core)) (IsCallGoing n calls new.finished.items new.core new.core [])) (sym way) (refl, refl);
     }
 
+-- the event of a step, with the lengths of the history before and behind it
+abbrev moment_of : Memory → Memory → ℕ → Step → Moment
+moment_of old now p step = record { event = event_of old p step; before = length old.history.items; behind = length now.history.items }
+
 -- a step of the call under way: it goes on, or it is finished
-goes_made : (z : Layout) (n k : ℕ) (calls : List Call) (p : ℕ) (xs : List Moment) (port new : Port) (way : UnderWay) (x : Moment) → (w : PortMade z n calls p xs port) →
-    IsCallGoing n calls port.finished.items w.at port.core w.own way → x.before ≡ n → step_of port.core ≡ Some x.event.step → IsPossible port.core x.event.answer →
-    CallGoesOn port new way (advance port.core x.event.answer) → PortMade z k calls p (xs ++ x ∷ []) new
-goes_made z n k calls p xs port new way x w u before due possible g =
-    let going : IsCallGoing k calls new.finished.items w.at new.core (w.own ++ x ∷ []) (one_step_more way) = record {
-      call = u.call;
-      next = ap (λ (d : List Called). slice_get calls (length d)) g.finished ∙ u.next;
-      begins = u.begins;
-      makes = makes_push (begun_of w.at u.call) port.core new.core w.own x u.makes due possible g.machine;
-      steps = length_push w.own x ∙ ap (λ m. m + 1) u.steps;
-      began = u.began ∙ began_push n k w.own x before;
-    } in
-    record {
-      done = w.done;
-      own = w.own ++ x ∷ [];
-      at = w.at;
-      is = ap (λ (l : List Moment). l ++ x ∷ []) w.is ∙ append_assoc w.done w.own (x ∷ []);
-      led = subst (λ (d : List Called). AreStepsOf (fresh z p) d w.done w.at) (sym g.finished) w.led;
-      going = subst (λ (f : Option UnderWay). MatchOption f ((w.own ++ x ∷ [] ≡ []) × (new.core ≡ w.at)) (IsCallGoing k calls new.finished.items w.at new.core (w.own ++ x ∷ []))) (sym g.way') going;
-    }
+module _ {z : Layout} {calls : List Call} {p : ℕ} {xs : List Moment} {old now : Memory} {port new : Port} (m : StepMade calls old now port new)
+    (w : PortMade z (length old.history.items) calls p xs port) where
+  abbrev x : Moment
+  x = moment_of old now port.number m.step
 
-ends_made : (z : Layout) (n k : ℕ) (calls : List Call) (p : ℕ) (xs : List Moment) (port new : Port) (way : UnderWay) (x : Moment) (words : List ℕ) (log : List Applied) (r : Reply) →
-    (w : PortMade z n calls p xs port) → IsCallGoing n calls port.finished.items w.at port.core w.own way → x.before ≡ n → x.behind ≡ length log → step_of port.core ≡ Some x.event.step →
-    IsPossible port.core x.event.answer → reply_of (advance port.core x.event.answer) ≡ Some r → Ends calls words log port new way (advance port.core x.event.answer) r →
-    PortMade z k calls p (xs ++ x ∷ []) new
-ends_made z n k calls p xs port new way x words log r w u before behind due possible replied e =
-    let nil : List Moment = [] in
-    let own = w.own ++ x ∷ [] in
-    let last = advance port.core x.event.answer in
-    let c = ended_call port.number (length port.finished.items) e.call (one_step_more way) (length log) (answer_for (advance port.core x.event.answer) r) e.note in
-    let one : Some u.call ≡ Some e.call = sym u.next ∙ e.next in
-    let same : u.call ≡ e.call = cc in
-    let makes : Makes (begun_of w.at u.call) own last = makes_push (begun_of w.at u.call) port.core last w.own x u.makes due possible refl in
-    let call : IsCallRun w.at c own (at_stage last Idle) = call_of w.at (at_stage last Idle) last c w.own x
-    (subst (λ (d : Call). refusal_of w.at d ≡ None) same u.begins)
-    (subst (λ (d : Call). Makes (begun_of w.at d) own last) same makes)
-    (u.began ∙ began_push n 0 w.own x before)
-    (sym (ap (option_map (answer_for last)) replied))
-    (sym behind) refl in
-    let led = steps_push (fresh z p) w.at (at_stage last Idle) port.finished.items c w.done own w.led call (length_push w.own x ∙ ap (λ m. m + 1) u.steps) in
-    record {
-      done = w.done ++ own;
-      own = [];
-      at = at_stage last Idle;
-      is = ap (λ (l : List Moment). l ++ x ∷ []) w.is ∙ append_assoc w.done w.own (x ∷ []) ∙ sym (append-nil (w.done ++ own));
-      led = subst (λ (d : List Called). AreStepsOf (fresh z p) d (w.done ++ own) (at_stage last Idle)) (sym e.finished) led;
-      going = subst (λ (f : Option UnderWay). MatchOption f ((nil ≡ []) × (new.core ≡ at_stage last Idle)) (IsCallGoing k calls new.finished.items (at_stage last Idle) new.core []))
-          (sym e.none) (refl, e.machine);
-    }
+  abbrev events : List Moment
+  events = w.own ++ moment_of old now port.number m.step ∷ []
 
-after_made : (z : Layout) (n k : ℕ) (calls : List Call) (p : ℕ) (xs : List Moment) (port new : Port) (way : UnderWay) (x : Moment) (words : List ℕ) (log : List Applied) (found : Option Reply) →
-    (w : PortMade z n calls p xs port) → IsCallGoing n calls port.finished.items w.at port.core w.own way → x.before ≡ n → x.behind ≡ length log → step_of port.core ≡ Some x.event.step →
-    IsPossible port.core x.event.answer → reply_of (advance port.core x.event.answer) ≡ found → MatchOption found (CallGoesOn port new way (advance port.core x.event.answer))
-    (Ends calls words log port new way (advance port.core x.event.answer)) → PortMade z k calls p (xs ++ x ∷ []) new
-after_made z n k calls p xs port new way x words log None w u before behind due possible replied g = goes_made z n k calls p xs port new way x w u before due possible g
-after_made z n k calls p xs port new way x words log (Some r) w u before behind due possible replied e = ends_made z n k calls p xs port new way x words log r w u before behind due possible replied e
+  abbrev last : CoreState
+  last = core_behind old m.step port
 
--- the event of a step
-abbrev event_of : List ℕ → ℕ → Step → Event
-event_of words p step = record { port = p; step = step; answer = answer_of words step }
+  u : IsCallGoing (length old.history.items) calls port.finished.items w.at port.core w.own m.way
+  u = subst (λ (f : Option UnderWay). MatchOption f ((w.own ≡ []) × (port.core ≡ w.at)) (IsCallGoing (length old.history.items) calls port.finished.items w.at port.core w.own)) m.was w.going
 
-step_made : (z : Layout) (calls : List Call) (p : ℕ) (xs : List Moment) (words words' : List ℕ) (trace trace' : List Event) (log log' : List Applied) (port new : Port) →
-    (m : StepMade calls words words' trace trace' log log' port new) → PortMade z (length log) calls p xs port →
-    PortMade z (length log') calls p (xs ++ record { event = event_of words port.number m.step; before = length log; behind = length log' } ∷ []) new
-step_made z calls p xs words words' trace trace' log log' port new m w =
-    let u : IsCallGoing (length log) calls port.finished.items w.at port.core w.own m.way =
-    subst (λ (f : Option UnderWay). MatchOption f ((w.own ≡ []) × (port.core ≡ w.at)) (IsCallGoing (length log) calls port.finished.items w.at port.core w.own)) m.was w.going in
-    after_made z (length log) (length log') calls p xs port new m.way (record { event = event_of words port.number m.step; before = length log; behind = length log' }) words' log'
-    (reply_of (advance port.core (answer_of words m.step))) w u refl refl m.due m.possible refl m.after
+  goes_made : CallGoesOn port new m.way last → PortMade z (length now.history.items) calls p (xs ++ x ∷ []) new
+  goes_made g =
+      let going : IsCallGoing (length now.history.items) calls new.finished.items w.at new.core events (one_step_more m.way) = record {
+        call = u.call;
+        next = ap (λ (d : List Called). slice_get calls (length d)) g.finished ∙ u.next;
+        begins = u.begins;
+        makes = makes_push (begun_of w.at u.call) port.core new.core w.own x u.makes m.due m.possible g.machine;
+        steps = length_push w.own x ∙ ap (λ n. n + 1) u.steps;
+        began = u.began ∙ began_push (length old.history.items) (length now.history.items) w.own x refl;
+      } in
+      record {
+        done = w.done;
+        own = events;
+        at = w.at;
+        is = ap (λ (l : List Moment). l ++ x ∷ []) w.is ∙ append_assoc w.done w.own (x ∷ []);
+        led = subst (λ (d : List Called). AreStepsOf (fresh z p) d w.done w.at) (sym g.finished) w.led;
+        going = subst (λ (f : Option UnderWay). MatchOption f ((events ≡ []) × (new.core ≡ w.at)) (IsCallGoing (length now.history.items) calls new.finished.items w.at new.core events))
+            (sym g.way') going;
+      }
+
+  ends_made : (r : Reply) → reply_of last ≡ Some r → Ends calls now.words.items now.history.items port new m.way last r → PortMade z (length now.history.items) calls p (xs ++ x ∷ []) new
+  ends_made r replied e =
+      let nil : List Moment = [] in
+      let c = ended_call port.number (length port.finished.items) e.call (one_step_more m.way) (length now.history.items) (answer_for last r) e.note in
+      let same : u.call ≡ e.call = some_same (sym u.next ∙ e.next) in
+      let makes : Makes (begun_of w.at u.call) events last = makes_push (begun_of w.at u.call) port.core last w.own x u.makes m.due m.possible refl in
+      let call : IsCallRun w.at c events (at_stage last Idle) = call_of w.at (at_stage last Idle) last c w.own x
+      (subst (λ (d : Call). refusal_of w.at d ≡ None) same u.begins)
+      (subst (λ (d : Call). Makes (begun_of w.at d) events last) same makes)
+      (u.began ∙ began_push (length old.history.items) 0 w.own x refl)
+      (sym (ap (option_map (answer_for last)) replied)) refl refl in
+      let led = steps_push (fresh z p) w.at (at_stage last Idle) port.finished.items c w.done events w.led call (length_push w.own x ∙ ap (λ n. n + 1) u.steps) in
+      record {
+        done = w.done ++ events;
+        own = [];
+        at = at_stage last Idle;
+        is = ap (λ (l : List Moment). l ++ x ∷ []) w.is ∙ append_assoc w.done w.own (x ∷ []) ∙ sym (append-nil (w.done ++ events));
+        led = subst (λ (d : List Called). AreStepsOf (fresh z p) d (w.done ++ events) (at_stage last Idle)) (sym e.finished) led;
+        going = subst (λ (f : Option UnderWay). MatchOption f ((nil ≡ []) × (new.core ≡ at_stage last Idle)) (IsCallGoing (length now.history.items) calls new.finished.items (at_stage last Idle)
+            new.core [])) (sym e.none) (refl, e.machine);
+      }
+
+  pub step_made : PortMade z (length now.history.items) calls p (xs ++ x ∷ []) new
+  step_made = step_cases m (PortMade z (length now.history.items) calls p (xs ++ x ∷ []) new) goes_made ends_made
 
 -- another port's step
 own_stays : (n k : ℕ) (own : List Moment) (way : UnderWay) → length own ≡ way.steps → 0 < way.steps → began_at n own ≡ began_at k own
@@ -171,9 +164,9 @@ going_stays n k calls done at core own None started w = w
 going_stays n k calls done at core own (Some way) started w =
     record { call = w.call; next = w.next; begins = w.begins; makes = w.makes; steps = w.steps; began = w.began ∙ own_stays n k own way w.steps (started way refl) }
 
-other_made : (z : Layout) (n k : ℕ) (calls : List Call) (q : ℕ) (xs : List Moment) (port : Port) → ((v : UnderWay) → port.under_way ≡ Some v → 0 < v.steps) → PortMade z n calls q xs port →
+other_made : {z : Layout} {n : ℕ} {calls : List Call} {q : ℕ} {xs : List Moment} {port : Port} (k : ℕ) → ((v : UnderWay) → port.under_way ≡ Some v → 0 < v.steps) → PortMade z n calls q xs port →
     PortMade z k calls q xs port
-other_made z n k calls q xs port started w = record {
+other_made {n} {calls} {port} k started w = record {
   done = w.done;
   own = w.own;
   at = w.at;
@@ -220,74 +213,44 @@ by_push m q n k trace e before behind =
     ∙ ap (λ i. moments_by m q trace ++ cond (e.port == q) (record { event = e; before = n; behind = i } ∷ []) []) (sym last ∙ sym behind)
 
 -- a step of port i, and a call that begins there
-pub ports_step : (plans : List (List Call)) (z : Layout) (words words' : List ℕ) (ports : List Port) (log log' : List Applied) (trace trace' : List Event) (i : ℕ) (calls : List Call)
-    (port new : Port) → ArePortsMade plans z ports log trace → length log ≡ long_by z.m 0 trace → length log' ≡ long_by z.m 0 trace' → AreStartedBut i ports → slice_get plans i ≡ Some calls →
-    slice_get ports i ≡ Some port → port.number ≡ i → StepMade calls words words' trace trace' log log' port new → ArePortsMade plans z (set ports i new) log' trace'
-ports_step plans z words words' ports log log' trace trace' i calls port new made before behind started c t number m q d u plan is =
-    let e = event_of words port.number m.step in
-    let push : moments_by z.m q trace' ≡ moments_by z.m q trace ++ cond (port.number == q) (record { event = e; before = length log; behind = length log' } ∷ []) [] =
-    ap (moments_by z.m q) m.trace_is ∙ by_push z.m q (length log) (length log') trace e before (behind ∙ ap (long_by z.m 0) m.trace_is) in
-    elim (eqb_tells q i) [
-      | inl same ↦
-          let one : Some d ≡ Some calls = sym plan ∙ ap (slice_get plans) same.1 ∙ c in
-          let two : Some u ≡ Some new = sym is ∙ ap (slice_get (set ports i new)) same.1 ∙ get_set ports i port new t in
-          let calls_same : calls ≡ d = cc in
-          let port_same : new ≡ u = cc in
-          let old : PortMade z (length log) calls q (moments_by z.m q trace) port = made q calls port (ap (slice_get plans) same.1 ∙ c) (ap (slice_get ports) same.1 ∙ t) in
-          let here : moments_by z.m q trace' ≡ moments_by z.m q trace ++ record { event = e; before = length log; behind = length log' } ∷ [] =
-          push ∙ ap (λ (b : Bool). moments_by z.m q trace ++ cond b (record { event = e; before = length log; behind = length log' } ∷ []) []) (same_eqb port.number q (number ∙ sym same.1)) in
-          subst (λ (l : List Call). PortMade z (length log') l q (moments_by z.m q trace') u) calls_same
-          (subst (λ (v : Port). PortMade z (length log') calls q (moments_by z.m q trace') v) port_same
-          (subst (λ (xs : List Moment). PortMade z (length log') calls q xs new) (sym here) (step_made z calls q (moments_by z.m q trace) words words' trace trace' log log' port new m old)))
-      | inr other ↦
-          let here : slice_get ports q ≡ Some u = sym (get_set_other ports i q new other.1) ∙ is in
-          let none : moments_by z.m q trace' ≡ moments_by z.m q trace =
-          push ∙ ap (λ (b : Bool). moments_by z.m q trace ++ cond b (record { event = e; before = length log; behind = length log' } ∷ []) [])
-          (ne_eqb port.number q (λ h. other.1 (sym h ∙ number))) ∙ append-nil (moments_by z.m q trace) in
-          subst (λ (xs : List Moment). PortMade z (length log') d q xs u) (sym none)
-          (other_made z (length log) (length log') d q (moments_by z.m q trace) u (λ v way. started q u v other.1 here way) (made q d u plan here))
-    ]
+pub ports_step : {plans : List (List Call)} (s : ReplayState) {now : Memory} {i : ℕ} {calls : List Call} {port new : Port} → ArePortsMade plans s →
+    length s.memory.history.items ≡ long_by s.sizes.m 0 s.memory.trace.items → length now.history.items ≡ long_by s.sizes.m 0 now.trace.items → AreStartedBut i s.ports →
+    PortAt plans s.ports i calls port → port.number ≡ i → StepMade calls s.memory now port new → ArePortsMade plans (record s { memory = now; ports = set s.ports i new })
+ports_step s {now} {calls} {port} {new} made before behind started at number m q =
+    let n = length now.history.items in
+    let x = moment_of s.memory now port.number m.step in
+    let front = moments_by s.sizes.m q s.memory.trace.items in
+    let push : (b : Bool) → (port.number == q) ≡ b → front ++ cond b (x ∷ []) [] ≡ moments_by s.sizes.m q now.trace.items = λ b is.
+    sym (ap (moments_by s.sizes.m q) m.trace_is ∙ by_push s.sizes.m q (length s.memory.history.items) n s.memory.trace.items x.event before (behind ∙ ap (long_by s.sizes.m 0) m.trace_is)
+    ∙ ap (λ (c : Bool). front ++ cond c (x ∷ []) []) is) in
+    at_set new at q (λ ds u. PortMade s.sizes n ds q (moments_by s.sizes.m q now.trace.items) u)
+    (λ same here. subst (λ (xs : List Moment). PortMade s.sizes n calls q xs new) (push true (same_eqb port.number q (number ∙ sym same))) (step_made m (made q calls port here)))
+    (λ other ds u here. subst (λ (xs : List Moment). PortMade s.sizes n ds q xs u) (sym (append-nil front) ∙ push false (ne_eqb port.number q (λ h. other (sym h ∙ number))))
+    (other_made n (λ v way. started q u v other here.is way) (made q ds u here)))
 
-pub ports_begin : (plans : List (List Call)) (z : Layout) (ports : List Port) (log : List Applied) (trace : List Event) (i : ℕ) (calls : List Call) (port new : Port) →
-    ArePortsMade plans z ports log trace → slice_get plans i ≡ Some calls → slice_get ports i ≡ Some port → KeepsMade calls (length log) port new → ArePortsMade plans z (set ports i new) log trace
-ports_begin plans z ports log trace i calls port new made c t keeps q d u plan is = elim (eqb_tells q i) [
-  | inl same ↦
-      let one : Some d ≡ Some calls = sym plan ∙ ap (slice_get plans) same.1 ∙ c in
-      let two : Some u ≡ Some new = sym is ∙ ap (slice_get (set ports i new)) same.1 ∙ get_set ports i port new t in
-      let calls_same : calls ≡ d = cc in
-      let port_same : new ≡ u = cc in
-      let old : PortMade z (length log) calls q (moments_by z.m q trace) port = made q calls port (ap (slice_get plans) same.1 ∙ c) (ap (slice_get ports) same.1 ∙ t) in
-      subst (λ (l : List Call). PortMade z (length log) l q (moments_by z.m q trace) u) calls_same
-      (subst (λ (v : Port). PortMade z (length log) calls q (moments_by z.m q trace) v) port_same (keeps z q (moments_by z.m q trace) old))
-  | inr other ↦ made q d u plan (sym (get_set_other ports i q new other.1) ∙ is)
-]
+pub ports_begin : {plans : List (List Call)} (s : ReplayState) {i : ℕ} {calls : List Call} {port new : Port} → ArePortsMade plans s → PortAt plans s.ports i calls port →
+    KeepsMade calls (length s.memory.history.items) port new → ArePortsMade plans (record s { ports = set s.ports i new })
+ports_begin s {calls} {port} {new} made at keeps q =
+    let xs = moments_by s.sizes.m q s.memory.trace.items in
+    at_set new at q (λ ds u. PortMade s.sizes (length s.memory.history.items) ds q xs u)
+    (λ same here. keeps s.sizes q xs (made q calls port here)) (λ other. made q)
 
 -- the calls under way have made a step
-pub started_set : (ports : List Port) (i : ℕ) (port new : Port) → slice_get ports i ≡ Some port → AreStartedBut i ports → ((way : UnderWay) → new.under_way ≡ Some way → 0 < way.steps) →
-    AreStarted (set ports i new)
-started_set ports i port new t started own q u way is under = elim (eqb_tells q i) [
-  | inl same ↦
-      let two : Some u ≡ Some new = sym is ∙ ap (slice_get (set ports i new)) same.1 ∙ get_set ports i port new t in
-      let port_same : new ≡ u = cc in
-      own way (ap (λ (v : Port). v.under_way) port_same ∙ under)
-  | inr other ↦ started q u way other.1 (sym (get_set_other ports i q new other.1) ∙ is) under
-]
+pub started_set : {plans : List (List Call)} {ports : List Port} {i : ℕ} {calls : List Call} {port : Port} (new : Port) → PortAt plans ports i calls port → AreStartedBut i ports →
+    ((way : UnderWay) → new.under_way ≡ Some way → 0 < way.steps) → AreStarted (set ports i new)
+started_set {ports} {i} new at started own q u way is under =
+    port_set ports i new at.is q (λ (v : Port). (k : UnderWay) → v.under_way ≡ Some k → 0 < k.steps) (λ same. own) (λ other v here k. started q v k other here) u is way under
 
 pub started_but : (ports : List Port) (i : ℕ) (new : Port) → AreStarted ports → AreStartedBut i (set ports i new)
 started_but ports i new started q u way other is under = started q u way (sym (get_set_other ports i q new other) ∙ is) under
 
-pub started_idle : (ports : List Port) (i : ℕ) (port new : Port) → slice_get ports i ≡ Some port → AreStarted ports → new.under_way ≡ None → AreStarted (set ports i new)
-started_idle ports i port new t started none = started_set ports i port new t (λ q u way other is under. started q u way is under) (λ way is. let bad : None ≡ Some way = sym none ∙ is in cc)
+pub started_idle : {plans : List (List Call)} {ports : List Port} {i : ℕ} {calls : List Call} {port : Port} (new : Port) → PortAt plans ports i calls port → AreStarted ports →
+    new.under_way ≡ None → AreStarted (set ports i new)
+started_idle new at started none = started_set new at (λ q u way other is under. started q u way is under) (λ way is. let bad : None ≡ Some way = sym none ∙ is in cc)
 
-pub step_started : (calls : List Call) (words words' : List ℕ) (trace trace' : List Event) (log log' : List Applied) (port new : Port) → StepMade calls words words' trace trace' log log' port new →
-    (way : UnderWay) → new.under_way ≡ Some way → 0 < way.steps
-step_started calls words words' trace trace' log log' port new m way is = here (reply_of (advance port.core (answer_of words m.step))) m.after
-  where
-    here : (found : Option Reply) → MatchOption found (CallGoesOn port new m.way (advance port.core (answer_of words m.step)))
-        (Ends calls words' log' port new m.way (advance port.core (answer_of words m.step))) → 0 < way.steps
-    here None g = let one : Some (one_step_more m.way) ≡ Some way = sym g.way' ∙ is in let same : one_step_more m.way ≡ way = cc in let steps =
-        ap (λ (v : UnderWay). v.steps) same in omega (arith, steps)
-    here (Some r) e = let bad : None ≡ Some way = sym e.none ∙ is in cc
+pub step_started : {calls : List Call} {old now : Memory} {port new : Port} → StepMade calls old now port new → (way : UnderWay) → new.under_way ≡ Some way → 0 < way.steps
+step_started m way is = step_cases m (0 < way.steps) (λ g. let steps = ap (λ (v : UnderWay). v.steps) (some_same (sym g.way' ∙ is)) in omega (arith, steps))
+    (λ r replied e. let bad : None ≡ Some way = sym e.none ∙ is in cc)
 
 -- what a port has made in the end
 at_rest_replied : (s : CoreState) → is_at_rest s.stage ≡ false → reply_of s ≡ None
@@ -333,9 +296,9 @@ steps_over z n calls p xs x port (Some way) w f started u =
           (subst (λ (l : List Moment). AreStepsOf (fresh z p) (port.finished.items ++ c ∷ []) l (at_stage port.core Idle)) (sym w.is) led),
     )
 
-pub steps_begun : (z : Layout) (o : Opening) (log : List Applied) (calls : List Call) (p : ℕ) (xs : List Moment) (x : Part) (port : Port) → PortFits o log calls p x port →
+pub steps_begun : {z : Layout} {o : Opening} {log : List Applied} {calls : List Call} {p : ℕ} {xs : List Moment} {x : Part} {port : Port} → PortFits o log calls p x port →
     PortMade z (length log) calls p xs port → ((v : UnderWay) → port.under_way ≡ Some v → 0 < v.steps) → (t : CoreState) × AreStepsOf (fresh z p) (begun_by calls port) xs t
-steps_begun z o log calls p xs x port f w started = steps_over z (length log) calls p xs x port port.under_way w f.way started w.going
+steps_begun {z} {log} {calls} {p} {xs} {x} {port} f w started = steps_over z (length log) calls p xs x port port.under_way w f.way started w.going
 
 -- a port has as many events as its calls have steps
 pub steps_sum : (s t : CoreState) (cs : List Called) (xs : List Moment) → AreStepsOf s cs xs t → length xs ≡ sum_by (λ (c : Called). c.steps) cs
@@ -380,38 +343,27 @@ last_step (d ∷ e ∷ cs) c some = last_step (e ∷ cs) c some
 pub ending_but : (ports : List Port) (i : ℕ) (new : Port) (q : ℕ) → q ≢ i → StopsAtStep ports q → StopsAtStep (set ports i new) q
 ending_but ports i new q other ends u is none = ends u (sym (get_set_other ports i q new other) ∙ is) none
 
-pub ending_with : (ports : List Port) (i : ℕ) (port new : Port) → slice_get ports i ≡ Some port → (new.under_way ≡ None → EndInStep new.finished.items) → (q : ℕ) → (q ≢ i → StopsAtStep ports q) →
-    StopsAtStep (set ports i new) q
-ending_with ports i port new t own q ends u is none = elim (eqb_tells q i) [
-  | inl same ↦
-      let two : Some u ≡ Some new = sym is ∙ ap (slice_get (set ports i new)) same.1 ∙ get_set ports i port new t in
-      let port_same : new ≡ u = cc in
-      subst (λ (v : Port). EndInStep v.finished.items) port_same (own (ap (λ (v : Port). v.under_way) port_same ∙ none))
-  | inr other ↦ ending_but ports i new q other.1 (ends other.1) u is none
-]
+pub ending_with : {plans : List (List Call)} {ports : List Port} {i : ℕ} {calls : List Call} {port : Port} (new : Port) → PortAt plans ports i calls port →
+    (new.under_way ≡ None → EndInStep new.finished.items) → (q : ℕ) → (q ≢ i → StopsAtStep ports q) → StopsAtStep (set ports i new) q
+ending_with {ports} {i} new at own q ends = port_set ports i new at.is q (λ (u : Port). u.under_way ≡ None → EndInStep u.finished.items) (λ same. own) ends
 
-pub step_ending : (calls : List Call) (words words' : List ℕ) (trace trace' : List Event) (log log' : List Applied) (port new : Port) → StepMade calls words words' trace trace' log log' port new →
-    new.under_way ≡ None → EndInStep new.finished.items
-step_ending calls words words' trace trace' log log' port new m none = here (reply_of (advance port.core (answer_of words m.step))) m.after
-  where
-    here : (found : Option Reply) → MatchOption found (CallGoesOn port new m.way (advance port.core (answer_of words m.step)))
-        (Ends calls words' log' port new m.way (advance port.core (answer_of words m.step))) → EndInStep new.finished.items
-    here None g = let bad : None ≡ Some (one_step_more m.way) = sym none ∙ g.way' in cc
-    here (Some r) e = subst EndInStep (sym e.finished) (last_step port.finished.items
-        (ended_call port.number (length port.finished.items) e.call (one_step_more m.way) (length log') (answer_for (advance port.core (answer_of words m.step)) r) e.note) (omega arith))
+pub step_ending : {calls : List Call} {old now : Memory} {port new : Port} → StepMade calls old now port new → new.under_way ≡ None → EndInStep new.finished.items
+step_ending {old} {now} {port} {new} m none = step_cases m (EndInStep new.finished.items) (λ g. let bad : None ≡ Some (one_step_more m.way) = sym none ∙ g.way' in cc)
+    (λ r replied e. subst EndInStep (sym e.finished) (last_step port.finished.items
+    (ended_call port.number (length port.finished.items) e.call (one_step_more m.way) (length now.history.items) (answer_for (core_behind old m.step port) r) e.note) (omega arith)))
 
 -- what a port lists ends in a step
-ending_over : (ports : List Port) (q : ℕ) (calls : List Call) (port : Port) (call : Option Call) (way : Option UnderWay) → port.under_way ≡ way → slice_get ports q ≡ Some port → StopsAtStep ports q →
+ending_over : (ports : List Port) (q : ℕ) (port : Port) (call : Option Call) (way : Option UnderWay) → port.under_way ≡ way → slice_get ports q ≡ Some port → StopsAtStep ports q →
     ((v : UnderWay) → port.under_way ≡ Some v → 0 < v.steps) → (IsSome way → IsSome call) → EndInStep (port.finished.items ++ left_over port call way)
-ending_over ports q calls port None None is t ends started some = subst EndInStep (sym (append-nil port.finished.items)) (ends port t is)
-ending_over ports q calls port (Some c) None is t ends started some = subst EndInStep (sym (append-nil port.finished.items)) (ends port t is)
-ending_over ports q calls port None (Some way) is t ends started some = let bad : false ≡ true = some refl in absurd (false≢true bad)
-ending_over ports q calls port (Some c) (Some way) is t ends started some = last_step port.finished.items (unfinished_call port.number (length port.finished.items) c way) (started way is)
+ending_over ports q port None None is t ends started some = subst EndInStep (sym (append-nil port.finished.items)) (ends port t is)
+ending_over ports q port (Some c) None is t ends started some = subst EndInStep (sym (append-nil port.finished.items)) (ends port t is)
+ending_over ports q port None (Some way) is t ends started some = let bad : false ≡ true = some refl in absurd (false≢true bad)
+ending_over ports q port (Some c) (Some way) is t ends started some = last_step port.finished.items (unfinished_call port.number (length port.finished.items) c way) (started way is)
 
-pub ending_begun : (o : Opening) (log : List Applied) (p : ℕ) (x : Part) (ports : List Port) (q : ℕ) (calls : List Call) (port : Port) → PortFits o log calls p x port →
-    slice_get ports q ≡ Some port → StopsAtStep ports q → ((v : UnderWay) → port.under_way ≡ Some v → 0 < v.steps) → EndInStep (begun_by calls port)
-ending_begun o log p x ports q calls port w t ends started =
-    ending_over ports q calls port (slice_get calls (length port.finished.items)) port.under_way refl t ends started (next_is port.under_way w.way)
+pub ending_begun : {o : Opening} {log : List Applied} {p : ℕ} {x : Part} {plans : List (List Call)} {ports : List Port} {q : ℕ} {calls : List Call} {port : Port} → PortFits o log calls p x port →
+    PortAt plans ports q calls port → StopsAtStep ports q → ((v : UnderWay) → port.under_way ≡ Some v → 0 < v.steps) → EndInStep (begun_by calls port)
+ending_begun {log} {x} {ports} {q} {calls} {port} w at ends started =
+    ending_over ports q port (slice_get calls (length port.finished.items)) port.under_way refl at.is ends started (next_is port.under_way w.way)
   where
     next_is : (way : Option UnderWay) → MatchOption way (IsBetween x port.core) (IsCallUnderWay (length log) calls x port.core port.finished.items) → IsSome way →
         IsSome (slice_get calls (length port.finished.items))

@@ -1,5 +1,6 @@
 -- A port begins its calls in its turns.
-use Rattle.partial_replay.proofs.Common.{ℕ, ◌≡◌, ◌+◌, ◌<◌, ◌++◌, List, [], ◌∷◌, length, slice_get, Option, Some, None, IfSome, MatchOption, sym, ◌∙◌, ap, subst, arith, append-nil, length_push, sum_by_push, Applied, Call, Called, slice_get_grows, slice_get_last, Event, Reply, CoreState, reply_of, answer_for, Port, UnderWay, HasTurned, steps_under_way, one_step_more, ended_call, unfinished_call, CallGoesOn, Ends, StepMade, core_behind, left_over, BeginInTurns, steps_in}
+use Rattle.partial_replay.proofs.Common.{ℕ, ◌≡◌, ◌+◌, ◌<◌, ◌++◌, List, [], ◌∷◌, length, slice_get, Option, Some, None, IfSome, sym, ◌∙◌, ap, subst, arith, append-nil, length_push, sum_by_push, Call, Called, slice_get_grows, slice_get_last, answer_for, Port, UnderWay, HasTurned, steps_under_way, one_step_more, ended_call, unfinished_call, StepMade, core_behind, left_over, BeginInTurns, steps_in, Memory}
+use Rattle.partial_replay.proofs.PortLaws.{step_cases}
 use Rattle.partial_replay.proofs.TurnLengths.{begin_longer, begin_push}
 use Rattle.partial_replay.proofs.LegalOutcomes.{begun_by}
 
@@ -67,46 +68,31 @@ turn_begins calls ls n port new less none finished way w =
 way_began : (ls : List ℕ) (k : ℕ) (found : Option UnderWay) (way : UnderWay) → found ≡ Some way → IfSome found (λ (v : UnderWay). slice_get ls k ≡ Some v.began) → slice_get ls k ≡ Some way.began
 way_began ls k found way is w = subst (λ (v : Option UnderWay). IfSome v (λ (u : UnderWay). slice_get ls k ≡ Some u.began)) is w
 
-turn_goes : (calls : List Call) (ls : List ℕ) (port new : Port) (way : UnderWay) (core : CoreState) → port.under_way ≡ Some way → CallGoesOn port new way core → HasTurned 1 calls ls port →
+pub turn_steps : {calls : List Call} {old now : Memory} {port new : Port} (ls : List ℕ) → length port.finished.items < length calls → StepMade calls old now port new → HasTurned 1 calls ls port →
     HasTurned 0 calls ls new
-turn_goes calls ls port new way core was g w =
+turn_steps {calls} {old} {now} {port} {new} ls less m w =
+    let before : steps_under_way port.under_way ≡ m.way.steps = ap steps_under_way m.was in
+    let began = way_began ls (steps_in port.finished.items) port.under_way m.way m.was w.way in
+    step_cases m (HasTurned 0 calls ls new)
+    (λ g.
     let same : steps_in new.finished.items ≡ steps_in port.finished.items = ap steps_in g.finished in
     let many : length new.finished.items ≡ length port.finished.items = ap length g.finished in
-    let old : steps_under_way port.under_way ≡ way.steps = ap steps_under_way was in
-    let made : steps_under_way new.under_way ≡ way.steps + 1 = ap steps_under_way g.way' in
+    let made : steps_under_way new.under_way ≡ m.way.steps + 1 = ap steps_under_way g.way' in
     record {
       finished = subst (λ (l : List Called). BeginInTurns ls 0 l) (sym g.finished) w.finished;
-      turns = λ more. let all = w.turns (omega (arith, more, many)) in omega (arith, all, same, old, made);
-      way = subst (λ (v : Option UnderWay). IfSome v (λ (u : UnderWay). slice_get ls (steps_in new.finished.items) ≡ Some u.began)) (sym g.way')
-          (ap (slice_get ls) same ∙ way_began ls (steps_in port.finished.items) port.under_way way was w.way);
-    }
-
-turn_ends : (calls : List Call) (words : List ℕ) (log : List Applied) (ls : List ℕ) (port new : Port) (way : UnderWay) (core : CoreState) (r : Reply) → length port.finished.items < length calls →
-    port.under_way ≡ Some way →
-    Ends calls words log port new way core r → HasTurned 1 calls ls port → HasTurned 0 calls ls new
-turn_ends calls words log ls port new way core r less was e w =
-    let c = ended_call port.number (length port.finished.items) e.call (one_step_more way) (length log) (answer_for core r) e.note in
-    let sum : steps_in new.finished.items ≡ steps_in port.finished.items + (way.steps + 1) = ap steps_in e.finished ∙ sum_by_push (λ (d : Called). d.steps) port.finished.items c in
-    let old : steps_under_way port.under_way ≡ way.steps = ap steps_under_way was in
+      turns = λ more. let all = w.turns (omega (arith, more, many)) in omega (arith, all, same, before, made);
+      way = subst (λ (v : Option UnderWay). IfSome v (λ (u : UnderWay). slice_get ls (steps_in new.finished.items) ≡ Some u.began)) (sym g.way') (ap (slice_get ls) same ∙ began);
+    })
+    (λ r replied e.
+    let c = ended_call port.number (length port.finished.items) e.call (one_step_more m.way) (length now.history.items) (answer_for (core_behind old m.step port) r) e.note in
+    let sum : steps_in new.finished.items ≡ steps_in port.finished.items + (m.way.steps + 1) = ap steps_in e.finished ∙ sum_by_push (λ (d : Called). d.steps) port.finished.items c in
     let made = none_under_way new.under_way e.none in
-    let here : slice_get ls (0 + steps_in port.finished.items) ≡ Some way.began = let same : 0 + steps_in port.finished.items ≡ steps_in port.finished.items =
-    omega arith in ap (slice_get ls) same ∙ way_began ls (steps_in port.finished.items) port.under_way way was w.way in
+    let place : 0 + steps_in port.finished.items ≡ steps_in port.finished.items = omega arith in
     record {
-      finished = subst (λ (l : List Called). BeginInTurns ls 0 l) (sym e.finished) (begin_push ls 0 port.finished.items c w.finished here);
-      turns = λ more. let all = w.turns less in omega (arith, all, sum, old, made);
+      finished = subst (λ (l : List Called). BeginInTurns ls 0 l) (sym e.finished) (begin_push ls 0 port.finished.items c w.finished (ap (slice_get ls) place ∙ began));
+      turns = λ more. let all = w.turns less in omega (arith, all, sum, before, made);
       way = subst (λ (v : Option UnderWay). IfSome v (λ (u : UnderWay). slice_get ls (steps_in new.finished.items) ≡ Some u.began)) (sym e.none) tt;
-    }
-
-turn_after : (calls : List Call) (words : List ℕ) (log : List Applied) (ls : List ℕ) (port new : Port) (way : UnderWay) (core : CoreState) (found : Option Reply) →
-    length port.finished.items < length calls → port.under_way ≡ Some way →
-    MatchOption found (CallGoesOn port new way core) (Ends calls words log port new way core) → HasTurned 1 calls ls port → HasTurned 0 calls ls new
-turn_after calls words log ls port new way core None less was g w = turn_goes calls ls port new way core was g w
-turn_after calls words log ls port new way core (Some r) less was e w = turn_ends calls words log ls port new way core r less was e w
-
-pub turn_steps : (calls : List Call) (words words' : List ℕ) (trace trace' : List Event) (log log' : List Applied) (port new : Port) (ls : List ℕ) → length port.finished.items < length calls →
-    StepMade calls words words' trace trace' log log' port new → HasTurned 1 calls ls port → HasTurned 0 calls ls new
-turn_steps calls words words' trace trace' log log' port new ls less m w = turn_after calls words' log' ls port new (m.way) (core_behind words (m.step) port)
-    (reply_of (core_behind words (m.step) port)) less m.was m.after w
+    })
 
 -- what a port lists in the end has begun in its turns
 turn_over : (ls : List ℕ) (port : Port) (call : Option Call) (way : Option UnderWay) → BeginInTurns ls 0 port.finished.items →

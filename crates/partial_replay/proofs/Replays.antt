@@ -1,7 +1,8 @@
 -- What a replay has come to is an outcome of its plan.
-use Rattle.partial_replay.proofs.Common.{ℕ, Bool, true, false, cond, zero, suc, ◌⊎◌, ◌≡◌, ◌+◌, ◌<◌, ◌≤◌, ◌==◌, List, [], ◌∷◌, length, map, take, get_or, Some, slice_get, refl, sym, ◌∙◌, ap, subst, inl, inr, arith, filter_map, sum_by, AllByRecursion, get_or_from_slice_get, Applied, Opening, Call, Called, LegalOutcome, Event, Layout, pool_base, record_value, Leads, Agrees, AreOpeningWords, sum_by-cons, PlanView, CoreState, fresh, AreStepsOf, most_steps, PortFits, Port, Run, HasLeastPlace, event_entry, moments_from, moments_by, ports_of, events_in, turns_of, turns_by, ports_in, lengths_in, BeginInTurns, calls_by, steps_by, AreFirstOf, AreAllMade, EndInStep, HaveMade, AreFew, IsReplayOf, turn_lengths, AreStarted, IsBetweenTurns, IsRunOf, TellsOutcome, calls_in, StopsAtStep, StopAtSteps, IsPortDone, HasMadeTurns, BeganInTurns, lengths_so_far, HaveBegun, lawful_ports_fit, place_below, Outcome}
+use Rattle.partial_replay.proofs.Common.{ℕ, Bool, true, false, cond, zero, suc, ◌⊎◌, ◌≡◌, ◌<◌, ◌≤◌, ◌==◌, List, [], ◌∷◌, length, map, take, get_or, Some, slice_get, refl, sym, ◌∙◌, ap, subst, inl, inr, arith, filter_map, sum_by, AllByRecursion, get_or_from_slice_get, Applied, Opening, Call, Called, LegalOutcome, Event, Layout, pool_base, record_value, Leads, Agrees, AreOpeningWords, sum_by-cons, PlanView, CoreState, fresh, AreStepsOf, most_steps, Port, Run, HasLeastPlace, event_entry, moments_from, moments_by, ports_of, events_in, turns_of, turns_by, ports_in, lengths_in, BeginInTurns, calls_by, steps_by, AreFirstOf, AreAllMade, EndInStep, HaveMade, AreFew, IsReplayOf, turn_lengths, AreStarted, IsRunOf, TellsOutcome, calls_in, StopsAtStep, StopAtSteps, IsPortDone, BeganInTurns, lengths_so_far, lawful_ports_fit, place_below, Outcome, ReplayState, PortAt, HasReplayed}
 use Rattle.partial_replay.proofs.PortSteps.{ending_begun, steps_begun, events_steps, none_moments}
-use Rattle.partial_replay.proofs.RunSteps.{port_in, ports_length}
+use Rattle.partial_replay.proofs.RunLaws.{PartAt}
+use Rattle.partial_replay.proofs.RunSteps.{ports_length, part_at}
 use Rattle.partial_replay.proofs.LegalOutcomes.{begun_by, few_told, least_told, run_legal, listed_at, none_listed, first_begun, all_made}
 use Rattle.partial_replay.proofs.TurnLaws.{follows_ports, turns_told}
 use Rattle.partial_replay.proofs.TurnLengths.{lengths_same}
@@ -19,92 +20,76 @@ past_get [] i d past = refl
 past_get (x ∷ xs) zero d past = absurd (omega (arith, past))
 past_get (x ∷ xs) (suc i) d past = past_get xs i d (omega (arith, past))
 
-module _ (plans : List (List Call)) (z : Layout) (o : Opening) (words : List ℕ) (ports : List Port) (log : List Applied) (trace : List Event) (w : IsRunOf plans z o words ports log trace) where
-  -- the port of each list of calls
-  pub port_at : (q : ℕ) (calls : List Call) → slice_get plans q ≡ Some calls → (port : Port) × (slice_get ports q ≡ Some port)
-  port_at q calls c = elim (at_place ports q) [
-    | inl found ↦ found
-    | inr past ↦ let same = ports_length o log 0 plans w.parts ports w.fit in let below = place_below plans q calls c in absurd (omega (arith, same, below, past))
+module _ {plans : List (List Call)} {s : ReplayState} (w : IsRunOf plans s) where
+  abbrev log : List Applied
+  log = s.memory.history.items
+
+  abbrev listed : List Called
+  listed = calls_in plans s.ports
+
+  -- what port q lists: the calls that it has begun
+  record Lists (q : ℕ) : Type 0 where
+    calls : List Call
+    port : Port
+    at : PortAt plans s.ports q calls port
+    part : PartAt plans s q calls port
+    is : calls_by q listed ≡ begun_by calls port
+    plan : get_or plans q [] ≡ calls
+
+  abbrev lists_at : (q : ℕ) (calls : List Call) (port : Port) → PortAt plans s.ports q calls port → Lists q
+  lists_at q calls port at =
+      record {
+        calls = calls;
+        port = port;
+        at = at;
+        part = part_at w at;
+        is = listed_at q q w.fit (omega arith) at.plan at.is;
+        plan = get_or_from_slice_get plans q calls [] at.plan;
+      }
+
+  -- what holds of the calls that a port of the plan lists, and of none at a port that the plan doesn't have, holds of each port's
+  each_lists : (P : List Call → List Called → Type 0) (q : ℕ) → ((l : Lists q) → P l.calls (begun_by l.calls l.port)) → (length plans ≤ q → P [] []) → P (get_or plans q []) (calls_by q listed)
+  each_lists P q own past = elim (at_place plans q) [
+    | inl found ↦
+        let same = ports_length w.fit in
+        let below = place_below plans q found.0 found.1 in
+        elim (at_place s.ports q) [
+          | inl port ↦
+              let l = lists_at q found.0 port.0 (record { plan = found.1; is = port.1 }) in
+              subst (λ (d : List Call). P d (calls_by q listed)) (sym l.plan) (subst (P l.calls) (sym l.is) (own l))
+          | inr beyond ↦ absurd (omega (arith, same, below, beyond))
+        ]
+    | inr beyond ↦
+        subst (λ (d : List Call). P d (calls_by q listed)) (sym (past_get plans q [] beyond))
+        (subst (P []) (sym (none_listed q (inr (omega (arith, beyond))) w.fit)) (past beyond))
   ]
 
-  pub calls_told : (q : ℕ) → AreFirstOf (get_or plans q []) (calls_by q (calls_in plans ports))
-  calls_told q = elim (at_place plans q) [
-    | inl found ↦
-        let calls = found.0 in
-        let port = port_at q calls found.1 in
-        let fits = port_in plans z o words ports log trace q calls (port.0) w found.1 port.1 in
-        let plan : get_or plans q [] ≡ calls = get_or_from_slice_get plans q calls [] found.1 in
-        let from : q ≡ 0 + q = omega arith in
-        let listed : calls_by q (calls_in plans ports) ≡ begun_by calls (port.0) = ap (λ n. calls_by n (calls_in plans ports)) from ∙ listed_at o log 0 q plans w.parts ports calls
-        (port.0) w.fit found.1 port.1 in
-        subst (λ (l : List Called). AreFirstOf (get_or plans q []) l) (sym listed)
-        (subst (λ (d : List Call). AreFirstOf d (begun_by calls (port.0))) (sym plan) (first_begun o log calls (0 + q) (fits.0) (port.0) fits.1))
-    | inr past ↦
-        let none : calls_by q (calls_in plans ports) ≡ [] = none_listed o log q 0 plans w.parts ports (inr (omega (arith, past))) w.fit in
-        subst (λ (l : List Called). AreFirstOf (get_or plans q []) l) (sym none) refl
-  ]
+  pub calls_told : (q : ℕ) → AreFirstOf (get_or plans q []) (calls_by q listed)
+  calls_told q = each_lists AreFirstOf q (λ l. first_begun l.part.fits) (λ past. refl)
 
   -- a port that has made all its calls lists them all, and one that the plan doesn't have lists none
-  pub done_told : (q : ℕ) → IsPortDone plans ports q → AreAllMade (get_or plans q []) (calls_by q (calls_in plans ports))
+  pub done_told : (q : ℕ) → IsPortDone plans s.ports q → AreAllMade (get_or plans q []) (calls_by q listed)
   done_told q d =
-      let fits = port_in plans z o words ports log trace q d.calls d.port w d.plan d.is in
-      let plan : get_or plans q [] ≡ d.calls = get_or_from_slice_get plans q d.calls [] d.plan in
-      let from : q ≡ 0 + q = omega arith in
-      let listed : calls_by q (calls_in plans ports) ≡ begun_by d.calls d.port = ap (λ n. calls_by n (calls_in plans ports)) from ∙ listed_at o log 0 q plans w.parts ports d.calls
-      d.port w.fit d.plan d.is in
-      subst (λ (l : List Called). AreAllMade (get_or plans q []) l) (sym listed)
-      (subst (λ (e : List Call). AreAllMade e (begun_by d.calls d.port)) (sym plan) (all_made o log d.calls (0 + q) (fits.0) d.port fits.1 d.idle d.all))
+      let l = lists_at q d.calls d.port d.at in
+      subst (AreAllMade (get_or plans q [])) (sym l.is)
+      (subst (λ (e : List Call). AreAllMade e (begun_by d.calls d.port)) (sym l.plan) (all_made l.part.fits d.idle d.all))
 
-  pub past_told : (q : ℕ) → length plans ≤ q → AreAllMade (get_or plans q []) (calls_by q (calls_in plans ports))
-  past_told q past =
-      let none : calls_by q (calls_in plans ports) ≡ [] = none_listed o log q 0 plans w.parts ports (inr (omega (arith, past))) w.fit in
-      let plan : get_or plans q [] ≡ [] = past_get plans q [] past in
-      subst (λ (l : List Called). AreAllMade (get_or plans q []) l) (sym none) (sym (ap length plan), tt)
+  pub past_told : (q : ℕ) → length plans ≤ q → AreAllMade (get_or plans q []) (calls_by q listed)
+  past_told q past = each_lists AreAllMade q (λ l. let below = place_below plans q l.calls l.at.plan in absurd (omega (arith, below, past))) (λ _. (refl, tt))
 
   -- each port's events are the steps of the calls that it lists
-  pub events_told : AreStarted ports → (q : ℕ) → (last : CoreState) × AreStepsOf (fresh z q) (calls_by q (calls_in plans ports)) (moments_by z.m q trace) last
-  events_told started q = elim (at_place plans q) [
-    | inl found ↦
-        let calls = found.0 in
-        let port = port_at q calls found.1 in
-        let in' = port_in plans z o words ports log trace q calls (port.0) w found.1 port.1 in
-        let from : q ≡ 0 + q = omega arith in
-        let fits : PortFits o log calls q (in'.0) (port.0) = subst (λ n. PortFits o log calls n (in'.0) (port.0)) (sym from) in'.1 in
-        let listed : calls_by q (calls_in plans ports) ≡ begun_by calls (port.0) = ap (λ n. calls_by n (calls_in plans ports)) from ∙ listed_at o log 0 q plans w.parts ports calls
-        (port.0) w.fit found.1 port.1 in
-        let steps = steps_begun z o log calls q (moments_by z.m q trace) (in'.0) (port.0) fits (w.made q calls (port.0) found.1 port.1) (λ v way. started q (port.0) v port.1 way) in
-        (steps.0, subst (λ (l : List Called). AreStepsOf (fresh z q) l (moments_by z.m q trace) (steps.0)) (sym listed) steps.1)
-    | inr past ↦
-        let none : calls_by q (calls_in plans ports) ≡ [] = none_listed o log q 0 plans w.parts ports (inr (omega (arith, past))) w.fit in
-        (fresh z q, subst (λ (l : List Called). AreStepsOf (fresh z q) l (moments_by z.m q trace) (fresh z q)) (sym none) (none_moments z.m q (length plans) trace past w.senders, refl))
-  ]
+  pub events_told : AreStarted s.ports → (q : ℕ) → (last : CoreState) × AreStepsOf (fresh s.sizes q) (calls_by q listed) (moments_by s.sizes.m q s.memory.trace.items) last
+  events_told started q = each_lists (λ _ cs. (last : CoreState) × AreStepsOf (fresh s.sizes q) cs (moments_by s.sizes.m q s.memory.trace.items) last) q
+      (λ l. steps_begun l.part.fits (w.made q l.calls l.port l.at) (λ v way. started q l.port v l.at.is way))
+      (λ past. (fresh s.sizes q, (none_moments s.sizes.m q (length plans) s.memory.trace.items past w.senders, refl)))
 
   -- each call that a port lists has begun in the turn behind the steps of those in front of it
-  pub begins_told : (q : ℕ) (ls : List ℕ) → BeganInTurns 0 plans q ls ports → BeginInTurns ls 0 (calls_by q (calls_in plans ports))
-  begins_told q ls begun = elim (at_place plans q) [
-    | inl found ↦
-        let calls = found.0 in
-        let port = port_at q calls found.1 in
-        let from : q ≡ 0 + q = omega arith in
-        let listed : calls_by q (calls_in plans ports) ≡ begun_by calls (port.0) =
-        ap (λ n. calls_by n (calls_in plans ports)) from ∙ listed_at o log 0 q plans w.parts ports calls (port.0) w.fit found.1 port.1 in
-        subst (BeginInTurns ls 0) (sym listed) (turns_over calls ls (port.0) (begun calls (port.0) found.1 port.1))
-    | inr past ↦ subst (BeginInTurns ls 0) (sym (none_listed o log q 0 plans w.parts ports (inr (omega (arith, past))) w.fit)) tt
-  ]
+  pub begins_told : (q : ℕ) (ls : List ℕ) → BeganInTurns 0 plans q ls s.ports → BeginInTurns ls 0 (calls_by q listed)
+  begins_told q ls begun = each_lists (λ _. BeginInTurns ls 0) q (λ l. turns_over l.calls ls l.port (begun l.calls l.port l.at)) (λ past. tt)
 
   -- what a port lists ends in a step, where it has begun no call since
-  pub ending_told : AreStarted ports → (q : ℕ) → StopsAtStep ports q → EndInStep (calls_by q (calls_in plans ports))
-  ending_told started q ends = elim (at_place plans q) [
-    | inl found ↦
-        let calls = found.0 in
-        let port = port_at q calls found.1 in
-        let in' = port_in plans z o words ports log trace q calls (port.0) w found.1 port.1 in
-        let from : q ≡ 0 + q = omega arith in
-        let listed : calls_by q (calls_in plans ports) ≡ begun_by calls (port.0) = ap (λ n. calls_by n (calls_in plans ports)) from ∙ listed_at o log 0 q plans w.parts ports calls
-        (port.0) w.fit found.1 port.1 in
-        subst EndInStep (sym listed) (ending_begun o log (0 + q) (in'.0) ports q calls (port.0) in'.1 port.1 ends (λ v way. started q (port.0) v port.1 way))
-    | inr past ↦ subst EndInStep (sym (none_listed o log q 0 plans w.parts ports (inr (omega (arith, past))) w.fit)) tt
-  ]
+  pub ending_told : AreStarted s.ports → (q : ℕ) → StopsAtStep s.ports q → EndInStep (calls_by q listed)
+  ending_told started q ends = each_lists (λ _. EndInStep) q (λ l. ending_begun l.part.fits l.at ends (λ v way. started q l.port v l.at.is way)) (λ past. tt)
 
 -- calls that have made no more steps than they may, and how many those are
 few_by : (z : Layout) (q : ℕ) (cs : List Called) → AreFew z cs → AreFew z (calls_by q cs)
@@ -144,18 +129,20 @@ calls_wait z false turns plan cs few first less made =
     made.2 (omega (arith, steps, front, all, less))
 
 -- a run that has come to its end tells an outcome of its plan
-pub replay_told : (p : PlanView) (run : Run) (outcome : Outcome) → IsBetweenTurns p.ports run → run.memory.sizes ≡ p.sizes → run.opening.values ≡ p.initial →
-    HasMadeTurns p.ports (turns_of p) run → HaveBegun p.ports (turns_of p) run → (p.rest ≡ false → StopAtSteps p.steps run) → TellsOutcome p.ports run outcome → IsReplayOf p outcome
-replay_told p run outcome between sizes values f begun ends t =
-    let w = between.replay.state in
-    let started = between.started in
+pub replay_told : (p : PlanView) (run : Run) (outcome : Outcome) → HasReplayed p p.ports (turns_of p) run → (p.rest ≡ false → StopAtSteps p.steps run) → TellsOutcome p.ports run outcome →
+    IsReplayOf p outcome
+replay_told p run outcome replayed ends t =
+    let w = replayed.between.replay.state in
+    let started = replayed.between.started in
+    let sizes = replayed.sizes in
+    let f = replayed.made in
     let z = run.memory.sizes in
     let o = run.opening in
     let legal : LegalOutcome outcome.opening outcome.history.items outcome.calls.items =
     subst (λ (h : List Applied). LegalOutcome outcome.opening h outcome.calls.items) (sym t.history)
     (subst (λ (l : List Called). LegalOutcome outcome.opening run.memory.history.items l) (sym t.calls)
     (subst (λ (v : Opening). LegalOutcome v run.memory.history.items (calls_in p.ports run.ports.items)) (sym t.opening)
-    (run_legal p.ports z o run.memory.words.items run.ports.items run.memory.history.items run.memory.trace.items w))) in
+    (run_legal w))) in
     let agrees : Agrees outcome.opening outcome.words.items outcome.history.items =
     subst (λ (h : List Applied). Agrees outcome.opening outcome.words.items h) (sym t.history)
     (subst (λ (ws : List ℕ). Agrees outcome.opening ws run.memory.history.items) (sym t.words)
@@ -163,19 +150,17 @@ replay_told p run outcome between sizes values f begun ends t =
     let D = IsPortDone p.ports run.ports.items in
     let calls = calls_in p.ports run.ports.items in
     let ports = ports_of run.memory.trace.items in
-    let events = events_told p.ports z o run.memory.words.items run.ports.items run.memory.history.items run.memory.trace.items w started in
+    let events = events_told w started in
     let steps : (q : ℕ) → steps_by q calls ≡ events_in q ports = λ q. events_steps (fresh z q) (events q).0 z.m q run.memory.trace.items (calls_by q calls) (events q).1 in
     let ending : (q : ℕ) → p.rest ≡ false → events_in q ports ≡ turns_by q p.steps → EndInStep (calls_by q calls) = λ q no same.
-    ending_told p.ports z o run.memory.words.items run.ports.items run.memory.history.items run.memory.trace.items w started q (ends no q same) in
+    ending_told w started q (ends no q same) in
     let made : (q : ℕ) → HaveMade p.rest (turns_by q p.steps) (steps_by q calls) (get_or p.ports q []) (calls_by q calls) = λ q.
     subst (λ n. HaveMade p.rest (turns_by q p.steps) n (get_or p.ports q []) (calls_by q calls)) (sym (steps q))
-    (turns_told D p ports q (calls_by q calls)
-    (done_told p.ports z o run.memory.words.items run.ports.items run.memory.history.items run.memory.trace.items w q)
-    (past_told p.ports z o run.memory.words.items run.ports.items run.memory.history.items run.memory.trace.items w q) (ending q) f) in
+    (turns_told D p ports q (calls_by q calls) (done_told w q) (past_told w q) (ending q) f) in
     let turns : ports ≡ ports_in (turns_of p) (λ q. steps_by q calls) = follows_ports D (turns_of p) ports (λ q. steps_by q calls) steps f in
     let entries = entries_told z.m o run.memory.words.items run.memory.trace.items run.memory.history.items w.lawful.memory.history w.lawful.memory.agrees w.entries in
     let firsts : (q : ℕ) → AreFirstOf (get_or p.ports q []) (calls_by q outcome.calls.items) = λ q. subst (λ (l : List Called). AreFirstOf (get_or p.ports q []) (calls_by q l)) (sym t.calls)
-    (calls_told p.ports z o run.memory.words.items run.ports.items run.memory.history.items run.memory.trace.items w q) in
+    (calls_told w q) in
     let all_made : (q : ℕ) → HaveMade p.rest (turns_by q p.steps) (steps_by q outcome.calls.items) (get_or p.ports q []) (calls_by q outcome.calls.items) =
     λ q. subst (λ (l : List Called). HaveMade p.rest (turns_by q p.steps) (steps_by q l) (get_or p.ports q []) (calls_by q l)) (sym t.calls) (made q) in
     let lengths : (q : ℕ) → lengths_so_far q (turns_of p) run ≡ turn_lengths p outcome q = λ q.
@@ -186,21 +171,21 @@ replay_told p run outcome between sizes values f begun ends t =
     let begins : (q : ℕ) → BeginInTurns (turn_lengths p outcome q) 0 (calls_by q outcome.calls.items) = λ q.
     subst (λ (l : List Called). BeginInTurns (turn_lengths p outcome q) 0 (calls_by q l)) (sym t.calls)
     (subst (λ (l : List ℕ). BeginInTurns l 0 (calls_by q calls)) (lengths q)
-    (begins_told p.ports z o run.memory.words.items run.ports.items run.memory.history.items run.memory.trace.items w q (lengths_so_far q (turns_of p) run) (begun q))) in
+    (begins_told w q (lengths_so_far q (turns_of p) run) (replayed.begun q))) in
     let few : AreFew p.sizes outcome.calls.items = subst (λ (y : Layout). AreFew y outcome.calls.items) sizes
-    (subst (AreFew z) (sym t.calls) (few_told z o run.memory.history.items 0 p.ports w.parts run.ports.items w.fit
+    (subst (AreFew z) (sym t.calls) (few_told z w.fit
     (lawful_ports_fit z o run.memory.words.items w.parts run.memory.history.items w.lawful).sizes)) in
     record {
-      values = ap (λ (v : Opening). v.values) t.opening ∙ values;
+      values = ap (λ (v : Opening). v.values) t.opening ∙ replayed.values;
       first = ap (λ (v : Opening). v.first) t.opening ∙ w.lawful.memory.stamps ∙ ap pool_base sizes;
       legal = legal;
       agrees = agrees;
       places = subst (λ (v : Opening). AllByRecursion (HasLeastPlace v outcome.history.items) outcome.calls.items) (sym t.opening)
           (subst (λ (h : List Applied). AllByRecursion (HasLeastPlace o h) outcome.calls.items) (sym t.history)
-          (subst (AllByRecursion (HasLeastPlace o run.memory.history.items)) (sym t.calls) (least_told o run.memory.history.items 0 p.ports w.parts run.ports.items w.fit)));
+          (subst (AllByRecursion (HasLeastPlace o run.memory.history.items)) (sym t.calls) (least_told w.fit)));
       calls = firsts;
       opened = w.opened;
-      opens = subst (λ (l : Layout). AreOpeningWords l p.initial w.opened) sizes (subst (λ (l : List ℕ). AreOpeningWords z l w.opened) values w.opens);
+      opens = subst (λ (l : Layout). AreOpeningWords l p.initial w.opened) sizes (subst (λ (l : List ℕ). AreOpeningWords z l w.opened) replayed.values w.opens);
       leads = subst (λ (es : List Event). Leads w.opened es outcome.words.items) (sym t.trace) (subst (λ (ws : List ℕ). Leads w.opened run.memory.trace.items ws) (sym t.words) w.leads);
       steps = t.steps ∙ ap length (sym t.trace);
       entries = t.history ∙ entries ∙ ap (λ (l : Layout). filter_map (event_entry l.m (record_value run.memory.words.items)) run.memory.trace.items) sizes ∙

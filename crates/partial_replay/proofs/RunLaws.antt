@@ -1,12 +1,14 @@
 -- A step of a port keeps a replay's state lawful.
-use Rattle.partial_replay.proofs.Common.{ℕ, ◌≡◌, ◌<◌, ◌≤◌, ◌++◌, Bool, true, false, cond, List, [], ◌∷◌, length, Option, Some, None, IfSome, MatchOption, slice_get, inr, refl, sym, ◌∙◌, ap, subst, arith, length-append, append-nil, length-map, Applied, Opening, Call, Refused, Note, Called, Noted, LegalNotes, IsLegal, MayBeRefused, seen_by, shown_by, place_of, Fits, IsTrueOf, places_written, wrote, places_written-append, AllByRecursion-push, AllByRecursion-weaker, LegalNotes-last, Step, Event, Layout, Answers, Leads, answer_of, words_after, Reply, Idle, CoreState, at_stage, scanned_values, advance, step_of, reply_of, IsSound, rests_are_sound, steps_left, most_steps, Part, KeptAnswer, core_of, port_of, IsBetween, IsMarkedLike, first_at, is_begun, is_at_rest, call_of, answer_for, Port, UnderWay, ends_of, notes_in, IsCallUnderWay, PortFits, AreWithin, ScanHasValues, MayAnswer, one_step_more, ended_call, CallGoesOn, Ends, AreFew, IsNoteFrom, IsLeastFrom, view_word, lawful_records_are_within, initial_stamp, AllByRecursion, value_word, is_some, Lawful, begun_with, kept_with, added_by, LeadsOn, IsNoteOf, IsRefusal, AreNotesOf}
+use Rattle.partial_replay.proofs.Common.{ℕ, ◌≡◌, ◌<◌, ◌≤◌, ◌++◌, Bool, true, false, cond, List, [], ◌∷◌, length, Option, Some, None, IfSome, MatchOption, slice_get, inr, refl, sym, ◌∙◌, ap, subst, arith, length-append, append-nil, length-map, Applied, Opening, Call, Refused, Note, Called, Noted, LegalNotes, IsLegal, MayBeRefused, seen_by, shown_by, place_of, Fits, IsTrueOf, places_written, wrote, places_written-append, AllByRecursion-push, AllByRecursion-weaker, LegalNotes-last, Step, Event, Layout, Answers, Leads, answer_of, words_after, Reply, Idle, CoreState, at_stage, scanned_values, advance, step_of, reply_of, IsSound, rests_are_sound, steps_left, most_steps, Part, KeptAnswer, core_of, port_of, IsBetween, IsMarkedLike, first_at, is_begun, is_at_rest, call_of, answer_for, Port, UnderWay, ends_of, notes_in, IsCallUnderWay, PortFits, AreWithin, ScanHasValues, MayAnswer, one_step_more, ended_call, CallGoesOn, Ends, AreFew, IsNoteFrom, IsLeastFrom, view_word, lawful_records_are_within, initial_stamp, AllByRecursion, value_word, is_some, Lawful, begun_with, kept_with, added_by, LeadsOn, IsNoteOf, IsRefusal, AreNotesOf, set, steps_stay_lawful, ReplayState, PortsFit}
 use Rattle.partial_model.specs.declared.call.Answer.TheVariants as answer
 use Rattle.partial_model.specs.declared.call.Call.TheVariants as call
 use Rattle.partial_model.specs.declared.call.Note.TheVariants as note
 use Rattle.partial_machine.specs.declared.stage.Reply.TheVariants as reply
+use Rattle.partial_core.specs.Lawful.{LawfulAmong}
+use Rattle.partial_core.specs.Part.{PartAmong}
 use Rattle.partial_replay.proofs.ScanPlaces.{has_records, has_record}
 use Rattle.partial_replay.proofs.Places.{finds_place}
-use Rattle.partial_replay.proofs.PortLaws.{some_is, DoneFits, EndedCall, done_of, done_grows, push_fits, fits_with}
+use Rattle.partial_replay.proofs.PortLaws.{some_is, DoneFits, EndedCall, done_of, done_grows, push_fits, fits_with, under_way}
 
 -- the due step of a machine that isn't at rest
 pub due_step : (s : CoreState) → is_some (step_of s) ≡ true → (step : Step) × (step_of s ≡ Some step)
@@ -47,9 +49,39 @@ scan_values o h p m (call.Update j v) vs k b n fits is = absurd is
 scan_values o h p m (call.Read j) vs k b n fits is = absurd is
 scan_values o h p m (call.UpdateIf j x v) vs k b n fits is = absurd is
 
+-- the memory of a replay, with a port's part between those of the others
+abbrev pub among : ReplayState → List Part → Part → List Part → PartAmong
+among s before x after = record { words = s.memory.words.items; before = before; part = x; after = after; log = s.memory.history.items }
+
+-- a port of a run, with its part among those of the others, and with another state of it in its place
+pub record PartAt (plans : List (List Call)) (s : ReplayState) (p : ℕ) (calls : List Call) (port : Port) : Type 0 where
+  pub before : List Part
+  pub x : Part
+  pub after : List Part
+  pub lawful : LawfulAmong s.sizes s.opening (among s before x after)
+  pub fits : PortFits s.opening s.memory.history.items calls p x port
+  pub replace : (es : List Applied) (y : Part) (new : Port) → PortFits s.opening (s.memory.history.items ++ es) calls p y new →
+      PortsFit s.opening (s.memory.history.items ++ es) 0 plans (before ++ y ∷ after) (set s.ports p new)
+
 -- What a step makes of its port: it goes on as the port of the moved part.
-module _ (z : Layout) (o : Opening) (words : List ℕ) (before : List Part) (x : Part) (after : List Part) (log : List Applied) (calls : List Call) (p : ℕ) (port new : Port)
-    (step : Step) (way : UnderWay) where
+module _ {plans : List (List Call)} {s : ReplayState} {p : ℕ} {calls : List Call} {port : Port} (at : PartAt plans s p calls port) {way : UnderWay} (was : port.under_way ≡ Some way) (step : Step)
+    (due : step_of port.core ≡ Some step) where
+  open s use {sizes as z, opening as o}
+  open at use {x, fits as w}
+
+  abbrev words : List ℕ
+  words = s.memory.words.items
+
+  abbrev log : List Applied
+  log = s.memory.history.items
+
+  abbrev u : IsCallUnderWay (length log) calls x port.core port.finished.items way
+  u = under_way w was
+
+  -- the law of steps, at this one
+  abbrev pub leads : LeadsOn z o (among s at.before x at.after) port.core step
+  leads = steps_stay_lawful z o (among s at.before x at.after) port.core step at.lawful u.machine due
+
   abbrev a : ℕ
   a = answer_of words step
 
@@ -62,42 +94,42 @@ module _ (z : Layout) (o : Opening) (words : List ℕ) (before : List Part) (x :
   abbrev core2 : CoreState
   core2 = advance port.core (answer_of words step)
 
-  module _ (w : PortFits o log calls p x port) (u : IsCallUnderWay (length log) calls x port.core port.finished.items way) (l : LeadsOn z o words before x after log port.core step) where
-    abbrev y : Part
-    y = l.y
+  abbrev y : Part
+  y = leads.y
 
-    notes_y : y.notes ≡ x.notes ++ l.tells.new
-    notes_y = ap (λ (v : Part). v.notes) l.tells.part
+  pub sizes_y : core2.sizes ≡ port.core.sizes
+  sizes_y = leads.tells.behind.sizes
+
+  module _ (new : Port) where
+    notes_y : y.notes ≡ x.notes ++ leads.tells.new
+    notes_y = ap (λ (v : Part). v.notes) leads.tells.part
 
     seen_y : y.seen ≡ log2
-    seen_y = ap (λ (v : Part). v.seen) l.tells.part
+    seen_y = ap (λ (v : Part). v.seen) leads.tells.part
 
     begun_y : y.begun ≡ begun_with port.core x
-    begun_y = ap (λ (v : Part). v.begun) l.tells.part
+    begun_y = ap (λ (v : Part). v.begun) leads.tells.part
 
     core_y : core_of y ≡ core2
-    core_y = sym l.tells.machine.is
-
-    pub sizes_y : core2.sizes ≡ port.core.sizes
-    sizes_y = l.tells.behind.sizes
+    core_y = sym leads.tells.machine.is
 
     port_y : port_of y ≡ p
-    port_y = l.tells.port ∙ w.part
+    port_y = leads.tells.port ∙ w.part
 
     longer : length log ≤ length log2
     longer = let n = length-append log (added_by z (port_of x) words step) in omega arith
 
     first_y : way.began ≤ first_at y.kept
     first_y =
-        let kept : y.kept ≡ kept_with port.core x ++ record { answer = a; at = length log2 } ∷ [] = ap (λ (v : Part). v.kept) l.tells.part in
+        let kept : y.kept ≡ kept_with port.core x ++ record { answer = a; at = length log2 } ∷ [] = ap (λ (v : Part). v.kept) leads.tells.part in
         subst (λ (ks : List KeptAnswer). way.began ≤ first_at ks) (sym kept)
         (first_moved port.core x way.began (length log2) a (is_begun port.core.stage) (let n = longer in omega (arith, n, u.within)) u.first)
 
     components_y : (s : CoreState) → s ≡ core2 → s.sizes.m ≡ length o.values
     components_y s e = ap (λ (t : CoreState). t.sizes.m) e ∙ ap (λ (t : Layout). t.m) sizes_y ∙ w.sizes
 
-    places_y : (ns : List Noted) → l.tells.new ≡ ns → places_written y.notes ≡ places_written x.notes ++ places_written ns
-    places_y ns e = ap places_written notes_y ∙ places_written-append x.notes l.tells.new ∙ ap (λ (m : List Noted). places_written x.notes ++ places_written m) e
+    places_y : (ns : List Noted) → leads.tells.new ≡ ns → places_written y.notes ≡ places_written x.notes ++ places_written ns
+    places_y ns e = ap places_written notes_y ∙ places_written-append x.notes leads.tells.new ∙ ap (λ (m : List Noted). places_written x.notes ++ places_written m) e
 
     few_y : (s : CoreState) → s ≡ core2 → AreFew s.sizes port.finished.items
     few_y s e = subst (λ (t : Layout). AreFew t port.finished.items) (sym (ap (λ (t : CoreState). t.sizes) e ∙ sizes_y)) w.bounded
@@ -107,8 +139,8 @@ module _ (z : Layout) (o : Opening) (words : List ℕ) (before : List Part) (x :
 
     goes_on_fits : new.number ≡ port.number → reply_of core2 ≡ None → steps_left core2 < steps_left port.core → CallGoesOn port new way core2 → PortFits o log2 calls p y new
     goes_on_fits number none falls g =
-        let no_new : l.tells.new ≡ [] = subst (λ (r : Option Reply). AreNotesOf o y r l.tells.new) none l.tells.noted in
-        let b = l.tells.behind in
+        let no_new : leads.tells.new ≡ [] = subst (λ (r : Option Reply). AreNotesOf o y r leads.tells.new) none leads.tells.noted in
+        let b = leads.tells.behind in
         let begun : is_begun new.core.stage ≡ false = ap (λ (s : CoreState). is_begun s.stage) g.machine ∙ b.begun in
         let core : new.core ≡ core_of y = g.machine ∙ sym core_y in
         let going : IsCallUnderWay (length log2) calls y new.core new.finished.items (one_step_more way) = record {
@@ -122,9 +154,9 @@ module _ (z : Layout) (o : Opening) (words : List ℕ) (before : List Part) (x :
           due = ap (λ (s : CoreState). is_at_rest s.stage) g.machine ∙ b.rests ∙ ap is_some none;
           steps = let left : steps_left new.core ≡ steps_left core2 = ap steps_left g.machine in let most = most_y new.core u.call g.machine in omega (arith, left, falls, u.steps, most);
         } in
-        fits_with o log2 calls p y new (places_written x.notes) (number ∙ w.number) port_y (components_y new.core g.machine)
+        fits_with (number ∙ w.number) port_y (components_y new.core g.machine)
         (subst (λ (d : List Called). DoneFits o log2 calls p d (places_written x.notes)) (sym g.finished)
-        (done_grows o log (added_by z (port_of x) words step) calls p port.finished.items (places_written x.notes) (done_of o log calls p x port w)))
+        (done_grows (added_by z (port_of x) words step) (done_of w)))
         (subst (λ (d : List Called). AreFew new.core.sizes d) (sym g.finished) (few_y new.core g.machine))
         (sym (places_y [] no_new ∙ append-nil (places_written x.notes)))
         (subst (λ (f : Option UnderWay). MatchOption f (IsBetween y new.core) (IsCallUnderWay (length log2) calls y new.core new.finished.items)) (sym g.way') going)
@@ -140,7 +172,7 @@ module _ (z : Layout) (o : Opening) (words : List ℕ) (before : List Part) (x :
     -- between calls
     rests_y : (r : Reply) → reply_of core2 ≡ Some r → new.core ≡ at_stage core2 Idle → IsBetween y new.core
     rests_y r replied e =
-        let b = l.tells.behind in
+        let b = leads.tells.behind in
         let is : new.core ≡ at_stage (core_of y) Idle = e ∙ ap (λ (s : CoreState). at_stage s Idle) (sym core_y) in
         let sound : IsSound (core_of y) = subst IsSound (sym core_y) b.sound in
         record {
@@ -152,17 +184,17 @@ module _ (z : Layout) (o : Opening) (words : List ℕ) (before : List Part) (x :
 
     -- the call is finished
     ends_fits : (r : Reply) (ns : List Noted) → new.number ≡ port.number → steps_left core2 < steps_left port.core → reply_of core2 ≡ Some r → (e : Ends calls words2 log2 port new way core2 r) →
-        l.tells.new ≡ ns → (d : EndedCall o log2 p (length port.finished.items) (ends_of 0 port.finished.items) (seen_by 0 (notes_in port.finished.items)) e.call (last_call r e)) →
+        leads.tells.new ≡ ns → (d : EndedCall o log2 p (length port.finished.items) (ends_of 0 port.finished.items) (seen_by 0 (notes_in port.finished.items)) e.call (last_call r e)) →
         wrote (d.note) ≡ places_written ns → PortFits o log2 calls p y new
     ends_fits r ns number falls replied e news d places =
         let c = last_call r e in
-        let grown = done_grows o log (added_by z (port_of x) words step) calls p port.finished.items (places_written x.notes) (done_of o log calls p x port w) in
-        let pushed = push_fits o log2 calls p port.finished.items (places_written x.notes) e.call c grown e.next d in
+        let grown = done_grows (added_by z (port_of x) words step) (done_of w) in
+        let pushed = push_fits grown e.next d in
         let sizes : new.core.sizes ≡ core2.sizes = ap (λ (s : CoreState). s.sizes) e.machine in
         let few : AreFew core2.sizes (port.finished.items ++ c ∷ []) = AllByRecursion-push (λ (f : Called). f.steps ≤ most_steps core2.sizes f.call) port.finished.items c (few_y core2 refl)
         (let most = most_y core2 u.call refl in let same : most_steps core2.sizes e.call ≡ most_steps core2.sizes u.call =
         ap (most_steps core2.sizes) (sym (call_under_way r e)) in omega (arith, most, same, falls, u.steps)) in
-        fits_with o log2 calls p y new (places_written x.notes ++ wrote (d.note)) (number ∙ w.number) port_y (ap (λ (t : Layout). t.m) sizes ∙ components_y core2 refl)
+        fits_with (number ∙ w.number) port_y (ap (λ (t : Layout). t.m) sizes ∙ components_y core2 refl)
         (subst (λ (f : List Called). DoneFits o log2 calls p f (places_written x.notes ++ wrote (d.note))) (sym e.finished) pushed)
         (subst (λ (f : List Called). AreFew new.core.sizes f) (sym e.finished) (subst (λ (t : Layout). AreFew t (port.finished.items ++ c ∷ [])) (sym sizes) few))
         (ap (λ (k : List ℕ). places_written x.notes ++ k) places ∙ sym (places_y ns news))
@@ -173,10 +205,10 @@ module _ (z : Layout) (o : Opening) (words : List ℕ) (before : List Part) (x :
     same_call c made = let two : Some c ≡ Some (u.call) = sym made ∙ ap call_of begun_y ∙ u.begun in cc
 
     refused_fits_step : (cause : Refused) → new.number ≡ port.number → steps_left core2 < steps_left port.core → reply_of core2 ≡ Some (reply.Refused cause) →
-        Ends calls words2 log2 port new way core2 (reply.Refused cause) → IsRefusal y cause l.tells.new → PortFits o log2 calls p y new
+        Ends calls words2 log2 port new way core2 (reply.Refused cause) → IsRefusal y cause leads.tells.new → PortFits o log2 calls p y new
     refused_fits_step cause number falls replied e n =
         let call' : n.call ≡ e.call = same_call n.call n.made ∙ call_under_way (reply.Refused cause) e in
-        let m : (y.begun).sizes.m ≡ length o.values = ap (λ (t : Layout). t.m) l.tells.begun_sizes ∙ sym (l.lawful.memory.values) in
+        let m : (y.begun).sizes.m ≡ length o.values = ap (λ (t : Layout). t.m) leads.tells.begun_sizes ∙ sym (leads.lawful.memory.values) in
         let may : MayBeRefused (length o.values) (e.call) cause = subst (λ (k : ℕ). MayBeRefused k (e.call) cause) m (subst (λ (c : Call). MayBeRefused (y.begun).sizes.m c cause) call' n.may) in
         let more = longer in
         ends_fits (reply.Refused cause) [] number falls replied e n.none (record {
@@ -194,27 +226,27 @@ module _ (z : Layout) (o : Opening) (words : List ℕ) (before : List Part) (x :
         }) refl
 
     -- the note of the part is legal behind the others
-    legal_y : (r : Reply) (n : IsNoteOf o y r l.tells.new) → IsLegal o log2 p (seen_by 0 x.notes) (record { call = n.call; answer = answer_for core2 r; note = Some (n.note) })
+    legal_y : (r : Reply) (n : IsNoteOf o y r leads.tells.new) → IsLegal o log2 p (seen_by 0 x.notes) (record { call = n.call; answer = answer_for core2 r; note = Some (n.note) })
     legal_y r n =
-        let is : l.tells.new ≡ record { call = n.call; answer = answer_for core2 r; note = Some (n.note) } ∷ [] =
+        let is : leads.tells.new ≡ record { call = n.call; answer = answer_for core2 r; note = Some (n.note) } ∷ [] =
         n.is ∙ ap (λ (s : CoreState). record { call = n.call; answer = answer_for s r; note = Some (n.note) } ∷ []) core_y in
         subst (λ (q : ℕ). IsLegal o log2 q (seen_by 0 x.notes) (record { call = n.call; answer = answer_for core2 r; note = Some (n.note) })) port_y
         (LegalNotes-last o log2 (port_of y) 0 x.notes (record { call = n.call; answer = answer_for core2 r; note = Some (n.note) })
         (subst (λ (ns : List Noted). LegalNotes o log2 (port_of y) 0 (x.notes ++ ns)) is
-        (subst (λ (ns : List Noted). LegalNotes o log2 (port_of y) 0 ns) notes_y (subst (λ (h : List Applied). LegalNotes o h (port_of y) 0 y.notes) seen_y l.tells.fits.legal))))
+        (subst (λ (ns : List Noted). LegalNotes o log2 (port_of y) 0 ns) notes_y (subst (λ (h : List Applied). LegalNotes o h (port_of y) 0 y.notes) seen_y leads.tells.fits.legal))))
 
-    noted_fits : (r : Reply) → new.number ≡ port.number → steps_left core2 < steps_left port.core → reply_of core2 ≡ Some r → Ends calls words2 log2 port new way core2 r → IsNoteOf o y r l.tells.new →
-        PortFits o log2 calls p y new
+    noted_fits : (r : Reply) → new.number ≡ port.number → steps_left core2 < steps_left port.core → reply_of core2 ≡ Some r → Ends calls words2 log2 port new way core2 r →
+        IsNoteOf o y r leads.tells.new → PortFits o log2 calls p y new
     noted_fits r number falls replied e n =
         let c = n.call in
         let answered = answer_for core2 r in
         let call' : c ≡ e.call = same_call c n.made ∙ call_under_way r e in
-        let is : l.tells.new ≡ record { call = c; answer = answered; note = Some (n.note) } ∷ [] =
+        let is : leads.tells.new ≡ record { call = c; answer = answered; note = Some (n.note) } ∷ [] =
         n.is ∙ ap (λ (s : CoreState). record { call = c; answer = answer_for s r; note = Some (n.note) } ∷ []) core_y in
         let legal = legal_y r n in
         let first = first_y in
         let more = longer in
-        let found = finds_place o log2 p way.began words2 c answered (n.note) e.note l.lawful.memory.history l.lawful.memory.agrees legal.0 (legal.1.0) (omega (arith, first, n.behind))
+        let found = finds_place o log2 p way.began words2 c answered (n.note) e.note leads.lawful.memory.history leads.lawful.memory.agrees legal.0 (legal.1.0) (omega (arith, first, n.behind))
         (subst (λ (d : Call). IsNoteFrom words2 log2 way.began d answered e.note) (sym call') e.noted) in
         let top : shown_by n.note ≤ length log2 = let seen_long : length y.seen ≡ length log2 = ap length seen_y in omega (arith, n.within, seen_long) in
         let placed : (way.began ≤ place_of (found.note)) × (shown_by (found.note) ≤ length log2) = (found.behind, omega (arith, found.within, top)) in
@@ -234,7 +266,7 @@ module _ (z : Layout) (o : Opening) (words : List ℕ) (before : List Part) (x :
         }) (found.wrote' ∙ sym (append-nil (wrote (Some (n.note)))))
 
     replied_fits : (r : Reply) → new.number ≡ port.number → steps_left core2 < steps_left port.core → reply_of core2 ≡ Some r → Ends calls words2 log2 port new way core2 r →
-        AreNotesOf o y (Some r) l.tells.new → PortFits o log2 calls p y new
+        AreNotesOf o y (Some r) leads.tells.new → PortFits o log2 calls p y new
     replied_fits (reply.Refused cause) number falls replied e n = refused_fits_step cause number falls replied e n
     replied_fits (reply.Applied s) number falls replied e n = noted_fits (reply.Applied s) number falls replied e n
     replied_fits (reply.Lost by) number falls replied e n = noted_fits (reply.Lost by) number falls replied e n
@@ -243,12 +275,12 @@ module _ (z : Layout) (o : Opening) (words : List ℕ) (before : List Part) (x :
     replied_fits (reply.Changed by) number falls replied e n = noted_fits (reply.Changed by) number falls replied e n
 
     pub step_fits : (found : Option Reply) → reply_of core2 ≡ found → new.number ≡ port.number → steps_left core2 < steps_left port.core → MatchOption found (CallGoesOn port new way core2)
-        (Ends calls words2 log2 port new way core2) → PortFits o log2 calls p l.y new
+        (Ends calls words2 log2 port new way core2) → PortFits o log2 calls p leads.y new
     step_fits None is number falls g = goes_on_fits number is falls g
-    step_fits (Some r) is number falls e = replied_fits r number falls is e (subst (λ (f : Option Reply). AreNotesOf o y f l.tells.new) is l.tells.noted)
+    step_fits (Some r) is number falls e = replied_fits r number falls is e (subst (λ (f : Option Reply). AreNotesOf o y f leads.tells.new) is leads.tells.noted)
 
     -- the answer of a call that ends is one that it may have
-    answer_may : (r : Reply) → AreNotesOf o y (Some r) l.tells.new → MayAnswer port.core.sizes.m u.call (answer_for core2 r)
+    answer_may : (r : Reply) → AreNotesOf o y (Some r) leads.tells.new → MayAnswer port.core.sizes.m u.call (answer_for core2 r)
     answer_may (reply.Scanned k b) n =
         let legal = legal_y (reply.Scanned k b) n in
         let values = scan_values o log2 p (length o.values) n.call (scanned_values core2) k b n.note legal.0 (legal.1.0) in
@@ -259,9 +291,9 @@ module _ (z : Layout) (o : Opening) (words : List ℕ) (before : List Part) (x :
     answer_may (reply.Refused cause) n = tt
     answer_may (reply.Changed by) n = tt
 
-    ends_may : (found : Option Reply) → AreNotesOf o y found l.tells.new → IfSome found (λ r. MayAnswer port.core.sizes.m u.call (answer_for core2 r))
+    ends_may : (found : Option Reply) → AreNotesOf o y found leads.tells.new → IfSome found (λ r. MayAnswer port.core.sizes.m u.call (answer_for core2 r))
     ends_may None n = tt
     ends_may (Some r) n = answer_may r n
 
     pub end_may : IfSome (reply_of core2) (λ r. MayAnswer port.core.sizes.m u.call (answer_for core2 r))
-    end_may = ends_may (reply_of core2) l.tells.noted
+    end_may = ends_may (reply_of core2) leads.tells.noted

@@ -1,9 +1,9 @@
 -- A turn of a port among the others.
-use Rattle.partial_replay.proofs.Common.{ℕ, zero, suc, ◌≡◌, ◌+◌, ◌-◌, ◌*◌, ◌<◌, ◌≤◌, ◌==◌, ◌++◌, Bool, true, false, cond, not, List, [], ◌∷◌, length, get_or, set, Option, Some, None, MatchOption, MatchBool, nat_lt, ◌^◌, slice_get, Result, Ok, Err, OnOk, refl, sym, ◌∙◌, ap, subst, arith, length-append, get_or-set_other, mul-le-mul, mul-suc, option_map_or, is_some, IsSome, false≢true, ltb-true, append-nil, length_push, Applied, Opening, Call, Called, LegalNotes-grows, AllByRecursion-get, AllByRecursion-push, Step, Event, Layout, IsLayout, Leads, answer_of, words_after, record_value, view_word, Reply, Idle, CoreState, reply_of, steps_left, most_of_update, most_steps, Part, port_of, IsBetween, answer_for, IsServed, steps_stay_lawful, lawful_machines_are_ready, lawful_records_are_within, Port, UnderWay, KeepsMade, IsExchangeWithin, AreWithin, notes_in, IsCallUnderWay, PortFits, core_behind, entry_at, one_step_more, ended_call, CallGoesOn, Ends, StepMade, MayStep, KeepsFit, AreStartedBut, ArePlans, PortsFit, IsRunOf, left_for, port_left, port_left_at, AllByRecursion, place_below, value_word, Load, Store, Exchange, Add, Lawful, added_by, PublishesWithin, LeadsOn}
+use Rattle.partial_replay.proofs.Common.{ℕ, zero, suc, ◌≡◌, ◌+◌, ◌-◌, ◌*◌, ◌<◌, ◌≤◌, ◌==◌, ◌++◌, Bool, true, false, cond, not, List, [], ◌∷◌, length, get_or, set, Option, Some, None, MatchOption, MatchBool, nat_lt, ◌^◌, slice_get, Result, Ok, Err, OnOk, refl, sym, ◌∙◌, ap, subst, arith, length-append, get_or-set_other, mul-le-mul, mul-suc, option_map_or, is_some, IsSome, false≢true, ltb-true, append-nil, length_push, Applied, Opening, Call, Called, LegalNotes-grows, AllByRecursion-get, AllByRecursion-push, Step, Event, Layout, IsLayout, Leads, answer_of, words_after, record_value, view_word, Idle, CoreState, reply_of, steps_left, most_of_update, most_steps, Part, port_of, IsBetween, answer_for, IsServed, lawful_machines_are_ready, lawful_records_are_within, Port, UnderWay, KeepsMade, IsExchangeWithin, AreWithin, notes_in, IsCallUnderWay, PortFits, core_behind, entry_at, one_step_more, ended_call, CallGoesOn, Ends, StepMade, MayStep, KeepsFit, AreStartedBut, ArePlans, PortsFit, IsRunOf, left_for, port_left, port_left_at, AllByRecursion, place_below, value_word, Load, Store, Exchange, Add, Lawful, added_by, PublishesWithin, some_same, step_of, Memory, Run, event_of, ReplayState, state_of, PortAt, IsTurnReady, no_ports, first_port}
 use Rattle.std.proofs.Math.Nat.{mul-le-mul_left}
 use Rattle.partial_model.specs.declared.call.Call.TheVariants as call
-use Rattle.partial_replay.proofs.PortLaws.{least_grow, finished_grows, get_is, between_of}
-use Rattle.partial_replay.proofs.RunLaws.{due_step, lawful_within, leads_push, sizes_y, step_fits, end_may}
+use Rattle.partial_replay.proofs.PortLaws.{least_grow, finished_grows, get_is, between_of, under_way, step_cases}
+use Rattle.partial_replay.proofs.RunLaws.{PartAt, among, due_step, lawful_within, leads, leads_push, step_fits, end_may}
 use Rattle.partial_replay.proofs.PortSteps.{ports_step, ports_begin, log_long}
 use Rattle.partial_replay.proofs.Traces.{entries_push}
 
@@ -24,8 +24,8 @@ way_grows log es calls x core done (Some way) w =
       steps = w.steps;
     }
 
-pub fits_grows : (o : Opening) (log es : List Applied) (calls : List Call) (p : ℕ) (x : Part) (port : Port) → PortFits o log calls p x port → PortFits o (log ++ es) calls p x port
-fits_grows o log es calls p x port w =
+fits_grows : {o : Opening} {log : List Applied} {calls : List Call} {p : ℕ} {x : Part} {port : Port} (es : List Applied) → PortFits o log calls p x port → PortFits o (log ++ es) calls p x port
+fits_grows {o} {log} {calls} {p} {x} {port} es w =
     record {
       number = w.number;
       part = w.part;
@@ -41,69 +41,67 @@ fits_grows o log es calls p x port w =
       way = way_grows log es calls x port.core port.finished.items port.under_way w.way;
     }
 
-pub ports_grow : (o : Opening) (log es : List Applied) (q : ℕ) (plans : List (List Call)) (parts : List Part) (ports : List Port) → PortsFit o log q plans parts ports →
+ports_grow : {o : Opening} {log : List Applied} {q : ℕ} {plans : List (List Call)} {parts : List Part} {ports : List Port} (es : List Applied) → PortsFit o log q plans parts ports →
     PortsFit o (log ++ es) q plans parts ports
-ports_grow o log es q [] [] [] w = w
-ports_grow o log es q (c ∷ plans) (x ∷ parts) (t ∷ ports) w = (fits_grows o log es c q x t w.0, ports_grow o log es (q + 1) plans parts ports w.1)
-ports_grow o log es q [] [] (t ∷ ports) w = absurd w
-ports_grow o log es q [] (x ∷ parts) ports w = absurd w
-ports_grow o log es q (c ∷ plans) [] ports w = absurd w
-ports_grow o log es q (c ∷ plans) (x ∷ parts) [] w = absurd w
+ports_grow es no_ports = no_ports
+ports_grow es (first_port f rest) = first_port (fits_grows es f) (ports_grow es rest)
 
 -- one port among the others, and another state of it in its place
-pub record AtPort (o : Opening) (log : List Applied) (q : ℕ) (plans : List (List Call)) (parts : List Part) (ports : List Port) (i : ℕ) (calls : List Call) (port : Port) : Type 0 where
-  pub before : List Part
-  pub x : Part
-  pub after : List Part
-  pub is : parts ≡ before ++ x ∷ after
-  pub fits : PortFits o log calls (q + i) x port
-  pub replace : (es : List Applied) (y : Part) (new : Port) → PortFits o (log ++ es) calls (q + i) y new → PortsFit o (log ++ es) q plans (before ++ y ∷ after) (set ports i new)
+record AtPort (o : Opening) (log : List Applied) (q : ℕ) (plans : List (List Call)) (parts : List Part) (ports : List Port) (i p : ℕ) (calls : List Call) (port : Port) : Type 0 where
+  before : List Part
+  x : Part
+  after : List Part
+  is : parts ≡ before ++ x ∷ after
+  fits : PortFits o log calls p x port
+  replace : (es : List Applied) (y : Part) (new : Port) → PortFits o (log ++ es) calls p y new → PortsFit o (log ++ es) q plans (before ++ y ∷ after) (set ports i new)
 
-pub at_port : (o : Opening) (log : List Applied) (q : ℕ) (plans : List (List Call)) (parts : List Part) (ports : List Port) (i : ℕ) (calls : List Call) (port : Port) →
-    PortsFit o log q plans parts ports → slice_get plans i ≡ Some calls → slice_get ports i ≡ Some port → AtPort o log q plans parts ports i calls port
-at_port o log q [] parts ports i calls port w c t = let bad : None ≡ Some calls = c in cc
-at_port o log q (d ∷ plans) [] ports i calls port w c t = absurd w
-at_port o log q (d ∷ plans) (x ∷ parts) [] i calls port w c t = absurd w
-at_port o log q (d ∷ plans) (x ∷ parts) (u ∷ ports) zero calls port w c t =
-    let is : d ≡ calls = cc in
-    let same : u ≡ port = cc in
-    let zero' : q ≡ q + 0 = omega arith in
+at_port : {o : Opening} {log : List Applied} {q : ℕ} {plans : List (List Call)} {parts : List Part} {ports : List Port} (i p : ℕ) {calls : List Call} {port : Port} →
+    PortsFit o log q plans parts ports → p ≡ q + i → slice_get plans i ≡ Some calls → slice_get ports i ≡ Some port → AtPort o log q plans parts ports i p calls port
+at_port i p {calls} no_ports n c t = let bad : None ≡ Some calls = c in cc
+at_port {o} {log} {q} zero p {calls} {port} (first_port {calls = d} {x = x} {parts = parts} {port = u} f rest) n c t =
+    let here : q ≡ p = omega (arith, n) in
     record {
       before = [];
       x = x;
       after = parts;
       is = refl;
-      fits = subst (λ n. PortFits o log calls n x port) zero' (subst (λ (v : Port). PortFits o log calls q x v) same (subst (λ (e : List Call). PortFits o log e q x u) is w.0));
-      replace = λ es y new f. (
-        subst (λ (e : List Call). PortFits o (log ++ es) e q y new) (sym is) (subst (λ n. PortFits o (log ++ es) calls n y new) (sym zero') f),
-        ports_grow o log es (q + 1) plans parts ports w.1,
-      );
+      fits = subst (λ k. PortFits o log calls k x port) here
+          (subst (λ (v : Port). PortFits o log calls q x v) (some_same t) (subst (λ (e : List Call). PortFits o log e q x u) (some_same c) f));
+      replace = λ es y new g. first_port
+          (subst (λ (e : List Call). PortFits o (log ++ es) e q y new) (sym (some_same c)) (subst (λ k. PortFits o (log ++ es) calls k y new) (sym here) g)) (ports_grow es rest);
     }
-at_port o log q (d ∷ plans) (x ∷ parts) (u ∷ ports) (suc i) calls port w c t =
-    let rest = at_port o log (q + 1) plans parts ports i calls port w.1 c t in
-    let more : q + 1 + i ≡ q + suc i = omega arith in
+at_port (suc i) p (first_port {x = x} f rest) n c t =
+    let at = at_port i p rest (omega (arith, n)) c t in
     record {
-      before = x ∷ rest.before;
-      x = rest.x;
-      after = rest.after;
-      is = ap (λ (l : List Part). x ∷ l) (rest.is);
-      fits = subst (λ n. PortFits o log calls n (rest.x) port) more (rest.fits);
-      replace = λ es y new f. (fits_grows o log es d q x u w.0, rest.replace es y new (subst (λ n. PortFits o (log ++ es) calls n y new) (sym more) f));
+      before = x ∷ at.before;
+      x = at.x;
+      after = at.after;
+      is = ap (λ (l : List Part). x ∷ l) at.is;
+      fits = at.fits;
+      replace = λ es y new g. first_port (fits_grows es f) (at.replace es y new g);
     }
 
-set_here : {A : Type 0} (xs : List A) (i : ℕ) (a b : A) → set (set xs i a) i b ≡ set xs i b
-set_here [] i a b = refl
-set_here (x ∷ xs) zero a b = refl
-set_here {A} (x ∷ xs) (suc i) a b = ap (λ (l : List A). x ∷ l) (set_here xs i a b)
+-- a port of a run, with its part
+pub part_at : {plans : List (List Call)} {s : ReplayState} {p : ℕ} {calls : List Call} {port : Port} → IsRunOf plans s → PortAt plans s.ports p calls port → PartAt plans s p calls port
+part_at {plans} {s} {p} {calls} {port} w here =
+    let at = at_port p p w.fit (omega arith) here.plan here.is in
+    record {
+      before = at.before;
+      x = at.x;
+      after = at.after;
+      lawful = subst (λ (l : List Part). Lawful s.sizes s.opening s.memory.words.items l s.memory.history.items) at.is w.lawful;
+      fits = at.fits;
+      replace = at.replace;
+    }
 
 -- a call begins, or is refused at once: the words and the history stay
-pub begin_keeps : (plans : List (List Call)) (z : Layout) (o : Opening) (words : List ℕ) (ports : List Port) (log : List Applied) (trace : List Event) (i : ℕ) (calls : List Call) (port new : Port) →
-    IsRunOf plans z o words ports log trace → slice_get plans i ≡ Some calls → slice_get ports i ≡ Some port → KeepsFit calls (length log) port new → KeepsMade calls (length log) port new →
-    IsRunOf plans z o words (set ports i new) log trace
-begin_keeps plans z o words ports log trace i calls port new w c t keeps keeps_made =
-    let at = at_port o log 0 plans w.parts ports i calls port w.fit c t in
-    let same = append-nil log in
-    let fits : PortFits o (log ++ []) calls (0 + i) (at.x) new = subst (λ (l : List Applied). PortFits o l calls (0 + i) (at.x) new) (sym same) (keeps o log (0 + i) (at.x) refl (at.fits)) in
+pub begin_keeps : {plans : List (List Call)} {s : ReplayState} {p : ℕ} {calls : List Call} {port : Port} (new : Port) → IsRunOf plans s → PortAt plans s.ports p calls port →
+    KeepsFit calls (length s.memory.history.items) port new → KeepsMade calls (length s.memory.history.items) port new → IsRunOf plans (record s { ports = set s.ports p new })
+begin_keeps {plans} {s} {p} {calls} {port} new w here keeps keeps_made =
+    let o = s.opening in
+    let log = s.memory.history.items in
+    let at = at_port p p w.fit (omega arith) here.plan here.is in
+    let grown = at.replace [] at.x new (subst (λ (l : List Applied). PortFits o l calls p at.x new) (sym (append-nil log)) (keeps o log p at.x refl at.fits)) in
     record {
       parts = w.parts;
       opened = w.opened;
@@ -112,15 +110,10 @@ begin_keeps plans z o words ports log trace i calls port new w c t keeps keeps_m
       leads = w.leads;
       entries = w.entries;
       senders = w.senders;
-      made = ports_begin plans z ports log trace i calls port new w.made c t keeps_made;
-      fit = subst (λ (l : List Part). PortsFit o log 0 plans l (set ports i new)) (sym (at.is))
-          (subst (λ (l : List Applied). PortsFit o l 0 plans ((at.before) ++ (at.x) ∷ (at.after)) (set ports i new)) same (at.replace [] (at.x) new fits));
+      made = ports_begin s w.made here keeps_made;
+      fit = subst (λ (l : List Part). PortsFit o log 0 plans l (set s.ports p new)) (sym at.is)
+          (subst (λ (l : List Applied). PortsFit o l 0 plans (at.before ++ at.x ∷ at.after) (set s.ports p new)) (append-nil log) grown);
     }
-
--- the call under way of a port
-pub under_way : (o : Opening) (log : List Applied) (calls : List Call) (p : ℕ) (x : Part) (port : Port) (way : UnderWay) → PortFits o log calls p x port → port.under_way ≡ Some way →
-    IsCallUnderWay (length log) calls x port.core port.finished.items way
-under_way o log calls p x port way w is = subst (λ (f : Option UnderWay). MatchOption f (IsBetween x port.core) (IsCallUnderWay (length log) calls x port.core port.finished.items)) is w.way
 
 -- what a step adds to the history, as it is told by the words behind it, and that the record of an exchange lies within the words
 pub record StepAdds (z : Layout) (m : ℕ) (words : List ℕ) (step : Step) (port : ℕ) : Type 0 where
@@ -159,16 +152,19 @@ last_of : {A : Type 0} (P : A → Type 0) (xs : List A) (x : A) → AllByRecursi
 last_of P [] x all = all.0
 last_of P (y ∷ ys) x all = last_of P ys x all.1
 
--- the same of a step that leads on
-pub due_adds : (z : Layout) (o : Opening) (words : List ℕ) (before : List Part) (x : Part) (after : List Part) (log : List Applied) (c : CoreState) (step : Step) (number : ℕ) → port_of x ≡ number →
-    LeadsOn z o words before x after log c step → StepAdds z c.sizes.m words step number
-due_adds z o words before x after log c step number port l =
-    let own : StepAdds z z.m words step (port_of x) = adds z words (port_of x) step l.publishes (λ e is.
-    let records = lawful_records_are_within z o (words_after words step) (before ++ l.y ∷ after) (log ++ added_by z (port_of x) words step) l.lawful in
+-- the same of a port's due step
+due_adds : {plans : List (List Call)} {s : ReplayState} {p : ℕ} {calls : List Call} {port : Port} {way : UnderWay} (at : PartAt plans s p calls port) → port.under_way ≡ Some way → (step : Step) →
+    step_of port.core ≡ Some step → StepAdds s.sizes port.core.sizes.m s.memory.words.items step port.number
+due_adds {s} {port} at was step due =
+    let z = s.sizes in
+    let words = s.memory.words.items in
+    let log = s.memory.history.items in
+    let l = leads at was step due in
+    let own : StepAdds z z.m words step (port_of at.x) = adds z words (port_of at.x) step l.publishes (λ e is.
+    let records = lawful_records_are_within z s.opening (words_after words step) (at.before ++ l.y ∷ at.after) (log ++ added_by z (port_of at.x) words step) l.lawful in
     let IsBehind : Applied → Type 0 = λ e. (z.m ≤ e.stamp) × (view_word e.stamp < length (words_after words step)) in
     (last_of IsBehind log e (subst (λ (es : List Applied). AllByRecursion IsBehind (log ++ es)) is records.entries)).0) in
-    let sizes : z.m ≡ c.sizes.m = ap (λ (y : Layout). y.m) (sym l.tells.sizes) in
-    subst (λ (n : ℕ). StepAdds z n words step number) sizes (subst (StepAdds z z.m words step) port own)
+    subst (λ (n : ℕ). StepAdds z n words step port.number) (ap (λ (y : Layout). y.m) (sym l.tells.sizes)) (subst (StepAdds z z.m words step) (at.fits.part ∙ sym at.fits.number) own)
 
 -- fewer positions, fewer steps: a scan makes no more than an update
 most_of_scan : (z : Layout) (js : List ℕ) → length js ≤ z.m → most_steps z (call.Scan js) ≤ most_of_update z
@@ -195,100 +191,97 @@ most_fits : (z : Layout) (c : Call) → IsLayout z → IsServed z.m c → most_s
 most_fits z c layout served = let few = most_of_call z c served in let fits = update_fits z layout in omega (arith, few, fits)
 
 -- the due step of a port whose call is under way may be made
-pub may_step : (plans : List (List Call)) (z : Layout) (o : Opening) (words : List ℕ) (ports : List Port) (log : List Applied) (trace : List Event) (i : ℕ) (calls : List Call) (port : Port)
-    (way : UnderWay) → IsRunOf plans z o words ports log trace → ArePlans z.m plans → slice_get plans i ≡ Some calls → slice_get ports i ≡ Some port → port.under_way ≡ Some way →
-    MayStep calls words log port
-may_step plans z o words ports log trace i calls port way w served c t is =
-    let at = at_port o log 0 plans w.parts ports i calls port w.fit c t in
-    let u = under_way o log calls (0 + i) (at.x) port way (at.fits) is in
-    let lawful : Lawful z o words ((at.before) ++ (at.x) ∷ (at.after)) log = subst (λ (l : List Part). Lawful z o words l log) (at.is) w.lawful in
-    let here = lawful_machines_are_ready z o words (at.before) (at.x) (at.after) log port.core lawful u.machine in
-    let due = due_step port.core (here.due ∙ ap not u.due) in
+pub may_step : {plans : List (List Call)} {s : ReplayState} {p : ℕ} {calls : List Call} {port : Port} {way : UnderWay} → IsRunOf plans s → ArePlans s.sizes.m plans →
+    PortAt plans s.ports p calls port → port.under_way ≡ Some way → MayStep calls s.memory port
+may_step {plans} {s} {p} {calls} {port} {way} w served here is =
+    let z = s.sizes in
+    let words = s.memory.words.items in
+    let log = s.memory.history.items in
+    let at = part_at w here in
+    let u = under_way at.fits is in
+    let ready = lawful_machines_are_ready z s.opening (among s at.before at.x at.after) port.core at.lawful u.machine in
+    let due = due_step port.core (ready.due ∙ ap not u.due) in
     let step = due.0 in
-    let a = answer_of words step in
-    let l = steps_stay_lawful z o words (at.before) (at.x) (at.after) log port.core step lawful u.machine due.1 in
-    let number : port_of (at.x) ≡ port.number = (at.fits).part ∙ sym ((at.fits).number) in
-    let adds = due_adds z o words (at.before) (at.x) (at.after) log port.core step port.number number l in
-    let entries = added_by z (port_of (at.x)) words step in
+    let l = leads at is step due.1 in
+    let adds = due_adds at is step due.1 in
+    let entries = added_by z (port_of at.x) words step in
     let call_served : IsServed z.m u.call = AllByRecursion-get (IsServed z.m) calls (length port.finished.items) u.call
-    (AllByRecursion-get (λ (cs : List Call). (length cs < 2 ^ 32) × AllByRecursion (IsServed z.m) cs) plans i calls served c).1 u.next in
-    let fits : most_steps port.core.sizes u.call + 1 < 2 ^ 64 = subst (λ (y : Layout). most_steps y u.call + 1 < 2 ^ 64) (sym here.sizes) (most_fits z u.call lawful.memory.sizes call_served) in
-    let within : AreWithin (length o.values) (words_after words step) (log ++ entries) = lawful_within z o (words_after words step) ((at.before) ++ l.y ∷ (at.after)) (log ++ entries) l.lawful in
+    (AllByRecursion-get (λ (cs : List Call). (length cs < 2 ^ 32) × AllByRecursion (IsServed z.m) cs) plans p calls served here.plan).1 u.next in
+    let fits : most_steps port.core.sizes u.call + 1 < 2 ^ 64 = subst (λ (y : Layout). most_steps y u.call + 1 < 2 ^ 64) (sym ready.sizes) (most_fits z u.call at.lawful.memory.sizes call_served) in
+    let within : AreWithin (length s.opening.values) (words_after words step) (log ++ entries) =
+    lawful_within z s.opening (words_after words step) (at.before ++ l.y ∷ at.after) (log ++ entries) l.lawful in
     record {
       step = step;
       way = way;
       call = u.call;
       due = due.1;
       was = is;
-      within = (l.answers).within;
+      within = l.answers.within;
       possible = l.tells.possible;
       exchange = adds.within;
       steps = omega (arith, u.steps, fits);
       next = u.next;
-      ends = end_may z o words (at.before) (at.x) (at.after) log calls (0 + i) port port step way (at.fits) u l;
-      places = subst (λ (es : List Applied). AreWithin port.core.sizes.m (words_after words step) (log ++ es)) (ap (λ n. added_by z n words step) number ∙ sym adds.entry)
-          (subst (λ n. AreWithin n (words_after words step) (log ++ entries)) (sym (at.fits).sizes) within);
+      ends = end_may at is step due.1 port;
+      places = subst (λ (es : List Applied). AreWithin port.core.sizes.m (words_after words step) (log ++ es))
+          (ap (λ n. added_by z n words step) (at.fits.part ∙ sym at.fits.number) ∙ sym adds.entry)
+          (subst (λ n. AreWithin n (words_after words step) (log ++ entries)) (sym at.fits.sizes) within);
     }
+
+-- the call under way of a port whose turn is ready, which is one of its calls
+pub ready_way : {plans : List (List Call)} {run : Run} {p : ℕ} {calls : List Call} {port : Port} → PortAt plans run.ports.items p calls port → (r : IsTurnReady p run) → port.under_way ≡ Some r.way
+ready_way at r = ap (λ (t : Port). t.under_way) (some_same (sym at.is ∙ r.is)) ∙ r.under
+
+pub ready_below : {plans : List (List Call)} {run : Run} {p : ℕ} {calls : List Call} {port : Port} → IsRunOf plans (state_of run) → PortAt plans run.ports.items p calls port → IsTurnReady p run →
+    length port.finished.items < length calls
+ready_below {calls} {port} w here r =
+    let at = part_at w here in
+    let u = under_way at.fits (ready_way here r) in
+    place_below calls (length port.finished.items) u.call u.next
 
 -- a step keeps the replay's state
-pub step_keeps : (plans : List (List Call)) (z : Layout) (o : Opening) (words words' : List ℕ) (ports : List Port) (log log' : List Applied) (trace trace' : List Event) (i : ℕ) (calls : List Call)
-    (port new : Port) → IsRunOf plans z o words ports log trace → slice_get plans i ≡ Some calls → slice_get ports i ≡ Some port → AreStartedBut i ports →
-    StepMade calls words words' trace trace' log log' port new → IsRunOf plans z o words' (set ports i new) log' trace'
-step_keeps plans z o words words' ports log log' trace trace' i calls port new w c t started m =
-    let at = at_port o log 0 plans w.parts ports i calls port w.fit c t in
-    let u = under_way o log calls (0 + i) (at.x) port (m.way) (at.fits) m.was in
-    let lawful : Lawful z o words ((at.before) ++ (at.x) ∷ (at.after)) log = subst (λ (l : List Part). Lawful z o words l log) (at.is) w.lawful in
-    let l = steps_stay_lawful z o words (at.before) (at.x) (at.after) log port.core (m.step) lawful u.machine m.due in
-    let a = answer_of words (m.step) in
-    let number : port_of (at.x) ≡ port.number = (at.fits).part ∙ sym ((at.fits).number) in
-    let adds = due_adds z o words (at.before) (at.x) (at.after) log port.core (m.step) port.number number l in
-    let gained = added_by z (port_of (at.x)) words (m.step) in
-    let log_is : log' ≡ log ++ gained = m.log_is ∙ ap (λ (ws : List ℕ). log ++ entry_at port.core.sizes.m ws port.number (m.step) a) m.words_are ∙ ap (λ (es : List Applied). log ++ es) adds.entry ∙
-    ap (λ n. log ++ added_by z n words (m.step)) (sym number) in
-    let core = core_behind words (m.step) port in
-    let after : MatchOption (reply_of core) (CallGoesOn port new (m.way) core) (Ends calls (words_after words (m.step)) (log ++ gained) port new (m.way) core) =
-    subst (λ (k : List Applied). MatchOption (reply_of core) (CallGoesOn port new (m.way) core) (Ends calls (words_after words (m.step)) k port new (m.way) core)) log_is
-    (subst (λ (ws : List ℕ). MatchOption (reply_of core) (CallGoesOn port new (m.way) core) (Ends calls ws log' port new (m.way) core)) m.words_are m.after) in
-    let y = l.y in
-    let fits = step_fits z o words (at.before) (at.x) (at.after) log calls (0 + i) port new (m.step) (m.way) (at.fits) u l (reply_of core) refl m.number m.falls after in
-    let event : Event = record { port = port.number; step = m.step; answer = a } in
-    let components : port.core.sizes.m ≡ z.m = ap (λ (v : Layout). v.m) l.tells.sizes in
-    let entries = entries_push z.m words' trace trace' log log' port.number (m.step) a w.entries m.trace_is (m.log_is ∙ ap (λ n. log ++ entry_at n words' port.number (m.step) a) components) in
-    let here : port.number ≡ i = (at.fits).number ∙ omega arith in
-    record {
-      parts = (at.before) ++ y ∷ (at.after);
+pub step_keeps : {plans : List (List Call)} {s : ReplayState} {now : Memory} {p : ℕ} {calls : List Call} {port new : Port} → now.sizes ≡ s.sizes → IsRunOf plans s →
+    PortAt plans s.ports p calls port → AreStartedBut p s.ports → StepMade calls s.memory now port new → IsRunOf plans (record s { sizes = now.sizes; memory = now; ports = set s.ports p new })
+step_keeps {plans} {s} {now} {p} {calls} {port} {new} same w here started m =
+    let z = s.sizes in
+    let o = s.opening in
+    let words = s.memory.words.items in
+    let log = s.memory.history.items in
+    let at = part_at w here in
+    let l = leads at m.was m.step m.due in
+    let a = answer_of words m.step in
+    let gained = added_by z (port_of at.x) words m.step in
+    let log_is : now.history.items ≡ log ++ gained = m.log_is ∙ ap (λ (ws : List ℕ). log ++ entry_at port.core.sizes.m ws port.number m.step a) m.words_are
+    ∙ ap (λ (es : List Applied). log ++ es) (due_adds at m.was m.step m.due).entry ∙ ap (λ n. log ++ added_by z n words m.step) (at.fits.number ∙ sym at.fits.part) in
+    let core = core_behind s.memory m.step port in
+    let after : MatchOption (reply_of core) (CallGoesOn port new m.way core) (Ends calls (words_after words m.step) (log ++ gained) port new m.way core) =
+    subst (λ (k : List Applied). MatchOption (reply_of core) (CallGoesOn port new m.way core) (Ends calls (words_after words m.step) k port new m.way core)) log_is
+    (subst (λ (ws : List ℕ). MatchOption (reply_of core) (CallGoesOn port new m.way core) (Ends calls ws now.history.items port new m.way core)) m.words_are m.after) in
+    let parts = at.before ++ l.y ∷ at.after in
+    let event = event_of s.memory port.number m.step in
+    let entries = entries_push z.m (ap (λ (v : Layout). v.m) l.tells.sizes) w.entries m in
+    subst (λ (v : Layout). IsRunOf plans (record s { sizes = v; memory = now; ports = set s.ports p new })) (sym same) (record {
+      parts = parts;
       opened = w.opened;
       opens = w.opens;
-      lawful = subst (λ (ws : List ℕ). Lawful z o ws ((at.before) ++ y ∷ (at.after)) log') (sym m.words_are)
-          (subst (λ (k : List Applied). Lawful z o (words_after words (m.step)) ((at.before) ++ y ∷ (at.after)) k) (sym log_is) l.lawful);
-      fit = subst (λ (k : List Applied). PortsFit o k 0 plans ((at.before) ++ y ∷ (at.after)) (set ports i new)) (sym log_is) (at.replace gained y new fits);
-      leads = subst (λ (ws : List ℕ). Leads w.opened trace' ws) (sym m.words_are)
-          (subst (λ (es : List Event). Leads w.opened es (words_after words (m.step))) (sym m.trace_is) (leads_push w.opened words trace event w.leads l.answers));
+      lawful = subst (λ (ws : List ℕ). Lawful z o ws parts now.history.items) (sym m.words_are)
+          (subst (λ (k : List Applied). Lawful z o (words_after words m.step) parts k) (sym log_is) l.lawful);
+      fit = subst (λ (k : List Applied). PortsFit o k 0 plans parts (set s.ports p new)) (sym log_is)
+          (at.replace gained l.y new (step_fits at m.was m.step m.due new (reply_of core) refl m.number m.falls after));
+      leads = subst (λ (ws : List ℕ). Leads w.opened now.trace.items ws) (sym m.words_are)
+          (subst (λ (es : List Event). Leads w.opened es (words_after words m.step)) (sym m.trace_is) (leads_push w.opened words s.memory.trace.items event w.leads l.answers));
       entries = entries;
       senders = subst (AllByRecursion (λ (e : Event). e.port < length plans)) (sym m.trace_is)
-          (AllByRecursion-push (λ (e : Event). e.port < length plans) trace event w.senders (let below = place_below plans i calls c in omega (arith, below, here)));
-      made = ports_step plans z words words' ports log log' trace trace' i calls port new w.made (log_long z.m trace log w.entries) (log_long z.m trace' log' entries) started c t here m;
-    }
-
--- a step leaves the sizes of the port's machine
-pub step_sizes : (plans : List (List Call)) (z : Layout) (o : Opening) (words words' : List ℕ) (ports : List Port) (log log' : List Applied) (trace trace' : List Event) (i : ℕ) (calls : List Call)
-    (port new : Port) → IsRunOf plans z o words ports log trace → slice_get plans i ≡ Some calls → slice_get ports i ≡ Some port → (m : StepMade calls words words' trace trace' log log' port new) →
-    (core_behind words (m.step) port).sizes ≡ port.core.sizes
-step_sizes plans z o words words' ports log log' trace trace' i calls port new w c t m =
-    let at = at_port o log 0 plans w.parts ports i calls port w.fit c t in
-    let u = under_way o log calls (0 + i) (at.x) port (m.way) (at.fits) m.was in
-    let lawful : Lawful z o words ((at.before) ++ (at.x) ∷ (at.after)) log = subst (λ (l : List Part). Lawful z o words l log) (at.is) w.lawful in
-    let l = steps_stay_lawful z o words (at.before) (at.x) (at.after) log port.core (m.step) lawful u.machine m.due in
-    sizes_y z o words (at.before) (at.x) (at.after) log calls (0 + i) port new (m.step) (m.way) (at.fits) u l
+          (AllByRecursion-push (λ (e : Event). e.port < length plans) s.memory.trace.items event w.senders
+          (let below = place_below plans p calls here.plan in omega (arith, below, at.fits.number)));
+      made = ports_step s w.made (log_long z.m s.memory.trace.items log w.entries) (log_long z.m now.trace.items now.history.items entries) started here at.fits.number m;
+    })
 
 -- the steps that the port has left
-pub left_is : (plans : List (List Call)) (ports : List Port) (i : ℕ) (calls : List Call) (port : Port) → slice_get plans i ≡ Some calls → slice_get ports i ≡ Some port →
-    port_left_at i plans ports ≡ port_left calls port
-left_is [] ports i calls port c t = let bad : None ≡ Some calls = c in cc
-left_is (d ∷ plans) [] i calls port c t = let bad : None ≡ Some port = t in cc
-left_is (d ∷ plans) (u ∷ ports) zero calls port c t =
-    let is : d ≡ calls = cc in let same : u ≡ port = cc in ap (λ (e : List Call). port_left e u) is ∙ ap (λ (v : Port). port_left calls v) same
-left_is (d ∷ plans) (u ∷ ports) (suc i) calls port c t = left_is plans ports i calls port c t
+pub left_is : (plans : List (List Call)) (ports : List Port) (i : ℕ) {calls : List Call} {port : Port} → PortAt plans ports i calls port → port_left_at i plans ports ≡ port_left calls port
+left_is [] ports i {calls} at = let bad : None ≡ Some calls = at.plan in cc
+left_is (d ∷ plans) [] i {port} at = let bad : None ≡ Some port = at.is in cc
+left_is (d ∷ plans) (u ∷ ports) zero {calls} at = ap (λ (e : List Call). port_left e u) (some_same at.plan) ∙ ap (λ (v : Port). port_left calls v) (some_same at.is)
+left_is (d ∷ plans) (u ∷ ports) (suc i) at = left_is plans ports i (record { plan = at.plan; is = at.is })
 
 left_under_way : (calls : List Call) (port : Port) (way : UnderWay) → port.under_way ≡ Some way → port_left calls port ≡ left_for port.core.sizes
     (length calls - length port.finished.items - 1) + steps_left port.core
@@ -299,31 +292,25 @@ left_between : (calls : List Call) (port : Port) → port.under_way ≡ None →
 left_between calls port is = ap (λ (f : Option UnderWay). option_map_or (λ (v : UnderWay). left_for port.core.sizes (length calls - length port.finished.items - 1) + steps_left port.core) f
     (left_for port.core.sizes (length calls - length port.finished.items))) is
 
-left_after : (calls : List Call) (words : List ℕ) (log : List Applied) (port new : Port) (way : UnderWay) (core : CoreState) (found : Option Reply) → core.sizes ≡ port.core.sizes →
-    port.under_way ≡ Some way → steps_left core < steps_left port.core → length port.finished.items < length calls → MatchOption found (CallGoesOn port new way core)
-    (Ends calls words log port new way core) → port_left calls new < port_left calls port
-left_after calls words log port new way core None sizes was falls more g =
-    let old = left_under_way calls port way was in
-    let now = left_under_way calls new (one_step_more way) g.way' in
-    let same : length new.finished.items ≡ length port.finished.items = ap length g.finished in
-    let left : steps_left new.core ≡ steps_left core = ap steps_left g.machine in
+pub left_falls : {calls : List Call} {old now : Memory} {port new : Port} → length port.finished.items < length calls → (m : StepMade calls old now port new) →
+    (core_behind old m.step port).sizes ≡ port.core.sizes → port_left calls new < port_left calls port
+left_falls {calls} {old} {now} {port} {new} more m sizes =
+    let before = left_under_way calls port m.way m.was in
+    step_cases m (port_left calls new < port_left calls port)
+    (λ g.
+    let behind = left_under_way calls new (one_step_more m.way) g.way' in
+    let left : steps_left new.core ≡ steps_left (core_behind old m.step port) = ap steps_left g.machine in
     let rest : left_for new.core.sizes (length calls - length new.finished.items - 1) ≡ left_for port.core.sizes (length calls - length port.finished.items - 1) =
     ap (λ (z : Layout). left_for z (length calls - length new.finished.items - 1)) (ap (λ (s : CoreState). s.sizes) g.machine ∙ sizes) ∙
-    ap (λ n. left_for port.core.sizes (length calls - n - 1)) same in
-    omega (arith, old, now, left, rest, falls)
-left_after calls words log port new way core (Some r) sizes was falls more e =
-    let old = left_under_way calls port way was in
-    let now = left_between calls new e.none in
+    ap (λ n. left_for port.core.sizes (length calls - n - 1)) (ap length g.finished) in
+    omega (arith, before, behind, left, rest, m.falls))
+    (λ r replied e.
+    let behind = left_between calls new e.none in
     let longer : length new.finished.items ≡ length port.finished.items + 1 = ap length e.finished ∙ length_push port.finished.items
-    (ended_call port.number (length port.finished.items) e.call (one_step_more way) (length log) (answer_for core r) e.note) in
+    (ended_call port.number (length port.finished.items) e.call (one_step_more m.way) (length now.history.items) (answer_for (core_behind old m.step port) r) e.note) in
     let rest : left_for new.core.sizes (length calls - length new.finished.items) ≡ left_for port.core.sizes (length calls - length port.finished.items - 1) =
     ap (λ (z : Layout). left_for z (length calls - length new.finished.items)) (ap (λ (s : CoreState). s.sizes) e.machine ∙ sizes) ∙ ap (λ n. left_for port.core.sizes n) (omega (arith, longer)) in
-    omega (arith, old, now, rest, falls)
-
-pub left_falls : (calls : List Call) (words words' : List ℕ) (trace trace' : List Event) (log log' : List Applied) (port new : Port) → length port.finished.items < length calls →
-    (m : StepMade calls words words' trace trace' log log' port new) → (core_behind words (m.step) port).sizes ≡ port.core.sizes → port_left calls new < port_left calls port
-left_falls calls words words' trace trace' log log' port new more m sizes =
-    left_after calls words' log' port new (m.way) (core_behind words (m.step) port) (reply_of (core_behind words (m.step) port)) sizes m.was m.falls more m.after
+    omega (arith, before, behind, rest, m.falls))
 
 -- fewer calls, fewer steps
 left_fewer : (z : Layout) (a b : ℕ) → a ≤ b → left_for z a ≤ left_for z b
@@ -359,22 +346,20 @@ left_begun calls port new sizes none more few f = at_way new.under_way refl
         omega (arith, old, now, same, one, less, top)
 
 -- there are as many ports as plans
-pub ports_length : (o : Opening) (log : List Applied) (q : ℕ) (plans : List (List Call)) (parts : List Part) (ports : List Port) → PortsFit o log q plans parts ports → length ports ≡ length plans
-ports_length o log q [] [] [] w = refl
-ports_length o log q (c ∷ plans) (x ∷ parts) (t ∷ ports) w = ap suc (ports_length o log (q + 1) plans parts ports w.1)
-ports_length o log q [] [] (t ∷ ports) w = absurd w
-ports_length o log q [] (x ∷ parts) ports w = absurd w
-ports_length o log q (c ∷ plans) [] ports w = absurd w
-ports_length o log q (c ∷ plans) (x ∷ parts) [] w = absurd w
+pub ports_length : {o : Opening} {log : List Applied} {q : ℕ} {plans : List (List Call)} {parts : List Part} {ports : List Port} → PortsFit o log q plans parts ports → length ports ≡ length plans
+ports_length no_ports = refl
+ports_length (first_port f rest) = ap suc (ports_length rest)
 
 -- the element that was read at a place
-pub got : {A : Type 0} (xs : List A) (i : ℕ) (x : A) → i < length xs → x ≡ get_or xs i x → slice_get xs i ≡ Some x
+got : {A : Type 0} (xs : List A) (i : ℕ) (x : A) → i < length xs → x ≡ get_or xs i x → slice_get xs i ≡ Some x
 got xs i x below is = get_is xs i x below ∙ ap Some (sym is)
 
--- the port that a turn is about
-pub port_here : (plans : List (List Call)) (z : Layout) (o : Opening) (words : List ℕ) (ports : List Port) (log : List Applied) (trace : List Event) (p : ℕ) (port : Port) →
-    IsRunOf plans z o words ports log trace → p < length plans → port ≡ get_or ports p port → slice_get ports p ≡ Some port
-port_here plans z o words ports log trace p port w below is = let many = ports_length o log 0 plans w.parts ports w.fit in got ports p port (omega (arith, many, below)) is
+-- the port that a turn is about, and its calls, as they were read
+pub port_here : {plans : List (List Call)} {s : ReplayState} (p : ℕ) {plan calls : List Call} {port : Port} → IsRunOf plans s → p < length plans → plan ≡ get_or plans p plan → calls ≡ plan →
+    port ≡ get_or s.ports p port → PortAt plans s.ports p calls port
+port_here {plans} {s} p {plan} {port} w below plan_is calls_are is =
+    let many = ports_length w.fit in
+    record { plan = got plans p plan below plan_is ∙ ap Some (sym calls_are); is = got s.ports p port (omega (arith, many, below)) is }
 
 pub none_of : {A : Type 0} (f : Option A) → is_some f ≡ false → f ≡ None
 none_of None e = refl
@@ -395,40 +380,31 @@ pub begun_done : (b : Bool) (calls : List Call) (port new : Port) → length por
 begun_done true calls port new all more m = let below = m.1 in absurd (omega (arith, all, more, below))
 begun_done false calls port new all more m = m
 
--- a port that a run has at a place, with the part that it fits
-pub port_in : (plans : List (List Call)) (z : Layout) (o : Opening) (words : List ℕ) (ports : List Port) (log : List Applied) (trace : List Event) (i : ℕ) (calls : List Call) (port : Port) →
-    IsRunOf plans z o words ports log trace → slice_get plans i ≡ Some calls → slice_get ports i ≡ Some port → (x : Part) × PortFits o log calls (0 + i) x port
-port_in plans z o words ports log trace i calls port w c t = let at = at_port o log 0 plans w.parts ports i calls port w.fit c t in (at.x, at.fits)
+-- the machine of a port has as many components as the memory
+pub components_here : {plans : List (List Call)} {s : ReplayState} {p : ℕ} {calls : List Call} {port : Port} → IsRunOf plans s → PortAt plans s.ports p calls port → s.sizes.m ≡ port.core.sizes.m
+components_here w here = sym ((part_at w here).fits.sizes ∙ w.lawful.memory.values)
 
 -- the calls of a port are ones that its machine serves
-pub served_here : (plans : List (List Call)) (z : Layout) (o : Opening) (words : List ℕ) (ports : List Port) (log : List Applied) (trace : List Event) (i : ℕ) (calls : List Call) (port : Port) →
-    IsRunOf plans z o words ports log trace → ArePlans z.m plans → slice_get plans i ≡ Some calls → slice_get ports i ≡ Some port → AllByRecursion (IsServed port.core.sizes.m) calls
-served_here plans z o words ports log trace i calls port w served c t =
-    let fits = (port_in plans z o words ports log trace i calls port w c t).1 in
-    subst (λ m. AllByRecursion (IsServed m) calls) (sym (fits.sizes ∙ w.lawful.memory.values))
-    (AllByRecursion-get (λ (cs : List Call). (length cs < 2 ^ 32) × AllByRecursion (IsServed z.m) cs) plans i calls served c).1
-
--- the machine of a port has as many components as the memory
-pub components_here : (plans : List (List Call)) (z : Layout) (o : Opening) (words : List ℕ) (ports : List Port) (log : List Applied) (trace : List Event) (i : ℕ) (calls : List Call) (port : Port) →
-    IsRunOf plans z o words ports log trace → slice_get plans i ≡ Some calls → slice_get ports i ≡ Some port → z.m ≡ port.core.sizes.m
-components_here plans z o words ports log trace i calls port w c t =
-    let fits = (port_in plans z o words ports log trace i calls port w c t).1 in
-    sym (fits.sizes ∙ w.lawful.memory.values)
+pub served_here : {plans : List (List Call)} {s : ReplayState} {p : ℕ} {calls : List Call} {port : Port} → IsRunOf plans s → ArePlans s.sizes.m plans → PortAt plans s.ports p calls port →
+    AllByRecursion (IsServed port.core.sizes.m) calls
+served_here {plans} {s} {p} {calls} w served here =
+    subst (λ m. AllByRecursion (IsServed m) calls) (components_here w here)
+    (AllByRecursion-get (λ (cs : List Call). (length cs < 2 ^ 32) × AllByRecursion (IsServed s.sizes.m) cs) plans p calls served here.plan).1
 
 -- what follows of a result from two that follow of it
 pub on_ok_both : {A E : Type 0} {P Q R : Type 0} (r : Result A E) → (P → Q → R) → OnOk r P → OnOk r Q → OnOk r R
 on_ok_both (Ok a) f p q = f p q
 on_ok_both (Err e) f p q = tt
 
-pub idle_between : (o : Opening) (log : List Applied) (calls : List Call) (p : ℕ) (x : Part) (port : Port) → PortFits o log calls p x port → port.under_way ≡ None → port.core.stage ≡ Idle
-idle_between o log calls p x port w none = let b = between_of o log calls p x port w none in b.idle
+pub idle_between : {o : Opening} {log : List Applied} {calls : List Call} {p : ℕ} {x : Part} {port : Port} → PortFits o log calls p x port → port.under_way ≡ None → port.core.stage ≡ Idle
+idle_between w none = (between_of w none).idle
 
 -- a port that has begun its next call where none was under way has no more left than before
-pub left_ready : (o : Opening) (log : List Applied) (calls : List Call) (p : ℕ) (x : Part) (port new : Port) → AllByRecursion (IsServed port.core.sizes.m) calls → new.core.sizes ≡ port.core.sizes →
-    PortFits o log calls p x new → port.under_way ≡ None → length port.finished.items ≤ length new.finished.items → port_left calls new ≤ port_left calls port
-left_ready o log calls p x port new served sizes w none more =
+pub left_ready : {o : Opening} {log : List Applied} {calls : List Call} {p : ℕ} {x : Part} {new : Port} (port : Port) → AllByRecursion (IsServed port.core.sizes.m) calls →
+    new.core.sizes ≡ port.core.sizes → PortFits o log calls p x new → port.under_way ≡ None → length port.finished.items ≤ length new.finished.items → port_left calls new ≤ port_left calls port
+left_ready {calls} {new} port served sizes w none more =
     left_begun calls port new sizes none more w.few (λ way is.
-    let u = under_way o log calls p x new way w is in
+    let u = under_way w is in
     let call_served = AllByRecursion-get (IsServed port.core.sizes.m) calls (length new.finished.items) u.call served u.next in
     let most = most_of_call port.core.sizes u.call call_served in
     let same : most_steps new.core.sizes u.call ≡ most_steps port.core.sizes u.call = ap (λ (z : Layout). most_steps z u.call) sizes in

@@ -1,13 +1,13 @@
 -- The turns of a replay, and the calls that the ports begin in them.
-use Rattle.partial_replay.proofs.Common.{ℕ, suc, ◌≡◌, ◌+◌, ◌-◌, ◌<◌, ◌≤◌, ◌==◌, ◌++◌, Bool, true, false, cond, List, [], ◌∷◌, length, map, set, replicate, slice_get, Option, Some, None, MatchOption, refl, sym, ◌∙◌, ap, subst, inl, inr, arith, append_assoc, append-nil, length-map, length-replicate, map-append, eqb_tells, Applied, Call, Event, Layout, Port, Run, Moment, moments_from, last_behind, ports_of, events_in, idle_in, lengths_of, lengths_in, HasTurned, StepMade, IsReplayState, IsTurnReady, ChangesPortsOnly, IsSameOpening, IsPortDone, StayDone, StayStopped, StayStoppedBut, StayStoppedWith, GoesOnBy, BeganInTurns, own_turns, BeginsIn, StepsIn, GoesOnIn, moments_behind, TurnMade, StepsMade, TurnsMade, MakeTurns, HasMadeTurns, lengths_so_far, HaveBegun, Memory}
-use Rattle.partial_replay.proofs.PortLaws.{get_set, get_set_other}
+use Rattle.partial_replay.proofs.Common.{ℕ, suc, ◌≡◌, ◌+◌, ◌-◌, ◌<◌, ◌≤◌, ◌==◌, ◌++◌, Bool, true, false, cond, List, [], ◌∷◌, length, map, set, replicate, Option, Some, None, MatchOption, refl, sym, ◌∙◌, ap, subst, inl, inr, arith, append_assoc, append-nil, length-map, length-replicate, map-append, eqb_tells, Call, Event, Layout, Port, Run, Moment, moments_from, last_behind, ports_of, events_in, idle_in, lengths_of, lengths_in, HasTurned, StepMade, IsTurnReady, ChangesPortsOnly, IsSameOpening, IsPortDone, StayDone, StayStopped, StayStoppedBut, StayStoppedWith, GoesOnBy, BeganInTurns, own_turns, BeginsIn, StepsIn, GoesOnIn, moments_behind, TurnMade, StepsMade, TurnsMade, MakeTurns, HasMadeTurns, lengths_so_far, HaveBegun, Memory, state_of, PortAt, IsRunOf, Opening, PlanView, IsBetweenTurns, HasReplayed}
+use Rattle.partial_replay.proofs.PortLaws.{at_set, same_at}
 use Rattle.partial_replay.proofs.PortSteps.{log_long}
-use Rattle.partial_replay.proofs.TurnLaws.{ready_done, by_more, last_turns}
+use Rattle.partial_replay.proofs.TurnLaws.{ready_done, by_more, followed, last_turns}
 use Rattle.partial_replay.proofs.TurnLengths.{ports_at, befores_of, ports_moments, moments-append, behind-append, own_is, own_other, own_more, lengths_push}
 use Rattle.partial_replay.proofs.PortTurns.{turns_idle, turn_steps}
 
 -- how long the history is behind further events
-long_behind : (plans : List (List Call)) (p n : ℕ) (old new : Run) → IsReplayState plans old → IsReplayState plans new → IsSameOpening old new → (g : GoesOnBy n p old new) →
+long_behind : (plans : List (List Call)) (p n : ℕ) (old new : Run) → IsRunOf plans (state_of old) → IsRunOf plans (state_of new) → IsSameOpening old new → (g : GoesOnBy n p old new) →
     length new.memory.history.items ≡ last_behind (length old.memory.history.items) (moments_behind old g.events)
 long_behind plans p n old new w v same g =
     let m = old.memory.sizes.m in
@@ -38,71 +38,49 @@ goes_on_more : (plans : List (List Call)) (p : ℕ) (ls ks : List ℕ) (old mid 
 goes_on_more plans p ls ks old mid new a b q front w = begun_same plans q 0 ((front ++ own_turns q p ls) ++ own_turns q p ks) (front ++ own_turns q p (ls ++ ks)) new.ports.items
     (own_more q p front ls ks) (b q (front ++ own_turns q p ls) (a q front w))
 
+-- a port that has made all its calls, wherever it is found
+done_at : {plans : List (List Call)} {ports : List Port} {p q : ℕ} {calls : List Call} {port : Port} → IsPortDone plans ports p → PortAt plans ports q calls port → q ≡ p →
+    length port.finished.items ≡ length calls
+done_at d at same = let one = same_at d.at at same in ap (λ (u : Port). length u.finished.items) (sym one.1) ∙ d.all ∙ ap length one.0
+
 -- a port comes to its end, and any turns behind it change nothing
 goes_on_idle : (plans : List (List Call)) (p : ℕ) (ls more : List ℕ) (old new : Run) → IsPortDone plans new.ports.items p → GoesOnIn plans p ls old new → GoesOnIn plans p (ls ++ more) old new
-goes_on_idle plans p ls more old new d g q front w calls port c t = elim (eqb_tells q p) [
+goes_on_idle plans p ls more old new d g q front w calls port at = elim (eqb_tells q p) [
   | inl is ↦
-      let one : Some d.calls ≡ Some calls = sym d.plan ∙ ap (slice_get plans) (sym is.1) ∙ c in
-      let two : Some d.port ≡ Some port = sym d.is ∙ ap (slice_get new.ports.items) (sym is.1) ∙ t in
-      let calls_same : d.calls ≡ calls = cc in
-      let port_same : d.port ≡ port = cc in
-      let all : length port.finished.items ≡ length calls = ap (λ (u : Port). length u.finished.items) (sym port_same) ∙ d.all ∙ ap length calls_same in
       subst (λ (l : List ℕ). HasTurned 0 calls l port) (own_more q p front ls more)
       (subst (λ (l : List ℕ). HasTurned 0 calls ((front ++ own_turns q p ls) ++ l) port) (sym (own_is q p more is.1))
-      (turns_idle calls 0 (front ++ own_turns q p ls) more port all (g q front w calls port c t)))
+      (turns_idle calls 0 (front ++ own_turns q p ls) more port (done_at d at is.1) (g q front w calls port at)))
   | inr other ↦
       let none : own_turns q p (ls ++ more) ≡ own_turns q p ls = own_other q p (ls ++ more) other.1 ∙ sym (own_other q p ls other.1) in
-      subst (λ (l : List ℕ). HasTurned 0 calls (front ++ l) port) (sym none) (g q front w calls port c t)
+      subst (λ (l : List ℕ). HasTurned 0 calls (front ++ l) port) (sym none) (g q front w calls port at)
 ]
 
 -- the next calls of a port in its turn
-pub begins_at : (plans : List (List Call)) (p seen : ℕ) (calls : List Call) (port new : Port) (ports : List Port) → slice_get plans p ≡ Some calls → slice_get ports p ≡ Some port →
+pub begins_at : {plans : List (List Call)} {ports : List Port} {p : ℕ} {calls : List Call} {port : Port} (seen : ℕ) (new : Port) → PortAt plans ports p calls port →
     ((lengths : List ℕ) → HasTurned 0 calls lengths port → HasTurned 1 calls (lengths ++ seen ∷ []) new) → BeginsIn plans p seen ports (set ports p new)
-begins_at plans p seen calls port new ports c t keeps q lengths w = (
-  λ other ds u plan is. w ds u plan (sym (get_set_other ports p q new other) ∙ is),
-  λ same ds u plan is.
-      let one : Some ds ≡ Some calls = sym plan ∙ ap (slice_get plans) same ∙ c in
-      let two : Some u ≡ Some new = sym is ∙ ap (slice_get (set ports p new)) same ∙ get_set ports p port new t in
-      let calls_same : calls ≡ ds = cc in
-      let port_same : new ≡ u = cc in
-      subst (λ (l : List Call). HasTurned 1 l (lengths ++ seen ∷ []) u) calls_same
-      (subst (λ (v : Port). HasTurned 1 calls (lengths ++ seen ∷ []) v) port_same (keeps lengths (w calls port (ap (slice_get plans) same ∙ c) (ap (slice_get ports) same ∙ t)))),
+begins_at {calls} {port} seen new at keeps q lengths w = (
+  λ other. at_set new at q (λ ds u. HasTurned 0 ds lengths u) (λ same. absurd (other same)) (λ away. w),
+  λ same. at_set new at q (λ ds u. HasTurned 1 ds (lengths ++ seen ∷ []) u) (λ is here. keeps lengths (w calls port here)) (λ other. absurd (other same)),
 )
 
 -- its step in that turn
-pub steps_at : (plans : List (List Call)) (p : ℕ) (calls : List Call) (words words' : List ℕ) (trace trace' : List Event) (log log' : List Applied) (port new : Port) (ports : List Port) →
-    length port.finished.items < length calls → slice_get plans p ≡ Some calls → slice_get ports p ≡ Some port → StepMade calls words words' trace trace' log log' port new →
-    StepsIn plans p ports (set ports p new)
-steps_at plans p calls words words' trace trace' log log' port new ports less c t m q lengths others own ds u plan is = elim (eqb_tells q p) [
-  | inl same ↦
-      let one : Some ds ≡ Some calls = sym plan ∙ ap (slice_get plans) same.1 ∙ c in
-      let two : Some u ≡ Some new = sym is ∙ ap (slice_get (set ports p new)) same.1 ∙ get_set ports p port new t in
-      let calls_same : calls ≡ ds = cc in
-      let port_same : new ≡ u = cc in
-      subst (λ (l : List Call). HasTurned 0 l lengths u) calls_same
-      (subst (λ (v : Port). HasTurned 0 calls lengths v) port_same
-      (turn_steps calls words words' trace trace' log log' port new lengths less m (own same.1 calls port (ap (slice_get plans) same.1 ∙ c) (ap (slice_get ports) same.1 ∙ t))))
-  | inr other ↦ others other.1 ds u plan (sym (get_set_other ports p q new other.1) ∙ is)
-]
+pub steps_at : {plans : List (List Call)} {ports : List Port} {p : ℕ} {calls : List Call} {old now : Memory} {port : Port} (new : Port) → PortAt plans ports p calls port →
+    length port.finished.items < length calls → StepMade calls old now port new → StepsIn plans p ports (set ports p new)
+steps_at {calls} {port} new at less m q lengths others own = at_set new at q (λ ds u. HasTurned 0 ds lengths u) (λ same here. turn_steps lengths less m (own same calls port here)) others
 
 -- a turn in which a port has made all its calls
 pub turn_done : (plans : List (List Call)) (p : ℕ) (old new : Run) → ChangesPortsOnly old new → BeginsIn plans p (length old.memory.history.items) old.ports.items new.ports.items →
     StayDone plans old new → IsPortDone plans new.ports.items p → StayStoppedBut p old new → TurnMade plans p old false new
 turn_done plans p old new same begins kept done ending = record {
   made = record { events = []; trace = ap (λ (r : Memory). r.trace.items) same.memory ∙ sym (append-nil old.memory.trace.items); ports = refl };
-  begun = λ q front w calls port c t. elim (eqb_tells q p) [
+  begun = λ q front w calls port at. elim (eqb_tells q p) [
     | inl is ↦
-        let one : Some done.calls ≡ Some calls = sym done.plan ∙ ap (slice_get plans) (sym is.1) ∙ c in
-        let two : Some done.port ≡ Some port = sym done.is ∙ ap (slice_get new.ports.items) (sym is.1) ∙ t in
-        let calls_same : done.calls ≡ calls = cc in
-        let port_same : done.port ≡ port = cc in
-        let all : length port.finished.items ≡ length calls = ap (λ (u : Port). length u.finished.items) (sym port_same) ∙ done.all ∙ ap length calls_same in
-        let here = turns_idle calls 1 (front ++ length old.memory.history.items ∷ []) [] port all ((begins q front w).1 is.1 calls port c t) in
+        let here = turns_idle calls 1 (front ++ length old.memory.history.items ∷ []) [] port (done_at done at is.1) ((begins q front w).1 is.1 calls port at) in
         subst (λ (l : List ℕ). HasTurned 0 calls (front ++ l) port) (sym (own_is q p (length old.memory.history.items ∷ []) is.1))
         (subst (λ (l : List ℕ). HasTurned 0 calls l port) (append-nil (front ++ length old.memory.history.items ∷ [])) here)
     | inr other ↦
         subst (λ (l : List ℕ). HasTurned 0 calls (front ++ l) port) (sym (own_other q p (length old.memory.history.items ∷ []) other.1))
-        (subst (λ (l : List ℕ). HasTurned 0 calls l port) (sym (append-nil front)) ((begins q front w).0 other.1 calls port c t))
+        (subst (λ (l : List ℕ). HasTurned 0 calls l port) (sym (append-nil front)) ((begins q front w).0 other.1 calls port at))
   ];
   done = done;
   kept = kept;
@@ -138,7 +116,7 @@ no_steps plans p run = record {
     none b = elim b as (λ c. cond c [] [] ≡ map (λ (k : ℕ). k) []) [ true ↦ refl | false ↦ refl ]
 
 -- one step more
-pub step_more : (plans : List (List Call)) (p n : ℕ) (old mid new : Run) → IsReplayState plans old → IsReplayState plans mid → IsSameOpening old mid → StepsMade plans p n old mid →
+pub step_more : (plans : List (List Call)) (p n : ℕ) (old mid new : Run) → IsRunOf plans (state_of old) → IsRunOf plans (state_of mid) → IsSameOpening old mid → StepsMade plans p n old mid →
     TurnMade plans p mid true new →
     StepsMade plans p (n + 1) old new
 step_more plans p n old mid new w v same s t =
@@ -190,9 +168,8 @@ idle_fewer : (turns : Option ℕ) (n : ℕ) → MatchOption turns (Unit {0}) (λ
 idle_fewer None n w is = let bad : None ≡ Some n = is in cc
 idle_fewer (Some k) n w is = let same : k ≡ n = cc in omega (arith, same, w)
 
-pub turns_end : (plans : List (List Call)) (p n : ℕ) (turns : Option ℕ) (old mid new : Run) → IsReplayState plans old → IsReplayState plans mid → IsSameOpening old mid → StepsMade plans p n old mid →
-    StayStopped old mid → TurnMade plans p mid false new →
-    MatchOption turns (Unit {0}) (λ k. n < k) → TurnsMade plans p turns old new
+pub turns_end : (plans : List (List Call)) (p n : ℕ) (turns : Option ℕ) (old mid new : Run) → IsRunOf plans (state_of old) → IsRunOf plans (state_of mid) → IsSameOpening old mid →
+    StepsMade plans p n old mid → StayStopped old mid → TurnMade plans p mid false new → MatchOption turns (Unit {0}) (λ k. n < k) → TurnsMade plans p turns old new
 turns_end plans p n turns old mid new w v same s ending t fewer =
     let first = length old.memory.history.items in
     let own = moments_behind old (s.made).events in
@@ -222,7 +199,7 @@ turns_end plans p n turns old mid new w v same s ending t fewer =
     }
 
 -- one entry more: the ports have begun their calls in the turns so far
-pub begun_next : (plans : List (List Call)) (es : List (ℕ × Option ℕ)) (p : ℕ) (k : Option ℕ) (old new : Run) → IsReplayState plans old → IsSameOpening old new → HasMadeTurns plans es old →
+begun_next : (plans : List (List Call)) (es : List (ℕ × Option ℕ)) (p : ℕ) (k : Option ℕ) (old new : Run) → IsRunOf plans (state_of old) → IsSameOpening old new → HasMadeTurns plans es old →
     HaveBegun plans es old → TurnsMade plans p k old new → HaveBegun plans (es ++ (p, k) ∷ []) new
 begun_next plans es p k old new w same f begun t q =
     let m = old.memory.sizes.m in
@@ -246,3 +223,13 @@ begun_next plans es p k old new w same f begun t q =
     ap (λ n. lengths_so_far q es old ++ own_turns q p (lengths_of k n own)) before ∙ sym pushed ∙ ap (lengths_in q (es ++ (p, k) ∷ []) left' 0) (sym moments) in
     begun_same plans q 0 (lengths_so_far q es old ++ own_turns q p (lengths_of k (length old.memory.history.items) own)) (lengths_so_far q (es ++ (p, k) ∷ []) new) new.ports.items here
     (t.begun q (lengths_so_far q es old) (begun q))
+
+pub next_turns : {plan : PlanView} {plans : List (List Call)} {es : List (ℕ × Option ℕ)} {old new : Run} (p : ℕ) (k : Option ℕ) → HasReplayed plan plans es old → IsBetweenTurns plans new →
+    IsSameOpening old new → TurnsMade plans p k old new → HasReplayed plan plans (es ++ (p, k) ∷ []) new
+next_turns {plans} {es} {old} {new} p k r between same t = record {
+  between = between;
+  sizes = same.sizes ∙ r.sizes;
+  values = ap (λ (o : Opening). o.values) same.opening ∙ r.values;
+  made = followed plans es p k old new r.made t;
+  begun = begun_next plans es p k old new r.between.replay.state same r.made r.begun t;
+}

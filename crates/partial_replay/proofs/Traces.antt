@@ -1,5 +1,5 @@
 -- What a trace says, event by event.
-use Rattle.partial_replay.proofs.Common.{ℕ, suc, ◌-◌, ◌≡◌, ◌+◌, ◌<◌, ◌==◌, ◌++◌, Bool, true, false, cond, List, [], ◌∷◌, length, map, get_or, take, nat_lt, Option, Some, None, slice_get, refl, sym, ◌∙◌, ap, arith, filter_map, cons_option, filter_map-append, map-append, get_or_from_slice_get, Applied, Opening, IsHistory, initial_stamp, last_entry, stamp_of, option_map_or, word_of, last_entry-found, place_below, AllByRecursion-get, Step, Event, record_value, Agrees, is_won, new_of, event_entry, entry_at, unvalued, Load, Store, Exchange, Add, value_behind_stamp}
+use Rattle.partial_replay.proofs.Common.{ℕ, suc, ◌-◌, ◌≡◌, ◌+◌, ◌<◌, ◌==◌, ◌++◌, Bool, true, false, cond, List, [], ◌∷◌, length, map, get_or, take, nat_lt, Option, Some, None, slice_get, refl, sym, ◌∙◌, ap, arith, filter_map, cons_option, filter_map-append, map-append, get_or_from_slice_get, Applied, Opening, IsHistory, initial_stamp, last_entry, stamp_of, option_map_or, word_of, last_entry-found, place_below, AllByRecursion-get, Step, Event, record_value, Agrees, is_won, new_of, event_entry, entry_at, unvalued, Load, Store, Exchange, Add, value_behind_stamp, Call, answer_of, Memory, Port, StepMade, event_of}
 use Rattle.partial_model.specs.History as history
 
 entry_won : (p w old new v : ℕ) (c b : Bool) → cons_option (cond (cond c b false) (Some (record { port = p; component = w; value = 0; stamp = new })) None) [] ≡ map unvalued
@@ -15,15 +15,18 @@ entry_same m words p (Store w v) a = refl
 entry_same m words p (Add w k) a = refl
 entry_same m words p (Exchange w old new) a = entry_won p w old new (record_value words new) (nat_lt w m) (a == old)
 
-pub entries_push : (m : ℕ) (words : List ℕ) (trace trace' : List Event) (log log' : List Applied) (p : ℕ) (step : Step) (a : ℕ) → filter_map (event_entry m (λ _. 0)) trace ≡ map unvalued log →
-    trace' ≡ trace ++ record { port = p; step = step; answer = a } ∷ [] → log' ≡ log ++ entry_at m words p step a → filter_map (event_entry m (λ _. 0)) trace' ≡ map unvalued log'
-entries_push m words trace trace' log log' p step a same trace_is log_is =
-    ap (filter_map (event_entry m (λ _. 0))) trace_is
-    ∙ filter_map-append (event_entry m (λ _. 0)) trace (record { port = p; step = step; answer = a } ∷ [])
-    ∙ ap (λ (l : List Applied). l ++ cons_option (event_entry m (λ _. 0) (record { port = p; step = step; answer = a })) []) same
-    ∙ ap (λ (l : List Applied). map unvalued log ++ l) (entry_same m words p step a)
-    ∙ sym (map-append unvalued log (entry_at m words p step a))
-    ∙ ap (map unvalued) (sym log_is)
+pub entries_push : {calls : List Call} {old now : Memory} {port new : Port} (m : ℕ) → port.core.sizes.m ≡ m → filter_map (event_entry m (λ _. 0)) old.trace.items ≡ map unvalued old.history.items →
+    StepMade calls old now port new → filter_map (event_entry m (λ _. 0)) now.trace.items ≡ map unvalued now.history.items
+entries_push {old} {now} {port} m is same s =
+    let value = event_entry m (λ _. 0) in
+    let a = answer_of old.words.items s.step in
+    let gained = entry_at m now.words.items port.number s.step a in
+    ap (filter_map value) s.trace_is
+    ∙ filter_map-append value old.trace.items (event_of old port.number s.step ∷ [])
+    ∙ ap (λ (l : List Applied). l ++ cons_option (value (event_of old port.number s.step)) []) same
+    ∙ ap (λ (l : List Applied). map unvalued old.history.items ++ l) (entry_same m now.words.items port.number s.step a)
+    ∙ sym (map-append unvalued old.history.items gained)
+    ∙ ap (map unvalued) (sym (s.log_is ∙ ap (λ n. old.history.items ++ entry_at n now.words.items port.number s.step a) is))
 
 -- an entry with the value that its record has
 abbrev valued : (ℕ → ℕ) → Applied → Applied

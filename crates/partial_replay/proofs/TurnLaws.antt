@@ -1,39 +1,30 @@
 -- The turns of a replay, one behind the other.
-use Rattle.partial_replay.proofs.Common.{ℕ, zero, suc, ◌≡◌, ◌≢◌, ◌+◌, ◌-◌, ◌<◌, ◌≤◌, ◌==◌, ◌++◌, Bool, true, false, cond, List, [], ◌∷◌, length, get_or, map, take, replicate, set, Option, Some, None, slice_get, refl, sym, ◌∙◌, ap, subst, inl, inr, arith, append_assoc, length-append, MatchOption, filter, range_with_len, filter-append, sum_by-cons, sum_by-append, so_many, to_its_end, made_in, ports_in, turns_by, turns_of, left_behind, PlanView, AreAllMade, EndInStep, HaveMade, Called, take_all, append-nil, map_push, map-append, length-replicate, replicate-append-replicate, ne_eqb, cases_lt, eqb_tells, Call, Event, answer_of, Applied, StepMade, Port, Run, ports_of, events_in, IsTurnReady, IsPortDone, GoesOnBy, TurnsMade, StopAtSteps, HasTurns, MakeTurns, HasMadeTurns}
-use Rattle.partial_replay.proofs.PortLaws.{get_set, get_set_other, take_next, get_is, same_eqb}
+use Rattle.partial_replay.proofs.Common.{ℕ, zero, suc, ◌≡◌, ◌≢◌, ◌+◌, ◌-◌, ◌<◌, ◌≤◌, ◌==◌, ◌++◌, Bool, true, false, cond, List, [], ◌∷◌, length, get_or, map, take, replicate, set, Option, Some, None, slice_get, refl, sym, ◌∙◌, ap, subst, inl, inr, arith, append_assoc, length-append, MatchOption, filter, range_with_len, filter-append, sum_by-cons, sum_by-append, so_many, to_its_end, made_in, ports_in, turns_by, turns_of, left_behind, PlanView, AreAllMade, EndInStep, HaveMade, Called, take_all, append-nil, map_push, map-append, length-replicate, replicate-append-replicate, ne_eqb, cases_lt, eqb_tells, Call, Event, StepMade, Port, Run, ports_of, events_in, IsTurnReady, IsPortDone, GoesOnBy, TurnsMade, StopAtSteps, HasTurns, MakeTurns, HasMadeTurns, some_same, Memory, event_of, PortAt}
+use Rattle.partial_replay.proofs.PortLaws.{get_set, get_set_other, same_at, take_next, get_is, same_eqb}
 
 -- a port in another state: the ports that have made all their calls have still made them where this one has
-pub done_set : (plans : List (List Call)) (ports : List Port) (i : ℕ) (calls : List Call) (port new : Port) → slice_get plans i ≡ Some calls → slice_get ports i ≡ Some port →
+pub done_set : {plans : List (List Call)} {ports : List Port} {i : ℕ} {calls : List Call} {port : Port} (new : Port) → PortAt plans ports i calls port →
     (port.under_way ≡ None → length port.finished.items ≡ length calls → (new.under_way ≡ None) × (length new.finished.items ≡ length calls)) → (q : ℕ) → IsPortDone plans ports q →
     IsPortDone plans (set ports i new) q
-done_set plans ports i calls port new c t keeps q d = elim (eqb_tells q i) [
+done_set {plans} {ports} {i} {calls} {port} new at keeps q d = elim (eqb_tells q i) [
   | inl same ↦
-      let plan : Some d.calls ≡ Some calls = sym d.plan ∙ ap (slice_get plans) same.1 ∙ c in
-      let port_is : Some d.port ≡ Some port = sym d.is ∙ ap (slice_get ports) same.1 ∙ t in
-      let calls_same : d.calls ≡ calls = cc in
-      let port_same : d.port ≡ port = cc in
-      let kept = keeps (ap (λ (u : Port). u.under_way) (sym port_same) ∙ d.idle) (ap (λ (u : Port). length u.finished.items) (sym port_same) ∙ d.all ∙ ap length calls_same) in
-      record { calls = calls; port = new; plan = ap (slice_get plans) same.1 ∙ c; is = ap (slice_get (set ports i new)) same.1 ∙ get_set ports i port new t; idle = kept.0; all = kept.1 }
-  | inr other ↦ record { calls = d.calls; port = d.port; plan = d.plan; is = get_set_other ports i q new other.1 ∙ d.is; idle = d.idle; all = d.all }
+      let one = same_at at d.at same.1 in
+      let kept = keeps (ap (λ (u : Port). u.under_way) one.1 ∙ d.idle) (ap (λ (u : Port). length u.finished.items) one.1 ∙ d.all ∙ ap length (sym one.0)) in
+      let here : PortAt plans (set ports i new) i calls new = record { plan = at.plan; is = get_set ports i port new at.is } in
+      record { calls = calls; port = new; at = subst (λ n. PortAt plans (set ports i new) n calls new) (sym same.1) here; idle = kept.0; all = kept.1 }
+  | inr other ↦ record { calls = d.calls; port = d.port; at = record { plan = d.at.plan; is = get_set_other ports i q new other.1 ∙ d.at.is }; idle = d.idle; all = d.all }
 ]
 
 -- a port whose call is under way has not made all its calls
 pub ready_done : (plans : List (List Call)) (p : ℕ) (run : Run) → IsTurnReady p run → IsPortDone plans run.ports.items p → ⊥
-ready_done plans p run ready d =
-    let same : Some (ready.0) ≡ Some d.port = sym ready.2 ∙ d.is in
-    let is : ready.0 ≡ d.port = cc in
-    let way : Some (ready.1) ≡ None = sym ready.3 ∙ ap (λ (t : Port). t.under_way) is ∙ d.idle in
-    cc
+ready_done plans p run ready d = let way : Some ready.way ≡ None = sym ready.under ∙ ap (λ (t : Port). t.under_way) (some_same (sym ready.is ∙ d.at.is)) ∙ d.idle in cc
 
 -- a step is made by a port whose call is under way, and its event is the port's
-pub stepped_done : (calls : List Call) (words words' : List ℕ) (trace trace' : List Event) (log log' : List Applied) (port new : Port) → port.under_way ≡ None →
-    StepMade calls words words' trace trace' log log' port new → ⊥
-stepped_done calls words words' trace trace' log log' port new none m = let way : Some (m.way) ≡ None = sym m.was ∙ none in cc
+pub stepped_done : {calls : List Call} {old now : Memory} {port new : Port} → port.under_way ≡ None → StepMade calls old now port new → ⊥
+stepped_done none m = let way : Some (m.way) ≡ None = sym m.was ∙ none in cc
 
-pub by_step : (calls : List Call) (words words' : List ℕ) (trace trace' : List Event) (log log' : List Applied) (port new : Port) (p : ℕ) →
-    port.number ≡ p → StepMade calls words words' trace trace' log log' port new → (es : List Event) × (trace' ≡ trace ++ es) × (ports_of es ≡ replicate 1 p)
-by_step calls words words' trace trace' log log' port new p number m =
-    (record { port = port.number; step = m.step; answer = answer_of words (m.step) } ∷ [], m.trace_is, ap (λ q. q ∷ []) number)
+pub by_step : {calls : List Call} {old new : Run} {port next : Port} {p : ℕ} → port.number ≡ p → StepMade calls old.memory new.memory port next → GoesOnBy 1 p old new
+by_step {old} {port} number m = record { events = event_of old.memory port.number m.step ∷ []; trace = m.trace_is; ports = ap (λ q. q ∷ []) number }
 
 abbrev pub by_more : (p n k : ℕ) (old mid new : Run) → GoesOnBy n p old mid → GoesOnBy k p mid new → GoesOnBy (n + k) p old new
 by_more p n k old mid new a b = record {

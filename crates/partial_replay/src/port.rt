@@ -177,13 +177,11 @@ impl Port {
         calls: &[Call],
         memory: &mut Memory,
     ) -> Result<(), AllocError>
-        requires may { MayStep calls.now memory.old.words.items memory.old.history.items self.old }
+        requires may { MayStep calls.now memory.old self.old }
         requires sizes { memory.old.sizes.m ≡ self.old.core.sizes.m }
         requires room { memory.old.places ≡ self.old.core.sizes.m }
         requires numbers { length calls.now < 2 ^ 32 }
-        ensures made { OnOk result (StepMade calls.now memory.old.words.items memory.new.words.items
-            memory.old.trace.items memory.new.trace.items
-            memory.old.history.items memory.new.history.items self.old self.new) }
+        ensures made { OnOk result (StepMade calls.now memory.old memory.new self.old self.new) }
         ensures same { OnOk result ((memory.new.sizes ≡ memory.old.sizes) × (memory.new.places ≡ memory.old.places)) }
     {
         let way = self.under_way.unwrap();

@@ -1,18 +1,18 @@
 -- The steps by which a block is claimed and written, and by which a list is published.
-use Rattle.partial_state.proofs.Common.{ℕ, ◌≡◌, ◌≢◌, ◌+◌, ◌*◌, ◌<◌, ◌≤◌, ◌==◌, ◌++◌, ◌^◌, ◌%◌, Bool, true, false, cond, List, ◌∷◌, length, get_or, set, Some, None, refl, sym, ◌∙◌, ap, subst, inl, inr, arith, get_or-set_other, get_or-set_same, length-set, cases_lt, Applied, Opening, Layout, slot_counter, list_head, pool_counter, list_counter, slot_word, list_base, list_end, pool_end, total, length-pairs, Block, AreApart, IsApartFrom, IsPublishedList, IsHead, Own, Holding, Space, space_begin, end_of, counter_of, block_of, unpublished, blocks_in, other_holdings, EachTwo, pool_marks, list_marks, Pool, Lists, LawfulWords, IsOwn, IsTied, IsDue, IsKept, ClaimsAreKept, StoresAreKept, PublishingsAreKept, greatest_record, greatest_list, list_block}
+use Rattle.partial_state.proofs.Common.{ℕ, ◌≡◌, ◌≢◌, ◌+◌, ◌*◌, ◌<◌, ◌≤◌, ◌==◌, ◌++◌, ◌^◌, ◌%◌, Bool, true, false, cond, List, ◌∷◌, length, get_or, set, Some, None, refl, sym, ◌∙◌, ap, subst, inl, inr, arith, get_or-set_other, get_or-set_same, length-set, cases_lt, Applied, Opening, Layout, slot_counter, list_head, pool_counter, list_counter, slot_word, list_base, pool_end, total, length-pairs, Block, AreApart, IsApartFrom, IsPublishedList, IsHead, Own, Holding, Space, space_begin, end_of, counter_of, block_of, unpublished, blocks_in, other_holdings, EachTwo, Pool, Lists, LawfulWords, IsOwn, IsTied, IsDue, IsKept, ClaimsAreKept, StoresAreKept, PublishingsAreKept, list_block, Counted, ListWords, PoolWords, Slots, counter, marked_ports}
 use Rattle.partial_state.proofs.ListLemmas.{all_at, all_weaker, two_take, two_put}
 use Rattle.partial_state.proofs.Frames.{IsClaimedBlock, word_at, apart_turns, head_moves}
 use Rattle.partial_state.proofs.Claimed.{unpublished_two, all_claimed}
-use Rattle.partial_state.proofs.HoldingLemmas.{own_far, if_some_at, none_here}
+use Rattle.partial_state.proofs.HoldingLemmas.{own_far, if_some_at, none_here, marks_kept}
 use Rattle.partial_state.proofs.Blocks.{unpublished_is, announced_same, own_added, blocks_same, own_block_added}
 use Rattle.partial_state.proofs.Rebuild.{Moves, frame_of}
-use Rattle.partial_state.proofs.NoNewEntry.{calm, pool_stays, slots_stay, lists_stay, fits_word, head_stays}
+use Rattle.partial_state.proofs.NoNewEntry.{calm, fits_word, head_stays, high_stays, marked_stays, counters_stay, counters_same}
 use Rattle.partial_state.proofs.MarkLaws.{block_given_up}
 
 module _ (z : Layout) (o : Opening) (words : List ℕ) (before : List Holding) (h : Holding) (after : List Holding) (log : List Applied) (w : LawfulWords z o words (before ++ h ∷ after) log) where
   -- a block from the counter on is apart from each that is claimed
   fresh_apart : (s : Space) (n : ℕ) → get_or words (counter_of z s) 0 + n ≤ end_of z s → (b : Block) → IsClaimedBlock z words b → AreApart b (record { at = get_or words (counter_of z s) 0; size = n })
-  fresh_apart Pool n room b (inl k) = let low = w.pool_low in let a = k.0 in inl (omega (arith, low, a))
+  fresh_apart Pool n room b (inl k) = let low = (w.counters PoolWords).low in let a = k.0 in inl (omega (arith, low, a))
   fresh_apart Pool n room b (inr k) = inl k.1
   fresh_apart Lists n room b (inl k) = inl k.1
   fresh_apart Lists n room b (inr k) = let a = k.0 in inr (omega (arith, room, a))
@@ -35,8 +35,8 @@ module _ (z : Layout) (o : Opening) (words : List ℕ) (before : List Holding) (
     end_high Lists = omega arith
 
     start_low : (s : Space) → space_begin z s ≤ get_or words (counter_of z s) 0
-    start_low Pool = w.pool_low
-    start_low Lists = w.lists_low
+    start_low Pool = (w.counters PoolWords).low
+    start_low Lists = (w.counters ListWords).low
 
     now : get_or claimed (counter_of z space) 0 ≡ get_or words (counter_of z space) 0 + length block
     unfolding claimed
@@ -52,14 +52,16 @@ module _ (z : Layout) (o : Opening) (words : List ℕ) (before : List Holding) (
     unfolding claimed
     other k differs = get_or-set_other words (counter_of z space) k ((get_or words (counter_of z space) 0 + length block) % 2 ^ 64) 0 differs
 
-    -- the counter of a space is where it was, or behind the block
-    counter_now : (s t : Space) → (get_or claimed (counter_of z t) 0 ≡ get_or words (counter_of z t) 0 + length block) → ((k : ℕ) → k ≢ counter_of z t → get_or claimed k 0 ≡ get_or words k 0) →
-        get_or words (counter_of z t) 0 + length block ≤ end_of z t → (get_or words (counter_of z s) 0 ≤ get_or claimed (counter_of z s) 0) ×
-        ((n : ℕ) → get_or words (counter_of z s) 0 ≤ end_of z s + n → get_or claimed (counter_of z s) 0 ≤ end_of z s + n)
-    counter_now Pool Pool now other room = (omega (arith, now), λ n high. omega (arith, now, room))
-    counter_now Lists Lists now other room = (omega (arith, now), λ n high. omega (arith, now, room))
-    counter_now Pool Lists now other room = let same = other (pool_counter z) (λ e. omega (arith, e)) in (omega (arith, same), λ n high. omega (arith, same, high))
-    counter_now Lists Pool now other room = let same = other (list_counter z) (λ e. omega (arith, e)) in (omega (arith, same), λ n high. omega (arith, same, high))
+    -- a counter is where it was, or behind the block
+    counter_now : (c : Counted) (s : Space) → (get_or claimed (counter_of z s) 0 ≡ get_or words (counter_of z s) 0 + length block) → ((k : ℕ) → k ≢ counter_of z s → get_or claimed k 0 ≡ get_or words k 0) →
+        get_or words (counter_of z s) 0 + length block ≤ end_of z s → (get_or words (counter z c).word 0 ≤ get_or claimed (counter z c).word 0) ×
+        ((n : ℕ) → get_or words (counter z c).word 0 ≤ (counter z c).end + n → get_or claimed (counter z c).word 0 ≤ (counter z c).end + n)
+    counter_now PoolWords Pool now other room = (omega (arith, now), λ n high. omega (arith, now, room))
+    counter_now ListWords Lists now other room = (omega (arith, now), λ n high. omega (arith, now, room))
+    counter_now PoolWords Lists now other room = let same = other (pool_counter z) (λ e. omega (arith, e)) in (omega (arith, same), λ n high. omega (arith, same, high))
+    counter_now ListWords Pool now other room = let same = other (list_counter z) (λ e. omega (arith, e)) in (omega (arith, same), λ n high. omega (arith, same, high))
+    counter_now Slots Pool now other room = let same = other (slot_counter z) (λ e. omega (arith, e)) in (omega (arith, same), λ n high. omega (arith, same, high))
+    counter_now Slots Lists now other room = let same = other (slot_counter z) (λ e. omega (arith, e)) in (omega (arith, same), λ n high. omega (arith, same, high))
 
     pub claim_is_kept : IsKept z o words before h after log (set words (counter_of z space) ((get_or words (counter_of z space) 0 + length block) % 2 ^ 64))
         (record h { own = Some (record { space = space; at = get_or words (counter_of z space) 0; words = block; stored = 0 }) }) log
@@ -69,17 +71,13 @@ module _ (z : Layout) (o : Opening) (words : List ℕ) (before : List Holding) (
         let b : Own = record { space = space; at = get_or words (counter_of z space) 0; words = block; stored = 0 } in
         let most = counter_high space in
         let least = counter_low space in
-        let pool = counter_now Pool space now other room in
-        let lists = counter_now Lists space now other room in
         let slots : get_or claimed (slot_counter z) 0 ≡ get_or words (slot_counter z) 0 = other (slot_counter z) (λ e. omega (arith, e, least)) in
         let slot_words : (l : ℕ) → l < z.slots → get_or claimed (slot_word z l) 0 ≡ get_or words (slot_word z l) 0 = λ l inside. other (slot_word z l) (λ e. omega (arith, e, most)) in
         let far : (k : ℕ) → list_base z ≤ k → get_or claimed k 0 ≡ get_or words k 0 = λ k above. other k (λ e. omega (arith, above, e, most)) in
         let m : Moves z words claimed h h' = record {
           port = refl;
           count = length-set words (counter_of z space) ((get_or words (counter_of z space) 0 + length block) % 2 ^ 64);
-          pool = pool.0;
-          lists = lists.0;
-          slots = omega (arith, slots);
+          rises = λ c. (counter_now c space now other room).0;
           same = λ k above free. far k above;
           apart = λ x taken free. fresh_apart space (length block) room x taken;
           slot = λ l inside free. slot_words l inside;
@@ -94,9 +92,7 @@ module _ (z : Layout) (o : Opening) (words : List ℕ) (before : List Holding) (
           components = λ j below. other j (λ e. omega (arith, below, e, least));
           tied = record {
             own = record { above = start_low space; within = room; below = omega (arith, now); few = omega arith; stands = λ i stored. absurd (omega (arith, stored)) };
-            pool_marked = λ t. let old = tied.pool_marked t in let more = pool.0 in omega (arith, old, more);
-            slots_marked = λ t. let old = tied.slots_marked t in omega (arith, old, slots);
-            lists_marked = λ t. let old = tied.lists_marked t in let more = lists.0 in omega (arith, old, more);
+            marked = marked_stays z words claimed before h h' after (marks_kept h h' refl refl refl) m.rises tied.marked;
           };
           apart = two_put AreApart apart_turns (block_of b) (blocks_in z words (before ++ h ∷ after) log) (blocks_in z words (before ++ h' ∷ after) log) added w.apart free;
           due = none_here (IsDue z o claimed h' (other_holdings h'.port (before ++ h' ∷ after)) log) h.due idle;
@@ -104,10 +100,8 @@ module _ (z : Layout) (o : Opening) (words : List ℕ) (before : List Holding) (
           slot_words = slot_words;
           counts = λ l below inside. omega (arith, below, slots);
           head = head_stays z o words claimed before h h' after log w m (other (list_head z) (λ e. omega (arith, e, least)));
-          pool_high = pool_stays before h h' after (get_or claimed (pool_counter z) 0) (pool_end z) (greatest_record z) refl
-              (pool.1 (greatest_record z * pool_marks (before ++ h ∷ after)) w.pool_high);
-          slots_high = slots_stay before h h' after (get_or claimed (slot_counter z) 0) z.slots refl (let high = w.slots_high in omega (arith, slots, high));
-          lists_high = lists_stay before h h' after (get_or claimed (list_counter z) 0) (list_end z) (greatest_list z) refl (lists.1 (greatest_list z * list_marks (before ++ h ∷ after)) w.lists_high);
+          counters = λ c. high_stays z words claimed before h h' after c (marks_kept h h' refl refl refl c)
+              ((counter_now c space now other room).1 ((counter z c).greatest * marked_ports c (before ++ h ∷ after)) (w.counters c).high);
         })
 
 pub claims_are_kept : ClaimsAreKept
@@ -147,13 +141,12 @@ stores_are_kept z o words before h after log b w is idle more =
     let pool = low (pool_counter z) (omega arith) in
     let lists = low (list_counter z) (omega arith) in
     let slots = low (slot_counter z) (omega arith) in
+    let counts = counters_same z words words' pool slots lists in
     let slot_words : (l : ℕ) → l < z.slots → get_or words' (slot_word z l) 0 ≡ get_or words (slot_word z l) 0 = λ l room. low (slot_word z l) (omega (arith, room)) in
     let m : Moves z words words' h h' = record {
       port = refl;
       count = length-set words n v;
-      pool = omega (arith, pool);
-      lists = omega (arith, lists);
-      slots = omega (arith, slots);
+      rises = λ c. let now = counts c in omega (arith, now);
       same = λ k far free. other k (not_inside k b.at b.stored (length b.words) more (if_some_at (λ c. AreApart (word_at k) (block_of c)) h.own b is free));
       apart = λ x claimed free. if_some_at (λ c. AreApart x (block_of c)) h.own b is free;
       slot = λ l room free. slot_words l room;
@@ -176,9 +169,7 @@ stores_are_kept z o words before h after log b w is idle more =
                 ap (λ t. get_or b.words t 0) (sym last)
           ];
         };
-        pool_marked = λ t. let old = tied.pool_marked t in omega (arith, old, pool);
-        slots_marked = λ t. let old = tied.slots_marked t in omega (arith, old, slots);
-        lists_marked = λ t. let old = tied.lists_marked t in omega (arith, old, lists);
+        marked = marked_stays z words words' before h h' after (marks_kept h h' refl refl refl) m.rises tied.marked;
       };
       apart = subst (EachTwo AreApart) (sym (blocks_same z words (before ++ h ∷ after) (before ++ h' ∷ after) log (announced_same before h h' after refl)
           (unpublished_is before h' after (Some b') refl ∙ sym (unpublished_is before h after (Some b) is)))) w.apart;
@@ -187,9 +178,7 @@ stores_are_kept z o words before h after log b w is idle more =
       slot_words = slot_words;
       counts = λ l inside room. omega (arith, inside, slots);
       head = head_stays z o words words' before h h' after log w m (low (list_head z) (omega arith));
-      pool_high = pool_stays before h h' after (get_or words' (pool_counter z) 0) (pool_end z) (greatest_record z) refl (let high = w.pool_high in omega (arith, pool, high));
-      slots_high = slots_stay before h h' after (get_or words' (slot_counter z) 0) z.slots refl (let high = w.slots_high in omega (arith, slots, high));
-      lists_high = lists_stay before h h' after (get_or words' (list_counter z) 0) (list_end z) (greatest_list z) refl (let high = w.lists_high in omega (arith, lists, high));
+      counters = counters_stay z words words' before h h' after (marks_kept h h' refl refl refl) counts w.counters;
     })
 
 -- a block that is published is apart from all that aren't
@@ -214,14 +203,13 @@ publishings_are_kept z o words before h after log old at list w idle is normal h
     let pool : get_or words' (pool_counter z) 0 ≡ get_or words (pool_counter z) 0 = other (pool_counter z) (λ e. omega (arith, e)) in
     let lists : get_or words' (list_counter z) 0 ≡ get_or words (list_counter z) 0 = other (list_counter z) (λ e. omega (arith, e)) in
     let slots : get_or words' (slot_counter z) 0 ≡ get_or words (slot_counter z) 0 = other (slot_counter z) (λ e. omega (arith, e)) in
+    let counts = counters_same z words words' pool slots lists in
     let slot_words : (l : ℕ) → l < z.slots → get_or words' (slot_word z l) 0 ≡ get_or words (slot_word z l) 0 = λ l room. other (slot_word z l) (λ e. omega (arith, e)) in
     let far : (k : ℕ) → list_base z ≤ k → get_or words' k 0 ≡ get_or words k 0 = λ k above. other k (λ e. omega (arith, above, e)) in
     let m : Moves z words words' h h' = record {
       port = refl;
       count = length-set words n v;
-      pool = omega (arith, pool);
-      lists = omega (arith, lists);
-      slots = omega (arith, slots);
+      rises = λ c. let now = counts c in omega (arith, now);
       same = λ k above free. far k above;
       apart = λ x claimed free. tt;
       slot = λ l room free. slot_words l room;
@@ -251,9 +239,7 @@ publishings_are_kept z o words before h after log old at list w idle is normal h
       components = λ j inside. other j (λ e. omega (arith, inside, e));
       tied = record {
         own = tt;
-        pool_marked = λ t. let old = tied.pool_marked t in omega (arith, old, pool);
-        slots_marked = λ t. let old = tied.slots_marked t in omega (arith, old, slots);
-        lists_marked = λ t. let old = tied.lists_marked t in omega (arith, old, lists);
+        marked = marked_stays z words words' before h h' after (marks_kept h h' refl refl refl) m.rises tied.marked;
       };
       apart = block_given_up z words before h h' after log h.own refl refl refl w.apart;
       due = none_here (IsDue z o words' h' (other_holdings h'.port (before ++ h' ∷ after)) log) h.due idle;
@@ -262,9 +248,7 @@ publishings_are_kept z o words before h after log old at list w idle is normal h
       counts = λ l inside room. omega (arith, inside, slots);
       head = subst (IsHead z words' (unpublished (before ++ h' ∷ after))) (sym now)
           (either z words' (unpublished (before ++ h' ∷ after)) (get_or words n 0 == old) at (get_or words n 0) (inr (list, published)) head);
-      pool_high = pool_stays before h h' after (get_or words' (pool_counter z) 0) (pool_end z) (greatest_record z) refl (let high = w.pool_high in omega (arith, pool, high));
-      slots_high = slots_stay before h h' after (get_or words' (slot_counter z) 0) z.slots refl (let high = w.slots_high in omega (arith, slots, high));
-      lists_high = lists_stay before h h' after (get_or words' (list_counter z) 0) (list_end z) (greatest_list z) refl (let high = w.lists_high in omega (arith, lists, high));
+      counters = counters_stay z words words' before h h' after (marks_kept h h' refl refl refl) counts w.counters;
     })
   where
     either : (z : Layout) (words : List ℕ) (us : List Block) (t : Bool) (x y : ℕ) → IsHead z words us x → IsHead z words us y → IsHead z words us (cond t x y)

@@ -1,5 +1,5 @@
 -- The blocks of lawful words: all their words are claimed, and those that are published are apart from the others.
-use Rattle.partial_state.proofs.Common.{ℕ, ◌≡◌, ◌+◌, ◌<◌, ◌≤◌, ◌==◌, ◌++◌, Bool, true, false, cond, List, [], ◌∷◌, length, map, get_or, Option, Some, None, IfSome, MatchOption, slice_get, refl, ◌∙◌, ap, subst, inl, inr, arith, AllByRecursion, cons_option, option_map, eqb-true, Applied, Opening, Layout, pool_counter, slot_word, pool_base, view_of, view_len, length-pairs, Block, AreApart, JoinedAnnouncement, HasPairs, IsAnnounced, IsApartFrom, ClaimedSlot, Holding, Space, space_begin, end_of, counter_of, block_of, block_at, announcements, unpublished, blocks_in, joined_in, EachTwo, Pool, Lists, LawfulWords, IsOwn, IsTied, IsClaim, IsEntry, IsPublished, AllByRecursion-get, all_where, own_view, plain_record_size, full_record_size, initial_words}
+use Rattle.partial_state.proofs.Common.{ℕ, ◌≡◌, ◌+◌, ◌<◌, ◌≤◌, ◌==◌, ◌++◌, Bool, true, false, cond, List, [], ◌∷◌, length, map, get_or, Option, Some, None, IfSome, MatchOption, slice_get, refl, ◌∙◌, ap, subst, inl, inr, arith, AllByRecursion, cons_option, option_map, eqb-true, Applied, Opening, Layout, pool_counter, slot_word, pool_base, view_of, view_len, length-pairs, Block, AreApart, JoinedAnnouncement, HasPairs, IsAnnounced, IsApartFrom, ClaimedSlot, Holding, Space, space_begin, end_of, counter_of, block_of, block_at, announcements, unpublished, blocks_in, joined_in, EachTwo, Pool, Lists, LawfulWords, IsOwn, IsTied, IsClaim, IsEntry, IsPublished, AllByRecursion-get, all_where, own_view, plain_record_size, full_record_size, initial_words, PoolWords}
 use Rattle.partial_state.proofs.ListLemmas.{all_append, all_back, all_map, all_unmap, all_weaker, two_back, two_across}
 use Rattle.partial_state.proofs.Frames.{IsClaimedBlock, announcement_claimed, block_published}
 use Rattle.partial_state.proofs.HoldingLemmas.{if_some, if_all, all_unpublished}
@@ -92,7 +92,7 @@ module _ (z : Layout) (o : Opening) (words : List ℕ) (hs : List Holding) (log 
 
   pub all_claimed : AllByRecursion (IsClaimedBlock z words) (blocks_in z words hs log)
   all_claimed = (
-    inr (omega arith, w.pool_low),
+    inr (omega arith, (w.counters PoolWords).low),
     all_append (IsClaimedBlock z words) (map (λ e. block_at words e.stamp) log) (announcements hs ++ unpublished hs)
         (all_map (IsClaimedBlock z words) (λ (e : Applied). block_at words e.stamp) log (all_where (λ (e : Applied). IsClaimedBlock z words (block_at words e.stamp)) log entry_claimed))
         (all_append (IsClaimedBlock z words) (announcements hs) (unpublished hs) announcements_claimed unpublished_claimed),
@@ -103,5 +103,5 @@ module _ (z : Layout) (o : Opening) (words : List ℕ) (hs : List Holding) (log 
   entry_published k e n s below = block_published z words (unpublished hs) (block_at words e.stamp) (e.stamp + n) (entry_claimed k e s) (entry_free k e s) (omega arith) (omega (arith, below))
 
   pub initial_published : (n : ℕ) → n < initial_words z → IsPublished z words (unpublished hs) (pool_base z + n)
-  initial_published n below = block_published z words (unpublished hs) (record { at = pool_base z; size = initial_words z }) (pool_base z + n) (inr (omega arith, w.pool_low)) initial_free
+  initial_published n below = block_published z words (unpublished hs) (record { at = pool_base z; size = initial_words z }) (pool_base z + n) (inr (omega arith, (w.counters PoolWords).low)) initial_free
       (omega arith) (omega (arith, below))

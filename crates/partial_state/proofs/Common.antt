@@ -18,9 +18,10 @@ pub use Rattle.partial_words.specs.Record.{view_of, view_len, view_word, prev_of
 pub use Rattle.partial_words.specs.VacatedList.{list_block}
 pub use Rattle.partial_words.proofs.ChainLemmas.{chain_all, chain_cons, links_from-push}
 pub use Rattle.partial_words.proofs.RecordLemmas.{length-pairs}
-pub use Rattle.partial_state.specs.Effects.{IsKept, ClaimsAreKept, StoresAreKept, PublishingsAreKept, LoadsAreTrue, DuesAreKept, DropsAreKept, PoolRefusalsAreKept, ListRefusalsAreKept, SlotRefusalsAreKept, idle_holdings, OpeningIsLawful, SlotClaimsAreKept, JoinsAreKept, LeavesAreKept, WinsAreKept}
-pub use Rattle.partial_state.specs.Holdings.{Own, Holding, Space, space_begin, end_of, counter_of, block_of, unpublished, blocks_in, other_holdings, EachTwo, pool_marks, list_marks, block_at, announcements, joined_in, ClaimedSlot, Due, IfJoined, HaveOtherPorts, HaveOtherSlots, slot_marks}
+pub use Rattle.partial_state.specs.Effects.{IsKept, ClaimsAreKept, StoresAreKept, PublishingsAreKept, LoadsAreTrue, DuesAreKept, DropsAreKept, RefusalsAreKept, idle_holdings, OpeningIsLawful, SlotClaimsAreKept, JoinsAreKept, LeavesAreKept, WinsAreKept}
+pub use Rattle.partial_state.specs.Holdings.{Own, Holding, Space, space_begin, end_of, counter_of, block_of, unpublished, blocks_in, other_holdings, EachTwo, Counted, counter, is_marked, marked_for, marked_ports, block_at, announcements, joined_in, ClaimedSlot, Due, IfJoined, HaveOtherPorts, HaveOtherSlots}
+pub use Rattle.partial_state.specs.Holdings.Counted.{PoolWords, Slots, ListWords}
 pub use Rattle.partial_state.specs.Holdings.Space.{Pool, Lists}
-pub use Rattle.partial_state.specs.LawfulWords.{LawfulWords, IsOwn, IsTied, IsDue, IsClaim, IsEntry, IsClaimedIn, CoversAll}
+pub use Rattle.partial_state.specs.LawfulWords.{LawfulWords, IsCounted, IsOwn, IsTied, IsDue, IsClaim, IsEntry, IsClaimedIn, CoversAll}
 pub use Rattle.partial_state.specs.Loads.{IsPublished, KeptAnswer, IsLoaded, IsSlotAnswer}
 pub use Rattle.partial_state.specs.Views.{Block, AreApart, IsApartFrom, IsPublishedList, IsHead, JoinedAnnouncement, HasPairs, IsAnnounced, HasFreshView, IsWithin, Covers, IsViewOf, IsView, IsBegunSince, ViewNames}

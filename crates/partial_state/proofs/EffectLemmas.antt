@@ -1,5 +1,5 @@
 -- What a step changes, and that lawful words stay lawful by it and what was loaded true.
-use Rattle.partial_state.proofs.Common.{ℕ, ◌≡◌, ◌≢◌, ◌+◌, ◌*◌, ◌<◌, ◌≤◌, ◌⊎◌, ◌++◌, List, [], ◌∷◌, length, get_or, Option, Some, None, IfSome, IsSomeAnd, MatchOption, slice_get, refl, sym, ◌∙◌, ap, subst, inl, inr, arith, AllByRecursion, ne_eqb, cases_lt, Applied, Opening, IsHistory, stamp_of, place_below, Layout, slot_counter, list_head, pool_counter, list_counter, slot_word, list_end, pool_end, initial_record, view_word, prev_of, record_value, view_of, Agrees, Block, AreApart, JoinedAnnouncement, HasFreshView, IsWithin, Covers, IsAnnounced, IsHead, ClaimedSlot, Own, Due, Holding, block_of, block_at, unpublished, blocks_in, other_holdings, IfJoined, joined_in, EachTwo, HaveOtherPorts, HaveOtherSlots, pool_marks, slot_marks, list_marks, Pool, LawfulWords, IsOwn, IsTied, IsClaimedIn, IsClaim, CoversAll, IsDue, IsEntry, KeptAnswer, IsLoaded, IsKept, AllByRecursion-get, all_where, greatest_record, greatest_list, prev_word, value_word}
+use Rattle.partial_state.proofs.Common.{ℕ, ◌≡◌, ◌≢◌, ◌+◌, ◌*◌, ◌<◌, ◌≤◌, ◌⊎◌, ◌++◌, List, [], ◌∷◌, length, get_or, Option, Some, None, IfSome, IsSomeAnd, MatchOption, slice_get, refl, sym, ◌∙◌, ap, subst, inl, inr, arith, AllByRecursion, ne_eqb, cases_lt, Applied, Opening, IsHistory, stamp_of, place_below, Layout, slot_counter, list_head, slot_word, initial_record, view_word, prev_of, record_value, view_of, Agrees, Block, AreApart, JoinedAnnouncement, HasFreshView, IsWithin, Covers, IsAnnounced, IsHead, ClaimedSlot, Own, Due, Holding, block_of, block_at, unpublished, blocks_in, other_holdings, IfJoined, joined_in, EachTwo, HaveOtherPorts, HaveOtherSlots, Pool, LawfulWords, IsOwn, IsTied, IsClaimedIn, IsClaim, CoversAll, IsDue, IsEntry, KeptAnswer, IsLoaded, IsKept, AllByRecursion-get, all_where, prev_word, value_word, Counted, PoolWords, Slots, counter, marked_ports}
 use Rattle.partial_state.proofs.ListLemmas.{all_at, all_before, all_after, all_join, all_weaker, two_before, two_after, two_join, length_same}
 use Rattle.partial_state.proofs.Frames.{Frame, Grows, within_more, within_grows, published_moves, announced_moves, head_moves, slot_moves, fresh_moves, covers_moves, covers_newer}
 use Rattle.partial_state.proofs.HoldingLemmas.{own_far, if_some, if_some_at, some_found, found_some, joined_weaker, HaveOtherBlocks, blocks_turn, ports_turn, slots_turn, others_split, block_stays, three_words}
@@ -30,9 +30,7 @@ pub record Changes (z : Layout) (o : Opening) (words words' : List ℕ) (before 
   -- the port has joined just now, or it has what it had
   pub joined : (h'.claimed ≡ h.claimed) ⊎ IfJoined h' (λ l j. length log ≤ j.since)
   pub head : IsHead z words' (unpublished (before ++ h' ∷ after)) (get_or words' (list_head z) 0)
-  pub pool_high : get_or words' (pool_counter z) 0 ≤ pool_end z + greatest_record z * pool_marks (before ++ h' ∷ after)
-  pub slots_high : get_or words' (slot_counter z) 0 ≤ z.slots + slot_marks (before ++ h' ∷ after)
-  pub lists_high : get_or words' (list_counter z) 0 ≤ list_end z + greatest_list z * list_marks (before ++ h' ∷ after)
+  pub counters : (c : Counted) → get_or words' (counter z c).word 0 ≤ (counter z c).end + (counter z c).greatest * marked_ports c (before ++ h' ∷ after)
 
 -- the port joined now, or has what it had: what holds of those joined before it, and of those since
 pub joined_moves : (h h' : Holding) (n : ℕ) (P Q : ℕ → JoinedAnnouncement → Type 0) → ((l : ℕ) (j : JoinedAnnouncement) → P l j → Q l j) → ((l : ℕ) (j : JoinedAnnouncement) → n ≤ j.since → Q l j) → (h'.claimed ≡ h.claimed) ⊎
@@ -74,7 +72,7 @@ due_moves z o words words' v v' others others' log log' d f g own unjoined named
 pub claim_moves : (z : Layout) (words words' : List ℕ) (hs hs' : List Holding) (log log' : List Applied) (d : ClaimedSlot) → Frame z words words' (unpublished hs) (unpublished hs') →
     length log ≤ length log' → get_or words' (slot_word z d.slot) 0 ≡ get_or words (slot_word z d.slot) 0 → IsClaim z words hs log d → IsClaim z words' hs' log' d
 claim_moves z words words' hs hs' log log' d f longer same k =
-    let more = f.slots in
+    let more = f.rises Slots in
     let below = k.below in
     record { slot = k.slot; below = omega (arith, below, more); holds = holds z words words' hs hs' log log' f longer d.slot d.joined same k.holds }
   where
@@ -165,7 +163,7 @@ module _ (z : Layout) (o : Opening) (words words' : List ℕ) (before : List Hol
   -- a slot from the counter on isn't the port's
   unclaimed_now : (l : ℕ) → get_or words' (slot_counter z) 0 ≤ l → l < z.slots → get_or words' (slot_word z l) 0 ≡ 0
   unclaimed_now l from room =
-      let more = c.moves.slots in
+      let more = c.moves.rises Slots in
       let claim = all_at (λ v. IfSome v.claimed (IsClaim z words (before ++ h ∷ after) log)) before h after w.claims in
       c.moves.slot l room (if_some (IsClaim z words (before ++ h ∷ after) log) (λ c. c.slot ≢ l) h.claimed (λ d e k. let below = k.below in λ is. omega (arith, below, more, from, is)) claim) ∙
       w.unclaimed l (omega (arith, from, more)) room
@@ -177,7 +175,7 @@ module _ (z : Layout) (o : Opening) (words words' : List ℕ) (before : List Hol
   old_entry k e s =
       let entry : IsEntry z words e = AllByRecursion-get (IsEntry z words) log k e w.entries s in
       let below = entry.below in
-      let more = c.moves.pool in
+      let more = c.moves.rises PoolWords in
       let prev = entry_prev z o words words' before h h' after log w c.moves k e s in
       let view = entry_three z o words words' before h h' after log w c.moves k e (view_word 0) s (omega arith) in
       let within = place_below log k e s in
@@ -237,8 +235,6 @@ module _ (z : Layout) (o : Opening) (words words' : List ℕ) (before : List Hol
 
   pub rebuild : LawfulWords z o words' (before ++ h' ∷ after) log'
   rebuild =
-      let pool = c.moves.pool in
-      let lists = c.moves.lists in
       let port = c.moves.port in
       record {
         sizes = w.sizes;
@@ -265,11 +261,7 @@ module _ (z : Layout) (o : Opening) (words words' : List ℕ) (before : List Hol
         owners = two_join HaveOtherSlots slots_turn before h h' after w.owners (all_weaker IsOther (HaveOtherSlots h') (λ v t. c.owners v t.5 t.1) before others_before)
             (all_weaker IsOther (HaveOtherSlots h') (λ v t. c.owners v t.5 t.1) after others_after);
         head = c.head;
-        pool_low = let low = w.pool_low in omega (arith, low, pool);
-        pool_high = c.pool_high;
-        slots_high = c.slots_high;
-        lists_low = let low = w.lists_low in omega (arith, low, lists);
-        lists_high = c.lists_high;
+        counters = λ d. let low = (w.counters d).low in let up = c.moves.rises d in record { low = omega (arith, low, up); high = c.counters d };
       }
 
   -- what was loaded goes on being true

@@ -1,5 +1,5 @@
 -- What a step leaves of all that is published: blocks, and all that is said by them.
-use Rattle.partial_state.proofs.Common.{ℕ, ◌≡◌, ◌+◌, ◌<◌, ◌≤◌, ◌⊎◌, List, length, take, get_or, slice_get, Some, refl, sym, ◌∙◌, ap, subst, inl, inr, arith, cases_lt, Applied, Opening, place_below, Layout, slot_counter, pool_counter, list_counter, slot_word, list_base, list_end, pool_base, StandsAt, view_block, prev_of, view_of, length-pairs, IsViewOf, Block, AreApart, JoinedAnnouncement, HasFreshView, HasPairs, IsView, IsWithin, IsBegunSince, Covers, ViewNames, IsAnnounced, IsPublishedList, IsApartFrom, IsHead, IsPublished, IsSlotAnswer, value_of, announcement_block, announcement_size, list_block}
+use Rattle.partial_state.proofs.Common.{ℕ, ◌≡◌, ◌+◌, ◌<◌, ◌≤◌, ◌⊎◌, List, length, take, get_or, slice_get, Some, refl, sym, ◌∙◌, ap, subst, inl, inr, arith, cases_lt, Applied, Opening, place_below, Layout, pool_counter, list_counter, slot_word, list_base, list_end, pool_base, StandsAt, view_block, prev_of, view_of, length-pairs, IsViewOf, Block, AreApart, JoinedAnnouncement, HasFreshView, HasPairs, IsView, IsWithin, IsBegunSince, Covers, ViewNames, IsAnnounced, IsPublishedList, IsApartFrom, IsHead, IsPublished, IsSlotAnswer, value_of, announcement_block, announcement_size, list_block, Counted, ListWords, PoolWords, counter}
 use Rattle.partial_intervals.specs.Intervals.{Ranges}
 use Rattle.partial_state.proofs.ListLemmas.{all_weaker}
 
@@ -15,9 +15,7 @@ IsClaimedBlock z words b = ((b.at + b.size ≤ list_end z) × (b.at + b.size ≤
 -- counters don't fall, no published word changes nor is any more one of an unpublished block, and a vacated slot stays so.
 pub record Frame (z : Layout) (words words' : List ℕ) (us us' : List Block) : Type 0 where
   pub count : length words' ≡ length words
-  pub pool : get_or words (pool_counter z) 0 ≤ get_or words' (pool_counter z) 0
-  pub lists : get_or words (list_counter z) 0 ≤ get_or words' (list_counter z) 0
-  pub slots : get_or words (slot_counter z) 0 ≤ get_or words' (slot_counter z) 0
+  pub rises : (c : Counted) → get_or words (counter z c).word 0 ≤ get_or words' (counter z c).word 0
   pub same : (w : ℕ) → list_base z ≤ w → IsPublished z words us w → get_or words' w 0 ≡ get_or words w 0
   pub apart : (b : Block) → IsClaimedBlock z words b → IsApartFrom us b → IsApartFrom us' b
   pub vacated : (l : ℕ) → l < z.slots → get_or words (slot_word z l) 0 ≡ 1 → get_or words' (slot_word z l) 0 ≡ 1
@@ -102,8 +100,8 @@ owned_moves o log log' stamp v v' g same (inr (inr its)) = inr (inr (its.0, its.
 module _ (z : Layout) (words words' : List ℕ) (us us' : List Block) (f : Frame z words words' us us') where
   pub published_moves : (w : ℕ) → IsPublished z words us w → IsPublished z words' us' w
   published_moves w p =
-      let more = f.lists in
-      let most = f.pool in
+      let more = f.rises ListWords in
+      let most = f.rises PoolWords in
       let claimed : IsClaimedBlock z words (word_at w) = elim (p.claimed) [
         | inl h ↦ let a = h.0 in let b = h.1 in inl (omega (arith, a), omega (arith, b))
         | inr h ↦ let b =
@@ -131,7 +129,7 @@ module _ (z : Layout) (words words' : List ℕ) (us us' : List Block) (f : Frame
       let block : Block = record { at = at; size = length (view_block pairs) } in
       let above = w.above in
       let below = w.below in
-      let more = f.pool in
+      let more = f.rises PoolWords in
       let claimed = view_claimed z words us at pairs w in
       record {
         above = w.above;
@@ -153,7 +151,7 @@ module _ (z : Layout) (words words' : List ℕ) (us us' : List Block) (f : Frame
       let block : Block = record { at = at; size = announcement_size (length indices) } in
       let above = w.above in
       let below = w.below in
-      let more = f.pool in
+      let more = f.rises PoolWords in
       let claimed = announcement_claimed z words us at indices w in
       let size : length (announcement_block indices) ≡ announcement_size (length indices) = omega arith in
       let a = w.whole in
@@ -175,7 +173,7 @@ module _ (z : Layout) (words words' : List ℕ) (us us' : List Block) (f : Frame
   list_moves at list w =
       let block : Block = record { at = at; size = length (list_block list) } in
       let below = w.below in
-      let more = f.lists in
+      let more = f.rises ListWords in
       let a = w.whole in
       let from = a.from in
       let claimed = list_claimed z words us at list w in

@@ -1,5 +1,5 @@
 -- Holdings with one in the place of another: their blocks, the other ports' ones, and how many are marked.
-use Rattle.partial_state.proofs.Common.{ℕ, suc, ◌≡◌, ◌≢◌, ◌+◌, ◌<◌, ◌≤◌, ◌==◌, ◌++◌, Bool, true, false, cond, List, [], ◌∷◌, length, filter_map, get_or, Option, Some, None, IfSome, IsSomeAnd, refl, sym, ◌∙◌, ap, subst, inl, inr, arith, AllByRecursion, cons_option, option_map, ne_eqb, view_of, view_len, Layout, list_base, IsOwn, Pool, Lists, Block, AreApart, JoinedAnnouncement, Own, Holding, Space, space_begin, EachTwo, IfJoined, block_of, block_at, unpublished, other_holdings, pool_marks, slot_marks, list_marks, HaveOtherPorts, HaveOtherSlots, own_view, plain_record_size, full_record_size, view_word}
+use Rattle.partial_state.proofs.Common.{ℕ, suc, ◌≡◌, ◌≢◌, ◌+◌, ◌<◌, ◌≤◌, ◌==◌, ◌++◌, Bool, true, false, cond, List, [], ◌∷◌, length, filter_map, get_or, Option, Some, None, IfSome, IsSomeAnd, refl, sym, ◌∙◌, ap, subst, inl, inr, arith, AllByRecursion, cons_option, option_map, ne_eqb, view_of, view_len, Layout, list_base, IsOwn, Pool, Lists, Block, AreApart, JoinedAnnouncement, Own, Holding, Space, space_begin, EachTwo, IfJoined, block_of, block_at, unpublished, other_holdings, HaveOtherPorts, HaveOtherSlots, own_view, plain_record_size, full_record_size, view_word, Counted, ListWords, PoolWords, Slots, is_marked, marked_ports}
 
 -- what holds of the value in an option
 pub if_some : {A : Type 0} (P Q : A → Type 0) (found : Option A) → ((a : A) → found ≡ Some a → P a → Q a) → IfSome found P → IfSome found Q
@@ -116,43 +116,33 @@ others_all h [] w = refl
 others_all h (x ∷ hs) w = ap (λ (t : Bool). cond t (other_holdings h.port hs) (x ∷ other_holdings h.port hs)) (ne_eqb x.port h.port (λ e. w.0 (sym e))) ∙
     ap (λ (l : List Holding). x ∷ l) (others_all h hs w.1)
 
--- how many have the mark
-abbrev pub marks : (Holding → Bool) → List Holding → ℕ
-marks m [] = 0
-marks m (h ∷ hs) = cond (m h) 1 0 + marks m hs
+pub marks_same : (c : Counted) (before : List Holding) (h h' : Holding) (after : List Holding) → is_marked c h' ≡ is_marked c h → marked_ports c (before ++ h' ∷ after) ≡ marked_ports c (before ++ h ∷ after)
+marks_same c [] h h' after e = ap (λ b. cond b 1 0 + marked_ports c after) e
+marks_same c (b ∷ before) h h' after e = ap (λ n. cond (is_marked c b) 1 0 + n) (marks_same c before h h' after e)
 
-pub marks_same : (m : Holding → Bool) (before : List Holding) (h h' : Holding) (after : List Holding) → m h' ≡ m h → marks m (before ++ h' ∷ after) ≡ marks m (before ++ h ∷ after)
-marks_same m [] h h' after e = ap (λ b. cond b 1 0 + marks m after) e
-marks_same m (b ∷ before) h h' after e = ap (λ n. cond (m b) 1 0 + n) (marks_same m before h h' after e)
-
-pub marks_more : (m : Holding → Bool) (before : List Holding) (h h' : Holding) (after : List Holding) → m h ≡ false → m h' ≡ true → marks m (before ++ h' ∷ after) ≡ 1 + marks m (before ++ h ∷ after)
-marks_more m [] h h' after e f =
-    let one : ◌≡◌ {A = ℕ} (cond (m h') 1 0) 1 = ap (λ b. cond b 1 0) f in
-    let none : ◌≡◌ {A = ℕ} (cond (m h) 1 0) 0 = ap (λ b. cond b 1 0) e in
+pub marks_more : (c : Counted) (before : List Holding) (h h' : Holding) (after : List Holding) → is_marked c h ≡ false → is_marked c h' ≡ true →
+    marked_ports c (before ++ h' ∷ after) ≡ 1 + marked_ports c (before ++ h ∷ after)
+marks_more c [] h h' after e f =
+    let one : ◌≡◌ {A = ℕ} (cond (is_marked c h') 1 0) 1 = ap (λ b. cond b 1 0) f in
+    let none : ◌≡◌ {A = ℕ} (cond (is_marked c h) 1 0) 0 = ap (λ b. cond b 1 0) e in
     omega (arith, one, none)
-marks_more m (b ∷ before) h h' after e f =
-    let rest = marks_more m before h h' after e f in
-    ap (λ n. cond (m b) 1 0 + n) rest ∙ omega arith
+marks_more c (b ∷ before) h h' after e f =
+    let rest = marks_more c before h h' after e f in
+    ap (λ n. cond (is_marked c b) 1 0 + n) rest ∙ omega arith
 
-pub marks_few : (m : Holding → Bool) (hs : List Holding) → marks m hs ≤ length hs
-marks_few m [] = omega arith
-marks_few m (h ∷ hs) = few (m h) (marks m hs) (length hs) (marks_few m hs)
+pub marks_few : (c : Counted) (hs : List Holding) → marked_ports c hs ≤ length hs
+marks_few c [] = omega arith
+marks_few c (h ∷ hs) = few (is_marked c h) (marked_ports c hs) (length hs) (marks_few c hs)
   where
     few : (b : Bool) (m n : ℕ) → m ≤ n → cond b 1 0 + m ≤ suc n
     few true m n w = omega arith
     few false m n w = omega arith
 
-pub pool_is : (hs : List Holding) → pool_marks hs ≡ marks (λ h. h.pool_spent) hs
-pool_is [] = refl
-pool_is (h ∷ hs) = ap (λ n. cond h.pool_spent 1 0 + n) (pool_is hs)
-
-pub slots_are : (hs : List Holding) → slot_marks hs ≡ marks (λ h. h.slots_spent) hs
-slots_are [] = refl
-slots_are (h ∷ hs) = ap (λ n. cond h.slots_spent 1 0 + n) (slots_are hs)
-
-pub lists_are : (hs : List Holding) → list_marks hs ≡ marks (λ h. h.lists_spent) hs
-lists_are [] = refl
-lists_are (h ∷ hs) = ap (λ n. cond h.lists_spent 1 0 + n) (lists_are hs)
+-- a port with the same marks
+pub marks_kept : (h h' : Holding) → h'.pool_spent ≡ h.pool_spent → h'.slots_spent ≡ h.slots_spent → h'.lists_spent ≡ h.lists_spent → (c : Counted) → is_marked c h' ≡ is_marked c h
+marks_kept h h' pool slots lists PoolWords = pool
+marks_kept h h' pool slots lists Slots = slots
+marks_kept h h' pool slots lists ListWords = lists
 
 -- a record has at least the words of a plain one
 pub three_words : (words : List ℕ) (stamp : ℕ) → plain_record_size ≤ (block_at words stamp).size

@@ -1,11 +1,11 @@
 -- The steps that change no block and no slot: an exchange comes to be due, a block is given up, and claims that are refused.
-use Rattle.partial_state.proofs.Common.{ℕ, ◌≡◌, ◌≢◌, ◌+◌, ◌<◌, ◌≤◌, ◌++◌, ◌^◌, ◌%◌, true, List, ◌∷◌, get_or, set, Option, Some, None, IfSome, refl, sym, ◌∙◌, ap, subst, arith, get_or-set_other, get_or-set_same, length-set, eq-eqb, Applied, Layout, slot_counter, list_head, pool_counter, list_counter, slot_word, list_base, list_end, pool_end, Block, AreApart, Own, Holding, block_of, blocks_in, other_holdings, joined_in, EachTwo, IsTied, IsDue, DuesAreKept, DropsAreKept, PoolRefusalsAreKept, ListRefusalsAreKept, SlotRefusalsAreKept, greatest_record, greatest_list}
+use Rattle.partial_state.proofs.Common.{ℕ, ◌≡◌, ◌≢◌, ◌+◌, ◌<◌, ◌≤◌, ◌++◌, ◌^◌, ◌%◌, true, List, ◌∷◌, get_or, set, Option, Some, None, IfSome, refl, sym, ◌∙◌, ap, subst, arith, get_or-set_other, get_or-set_same, length-set, eq-eqb, Applied, Layout, slot_counter, list_head, slot_word, list_base, pool_end, Block, AreApart, Own, Holding, block_of, blocks_in, other_holdings, joined_in, EachTwo, IsTied, IsDue, DuesAreKept, DropsAreKept, greatest_record, greatest_list, Counted, ListWords, PoolWords, RefusalsAreKept, Slots, counter, is_marked, marked_for, marked_ports, ◌*◌, ◌⊎◌, Opening, inl, inr, false, IsOwn, LawfulWords, IsKept}
 use Rattle.partial_state.proofs.ListLemmas.{all_at, two_take}
 use Rattle.partial_state.proofs.Frames.{apart_turns}
-use Rattle.partial_state.proofs.HoldingLemmas.{others_gone}
+use Rattle.partial_state.proofs.HoldingLemmas.{others_gone, marks_kept}
 use Rattle.partial_state.proofs.Blocks.{unpublished_same, announced_same, own_added, blocks_same, own_block_added}
 use Rattle.partial_state.proofs.Rebuild.{Moves, own_stays}
-use Rattle.partial_state.proofs.NoNewEntry.{calm, pool_stays, slots_stay, lists_stay, pool_rises, slots_rise, lists_rise, pool_bound, slots_bound, lists_bound, fits_word, head_stays, due_stays}
+use Rattle.partial_state.proofs.NoNewEntry.{calm, fits_word, head_stays, due_stays, high_stays, high_rises, marked_stays, counter_bound}
 
 -- the words stay
 pub still_moves : (z : Layout) (words : List ℕ) (h h' : Holding) → h'.port ≡ h.port → ((b : Block) → IfSome h.own (λ c. AreApart b (block_of c)) → IfSome h'.own (λ c. AreApart b (block_of c))) →
@@ -13,9 +13,7 @@ pub still_moves : (z : Layout) (words : List ℕ) (h h' : Holding) → h'.port �
 still_moves z words h h' port apart = record {
   port = port;
   count = refl;
-  pool = omega arith;
-  lists = omega arith;
-  slots = omega arith;
+  rises = λ c. omega arith;
   same = λ n far free. refl;
   apart = λ b claimed free. apart b free;
   slot = λ l room free. refl;
@@ -40,16 +38,14 @@ drops_are_kept z o words before h after log w =
     calm z o words words before h h' after log w (record {
       moves = m;
       components = λ j below. refl;
-      tied = record { own = tt; pool_marked = tied.pool_marked; slots_marked = tied.slots_marked; lists_marked = tied.lists_marked };
+      tied = record { own = tt; marked = marked_stays z words words before h h' after (marks_kept h h' refl refl refl) m.rises tied.marked };
       apart = block_given_up z words before h h' after log h.own refl refl refl w.apart;
       due = tt;
       claimed = refl;
       slot_words = λ l room. refl;
       counts = λ l below room. below;
       head = head_stays z o words words before h h' after log w m refl;
-      pool_high = pool_stays before h h' after (get_or words (pool_counter z) 0) (pool_end z) (greatest_record z) refl w.pool_high;
-      slots_high = slots_stay before h h' after (get_or words (slot_counter z) 0) z.slots refl w.slots_high;
-      lists_high = lists_stay before h h' after (get_or words (list_counter z) 0) (list_end z) (greatest_list z) refl w.lists_high;
+      counters = λ c. high_stays z words words before h h' after c (marks_kept h h' refl refl refl c) (w.counters c).high;
     })
 
 -- where neither blocks nor announcements change
@@ -69,165 +65,123 @@ dues_are_kept z o words before h after log d w due =
     calm z o words words before h h' after log w (record {
       moves = m;
       components = λ j below. refl;
-      tied = record { own = tied.own; pool_marked = tied.pool_marked; slots_marked = tied.slots_marked; lists_marked = tied.lists_marked };
+      tied = record { own = tied.own; marked = marked_stays z words words before h h' after (marks_kept h h' refl refl refl) m.rises tied.marked };
       apart = blocks_kept z words before h h' after log refl refl w.apart;
       due = record { component = now.component; own = now.own; prev = now.prev; value = now.value; before = now.before; unjoined = now.unjoined; would = now.would };
       claimed = refl;
       slot_words = λ l room. refl;
       counts = λ l below room. below;
       head = head_stays z o words words before h h' after log w m refl;
-      pool_high = pool_stays before h h' after (get_or words (pool_counter z) 0) (pool_end z) (greatest_record z) refl w.pool_high;
-      slots_high = slots_stay before h h' after (get_or words (slot_counter z) 0) z.slots refl w.slots_high;
-      lists_high = lists_stay before h h' after (get_or words (list_counter z) 0) (list_end z) (greatest_list z) refl w.lists_high;
+      counters = λ c. high_stays z words words before h h' after c (marks_kept h h' refl refl refl c) (w.counters c).high;
     })
 
-pub pool_refusals_are_kept : PoolRefusalsAreKept
-pool_refusals_are_kept z o words before h after log size w unmarked small past =
-    let h' : Holding = record h { pool_spent = true } in
-    let n = pool_counter z in
-    let v = (get_or words n 0 + size) % 2 ^ 64 in
-    let words' = set words n v in
-    let count = w.count in
-    let bound = pool_bound z o words (before ++ h ∷ after) log w in
-    let now : get_or words' (pool_counter z) 0 ≡ get_or words (pool_counter z) 0 + size = get_or-set_same words (pool_counter z) v 0 (omega (arith, count)) ∙ fits_word z
-    (get_or words (pool_counter z) 0 + size) w.sizes (omega (arith, bound, small)) in
-    let other : (k : ℕ) → k ≢ n → get_or words' k 0 ≡ get_or words k 0 = λ k differs. get_or-set_other words n k v 0 differs in
-    let slots : get_or words' (slot_counter z) 0 ≡ get_or words (slot_counter z) 0 = other (slot_counter z) (λ e. omega (arith, e)) in
-    let lists : get_or words' (list_counter z) 0 ≡ get_or words (list_counter z) 0 = other (list_counter z) (λ e. omega (arith, e)) in
-    let slot_words : (l : ℕ) → l < z.slots → get_or words' (slot_word z l) 0 ≡ get_or words (slot_word z l) 0 = λ l room. other (slot_word z l) (λ e. omega (arith, e)) in
-    let far : (k : ℕ) → list_base z ≤ k → get_or words' k 0 ≡ get_or words k 0 = λ k above. other k (λ e. omega (arith, above, e)) in
-    let components : (j : ℕ) → j < z.m → get_or words' j 0 ≡ get_or words j 0 = λ j below. other j (λ e. omega (arith, below, e)) in
-    let m : Moves z words words' h h' = record {
-      port = refl;
-      count = length-set words n v;
-      pool = omega (arith, now);
-      lists = omega (arith, lists);
-      slots = omega (arith, slots);
-      same = λ k above free. far k above;
-      apart = λ b claimed free. free;
-      slot = λ l room free. slot_words l room;
-      vacated = λ l room one. slot_words l room ∙ one;
-    } in
-    let tied = all_at (IsTied z words) before h after w.tied in
-    let high = w.pool_high in
-    calm z o words words' before h h' after log w (record {
-      moves = m;
-      components = components;
-      tied = record {
-        own = own_stays z words words' h h' m far h.own tied.own;
-        pool_marked = λ t. omega (arith, now, past);
-        slots_marked = λ t. let old =
-            tied.slots_marked t in omega (arith, old, slots);
-        lists_marked = λ t. let old = tied.lists_marked t in omega (arith, old, lists);
-      };
-      apart = blocks_kept z words before h h' after log refl refl w.apart;
-      due = due_stays z o words words' before h h' after log w m refl refl (λ e. e) far components;
-      claimed = refl;
-      slot_words = slot_words;
-      counts = λ l below room. omega (arith, below, slots);
-      head = head_stays z o words words' before h h' after log w m (other (list_head z) (λ e. omega (arith, e)));
-      pool_high = pool_rises before h h' after (get_or words' (pool_counter z) 0) (pool_end z) (greatest_record z) unmarked refl (omega (arith, now, high, small));
-      slots_high = slots_stay before h h' after (get_or words' (slot_counter z) 0) z.slots refl (let high = w.slots_high in omega (arith, slots, high));
-      lists_high = lists_stay before h h' after (get_or words' (list_counter z) 0) (list_end z) (greatest_list z) refl (let high = w.lists_high in omega (arith, lists, high));
-    })
+-- where the counters stand, and how far they can come
+word_of_counter : (z : Layout) (c : Counted) → (z.m ≤ (counter z c).word) × ((counter z c).word < list_base z) × (list_head z ≢ (counter z c).word) × ((l : ℕ) → slot_word z l ≢ (counter z c).word)
+word_of_counter z PoolWords = (omega arith, omega arith, (λ e. omega (arith, e)), (λ l e. omega (arith, e)))
+word_of_counter z Slots = (omega arith, omega arith, (λ e. omega (arith, e)), (λ l e. omega (arith, e)))
+word_of_counter z ListWords = (omega arith, omega arith, (λ e. omega (arith, e)), (λ l e. omega (arith, e)))
 
-pub list_refusals_are_kept : ListRefusalsAreKept
-list_refusals_are_kept z o words before h after log size w unmarked small past =
-    let h' : Holding = record h { lists_spent = true } in
-    let n = list_counter z in
-    let v = (get_or words n 0 + size) % 2 ^ 64 in
-    let words' = set words n v in
-    let count = w.count in
-    let some = w.sizes.slots.0 in
-    let bound = lists_bound z o words (before ++ h ∷ after) log w in
-    let now : get_or words' (list_counter z) 0 ≡ get_or words (list_counter z) 0 + size = get_or-set_same words (list_counter z) v 0 (omega (arith, count, some)) ∙ fits_word z
-    (get_or words (list_counter z) 0 + size) w.sizes (omega (arith, bound, small)) in
-    let other : (k : ℕ) → k ≢ n → get_or words' k 0 ≡ get_or words k 0 = λ k differs. get_or-set_other words n k v 0 differs in
-    let slots : get_or words' (slot_counter z) 0 ≡ get_or words (slot_counter z) 0 = other (slot_counter z) (λ e. omega (arith, e)) in
-    let pool : get_or words' (pool_counter z) 0 ≡ get_or words (pool_counter z) 0 = other (pool_counter z) (λ e. omega (arith, e)) in
-    let slot_words : (l : ℕ) → l < z.slots → get_or words' (slot_word z l) 0 ≡ get_or words (slot_word z l) 0 = λ l room. other (slot_word z l) (λ e. omega (arith, e)) in
-    let far : (k : ℕ) → list_base z ≤ k → get_or words' k 0 ≡ get_or words k 0 = λ k above. other k (λ e. omega (arith, above, e)) in
-    let components : (j : ℕ) → j < z.m → get_or words' j 0 ≡ get_or words j 0 = λ j below. other j (λ e. omega (arith, below, e)) in
-    let m : Moves z words words' h h' = record {
-      port = refl;
-      count = length-set words n v;
-      pool = omega (arith, pool);
-      lists = omega (arith, now);
-      slots = omega (arith, slots);
-      same = λ k above free. far k above;
-      apart = λ b claimed free. free;
-      slot = λ l room free. slot_words l room;
-      vacated = λ l room one. slot_words l room ∙ one;
-    } in
-    let tied = all_at (IsTied z words) before h after w.tied in
-    let high = w.lists_high in
-    calm z o words words' before h h' after log w (record {
-      moves = m;
-      components = components;
-      tied = record {
-        own = own_stays z words words' h h' m far h.own tied.own;
-        pool_marked = λ t. let old = tied.pool_marked t in omega (arith, old, pool);
-        slots_marked = λ t. let old =
-            tied.slots_marked t in omega (arith, old, slots);
-        lists_marked = λ t. omega (arith, now, past);
-      };
-      apart = blocks_kept z words before h h' after log refl refl w.apart;
-      due = due_stays z o words words' before h h' after log w m refl refl (λ e. e) far components;
-      claimed = refl;
-      slot_words = slot_words;
-      counts = λ l below room. omega (arith, below, slots);
-      head = head_stays z o words words' before h h' after log w m (other (list_head z) (λ e. omega (arith, e)));
-      pool_high = pool_stays before h h' after (get_or words' (pool_counter z) 0) (pool_end z) (greatest_record z) refl (let high = w.pool_high in omega (arith, pool, high));
-      slots_high = slots_stay before h h' after (get_or words' (slot_counter z) 0) z.slots refl (let high = w.slots_high in omega (arith, slots, high));
-      lists_high = lists_rise before h h' after (get_or words' (list_counter z) 0) (list_end z) (greatest_list z) unmarked refl (omega (arith, now, high, small));
-    })
+end_of_counter : (z : Layout) (c : Counted) → (counter z c).end + 65 * (counter z c).greatest ≤ pool_end z + 65 * greatest_record z + 65 * greatest_list z
+end_of_counter z PoolWords = omega arith
+end_of_counter z Slots = omega arith
+end_of_counter z ListWords = omega arith
 
-pub slot_refusals_are_kept : SlotRefusalsAreKept
-slot_refusals_are_kept z o words before h after log w unmarked past =
-    let h' : Holding = record h { slots_spent = true } in
-    let n = slot_counter z in
-    let v = (get_or words n 0 + 1) % 2 ^ 64 in
-    let words' = set words n v in
-    let count = w.count in
-    let some = w.sizes.slots.0 in
-    let bound = slots_bound z o words (before ++ h ∷ after) log w in
-    let now : get_or words' (slot_counter z) 0 ≡ get_or words (slot_counter z) 0 + 1 = get_or-set_same words (slot_counter z) v 0 (omega (arith, count, some)) ∙ fits_word z
-    (get_or words (slot_counter z) 0 + 1) w.sizes (omega (arith, bound)) in
-    let other : (k : ℕ) → k ≢ n → get_or words' k 0 ≡ get_or words k 0 = λ k differs. get_or-set_other words n k v 0 differs in
-    let lists : get_or words' (list_counter z) 0 ≡ get_or words (list_counter z) 0 = other (list_counter z) (λ e. omega (arith, e)) in
-    let pool : get_or words' (pool_counter z) 0 ≡ get_or words (pool_counter z) 0 = other (pool_counter z) (λ e. omega (arith, e)) in
-    let slot_words : (l : ℕ) → l < z.slots → get_or words' (slot_word z l) 0 ≡ get_or words (slot_word z l) 0 = λ l room. other (slot_word z l) (λ e. omega (arith, e)) in
-    let far : (k : ℕ) → list_base z ≤ k → get_or words' k 0 ≡ get_or words k 0 = λ k above. other k (λ e. omega (arith, above, e)) in
-    let components : (j : ℕ) → j < z.m → get_or words' j 0 ≡ get_or words j 0 = λ j below. other j (λ e. omega (arith, below, e)) in
-    let m : Moves z words words' h h' = record {
-      port = refl;
-      count = length-set words n v;
-      pool = omega (arith, pool);
-      lists = omega (arith, lists);
-      slots = omega (arith, now);
-      same = λ k above free. far k above;
-      apart = λ b claimed free. free;
-      slot = λ l room free. slot_words l room;
-      vacated = λ l room one. slot_words l room ∙ one;
-    } in
-    let tied = all_at (IsTied z words) before h after w.tied in
-    let high = w.slots_high in
-    calm z o words words' before h h' after log w (record {
-      moves = m;
-      components = components;
-      tied = record {
-        own = own_stays z words words' h h' m far h.own tied.own;
-        pool_marked = λ t. let old = tied.pool_marked t in omega (arith, old, pool);
-        slots_marked = λ t. omega (arith, now, past);
-        lists_marked = λ t. let old = tied.lists_marked t in omega (arith, old, lists);
-      };
-      apart = blocks_kept z words before h h' after log refl refl w.apart;
-      due = due_stays z o words words' before h h' after log w m refl refl (λ e. e) far components;
-      claimed = refl;
-      slot_words = slot_words;
-      counts = λ l below room. omega (arith, room, past);
-      head = head_stays z o words words' before h h' after log w m (other (list_head z) (λ e. omega (arith, e)));
-      pool_high = pool_stays before h h' after (get_or words' (pool_counter z) 0) (pool_end z) (greatest_record z) refl (let high = w.pool_high in omega (arith, pool, high));
-      slots_high = slots_rise before h h' after (get_or words' (slot_counter z) 0) z.slots unmarked refl (omega (arith, now, high));
-      lists_high = lists_stay before h h' after (get_or words' (list_counter z) 0) (list_end z) (greatest_list z) refl (let high = w.lists_high in omega (arith, lists, high));
-    })
+-- a port that comes to be marked for one counter has the same marks for the others
+other_marks : (z : Layout) (c : Counted) (h : Holding) (d : Counted) → (d ≡ c) ⊎ (((counter z d).word ≢ (counter z c).word) × (is_marked d (marked_for c h) ≡ is_marked d h))
+other_marks z PoolWords h PoolWords = inl refl
+other_marks z PoolWords h Slots = inr ((λ e. omega (arith, e)), refl)
+other_marks z PoolWords h ListWords = inr ((λ e. omega (arith, e)), refl)
+other_marks z Slots h PoolWords = inr ((λ e. omega (arith, e)), refl)
+other_marks z Slots h Slots = inl refl
+other_marks z Slots h ListWords = inr ((λ e. omega (arith, e)), refl)
+other_marks z ListWords h PoolWords = inr ((λ e. omega (arith, e)), refl)
+other_marks z ListWords h Slots = inr ((λ e. omega (arith, e)), refl)
+other_marks z ListWords h ListWords = inl refl
+
+-- the holding h' is h, marked for the counter
+module _ (z : Layout) (o : Opening) (words : List ℕ) (before : List Holding) (h h' : Holding) (after : List Holding) (log : List Applied) (c : Counted) (size : ℕ)
+    (w : LawfulWords z o words (before ++ h ∷ after) log) (unmarked : is_marked c h ≡ false) (small : size ≤ (counter z c).greatest)
+    (past : (counter z c).end < get_or words (counter z c).word 0 + size) (port : h'.port ≡ h.port) (own : h'.own ≡ h.own) (claimed : h'.claimed ≡ h.claimed) (due : h'.due ≡ h.due)
+    (on : is_marked c h' ≡ true) (others : (d : Counted) → (d ≡ c) ⊎ (((counter z d).word ≢ (counter z c).word) × (is_marked d h' ≡ is_marked d h))) where
+  abbrev n : ℕ
+  n = (counter z c).word
+
+  abbrev words' : List ℕ
+  words' = set words n ((get_or words n 0 + size) % 2 ^ 64)
+
+  at : (z.m ≤ n) × (n < list_base z) × (list_head z ≢ n) × ((l : ℕ) → slot_word z l ≢ n)
+  at = word_of_counter z c
+
+  now : get_or words' n 0 ≡ get_or words n 0 + size
+  now =
+      let count = w.count in
+      let low = at.1 in
+      let bound = counter_bound z o words (before ++ h ∷ after) log w c in
+      let most = end_of_counter z c in
+      get_or-set_same words n ((get_or words n 0 + size) % 2 ^ 64) 0 (omega (arith, count, low)) ∙ fits_word z (get_or words n 0 + size) w.sizes (omega (arith, bound, small, most))
+
+  other : (k : ℕ) → k ≢ n → get_or words' k 0 ≡ get_or words k 0
+  other k differs = get_or-set_other words n k ((get_or words n 0 + size) % 2 ^ 64) 0 differs
+
+  far : (k : ℕ) → list_base z ≤ k → get_or words' k 0 ≡ get_or words k 0
+  far k above = let low = at.1 in other k (λ e. omega (arith, above, low, e))
+
+  components : (j : ℕ) → j < z.m → get_or words' j 0 ≡ get_or words j 0
+  components j below = let from = at.0 in other j (λ e. omega (arith, below, from, e))
+
+  slot_words : (l : ℕ) → l < z.slots → get_or words' (slot_word z l) 0 ≡ get_or words (slot_word z l) 0
+  slot_words l room = other (slot_word z l) (at.3 l)
+
+  moves : Moves z words words' h h'
+  moves = record {
+    port = port;
+    count = length-set words n ((get_or words n 0 + size) % 2 ^ 64);
+    rises = λ d. elim (others d) [
+      | inl same ↦ subst (λ d. get_or words (counter z d).word 0 ≤ get_or words' (counter z d).word 0) (sym same) (let is = now in omega (arith, is))
+      | inr apart ↦ let is = other (counter z d).word apart.0 in omega (arith, is)
+    ];
+    same = λ k above free. far k above;
+    apart = λ b taken free. subst (λ (f : Option Own). IfSome f (λ a. AreApart b (block_of a))) (sym own) free;
+    slot = λ l room free. slot_words l room;
+    vacated = λ l room one. slot_words l room ∙ one;
+  }
+
+  pub refused : IsKept z o words before h after log words' h' log
+  refused =
+      let tied = all_at (IsTied z words) before h after w.tied in
+      calm z o words words' before h h' after log w (record {
+        moves = moves;
+        components = components;
+        tied = record {
+          own = subst (λ (f : Option Own). IfSome f (IsOwn z words')) (sym own) (own_stays z words words' h h' moves far h.own tied.own);
+          marked = λ d is. elim (others d) [
+            | inl same ↦ subst (λ d. (counter z d).end < get_or words' (counter z d).word 0) (sym same) (let is' = now in omega (arith, is', past))
+            | inr apart ↦ let old = tied.marked d (sym apart.1 ∙ is) in let is' = other (counter z d).word apart.0 in omega (arith, old, is')
+          ];
+        };
+        apart = blocks_kept z words before h h' after log own (ap joined_in claimed) w.apart;
+        due = due_stays z o words words' before h h' after log w moves own due (λ e. ap joined_in claimed ∙ e) far components;
+        claimed = claimed;
+        slot_words = slot_words;
+        counts = λ l below room. elim (others Slots) [
+          | inl same ↦
+              let over = subst (λ d. (counter z d).end < get_or words (counter z d).word 0 + size) (sym same) past in
+              let one = subst (λ d. size ≤ (counter z d).greatest) (sym same) small in
+              omega (arith, room, over, one)
+          | inr apart ↦ let is = other (slot_counter z) apart.0 in omega (arith, below, is)
+        ];
+        head = head_stays z o words words' before h h' after log w moves (other (list_head z) at.2);
+        counters = λ d. elim (others d) [
+          | inl same ↦ subst (λ d. get_or words' (counter z d).word 0 ≤ (counter z d).end + (counter z d).greatest * marked_ports d (before ++ h' ∷ after)) (sym same)
+              (high_rises z words words' before h h' after c unmarked on (let high = (w.counters c).high in let is = now in omega (arith, is, high, small)))
+          | inr apart ↦ high_stays z words words' before h h' after d apart.1 (let high = (w.counters d).high in let is = other (counter z d).word apart.0 in omega (arith, is, high))
+        ];
+      })
+
+pub refusals_are_kept : RefusalsAreKept
+refusals_are_kept z o words before h after log PoolWords size w unmarked small past =
+    refused z o words before h (marked_for PoolWords h) after log PoolWords size w unmarked small past refl refl refl refl refl (other_marks z PoolWords h)
+refusals_are_kept z o words before h after log Slots size w unmarked small past =
+    refused z o words before h (marked_for Slots h) after log Slots size w unmarked small past refl refl refl refl refl (other_marks z Slots h)
+refusals_are_kept z o words before h after log ListWords size w unmarked small past =
+    refused z o words before h (marked_for ListWords h) after log ListWords size w unmarked small past refl refl refl refl refl (other_marks z ListWords h)

@@ -1,9 +1,9 @@
 -- The steps that add nothing to the history, and what most steps leave as it was.
-use Rattle.partial_state.proofs.Common.{ℕ, ◌≡◌, ◌≢◌, ◌+◌, ◌*◌, ◌<◌, ◌≤◌, ◌⊎◌, ◌++◌, ◌^◌, ◌%◌, true, false, List, ◌∷◌, length, get_or, Option, None, IfSome, IsSomeAnd, refl, sym, ◌∙◌, ap, subst, inl, inr, arith, eq-eqb, Applied, Opening, place_below, Layout, IsLayout, slot_counter, list_head, pool_counter, list_counter, slot_word, list_base, list_end, pool_end, Block, AreApart, Covers, IsHead, ClaimedSlot, Own, Due, Holding, block_of, block_at, unpublished, blocks_in, other_holdings, IfJoined, joined_in, EachTwo, HaveOtherSlots, pool_marks, slot_marks, list_marks, Pool, LawfulWords, IsOwn, IsTied, IsClaim, IsDue, IsKept, greatest_record, greatest_list}
+use Rattle.partial_state.proofs.Common.{ℕ, ◌≡◌, ◌≢◌, ◌+◌, ◌*◌, ◌<◌, ◌≤◌, ◌⊎◌, ◌++◌, ◌^◌, ◌%◌, true, false, List, ◌∷◌, length, get_or, Option, None, IfSome, IsSomeAnd, refl, sym, ◌∙◌, ap, subst, inl, inr, arith, eq-eqb, Applied, Opening, place_below, Layout, IsLayout, slot_counter, list_head, pool_counter, list_counter, slot_word, list_base, pool_end, Block, AreApart, Covers, IsHead, ClaimedSlot, Own, Due, Holding, block_of, block_at, unpublished, blocks_in, other_holdings, IfJoined, joined_in, EachTwo, HaveOtherSlots, Pool, LawfulWords, IsOwn, IsTied, IsClaim, IsDue, IsKept, greatest_record, greatest_list, Counted, IsCounted, ListWords, PoolWords, Slots, counter, is_marked, marked_ports}
 use Rattle.std.proofs.Math.Nat.{mul-le-mul_left}
 use Rattle.partial_state.proofs.ListLemmas.{all_at, all_weaker}
 use Rattle.partial_state.proofs.Frames.{Frame, stays, head_moves, covers_moves}
-use Rattle.partial_state.proofs.HoldingLemmas.{own_far, if_some, if_some_at, some_found, joined_weaker, others_gone, marks_same, marks_more, marks_few, pool_is, slots_are, lists_are}
+use Rattle.partial_state.proofs.HoldingLemmas.{own_far, if_some, if_some_at, some_found, joined_weaker, others_gone, marks_same, marks_more, marks_few}
 use Rattle.partial_state.proofs.Rebuild.{Moves, frame_of, agrees_stay, blocks_stay}
 use Rattle.partial_state.proofs.EffectLemmas.{due_moves, claim_moves, keeps}
 
@@ -20,9 +20,7 @@ pub record Quiet (z : Layout) (o : Opening) (words words' : List ℕ) (before : 
   pub owners : (v : Holding) → IfSome v.claimed (IsClaim z words (before ++ h ∷ after) log) → HaveOtherSlots h v → HaveOtherSlots h' v
   pub joined : (h'.claimed ≡ h.claimed) ⊎ IfJoined h' (λ l j. length log ≤ j.since)
   pub head : IsHead z words' (unpublished (before ++ h' ∷ after)) (get_or words' (list_head z) 0)
-  pub pool_high : get_or words' (pool_counter z) 0 ≤ pool_end z + greatest_record z * pool_marks (before ++ h' ∷ after)
-  pub slots_high : get_or words' (slot_counter z) 0 ≤ z.slots + slot_marks (before ++ h' ∷ after)
-  pub lists_high : get_or words' (list_counter z) 0 ≤ list_end z + greatest_list z * list_marks (before ++ h' ∷ after)
+  pub counters : (c : Counted) → get_or words' (counter z c).word 0 ≤ (counter z c).end + (counter z c).greatest * marked_ports c (before ++ h' ∷ after)
 
 pub quiet : (z : Layout) (o : Opening) (words words' : List ℕ) (before : List Holding) (h h' : Holding) (after : List Holding) (log : List Applied) → LawfulWords z o words (before ++ h ∷ after) log →
     Quiet z o words words' before h h' after log → IsKept z o words before h after log words' h' log
@@ -42,69 +40,58 @@ quiet z o words words' before h h' after log w q =
       owners = q.owners;
       joined = q.joined;
       head = q.head;
-      pool_high = q.pool_high;
-      slots_high = q.slots_high;
-      lists_high = q.lists_high;
+      counters = q.counters;
     })
 
--- the marks, with one holding in the place of another
-module _ (before : List Holding) (h h' : Holding) (after : List Holding) where
-  pub pool_stays : (n e k : ℕ) → h'.pool_spent ≡ h.pool_spent → n ≤ e + k * pool_marks (before ++ h ∷ after) → n ≤ e + k * pool_marks (before ++ h' ∷ after)
-  pool_stays n e k same w = subst (λ m. n ≤ e + k * m) (pool_is (before ++ h ∷ after) ∙ sym (marks_same (λ (v : Holding). v.pool_spent) before h h' after same) ∙
-      sym (pool_is (before ++ h' ∷ after))) w
+-- one holding in the place of another
+module _ (z : Layout) (words words' : List ℕ) (before : List Holding) (h h' : Holding) (after : List Holding) where
+  -- a counter with the same mark
+  pub high_stays : (c : Counted) → is_marked c h' ≡ is_marked c h →
+      get_or words' (counter z c).word 0 ≤ (counter z c).end + (counter z c).greatest * marked_ports c (before ++ h ∷ after) →
+      get_or words' (counter z c).word 0 ≤ (counter z c).end + (counter z c).greatest * marked_ports c (before ++ h' ∷ after)
+  high_stays c same w = subst (λ m. get_or words' (counter z c).word 0 ≤ (counter z c).end + (counter z c).greatest * m) (sym (marks_same c before h h' after same)) w
 
-  pub slots_stay : (n e : ℕ) → h'.slots_spent ≡ h.slots_spent → n ≤ e + slot_marks (before ++ h ∷ after) → n ≤ e + slot_marks (before ++ h' ∷ after)
-  slots_stay n e same w = subst (λ m. n ≤ e + m) (slots_are (before ++ h ∷ after) ∙ sym (marks_same (λ (v : Holding). v.slots_spent) before h h' after same) ∙ sym (slots_are (before ++ h' ∷ after))) w
+  -- and one that the port comes to be marked for
+  pub high_rises : (c : Counted) → is_marked c h ≡ false → is_marked c h' ≡ true →
+      get_or words' (counter z c).word 0 ≤ (counter z c).end + (counter z c).greatest * marked_ports c (before ++ h ∷ after) + (counter z c).greatest →
+      get_or words' (counter z c).word 0 ≤ (counter z c).end + (counter z c).greatest * marked_ports c (before ++ h' ∷ after)
+  high_rises c off on w = subst (λ m. get_or words' (counter z c).word 0 ≤ (counter z c).end + (counter z c).greatest * m) (sym (marks_more c before h h' after off on)) (omega (arith, w))
 
-  pub lists_stay : (n e k : ℕ) → h'.lists_spent ≡ h.lists_spent → n ≤ e + k * list_marks (before ++ h ∷ after) → n ≤ e + k * list_marks (before ++ h' ∷ after)
-  lists_stay n e k same w = subst (λ m. n ≤ e + k * m) (lists_are (before ++ h ∷ after) ∙ sym (marks_same (λ (v : Holding). v.lists_spent) before h h' after same) ∙
-      sym (lists_are (before ++ h' ∷ after))) w
+  -- where no counter falls, a marked port stays behind its end
+  pub marked_stays : ((c : Counted) → is_marked c h' ≡ is_marked c h) → ((c : Counted) → get_or words (counter z c).word 0 ≤ get_or words' (counter z c).word 0) →
+      ((c : Counted) → is_marked c h ≡ true → (counter z c).end < get_or words (counter z c).word 0) →
+      (c : Counted) → is_marked c h' ≡ true → (counter z c).end < get_or words' (counter z c).word 0
+  marked_stays same rises marked c on = let past = marked c (sym (same c) ∙ on) in let up = rises c in omega (arith, past, up)
 
-  pub pool_rises : (n e k : ℕ) → h.pool_spent ≡ false → h'.pool_spent ≡ true → n ≤ e + k * pool_marks (before ++ h ∷ after) + k → n ≤ e + k * pool_marks (before ++ h' ∷ after)
-  pool_rises n e k off on w =
-      let more : pool_marks (before ++ h' ∷ after) ≡ 1 + pool_marks (before ++ h ∷ after) = pool_is (before ++ h' ∷ after) ∙ marks_more (λ (v : Holding). v.pool_spent) before h h' after off on ∙
-      ap (λ m. 1 + m) (sym (pool_is (before ++ h ∷ after))) in
-      subst (λ m. n ≤ e + k * m) (sym more) (omega (arith, w))
+  -- where no counter changes, and no mark
+  pub counters_stay : ((c : Counted) → is_marked c h' ≡ is_marked c h) → ((c : Counted) → get_or words' (counter z c).word 0 ≡ get_or words (counter z c).word 0) →
+      ((c : Counted) → IsCounted z words (before ++ h ∷ after) c) →
+      (c : Counted) → get_or words' (counter z c).word 0 ≤ (counter z c).end + (counter z c).greatest * marked_ports c (before ++ h' ∷ after)
+  counters_stay same counts counters c = let now = counts c in let high = (counters c).high in high_stays c (same c) (omega (arith, now, high))
 
-  pub slots_rise : (n e : ℕ) → h.slots_spent ≡ false → h'.slots_spent ≡ true → n ≤ e + slot_marks (before ++ h ∷ after) + 1 → n ≤ e + slot_marks (before ++ h' ∷ after)
-  slots_rise n e off on w =
-      let more : slot_marks (before ++ h' ∷ after) ≡ 1 + slot_marks (before ++ h ∷ after) = slots_are (before ++ h' ∷ after) ∙ marks_more (λ (v : Holding). v.slots_spent) before h h' after off on ∙
-      ap (λ m. 1 + m) (sym (slots_are (before ++ h ∷ after))) in
-      subst (λ m. n ≤ e + m) (sym more) (omega (arith, w))
+-- the three counters are as they were
+pub counters_same : (z : Layout) (words words' : List ℕ) → get_or words' (pool_counter z) 0 ≡ get_or words (pool_counter z) 0 → get_or words' (slot_counter z) 0 ≡ get_or words (slot_counter z) 0 →
+    get_or words' (list_counter z) 0 ≡ get_or words (list_counter z) 0 → (c : Counted) → get_or words' (counter z c).word 0 ≡ get_or words (counter z c).word 0
+counters_same z words words' pool slots lists PoolWords = pool
+counters_same z words words' pool slots lists Slots = slots
+counters_same z words words' pool slots lists ListWords = lists
 
-  pub lists_rise : (n e k : ℕ) → h.lists_spent ≡ false → h'.lists_spent ≡ true → n ≤ e + k * list_marks (before ++ h ∷ after) + k → n ≤ e + k * list_marks (before ++ h' ∷ after)
-  lists_rise n e k off on w =
-      let more : list_marks (before ++ h' ∷ after) ≡ 1 + list_marks (before ++ h ∷ after) = lists_are (before ++ h' ∷ after) ∙ marks_more (λ (v : Holding). v.lists_spent) before h h' after off on ∙
-      ap (λ m. 1 + m) (sym (lists_are (before ++ h ∷ after))) in
-      subst (λ m. n ≤ e + k * m) (sym more) (omega (arith, w))
+-- none of them falls
+pub counters_rise : (z : Layout) (words words' : List ℕ) → get_or words (pool_counter z) 0 ≤ get_or words' (pool_counter z) 0 → get_or words (slot_counter z) 0 ≤ get_or words' (slot_counter z) 0 →
+    get_or words (list_counter z) 0 ≤ get_or words' (list_counter z) 0 → (c : Counted) → get_or words (counter z c).word 0 ≤ get_or words' (counter z c).word 0
+counters_rise z words words' pool slots lists PoolWords = pool
+counters_rise z words words' pool slots lists Slots = slots
+counters_rise z words words' pool slots lists ListWords = lists
 
 -- the counters stay far below 2 ^ 64
-module _ (z : Layout) (o : Opening) (words : List ℕ) (hs : List Holding) (log : List Applied) (w : LawfulWords z o words hs log) where
-  pub pool_bound : get_or words (pool_counter z) 0 ≤ pool_end z + 64 * greatest_record z
-  pool_bound =
-      let few = marks_few (λ (v : Holding). v.pool_spent) hs in
-      let is = pool_is hs in
-      let all = w.few in
-      let high = w.pool_high in
-      let bound : greatest_record z * pool_marks hs ≤ greatest_record z * 64 = mul-le-mul_left (greatest_record z) (omega (arith, few, is, all)) in
-      omega (arith, bound, high)
-
-  pub slots_bound : get_or words (slot_counter z) 0 ≤ z.slots + 64
-  slots_bound =
-      let few = marks_few (λ (v : Holding). v.slots_spent) hs in
-      let is = slots_are hs in
-      let all = w.few in
-      let high = w.slots_high in
-      omega (arith, few, is, all, high)
-
-  pub lists_bound : get_or words (list_counter z) 0 ≤ list_end z + 64 * greatest_list z
-  lists_bound =
-      let few = marks_few (λ (v : Holding). v.lists_spent) hs in
-      let is = lists_are hs in
-      let all = w.few in
-      let high = w.lists_high in
-      let bound : greatest_list z * list_marks hs ≤ greatest_list z * 64 = mul-le-mul_left (greatest_list z) (omega (arith, few, is, all)) in
-      omega (arith, bound, high)
+pub counter_bound : (z : Layout) (o : Opening) (words : List ℕ) (hs : List Holding) (log : List Applied) → LawfulWords z o words hs log → (c : Counted) →
+    get_or words (counter z c).word 0 ≤ (counter z c).end + 64 * (counter z c).greatest
+counter_bound z o words hs log w c =
+    let few = marks_few c hs in
+    let all = w.few in
+    let high = (w.counters c).high in
+    let bound : (counter z c).greatest * marked_ports c hs ≤ (counter z c).greatest * 64 = mul-le-mul_left (counter z c).greatest (omega (arith, few, all)) in
+    omega (arith, bound, high)
 
 pub fits_word : (z : Layout) (n : ℕ) → IsLayout z → n ≤ pool_end z + 65 * greatest_record z + 65 * greatest_list z → n % 2 ^ 64 ≡ n
 fits_word z n s most = let m = s.components.1 in let l = s.slots.1 in let t = s.lists in let p = s.pool.1 in omega arith
@@ -153,7 +140,7 @@ module _ (z : Layout) (o : Opening) (words words' : List ℕ) (before : List Hol
       one d k =
           let others = other_holdings h.port (before ++ h ∷ after) in
           let us = unpublished others in
-          let f : Frame z words words' us us = record { count = m.count; pool = m.pool; lists = m.lists; slots = m.slots; same = λ n above p. far n above; apart = λ b c a. a; vacated = m.vacated } in
+          let f : Frame z words words' us us = record { count = m.count; rises = m.rises; same = λ n above p. far n above; apart = λ b c a. a; vacated = m.vacated } in
           let found = some_found (λ (b : Own). (b.space ≡ Pool) × (block_of b ≡ block_at words d.at) × (b.stored ≡ length b.words)) h.own k.own in
           let b = found.0 in
           let tied = all_at (IsTied z words) before h after w.tied in
@@ -176,9 +163,7 @@ pub record Calm (z : Layout) (o : Opening) (words words' : List ℕ) (before : L
   pub slot_words : (l : ℕ) → l < z.slots → get_or words' (slot_word z l) 0 ≡ get_or words (slot_word z l) 0
   pub counts : (l : ℕ) → l < get_or words' (slot_counter z) 0 → l < z.slots → l < get_or words (slot_counter z) 0
   pub head : IsHead z words' (unpublished (before ++ h' ∷ after)) (get_or words' (list_head z) 0)
-  pub pool_high : get_or words' (pool_counter z) 0 ≤ pool_end z + greatest_record z * pool_marks (before ++ h' ∷ after)
-  pub slots_high : get_or words' (slot_counter z) 0 ≤ z.slots + slot_marks (before ++ h' ∷ after)
-  pub lists_high : get_or words' (list_counter z) 0 ≤ list_end z + greatest_list z * list_marks (before ++ h' ∷ after)
+  pub counters : (c : Counted) → get_or words' (counter z c).word 0 ≤ (counter z c).end + (counter z c).greatest * marked_ports c (before ++ h' ∷ after)
 
 pub calm : (z : Layout) (o : Opening) (words words' : List ℕ) (before : List Holding) (h h' : Holding) (after : List Holding) (log : List Applied) → LawfulWords z o words (before ++ h ∷ after) log →
     Calm z o words words' before h h' after log → IsKept z o words before h after log words' h' log
@@ -194,7 +179,5 @@ calm z o words words' before h h' after log w c =
       owners = λ v k s. owners_stay z o words words' before h h' after log w c.moves c.claimed v s;
       joined = inl c.claimed;
       head = c.head;
-      pool_high = c.pool_high;
-      slots_high = c.slots_high;
-      lists_high = c.lists_high;
+      counters = c.counters;
     })

@@ -1,5 +1,5 @@
 -- Words as they open are lawful.
-use Rattle.partial_state.proofs.Common.{ℕ, zero, suc, ◌≡◌, ◌+◌, ◌<◌, ◌≤◌, ◌++◌, false, List, [], ◌∷◌, length, get_or, Some, None, IfSome, refl, sym, ap, subst, inl, arith, ◌∙◌, AllByRecursion, nat_tests, Layout, slot_counter, list_head, pool_counter, list_counter, slot_word, list_base, pool_base, opening_word, Block, AreApart, Holding, EachTwo, HaveOtherPorts, HaveOtherSlots, announcements, unpublished, IsTied, idle_holdings, OpeningIsLawful, initial_words, first_free}
+use Rattle.partial_state.proofs.Common.{ℕ, zero, suc, ◌≡◌, ◌+◌, ◌<◌, ◌≤◌, ◌++◌, false, List, [], ◌∷◌, length, get_or, Some, None, IfSome, refl, sym, ap, subst, inl, arith, ◌∙◌, AllByRecursion, nat_tests, Layout, slot_counter, list_head, pool_counter, list_counter, slot_word, list_base, pool_base, opening_word, Block, AreApart, Holding, EachTwo, HaveOtherPorts, HaveOtherSlots, announcements, unpublished, IsTied, idle_holdings, OpeningIsLawful, initial_words, first_free, Counted, IsCounted, ListWords, PoolWords, Slots, is_marked, true}
 use Rattle.partial_words.proofs.LayoutLemmas.{opening_agrees, view_opens}
 
 -- ports that hold nothing
@@ -27,6 +27,11 @@ pub idle_slots : (p n : ℕ) → EachTwo HaveOtherSlots (idle_holdings p n)
 idle_slots p zero = tt
 idle_slots p (suc n) = (idle_all (HaveOtherSlots (idle p)) (λ q. tt) (p + 1) n, idle_slots (p + 1) n)
 
+pub none_marked : (p : ℕ) (c : Counted) → is_marked c (idle p) ≡ true → ⊥
+none_marked p PoolWords on = cc
+none_marked p Slots on = cc
+none_marked p ListWords on = cc
+
 pub none_unpublished : (p n : ℕ) → unpublished (idle_holdings p n) ≡ []
 none_unpublished p zero = refl
 none_unpublished p (suc n) = none_unpublished (p + 1) n
@@ -50,6 +55,13 @@ lists_open z initial some = grind (arith, nat_tests)
 pub slots_open : (z : Layout) (initial : List ℕ) (l : ℕ) → l < z.slots → opening_word z initial (slot_word z l) ≡ 0
 slots_open z initial l below = grind (arith, nat_tests)
 
+-- the counters are where they begin
+pub counters_open : (z : Layout) (words : List ℕ) (hs : List Holding) → get_or words (pool_counter z) 0 ≡ first_free z → get_or words (slot_counter z) 0 ≡ 0 →
+    get_or words (list_counter z) 0 ≡ list_base z → initial_words z ≤ z.pool → (c : Counted) → IsCounted z words hs c
+counters_open z words hs pool slots lists room PoolWords = record { low = omega (arith, pool); high = omega (arith, pool, room) }
+counters_open z words hs pool slots lists room Slots = record { low = omega arith; high = omega (arith, slots) }
+counters_open z words hs pool slots lists room ListWords = record { low = omega (arith, lists); high = omega (arith, lists) }
+
 pub opening_is_lawful : OpeningIsLawful
 opening_is_lawful z o words n opens few =
     let some = opens.sizes.slots.0 in
@@ -72,7 +84,7 @@ opening_is_lawful z o words n opens few =
       agrees = opening_agrees z o words opens;
       initial = λ j below. view_opens z o words j opens below;
       entries = tt;
-      tied = idle_all (IsTied z words) (λ p. record { own = tt; pool_marked = λ m. cc; slots_marked = λ m. cc; lists_marked = λ m. cc }) 0 n;
+      tied = idle_all (IsTied z words) (λ p. record { own = tt; marked = λ c m. absurd (none_marked p c m) }) 0 n;
       apart = subst (λ (l : List Block). EachTwo AreApart (record { at = pool_base z; size = initial_words z } ∷ l)) (sym blocks) (tt, tt);
       fresh = λ k e s. let bad : None ≡ Some e = s in cc;
       covering = tt;
@@ -82,9 +94,5 @@ opening_is_lawful z o words n opens few =
       claims = idle_all (λ h. IfSome h.claimed _) (λ p. tt) 0 n;
       owners = idle_slots 0 n;
       head = inl head;
-      pool_low = omega (arith, pool);
-      pool_high = omega (arith, pool, room);
-      slots_high = omega (arith, slots);
-      lists_low = omega (arith, lists);
-      lists_high = omega (arith, lists);
+      counters = counters_open z words (idle_holdings 0 n) pool slots lists room;
     }

@@ -1,5 +1,5 @@
 -- Lawful words with one port's holding in the place of another, and with other words.
-use Rattle.partial_state.proofs.Common.{ℕ, ◌≡◌, ◌≢◌, ◌+◌, ◌<◌, ◌≤◌, ◌++◌, List, [], ◌∷◌, length, map, get_or, Option, Some, IfSome, slice_get, sym, ◌∙◌, ap, subst, arith, AllByRecursion, Applied, Opening, initial_stamp, Layout, slot_counter, pool_counter, list_counter, slot_word, list_base, pool_base, prev_of, Agrees, IsLink, IsChain, chain_of, Block, AreApart, Own, Holding, Space, counter_of, block_of, block_at, announcements, unpublished, blocks_in, EachTwo, Pool, Lists, LawfulWords, IsOwn, IsTied, IsEntry, AllByRecursion-get, all_where, initial_words, first_free, value_word, record_value, prev_word, plain_record_size, chain_all}
+use Rattle.partial_state.proofs.Common.{ℕ, ◌≡◌, ◌≢◌, ◌+◌, ◌<◌, ◌≤◌, ◌++◌, List, [], ◌∷◌, length, map, get_or, Option, Some, IfSome, slice_get, sym, ◌∙◌, ap, subst, arith, AllByRecursion, Applied, Opening, initial_stamp, Layout, slot_word, list_base, pool_base, prev_of, Agrees, IsLink, IsChain, chain_of, Block, AreApart, Own, Holding, Space, counter_of, block_of, block_at, announcements, unpublished, blocks_in, EachTwo, Pool, Lists, LawfulWords, IsOwn, IsTied, IsEntry, AllByRecursion-get, all_where, initial_words, first_free, value_word, record_value, prev_word, plain_record_size, chain_all, Counted, ListWords, PoolWords, counter}
 use Rattle.partial_words.specs.declared.record.Link.{Link}
 use Rattle.partial_state.proofs.ListLemmas.{all_at, all_before, all_after, all_join, two_before, two_after, map_same}
 use Rattle.partial_state.proofs.Frames.{Frame, IsClaimedBlock, word_at, part_apart}
@@ -10,9 +10,7 @@ use Rattle.partial_state.proofs.HoldingLemmas.{own_far, if_some, if_some_at, all
 pub record Moves (z : Layout) (words words' : List ℕ) (h h' : Holding) : Type 0 where
   pub port : h'.port ≡ h.port
   pub count : length words' ≡ length words
-  pub pool : get_or words (pool_counter z) 0 ≤ get_or words' (pool_counter z) 0
-  pub lists : get_or words (list_counter z) 0 ≤ get_or words' (list_counter z) 0
-  pub slots : get_or words (slot_counter z) 0 ≤ get_or words' (slot_counter z) 0
+  pub rises : (c : Counted) → get_or words (counter z c).word 0 ≤ get_or words' (counter z c).word 0
   -- of the words of blocks none changes but those of its own block
   pub same : (w : ℕ) → list_base z ≤ w → IfSome h.own (λ b. AreApart (word_at w) (block_of b)) → get_or words' w 0 ≡ get_or words w 0
   pub apart : (b : Block) → IsClaimedBlock z words b → IfSome h.own (λ c. AreApart b (block_of c)) → IfSome h'.own (λ c. AreApart b (block_of c))
@@ -26,9 +24,7 @@ module _ (z : Layout) (words words' : List ℕ) (h h' : Holding) (m : Moves z wo
   frame_of before after =
       record {
         count = m.count;
-        pool = m.pool;
-        lists = m.lists;
-        slots = m.slots;
+        rises = m.rises;
         same = λ w far p. m.same w far (all_at (λ v. IfSome v.own (λ b. AreApart (word_at w) (block_of b))) before h after (unpublished_all (AreApart (word_at w)) (before ++ h ∷ after) p.apart));
         apart = λ b claimed apart.
             let P : Holding → Type 0 = λ v. IfSome v.own (λ c. AreApart b (block_of c)) in
@@ -45,8 +41,8 @@ module _ (z : Layout) (words words' : List ℕ) (h h' : Holding) (m : Moves z wo
       (λ c e a. part_apart (word_at (b.at + n)) (block_of b) (block_of c) (omega arith) (omega (arith, below)) a) apart)
 
   counter_grows : (s : Space) → get_or words (counter_of z s) 0 ≤ get_or words' (counter_of z s) 0
-  counter_grows Pool = m.pool
-  counter_grows Lists = m.lists
+  counter_grows Pool = m.rises PoolWords
+  counter_grows Lists = m.rises ListWords
 
   pub own_moves : (b : Own) → IfSome h.own (λ c. AreApart (block_of b) (block_of c)) → IsOwn z words b → IsOwn z words' b
   own_moves b apart w =
@@ -78,14 +74,9 @@ module _ (z : Layout) (words words' : List ℕ) (h h' : Holding) (m : Moves z wo
 
   pub marked_moves : (v : Holding) → IfSome v.own (IsOwn z words') → IsTied z words v → IsTied z words' v
   marked_moves v own w =
-      let pool = m.pool in
-      let slots = m.slots in
-      let lists = m.lists in
       record {
         own = own;
-        pool_marked = λ t. let past = w.pool_marked t in omega (arith, past, pool);
-        slots_marked = λ t. let past = w.slots_marked t in omega (arith, past, slots);
-        lists_marked = λ t. let past = w.lists_marked t in omega (arith, past, lists);
+        marked = λ c on. let past = w.marked c on in let up = m.rises c in omega (arith, past, up);
       }
 
   pub tied_moves : (v : Holding) → IsTied z words v → HaveOtherBlocks v h → IsTied z words' v

@@ -1,12 +1,12 @@
 -- The steps on slots: a claim, a join and a leave.
-use Rattle.partial_state.proofs.Common.{ℕ, ◌≡◌, ◌≢◌, ◌+◌, ◌<◌, ◌≤◌, ◌++◌, ◌^◌, ◌%◌, ◌∷◌, length, get_or, set, Option, Some, None, IfSome, IsSomeAnd, refl, sym, ◌∙◌, ap, subst, inl, inr, arith, get_or-set_other, get_or-set_same, length-set, AllByRecursion, eqb_tells, slot_counter, list_head, pool_counter, list_counter, slot_word, list_base, list_end, pool_end, Block, AreApart, JoinedAnnouncement, IsAnnounced, IsApartFrom, ClaimedSlot, Own, Holding, block_of, unpublished, blocks_in, other_holdings, joined_in, Pool, IsOwn, IsTied, IsClaim, IsDue, SlotClaimsAreKept, JoinsAreKept, LeavesAreKept, greatest_record, greatest_list, announcement_block, announcement_size}
+use Rattle.partial_state.proofs.Common.{ℕ, ◌≡◌, ◌≢◌, ◌+◌, ◌<◌, ◌≤◌, ◌++◌, ◌^◌, ◌%◌, ◌∷◌, length, get_or, set, Option, Some, None, IfSome, IsSomeAnd, refl, sym, ◌∙◌, ap, subst, inl, inr, arith, get_or-set_other, get_or-set_same, length-set, AllByRecursion, eqb_tells, slot_counter, list_head, pool_counter, list_counter, slot_word, list_base, Block, AreApart, JoinedAnnouncement, IsAnnounced, IsApartFrom, ClaimedSlot, Own, Holding, block_of, unpublished, blocks_in, other_holdings, joined_in, Pool, IsOwn, IsTied, IsClaim, IsDue, SlotClaimsAreKept, JoinsAreKept, LeavesAreKept, announcement_block, announcement_size, ListWords, PoolWords, Slots, ◌*◌, counter, marked_ports}
 use Rattle.partial_state.proofs.ListLemmas.{all_at, two_take, two_put}
 use Rattle.partial_state.proofs.Frames.{apart_turns}
 use Rattle.partial_state.proofs.Claimed.{unpublished_two}
-use Rattle.partial_state.proofs.HoldingLemmas.{if_some, if_some_at, none_here}
+use Rattle.partial_state.proofs.HoldingLemmas.{if_some, if_some_at, none_here, marks_kept}
 use Rattle.partial_state.proofs.Blocks.{announcement_of, unpublished_same, announced_same, own_added, announcement_added, own_block_added, announced_block_added}
 use Rattle.partial_state.proofs.Rebuild.{Moves, own_stays}
-use Rattle.partial_state.proofs.NoNewEntry.{quiet, pool_stays, slots_stay, lists_stay, fits_word, head_stays, due_stays}
+use Rattle.partial_state.proofs.NoNewEntry.{quiet, fits_word, head_stays, due_stays, high_stays, marked_stays, counters_stay, counters_same, counters_rise}
 use Rattle.partial_state.proofs.MarkLaws.{blocks_kept}
 use Rattle.partial_state.proofs.BlockLaws.{own_freed}
 
@@ -38,9 +38,7 @@ slot_claims_are_kept z o words before h after log w unclaimed room =
     let m : Moves z words words' h h' = record {
       port = refl;
       count = length-set words n v;
-      pool = omega (arith, pool);
-      lists = omega (arith, lists);
-      slots = omega (arith, now);
+      rises = counters_rise z words words' (omega (arith, pool)) (omega (arith, now)) (omega (arith, lists));
       same = λ k above free. far k above;
       apart = λ b claimed free. free;
       slot = λ l room free. slot_words l room;
@@ -52,10 +50,7 @@ slot_claims_are_kept z o words before h after log w unclaimed room =
       components = components;
       tied = record {
         own = own_stays z words words' h h' m far h.own tied.own;
-        pool_marked = λ t. let old = tied.pool_marked t in omega (arith, old, pool);
-        slots_marked = λ t. let old =
-            tied.slots_marked t in omega (arith, now, old);
-        lists_marked = λ t. let old = tied.lists_marked t in omega (arith, old, lists);
+        marked = marked_stays z words words' before h h' after (marks_kept h h' refl refl refl) m.rises tied.marked;
       };
       apart = blocks_kept z words before h h' after log refl (sym (ap joined_in unclaimed)) w.apart;
       due = due_stays z o words words' before h h' after log w m refl refl (λ e. refl) far components;
@@ -69,9 +64,11 @@ slot_claims_are_kept z o words before h after log w unclaimed room =
           (λ d e claim. let below = claim.below in λ is. omega (arith, is, below)) k;
       joined = inr tt;
       head = head_stays z o words words' before h h' after log w m (other (list_head z) (λ e. omega (arith, e)));
-      pool_high = pool_stays before h h' after (get_or words' (pool_counter z) 0) (pool_end z) (greatest_record z) refl (let high = w.pool_high in omega (arith, pool, high));
-      slots_high = slots_stay before h h' after (get_or words' (slot_counter z) 0) z.slots refl (omega (arith, now, room));
-      lists_high = lists_stay before h h' after (get_or words' (list_counter z) 0) (list_end z) (greatest_list z) refl (let high = w.lists_high in omega (arith, lists, high));
+      counters = λ c. high_stays z words words' before h h' after c (marks_kept h h' refl refl refl c) (elim c as (λ k. get_or words' (counter z k).word 0 ≤ (counter z k).end + (counter z k).greatest * marked_ports k (before ++ h ∷ after)) [
+        | PoolWords ↦ let high = (w.counters PoolWords).high in omega (arith, pool, high)
+        | Slots ↦ omega (arith, now, room)
+        | ListWords ↦ let high = (w.counters ListWords).high in omega (arith, lists, high)
+      ]);
     })
 
 pub leaves_are_kept : LeavesAreKept
@@ -89,15 +86,14 @@ leaves_are_kept z o words before h after log slot j w is =
     let lists : get_or words' (list_counter z) 0 ≡ get_or words (list_counter z) 0 = other (list_counter z) (λ e. omega (arith, e)) in
     let pool : get_or words' (pool_counter z) 0 ≡ get_or words (pool_counter z) 0 = other (pool_counter z) (λ e. omega (arith, e)) in
     let slots : get_or words' (slot_counter z) 0 ≡ get_or words (slot_counter z) 0 = other (slot_counter z) (λ e. omega (arith, e)) in
+    let counts = counters_same z words words' pool slots lists in
     let far : (k : ℕ) → list_base z ≤ k → get_or words' k 0 ≡ get_or words k 0 = λ k above. other k (λ e. omega (arith, above, e, room)) in
     let components : (i : ℕ) → i < z.m → get_or words' i 0 ≡ get_or words i 0 = λ i below. other i (λ e. omega (arith, below, e)) in
     let left : (l : ℕ) → slot ≡ l → get_or words' (slot_word z l) 0 ≡ 1 = λ l e. ap (λ t. get_or words' (slot_word z t) 0) (sym e) ∙ now in
     let m : Moves z words words' h h' = record {
       port = refl;
       count = length-set words n 1;
-      pool = omega (arith, pool);
-      lists = omega (arith, lists);
-      slots = omega (arith, slots);
+      rises = λ c. let now = counts c in omega (arith, now);
       same = λ k above free. far k above;
       apart = λ b claimed free. free;
       slot = λ l inside free. let differs = if_some_at (λ c. c.slot ≢ l) h.claimed c is free in other (slot_word z l) (λ e. differs (omega (arith, e)));
@@ -109,10 +105,7 @@ leaves_are_kept z o words before h after log slot j w is =
       components = components;
       tied = record {
         own = own_stays z words words' h h' m far h.own tied.own;
-        pool_marked = λ t. let old = tied.pool_marked t in omega (arith, old, pool);
-        slots_marked = λ t. let old =
-            tied.slots_marked t in omega (arith, old, slots);
-        lists_marked = λ t. let old = tied.lists_marked t in omega (arith, old, lists);
+        marked = marked_stays z words words' before h h' after (marks_kept h h' refl refl refl) m.rises tied.marked;
       };
       apart = (two_take AreApart apart_turns (announcement_of j) (blocks_in z words (before ++ h' ∷ after) log) (blocks_in z words (before ++ h ∷ after) log)
           (announced_block_added z words (before ++ h ∷ after) (before ++ h' ∷ after) log (announcement_of j) (unpublished_same before h h' after refl)
@@ -123,9 +116,7 @@ leaves_are_kept z o words before h after log slot j w is =
       owners = λ v k other. tt;
       joined = inr tt;
       head = head_stays z o words words' before h h' after log w m (other (list_head z) (λ e. omega (arith, e)));
-      pool_high = pool_stays before h h' after (get_or words' (pool_counter z) 0) (pool_end z) (greatest_record z) refl (let high = w.pool_high in omega (arith, pool, high));
-      slots_high = slots_stay before h h' after (get_or words' (slot_counter z) 0) z.slots refl (let high = w.slots_high in omega (arith, slots, high));
-      lists_high = lists_stay before h h' after (get_or words' (list_counter z) 0) (list_end z) (greatest_list z) refl (let high = w.lists_high in omega (arith, lists, high));
+      counters = counters_stay z words words' before h h' after (marks_kept h h' refl refl refl) counts w.counters;
     })
 
 pub joins_are_kept : JoinsAreKept
@@ -147,13 +138,12 @@ joins_are_kept z o words before h after log slot at indices w is idle owned few 
     let lists : get_or words' (list_counter z) 0 ≡ get_or words (list_counter z) 0 = other (list_counter z) (λ e. omega (arith, e)) in
     let pool : get_or words' (pool_counter z) 0 ≡ get_or words (pool_counter z) 0 = other (pool_counter z) (λ e. omega (arith, e)) in
     let slots : get_or words' (slot_counter z) 0 ≡ get_or words (slot_counter z) 0 = other (slot_counter z) (λ e. omega (arith, e)) in
+    let counts = counters_same z words words' pool slots lists in
     let far : (k : ℕ) → list_base z ≤ k → get_or words' k 0 ≡ get_or words k 0 = λ k above. other k (λ e. omega (arith, above, e, room)) in
     let m : Moves z words words' h h' = record {
       port = refl;
       count = length-set words n at;
-      pool = omega (arith, pool);
-      lists = omega (arith, lists);
-      slots = omega (arith, slots);
+      rises = λ c. let now = counts c in omega (arith, now);
       same = λ k above free. far k above;
       apart = λ b claimed free. tt;
       slot = λ l inside free. let differs = if_some_at (λ c. c.slot ≢ l) h.claimed c is free in other (slot_word z l) (λ e. differs (omega (arith, e)));
@@ -195,9 +185,7 @@ joins_are_kept z o words before h after log slot at indices w is idle owned few 
       components = λ i below. other i (λ e. omega (arith, below, e));
       tied = record {
         own = tt;
-        pool_marked = λ t. let old = tied.pool_marked t in omega (arith, old, pool);
-        slots_marked = λ t. let old = tied.slots_marked t in omega (arith, old, slots);
-        lists_marked = λ t. let old = tied.lists_marked t in omega (arith, old, lists);
+        marked = marked_stays z words words' before h h' after (marks_kept h h' refl refl refl) m.rises tied.marked;
       };
       apart = two_put AreApart apart_turns (announcement_of j) (blocks_in z words (before ++ between ∷ after) log) (blocks_in z words (before ++ h' ∷ after) log) added taken.0 free;
       due = none_here (IsDue z o words' h' (other_holdings h'.port (before ++ h' ∷ after)) log) h.due idle;
@@ -206,7 +194,5 @@ joins_are_kept z o words before h after log slot at indices w is idle owned few 
       owners = λ v k other. if_some_at (λ c. IfSome v.claimed (λ d. c.slot ≢ d.slot)) h.claimed c is other;
       joined = inr (let late : length log ≤ length log = omega arith in late);
       head = head_stays z o words words' before h h' after log w m (other (list_head z) (λ e. omega (arith, e)));
-      pool_high = pool_stays before h h' after (get_or words' (pool_counter z) 0) (pool_end z) (greatest_record z) refl (let high = w.pool_high in omega (arith, pool, high));
-      slots_high = slots_stay before h h' after (get_or words' (slot_counter z) 0) z.slots refl (let high = w.slots_high in omega (arith, slots, high));
-      lists_high = lists_stay before h h' after (get_or words' (list_counter z) 0) (list_end z) (greatest_list z) refl (let high = w.lists_high in omega (arith, lists, high));
+      counters = counters_stay z words words' before h h' after (marks_kept h h' refl refl refl) counts w.counters;
     })

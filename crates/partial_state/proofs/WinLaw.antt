@@ -1,12 +1,12 @@
 -- A won exchange of a component: its record is published, and the history gains its entry.
-use Rattle.partial_state.proofs.Common.{ℕ, ◌≡◌, ◌≢◌, ◌+◌, ◌<◌, ◌≤◌, ◌==◌, ◌++◌, Bool, true, false, cond, List, [], ◌∷◌, length, map, get_or, set, Option, Some, None, IfSome, slice_get, refl, sym, ◌∙◌, ap, subst, inl, inr, arith, append_assoc, get_or-set_other, get_or-set_same, length-set, AllByRecursion, option_map, eq-eqb, eqb-true, eqb-false, eqb_tells, length_push, take-append-le, Applied, Opening, IsHistory, initial_stamp, stamp_of, stamp_of-push, distinct_push, slice_get_grows, AllByRecursion-push, AllByRecursion-get, Layout, slot_counter, list_head, pool_counter, list_counter, slot_word, list_end, pool_base, pool_end, prev_word, prev_of, view_of, IsLink, IsChain, chain_of, Block, AreApart, JoinedAnnouncement, HasFreshView, Covers, IsWithin, ClaimedSlot, Own, Due, Holding, Space, space_begin, end_of, counter_of, block_of, block_at, announcements, unpublished, blocks_in, other_holdings, IfJoined, joined_in, EachTwo, HaveOtherPorts, Pool, LawfulWords, IsOwn, IsTied, IsDue, IsKept, WinsAreKept, all_where, initial_words, first_free, greatest_record, greatest_list, view_word, value_word, plain_record_size, record_value, chain_cons, links_from-push}
+use Rattle.partial_state.proofs.Common.{ℕ, ◌≡◌, ◌≢◌, ◌+◌, ◌<◌, ◌≤◌, ◌==◌, ◌++◌, Bool, true, false, cond, List, [], ◌∷◌, length, map, get_or, set, Option, Some, None, IfSome, slice_get, refl, sym, ◌∙◌, ap, subst, inl, inr, arith, append_assoc, get_or-set_other, get_or-set_same, length-set, AllByRecursion, option_map, eq-eqb, eqb-true, eqb-false, eqb_tells, length_push, take-append-le, Applied, Opening, IsHistory, initial_stamp, stamp_of, stamp_of-push, distinct_push, slice_get_grows, AllByRecursion-push, AllByRecursion-get, Layout, slot_counter, list_head, pool_counter, list_counter, slot_word, pool_base, pool_end, prev_word, prev_of, view_of, IsLink, IsChain, chain_of, Block, AreApart, JoinedAnnouncement, HasFreshView, Covers, IsWithin, ClaimedSlot, Own, Due, Holding, Space, space_begin, end_of, counter_of, block_of, block_at, announcements, unpublished, blocks_in, other_holdings, IfJoined, joined_in, EachTwo, HaveOtherPorts, Pool, LawfulWords, IsOwn, IsTied, IsDue, IsKept, WinsAreKept, all_where, initial_words, first_free, view_word, value_word, plain_record_size, record_value, chain_cons, links_from-push, Counted, counter}
 use Rattle.partial_state.proofs.ListLemmas.{all_at, all_front, all_back, all_join, all_weaker, all_unmap, two_before, two_after, two_take, two_put, Adds, adds_behind, found_before, found_last}
 use Rattle.partial_state.proofs.Frames.{Frame, Grows, apart_turns, fresh_moves, covers_moves}
-use Rattle.partial_state.proofs.HoldingLemmas.{if_some_at, some_found, joined_weaker, ports_turn, others_gone, others_all, filter_append, three_words, block_stays}
+use Rattle.partial_state.proofs.HoldingLemmas.{if_some_at, some_found, joined_weaker, ports_turn, others_gone, others_all, filter_append, three_words, block_stays, marks_kept}
 use Rattle.partial_state.proofs.Blocks.{unpublished_is, announced_same, own_added, own_block_added}
 use Rattle.partial_state.proofs.Rebuild.{Moves, chain_moves, entries_stay}
 use Rattle.partial_state.proofs.EffectLemmas.{IsNew, keeps}
-use Rattle.partial_state.proofs.NoNewEntry.{pool_stays, slots_stay, lists_stay, taken_stays, claim_stays, head_stays}
+use Rattle.partial_state.proofs.NoNewEntry.{taken_stays, claim_stays, head_stays, marked_stays, counters_stay, counters_same}
 
 map_push : {A B : Type 0} (f : A → B) (xs : List A) (y : A) → map f (xs ++ y ∷ []) ≡ map f xs ++ f y ∷ []
 map_push f [] y = refl
@@ -94,17 +94,15 @@ module _ (z : Layout) (o : Opening) (words : List ℕ) (before : List Holding) (
   higher : (k : ℕ) → z.m ≤ k → get_or exchanged k 0 ≡ get_or words k 0
   higher k from = let below = inside in other k (λ e. omega (arith, from, below, e))
 
+  counts : (c : Counted) → get_or exchanged (counter z c).word 0 ≡ get_or words (counter z c).word 0
+  counts = counters_same z words exchanged (higher (pool_counter z) (omega arith)) (higher (slot_counter z) (omega arith)) (higher (list_counter z) (omega arith))
+
   moves : Moves z words exchanged h behind
   moves =
-      let pool = higher (pool_counter z) (omega arith) in
-      let lists = higher (list_counter z) (omega arith) in
-      let slots = higher (slot_counter z) (omega arith) in
       record {
         port = refl;
         count = length-set words d.component (cond (get_or words d.component 0 == d.old) d.at (get_or words d.component 0));
-        pool = omega (arith, pool);
-        lists = omega (arith, lists);
-        slots = omega (arith, slots);
+        rises = λ c. let now = counts c in omega (arith, now);
         same = λ k far free. higher k (omega (arith, far));
         apart = λ b claimed free. tt;
         slot = λ l room free. higher (slot_word z l) (omega arith);
@@ -212,7 +210,7 @@ module _ (z : Layout) (o : Opening) (words : List ℕ) (before : List Holding) (
   here : Frame z words exchanged (unpublished holdings_after) (unpublished holdings_after)
   here =
       let m = moves in
-      record { count = m.count; pool = m.pool; lists = m.lists; slots = m.slots; same = λ k far p. higher k (omega (arith, far)); apart = λ b claimed apart. apart; vacated = m.vacated }
+      record { count = m.count; rises = m.rises; same = λ k far p. higher k (omega (arith, far)); apart = λ b claimed apart. apart; vacated = m.vacated }
 
   would : HasFreshView z o words (unpublished holdings_after) log (length log) d.at × AllByRecursion (λ v. IfJoined v (λ l j. Covers z words (unpublished holdings_after) log d.at j)) (before ++ after)
   would =
@@ -280,9 +278,7 @@ module _ (z : Layout) (o : Opening) (words : List ℕ) (before : List Holding) (
         newest = λ k e s from. found_last (λ k (e : Applied). IsNew z o exchanged holdings_after longer k e) log entry k e new s from;
         tied = record {
           own = tt;
-          pool_marked = λ m. let old = t.pool_marked m in omega (arith, old, pool);
-          slots_marked = λ m. let old = t.slots_marked m in omega (arith, old, slots);
-          lists_marked = λ m. let old = t.lists_marked m in omega (arith, old, lists);
+          marked = marked_stays z words exchanged before h behind after (marks_kept h behind refl refl refl) moves.rises t.marked;
         };
         apart = blocks_now;
         due = tt;
@@ -291,9 +287,7 @@ module _ (z : Layout) (o : Opening) (words : List ℕ) (before : List Holding) (
         owners = λ v k s. s;
         joined = inl refl;
         head = head_stays z o words exchanged before h behind after log w moves (higher (list_head z) (omega arith));
-        pool_high = pool_stays before h behind after (get_or exchanged (pool_counter z) 0) (pool_end z) (greatest_record z) refl (let high = w.pool_high in omega (arith, pool, high));
-        slots_high = slots_stay before h behind after (get_or exchanged (slot_counter z) 0) z.slots refl (let high = w.slots_high in omega (arith, slots, high));
-        lists_high = lists_stay before h behind after (get_or exchanged (list_counter z) 0) (list_end z) (greatest_list z) refl (let high = w.lists_high in omega (arith, lists, high));
+        counters = counters_stay z words exchanged before h behind after (marks_kept h behind refl refl refl) counts w.counters;
       })
 
 pub wins_are_kept : WinsAreKept

@@ -1,16 +1,16 @@
 -- What each kind of step does to lawful words, and that it keeps them lawful and what was loaded true.
-use Rattle.std.specs.Prelude.{ℕ, zero, suc, ◌≡◌, ◌+◌, ◌<◌, ◌≤◌, true, false, List, [], ◌∷◌, ◌++◌, length, slice_index, Some, None}
+use Rattle.std.specs.Prelude.{ℕ, zero, suc, ◌≡◌, ◌+◌, ◌<◌, ◌≤◌, false, List, [], ◌∷◌, ◌++◌, length, slice_index, Some, None}
 use Rattle.partial_intervals.specs.Intervals.{Ranges, Holds, IsNormal}
 use Rattle.partial_model.specs.declared.history.Applied.{Applied}
 use Rattle.partial_model.specs.declared.history.Opening.{Opening}
 use Rattle.partial_words.specs.declared.step.Step.TheVariants.{Store, Exchange, Add}
-use Rattle.partial_words.specs.Layout.{Layout, component_word, slot_counter, list_head, pool_counter, list_counter, slot_word, list_base, list_end, pool_end, total, greatest_record, greatest_list}
+use Rattle.partial_words.specs.Layout.{Layout, component_word, slot_counter, list_head, slot_word, list_base, total}
 use Rattle.partial_words.specs.Announcement.{announcement_block, announcement_size}
 use Rattle.partial_words.specs.VacatedList.{list_block}
 use Rattle.partial_words.specs.Chain.{OpensWith}
 use Rattle.partial_words.specs.Step.{words_after}
 use Rattle.partial_state.specs.Views.{JoinedAnnouncement}
-use Rattle.partial_state.specs.Holdings.{Own, Due, Holding, Space, counter_of, end_of, other_holdings, unpublished}
+use Rattle.partial_state.specs.Holdings.{Counted, Own, Due, Holding, Space, counter, counter_of, end_of, is_marked, marked_for, other_holdings, unpublished}
 use Rattle.partial_state.specs.Holdings.Space.{Pool, Lists}
 use Rattle.partial_state.specs.LawfulWords.{LawfulWords, IsDue}
 use Rattle.partial_state.specs.Loads.{KeptAnswer, IsLoaded, IsPublished}
@@ -49,23 +49,14 @@ ClaimsAreKept =
     IsKept z o words before h after log (words_after words (Add (counter_of z space) (length block)))
     (record h { own = Some (record { space = space; at = slice_index words (counter_of z space); words = block; stored = 0 }) }) log
 
--- a claim past the end of the pool, by a port that isn't marked yet: the port is marked
-abbrev pub PoolRefusalsAreKept : Type 0
-PoolRefusalsAreKept =
+-- a claim past the end of what is counted, by a port that isn't marked for it yet: the port is marked
+abbrev pub RefusalsAreKept : Type 0
+RefusalsAreKept =
     (z : Layout) (o : Opening) (words : List ℕ) (before : List Holding) (h : Holding) (after : List Holding) (log : List Applied)
-    (size : ℕ) →
-    LawfulWords z o words (before ++ h ∷ after) log → h.pool_spent ≡ false → size ≤ greatest_record z →
-    pool_end z < slice_index words (pool_counter z) + size →
-    IsKept z o words before h after log (words_after words (Add (pool_counter z) size)) (record h { pool_spent = true }) log
-
--- a claim of list words that goes past their end marks the port and keeps the words lawful
-abbrev pub ListRefusalsAreKept : Type 0
-ListRefusalsAreKept =
-    (z : Layout) (o : Opening) (words : List ℕ) (before : List Holding) (h : Holding) (after : List Holding) (log : List Applied)
-    (size : ℕ) →
-    LawfulWords z o words (before ++ h ∷ after) log → h.lists_spent ≡ false → size ≤ greatest_list z →
-    list_end z < slice_index words (list_counter z) + size →
-    IsKept z o words before h after log (words_after words (Add (list_counter z) size)) (record h { lists_spent = true }) log
+    (c : Counted) (size : ℕ) →
+    LawfulWords z o words (before ++ h ∷ after) log → is_marked c h ≡ false → size ≤ (counter z c).greatest →
+    (counter z c).end < slice_index words (counter z c).word + size →
+    IsKept z o words before h after log (words_after words (Add (counter z c).word size)) (marked_for c h) log
 
 -- a store of the next word of a block of one's own
 abbrev pub StoresAreKept : Type 0
@@ -108,13 +99,6 @@ SlotClaimsAreKept =
     LawfulWords z o words (before ++ h ∷ after) log → h.claimed ≡ None → slice_index words (slot_counter z) < z.slots →
     IsKept z o words before h after log (words_after words (Add (slot_counter z) 1))
     (record h { claimed = Some (record { slot = slice_index words (slot_counter z); joined = None }) }) log
-
--- a claim past the last slot, by a port that isn't marked yet: the port is marked
-abbrev pub SlotRefusalsAreKept : Type 0
-SlotRefusalsAreKept =
-    (z : Layout) (o : Opening) (words : List ℕ) (before : List Holding) (h : Holding) (after : List Holding) (log : List Applied) →
-    LawfulWords z o words (before ++ h ∷ after) log → h.slots_spent ≡ false → z.slots ≤ slice_index words (slot_counter z) →
-    IsKept z o words before h after log (words_after words (Add (slot_counter z) 1)) (record h { slots_spent = true }) log
 
 -- a join: the announcement that the port has written is published in its slot
 abbrev pub JoinsAreKept : Type 0

@@ -1,9 +1,9 @@
 -- What a port holds in the words: a slot, a block that it writes, an exchange that is due, and its marks.
-use Rattle.std.specs.Prelude.{ℕ, ◌≢◌, ◌+◌, ◌==◌, ⊤, Bool, List, [], ◌∷◌, ◌++◌, length, map, filter_map, Option, Some, None, IfSome, if◌then◌else◌}
+use Rattle.std.specs.Prelude.{ℕ, ◌≢◌, ◌+◌, ◌==◌, ⊤, Bool, true, List, [], ◌∷◌, ◌++◌, length, map, filter_map, Option, Some, None, IfSome, if◌then◌else◌}
 use Rattle.std.specs.List.{AllByRecursion}
 use Rattle.std.specs.Option.{option_map}
 use Rattle.partial_model.specs.declared.history.Applied.{Applied}
-use Rattle.partial_words.specs.Layout.{Layout, pool_counter, list_counter, list_base, list_end, pool_base, pool_end, initial_words, first_free}
+use Rattle.partial_words.specs.Layout.{Layout, slot_counter, pool_counter, list_counter, list_base, list_end, pool_base, pool_end, initial_words, first_free, greatest_record, greatest_list}
 use Rattle.partial_words.specs.Record.{plain_record_size, full_record_size, own_view, view_of, view_len}
 use Rattle.partial_words.specs.Announcement.{announcement_size}
 use Rattle.partial_state.specs.Views.{Block, JoinedAnnouncement}
@@ -111,17 +111,38 @@ abbrev pub other_holdings : ℕ → List Holding → List Holding
 other_holdings p [] = []
 other_holdings p (h ∷ hs) = if h.port == p then other_holdings p hs else h ∷ other_holdings p hs
 
--- how many ports are marked for the pool
-abbrev pub pool_marks : List Holding → ℕ
-pool_marks [] = 0
-pool_marks (h ∷ hs) = (if h.pool_spent then 1 else 0) + pool_marks hs
+-- what ports claim by a counter: pool words, slots, and list words
+pub data Counted : Type 0 where
+  PoolWords : Counted
+  Slots : Counted
+  ListWords : Counted
 
--- how many ports are marked for the slots
-abbrev pub slot_marks : List Holding → ℕ
-slot_marks [] = 0
-slot_marks (h ∷ hs) = (if h.slots_spent then 1 else 0) + slot_marks hs
+-- a counter: its word, the number from which it counts, the end of what it counts, and how much a claim takes at most
+pub record Counter : Type 0 where
+  pub word : ℕ
+  pub begin : ℕ
+  pub end : ℕ
+  pub greatest : ℕ
 
--- how many ports are marked for the list words
-abbrev pub list_marks : List Holding → ℕ
-list_marks [] = 0
-list_marks (h ∷ hs) = (if h.lists_spent then 1 else 0) + list_marks hs
+-- the three counters
+abbrev pub counter : Layout → Counted → Counter
+counter z PoolWords = record { word = pool_counter z; begin = first_free z; end = pool_end z; greatest = greatest_record z }
+counter z Slots = record { word = slot_counter z; begin = 0; end = z.slots; greatest = 1 }
+counter z ListWords = record { word = list_counter z; begin = list_base z; end = list_end z; greatest = greatest_list z }
+
+-- whether a port is marked for a counter: a claim of its own has gone past the end
+abbrev pub is_marked : Counted → Holding → Bool
+is_marked PoolWords h = h.pool_spent
+is_marked Slots h = h.slots_spent
+is_marked ListWords h = h.lists_spent
+
+-- the port, marked for it
+abbrev pub marked_for : Counted → Holding → Holding
+marked_for PoolWords h = record h { pool_spent = true }
+marked_for Slots h = record h { slots_spent = true }
+marked_for ListWords h = record h { lists_spent = true }
+
+-- how many ports are marked for it
+abbrev pub marked_ports : Counted → List Holding → ℕ
+marked_ports c [] = 0
+marked_ports c (h ∷ hs) = (if is_marked c h then 1 else 0) + marked_ports c hs

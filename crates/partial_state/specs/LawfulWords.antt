@@ -4,12 +4,12 @@ use Rattle.std.specs.List.{AllByRecursion}
 use Rattle.partial_model.specs.declared.history.Applied.{Applied}
 use Rattle.partial_model.specs.declared.history.Opening.{Opening}
 use Rattle.partial_model.specs.History.{IsHistory}
-use Rattle.partial_words.specs.Layout.{Layout, IsLayout, slot_counter, list_head, pool_counter, list_counter, slot_word, list_base, list_end, pool_base, pool_end, total, initial_record, first_free, greatest_record, greatest_list}
+use Rattle.partial_words.specs.Layout.{Layout, IsLayout, slot_counter, list_head, pool_counter, slot_word, pool_base, pool_end, total, initial_record, first_free}
 use Rattle.partial_words.specs.Record.{plain_record_size, prev_of, record_value, view_of}
 use Rattle.partial_words.specs.Chain.{Agrees}
 use Rattle.partial_state.specs.Views.{AreApart, HasFreshView, Covers, IsWithin, IsAnnounced, IsHead}
 use Rattle.partial_state.specs.Holdings.Space.{Pool}
-use Rattle.partial_state.specs.Holdings.{ClaimedSlot, Own, Due, Holding, space_begin, end_of, counter_of, block_of, block_at, unpublished, blocks_in, other_holdings, IfJoined, joined_in, EachTwo, HaveOtherPorts, HaveOtherSlots, pool_marks, slot_marks, list_marks}
+use Rattle.partial_state.specs.Holdings.{ClaimedSlot, Counted, Own, Due, Holding, space_begin, end_of, counter_of, block_of, block_at, unpublished, blocks_in, other_holdings, IfJoined, joined_in, EachTwo, HaveOtherPorts, HaveOtherSlots, counter, is_marked, marked_ports}
 
 -- a block of a port's own lies in its space and below the counter, and holds what is stored
 pub record IsOwn (z : Layout) (words : List ℕ) (b : Own) : Type 0 where
@@ -19,12 +19,10 @@ pub record IsOwn (z : Layout) (words : List ℕ) (b : Own) : Type 0 where
   pub few : b.stored ≤ length b.words
   pub stands : (i : ℕ) → i < b.stored → slice_index words (b.at + i) ≡ slice_index b.words i
 
--- what ties a port to the words: its own block, and that it is marked for a region only when the region's counter is past its end
+-- what ties a port to the words: its own block, and that it is marked for a counter only when that is past its end
 pub record IsTied (z : Layout) (words : List ℕ) (h : Holding) : Type 0 where
   pub own : IfSome h.own (IsOwn z words)
-  pub pool_marked : h.pool_spent ≡ true → pool_end z < slice_index words (pool_counter z)
-  pub slots_marked : h.slots_spent ≡ true → z.slots < slice_index words (slot_counter z)
-  pub lists_marked : h.lists_spent ≡ true → list_end z < slice_index words (list_counter z)
+  pub marked : (c : Counted) → is_marked c h ≡ true → (counter z c).end < slice_index words (counter z c).word
 
 -- some port has claimed the slot
 abbrev pub IsClaimedIn : ℕ → List Holding → Type 0
@@ -61,6 +59,11 @@ pub record IsEntry (z : Layout) (words : List ℕ) (e : Applied) : Type 0 where
   pub above : first_free z ≤ e.stamp
   pub within : e.stamp + plain_record_size ≤ pool_end z
   pub below : e.stamp + plain_record_size ≤ slice_index words (pool_counter z)
+
+-- a counter is not below where it begins, nor past its end by more than one greatest claim for each port that is marked for it
+pub record IsCounted (z : Layout) (words : List ℕ) (hs : List Holding) (c : Counted) : Type 0 where
+  pub low : (counter z c).begin ≤ slice_index words (counter z c).word
+  pub high : slice_index words (counter z c).word ≤ (counter z c).end + (counter z c).greatest * marked_ports c hs
 
 -- Lawful words: of at most 64 ports with what each holds in them, and of the history of all that was applied.
 pub record LawfulWords (z : Layout) (o : Opening) (words : List ℕ) (hs : List Holding) (log : List Applied) : Type 0 where
@@ -104,13 +107,5 @@ pub record LawfulWords (z : Layout) (o : Opening) (words : List ℕ) (hs : List 
   pub owners : EachTwo HaveOtherSlots hs
   -- the list head is none or the reference of a published list
   pub head : IsHead z words (unpublished hs) (slice_index words (list_head z))
-  -- the pool's counter is behind the initial records
-  pub pool_low : first_free z ≤ slice_index words (pool_counter z)
-  -- it is past the pool's end by no more than one greatest claim for each port that is marked for it
-  pub pool_high : slice_index words (pool_counter z) ≤ pool_end z + greatest_record z * pool_marks hs
-  -- the slot counter is past the last slot by no more than one for each port that is marked for it
-  pub slots_high : slice_index words (slot_counter z) ≤ z.slots + slot_marks hs
-  -- the list counter is at the first list word or behind it
-  pub lists_low : list_base z ≤ slice_index words (list_counter z)
-  -- it is past the last list word by no more than one greatest claim for each port that is marked for it
-  pub lists_high : slice_index words (list_counter z) ≤ list_end z + greatest_list z * list_marks hs
+  -- each counter is in its bounds
+  pub counters : (c : Counted) → IsCounted z words hs c

@@ -1,7 +1,7 @@
 //! The laws of the kinds of step: each says what a step of its kind keeps. The functions have no code:
 //! their contracts hold of the definitions by which lawful words are stated.
 
-ghost use Rattle.partial_state.specs.Effects.{OpeningIsLawful, ClaimsAreKept, PoolRefusalsAreKept, ListRefusalsAreKept, StoresAreKept, DuesAreKept, DropsAreKept, WinsAreKept, SlotClaimsAreKept, SlotRefusalsAreKept, JoinsAreKept, LeavesAreKept, PublishingsAreKept, LoadsAreTrue};
+ghost use Rattle.partial_state.specs.Effects.{OpeningIsLawful, ClaimsAreKept, RefusalsAreKept, StoresAreKept, DuesAreKept, DropsAreKept, WinsAreKept, SlotClaimsAreKept, JoinsAreKept, LeavesAreKept, PublishingsAreKept, LoadsAreTrue};
 
 /// Words at opening, with at most 64 ports that hold nothing, are lawful.
 pub fn opening_is_lawful()
@@ -14,16 +14,10 @@ pub fn claims_are_kept()
     ensures { ClaimsAreKept }
 {}
 
-/// A claim past the end of the pool: the port is marked, and the counter is past the end by at most one
-/// greatest claim for each marked port.
-pub fn pool_refusals_are_kept()
-    ensures { PoolRefusalsAreKept }
-{}
-
-/// A claim past the last list word: the port is marked, and the counter is past the end by at most one
-/// greatest list for each marked port.
-pub fn list_refusals_are_kept()
-    ensures { ListRefusalsAreKept }
+/// A claim past the end of the pool, of the slots or of the list words: the port is marked, and the counter is past the
+/// end by at most one greatest claim for each marked port.
+pub fn refusals_are_kept()
+    ensures { RefusalsAreKept }
 {}
 
 /// A store of the next word of a port's own block, which no other port reads yet.
@@ -50,11 +44,6 @@ pub fn wins_are_kept()
 /// A claim of a slot, which is EMPTY.
 pub fn slot_claims_are_kept()
     ensures { SlotClaimsAreKept }
-{}
-
-/// A claim past the last slot: the port is marked.
-pub fn slot_refusals_are_kept()
-    ensures { SlotRefusalsAreKept }
 {}
 
 /// A join: the announcement that the port has written is published in its slot.

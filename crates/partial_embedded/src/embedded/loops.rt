@@ -1,6 +1,6 @@
 //! A whole embedded scan, made in loops over its buffers. The caller supplies the loads.
 
-ghost use Rattle.std.specs.Prelude.{◌≡◌, ◌≢◌, ℕ, IfSome, IfNone};
+ghost use Rattle.std.specs.Prelude.{◌≡◌, ◌≢◌, ℕ, IfOk, IfSome, IfNone, OnOk};
 ghost use Rattle.partial_embedded.specs.Embedded.{ViewGoesTogether, AreRowsFor, buffers};
 ghost use Rattle.partial_embedded.specs.declared.embedded.Stage.TheVariants.{Collect, Value, Done};
 
@@ -12,16 +12,24 @@ use partial_words::value_word;
 impl Embedded {
     /// Makes the scan of these positions to its end, with its buffers, and returns it. It makes each load
     /// through `loads`, which are at this scan.
+    ///
+    /// # Errors
+    /// [`Loads::Break`] when `loads` break it off: they are at the scan after the last load that was made.
     #[inline(always)]
-    pub fn make<L: Loads>(mut self, rows: &mut Rows, indices: &[u32], loads: &mut L) -> Embedded
+    pub fn make<L: Loads>(
+        mut self,
+        rows: &mut Rows,
+        indices: &[u32],
+        loads: &mut L,
+    ) -> Result<Embedded, L::Break>
         requires goes { L.goes loads.old }
         requires together { ViewGoesTogether indices.now (self, rows.old) }
         requires scan { L.scan loads.old ≡ (self, rows.old) }
         requires positions { L.positions loads.old ≡ indices.now }
         ensures goes { L.goes loads.new }
-        ensures scan { L.scan loads.new ≡ (result, rows.new) }
+        ensures scan { IfOk result (λ made. L.scan loads.new ≡ (made, rows.new)) }
         ensures follows { L.follows loads.old loads.new }
-        ensures done { result.stage ≡ Done }
+        ensures done { IfOk result (λ made. made.stage ≡ Done) }
         ensures rows { AreRowsFor self.sizes rows.new }
     {
         let Rows {
@@ -29,8 +37,8 @@ impl Embedded {
             changed,
             values,
         } = rows;
-        self.make_loads(last, changed, values, indices, loads);
-        self
+        self.make_loads(last, changed, values, indices, loads)?;
+        Ok(self)
     }
 
     // Makes the loads, with the buffers in their place: the first collect, the later collects, the values,
@@ -43,7 +51,7 @@ impl Embedded {
         values: &mut [u64],
         indices: &[u32],
         loads: &mut L,
-    )
+    ) -> Result<(), L::Break>
         requires goes { L.goes loads.old }
         requires together { ViewGoesTogether indices.now (self.old, buffers last.old changed.old values.old) }
         requires scan { L.scan loads.old ≡ (self.old, buffers last.old changed.old values.old) }
@@ -51,28 +59,29 @@ impl Embedded {
         ensures goes { L.goes loads.new }
         ensures scan { L.scan loads.new ≡ (self.new, buffers last.new changed.new values.new) }
         ensures follows { L.follows loads.old loads.new }
-        ensures done { self.new.stage ≡ Done }
+        ensures done { OnOk result (self.new.stage ≡ Done) }
         ensures rows { AreRowsFor self.old.sizes (buffers last.new changed.new values.new) }
     {
         while let Some(position) = self.collecting_first() {
             let word = self.sizes.component_word(indices[position]);
-            let stamp = loads.load(u64::from(word));
+            let stamp = loads.load(u64::from(word))?;
             self.after_first_load(last, changed, indices.len(), position, stamp);
         }
         while let Some(position) = self.collecting() {
             let word = self.sizes.component_word(indices[position]);
-            let found = loads.load(u64::from(word));
+            let found = loads.load(u64::from(word))?;
             self.after_later_load(last, changed, indices.len(), position, found);
         }
         while let Some(position) = self.valuing() {
             let word = value_word(last[position]);
-            let value = loads.load(word);
+            let value = loads.load(word)?;
             self.after_value(values, indices, position, value);
         }
         while let Some(word) = self.due_word(last, indices) {
-            let answer = loads.load(word);
+            let answer = loads.load(word)?;
             self.after_answer(last, changed, values, indices, answer);
         }
+        Ok(())
     }
 
     // The position whose component word is due in the first collect. `None` when that collect is over.

@@ -1,7 +1,7 @@
 -- What the parts of a change of epoch leave of a port.
-use Rattle.std.specs.Prelude.{ℕ, ◌≡◌, ◌≢◌, ◌+◌, ◌-◌, ◌%◌, ◌<◌, ◌≤◌, ◌⊎◌, Bool, true, false, IfSome, List, [], Option, None, Some}
+use Rattle.std.specs.Prelude.{ℕ, ◌≡◌, ◌≢◌, ◌+◌, ◌-◌, ◌%◌, ◌<◌, ◌≤◌, ◌⊎◌, nat_lt, if◌then◌else◌, Bool, true, false, IfSome, List, [], Option, None, Some}
 use Rattle.partial_model.specs.declared.history.Applied.{Applied}
-use Rattle.partial_words.specs.Layout.{Layout, first_free, pool_base, initial_record}
+use Rattle.partial_words.specs.Layout.{Layout, first_free, initial_record, list_base}
 use Rattle.partial_words.specs.Chain.{opening_word}
 use Rattle.partial_words.specs.Record.{value_word, plain_record_size}
 use Rattle.partial_epochs.specs.Layout.{arena_limit, entering_mark, epoch_limit, set_offset}
@@ -33,13 +33,25 @@ TakesBy w x a y = Takes (w - (1 + x.about.ports)) x a y
 abbrev pub PutsBy : ℕ → SeatedPort → ℕ → SeatedPort → Type 0
 PutsBy w x a y = OfOwned (λ o. PutsPort o (unpacked (w - entering_mark))) x a y
 
+-- the number of the word that has to be set next behind the values of the first n components: the next value, or the first carried stamp
+abbrev pub behind_values : Layout → ℕ → ℕ
+behind_values z n = if nat_lt n z.m then value_word (initial_record z n) else first_free z
+
+-- and of the one behind the value that is set as number i
+abbrev pub behind_value : Layout → ℕ → ℕ
+behind_value z i = if nat_lt (i + plain_record_size) (first_free z) then i + plain_record_size else first_free z
+
 -- the store of the next word of the owned arena
 abbrev pub SetsNext : SeatedPort → ℕ → SeatedPort → Type 0
 SetsNext x a y = OfOwned (λ o. Sets o (o.set + 1)) x a y
 
--- and that of the last one before the list words, which count as set then
+-- that of the last one before the list words: what lies before the first value counts as set then
 abbrev pub SetsLists : SeatedPort → ℕ → SeatedPort → Type 0
-SetsLists x a y = OfOwned (λ o. Sets o (pool_base x.about.sizes)) x a y
+SetsLists x a y = OfOwned (λ o. Sets o (behind_values x.about.sizes 0)) x a y
+
+-- and that of a value: what lies before the next one counts as set then, or before the carried stamps
+abbrev pub SetsValue : SeatedPort → ℕ → SeatedPort → Type 0
+SetsValue x a y = OfOwned (λ o. Sets o (behind_value x.about.sizes o.set)) x a y
 
 -- The port stands where it stood, in the same call, with the same notes; what it has seen, passed, found and owns may be another.
 pub record Stays (s t : Stand) : Type 0 where
@@ -138,17 +150,8 @@ HasCleared x n Ended s = Owns s x × IsPast s
 
 -- v is what each opening has in the word that is set as number i, whatever its values are
 pub record IsFixedWord (z : Layout) (v i : ℕ) : Type 0 where
-  pub within : i < first_free z
-  pub free : (i < pool_base z) ⊎ ((i - pool_base z) % plain_record_size ≢ value_word 0)
+  pub within : i < list_base z
   pub is : v ≡ opening_word z [] (set_offset z i)
-
--- v is the value that has been found, and i the number of the word of its initial record
-pub record IsInitialValue (z : Layout) (found : Option Found) (v i : ℕ) : Type 0 where
-  pub f : Found
-  pub found_is : found ≡ Some f
-  pub inside : f.component < z.m
-  pub at : i ≡ value_word (initial_record z f.component)
-  pub is : v ≡ f.value
 
 -- v is the stamp that has been found, and i the number of the word of the stamp that is carried
 pub record IsCarriedStamp (z : Layout) (found : Option Found) (v i : ℕ) : Type 0 where
@@ -158,9 +161,9 @@ pub record IsCarriedStamp (z : Layout) (found : Option Found) (v i : ℕ) : Type
   pub at : i ≡ first_free z + f.component
   pub is : v ≡ f.stamp
 
--- v is what the next epoch begins with in the word that is set as number i
+-- v is what the next epoch begins with in the word that is set as number i, which isn't that of a value
 abbrev pub IsRight : SeatedPort → ℕ → ℕ → Type 0
-IsRight x v i = IsFixedWord x.about.sizes v i ⊎ (IsInitialValue x.about.sizes x.found v i ⊎ IsCarriedStamp x.about.sizes x.found v i)
+IsRight x v i = IsFixedWord x.about.sizes v i ⊎ IsCarriedStamp x.about.sizes x.found v i
 
 -- the port's control is as it was
 abbrev pub HasControl : Stand → Stand → Type 0

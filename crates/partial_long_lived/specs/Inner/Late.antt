@@ -1,20 +1,10 @@
--- A read that finds its component sealed, and goes on from the seat that was put back.
-use Rattle.std.specs.Prelude.{ℕ, ◌≡◌, ◌≤◌, true}
+-- A read that finds its component sealed.
+use Rattle.std.specs.Prelude.{ℕ, ◌≤◌, true}
 use Rattle.partial_epochs.specs.Layout.{seal}
 use Rattle.partial_long_lived.specs.declared.stand.Stand.{Stand}
-use Rattle.partial_long_lived.specs.declared.seating.Seating.{Seating}
 use Rattle.partial_long_lived.specs.Inner.Held.{port_at}
 use Rattle.partial_long_lived.specs.Inner.Loads.{SeatSees}
 use Rattle.partial_long_lived.specs.Inner.Loads.Wish.{Reads}
-
--- the port stands where it stood when its seat was taken out
-pub record HasPlaceOf (s : Seating) (t : Stand) : Type 0 where
-  pub shape : s.shape ≡ t.shape
-  pub number : s.number ≡ t.number
-  pub epoch : s.epoch ≡ t.epoch
-  pub arena : s.arena ≡ t.arena
-  pub base : s.base ≡ t.base
-  pub passed : s.passed ≡ t.passed
 
 -- the first load of a read has found its component sealed
 pub record HasFoundSeal (j : ℕ) (s t : Stand) : Type 0 where

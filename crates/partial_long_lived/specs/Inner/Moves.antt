@@ -7,7 +7,7 @@ use Rattle.partial_epochs.specs.Ports.{OwnedArena, Port}
 use Rattle.partial_epochs.specs.Ports.Entering.{Marks, Loaded}
 use Rattle.partial_epochs.specs.Entering.{arrived_port, having_passed}
 use Rattle.partial_epochs.specs.Sealing.{passing_port}
-use Rattle.partial_epochs.specs.Owning.{cleaner, having_given, having_loaded, having_looked, just_taken, owning_port}
+use Rattle.partial_epochs.specs.Owning.{at_next_port, having_given, having_loaded, having_looked, just_taken, owning_port}
 use Rattle.partial_epochs.specs.Publishing.{having_published, having_set}
 use Rattle.partial_long_lived.specs.Rule.{Began, SeatedPort, plan_of}
 use Rattle.partial_long_lived.specs.Ports.{seen_in}
@@ -91,7 +91,7 @@ SeatGives x a y = y ≡ becomes x x.began (having_given x.port)
 
 -- what an owner does with the word of the next port, which is the unmarked word a: it is done with that port if the port is in another arena
 abbrev pub elsewhere : ℕ → OwnedArena → OwnedArena
-elsewhere a o = if (unpacked a).arena == o.arena then o else cleaner o
+elsewhere a o = if (unpacked a).arena == o.arena then o else at_next_port o
 
 -- the same where the word may be marked: the owner has loaded it
 abbrev pub port_loaded : ℕ → OwnedArena → OwnedArena
@@ -103,7 +103,7 @@ LoadsPort o x a y = y ≡ becomes x x.began (owning_port x.port (port_loaded a o
 
 -- an owner that has exchanged the mark m of that port for its own place, and found a
 abbrev pub port_put : Place → ℕ → OwnedArena → OwnedArena
-port_put m a o = if a == marked m then cleaner o else (if nat_lt a entering_mark then elsewhere a o else o)
+port_put m a o = if a == marked m then at_next_port o else (if nat_lt a entering_mark then elsewhere a o else o)
 
 -- that exchange, by the owner o
 abbrev pub PutsPort : OwnedArena → Place → SeatedPort → ℕ → SeatedPort → Type 0

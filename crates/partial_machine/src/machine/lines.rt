@@ -3,7 +3,7 @@
 //! with its slot, and the machines of a getSet and of an embedded scan. The port's machine stays
 //! idle. It keeps the marks, what was found and the rows.
 
-ghost use Rattle.std.specs.Prelude.{◌≡◌, ◌==◌, length, map, slice_index, Some, None, true, false, OnOk, IfErr};
+ghost use Rattle.std.specs.Prelude.{◌≡◌, ◌==◌, length, map, slice_index, Some, None, true, false, IfOk, OnOk, IfErr};
 ghost use Rattle.partial_active.specs.GetSet.{fresh_set as unmarked, set_step_due};
 ghost use Rattle.partial_embedded.specs.Embedded.{ViewGoesTogether, fresh_view};
 ghost use Rattle.partial_embedded.specs.declared.embedded.Stage.TheVariants.{Done};
@@ -67,15 +67,18 @@ impl Core {
 
     /// Makes a getSet to its end and returns it. The machine keeps what the getSet found. Each step
     /// is made through `steps`, which are at this getSet.
+    ///
+    /// # Errors
+    /// [`Steps::Break`] when `steps` break it off: they are at the getSet after the last step that was made.
     #[inline(always)]
-    pub fn make_set<S: Steps>(&mut self, steps: &mut S) -> GetSet
+    pub fn make_set<S: Steps>(&mut self, steps: &mut S) -> Result<GetSet, S::Break>
         requires idle { self.old.stage ≡ Idle }
         requires goes { S.goes steps.old }
         requires set { S.set steps.old ≡ getting (set_begun self.old) }
         ensures goes { S.goes steps.new }
-        ensures set { S.set steps.new ≡ (result, self.new.found) }
+        ensures set { IfOk result (λ made. S.set steps.new ≡ (made, self.new.found)) }
         ensures follows { S.follows steps.old steps.new }
-        ensures done { set_step_due result ≡ None }
+        ensures done { IfOk result (λ made. set_step_due made ≡ None) }
         ensures core { self.new ≡ record self.old { found = self.new.found } }
     {
         let begun = GetSet::new(self.sizes, self.get_set.lists_spent());
@@ -129,13 +132,16 @@ impl Core {
 
     /// Makes this embedded scan of these positions to its end, over the machine's rows, and returns
     /// it. Each load is made through `loads`, which are at this scan.
+    ///
+    /// # Errors
+    /// [`Loads::Break`] when `loads` break it off: they are at the scan after the last load that was made.
     #[inline(always)]
     pub fn scan_positions<L: Loads>(
         &mut self,
         embedded: Embedded,
         positions: &[u32],
         loads: &mut L,
-    ) -> Embedded
+    ) -> Result<Embedded, L::Break>
         requires idle { self.old.stage ≡ Idle }
         requires sizes { embedded.sizes ≡ self.old.sizes }
         requires together { ViewGoesTogether positions.now (embedded, self.old.rows) }
@@ -143,9 +149,9 @@ impl Core {
         requires scan { L.scan loads.old ≡ (embedded, self.old.rows) }
         requires positions { L.positions loads.old ≡ positions.now }
         ensures goes { L.goes loads.new }
-        ensures scan { L.scan loads.new ≡ (result, self.new.rows) }
+        ensures scan { IfOk result (λ made. L.scan loads.new ≡ (made, self.new.rows)) }
         ensures follows { L.follows loads.old loads.new }
-        ensures done { result.stage ≡ Done }
+        ensures done { IfOk result (λ made. made.stage ≡ Done) }
         ensures core { self.new ≡ record self.old { rows = self.new.rows } }
     {
         embedded.make(&mut self.rows, positions, loads)
@@ -153,8 +159,15 @@ impl Core {
 
     /// Makes this embedded scan of the indices that the getSet found, in the same way as
     /// [`Core::scan_positions`].
+    ///
+    /// # Errors
+    /// As those of [`Core::scan_positions`].
     #[inline(always)]
-    pub fn scan_found<L: Loads>(&mut self, embedded: Embedded, loads: &mut L) -> Embedded
+    pub fn scan_found<L: Loads>(
+        &mut self,
+        embedded: Embedded,
+        loads: &mut L,
+    ) -> Result<Embedded, L::Break>
         requires idle { self.old.stage ≡ Idle }
         requires sizes { embedded.sizes ≡ self.old.sizes }
         requires together { ViewGoesTogether self.old.found.indices (embedded, self.old.rows) }
@@ -162,9 +175,9 @@ impl Core {
         requires scan { L.scan loads.old ≡ (embedded, self.old.rows) }
         requires positions { L.positions loads.old ≡ self.old.found.indices }
         ensures goes { L.goes loads.new }
-        ensures scan { L.scan loads.new ≡ (result, self.new.rows) }
+        ensures scan { IfOk result (λ made. L.scan loads.new ≡ (made, self.new.rows)) }
         ensures follows { L.follows loads.old loads.new }
-        ensures done { result.stage ≡ Done }
+        ensures done { IfOk result (λ made. made.stage ≡ Done) }
         ensures core { self.new ≡ record self.old { rows = self.new.rows } }
     {
         embedded.make(&mut self.rows, self.found.indices(), loads)

@@ -32,6 +32,7 @@ use Rattle.partial_replay.specs.CallSteps.{Makes, IsCallRun, AreStepsOf}
 use Rattle.partial_replay.specs.Turns.{BeginInTurns}
 use Rattle.partial_replay.specs.Listed.{steps_in, AreFew}
 use Rattle.partial_replay.specs.Place.{IsNoteFrom, HasLeastPlace}
+use Rattle.partial_replay.specs.declared.memory.Memory.{Memory}
 use Rattle.partial_replay.specs.declared.port.Port.{Port}
 use Rattle.partial_replay.specs.declared.port.UnderWay.{UnderWay}
 
@@ -127,25 +128,29 @@ pub record Ends (calls : List Call) (words : List ℕ) (log : List Applied) (por
   pub finished : new.finished.items ≡ port.finished.items ++ ended_call port.number (length port.finished.items) call (one_step_more way)
       (length log) (answer_for core r) note ∷ []
 
--- the machine behind a step
-abbrev pub core_behind : List ℕ → Step → Port → CoreState
-core_behind words step port = advance port.core (answer_of words step)
+-- the event of a step of port p
+abbrev pub event_of : Memory → ℕ → Step → Event
+event_of memory p step = record { port = p; step = step; answer = answer_of memory.words.items step }
 
--- a step of a port: what became of the words, the trace, the history and the port
-pub record StepMade (calls : List Call) (words words' : List ℕ) (trace trace' : List Event) (log log' : List Applied)
-    (port new : Port) : Type 0 where
+-- the machine behind a step
+abbrev pub core_behind : Memory → Step → Port → CoreState
+core_behind memory step port = advance port.core (answer_of memory.words.items step)
+
+-- a step of a port: what became of the memory and the port
+pub record StepMade (calls : List Call) (old now : Memory) (port new : Port) : Type 0 where
   pub step : Step
   pub way : UnderWay
   pub due : step_of port.core ≡ Some step
   pub was : port.under_way ≡ Some way
-  pub possible : IsPossible port.core (answer_of words step)
-  pub words_are : words' ≡ words_after words step
-  pub trace_is : trace' ≡ trace ++ record { port = port.number; step = step; answer = answer_of words step } ∷ []
-  pub log_is : log' ≡ log ++ entry_at port.core.sizes.m words' port.number step (answer_of words step)
+  pub possible : IsPossible port.core (answer_of old.words.items step)
+  pub words_are : now.words.items ≡ words_after old.words.items step
+  pub trace_is : now.trace.items ≡ old.trace.items ++ event_of old port.number step ∷ []
+  pub log_is : now.history.items ≡
+      old.history.items ++ entry_at port.core.sizes.m now.words.items port.number step (answer_of old.words.items step)
   pub number : new.number ≡ port.number
-  pub falls : steps_left (core_behind words step port) < steps_left port.core
-  pub after : MatchOption (reply_of (core_behind words step port)) (CallGoesOn port new way (core_behind words step port))
-      (Ends calls words' log' port new way (core_behind words step port))
+  pub falls : steps_left (core_behind old step port) < steps_left port.core
+  pub after : MatchOption (reply_of (core_behind old step port)) (CallGoesOn port new way (core_behind old step port))
+      (Ends calls now.words.items now.history.items port new way (core_behind old step port))
 
 -- a record to be exchanged lies in the words
 abbrev pub IsExchangeWithin : ℕ → List ℕ → Step → Type 0
@@ -169,21 +174,21 @@ pub record AreWithin (m : ℕ) (words : List ℕ) (log : List Applied) : Type 0 
 
 -- a step that may be made: its word is there, the answer is a possible one, and what is noted of a call
 -- that ends can be found
-pub record MayStep (calls : List Call) (words : List ℕ) (log : List Applied) (port : Port) : Type 0 where
+pub record MayStep (calls : List Call) (memory : Memory) (port : Port) : Type 0 where
   pub step : Step
   pub way : UnderWay
   pub call : Call
   pub due : step_of port.core ≡ Some step
   pub was : port.under_way ≡ Some way
-  pub within : word_of step < length words
-  pub possible : IsPossible port.core (answer_of words step)
-  pub exchange : IsExchangeWithin port.core.sizes.m words step
+  pub within : word_of step < length memory.words.items
+  pub possible : IsPossible port.core (answer_of memory.words.items step)
+  pub exchange : IsExchangeWithin port.core.sizes.m memory.words.items step
   pub steps : way.steps + 1 < 2 ^ 64
   pub next : slice_get calls (length port.finished.items) ≡ Some call
-  pub ends : IfSome (reply_of (core_behind words step port))
-      (λ r. MayAnswer port.core.sizes.m call (answer_for (core_behind words step port) r))
-  pub places : AreWithin port.core.sizes.m (words_after words step)
-      (log ++ entry_at port.core.sizes.m (words_after words step) port.number step (answer_of words step))
+  pub ends : IfSome (reply_of (core_behind memory step port))
+      (λ r. MayAnswer port.core.sizes.m call (answer_for (core_behind memory step port) r))
+  pub places : AreWithin port.core.sizes.m (words_after memory.words.items step) (memory.history.items ++
+      entry_at port.core.sizes.m (words_after memory.words.items step) port.number step (answer_of memory.words.items step))
 
 -- a call that was finished as it was begun
 abbrev pub call_at_once : ℕ → ℕ → Call → ℕ → Answer → Option Note → Called

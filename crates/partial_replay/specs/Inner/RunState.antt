@@ -6,7 +6,6 @@ use Rattle.partial_model.specs.declared.history.Opening.{Opening}
 use Rattle.partial_model.specs.declared.call.Call.{Call}
 use Rattle.partial_model.specs.declared.call.Called.{Called}
 use Rattle.partial_words.specs.Layout.{Layout}
-use Rattle.partial_words.specs.declared.step.Event.{Event}
 use Rattle.partial_words.specs.Step.{Leads}
 use Rattle.partial_words.specs.Chain.{AreOpeningWords}
 use Rattle.std.specs.Option.{option_map_or}
@@ -14,6 +13,7 @@ use Rattle.partial_machine.specs.Machine.{fresh}
 use Rattle.partial_machine.specs.Bounds.{steps_left, most_of_update}
 use Rattle.partial_core.specs.Part.{Part}
 use Rattle.partial_core.specs.Lawful.{Lawful}
+use Rattle.partial_replay.specs.declared.memory.Memory.{Memory}
 use Rattle.partial_replay.specs.declared.port.Port.{Port}
 use Rattle.partial_replay.specs.declared.port.UnderWay.{UnderWay}
 use Rattle.partial_replay.specs.declared.run.Run.{Run}
@@ -22,20 +22,36 @@ use Rattle.partial_replay.specs.Trace.{event_entry, moments_by}
 use Rattle.partial_replay.specs.Inner.PortState.{PortFits, PortMade, unfinished_call}
 use Rattle.partial_machine.specs.Calls.{IsServed}
 
+-- what a replay has come to: its sizes, its opening, its memory, and its ports by their number
+pub record ReplayState : Type 0 where
+  pub sizes : Layout
+  pub opening : Opening
+  pub memory : Memory
+  pub ports : List Port
+
+-- the state of a run
+abbrev pub state_of : Run → ReplayState
+state_of run = record { sizes = run.memory.sizes; opening = run.opening; memory = run.memory; ports = run.ports.items }
+
+-- port p of a replay, and the calls that it has to make
+pub record PortAt (plans : List (List Call)) (ports : List Port) (p : ℕ) (calls : List Call) (port : Port) : Type 0 where
+  pub plan : slice_get plans p ≡ Some calls
+  pub is : slice_get ports p ≡ Some port
+
 -- the ports from number p on, each with its calls and its part
-abbrev pub PortsFit : Opening → List Applied → ℕ → List (List Call) → List Part → List Port → Type 0
-PortsFit o log p [] [] [] = ⊤
-PortsFit o log p (calls ∷ plans) (x ∷ xs) (port ∷ ports) = PortFits o log calls p x port × PortsFit o log (p + 1) plans xs ports
-PortsFit o log p _ _ _ = ⊥
+pub data PortsFit (o : Opening) (log : List Applied) : ℕ → List (List Call) → List Part → List Port → Type 0 where
+  no_ports : {p : ℕ} → PortsFit o log p [] [] []
+  first_port : {p : ℕ} {calls : List Call} {plans : List (List Call)} {x : Part} {parts : List Part} {port : Port} {ports : List Port} →
+      PortFits o log calls p x port → PortsFit o log (p + 1) plans parts ports → PortsFit o log p (calls ∷ plans) (x ∷ parts) (port ∷ ports)
 
 -- the calls of a plan's ports: each is one that the machine serves, and a call's number fits 32 bits
 abbrev pub ArePlans : ℕ → List (List Call) → Type 0
 ArePlans m plans = AllByRecursion (λ calls. (length calls < 2 ^ 32) × AllByRecursion (IsServed m) calls) plans
 
 -- each port's events are the steps of its calls
-abbrev pub ArePortsMade : List (List Call) → Layout → List Port → List Applied → List Event → Type 0
-ArePortsMade plans z ports log trace = (q : ℕ) (calls : List Call) (port : Port) → slice_get plans q ≡ Some calls →
-    slice_get ports q ≡ Some port → PortMade z (length log) calls q (moments_by z.m q trace) port
+abbrev pub ArePortsMade : List (List Call) → ReplayState → Type 0
+ArePortsMade plans s = (q : ℕ) (calls : List Call) (port : Port) → PortAt plans s.ports q calls port →
+    PortMade s.sizes (length s.memory.history.items) calls q (moments_by s.sizes.m q s.memory.trace.items) port
 
 -- the call under way of a port has made a step
 abbrev pub AreStarted : List Port → Type 0
@@ -51,24 +67,18 @@ abbrev pub unvalued : Applied → Applied
 unvalued e = record { port = e.port; component = e.component; value = 0; stamp = e.stamp }
 
 -- the state of a replay of these calls is lawful, and its trace leads from the words at opening to its words
-pub record IsRunOf (plans : List (List Call)) (z : Layout) (o : Opening) (words : List ℕ) (ports : List Port) (log : List Applied)
-    (trace : List Event) : Type 0 where
+pub record IsRunOf (plans : List (List Call)) (s : ReplayState) : Type 0 where
   pub parts : List Part
   pub opened : List ℕ
-  pub opens : AreOpeningWords z o.values opened
-  pub lawful : Lawful z o words parts log
-  pub fit : PortsFit o log 0 plans parts ports
-  pub leads : Leads opened trace words
+  pub opens : AreOpeningWords s.sizes s.opening.values opened
+  pub lawful : Lawful s.sizes s.opening s.memory.words.items parts s.memory.history.items
+  pub fit : PortsFit s.opening s.memory.history.items 0 plans parts s.ports
+  pub leads : Leads opened s.memory.trace.items s.memory.words.items
   -- the won exchanges of component words in the trace are the history, but for the values
-  pub entries : filter_map (event_entry z.m (λ _. 0)) trace ≡ map unvalued log
+  pub entries : filter_map (event_entry s.sizes.m (λ _. 0)) s.memory.trace.items ≡ map unvalued s.memory.history.items
   -- each port's events are the steps of its calls
-  pub senders : AllByRecursion (λ e. e.port < length plans) trace
-  pub made : ArePortsMade plans z ports log trace
-
--- the state of a replay of these plans
-abbrev pub IsReplayState : List (List Call) → Run → Type 0
-IsReplayState plans run = IsRunOf plans run.memory.sizes run.opening run.memory.words.items run.ports.items
-    run.memory.history.items run.memory.trace.items
+  pub senders : AllByRecursion (λ e. e.port < length plans) s.memory.trace.items
+  pub made : ArePortsMade plans s
 
 -- there is room to find the place of a scan
 abbrev pub RunHasRoom : Run → Type 0
@@ -76,7 +86,7 @@ RunHasRoom run = run.memory.places ≡ run.memory.sizes.m
 
 -- a replay of these calls: its state is lawful, and there is room to find the places of scans
 pub record IsReplay (plans : List (List Call)) (run : Run) : Type 0 where
-  pub state : IsReplayState plans run
+  pub state : IsRunOf plans (state_of run)
   pub room : RunHasRoom run
   pub served : ArePlans run.memory.sizes.m plans
 
@@ -113,9 +123,12 @@ port_left_at zero (calls ∷ plans) (port ∷ ports) = port_left calls port
 port_left_at (suc p) (calls ∷ plans) (port ∷ ports) = port_left_at p plans ports
 
 -- a call of the port with that number is under way, and any other call under way has made a step
-abbrev pub IsTurnReady : ℕ → Run → Type 0
-IsTurnReady p run = (port : Port) × (way : UnderWay) × (slice_get run.ports.items p ≡ Some port) × (port.under_way ≡ Some way) ×
-    AreStartedBut p run.ports.items
+pub record IsTurnReady (p : ℕ) (run : Run) : Type 0 where
+  pub port : Port
+  pub way : UnderWay
+  pub is : slice_get run.ports.items p ≡ Some port
+  pub under : port.under_way ≡ Some way
+  pub started : AreStartedBut p run.ports.items
 
 -- so many ports from that number on that have made no call
 abbrev pub FreshFrom : Layout → ℕ → List Port → Type 0

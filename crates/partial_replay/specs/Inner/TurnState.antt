@@ -3,18 +3,19 @@ use Rattle.std.specs.Prelude.{ℕ, ◌≡◌, ◌≢◌, ◌<◌, ◌≤◌, ◌
 use Rattle.partial_model.specs.declared.call.Call.{Call}
 use Rattle.partial_replay.specs.declared.port.Port.{Port}
 use Rattle.partial_replay.specs.declared.run.Run.{Run}
+use Rattle.partial_text.specs.PlanText.{PlanView}
 use Rattle.partial_words.specs.declared.step.Event.{Event}
 use Rattle.partial_replay.specs.Trace.{Moment, ports_of, events_in, moments_from}
 use Rattle.partial_replay.specs.Turns.{turns_by, lengths_of, lengths_in}
 use Rattle.partial_replay.specs.Inner.PortState.{HasTurned}
+use Rattle.partial_replay.specs.Inner.RunState.{PortAt, IsBetweenTurns}
 use Rattle.partial_replay.specs.Listed.{EndInStep}
 
 -- the port with that number has made all its calls
 pub record IsPortDone (plans : List (List Call)) (ports : List Port) (p : ℕ) : Type 0 where
   pub calls : List Call
   pub port : Port
-  pub plan : slice_get plans p ≡ Some calls
-  pub is : slice_get ports p ≡ Some port
+  pub at : PortAt plans ports p calls port
   pub idle : port.under_way ≡ None
   pub all : length port.finished.items ≡ length calls
 
@@ -46,8 +47,8 @@ pub record GoesOnBy (n p : ℕ) (old new : Run) : Type 0 where
 
 -- port q has begun its calls in turns in which the history was so long
 abbrev pub BeganInTurns : ℕ → List (List Call) → ℕ → List ℕ → List Port → Type 0
-BeganInTurns idle plans q lengths ports = (calls : List Call) (port : Port) →
-    slice_get plans q ≡ Some calls → slice_get ports q ≡ Some port → HasTurned idle calls lengths port
+BeganInTurns idle plans q lengths ports = (calls : List Call) (port : Port) → PortAt plans ports q calls port →
+    HasTurned idle calls lengths port
 
 -- the turns that are port q's, of those of port p
 abbrev pub own_turns : ℕ → ℕ → List ℕ → List ℕ
@@ -125,3 +126,11 @@ lengths_so_far q turns run =
 -- each port has begun its calls in its turns
 abbrev pub HaveBegun : List (List Call) → List (ℕ × Option ℕ) → Run → Type 0
 HaveBegun plans turns run = (q : ℕ) → BeganInTurns 0 plans q (lengths_so_far q turns run) run.ports.items
+
+-- a replay of the plan's calls, of its sizes and values, has made these turns, and is between two of them
+pub record HasReplayed (plan : PlanView) (plans : List (List Call)) (turns : List (ℕ × Option ℕ)) (run : Run) : Type 0 where
+  pub between : IsBetweenTurns plans run
+  pub sizes : run.memory.sizes ≡ plan.sizes
+  pub values : run.opening.values ≡ plan.initial
+  pub made : HasMadeTurns plans turns run
+  pub begun : HaveBegun plans turns run

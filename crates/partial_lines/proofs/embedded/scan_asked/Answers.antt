@@ -1,4 +1,5 @@
-use Rattle.partial_lines.proofs.Common.{◌≡◌, rules, refl, sym, ap, ◌∙◌, subst, Stage, Leaving, at_stage, scanning, with_scanning, IsScanStage, behind_scan, positions_at, ViewGoesTogether}
+use Rattle.partial_lines.proofs.Common.{◌≡◌, rules, refl, Result, Ok, Err, IfOk, CoreState, EmbeddedState, sym, ap, ◌∙◌, subst, Stage, Leaving, at_stage, scanning, with_scanning, IsScanStage, behind_scan, positions_at, ViewGoesTogether}
+use Rattle.partial_embedded.specs.declared.embedded.Stage.TheVariants.{Done}
 use Rattle.partial_lines.proofs.Parts.{at_asked, scan_made, scan_over}
 use Rattle.partial_lines.proofs.embedded.scan_asked.Goals as goal
 
@@ -23,11 +24,21 @@ scan_positions-requires-clause-positions g c = ap (positions_at (g.M.Makes.machi
 
 pub returns-clause-machine : goal.returns-clause-machine
 returns-clause-machine g c =
-    let start = g.M.Makes.machine c.args.lines.now in
-    let d = g.M.Makes.machine c.scan_positions.new.loads.lines.now in
-    let on = c.scan_positions.ensures.follows.1 in
-    let over = scan_over d _ refl c.scan_positions.ensures.goes.1 (ap (λ p. p.0.stage) c.scan_positions.ensures.scan ∙ c.scan_positions.ensures.done) in
-    let made : d ≡ at_stage (with_scanning start (c.scan_positions.result, c.scan_positions.new.self.rows)) Leaving =
-    scan_made start d _ on.rest c.scan_positions.ensures.scan over on.stage
-    ∙ ap (λ (t : Stage). at_stage (with_scanning start (c.scan_positions.result, c.scan_positions.new.self.rows)) (behind_scan t)) c.requires.stage in
+    let made : IfOk c.scan_positions.result (λ made. here ≡ at_stage (with_scanning start (made, c.scan_positions.new.self.rows)) Leaving) =
+    by c.scan_positions.result c.scan_positions.ensures.scan c.scan_positions.ensures.done in
     search rules
+  where
+    start : CoreState
+    start = g.M.Makes.machine c.args.lines.now
+
+    here : CoreState
+    here = g.M.Makes.machine c.scan_positions.new.loads.lines.now
+
+    by : (r : Result EmbeddedState g.row.M-Break.Denot) → IfOk r (λ made. scanning here ≡ (made, c.scan_positions.new.self.rows)) → IfOk r (λ made. made.stage ≡ Done) →
+        IfOk r (λ made. here ≡ at_stage (with_scanning start (made, c.scan_positions.new.self.rows)) Leaving)
+    by (Ok made) scan done =
+        let on = c.scan_positions.ensures.follows.1 in
+        let over = scan_over here _ refl c.scan_positions.ensures.goes.1 (ap (λ p. p.0.stage) scan ∙ done) in
+        scan_made start here _ on.rest scan over on.stage
+        ∙ ap (λ (t : Stage). at_stage (with_scanning start (made, c.scan_positions.new.self.rows)) (behind_scan t)) c.requires.stage
+    by (Err _) scan done = tt

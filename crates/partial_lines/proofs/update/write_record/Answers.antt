@@ -6,13 +6,13 @@ loop-k-init g c =
     let last = g.met.M.Makes.leads_on _ _ _ c.store_word-2.ensures.leads c.store_word-3.ensures.leads in
     record {
       going = c.store_word-3.ensures.goes;
-      leads = g.met.M.Makes.leads_on _ _ _ c.make-at.ensures.leads (g.met.M.Makes.leads_on _ _ _ c.store_word.ensures.leads last);
-      machine = c.store_word-3.ensures.machine ∙ ap (λ k. at_stage c.args.core.now (writing_stage c.args.core.now c.args.change c.args.old c.make-at.result k)) (sym c.plain_record_size-k.ensures);
+      leads = g.met.M.Makes.leads_on _ _ _ c.make.ensures.leads (g.met.M.Makes.leads_on _ _ _ c.store_word.ensures.leads last);
+      machine = c.in_ok-store_word-3.ensures.machine ∙ ap (λ k. at_stage c.args.core.now (writing_stage c.args.core.now c.args.change c.args.old c.in_ok-at.at k)) (sym c.plain_record_size-k.ensures);
     }
 
 pub loop-k-preserved : goal.loop-k-preserved
 loop-k-preserved g c = record {
   going = c.store_word-in-loop-k.ensures.goes;
   leads = g.met.M.Makes.leads_on _ _ _ c.loop-k.invariant.leads c.store_word-in-loop-k.ensures.leads;
-  machine = c.store_word-in-loop-k.ensures.machine;
+  machine = c.in_ok-store_word-4.ensures.machine;
 }

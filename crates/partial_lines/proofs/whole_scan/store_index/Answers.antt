@@ -9,4 +9,4 @@ make-requires-clause-due g c =
     store_due s s _ _ (ap (at_stage s) c.requires.stage) _ word
 
 pub returns-clause-machine : goal.returns-clause-machine
-returns-clause-machine g c = let s = g.M.Makes.machine c.args.lines.now in store_then s s _ _ (ap (at_stage s) c.requires.stage) _ _ c.make.ensures.machine
+returns-clause-machine g c = let s = g.M.Makes.machine c.args.lines.now in store_then s s _ _ (ap (at_stage s) c.requires.stage) _ _ c.in_ok-make.ensures.machine

@@ -1,9 +1,9 @@
-use Rattle.partial_long_lived.proofs.Common.{rules, refl, arith, UpdateAttempted, NotesNothing}
+use Rattle.partial_long_lived.proofs.Common.{rules, refl, arith, false, UpdateAttempted, NotesNothing, asked_change, None}
 use Rattle.partial_long_lived.proofs.Rounds.{came_on, came_rounds, late_of, may_own, one_later, round_ended, round_met, rounds_begin, rounds_came}
 use Rattle.partial_long_lived.proofs.update.rounds.Goals as goal
 
 pub loop-init : goal.loop-init
-loop-init c = let r = c.requires in (rounds_begin _ _ c.args.first c.args.stand.now _ r.held r.idle r.may, λ some. absurd (omega (arith, some)), omega (arith))
+loop-init c = let r = c.requires in (rounds_begin _ _ false c.args.stand.now _ r.held r.idle r.may, omega (arith))
 
 pub attempt-attempted-requires-clause-held : goal.attempt-attempted-requires-clause-held
 attempt-attempted-requires-clause-held c = c.loop.invariant.0.held
@@ -16,23 +16,22 @@ attempt-attempted-requires-clause-may c = c.loop.invariant.0.may
 
 pub returns-in-Some-clause-updated : goal.returns-in-Some-clause-updated
 returns-in-Some-clause-updated c =
-    let ended : UpdateAttempted c.loop.first_step c.args.change c.in-Some.exchanged c.loop.stand c.attempt-attempted.new.stand = search rules in
-    round_ended _ _ c.args.first c.loop.first_step c.args.stand.now c.loop.stand _ c.loop.invariant.0 _ _ c.requires.plain _ c.attempt-attempted.ensures.held ended
+    let ended : UpdateAttempted false (asked_change c.args.component None c.args.value) c.in-Some.exchanged c.loop.stand c.attempt-attempted.new.stand = search rules in
+    round_ended _ _ false false c.args.stand.now c.loop.stand _ c.loop.invariant.0 _ _ refl _ c.attempt-attempted.ensures.held ended
 
 pub returns-in-Err-clause-refused : goal.returns-in-Err-clause-refused
 returns-in-Err-clause-refused c =
-    let met : NotesNothing c.loop.first_step c.loop.stand c.attempt-attempted.new.stand = search rules in (
+    let met : NotesNothing false c.loop.stand c.attempt-attempted.new.stand = search rules in (
       late_of c.args.times c.args.stand.now c.renew.new.stand c.in-Err.cause (rw c.in-Err.is at c.renew.ensures.cause),
-      came_on c.args.first c.args.stand.now c.attempt-attempted.new.stand _ (round_met _ _ c.args.first c.loop.first_step c.args.stand.now c.loop.stand _ c.loop.invariant.0 _ met) c.renew.ensures.came,
+      came_on false c.args.stand.now c.attempt-attempted.new.stand _ (round_met _ _ false false c.args.stand.now c.loop.stand _ c.loop.invariant.0 _ met) c.renew.ensures.came,
     )
 
 pub loop-preserved : goal.loop-preserved
 loop-preserved c =
-    let met : NotesNothing c.loop.first_step c.loop.stand c.attempt-attempted.new.stand = search rules in
-    let came = came_on c.args.first c.args.stand.now c.attempt-attempted.new.stand _ (round_met _ _ c.args.first c.loop.first_step c.args.stand.now c.loop.stand _ c.loop.invariant.0 _ met) c.renew.ensures.came in (
-      came_rounds _ _ c.args.first c.args.stand.now _ _ c.renew.ensures.held c.renew.ensures.idle (search rules) came,
-      λ some. refl,
-      one_later _ _ c.args.stand.now c.loop.stand c.attempt-attempted.new.stand c.renew.new.stand _ c.loop.invariant.0.held c.attempt-attempted.ensures.held met.stayed.kept.epoch c.loop.invariant.2 (search rules),
+    let met : NotesNothing false c.loop.stand c.attempt-attempted.new.stand = search rules in
+    let came = came_on false c.args.stand.now c.attempt-attempted.new.stand _ (round_met _ _ false false c.args.stand.now c.loop.stand _ c.loop.invariant.0 _ met) c.renew.ensures.came in (
+      came_rounds _ _ false c.args.stand.now _ _ c.renew.ensures.held c.renew.ensures.idle (search rules) came,
+      one_later _ _ c.args.stand.now c.loop.stand c.attempt-attempted.new.stand c.renew.new.stand _ c.loop.invariant.0.held c.attempt-attempted.ensures.held met.stayed.kept.epoch c.loop.invariant.1 (search rules),
     )
 
 pub returns-clause-held : goal.returns-clause-held
@@ -49,7 +48,6 @@ returns-clause-spare c = λ _. c.loop.invariant.0.may
 
 pub returns-clause-refused : goal.returns-clause-refused
 returns-clause-refused c =
-    let some = c.requires.some in
     let over = c.loop-test.false in
-    let later = c.loop.invariant.2 in
-    (omega (arith, over, later), rounds_came _ _ c.args.first c.loop.first_step c.args.stand.now c.loop.stand _ c.loop.invariant.0 (c.loop.invariant.1 (omega (arith, some, over))))
+    let later = c.loop.invariant.1 in
+    (omega (arith, over, later), rounds_came _ _ false false c.args.stand.now c.loop.stand _ c.loop.invariant.0 refl)

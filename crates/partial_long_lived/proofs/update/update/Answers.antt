@@ -1,15 +1,47 @@
-use Rattle.partial_long_lived.proofs.Common.{rules, true, false, Exchanged, Refused, CameBy, IsLate, UpdateEnded}
-use Rattle.partial_long_lived.proofs.Rounds.{came_on, err_as, late_behind, late_of, ok_as, updated_behind}
+use Rattle.partial_long_lived.proofs.Common.{rules, arith, true, false, epoch_at, ◌≤◌, Exchanged, Refused, CameBy, IsLate, NotesNothing, UpdateAttempted, UpdateEnded, asked_change, None, refl, Change}
+use Rattle.partial_long_lived.proofs.Rounds.{came_on, err_as, late_from, ok_as, round_ended, round_met, rounds_begin, updated_behind}
+use Rattle.partial_long_lived.proofs.Updates.{rests_may, rests_own}
 use Rattle.partial_long_lived.proofs.update.update.Goals as goal
 
+pub update_late-requires-clause-rests : goal.update_late-requires-clause-rests
+update_late-requires-clause-rests c = let r = c.requires in rests_own _ _ c.args.stand.now _ _ r.held r.rests
+
+pub attempt-attempted-requires-clause-may : goal.attempt-attempted-requires-clause-may
+attempt-attempted-requires-clause-may c = let r = c.requires in rests_may _ _ c.args.stand.now _ _ r.held r.rests c.if-spent.false
+
+pub returns-in-Some-clause-updated : goal.returns-in-Some-clause-updated
+returns-in-Some-clause-updated c =
+    let r = c.requires in
+    let ended : UpdateAttempted true (asked_change c.args.component None c.args.value) c.in-Some.exchanged c.args.stand.now c.attempt-attempted.new.stand = search rules in
+    round_ended _ _ true true c.args.stand.now c.args.stand.now _
+    (rounds_begin _ _ true c.args.stand.now _ r.held r.rests.free (rests_may _ _ c.args.stand.now _ _ r.held r.rests c.if-spent.false)) _ _ refl _ c.attempt-attempted.ensures.held ended
+
 pub returns-clause-updated : goal.returns-clause-updated
-returns-clause-updated c = ok_as Exchanged Refused c.rounds-2.result (λ r. UpdateEnded false c.args.change r c.renew.new.stand c.rounds-2.new.stand) (λ r. UpdateEnded true c.args.change r c.args.stand.now c.rounds-2.new.stand)
-    (λ r w. updated_behind c.args.change r c.args.stand.now c.renew.new.stand c.rounds-2.new.stand c.renew.ensures.came w) c.rounds-2.ensures.updated
+returns-clause-updated c =
+    let r = c.requires in
+    let met : NotesNothing true c.args.stand.now c.attempt-attempted.new.stand = search rules in
+    let on = rounds_begin _ _ true c.args.stand.now _ r.held r.rests.free (rests_may _ _ c.args.stand.now _ _ r.held r.rests c.if-spent.false) in
+    let came = round_met _ _ true true c.args.stand.now c.args.stand.now _ on c.attempt-attempted.new.stand met in
+    let change : Change = asked_change c.args.component None c.args.value in
+    ok_as Exchanged Refused c.update_late-2.result (λ r. UpdateEnded false change r c.attempt-attempted.new.stand c.update_late-2.new.stand)
+    (λ r. UpdateEnded true change r c.args.stand.now c.update_late-2.new.stand)
+    (λ r w. updated_behind true change r c.args.stand.now c.attempt-attempted.new.stand c.update_late-2.new.stand came w) c.update_late-2.ensures.updated
 
 pub returns-clause-refused : goal.returns-clause-refused
-returns-clause-refused c = err_as Exchanged Refused c.rounds-2.result (λ cause. IsLate 15 c.renew.new.stand cause c.rounds-2.new.stand × CameBy false c.renew.new.stand c.rounds-2.new.stand)
-    (λ cause. IsLate 16 c.args.stand.now cause c.rounds-2.new.stand × CameBy true c.args.stand.now c.rounds-2.new.stand)
-    (λ cause w. (late_behind 15 c.args.stand.now c.renew.new.stand c.rounds-2.new.stand cause (search rules) w.0, came_on true c.args.stand.now c.renew.new.stand c.rounds-2.new.stand c.renew.ensures.came w.1)) c.rounds-2.ensures.refused
-
-pub returns-in-Err-clause-refused : goal.returns-in-Err-clause-refused
-returns-in-Err-clause-refused c = (late_of 16 c.args.stand.now c.renew.new.stand c.in-Err.cause (rw c.in-Err.is at c.renew.ensures.cause), c.renew.ensures.came)
+returns-clause-refused c =
+    let r = c.requires in
+    let met : NotesNothing true c.args.stand.now c.attempt-attempted.new.stand = search rules in
+    let on = rounds_begin _ _ true c.args.stand.now _ r.held r.rests.free (rests_may _ _ c.args.stand.now _ _ r.held r.rests c.if-spent.false) in
+    let came = round_met _ _ true true c.args.stand.now c.args.stand.now _ on c.attempt-attempted.new.stand met in
+    let before = r.held.epoch in
+    let behind = c.attempt-attempted.ensures.held.epoch in
+    let same = met.stayed.kept.epoch in
+    let no_later : epoch_at c.args.stand.now ≤ epoch_at c.attempt-attempted.new.stand = omega (arith, before, behind, same) in
+    err_as Exchanged Refused c.update_late-2.result
+    (λ cause. IsLate 16 c.attempt-attempted.new.stand cause c.update_late-2.new.stand × CameBy false c.attempt-attempted.new.stand c.update_late-2.new.stand)
+    (λ cause. IsLate 16 c.args.stand.now cause c.update_late-2.new.stand × CameBy true c.args.stand.now c.update_late-2.new.stand)
+    (λ cause w. (
+      late_from 16 c.args.stand.now c.attempt-attempted.new.stand c.update_late-2.new.stand cause no_later w.0,
+      came_on true c.args.stand.now c.attempt-attempted.new.stand c.update_late-2.new.stand came w.1,
+    ))
+    c.update_late-2.ensures.refused

@@ -11,15 +11,15 @@ returns-clause-ended c =
     let begun : RestsLike (machine_of seat.me) core =
     subst (λ (d : CoreState). RestsLike d core) (sym c.begin_read-stamp.ensures.machine)
     (record { like = record { sizes = refl; port = refl; pool = refl; slots = refl; lists = refl }; idle = c.requires.rest.idle; sound = c.requires.rest.sound }) in
-    let rests = c.read-value.ensures.rests core begun in
-    let me = c.read-value.new.lines.seat.me in
-    let ended : CallEnded (at_stage core (ReadBegun c.args.component)) (one_in c.args.badge.now.views) (reply.Read c.read-value.result c.begin_read-stamp.result) core (one_of me.0) = record {
+    let rests = c.in-Ok.ensures.rests core begun in
+    let me = c.read.new.lines.seat.me in
+    let ended : CallEnded (at_stage core (ReadBegun c.args.component)) (one_in c.args.badge.now.views) (reply.Read c.in-Ok.value c.begin_read-stamp.result) core (one_of me.0) = record {
       machine = machine_of me;
-      made = c.read-value.ensures.leads.1 _ _ c.requires.begins made;
-      replies = c.read-value.ensures.replies;
+      made = c.in-Ok.ensures.leads.1 _ _ c.requires.begins made;
+      replies = c.in-Ok.ensures.replies;
       like = rests.like;
       idle = rests.idle;
       sound = rests.sound;
     } in
-    subst (λ (x : SeatedPort). CallEnded (at_stage core (ReadBegun c.args.component)) (one_in c.args.badge.now.views) (reply.Read c.read-value.result c.begin_read-stamp.result) core x)
+    subst (λ (x : SeatedPort). CallEnded (at_stage core (ReadBegun c.args.component)) (one_in c.args.badge.now.views) (reply.Read c.in-Ok.value c.begin_read-stamp.result) core x)
     (sym (ap one_in c.into_badge.ensures.2)) ended

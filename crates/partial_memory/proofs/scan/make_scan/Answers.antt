@@ -3,10 +3,10 @@ use Rattle.partial_memory.proofs.scan.make_scan.Goals as goal
 
 pub returns-clause-ended : goal.returns-clause-ended
 returns-clause-ended c =
-    let behind = c.scan-scanned.ensures in
+    let behind = c.in-Ok.ensures in
     record {
       ended = record {
-        machine = machine_of c.scan-scanned.new.lines.seat.me;
+        machine = machine_of c.scan.new.lines.seat.me;
         made = behind.leads.1 _ _ c.requires.begins c.begin_scan-at.ensures.made;
         replies = behind.replies;
         like = behind.rests.like;

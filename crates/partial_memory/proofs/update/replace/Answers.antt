@@ -6,11 +6,11 @@ use Rattle.partial_memory.proofs.update.replace.Goals as goal
 
 pub returns-in_default-clause-ended : goal.returns-in_default-clause-ended
 returns-in_default-clause-ended c b x begins made =
-    let rests = c.put-written.ensures.rests in
-    let replies : reply_of (machine_of c.put-written.new.lines.seat.me) ≡ Some (reply.Refused refused.PoolSpent) = search rules in
+    let rests = c.in-Ok.ensures.rests in
+    let replies : reply_of (machine_of c.put.new.lines.seat.me) ≡ Some (reply.Refused refused.PoolSpent) = search rules in
     record {
-      machine = machine_of c.put-written.new.lines.seat.me;
-      made = c.put-written.ensures.leads.1 b x begins made;
+      machine = machine_of c.put.new.lines.seat.me;
+      made = c.in-Ok.ensures.leads.1 b x begins made;
       replies = replies;
       like = rests.like;
       idle = rests.idle;
@@ -19,9 +19,9 @@ returns-in_default-clause-ended c b x begins made =
 
 pub returns-clause-ended : goal.returns-clause-ended
 returns-clause-ended c b x begins made =
-    let s = machine_of c.put-written.new.lines.seat.me in
+    let s = machine_of c.put.new.lines.seat.me in
     let d = machine_of c.make-found.new.seat.me in
-    let rests = c.put-written.ensures.rests in
+    let rests = c.in-Ok.ensures.rests in
     let stage : s.stage ≡ Exchanging c.args.change c.args.old c.in-Some.at = search rules in
     let is : d ≡ advance_at s (Exchanging c.args.change c.args.old c.in-Some.at) c.make-found.result =
     c.make-found.ensures.machine ∙ ap (λ (t : Stage). advance_at s t c.make-found.result) stage in
@@ -29,9 +29,9 @@ returns-clause-ended c b x begins made =
     let replies : reply_of d ≡ Some (ending_reply c.args.change c.of-2.result) = ap reply_of is ∙ ap Some (sym told) in
     record {
       machine = d;
-      made = c.make-found.ensures.leads b x begins (c.put-written.ensures.leads.1 b x begins made);
+      made = c.make-found.ensures.leads b x begins (c.in-Ok.ensures.leads.1 b x begins made);
       replies = replies;
-      like = subst (λ (t : CoreState). IsMarkedLike t c.put-written.new.core) (sym is)
+      like = subst (λ (t : CoreState). IsMarkedLike t c.put.new.core) (sym is)
           (record { sizes = rests.like.sizes; port = rests.like.port; pool = rests.like.pool; slots = rests.like.slots; lists = rests.like.lists });
       idle = rests.idle;
       sound = rests.sound;

@@ -1,9 +1,9 @@
-use Rattle.partial_replay.proofs.Common.{ℕ, ◌≡◌, ◌++◌, ◌∙◌, Bool, false, cond, List, [], length, get_or, Option, Some, None, map, take, ap, subst, sym, arith, ◌+◌, ◌<◌, ◌∷◌, range_with_len, take_all, false≢true, Call, Run, TellsOutcome, ArePlans, IsBetweenTurns, StopAtSteps, HasMadeTurns, TurnsMade, HaveBegun, IsReplayOf, Opening, AllByRecursion-get, IsTurnEntry, Layout, ports_of, so_many, to_its_end, turns_of}
+use Rattle.partial_replay.proofs.Common.{ℕ, ◌≡◌, ◌++◌, ◌∙◌, Bool, false, cond, List, [], length, get_or, Option, Some, None, map, take, ap, subst, sym, arith, ◌<◌, range_with_len, take_all, false≢true, Call, Run, TellsOutcome, ArePlans, StopAtSteps, TurnsMade, IsReplayOf, AllByRecursion-get, IsTurnEntry, Layout, ports_of, so_many, to_its_end, turns_of, HasReplayed}
 use Rattle.partial_replay.proofs.Plans.{are_plans}
 use Rattle.partial_replay.proofs.PortLaws.{get_is}
 use Rattle.partial_replay.proofs.Replays.{replay_told}
-use Rattle.partial_replay.proofs.RunTurns.{begun_next}
-use Rattle.partial_replay.proofs.TurnLaws.{followed, next_steps, all_steps, next_end, ending_next}
+use Rattle.partial_replay.proofs.RunTurns.{next_turns}
+use Rattle.partial_replay.proofs.TurnLaws.{next_steps, all_steps, next_end, ending_next}
 use Rattle.partial_replay.proofs.replaying.replay.Goals.{then-rest+else-loop-p-then-rest-test, else-rest}
 use Rattle.partial_replay.proofs.replaying.replay.Goals as goal
 
@@ -19,29 +19,24 @@ returns c =
     let plans = c.ports-plans.result.now in
     let outcome = c.in_ok-into_outcome.field-0 in
     let is = c.ports-plans.ensures.value in
-    let told : (run : Run) → c.if-rest.run ≡ run → IsBetweenTurns plans run → run.memory.sizes ≡ p.sizes → run.opening.values ≡ p.initial → HasMadeTurns plans (turns_of p) run →
-    HaveBegun plans (turns_of p) run → (p.rest ≡ false → StopAtSteps p.steps run) → IsReplayOf p outcome = λ run same w sizes values f begun ends.
-    replay_told p run outcome (subst (λ (l : List (List Call)). IsBetweenTurns l run) is w) sizes values
-    (subst (λ (l : List (List Call)). HasMadeTurns l (turns_of p) run) is f)
-    (subst (λ (l : List (List Call)). HaveBegun l (turns_of p) run) is begun) ends
+    let told : (run : Run) → c.if-rest.run ≡ run → HasReplayed p plans (turns_of p) run → (p.rest ≡ false → StopAtSteps p.steps run) → IsReplayOf p outcome = λ run same w ends.
+    replay_told p run outcome (subst (λ (l : List (List Call)). HasReplayed p l (turns_of p) run) is w) ends
     (subst (λ (l : List (List Call)). TellsOutcome l run outcome) is (subst (λ (v : Run). TellsOutcome plans v outcome) same c.in_ok-into_outcome.ensures)) in
     let steps : length c.steps-p-items.result.now ≡ length p.steps = ap length c.steps-p-items.ensures.value in
     let front = all_steps p.steps c.loop-p.p-index (omega (arith, c.loop-p-test.false, steps)) in
     elim c.if-rest.branch [
       | then-rest+else-loop-p-then-rest-test w ↦
-          let i = w.loop-p-then-rest.invariant in
           let all : w.loop-p-then-rest.p ≡ length p.ports = (let n = ap length is in omega (arith, n, w.loop-p-then-rest-test.false, w.loop-p-then-rest.auto.p-end)) in
           let turns : map so_many p.steps ++ map to_its_end (range_with_len 0 w.loop-p-then-rest.p) ≡ turns_of p =
           ap (λ n. map so_many p.steps ++ map to_its_end (range_with_len 0 n)) all ∙ ap (λ (b : Bool). map so_many p.steps ++ cond b (map to_its_end (range_with_len 0 (length p.ports))) [])
           w.if-rest.ensures.value in
-          told w.loop-p-then-rest.run w.run-is i.between i.sizes i.values (subst (λ (es : List (ℕ × Option ℕ)). HasMadeTurns plans es w.loop-p-then-rest.run) turns i.turns)
-          (subst (λ (es : List (ℕ × Option ℕ)). HaveBegun plans es w.loop-p-then-rest.run) turns i.begun) (λ no. absurd (false≢true (sym no ∙ sym w.if-rest.ensures.value)))
+          told w.loop-p-then-rest.run w.run-is (subst (λ (es : List (ℕ × Option ℕ)). HasReplayed p plans es w.loop-p-then-rest.run) turns w.loop-p-then-rest.invariant)
+          (λ no. absurd (false≢true (sym no ∙ sym w.if-rest.ensures.value)))
       | else-rest w ↦
           let i = c.loop-p.invariant in
           let turns : map so_many (take c.loop-p.p-index p.steps) ≡ turns_of p = front ∙ ap (λ (b : Bool). map so_many p.steps ++ cond b (map to_its_end (range_with_len 0 (length p.ports))) [])
           w.if-rest.ensures.value in
-          told c.loop-p.run w.run-is i.between i.sizes i.values (subst (λ (es : List (ℕ × Option ℕ)). HasMadeTurns plans es c.loop-p.run) turns i.turns)
-          (subst (λ (es : List (ℕ × Option ℕ)). HaveBegun plans es c.loop-p.run) turns i.begun)
+          told c.loop-p.run w.run-is (subst (λ (es : List (ℕ × Option ℕ)). HasReplayed p plans es c.loop-p.run) turns i.replayed)
           (λ no. subst (λ (l : List (ℕ × ℕ)). StopAtSteps l c.loop-p.run) (take_all c.loop-p.p-index p.steps (omega (arith, c.loop-p-test.false, steps))) i.ending)
     ]
 
@@ -49,11 +44,13 @@ pub loop-p-init : goal.loop-p-init
 loop-p-init c =
     let run = c.in_ok-run.ensures in
     record {
-      between = run.between;
-      sizes = run.opening.0 ∙ c.sizes.ensures.value;
-      values = run.opening.1 ∙ c.initial.ensures.value;
-      turns = ap ports_of run.trace;
-      begun = run.begun;
+      replayed = record {
+        between = run.between;
+        sizes = run.opening.0 ∙ c.sizes.ensures.value;
+        values = run.opening.1 ∙ c.initial.ensures.value;
+        made = ap ports_of run.trace;
+        begun = run.begun;
+      };
       ending = run.ending;
     }
 
@@ -76,7 +73,6 @@ loop-p-preserved c =
     let run = c.loop-p.run in
     let new = c.turns.new.self in
     let old = c.loop-p.invariant in
-    let same = c.in_ok-turns.ensures.same in
     let i = c.loop-p.p-index in
     let is = c.steps-p-items.ensures.value in
     let p = c.args.plan.now in
@@ -84,48 +80,22 @@ loop-p-preserved c =
     let below : i < length p.steps = omega (arith, c.loop-p-test.true, steps) in
     let e = get_or p.steps i (0, 0) in
     let t : TurnsMade plans e.0 (Some e.1) run new = subst (λ (l : List (ℕ × ℕ)). TurnsMade plans (get_or l i (0, 0)).0 (Some (get_or l i (0, 0)).1) run new) is c.in_ok-turns.ensures.turns in
-    let next : map so_many (take (i + 1) p.steps) ≡ map so_many (take i p.steps) ++ so_many e ∷ [] = next_steps p.steps i e (get_is p.steps i (0, 0) below) in
     record {
-      between = c.in_ok-turns.ensures.between;
-      sizes = same.sizes ∙ old.sizes;
-      values = ap (λ (o : Opening). o.values) same.opening ∙ old.values;
-      turns = subst (λ (es : List (ℕ × Option ℕ)). HasMadeTurns plans es new) (sym next) (followed plans (map so_many (take i p.steps)) e.0 (Some e.1) run new old.turns t);
-      begun = subst (λ (es : List (ℕ × Option ℕ)). HaveBegun plans es new) (sym next)
-          (begun_next plans (map so_many (take i p.steps)) e.0 (Some e.1) run new old.between.replay.state same old.turns old.begun t);
-      ending = ending_next plans p.steps i run new below old.turns old.ending t;
+      replayed = subst (λ (es : List (ℕ × Option ℕ)). HasReplayed p plans es new) (sym (next_steps p.steps i e (get_is p.steps i (0, 0) below)))
+          (next_turns e.0 (Some e.1) old.replayed c.in_ok-turns.ensures.between c.in_ok-turns.ensures.same t);
+      ending = ending_next plans p.steps i run new below old.replayed.made old.ending t;
     }
 
 pub loop-p-then-rest-init : goal.loop-p-then-rest-init
 loop-p-then-rest-init c =
-    let plans = c.ports-plans.result.now in
     let p = c.args.plan.now in
-    let old = c.loop-p.invariant in
     let steps : length c.steps-p-items.result.now ≡ length p.steps = ap length c.steps-p-items.ensures.value in
     let front = all_steps p.steps c.loop-p.p-index (omega (arith, c.loop-p-test.false, steps)) in
-    record {
-      between = old.between;
-      sizes = old.sizes;
-      values = old.values;
-      turns = subst (λ (es : List (ℕ × Option ℕ)). HasMadeTurns plans es c.loop-p.run) front old.turns;
-      begun = subst (λ (es : List (ℕ × Option ℕ)). HaveBegun plans es c.loop-p.run) front old.begun;
-    }
+    subst (λ (es : List (ℕ × Option ℕ)). HasReplayed p c.ports-plans.result.now es c.loop-p.run) front c.loop-p.invariant.replayed
 
 pub loop-p-then-rest-preserved : goal.loop-p-then-rest-preserved
 loop-p-then-rest-preserved c =
-    let plans = c.ports-plans.result.now in
-    let run = c.loop-p-then-rest.run in
-    let new = c.to_the_end.new.self in
-    let p = c.loop-p-then-rest.p in
-    let old = c.loop-p-then-rest.invariant in
-    let same = c.in_ok-to_the_end.ensures.same in
-    let front = map so_many c.args.plan.now.steps in
-    let es = front ++ map to_its_end (range_with_len 0 p) in
-    let next = next_end front p in
-    let t = c.in_ok-to_the_end.ensures.turns in
-    record {
-      between = c.in_ok-to_the_end.ensures.between;
-      sizes = same.sizes ∙ old.sizes;
-      values = ap (λ (o : Opening). o.values) same.opening ∙ old.values;
-      turns = subst (λ (fs : List (ℕ × Option ℕ)). HasMadeTurns plans fs new) (sym next) (followed plans es p None run new old.turns t);
-      begun = subst (λ (fs : List (ℕ × Option ℕ)). HaveBegun plans fs new) (sym next) (begun_next plans es p None run new old.between.replay.state same old.turns old.begun t);
-    }
+    let turns = c.in_ok-to_the_end.ensures in
+    let next = next_end (map so_many c.args.plan.now.steps) c.loop-p-then-rest.p in
+    subst (λ (es : List (ℕ × Option ℕ)). HasReplayed c.args.plan.now c.ports-plans.result.now es c.to_the_end.new.self) (sym next)
+    (next_turns c.loop-p-then-rest.p None c.loop-p-then-rest.invariant turns.between turns.same turns.turns)

@@ -1,4 +1,4 @@
-use Rattle.partial_long_lived.proofs.Common.{rules, [], ◌∷◌, ◌≡◌, ◌<◌, refl, ap, sym, ◌∙◌, subst, List, AllByRecursion, Me, TableId, all_front, base, OpensAll, About, SeatedPort, one_in, plan_of, IsShapeOf, IsOf, port_view, OpensShape}
+use Rattle.partial_long_lived.proofs.Common.{rules, ◌≡◌, ◌<◌, refl, ap, sym, ◌∙◌, subst, List, length, AllByRecursion, Me, TableId, all_front, base, OpensAll, About, SeatedPort, one_of, plan_of, IsShapeOf, IsOf, port_view, OpensShape}
 use Rattle.partial_long_lived.proofs.Opens.{opens}
 use Rattle.partial_long_lived.proofs.NewPorts.{deals_next, made_next, new_own, opens_as, rests_new, shape_here}
 use Rattle.partial_long_lived.proofs.Meets.{deals}
@@ -37,28 +37,27 @@ invariant_of-push_reserved c =
     let words = opens_as c.in_ok-shape.shape about _ _ c.in_ok-words.ensures shape values stamp in
     let key : c.in_ok-table.table.shared.key ≡ about = c.in_ok-table.ensures.5 in
     let shape' : IsShapeOf c.in_ok-shape.shape c.in_ok-table.table.shared.key = subst (IsShapeOf c.in_ok-shape.shape) (sym key) shape in
-    let place = ap (λ (m : Me (Unit {0}) (List SeatedPort)). m.0) c.split_seat-token.ensures.4 in
-    let here = c.into_badge.ensures.2 ∙ ap (λ (v : List SeatedPort). v ∷ []) place in
     let own = subst (λ (a : About). OpensAll (plan_of a) c.in_ok-words.words.items) (sym key) words in
     let low = subst (λ (a : About). c.loop-number.number < a.ports) (sym key) c.loop-number-test.true in
     let first = c.base-base.ensures ∙ ap (λ e. base e 0) (sym shape') in
     let inv = c.loop-number.invariant in
-    (rests_new _ _ _ c.loop-number-test.true _ inv.parts _ own low _ _ _ here shape' refl refl refl first refl c.in_ok-core.ensures (ap (λ (a : About). a.sizes) key), search rules)
+    let is : c.deref.result.now ≡ c.in_ok-words.words.items = search rules in
+    let count = ap (λ (t : TableId). t.words) (c.split_seat-token.ensures.3 ∙ inv.table) ∙ c.in_ok-table.ensures.0 ∙ ap (λ (l : List _). length l) is in
+    (rests_new _ _ _ c.loop-number-test.true _ inv.parts _ own low _ _ _ count c.split_seat-token.ensures.4 shape' refl refl refl first refl c.in_ok-core.ensures (ap (λ (a : About). a.sizes) key), search rules)
 
 pub loop-number-preserved : goal.loop-number-preserved
 loop-number-preserved c =
     let split = c.split_seat-token.ensures in
     let left = deals_next _ _ _ c.loop-number-test.true _ c.loop-number.invariant.parts _ _ split.2 c.loop-number.invariant.none in
     let place = ap (λ (m : Me (Unit {0}) (List SeatedPort)). m.0) split.4 in
-    let here : c.into_badge.result.table_id ≡ c.in_ok-table.table.shared.table_id = c.into_badge.ensures.0 ∙ split.3 ∙ c.loop-number.invariant.table in
+    let here : c.split_seat-token.result.table_id ≡ c.in_ok-table.table.shared.table_id = split.3 ∙ c.loop-number.invariant.table in
     let inv = c.loop-number.invariant in
-    let one = c.into_badge.ensures.2 ∙ ap (λ (v : List SeatedPort). v ∷ []) place in
-    let seen = ap (λ (t : TableId). port_view t (one_in c.into_badge.result.views)) here in
+    let seen = ap (λ (t : TableId). port_view t (one_of c.split_seat-token.result.me.0)) here in
     record {
       table = split.0 ∙ c.loop-number.invariant.table;
       parts = left.0;
       none = left.1;
-      made = made_next _ _ _ c.loop-number-test.true _ inv.parts _ _ _ _ _ _ _ _ inv.made c.push_reserved.ensures.items one seen split.2;
+      made = made_next _ _ _ c.loop-number-test.true _ inv.parts _ _ _ _ _ _ _ _ inv.made c.push_reserved.ensures.items place seen split.2;
       many = search rules;
       room = search rules;
     }

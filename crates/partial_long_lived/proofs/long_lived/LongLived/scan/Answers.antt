@@ -1,6 +1,6 @@
-use Rattle.partial_long_lived.proofs.Common.{rules, ◌≡◌, ◌<◌, length, refl, sym, ◌∙◌, subst, IfOk, IfErr, AllByRecursion, IsRefused, Scans, port_view, one_in}
+use Rattle.partial_long_lived.proofs.Common.{rules, ◌≡◌, ◌<◌, length, refl, sym, ◌∙◌, subst, IfOk, IfErr, AllByRecursion, IsRefused, Scans, port_view, port_at}
 use Rattle.partial_model.specs.declared.call.Call.TheVariants as call
-use Rattle.partial_long_lived.proofs.Answering.{are_below, borrowed_fits, not_below, scan_answered, scan_refused, scan_shape}
+use Rattle.partial_long_lived.proofs.Answering.{are_below, borrowed_fits, not_below, scan_answered, scan_refused}
 use Rattle.partial_long_lived.proofs.long_lived.LongLived.scan.Goals.{in-Ok, in-Err}
 use Rattle.partial_long_lived.proofs.long_lived.LongLived.scan.Goals as goal
 
@@ -9,10 +9,6 @@ returns-then-not-all_below-clause-refused c =
     let same : c.m.result ≡ c.args.me.now.memory.about.sizes.m = search rules in
     let none = not_below _ c.args.which.now _ c.all_below.ensures c.if-not-all_below.true in
     ((λ all. none (subst (λ n. AllByRecursion (λ j. j < n) c.args.which.now) (sym same) all)), refl)
-
-pub keep-requires-clause-shape : goal.keep-requires-clause-shape
-keep-requires-clause-shape c =
-    scan_shape _ _ _ _ c.scan_from-scanned.result c.scan_from-scanned.ensures.scanned c.scan_from-scanned.ensures.refused ∙ c.take-stand.ensures.stand.shape ∙ sym c.take-stand.ensures.shape
 
 pub public_borrowed-requires : goal.public_borrowed-requires
 public_borrowed-requires c = record { fits = borrowed_fits _ _ _ _ _ _ (rw c.in-Ok.is at c.scan_from-scanned.ensures.scanned) }
@@ -23,15 +19,15 @@ returns-clause-answered c =
     let same : c.m.result ≡ c.self.inside.table.shared.key.sizes.m = search rules in
     let below = subst (λ n. AllByRecursion (λ j. j < n) c.args.which.now) same (are_below _ c.args.which.now _ c.all_below.ensures c.if-not-all_below.false) in
     let some : 0 < length c.args.which.now = search rules fits 5000 in
-    let kept = c.keep.new.self in
+    let new = c.scan_from-scanned.new.stand in
     let held = c.scan_from-scanned.ensures.held in
     elim c.match-scanned.branch [
       | in-Ok w ↦
           let scanned = rw w.in-Ok.is at c.scan_from-scanned.ensures.scanned in
-          subst (λ r. IfOk r (λ q. Scans c.args.me.now c.args.which.now c.scan_from-scanned.new.into q (port_view kept.badge.table_id (one_in kept.badge.views)))) (sym w.result-is)
-          (scan_answered _ c.me.inside.seating c.take-stand.result c.scan_from-scanned.new.stand kept _ c.take-stand.ensures.stand c.me.view_is own held c.keep.ensures c.args.which.now below
+          subst (λ r. IfOk r (λ q. Scans c.args.me.now c.args.which.now c.scan_from-scanned.new.into q (port_view new.seat.table_id (port_at new)))) (sym w.result-is)
+          (scan_answered _ c.me.inside.stand new _ c.me.view_is own held c.args.which.now below
           c.scan_from-scanned.new.into _ _ _ scanned w.public_borrowed.ensures some)
-      | in-Err w ↦ subst (λ r. IfOk r (λ q. Scans c.args.me.now c.args.which.now c.scan_from-scanned.new.into q (port_view kept.badge.table_id (one_in kept.badge.views)))) (sym w.result-is) tt
+      | in-Err w ↦ subst (λ r. IfOk r (λ q. Scans c.args.me.now c.args.which.now c.scan_from-scanned.new.into q (port_view new.seat.table_id (port_at new)))) (sym w.result-is) tt
     ]
 
 pub returns-clause-refused : goal.returns-clause-refused
@@ -39,12 +35,12 @@ returns-clause-refused c =
     let own = c.requires.own ∙ sym c.self.view_is in
     let same : c.m.result ≡ c.self.inside.table.shared.key.sizes.m = search rules in
     let below = subst (λ n. AllByRecursion (λ j. j < n) c.args.which.now) same (are_below _ c.args.which.now _ c.all_below.ensures c.if-not-all_below.false) in
-    let kept = c.keep.new.self in
+    let new = c.scan_from-scanned.new.stand in
     let held = c.scan_from-scanned.ensures.held in
     elim c.match-scanned.branch [
-      | in-Ok w ↦ subst (λ r. IfErr r (λ cause. IsRefused c.args.me.now (call.Scan c.args.which.now) cause (port_view kept.badge.table_id (one_in kept.badge.views)))) (sym w.result-is) tt
+      | in-Ok w ↦ subst (λ r. IfErr r (λ cause. IsRefused c.args.me.now (call.Scan c.args.which.now) cause (port_view new.seat.table_id (port_at new)))) (sym w.result-is) tt
       | in-Err w ↦
           let not = rw w.in-Err.is at c.scan_from-scanned.ensures.refused in
-          subst (λ r. IfErr r (λ cause. IsRefused c.args.me.now (call.Scan c.args.which.now) cause (port_view kept.badge.table_id (one_in kept.badge.views)))) (sym w.result-is)
-          (scan_refused _ c.me.inside.seating c.take-stand.result c.scan_from-scanned.new.stand kept _ c.take-stand.ensures.stand c.me.view_is own held c.keep.ensures c.args.which.now below _ not)
+          subst (λ r. IfErr r (λ cause. IsRefused c.args.me.now (call.Scan c.args.which.now) cause (port_view new.seat.table_id (port_at new)))) (sym w.result-is)
+          (scan_refused _ c.me.inside.stand new _ c.me.view_is own held c.args.which.now below _ not)
     ]

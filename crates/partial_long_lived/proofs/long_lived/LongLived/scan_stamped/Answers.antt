@@ -1,6 +1,6 @@
-use Rattle.partial_long_lived.proofs.Common.{rules, ◌≡◌, ◌<◌, length, refl, sym, ◌∙◌, subst, is_some, true, IfOk, IfErr, AllByRecursion, IsRefused, port_view, one_in, ScansStamped}
+use Rattle.partial_long_lived.proofs.Common.{rules, ◌≡◌, ◌<◌, length, refl, sym, ◌∙◌, subst, is_some, true, IfOk, IfErr, AllByRecursion, IsRefused, port_view, port_at, ScansStamped}
 use Rattle.partial_model.specs.declared.call.Call.TheVariants as call
-use Rattle.partial_long_lived.proofs.Answering.{are_below, borrowed_fits, borrowed_public, not_below, scan_refused, stamped_answered, stamped_shape}
+use Rattle.partial_long_lived.proofs.Answering.{are_below, borrowed_fits, borrowed_public, not_below, scan_refused, stamped_answered}
 use Rattle.partial_long_lived.proofs.long_lived.LongLived.scan_stamped.Goals.{in-Ok, in-Err}
 use Rattle.partial_long_lived.proofs.long_lived.LongLived.scan_stamped.Goals as goal
 
@@ -9,11 +9,6 @@ returns-then-not-all_below-clause-refused c =
     let same : c.m.result ≡ c.args.me.now.memory.about.sizes.m = search rules in
     let none = not_below _ c.args.which.now _ c.all_below.ensures c.if-not-all_below.true in
     ((λ all. none (subst (λ n. AllByRecursion (λ j. j < n) c.args.which.now) (sym same) all)), refl)
-
-pub keep-requires-clause-shape : goal.keep-requires-clause-shape
-keep-requires-clause-shape c =
-    stamped_shape _ _ _ _ _ c.scan_stamped-scanned.result c.scan_stamped-scanned.ensures.scanned c.scan_stamped-scanned.ensures.refused
-    ∙ c.take-stand.ensures.stand.shape ∙ sym c.take-stand.ensures.shape
 
 pub public_borrowed-requires : goal.public_borrowed-requires
 public_borrowed-requires c = record { fits = borrowed_fits _ _ _ _ _ _ (rw c.in-Ok.is at c.scan_stamped-scanned.ensures.scanned).scanned }
@@ -24,17 +19,17 @@ returns-clause-scanned c =
     let same : c.m.result ≡ c.self.inside.table.shared.key.sizes.m = search rules in
     let below = subst (λ n. AllByRecursion (λ j. j < n) c.args.which.now) same (are_below _ c.args.which.now _ c.all_below.ensures c.if-not-all_below.false) in
     let some : 0 < length c.args.which.now = search rules fits 5000 in
-    let kept = c.keep.new.self in
+    let new = c.scan_stamped-scanned.new.stand in
     let into = c.scan_stamped-scanned.new.into in
     let stamps = c.scan_stamped-scanned.new.stamps in
     let held = c.scan_stamped-scanned.ensures.held in
     elim c.match-scanned.branch [
       | in-Ok w ↦
           let scanned = rw w.in-Ok.is at c.scan_stamped-scanned.ensures.scanned in
-          subst (λ r. IfOk r (λ q. ScansStamped c.args.me.now c.args.which.now into stamps q (port_view kept.badge.table_id (one_in kept.badge.views)))) (sym w.result-is)
-          (stamped_answered _ c.me.inside.seating c.take-stand.result c.scan_stamped-scanned.new.stand kept _ c.take-stand.ensures.stand c.me.view_is own held c.keep.ensures c.args.which.now below
+          subst (λ r. IfOk r (λ q. ScansStamped c.args.me.now c.args.which.now into stamps q (port_view new.seat.table_id (port_at new)))) (sym w.result-is)
+          (stamped_answered _ c.me.inside.stand new _ c.me.view_is own held c.args.which.now below
           into _ _ _ stamps scanned w.public_borrowed.ensures some)
-      | in-Err w ↦ subst (λ r. IfOk r (λ q. ScansStamped c.args.me.now c.args.which.now into stamps q (port_view kept.badge.table_id (one_in kept.badge.views)))) (sym w.result-is) tt
+      | in-Err w ↦ subst (λ r. IfOk r (λ q. ScansStamped c.args.me.now c.args.which.now into stamps q (port_view new.seat.table_id (port_at new)))) (sym w.result-is) tt
     ]
 
 pub returns-clause-helped : goal.returns-clause-helped
@@ -51,12 +46,12 @@ returns-clause-refused c =
     let own = c.requires.own ∙ sym c.self.view_is in
     let same : c.m.result ≡ c.self.inside.table.shared.key.sizes.m = search rules in
     let below = subst (λ n. AllByRecursion (λ j. j < n) c.args.which.now) same (are_below _ c.args.which.now _ c.all_below.ensures c.if-not-all_below.false) in
-    let kept = c.keep.new.self in
+    let new = c.scan_stamped-scanned.new.stand in
     let held = c.scan_stamped-scanned.ensures.held in
     elim c.match-scanned.branch [
-      | in-Ok w ↦ subst (λ r. IfErr r (λ cause. IsRefused c.args.me.now (call.Scan c.args.which.now) cause (port_view kept.badge.table_id (one_in kept.badge.views)))) (sym w.result-is) tt
+      | in-Ok w ↦ subst (λ r. IfErr r (λ cause. IsRefused c.args.me.now (call.Scan c.args.which.now) cause (port_view new.seat.table_id (port_at new)))) (sym w.result-is) tt
       | in-Err w ↦
           let not = rw w.in-Err.is at c.scan_stamped-scanned.ensures.refused in
-          subst (λ r. IfErr r (λ cause. IsRefused c.args.me.now (call.Scan c.args.which.now) cause (port_view kept.badge.table_id (one_in kept.badge.views)))) (sym w.result-is)
-          (scan_refused _ c.me.inside.seating c.take-stand.result c.scan_stamped-scanned.new.stand kept _ c.take-stand.ensures.stand c.me.view_is own held c.keep.ensures c.args.which.now below _ not)
+          subst (λ r. IfErr r (λ cause. IsRefused c.args.me.now (call.Scan c.args.which.now) cause (port_view new.seat.table_id (port_at new)))) (sym w.result-is)
+          (scan_refused _ c.me.inside.stand new _ c.me.view_is own held c.args.which.now below _ not)
     ]

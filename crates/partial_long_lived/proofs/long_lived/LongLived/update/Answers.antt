@@ -1,4 +1,4 @@
-use Rattle.partial_long_lived.proofs.Common.{rules, ◌<◌, sym, ◌∙◌, subst, IfOk, IfErr, IsRefused, Updates, port_view, one_in}
+use Rattle.partial_long_lived.proofs.Common.{rules, ◌<◌, sym, ◌∙◌, subst, IfOk, IfErr, IsRefused, Updates, port_view, port_at}
 use Rattle.partial_model.specs.declared.call.Call.TheVariants as call
 use Rattle.partial_long_lived.proofs.Updates.{update_answered, update_fits, update_refused}
 use Rattle.partial_long_lived.proofs.long_lived.LongLived.update.Goals.{in-Ok, in-Err}
@@ -11,27 +11,27 @@ pub returns-clause-answered : goal.returns-clause-answered
 returns-clause-answered c =
     let own = c.requires ∙ sym c.self.view_is in
     let inside : c.args.component < c.self.inside.table.shared.key.sizes.m = search rules in
-    let kept = c.keep.new.self in
+    let new = c.update-ended.new.stand in
     let held = c.update-ended.ensures.held in
     elim c.match-ended.branch [
       | in-Ok w ↦
           let ended = rw w.in-Ok.is at c.update-ended.ensures.updated in
-          subst (λ r. IfOk r (λ q. Updates c.args.me.now c.args.component c.args.value q (port_view kept.badge.table_id (one_in kept.badge.views)))) (sym w.result-is)
-          (subst (λ q. Updates c.args.me.now c.args.component c.args.value q (port_view kept.badge.table_id (one_in kept.badge.views))) (sym w.of.ensures)
-          (update_answered _ c.me.inside.seating c.take-stand.result c.update-ended.new.stand kept _ c.take-stand.ensures.stand c.me.view_is own held c.keep.ensures _ _ ended inside))
-      | in-Err w ↦ subst (λ r. IfOk r (λ q. Updates c.args.me.now c.args.component c.args.value q (port_view kept.badge.table_id (one_in kept.badge.views)))) (sym w.result-is) tt
+          subst (λ r. IfOk r (λ q. Updates c.args.me.now c.args.component c.args.value q (port_view new.seat.table_id (port_at new)))) (sym w.result-is)
+          (subst (λ q. Updates c.args.me.now c.args.component c.args.value q (port_view new.seat.table_id (port_at new))) (sym w.of.ensures)
+          (update_answered _ c.me.inside.stand new _ c.me.view_is own held _ _ ended inside))
+      | in-Err w ↦ subst (λ r. IfOk r (λ q. Updates c.args.me.now c.args.component c.args.value q (port_view new.seat.table_id (port_at new)))) (sym w.result-is) tt
     ]
 
 pub returns-clause-refused : goal.returns-clause-refused
 returns-clause-refused c =
     let own = c.requires ∙ sym c.self.view_is in
     let inside : c.args.component < c.self.inside.table.shared.key.sizes.m = search rules in
-    let kept = c.keep.new.self in
+    let new = c.update-ended.new.stand in
     let held = c.update-ended.ensures.held in
     elim c.match-ended.branch [
-      | in-Ok w ↦ subst (λ r. IfErr r (λ cause. IsRefused c.args.me.now (call.Update c.args.component c.args.value) cause (port_view kept.badge.table_id (one_in kept.badge.views)))) (sym w.result-is) tt
+      | in-Ok w ↦ subst (λ r. IfErr r (λ cause. IsRefused c.args.me.now (call.Update c.args.component c.args.value) cause (port_view new.seat.table_id (port_at new)))) (sym w.result-is) tt
       | in-Err w ↦
           let not = rw w.in-Err.is at c.update-ended.ensures.refused in
-          subst (λ r. IfErr r (λ cause. IsRefused c.args.me.now (call.Update c.args.component c.args.value) cause (port_view kept.badge.table_id (one_in kept.badge.views)))) (sym w.result-is)
-          (update_refused _ c.me.inside.seating c.take-stand.result c.update-ended.new.stand kept _ c.take-stand.ensures.stand c.me.view_is own held c.keep.ensures c.args.component c.args.value _ not.0 not.1 inside)
+          subst (λ r. IfErr r (λ cause. IsRefused c.args.me.now (call.Update c.args.component c.args.value) cause (port_view new.seat.table_id (port_at new)))) (sym w.result-is)
+          (update_refused _ c.me.inside.stand new _ c.me.view_is own held c.args.component c.args.value _ not.0 not.1 inside)
     ]

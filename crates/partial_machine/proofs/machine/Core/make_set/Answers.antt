@@ -5,6 +5,6 @@ use Rattle.partial_machine.proofs.machine.Core.make_set.Goals as goal
 
 pub invariant_of-self : goal.invariant_of-self
 invariant_of-self g c =
-    let sizes = c.make.ensures.sizes ∙ ap (λ (s : GetSetState). s.sizes) c.new-begun.ensures.state in
+    let sizes = ap (λ (s : GetSetState). s.sizes) c.new-begun.ensures.state in
     let idle = ap (λ (s : CoreState). s.stage) c.self.view_is ∙ c.requires.idle in
-    found_idle _ _ (c.make.result, c.make.new.found) c.self.invariant idle sizes c.make.ensures.at.together c.make.ensures.at.indices
+    found_idle _ _ _ c.make.new.found c.self.invariant idle sizes c.make.ensures.found c.make.ensures.indices

@@ -10,9 +10,7 @@ begin_call-requires-clause-served c =
     let port = c.loop-alloc.self in
     let call = c.index-calls-number.result in
     let calls = c.args.calls.now in
-    let below : c.len-number.result < length calls = omega (arith, port.finished.ok.0) in
-    let same : c.len-number.result ≡ length port.finished.items = omega (arith, port.finished.ok.0) in
-    let next : slice_get calls (length port.finished.items) ≡ Some call = call_at_place calls port.finished.items c.len-number.result call same below c.index-calls-number.is in
+    let next = call_at_place calls port.finished.items c.len-number.result call (omega (arith, port.finished.ok.0)) (omega (arith, port.finished.ok.0)) c.index-calls-number.is in
     subst (λ (z : Layout). IsServed z.m call) (sym c.loop-alloc.invariant.sizes)
     (AllByRecursion-get (IsServed c.args.self.now.core.sizes.m) calls (length port.finished.items) call c.requires.served next)
 
@@ -21,13 +19,11 @@ returns-in-None-clause-fits c o log p x n w =
     let port = c.loop-alloc.self in
     let call = c.index-calls-number.result in
     let calls = c.args.calls.now in
-    let below : c.len-number.result < length calls = omega (arith, port.finished.ok.0) in
-    let same : c.len-number.result ≡ length port.finished.items = omega (arith, port.finished.ok.0) in
-    let next : slice_get calls (length port.finished.items) ≡ Some call = call_at_place calls port.finished.items c.len-number.result call same below c.index-calls-number.is in
+    let next = call_at_place calls port.finished.items c.len-number.result call (omega (arith, port.finished.ok.0)) (omega (arith, port.finished.ok.0)) c.index-calls-number.is in
     let served = subst (λ (z : Layout). IsServed z.m call) (sym c.loop-alloc.invariant.sizes)
     (AllByRecursion-get (IsServed c.args.self.now.core.sizes.m) calls (length port.finished.items) call c.requires.served next) in
     let begun = match_none c.in_ok-called.field-0 _ _ c.in_ok-called.ensures c.in-None.is in
-    begun_fits o log calls p x port _ call (c.loop-alloc.invariant.fits o log p x n w) c.loop-alloc.invariant.none next served begun.0 begun.1 refl begun.2 refl
+    begun_fits (c.loop-alloc.invariant.fits o log p x n w) c.loop-alloc.invariant.none next served begun.0 begun.1 refl begun.2 refl
     (ap (λ m. Some (record { began = m; steps = 0 })) (sym n))
 
 pub returns-in-None-clause-made : goal.returns-in-None-clause-made
@@ -35,11 +31,9 @@ returns-in-None-clause-made c z p xs m =
     let port = c.loop-alloc.self in
     let call = c.index-calls-number.result in
     let calls = c.args.calls.now in
-    let below : c.len-number.result < length calls = omega (arith, port.finished.ok.0) in
-    let same : c.len-number.result ≡ length port.finished.items = omega (arith, port.finished.ok.0) in
-    let next : slice_get calls (length port.finished.items) ≡ Some call = call_at_place calls port.finished.items c.len-number.result call same below c.index-calls-number.is in
+    let next = call_at_place calls port.finished.items c.len-number.result call (omega (arith, port.finished.ok.0)) (omega (arith, port.finished.ok.0)) c.index-calls-number.is in
     let begun = match_none c.in_ok-called.field-0 _ _ c.in_ok-called.ensures c.in-None.is in
-    begun_made z c.args.seen calls p xs port _ call (c.loop-alloc.invariant.made z p xs m) c.loop-alloc.invariant.none next begun.0 begun.2 refl refl
+    begun_made (c.loop-alloc.invariant.made z p xs m) c.loop-alloc.invariant.none next begun.0 begun.2 refl refl
 
 pub returns-in-None-clause-turn : goal.returns-in-None-clause-turn
 returns-in-None-clause-turn c lengths w =
@@ -78,14 +72,14 @@ loop-alloc-preserved c =
     let pushed : c.push.new.self.items ≡ port.finished.items ++ called ∷ [] = c.in_ok-push-in-Some.ensures.items in
     let longer : length c.push.new.self.items ≡ length port.finished.items + 1 = ap length pushed ∙ length_push port.finished.items called in
     record {
-      idle = once_idle port.number c.len-number.result call c.args.seen port.core core called done c.loop-alloc.invariant.idle;
+      idle = once_idle done c.loop-alloc.invariant.idle;
       none = c.loop-alloc.invariant.none;
-      sizes = once_sizes port.number c.len-number.result call c.args.seen port.core core called done ∙ c.loop-alloc.invariant.sizes;
+      sizes = once_sizes done ∙ c.loop-alloc.invariant.sizes;
       few = omega (arith, longer, below, same);
       more = let grown = c.loop-alloc.invariant.more in omega (arith, longer, grown);
-      fits = λ o log p x n w. once_fits o log calls p x port _ call called (c.loop-alloc.invariant.fits o log p x n w) c.loop-alloc.invariant.none next
+      fits = λ o log p x n w. once_fits (c.loop-alloc.invariant.fits o log p x n w) c.loop-alloc.invariant.none next
           (subst (λ (m : ℕ). IsDoneAtOnce port.number (length port.finished.items) call m port.core core called) (sym n) here) refl pushed c.loop-alloc.invariant.none;
       turn = λ lengths w. turn_once calls lengths c.args.seen port _ called (omega (arith, below, same)) c.loop-alloc.invariant.none c.loop-alloc.invariant.none done.began done.steps pushed
           (c.loop-alloc.invariant.turn lengths w);
-      made = λ z p xs m. once_made z c.args.seen calls p xs port _ call called (c.loop-alloc.invariant.made z p xs m) c.loop-alloc.invariant.none here pushed c.loop-alloc.invariant.none;
+      made = λ z p xs m. once_made (c.loop-alloc.invariant.made z p xs m) c.loop-alloc.invariant.none here pushed c.loop-alloc.invariant.none;
     }

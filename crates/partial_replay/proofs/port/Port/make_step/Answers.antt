@@ -1,5 +1,4 @@
-use Rattle.partial_replay.proofs.Common.{◌≡◌, ◌<◌, ◌++◌, ◌∷◌, [], ℕ, List, length, Some, slice_get, sym, ◌∙◌, ap, subst, arith, refl, option_to_list, append-nil, with_items_is, Applied, answer_of, words_after, answer_for, CoreState, at_stage, IsPossible, Step, Idle, Answer, entry_at, one_step_more, IsEndedCall, place_below, Memory}
-use Rattle.partial_model.proofs.ListLemmas.{some_same}
+use Rattle.partial_replay.proofs.Common.{◌≡◌, ◌<◌, ◌++◌, ◌∷◌, [], ℕ, List, length, Some, slice_get, sym, ◌∙◌, ap, subst, arith, refl, option_to_list, append-nil, with_items_is, Applied, answer_of, words_after, answer_for, CoreState, at_stage, IsPossible, Step, Idle, Answer, entry_at, one_step_more, IsEndedCall, place_below, Memory, some_same}
 use Rattle.partial_replay.proofs.PortLaws.{answer_idle, step_ended, call_at_place}
 use Rattle.partial_replay.proofs.port.Port.make_step.Goals as goal
 use Rattle.partial_replay.proofs.port.Port.make_step.Goals.{in-Some+in_ok-push-2, in_default}
@@ -50,7 +49,7 @@ returns-in_ok-push-in-Some-take-clause-made c =
     subst (λ (v : Memory). IsEndedCall port.number (length port.finished.items) call (one_step_more c.unwrap-way.result) v.words.items v.history.items a c.in_ok-called-in-Some-take.called) (sym same)
     (subst (λ (v : Answer). IsEndedCall port.number (length port.finished.items) call (one_step_more c.unwrap-way.result) mid.words.items mid.history.items v c.in_ok-called-in-Some-take.called)
     (ap (λ (s : CoreState). answer_for s c.in-Some-take.reply) taken ∙ answer_idle c.perform-step.new.self c.in-Some-take.reply) ended) in
-    step_ended calls memory.words.items new.words.items memory.trace.items new.trace.items memory.history.items new.history.items port _ c.perform-step.result.0 c.unwrap-way.result
+    step_ended calls memory new port _ c.perform-step.result.0 c.unwrap-way.result
     c.perform-step.result.1 c.perform-step.new.self c.take.new.self c.in-Some-take.reply call c.in_ok-called-in-Some-take.called
     c.perform-step.ensures.due c.unwrap-way.ensures possible answer (new_words ∙ after) (ap (λ (v : Memory). v.trace.items) same ∙ trace)
     (ap (λ (v : Memory). v.history.items) same ∙ log ∙ ap (λ (ws : List ℕ). memory.history.items ++

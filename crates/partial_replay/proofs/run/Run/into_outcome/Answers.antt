@@ -3,8 +3,7 @@ use Rattle.partial_replay.proofs.Opens.{run_listed}
 use Rattle.partial_replay.proofs.run.Run.into_outcome.Goals as goal
 
 pub calls_of-requires : goal.calls_of-requires
-calls_of-requires c =
-    run_listed c.args.self.opening c.args.self.memory.history.items 0 c.args.plans.now c.requires.state.parts c.args.self.ports.items c.args.self.memory.sizes.m c.requires.state.fit c.requires.served
+calls_of-requires c = run_listed c.args.self.memory.sizes.m c.requires.state.fit c.requires.served
 
 pub returns : goal.returns
 returns c =
