@@ -183,7 +183,9 @@ class Libraries:
     make a library anew, and a library fits those alone that it was made with."""
 
     def __init__(self, folder, ended=None):
-        self.folder, self.ended, self.begun, self.parent = folder, ended, time.time_ns(), os.getppid()
+        self.folder, self.ended, self.parent = folder, ended, os.getppid()
+        self.before = {it.name: made_at(library_of(it.name)) for it in (TOP / 'crates').glob('*')}
+        self.seen = {}
 
     def are_beside(self):
         """Whether the command is still at work that proves them. It isn't once whoever started both is gone."""
@@ -197,25 +199,42 @@ class Libraries:
     def take(self, name):
         """Whether the library is in the folder. While the command is at work, only one counts that it has made, and
         that is whole."""
-        here, there = TOP / 'crates' / name / 'out' / 'rlib', self.folder / name
+        library, there = library_of(name), self.folder / name
         if there.is_dir():
             return True
-        made = made_at(here / f'{name}.rlib')
-        if made is None or self.are_beside() and not self.begun < made < time.time_ns() - SETTLED * 1e9:
+        made = made_at(library)
+        if made is None or self.are_beside() and not self.has_settled(name, made):
             return False
         room = tempfile.mkdtemp(dir=self.folder)
         try:
-            shutil.copytree(here, f'{room}/{name}')
+            shutil.copytree(library.parent, f'{room}/{name}')
         except (OSError, shutil.Error):
             return False
-        if made_at(here / f'{name}.rlib') != made:
+        if made_at(library) != made:
             return False
         os.rename(f'{room}/{name}', there)
         return True
 
+    def has_settled(self, name, made):
+        """Whether the library, last written to at this time, is another than at the beginning, and was seen to be the
+        same for a while. (Times of files are compared with one another alone: their clock may be behind that of the
+        program.)"""
+        if made == self.before.get(name):
+            return False
+        last, since = self.seen.get(name, (None, None))
+        if last != made:
+            self.seen[name] = made, time.monotonic()
+            return False
+        return time.monotonic() - since >= SETTLED
+
     def has(self, names):
         """Whether the libraries with these names are in the folder."""
         return all([self.take(it) for it in names])
+
+
+def library_of(name):
+    """Where the command makes the proved library of a crate."""
+    return TOP / 'crates' / name / 'out' / 'rlib' / f'{name}.rlib'
 
 
 def made_at(library):
