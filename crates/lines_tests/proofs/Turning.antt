@@ -1,19 +1,13 @@
 -- Turns of ports on plain words keep the state lawful.
 use Rattle.lines_tests.proofs.Common.{ℕ, ◌≡◌, ◌<◌, ◌≤◌, ◌++◌, List, [], ◌∷◌, Option, Some, None, length, cond, true, refl, sym, ap, subst, ◌∙◌, inl, inr, arith, Result, Ok, Err, OnOk, IfErr, AreOpeningWords, Layout, IsLayout, pool_base, answer_of, word_of, words_after, Idle, ReadBegun, UpdateBegun, ScanBegun, Finished, CoreState, advance, at_stage, fresh, reply_at, step_at, step_of, asking_machine, scan_asked, IsPossible, BeginsOn, Begun, IsOfPort, IsPlain, MayTurn, Turned, Stepped, Taken, Started, Stayed}
-use Rattle.std.proofs.lemmas.Bool.{false≢true, ne_eqb}
-use Rattle.std.proofs.lemmas.Option.{none-some}
-use Rattle.partial_model.specs.declared.history.Applied.{Applied}
-use Rattle.partial_model.specs.declared.history.Opening.{Opening}
-use Rattle.partial_model.specs.declared.call.Call.TheVariants as call
-use Rattle.partial_model.specs.declared.call.Refused.{Refused}
+use Rattle.std.proofs.lemmas.{Bool.{false≢true, ne_eqb}, Option.none-some}
+use Rattle.partial_model.specs.declared.history.{Applied.Applied, Opening.Opening}
+use Rattle.partial_model.specs.declared.call.{Call.Call, Refused.Refused}
 use Rattle.partial_words.specs.declared.step.Step.{Step}
-use Rattle.partial_machine.specs.declared.stage.Reply.TheVariants as reply
-use Rattle.partial_machine.specs.declared.stage.Stage.{Stage}
+use Rattle.partial_machine.specs.declared.stage.{Reply.Reply, Stage.Stage}
 use Rattle.partial_machine.specs.Calls.{begin_scan, is_at_rest, is_begun, core_read_refusal, core_scan_refusal, core_update_refusal}
 use Rattle.partial_machine.proofs.Laws.{rests_are_sound}
-use Rattle.partial_core.specs.Lawful.{LawfulAmong}
-use Rattle.partial_core.specs.Part.{Part, PartAmong, fresh_part, port_of, HasBegun, IsBetween, IsLedTo, IsMachineOf, IsMarkedLike}
-use Rattle.partial_core.specs.Steps.{added_by, memory_after}
+use Rattle.partial_core.specs.{Lawful.LawfulAmong, Part.{Part, PartAmong, fresh_part, port_of, HasBegun, IsBetween, IsLedTo, IsMachineOf, IsMarkedLike}, Steps.{added_by, memory_after}}
 use Rattle.partial_core.proofs.Laws.{calls_begin_between, lawful_machines_are_ready, opens_lawful, ports_come_between, steps_stay_lawful}
 
 -- a call that has begun is not at rest
@@ -146,17 +140,17 @@ opens sizes initial words beside left right layout values all b second third =
 
 -- a machine that begins an update
 pub update_begins : (c d : CoreState) (j : ℕ) (e : Option ℕ) (v : ℕ) → core_update_refusal c j ≡ None → d ≡ at_stage c (UpdateBegun (record { component = j; expected = e; value = v })) → BeginsOn c d
-update_begins c d j None v none is = record { call = call.Update j v; served = tt; allowed = none; steps = refl; is = is }
-update_begins c d j (Some e) v none is = record { call = call.UpdateIf j e v; served = tt; allowed = none; steps = refl; is = is }
+update_begins c d j None v none is = record { call = Call.Update j v; served = tt; allowed = none; steps = refl; is = is }
+update_begins c d j (Some e) v none is = record { call = Call.UpdateIf j e v; served = tt; allowed = none; steps = refl; is = is }
 
 -- a machine that begins a read
 pub read_begins : (c d : CoreState) (j : ℕ) → core_read_refusal c j ≡ None → d ≡ at_stage c (ReadBegun j) → BeginsOn c d
-read_begins c d j none is = record { call = call.Read j; served = tt; allowed = none; steps = refl; is = is }
+read_begins c d j none is = record { call = Call.Read j; served = tt; allowed = none; steps = refl; is = is }
 
 -- a machine that begins a scan of some positions
 pub scan_begins : (c d : CoreState) (which : List ℕ) → length which ≤ c.sizes.m → (length which ≡ 0 → ⊥) → core_scan_refusal c which ≡ None → d ≡ begin_scan c which → BeginsOn c d
 scan_begins c d [] few some none is = absurd (some refl)
-scan_begins c d (j ∷ js) few some none is = record { call = call.Scan (j ∷ js); served = few; allowed = none; steps = refl; is = is }
+scan_begins c d (j ∷ js) few some none is = record { call = Call.Scan (j ∷ js); served = few; allowed = none; steps = refl; is = is }
 
 -- a machine that was asked to begin an update or a scan
 pub asked_update : {A : Type 0} (c d : CoreState) (j v : ℕ) (r : Result A Refused) →
@@ -173,4 +167,4 @@ asked_scan {A} c d which (Err e) few some ok err = inl err.1
 
 -- a scan of some positions that has begun
 pub scan_is : (c d : CoreState) (which : List ℕ) → (length which ≡ 0 → ⊥) → d ≡ begin_scan c which → d ≡ scan_asked c which
-scan_is c d which some is = is ∙ ap (λ b. at_stage (asking_machine c which) (cond b (Finished (reply.Scanned 0 None)) ScanBegun)) (ne_eqb (length which) 0 some)
+scan_is c d which some is = is ∙ ap (λ b. at_stage (asking_machine c which) (cond b (Finished (Reply.Scanned 0 None)) ScanBegun)) (ne_eqb (length which) 0 some)

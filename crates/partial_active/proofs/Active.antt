@@ -1,10 +1,5 @@
 -- A getSet that is answered from orderly words: its answers are possible, it makes few steps, and it misses no announcement.
-use Rattle.partial_active.proofs.Common.{ℕ, ◌≡◌, ◌+◌, ◌*◌, ◌<◌, ◌≤◌, ◌⊎◌, Bool, Some, is_some, List, [], ◌∷◌, ◌++◌, length, slice_index, inl, inr, refl, sym, ap, subst, ◌∙◌, arith, Step, Load, Add, Layout, IsLayout, slot_counter, list_head, list_counter, slot_word, answer_of, Stage, Head, ListLen, ListLow, ListHigh, Counter, Slot, Len, Index, Claim, Write, Publish, Done, Buffers, AreFoundFor, SetPair, fresh_set, set_step_at, set_step_due, advance_set, set_left, set_goes_at, IsPossibleInSet, SetGoesTogether, Facts, knows_by, Orderly, OnEach, AtSome, words_behind, own_moments, GetSetsMakeFewSteps, OrderlyAnswersArePossible}
-use Rattle.partial_active.proofs.Answered.{keeps_at}
-use Rattle.partial_active.proofs.Sizes.{sizes_at}
-use Rattle.partial_active.proofs.Orders.{Past, ComesFrom, IsPairwiseOrderly, LeadsTo, comes_at_once, own_leads, moments_of, moments_to_end}
-use Rattle.partial_active.proofs.Knowledge.{AreFacts, tells_at, ends_below, leads_at}
-use Rattle.partial_active.proofs.Known.{facts_of_moments, never_named, knows_later, facts_of_moments_hold, Knows}
+use Rattle.partial_active.proofs.{Common.{ℕ, ◌≡◌, ◌+◌, ◌*◌, ◌<◌, ◌≤◌, ◌⊎◌, Bool, Some, is_some, List, [], ◌∷◌, ◌++◌, length, slice_index, inl, inr, refl, sym, ap, subst, ◌∙◌, arith, Step, Load, Add, Layout, IsLayout, slot_counter, list_head, list_counter, slot_word, answer_of, Stage, Head, ListLen, ListLow, ListHigh, Counter, Slot, Len, Index, Claim, Write, Publish, Done, Buffers, AreFoundFor, SetPair, fresh_set, set_step_at, set_step_due, advance_set, set_left, set_goes_at, IsPossibleInSet, SetGoesTogether, Facts, knows_by, Orderly, OnEach, AtSome, words_behind, own_moments, GetSetsMakeFewSteps, OrderlyAnswersArePossible}, Answered.keeps_at, Sizes.sizes_at, Orders.{Past, ComesFrom, IsPairwiseOrderly, LeadsTo, comes_at_once, own_leads, moments_of, moments_to_end}, Knowledge.{AreFacts, tells_at, ends_below, leads_at}, Known.{facts_of_moments, never_named, knows_later, facts_of_moments_hold, Knows}}
 
 -- what the words of the last moment answer
 module _ (p : SetPair) (first : List ℕ) (past : Past) (now : List ℕ) (orderly : Orderly p.0.sizes now) (hold : AreFacts p.0.sizes now (facts_of_moments p.0.sizes first (now ∷ past))) where

@@ -1,7 +1,5 @@
 -- What an answer keeps: the machine and its buffers go together, and the steps left fall.
-use Rattle.partial_active.proofs.Common.{ℕ, ◌≡◌, ◌+◌, ◌-◌, ◌<◌, ◌≤◌, min, true, false, eqb, ltb, [], ◌∷◌, ◌++◌, length, cond, IsSome, slice_index, inl, inr, refl, sym, ap, subst, arith, false≢true, cond_both, ltb-false, eqb-true, eqb-false, length_push, IsNormal, Layout, IsLayout, list_end, list_base, pool_base, pool_end, list_block, AreFoundFor, LiesBehind, with_index, Stage, Head, ListLen, ListLow, ListHigh, Counter, Slot, Len, Index, Claim, Write, Publish, Done, SetPair, set_step_at, set_step_due, advance_set_at, come_to, note_slot, in_stage, set_left_at, set_left, walk_left, EndsBelow, IsListHead, IsListLen, IsNextLow, IsSlotWord, IsAnnouncedLen, IsListClaim, is_possible_at, IsPossibleInSet, HasRead, IsWalking, IsAtSlot, set_goes_at, SetGoesTogether, next_word, indices_word, intervals_word, mul-le-mul_right}
-use Rattle.partial_active.proofs.Extended.{normal-extended, below-extended, normal_push, below_push}
-use Rattle.partial_active.proofs.Walk.{come_to_goes, come_to_left}
+use Rattle.partial_active.proofs.{Common.{ℕ, ◌≡◌, ◌+◌, ◌-◌, ◌<◌, ◌≤◌, min, true, false, eqb, ltb, [], ◌∷◌, ◌++◌, length, cond, IsSome, slice_index, inl, inr, refl, sym, ap, subst, arith, false≢true, cond_both, ltb-false, eqb-true, eqb-false, length_push, IsNormal, Layout, IsLayout, list_end, list_base, pool_base, pool_end, list_block, AreFoundFor, LiesBehind, with_index, Stage, Head, ListLen, ListLow, ListHigh, Counter, Slot, Len, Index, Claim, Write, Publish, Done, SetPair, set_step_at, set_step_due, advance_set_at, come_to, note_slot, in_stage, set_left_at, set_left, walk_left, EndsBelow, IsListHead, IsListLen, IsNextLow, IsSlotWord, IsAnnouncedLen, IsListClaim, is_possible_at, IsPossibleInSet, HasRead, IsWalking, IsAtSlot, set_goes_at, SetGoesTogether, next_word, indices_word, intervals_word, mul-le-mul_right}, Extended.{normal-extended, below-extended, normal_push, below_push}, Walk.{come_to_goes, come_to_left}}
 
 -- the empty list
 normal_nil : IsNormal []

@@ -1,10 +1,9 @@
 -- What a getSet has found stays without repeats and below the number of components, so it is no more
 -- than there are components.
-use Rattle.partial_active.proofs.Common.{ℕ, suc, ◌≡◌, ◌+◌, ◌-◌, ◌<◌, ◌≤◌, min, Bool, true, false, cond, eqb, ltb, List, [], ◌∷◌, ◌++◌, length, get_or, refl, sym, ◌∙◌, ap, subst, arith, inl, inr, list_any, cond_both, cases_lt, or_cases, eqb-true, false≢true, get_or_append_left, length_push, list_end, begins_at, AreIndices, has_index, with_index, Stage, Head, ListLen, ListLow, ListHigh, Counter, Slot, Len, Index, Claim, Write, Publish, Done, SetPair, after_walk, at_slot, come_to, pass_interval, note_slot, in_stage, advance_set_at, is_possible_at, next_word, indices_word, nat_eq_equiv, IsDistinct-push}
+use Rattle.partial_active.proofs.{Common.{ℕ, suc, ◌≡◌, ◌+◌, ◌-◌, ◌<◌, ◌≤◌, min, Bool, true, false, cond, eqb, ltb, List, [], ◌∷◌, ◌++◌, length, get_or, refl, sym, ◌∙◌, ap, subst, arith, inl, inr, list_any, cond_both, cases_lt, or_cases, eqb-true, false≢true, get_or_append_left, length_push, list_end, begins_at, AreIndices, has_index, with_index, Stage, Head, ListLen, ListLow, ListHigh, Counter, Slot, Len, Index, Claim, Write, Publish, Done, SetPair, after_walk, at_slot, come_to, pass_interval, note_slot, in_stage, advance_set_at, is_possible_at, next_word, indices_word, nat_eq_equiv, IsDistinct-push}, Named.same_test}
 use Rattle.std.specs.List.{IsDistinct}
 use Rattle.std.proofs.Math.Seq.{get_or-append_seam}
 use Rattle.std.proofs.lemmas.Map.Steps.{length-le_from_distinct_below}
-use Rattle.partial_active.proofs.Named.{same_test}
 
 pub no_index : (n : ℕ) → AreIndices n []
 unfolding IsDistinct

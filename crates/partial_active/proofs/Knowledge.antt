@@ -1,9 +1,5 @@
 -- What a getSet knows by facts leads on, from stage to stage.
-use Rattle.partial_active.proofs.Common.{ℕ, ◌≡◌, ◌+◌, ◌-◌, ◌<◌, ◌≤◌, ◌⊎◌, min, Bool, true, false, ◌&&◌, not, eqb, ltb, None, List, [], ◌∷◌, ◌++◌, length, take, get_or, slice_index, cond, inl, inr, refl, sym, ap, subst, ◌∙◌, arith, false≢true, and_parts, cases_eq, cases_lt, cond_both, ltb-false, eqb-true, eqb-false, take_more, take_all, get_or-take, length_push, Ranges, lowest, highest, Holds, IsNormal, Layout, IsLayout, list_end, list_block, announcement_reads_back, list_reads_back, Stage, Head, ListLen, ListLow, ListHigh, Counter, Slot, Len, Index, Claim, Write, Publish, Done, with_index, begins_at, SetPair, set_step_at, advance_set_at, after_walk, at_slot, come_to, pass_interval, note_slot, in_stage, next_words, EndsBelow, IsListClaim, is_possible_at, IsWalking, set_goes_at, Facts, AreVacated, HasEach, walks, has_found, knows_by, KnowsBy, slot_at, IsAnnouncement, IsVacatedList, next_word, indices_word, intervals_word}
-use Rattle.partial_active.proofs.Extended.{length_normal, held_extended}
-use Rattle.partial_active.proofs.Walk.{begun}
-use Rattle.partial_active.proofs.Answered.{walk_begins, walk_next, walk_noted, at_with}
-use Rattle.partial_active.proofs.Indices.{first_more}
+use Rattle.partial_active.proofs.{Common.{ℕ, ◌≡◌, ◌+◌, ◌-◌, ◌<◌, ◌≤◌, ◌⊎◌, min, Bool, true, false, ◌&&◌, not, eqb, ltb, None, List, [], ◌∷◌, ◌++◌, length, take, get_or, slice_index, cond, inl, inr, refl, sym, ap, subst, ◌∙◌, arith, false≢true, and_parts, cases_eq, cases_lt, cond_both, ltb-false, eqb-true, eqb-false, take_more, take_all, get_or-take, length_push, Ranges, lowest, highest, Holds, IsNormal, Layout, IsLayout, list_end, list_block, announcement_reads_back, list_reads_back, Stage, Head, ListLen, ListLow, ListHigh, Counter, Slot, Len, Index, Claim, Write, Publish, Done, with_index, begins_at, SetPair, set_step_at, advance_set_at, after_walk, at_slot, come_to, pass_interval, note_slot, in_stage, next_words, EndsBelow, IsListClaim, is_possible_at, IsWalking, set_goes_at, Facts, AreVacated, HasEach, walks, has_found, knows_by, KnowsBy, slot_at, IsAnnouncement, IsVacatedList, next_word, indices_word, intervals_word}, Extended.{length_normal, held_extended}, Walk.begun, Answered.{walk_begins, walk_next, walk_noted, at_with}, Indices.first_more}
 
 -- the facts are those of the words, and a slot is done that is VACATED, or of which the announcement was read
 pub record AreFacts (s : Layout) (words : List ℕ) (t : Facts) : Type 0 where

@@ -1,8 +1,5 @@
 -- What the moments behind a getSet that is answered from orderly words tell it.
-use Rattle.partial_active.proofs.Common.{ℕ, ◌≡◌, ◌<◌, ◌≤◌, true, List, [], ◌∷◌, slice_index, inl, inr, sym, subst, ◌∙◌, arith, Ranges, Layout, StandsAt, announcement_block, list_block, has_index, SetPair, Facts, HasEach, HasReadSo, walks, has_found, knows_by, KnowsBy, Stage, Head, ListLen, ListLow, ListHigh, Counter, Slot, Len, Index, Claim, Write, Publish, Done, slot_at, head_at, IsAnnouncement, IsVacatedList, OnEach, AtSome}
-use Rattle.partial_active.proofs.Orders.{Past, ComesFrom}
-use Rattle.partial_active.proofs.Indices.{with_index_keeps, same_named}
-use Rattle.partial_active.proofs.Knowledge.{AreFacts}
+use Rattle.partial_active.proofs.{Common.{ℕ, ◌≡◌, ◌<◌, ◌≤◌, true, List, [], ◌∷◌, slice_index, inl, inr, sym, subst, ◌∙◌, arith, Ranges, Layout, StandsAt, announcement_block, list_block, has_index, SetPair, Facts, HasEach, HasReadSo, walks, has_found, knows_by, KnowsBy, Stage, Head, ListLen, ListLow, ListHigh, Counter, Slot, Len, Index, Claim, Write, Publish, Done, slot_at, head_at, IsAnnouncement, IsVacatedList, OnEach, AtSome}, Orders.{Past, ComesFrom}, Indices.{with_index_keeps, same_named}, Knowledge.AreFacts}
 
 -- what some moment tells beside what each does
 pub some_with : (P Q : List ℕ → Type 0) (G : Type 0) (past : Past) → ((w : List ℕ) → P w → Q w → G) → AtSome P past → OnEach Q past → G

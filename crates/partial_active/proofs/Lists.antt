@@ -1,13 +1,6 @@
 -- What a getSet that is answered from orderly words knows of the list that it reads and of the one that it makes.
-use Rattle.partial_active.proofs.Common.{ℕ, ◌≡◌, ◌+◌, ◌-◌, ◌<◌, ◌≤◌, ◌⊎◌, ◌↔◌, min, Bool, true, false, ◌&&◌, not, eqb, ltb, cond, Some, None, List, [], ◌∷◌, ◌++◌, length, take, get_or, slice_index, inl, inr, refl, sym, ap, subst, ◌∙◌, arith, false≢true, cases_eq, cases_lt, cond_both, ltb-false, eqb-true, eqb-false, take_more, take_all, length_push, Ranges, lowest, highest, Holds, IsNormal, Step, Load, Store, Exchange, Add, Layout, IsLayout, list_head, list_counter, slot_word, list_end, StandsAt, list_block, low_word, high_word, answer_of, list_reads_back, Stage, Head, ListLen, ListLow, ListHigh, Counter, Slot, Len, Index, Claim, Write, Publish, Done, with_index, Buffers, AreFoundFor, begins_at, SetPair, fresh_set, set_step_at, set_step_due, advance_set, advance_set_at, after_walk, at_slot, come_to, pass_interval, note_slot, in_stage, next_words, EndsBelow, is_possible_at, IsPossibleInSet, IsWalking, IsAtSlot, set_goes_at, SetGoesTogether, AreVacated, knows_by, slot_at, head_at, IsVacatedList, Orderly, AtSome, AtSomeStep, own_moments, next_word, indices_word, intervals_word, length-pairs}
+use Rattle.partial_active.proofs.{Common.{ℕ, ◌≡◌, ◌+◌, ◌-◌, ◌<◌, ◌≤◌, ◌⊎◌, ◌↔◌, min, Bool, true, false, ◌&&◌, not, eqb, ltb, cond, Some, None, List, [], ◌∷◌, ◌++◌, length, take, get_or, slice_index, inl, inr, refl, sym, ap, subst, ◌∙◌, arith, false≢true, cases_eq, cases_lt, cond_both, ltb-false, eqb-true, eqb-false, take_more, take_all, length_push, Ranges, lowest, highest, Holds, IsNormal, Step, Load, Store, Exchange, Add, Layout, IsLayout, list_head, list_counter, slot_word, list_end, StandsAt, list_block, low_word, high_word, answer_of, list_reads_back, Stage, Head, ListLen, ListLow, ListHigh, Counter, Slot, Len, Index, Claim, Write, Publish, Done, with_index, Buffers, AreFoundFor, begins_at, SetPair, fresh_set, set_step_at, set_step_due, advance_set, advance_set_at, after_walk, at_slot, come_to, pass_interval, note_slot, in_stage, next_words, EndsBelow, is_possible_at, IsPossibleInSet, IsWalking, IsAtSlot, set_goes_at, SetGoesTogether, AreVacated, knows_by, slot_at, head_at, IsVacatedList, Orderly, AtSome, AtSomeStep, own_moments, next_word, indices_word, intervals_word, length-pairs}, Extended.{held_extended, holds_extended}, Walk.{interval_behind, walking_on}, Answered.{walk_begins, walk_next, walk_noted, slot_behind, at_with}, Known.{facts_of_moments, Knows}, Orders.{Past, IsPairwiseOrderly, LeadsTo, own_leads, moments_of}, Active.{Reached, onto, onto_some, reached_from}, Moments.{at_later, at_here, at_split, Behind, holds_behind}}
 use Rattle.partial_active.specs.VacatedLists.{GetSetsKeepLists, WasVacated, IsListOf, FindsVacated, ClaimsWords, StoresWord, IsStored, KeepsLists, is_reading}
-use Rattle.partial_active.proofs.Extended.{held_extended, holds_extended}
-use Rattle.partial_active.proofs.Walk.{interval_behind, walking_on}
-use Rattle.partial_active.proofs.Answered.{walk_begins, walk_next, walk_noted, slot_behind, at_with}
-use Rattle.partial_active.proofs.Known.{facts_of_moments, Knows}
-use Rattle.partial_active.proofs.Orders.{Past, IsPairwiseOrderly, LeadsTo, own_leads, moments_of}
-use Rattle.partial_active.proofs.Active.{Reached, onto, onto_some, reached_from}
-use Rattle.partial_active.proofs.Moments.{at_later, at_here, at_split, Behind, holds_behind}
 
 -- the first n intervals hold the number
 abbrev HoldsFirst : Ranges → ℕ → ℕ → Type 0

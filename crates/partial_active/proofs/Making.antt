@@ -1,7 +1,5 @@
 -- What a step of a getSet leaves, where its answer comes from elsewhere.
-use Rattle.partial_active.proofs.Common.{ℕ, ◌≡◌, sym, ap, subst, ◌∙◌, AreIndices, SetPair, advance_set, SetGoesTogether, IsPossibleInSet, IsAt}
-use Rattle.partial_active.proofs.Sizes.{sizes_at}
-use Rattle.partial_active.proofs.Distinct.{found_kept}
+use Rattle.partial_active.proofs.{Common.{ℕ, ◌≡◌, sym, ap, subst, ◌∙◌, AreIndices, SetPair, advance_set, SetGoesTogether, IsPossibleInSet, IsAt}, Sizes.sizes_at, Distinct.found_kept}
 
 -- the steps are at the getSet q, to which the answer x has led
 pub made_on : {A : Type 0} (goes : A → Type 0) (set : A → SetPair) (old new : A) (p q : SetPair) (x : ℕ) → IsAt goes set old p → goes new → IsPossibleInSet (set old) x →

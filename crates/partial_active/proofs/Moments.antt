@@ -1,8 +1,6 @@
 -- What holds at some of a getSet's steps, and an induction over the steps behind the first.
-use Rattle.partial_active.proofs.Common.{ℕ, ◌≡◌, ◌++◌, ◌⊎◌, Bool, Option, Some, List, [], ◌∷◌, inl, inr, refl, sym, ◌∙◌, ap, subst, append_assoc, append-nil, Step, Load, Layout, IsLayout, list_head, answer_of, Buffers, AreFoundFor, SetPair, fresh_set, set_step_due, advance_set, SetGoesTogether, IsPossibleInSet, Orderly, head_at, OnEach, AtSomeStep, answered_from}
+use Rattle.partial_active.proofs.{Common.{ℕ, ◌≡◌, ◌++◌, ◌⊎◌, Bool, Option, Some, List, [], ◌∷◌, inl, inr, refl, sym, ◌∙◌, ap, subst, append_assoc, append-nil, Step, Load, Layout, IsLayout, list_head, answer_of, Buffers, AreFoundFor, SetPair, fresh_set, set_step_due, advance_set, SetGoesTogether, IsPossibleInSet, Orderly, head_at, OnEach, AtSomeStep, answered_from}, Orders.{Past, ComesFrom, IsPairwiseOrderly, LeadsTo, run_front}, Active.{onto, run_split, step_from, reached_from}}
 use Rattle.std.specs.Option.{option_map_or}
-use Rattle.partial_active.proofs.Orders.{Past, ComesFrom, IsPairwiseOrderly, LeadsTo, run_front}
-use Rattle.partial_active.proofs.Active.{onto, run_split, step_from, reached_from}
 
 -- what held at some step goes on to be so
 pub at_later : (P : SetPair → List ℕ → Type 0) (p : SetPair) (ms : Past) (now : List ℕ) → AtSomeStep P p ms → AtSomeStep P p (ms ++ now ∷ [])

@@ -1,16 +1,9 @@
 -- What a getSet that is answered from orderly words knows of the announcements that it has found, and in which order it
 -- names their indices.
-use Rattle.partial_active.proofs.Common.{ℕ, ◌≡◌, ◌+◌, ◌-◌, ◌<◌, ◌≤◌, ◌⊎◌, ◌↔◌, min, Bool, true, ◌||◌, ◌&&◌, not, eqb, ltb, cond, Some, None, List, [], ◌∷◌, ◌++◌, length, map, take, get_or, slice_index, inl, inr, refl, sym, ap, subst, ◌∙◌, arith, append-nil, flat_map, list_any, cases_lt, cond_both, eqb-true, eqb-false, take_more, take_all, length_push, ext_get_or, get_or_append_left, get_or_push, map-append, length-map, get_or-map, highest, Step, Load, Layout, IsLayout, list_head, slot_word, list_end, StandsAt, announcement_block, announced_word, list_block, answer_of, announcement_reads_back, Stage, Head, ListLen, ListLow, ListHigh, Counter, Slot, Len, Index, Claim, Write, Publish, Done, has_index, with_index, Buffers, AreFoundFor, begins_at, SetPair, fresh_set, set_step_at, set_step_due, advance_set, advance_set_at, after_walk, at_slot, come_to, pass_interval, note_slot, in_stage, next_words, EndsBelow, is_possible_at, IsPossibleInSet, IsWalking, IsAtSlot, set_goes_at, slot_at, head_at, IsAnnouncement, AtSome, AtSomeStep, own_moments, Announcement, FindsAnnouncement, with_all, each_once, AreRising, AreInOrder, GetSetsFindInOrder, next_word, indices_word, intervals_word, nat_eq_equiv, IsDistinct-push}
-use Rattle.std.specs.Prelude.{nat_eq, Contains}
-use Rattle.std.specs.List.{IsDistinct}
+use Rattle.partial_active.proofs.{Common.{ℕ, ◌≡◌, ◌+◌, ◌-◌, ◌<◌, ◌≤◌, ◌⊎◌, ◌↔◌, min, Bool, true, ◌||◌, ◌&&◌, not, eqb, ltb, cond, Some, None, List, [], ◌∷◌, ◌++◌, length, map, take, get_or, slice_index, inl, inr, refl, sym, ap, subst, ◌∙◌, arith, append-nil, flat_map, list_any, cases_lt, cond_both, eqb-true, eqb-false, take_more, take_all, length_push, ext_get_or, get_or_append_left, get_or_push, map-append, length-map, get_or-map, highest, Step, Load, Layout, IsLayout, list_head, slot_word, list_end, StandsAt, announcement_block, announced_word, list_block, answer_of, announcement_reads_back, Stage, Head, ListLen, ListLow, ListHigh, Counter, Slot, Len, Index, Claim, Write, Publish, Done, has_index, with_index, Buffers, AreFoundFor, begins_at, SetPair, fresh_set, set_step_at, set_step_due, advance_set, advance_set_at, after_walk, at_slot, come_to, pass_interval, note_slot, in_stage, next_words, EndsBelow, is_possible_at, IsPossibleInSet, IsWalking, IsAtSlot, set_goes_at, slot_at, head_at, IsAnnouncement, AtSome, AtSomeStep, own_moments, Announcement, FindsAnnouncement, with_all, each_once, AreRising, AreInOrder, GetSetsFindInOrder, next_word, indices_word, intervals_word, nat_eq_equiv, IsDistinct-push}, Walk.begun, Answered.{walk_begins, walk_next, walk_noted, at_with}, Orders.{Past, IsPairwiseOrderly, LeadsTo, own_leads, moments_of}, Indices.same_named, Known.{IsLoaded, announced_yet}, Moments.{at_later, at_here, at_split, Behind, holds_behind}}
+use Rattle.std.specs.{Prelude.{nat_eq, Contains}, List.IsDistinct}
 use Rattle.std.proofs.lemmas.Grind.{flat_map-append}
 use Rattle.std.proofs.lemmas.List.Elements.{Contains-append_left, Contains-push, Contains-push_cases, Contains-get_or}
-use Rattle.partial_active.proofs.Walk.{begun}
-use Rattle.partial_active.proofs.Answered.{walk_begins, walk_next, walk_noted, at_with}
-use Rattle.partial_active.proofs.Orders.{Past, IsPairwiseOrderly, LeadsTo, own_leads, moments_of}
-use Rattle.partial_active.proofs.Indices.{same_named}
-use Rattle.partial_active.proofs.Known.{IsLoaded, announced_yet}
-use Rattle.partial_active.proofs.Moments.{at_later, at_here, at_split, Behind, holds_behind}
 
 -- indices put at the end in two parts
 with_all-append : (xs ys zs : List ℕ) → with_all xs (ys ++ zs) ≡ with_all (with_all xs ys) zs

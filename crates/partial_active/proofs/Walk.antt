@@ -1,6 +1,5 @@
 -- The walk along the slots: the machine and its buffers go on together, and the steps left fall.
-use Rattle.partial_active.proofs.Common.{ℕ, ◌≡◌, ◌+◌, ◌-◌, ◌<◌, ◌≤◌, true, false, ◌&&◌, not, eqb, ltb, length, inl, inr, refl, arith, cases_eq, cond_both, and_parts, and_cases, ltb-true, ltb-false, eqb-true, eqb-false, lowest, highest, Layout, AreFoundFor, begins_at, LiesBehind, Slot, Claim, Done, SetPair, after_walk, at_slot, come_to, pass_interval, next_words, set_left, walk_left, publish_left, EndsBelow, SetGoesTogether, IsWalking, mul-le-mul_right}
-use Rattle.partial_active.proofs.Extended.{length_normal, normal-extended, below-extended}
+use Rattle.partial_active.proofs.{Common.{ℕ, ◌≡◌, ◌+◌, ◌-◌, ◌<◌, ◌≤◌, true, false, ◌&&◌, not, eqb, ltb, length, inl, inr, refl, arith, cases_eq, cond_both, and_parts, and_cases, ltb-true, ltb-false, eqb-true, eqb-false, lowest, highest, Layout, AreFoundFor, begins_at, LiesBehind, Slot, Claim, Done, SetPair, after_walk, at_slot, come_to, pass_interval, next_words, set_left, walk_left, publish_left, EndsBelow, SetGoesTogether, IsWalking, mul-le-mul_right}, Extended.{length_normal, normal-extended, below-extended}}
 
 -- fewer slots, fewer steps
 pub walk_left_mono : (s : Layout) (a b : ℕ) → a ≤ b → walk_left s b ≤ walk_left s a

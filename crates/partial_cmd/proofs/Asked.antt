@@ -2,13 +2,12 @@
 use Rattle.partial_cmd.proofs.Common.{◌≡◌, ◌++◌, [], ◌∷◌, refl, sym, subst, codes, Outcome, RunReport, outcome_text, PlanView, Verb, VerbWrites, IsReportOf}
 use Rattle.partial_text.specs.ReportText.{report_text}
 use Rattle.partial_replay.specs.Replayed.{IsReplayOf}
-use Rattle.partial_cmd.specs.declared.command.Verb.TheVariants as verb
 
-pub asked_replay : (v : Verb) (p : PlanView) (o : Outcome) → v ≡ verb.Replay → IsReplayOf p o → VerbWrites v p (outcome_text o.opening o.history.items o.calls.items o.steps)
+pub asked_replay : (v : Verb) (p : PlanView) (o : Outcome) → v ≡ Verb.Replay → IsReplayOf p o → VerbWrites v p (outcome_text o.opening o.history.items o.calls.items o.steps)
 asked_replay v p o is w = subst (λ (x : Verb). VerbWrites x p (outcome_text o.opening o.history.items o.calls.items o.steps)) (sym is) (o, w, refl)
 
-pub asked_check : (v : Verb) (p : PlanView) (o : Outcome) → v ≡ verb.Check → IsReplayOf p o → VerbWrites v p (codes "lawful" ++ 10 ∷ [])
+pub asked_check : (v : Verb) (p : PlanView) (o : Outcome) → v ≡ Verb.Check → IsReplayOf p o → VerbWrites v p (codes "lawful" ++ 10 ∷ [])
 asked_check v p o is w = subst (λ (x : Verb). VerbWrites x p (codes "lawful" ++ 10 ∷ [])) (sym is) (o, w, refl)
 
-pub asked_run : (v : Verb) (p : PlanView) (r : RunReport) → v ≡ verb.Run → IsReportOf p r → VerbWrites v p (report_text r.answers.items r.values.items)
+pub asked_run : (v : Verb) (p : PlanView) (r : RunReport) → v ≡ Verb.Run → IsReportOf p r → VerbWrites v p (report_text r.answers.items r.values.items)
 asked_run v p r is w = subst (λ (x : Verb). VerbWrites x p (report_text r.answers.items r.values.items)) (sym is) (r, w, refl)

@@ -8,9 +8,7 @@ pub use Rattle.partial_words.specs.Layout.{Layout, pool_base}
 pub use Rattle.partial_memory.specs.Reopening.{Continues, ContinuesAll, extended_values}
 pub use Rattle.partial_text.specs.declared.outcome.Outcome.{Outcome}
 pub use Rattle.partial_text.specs.declared.report.RunReport.{RunReport}
-pub use Rattle.partial_text.specs.OutcomeText.{outcome_text}
-pub use Rattle.partial_text.specs.PlanText.{PlanView, IsPlan, IsCall, plan_text}
+pub use Rattle.partial_text.specs.{OutcomeText.outcome_text, PlanText.{PlanView, IsPlan, IsCall, plan_text}}
 pub use Rattle.partial_text.proofs.Laws.{judged_again, plans_have_few_calls}
 pub use Rattle.partial_cmd.specs.declared.command.Verb.{Verb}
-pub use Rattle.partial_cmd.specs.Execution.{VerbWrites, PlansHaveOneAnswer}
-pub use Rattle.partial_cmd.specs.Reports.{IsReportFrom, IsReportOf, report_of, run_opening}
+pub use Rattle.partial_cmd.specs.{Execution.{VerbWrites, PlansHaveOneAnswer}, Reports.{IsReportFrom, IsReportOf, report_of, run_opening}}

@@ -1,7 +1,6 @@
 -- The reports of two plans, of which the second goes on where the first ended.
-use Rattle.partial_cmd.proofs.Common.{◌≡◌, ◌≤◌, length, sym, subst, arith, Opening, IsPlan, PlanView, RunReport, Continues, ContinuesAll, IsReportFrom, IsReportOf, run_opening}
+use Rattle.partial_cmd.proofs.{Common.{◌≡◌, ◌≤◌, length, sym, subst, arith, Opening, IsPlan, PlanView, RunReport, Continues, ContinuesAll, IsReportFrom, IsReportOf, run_opening}, Reported.reported_of}
 use Rattle.partial_cmd.specs.Next.{AreReports, next_opening}
-use Rattle.partial_cmd.proofs.Reported.{reported_of}
 
 pub both_reported : (p q : PlanView) (o next : Opening) (first second : RunReport) → o ≡ run_opening p → IsPlan p → IsReportFrom o p first → length first.values.items ≤ q.sizes.m →
     next ≡ next_opening q first.values.items → ContinuesAll first.values.items next → IsReportFrom next q second → AreReports p q first second

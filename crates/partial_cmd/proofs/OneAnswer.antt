@@ -5,7 +5,6 @@ use Rattle.partial_model.specs.declared.history.Applied.{Applied}
 use Rattle.partial_text.specs.Judging.{judged_plan}
 use Rattle.partial_replay.specs.OneOutcome.{TellTheSame}
 use Rattle.partial_replay.proofs.Laws.{plans_have_one_outcome}
-use Rattle.partial_cmd.specs.declared.command.Verb.TheVariants as verb
 
 -- two plans of one text are the same
 same_plan : (p q : PlanView) → IsPlan p → IsPlan q → plan_text p ≡ plan_text q → p ≡ q
@@ -21,10 +20,10 @@ same_text a b t =
     ∙ ap (λ (l : List Called). outcome_text b.opening b.history.items l a.steps) t.calls
     ∙ ap (outcome_text b.opening b.history.items b.calls.items) t.steps
 
-same_answer : (v : Verb) (p : PlanView) (a b : List ℕ) → v ≢ verb.Run → VerbWrites v p a → VerbWrites v p b → a ≡ b
-same_answer verb.Replay p a b other x y = x.2 ∙ same_text (x.0) (y.0) (plans_have_one_outcome p (x.0) (y.0) x.1 y.1) ∙ sym y.2
-same_answer verb.Check p a b other x y = x.2 ∙ sym y.2
-same_answer verb.Run p a b other x y = absurd (other refl)
+same_answer : (v : Verb) (p : PlanView) (a b : List ℕ) → v ≢ Verb.Run → VerbWrites v p a → VerbWrites v p b → a ≡ b
+same_answer Verb.Replay p a b other x y = x.2 ∙ same_text (x.0) (y.0) (plans_have_one_outcome p (x.0) (y.0) x.1 y.1) ∙ sym y.2
+same_answer Verb.Check p a b other x y = x.2 ∙ sym y.2
+same_answer Verb.Run p a b other x y = absurd (other refl)
 
 pub plans_have_one_answer : PlansHaveOneAnswer
 plans_have_one_answer v bytes a b other x y =

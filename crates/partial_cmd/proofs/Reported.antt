@@ -1,7 +1,6 @@
 -- The calls of a plan, and the report of the workers that made them.
 use Rattle.partial_cmd.proofs.Common.{ℕ, ◌≡◌, ◌<◌, ◌^◌, Result, Ok, Err, List, [], ◌∷◌, length, sym, subst, IfOk, Opening, Call, IsCall, IsPlan, PlanView, RunReport, plans_have_few_calls, IsReportFrom, IsReportOf, run_opening, report_of}
 use Rattle.std.specs.List.{AllByRecursion}
-use Rattle.partial_model.specs.declared.call.Call.TheVariants as call
 use Rattle.partial_workers.specs.declared.error.RunError.{RunError}
 use Rattle.partial_workers.specs.declared.workers.Ran.{Ran}
 use Rattle.partial_workers.specs.Answered.{AreMakable, AreRight, IsCallWithin}
@@ -12,10 +11,10 @@ reported_of o p report is w = subst (λ (x : Opening). IsReportFrom x p report) 
 
 -- a memory of the plan's sizes can be asked for its calls
 call_within : (m : ℕ) (c : Call) → IsCall m c → IsCallWithin m c
-call_within m (call.Update j v) w = tt
-call_within m (call.Scan js) w = w.0
-call_within m (call.Read j) w = tt
-call_within m (call.UpdateIf j s v) w = tt
+call_within m (Call.Update j v) w = tt
+call_within m (Call.Scan js) w = w.0
+call_within m (Call.Read j) w = tt
+call_within m (Call.UpdateIf j s v) w = tt
 
 calls_within : (m : ℕ) (cs : List Call) → AllByRecursion (IsCall m) cs → AllByRecursion (IsCallWithin m) cs
 calls_within m [] w = tt

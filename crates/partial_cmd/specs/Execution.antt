@@ -3,8 +3,7 @@ use Rattle.std.specs.Prelude.{ℕ, ◌≡◌, ◌≢◌, List, [], ◌∷◌, �
 use Rattle.std.specs.Io.KnownBytes.{Appends}
 use Rattle.partial_text.specs.declared.fault.Cause.{Cause}
 use Rattle.partial_text.specs.declared.fault.PlanError.{PlanError}
-use Rattle.partial_text.specs.declared.fault.PlanError.TheVariants as plan
-use Rattle.partial_text.specs.declared.fault.OutcomeError.TheVariants as outcome
+use Rattle.partial_text.specs.declared.fault.OutcomeError.{OutcomeError}
 use Rattle.partial_text.specs.Fault as text
 use Rattle.partial_text.specs.declared.outcome.Outcome.{Outcome}
 use Rattle.partial_text.specs.PlanText.{PlanView, IsPlan, plan_text}
@@ -14,33 +13,30 @@ use Rattle.partial_text.specs.declared.report.RunReport.{RunReport}
 use Rattle.partial_replay.specs.Replayed.{IsReplayOf}
 use Rattle.partial_cmd.specs.Reports.{IsReportOf}
 use Rattle.partial_cmd.specs.declared.fault.Fault.{Fault}
-use Rattle.partial_cmd.specs.declared.fault.Fault.TheVariants as fault
 use Rattle.partial_cmd.specs.declared.command.Verb.{Verb}
-use Rattle.partial_cmd.specs.declared.command.Verb.TheVariants as verb
 use Rattle.partial_cmd.specs.declared.command.Verdict.{Verdict}
-use Rattle.partial_cmd.specs.declared.command.Verdict.TheVariants as verdict
 
 -- the number of a refusal
 abbrev pub fault_code : Fault → ℕ
-fault_code (fault.Plan e) = text.plan_code e
-fault_code (fault.Replay e) = 6
-fault_code fault.Check = 6
-fault_code fault.TooSmall = 13
-fault_code (fault.Run e) = 6
-fault_code (fault.Outcome e) = text.outcome_code_of e
+fault_code (Fault.Plan e) = text.plan_code e
+fault_code (Fault.Replay e) = 6
+fault_code Fault.Check = 6
+fault_code Fault.TooSmall = 13
+fault_code (Fault.Run e) = 6
+fault_code (Fault.Outcome e) = text.outcome_code_of e
 
 -- the line and the cause of a refused line
 abbrev pub fault_line : Fault → Option (ℕ × Cause)
-fault_line (fault.Plan e) = text.line_of e
+fault_line (Fault.Plan e) = text.line_of e
 fault_line _ = None
 
 -- the reader of the plan failed
 abbrev pub reader_fault : Fault
-reader_fault = fault.Plan plan.Read
+reader_fault = Fault.Plan PlanError.Read
 
 -- the writer failed
 abbrev pub writer_fault : Fault
-writer_fault = fault.Outcome outcome.Write
+writer_fault = Fault.Outcome OutcomeError.Write
 
 -- the text was judged to be that of a plan
 abbrev pub IsRead : Result PlanView PlanError → Type 0
@@ -50,18 +46,18 @@ IsRead judged = (p : PlanView) × (judged ≡ Ok p)
 -- replayed or run only when judging gives a plan.
 abbrev pub IsJudged : Result Verdict Fault → Result PlanView PlanError → Type 0
 IsJudged (Ok v) judged = IsRead judged
-IsJudged (Err (fault.Plan e)) judged = text.Fails e judged
-IsJudged (Err (fault.Replay e)) judged = IsRead judged
-IsJudged (Err fault.Check) judged = IsRead judged
-IsJudged (Err fault.TooSmall) judged = ⊥
-IsJudged (Err (fault.Run e)) judged = IsRead judged
-IsJudged (Err (fault.Outcome e)) judged = IsRead judged
+IsJudged (Err (Fault.Plan e)) judged = text.Fails e judged
+IsJudged (Err (Fault.Replay e)) judged = IsRead judged
+IsJudged (Err Fault.Check) judged = IsRead judged
+IsJudged (Err Fault.TooSmall) judged = ⊥
+IsJudged (Err (Fault.Run e)) judged = IsRead judged
+IsJudged (Err (Fault.Outcome e)) judged = IsRead judged
 
 -- how a command ends that isn't refused: every replay is lawful
 abbrev pub verdict_of : Verb → Verdict
-verdict_of verb.Replay = verdict.Done
-verdict_of verb.Check = verdict.Lawful
-verdict_of verb.Run = verdict.Done
+verdict_of Verb.Replay = Verdict.Done
+verdict_of Verb.Check = Verdict.Lawful
+verdict_of Verb.Run = Verdict.Done
 
 -- the text is that of the plan
 pub record IsTextOf (text : Option (List ℕ)) (p : PlanView) : Type 0 where
@@ -70,11 +66,11 @@ pub record IsTextOf (text : Option (List ℕ)) (p : PlanView) : Type 0 where
 
 -- What a verb asks to be written of a plan: of an outcome of its replay its text or that it is lawful, and of a run its report.
 abbrev pub VerbWrites : Verb → PlanView → List ℕ → Type 0
-VerbWrites verb.Replay p answer =
+VerbWrites Verb.Replay p answer =
     (outcome : Outcome) × IsReplayOf p outcome
     × (answer ≡ outcome_text outcome.opening outcome.history.items outcome.calls.items outcome.steps)
-VerbWrites verb.Check p answer = (outcome : Outcome) × IsReplayOf p outcome × (answer ≡ codes "lawful" ++ 10 ∷ [])
-VerbWrites verb.Run p answer =
+VerbWrites Verb.Check p answer = (outcome : Outcome) × IsReplayOf p outcome × (answer ≡ codes "lawful" ++ 10 ∷ [])
+VerbWrites Verb.Run p answer =
     (report : RunReport) × IsReportOf p report × (answer ≡ report_text report.answers.items report.values.items)
 
 -- the same of the plan with this text
@@ -91,10 +87,10 @@ WritesPart verb text before after = (answer : List ℕ) × (n : ℕ) × IsAnswer
 
 -- what a replay or a check writes is a function of the bytes of the plan's text
 abbrev pub PlansHaveOneAnswer : Type 0
-PlansHaveOneAnswer = (v : Verb) (bytes a b : List ℕ) → v ≢ verb.Run → IsAnswer v (Some bytes) a → IsAnswer v (Some bytes) b → a ≡ b
+PlansHaveOneAnswer = (v : Verb) (bytes a b : List ℕ) → v ≢ Verb.Run → IsAnswer v (Some bytes) a → IsAnswer v (Some bytes) b → a ≡ b
 
 -- the fault isn't one of the plans
 abbrev pub IsBehindReading : Fault → Type 0
-IsBehindReading (fault.Plan e) = ⊥
-IsBehindReading fault.TooSmall = ⊥
+IsBehindReading (Fault.Plan e) = ⊥
+IsBehindReading Fault.TooSmall = ⊥
 IsBehindReading _ = Unit {0}

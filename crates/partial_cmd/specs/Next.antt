@@ -11,7 +11,6 @@ use Rattle.partial_text.specs.ReportText.{report_text}
 use Rattle.partial_memory.specs.Reopening.{Continues, extended_values}
 use Rattle.partial_cmd.specs.declared.command.Verdict.{Verdict}
 use Rattle.partial_cmd.specs.declared.fault.Fault.{Fault}
-use Rattle.partial_cmd.specs.declared.fault.Fault.TheVariants as fault
 use Rattle.partial_cmd.specs.Execution.{IsBehindReading, IsTextOf}
 use Rattle.partial_cmd.specs.Reports.{IsReportFrom, IsReportOf, run_opening}
 
@@ -44,11 +43,11 @@ WritesReportsPart text next before after =
 
 -- the result of two plans that are read: 13 exactly when the second has fewer components, and no fault of reading
 abbrev pub AreRun : Result Verdict Fault → PlanView → PlanView → Type 0
-AreRun (Err fault.TooSmall) p q = q.sizes.m < p.sizes.m
+AreRun (Err Fault.TooSmall) p q = q.sizes.m < p.sizes.m
 AreRun (Err e) p q = IsBehindReading e × (p.sizes.m ≤ q.sizes.m)
 AreRun (Ok v) p q = p.sizes.m ≤ q.sizes.m
 
 -- Each plan is refused as judging its text says, the first one first.
 abbrev pub AreJudged : Result Verdict Fault → Result PlanView PlanError → Result PlanView PlanError → Type 0
-AreJudged (Err (fault.Plan e)) first second = text.Fails e first ⊎ ((p : PlanView) × (first ≡ Ok p) × text.Fails e second)
+AreJudged (Err (Fault.Plan e)) first second = text.Fails e first ⊎ ((p : PlanView) × (first ≡ Ok p) × text.Fails e second)
 AreJudged result first second = (p q : PlanView) × (first ≡ Ok p) × (second ≡ Ok q) × AreRun result p q

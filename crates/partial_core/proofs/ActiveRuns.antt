@@ -1,21 +1,11 @@
 -- Runs of lawful states are orderly, and the getSet of an update is one of a port's events in such a run.
-use Rattle.partial_core.proofs.Common.{ℕ, ◌≡◌, ◌≢◌, ◌⊎◌, ◌++◌, Bool, Some, None, MatchBool, List, [], ◌∷◌, inl, inr, refl, sym, ap, subst, ◌∙◌, AllByRecursion, false≢true, eqb_tells, Opening, Layout, answer_of, words_after, AreFoundFor, AreOrderly, IsOrderlyRun, words_behind, MakesOwn, all_weaker, all_join, Change, Stage, GettingSet, CoreState, step_of, step_at, advance, advance_at, getting, with_getting, lists_spent, is_begun, Part, HasBegun, IsLedTo, core_of, port_of, with_seen, holdings, PartAmong, LawfulAmong, all_parts, memory_after, IsOrderlyEvent}
+use Rattle.partial_core.proofs.{Common.{ℕ, ◌≡◌, ◌≢◌, ◌⊎◌, ◌++◌, Bool, Some, None, MatchBool, List, [], ◌∷◌, inl, inr, refl, sym, ap, subst, ◌∙◌, AllByRecursion, false≢true, eqb_tells, Opening, Layout, answer_of, words_after, AreFoundFor, AreOrderly, IsOrderlyRun, words_behind, MakesOwn, all_weaker, all_join, Change, Stage, GettingSet, CoreState, step_of, step_at, advance, advance_at, getting, with_getting, lists_spent, is_begun, Part, HasBegun, IsLedTo, core_of, port_of, with_seen, holdings, PartAmong, LawfulAmong, all_parts, memory_after, IsOrderlyEvent}, Parts.{all_at, all_changed, holdings_split}, Steps.{sizes_here, sound_at}, Ports.{others, looks_stay_lawful}, GetSetSteps.by_due, Ordered.lawful_is_orderly, Published.{KeepsPublished, keeps_now, keeps_on, step_orderly}}
 use Rattle.partial_words.specs.declared.step.Event.{Event}
 use Rattle.partial_active.specs.GetSet as finding
-use Rattle.partial_active.specs.VacatedLists.{KeepsLists}
-use Rattle.partial_active.specs.ActiveSet.{FindsActiveSet, AreInOrder}
-use Rattle.partial_active.proofs.Finds.{finds_by_events}
-use Rattle.partial_active.proofs.Named.{names_by_events}
-use Rattle.partial_active.proofs.Lists.{lists_by_events}
-use Rattle.partial_core.specs.ActiveSet.{MemoryState, IsLawfulMemory, whole_memory, PortMove, HasPart, MakesStep, MakesLook, IsRun, events_of, LawfulRunsAreOrderly}
-use Rattle.partial_core.specs.ActiveSet.{IsGetting, OnlyGets, RunsGetSet, moments_in, UpdatesFind, UpdatesFindInOrder, UpdatesKeepLists}
+use Rattle.partial_active.specs.{VacatedLists.KeepsLists, ActiveSet.{FindsActiveSet, AreInOrder}}
+use Rattle.partial_active.proofs.{Finds.finds_by_events, Named.names_by_events, Lists.lists_by_events}
+use Rattle.partial_core.specs.{ActiveSet.{MemoryState, IsLawfulMemory, whole_memory, PortMove, HasPart, MakesStep, MakesLook, IsRun, events_of, LawfulRunsAreOrderly, IsGetting, OnlyGets, RunsGetSet, moments_in, UpdatesFind, UpdatesFindInOrder, UpdatesKeepLists}}
 use Rattle.partial_core.specs.ActiveSet.PortMove.{Makes, Looks}
-use Rattle.partial_core.proofs.Parts.{all_at, all_changed, holdings_split}
-use Rattle.partial_core.proofs.Steps.{sizes_here, sound_at}
-use Rattle.partial_core.proofs.Ports.{others, looks_stay_lawful}
-use Rattle.partial_core.proofs.GetSetSteps.{by_due}
-use Rattle.partial_core.proofs.Ordered.{lawful_is_orderly}
-use Rattle.partial_core.proofs.Published.{KeepsPublished, keeps_now, keeps_on, step_orderly}
 
 -- the state, with the port's part in its place
 lawful_at : (z : Layout) (o : Opening) (s : MemoryState) (own : ℕ) (p : HasPart own s) → IsLawfulMemory z o s → LawfulAmong z o p.among

@@ -1,5 +1,5 @@
 -- The entry that a step adds to the history: by the stage of the machine that makes it, and by the step and the words.
-use Rattle.partial_core.proofs.Common.{ℕ, ◌≡◌, ◌<◌, ◌≤◌, ◌==◌, Bool, true, false, cond, Some, None, List, [], ◌∷◌, length, get_or, refl, sym, ap, subst, ◌∙◌, arith, ⊤, nat_lt, is_some, if◌then◌else◌, lt-ltb, Applied, Step, Load, Store, Exchange, Add, Layout, slot_word, record_value, view_word, answer_of, join_step, JoinStage, Claiming, Storing, Joined, Spent, Change, Stage, CoreState, step_at, is_sound_at, added_by, PublishesWithin}
+use Rattle.partial_core.proofs.{Common.{ℕ, ◌≡◌, ◌<◌, ◌≤◌, ◌==◌, Bool, true, false, cond, Some, None, List, [], ◌∷◌, length, get_or, refl, sym, ap, subst, ◌∙◌, arith, ⊤, nat_lt, is_some, if◌then◌else◌, lt-ltb, Applied, Step, Load, Store, Exchange, Add, Layout, slot_word, record_value, view_word, answer_of, join_step, JoinStage, Claiming, Storing, Joined, Spent, Change, Stage, CoreState, step_at, is_sound_at, added_by, PublishesWithin}, MidCalls.view_loads}
 use Rattle.partial_model.proofs.ListLemmas.{some_same}
 use Rattle.partial_active.specs.declared.get_set.Stage.{Stage as SetStage}
 use Rattle.partial_active.specs.declared.get_set.Stage.TheVariants as set
@@ -7,7 +7,6 @@ use Rattle.partial_active.specs.GetSet as finding
 use Rattle.partial_embedded.specs.declared.embedded.Stage.{Stage as ViewStage}
 use Rattle.partial_embedded.specs.Embedded as viewing
 use Rattle.partial_machine.specs.declared.stage.Stage.TheVariants.{Idle, ReadBegun, LoadingValue, UpdateBegun, GettingSet, Viewing, ClaimingRecord, StoringRecord, Exchanging, ScanBegun, StoringAnnouncement, Joining, Scanning, Leaving, Finished}
-use Rattle.partial_core.proofs.MidCalls.{view_loads}
 
 -- a won exchange of a component adds one
 abbrev pub added_at : ℕ → Stage → ℕ → List Applied

@@ -1,8 +1,6 @@
 -- A port's call under way: where its answers lead its machine, and what it knows then.
-use Rattle.partial_core.proofs.Common.{ℕ, true, ◌≡◌, ◌<◌, ◌≤◌, ◌++◌, cond, List, [], ◌∷◌, length, refl, sym, ap, subst, ◌∙◌, arith, false≢true, cond_both, Applied, Opening, Layout, IsLayout, announcement_size, Stage, Idle, ReadBegun, UpdateBegun, ScanBegun, StoringAnnouncement, Finished, CoreState, at_stage, expects, fits_pool, pool_refused, begin_getting, advance_at, advance, step_at, IsSound, IsPossibleAt, Holding, LawfulWords, KeptAnswer, led_by, joins_at, joined_from, IsTrueYet, AreAnswersKept, has_no_step, is_sound_at}
-use Rattle.partial_machine.specs.declared.stage.Reply.TheVariants as reply
+use Rattle.partial_core.proofs.{Common.{ℕ, true, ◌≡◌, ◌<◌, ◌≤◌, ◌++◌, cond, List, [], ◌∷◌, length, refl, sym, ap, subst, ◌∙◌, arith, false≢true, cond_both, Applied, Opening, Layout, IsLayout, announcement_size, Stage, Idle, ReadBegun, UpdateBegun, ScanBegun, StoringAnnouncement, Finished, CoreState, at_stage, expects, fits_pool, pool_refused, begin_getting, advance_at, advance, step_at, IsSound, IsPossibleAt, Holding, LawfulWords, KeptAnswer, led_by, joins_at, joined_from, IsTrueYet, AreAnswersKept, has_no_step, is_sound_at, Reply}, MidCalls.{Knows, on_at}}
 use Rattle.partial_machine.proofs.Sound.{Keeps, kept}
-use Rattle.partial_core.proofs.MidCalls.{Knows, on_at}
 
 -- how long the history was at the last of the answers
 pub last_at : ℕ → List KeptAnswer → ℕ
@@ -43,7 +41,7 @@ module _ (z : Layout) (o : Opening) (words : List ℕ) (hs : List Holding) (log 
       IsTrueYet z o words hs log (step_at s t) k → Knows z o words hs log begun k.at since k.at (advance_at s t k.answer)
   first_on since s k Idle is sizes e none may possible yet = absurd possible
   first_on since s k (ReadBegun j) is sizes e none may possible yet = (j, ap (λ (c : CoreState). c.stage) (sym is) ∙ e, yet.component (subst (λ (y : Layout). j < y.m) sizes may))
-  first_on since s k (UpdateBegun c) is sizes e none may possible yet = cond_both (expects c k.answer) (begin_getting s c k.answer) (at_stage s (Finished (reply.Changed k.answer)))
+  first_on since s k (UpdateBegun c) is sizes e none may possible yet = cond_both (expects c k.answer) (begin_getting s c k.answer) (at_stage s (Finished (Reply.Changed k.answer)))
       (λ (t : CoreState). Knows z o words hs log begun k.at since k.at t)
       (λ expected. (record { called = ap (λ (d : CoreState). d.stage) (sym is) ∙ e; expected = expected; stamp = yet.component (subst (λ (y : Layout). c.component < y.m) sizes may.0) }, tt))
       (λ other. tt)

@@ -1,12 +1,6 @@
 -- The claims of pool words, and the stores of an announcement.
-use Rattle.partial_core.proofs.Common.{ℕ, suc, ◌≡◌, ◌+◌, ◌<◌, ◌≤◌, ◌==◌, ◌++◌, Bool, true, false, cond, Option, Some, None, List, [], ◌∷◌, length, map, get_or, refl, sym, ap, subst, ◌∙◌, arith, slice_index, ne_eqb, ltb-true, ltb-false, eqb-true, Opening, MayBeRefused, Store, Add, Layout, pool_counter, pool_end, greatest_record, words_after, announcement_block, announcement_size, record_block, plain_record_size, full_record_size, length-record_block, Change, Stage, ClaimingRecord, StoringRecord, ScanBegun, StoringAnnouncement, CoreState, at_stage, step_at, record_size, record_words, fits_pool, pool_refused, begin_joining, IsPoolCount, size_few, Holding, Own, Pool, claims_are_kept, stores_are_kept, is_sound_at, core_of, holding_of, holding_at, holdings, joined_since, call_at, update_call, PartAmong, LawfulAmong, PoolWords, counter_bound, refusals_are_kept}
-use Rattle.partial_model.specs.declared.call.Call.TheVariants as call
-use Rattle.partial_model.specs.declared.call.Refused.TheVariants as refused
-use Rattle.partial_core.proofs.Leaves.{names_all}
-use Rattle.partial_core.proofs.Parts.{LawfulWith, IsKeptAmong}
-use Rattle.partial_core.proofs.Steps.{LeadsAt, holding_in, known_here, sizes_here, sound_here, sound_at, memory_at, going, quiet}
-use Rattle.partial_core.proofs.Reading.{begun_here}
-use Rattle.partial_core.proofs.StoredFacts.{length_record}
+use Rattle.partial_core.proofs.{Common.{ℕ, suc, ◌≡◌, ◌+◌, ◌<◌, ◌≤◌, ◌==◌, ◌++◌, Bool, true, false, cond, Option, Some, None, List, [], ◌∷◌, length, map, get_or, refl, sym, ap, subst, ◌∙◌, arith, slice_index, ne_eqb, ltb-true, ltb-false, eqb-true, Opening, MayBeRefused, Store, Add, Layout, pool_counter, pool_end, greatest_record, words_after, announcement_block, announcement_size, record_block, plain_record_size, full_record_size, length-record_block, Change, Stage, ClaimingRecord, StoringRecord, ScanBegun, StoringAnnouncement, CoreState, at_stage, step_at, record_size, record_words, fits_pool, pool_refused, begin_joining, IsPoolCount, size_few, Holding, Own, Pool, claims_are_kept, stores_are_kept, is_sound_at, core_of, holding_of, holding_at, holdings, joined_since, call_at, update_call, PartAmong, LawfulAmong, PoolWords, counter_bound, refusals_are_kept}, Leaves.names_all, Parts.{LawfulWith, IsKeptAmong}, Steps.{LeadsAt, holding_in, known_here, sizes_here, sound_here, sound_at, memory_at, going, quiet}, Reading.begun_here, StoredFacts.length_record}
+use Rattle.partial_model.specs.declared.call.{Call.Call, Refused.Refused}
 
 -- how many words a record has, by its pairs
 length_block : (prev value view : ℕ) (pairs : List (ℕ × ℕ)) → length (record_block prev value view pairs) ≡ cond (length pairs == 0) plain_record_size (full_record_size (length pairs))
@@ -93,7 +87,7 @@ module _ (z : Layout) (o : Opening) (m : PartAmong) (w : LawfulAmong z o m) wher
           (ap (λ (b : Bool). cond b (at_stage s (StoringRecord c old a 0)) (pool_refused s)) over) refl counter_inside pool_possible refl keeps (λ ks is. tt) refl
           (record { none = refl; call = update_call c.component c.expected c.value; made = ap (call_at x.begun) called; may = may_refuse c.expected below })
         where
-          may_refuse : (f : Option ℕ) → c.component < x.begun.sizes.m → MayBeRefused x.begun.sizes.m (update_call c.component f c.value) refused.PoolSpent
+          may_refuse : (f : Option ℕ) → c.component < x.begun.sizes.m → MayBeRefused x.begun.sizes.m (update_call c.component f c.value) Refused.PoolSpent
           may_refuse None below = ((below, tt), tt)
           may_refuse (Some t) below = ((below, tt), tt)
 
@@ -126,7 +120,7 @@ module _ (z : Layout) (o : Opening) (m : PartAmong) (w : LawfulAmong z o m) wher
           let may = subst (is_sound_at x.begun) called k.sound.stage in
           quiet z o m w ScanBegun (Add (pool_counter z) (announcement_size (length s.asked))) t (holding_at t (joined_since x)) e due
           (ap (λ (b : Bool). cond b (at_stage s (StoringAnnouncement a 0)) (pool_refused s)) over) refl counter_inside pool_possible refl keeps (λ ks is. tt) refl
-          (record { none = refl; call = call.Scan x.begun.asked; made = ap (call_at x.begun) called; may = (names_all x.begun.sizes.m x.begun.asked k.sound.asked.each, may.0) })
+          (record { none = refl; call = Call.Scan x.begun.asked; made = ap (call_at x.begun) called; may = (names_all x.begun.sizes.m x.begun.asked k.sound.asked.each, may.0) })
 
   -- a word of the announcement is stored
   pub announcement_stored : (at k : ℕ) → s.stage ≡ StoringAnnouncement at k → LeadsAt z o m (StoringAnnouncement at k)

@@ -1,16 +1,7 @@
 -- The exchange of a component word: won, it adds one entry to the history; lost, it changes nothing.
-use Rattle.partial_core.proofs.Common.{option_map_or, eqb-false, eqb-true, append-nil, set-get_or, take_at, length_push, Applied, Opening, stamp_of, Noted, IsLegal, seen_by, places_by, places_written, overtaken_at, place_below, seen_by-push, places_written-append, places_by-push, slice_get_last, Step, Exchange, Layout, words_after, Change, Reply, Stage, Exchanging, Finished, CoreState, at_stage, advance_at, step_at, step_of, overtaken_reply, IsRecord, IsPossible, IsPossibleAt, Holding, Due, IsLoaded, all_weaker, drops_are_kept, wins_are_kept, Part, core_of, port_of, first_at, IsKnown, notes_by, IsTrueYet, holding_of, holdings, joined_since, is_at_rest, call_at, update_call, AreNotesOf, PartAmong, LawfulAmong}
+use Rattle.partial_core.proofs.{Common.{option_map_or, eqb-false, eqb-true, append-nil, set-get_or, take_at, length_push, Applied, Opening, stamp_of, Noted, IsLegal, seen_by, places_by, places_written, overtaken_at, place_below, seen_by-push, places_written-append, places_by-push, slice_get_last, Step, Exchange, Layout, words_after, Change, Reply, Stage, Exchanging, Finished, CoreState, at_stage, advance_at, step_at, step_of, overtaken_reply, IsRecord, IsPossible, IsPossibleAt, Holding, Due, IsLoaded, all_weaker, drops_are_kept, wins_are_kept, Part, core_of, port_of, first_at, IsKnown, notes_by, IsTrueYet, holding_of, holdings, joined_since, is_at_rest, call_at, update_call, AreNotesOf, PartAmong, LawfulAmong}, Added.added_at, MidCalls.KnowsOld, Parts.{IsKeptAmong, known_grows, known_end, gone, changed, holdings_split, once_own, once_other}, Steps.{LeadsAt, holding_in, known_here, sizes_here, sound_at, port_here, seen_here, memory_at, holding_gone, going, ends}, Ports.others, Reading.{stamp_now, stamp_then, component_record}}
 use Rattle.std.proofs.Common.{ℕ, ◌≡◌, ◌≢◌, ◌+◌, ◌<◌, ◌==◌, ◌++◌, Bool, true, false, cond, Option, Some, None, List, [], ◌∷◌, length, get_or, set, slice_get, take, refl, sym, ap, subst, ◌∙◌, arith}
-use Rattle.partial_model.specs.declared.call.Call.TheVariants as call
-use Rattle.partial_model.specs.declared.call.Answer.TheVariants as answer
-use Rattle.partial_model.specs.declared.call.Note.TheVariants as note
-use Rattle.partial_machine.specs.declared.stage.Reply.TheVariants as reply
-use Rattle.partial_core.proofs.Added.{added_at}
-use Rattle.partial_core.proofs.MidCalls.{KnowsOld}
-use Rattle.partial_core.proofs.Parts.{IsKeptAmong, known_grows, known_end, gone, changed, holdings_split, once_own, once_other}
-use Rattle.partial_core.proofs.Steps.{LeadsAt, holding_in, known_here, sizes_here, sound_at, port_here, seen_here, memory_at, holding_gone, going, ends}
-use Rattle.partial_core.proofs.Ports.{others}
-use Rattle.partial_core.proofs.Reading.{stamp_now, stamp_then, component_record}
+use Rattle.partial_model.specs.declared.call.{Call.Call, Answer.Answer, Note.Note}
 
 module _ (z : Layout) (o : Opening) (m : PartAmong) (w : LawfulAmong z o m) (c : Change)
     (old at : ℕ) (e : (core_of m.part).stage ≡ Exchanging c old at) where
@@ -80,19 +71,19 @@ module _ (z : Layout) (o : Opening) (m : PartAmong) (w : LawfulAmong z o m) (c :
       let now = stamp_now z o m w c.component below in
       let known = old_known in
       let over = overtaken_at o log c.component (first_at x.kept) (λ same. eqb-false found old lost (now ∙ same ∙ sym known.stamp)) in
-      let n : Noted = record { call = call.Update c.component c.value; answer = answer.Lost found; note = Some (note.Lost over.place) } in
-      let reply_is : overtaken_reply c found ≡ reply.Lost found = ap (λ (f : Option ℕ). option_map_or (λ _. reply.Changed found) f (reply.Lost found)) is in
-      let leads : advance_at s (Exchanging c old at) found ≡ at_stage s (Finished (reply.Lost found)) = ap (λ (b : Bool). at_stage s (Finished (cond b (reply.Applied at) (overtaken_reply c found)))) lost ∙
+      let n : Noted = record { call = Call.Update c.component c.value; answer = Answer.Lost found; note = Some (Note.Lost over.place) } in
+      let reply_is : overtaken_reply c found ≡ Reply.Lost found = ap (λ (f : Option ℕ). option_map_or (λ _. Reply.Changed found) f (Reply.Lost found)) is in
+      let leads : advance_at s (Exchanging c old at) found ≡ at_stage s (Finished (Reply.Lost found)) = ap (λ (b : Bool). at_stage s (Finished (cond b (Reply.Applied at) (overtaken_reply c found)))) lost ∙
       ap (λ (r : Reply). at_stage s (Finished r)) reply_is in
       let within = place_below log over.place over.entry over.stands in
       let low = g.low in
       let behind = over.behind in
-      ends z o m w (Exchanging c old at) step (at_stage s (Finished (reply.Lost found))) dropped e refl leads (nothing_added lost) inside possible refl
+      ends z o m w (Exchanging c old at) step (at_stage s (Finished (Reply.Lost found))) dropped e refl leads (nothing_added lost) inside possible refl
       (lost_keeps lost) (λ ks is. tt)
       n refl (below_values, ((over.entry, over.stands, over.component, over.stamp ∙ sym now), omega (arith, low, behind))) (omega (arith, within)) refl
       (record {
-        call = call.Update c.component c.value;
-        note = note.Lost over.place;
+        call = Call.Update c.component c.value;
+        note = Note.Lost over.place;
         is = refl;
         made = call_made None is;
         behind = let more = g.more (record { answer = found; at = length log }) in omega (arith, more, behind);
@@ -102,19 +93,19 @@ module _ (z : Layout) (o : Opening) (m : PartAmong) (w : LawfulAmong z o m) (c :
       })
   lost_at (Some t) is lost =
       let g = going z o m w (Exchanging c old at) e refl refl in
-      let n : Noted = record { call = call.UpdateIf c.component t c.value; answer = answer.Changed found; note = Some (note.Saw (length log)) } in
-      let reply_is : overtaken_reply c found ≡ reply.Changed found = ap (λ (f : Option ℕ). option_map_or (λ _. reply.Changed found) f (reply.Lost found)) is in
-      let leads : advance_at s (Exchanging c old at) found ≡ at_stage s (Finished (reply.Changed found)) = ap (λ (b : Bool). at_stage s (Finished (cond b (reply.Applied at) (overtaken_reply c found))))
+      let n : Noted = record { call = Call.UpdateIf c.component t c.value; answer = Answer.Changed found; note = Some (Note.Saw (length log)) } in
+      let reply_is : overtaken_reply c found ≡ Reply.Changed found = ap (λ (f : Option ℕ). option_map_or (λ _. Reply.Changed found) f (Reply.Lost found)) is in
+      let leads : advance_at s (Exchanging c old at) found ≡ at_stage s (Finished (Reply.Changed found)) = ap (λ (b : Bool). at_stage s (Finished (cond b (Reply.Applied at) (overtaken_reply c found))))
       lost ∙ ap (λ (r : Reply). at_stage s (Finished r)) reply_is in
       let other : found ≢ t = λ same. eqb-false found old lost (same ∙ expected_old t is) in
       let order = g.order in
       let last = g.inside in
-      ends z o m w (Exchanging c old at) step (at_stage s (Finished (reply.Changed found))) dropped e refl leads (nothing_added lost) inside possible refl
+      ends z o m w (Exchanging c old at) step (at_stage s (Finished (Reply.Changed found))) dropped e refl leads (nothing_added lost) inside possible refl
       (lost_keeps lost) (λ ks is. tt)
       n refl (below_values, ((omega arith, sym (stamp_then z o m w c.component below), other), seen_here z o m w)) (omega arith) refl
       (record {
-        call = call.UpdateIf c.component t c.value;
-        note = note.Saw (length log);
+        call = Call.UpdateIf c.component t c.value;
+        note = Note.Saw (length log);
         is = refl;
         made = call_made (Some t) is;
         behind = let more = g.more (record { answer = found; at = length log }) in omega (arith, more, order, last);
@@ -154,14 +145,14 @@ module _ (z : Layout) (o : Opening) (m : PartAmong) (w : LawfulAmong z o m) (c :
           (places_by p 0 log) ∙ w.once p ∙ sym (once_other p before x y after port (λ same. eqb-false s.port p h (mine ∙ same)))
 
   won_legal : (f : Option ℕ) → c.expected ≡ f → found ≡ old → IsLegal o won_log (port_of x) (seen_by 0 x.notes)
-      (record { call = update_call c.component f c.value; answer = answer.Applied at; note = Some (note.Wrote (length log)) })
+      (record { call = update_call c.component f c.value; answer = Answer.Applied at; note = Some (Note.Wrote (length log)) })
   won_legal f is won = legal f is
     where
       stands : slice_get won_log (length log) ≡ Some (record { port = port_of x; component = c.component; value = c.value; stamp = at })
       stands = slice_get_last log entry ∙ ap (λ n. Some (record { port = n; component = c.component; value = c.value; stamp = at })) (port_here z o m w)
 
       legal : (f : Option ℕ) → c.expected ≡ f → IsLegal o won_log (port_of x) (seen_by 0 x.notes)
-          (record { call = update_call c.component f c.value; answer = answer.Applied at; note = Some (note.Wrote (length log)) })
+          (record { call = update_call c.component f c.value; answer = Answer.Applied at; note = Some (Note.Wrote (length log)) })
       legal None is = (below_values, (stands, seen_here z o m w))
       legal (Some t) is =
           let front : take (length log) won_log ≡ log = take_at log (entry ∷ []) (length log) refl in
@@ -170,14 +161,14 @@ module _ (z : Layout) (o : Opening) (m : PartAmong) (w : LawfulAmong z o m) (c :
           (below_values, ((stands, stamp), seen_here z o m w))
 
   abbrev won_note : Noted
-  won_note = record { call = update_call c.component c.expected c.value; answer = answer.Applied at; note = Some (note.Wrote (length log)) }
+  won_note = record { call = update_call c.component c.expected c.value; answer = Answer.Applied at; note = Some (Note.Wrote (length log)) }
 
   won : (found == old) ≡ true → LeadsAt z o m (Exchanging c old at) step
   won same =
       let is : found ≡ old = eqb-true found old same in
       let y = gone x won_log found (won_note ∷ []) in
-      let t : CoreState = at_stage s (Finished (reply.Applied at)) in
-      let leads : advance_at s (Exchanging c old at) found ≡ t = ap (λ (b : Bool). at_stage s (Finished (cond b (reply.Applied at) (overtaken_reply c found)))) same in
+      let t : CoreState = at_stage s (Finished (Reply.Applied at)) in
+      let leads : advance_at s (Exchanging c old at) found ≡ t = ap (λ (b : Bool). at_stage s (Finished (cond b (Reply.Applied at) (overtaken_reply c found)))) same in
       let added : added_at s.port (Exchanging c old at) found ≡ entry ∷ [] = ap (λ b. cond {A = List Applied} b (entry ∷ []) []) same in
       let words' = words_after words step in
       let holds : holding_of y ≡ dropped = holding_gone z o m w (Exchanging c old at) t won_log found (won_note ∷ []) e leads in
@@ -204,10 +195,10 @@ module _ (z : Layout) (o : Opening) (m : PartAmong) (w : LawfulAmong z o m) (c :
         answers = record { within = inside; gives = refl };
         possible = possible;
         new = won_note ∷ [];
-        noted = subst (λ (b : Bool). AreNotesOf o (gone x (log ++ cond b (entry ∷ []) []) found (won_note ∷ [])) (Some (cond b (reply.Applied at) (overtaken_reply c found)))
+        noted = subst (λ (b : Bool). AreNotesOf o (gone x (log ++ cond b (entry ∷ []) []) found (won_note ∷ [])) (Some (cond b (Reply.Applied at) (overtaken_reply c found)))
             (won_note ∷ [])) (sym same) (record {
               call = update_call c.component c.expected c.value;
-              note = note.Wrote (length log);
+              note = Note.Wrote (length log);
               is = refl;
               made = call_made c.expected refl;
               behind = let more = g.more (record { answer = found; at = length won_log }) in omega (arith, more, order, last);

@@ -1,5 +1,5 @@
 -- The steps of a getSet under way in an update.
-use Rattle.partial_core.proofs.Common.{ℕ, ◌≡◌, ◌+◌, ◌-◌, ◌<◌, ◌≤◌, ◌==◌, ◌⊎◌, ◌&&◌, ◌++◌, not, eqb, ltb, Bool, true, false, cond, Option, Some, None, List, [], ◌∷◌, length, get_or, inl, inr, refl, sym, ap, subst, ◌∙◌, arith, min, cond_both, ltb-true, ltb-false, eqb-true, option_map_or, Opening, Ranges, highest, Step, Load, Store, Exchange, Add, Layout, list_counter, list_end, list_head, greatest_list, answer_of, words_after, word_of, list_block, list_size, intervals_word, length-pairs, next_word, indices_word, begins_at, with_index, Change, Reply, Stage, is_sound_at, Own, Holding, Lists, claims_are_kept, stores_are_kept, publishings_are_kept, loads_are_true, LawfulWords, getsets_know, core_of, first_at, holdings, holding_of, joined_since, own_list, holding_at, AreNotesOf, IsTrueYet, PartAmong, LawfulAmong, ListWords, counter_bound, refusals_are_kept}
+use Rattle.partial_core.proofs.{Common.{ℕ, ◌≡◌, ◌+◌, ◌-◌, ◌<◌, ◌≤◌, ◌==◌, ◌⊎◌, ◌&&◌, ◌++◌, not, eqb, ltb, Bool, true, false, cond, Option, Some, None, List, [], ◌∷◌, length, get_or, inl, inr, refl, sym, ap, subst, ◌∙◌, arith, min, cond_both, ltb-true, ltb-false, eqb-true, option_map_or, Opening, Ranges, highest, Step, Load, Store, Exchange, Add, Layout, list_counter, list_end, list_head, greatest_list, answer_of, words_after, word_of, list_block, list_size, intervals_word, length-pairs, next_word, indices_word, begins_at, with_index, Change, Reply, Stage, is_sound_at, Own, Holding, Lists, claims_are_kept, stores_are_kept, publishings_are_kept, loads_are_true, LawfulWords, getsets_know, core_of, first_at, holdings, holding_of, joined_since, own_list, holding_at, AreNotesOf, IsTrueYet, PartAmong, LawfulAmong, ListWords, counter_bound, refusals_are_kept}, Parts.{LawfulWith, IsKeptAmong, gone}, Steps.{LeadsAt, holding_in, sizes_here, sound_at, memory_at, going, quiet, load_quiet}}
 use Rattle.partial_active.specs.GetSet as finding
 use Rattle.partial_active.specs.GetSetAnswers as finding_answers
 use Rattle.partial_active.specs.Knowledge.{knows_by}
@@ -10,8 +10,6 @@ use Rattle.partial_embedded.specs.Embedded as viewing
 use Rattle.partial_machine.specs.declared.stage.Stage.TheVariants.{GettingSet, Viewing, ClaimingRecord}
 use Rattle.partial_machine.specs.Machine.{CoreState, getting, with_getting, after_getting, advance_at, step_at, reply_of, reply_at}
 use Rattle.partial_knowledge.specs.Sets as sets
-use Rattle.partial_core.proofs.Parts.{LawfulWith, IsKeptAmong, gone}
-use Rattle.partial_core.proofs.Steps.{LeadsAt, holding_in, sizes_here, sound_at, memory_at, going, quiet, load_quiet}
 
 -- what a port holds in a getSet
 abbrev in_set : CoreState → Option Own → Bool → Holding

@@ -1,11 +1,7 @@
 -- The steps of a join: the claim of a slot, and the store of the announcement in it.
-use Rattle.partial_core.proofs.Common.{ℕ, ◌≡◌, ◌+◌, ◌<◌, ◌≤◌, ◌++◌, Bool, true, false, cond, Some, None, List, [], ◌∷◌, length, get_or, refl, sym, ap, subst, ◌∙◌, arith, nat_lt, IsTrue, ltb-true, ltb-false, Applied, Opening, MayBeRefused, Step, Store, Add, Layout, slot_word, slot_counter, words_after, join_step, join_after, fits_join, JoinStage, Claiming, Storing, Spent, Stage, ScanBegun, Joining, CoreState, advance_at, step_at, after_joining, slots_refused, reply_at, IsSound, is_sound_at, Holding, State, Keeps, drops_are_kept, slot_claims_are_kept, joins_are_kept, core_of, holding_of, holding_at, holdings, joined_since, is_storing, joins_at, call_at, AreNotesOf, PartAmong, LawfulAmong, Slots, counter_bound, refusals_are_kept}
-use Rattle.partial_model.specs.declared.call.Call.TheVariants as call
-use Rattle.partial_model.specs.declared.call.Refused.TheVariants as refused
+use Rattle.partial_core.proofs.{Common.{ℕ, ◌≡◌, ◌+◌, ◌<◌, ◌≤◌, ◌++◌, Bool, true, false, cond, Some, None, List, [], ◌∷◌, length, get_or, refl, sym, ap, subst, ◌∙◌, arith, nat_lt, IsTrue, ltb-true, ltb-false, Applied, Opening, MayBeRefused, Step, Store, Add, Layout, slot_word, slot_counter, words_after, join_step, join_after, fits_join, JoinStage, Claiming, Storing, Spent, Stage, ScanBegun, Joining, CoreState, advance_at, step_at, after_joining, slots_refused, reply_at, IsSound, is_sound_at, Holding, State, Keeps, drops_are_kept, slot_claims_are_kept, joins_are_kept, core_of, holding_of, holding_at, holdings, joined_since, is_storing, joins_at, call_at, AreNotesOf, PartAmong, LawfulAmong, Slots, counter_bound, refusals_are_kept}, Parts.{LawfulWith, IsKeptAmong, gone}, Leaves.names_all, Steps.{LeadsAt, holding_in, known_here, sizes_here, sound_here, sound_at, memory_at, going, quiet}}
+use Rattle.partial_model.specs.declared.call.{Call.Call, Refused.Refused}
 use Rattle.partial_active.specs.declared.join.JoinStage.TheVariants.{Joined as JoinedIn}
-use Rattle.partial_core.proofs.Parts.{LawfulWith, IsKeptAmong, gone}
-use Rattle.partial_core.proofs.Leaves.{names_all}
-use Rattle.partial_core.proofs.Steps.{LeadsAt, holding_in, known_here, sizes_here, sound_here, sound_at, memory_at, going, quiet}
 
 -- one kind of step after another
 pub keeps_then : (z : Layout) (o : Opening) (a b c : State) → Keeps z o a b → Keeps z o b c → Keeps z o a c
@@ -16,7 +12,7 @@ pub same_step : {a b : Step} → Some a ≡ Some b → a ≡ b
 same_step {a} {b} e = cc
 
 -- a scan of some positions may be refused for want of slots
-scan_refused : (s : CoreState) → IsSound s → is_sound_at s ScanBegun → MayBeRefused s.sizes.m (call.Scan s.asked) refused.SlotsSpent
+scan_refused : (s : CoreState) → IsSound s → is_sound_at s ScanBegun → MayBeRefused s.sizes.m (Call.Scan s.asked) Refused.SlotsSpent
 scan_refused s sound may = (names_all s.sizes.m s.asked sound.asked.each, may.0)
 
 module _ (z : Layout) (o : Opening) (m : PartAmong) (w : LawfulAmong z o m)
@@ -98,7 +94,7 @@ module _ (z : Layout) (o : Opening) (m : PartAmong) (w : LawfulAmong z o m)
         let k = known_here z o m w in
         let begun = subst (is_sound_at x.begun) known.called k.sound.stage in
         quiet z o m w Joining (Add (slot_counter z) 1) t dropped e due (leads false over) refl inside possible (since_same t) keeps_x (λ ks is. tt) refl
-        (record { none = refl; call = call.Scan x.begun.asked; made = ap (call_at x.begun) known.called; may = scan_refused x.begun k.sound begun })
+        (record { none = refl; call = Call.Scan x.begun.asked; made = ap (call_at x.begun) known.called; may = scan_refused x.begun k.sound begun })
 
     pub slot_claimed : LeadsAt z o m Joining (Add (slot_counter z) 1)
     slot_claimed = either (nat_lt (get_or words (slot_counter z) 0) s.join.sizes.slots) refl

@@ -1,12 +1,7 @@
 -- The last step of a scan: what it answers stood together after one prefix of the history.
-use Rattle.partial_core.proofs.Common.{ℕ, zero, suc, ◌≡◌, ◌+◌, ◌<◌, ◌≤◌, ◌++◌, Bool, true, false, cond, Option, Some, None, IfSome, IsSome, List, [], ◌∷◌, length, map, slice_get, take, inl, inr, refl, sym, ap, subst, ◌∙◌, arith, Contains, slice_index, slice_index_or, AllByRecursion, Applied, Opening, value_of, Noted, NamesComponents, SawTogether, AreCollects, IsEntryFor, place_below, Store, Layout, slot_word, view_of, list_reads_back, Leaving, Finished, CoreState, scanning, scanned_values, scanned_reply, advance_at, step_at, HasPairs, Covers, ViewNames, Holding, IfJoined, unpublished, CoversAll, leaves_are_kept, words_after, AreStamps, got, is_sound_at, core_of, holding_of, holdings, joined_since, call_at, AllByRecursion-get, PartAmong, LawfulAmong}
-use Rattle.partial_model.specs.declared.call.Call.TheVariants as call
-use Rattle.partial_model.specs.declared.call.Answer.TheVariants as answer
-use Rattle.partial_model.specs.declared.call.Note.TheVariants as note
+use Rattle.partial_core.proofs.{Common.{ℕ, zero, suc, ◌≡◌, ◌+◌, ◌<◌, ◌≤◌, ◌++◌, Bool, true, false, cond, Option, Some, None, IfSome, IsSome, List, [], ◌∷◌, length, map, slice_get, take, inl, inr, refl, sym, ap, subst, ◌∙◌, arith, Contains, slice_index, slice_index_or, AllByRecursion, Applied, Opening, value_of, Noted, NamesComponents, SawTogether, AreCollects, IsEntryFor, place_below, Store, Layout, slot_word, view_of, list_reads_back, Leaving, Finished, CoreState, scanning, scanned_values, scanned_reply, advance_at, step_at, HasPairs, Covers, ViewNames, Holding, IfJoined, unpublished, CoversAll, leaves_are_kept, words_after, AreStamps, got, is_sound_at, core_of, holding_of, holdings, joined_since, call_at, AllByRecursion-get, PartAmong, LawfulAmong}, MidCalls.is_finished, Parts.{IsKeptAmong, gone, gone_core, all_at, holdings_split}, Steps.{LeadsAt, holding_in, known_here, sizes_here, sound_here, sound_at, memory_at, going, ends}}
+use Rattle.partial_model.specs.declared.call.{Call.Call, Answer.Answer, Note.Note}
 use Rattle.partial_knowledge.specs.Scans as scans
-use Rattle.partial_core.proofs.MidCalls.{is_finished}
-use Rattle.partial_core.proofs.Parts.{IsKeptAmong, gone, gone_core, all_at, holdings_split}
-use Rattle.partial_core.proofs.Steps.{LeadsAt, holding_in, known_here, sizes_here, sound_here, sound_at, memory_at, going, ends}
 use Rattle.partial_model.proofs.Values.{element_at}
 
 -- each of the indices names a component
@@ -186,11 +181,11 @@ module _ (z : Layout) (o : Opening) (m : PartAmong) (w : LawfulAmong z o m)
       let keeps_x : IsKeptAmong z o m (holding_of x) (words_after words (Store (slot_word z s.leave.slot) 1)) (record held { claimed = None }) log =
       subst (λ u. IsKeptAmong z o m (holding_in s u (joined_since x)) (words_after words (Store (slot_word z s.leave.slot) 1))
       (record held { claimed = None }) log) (sym e) keeps in
-      let n : Noted = record { call = call.Scan s.asked; answer = answer.Scanned (scanned_values s) s.embedded.collects s.embedded.borrowed; note = Some (note.Saw seen.prefix) } in
+      let n : Noted = record { call = Call.Scan s.asked; answer = Answer.Scanned (scanned_values s) s.embedded.collects s.embedded.borrowed; note = Some (Note.Saw seen.prefix) } in
       let each = sound_here z o m w in
       let m_is = ap (λ (y : Layout). y.m) sizes in
       let values = w.memory.values in
-      let names : NamesComponents (length o.values) (call.Scan s.asked) = names_all (length o.values) s.asked (λ i lt. let below = each.asked.each i lt in omega (arith, below, m_is, values)) in
+      let names : NamesComponents (length o.values) (Call.Scan s.asked) = names_all (length o.values) s.asked (λ i lt. let below = each.asked.each i lt in omega (arith, below, m_is, values)) in
       let low = g.low in
       let first = known.1 in
       let from = seen.from in
@@ -200,11 +195,11 @@ module _ (z : Layout) (o : Opening) (m : PartAmong) (w : LawfulAmong z o m)
       (omega (arith, slot, count)) refl refl keeps_x (λ ks is. tt)
       n refl (names, (seen.together, omega (arith, low, first, from))) inside refl
       (record {
-        call = call.Scan s.asked;
-        note = note.Saw seen.prefix;
-        is = ap (λ (c : CoreState). record { call = call.Scan s.asked; answer = answer.Scanned (scanned_values c) s.embedded.collects s.embedded.borrowed; note = Some (note.Saw seen.prefix) }
+        call = Call.Scan s.asked;
+        note = Note.Saw seen.prefix;
+        is = ap (λ (c : CoreState). record { call = Call.Scan s.asked; answer = Answer.Scanned (scanned_values c) s.embedded.collects s.embedded.borrowed; note = Some (Note.Saw seen.prefix) }
             ∷ []) (sym (core_is n));
-        made = ap (call_at x.begun) known.0.called ∙ ap (λ js. Some (call.Scan js)) (sym known.0.asked);
+        made = ap (call_at x.begun) known.0.called ∙ ap (λ js. Some (Call.Scan js)) (sym known.0.asked);
         behind = let more = g.more (record { answer = 0; at = length log }) in omega (arith, more, first, from);
         within = inside;
         placed = inside;

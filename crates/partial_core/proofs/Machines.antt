@@ -1,7 +1,5 @@
 -- The machines of a lawful state.
-use Rattle.partial_core.proofs.Common.{◌⊎◌, sym, ap, subst, ◌∙◌, inl, inr, CoreState, IsSound, due_at, HasBegun, IsLedTo, IsReady, LawfulMachinesAreReady}
-use Rattle.partial_core.proofs.Steps.{known_here, sizes_here, sound_here, port_here}
-use Rattle.partial_core.proofs.AllSteps.{fresh_call, begin_lawful}
+use Rattle.partial_core.proofs.{Common.{◌⊎◌, sym, ap, subst, ◌∙◌, inl, inr, CoreState, IsSound, due_at, HasBegun, IsLedTo, IsReady, LawfulMachinesAreReady}, Steps.{known_here, sizes_here, sound_here, port_here}, AllSteps.{fresh_call, begin_lawful}}
 
 pub lawful_machines_are_ready : LawfulMachinesAreReady
 lawful_machines_are_ready z o m c w its = by its

@@ -1,17 +1,11 @@
 -- Lawful words are orderly, and the due step of a port moves a slot only as it may.
-use Rattle.partial_core.proofs.Common.{ℕ, ◌≡◌, ◌≢◌, ◌+◌, ◌<◌, ◌≤◌, ◌==◌, ◌⊎◌, ◌++◌, cond, Option, Some, None, IfSome, IsSome, List, ◌∷◌, length, get_or, inl, inr, refl, sym, ap, subst, ◌∙◌, arith, get_or-set_other, get_or-set_same, length-set, IsTrue, nat_lt, slice_index, ltb-true, eqb_tells, Applied, Opening, Step, Load, Store, Exchange, Add, Layout, slot_counter, list_head, pool_counter, list_counter, slot_word, list_base, word_of, words_after, announcement_block, announcement_size, list_block, length-pairs, value_word, Orderly, IsSlotMove, IsSlotOf, IsHeadOf, slot_at, JoinedAnnouncement, IsHead, Pool, Lists, Holding, ClaimedSlot, Own, Space, space_begin, unpublished, LawfulWords, IsOwn, IsTied, IsClaim, IsSlotAnswer, loads_are_true, if_some_at, join_step, fits_join, JoinStage, Claiming, Storing, Spent, Stage, CoreState, getting, record_size, record_words, step_at, step_of, is_sound_at, HasBegun, IsLedTo, IsMachineOf, core_of, holding_of, holdings, joined_since, own_list, own_at, slot_claimed, LawfulIsOrderly, PartAmong, LawfulAmong, ListWords, counter_bound}
+use Rattle.partial_core.proofs.{Common.{ℕ, ◌≡◌, ◌≢◌, ◌+◌, ◌<◌, ◌≤◌, ◌==◌, ◌⊎◌, ◌++◌, cond, Option, Some, None, IfSome, IsSome, List, ◌∷◌, length, get_or, inl, inr, refl, sym, ap, subst, ◌∙◌, arith, get_or-set_other, get_or-set_same, length-set, IsTrue, nat_lt, slice_index, ltb-true, eqb_tells, Applied, Opening, Step, Load, Store, Exchange, Add, Layout, slot_counter, list_head, pool_counter, list_counter, slot_word, list_base, word_of, words_after, announcement_block, announcement_size, list_block, length-pairs, value_word, Orderly, IsSlotMove, IsSlotOf, IsHeadOf, slot_at, JoinedAnnouncement, IsHead, Pool, Lists, Holding, ClaimedSlot, Own, Space, space_begin, unpublished, LawfulWords, IsOwn, IsTied, IsClaim, IsSlotAnswer, loads_are_true, if_some_at, join_step, fits_join, JoinStage, Claiming, Storing, Spent, Stage, CoreState, getting, record_size, record_words, step_at, step_of, is_sound_at, HasBegun, IsLedTo, IsMachineOf, core_of, holding_of, holdings, joined_since, own_list, own_at, slot_claimed, LawfulIsOrderly, PartAmong, LawfulAmong, ListWords, counter_bound}, MidCalls.view_loads, Steps.{holding_in, sizes_here, sound_at, memory_here, memory_at}, StoredFacts.length_record, Leaves.leave_due, AllSteps.{fresh_call, begin_lawful}, Parts.all_at}
 use Rattle.partial_active.specs.declared.join.JoinStage.TheVariants.{Joined as JoinedIn}
 use Rattle.partial_active.specs.GetSet as finding
 use Rattle.partial_active.specs.GetSetAnswers.{set_goes_at}
 use Rattle.partial_active.specs.declared.get_set.Stage.{Stage as SetStage}
 use Rattle.partial_active.specs.declared.get_set.Stage.TheVariants.{Head, ListLen, ListLow, ListHigh, Counter, Slot, Len as NamedLen, Index as NamedIndex, Claim, Write, Publish, Done as SetDone}
 use Rattle.partial_machine.specs.declared.stage.Stage.TheVariants.{Idle, ReadBegun, LoadingValue, UpdateBegun, GettingSet, Viewing, ClaimingRecord, StoringRecord, Exchanging, ScanBegun, StoringAnnouncement, Joining, Scanning, Leaving, Finished}
-use Rattle.partial_core.proofs.MidCalls.{view_loads}
-use Rattle.partial_core.proofs.Steps.{holding_in, sizes_here, sound_at, memory_here, memory_at}
-use Rattle.partial_core.proofs.StoredFacts.{length_record}
-use Rattle.partial_core.proofs.Leaves.{leave_due}
-use Rattle.partial_core.proofs.AllSteps.{fresh_call, begin_lawful}
-use Rattle.partial_core.proofs.Parts.{all_at}
 
 module _ (z : Layout) (o : Opening) (words : List ℕ) (hs : List Holding) (log : List Applied) (w : LawfulWords z o words hs log) where
   -- what stands in a slot now

@@ -1,6 +1,5 @@
 -- A lawful state with one part in the place of another, and with other words.
-use Rattle.partial_core.proofs.Common.{ℕ, ◌+◌, ◌≡◌, ◌≢◌, ◌≤◌, ◌==◌, ◌++◌, Bool, true, false, cond, Option, Some, None, List, [], ◌∷◌, length, take, drop, min, refl, sym, ap, subst, ◌∙◌, arith, append_assoc, length-append, length-take, AllByRecursion, false≢true, ne_eqb, eq-eqb, append-nil, take_all, take-append-drop, take-append-le, Applied, Opening, Noted, LegalNotes, IsLegal, seen_by, places_by, places_written, LegalNotes-push, LegalNotes-grows, places_written-append, Step, Load, Store, Exchange, Add, Layout, CoreState, advance, step_of, IsPossible, Holding, LawfulWords, KeptAnswer, IsLoaded, all_weaker, Part, led_by, core_of, port_of, holding_of, holdings, is_at_rest, IsTrueYet, AreAnswersKept, IsKnown, notes_by, PartAmong, LawfulAmong, IsKept}
-use Rattle.partial_core.proofs.Calls.{led_push}
+use Rattle.partial_core.proofs.{Common.{ℕ, ◌+◌, ◌≡◌, ◌≢◌, ◌≤◌, ◌==◌, ◌++◌, Bool, true, false, cond, Option, Some, None, List, [], ◌∷◌, length, take, drop, min, refl, sym, ap, subst, ◌∙◌, arith, append_assoc, length-append, length-take, AllByRecursion, false≢true, ne_eqb, eq-eqb, append-nil, take_all, take-append-drop, take-append-le, Applied, Opening, Noted, LegalNotes, IsLegal, seen_by, places_by, places_written, LegalNotes-push, LegalNotes-grows, places_written-append, Step, Load, Store, Exchange, Add, Layout, CoreState, advance, step_of, IsPossible, Holding, LawfulWords, KeptAnswer, IsLoaded, all_weaker, Part, led_by, core_of, port_of, holding_of, holdings, is_at_rest, IsTrueYet, AreAnswersKept, IsKnown, notes_by, PartAmong, LawfulAmong, IsKept}, Calls.led_push}
 
 -- a beginning of a list is no longer than the list
 pub seen_within : {A : Type 0} (seen log : List A) → seen ≡ take (length seen) log → length seen ≤ length log

@@ -1,8 +1,5 @@
 -- What a lawful state says of its ports: they are distinct, fit the history, may look, and make few steps.
-use Rattle.partial_core.proofs.Common.{ℕ, suc, ◌≡◌, ◌≢◌, ◌+◌, ◌<◌, ◌≤◌, ◌==◌, ◌++◌, ◌⊎◌, Bool, true, false, cond, List, [], ◌∷◌, length, map, refl, sym, ap, subst, ◌∙◌, inl, inr, arith, append_assoc, Contains, AllByRecursion, eq-eqb, eqb_tells, take_all, length-map, Applied, Opening, places_by, places_written, Layout, IsLayout, view_word, CoreState, advance, most_steps, Run, makes_few_steps, Holding, HaveOtherPorts, LawfulWords, IsEntry, KeptAnswer, all_unmap, all_before, all_after, all_weaker, two_before, two_after, Part, led_by, core_of, port_of, answers_of, with_seen, holding_of, holdings, AreAnswersKept, IsKnown, notes_by, Lawful, FitsHistory, LawfulPortsFit, LawfulRecordsAreWithin, LooksStayLawful, HasFewSteps, LawfulCallsAreBounded, PartAmong, LawfulAmong}
-use Rattle.partial_core.proofs.Calls.{led}
-use Rattle.partial_core.proofs.Parts.{seen_within, legal_on, all_changed, holdings_split, once_same, once_own}
-use Rattle.partial_core.proofs.Steps.{known_here, memory_here, port_here}
+use Rattle.partial_core.proofs.{Common.{ℕ, suc, ◌≡◌, ◌≢◌, ◌+◌, ◌<◌, ◌≤◌, ◌==◌, ◌++◌, ◌⊎◌, Bool, true, false, cond, List, [], ◌∷◌, length, map, refl, sym, ap, subst, ◌∙◌, inl, inr, arith, append_assoc, Contains, AllByRecursion, eq-eqb, eqb_tells, take_all, length-map, Applied, Opening, places_by, places_written, Layout, IsLayout, view_word, CoreState, advance, most_steps, Run, makes_few_steps, Holding, HaveOtherPorts, LawfulWords, IsEntry, KeptAnswer, all_unmap, all_before, all_after, all_weaker, two_before, two_after, Part, led_by, core_of, port_of, answers_of, with_seen, holding_of, holdings, AreAnswersKept, IsKnown, notes_by, Lawful, FitsHistory, LawfulPortsFit, LawfulRecordsAreWithin, LooksStayLawful, HasFewSteps, LawfulCallsAreBounded, PartAmong, LawfulAmong}, Calls.led, Parts.{seen_within, legal_on, all_changed, holdings_split, once_same, once_own}, Steps.{known_here, memory_here, port_here}}
 
 -- what holds of each element in two ways
 both_all : {A : Type 0} (P Q R : A → Type 0) → ((x : A) → P x → Q x → R x) → (xs : List A) → AllByRecursion P xs → AllByRecursion Q xs → AllByRecursion R xs

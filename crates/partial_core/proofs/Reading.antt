@@ -1,17 +1,11 @@
 -- The loads of a read, the first load of an update, and those of embedded scans.
-use Rattle.partial_core.proofs.Common.{ℕ, ◌≡◌, ◌≢◌, ◌<◌, ◌≤◌, ◌==◌, ◌++◌, Bool, true, false, cond, Option, Some, None, IsSome, List, [], ◌∷◌, length, get_or, take, refl, sym, ap, subst, ◌∙◌, arith, option_map_or, take_all, Applied, Opening, stamp_of, value_of, Noted, Step, Load, Layout, value_word, Change, Stage, CoreState, at_stage, scanning, with_scanning, expects, begin_getting, after_scanning, step_at, reply_of, reply_at, is_sound_at, IsRecord, IsWithin, Holding, KeptAnswer, loads_are_true, IsReadable, stamp_within, standing, standing_word, core_of, led_by, first_at, holding_at, holdings, joined_since, is_begun, call_at, update_call, AreNotesOf, either, PartAmong, LawfulAmong}
+use Rattle.partial_core.proofs.{Common.{ℕ, ◌≡◌, ◌≢◌, ◌<◌, ◌≤◌, ◌==◌, ◌++◌, Bool, true, false, cond, Option, Some, None, IsSome, List, [], ◌∷◌, length, get_or, take, refl, sym, ap, subst, ◌∙◌, arith, option_map_or, take_all, Applied, Opening, stamp_of, value_of, Noted, Step, Load, Layout, value_word, Change, Stage, CoreState, at_stage, scanning, with_scanning, expects, begin_getting, after_scanning, step_at, reply_of, reply_at, is_sound_at, IsRecord, IsWithin, Holding, KeptAnswer, loads_are_true, IsReadable, stamp_within, standing, standing_word, core_of, led_by, first_at, holding_at, holdings, joined_since, is_begun, call_at, update_call, AreNotesOf, either, PartAmong, LawfulAmong, Reply}, MidCalls.{view_leads, view_loads}, Parts.gone, Steps.{LeadsAt, holding_in, known_here, sizes_here, sound_at, seen_here, going, load_quiet, load_ends, starting}}
 use Rattle.std.proofs.lemmas.Bool.{false≢true, eqb-false}
-use Rattle.partial_model.specs.declared.call.Call.TheVariants as call
-use Rattle.partial_model.specs.declared.call.Answer.TheVariants as answer
-use Rattle.partial_model.specs.declared.call.Note.TheVariants as note
+use Rattle.partial_model.specs.declared.call.{Call.Call, Answer.Answer, Note.Note}
 use Rattle.partial_words.proofs.ChainLemmas.{value_behind_stamp}
 use Rattle.partial_embedded.specs.Embedded as viewing
-use Rattle.partial_machine.specs.declared.stage.Reply.TheVariants as reply
 use Rattle.partial_machine.specs.declared.stage.Stage.TheVariants.{ReadBegun, LoadingValue, UpdateBegun, Viewing, ClaimingRecord, Scanning, Leaving, Finished}
 use Rattle.partial_knowledge.specs.Scans as scans
-use Rattle.partial_core.proofs.MidCalls.{view_leads, view_loads}
-use Rattle.partial_core.proofs.Parts.{gone}
-use Rattle.partial_core.proofs.Steps.{LeadsAt, holding_in, known_here, sizes_here, sound_at, seen_here, going, load_quiet, load_ends, starting}
 
 module _ (z : Layout) (o : Opening) (m : PartAmong) (w : LawfulAmong z o m) where
   open m use {words, before, part as x, after, log}
@@ -70,15 +64,15 @@ module _ (z : Layout) (o : Opening) (m : PartAmong) (w : LawfulAmong z o m) wher
       let values = w.memory.values in
       let below : j < length o.values = omega (arith, begun_below, values) in
       let a = get_or words (value_word stamp) 0 in
-      let n : Noted = record { call = call.Read j; answer = answer.Read a stamp; note = Some (note.Saw first) } in
+      let n : Noted = record { call = Call.Read j; answer = Answer.Read a stamp; note = Some (Note.Saw first) } in
       let s = standing z o words hs log w.memory first stamp (subst (IsWithin o log first) (sym known.2) (stamp_within o log first j below)) in
       let value : a ≡ value_of o (take first log) j = ap (λ m. get_or words (value_word m) 0) known.2 ∙ value_behind_stamp o words log j first w.memory.agrees below in
-      load_ends z o m w (LoadingValue stamp) (value_word stamp) (at_stage (core_of x) (Finished (reply.Read a stamp))) e refl refl refl
+      load_ends z o m w (LoadingValue stamp) (value_word stamp) (at_stage (core_of x) (Finished (Reply.Read a stamp))) e refl refl refl
       (subst (IsReadable z words hs) (omega arith) (standing_word z o words hs log w.memory stamp (value_word 0) (omega arith) s)) tt refl
       n refl (below, ((omega (arith, order, inside), value, known.2), g.low)) (omega (arith, order, inside)) refl
       (record {
-        call = call.Read j;
-        note = note.Saw first;
+        call = Call.Read j;
+        note = Note.Saw first;
         is = refl;
         made = ap (call_at x.begun) known.1;
         behind = let more = g.more (record { answer = a; at = length log }) in omega (arith, more);
@@ -101,17 +95,17 @@ module _ (z : Layout) (o : Opening) (m : PartAmong) (w : LawfulAmong z o m) wher
       let a = get_or words c.component 0 in
       let below : c.component < z.m = of_sizes (λ y. c.component < y.m) (sound_at z o m w (UpdateBegun c) e).0 in
       let values = w.memory.values in
-      let n : Noted = record { call = call.UpdateIf c.component expected c.value; answer = answer.Changed a; note = Some (note.Saw (length log)) } in
+      let n : Noted = record { call = Call.UpdateIf c.component expected c.value; answer = Answer.Changed a; note = Some (Note.Saw (length log)) } in
       let differs : a ≢ expected = λ same. eqb-false expected a (ap (λ (f : Option ℕ). option_map_or (λ m. m == a) f true) (sym is) ∙ other) (sym same) in
       let begun = begun_here (UpdateBegun c) e refl in
       let kept = none_kept (UpdateBegun c) e refl in
-      load_ends z o m w (UpdateBegun c) c.component (at_stage (core_of x) (Finished (reply.Changed a))) e refl
-      (ap (λ b. cond b (begin_getting (core_of x) c a) (at_stage (core_of x) (Finished (reply.Changed a)))) other) refl
+      load_ends z o m w (UpdateBegun c) c.component (at_stage (core_of x) (Finished (Reply.Changed a))) e refl
+      (ap (λ b. cond b (begin_getting (core_of x) c a) (at_stage (core_of x) (Finished (Reply.Changed a)))) other) refl
       (component_readable c.component below) (at_sizes (λ y. IsRecord y a) (component_record c.component below)) refl
       n refl (omega (arith, below, values), ((omega arith, sym (stamp_then c.component below), differs), seen_here z o m w)) (omega arith) refl
       (record {
-        call = call.UpdateIf c.component expected c.value;
-        note = note.Saw (length log);
+        call = Call.UpdateIf c.component expected c.value;
+        note = Note.Saw (length log);
         is = refl;
         made = ap (call_at x.begun) (sym (ap (λ (d : CoreState). d.stage) begun) ∙ e) ∙ ap (λ (f : Option ℕ). Some (update_call c.component f c.value)) is;
         behind = let first : first_at (x.kept ++ record { answer = a; at = length log } ∷ []) ≡ length log =
@@ -131,7 +125,7 @@ module _ (z : Layout) (o : Opening) (m : PartAmong) (w : LawfulAmong z o m) wher
           let a = get_or words c.component 0 in
           let below : c.component < z.m = of_sizes (λ y. c.component < y.m) (sound_at z o m w (UpdateBegun c) e).0 in
           load_quiet z o m w (UpdateBegun c) c.component (begin_getting (core_of x) c a) e refl
-          (ap (λ b. cond b (begin_getting (core_of x) c a) (at_stage (core_of x) (Finished (reply.Changed a)))) is) refl
+          (ap (λ b. cond b (begin_getting (core_of x) c a) (at_stage (core_of x) (Finished (Reply.Changed a)))) is) refl
           (component_readable c.component below) (at_sizes (λ y. IsRecord y a) (component_record c.component below)) refl refl refl
       by_expected false is = stamp_changed c c.expected refl e is
 

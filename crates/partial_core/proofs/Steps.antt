@@ -1,11 +1,7 @@
 -- What one step of a port's machine leads to, from what it does to the words and to what the port holds.
-use Rattle.partial_core.proofs.Common.{ℕ, ◌≡◌, ◌<◌, ◌≤◌, ◌++◌, true, false, cond, Option, Some, List, [], ◌∷◌, length, get_or, refl, sym, ap, subst, ◌∙◌, arith, false≢true, append-nil, take_all, Applied, Opening, Noted, IsLegal, seen_by, seen_after, places_by, places_written, seen_by-push, places_written-append, Step, Load, Layout, Answers, answer_of, words_after, word_of, Stage, CoreState, lists_spent, advance_at, step_at, step_of, reply_of, IsSound, is_sound_at, IsPossible, IsPossibleAt, Holding, LawfulWords, KeptAnswer, IsLoaded, loads_are_true, IsReadable, Part, core_of, port_of, led_by, first_at, holding_of, holding_at, holdings, joined_from, joined_since, joins_at, own_at, is_begun, is_at_rest, IsTrueYet, IsKnown, AreAnswersKept, AreNotesOf, has_no_step, PartAmong, LawfulAmong, all_parts}
+use Rattle.partial_core.proofs.{Common.{ℕ, ◌≡◌, ◌<◌, ◌≤◌, ◌++◌, true, false, cond, Option, Some, List, [], ◌∷◌, length, get_or, refl, sym, ap, subst, ◌∙◌, arith, false≢true, append-nil, take_all, Applied, Opening, Noted, IsLegal, seen_by, seen_after, places_by, places_written, seen_by-push, places_written-append, Step, Load, Layout, Answers, answer_of, words_after, word_of, Stage, CoreState, lists_spent, advance_at, step_at, step_of, reply_of, IsSound, is_sound_at, IsPossible, IsPossibleAt, Holding, LawfulWords, KeptAnswer, IsLoaded, loads_are_true, IsReadable, Part, core_of, port_of, led_by, first_at, holding_of, holding_at, holdings, joined_from, joined_since, joins_at, own_at, is_begun, is_at_rest, IsTrueYet, IsKnown, AreAnswersKept, AreNotesOf, has_no_step, PartAmong, LawfulAmong, all_parts}, Added.added_at, MidCalls.{knows_at, Knows}, Calls.{led, IsLed, called_on, last_at, joined_push}, Parts.{LawfulWith, IsKeptAmong, seen_within, known_grows, gone, gone_core, known_on, known_end, holdings_split, all_at, changed, once_same}}
 use Rattle.partial_machine.specs.declared.stage.Stage.TheVariants.{Idle, ReadBegun, LoadingValue, UpdateBegun, GettingSet, Viewing, ClaimingRecord, StoringRecord, Exchanging, ScanBegun, StoringAnnouncement, Joining, Scanning, Leaving, Finished}
-use Rattle.partial_core.proofs.Added.{added_at}
 use Rattle.partial_core.specs.Held.{claimed_at, due_at}
-use Rattle.partial_core.proofs.MidCalls.{knows_at, Knows}
-use Rattle.partial_core.proofs.Calls.{led, IsLed, called_on, last_at, joined_push}
-use Rattle.partial_core.proofs.Parts.{LawfulWith, IsKeptAmong, seen_within, known_grows, gone, gone_core, known_on, known_end, holdings_split, all_at, changed, once_same}
 
 -- the memory behind a step of the part's machine at a stage, with what is noted
 abbrev pub memory_gone : PartAmong → Stage → Step → List Noted → PartAmong

@@ -1,13 +1,8 @@
 -- A whole call, step by step.
-use Rattle.partial_core.proofs.Common.{ℕ, ◌≡◌, ◌+◌, ◌<◌, ◌≤◌, ◌++◌, ◌||◌, Bool, true, false, cond, Option, Some, None, List, [], ◌∷◌, length, take, refl, sym, ap, subst, ◌∙◌, arith, length-append, append-nil, length-map, length_push, map_push, take-append-le, Applied, Opening, Noted, Layout, IsLayout, Reply, Stage, Idle, Finished, CoreState, at_stage, advance, reply_at, reply_of, is_begun, is_at_rest, begun_of, begin_scan, IsSound, IsPossible, IsPossibleAt, Run, AreOfScan, pairs_loaded, most_steps, IsMarkedFor, refuses_pool, refuses_slots, IsBehind, calls_begin, rests_are_sound, makes_few_steps, reads_in_two, KeptAnswer, Part, core_of, answers_of, first_at, HasBegun, IsMarkedLike, AreNotesOf, Tells}
-use Rattle.partial_model.specs.declared.call.Call.{Call}
-use Rattle.partial_model.specs.declared.call.Call.TheVariants as call
-use Rattle.partial_model.specs.declared.call.Refused.{Refused}
-use Rattle.partial_model.specs.declared.call.Refused.TheVariants as refused
-use Rattle.partial_machine.specs.declared.stage.Reply.TheVariants as reply
+use Rattle.partial_core.proofs.{Common.{ℕ, ◌≡◌, ◌+◌, ◌<◌, ◌≤◌, ◌++◌, ◌||◌, Bool, true, false, cond, Option, Some, None, List, [], ◌∷◌, length, take, refl, sym, ap, subst, ◌∙◌, arith, length-append, append-nil, length-map, length_push, map_push, take-append-le, Applied, Opening, Noted, Layout, IsLayout, Reply, Stage, Idle, Finished, CoreState, at_stage, advance, reply_at, reply_of, is_begun, is_at_rest, begun_of, begin_scan, IsSound, IsPossible, IsPossibleAt, Run, AreOfScan, pairs_loaded, most_steps, IsMarkedFor, refuses_pool, refuses_slots, IsBehind, calls_begin, rests_are_sound, makes_few_steps, reads_in_two, KeptAnswer, Part, core_of, answers_of, first_at, HasBegun, IsMarkedLike, AreNotesOf, Tells}, Parts.seen_within}
+use Rattle.partial_model.specs.declared.call.{Call.Call, Refused.Refused}
 use Rattle.partial_machine.proofs.ScanCounts.{scans_make_their_steps}
 use Rattle.partial_core.specs.Calls.{IsRefusedLast, Made, FirstStepsMakeCalls, FurtherStepsMakeCalls, MadeCallsMakeTheirSteps, CallsBeginBetween, PortsComeBetween}
-use Rattle.partial_core.proofs.Parts.{seen_within}
 use Rattle.partial_model.proofs.StampsStay.{take_within}
 
 -- where no step is due no answer is possible
@@ -31,10 +26,10 @@ take_through : {A : Type 0} (xs ys zs : List A) → xs ≡ take (length xs) ys �
 take_through xs ys zs e f = e ∙ ap (take (length xs)) f ∙ take_within (length xs) (length ys) zs (seen_within xs ys e)
 
 -- a refused call has marked its port
-marked_for : (s : CoreState) (a : ℕ) (cause : Refused) → IsBehind s a → reply_of (advance s a) ≡ Some (reply.Refused cause) → IsMarkedFor (advance s a) cause
-marked_for s a refused.Component b is = let r = b.refused_by refused.Component is in r.0
-marked_for s a refused.SlotsSpent b is = b.slots ∙ ap (λ (f : Option Reply). refuses_slots f || s.slots_spent) is
-marked_for s a refused.PoolSpent b is = b.pool ∙ ap (λ (f : Option Reply). refuses_pool f || s.pool_spent) is
+marked_for : (s : CoreState) (a : ℕ) (cause : Refused) → IsBehind s a → reply_of (advance s a) ≡ Some (Reply.Refused cause) → IsMarkedFor (advance s a) cause
+marked_for s a Refused.Component b is = let r = b.refused_by Refused.Component is in r.0
+marked_for s a Refused.SlotsSpent b is = b.slots ∙ ap (λ (f : Option Reply). refuses_slots f || s.slots_spent) is
+marked_for s a Refused.PoolSpent b is = b.pool ∙ ap (λ (f : Option Reply). refuses_pool f || s.pool_spent) is
 
 -- a step of the machine c that came from the part y to the part v
 module _ (z : Layout) (o : Opening) (log entries : List Applied) (y : Part) (c : CoreState) (a : ℕ) (v : Part) (t : Tells z o log entries y c a v) where
@@ -56,7 +51,7 @@ module _ (z : Layout) (o : Opening) (log entries : List Applied) (y : Part) (c :
   more_seen : y.seen ≡ take (length y.seen) v.seen
   more_seen = take_on y.seen log entries t.seen ∙ ap (take (length y.seen)) (sym then_seen)
 
-  refused_last : (b : CoreState) (front : List ℕ) → Run b front c → (cause : Refused) → reply_of (advance c a) ≡ Some (reply.Refused cause) → IsRefusedLast b (front ++ a ∷ []) (advance c a) cause
+  refused_last : (b : CoreState) (front : List ℕ) → Run b front c → (cause : Refused) → reply_of (advance c a) ≡ Some (Reply.Refused cause) → IsRefusedLast b (front ++ a ∷ []) (advance c a) cause
   refused_last b front led cause is =
       let r = t.behind.refused_by cause is in
       record { front = front; last = a; is = refl; claims = c; led = led; ends = refl; past = r.0; unmarked = r.1; marked = marked_for c a cause t.behind is }
@@ -145,10 +140,10 @@ made_calls_make_their_steps z o b x c y layout m =
 
 -- a machine that has begun a call has the marks of the one between calls
 begun_from : (s d : CoreState) (c : Call) → IsMarkedLike d s → IsMarkedLike d (begun_of s c)
-begun_from s d (call.Update j v) like = record { sizes = like.sizes; port = like.port; pool = like.pool; slots = like.slots; lists = like.lists }
-begun_from s d (call.Scan js) like = record { sizes = like.sizes; port = like.port; pool = like.pool; slots = like.slots; lists = like.lists }
-begun_from s d (call.Read j) like = record { sizes = like.sizes; port = like.port; pool = like.pool; slots = like.slots; lists = like.lists }
-begun_from s d (call.UpdateIf j x v) like = record { sizes = like.sizes; port = like.port; pool = like.pool; slots = like.slots; lists = like.lists }
+begun_from s d (Call.Update j v) like = record { sizes = like.sizes; port = like.port; pool = like.pool; slots = like.slots; lists = like.lists }
+begun_from s d (Call.Scan js) like = record { sizes = like.sizes; port = like.port; pool = like.pool; slots = like.slots; lists = like.lists }
+begun_from s d (Call.Read j) like = record { sizes = like.sizes; port = like.port; pool = like.pool; slots = like.slots; lists = like.lists }
+begun_from s d (Call.UpdateIf j x v) like = record { sizes = like.sizes; port = like.port; pool = like.pool; slots = like.slots; lists = like.lists }
 
 pub calls_begin_between : CallsBeginBetween
 calls_begin_between x core between = record {
@@ -161,7 +156,7 @@ calls_begin_between x core between = record {
         sound = b.sound between.sound;
       };
   at_once =
-      let b = calls_begin core (call.Scan []) between.sound.asked (omega arith) refl in
+      let b = calls_begin core (Call.Scan []) between.sound.asked (omega arith) refl in
       let like = between.like in
       record {
         rest = between.rest;

@@ -7,7 +7,6 @@ use Rattle.partial_model.specs.declared.history.Opening.{Opening}
 use Rattle.partial_model.specs.Notes.{Noted}
 use Rattle.partial_words.specs.Layout.{Layout, IsLayout}
 use Rattle.partial_machine.specs.declared.stage.Reply.{Reply}
-use Rattle.partial_machine.specs.declared.stage.Reply.TheVariants as reply
 use Rattle.partial_machine.specs.declared.stage.Stage.TheVariants.{Idle, ReadBegun, ScanBegun}
 use Rattle.partial_machine.specs.Machine.{CoreState, at_stage, advance, fresh, step_of, reply_of}
 use Rattle.partial_machine.specs.Calls.{is_at_rest, makes_steps, call_of, refusal_of, begun_of, begin_scan, IsServed}
@@ -56,7 +55,7 @@ pub record Made (z : Layout) (o : Opening) (b : CoreState) (x : Part) (c : CoreS
   -- the machine rests exactly with a reply, and else a step is due
   pub rests : is_at_rest c.stage ≡ is_some (reply_of c)
   pub due : is_some (step_of c) ≡ not (is_some (reply_of c))
-  pub refused_by : (cause : Refused) → reply_of c ≡ Some (reply.Refused cause) → IsRefusedLast b (answers_of y.kept) c cause
+  pub refused_by : (cause : Refused) → reply_of c ≡ Some (Reply.Refused cause) → IsRefusedLast b (answers_of y.kept) c cause
 
 -- the first step of a call
 abbrev pub FirstStepsMakeCalls : Type 0
@@ -73,7 +72,7 @@ FurtherStepsMakeCalls = (z : Layout) (o : Opening) (log entries : List Applied) 
 pub record MakesItsSteps (z : Layout) (b c : CoreState) (y : Part) : Type 0 where
   pub few : (call : Call) → call_of b ≡ Some call → length y.kept + steps_left c ≤ most_steps z call
   pub read : (j : ℕ) (r : Reply) → b.stage ≡ ReadBegun j → reply_of c ≡ Some r → length y.kept ≡ 2
-  pub scan : (n : ℕ) (borrowed : Option ℕ) → b.stage ≡ ScanBegun → reply_of c ≡ Some (reply.Scanned n borrowed) →
+  pub scan : (n : ℕ) (borrowed : Option ℕ) → b.stage ≡ ScanBegun → reply_of c ≡ Some (Reply.Scanned n borrowed) →
       AreOfScan (length b.asked) n (pairs_loaded b (answers_of y.kept)) (length y.kept) borrowed
 
 -- a call makes no more steps than it may, and a scan those of its positions and collects

@@ -5,7 +5,6 @@ use Rattle.partial_model.specs.declared.history.Opening.{Opening}
 use Rattle.partial_model.specs.declared.call.Call.{Call}
 use Rattle.partial_model.specs.declared.call.Refused.{Refused}
 use Rattle.partial_model.specs.declared.call.Note.{Note}
-use Rattle.partial_model.specs.declared.call.Note.TheVariants as note
 use Rattle.partial_model.specs.History.{IsHistory}
 use Rattle.partial_model.specs.Notes.{Noted, LegalNotes, MayBeRefused, seen_by, shown_by, place_of}
 use Rattle.partial_model.specs.Outcome.{places_by, places_written}
@@ -15,7 +14,6 @@ use Rattle.partial_words.specs.Layout.{Layout, list_base, total}
 use Rattle.partial_words.specs.Record.{record_value, view_word}
 use Rattle.partial_words.specs.Step.{Answers, answer_of, words_after}
 use Rattle.partial_machine.specs.declared.stage.Reply.{Reply}
-use Rattle.partial_machine.specs.declared.stage.Reply.TheVariants as reply
 use Rattle.partial_machine.specs.Machine.{CoreState, advance, step_of, reply_of}
 use Rattle.partial_machine.specs.Calls.{is_begun, call_of, answer_for}
 use Rattle.partial_machine.specs.Possible.{IsPossible}
@@ -70,16 +68,16 @@ moved_part c a log new x = record {
 -- Where a reply has its place, of a port that has seen n entries: an applied update is the last of them, a lost one names
 -- one of them, and the others see a prefix of them.
 abbrev pub IsPlacedAt : Reply → Note → ℕ → Type 0
-IsPlacedAt (reply.Applied stamp) (note.Wrote k) n = k + 1 ≡ n
-IsPlacedAt (reply.Lost by) (note.Lost k) n = k < n
-IsPlacedAt (reply.Scanned collects borrowed) (note.Saw k) n = k ≤ n
-IsPlacedAt (reply.Read v stamp) (note.Saw k) n = k ≤ n
-IsPlacedAt (reply.Changed by) (note.Saw k) n = k ≤ n
+IsPlacedAt (Reply.Applied stamp) (Note.Wrote k) n = k + 1 ≡ n
+IsPlacedAt (Reply.Lost by) (Note.Lost k) n = k < n
+IsPlacedAt (Reply.Scanned collects borrowed) (Note.Saw k) n = k ≤ n
+IsPlacedAt (Reply.Read v stamp) (Note.Saw k) n = k ≤ n
+IsPlacedAt (Reply.Changed by) (Note.Saw k) n = k ≤ n
 IsPlacedAt _ _ n = ⊥
 
 -- a scan that took no view has collected the stamps that its positions had together at its place
 abbrev pub CollectsStamps : Opening → Part → Reply → Note → Type 0
-CollectsStamps o y (reply.Scanned collects borrowed) (note.Saw k) =
+CollectsStamps o y (Reply.Scanned collects borrowed) (Note.Saw k) =
     borrowed ≡ None → AreStamps o (take k y.seen) (core_of y).asked (core_of y).rows.last
 CollectsStamps o y _ _ = ⊤
 
@@ -104,7 +102,7 @@ pub record IsRefusal (y : Part) (cause : Refused) (new : List Noted) : Type 0 wh
 -- nothing is noted while the call goes on, nor when it is refused
 abbrev pub AreNotesOf : Opening → Part → Option Reply → List Noted → Type 0
 AreNotesOf o y None new = new ≡ []
-AreNotesOf o y (Some (reply.Refused cause)) new = IsRefusal y cause new
+AreNotesOf o y (Some (Reply.Refused cause)) new = IsRefusal y cause new
 AreNotesOf o y (Some r) new = IsNoteOf o y r new
 
 -- a port's notes are legal in that history, and its entries there are those of its notes, each once and in their order

@@ -1,9 +1,8 @@
 -- A handle by value is null and owns nothing, or is a box of what it holds. Assumes `Logic`.
-use Rattle.partial_door.proofs.Common.{◌≡◌, refl, subst, List, [], ◌∷◌, ◌++◌, Ura, T, lit<, Val, WT, has_ty, vstruct, vcons, vnil, vnull, of_list, ent, via, snd∗, fst∗, never, guard, guard_i, Logic, sem, Goal, Seq, Step, step, Item, ‵, given, ◌$◌, move, drop, use1, learn, fsplit, fjoin, fpick, fpack, feq_l, feq_i, fact_use, lone, Valss, nothing, Ptr, Testable, block_ptr, null_ptr, ptr_val, lies_at, in_a_block, Fits, α, handle_tells, Option, None, Some, box_owns, X, R, handle, box_ty, ghosts, full_share, within, shape, fields, to, and_tt, Global, handle_owns}
+use Rattle.partial_door.proofs.{Common.{◌≡◌, refl, subst, List, [], ◌∷◌, ◌++◌, Ura, T, lit<, Val, WT, has_ty, vstruct, vcons, vnil, vnull, of_list, ent, via, snd∗, fst∗, never, guard, guard_i, Logic, sem, Goal, Seq, Step, step, Item, ‵, given, ◌$◌, move, drop, use1, learn, fsplit, fjoin, fpick, fpack, feq_l, feq_i, fact_use, lone, Valss, nothing, Ptr, Testable, block_ptr, null_ptr, ptr_val, lies_at, in_a_block, Fits, α, handle_tells, Option, None, Some, box_owns, X, R, handle, box_ty, ghosts, full_share, within, shape, fields, to, and_tt, Global, handle_owns}, AsBox.E}
 use Prim.Native.Nat.{ℕ}
 use mir.Raw.{raw as bare}
 use Rattle.std_heap.proofs.GlobalToken.{dealloc_token-Testable}
-use Rattle.partial_door.proofs.AsBox.{E}
 use Rattle.partial_door.specs.contracts.handle.Handle as Handle
 
 module _ {M : Type 1} {𝓤 : Ura M} (𝓛 : Logic 𝓤) where

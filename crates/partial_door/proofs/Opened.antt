@@ -1,10 +1,8 @@
 -- The ports of a memory that has opened, and what is held then.
 use Rattle.partial_door.proofs.Common.{◌≡◌, ◌<◌, ℕ, sym, subst, Layout, pool_base, IsOf, MemoryView, new_ports, ◌++◌, List, [], ◌∷◌, HasOpened}
-use Rattle.std.specs.List.{AllByRecursion}
-use Rattle.std.specs.Arc.{arc_value}
+use Rattle.std.specs.{List.AllByRecursion, Arc.arc_value}
 use Rattle.partial_model.proofs.AllLemmas.{all_back, all_front}
-use Rattle.partial_memory.specs.Rule.{newcomers}
-use Rattle.partial_memory.specs.Ports.{PortView}
+use Rattle.partial_memory.specs.{Rule.newcomers, Ports.PortView}
 use Rattle.partial_memory.proofs.Laws.{opened_ports_are_all}
 use Rattle.partial_door.specs.declared.held.OpenMemory.{OpenMemory}
 

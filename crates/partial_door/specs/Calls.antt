@@ -1,12 +1,11 @@
 -- What the calls of a port leave of what its handle holds.
 use Rattle.std.specs.Prelude.{ℕ, ◌≡◌, ◌⊎◌, ◌<◌, Bool, true, false, List, length, Option, Some, None}
 use Rattle.std.specs.Arc.{arc_value}
-use Rattle.partial_model.specs.declared.call.Call.TheVariants as call
+use Rattle.partial_model.specs.declared.call.Call.{Call}
 use Rattle.partial_model.specs.declared.call.Refused.{Refused}
 use Rattle.partial_memory.specs.declared.answers.Updated.{Updated}
 use Rattle.partial_memory.specs.declared.answers.Updated.TheVariants.{Applied, Lost}
 use Rattle.partial_memory.specs.declared.answers.UpdatedIf.{UpdatedIf}
-use Rattle.partial_memory.specs.declared.answers.UpdatedIf.TheVariants as conditional
 use Rattle.partial_memory.specs.Ports.{PortView, IsRefused, refusal}
 use Rattle.partial_memory.specs.Calls.{Scanned, Updates, UpdatesIf, Reads, Scans}
 use Rattle.partial_door.specs.declared.answers.UpdateAnswer.{UpdateAnswer}
@@ -15,7 +14,6 @@ use Rattle.partial_door.specs.declared.answers.ScanAnswer.{ScanAnswer}
 use Rattle.partial_door.specs.declared.answers.PortState.{PortState}
 use Rattle.partial_door.specs.declared.held.OwnedPort.{OwnedPort}
 use Rattle.partial_door.specs.declared.held.Held.{Held}
-use Rattle.partial_door.specs.declared.held.Held.TheVariants as held
 use Rattle.partial_model.specs.Refusals.{refused_code}
 
 -- the port's reference of its memory stays
@@ -25,7 +23,7 @@ pub record IsSameReference (p q : OwnedPort) : Type 0 where
 
 -- no port is held
 abbrev pub HoldsNoPort : Held → Type 0
-HoldsNoPort (held.Port p) = ⊥
+HoldsNoPort (Held.Port p) = ⊥
 HoldsNoPort _ = Unit {0}
 
 -- A call of a port on what is held: when that is no port the number is 17, nothing changes, and the caller's answer stays; otherwise
@@ -33,7 +31,7 @@ HoldsNoPort _ = Unit {0}
 abbrev pub AtPort : Type 0 → (PortView → ℕ → PortView → Type 0) → Held → ℕ → Held → Type 0
 AtPort stays done h code k =
     (HoldsNoPort h × (code ≡ 17) × (k ≡ h) × stays)
-    ⊎ ((p : OwnedPort) × (q : OwnedPort) × (h ≡ held.Port p) × (k ≡ held.Port q) × IsSameReference p q × done p.port code q.port)
+    ⊎ ((p : OwnedPort) × (q : OwnedPort) × (h ≡ Held.Port p) × (k ≡ Held.Port q) × IsSameReference p q × done p.port code q.port)
 
 -- what an update answers, as the caller sees it
 abbrev pub update_answer : Updated → UpdateAnswer
@@ -44,24 +42,24 @@ update_answer (Lost by) = record { stamp = by; applied = 0 }
 abbrev pub UpdateEnds : ℕ → ℕ → UpdateAnswer → UpdateAnswer → PortView → ℕ → PortView → Type 0
 UpdateEnds j v before after p code q =
     ((r : Updated) × (code ≡ 0) × (after ≡ update_answer r) × Updates p j v r q)
-    ⊎ ((cause : Refused) × (code ≡ refused_code cause) × (after ≡ before) × IsRefused p (call.Update j v) cause q)
+    ⊎ ((cause : Refused) × (code ≡ refused_code cause) × (after ≡ before) × IsRefused p (Call.Update j v) cause q)
 
 -- what a conditional update answers
 abbrev pub update_if_answer : UpdatedIf → UpdateAnswer
-update_if_answer (conditional.Applied stamp) = record { stamp = stamp; applied = 1 }
-update_if_answer (conditional.Changed by) = record { stamp = by; applied = 0 }
+update_if_answer (UpdatedIf.Applied stamp) = record { stamp = stamp; applied = 1 }
+update_if_answer (UpdatedIf.Changed by) = record { stamp = by; applied = 0 }
 
 -- a conditional update likewise
 abbrev pub UpdateIfEnds : ℕ → ℕ → ℕ → UpdateAnswer → UpdateAnswer → PortView → ℕ → PortView → Type 0
 UpdateIfEnds j expected v before after p code q =
     ((r : UpdatedIf) × (code ≡ 0) × (after ≡ update_if_answer r) × UpdatesIf p j expected v r q)
-    ⊎ ((cause : Refused) × (code ≡ refused_code cause) × (after ≡ before) × IsRefused p (call.UpdateIf j expected v) cause q)
+    ⊎ ((cause : Refused) × (code ≡ refused_code cause) × (after ≡ before) × IsRefused p (Call.UpdateIf j expected v) cause q)
 
 -- a read likewise; a refused one changes nothing of the port
 abbrev pub ReadEnds : ℕ → ReadAnswer → ReadAnswer → PortView → ℕ → PortView → Type 0
 ReadEnds j before after p code q =
     ((code ≡ 0) × Reads p j after.value after.stamp q)
-    ⊎ ((cause : Refused) × (code ≡ refused_code cause) × (after ≡ before) × (refusal p (call.Read j) ≡ Some cause) × (q ≡ p))
+    ⊎ ((cause : Refused) × (code ≡ refused_code cause) × (after ≡ before) × (refusal p (Call.Read j) ≡ Some cause) × (q ≡ p))
 
 -- the stamp, or 0 when there is none
 abbrev pub stamp_or_zero : Option ℕ → ℕ
@@ -87,7 +85,7 @@ ScanEnds which before values old new p code q =
     ((s : Scanned) × (code ≡ 0) × (new ≡ scan_answer s) × Scans p which values s q)
     ⊎ ((values ≡ before) × (new ≡ old)
     × (((code ≡ 19) × IsMismatch p.memory.about.sizes.m which before × (q ≡ p))
-    ⊎ ((cause : Refused) × (code ≡ refused_code cause) × IsRefused p (call.Scan which) cause q)))
+    ⊎ ((cause : Refused) × (code ≡ refused_code cause) × IsRefused p (Call.Scan which) cause q)))
 
 -- 1 for a mark that is set
 abbrev pub one_for_true : Bool → ℕ

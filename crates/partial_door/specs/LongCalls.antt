@@ -1,11 +1,10 @@
 -- What the calls of a port of a long-lived memory leave of what its handle holds.
 use Rattle.std.specs.Prelude.{ℕ, ◌≡◌, ◌⊎◌, true, List, length, is_some}
 use Rattle.std.specs.Arc.{arc_value}
-use Rattle.partial_model.specs.declared.call.Call.TheVariants as call
+use Rattle.partial_model.specs.declared.call.Call.{Call}
 use Rattle.partial_long_lived.specs.declared.answers.Updated.{Updated}
 use Rattle.partial_long_lived.specs.declared.answers.Updated.TheVariants.{Applied, Lost}
 use Rattle.partial_long_lived.specs.declared.answers.UpdatedIf.{UpdatedIf}
-use Rattle.partial_long_lived.specs.declared.answers.UpdatedIf.TheVariants as conditional
 use Rattle.partial_long_lived.specs.declared.error.Refused.{Refused}
 use Rattle.partial_long_lived.specs.Refusals.{refusal_code}
 use Rattle.partial_long_lived.specs.Ports.{PortView}
@@ -15,7 +14,6 @@ use Rattle.partial_door.specs.declared.answers.ReadAnswer.{ReadAnswer}
 use Rattle.partial_door.specs.declared.answers.ScanAnswer.{ScanAnswer}
 use Rattle.partial_door.specs.declared.held.LongPort.{LongPort}
 use Rattle.partial_door.specs.declared.held.Held.{Held}
-use Rattle.partial_door.specs.declared.held.Held.TheVariants as held
 use Rattle.partial_door.specs.Calls.{IsMismatch, scan_answer}
 
 -- the port's reference of its memory stays
@@ -25,7 +23,7 @@ pub record IsSameLong (p q : LongPort) : Type 0 where
 
 -- no port of a long-lived memory is held
 abbrev pub HoldsNoLongPort : Held → Type 0
-HoldsNoLongPort (held.LongPort p) = ⊥
+HoldsNoLongPort (Held.LongPort p) = ⊥
 HoldsNoLongPort _ = Unit {0}
 
 -- A call of a port on what is held: when that is no port of a long-lived memory the number is 17, nothing changes, and the caller's answer
@@ -33,7 +31,7 @@ HoldsNoLongPort _ = Unit {0}
 abbrev pub AtLongPort : Type 0 → (PortView → ℕ → PortView → Type 0) → Held → ℕ → Held → Type 0
 AtLongPort stays done h code k =
     (HoldsNoLongPort h × (code ≡ 17) × (k ≡ h) × stays)
-    ⊎ ((p : LongPort) × (q : LongPort) × (h ≡ held.LongPort p) × (k ≡ held.LongPort q) × IsSameLong p q × done p.port code q.port)
+    ⊎ ((p : LongPort) × (q : LongPort) × (h ≡ Held.LongPort p) × (k ≡ Held.LongPort q) × IsSameLong p q × done p.port code q.port)
 
 -- what an update answers, as the caller sees it
 abbrev pub long_update_answer : Updated → UpdateAnswer
@@ -44,24 +42,24 @@ long_update_answer (Lost by) = record { stamp = by; applied = 0 }
 abbrev pub LongUpdateEnds : ℕ → ℕ → UpdateAnswer → UpdateAnswer → PortView → ℕ → PortView → Type 0
 LongUpdateEnds j v before after p code q =
     ((r : Updated) × (code ≡ 0) × (after ≡ long_update_answer r) × Updates p j v r q)
-    ⊎ ((cause : Refused) × (code ≡ refusal_code cause) × (after ≡ before) × IsRefused p (call.Update j v) cause q)
+    ⊎ ((cause : Refused) × (code ≡ refusal_code cause) × (after ≡ before) × IsRefused p (Call.Update j v) cause q)
 
 -- what a conditional update answers, as the caller sees it
 abbrev pub long_update_if_answer : UpdatedIf → UpdateAnswer
-long_update_if_answer (conditional.Applied stamp) = record { stamp = stamp; applied = 1 }
-long_update_if_answer (conditional.Changed by) = record { stamp = by; applied = 0 }
+long_update_if_answer (UpdatedIf.Applied stamp) = record { stamp = stamp; applied = 1 }
+long_update_if_answer (UpdatedIf.Changed by) = record { stamp = by; applied = 0 }
 
 -- a conditional update likewise
 abbrev pub LongUpdateIfEnds : ℕ → ℕ → ℕ → UpdateAnswer → UpdateAnswer → PortView → ℕ → PortView → Type 0
 LongUpdateIfEnds j expected v before after p code q =
     ((r : UpdatedIf) × (code ≡ 0) × (after ≡ long_update_if_answer r) × UpdatesIf p j expected v r q)
-    ⊎ ((cause : Refused) × (code ≡ refusal_code cause) × (after ≡ before) × IsRefused p (call.UpdateIf j expected v) cause q)
+    ⊎ ((cause : Refused) × (code ≡ refusal_code cause) × (after ≡ before) × IsRefused p (Call.UpdateIf j expected v) cause q)
 
 -- a read likewise
 abbrev pub LongReadEnds : ℕ → ReadAnswer → ReadAnswer → PortView → ℕ → PortView → Type 0
 LongReadEnds j before after p code q =
     ((code ≡ 0) × Reads p j after.value after.stamp q)
-    ⊎ ((cause : Refused) × (code ≡ refusal_code cause) × (after ≡ before) × IsRefused p (call.Read j) cause q)
+    ⊎ ((cause : Refused) × (code ≡ refusal_code cause) × (after ≡ before) × IsRefused p (Call.Read j) cause q)
 
 -- a scan was answered, or refused for its lengths or for a cause, and then the answer and the values stay
 abbrev pub LongScanEnds : List ℕ → List ℕ → List ℕ → ScanAnswer → ScanAnswer → PortView → ℕ → PortView → Type 0
@@ -69,13 +67,13 @@ LongScanEnds which before values old new p code q =
     ((s : Scanned) × (code ≡ 0) × (new ≡ scan_answer s) × Scans p which values s q)
     ⊎ ((values ≡ before) × (new ≡ old)
     × (((code ≡ 19) × IsMismatch p.memory.about.sizes.m which before × (q ≡ p))
-    ⊎ ((cause : Refused) × (code ≡ refusal_code cause) × IsRefused p (call.Scan which) cause q)))
+    ⊎ ((cause : Refused) × (code ≡ refusal_code cause) × IsRefused p (Call.Scan which) cause q)))
 
 -- why a scan with stamps was refused: the lengths don't fit, of a memory of m components, or it has a cause as other scans have
 abbrev pub NotScannedStamped : List ℕ → List ℕ → List ℕ → PortView → ℕ → PortView → Type 0
 NotScannedStamped which values stamps p code q =
     ((code ≡ 19) × (IsMismatch p.memory.about.sizes.m which values ⊎ (length stamps ≡ length which → ⊥)) × (q ≡ p))
-    ⊎ ((cause : Refused) × (code ≡ refusal_code cause) × IsRefused p (call.Scan which) cause q)
+    ⊎ ((cause : Refused) × (code ≡ refusal_code cause) × IsRefused p (Call.Scan which) cause q)
 
 -- A scan was answered, with stamps unless it took the view of an update, and then they stay; or it was refused, and then the answer and both
 -- arrays stay.

@@ -14,18 +14,17 @@ use Rattle.partial_door.specs.declared.held.LongMemory.{LongMemory}
 use Rattle.partial_door.specs.declared.held.LongPort.{LongPort}
 use Rattle.partial_door.specs.declared.held.LongClosing.{LongClosing}
 use Rattle.partial_door.specs.declared.held.Held.{Held}
-use Rattle.partial_door.specs.declared.held.Held.TheVariants as held
 use Rattle.partial_door.specs.LongCalls.{HoldsNoLongPort, IsSameLong}
 
 -- no open long-lived memory is held
 abbrev pub HoldsNoLongMemory : Held → Type 0
-HoldsNoLongMemory (held.LongMemory m) = ⊥
+HoldsNoLongMemory (Held.LongMemory m) = ⊥
 HoldsNoLongMemory _ = Unit {0}
 
 -- no long-lived memory is held, open or about to be closed
 abbrev pub HoldsNoLong : Held → Type 0
-HoldsNoLong (held.LongMemory m) = ⊥
-HoldsNoLong (held.LongClosing c) = ⊥
+HoldsNoLong (Held.LongMemory m) = ⊥
+HoldsNoLong (Held.LongClosing c) = ⊥
 HoldsNoLong _ = Unit {0}
 
 -- the options with these sizes of an arena
@@ -44,7 +43,7 @@ pub record IsNewMemory (initial : List ℕ) (ports : ℕ) (o : Options) (v : Mem
 -- that is what is held, with all its ports
 abbrev pub HoldsNew : ℕ → List ℕ → ℕ → Options → Held → Type 0
 HoldsNew number initial ports o h =
-    (m : LongMemory) × (h ≡ held.LongMemory m) × (m.number ≡ number) × (m.count ≡ ports)
+    (m : LongMemory) × (h ≡ Held.LongMemory m) × (m.number ≡ number) × (m.count ≡ ports)
     × IsNewMemory initial ports o (arc_value m.memory) m.ports.items
 
 -- why no new memory is held: the cause of its opening, or it has opened, and an allocation for its handle was refused
@@ -62,7 +61,7 @@ pub record IsSameLongMemory (m n : LongMemory) : Type 0 where
 -- the last port that the memory holds is taken out
 abbrev pub TakesLongPort : Held → Held → Held → Type 0
 TakesLongPort h taken k =
-    (m : LongMemory) × (n : LongMemory) × (p : LongPort) × (h ≡ held.LongMemory m) × (k ≡ held.LongMemory n) × (taken ≡ held.LongPort p)
+    (m : LongMemory) × (n : LongMemory) × (p : LongPort) × (h ≡ Held.LongMemory m) × (k ≡ Held.LongMemory n) × (taken ≡ Held.LongPort p)
     × IsSameLongMemory m n × (m.ports.items ≡ n.ports.items ++ p.port ∷ [])
     × (p.number ≡ m.number) × (arc_value p.memory ≡ arc_value m.memory)
 
@@ -70,13 +69,13 @@ TakesLongPort h taken k =
 abbrev pub MayNotTakeLong : Held → ℕ → Type 0
 MayNotTakeLong h code =
     (HoldsNoLongMemory h × (code ≡ 17))
-    ⊎ ((m : LongMemory) × (h ≡ held.LongMemory m) × (length m.ports.items ≡ 0) × (code ≡ 21))
-    ⊎ ((m : LongMemory) × (h ≡ held.LongMemory m) × (0 < length m.ports.items) × (code ≡ 6))
+    ⊎ ((m : LongMemory) × (h ≡ Held.LongMemory m) × (length m.ports.items ≡ 0) × (code ≡ 21))
+    ⊎ ((m : LongMemory) × (h ≡ Held.LongMemory m) × (0 < length m.ports.items) × (code ≡ 6))
 
 -- a port is returned to its memory
 abbrev pub GivesLongPort : Held → Held → Held → Type 0
 GivesLongPort h given k =
-    (m : LongMemory) × (n : LongMemory) × (p : LongPort) × (h ≡ held.LongMemory m) × (k ≡ held.LongMemory n) × (given ≡ held.LongPort p)
+    (m : LongMemory) × (n : LongMemory) × (p : LongPort) × (h ≡ Held.LongMemory m) × (k ≡ Held.LongMemory n) × (given ≡ Held.LongPort p)
     × (p.number ≡ m.number) × IsSameLongMemory m n × (n.ports.items ≡ m.ports.items ++ p.port ∷ [])
 
 -- why a port isn't returned: there is no open memory or no port, or the two are of two memories, or an allocation was refused
@@ -84,26 +83,26 @@ abbrev pub MayNotGiveLong : Held → Held → ℕ → Type 0
 MayNotGiveLong h given code =
     (HoldsNoLongMemory h × (code ≡ 17))
     ⊎ (HoldsNoLongPort given × (code ≡ 17))
-    ⊎ ((m : LongMemory) × (p : LongPort) × (h ≡ held.LongMemory m) × (given ≡ held.LongPort p) × (p.number ≡ m.number → ⊥) × (code ≡ 20))
-    ⊎ ((m : LongMemory) × (p : LongPort) × (h ≡ held.LongMemory m) × (given ≡ held.LongPort p) × (p.number ≡ m.number) × (code ≡ 6))
+    ⊎ ((m : LongMemory) × (p : LongPort) × (h ≡ Held.LongMemory m) × (given ≡ Held.LongPort p) × (p.number ≡ m.number → ⊥) × (code ≡ 20))
+    ⊎ ((m : LongMemory) × (p : LongPort) × (h ≡ Held.LongMemory m) × (given ≡ Held.LongPort p) × (p.number ≡ m.number) × (code ≡ 6))
 
 -- the memory holds the same ports as before
 abbrev pub StaysLong : Held → Held → Type 0
 StaysLong h k =
     (k ≡ h)
-    ⊎ ((m : LongMemory) × (n : LongMemory) × (h ≡ held.LongMemory m) × (k ≡ held.LongMemory n) × IsSameLongMemory m n
+    ⊎ ((m : LongMemory) × (n : LongMemory) × (h ≡ Held.LongMemory m) × (k ≡ Held.LongMemory n) × IsSameLongMemory m n
     × (n.ports.items ≡ m.ports.items))
 
 -- a port and a memory of one number are of one memory: each memory has a number of its own
 abbrev pub AreLongApart : Held → Held → Type 0
-AreLongApart (held.LongMemory m) (held.LongPort p) = p.number ≡ m.number → arc_value p.memory ≡ arc_value m.memory
+AreLongApart (Held.LongMemory m) (Held.LongPort p) = p.number ≡ m.number → arc_value p.memory ≡ arc_value m.memory
 AreLongApart _ _ = Unit {0}
 
 -- what is held may be closed: an open memory with all its ports, and no other reference of it, or one whose close was refused
 abbrev pub IsReadyToClose : Held → LongClosing → Type 0
-IsReadyToClose (held.LongMemory m) c =
+IsReadyToClose (Held.LongMemory m) c =
     (length m.ports.items ≡ m.count) × (m.ports.items ≡ c.rest.items ++ c.port ∷ []) × (c.memory ≡ arc_value m.memory)
-IsReadyToClose (held.LongClosing d) c = c ≡ d
+IsReadyToClose (Held.LongClosing d) c = c ≡ d
 IsReadyToClose _ c = ⊥
 
 -- it is closed with all its ports, and these are its values
@@ -118,12 +117,12 @@ pub record IsSameClosing (c d : LongClosing) : Type 0 where
 
 -- an allocation was refused: what is held is the memory with all its ports, for a later close
 abbrev pub KeepsLong : Held → Held → Type 0
-KeepsLong h k = (c : LongClosing) × (d : LongClosing) × IsReadyToClose h c × IsSameClosing c d × (k ≡ held.LongClosing d)
+KeepsLong h k = (c : LongClosing) × (d : LongClosing) × IsReadyToClose h c × IsSameClosing c d × (k ≡ Held.LongClosing d)
 
 -- the room isn't that of the memory's values
 abbrev pub IsOtherRoom : Held → ℕ → Type 0
-IsOtherRoom (held.LongMemory m) room = length (arc_value m.memory).about.opening.values ≡ room → ⊥
-IsOtherRoom (held.LongClosing c) room = length c.memory.about.opening.values ≡ room → ⊥
+IsOtherRoom (Held.LongMemory m) room = length (arc_value m.memory).about.opening.values ≡ room → ⊥
+IsOtherRoom (Held.LongClosing c) room = length c.memory.about.opening.values ≡ room → ⊥
 IsOtherRoom _ room = ⊥
 
 -- the memory doesn't hold all its ports, or holds none
@@ -136,19 +135,19 @@ abbrev pub MayNotCloseLong : Held → ℕ → ℕ → Type 0
 MayNotCloseLong h room code =
     (HoldsNoLong h × (code ≡ 17))
     ⊎ (IsOtherRoom h room × (code ≡ 19))
-    ⊎ ((m : LongMemory) × (h ≡ held.LongMemory m) × (code ≡ 22) × IsLongAway m)
-    ⊎ ((m : LongMemory) × (h ≡ held.LongMemory m) × (code ≡ 24) × (length m.ports.items ≡ m.count))
+    ⊎ ((m : LongMemory) × (h ≡ Held.LongMemory m) × (code ≡ 22) × IsLongAway m)
+    ⊎ ((m : LongMemory) × (h ≡ Held.LongMemory m) × (code ≡ 24) × (length m.ports.items ≡ m.count))
 
 -- two ports with one number are of one memory
 abbrev pub ArePortsApart : Held → Held → Type 0
-ArePortsApart (held.LongPort p) (held.LongPort q) = q.number ≡ p.number → arc_value q.memory ≡ arc_value p.memory
+ArePortsApart (Held.LongPort p) (Held.LongPort q) = q.number ≡ p.number → arc_value q.memory ≡ arc_value p.memory
 ArePortsApart _ _ = Unit {0}
 
 -- two ports of one memory meet
 abbrev pub MeetLongPorts : Held → Held → Held → Held → Type 0
 MeetLongPorts g h k l =
     (a : LongPort) × (b : LongPort) × (c : LongPort) × (d : LongPort)
-    × (g ≡ held.LongPort a) × (h ≡ held.LongPort b) × (k ≡ held.LongPort c) × (l ≡ held.LongPort d)
+    × (g ≡ Held.LongPort a) × (h ≡ Held.LongPort b) × (k ≡ Held.LongPort c) × (l ≡ Held.LongPort d)
     × (b.number ≡ a.number) × IsSameLong a c × IsSameLong b d × Meets a.port b.port c.port d.port
 
 -- why two don't meet: one is no port, or they are of two memories
@@ -156,7 +155,7 @@ abbrev pub MayNotMeetLong : Held → Held → ℕ → Type 0
 MayNotMeetLong g h code =
     (HoldsNoLongPort g × (code ≡ 17))
     ⊎ (HoldsNoLongPort h × (code ≡ 17))
-    ⊎ ((a : LongPort) × (b : LongPort) × (g ≡ held.LongPort a) × (h ≡ held.LongPort b) × (b.number ≡ a.number → ⊥) × (code ≡ 20))
+    ⊎ ((a : LongPort) × (b : LongPort) × (g ≡ Held.LongPort a) × (h ≡ Held.LongPort b) × (b.number ≡ a.number → ⊥) × (code ≡ 20))
 
 -- two ports meet, or both are as they were
 abbrev pub MeetsLong : Held → Held → ℕ → Held → Held → Type 0

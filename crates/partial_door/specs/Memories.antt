@@ -15,17 +15,16 @@ use Rattle.partial_door.specs.declared.answers.RoomSizes.{RoomSizes}
 use Rattle.partial_door.specs.declared.held.OpenMemory.{OpenMemory}
 use Rattle.partial_door.specs.declared.held.OwnedPort.{OwnedPort}
 use Rattle.partial_door.specs.declared.held.Held.{Held}
-use Rattle.partial_door.specs.declared.held.Held.TheVariants as held
 use Rattle.partial_door.specs.Calls.{HoldsNoPort, IsSameReference}
 
 -- no open memory is held
 abbrev pub HoldsNoMemory : Held → Type 0
-HoldsNoMemory (held.Memory m) = ⊥
+HoldsNoMemory (Held.Memory m) = ⊥
 HoldsNoMemory _ = Unit {0}
 
 -- no closed memory is held
 abbrev pub HoldsNoClosed : Held → Type 0
-HoldsNoClosed (held.Closed c) = ⊥
+HoldsNoClosed (Held.Closed c) = ⊥
 HoldsNoClosed _ = Unit {0}
 
 -- the sizes of a memory of m components
@@ -44,7 +43,7 @@ pub record HasOpened (opening : ℕ) (z : Layout) (initial : List ℕ) (ports : 
 
 -- that is what is held
 abbrev pub HoldsOpened : ℕ → Layout → List ℕ → ℕ → Held → Type 0
-HoldsOpened opening z initial ports h = (m : OpenMemory) × (h ≡ held.Memory m) × HasOpened opening z initial ports m
+HoldsOpened opening z initial ports h = (m : OpenMemory) × (h ≡ Held.Memory m) × HasOpened opening z initial ports m
 
 -- why a memory may not open: the first size that is out of its range, then the number of ports, then want of memory
 abbrev pub MayNotOpenWith : Layout → ℕ → ℕ → Type 0
@@ -55,12 +54,12 @@ MayNotOpenWith z ports code =
 -- what is held is a memory that goes on with these values of a closed one, and zeros behind them
 abbrev pub GoesOnWith : ℕ → List ℕ → Layout → ℕ → Held → Type 0
 GoesOnWith opening values z ports h =
-    (m : OpenMemory) × (h ≡ held.Memory m) × (length values ≤ z.m) × HasOpened opening z (extended_values z.m values) ports m
+    (m : OpenMemory) × (h ≡ Held.Memory m) × (length values ≤ z.m) × HasOpened opening z (extended_values z.m values) ports m
     × ContinuesAll values (arc_value m.memory).about.opening
 
 -- it goes on with those of what was held
 abbrev pub HoldsReopened : ℕ → Held → Layout → ℕ → Held → Type 0
-HoldsReopened opening closed z ports h = (c : Closed) × (closed ≡ held.Closed c) × GoesOnWith opening c.values.items z ports h
+HoldsReopened opening closed z ports h = (c : Closed) × (closed ≡ Held.Closed c) × GoesOnWith opening c.values.items z ports h
 
 -- why that many values may not go on in such a memory: the first size that is out of its range, then the cause of the reopening
 abbrev pub MayNotGoOn : ℕ → Layout → ℕ → ℕ → Type 0
@@ -72,7 +71,7 @@ MayNotGoOn count z ports code =
 abbrev pub MayNotReopenWith : Held → Layout → ℕ → ℕ → Type 0
 MayNotReopenWith closed z ports code =
     (HoldsNoClosed closed × (code ≡ 17))
-    ⊎ ((c : Closed) × (closed ≡ held.Closed c) × MayNotGoOn (length c.values.items) z ports code)
+    ⊎ ((c : Closed) × (closed ≡ Held.Closed c) × MayNotGoOn (length c.values.items) z ports code)
 
 -- an open memory, apart from the ports that it holds
 pub record IsSameMemory (m n : OpenMemory) : Type 0 where
@@ -83,7 +82,7 @@ pub record IsSameMemory (m n : OpenMemory) : Type 0 where
 -- the last port that the memory holds is taken out
 abbrev pub TakesPort : Held → Held → Held → Type 0
 TakesPort h taken k =
-    (m : OpenMemory) × (n : OpenMemory) × (p : OwnedPort) × (h ≡ held.Memory m) × (k ≡ held.Memory n) × (taken ≡ held.Port p)
+    (m : OpenMemory) × (n : OpenMemory) × (p : OwnedPort) × (h ≡ Held.Memory m) × (k ≡ Held.Memory n) × (taken ≡ Held.Port p)
     × IsSameMemory m n × (m.ports.items ≡ n.ports.items ++ p.port ∷ [])
     × (p.opening ≡ m.opening) × (arc_value p.memory ≡ arc_value m.memory)
 
@@ -91,13 +90,13 @@ TakesPort h taken k =
 abbrev pub MayNotTake : Held → ℕ → Type 0
 MayNotTake h code =
     (HoldsNoMemory h × (code ≡ 17))
-    ⊎ ((m : OpenMemory) × (h ≡ held.Memory m) × (length m.ports.items ≡ 0) × (code ≡ 21))
-    ⊎ ((m : OpenMemory) × (h ≡ held.Memory m) × (0 < length m.ports.items) × (code ≡ 6))
+    ⊎ ((m : OpenMemory) × (h ≡ Held.Memory m) × (length m.ports.items ≡ 0) × (code ≡ 21))
+    ⊎ ((m : OpenMemory) × (h ≡ Held.Memory m) × (0 < length m.ports.items) × (code ≡ 6))
 
 -- a port is returned to its memory
 abbrev pub GivesPort : Held → Held → Held → Type 0
 GivesPort h given k =
-    (m : OpenMemory) × (n : OpenMemory) × (p : OwnedPort) × (h ≡ held.Memory m) × (k ≡ held.Memory n) × (given ≡ held.Port p)
+    (m : OpenMemory) × (n : OpenMemory) × (p : OwnedPort) × (h ≡ Held.Memory m) × (k ≡ Held.Memory n) × (given ≡ Held.Port p)
     × (p.opening ≡ m.opening) × IsSameMemory m n × (n.ports.items ≡ m.ports.items ++ p.port ∷ [])
 
 -- why a port isn't returned: there is no open memory or no port, or the two are of two openings, or an allocation was refused
@@ -105,26 +104,26 @@ abbrev pub MayNotGive : Held → Held → ℕ → Type 0
 MayNotGive h given code =
     (HoldsNoMemory h × (code ≡ 17))
     ⊎ (HoldsNoPort given × (code ≡ 17))
-    ⊎ ((m : OpenMemory) × (p : OwnedPort) × (h ≡ held.Memory m) × (given ≡ held.Port p) × (p.opening ≡ m.opening → ⊥) × (code ≡ 20))
-    ⊎ ((m : OpenMemory) × (p : OwnedPort) × (h ≡ held.Memory m) × (given ≡ held.Port p) × (p.opening ≡ m.opening) × (code ≡ 6))
+    ⊎ ((m : OpenMemory) × (p : OwnedPort) × (h ≡ Held.Memory m) × (given ≡ Held.Port p) × (p.opening ≡ m.opening → ⊥) × (code ≡ 20))
+    ⊎ ((m : OpenMemory) × (p : OwnedPort) × (h ≡ Held.Memory m) × (given ≡ Held.Port p) × (p.opening ≡ m.opening) × (code ≡ 6))
 
 -- the memory holds the same ports as before
 abbrev pub StaysHome : Held → Held → Type 0
 StaysHome h k =
     (k ≡ h)
-    ⊎ ((m : OpenMemory) × (n : OpenMemory) × (h ≡ held.Memory m) × (k ≡ held.Memory n) × IsSameMemory m n × (n.ports.items ≡ m.ports.items))
+    ⊎ ((m : OpenMemory) × (n : OpenMemory) × (h ≡ Held.Memory m) × (k ≡ Held.Memory n) × IsSameMemory m n × (n.ports.items ≡ m.ports.items))
 
 -- a port and a memory of one opening are of one memory: each opening has a number of its own
 abbrev pub AreHeldApart : Held → Held → Type 0
-AreHeldApart (held.Memory m) (held.Port p) = p.opening ≡ m.opening → arc_value p.memory ≡ arc_value m.memory
-AreHeldApart (held.Port p) (held.Port q) = q.opening ≡ p.opening → arc_value q.memory ≡ arc_value p.memory
+AreHeldApart (Held.Memory m) (Held.Port p) = p.opening ≡ m.opening → arc_value p.memory ≡ arc_value m.memory
+AreHeldApart (Held.Port p) (Held.Port q) = q.opening ≡ p.opening → arc_value q.memory ≡ arc_value p.memory
 AreHeldApart _ _ = Unit {0}
 
 -- two ports of one opening meet
 abbrev pub MeetPorts : Held → Held → Held → Held → Type 0
 MeetPorts g h k l =
     (a : OwnedPort) × (b : OwnedPort) × (c : OwnedPort) × (d : OwnedPort)
-    × (g ≡ held.Port a) × (h ≡ held.Port b) × (k ≡ held.Port c) × (l ≡ held.Port d)
+    × (g ≡ Held.Port a) × (h ≡ Held.Port b) × (k ≡ Held.Port c) × (l ≡ Held.Port d)
     × (b.opening ≡ a.opening) × IsSameReference a c × IsSameReference b d × Meets a.port b.port c.port d.port
 
 -- why two don't meet: one is no port, or they are of two openings
@@ -132,7 +131,7 @@ abbrev pub MayNotMeet : Held → Held → ℕ → Type 0
 MayNotMeet g h code =
     (HoldsNoPort g × (code ≡ 17))
     ⊎ (HoldsNoPort h × (code ≡ 17))
-    ⊎ ((a : OwnedPort) × (b : OwnedPort) × (g ≡ held.Port a) × (h ≡ held.Port b) × (b.opening ≡ a.opening → ⊥) × (code ≡ 20))
+    ⊎ ((a : OwnedPort) × (b : OwnedPort) × (g ≡ Held.Port a) × (h ≡ Held.Port b) × (b.opening ≡ a.opening → ⊥) × (code ≡ 20))
 
 -- two ports meet, or both are as they were
 abbrev pub MeetsAt : Held → Held → ℕ → Held → Held → Type 0
@@ -146,7 +145,7 @@ IsClosedHome m closed =
 
 -- a memory that holds all its ports is closed
 abbrev pub ClosesAt : Held → Held → Type 0
-ClosesAt h k = (m : OpenMemory) × (closed : Closed) × (h ≡ held.Memory m) × (k ≡ held.Closed closed) × IsClosedHome m closed
+ClosesAt h k = (m : OpenMemory) × (closed : Closed) × (h ≡ Held.Memory m) × (k ≡ Held.Closed closed) × IsClosedHome m closed
 
 -- the memory doesn't hold all its ports, or holds none
 abbrev pub IsAway : OpenMemory → Type 0
@@ -156,16 +155,16 @@ IsAway m = (length m.ports.items ≡ 0) ⊎ (length m.ports.items ≡ m.count �
 abbrev pub MayNotClose : Held → ℕ → Type 0
 MayNotClose h code =
     (HoldsNoMemory h × (code ≡ 17))
-    ⊎ ((m : OpenMemory) × (h ≡ held.Memory m) × (code ≡ 22) × IsAway m)
-    ⊎ ((m : OpenMemory) × (h ≡ held.Memory m) × (code ≡ 24) × (length m.ports.items ≡ m.count))
+    ⊎ ((m : OpenMemory) × (h ≡ Held.Memory m) × (code ≡ 22) × IsAway m)
+    ⊎ ((m : OpenMemory) × (h ≡ Held.Memory m) × (code ≡ 24) × (length m.ports.items ≡ m.count))
 
 -- when an allocation is refused, the contents are lost of a memory that held all its ports
 abbrev pub MayLose : Held → Type 0
-MayLose h = (m : OpenMemory) × (h ≡ held.Memory m) × (length m.ports.items ≡ m.count)
+MayLose h = (m : OpenMemory) × (h ≡ Held.Memory m) × (length m.ports.items ≡ m.count)
 
 -- the values of a closed memory are copied when there is room for just as many, and otherwise the room is as it was
 abbrev pub CopiesValues : Held → List ℕ → ℕ → List ℕ → Type 0
 CopiesValues h before code after =
-    ((closed : Closed) × (h ≡ held.Closed closed) × (code ≡ 0) × (after ≡ closed.values.items))
+    ((closed : Closed) × (h ≡ Held.Closed closed) × (code ≡ 0) × (after ≡ closed.values.items))
     ⊎ (HoldsNoClosed h × (code ≡ 17) × (after ≡ before))
-    ⊎ ((closed : Closed) × (h ≡ held.Closed closed) × (length closed.values.items ≡ length before → ⊥) × (code ≡ 19) × (after ≡ before))
+    ⊎ ((closed : Closed) × (h ≡ Held.Closed closed) × (length closed.values.items ≡ length before → ⊥) × (code ≡ 19) × (after ≡ before))

@@ -1,7 +1,5 @@
 -- How a finished scan has ended.
-use Rattle.partial_embedded.proofs.Common.{ℕ, zero, suc, ◌≡◌, ◌+◌, ◌-◌, ◌<◌, ◌==◌, ◌++◌, Bool, true, false, cond, ◌||◌, ◌&&◌, Some, None, List, [], ◌∷◌, length, take, get_or, set, refl, sym, ◌∙◌, ap, subst, arith, append_assoc, append-nil, nat_lt, ltb-false, length_push, pairs_word, next_word, Stage, Collect, View, Len, Index, PairValue, Value, Done, ViewPair, ViewGoesTogether, view_goes_at, fresh_view, advance_view, advance_view_at, is_first, differs, was_changed, noted_load, borrow, after_view, view_at_stage, with_value, pairs_from, IsPossibleInViewAt, ViewRun, LastTwoAreEqual, ShowsThirdRecord, written_values, LoadsValues, LoadsView, EndsWell, FinishedScansEndWell}
-use Rattle.partial_embedded.proofs.Keeps.{kept, fresh_together}
-use Rattle.partial_embedded.proofs.Traces.{trace_at, step_traced, fresh_traced}
+use Rattle.partial_embedded.proofs.{Common.{ℕ, zero, suc, ◌≡◌, ◌+◌, ◌-◌, ◌<◌, ◌==◌, ◌++◌, Bool, true, false, cond, ◌||◌, ◌&&◌, Some, None, List, [], ◌∷◌, length, take, get_or, set, refl, sym, ◌∙◌, ap, subst, arith, append_assoc, append-nil, nat_lt, ltb-false, length_push, pairs_word, next_word, Stage, Collect, View, Len, Index, PairValue, Value, Done, ViewPair, ViewGoesTogether, view_goes_at, fresh_view, advance_view, advance_view_at, is_first, differs, was_changed, noted_load, borrow, after_view, view_at_stage, with_value, pairs_from, IsPossibleInViewAt, ViewRun, LastTwoAreEqual, ShowsThirdRecord, written_values, LoadsValues, LoadsView, EndsWell, FinishedScansEndWell}, Keeps.{kept, fresh_together}, Traces.{trace_at, step_traced, fresh_traced}}
 
 -- the loads of some view
 pub record Views (r : ℕ) (xs : List ℕ) (q : ViewPair) : Type 0 where

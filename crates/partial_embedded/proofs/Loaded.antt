@@ -1,6 +1,5 @@
 -- What a load of an embedded scan leaves, where its answer comes from elsewhere.
-use Rattle.partial_embedded.proofs.Common.{ℕ, ◌≡◌, ◌≢◌, ◌<◌, List, length, sym, ◌∙◌, ap, subst, arith, Layout, Collect, ViewPair, ViewGoesTogether, IsPossibleInView, advance_view, after_load, view_goes_at, view_left}
-use Rattle.partial_embedded.proofs.Keeps.{kept, sizes_stay, collects_grow}
+use Rattle.partial_embedded.proofs.{Common.{ℕ, ◌≡◌, ◌≢◌, ◌<◌, List, length, sym, ◌∙◌, ap, subst, arith, Layout, Collect, ViewPair, ViewGoesTogether, IsPossibleInView, advance_view, after_load, view_goes_at, view_left}, Keeps.{kept, sizes_stay, collects_grow}}
 
 -- the loads are at the scan q, which goes together with its positions and is nearer to its end than p
 pub record IsLoaded {A : Type 0} (scan : A → ViewPair) (z : Layout) (indices : List ℕ) (p q : ViewPair) (new : A) : Type 0 where

@@ -1,8 +1,7 @@
 -- Over every run the machine goes together with its positions, so its steps and collects are bounded.
-use Rattle.partial_embedded.proofs.Common.{ℕ, ◌≡◌, ◌+◌, ◌<◌, ◌≤◌, Bool, Some, List, [], ◌∷◌, length, get_or, refl, sym, ◌∙◌, ap, subst, arith, Layout, value_word, view_word, Stage, Collect, View, Len, Index, PairValue, Value, Done, ViewPair, RowsState, ViewGoesTogether, view_goes_at, fresh_view, advance_view, view_step_at, view_left, ViewRun, RunsTo, IsOfPosition, LoadsItsPositionsAlone, MakesFewCollects}
+use Rattle.partial_embedded.proofs.{Common.{ℕ, ◌≡◌, ◌+◌, ◌<◌, ◌≤◌, Bool, Some, List, [], ◌∷◌, length, get_or, refl, sym, ◌∙◌, ap, subst, arith, Layout, value_word, view_word, Stage, Collect, View, Len, Index, PairValue, Value, Done, ViewPair, RowsState, ViewGoesTogether, view_goes_at, fresh_view, advance_view, view_step_at, view_left, ViewRun, RunsTo, IsOfPosition, LoadsItsPositionsAlone, MakesFewCollects}, Keeps.{kept, sizes_stay, fresh_together, fresh_left}}
 use Rattle.partial_words.specs.declared.step.Step.{Step}
 use Rattle.partial_words.specs.declared.step.Step.TheVariants.{Load}
-use Rattle.partial_embedded.proofs.Keeps.{kept, sizes_stay, fresh_together, fresh_left}
 
 -- what holds behind a run
 record Ran (indices : List ℕ) (p : ViewPair) (xs : List ℕ) (q : ViewPair) : Type 0 where

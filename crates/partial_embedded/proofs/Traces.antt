@@ -1,7 +1,6 @@
 -- What the answers so far tell of the state in the middle of a collect, and how a scan's collects end.
-use Rattle.partial_embedded.proofs.Common.{◌-◌, ℕ, ◌≡◌, ◌≢◌, ◌+◌, ◌*◌, ◌<◌, ◌≤◌, ◌==◌, ◌++◌, Bool, true, false, cond, not, ◌&&◌, ◌||◌, ◌⊎◌, List, [], ◌∷◌, length, get_or, refl, sym, ◌∙◌, ap, subst, inl, inr, arith, get_or-set_other, get_or-set_same, append_assoc, append-nil, length-append, nat_lt, eqb-true, eqb-false, eq-eqb, ne_eqb, ltb-false, cases_lt, false≢true, eqb_tells, get_or_append_left, mul-le-mul_left, Layout, pairs_word, next_word, Stage, Collect, View, Len, Index, PairValue, Value, Done, ViewPair, RowsState, ViewGoesTogether, view_goes_at, fresh_view, advance_view, advance_view_at, is_first, differs, was_changed, noted_load, borrow, go_on, after_collect, after_load, after_view, view_at_stage, with_value, pairs_from, IsPossibleInViewAt, ViewRun, load_in, Changes, LastTwoAreEqual, ShowsThirdRecord, EndsInEqualCollectsOrAThirdRecord}
+use Rattle.partial_embedded.proofs.{Common.{◌-◌, ℕ, ◌≡◌, ◌≢◌, ◌+◌, ◌*◌, ◌<◌, ◌≤◌, ◌==◌, ◌++◌, Bool, true, false, cond, not, ◌&&◌, ◌||◌, ◌⊎◌, List, [], ◌∷◌, length, get_or, refl, sym, ◌∙◌, ap, subst, inl, inr, arith, get_or-set_other, get_or-set_same, append_assoc, append-nil, length-append, nat_lt, eqb-true, eqb-false, eq-eqb, ne_eqb, ltb-false, cases_lt, false≢true, eqb_tells, get_or_append_left, mul-le-mul_left, Layout, pairs_word, next_word, Stage, Collect, View, Len, Index, PairValue, Value, Done, ViewPair, RowsState, ViewGoesTogether, view_goes_at, fresh_view, advance_view, advance_view_at, is_first, differs, was_changed, noted_load, borrow, go_on, after_collect, after_load, after_view, view_at_stage, with_value, pairs_from, IsPossibleInViewAt, ViewRun, load_in, Changes, LastTwoAreEqual, ShowsThirdRecord, EndsInEqualCollectsOrAThirdRecord}, Keeps.{kept, fresh_together, neither}}
 use Rattle.std.proofs.Math.Seq.{get_or-append_seam}
-use Rattle.partial_embedded.proofs.Keeps.{kept, fresh_together, neither}
 
 -- one answer more
 one_longer : (xs : List ℕ) (x : ℕ) → length (xs ++ x ∷ []) ≡ length xs + 1

@@ -1,23 +1,19 @@
 -- Each step of a call leaves fewer steps, so a call makes few.
-use Rattle.partial_epochs.proofs.Common.{ℕ, zero, suc, ◌≡◌, ◌+◌, ◌*◌, ◌-◌, ◌<◌, ◌≤◌, ◌==◌, Bool, true, false, cond, Option, Some, None, List, [], ◌∷◌, length, refl, sym, ap, subst, arith, inl, inr, ◌∙◌, nat_lt, list_all, Call, Noted, indices_of, IsLayout, Layout, first_free, Step, most_steps, steps_left, CoreState, reply_of, call_of, IsSound, Reply, Plan, Port, Beside, MayMove, Makes, LawfulMemory, Act, ChangeLeads, Changing, next_arena, next_component, next_load, next_pass, next_port, next_set, passes, CallStep, Doing, IsCallOf, IsUpdate, CallLeads, MayAct, RunsCall, after_step, behind_answer, begun, changed, ran, round, started, last_loads, ChangesAreBounded, ConditionalUpdatesAreBounded, ReadsMakeEight, ScansAreBounded, UpdatesAreBounded, most_of_change, opening_steps, pass_steps}
-use Rattle.partial_model.specs.declared.call.Call.TheVariants as call
+use Rattle.partial_epochs.proofs.{Common.{ℕ, zero, suc, ◌≡◌, ◌+◌, ◌*◌, ◌-◌, ◌<◌, ◌≤◌, ◌==◌, Bool, true, false, cond, Option, Some, None, List, [], ◌∷◌, length, refl, sym, ap, subst, arith, inl, inr, ◌∙◌, nat_lt, list_all, Call, Noted, indices_of, IsLayout, Layout, first_free, Step, most_steps, steps_left, CoreState, reply_of, call_of, IsSound, Reply, Plan, Port, Beside, MayMove, Makes, LawfulMemory, Act, ChangeLeads, Changing, next_arena, next_component, next_load, next_pass, next_port, next_set, passes, CallStep, Doing, IsCallOf, IsUpdate, CallLeads, MayAct, RunsCall, after_step, behind_answer, begun, changed, ran, round, started, last_loads, ChangesAreBounded, ConditionalUpdatesAreBounded, ReadsMakeEight, ScansAreBounded, UpdatesAreBounded, most_of_change, opening_steps, pass_steps}, Left.{arenas_left, behind, change_left, fresh_left, left}, MachineSteps.{machine_ready, makes_fewer}}
 use Rattle.partial_machine.proofs.Laws.{makes_few_steps}
-use Rattle.partial_machine.specs.declared.stage.Reply.TheVariants as reply
 use Rattle.partial_epochs.specs.Changing as changing
 use Rattle.partial_epochs.specs.Calls as calls
-use Rattle.partial_epochs.proofs.Left.{arenas_left, behind, change_left, fresh_left, left}
-use Rattle.partial_epochs.proofs.MachineSteps.{machine_ready, makes_fewer}
 
 -- A call that may change the epoch so often (`n`), of a port that has made a claim past the limit or not: a scan makes its machine's steps
 -- behind a change of epoch, or twice, with a look and three steps of entering between; a conditional update loads its component's word
 -- and stamp in each epoch, and looks and enters once before all.
 abbrev most_of_call : Plan → ℕ → Bool → Call → ℕ
-most_of_call e n over (call.Read j) = 8
-most_of_call e n over (call.Scan []) = 0
-most_of_call e n true (call.Scan js) = most_of_change e + most_steps e.sizes (call.Scan js)
-most_of_call e n false (call.Scan js) = 2 * most_steps e.sizes (call.Scan js) + 4
-most_of_call e n over (call.Update j v) = n * (most_steps e.sizes (call.Update j v) + most_of_change e)
-most_of_call e n over (call.UpdateIf j x v) = n * (2 + most_steps e.sizes (call.UpdateIf j x v) + most_of_change e) + 6
+most_of_call e n over (Call.Read j) = 8
+most_of_call e n over (Call.Scan []) = 0
+most_of_call e n true (Call.Scan js) = most_of_change e + most_steps e.sizes (Call.Scan js)
+most_of_call e n false (Call.Scan js) = 2 * most_steps e.sizes (Call.Scan js) + 4
+most_of_call e n over (Call.Update j v) = n * (most_steps e.sizes (Call.Update j v) + most_of_change e)
+most_of_call e n over (Call.UpdateIf j x v) = n * (2 + most_steps e.sizes (Call.UpdateIf j x v) + most_of_change e) + 6
 
 few : (s : CoreState) (c : Call) → IsLayout s.sizes → IsSound s → call_of s ≡ Some c → steps_left s ≤ most_steps s.sizes c
 few s c sizes sound is = let all = makes_few_steps s s c [] sizes sound is refl in let none : length {A = ℕ} [] ≡ 0 = refl in omega (arith, all, none)
@@ -95,12 +91,12 @@ module _ (e : Plan) where
 
   -- a call in an epoch to which it has come, and one that goes on behind a change
   round_left : (c : Call) (n : ℕ) → left e (round c n true) ≤ fresh_left e c n
-  round_left (call.Read j) n = omega arith
-  round_left (call.Scan js) n = omega arith
-  round_left (call.Update j v) zero = omega arith
-  round_left (call.Update j v) (suc n) = omega arith
-  round_left (call.UpdateIf j x v) zero = omega arith
-  round_left (call.UpdateIf j x v) (suc n) = omega arith
+  round_left (Call.Read j) n = omega arith
+  round_left (Call.Scan js) n = omega arith
+  round_left (Call.Update j v) zero = omega arith
+  round_left (Call.Update j v) (suc n) = omega arith
+  round_left (Call.UpdateIf j x v) zero = omega arith
+  round_left (Call.UpdateIf j x v) (suc n) = omega arith
 
   changed_left : (c : Call) (n : ℕ) (d : Changing) → left e (changed c n d) ≤ change_left e d + fresh_left e c n
   changed_left c n changing.Changing.Arrived = let rest = round_left c n in omega (arith, rest)
@@ -108,29 +104,29 @@ module _ (e : Plan) where
   changed_left c n _ = omega arith
 
   answered_left : (c : Call) (n : ℕ) (fresh : Bool) → left e (behind_answer c n fresh) ≤ behind e c n fresh
-  answered_left (call.Scan js) n false = omega arith
-  answered_left (call.Scan js) n true = omega arith
-  answered_left (call.Read j) n fresh = omega arith
-  answered_left (call.Update j v) n fresh = omega arith
-  answered_left (call.UpdateIf j x v) n fresh = omega arith
+  answered_left (Call.Scan js) n false = omega arith
+  answered_left (Call.Scan js) n true = omega arith
+  answered_left (Call.Read j) n fresh = omega arith
+  answered_left (Call.Update j v) n fresh = omega arith
+  answered_left (Call.UpdateIf j x v) n fresh = omega arith
 
   ran_left : (c : Call) (n : ℕ) (fresh : Bool) (s : CoreState) (t : Option Reply) → left e (ran c n fresh s t) ≤ steps_left s + behind e c n fresh
   ran_left c n fresh s None = omega arith
-  ran_left c n fresh s (Some (reply.Applied t)) = omega arith
+  ran_left c n fresh s (Some (Reply.Applied t)) = omega arith
   ran_left c n fresh s (Some r) = let rest = answered_left c n fresh in omega (arith, rest)
 
   -- the steps of its machine are those of the call
   most_same : (c : Call) (s : CoreState) → IsLayout s.sizes → IsSound s → s.sizes ≡ e.sizes → IsCallOf c (call_of s) → steps_left s ≤ most_steps e.sizes c
-  most_same (call.Read j) s sizes sound is h = subst (λ (z : Layout). steps_left s ≤ most_steps z (call.Read j)) is (few s (call.Read j) sizes sound h)
-  most_same (call.Scan js) s sizes sound is h = subst (λ (z : Layout). steps_left s ≤ most_steps z (call.Scan js)) is (few s (call.Scan js) sizes sound h)
-  most_same (call.Update j v) s sizes sound is h = subst (λ (z : Layout). steps_left s ≤ most_steps z (call.Update j v)) is (few s (call.Update j v) sizes sound h)
-  most_same (call.UpdateIf j x v) s sizes sound is h = subst (λ (z : Layout). steps_left s ≤ most_steps z (call.UpdateIf j x v)) is (few s (call.UpdateIf j h.0 v) sizes sound h.1)
+  most_same (Call.Read j) s sizes sound is h = subst (λ (z : Layout). steps_left s ≤ most_steps z (Call.Read j)) is (few s (Call.Read j) sizes sound h)
+  most_same (Call.Scan js) s sizes sound is h = subst (λ (z : Layout). steps_left s ≤ most_steps z (Call.Scan js)) is (few s (Call.Scan js) sizes sound h)
+  most_same (Call.Update j v) s sizes sound is h = subst (λ (z : Layout). steps_left s ≤ most_steps z (Call.Update j v)) is (few s (Call.Update j v) sizes sound h)
+  most_same (Call.UpdateIf j x v) s sizes sound is h = subst (λ (z : Layout). steps_left s ≤ most_steps z (Call.UpdateIf j x v)) is (few s (Call.UpdateIf j h.0 v) sizes sound h.1)
 
   update_some : (c : Call) (n : ℕ) (fresh : Bool) → IsUpdate c → (1 ≤ most_steps e.sizes c) × (behind e c (suc n) fresh ≡ most_of_change e + fresh_left e c n)
-  update_some (call.Update j v) n fresh u = (omega arith, refl)
-  update_some (call.UpdateIf j x v) n fresh u = (omega arith, refl)
-  update_some (call.Read j) n fresh u = absurd u
-  update_some (call.Scan js) n fresh u = absurd u
+  update_some (Call.Update j v) n fresh u = (omega arith, refl)
+  update_some (Call.UpdateIf j x v) n fresh u = (omega arith, refl)
+  update_some (Call.Read j) n fresh u = absurd u
+  update_some (Call.Scan js) n fresh u = absurd u
 
   module _ (words : List ℕ) (ports : ℕ → Port) (b : Beside) (notes : ℕ → List Noted) (k : ℕ) (w : LawfulMemory e words ports b notes) (below : k < e.ports) where
     -- a machine's step leaves fewer of its own
@@ -192,23 +188,23 @@ run_fewer e k (suc n) p p' d d' below r =
     omega (arith, one, rest)
 
 -- as a call begins
-update_left : (e : Plan) (j v n : ℕ) → fresh_left e (call.Update j v) n ≡ n * (most_steps e.sizes (call.Update j v) + most_of_change e)
+update_left : (e : Plan) (j v n : ℕ) → fresh_left e (Call.Update j v) n ≡ n * (most_steps e.sizes (Call.Update j v) + most_of_change e)
 update_left e j v zero = omega arith
 update_left e j v (suc n) = let rest = update_left e j v n in omega (arith, rest)
 
-update_if_left : (e : Plan) (j x v n : ℕ) → fresh_left e (call.UpdateIf j x v) n ≡ n * (2 + most_steps e.sizes (call.UpdateIf j x v) + most_of_change e)
+update_if_left : (e : Plan) (j x v n : ℕ) → fresh_left e (Call.UpdateIf j x v) n ≡ n * (2 + most_steps e.sizes (Call.UpdateIf j x v) + most_of_change e)
 update_if_left e j x v zero = omega arith
 update_if_left e j x v (suc n) = let rest = update_if_left e j x v n in omega (arith, rest)
 
 started_left : (e : Plan) (n : ℕ) (over : Bool) (c : Call) → left e (started n over c) ≤ most_of_call e n over c
-started_left e n over (call.Scan []) = omega arith
-started_left e n true (call.Scan (j ∷ js)) = omega arith
-started_left e n false (call.Scan (j ∷ js)) = omega arith
-started_left e n over (call.Read j) = omega arith
-started_left e zero over (call.Update j v) = omega arith
-started_left e (suc n) over (call.Update j v) = let all = update_left e j v (suc n) in omega (arith, all)
-started_left e zero over (call.UpdateIf j x v) = omega arith
-started_left e (suc n) over (call.UpdateIf j x v) = let all = update_if_left e j x v (suc n) in omega (arith, all)
+started_left e n over (Call.Scan []) = omega arith
+started_left e n true (Call.Scan (j ∷ js)) = omega arith
+started_left e n false (Call.Scan (j ∷ js)) = omega arith
+started_left e n over (Call.Read j) = omega arith
+started_left e zero over (Call.Update j v) = omega arith
+started_left e (suc n) over (Call.Update j v) = let all = update_left e j v (suc n) in omega (arith, all)
+started_left e zero over (Call.UpdateIf j x v) = omega arith
+started_left e (suc n) over (Call.UpdateIf j x v) = let all = update_if_left e j x v (suc n) in omega (arith, all)
 
 begun_left : (e : Plan) (n : ℕ) (over : Bool) (c : Call) → left e (begun e n over c) ≤ most_of_call e n over c
 begun_left e n over c = by (list_all (λ j. nat_lt j e.sizes.m) (indices_of c))
@@ -224,30 +220,30 @@ calls_are_bounded e k n rounds over p p' c d below r =
     omega (arith, all, first)
 
 pub reads_make_eight : ReadsMakeEight
-reads_make_eight e k n rounds j over p p' d below r = calls_are_bounded e k n rounds over p p' (call.Read j) d below r
+reads_make_eight e k n rounds j over p p' d below r = calls_are_bounded e k n rounds over p p' (Call.Read j) d below r
 
 pub updates_are_bounded : UpdatesAreBounded
-updates_are_bounded e k n rounds j v over p p' d below r = calls_are_bounded e k n rounds over p p' (call.Update j v) d below r
+updates_are_bounded e k n rounds j v over p p' d below r = calls_are_bounded e k n rounds over p p' (Call.Update j v) d below r
 
 pub conditional_updates_are_bounded : ConditionalUpdatesAreBounded
-conditional_updates_are_bounded e k n rounds j x v over p p' d below r = calls_are_bounded e k n rounds over p p' (call.UpdateIf j x v) d below r
+conditional_updates_are_bounded e k n rounds j x v over p p' d below r = calls_are_bounded e k n rounds over p p' (Call.UpdateIf j x v) d below r
 
 pub scans_are_bounded : ScansAreBounded
-scans_are_bounded e k n rounds js over p p' d below r = by js over (calls_are_bounded e k n rounds over p p' (call.Scan js) d below r)
+scans_are_bounded e k n rounds js over p p' d below r = by js over (calls_are_bounded e k n rounds over p p' (Call.Scan js) d below r)
   where
-    by : (js : List ℕ) (over : Bool) → n ≤ most_of_call e rounds over (call.Scan js) →
-        n ≤ cond over (most_of_change e + most_steps e.sizes (call.Scan js)) (2 * most_steps e.sizes (call.Scan js) + 4)
+    by : (js : List ℕ) (over : Bool) → n ≤ most_of_call e rounds over (Call.Scan js) →
+        n ≤ cond over (most_of_change e + most_steps e.sizes (Call.Scan js)) (2 * most_steps e.sizes (Call.Scan js) + 4)
     by [] over few = omega (arith, few)
     by (j ∷ js) true few = few
     by (j ∷ js) false few = few
 
 round_is : (e : Plan) (c : Call) (n : ℕ) → left e (round c n true) ≡ fresh_left e c n
-round_is e (call.Read j) n = refl
-round_is e (call.Scan js) n = omega arith
-round_is e (call.Update j v) zero = refl
-round_is e (call.Update j v) (suc n) = omega arith
-round_is e (call.UpdateIf j x v) zero = refl
-round_is e (call.UpdateIf j x v) (suc n) = omega arith
+round_is e (Call.Read j) n = refl
+round_is e (Call.Scan js) n = omega arith
+round_is e (Call.Update j v) zero = refl
+round_is e (Call.Update j v) (suc n) = omega arith
+round_is e (Call.UpdateIf j x v) zero = refl
+round_is e (Call.UpdateIf j x v) (suc n) = omega arith
 
 pub changes_are_bounded : ChangesAreBounded
 changes_are_bounded e k n rounds p p' c d below r (inl within) =

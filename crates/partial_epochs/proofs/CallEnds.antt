@@ -1,10 +1,8 @@
 -- How a step of a call ends a change of epoch, and what it adds and where its port is then.
-use Rattle.partial_epochs.proofs.Common.{ℕ, zero, suc, ◌≡◌, ◌≢◌, ◌+◌, ◌<◌, ◌≤◌, ◌==◌, ◌⊎◌, Bool, true, false, cond, Option, Some, None, List, [], refl, sym, ap, subst, ◌∙◌, inl, inr, arith, ⊤, nat_lt, Applied, Call, Noted, CoreState, reply_of, Reply, first_free, Place, Plan, epoch_limit, Port, Beside, Move, is_applied, Act, ChangeLeads, Changing, IsHere, next_arena, next_component, next_load, next_pass, next_port, next_set, passes, CallsStayLawful, ActLeads, CallStep, Doing, CallLeads, after_step, ran, Moves, Sees, Answered, Arrived, EndsPass, LoadsComponent, LoadsPort, LooksFirst, Publishes, Refuses, SetsWord, TakesArena, last_loads, EpochsSpent, NoArena}
-use Rattle.partial_machine.specs.declared.stage.Reply.TheVariants as reply
+use Rattle.partial_epochs.proofs.{Common.{ℕ, zero, suc, ◌≡◌, ◌≢◌, ◌+◌, ◌<◌, ◌≤◌, ◌==◌, ◌⊎◌, Bool, true, false, cond, Option, Some, None, List, [], refl, sym, ap, subst, ◌∙◌, inl, inr, arith, ⊤, nat_lt, Applied, Call, Noted, CoreState, reply_of, Reply, first_free, Place, Plan, epoch_limit, Port, Beside, Move, is_applied, Act, ChangeLeads, Changing, IsHere, next_arena, next_component, next_load, next_pass, next_port, next_set, passes, CallsStayLawful, ActLeads, CallStep, Doing, CallLeads, after_step, ran, Moves, Sees, Answered, Arrived, EndsPass, LoadsComponent, LoadsPort, LooksFirst, Publishes, Refuses, SetsWord, TakesArena, last_loads, EpochsSpent, NoArena}, EveryStep.every_step_stays_lawful}
 use Rattle.partial_epochs.specs.EveryStep as every
 use Rattle.partial_epochs.specs.Changing as changing
 use Rattle.partial_epochs.specs.Calls as calls
-use Rattle.partial_epochs.proofs.EveryStep.{every_step_stays_lawful}
 
 -- a step that is none of a machine's, and one by which the port stays where it is
 abbrev pub IsPlain : Act → Type 0
@@ -229,7 +227,7 @@ module _ (e : Plan) where
     arrive_place c p entries h = subst (λ (q : Port). (ports k).control.here.epoch < q.control.here.epoch) (sym h.1) h.0.place
 
     ran_applied : (c : Call) (n : ℕ) (fresh : Bool) (s : CoreState) (t : Option Reply) → is_applied t ≡ true → ran c n fresh s t ≡ Answered
-    ran_applied c n fresh s (Some (reply.Applied stamp)) is = refl
+    ran_applied c n fresh s (Some (Reply.Applied stamp)) is = refl
     ran_applied c n fresh s None is = absurd cc
     ran_applied c n fresh s (Some _) is = absurd cc
 

@@ -1,12 +1,7 @@
 -- Why calls are refused, and that a refused call has applied nothing.
-use Rattle.partial_epochs.proofs.Common.{ℕ, zero, suc, ◌≡◌, ◌≢◌, ◌+◌, ◌<◌, ◌≤◌, Bool, true, false, cond, Option, Some, None, List, [], ◌∷◌, refl, sym, ap, subst, ◌∙◌, inl, inr, arith, ◌&&◌, nat_lt, AllByRecursion, list_all, cases_lt, lt-ltb, Applied, Call, Noted, indices_of, CoreState, reply_of, Reply, Plan, epoch_limit, Port, Beside, Move, Act, Changing, IsHere, Refusal, ActLeads, CallStep, Doing, IsUpdate, CallLeads, RunsCall, after_step, behind_answer, begun, changed, ran, round, started, Moves, Sees, Answered, Changes, Judges, LoadsWord, Looks, Refused, Runs, Starts, Tells, Arrived, EndsPass, LooksFirst, Refuses, not_below, Component, EpochsSpent, NoArena, Overtaken, AppliesNothing, ChangesAreRefused, ComponentsAreMissing, OvertakenCallsMovedOn, RefusedCallsApplyNothing}
-use Rattle.partial_model.specs.declared.call.Call.TheVariants as call
-use Rattle.partial_machine.specs.declared.stage.Reply.TheVariants as reply
+use Rattle.partial_epochs.proofs.{Common.{ℕ, zero, suc, ◌≡◌, ◌≢◌, ◌+◌, ◌<◌, ◌≤◌, Bool, true, false, cond, Option, Some, None, List, [], ◌∷◌, refl, sym, ap, subst, ◌∙◌, inl, inr, arith, ◌&&◌, nat_lt, AllByRecursion, list_all, cases_lt, lt-ltb, Applied, Call, Noted, indices_of, CoreState, reply_of, Reply, Plan, epoch_limit, Port, Beside, Move, Act, Changing, IsHere, Refusal, ActLeads, CallStep, Doing, IsUpdate, CallLeads, RunsCall, after_step, behind_answer, begun, changed, ran, round, started, Moves, Sees, Answered, Changes, Judges, LoadsWord, Looks, Refused, Runs, Starts, Tells, Arrived, EndsPass, LooksFirst, Refuses, not_below, Component, EpochsSpent, NoArena, Overtaken, AppliesNothing, ChangesAreRefused, ComponentsAreMissing, OvertakenCallsMovedOn, RefusedCallsApplyNothing}, CallBounds.steps_leave_fewer, CallEnds.{Ends, IsGoing, arrive_place, change_causes, change_ends, leads_here, step_none, still_epoch}, Room.not_true}
 use Rattle.partial_epochs.specs.EveryStep as every
 use Rattle.partial_epochs.specs.Calls as calls
-use Rattle.partial_epochs.proofs.CallBounds.{steps_leave_fewer}
-use Rattle.partial_epochs.proofs.CallEnds.{Ends, IsGoing, arrive_place, change_causes, change_ends, leads_here, step_none, still_epoch}
-use Rattle.partial_epochs.proofs.Room.{not_true}
 
 module _ (e : Plan) where
   none_behind : (k n : ℕ) (p p' : Port) (cause : Refusal) → k < e.ports → RunsCall e k n p Answered p' (Refused cause) → ⊥
@@ -38,23 +33,23 @@ module _ (e : Plan) where
   Reaches (Refused cause) a b = ⊥
 
   round_reaches : (c : Call) (n : ℕ) (fresh : Bool) (a b : ℕ) → Reaches (round c n fresh) a b → IsUpdate c × (a + n ≤ b)
-  round_reaches (call.Read j) n fresh a b h = h
-  round_reaches (call.Scan js) n fresh a b h = h
-  round_reaches (call.Update j v) zero fresh a b h = (tt, omega (arith, h))
-  round_reaches (call.Update j v) (suc n) fresh a b h = h
-  round_reaches (call.UpdateIf j x v) zero fresh a b h = (tt, omega (arith, h))
-  round_reaches (call.UpdateIf j x v) (suc n) fresh a b h = h
+  round_reaches (Call.Read j) n fresh a b h = h
+  round_reaches (Call.Scan js) n fresh a b h = h
+  round_reaches (Call.Update j v) zero fresh a b h = (tt, omega (arith, h))
+  round_reaches (Call.Update j v) (suc n) fresh a b h = h
+  round_reaches (Call.UpdateIf j x v) zero fresh a b h = (tt, omega (arith, h))
+  round_reaches (Call.UpdateIf j x v) (suc n) fresh a b h = h
 
   answered_reaches : (c : Call) (n : ℕ) (fresh : Bool) (a b : ℕ) → Reaches (behind_answer c n fresh) a b → IsUpdate c × (a + n ≤ b)
-  answered_reaches (call.Scan js) n false a b h = h
-  answered_reaches (call.Scan js) n true a b h = absurd h
-  answered_reaches (call.Read j) n fresh a b h = absurd h
-  answered_reaches (call.Update j v) n fresh a b h = absurd h
-  answered_reaches (call.UpdateIf j x v) n fresh a b h = absurd h
+  answered_reaches (Call.Scan js) n false a b h = h
+  answered_reaches (Call.Scan js) n true a b h = absurd h
+  answered_reaches (Call.Read j) n fresh a b h = absurd h
+  answered_reaches (Call.Update j v) n fresh a b h = absurd h
+  answered_reaches (Call.UpdateIf j x v) n fresh a b h = absurd h
 
   ran_reaches : (c : Call) (n : ℕ) (fresh : Bool) (s : CoreState) (t : Option Reply) (a b : ℕ) → Reaches (ran c n fresh s t) a b → IsUpdate c × (a + n ≤ b)
   ran_reaches c n fresh s None a b h = h
-  ran_reaches c n fresh s (Some (reply.Applied stamp)) a b h = absurd h
+  ran_reaches c n fresh s (Some (Reply.Applied stamp)) a b h = absurd h
   ran_reaches c n fresh s (Some _) a b h = answered_reaches c n fresh a b h
 
   going_reaches : (c : Call) (n : ℕ) (g : Changing) (a b : ℕ) → IsGoing g → Reaches (changed c n g) a b → IsUpdate c × (a + n + 1 ≤ b)
@@ -122,12 +117,12 @@ module _ (e : Plan) where
       (run_reaches k n s.port p' s.next below r.1))
 
   started_reaches : (n : ℕ) (over : Bool) (c : Call) (a b : ℕ) → Reaches (started n over c) a b → IsUpdate c × (a + n ≤ b)
-  started_reaches n over (call.Scan []) a b h = absurd h
-  started_reaches n true (call.Scan (j ∷ js)) a b h = absurd h.0
-  started_reaches n false (call.Scan (j ∷ js)) a b h = absurd h.0
-  started_reaches n over (call.Read j) a b h = absurd h.0
-  started_reaches n over (call.Update j v) a b h = round_reaches (call.Update j v) n false a b h
-  started_reaches n over (call.UpdateIf j x v) a b h = round_reaches (call.UpdateIf j x v) n false a b h
+  started_reaches n over (Call.Scan []) a b h = absurd h
+  started_reaches n true (Call.Scan (j ∷ js)) a b h = absurd h.0
+  started_reaches n false (Call.Scan (j ∷ js)) a b h = absurd h.0
+  started_reaches n over (Call.Read j) a b h = absurd h.0
+  started_reaches n over (Call.Update j v) a b h = round_reaches (Call.Update j v) n false a b h
+  started_reaches n over (Call.UpdateIf j x v) a b h = round_reaches (Call.UpdateIf j x v) n false a b h
 
   begun_reaches : (n : ℕ) (over : Bool) (c : Call) (a b : ℕ) → Reaches (begun e n over c) a b → IsUpdate c × (a + n ≤ b)
   begun_reaches n over c a b = by (list_all (λ j. nat_lt j e.sizes.m) (indices_of c))
@@ -138,23 +133,23 @@ module _ (e : Plan) where
 
   -- which step leads to a refusal
   round_refused : (c : Call) (n : ℕ) (fresh : Bool) (cause : Refusal) → round c n fresh ≡ Refused cause → cause ≡ Overtaken
-  round_refused (call.Read j) n fresh cause is = absurd cc
-  round_refused (call.Scan js) n fresh cause is = absurd cc
-  round_refused (call.Update j v) zero fresh cause is = cc
-  round_refused (call.Update j v) (suc n) fresh cause is = absurd cc
-  round_refused (call.UpdateIf j x v) zero fresh cause is = cc
-  round_refused (call.UpdateIf j x v) (suc n) fresh cause is = absurd cc
+  round_refused (Call.Read j) n fresh cause is = absurd cc
+  round_refused (Call.Scan js) n fresh cause is = absurd cc
+  round_refused (Call.Update j v) zero fresh cause is = cc
+  round_refused (Call.Update j v) (suc n) fresh cause is = absurd cc
+  round_refused (Call.UpdateIf j x v) zero fresh cause is = cc
+  round_refused (Call.UpdateIf j x v) (suc n) fresh cause is = absurd cc
 
   answered_refused : (c : Call) (n : ℕ) (fresh : Bool) (cause : Refusal) → behind_answer c n fresh ≢ Refused cause
-  answered_refused (call.Scan js) n false cause is = absurd cc
-  answered_refused (call.Scan js) n true cause is = absurd cc
-  answered_refused (call.Read j) n fresh cause is = absurd cc
-  answered_refused (call.Update j v) n fresh cause is = absurd cc
-  answered_refused (call.UpdateIf j x v) n fresh cause is = absurd cc
+  answered_refused (Call.Scan js) n false cause is = absurd cc
+  answered_refused (Call.Scan js) n true cause is = absurd cc
+  answered_refused (Call.Read j) n fresh cause is = absurd cc
+  answered_refused (Call.Update j v) n fresh cause is = absurd cc
+  answered_refused (Call.UpdateIf j x v) n fresh cause is = absurd cc
 
   ran_refused : (c : Call) (n : ℕ) (fresh : Bool) (s : CoreState) (t : Option Reply) (cause : Refusal) → ran c n fresh s t ≢ Refused cause
   ran_refused c n fresh s None cause is = absurd cc
-  ran_refused c n fresh s (Some (reply.Applied stamp)) cause is = absurd cc
+  ran_refused c n fresh s (Some (Reply.Applied stamp)) cause is = absurd cc
   ran_refused c n fresh s (Some _) cause is = answered_refused c n fresh cause is
 
   -- the change of epoch that a step belongs to, and its step
@@ -268,14 +263,14 @@ there_all m (j ∷ js) h = elim (cases_lt j m) [
 ]
 
 started_there : (n : ℕ) (over : Bool) (c : Call) → started n over c ≢ Refused Component
-started_there n over (call.Scan []) is = absurd cc
-started_there n true (call.Scan (j ∷ js)) is = absurd cc
-started_there n false (call.Scan (j ∷ js)) is = absurd cc
-started_there n over (call.Read j) is = absurd cc
-started_there zero over (call.Update j v) is = absurd cc
-started_there (suc n) over (call.Update j v) is = absurd cc
-started_there zero over (call.UpdateIf j x v) is = absurd cc
-started_there (suc n) over (call.UpdateIf j x v) is = absurd cc
+started_there n over (Call.Scan []) is = absurd cc
+started_there n true (Call.Scan (j ∷ js)) is = absurd cc
+started_there n false (Call.Scan (j ∷ js)) is = absurd cc
+started_there n over (Call.Read j) is = absurd cc
+started_there zero over (Call.Update j v) is = absurd cc
+started_there (suc n) over (Call.Update j v) is = absurd cc
+started_there zero over (Call.UpdateIf j x v) is = absurd cc
+started_there (suc n) over (Call.UpdateIf j x v) is = absurd cc
 
 pub components_are_missing : ComponentsAreMissing
 components_are_missing e rounds over c = record {

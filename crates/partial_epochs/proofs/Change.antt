@@ -1,9 +1,5 @@
 -- What a step in the arena of an epoch leaves of all the others.
-use Rattle.partial_epochs.proofs.Common.{ℕ, ◌≡◌, ◌≢◌, ◌+◌, ◌<◌, ◌≤◌, ◌==◌, ◌⊎◌, ◌++◌, true, false, Option, Some, None, IfSome, List, [], ◌∷◌, length, refl, sym, ap, subst, ◌∙◌, inl, inr, arith, slice_index, option_map, append-nil, eqb_tells, Applied, some_same, total, put, IsToBeSet, Plan, IsSealed, packed, current_word, base, control_words, arena_words, component_words, carried_words, set_word, Control, OwnedArena, Port, Epoch, LawfulControl, IsOwner, Beside, IsArena, IsFinished, IsNewPart, IsSetting, IsStanding, LawfulEpochs, controls, next_epoch_word, numbers, place_now, Stands, HasClearRecords, HasClearSlots, slot_counter, slot_word}
-use Rattle.partial_epochs.proofs.ClearRecords.{records_same}
-use Rattle.partial_epochs.proofs.Lists.{at_of, put_all, put_other, put_same}
-use Rattle.partial_epochs.proofs.Places.{arena_same, carried_same, components_same, control_same, other_arena, packed_arena, set_place}
-use Rattle.partial_epochs.proofs.Present.{standing, numbered}
+use Rattle.partial_epochs.proofs.{Common.{ℕ, ◌≡◌, ◌≢◌, ◌+◌, ◌<◌, ◌≤◌, ◌==◌, ◌⊎◌, ◌++◌, true, false, Option, Some, None, IfSome, List, [], ◌∷◌, length, refl, sym, ap, subst, ◌∙◌, inl, inr, arith, slice_index, option_map, append-nil, eqb_tells, Applied, some_same, total, put, IsToBeSet, Plan, IsSealed, packed, current_word, base, control_words, arena_words, component_words, carried_words, set_word, Control, OwnedArena, Port, Epoch, LawfulControl, IsOwner, Beside, IsArena, IsFinished, IsNewPart, IsSetting, IsStanding, LawfulEpochs, controls, next_epoch_word, numbers, place_now, Stands, HasClearRecords, HasClearSlots, slot_counter, slot_word}, ClearRecords.records_same, Lists.{at_of, put_all, put_other, put_same}, Places.{arena_same, carried_same, components_same, control_same, other_arena, packed_arena, set_place}, Present.{standing, numbered}}
 
 -- The port k, which stands in an epoch that the arena x holds, comes to be p', and the epoch r'. The words of the inner memory in x
 -- alone have changed, and the history grows only where a component isn't sealed.

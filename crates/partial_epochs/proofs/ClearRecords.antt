@@ -1,10 +1,7 @@
 -- What initial records have beside their values is 0 in every arena.
-use Rattle.partial_epochs.proofs.Common.{ℕ, ◌≡◌, ◌≢◌, ◌+◌, ◌-◌, ◌*◌, ◌%◌, ◌/◌, ◌<◌, ◌≤◌, ◌==◌, ◌⊎◌, Bool, true, false, cond, Option, Some, None, List, [], ◌∷◌, get_or, set, refl, sym, ap, ◌∙◌, inl, inr, arith, cases_lt, get_or-set_other, Applied, Opening, initial_stamp, Layout, list_base, pool_base, first_free, initial_record, initial_words, plain_record_size, prev_word, value_word, view_word, opening_word, opening_record, initial_prev, initial_view, IsToBeSet, Plan, arena_words, base, Port, Epoch, Beside, HasClearRecords, LawfulEpochs, opening_behind, set_word}
-use Rattle.partial_words.specs.Record.{prev_of}
+use Rattle.partial_epochs.proofs.{Common.{ℕ, ◌≡◌, ◌≢◌, ◌+◌, ◌-◌, ◌*◌, ◌%◌, ◌/◌, ◌<◌, ◌≤◌, ◌==◌, ◌⊎◌, Bool, true, false, cond, Option, Some, None, List, [], ◌∷◌, get_or, set, refl, sym, ap, ◌∙◌, inl, inr, arith, cases_lt, get_or-set_other, Applied, Opening, initial_stamp, Layout, list_base, pool_base, first_free, initial_record, initial_words, plain_record_size, prev_word, value_word, view_word, opening_word, opening_record, initial_prev, initial_view, IsToBeSet, Plan, arena_words, base, Port, Epoch, Beside, HasClearRecords, LawfulEpochs, opening_behind, set_word}, Places.{offset_behind, set_apart, set_low}, Worded.{plain_at, plain_other}}
+use Rattle.partial_words.specs.{Record.prev_of, Chain.{IsChain, links_from}}
 use Rattle.partial_words.specs.declared.record.Link.{Link}
-use Rattle.partial_words.specs.Chain.{IsChain, links_from}
-use Rattle.partial_epochs.proofs.Places.{offset_behind, set_apart, set_low}
-use Rattle.partial_epochs.proofs.Worded.{plain_at, plain_other}
 
 -- the last of these links is this one
 EndsWith : Link → List Link → Type 0

@@ -1,8 +1,7 @@
 -- The history of all epochs goes on where an epoch ends.
-use Rattle.partial_epochs.proofs.Common.{ℕ, zero, suc, ◌≡◌, ◌+◌, ◌<◌, ◌≤◌, ◌==◌, ◌++◌, Bool, true, false, cond, Option, Some, None, IfSome, List, [], ◌∷◌, length, take, map, get_or, refl, sym, ap, subst, ◌∙◌, arith, option_map, option_map_or, AllByRecursion, lt-ltb, length-map, Applied, Opening, last_entry, initial_stamp, stamp_of, value_of, behind_both, some_same, all_weaker, first_free, list_of, Plan, arena_words, carried_word, carried_words, carried_after, carried_behind, history_of, opening_behind, public_entry, public_log, public_stamp, EpochsContinue, Port, Epoch, Stands, IsPlaceWord, Beside, IsStanding, LawfulEpochs, ReadsTellAllEpochs, read_stamp, IsEntry, not_below}
+use Rattle.partial_epochs.proofs.{Common.{ℕ, zero, suc, ◌≡◌, ◌+◌, ◌<◌, ◌≤◌, ◌==◌, ◌++◌, Bool, true, false, cond, Option, Some, None, IfSome, List, [], ◌∷◌, length, take, map, get_or, refl, sym, ap, subst, ◌∙◌, arith, option_map, option_map_or, AllByRecursion, lt-ltb, length-map, Applied, Opening, last_entry, initial_stamp, stamp_of, value_of, behind_both, some_same, all_weaker, first_free, list_of, Plan, arena_words, carried_word, carried_words, carried_after, carried_behind, history_of, opening_behind, public_entry, public_log, public_stamp, EpochsContinue, Port, Epoch, Stands, IsPlaceWord, Beside, IsStanding, LawfulEpochs, ReadsTellAllEpochs, read_stamp, IsEntry, not_below}, Lists.at_of}
 use Rattle.partial_model.specs.History.{last_from}
 use Rattle.partial_core.specs.Lawful as one
-use Rattle.partial_epochs.proofs.Lists.{at_of}
 
 -- with public stamps
 cond_map : (g : Applied → Applied) (c : Bool) (e : Applied) (found : Option Applied) → cond c (Some (g e)) (option_map g found) ≡ option_map g (cond c (Some e) found)

@@ -1,6 +1,5 @@
 -- A step on the control words alone.
-use Rattle.partial_epochs.proofs.Common.{ℕ, ◌≡◌, ◌≢◌, ◌+◌, ◌<◌, ◌==◌, ◌⊎◌, true, false, Option, Some, None, IfSome, List, length, get_or, set, sym, ap, subst, ◌∙◌, inl, inr, arith, eqb_tells, get_or-set_same, get_or-set_other, put, Plan, Place, IsPlace, at_word, control_size, current_word, marked, packed, Control, Entering, OwnedArena, IsPlaceWord, IsEarlier, IsStillMarked, IsOld, IsOut, IsOwner, LawfulControl, MayPut, NotInto, Stands, Marks, Loaded}
-use Rattle.partial_epochs.proofs.Lists.{put_all, put_other, put_same}
+use Rattle.partial_epochs.proofs.{Common.{ℕ, ◌≡◌, ◌≢◌, ◌+◌, ◌<◌, ◌==◌, ◌⊎◌, true, false, Option, Some, None, IfSome, List, length, get_or, set, sym, ap, subst, ◌∙◌, inl, inr, arith, eqb_tells, get_or-set_same, get_or-set_other, put, Plan, Place, IsPlace, at_word, control_size, current_word, marked, packed, Control, Entering, OwnedArena, IsPlaceWord, IsEarlier, IsStillMarked, IsOld, IsOut, IsOwner, LawfulControl, MayPut, NotInto, Stands, Marks, Loaded}, Lists.{put_all, put_other, put_same}}
 
 -- port k, which owns no arena, changes what it does, and its word
 module _ (e : Plan) (words : List ℕ) (cs : ℕ → Control) (now : Place) (holds : ℕ → Option ℕ) (w : LawfulControl e words cs now holds) (k : ℕ) (below : k < e.ports) (c : Control) (v : ℕ)

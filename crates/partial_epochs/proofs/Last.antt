@@ -1,10 +1,7 @@
 -- What the words of an epoch tell last, and that it stays.
-use Rattle.partial_epochs.proofs.Common.{ℕ, ◌≡◌, ◌≢◌, ◌+◌, ◌<◌, ◌≤◌, ◌==◌, ◌⊎◌, ◌++◌, Bool, true, false, cond, Option, Some, None, List, [], ◌∷◌, length, take, get_or, refl, sym, ap, subst, ◌∙◌, inl, inr, arith, AllByRecursion, option_map_or, eqb_tells, take_all, Applied, Opening, initial_stamp, stamp_of, value_of, stamp_all, total, lawful_records_are_within, list_of, Plan, IsSealed, arena_words, base, component_words, plain, unsealed, history_of, opening_behind, Port, Stands, Beside, IsStanding, LawfulEpochs, ComponentsNameRecords, LastWordsAreFinal, TellTheLast, read_stamp, behind_both, value_word, view_word, records_within, value_behind_stamp}
+use Rattle.partial_epochs.proofs.{Common.{ℕ, ◌≡◌, ◌≢◌, ◌+◌, ◌<◌, ◌≤◌, ◌==◌, ◌⊎◌, ◌++◌, Bool, true, false, cond, Option, Some, None, List, [], ◌∷◌, length, take, get_or, refl, sym, ap, subst, ◌∙◌, inl, inr, arith, AllByRecursion, option_map_or, eqb_tells, take_all, Applied, Opening, initial_stamp, stamp_of, value_of, stamp_all, total, lawful_records_are_within, list_of, Plan, IsSealed, arena_words, base, component_words, plain, unsealed, history_of, opening_behind, Port, Stands, Beside, IsStanding, LawfulEpochs, ComponentsNameRecords, LastWordsAreFinal, TellTheLast, read_stamp, behind_both, value_word, view_word, records_within, value_behind_stamp}, Continue.{epochs_continue, history_took, reads_tell_all_epochs}, Places.below_whole, Worded.{plain_at, plain_component, plain_other}}
 use Rattle.partial_model.specs.History.{last_from}
 use Rattle.partial_core.specs.Lawful as one
-use Rattle.partial_epochs.proofs.Continue.{epochs_continue, history_took, reads_tell_all_epochs}
-use Rattle.partial_epochs.proofs.Places.{below_whole}
-use Rattle.partial_epochs.proofs.Worded.{plain_at, plain_component, plain_other}
 
 -- entries for other components leave a component as it was
 pub none_here : (j : ℕ) (h : List Applied) → AllByRecursion (λ (a : Applied). a.component ≢ j) h → last_from None j h ≡ None

@@ -1,6 +1,5 @@
 -- How many steps of a call are left at most: a number that each step lowers.
 use Rattle.partial_epochs.proofs.Common.{if◌then◌else◌, Call, first_free, most_steps, steps_left, Plan, Changing, passes, Doing, ℕ, zero, suc, ◌+◌, ◌*◌, ◌-◌, Bool, true, false, arena_steps, most_of_change, opening_steps, pass_steps}
-use Rattle.partial_model.specs.declared.call.Call.TheVariants as call
 use Rattle.partial_epochs.specs.Changing as changing
 use Rattle.partial_epochs.specs.Calls as calls
 
@@ -33,23 +32,23 @@ change_left e (changing.Changing.Refuses cause) = 0
 
 -- what a call makes at most from an epoch on to which it has come, with so many changes of epoch left
 abbrev pub fresh_left : Plan → Call → ℕ → ℕ
-fresh_left e (call.Read j) n = 3
-fresh_left e (call.Scan js) n = most_steps e.sizes (call.Scan js)
+fresh_left e (Call.Read j) n = 3
+fresh_left e (Call.Scan js) n = most_steps e.sizes (Call.Scan js)
 fresh_left e c zero = 0
-fresh_left e (call.Update j v) (suc n) = most_steps e.sizes (call.Update j v) + most_of_change e + fresh_left e (call.Update j v) n
-fresh_left e (call.UpdateIf j x v) (suc n) =
-    2 + most_steps e.sizes (call.UpdateIf j x v) + most_of_change e + fresh_left e (call.UpdateIf j x v) n
+fresh_left e (Call.Update j v) (suc n) = most_steps e.sizes (Call.Update j v) + most_of_change e + fresh_left e (Call.Update j v) n
+fresh_left e (Call.UpdateIf j x v) (suc n) =
+    2 + most_steps e.sizes (Call.UpdateIf j x v) + most_of_change e + fresh_left e (Call.UpdateIf j x v) n
 
 -- what it makes at most behind its machine's steps in this epoch
 abbrev pub behind : Plan → Call → ℕ → Bool → ℕ
-behind e (call.Scan js) n true = 0
-behind e (call.Scan js) n false = 4 + most_steps e.sizes (call.Scan js)
+behind e (Call.Scan js) n true = 0
+behind e (Call.Scan js) n false = 4 + most_steps e.sizes (Call.Scan js)
 behind e c zero fresh = 0
 behind e c (suc n) fresh = most_of_change e + fresh_left e c n
 
 -- how many steps a call makes at most from what it is about to do
 abbrev pub left : Plan → Doing → ℕ
-left e (calls.Doing.LoadsWord (call.Read j) n fresh) = if fresh then 3 else 8
+left e (calls.Doing.LoadsWord (Call.Read j) n fresh) = if fresh then 3 else 8
 left e (calls.Doing.LoadsWord c n fresh) = if fresh then 2 + most_steps e.sizes c + behind e c n fresh else 6 + fresh_left e c n
 left e (calls.Doing.Judges c n fresh) = if fresh then 1 + most_steps e.sizes c + behind e c n fresh else 5 + fresh_left e c n
 left e (calls.Doing.Starts c n fresh) = most_steps e.sizes c + behind e c n fresh

@@ -1,14 +1,7 @@
 -- Each due step of a machine in the arena where its port stands keeps the lawful state of all epochs.
-use Rattle.partial_epochs.proofs.Common.{ℕ, ◌≡◌, ◌≢◌, ◌+◌, ◌*◌, ◌%◌, ◌^◌, ◌<◌, ◌≤◌, ◌==◌, ◌⊎◌, ◌++◌, Bool, true, false, cond, Some, List, [], ◌∷◌, length, get_or, set, refl, sym, ap, subst, ◌∙◌, inl, inr, arith, ◌&&◌, ◌||◌, nat_lt, AllByRecursion, cases_lt, lt-ltb, eqb_tells, get_or-set_same, get_or-set_other, Applied, Opening, Step, Load, Store, Exchange, Add, IsLayout, Layout, first_free, total, pool_counter, slot_counter, greatest_record, answer_of, word_of, words_after, steps_left, CoreState, advance, step_of, Part, PartAmong, IsMachineOf, port_of, IsReady, LeadsOn, added_by, lawful_machines_are_ready, steps_stay_lawful, count, list_of, put, Plan, arena_words, carried_words, component_words, placed_step, opening_behind, Port, Epoch, Beside, IsArena, IsStanding, LawfulEpochs, IsPresent, awaits_slot, MachineLeads, MachineStepsStayLawful, MayClaim, MeetsSeal, ends_over, Stands, not_below, value_word, least_announcement}
+use Rattle.partial_epochs.proofs.{Common.{ℕ, ◌≡◌, ◌≢◌, ◌+◌, ◌*◌, ◌%◌, ◌^◌, ◌<◌, ◌≤◌, ◌==◌, ◌⊎◌, ◌++◌, Bool, true, false, cond, Some, List, [], ◌∷◌, length, get_or, set, refl, sym, ap, subst, ◌∙◌, inl, inr, arith, ◌&&◌, ◌||◌, nat_lt, AllByRecursion, cases_lt, lt-ltb, eqb_tells, get_or-set_same, get_or-set_other, Applied, Opening, Step, Load, Store, Exchange, Add, IsLayout, Layout, first_free, total, pool_counter, slot_counter, greatest_record, answer_of, word_of, words_after, steps_left, CoreState, advance, step_of, Part, PartAmong, IsMachineOf, port_of, IsReady, LeadsOn, added_by, lawful_machines_are_ready, steps_stay_lawful, count, list_of, put, Plan, arena_words, carried_words, component_words, placed_step, opening_behind, Port, Epoch, Beside, IsArena, IsStanding, LawfulEpochs, IsPresent, awaits_slot, MachineLeads, MachineStepsStayLawful, MayClaim, MeetsSeal, ends_over, Stands, not_below, value_word, least_announcement}, Apart.{IsApart, due_apart}, Change.{Changes, beside_then, change_kept}, Lists.{Around, around_of, count_more, count_one, count_same, length_of, put_all, put_other, put_same}, Places.below_whole, Present.{by_seal, standing}, Slots.{awaits, awaits_same, counted, one, pool_small}, Worded.{Words, worded}}
 use Rattle.partial_core.specs.Lawful as one
 use Rattle.partial_core.specs.Steps.{Tells}
-use Rattle.partial_epochs.proofs.Apart.{IsApart, due_apart}
-use Rattle.partial_epochs.proofs.Change.{Changes, beside_then, change_kept}
-use Rattle.partial_epochs.proofs.Lists.{Around, around_of, count_more, count_one, count_same, length_of, put_all, put_other, put_same}
-use Rattle.partial_epochs.proofs.Places.{below_whole}
-use Rattle.partial_epochs.proofs.Present.{by_seal, standing}
-use Rattle.partial_epochs.proofs.Slots.{awaits, awaits_same, counted, one, pool_small}
-use Rattle.partial_epochs.proofs.Worded.{Words, worded}
 
 or_none : (b c : Bool) → c ≡ false → (b || c) ≡ b
 or_none true c e = refl

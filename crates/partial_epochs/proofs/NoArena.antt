@@ -1,11 +1,8 @@
 -- A change of epoch that finds no arena has found each one taken in each of its passes.
-use Rattle.partial_epochs.proofs.Common.{ℕ, zero, suc, ◌≡◌, ◌≢◌, ◌+◌, ◌<◌, ◌≤◌, ◌==◌, ◌⊎◌, Bool, true, false, cond, Option, Some, None, List, refl, sym, ap, subst, ◌∙◌, inl, inr, arith, ⊤, nat_lt, cases_lt, eqb_tells, Call, CoreState, reply_of, Reply, first_free, Place, Plan, Port, Act, ChangeLeads, Changing, next_arena, next_component, next_load, next_pass, next_port, next_set, passes, Sees, Arrived, EndsPass, GivesBack, GivesUp, LoadsClaimed, LoadsComponent, LoadsLast, LoadsPort, LooksAgain, LooksFirst, Publishes, PutsPort, Refuses, SealsComponent, SetsWord, TakesArena, CallStep, Doing, CallLeads, RunsCall, after_step, behind_answer, changed, ran, round, Changes, Judges, LoadsWord, Looks, Runs, Starts, last_loads, FindsTaken, NoArenaIsFree, SomeFindsTaken}
-use Rattle.partial_model.specs.declared.call.Call.TheVariants as call
-use Rattle.partial_machine.specs.declared.stage.Reply.TheVariants as reply
+use Rattle.partial_epochs.proofs.{Common.{ℕ, zero, suc, ◌≡◌, ◌≢◌, ◌+◌, ◌<◌, ◌≤◌, ◌==◌, ◌⊎◌, Bool, true, false, cond, Option, Some, None, List, refl, sym, ap, subst, ◌∙◌, inl, inr, arith, ⊤, nat_lt, cases_lt, eqb_tells, Call, CoreState, reply_of, Reply, first_free, Place, Plan, Port, Act, ChangeLeads, Changing, next_arena, next_component, next_load, next_pass, next_port, next_set, passes, Sees, Arrived, EndsPass, GivesBack, GivesUp, LoadsClaimed, LoadsComponent, LoadsLast, LoadsPort, LooksAgain, LooksFirst, Publishes, PutsPort, Refuses, SealsComponent, SetsWord, TakesArena, CallStep, Doing, CallLeads, RunsCall, after_step, behind_answer, changed, ran, round, Changes, Judges, LoadsWord, Looks, Runs, Starts, last_loads, FindsTaken, NoArenaIsFree, SomeFindsTaken}, CallEnds.{change_ends, still_place}}
 use Rattle.partial_epochs.specs.Changing.Changing.{ExchangesMark, LoadsCurrent, LooksAsOwner, StoresMark}
 use Rattle.partial_epochs.specs.Changing as changing
 use Rattle.partial_epochs.specs.Calls as calls
-use Rattle.partial_epochs.proofs.CallEnds.{change_ends, still_place}
 
 -- a change that has found an arena, or is about to enter
 abbrev Late : Changing → Type 0
@@ -28,7 +25,7 @@ load_late (suc i) = tt
 -- the parts of a call that is in a change of epoch
 abbrev call_in : Doing → Call
 call_in (Changes c n g) = c
-call_in _ = call.Read 0
+call_in _ = Call.Read 0
 
 abbrev rounds_in : Doing → ℕ
 rounds_in (Changes c n g) = n
@@ -89,23 +86,23 @@ module _ (e : Plan) where
   Gone rounds _ = ⊤
 
   round_gone : (rounds : ℕ) (c : Call) (n : ℕ) (fresh : Bool) → n ≤ rounds → Gone rounds (round c n fresh)
-  round_gone rounds (call.Read j) n fresh few = few
-  round_gone rounds (call.Scan js) n fresh few = few
-  round_gone rounds (call.Update j v) zero fresh few = tt
-  round_gone rounds (call.Update j v) (suc n) fresh few = few
-  round_gone rounds (call.UpdateIf j x v) zero fresh few = tt
-  round_gone rounds (call.UpdateIf j x v) (suc n) fresh few = few
+  round_gone rounds (Call.Read j) n fresh few = few
+  round_gone rounds (Call.Scan js) n fresh few = few
+  round_gone rounds (Call.Update j v) zero fresh few = tt
+  round_gone rounds (Call.Update j v) (suc n) fresh few = few
+  round_gone rounds (Call.UpdateIf j x v) zero fresh few = tt
+  round_gone rounds (Call.UpdateIf j x v) (suc n) fresh few = few
 
   answered_gone : (rounds : ℕ) (c : Call) (n : ℕ) (fresh : Bool) → n ≤ rounds → Gone rounds (behind_answer c n fresh)
-  answered_gone rounds (call.Scan js) n false few = few
-  answered_gone rounds (call.Scan js) n true few = tt
-  answered_gone rounds (call.Read j) n fresh few = tt
-  answered_gone rounds (call.Update j v) n fresh few = tt
-  answered_gone rounds (call.UpdateIf j x v) n fresh few = tt
+  answered_gone rounds (Call.Scan js) n false few = few
+  answered_gone rounds (Call.Scan js) n true few = tt
+  answered_gone rounds (Call.Read j) n fresh few = tt
+  answered_gone rounds (Call.Update j v) n fresh few = tt
+  answered_gone rounds (Call.UpdateIf j x v) n fresh few = tt
 
   ran_gone : (rounds : ℕ) (c : Call) (n : ℕ) (fresh : Bool) (s : CoreState) (t : Option Reply) → n ≤ rounds → Gone rounds (ran c n fresh s t)
   ran_gone rounds c n fresh s None few = few
-  ran_gone rounds c n fresh s (Some (reply.Applied stamp)) few = tt
+  ran_gone rounds c n fresh s (Some (Reply.Applied stamp)) few = tt
   ran_gone rounds c n fresh s (Some _) few = answered_gone rounds c n fresh few
 
   less_gone : (rounds : ℕ) (c : Call) (n : ℕ) (g : Changing) → n < rounds → Gone rounds (changed c n g)

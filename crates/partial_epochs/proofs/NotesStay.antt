@@ -1,14 +1,7 @@
 -- Each step of a machine keeps the notes lawful, over all epochs.
-use Rattle.partial_epochs.proofs.Common.{ℕ, suc, ◌≡◌, ◌≢◌, ◌+◌, ◌<◌, ◌≤◌, ◌==◌, ◌⊎◌, ◌++◌, Bool, true, false, cond, Option, Some, None, IfSome, List, [], ◌∷◌, length, map, refl, sym, ap, subst, ◌∙◌, inl, inr, arith, length-append, AllByRecursion, option_map, eqb_tells, append-nil, append_cancel_left, map-append, Applied, Opening, Note, Fits, IsLegal, IsTrueOf, LegalNotes, Noted, place_of, seen_by, shown_by, EachOnce, places_by, places_written, wrote, all_take, some_same, Step, Layout, first_free, answer_of, words_after, Reply, CoreState, advance, reply_of, answer_for, Holding, Part, core_of, first_at, port_of, holdings, AreAnswersKept, AreNotesOf, IsNoteOf, kept_with, since_with, list_of, put, Plan, arena_words, placed_step, history_of, opening_behind, public_log, Control, Epoch, Port, Stands, Beside, IsPresent, IsStanding, MachineLeads, MayAdd, is_applied, Makes, ExpectedOne, IsEpochHistory, LawfulMemory, LawfulNotes, MayNote, NotesStayLawful, EpochReached, noting, one_history, public_answer, public_call, public_note, public_noted, seen_of, LegalNotes-grows, LegalNotes-last, LegalNotes-push, IsTrueOf-grows, places_written-append, seen_by-push}
-use Rattle.partial_model.specs.declared.call.Note.TheVariants as note
-use Rattle.partial_machine.specs.declared.stage.Reply.TheVariants as reply
+use Rattle.partial_epochs.proofs.{Common.{ℕ, suc, ◌≡◌, ◌≢◌, ◌+◌, ◌<◌, ◌≤◌, ◌==◌, ◌⊎◌, ◌++◌, Bool, true, false, cond, Option, Some, None, IfSome, List, [], ◌∷◌, length, map, refl, sym, ap, subst, ◌∙◌, inl, inr, arith, length-append, AllByRecursion, option_map, eqb_tells, append-nil, append_cancel_left, map-append, Applied, Opening, Note, Fits, IsLegal, IsTrueOf, LegalNotes, Noted, place_of, seen_by, shown_by, EachOnce, places_by, places_written, wrote, all_take, some_same, Step, Layout, first_free, answer_of, words_after, Reply, CoreState, advance, reply_of, answer_for, Holding, Part, core_of, first_at, port_of, holdings, AreAnswersKept, AreNotesOf, IsNoteOf, kept_with, since_with, list_of, put, Plan, arena_words, placed_step, history_of, opening_behind, public_log, Control, Epoch, Port, Stands, Beside, IsPresent, IsStanding, MachineLeads, MayAdd, is_applied, Makes, ExpectedOne, IsEpochHistory, LawfulMemory, LawfulNotes, MayNote, NotesStayLawful, EpochReached, noting, one_history, public_answer, public_call, public_note, public_noted, seen_of, LegalNotes-grows, LegalNotes-last, LegalNotes-push, IsTrueOf-grows, places_written-append, seen_by-push}, Lists.{put_all, put_other, put_same}, OneHistory.held_history, Public.{public_fits, public_true}, Written.{changed_none, lost_none, no_places, read_none, scanned_none}, Seats.{earlier, fits, history_longer, known, number, reached, reached_grows, seen_begins}}
 use Rattle.partial_state.specs.Loads.{KeptAnswer}
 use Rattle.partial_core.proofs.Parts.{seen_within as no_longer}
-use Rattle.partial_epochs.proofs.Lists.{put_all, put_other, put_same}
-use Rattle.partial_epochs.proofs.OneHistory.{held_history}
-use Rattle.partial_epochs.proofs.Public.{public_fits, public_true}
-use Rattle.partial_epochs.proofs.Written.{changed_none, lost_none, no_places, read_none, scanned_none}
-use Rattle.partial_epochs.proofs.Seats.{earlier, fits, history_longer, known, number, reached, reached_grows, seen_begins}
 
 -- the places of a port's entries in two histories, one behind the other
 pub places_both : (p k : ℕ) (a b : List Applied) → places_by p k (a ++ b) ≡ places_by p k a ++ places_by p (k + length a) b
@@ -46,9 +39,9 @@ places_none p q n g (x ∷ h) ne own = by (x.port == q) (eqb_tells x.port q) (pl
 
 written_one : (off : ℕ) (t : Option Note) → wrote (option_map (public_note off) t) ≡ map (λ i. off + i) (wrote t)
 written_one off None = refl
-written_one off (Some (note.Wrote k)) = refl
-written_one off (Some (note.Lost k)) = refl
-written_one off (Some (note.Saw k)) = refl
+written_one off (Some (Note.Wrote k)) = refl
+written_one off (Some (Note.Lost k)) = refl
+written_one off (Some (Note.Saw k)) = refl
 
 written_public : (e : Plan) (before : List (List Applied)) (ns : List Noted) → places_written (map (public_noted e before) ns) ≡ map (λ i. length (history_of before) + i) (places_written ns)
 written_public e before [] = refl
@@ -60,22 +53,22 @@ written_public e before (n ∷ ns) =
 -- what a machine's step notes is nothing, or one call
 pub one_or_none : (o : Opening) (y : Part) (t : Option Reply) (new : List Noted) → AreNotesOf o y t new → (new ≡ []) ⊎ ((r : Reply) × IsNoteOf o y r new)
 one_or_none o y None new w = inl w
-one_or_none o y (Some (reply.Applied s)) new w = inr (reply.Applied s, w)
-one_or_none o y (Some (reply.Lost s)) new w = inr (reply.Lost s, w)
-one_or_none o y (Some (reply.Scanned c b)) new w = inr (reply.Scanned c b, w)
-one_or_none o y (Some (reply.Read v s)) new w = inr (reply.Read v s, w)
-one_or_none o y (Some (reply.Refused cause)) new w = inl w.none
-one_or_none o y (Some (reply.Changed s)) new w = inr (reply.Changed s, w)
+one_or_none o y (Some (Reply.Applied s)) new w = inr (Reply.Applied s, w)
+one_or_none o y (Some (Reply.Lost s)) new w = inr (Reply.Lost s, w)
+one_or_none o y (Some (Reply.Scanned c b)) new w = inr (Reply.Scanned c b, w)
+one_or_none o y (Some (Reply.Read v s)) new w = inr (Reply.Read v s, w)
+one_or_none o y (Some (Reply.Refused cause)) new w = inl w.none
+one_or_none o y (Some (Reply.Changed s)) new w = inr (Reply.Changed s, w)
 
 place_public : (off : ℕ) (n : Note) → place_of (public_note off n) ≡ off + place_of n
-place_public off (note.Wrote k) = refl
-place_public off (note.Lost k) = refl
-place_public off (note.Saw k) = refl
+place_public off (Note.Wrote k) = refl
+place_public off (Note.Lost k) = refl
+place_public off (Note.Saw k) = refl
 
 shown_public : (off : ℕ) (n : Note) → shown_by (public_note off n) ≡ off + shown_by n
-shown_public off (note.Wrote k) = omega arith
-shown_public off (note.Lost k) = omega arith
-shown_public off (note.Saw k) = refl
+shown_public off (Note.Wrote k) = omega arith
+shown_public off (Note.Lost k) = omega arith
+shown_public off (Note.Saw k) = refl
 
 first_behind : (z : Layout) (o : Opening) (words : List ℕ) (hs : List Holding) (log : List Applied) (low : ℕ) (s : CoreState) (ks : List KeptAnswer) → AreAnswersKept z o words hs log low s ks →
     0 < length ks →
@@ -177,12 +170,12 @@ module _ (e : Plan) (words : List ℕ) (ports : ℕ → Port) (b : Beside) (note
       by : (t : Option Reply) → reply_of (advance c (answer_of (arena_words e words (ports k).control.here.arena) step)) ≡ t → AreNotesOf (opening_behind e.opening (ports k).before) lead.port.part t lead.tells.new →
           (public_log (length b.before) lead.entries ≡ []) ⊎ MayAdd e words (ports k) (Makes c step)
       by None is h = inl (none (ap places_written h))
-      by (Some (reply.Refused cause)) is h = inl (none (ap places_written h.none))
-      by (Some (reply.Applied s)) is h = inr (lead.unmet, ap is_applied is)
-      by (Some (reply.Lost s)) is h = inl (none (ap places_written h.is ∙ lost_none s h.note (length lead.port.part.seen) h.placed))
-      by (Some (reply.Scanned n t)) is h = inl (none (ap places_written h.is ∙ scanned_none n t h.note (length lead.port.part.seen) h.placed))
-      by (Some (reply.Read v s)) is h = inl (none (ap places_written h.is ∙ read_none v s h.note (length lead.port.part.seen) h.placed))
-      by (Some (reply.Changed s)) is h = inl (none (ap places_written h.is ∙ changed_none s h.note (length lead.port.part.seen) h.placed))
+      by (Some (Reply.Refused cause)) is h = inl (none (ap places_written h.none))
+      by (Some (Reply.Applied s)) is h = inr (lead.unmet, ap is_applied is)
+      by (Some (Reply.Lost s)) is h = inl (none (ap places_written h.is ∙ lost_none s h.note (length lead.port.part.seen) h.placed))
+      by (Some (Reply.Scanned n t)) is h = inl (none (ap places_written h.is ∙ scanned_none n t h.note (length lead.port.part.seen) h.placed))
+      by (Some (Reply.Read v s)) is h = inl (none (ap places_written h.is ∙ read_none v s h.note (length lead.port.part.seen) h.placed))
+      by (Some (Reply.Changed s)) is h = inl (none (ap places_written h.is ∙ changed_none s h.note (length lead.port.part.seen) h.placed))
 
   public_places : places_by k (0 + length (one_history b)) (public_log (length b.before) lead.entries) ≡ map (λ i. length (history_of (ports k).before) + i) (places_written lead.tells.new)
   public_places = elim lead.present [

@@ -1,11 +1,6 @@
 -- A memory opens lawful.
-use Rattle.partial_epochs.proofs.Common.{ℕ, ◌≡◌, ◌≢◌, ◌+◌, ◌<◌, ◌≤◌, ◌⊎◌, Some, None, List, [], length, get_or, refl, sym, ap, subst, ◌∙◌, inl, inr, arith, option_map, cases_lt, eqb_tells, some_same, first_free, pool_counter, slot_counter, total, Part, fresh_part, Plan, arena_words, base, carried_word, carried_words, component_words, control_size, control_words, plain, seal, Epoch, LawfulControl, Beside, IsArena, LawfulEpochs, awaits_slot, controls, numbers, place_now, EpochsOpenLawful, OpensAll, first_beside, first_place, first_ports, first_epoch, nothing_held, OpensOver, opening_component, pool_opens, slot_opens}
+use Rattle.partial_epochs.proofs.{Common.{ℕ, ◌≡◌, ◌≢◌, ◌+◌, ◌<◌, ◌≤◌, ◌⊎◌, Some, None, List, [], length, get_or, refl, sym, ap, subst, ◌∙◌, inl, inr, arith, option_map, cases_lt, eqb_tells, some_same, first_free, pool_counter, slot_counter, total, Part, fresh_part, Plan, arena_words, base, carried_word, carried_words, component_words, control_size, control_words, plain, seal, Epoch, LawfulControl, Beside, IsArena, LawfulEpochs, awaits_slot, controls, numbers, place_now, EpochsOpenLawful, OpensAll, first_beside, first_place, first_ports, first_epoch, nothing_held, OpensOver, opening_component, pool_opens, slot_opens}, Lists.{at_of, count_none, length_of, put_other, put_same}, Opens.opens_over, Places.packed_arena, Publishes.fresh_list, Worded.{component_at, plain_at, plain_component, plain_other}}
 use Rattle.partial_core.specs.Lawful as one
-use Rattle.partial_epochs.proofs.Lists.{at_of, count_none, length_of, put_other, put_same}
-use Rattle.partial_epochs.proofs.Opens.{opens_over}
-use Rattle.partial_epochs.proofs.Places.{packed_arena}
-use Rattle.partial_epochs.proofs.Publishes.{fresh_list}
-use Rattle.partial_epochs.proofs.Worded.{component_at, plain_at, plain_component, plain_other}
 
 module _ (e : Plan) (words : List ℕ) (w : OpensAll e words) where
   small : (j : ℕ) → j < e.sizes.m → get_or words (base e 0 + j) 0 < seal

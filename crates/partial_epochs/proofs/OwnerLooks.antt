@@ -1,9 +1,5 @@
 -- A port that owns an arena looks; and the claims of a port that is within the limit have room.
-use Rattle.partial_epochs.proofs.Common.{ℕ, zero, suc, ◌≡◌, ◌≢◌, ◌+◌, ◌*◌, ◌<◌, ◌≤◌, ◌==◌, ◌⊎◌, Bool, true, false, cond, Option, Some, None, IfSome, List, get_or, refl, sym, ap, subst, ◌∙◌, inl, inr, arith, eqb_tells, mul-le-mul_left, greatest_record, count, put, Plan, Place, IsPlace, at_word, control_words, marked, Control, Entering, OwnedArena, IsPlaceWord, IsEarlier, IsOld, IsOut, IsOwner, LawfulControl, MayPut, NotInto, IsSetting, controls, numbers, place_now, ClaimsHaveRoom, OwnersLook, having_looked, Stands, Marks, Loaded}
-use Rattle.partial_epochs.proofs.Entering.{control_lifted, current_is}
-use Rattle.partial_epochs.proofs.Lists.{put_all, put_other}
-use Rattle.partial_epochs.proofs.Places.{packed_arena}
-use Rattle.partial_epochs.proofs.Present.{present}
+use Rattle.partial_epochs.proofs.{Common.{ℕ, zero, suc, ◌≡◌, ◌≢◌, ◌+◌, ◌*◌, ◌<◌, ◌≤◌, ◌==◌, ◌⊎◌, Bool, true, false, cond, Option, Some, None, IfSome, List, get_or, refl, sym, ap, subst, ◌∙◌, inl, inr, arith, eqb_tells, mul-le-mul_left, greatest_record, count, put, Plan, Place, IsPlace, at_word, control_words, marked, Control, Entering, OwnedArena, IsPlaceWord, IsEarlier, IsOld, IsOut, IsOwner, LawfulControl, MayPut, NotInto, IsSetting, controls, numbers, place_now, ClaimsHaveRoom, OwnersLook, having_looked, Stands, Marks, Loaded}, Entering.{control_lifted, current_is}, Lists.{put_all, put_other}, Places.packed_arena, Present.present}
 
 module _ (e : Plan) (words : List ℕ) (cs : ℕ → Control) (now : Place) (holds : ℕ → Option ℕ) (w : LawfulControl e words cs now holds) (k : ℕ) (below : k < e.ports) (o : OwnedArena)
     (owned : (cs k).owned ≡ Some o) (is_now : (cs k).here ≡ now) (marks : (o.mark ≡ None) ⊎ (o.clean < e.ports)) where

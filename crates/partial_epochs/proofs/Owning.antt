@@ -1,6 +1,5 @@
 -- A port changes what it knows, and stays where it is.
-use Rattle.partial_epochs.proofs.Common.{ℕ, ◌≡◌, ◌≢◌, ◌<◌, true, Option, Some, None, IfSome, List, refl, sym, ap, subst, ◌∙◌, put, Plan, Place, IsPlace, marked, Control, Entering, OwnedArena, IsPlaceWord, IsEarlier, IsOld, IsOut, IsOwner, LawfulControl, MayPut, NotInto}
-use Rattle.partial_epochs.proofs.Lists.{put_all}
+use Rattle.partial_epochs.proofs.{Common.{ℕ, ◌≡◌, ◌≢◌, ◌<◌, true, Option, Some, None, IfSome, List, refl, sym, ap, subst, ◌∙◌, put, Plan, Place, IsPlace, marked, Control, Entering, OwnedArena, IsPlaceWord, IsEarlier, IsOld, IsOut, IsOwner, LawfulControl, MayPut, NotInto}, Lists.put_all}
 
 -- port k changes what it knows, and stays where it is
 module _ (e : Plan) (words : List ℕ) (cs : ℕ → Control) (now : Place) (holds : ℕ → Option ℕ) (w : LawfulControl e words cs now holds) (k : ℕ) (below : k < e.ports) (c : Control)

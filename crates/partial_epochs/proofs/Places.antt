@@ -1,6 +1,5 @@
 -- Where the words of control and of arenas stand.
-use Rattle.partial_epochs.proofs.Common.{ℕ, ◌≡◌, ◌≢◌, ◌+◌, ◌-◌, ◌*◌, ◌<◌, ◌≤◌, ◌⊎◌, Bool, cond, List, ap, ◌∙◌, inl, inr, arith, slice_index, mul-le-mul_right, cases_lt, lt-ltb, total, first_free, not_below, Plan, Place, packed, base, span, whole, control_words, control_size, arena_words, component_words, carried_words, carried_word, plain, set_word, arena_limit, initial_words, Layout, list_base, slot_counter, slot_word, IsToBeSet, set_offset, eqb_tells, sym}
-use Rattle.partial_epochs.proofs.Lists.{same_of}
+use Rattle.partial_epochs.proofs.{Common.{ℕ, ◌≡◌, ◌≢◌, ◌+◌, ◌-◌, ◌*◌, ◌<◌, ◌≤◌, ◌⊎◌, Bool, cond, List, ap, ◌∙◌, inl, inr, arith, slice_index, mul-le-mul_right, cases_lt, lt-ltb, total, first_free, not_below, Plan, Place, packed, base, span, whole, control_words, control_size, arena_words, component_words, carried_words, carried_word, plain, set_word, arena_limit, initial_words, Layout, list_base, slot_counter, slot_word, IsToBeSet, set_offset, eqb_tells, sym}, Lists.same_of}
 
 -- arenas lie one behind the other
 pub bases_up : (e : Plan) (x y : ℕ) → x < y → base e x + span e ≤ base e y

@@ -1,10 +1,6 @@
 -- What is true of an epoch's history is true of the one history, with public stamps.
-use Rattle.partial_epochs.proofs.Common.{ℕ, zero, suc, ◌≡◌, ◌≢◌, ◌+◌, ◌*◌, ◌<◌, ◌≤◌, ◌⊎◌, ◌++◌, Bool, cond, Option, Some, None, IfSome, IsSome, List, [], ◌∷◌, length, map, take, slice_get, Contains, refl, sym, ap, subst, ◌∙◌, inl, inr, arith, length-append, AllByRecursion, option_map, option_map_or, lt-ltb, length-map, Applied, Opening, Call, Note, initial_stamp, last_entry, stamp_of, value_of, AreCollects, Fits, IsEntryFor, IsTrueOf, all_take, first_free, Plan, carried_behind, history_of, opening_behind, public_entry, public_log, public_stamp, stamp_limit, IsEpochPlan, ExpectedOne, IsEpochHistory, public_answer, public_call, public_note, public_of, not_below}
-use Rattle.partial_model.specs.declared.call.Call.TheVariants as call
+use Rattle.partial_epochs.proofs.{Common.{ℕ, zero, suc, ◌≡◌, ◌≢◌, ◌+◌, ◌*◌, ◌<◌, ◌≤◌, ◌⊎◌, ◌++◌, Bool, cond, Option, Some, None, IfSome, IsSome, List, [], ◌∷◌, length, map, take, slice_get, Contains, refl, sym, ap, subst, ◌∙◌, inl, inr, arith, length-append, AllByRecursion, option_map, option_map_or, lt-ltb, length-map, Applied, Opening, Call, Note, initial_stamp, last_entry, stamp_of, value_of, AreCollects, Fits, IsEntryFor, IsTrueOf, all_take, first_free, Plan, carried_behind, history_of, opening_behind, public_entry, public_log, public_stamp, stamp_limit, IsEpochPlan, ExpectedOne, IsEpochHistory, public_answer, public_call, public_note, public_of, not_below}, Continue.{epochs_continue, history_took, last_all, many}}
 use Rattle.partial_model.specs.declared.call.Answer.{Answer}
-use Rattle.partial_model.specs.declared.call.Answer.TheVariants as answer
-use Rattle.partial_model.specs.declared.call.Note.TheVariants as note
-use Rattle.partial_epochs.proofs.Continue.{epochs_continue, history_took, last_all, many}
 
 -- the entry at a place behind others
 pub get_past : {A : Type 0} (a b : List A) (k : ℕ) → slice_get (a ++ b) (length a + k) ≡ slice_get b k
@@ -152,19 +148,19 @@ module _ (e : Plan) (plan : IsEpochPlan e) (before : List (List Applied)) (h : L
     pub public_true : (p : ℕ) (c : Call) (a : Answer) (n : Note) → Fits (length (opening_behind e.opening before).values) c a (Some n) → ExpectedOne (opening_behind e.opening before) h c a →
         IsTrueOf (opening_behind e.opening before) h p c a n →
         IsTrueOf e.opening (history_of (h ∷ before)) p (public_call e before c) (public_answer e before c a) (public_note (length (history_of before)) n)
-    public_true p (call.Update j v) (answer.Applied s) (note.Wrote k) f x w = entry_public k (record { port = p; component = j; value = v; stamp = s }) w
-    public_true p (call.Update j v) (answer.Lost by) (note.Lost k) f x w = entry_for k j by w
-    public_true p (call.Scan js) (answer.Scanned vs c b) (note.Saw n) f x w = record {
+    public_true p (Call.Update j v) (Answer.Applied s) (Note.Wrote k) f x w = entry_public k (record { port = p; component = j; value = v; stamp = s }) w
+    public_true p (Call.Update j v) (Answer.Lost by) (Note.Lost k) f x w = entry_for k j by w
+    public_true p (Call.Scan js) (Answer.Scanned vs c b) (Note.Saw n) f x w = record {
       within = longer n w.within;
       values = w.values ∙ values_public n js f;
       collects = collects_public (length js) c b w.collects;
       borrowed = borrowed_public n js b w.borrowed;
     }
-    public_true p (call.Read j) (answer.Read v s) (note.Saw n) f x w =
+    public_true p (Call.Read j) (Answer.Read v s) (Note.Saw n) f x w =
         (longer n w.0, w.1 ∙ value_public n j (inside j f), ap (public_of e before j) w.2 ∙ stamp_public n j (inside j f))
-    public_true p (call.UpdateIf j y v) (answer.Applied s) (note.Wrote k) f x w =
+    public_true p (Call.UpdateIf j y v) (Answer.Applied s) (Note.Wrote k) f x w =
         (entry_public k (record { port = p; component = j; value = v; stamp = s }) w.0, sym (stamp_public k j (inside j f)) ∙ ap (public_of e before j) w.1)
-    public_true p (call.UpdateIf j y v) (answer.Changed t) (note.Saw n) f x w = (
+    public_true p (Call.UpdateIf j y v) (Answer.Changed t) (Note.Saw n) f x w = (
       longer n w.0,
       sym (stamp_public n j (inside j f)) ∙ ap (public_of e before j) w.1,
       apart_public j t y (inside j f) (subst (IsStampOf j) w.1 (had n j)) (subst (IsStampOf j) (sym x.2) (had x.0 j)) w.2,
@@ -173,10 +169,10 @@ module _ (e : Plan) (plan : IsEpochPlan e) (before : List (List Applied)) (h : L
 
     pub public_fits : (c : Call) (a : Answer) (n : Note) → Fits (length (opening_behind e.opening before).values) c a (Some n) →
         Fits (length e.opening.values) (public_call e before c) (public_answer e before c a) (Some (public_note (length (history_of before)) n))
-    public_fits (call.Update j v) (answer.Applied s) (note.Wrote k) f = subst (λ m. j < m) (many e.opening before) f
-    public_fits (call.Update j v) (answer.Lost by) (note.Lost k) f = subst (λ m. j < m) (many e.opening before) f
-    public_fits (call.Scan js) (answer.Scanned vs c b) (note.Saw n) f = subst (λ m. AllByRecursion (λ j. j < m) js) (many e.opening before) f
-    public_fits (call.Read j) (answer.Read v s) (note.Saw n) f = subst (λ m. j < m) (many e.opening before) f
-    public_fits (call.UpdateIf j y v) (answer.Applied s) (note.Wrote k) f = subst (λ m. j < m) (many e.opening before) f
-    public_fits (call.UpdateIf j y v) (answer.Changed t) (note.Saw n) f = subst (λ m. j < m) (many e.opening before) f
+    public_fits (Call.Update j v) (Answer.Applied s) (Note.Wrote k) f = subst (λ m. j < m) (many e.opening before) f
+    public_fits (Call.Update j v) (Answer.Lost by) (Note.Lost k) f = subst (λ m. j < m) (many e.opening before) f
+    public_fits (Call.Scan js) (Answer.Scanned vs c b) (Note.Saw n) f = subst (λ m. AllByRecursion (λ j. j < m) js) (many e.opening before) f
+    public_fits (Call.Read j) (Answer.Read v s) (Note.Saw n) f = subst (λ m. j < m) (many e.opening before) f
+    public_fits (Call.UpdateIf j y v) (Answer.Applied s) (Note.Wrote k) f = subst (λ m. j < m) (many e.opening before) f
+    public_fits (Call.UpdateIf j y v) (Answer.Changed t) (Note.Saw n) f = subst (λ m. j < m) (many e.opening before) f
     public_fits _ _ _ f = absurd f

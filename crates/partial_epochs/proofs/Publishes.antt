@@ -1,15 +1,6 @@
 -- The exchange of the current word opens the next epoch.
-use Rattle.partial_epochs.proofs.Common.{ℕ, zero, suc, ◌≡◌, ◌≢◌, ◌+◌, ◌-◌, ◌<◌, ◌≤◌, ◌==◌, ◌⊎◌, Bool, true, false, cond, Option, Some, None, IfSome, List, [], ◌∷◌, length, get_or, set, refl, sym, ap, subst, ◌∙◌, inl, inr, arith, option_map, cases_lt, lt-ltb, eqb_tells, get_or-set_same, get_or-set_other, length-set, set-get_or, Applied, Opening, value_of, some_same, Layout, total, first_free, pool_counter, slot_counter, slot_word, set_offset, HasClearRecords, HasClearSlots, Part, fresh_part, fresh_parts, list_of, put, IsToBeSet, Plan, Place, IsSealed, at_word, arena_words, base, carried_word, carried_words, component_words, control_size, control_words, current_word, packed, plain, seal, carried_behind, opening_behind, Control, OwnedArena, Port, Epoch, IsPlaceWord, IsOut, IsOwner, LawfulControl, MayPut, Beside, IsArena, IsFinished, IsNewPart, IsSetting, IsStanding, LawfulEpochs, awaits_slot, controls, numbers, place_now, IsPresent, IsWholeArena, PublishesStayLawful, having_published, next_beside, next_place, next_epoch, resting_arena, OpensOver, Stands, not_below, opening_word, opening_component, pool_opens, slot_opens}
+use Rattle.partial_epochs.proofs.{Common.{ℕ, zero, suc, ◌≡◌, ◌≢◌, ◌+◌, ◌-◌, ◌<◌, ◌≤◌, ◌==◌, ◌⊎◌, Bool, true, false, cond, Option, Some, None, IfSome, List, [], ◌∷◌, length, get_or, set, refl, sym, ap, subst, ◌∙◌, inl, inr, arith, option_map, cases_lt, lt-ltb, eqb_tells, get_or-set_same, get_or-set_other, length-set, set-get_or, Applied, Opening, value_of, some_same, Layout, total, first_free, pool_counter, slot_counter, slot_word, set_offset, HasClearRecords, HasClearSlots, Part, fresh_part, fresh_parts, list_of, put, IsToBeSet, Plan, Place, IsSealed, at_word, arena_words, base, carried_word, carried_words, component_words, control_size, control_words, current_word, packed, plain, seal, carried_behind, opening_behind, Control, OwnedArena, Port, Epoch, IsPlaceWord, IsOut, IsOwner, LawfulControl, MayPut, Beside, IsArena, IsFinished, IsNewPart, IsSetting, IsStanding, LawfulEpochs, awaits_slot, controls, numbers, place_now, IsPresent, IsWholeArena, PublishesStayLawful, having_published, next_beside, next_place, next_epoch, resting_arena, OpensOver, Stands, not_below, opening_word, opening_component, pool_opens, slot_opens}, ClearRecords.{opens_by_set, records_before}, Entering.{control_lifted, current_is, cw_long, high_arenaed, high_clear, high_records}, Lists.{at_of, count_none, length_of, put_all, put_other, put_same, set_of}, Opens.opens_over, Owning.{knows_more, out_then}, Places.{offset_back, offset_low, offset_to_be_set, packed_arena, set_high, set_low}, Present.{present, same_place}, Publishing.published, Worded.{component_at, plain_at, plain_component, plain_other}}
 use Rattle.partial_core.specs.Lawful as one
-use Rattle.partial_epochs.proofs.ClearRecords.{opens_by_set, records_before}
-use Rattle.partial_epochs.proofs.Entering.{control_lifted, current_is, cw_long, high_arenaed, high_clear, high_records}
-use Rattle.partial_epochs.proofs.Lists.{at_of, count_none, length_of, put_all, put_other, put_same, set_of}
-use Rattle.partial_epochs.proofs.Opens.{opens_over}
-use Rattle.partial_epochs.proofs.Owning.{knows_more, out_then}
-use Rattle.partial_epochs.proofs.Places.{offset_back, offset_low, offset_to_be_set, packed_arena, set_high, set_low}
-use Rattle.partial_epochs.proofs.Present.{present, same_place}
-use Rattle.partial_epochs.proofs.Publishing.{published}
-use Rattle.partial_epochs.proofs.Worded.{component_at, plain_at, plain_component, plain_other}
 
 -- what an epoch opens with has a value for each component, and the same first stamp
 values_long : (o : Opening) (before : List (List Applied)) → length (opening_behind o before).values ≡ length o.values

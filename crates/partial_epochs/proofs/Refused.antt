@@ -1,8 +1,6 @@
 -- What a broken variant of the steps leads to is no lawful state.
-use Rattle.partial_epochs.proofs.Common.{◌≡◌, Some, None, length, sym, ap, ◌∙◌, arith, option_map, at_word, Epoch, next_epoch}
+use Rattle.partial_epochs.proofs.{Common.{◌≡◌, Some, None, length, sym, ap, ◌∙◌, arith, option_map, at_word, Epoch, next_epoch}, Entering.cw_at, Lists.{put_other, put_same}}
 use Rattle.partial_epochs.specs.Variants.{PublishingUnsealedIsUnlawful, PuttingIntoResetIsUnlawful, ResettingCurrentIsUnlawful, ResettingPinnedIsUnlawful, UnsealingIsUnlawful}
-use Rattle.partial_epochs.proofs.Entering.{cw_at}
-use Rattle.partial_epochs.proofs.Lists.{put_other, put_same}
 
 none_some : {A : Type 0} (x : A) → None ≡ Some x → ⊥
 none_some x e = cc

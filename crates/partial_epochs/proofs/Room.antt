@@ -1,12 +1,8 @@
 -- No machine is marked for the pool nor for the slots, and none is refused.
-use Rattle.partial_epochs.proofs.Common.{Option, ℕ, ◌≡◌, ◌≢◌, ◌<◌, Bool, true, false, Some, List, refl, sym, ap, subst, ◌∙◌, inl, inr, arith, ◌||◌, Opening, all_at, Step, answer_of, words_after, Reply, CoreState, advance, reply_of, IsTied, IsMachineOf, Part, PartAmong, core_of, holdings, joined_since, put, Plan, arena_words, carried_words, component_words, placed_step, opening_behind, Control, Epoch, Port, Stands, Beside, IsArena, IsStanding, LawfulEpochs, HaveSlots, MachineLeads, MachinesAreNeverRefused, MarksNeverCome, holding_in, memory_at, PoolWords, Slots}
+use Rattle.partial_epochs.proofs.{Common.{Option, ℕ, ◌≡◌, ◌≢◌, ◌<◌, Bool, true, false, Some, List, refl, sym, ap, subst, ◌∙◌, inl, inr, arith, ◌||◌, Opening, all_at, Step, answer_of, words_after, Reply, CoreState, advance, reply_of, IsTied, IsMachineOf, Part, PartAmong, core_of, holdings, joined_since, put, Plan, arena_words, carried_words, component_words, placed_step, opening_behind, Control, Epoch, Port, Stands, Beside, IsArena, IsStanding, LawfulEpochs, HaveSlots, MachineLeads, MachinesAreNeverRefused, MarksNeverCome, holding_in, memory_at, PoolWords, Slots}, Lists.{Around, around_of, put_same}, Slots.pool_within}
 use Rattle.partial_model.specs.declared.call.Refused.{Refused}
-use Rattle.partial_model.specs.declared.call.Refused.TheVariants as refused
-use Rattle.partial_machine.specs.declared.stage.Reply.TheVariants as reply
 use Rattle.partial_machine.specs.Behind.{refuses_pool, refuses_slots}
 use Rattle.partial_core.specs.Lawful as one
-use Rattle.partial_epochs.proofs.Lists.{Around, around_of, put_same}
-use Rattle.partial_epochs.proofs.Slots.{pool_within}
 
 pub not_true : (b : Bool) → (b ≡ true → ⊥) → b ≡ false
 not_true true h = absurd (h refl)
@@ -79,13 +75,13 @@ module _ (e : Plan) (words : List ℕ) (ports : ℕ → Port) (b : Beside) (k : 
       (subst (λ (p : Port). p.control.entering ≡ Stands) (sym here) (ap (λ (t : Control). t.entering) lead.control ∙ stands)) have c'
       (subst (λ (p : Port). IsMachineOf c' p.part) (sym here) (inr lead.tells.machine))
 
-  pub unrefused : (cause : Refused) → reply_of c' ≢ Some (reply.Refused cause)
-  unrefused refused.Component is = (lead.tells.behind.refused_by refused.Component is).0
-  unrefused refused.PoolSpent is =
+  pub unrefused : (cause : Refused) → reply_of c' ≢ Some (Reply.Refused cause)
+  unrefused Refused.Component is = (lead.tells.behind.refused_by Refused.Component is).0
+  unrefused Refused.PoolSpent is =
       let on : c'.pool_spent ≡ true = lead.tells.behind.pool ∙ ap (λ (t : Option Reply). refuses_pool t || c.pool_spent) is in
       let bad : true ≡ false = sym on ∙ unmarked_then.0 in
       absurd cc
-  unrefused refused.SlotsSpent is =
+  unrefused Refused.SlotsSpent is =
       let on : c'.slots_spent ≡ true = lead.tells.behind.slots ∙ ap (λ (t : Option Reply). refuses_slots t || c.slots_spent) is in
       let bad : true ≡ false = sym on ∙ unmarked_then.1 in
       absurd cc

@@ -1,8 +1,6 @@
 -- What is known of a port that stands in an epoch, and what a port has seen of the one history.
-use Rattle.partial_epochs.proofs.Common.{ℕ, ◌≡◌, ◌≢◌, ◌<◌, ◌≤◌, ◌++◌, List, [], ◌∷◌, length, drop, sym, ap, subst, ◌∙◌, inl, inr, arith, length-append, append_assoc, AllByRecursion, eqb_tells, map-append, take-append-drop, Applied, all_at, all_back, some_same, Part, port_of, holdings, IsKnown, lawful_ports_fit, list_of, Plan, arena_words, carried_words, component_words, history_of, opening_behind, public_entry, public_log, Epoch, Port, Beside, IsArena, IsStanding, LawfulEpochs, IsEpochHistory, EpochReached, one_history, FitsHistory}
+use Rattle.partial_epochs.proofs.{Common.{ℕ, ◌≡◌, ◌≢◌, ◌<◌, ◌≤◌, ◌++◌, List, [], ◌∷◌, length, drop, sym, ap, subst, ◌∙◌, inl, inr, arith, length-append, append_assoc, AllByRecursion, eqb_tells, map-append, take-append-drop, Applied, all_at, all_back, some_same, Part, port_of, holdings, IsKnown, lawful_ports_fit, list_of, Plan, arena_words, carried_words, component_words, history_of, opening_behind, public_entry, public_log, Epoch, Port, Beside, IsArena, IsStanding, LawfulEpochs, IsEpochHistory, EpochReached, one_history, FitsHistory}, Lists.{Around, around_of}, OneHistory.{history_grows, present_history}}
 use Rattle.partial_core.proofs.Parts.{seen_within as no_longer}
-use Rattle.partial_epochs.proofs.Lists.{Around, around_of}
-use Rattle.partial_epochs.proofs.OneHistory.{history_grows, present_history}
 
 -- an epoch with more entries
 pub history_longer : (a c : List Applied) (before : List (List Applied)) → history_of ((a ++ c) ∷ before) ≡ history_of (a ∷ before) ++ public_log (length before) c

@@ -1,10 +1,6 @@
 -- What a port has seen of its epoch it finds in the words of its arena.
-use Rattle.partial_epochs.proofs.Common.{ℕ, ◌≡◌, ◌+◌, ◌<◌, ◌≤◌, List, length, take, get_or, sym, ap, subst, ◌∙◌, arith, Applied, Opening, stamp_of, value_of, stamp_all, take_within, total, RecordsAreWithin, lawful_records_are_within, list_of, Plan, arena_words, base, opening_behind, Port, Beside, IsStanding, LawfulEpochs, IsSeenRecord, SeenRecordsStay, value_behind_stamp, value_word, view_word}
+use Rattle.partial_epochs.proofs.{Common.{ℕ, ◌≡◌, ◌+◌, ◌<◌, ◌≤◌, List, length, take, get_or, sym, ap, subst, ◌∙◌, arith, Applied, Opening, stamp_of, value_of, stamp_all, take_within, total, RecordsAreWithin, lawful_records_are_within, list_of, Plan, arena_words, base, opening_behind, Port, Beside, IsStanding, LawfulEpochs, IsSeenRecord, SeenRecordsStay, value_behind_stamp, value_word, view_word}, Continue.{all_taken, carried_there, epoch_behind}, Places.below_whole, Seats.{known, seen_few}, Worded.{plain_at, plain_other}}
 use Rattle.partial_core.specs.Lawful as one
-use Rattle.partial_epochs.proofs.Continue.{all_taken, carried_there, epoch_behind}
-use Rattle.partial_epochs.proofs.Places.{below_whole}
-use Rattle.partial_epochs.proofs.Seats.{known, seen_few}
-use Rattle.partial_epochs.proofs.Worded.{plain_at, plain_other}
 
 module _ (e : Plan) (words : List ℕ) (ports : ℕ → Port) (b : Beside) (k j : ℕ) (w : LawfulEpochs e words ports b) (below : k < e.ports) (inside : j < e.sizes.m) (s : IsStanding b k (ports k)) where
   abbrev x : ℕ

@@ -1,10 +1,5 @@
 -- A word of an owned arena is set.
-use Rattle.partial_epochs.proofs.Common.{ℕ, ◌≡◌, ◌≢◌, ◌+◌, ◌-◌, ◌<◌, ◌≤◌, Bool, cond, Option, Some, None, IfSome, List, length, get_or, set, refl, sym, ap, subst, ◌∙◌, inl, inr, arith, option_map, cases_lt, lt-ltb, eqb_tells, get_or-set_other, length-set, first_free, total, put, IsToBeSet, Plan, Place, IsPlace, at_word, arena_words, base, carried_word, carried_words, component_words, control_size, control_words, current_word, packed, plain, span, set_word, Control, OwnedArena, Port, Epoch, IsPlaceWord, IsStillMarked, IsOwner, LawfulControl, MayPut, NotInto, Beside, IsArena, IsNewPart, IsSetting, IsStanding, LawfulEpochs, controls, next_epoch_word, numbers, place_now, SetsStayLawful, having_set, vacated, Stands, Loaded, ClearSlotsCountAsSet, ClearsSlots, HasClearRecords, HasClearSlots, set-get_or, slot_counter, slot_word, ◌∷◌, carried_behind, opening_behind, set_offset, opening_word, slots_open}
-use Rattle.partial_epochs.proofs.ClearRecords.{records_before, records_same}
-use Rattle.partial_epochs.proofs.Lists.{put_all, put_other, put_same, same_of}
-use Rattle.partial_epochs.proofs.Owning.{knows_more}
-use Rattle.partial_epochs.proofs.Places.{bases_up, counter_number, packed_arena, set_apart, set_place, slot_number, slot_offset, slot_set}
-use Rattle.partial_epochs.proofs.Worded.{plain_at, plain_other}
+use Rattle.partial_epochs.proofs.{Common.{ℕ, ◌≡◌, ◌≢◌, ◌+◌, ◌-◌, ◌<◌, ◌≤◌, Bool, cond, Option, Some, None, IfSome, List, length, get_or, set, refl, sym, ap, subst, ◌∙◌, inl, inr, arith, option_map, cases_lt, lt-ltb, eqb_tells, get_or-set_other, length-set, first_free, total, put, IsToBeSet, Plan, Place, IsPlace, at_word, arena_words, base, carried_word, carried_words, component_words, control_size, control_words, current_word, packed, plain, span, set_word, Control, OwnedArena, Port, Epoch, IsPlaceWord, IsStillMarked, IsOwner, LawfulControl, MayPut, NotInto, Beside, IsArena, IsNewPart, IsSetting, IsStanding, LawfulEpochs, controls, next_epoch_word, numbers, place_now, SetsStayLawful, having_set, vacated, Stands, Loaded, ClearSlotsCountAsSet, ClearsSlots, HasClearRecords, HasClearSlots, set-get_or, slot_counter, slot_word, ◌∷◌, carried_behind, opening_behind, set_offset, opening_word, slots_open}, ClearRecords.{records_before, records_same}, Lists.{put_all, put_other, put_same, same_of}, Owning.knows_more, Places.{bases_up, counter_number, packed_arena, set_apart, set_place, slot_number, slot_offset, slot_set}, Worded.{plain_at, plain_other}}
 
 -- an arena that port k owns, of which all ports are out, holds no epoch
 module _ (e : Plan) (words : List ℕ) (cs : ℕ → Control) (now : Place) (holds : ℕ → Option ℕ) (w : LawfulControl e words cs now holds) (k : ℕ) (below : k < e.ports) (o : OwnedArena)

@@ -1,13 +1,7 @@
 -- The steps that aren't a machine's keep the notes lawful, and a port notes what it has seen by a look.
-use Rattle.partial_epochs.proofs.Common.{ℕ, ◌≡◌, ◌≢◌, ◌+◌, ◌<◌, ◌≤◌, ◌==◌, ◌⊎◌, ◌++◌, true, false, Option, IfSome, List, [], ◌∷◌, length, refl, sym, ap, subst, ◌∙◌, inl, inr, arith, length-append, AllByRecursion, eqb_tells, append-nil, length-map, Applied, Note, IsLegal, IsTrueOf, LegalNotes, Noted, place_of, seen_after, seen_by, EachOnce, places_by, places_written, wrote, some_same, words_after, Exchange, Part, PartAmong, port_of, with_seen, looks_stay_lawful, count, list_of, put, Place, Plan, arena_words, at_word, carried_words, component_words, marked, packed, history_of, opening_behind, public_entry, public_log, Epoch, Port, Stands, Beside, IsArena, IsStanding, LawfulEpochs, awaits_slot, arrived_port, having_published, next_beside, ArrivalsKeepNotes, AsidesStayLawful, GlanceLeads, GlancesStayLawful, IsEpochHistory, IsSight, LawfulMemory, LawfulNotes, PublishesKeepNotes, EpochReached, SightLeads, SightsStayLawful, having_seen, noting, one_history, seen_of, IsTrueOf-grows, LegalNotes-push, places_written-append, seen_by-push}
-use Rattle.partial_model.specs.declared.call.Note.TheVariants as note
+use Rattle.partial_epochs.proofs.{Common.{ℕ, ◌≡◌, ◌≢◌, ◌+◌, ◌<◌, ◌≤◌, ◌==◌, ◌⊎◌, ◌++◌, true, false, Option, IfSome, List, [], ◌∷◌, length, refl, sym, ap, subst, ◌∙◌, inl, inr, arith, length-append, AllByRecursion, eqb_tells, append-nil, length-map, Applied, Note, IsLegal, IsTrueOf, LegalNotes, Noted, place_of, seen_after, seen_by, EachOnce, places_by, places_written, wrote, some_same, words_after, Exchange, Part, PartAmong, port_of, with_seen, looks_stay_lawful, count, list_of, put, Place, Plan, arena_words, at_word, carried_words, component_words, marked, packed, history_of, opening_behind, public_entry, public_log, Epoch, Port, Stands, Beside, IsArena, IsStanding, LawfulEpochs, awaits_slot, arrived_port, having_published, next_beside, ArrivalsKeepNotes, AsidesStayLawful, GlanceLeads, GlancesStayLawful, IsEpochHistory, IsSight, LawfulMemory, LawfulNotes, PublishesKeepNotes, EpochReached, SightLeads, SightsStayLawful, having_seen, noting, one_history, seen_of, IsTrueOf-grows, LegalNotes-push, places_written-append, seen_by-push}, Change.{Changes, beside_then, change_kept}, Lists.{Around, around_of, count_same, put_all, put_other, put_same}, OneHistory.{history_grows, present_history}, Present.standing, Seats.{among, reached, reached_grows, seen_few}}
 use Rattle.partial_core.specs.Lawful as one
 use Rattle.partial_core.specs.Ports.{Looks}
-use Rattle.partial_epochs.proofs.Change.{Changes, beside_then, change_kept}
-use Rattle.partial_epochs.proofs.Lists.{Around, around_of, count_same, put_all, put_other, put_same}
-use Rattle.partial_epochs.proofs.OneHistory.{history_grows, present_history}
-use Rattle.partial_epochs.proofs.Present.{standing}
-use Rattle.partial_epochs.proofs.Seats.{among, reached, reached_grows, seen_few}
 
 -- one port comes to have seen more, and the one history is as before
 module _ (e : Plan) (ports : ℕ → Port) (b c : Beside) (notes : ℕ → List Noted) (k : ℕ) (p : Port) (w : LawfulNotes e ports b notes) (below : k < e.ports) (same : one_history c ≡ one_history b)
@@ -208,7 +202,7 @@ module _ (e : Plan) (words : List ℕ) (ports : ℕ → Port) (b : Beside) (note
         let am = among e words ports b w.epochs k below (ports k) st in
         let g = history_grows am.0 (st.epoch.log ∷ (ports k).before) in
         let all : one_history b ≡ history_of (st.epoch.log ∷ (ports k).before) ++ g.0 = ap history_of am.1 ∙ g.1 in
-        let saw : Note = note.Saw (length (history_of (ports k).before) + i) in (
+        let saw : Note = Note.Saw (length (history_of (ports k).before) + i) in (
           h.fits,
           subst (λ (t : Option Note). IfSome t (λ (u : Note). IsTrueOf e.opening (one_history b) k n.call n.answer u × (seen_by 0 (notes k) ≤ place_of u))) (sym h.noted) (
             subst (λ (l : List Applied). IsTrueOf e.opening l k n.call n.answer saw) (sym all)

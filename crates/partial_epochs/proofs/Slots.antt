@@ -1,13 +1,10 @@
 -- Each slot that is claimed, or that a port has yet to claim, follows two words claimed of the pool.
-use Rattle.partial_epochs.proofs.Common.{ℕ, ◌≡◌, ◌+◌, ◌*◌, ◌%◌, ◌^◌, ◌<◌, ◌≤◌, ◌==◌, ◌⊎◌, Bool, true, false, cond, Option, Some, None, List, length, get_or, refl, sym, ap, subst, ◌∙◌, inl, inr, arith, ⊤, nat_lt, is_some, option_map_or, get_or-set_same, get_or-set_other, mul-le-mul_left, some_same, Step, Load, Store, Exchange, Add, Layout, IsLayout, list_counter, pool_counter, pool_end, slot_counter, slot_word, greatest_record, words_after, CoreState, advance, advance_at, after_joining, at_stage, begin_getting, expects, fits_pool, getting, pool_refused, record_size, scanning, step_at, step_of, with_getting, with_scanning, is_at_rest, is_begun, IsSound, is_sound_at, IsMachineOf, Part, core_of, Plan, count, Epoch, IsArena, IsEpochPlan, awaits_at, awaits_slot, is_claiming, announcement_size, least_announcement, join_after, join_step, JoinStage, Claiming, Storing, Joined, Spent, Change, Stage, Idle, ReadBegun, LoadingValue, UpdateBegun, GettingSet, Viewing, ClaimingRecord, StoringRecord, Exchanging, ScanBegun, StoringAnnouncement, Joining, Scanning, Leaving, Finished, size_few, view_loads}
+use Rattle.partial_epochs.proofs.{Common.{ℕ, ◌≡◌, ◌+◌, ◌*◌, ◌%◌, ◌^◌, ◌<◌, ◌≤◌, ◌==◌, ◌⊎◌, Bool, true, false, cond, Option, Some, None, List, length, get_or, refl, sym, ap, subst, ◌∙◌, inl, inr, arith, ⊤, nat_lt, is_some, option_map_or, get_or-set_same, get_or-set_other, mul-le-mul_left, some_same, Step, Load, Store, Exchange, Add, Layout, IsLayout, list_counter, pool_counter, pool_end, slot_counter, slot_word, greatest_record, words_after, CoreState, advance, advance_at, after_joining, at_stage, begin_getting, expects, fits_pool, getting, pool_refused, record_size, scanning, step_at, step_of, with_getting, with_scanning, is_at_rest, is_begun, IsSound, is_sound_at, IsMachineOf, Part, core_of, Plan, count, Epoch, IsArena, IsEpochPlan, awaits_at, awaits_slot, is_claiming, announcement_size, least_announcement, join_after, join_step, JoinStage, Claiming, Storing, Joined, Spent, Change, Stage, Idle, ReadBegun, LoadingValue, UpdateBegun, GettingSet, Viewing, ClaimingRecord, StoringRecord, Exchanging, ScanBegun, StoringAnnouncement, Joining, Scanning, Leaving, Finished, size_few, view_loads, Reply}, Apart.IsApart, Lists.count_few}
 use Rattle.partial_active.specs.declared.get_set.Stage.{Stage as SetStage}
 use Rattle.partial_active.specs.declared.get_set.Stage.TheVariants as set_stage
 use Rattle.partial_active.specs.GetSet as finding
 use Rattle.partial_embedded.specs.declared.embedded.Stage.{Stage as ViewStage}
 use Rattle.partial_embedded.specs.Embedded as viewing
-use Rattle.partial_machine.specs.declared.stage.Reply.TheVariants as reply
-use Rattle.partial_epochs.proofs.Apart.{IsApart}
-use Rattle.partial_epochs.proofs.Lists.{count_few}
 
 -- whether a machine has yet to claim a slot
 abbrev pub awaits : CoreState → Bool
@@ -177,7 +174,7 @@ module _ (s : CoreState) (sizes : IsLayout s.sizes) (sound : IsSound s) (words :
   counted_at Idle is here step due apart = absurd cc
   counted_at (ReadBegun j) is here step due apart = silent (ReadBegun j) step false refl apart (subst (IsQuiet s.sizes) (some_same due) tt)
   counted_at (LoadingValue stamp) is here step due apart = silent (LoadingValue stamp) step false refl apart (subst (IsQuiet s.sizes) (some_same due) tt)
-  counted_at (UpdateBegun c) is here step due apart = silent (UpdateBegun c) step false (either_none (expects c x) (begin_getting s c x) (at_stage s (Finished (reply.Changed x))) refl refl) apart
+  counted_at (UpdateBegun c) is here step due apart = silent (UpdateBegun c) step false (either_none (expects c x) (begin_getting s c x) (at_stage s (Finished (Reply.Changed x))) refl refl) apart
       (subst (IsQuiet s.sizes) (some_same due) tt)
   counted_at (GettingSet c old) is here step due apart =
       let t : CoreState = with_getting s (finding.advance_set (getting s) x) in

@@ -1,10 +1,5 @@
 -- A port takes an arena and gives it back, finds the others elsewhere, and loads their marks.
-use Rattle.partial_epochs.proofs.Common.{ℕ, ◌≡◌, ◌≢◌, ◌+◌, ◌<◌, ◌≤◌, ◌==◌, ◌⊎◌, Bool, true, false, cond, Option, Some, None, IfSome, List, length, get_or, set, refl, sym, ap, subst, ◌∙◌, inl, inr, arith, eqb_tells, get_or-set_same, get_or-set_other, length-set, put, Plan, Place, IsPlace, at_word, control_size, control_words, current_word, entering_mark, marked, own_word, packed, arena_limit, Control, Entering, OwnedArena, Port, Stands, Marks, Loaded, IsPlaceWord, IsEarlier, IsOut, IsOwner, LawfulControl, MayPut, Beside, IsSetting, IsStanding, LawfulEpochs, controls, numbers, place_now, GivesStayLawful, MarksAreLoaded, OthersAreElsewhere, OwnersLookAway, TakesStayLawful, at_next_port, having_given, having_loaded, having_put, just_taken, owning_port, having_passed}
-use Rattle.partial_epochs.proofs.Entering.{control_lifted, current_is, cw_at, cw_long, not_marked}
-use Rattle.partial_epochs.proofs.Lists.{put_all, set_of}
-use Rattle.partial_epochs.proofs.Owning.{knows_more}
-use Rattle.partial_epochs.proofs.Places.{packed_arena}
-use Rattle.partial_epochs.proofs.Present.{same_place}
+use Rattle.partial_epochs.proofs.{Common.{ℕ, ◌≡◌, ◌≢◌, ◌+◌, ◌<◌, ◌≤◌, ◌==◌, ◌⊎◌, Bool, true, false, cond, Option, Some, None, IfSome, List, length, get_or, set, refl, sym, ap, subst, ◌∙◌, inl, inr, arith, eqb_tells, get_or-set_same, get_or-set_other, length-set, put, Plan, Place, IsPlace, at_word, control_size, control_words, current_word, entering_mark, marked, own_word, packed, arena_limit, Control, Entering, OwnedArena, Port, Stands, Marks, Loaded, IsPlaceWord, IsEarlier, IsOut, IsOwner, LawfulControl, MayPut, Beside, IsSetting, IsStanding, LawfulEpochs, controls, numbers, place_now, GivesStayLawful, MarksAreLoaded, OthersAreElsewhere, OwnersLookAway, TakesStayLawful, at_next_port, having_given, having_loaded, having_put, just_taken, owning_port, having_passed}, Entering.{control_lifted, current_is, cw_at, cw_long, not_marked}, Lists.{put_all, set_of}, Owning.knows_more, Places.packed_arena, Present.same_place}
 
 -- the owner word of an arena that nobody owns is set
 module _ (e : Plan) (words : List ℕ) (cs : ℕ → Control) (now : Place) (holds : ℕ → Option ℕ) (w : LawfulControl e words cs now holds) (x v : ℕ)

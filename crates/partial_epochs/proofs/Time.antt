@@ -1,8 +1,5 @@
 -- An entering port comes to no older epoch than the one that was the current one as it stored its mark.
-use Rattle.partial_epochs.proofs.Common.{ℕ, ◌≡◌, ◌≢◌, ◌+◌, ◌%◌, ◌^◌, ◌<◌, ◌≤◌, ◌==◌, ◌⊎◌, Bool, true, false, cond, Some, None, List, get_or, set, refl, sym, ap, subst, ◌∙◌, inl, inr, arith, eqb_tells, get_or-set_same, get_or-set_other, some_same, words_after, Step, Load, Store, Exchange, Add, put, IsPlace, Place, Plan, at_word, base, control_words, current_word, marked, packed, placed_step, set_word, Control, OwnedArena, Port, Marks, Loaded, IsPlaceWord, IsEarlier, MayPut, Beside, LawfulEpochs, place_now, arrived_port, having_loaded, having_looked, having_put, owning_port, having_published, next_place, ArrivalsKeepTime, AsidesKeepTime, EntriesKeepTime, IsBesideTime, KeepsTime, LoadedMarksKeepTime, LooksKeepTime, MarksKeepTime, OpeningsKeepTime, PublishesKeepTime, PutsKeepTime, StepsKeepPlaces}
-use Rattle.partial_epochs.proofs.Entering.{cw_at, current_is, held_mark, marked_epoch, not_marked}
-use Rattle.partial_epochs.proofs.Lists.{put_all, put_other, put_same}
-use Rattle.partial_epochs.proofs.Places.{packed_arena}
+use Rattle.partial_epochs.proofs.{Common.{ℕ, ◌≡◌, ◌≢◌, ◌+◌, ◌%◌, ◌^◌, ◌<◌, ◌≤◌, ◌==◌, ◌⊎◌, Bool, true, false, cond, Some, None, List, get_or, set, refl, sym, ap, subst, ◌∙◌, inl, inr, arith, eqb_tells, get_or-set_same, get_or-set_other, some_same, words_after, Step, Load, Store, Exchange, Add, put, IsPlace, Place, Plan, at_word, base, control_words, current_word, marked, packed, placed_step, set_word, Control, OwnedArena, Port, Marks, Loaded, IsPlaceWord, IsEarlier, MayPut, Beside, LawfulEpochs, place_now, arrived_port, having_loaded, having_looked, having_put, owning_port, having_published, next_place, ArrivalsKeepTime, AsidesKeepTime, EntriesKeepTime, IsBesideTime, KeepsTime, LoadedMarksKeepTime, LooksKeepTime, MarksKeepTime, OpeningsKeepTime, PublishesKeepTime, PutsKeepTime, StepsKeepPlaces}, Entering.{cw_at, current_is, held_mark, marked_epoch, not_marked}, Lists.{put_all, put_other, put_same}, Places.packed_arena}
 
 -- an arena that a port owns, and none
 none_some : (o : OwnedArena) → None ≡ Some o → ⊥

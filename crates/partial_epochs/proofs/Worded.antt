@@ -1,8 +1,5 @@
 -- A step of an inner memory that is made in the words of its arena, seen with the seals taken off.
-use Rattle.partial_epochs.proofs.Common.{ℕ, ◌≡◌, ◌≢◌, ◌+◌, ◌%◌, ◌^◌, ◌<◌, ◌≤◌, ◌==◌, ◌⊎◌, Bool, true, false, cond, List, [], ◌∷◌, length, get_or, set, refl, sym, ap, subst, ◌∙◌, inl, inr, arith, nat_lt, AllByRecursion, cases_lt, lt-ltb, eqb_tells, get_or-set_same, get_or-set_other, length-set, set-get_or, Applied, Step, Load, Store, Exchange, Add, total, answer_of, word_of, words_after, added_by, Plan, IsSealed, arena_words, base, component_words, placed_step, plain, seal, seals, unsealed, MeetsSeal, not_below, value_word}
-use Rattle.partial_epochs.proofs.Apart.{IsApart}
-use Rattle.partial_epochs.proofs.Lists.{at_of, same_of, set_of}
-use Rattle.partial_epochs.proofs.Places.{below_whole}
+use Rattle.partial_epochs.proofs.{Common.{ℕ, ◌≡◌, ◌≢◌, ◌+◌, ◌%◌, ◌^◌, ◌<◌, ◌≤◌, ◌==◌, ◌⊎◌, Bool, true, false, cond, List, [], ◌∷◌, length, get_or, set, refl, sym, ap, subst, ◌∙◌, inl, inr, arith, nat_lt, AllByRecursion, cases_lt, lt-ltb, eqb_tells, get_or-set_same, get_or-set_other, length-set, set-get_or, Applied, Step, Load, Store, Exchange, Add, total, answer_of, word_of, words_after, added_by, Plan, IsSealed, arena_words, base, component_words, placed_step, plain, seal, seals, unsealed, MeetsSeal, not_below, value_word}, Apart.IsApart, Lists.{at_of, same_of, set_of}, Places.below_whole}
 
 -- what the step does to the arena
 pub record Words (e : Plan) (words : List ℕ) (x : ℕ) (step : Step) (words' : List ℕ) : Type 0 where

@@ -1,7 +1,6 @@
 -- How many steps a call makes at most, by the sizes, the ports and the arenas.
 use Rattle.std.specs.Prelude.{ℕ, ◌≡◌, ◌+◌, ◌*◌, ◌<◌, ◌≤◌, ◌⊎◌, Bool, true, List, if◌then◌else◌}
 use Rattle.partial_model.specs.declared.call.Call.{Call}
-use Rattle.partial_model.specs.declared.call.Call.TheVariants as call
 use Rattle.partial_words.specs.Layout.{first_free}
 use Rattle.partial_machine.specs.Bounds.{most_of_update, most_steps}
 use Rattle.partial_epochs.specs.Layout.{Plan}
@@ -31,24 +30,24 @@ most_of_change e = 1 + 2 * e.sizes.m + passes e * pass_steps e + opening_steps e
 -- a read makes at most 8 steps
 abbrev pub ReadsMakeEight : Type 0
 ReadsMakeEight = (e : Plan) (k n rounds j : ℕ) (spent : Bool) (p p' : Port) (d : Doing) → k < e.ports →
-    RunsCall e k n p (begun e rounds spent (call.Read j)) p' d → n ≤ 8
+    RunsCall e k n p (begun e rounds spent (Call.Read j)) p' d → n ≤ 8
 
 -- an update that may change the epoch so often: its machine's steps and a change, for each
 abbrev pub UpdatesAreBounded : Type 0
 UpdatesAreBounded = (e : Plan) (k n rounds j v : ℕ) (spent : Bool) (p p' : Port) (d : Doing) → k < e.ports →
-    RunsCall e k n p (begun e rounds spent (call.Update j v)) p' d → n ≤ rounds * (most_of_update e.sizes + most_of_change e)
+    RunsCall e k n p (begun e rounds spent (Call.Update j v)) p' d → n ≤ rounds * (most_of_update e.sizes + most_of_change e)
 
 -- a conditional update loads the word and the stamp of its component in each epoch, and may look and enter once before all
 abbrev pub ConditionalUpdatesAreBounded : Type 0
 ConditionalUpdatesAreBounded = (e : Plan) (k n rounds j x v : ℕ) (spent : Bool) (p p' : Port) (d : Doing) → k < e.ports →
-    RunsCall e k n p (begun e rounds spent (call.UpdateIf j x v)) p' d → n ≤ rounds * (2 + most_of_update e.sizes + most_of_change e) + 6
+    RunsCall e k n p (begun e rounds spent (Call.UpdateIf j x v)) p' d → n ≤ rounds * (2 + most_of_update e.sizes + most_of_change e) + 6
 
 -- a scan makes its machine's steps twice, with a look and the three steps of entering between; or, of a spent port, once behind a
 -- change of epoch
 abbrev pub ScansAreBounded : Type 0
 ScansAreBounded = (e : Plan) (k n rounds : ℕ) (js : List ℕ) (spent : Bool) (p p' : Port) (d : Doing) → k < e.ports →
-    RunsCall e k n p (begun e rounds spent (call.Scan js)) p' d →
-    n ≤ (if spent then most_of_change e + most_steps e.sizes (call.Scan js) else 2 * most_steps e.sizes (call.Scan js) + 4)
+    RunsCall e k n p (begun e rounds spent (Call.Scan js)) p' d →
+    n ≤ (if spent then most_of_change e + most_steps e.sizes (Call.Scan js) else 2 * most_steps e.sizes (Call.Scan js) + 4)
 
 -- a change of epoch, from its first look to where it is, or to where the call goes on behind it
 abbrev pub ChangesAreBounded : Type 0

@@ -3,13 +3,11 @@ use Rattle.std.specs.Prelude.{ℕ, zero, suc, ◌≡◌, ◌<◌, ◌⊎◌, ⊤
 use Rattle.std.specs.List.{list_all}
 use Rattle.partial_model.specs.declared.history.Applied.{Applied}
 use Rattle.partial_model.specs.declared.call.Call.{Call}
-use Rattle.partial_model.specs.declared.call.Call.TheVariants as call
 use Rattle.partial_model.specs.Notes.{Noted, indices_of}
 use Rattle.partial_words.specs.Step.{answer_of}
 use Rattle.partial_words.specs.declared.step.Step.{Step}
 use Rattle.partial_machine.specs.Machine.{CoreState, advance, reply_of}
 use Rattle.partial_machine.specs.declared.stage.Reply.{Reply}
-use Rattle.partial_machine.specs.declared.stage.Reply.TheVariants as reply
 use Rattle.partial_machine.specs.Calls.{call_of}
 use Rattle.partial_epochs.specs.Layout.{IsSealed, Plan, arena_words, component_words}
 use Rattle.partial_epochs.specs.Ports.{Port}
@@ -44,17 +42,17 @@ pub data Doing : Type 0 where
 
 -- a call in an epoch, with so many changes of epoch left: an update with none left is refused
 abbrev pub round : Call → ℕ → Bool → Doing
-round (call.Read j) n fresh = LoadsWord (call.Read j) n fresh
-round (call.Scan js) n fresh = Starts (call.Scan js) n fresh
+round (Call.Read j) n fresh = LoadsWord (Call.Read j) n fresh
+round (Call.Scan js) n fresh = Starts (Call.Scan js) n fresh
 round c zero fresh = Refused Overtaken
-round (call.UpdateIf j x v) (suc n) fresh = LoadsWord (call.UpdateIf j x v) (suc n) fresh
+round (Call.UpdateIf j x v) (suc n) fresh = LoadsWord (Call.UpdateIf j x v) (suc n) fresh
 round c (suc n) fresh = Starts c (suc n) fresh
 
 -- The call where no component is missing. A port is spent in its epoch once it has made a claim past the limit, or once its machine has
 -- met a seal: its scan begins with a change of epoch. A scan of no position is answered at once.
 abbrev pub started : ℕ → Bool → Call → Doing
-started n spent (call.Scan []) = Answered
-started n true (call.Scan js) = Changes (call.Scan js) n LooksFirst
+started n spent (Call.Scan []) = Answered
+started n true (Call.Scan js) = Changes (Call.Scan js) n LooksFirst
 started n spent c = round c n false
 
 -- a call as it begins
@@ -69,32 +67,32 @@ changed c n d = Changes c n d
 
 -- the machine has answered: a scan that isn't fresh looks before it answers
 abbrev pub behind_answer : Call → ℕ → Bool → Doing
-behind_answer (call.Scan js) n false = Looks (call.Scan js) n
+behind_answer (Call.Scan js) n false = Looks (Call.Scan js) n
 behind_answer c n fresh = Answered
 
 -- the machine goes on, or has answered: no machine is refused
 abbrev pub ran : Call → ℕ → Bool → CoreState → Option Reply → Doing
 ran c n fresh s None = Runs c n fresh s
-ran c n fresh s (Some (reply.Applied stamp)) = Answered
+ran c n fresh s (Some (Reply.Applied stamp)) = Answered
 ran c n fresh s (Some r) = behind_answer c n fresh
 
 -- the call of its machine: a conditional update expects there the reference of the stamp
 abbrev pub IsCallOf : Call → Option Call → Type 0
-IsCallOf (call.UpdateIf j x v) m = (y : ℕ) × (m ≡ Some (call.UpdateIf j y v))
+IsCallOf (Call.UpdateIf j x v) m = (y : ℕ) × (m ≡ Some (Call.UpdateIf j y v))
 IsCallOf c m = m ≡ Some c
 
 -- the call is an update, conditional or not
 abbrev pub IsUpdate : Call → Type 0
-IsUpdate (call.Update j v) = ⊤
-IsUpdate (call.UpdateIf j x v) = ⊤
+IsUpdate (Call.Update j v) = ⊤
+IsUpdate (Call.UpdateIf j x v) = ⊤
 IsUpdate c = ⊥
 
 -- the component of a call that has one is sealed
 abbrev pub IsSealedFor : Plan → List ℕ → Port → Call → Type 0
-IsSealedFor e words p (call.Scan js) = ⊥
-IsSealedFor e words p (call.Update j v) = IsSealed (slice_index (component_words e words p.control.here.arena) j)
-IsSealedFor e words p (call.Read j) = IsSealed (slice_index (component_words e words p.control.here.arena) j)
-IsSealedFor e words p (call.UpdateIf j x v) = IsSealed (slice_index (component_words e words p.control.here.arena) j)
+IsSealedFor e words p (Call.Scan js) = ⊥
+IsSealedFor e words p (Call.Update j v) = IsSealed (slice_index (component_words e words p.control.here.arena) j)
+IsSealedFor e words p (Call.Read j) = IsSealed (slice_index (component_words e words p.control.here.arena) j)
+IsSealedFor e words p (Call.UpdateIf j x v) = IsSealed (slice_index (component_words e words p.control.here.arena) j)
 
 -- the machine once its due step is answered by the words of the arena where the port stands
 abbrev pub after_step : Plan → List ℕ → Port → CoreState → Step → CoreState
@@ -103,23 +101,23 @@ after_step e words p s step = advance s (answer_of (arena_words e words p.contro
 -- how a step of a call leads on, by a port with that knowledge and these words
 pub data CallLeads (e : Plan) (words : List ℕ) (p : Port) : Doing → Act → Doing → Type 0 where
   -- a read loads a word that isn't sealed, or reads what was left behind where it has come in this call
-  ReadsWord : (j n : ℕ) (fresh : Bool) → (¬ IsSealedFor e words p (call.Read j)) ⊎ (fresh ≡ true) →
-      CallLeads e words p (LoadsWord (call.Read j) n fresh) Sees (Tells (call.Read j) 1)
-  ReadsSealed : (j n : ℕ) → IsSealedFor e words p (call.Read j) →
-      CallLeads e words p (LoadsWord (call.Read j) n false) Sees (Looks (call.Read j) n)
-  ReadsOn : (j n : ℕ) → IsHere words p → CallLeads e words p (Looks (call.Read j) n) Sees (Tells (call.Read j) 1)
+  ReadsWord : (j n : ℕ) (fresh : Bool) → (¬ IsSealedFor e words p (Call.Read j)) ⊎ (fresh ≡ true) →
+      CallLeads e words p (LoadsWord (Call.Read j) n fresh) Sees (Tells (Call.Read j) 1)
+  ReadsSealed : (j n : ℕ) → IsSealedFor e words p (Call.Read j) →
+      CallLeads e words p (LoadsWord (Call.Read j) n false) Sees (Looks (Call.Read j) n)
+  ReadsOn : (j n : ℕ) → IsHere words p → CallLeads e words p (Looks (Call.Read j) n) Sees (Tells (Call.Read j) 1)
   TellsOn : (c : Call) (i : ℕ) → CallLeads e words p (Tells c (suc i)) Sees (Tells c i)
   TellsAll : (c : Call) (i n : ℕ) (note : Noted) → note.call ≡ c →
       CallLeads e words p (Tells c i) (Moves (every.Move.Notes note n)) Answered
   -- a conditional update goes on to judge the stamp: it finds another one, and says so, or looks before; or it finds the one that it expects
   LoadsStamp : (j x v n : ℕ) (fresh : Bool) →
-      CallLeads e words p (LoadsWord (call.UpdateIf j x v) (suc n) fresh) Sees (Judges (call.UpdateIf j x v) (suc n) fresh)
-  FindsOther : (j x v n i : ℕ) (fresh : Bool) (note : Noted) → note.call ≡ call.UpdateIf j x v →
-      CallLeads e words p (Judges (call.UpdateIf j x v) (suc n) fresh) (Moves (every.Move.Notes note i)) Answered
-  LooksAtOther : (j x v n : ℕ) → IsSealedFor e words p (call.UpdateIf j x v) →
-      CallLeads e words p (Judges (call.UpdateIf j x v) (suc n) false) Sees (Looks (call.UpdateIf j x v) (suc n))
+      CallLeads e words p (LoadsWord (Call.UpdateIf j x v) (suc n) fresh) Sees (Judges (Call.UpdateIf j x v) (suc n) fresh)
+  FindsOther : (j x v n i : ℕ) (fresh : Bool) (note : Noted) → note.call ≡ Call.UpdateIf j x v →
+      CallLeads e words p (Judges (Call.UpdateIf j x v) (suc n) fresh) (Moves (every.Move.Notes note i)) Answered
+  LooksAtOther : (j x v n : ℕ) → IsSealedFor e words p (Call.UpdateIf j x v) →
+      CallLeads e words p (Judges (Call.UpdateIf j x v) (suc n) false) Sees (Looks (Call.UpdateIf j x v) (suc n))
   FindsExpected : (j x v n : ℕ) (fresh : Bool) →
-      CallLeads e words p (Judges (call.UpdateIf j x v) (suc n) fresh) Sees (Starts (call.UpdateIf j x v) (suc n) fresh)
+      CallLeads e words p (Judges (Call.UpdateIf j x v) (suc n) fresh) Sees (Starts (Call.UpdateIf j x v) (suc n) fresh)
   -- a scan, or a conditional update that has found another stamp, looks: its epoch is the current one yet, or it enters and begins again
   LooksAndAnswers : (c : Call) (n i : ℕ) (note : Noted) → note.call ≡ c → IsHere words p →
       CallLeads e words p (Looks c n) (Moves (every.Move.Notes note i)) Answered

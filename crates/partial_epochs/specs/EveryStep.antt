@@ -7,7 +7,6 @@ use Rattle.partial_words.specs.Step.{answer_of, words_after}
 use Rattle.partial_words.specs.declared.step.Step.{Step}
 use Rattle.partial_words.specs.declared.step.Step.TheVariants.{Add, Exchange, Store}
 use Rattle.partial_machine.specs.declared.stage.Reply.{Reply}
-use Rattle.partial_machine.specs.declared.stage.Reply.TheVariants as reply
 use Rattle.partial_machine.specs.Machine.{CoreState, advance, reply_of, step_of}
 use Rattle.partial_core.specs.Part.{IsMachineOf}
 use Rattle.partial_core.specs.Steps.{since_with}
@@ -104,7 +103,7 @@ MayMove e words ports b notes k (Notes n i) = ((ports k).control.entering ≡ St
 
 -- whether the reply is that of an applied update
 abbrev pub is_applied : Option Reply → Bool
-is_applied (Some (reply.Applied stamp)) = true
+is_applied (Some (Reply.Applied stamp)) = true
 is_applied _ = false
 
 -- the move may add an entry to the one history: it is the step by which the machine of an update comes to be applied, and meets no seal

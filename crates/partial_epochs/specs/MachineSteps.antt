@@ -9,7 +9,7 @@ use Rattle.partial_core.specs.Part.{IsMachineOf}
 use Rattle.partial_words.specs.Step.{answer_of, word_of, words_after}
 use Rattle.partial_words.specs.Announcement.{least_announcement}
 use Rattle.partial_model.specs.declared.call.Refused.{Refused}
-use Rattle.partial_machine.specs.declared.stage.Reply.TheVariants as reply
+use Rattle.partial_machine.specs.declared.stage.Reply.{Reply}
 use Rattle.partial_machine.specs.Machine.{CoreState, advance, reply_of, step_of}
 use Rattle.partial_core.specs.Steps.{Tells}
 use Rattle.partial_epochs.specs.Lists.{put}
@@ -98,4 +98,4 @@ MarksNeverCome = (e : Plan) (words : List ℕ) (ports : ℕ → Port) (b : Besid
 abbrev pub MachinesAreNeverRefused : Type 0
 MachinesAreNeverRefused = (e : Plan) (words : List ℕ) (ports : ℕ → Port) (b : Beside) (k : ℕ) (c : CoreState) (step : Step) →
     k < e.ports → (ports k).control.entering ≡ Stands → HaveSlots e → (lead : MachineLeads e words ports b k c step) → (cause : Refused) →
-    reply_of (advance c (answer_of (arena_words e words (ports k).control.here.arena) step)) ≢ Some (reply.Refused cause)
+    reply_of (advance c (answer_of (arena_words e words (ports k).control.here.arena) step)) ≢ Some (Reply.Refused cause)

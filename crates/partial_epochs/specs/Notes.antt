@@ -5,11 +5,8 @@ use Rattle.std.specs.Option.{option_map}
 use Rattle.partial_model.specs.declared.history.Applied.{Applied}
 use Rattle.partial_model.specs.declared.history.Opening.{Opening}
 use Rattle.partial_model.specs.declared.call.Call.{Call}
-use Rattle.partial_model.specs.declared.call.Call.TheVariants as call
 use Rattle.partial_model.specs.declared.call.Answer.{Answer}
-use Rattle.partial_model.specs.declared.call.Answer.TheVariants as answer
 use Rattle.partial_model.specs.declared.call.Note.{Note}
-use Rattle.partial_model.specs.declared.call.Note.TheVariants as note
 use Rattle.partial_model.specs.History.{HaveDistinctStamps, IsHistory, stamp_of}
 use Rattle.partial_model.specs.Notes.{Fits, IsTrueOf, Noted, LegalNotes, seen_by}
 use Rattle.partial_model.specs.Outcome.{EachOnce, places_written}
@@ -84,23 +81,23 @@ public_of e before j s = if nat_lt s (first_free e.sizes) then carried_behind e.
 
 -- a call in an epoch as callers see it: a conditional update expects a public stamp
 abbrev pub public_call : Plan → List (List Applied) → Call → Call
-public_call e before (call.UpdateIf j x v) = call.UpdateIf j (public_of e before j x) v
+public_call e before (Call.UpdateIf j x v) = Call.UpdateIf j (public_of e before j x) v
 public_call e before c = c
 
 -- its answer, with public stamps
 abbrev pub public_answer : Plan → List (List Applied) → Call → Answer → Answer
-public_answer e before (call.UpdateIf j x v) (answer.Changed t) = answer.Changed (public_of e before j t)
-public_answer e before (call.Read j) (answer.Read v s) = answer.Read v (public_of e before j s)
-public_answer e before c (answer.Applied s) = answer.Applied (public_stamp (length before) s)
-public_answer e before c (answer.Lost by) = answer.Lost (public_stamp (length before) by)
-public_answer e before c (answer.Scanned vs n b) = answer.Scanned vs n (option_map (public_stamp (length before)) b)
+public_answer e before (Call.UpdateIf j x v) (Answer.Changed t) = Answer.Changed (public_of e before j t)
+public_answer e before (Call.Read j) (Answer.Read v s) = Answer.Read v (public_of e before j s)
+public_answer e before c (Answer.Applied s) = Answer.Applied (public_stamp (length before) s)
+public_answer e before c (Answer.Lost by) = Answer.Lost (public_stamp (length before) by)
+public_answer e before c (Answer.Scanned vs n b) = Answer.Scanned vs n (option_map (public_stamp (length before)) b)
 public_answer e before c a = a
 
 -- its place in the one history, behind so many entries of the epochs before
 abbrev pub public_note : ℕ → Note → Note
-public_note n (note.Wrote k) = note.Wrote (n + k)
-public_note n (note.Lost k) = note.Lost (n + k)
-public_note n (note.Saw k) = note.Saw (n + k)
+public_note n (Note.Wrote k) = Note.Wrote (n + k)
+public_note n (Note.Lost k) = Note.Lost (n + k)
+public_note n (Note.Saw k) = Note.Saw (n + k)
 
 -- what a port notes over all epochs of a call that it has noted in its epoch
 abbrev pub public_noted : Plan → List (List Applied) → Noted → Noted
@@ -112,7 +109,7 @@ public_noted e before n = record {
 
 -- a conditional update that found another stamp expected one that its component had had in the epoch
 abbrev pub ExpectedOne : Opening → List Applied → Call → Answer → Type 0
-ExpectedOne o h (call.UpdateIf j x v) (answer.Changed t) = (n : ℕ) × (n ≤ length h) × (x ≡ stamp_of o (take n h) j)
+ExpectedOne o h (Call.UpdateIf j x v) (Answer.Changed t) = (n : ℕ) × (n ≤ length h) × (x ≡ stamp_of o (take n h) j)
 ExpectedOne o h c a = ⊤
 
 -- What a port notes over all epochs where its machine's step has noted `new` in its epoch: just that, if its earlier notes show no more than
@@ -174,11 +171,11 @@ having_seen p log = record p { part = with_seen log p.part }
 -- What a port may note that has looked at its epoch, with this history, behind i entries of it: an answer that is true there, at a place behind
 -- all that its notes show.
 pub record IsSight (e : Plan) (k : ℕ) (p : Port) (log : List Applied) (notes : List Noted) (n : Noted) (i : ℕ) : Type 0 where
-  pub noted : n.note ≡ Some (note.Saw (length (history_of p.before) + i))
+  pub noted : n.note ≡ Some (Note.Saw (length (history_of p.before) + i))
   pub within : i ≤ length log
   pub behind : seen_by 0 notes ≤ length (history_of p.before) + i
   pub fits : Fits (length e.opening.values) n.call n.answer n.note
-  pub is_true : IsTrueOf e.opening (history_of (log ∷ p.before)) k n.call n.answer (note.Saw (length (history_of p.before) + i))
+  pub is_true : IsTrueOf e.opening (history_of (log ∷ p.before)) k n.call n.answer (Note.Saw (length (history_of p.before) + i))
 
 -- A sight leads to a lawful memory: its port has seen the whole history of its epoch, and has noted the call.
 pub record SightLeads (e : Plan) (words : List ℕ) (ports : ℕ → Port) (b : Beside) (notes : ℕ → List Noted) (k : ℕ) (log : List Applied)

@@ -8,9 +8,9 @@ use Rattle.partial_model.specs.declared.history.Applied.{Applied}
 use Rattle.partial_model.specs.declared.history.Opening.{Opening}
 use Rattle.partial_model.specs.History.{value_of, stamp_of}
 use Rattle.partial_model.specs.Notes.{IsTrueOf}
-use Rattle.partial_model.specs.declared.call.Call.TheVariants as call
-use Rattle.partial_model.specs.declared.call.Answer.TheVariants as answer
-use Rattle.partial_model.specs.declared.call.Note.TheVariants as note
+use Rattle.partial_model.specs.declared.call.Call.{Call}
+use Rattle.partial_model.specs.declared.call.Answer.{Answer}
+use Rattle.partial_model.specs.declared.call.Note.{Note}
 use Rattle.partial_epochs.specs.Layout.{Plan, IsSealed, base, carried_word, component_words, seal, unsealed}
 use Rattle.partial_epochs.specs.History.{carried_behind, public_stamp, history_of, opening_behind}
 use Rattle.partial_epochs.specs.Ports.{Port}
@@ -27,10 +27,10 @@ read_stamp e words p j s =
 abbrev pub ReadsTellAllEpochs : Type 0
 ReadsTellAllEpochs = (e : Plan) (words : List ℕ) (ports : ℕ → Port) (b : Beside) (k j n : ℕ) → LawfulEpochs e words ports b → k < e.ports →
     (ports k).control.entering ≡ Stands → j < e.sizes.m → (s : IsStanding b k (ports k)) → n ≤ length s.epoch.log →
-    IsTrueOf e.opening (history_of (s.epoch.log ∷ (ports k).before)) k (call.Read j)
-    (answer.Read (value_of (opening_behind e.opening (ports k).before) (take n s.epoch.log) j)
+    IsTrueOf e.opening (history_of (s.epoch.log ∷ (ports k).before)) k (Call.Read j)
+    (Answer.Read (value_of (opening_behind e.opening (ports k).before) (take n s.epoch.log) j)
     (read_stamp e words (ports k) j (stamp_of (opening_behind e.opening (ports k).before) (take n s.epoch.log) j)))
-    (note.Saw (length (history_of (ports k).before) + n))
+    (Note.Saw (length (history_of (ports k).before) + n))
 
 -- what the words of the arena where a port stands tell of component j, of an epoch with this history: its record is the last one, with the
 -- value and the public stamp that the component has in the one history

@@ -1,13 +1,11 @@
 -- What an embedded scan knows leads on, in lawful words.
-use Rattle.partial_knowledge.proofs.Common.{ℕ, zero, suc, ◌≡◌, ◌≢◌, ◌+◌, ◌-◌, ◌<◌, ◌≤◌, ◌==◌, Bool, true, false, ◌&&◌, ◌||◌, not, cond, Option, Some, None, List, [], ◌∷◌, length, take, get_or, set, slice_get, inl, inr, refl, sym, ap, subst, ◌∙◌, arith, get_or-set_other, get_or-set_same, slice_index, false≢true, eq-eqb, cond_both, or_cases, and_parts, ltb-true, ltb-false, eqb-true, eqb-false, Applied, Opening, value_of, stamp_of, place_below, stamps_never_return, Load, Layout, list_base, pool_end, prev_of, view_of, view_block, view_size, view_word, pairs_word, next_word, pair_index_word, pair_value_word, value_word, value_behind_stamp, length-pairs, IsWithin, IsBegunSince, HasPairs, IsView, HasFreshView, Holding, unpublished, LawfulWords, KeptAnswer, IsLoaded, IsReadable, HasEntry, IsLatest, IsCollecting, HasValues, CollectsAgreed, IsThird, HasLoaded, Loads, knows_at, ScanKnows, EmbeddedScansKnow, AllByRecursion-get}
-use Rattle.std.specs.Option.{option_map_or}
-use Rattle.std.specs.Prelude.{nat_lt, slice_index_or}
+use Rattle.partial_knowledge.proofs.{Common.{ℕ, zero, suc, ◌≡◌, ◌≢◌, ◌+◌, ◌-◌, ◌<◌, ◌≤◌, ◌==◌, Bool, true, false, ◌&&◌, ◌||◌, not, cond, Option, Some, None, List, [], ◌∷◌, length, take, get_or, set, slice_get, inl, inr, refl, sym, ap, subst, ◌∙◌, arith, get_or-set_other, get_or-set_same, slice_index, false≢true, eq-eqb, cond_both, or_cases, and_parts, ltb-true, ltb-false, eqb-true, eqb-false, Applied, Opening, value_of, stamp_of, place_below, stamps_never_return, Load, Layout, list_base, pool_end, prev_of, view_of, view_block, view_size, view_word, pairs_word, next_word, pair_index_word, pair_value_word, value_word, value_behind_stamp, length-pairs, IsWithin, IsBegunSince, HasPairs, IsView, HasFreshView, Holding, unpublished, LawfulWords, KeptAnswer, IsLoaded, IsReadable, HasEntry, IsLatest, IsCollecting, HasValues, CollectsAgreed, IsThird, HasLoaded, Loads, knows_at, ScanKnows, EmbeddedScansKnow, AllByRecursion-get}, Chains.{newer, begun_since, begun_within, stamp_within, standing, standing_word, IsStanding, apart_part}}
+use Rattle.std.specs.{Option.option_map_or, Prelude.{nat_lt, slice_index_or}}
 use Rattle.std.proofs.lemmas.Bool.Decides.{eqb_tells}
 use Rattle.partial_words.proofs.BlockLemmas.{list_reads_back}
 use Rattle.partial_embedded.specs.declared.embedded.Stage.{Stage}
 use Rattle.partial_embedded.specs.declared.embedded.Stage.TheVariants.{Collect, View, Len, Index, PairValue, Value, Done}
 use Rattle.partial_embedded.specs.Embedded.{ViewPair, RowsState, ViewGoesTogether, IsPossibleInViewAt, view_goes_at, is_first, differs, was_changed, borrow, noted_load, go_on, after_collect, after_load, after_view, view_at_stage, with_value, pairs_from, view_step_at, advance_view_at}
-use Rattle.partial_knowledge.proofs.Chains.{newer, begun_since, begun_within, stamp_within, standing, standing_word, IsStanding, apart_part}
 use Rattle.partial_embedded.proofs.Keeps.{neither}
 use Rattle.partial_model.proofs.Values.{element_at}
 

@@ -1,18 +1,12 @@
 -- What a getSet knows leads on, in lawful words.
-use Rattle.partial_knowledge.proofs.Common.{ℕ, ◌≡◌, ◌+◌, ◌<◌, ◌≤◌, ◌⊎◌, min, true, Option, Some, None, List, [], ◌∷◌, length, slice_index, IsSome, is_some, inl, inr, refl, sym, ap, subst, ◌∙◌, arith, false≢true, Applied, Opening, Load, Store, Exchange, Add, Layout, IsLayout, slot_counter, list_head, slot_word, list_base, StandsAt, length-pairs, JoinedAnnouncement, IsAnnounced, IsPublishedList, IsApartFrom, Block, Holding, unpublished, LawfulWords, KeptAnswer, IsLoaded, IsSlotAnswer, Joins, FindsIn, facts_of_words, IsReadable, IsKeptAnswer, GetSetsKnow}
+use Rattle.partial_knowledge.proofs.{Common.{ℕ, ◌≡◌, ◌+◌, ◌<◌, ◌≤◌, ◌⊎◌, min, true, Option, Some, None, List, [], ◌∷◌, length, slice_index, IsSome, is_some, inl, inr, refl, sym, ap, subst, ◌∙◌, arith, false≢true, Applied, Opening, Load, Store, Exchange, Add, Layout, IsLayout, slot_counter, list_head, slot_word, list_base, StandsAt, length-pairs, JoinedAnnouncement, IsAnnounced, IsPublishedList, IsApartFrom, Block, Holding, unpublished, LawfulWords, KeptAnswer, IsLoaded, IsSlotAnswer, Joins, FindsIn, facts_of_words, IsReadable, IsKeptAnswer, GetSetsKnow}, Joined.{at_joined, shown, reference_above}}
 use Rattle.partial_intervals.specs.Intervals.{Ranges}
 use Rattle.partial_words.specs.declared.step.Step.{Step}
-use Rattle.partial_words.specs.VacatedList.{list_block, list_size, low_word, high_word}
-use Rattle.partial_words.specs.Announcement.{announcement_block, announcement_size, announced_word}
+use Rattle.partial_words.specs.{VacatedList.{list_block, list_size, low_word, high_word}, Announcement.{announcement_block, announcement_size, announced_word}}
 use Rattle.partial_active.specs.declared.get_set.Stage.{Stage}
 use Rattle.partial_active.specs.declared.get_set.Stage.TheVariants.{Head, ListLen, ListLow, ListHigh, Counter, Slot, Len, Index, Claim, Write, Publish, Done}
-use Rattle.partial_active.specs.IndexSet.{has_index}
-use Rattle.partial_active.specs.GetSet.{SetPair, set_step_at, set_step_due}
-use Rattle.partial_active.specs.GetSetAnswers.{EndsBelow, is_possible_at, IsPossibleInSet, set_goes_at}
-use Rattle.partial_active.specs.Knowledge.{Facts, HasReadSo, knows_by}
-use Rattle.partial_active.proofs.Indices.{with_index_keeps, same_named}
-use Rattle.partial_active.proofs.Knowledge.{AreFacts, tells_at, ends_below, leads_at}
-use Rattle.partial_knowledge.proofs.Joined.{at_joined, shown, reference_above}
+use Rattle.partial_active.specs.{IndexSet.has_index, GetSet.{SetPair, set_step_at, set_step_due}, GetSetAnswers.{EndsBelow, is_possible_at, IsPossibleInSet, set_goes_at}, Knowledge.{Facts, HasReadSo, knows_by}}
+use Rattle.partial_active.proofs.{Indices.{with_index_keeps, same_named}, Knowledge.{AreFacts, tells_at, ends_below, leads_at}}
 
 module _ (z : Layout) (o : Opening) (words : List ℕ) (hs : List Holding) (log : List Applied) (low : ℕ) (w : LawfulWords z o words hs log) where
   -- a port joined in no slot whose word is EMPTY or VACATED

@@ -1,8 +1,7 @@
 -- The machine that a port keeps behind a call: with the marks of the call's machine, and sound.
 use Rattle.partial_lines.proofs.Common.{◌≡◌, Bool, refl, sym, ap, subst, ◌∙◌, nat_eq, Layout, Stage, Idle, CoreState, at_stage, AreComponentIndices, IsSound, is_sound_at, IsMarkedLike, RestsLike}
 use Rattle.std.specs.List.{IsDistinct}
-use Rattle.partial_active.specs.Found.{Buffers, AreFoundFor as AreBuffersFor}
-use Rattle.partial_active.specs.GetSet.{GetSetState}
+use Rattle.partial_active.specs.{Found.{Buffers, AreFoundFor as AreBuffersFor}, GetSet.GetSetState}
 use Rattle.partial_machine.proofs.Laws.{rests_are_sound}
 
 -- the port goes on with the machine of the call

@@ -3,7 +3,6 @@ use Rattle.std.specs.Prelude.{◌≡◌, Result, Ok, Err}
 use Rattle.partial_model.specs.declared.call.Refused.{Refused}
 use Rattle.partial_machine.specs.declared.stage.Change.{Change}
 use Rattle.partial_machine.specs.declared.stage.Reply.{Reply}
-use Rattle.partial_machine.specs.declared.stage.Reply.TheVariants as reply
 use Rattle.partial_machine.specs.declared.stage.Stage.TheVariants.{Idle}
 use Rattle.partial_machine.specs.Machine.{CoreState, overtaken_reply}
 use Rattle.partial_machine.specs.Sound.{IsSound}
@@ -14,14 +13,14 @@ use Rattle.partial_lines.specs.declared.whole_scan.Scanned.{Scanned}
 
 -- the reply to an update that ended so
 abbrev pub update_reply : Change → Result Exchanged Refused → Reply
-update_reply c (Ok (Applied stamp)) = reply.Applied stamp
+update_reply c (Ok (Applied stamp)) = Reply.Applied stamp
 update_reply c (Ok (Overtaken by)) = overtaken_reply c by
-update_reply c (Err cause) = reply.Refused cause
+update_reply c (Err cause) = Reply.Refused cause
 
 -- the reply to a scan that ended so
 abbrev pub scan_reply : Result Scanned Refused → Reply
-scan_reply (Ok s) = reply.Scanned s.collects s.borrowed
-scan_reply (Err cause) = reply.Refused cause
+scan_reply (Ok s) = Reply.Scanned s.collects s.borrowed
+scan_reply (Err cause) = Reply.Refused cause
 
 -- the machine that a port keeps between calls goes on from the machine of a call: idle, sound and with its marks
 pub record RestsLike (machine core : CoreState) : Type 0 where

@@ -1,8 +1,7 @@
 -- A memory that is closed with all its ports: each entry is in the notes of exactly one.
-use Rattle.partial_long_lived.proofs.Common.{ℕ, zero, suc, ◌≡◌, ◌≢◌, ◌+◌, ◌<◌, ◌≤◌, ◌==◌, ◌⊎◌, Bool, true, false, cond, List, [], ◌∷◌, ◌++◌, Contains, refl, sym, ◌∙◌, ap, subst, Some, slice_get, inl, inr, arith, AllByRecursion, eqb_tells, TableId, Applied, LegalNotes, places_written, all_after, all_append, all_at, all_back, all_before, all_front, AllByRecursion-get, About, newcomers, IsOf, MemoryView, PortView, new_ports, Closes, IsPortOf}
+use Rattle.partial_long_lived.proofs.{Common.{ℕ, zero, suc, ◌≡◌, ◌≢◌, ◌+◌, ◌<◌, ◌≤◌, ◌==◌, ◌⊎◌, Bool, true, false, cond, List, [], ◌∷◌, ◌++◌, Contains, refl, sym, ◌∙◌, ap, subst, Some, slice_get, inl, inr, arith, AllByRecursion, eqb_tells, TableId, Applied, LegalNotes, places_written, all_after, all_append, all_at, all_back, all_before, all_front, AllByRecursion-get, About, newcomers, IsOf, MemoryView, PortView, new_ports, Closes, IsPortOf}, NewPorts.new_own}
 use Rattle.partial_model.proofs.Entries.{entries_are_noted, written_at, written_by}
 use Rattle.partial_long_lived.specs.AllPorts.{AreAllPorts, ClosedWithAllPorts, IsInOnePort, IsPortIn, OpenedPortsAreAll, port_count}
-use Rattle.partial_long_lived.proofs.NewPorts.{new_own}
 
 -- a new memory has one port of each number
 new_none : (t : TableId) (a : About) (q k n : ℕ) → q < k → port_count q (new_ports t (newcomers a k n)) ≡ 0

@@ -1,12 +1,8 @@
 -- A call of a port: how it begins at the seat that was taken out, and what it leaves once the seat is put back.
-use Rattle.partial_long_lived.proofs.Common.{ℕ, zero, suc, None, append-nil, ◌≡◌, ◌<◌, ◌≤◌, ◌++◌, ◌∷◌, [], Option, Some, IfSome, Bool, true, false, true≢false, List, length, ap, ◌+◌, take, refl, sym, subst, ◌∙◌, inl, inr, arith, nat_lt, slice_index, AllByRecursion, list_all, option_map, take-append_seam, TableId, Applied, IsEntryFor, IsLegal, LegalNotes, Noted, seen_by, AllByRecursion-get, LegalNotes-last, Layout, CoreState, fresh, AreComponentIndices, IsSound, is_sound_at, IsMarkedLike, core_of, is_at_rest, public_stamp, Refused, Component, Overtaken, NoArena, EpochsSpent, About, Stand, Began, SeatedPort, IsOf, MemoryView, PortView, port_view, seen_in, SeatGoes, IsHeld, epoch_at, port_at, HasCome, HasNotedRead, IsIdle, EpochChanged, NotChanged, HasNotedScan, RestsUnmarked, ScanMade, noted_scan, NotScanned, RestsAt, MadeNamed, ScannedNamed, ScannedStamped, Contains, is_some}
-use Rattle.partial_model.specs.declared.call.Call.TheVariants as call
-use Rattle.partial_model.specs.declared.call.Answer.TheVariants as answer
-use Rattle.partial_model.specs.declared.call.Note.TheVariants as note
+use Rattle.partial_long_lived.proofs.{Common.{ℕ, zero, suc, None, append-nil, ◌≡◌, ◌<◌, ◌≤◌, ◌++◌, ◌∷◌, [], Option, Some, IfSome, Bool, true, false, true≢false, List, length, ap, ◌+◌, take, refl, sym, subst, ◌∙◌, inl, inr, arith, nat_lt, slice_index, AllByRecursion, list_all, option_map, take-append_seam, TableId, Applied, IsEntryFor, IsLegal, LegalNotes, Noted, seen_by, AllByRecursion-get, LegalNotes-last, Layout, CoreState, fresh, AreComponentIndices, IsSound, is_sound_at, IsMarkedLike, core_of, is_at_rest, public_stamp, Refused, Component, Overtaken, NoArena, EpochsSpent, About, Stand, Began, SeatedPort, IsOf, MemoryView, PortView, port_view, seen_in, SeatGoes, IsHeld, epoch_at, port_at, HasCome, HasNotedRead, IsIdle, EpochChanged, NotChanged, HasNotedScan, RestsUnmarked, ScanMade, noted_scan, NotScanned, RestsAt, MadeNamed, ScannedNamed, ScannedStamped, Contains, is_some, Call, Answer, Note}, Coming.goes_on}
 use Rattle.partial_model.proofs.Decisions.{Decides-list_all, Decides-nat_lt}
 use Rattle.partial_active.specs.GetSet.{fresh_set as unmarked}
 use Rattle.partial_long_lived.specs.Calls as calls
-use Rattle.partial_long_lived.proofs.Coming.{goes_on}
 
 -- the port of a seat in a call, as callers saw it before
 pub view_before : (m : MemoryView) (t : Stand) (p : PortView) → port_view t.seat.table_id (port_at t) ≡ p → IsOf m p → port_view m.table (port_at t) ≡ p
@@ -255,7 +251,7 @@ has_scanned_seen table s t (j ∷ js) values collects borrowed public w is some 
       record {
         inside = inside;
         goes = goes_seen table (port_at s) (port_at t) _ w.goes (w.notes ∙ ap (λ (b : Option ℕ). (port_at s).notes
-            ++ record { call = call.Scan (j ∷ js); answer = answer.Scanned values collects b; note = Some (note.Saw w.place) } ∷ []) (sym is));
+            ++ record { call = Call.Scan (j ∷ js); answer = Answer.Scanned values collects b; note = Some (Note.Saw w.place) } ∷ []) (sym is));
         behind = omega (arith, first, behind);
         within = w.within;
       },
@@ -283,7 +279,7 @@ borrowed_public epoch (Some at) public is = ap is_some is
 
 -- a scan that was refused, as callers see it
 pub not_scanned_seen : (table : TableId) (s t : Stand) (which : List ℕ) (cause : Refused) → (epoch_at t ≡ t.epoch) → NotScanned s t cause → AllByRecursion (λ j. j < (port_at s).about.sizes.m) which →
-    calls.IsRefused (port_view table (port_at s)) (call.Scan which) cause (port_view table (port_at t))
+    calls.IsRefused (port_view table (port_at s)) (Call.Scan which) cause (port_view table (port_at t))
 not_scanned_seen table s t which Component is w inside = absurd w.why
 not_scanned_seen table s t which Overtaken is w inside = absurd w.why
 not_scanned_seen table s t which NoArena is w inside = (inside, goes_seen table (port_at s) (port_at t) [] w.goes (w.notes ∙ sym (append-nil (port_at s).notes)), w.why.1)
@@ -301,9 +297,9 @@ module _ (m : MemoryView) (t u : Stand) (p : PortView) (view : port_view t.seat.
       callers_see m t u p view own held (λ (a b : PortView). calls.Scans a which values (record { collects = collects; borrowed = public }) b)
       (has_scanned_seen m.table t u which values collects borrowed public w is some (below_there w.goes.about))
 
-  pub scan_refused : (cause : Refused) → NotScanned t u cause → calls.IsRefused p (call.Scan which) cause (port_view u.seat.table_id (port_at u))
+  pub scan_refused : (cause : Refused) → NotScanned t u cause → calls.IsRefused p (Call.Scan which) cause (port_view u.seat.table_id (port_at u))
   scan_refused cause w =
-      callers_see m t u p view own held (λ (a b : PortView). calls.IsRefused a (call.Scan which) cause b)
+      callers_see m t u p view own held (λ (a b : PortView). calls.IsRefused a (Call.Scan which) cause b)
       (not_scanned_seen m.table t u which cause (sym held.epoch) w (below_there w.goes.about))
 
   pub stamped_answered : (values : List ℕ) (collects : ℕ) (borrowed public : Option ℕ) (stamps : List ℕ) → ScannedStamped t u which values collects borrowed stamps →

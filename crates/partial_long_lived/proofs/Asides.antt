@@ -1,6 +1,5 @@
 -- Steps that change neither histories nor what their port has seen or noted.
-use Rattle.partial_long_lived.proofs.Common.{ℕ, ◌≡◌, ◌≢◌, ◌≤◌, ◌++◌, Option, Some, None, IfSome, List, [], ◌∷◌, length, refl, sym, ap, subst, ◌∙◌, arith, append-nil, Applied, LegalNotes, Noted, Part, put, history_of, Port, Beside, LawfulEpochs, place_now, KeepsTime, LawfulMemory, put_other, put_same, About, Began, Found, BeganInTime, IsFinal, IsLast, IsSeat, IsSeen, IsSince, SeatedPort, plan_of, seen_in, IsSeatKnown, becomes, asides_stay_lawful}
-use Rattle.partial_long_lived.proofs.Kept.{HasGrown, Moved, final_grows, none_grown, not_grown, seen_grows}
+use Rattle.partial_long_lived.proofs.{Common.{ℕ, ◌≡◌, ◌≢◌, ◌≤◌, ◌++◌, Option, Some, None, IfSome, List, [], ◌∷◌, length, refl, sym, ap, subst, ◌∙◌, arith, append-nil, Applied, LegalNotes, Noted, Part, put, history_of, Port, Beside, LawfulEpochs, place_now, KeepsTime, LawfulMemory, put_other, put_same, About, Began, Found, BeganInTime, IsFinal, IsLast, IsSeat, IsSeen, IsSince, SeatedPort, plan_of, seen_in, IsSeatKnown, becomes, asides_stay_lawful}, Kept.{HasGrown, Moved, final_grows, none_grown, not_grown, seen_grows}}
 
 -- a change of a port that leaves its place, its part and the epochs behind it, and passes no fewer components
 pub record IsQuiet (g : Port → Port) : Type 0 where

@@ -1,12 +1,7 @@
 -- An attempt of an update in the epoch where a port stands.
-use Rattle.partial_long_lived.proofs.Common.{Opening, ℕ, ◌≡◌, ◌≢◌, ◌+◌, ◌<◌, ◌≤◌, ◌==◌, ◌++◌, Bool, true, false, cond, Option, None, Some, Ok, List, [], ◌∷◌, length, map, refl, sym, ap, subst, ◌∙◌, inl, inr, arith, option_map_or, nat_lt, is_some, lt-ltb, eqb_tells, length-map, TableId, Applied, Call, Answer, Note, stamp_of, Noted, place_of, Load, Exchange, IsLayout, Layout, greatest_record, pool_end, Change, Reply, Stage, Exchanging, Finished, UpdateBegun, CoreState, advance_at, at_stage, begin_getting, lists_spent, overtaken_reply, reply_of, step_at, step_of, answer_for, call_of, update_call, IsRecord, IsSound, is_sound_at, Part, AreNotesOf, IsNoteOf, IsPlacedAt, Exchanged, RestsLike, update_reply, Plan, seal, unsealed, history_of, public_entry, public_log, stamp_limit, public_noted, Control, About, Shape, Stand, Began, SeatedPort, plan_of, seen_in, SeatGoes, BeganBy, IsHeld, port_at, IsIdle, StaysAt, opening_of, SeatMakes, MissesSeal, unsealed_answer, RestsUnmarked, CallMade, record_claim, IsGoing, ComesTo, MayBegin, machine_at, UpdateAttempted, ExchangeDue, ExpectsOne, IsEntryOf, IsOwnMachine, NotesNothing, PortStayed, noted_where, word_from, ◌||◌, IfSome, take, length-append, IsPossibleAt, SeatBegins}
+use Rattle.partial_long_lived.proofs.{Common.{Opening, ℕ, ◌≡◌, ◌≢◌, ◌+◌, ◌<◌, ◌≤◌, ◌==◌, ◌++◌, Bool, true, false, cond, Option, None, Some, Ok, List, [], ◌∷◌, length, map, refl, sym, ap, subst, ◌∙◌, inl, inr, arith, option_map_or, nat_lt, is_some, lt-ltb, eqb_tells, length-map, TableId, Applied, Call, Answer, Note, stamp_of, Noted, place_of, Load, Exchange, IsLayout, Layout, greatest_record, pool_end, Change, Reply, Stage, Exchanging, Finished, UpdateBegun, CoreState, advance_at, at_stage, begin_getting, lists_spent, overtaken_reply, reply_of, step_at, step_of, answer_for, call_of, update_call, IsRecord, IsSound, is_sound_at, Part, AreNotesOf, IsNoteOf, IsPlacedAt, Exchanged, RestsLike, update_reply, Plan, seal, unsealed, history_of, public_entry, public_log, stamp_limit, public_noted, Control, About, Shape, Stand, Began, SeatedPort, plan_of, seen_in, SeatGoes, BeganBy, IsHeld, port_at, IsIdle, StaysAt, opening_of, SeatMakes, MissesSeal, unsealed_answer, RestsUnmarked, CallMade, record_claim, IsGoing, ComesTo, MayBegin, machine_at, UpdateAttempted, ExchangeDue, ExpectsOne, IsEntryOf, IsOwnMachine, NotesNothing, PortStayed, noted_where, word_from, ◌||◌, IfSome, take, length-append, IsPossibleAt, SeatBegins}, Coming.goes_on, Under.{first_made, next_made, notes_same}}
 use Rattle.std.proofs.Math.Bool.{or-false}
-use Rattle.partial_model.specs.declared.call.Call.TheVariants as call
-use Rattle.partial_model.specs.declared.call.Note.TheVariants as note
-use Rattle.partial_machine.specs.declared.stage.Reply.TheVariants as reply
 use Rattle.partial_lines.specs.declared.exchange.Exchanged.TheVariants.{Applied as IsApplied, Overtaken}
-use Rattle.partial_long_lived.proofs.Coming.{goes_on}
-use Rattle.partial_long_lived.proofs.Under.{first_made, next_made, notes_same}
 
 -- a machine without marks may begin an update of a component
 pub update_begins : (table : TableId) (about : About) (s : Stand) (core : CoreState) (d : Change) → IsHeld table about s → IsIdle s → RestsUnmarked (port_at s) core → (port_at s).port.over ≡ false →
@@ -36,27 +31,27 @@ update_begins table about s core d h idle rests spare inside one =
     }
   where
     by : (e : Option ℕ) (j t v : ℕ) → IfSome e (λ at. (n : ℕ) × (n ≤ length (port_at s).port.part.seen) × (at ≡ stamp_of (opening_of (port_at s)) (take n (port_at s).port.part.seen) d.component)) →
-        Some (update_call d.component e d.value) ≡ Some (call.UpdateIf j t v) → (n : ℕ) × (n ≤ length (port_at s).port.part.seen) × (t ≡ stamp_of (opening_of (port_at s)) (take n (port_at s).port.part.seen) j)
-    by None j t v one is = (let bad : Some (call.Update d.component d.value) ≡ Some (call.UpdateIf j t v) = is in cc)
+        Some (update_call d.component e d.value) ≡ Some (Call.UpdateIf j t v) → (n : ℕ) × (n ≤ length (port_at s).port.part.seen) × (t ≡ stamp_of (opening_of (port_at s)) (take n (port_at s).port.part.seen) j)
+    by None j t v one is = (let bad : Some (Call.Update d.component d.value) ≡ Some (Call.UpdateIf j t v) = is in cc)
     by (Some at) j t v one is =
-        let same : call.UpdateIf d.component at d.value ≡ call.UpdateIf j t v = (let all : Some (call.UpdateIf d.component at d.value) ≡ Some (call.UpdateIf j t v) = is in cc) in
+        let same : Call.UpdateIf d.component at d.value ≡ Call.UpdateIf j t v = (let all : Some (Call.UpdateIf d.component at d.value) ≡ Some (Call.UpdateIf j t v) = is in cc) in
         (one.0, one.1, (let stamp : at ≡ t = cc in let component : d.component ≡ j = cc in sym stamp ∙ one.2 ∙ ap (stamp_of (opening_of (port_at s)) (take one.0 (port_at s).port.part.seen)) component))
 
 -- the reply to an update that expects that much
 abbrev reply_as : Option ℕ → Exchanged → Reply
-reply_as e (IsApplied stamp) = reply.Applied stamp
-reply_as e (Overtaken by) = option_map_or (λ _. reply.Changed by) e (reply.Lost by)
+reply_as e (IsApplied stamp) = Reply.Applied stamp
+reply_as e (Overtaken by) = option_map_or (λ _. Reply.Changed by) e (Reply.Lost by)
 
 reply_is : (d : Change) (r : Exchanged) → update_reply d (Ok r) ≡ reply_as d.expected r
 reply_is d (IsApplied stamp) = refl
 reply_is d (Overtaken by) = refl
 
 -- the word of its record
-word_is : (r : Exchanged) (c : Bool) (at found : ℕ) → ((d : Change) → update_reply d (Ok r) ≡ cond c (reply.Applied at) (overtaken_reply d found)) → word_from r ≡ cond c at found
+word_is : (r : Exchanged) (c : Bool) (at found : ℕ) → ((d : Change) → update_reply d (Ok r) ≡ cond c (Reply.Applied at) (overtaken_reply d found)) → word_from r ≡ cond c at found
 word_is (IsApplied stamp) true at found ends = let is = ends (record { component = 0; expected = None; value = 0 }) in cc
-word_is (IsApplied stamp) false at found ends = let is : reply.Applied stamp ≡ reply.Lost found = ends (record { component = 0; expected = None; value = 0 }) in cc
-word_is (Overtaken by) true at found ends = let is : reply.Lost by ≡ reply.Applied at = ends (record { component = 0; expected = None; value = 0 }) in cc
-word_is (Overtaken by) false at found ends = let is : reply.Lost by ≡ reply.Lost found = ends (record { component = 0; expected = None; value = 0 }) in cc
+word_is (IsApplied stamp) false at found ends = let is : Reply.Applied stamp ≡ Reply.Lost found = ends (record { component = 0; expected = None; value = 0 }) in cc
+word_is (Overtaken by) true at found ends = let is : Reply.Lost by ≡ Reply.Applied at = ends (record { component = 0; expected = None; value = 0 }) in cc
+word_is (Overtaken by) false at found ends = let is : Reply.Lost by ≡ Reply.Lost found = ends (record { component = 0; expected = None; value = 0 }) in cc
 
 -- a word of the pool is a small number
 pool_small : (z : Layout) (n : ℕ) → IsLayout z → n ≤ pool_end z → n < stamp_limit
@@ -81,18 +76,18 @@ module _ (x : SeatedPort) (d : Change) where
   NotedAt e c r n seen = (k : ℕ) × IsEntryOf e r k seen × (place_of n ≡ k) × (as_public e (answer_for c (reply_as e r)) n ≡ noted_where x e d r (length (history_of before) + k))
 
   noted_as : (e : Option ℕ) (c : CoreState) (r : Exchanged) (n : Note) (seen : ℕ) → IsPlacedAt (reply_as e r) n seen → NotedAt e c r n seen
-  noted_as None c (IsApplied stamp) (note.Wrote k) seen placed = (k, placed, refl, refl)
-  noted_as (Some at) c (IsApplied stamp) (note.Wrote k) seen placed = (k, placed, refl, refl)
-  noted_as None c (Overtaken by) (note.Lost k) seen placed = (k, placed, refl, refl)
-  noted_as (Some at) c (Overtaken by) (note.Saw k) seen placed = (k, placed, refl, refl)
-  noted_as None c (IsApplied stamp) (note.Lost k) seen placed = absurd placed
-  noted_as None c (IsApplied stamp) (note.Saw k) seen placed = absurd placed
-  noted_as (Some at) c (IsApplied stamp) (note.Lost k) seen placed = absurd placed
-  noted_as (Some at) c (IsApplied stamp) (note.Saw k) seen placed = absurd placed
-  noted_as None c (Overtaken by) (note.Wrote k) seen placed = absurd placed
-  noted_as None c (Overtaken by) (note.Saw k) seen placed = absurd placed
-  noted_as (Some at) c (Overtaken by) (note.Wrote k) seen placed = absurd placed
-  noted_as (Some at) c (Overtaken by) (note.Lost k) seen placed = absurd placed
+  noted_as None c (IsApplied stamp) (Note.Wrote k) seen placed = (k, placed, refl, refl)
+  noted_as (Some at) c (IsApplied stamp) (Note.Wrote k) seen placed = (k, placed, refl, refl)
+  noted_as None c (Overtaken by) (Note.Lost k) seen placed = (k, placed, refl, refl)
+  noted_as (Some at) c (Overtaken by) (Note.Saw k) seen placed = (k, placed, refl, refl)
+  noted_as None c (IsApplied stamp) (Note.Lost k) seen placed = absurd placed
+  noted_as None c (IsApplied stamp) (Note.Saw k) seen placed = absurd placed
+  noted_as (Some at) c (IsApplied stamp) (Note.Lost k) seen placed = absurd placed
+  noted_as (Some at) c (IsApplied stamp) (Note.Saw k) seen placed = absurd placed
+  noted_as None c (Overtaken by) (Note.Wrote k) seen placed = absurd placed
+  noted_as None c (Overtaken by) (Note.Saw k) seen placed = absurd placed
+  noted_as (Some at) c (Overtaken by) (Note.Wrote k) seen placed = absurd placed
+  noted_as (Some at) c (Overtaken by) (Note.Lost k) seen placed = absurd placed
 
 -- the entry lies in the one history behind the epochs before
 entry_in : (e : Option ℕ) (r : Exchanged) (n k seen all : ℕ) → IsEntryOf e r k seen → all ≡ n + seen → IsEntryOf e r (n + k) all
@@ -224,13 +219,13 @@ module _ (table : TableId) (about : About) (s : Stand) (h : IsHeld table about s
     began_first : (port_at u).began ≡ makes.0.n
     began_first = ap (λ (z : SeatedPort). z.began) makes.0.is
 
-    machine_first : machine_at u ≡ at_stage b (Finished (reply.Changed old))
+    machine_first : machine_at u ≡ at_stage b (Finished (Reply.Changed old))
     machine_first = sym makes.0.told.machine.is
-        ∙ ap (λ (q : Option ℕ). cond (option_map_or (λ e. e == old) q true) (begin_getting b d old) (at_stage b (Finished (reply.Changed old)))) expected
-        ∙ ap (λ c. cond c (begin_getting b d old) (at_stage b (Finished (reply.Changed old)))) unequal
+        ∙ ap (λ (q : Option ℕ). cond (option_map_or (λ e. e == old) q true) (begin_getting b d old) (at_stage b (Finished (Reply.Changed old)))) expected
+        ∙ ap (λ c. cond c (begin_getting b d old) (at_stage b (Finished (Reply.Changed old)))) unequal
 
     replies_first : reply_of (machine_at u) ≡ Some (reply_as d.expected (Overtaken old))
-    replies_first = ap reply_of machine_first ∙ ap (λ q. Some (option_map_or (λ _. reply.Changed old) q (reply.Lost old))) (sym expected)
+    replies_first = ap reply_of machine_first ∙ ap (λ q. Some (option_map_or (λ _. Reply.Changed old) q (Reply.Lost old))) (sym expected)
 
     pub first_ends : UpdateAttempted first d (Overtaken old) s u
     first_ends =
@@ -295,7 +290,7 @@ module _ (table : TableId) (about : About) (s : Stand) (h : IsHeld table about s
 
     -- it isn't, or its record is another
     module _ (exchanged : ExchangeDue v d old at found t) (misses : MissesSeal old found) (r : Exchanged)
-        (ends : (c : Change) → update_reply c (Ok r) ≡ cond (unsealed found == old) (reply.Applied at) (overtaken_reply c (unsealed found))) where
+        (ends : (c : Change) → update_reply c (Ok r) ≡ cond (unsealed found == old) (Reply.Applied at) (overtaken_reply c (unsealed found))) where
       inside : d.component < (port_at v).about.sizes.m
       inside = subst (λ (z : Layout). d.component < z.m) (begins.sizes ∙ ap (λ (a : About). a.sizes) (sym over_call.goes.about)) begins.sound.stage.0
 

@@ -1,6 +1,5 @@
 -- When a call begins, and where a port that looks stands.
-use Rattle.partial_long_lived.proofs.Common.{ℕ, ◌≡◌, ◌<◌, ◌≤◌, ◌++◌, Bool, true, false, List, [], ◌∷◌, length, get_or, refl, sym, ap, ◌∙◌, arith, length-append, Applied, Noted, current_word, packed, history_of, Port, Beside, LawfulEpochs, place_now, LawfulMemory, one_history, current_is, packed_arena, About, Began, BeganInTime, IsSeat, SeatedPort, plan_of, seen_in, BeganBy, same_place}
-use Rattle.partial_long_lived.proofs.Seen.{seen_begins}
+use Rattle.partial_long_lived.proofs.{Common.{ℕ, ◌≡◌, ◌<◌, ◌≤◌, ◌++◌, Bool, true, false, List, [], ◌∷◌, length, get_or, refl, sym, ap, ◌∙◌, arith, length-append, Applied, Noted, current_word, packed, history_of, Port, Beside, LawfulEpochs, place_now, LawfulMemory, one_history, current_is, packed_arena, About, Began, BeganInTime, IsSeat, SeatedPort, plan_of, seen_in, BeganBy, same_place}, Seen.seen_begins}
 
 -- what a port has seen is no more than there is
 pub seen_few : (a : About) (words : List ℕ) (ports : ℕ → Port) (notes : ℕ → List Noted) (b : Beside) (since : ℕ → ℕ) (x : SeatedPort) → LawfulMemory (plan_of a) words ports b notes →

@@ -1,7 +1,5 @@
 -- A change of epoch, from its look to the epoch that is entered.
-use Rattle.partial_long_lived.proofs.Common.{ℕ, ◌≡◌, ◌<◌, ◌≤◌, Bool, List, None, refl, ap, subst, ◌∙◌, Noted, Place, Port, arrived_port, About, Stand, Began, SeatedPort, plan_of, port_at, EpochEntered, StaysAt, LookFound, EpochChanged, Stays}
-use Rattle.partial_long_lived.proofs.Coming.{goes_on}
-use Rattle.partial_long_lived.proofs.Looking.{looked_keeps}
+use Rattle.partial_long_lived.proofs.{Common.{ℕ, ◌≡◌, ◌<◌, ◌≤◌, Bool, List, None, refl, ap, subst, ◌∙◌, Noted, Place, Port, arrived_port, About, Stand, Began, SeatedPort, plan_of, port_at, EpochEntered, StaysAt, LookFound, EpochChanged, Stays}, Coming.goes_on, Looking.looked_keeps}
 
 module _ (first : Bool) (s t u v : Stand) (b : Bool) (kept : StaysAt s t) (looked : LookFound first s b t) (stays : Stays t u) (entered : EpochEntered u v) where
   abbrev place : Place

@@ -1,5 +1,5 @@
 -- A machine claims words of the pool once in a call.
-use Rattle.partial_long_lived.proofs.Common.{ℕ, ◌≡◌, ◌+◌, ◌≤◌, ◌==◌, ◌⊎◌, Bool, true, false, cond, Option, Some, None, List, length, refl, sym, ap, subst, ◌∙◌, inl, inr, arith, option_map_or, some_same, Step, Load, Store, Exchange, Add, Layout, list_counter, list_head, pool_counter, slot_counter, slot_word, Change, Stage, Idle, ReadBegun, LoadingValue, UpdateBegun, GettingSet, Viewing, ClaimingRecord, StoringRecord, Exchanging, ScanBegun, StoringAnnouncement, Joining, Scanning, Leaving, Finished, CoreState, advance, advance_at, after_joining, at_stage, begin_getting, begin_joining, expects, fits_pool, getting, pool_refused, record_size, step_at, step_of, with_getting, IsSound, is_sound_at, LeavesComponents, before_claim, record_claim, announcement_size, IsQuiet}
+use Rattle.partial_long_lived.proofs.Common.{ℕ, ◌≡◌, ◌+◌, ◌≤◌, ◌==◌, ◌⊎◌, Bool, true, false, cond, Option, Some, None, List, length, refl, sym, ap, subst, ◌∙◌, inl, inr, arith, option_map_or, some_same, Step, Load, Store, Exchange, Add, Layout, list_counter, list_head, pool_counter, slot_counter, slot_word, Change, Stage, Idle, ReadBegun, LoadingValue, UpdateBegun, GettingSet, Viewing, ClaimingRecord, StoringRecord, Exchanging, ScanBegun, StoringAnnouncement, Joining, Scanning, Leaving, Finished, CoreState, advance, advance_at, after_joining, at_stage, begin_getting, begin_joining, expects, fits_pool, getting, pool_refused, record_size, step_at, step_of, with_getting, IsSound, is_sound_at, LeavesComponents, before_claim, record_claim, announcement_size, IsQuiet, Reply}
 use Rattle.partial_active.specs.declared.join.JoinStage.{JoinStage}
 use Rattle.partial_active.specs.declared.join.JoinStage.TheVariants.{Claiming, Storing, Joined, Spent}
 use Rattle.partial_active.specs.declared.get_set.Stage.{Stage as SetStage}
@@ -9,7 +9,6 @@ use Rattle.partial_active.specs.Join.{join_step}
 use Rattle.partial_embedded.specs.Embedded as viewing
 use Rattle.partial_embedded.specs.declared.embedded.Stage.{Stage as ScanStage}
 use Rattle.partial_embedded.specs.declared.embedded.Stage.TheVariants as scan
-use Rattle.partial_machine.specs.declared.stage.Reply.TheVariants as reply
 
 -- a machine that has yet to claim had yet to claim before
 pub unclaimed_before : (s : CoreState) (x : ℕ) → before_claim (advance s x).stage ≡ true → before_claim s.stage ≡ true
@@ -92,7 +91,7 @@ claimed_from s x at = by s.stage refl
     by Idle is h = inr (sym (ap record_claim is) ∙ h)
     by (ReadBegun j) is h = none (ReadBegun j) _ refl h
     by (LoadingValue stamp) is h = none (LoadingValue stamp) _ refl h
-    by (UpdateBegun c) is h = none (UpdateBegun c) _ (two (expects c x) (begin_getting s c x) (at_stage s (Finished (reply.Changed x))) refl refl) h
+    by (UpdateBegun c) is h = none (UpdateBegun c) _ (two (expects c x) (begin_getting s c x) (at_stage s (Finished (Reply.Changed x))) refl refl) h
     by (GettingSet c old) is h =
         let p : CoreState = with_getting s (finding.advance_set (getting s) x) in
         none (GettingSet c old) (record_claim (advance_at s (GettingSet c old) x).stage) (gets p (finding.set_step_due p.get_set) c old is) h

@@ -1,8 +1,5 @@
 -- A memory that is closed: the ports that were handed in, and the last state.
-use Rattle.partial_long_lived.proofs.Common.{ℕ, ◌≡◌, ◌<◌, ◌++◌, List, [], ◌∷◌, length, sym, ap, subst, ◌∙◌, append_assoc, append-nil, arith, take, AllByRecursion, take-append_seam, nil_from_length, some, get_elem?, State, Me, TableId, Applied, IsHistory, value_of, LegalNotes, EachOnce, all_back, all_front, all_weaker, Port, one_history, epochs_fit_one_history, About, Shape, IsRuleKept, IsSeat, SeatedPort, plan_of, IsShapeOf, bare, shape_plan, AreByOpened, IsOf, MemoryView, PortView, port_view, seen_in, HaveLast, ReadsLast, value_now, slice_index, Closes, IsPortOf}
-use Rattle.partial_long_lived.proofs.Current.{have_last, value_last}
-use Rattle.partial_long_lived.proofs.Seen.{seen_begins}
-use Rattle.partial_long_lived.proofs.Views.{around}
+use Rattle.partial_long_lived.proofs.{Common.{ℕ, ◌≡◌, ◌<◌, ◌++◌, List, [], ◌∷◌, length, sym, ap, subst, ◌∙◌, append_assoc, append-nil, arith, take, AllByRecursion, take-append_seam, nil_from_length, some, get_elem?, State, Me, TableId, Applied, IsHistory, value_of, LegalNotes, EachOnce, all_back, all_front, all_weaker, Port, one_history, epochs_fit_one_history, About, Shape, IsRuleKept, IsSeat, SeatedPort, plan_of, IsShapeOf, bare, shape_plan, AreByOpened, IsOf, MemoryView, PortView, port_view, seen_in, HaveLast, ReadsLast, value_now, slice_index, Closes, IsPortOf}, Current.{have_last, value_last}, Seen.seen_begins, Views.around}
 
 -- the ports of these seats are ports of that history, as callers see them
 abbrev pub ArePortsOf : TableId → List Applied → List SeatedPort → Type 0

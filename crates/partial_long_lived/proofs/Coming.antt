@@ -1,8 +1,5 @@
 -- A port between the parts of a call: it stands where it stood, or has come to a later epoch.
-use Rattle.partial_long_lived.proofs.Common.{ℕ, ◌≡◌, ◌<◌, ◌≤◌, ◌&&◌, ◌++◌, not, Bool, true, false, cond, Some, List, [], ◌∷◌, length, refl, sym, ap, subst, ◌∙◌, inl, inr, arith, append-nil, append_assoc, length-append, nat_lt, TableId, Applied, value_of, Noted, fresh, core_of, seal, unsealed, not_below, public_of, About, Stand, Began, SeatedPort, plan_of, seen_in, BeginsWith, SeatGoes, IsHeld, port_at, SeatSees, Wish, noted_by, opening_of, place_seen, stamp_seen, value_seen, Reads, HasCome, HasNotedRead, HasValue, IsIdle, StaysAt, EpochSettled}
-use Rattle.partial_model.specs.declared.call.Call.TheVariants as call
-use Rattle.partial_model.specs.declared.call.Answer.TheVariants as answer
-use Rattle.partial_model.specs.declared.call.Note.TheVariants as note
+use Rattle.partial_long_lived.proofs.Common.{ℕ, ◌≡◌, ◌<◌, ◌≤◌, ◌&&◌, ◌++◌, not, Bool, true, false, cond, Some, List, [], ◌∷◌, length, refl, sym, ap, subst, ◌∙◌, inl, inr, arith, append-nil, append_assoc, length-append, nat_lt, TableId, Applied, value_of, Noted, fresh, core_of, seal, unsealed, not_below, public_of, About, Stand, Began, SeatedPort, plan_of, seen_in, BeginsWith, SeatGoes, IsHeld, port_at, SeatSees, Wish, noted_by, opening_of, place_seen, stamp_seen, value_seen, Reads, HasCome, HasNotedRead, HasValue, IsIdle, StaysAt, EpochSettled, Call, Answer, Note}
 
 pub begins_on : (h l m : List Applied) → BeginsWith h l → BeginsWith l m → BeginsWith h m
 begins_on h l m a c = (a.0 ++ c.0, c.1 ∙ ap (λ (t : List Applied). t ++ c.0) a.1 ∙ append_assoc h a.0 c.0)
@@ -114,9 +111,9 @@ module _ (table : TableId) (about : About) (s u v t : Stand) (h : IsHeld table a
   place_is_seen = ap (λ (x : SeatedPort). length (seen_in x.port)) (sym w.is)
 
   noted_then : (port_at v).notes ≡ (port_at u).notes ++ record {
-    call = call.Read j;
-    answer = answer.Read (value_seen (port_at u) w.log j) (stamp_seen (port_at u) w.log j);
-    note = Some (note.Saw (place_seen (port_at u) w.log));
+    call = Call.Read j;
+    answer = Answer.Read (value_seen (port_at u) w.log j) (stamp_seen (port_at u) w.log j);
+    note = Some (Note.Saw (place_seen (port_at u) w.log));
   } ∷ []
   noted_then = ap (λ (x : SeatedPort). x.notes) w.is ∙ ap (λ (c : Bool). (port_at u).notes ++ cond c [] (noted_by Reads (port_at u) w.log j)) noted
 
@@ -130,14 +127,14 @@ module _ (table : TableId) (about : About) (s u v t : Stand) (h : IsHeld table a
         come = come_same s v t (come_seen s u v first Reads j a come kept w) kept' same;
         notes = ap (λ (x : SeatedPort). x.notes) same ∙ noted_then
             ∙ ap (λ (l : List Noted). l ++ record {
-              call = call.Read j;
-              answer = answer.Read (value_seen (port_at u) w.log j) (stamp_seen (port_at u) w.log j);
-              note = Some (note.Saw (place_seen (port_at u) w.log));
+              call = Call.Read j;
+              answer = Answer.Read (value_seen (port_at u) w.log j) (stamp_seen (port_at u) w.log j);
+              note = Some (Note.Saw (place_seen (port_at u) w.log));
             } ∷ []) notes
-            ∙ ap (λ n. (port_at s).notes ++ record { call = call.Read j; answer = answer.Read n (stamp_seen (port_at u) w.log j); note = Some (note.Saw (place_seen (port_at u) w.log)) } ∷ [])
+            ∙ ap (λ n. (port_at s).notes ++ record { call = Call.Read j; answer = Answer.Read n (stamp_seen (port_at u) w.log j); note = Some (Note.Saw (place_seen (port_at u) w.log)) } ∷ [])
             (sym answer_value)
-            ∙ ap (λ n. (port_at s).notes ++ record { call = call.Read j; answer = answer.Read value n; note = Some (note.Saw (place_seen (port_at u) w.log)) } ∷ []) (sym answer_stamp)
-            ∙ ap (λ n. (port_at s).notes ++ record { call = call.Read j; answer = answer.Read value stamp; note = Some (note.Saw n) } ∷ [])
+            ∙ ap (λ n. (port_at s).notes ++ record { call = Call.Read j; answer = Answer.Read value n; note = Some (Note.Saw (place_seen (port_at u) w.log)) } ∷ []) (sym answer_stamp)
+            ∙ ap (λ n. (port_at s).notes ++ record { call = Call.Read j; answer = Answer.Read value stamp; note = Some (Note.Saw n) } ∷ [])
             (place ∙ ap (λ (x : SeatedPort). length (seen_in x.port)) (sym same));
         first = let same_began = ap (λ (x : SeatedPort). x.began.length) same in omega (arith, began, same_began);
         behind =

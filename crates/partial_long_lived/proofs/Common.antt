@@ -1,85 +1,32 @@
 -- The names that several proofs of this crate take from elsewhere.
 pub use Rattle.std.proofs.Common.{ℕ, zero, suc, ◌≡◌, ◌≢◌, ◌+◌, ◌<◌, ◌≤◌, ◌==◌, ◌⊎◌, Bool, true, false, cond, List, [], ◌∷◌, ◌++◌, Contains, refl, sym, ◌∙◌, ap, subst, Some, slice_get, inl, inr, arith, None, append-nil, Option, IfSome, true≢false, length, take, ◌-◌, ◌*◌, ◌%◌, ◌^◌, Ok, map, get_or, length-append, set, append_assoc, ◌&&◌, not, Result, Err, IfOk, IfErr, ◌||◌, drop, ◌/◌, rules}
-pub use Rattle.std.specs.List.{AllByRecursion, list_all}
-pub use Rattle.std.specs.Option.{option_map, option_map_or}
-pub use Rattle.std.specs.Prelude.{nat_lt, slice_index, is_some, ⊤}
-pub use Rattle.std.specs.Slots.{slots_items}
-pub use Rattle.std.specs.Vec.{vec_capacity, vec_len}
+pub use Rattle.std.specs.{List.{AllByRecursion, list_all}, Option.{option_map, option_map_or}, Prelude.{nat_lt, slice_index, is_some, ⊤}, Slots.slots_items, Vec.{vec_capacity, vec_len}}
 pub use Rattle.std.proofs.Math.Seq.{take-append_seam}
-pub use Rattle.std.proofs.lemmas.Bool.{lt-ltb, cases_lt}
+pub use Rattle.std.proofs.lemmas.{Bool.{lt-ltb, cases_lt}, List.{length-map, get_or-set_other, nil_from_length, get_or-set_same, take-append-le, take_all, ext_get_or, get_or-map, length-set, get_or_push, get_or_append_left, take-append-drop, append_cancel_left}}
 pub use Rattle.std.proofs.lemmas.Bool.Decides.{eqb_tells}
-pub use Rattle.std.proofs.lemmas.List.{length-map, get_or-set_other, nil_from_length, get_or-set_same, take-append-le, take_all, ext_get_or, get_or-map, length-set, get_or_push, get_or_append_left, take-append-drop, append_cancel_left}
-pub use lib.ListN.{get_elem?}
-pub use lib.Seq.{set-get_or}
+pub use lib.{ListN.get_elem?, Seq.set-get_or}
 pub use mathlib.Core.Option.{some, some-injective, some-ne-none}
 pub use prog.Atomic.{either}
-pub use Rattle.atomic_table.specs.Seated.{TableId}
-pub use Rattle.atomic_table.specs.Table.{Me, Allows, State, keeps, Joins, Splits, opening}
-pub use Rattle.partial_model.specs.declared.call.Answer.{Answer}
-pub use Rattle.partial_model.specs.declared.call.Call.{Call}
-pub use Rattle.partial_model.specs.declared.call.Note.{Note}
-pub use Rattle.partial_model.specs.declared.history.Applied.{Applied}
-pub use Rattle.partial_model.specs.declared.history.Opening.{Opening}
-pub use Rattle.partial_model.specs.History.{stamp_of, IsHistory, value_of, HaveDistinctStamps, initial_stamp, last_entry}
-pub use Rattle.partial_model.specs.Notes.{LegalNotes, IsEntryFor, IsLegal, Noted, seen_by, place_of, Fits, IsTrueOf, AreCollects, seen_after}
-pub use Rattle.partial_model.specs.Outcome.{places_written, EachOnce, places_by, wrote}
-pub use Rattle.partial_model.proofs.AllLemmas.{all_after, all_append, all_at, all_back, all_before, all_front, all_weaker, all_join, all_take}
-pub use Rattle.partial_model.proofs.HistoryLemmas.{stamp_all, behind_both, place_below}
-pub use Rattle.partial_model.proofs.ListLemmas.{some_same}
-pub use Rattle.partial_model.proofs.NotesLemmas.{AllByRecursion-get, LegalNotes-last, legal_notes_are_shown, LegalNotes-push, LegalNotes-grows}
-pub use Rattle.partial_model.proofs.StampsStay.{stamps_never_return, take_within}
+pub use Rattle.atomic_table.specs.{Seated.TableId, Table.{Me, Allows, State, keeps, Joins, Splits, opening}}
+pub use Rattle.partial_model.specs.declared.call.{Answer.Answer, Call.Call, Note.Note}
+pub use Rattle.partial_model.specs.declared.history.{Applied.Applied, Opening.Opening}
+pub use Rattle.partial_model.specs.{History.{stamp_of, IsHistory, value_of, HaveDistinctStamps, initial_stamp, last_entry}, Notes.{LegalNotes, IsEntryFor, IsLegal, Noted, seen_by, place_of, Fits, IsTrueOf, AreCollects, seen_after}, Outcome.{places_written, EachOnce, places_by, wrote}}
+pub use Rattle.partial_model.proofs.{AllLemmas.{all_after, all_append, all_at, all_back, all_before, all_front, all_weaker, all_join, all_take}, HistoryLemmas.{stamp_all, behind_both, place_below}, ListLemmas.some_same, NotesLemmas.{AllByRecursion-get, LegalNotes-last, legal_notes_are_shown, LegalNotes-push, LegalNotes-grows}, StampsStay.{stamps_never_return, take_within}}
 pub use Rattle.partial_words.specs.declared.step.Step.{Step}
 pub use Rattle.partial_words.specs.declared.step.Step.TheVariants.{Load, Exchange, Store, Add}
-pub use Rattle.partial_words.specs.Announcement.{announcement_size}
-pub use Rattle.partial_words.specs.Chain.{opening_word, initial_record_word}
-pub use Rattle.partial_words.specs.Layout.{Layout, first_free, list_base, pool_base, IsLayout, greatest_record, pool_end, list_counter, list_head, pool_counter, slot_counter, slot_word, total, initial_record, initial_words}
-pub use Rattle.partial_words.specs.Record.{value_word, plain_record_size, view_word, prev_word}
-pub use Rattle.partial_words.specs.Step.{answer_of, word_of, words_after}
-pub use Rattle.partial_machine.specs.declared.stage.Change.{Change}
-pub use Rattle.partial_machine.specs.declared.stage.Reply.{Reply}
-pub use Rattle.partial_machine.specs.declared.stage.Stage.{Stage}
+pub use Rattle.partial_words.specs.{Announcement.announcement_size, Chain.{opening_word, initial_record_word}, Layout.{Layout, first_free, list_base, pool_base, IsLayout, greatest_record, pool_end, list_counter, list_head, pool_counter, slot_counter, slot_word, total, initial_record, initial_words}, Record.{value_word, plain_record_size, view_word, prev_word}, Step.{answer_of, word_of, words_after}}
+pub use Rattle.partial_machine.specs.declared.stage.{Change.Change, Reply.Reply, Stage.Stage}
 pub use Rattle.partial_machine.specs.declared.stage.Stage.TheVariants.{Exchanging, Finished, UpdateBegun, Idle, ReadBegun, LoadingValue, GettingSet, Viewing, ClaimingRecord, StoringRecord, ScanBegun, StoringAnnouncement, Joining, Scanning, Leaving}
-pub use Rattle.partial_machine.specs.Behind.{refuses_pool, refuses_slots, IsBehind}
-pub use Rattle.partial_machine.specs.Calls.{is_at_rest, answer_for, call_of, update_call, is_begun}
-pub use Rattle.partial_machine.specs.Lines.{scan_asked}
-pub use Rattle.partial_machine.specs.Machine.{CoreState, fresh, advance_at, at_stage, begin_getting, lists_spent, overtaken_reply, reply_of, step_at, step_of, advance, after_joining, begin_joining, expects, fits_pool, getting, pool_refused, record_size, with_getting, scanned_values, reply_at}
-pub use Rattle.partial_machine.specs.Possible.{IsPossibleAt}
-pub use Rattle.partial_machine.specs.Sound.{AreComponentIndices, IsSound, is_sound_at, IsRecord}
+pub use Rattle.partial_machine.specs.{Behind.{refuses_pool, refuses_slots, IsBehind}, Calls.{is_at_rest, answer_for, call_of, update_call, is_begun}, Lines.scan_asked, Machine.{CoreState, fresh, advance_at, at_stage, begin_getting, lists_spent, overtaken_reply, reply_of, step_at, step_of, advance, after_joining, begin_joining, expects, fits_pool, getting, pool_refused, record_size, with_getting, scanned_values, reply_at}, Possible.IsPossibleAt, Sound.{AreComponentIndices, IsSound, is_sound_at, IsRecord}}
 pub use Rattle.partial_machine.proofs.Laws.{answers_lead_on, due_is_unreplied, due_words_are_there}
-pub use Rattle.partial_core.specs.Part.{IsBetween, IsMarkedLike, core_of, Part, first_at, KeptAnswer}
-pub use Rattle.partial_core.specs.Steps.{AreNotesOf, IsNoteOf, IsPlacedAt, begun_with, since_with, Tells, moved_part, CollectsStamps}
-pub use Rattle.partial_core.proofs.Added.{not_below}
-pub use Rattle.partial_core.proofs.Laws.{lawful_records_are_within, ports_come_between, first_steps_make_calls, further_steps_make_calls}
-pub use Rattle.partial_epochs.specs.Control.{IsPlaceWord, MayPut, IsOld}
-pub use Rattle.partial_epochs.specs.Entering.{arrived_port, having_passed}
-pub use Rattle.partial_epochs.specs.Epochs.{Beside, LawfulEpochs, place_now, IsEpochPlan, IsStanding, numbers, controls, next_epoch_word, HasClearRecords}
-pub use Rattle.partial_epochs.specs.History.{public_stamp, history_of, public_entry, public_log, stamp_limit, opening_behind, carried_after, carried_behind}
-pub use Rattle.partial_epochs.specs.Layout.{Place, Plan, arena_limit, at_word, base, entering_mark, marked, own_word, packed, seal, set_offset, set_word, unsealed, current_word, IsPlace, component_words, control_words, arena_words, IsSealed, plain, placed_step, whole, span, IsToBeSet}
-pub use Rattle.partial_epochs.specs.Lists.{put, list_of}
-pub use Rattle.partial_epochs.specs.MachineSteps.{HaveSlots, MachineLeads, MeetsSeal, ends_over, MayClaim}
-pub use Rattle.partial_epochs.specs.Notes.{LawfulMemory, public_noted, one_history, having_seen, public_of, EpochReached, noting, ExpectedOne, IsEpochHistory}
-pub use Rattle.partial_epochs.specs.Opening.{OpensAll, first_beside, first_ports}
-pub use Rattle.partial_epochs.specs.Owning.{at_next_port, having_given, having_loaded, just_taken, owning_port, having_looked}
-pub use Rattle.partial_epochs.specs.Ports.{Port, OwnedArena, Control, Entering, Epoch}
+pub use Rattle.partial_core.specs.{Part.{IsBetween, IsMarkedLike, core_of, Part, first_at, KeptAnswer}, Steps.{AreNotesOf, IsNoteOf, IsPlacedAt, begun_with, since_with, Tells, moved_part, CollectsStamps}}
+pub use Rattle.partial_core.proofs.{Added.not_below, Laws.{lawful_records_are_within, ports_come_between, first_steps_make_calls, further_steps_make_calls}}
+pub use Rattle.partial_epochs.specs.{Control.{IsPlaceWord, MayPut, IsOld}, Entering.{arrived_port, having_passed}, Epochs.{Beside, LawfulEpochs, place_now, IsEpochPlan, IsStanding, numbers, controls, next_epoch_word, HasClearRecords}, History.{public_stamp, history_of, public_entry, public_log, stamp_limit, opening_behind, carried_after, carried_behind}, Layout.{Place, Plan, arena_limit, at_word, base, entering_mark, marked, own_word, packed, seal, set_offset, set_word, unsealed, current_word, IsPlace, component_words, control_words, arena_words, IsSealed, plain, placed_step, whole, span, IsToBeSet}, Lists.{put, list_of}, MachineSteps.{HaveSlots, MachineLeads, MeetsSeal, ends_over, MayClaim}, Notes.{LawfulMemory, public_noted, one_history, having_seen, public_of, EpochReached, noting, ExpectedOne, IsEpochHistory}, Opening.{OpensAll, first_beside, first_ports}, Owning.{at_next_port, having_given, having_loaded, just_taken, owning_port, having_looked}, Ports.{Port, OwnedArena, Control, Entering, Epoch}, Publishing.{next_place, IsWholeArena, having_published, next_beside, having_set, vacated, resting_arena}, Sealing.{passing_port, IsBesideAs}, Time.KeepsTime}
 pub use Rattle.partial_epochs.specs.Ports.Entering.{Stands, Marks, Loaded}
-pub use Rattle.partial_epochs.specs.Publishing.{next_place, IsWholeArena, having_published, next_beside, having_set, vacated, resting_arena}
-pub use Rattle.partial_epochs.specs.Sealing.{passing_port, IsBesideAs}
-pub use Rattle.partial_epochs.specs.Time.{KeepsTime}
-pub use Rattle.partial_epochs.proofs.Continue.{epochs_continue, history_took, many, last_all}
-pub use Rattle.partial_epochs.proofs.Entering.{current_is, not_marked}
-pub use Rattle.partial_epochs.proofs.Laws.{gives_stay_lawful, loaded_marks_keep_time, marks_are_loaded, others_are_elsewhere, puts_keep_time, puts_stay_lawful, sealed_passes_stay_lawful, seals_stay_lawful, takes_stay_lawful, asides_keep_time, entries_keep_time, entries_load, looks_are_true, looks_keep_time, marks_keep_time, marks_stay_lawful, owners_look, owners_look_away, arrivals_keep_notes, arrivals_keep_time, arrivals_stay_lawful, components_name_records, epochs_are_histories, glances_stay_lawful, seen_records_stay, sights_stay_lawful, unsealed_is_present, machines_are_never_refused, notes_stay_lawful, steps_keep_places, machine_steps_stay_lawful, memories_open_lawful, openings_keep_time, publishes_keep_notes, publishes_keep_time, publishes_stay_lawful, sets_stay_lawful, clear_slots_count_as_set}
-pub use Rattle.partial_epochs.proofs.Lists.{put_other, put_same, at_of, put_all}
-pub use Rattle.partial_epochs.proofs.NotesStay.{legal_notes_seen, one_or_none, places_both}
-pub use Rattle.partial_epochs.proofs.OneHistory.{epochs_fit_one_history, history_grows, held_history, present_history, public_stamps_are_unique}
-pub use Rattle.partial_epochs.proofs.Places.{below_whole, set_place, packed_arena, bases_up, offset_behind, offset_front, slot_offset, slot_set}
-pub use Rattle.partial_epochs.proofs.Present.{same_place}
-pub use Rattle.partial_epochs.proofs.Public.{stamp_public, initial_low, value_public}
-pub use Rattle.partial_epochs.proofs.Seats.{history_longer, among, known}
-pub use Rattle.partial_epochs.proofs.Sights.{asides_stay_lawful, ends}
+pub use Rattle.partial_epochs.proofs.{Continue.{epochs_continue, history_took, many, last_all}, Entering.{current_is, not_marked}, Laws.{gives_stay_lawful, loaded_marks_keep_time, marks_are_loaded, others_are_elsewhere, puts_keep_time, puts_stay_lawful, sealed_passes_stay_lawful, seals_stay_lawful, takes_stay_lawful, asides_keep_time, entries_keep_time, entries_load, looks_are_true, looks_keep_time, marks_keep_time, marks_stay_lawful, owners_look, owners_look_away, arrivals_keep_notes, arrivals_keep_time, arrivals_stay_lawful, components_name_records, epochs_are_histories, glances_stay_lawful, seen_records_stay, sights_stay_lawful, unsealed_is_present, machines_are_never_refused, notes_stay_lawful, steps_keep_places, machine_steps_stay_lawful, memories_open_lawful, openings_keep_time, publishes_keep_notes, publishes_keep_time, publishes_stay_lawful, sets_stay_lawful, clear_slots_count_as_set}, Lists.{put_other, put_same, at_of, put_all}, NotesStay.{legal_notes_seen, one_or_none, places_both}, OneHistory.{epochs_fit_one_history, history_grows, held_history, present_history, public_stamps_are_unique}, Places.{below_whole, set_place, packed_arena, bases_up, offset_behind, offset_front, slot_offset, slot_set}, Present.same_place, Public.{stamp_public, initial_low, value_public}, Seats.{history_longer, among, known}, Sights.{asides_stay_lawful, ends}}
 pub use Rattle.partial_lines.specs.declared.exchange.Exchanged.{Exchanged}
 pub use Rattle.partial_lines.specs.declared.whole_scan.Scanned.{Scanned}
-pub use Rattle.partial_lines.specs.Lines.{IsQuiet}
-pub use Rattle.partial_lines.specs.Replies.{RestsLike, update_reply}
+pub use Rattle.partial_lines.specs.{Lines.IsQuiet, Replies.{RestsLike, update_reply}}
 pub use Rattle.partial_long_lived.specs.declared.answers.UpdatedIf.{UpdatedIf}
 pub use Rattle.partial_long_lived.specs.declared.error.Refused.{Refused}
 pub use Rattle.partial_long_lived.specs.declared.error.Refused.TheVariants.{Component, Overtaken, NoArena, EpochsSpent}
@@ -87,28 +34,6 @@ pub use Rattle.partial_long_lived.specs.declared.rule.About.{About}
 pub use Rattle.partial_long_lived.specs.declared.shape.Shape.{Shape}
 pub use Rattle.partial_long_lived.specs.declared.stand.Stand.{Stand}
 pub use Rattle.partial_long_lived.specs.declared.update_if.Asked.{Asked}
-pub use Rattle.partial_long_lived.specs.Calls.{Differ, HasStampThen, StillStand, IsRefused, Scans, Updates, ScansStamped}
-pub use Rattle.partial_long_lived.specs.Closing.{Closes, IsPortOf}
-pub use Rattle.partial_long_lived.specs.Inner.Calls.{HasCome, HasNotedRead, IsIdle, StaysAt, EpochEntered, LookFound, HasValue, EpochSettled, MayEnter}
-pub use Rattle.partial_long_lived.specs.Inner.Changing.{EpochChanged, NotChanged, IsCarriedStamp, IsRight, IsFixedWord, MayPutPort, OfOwned, Owns, PutsBy, SetsLists, SetsNext, TakesBy, HasSetWords, Stays, HasTaken, HoldsMark, IsPast, Remains, IsCause, HasSamePart, HasLoadedPort, HasPassed, SetsValue, behind_value, behind_values, FoundValue, HasControl}
-pub use Rattle.partial_long_lived.specs.Inner.Conditional.{EndedIf, HasCompared, HasLooked, IsExpected, IsPlaceOf, noted_if, outcome_of, HasUpdatedIf}
-pub use Rattle.partial_long_lived.specs.Inner.DoubleCollect.{AreCollected, HasGlanced, HasStayed, WasThere, AreInside, HadValue, HadValues, HasBegunCollect, MayNoteScan, NotesScan, noted_together, notes_scan}
-pub use Rattle.partial_long_lived.specs.Inner.Held.{IsHeld, epoch_at, port_at}
-pub use Rattle.partial_long_lived.specs.Inner.Last.{HaveLast, ReadsLast, value_now, arena_now, component_now}
-pub use Rattle.partial_long_lived.specs.Inner.Loads.{opening_of, SeatSees, Wish, noted_by, place_seen, stamp_seen, value_seen, Recalls, found_by, component_at, sees}
+pub use Rattle.partial_long_lived.specs.{Calls.{Differ, HasStampThen, StillStand, IsRefused, Scans, Updates, ScansStamped}, Closing.{Closes, IsPortOf}, Ports.{IsOf, MemoryView, PortView, new_ports, port_view, seen_in, AreByOpened, Knows}, Resting.IsResting, Rule.{newcomers, Began, SeatedPort, Found, BeganInTime, IsFinal, IsLast, IsSeat, IsSeen, IsSince, plan_of, IsRuleKept, one_of, seats_of, first_port, flatten, further_ports, newcomer}, Shape.{bare, shape_plan, IsShapeOf}}
+pub use Rattle.partial_long_lived.specs.Inner.{Calls.{HasCome, HasNotedRead, IsIdle, StaysAt, EpochEntered, LookFound, HasValue, EpochSettled, MayEnter}, Changing.{EpochChanged, NotChanged, IsCarriedStamp, IsRight, IsFixedWord, MayPutPort, OfOwned, Owns, PutsBy, SetsLists, SetsNext, TakesBy, HasSetWords, Stays, HasTaken, HoldsMark, IsPast, Remains, IsCause, HasSamePart, HasLoadedPort, HasPassed, SetsValue, behind_value, behind_values, FoundValue, HasControl}, Conditional.{EndedIf, HasCompared, HasLooked, IsExpected, IsPlaceOf, noted_if, outcome_of, HasUpdatedIf}, DoubleCollect.{AreCollected, HasGlanced, HasStayed, WasThere, AreInside, HadValue, HadValues, HasBegunCollect, MayNoteScan, NotesScan, noted_together, notes_scan}, Held.{IsHeld, epoch_at, port_at}, Last.{HaveLast, ReadsLast, value_now, arena_now, component_now}, Loads.{opening_of, SeatSees, Wish, noted_by, place_seen, stamp_seen, value_seen, Recalls, found_by, component_at, sees}, Machine.{SeatMakes, MissesSeal, unsealed_answer, LeavesComponents, IsApart, MayMake, change_of, over_by, told_of, makes, word_at, goes_on, Exchanges, begins, exchanges, SeatBegins}, Meeting.{Observes, HasMet, observes}, Moves.{becomes, FindsClear, SeatGives, LoadsPort, PassesSealed, SeatPublishes, PutsPort, Seals, Sets, Takes, passed_at, unpacked, BeganBy, elsewhere, port_loaded, port_put, taken_at, LoadsCurrent, SeatLooks, StoresMark, having_found, loads, looked_at, marks, SeatArrives, place_found}, Opening.OpensShape, Rests.{NotScanned, RestsAt}, Scans.{HasNotedScan, RestsUnmarked, ScanMade, noted_scan, SettledFirst}, Stamped.{ScannedNamed, ArePublic, MadeNamed, NameStamps, ScannedStamped}, Steps.{SeatGoes, IsSeatKnown, IsOne, tells, BeginsWith, HasStampsInWords, HasRecordStamps}, Unchanged.{stamp_at, HadStamps, HadAnother, HadStamp, HasStamp}, Under.{CallMade, record_claim, IsGoing, ComesTo, MayBegin, machine_at, before_claim}, Updates.{UpdateAttempted, ExchangeDue, ExpectsOne, IsEntryOf, IsOwnMachine, NotesNothing, PortStayed, noted_where, word_from, MayCall, CameBy, IsLate, UpdateEnded, noted_change, public_update, stamp_from, asked_change}}
 pub use Rattle.partial_long_lived.specs.Inner.Loads.Wish.{Glances, Reads, Expects, Finds}
-pub use Rattle.partial_long_lived.specs.Inner.Machine.{SeatMakes, MissesSeal, unsealed_answer, LeavesComponents, IsApart, MayMake, change_of, over_by, told_of, makes, word_at, goes_on, Exchanges, begins, exchanges, SeatBegins}
-pub use Rattle.partial_long_lived.specs.Inner.Meeting.{Observes, HasMet, observes}
-pub use Rattle.partial_long_lived.specs.Inner.Moves.{becomes, FindsClear, SeatGives, LoadsPort, PassesSealed, SeatPublishes, PutsPort, Seals, Sets, Takes, passed_at, unpacked, BeganBy, elsewhere, port_loaded, port_put, taken_at, LoadsCurrent, SeatLooks, StoresMark, having_found, loads, looked_at, marks, SeatArrives, place_found}
-pub use Rattle.partial_long_lived.specs.Inner.Opening.{OpensShape}
-pub use Rattle.partial_long_lived.specs.Inner.Rests.{NotScanned, RestsAt}
-pub use Rattle.partial_long_lived.specs.Inner.Scans.{HasNotedScan, RestsUnmarked, ScanMade, noted_scan, SettledFirst}
-pub use Rattle.partial_long_lived.specs.Inner.Stamped.{ScannedNamed, ArePublic, MadeNamed, NameStamps, ScannedStamped}
-pub use Rattle.partial_long_lived.specs.Inner.Steps.{SeatGoes, IsSeatKnown, IsOne, tells, BeginsWith, HasStampsInWords, HasRecordStamps}
-pub use Rattle.partial_long_lived.specs.Inner.Unchanged.{stamp_at, HadStamps, HadAnother, HadStamp, HasStamp}
-pub use Rattle.partial_long_lived.specs.Inner.Under.{CallMade, record_claim, IsGoing, ComesTo, MayBegin, machine_at, before_claim}
-pub use Rattle.partial_long_lived.specs.Inner.Updates.{UpdateAttempted, ExchangeDue, ExpectsOne, IsEntryOf, IsOwnMachine, NotesNothing, PortStayed, noted_where, word_from, MayCall, CameBy, IsLate, UpdateEnded, noted_change, public_update, stamp_from, asked_change}
-pub use Rattle.partial_long_lived.specs.Ports.{IsOf, MemoryView, PortView, new_ports, port_view, seen_in, AreByOpened, Knows}
-pub use Rattle.partial_long_lived.specs.Resting.{IsResting}
-pub use Rattle.partial_long_lived.specs.Rule.{newcomers, Began, SeatedPort, Found, BeganInTime, IsFinal, IsLast, IsSeat, IsSeen, IsSince, plan_of, IsRuleKept, one_of, seats_of, first_port, flatten, further_ports, newcomer}
-pub use Rattle.partial_long_lived.specs.Shape.{bare, shape_plan, IsShapeOf}

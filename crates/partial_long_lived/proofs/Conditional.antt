@@ -1,12 +1,7 @@
 -- A conditional update of a port: the comparison, and how it ends in the port's epoch.
-use Rattle.partial_long_lived.proofs.Common.{ℕ, ◌≡◌, ◌<◌, ◌≤◌, ◌==◌, ◌&&◌, ◌++◌, Bool, true, false, not, cond, Some, List, [], ◌∷◌, length, refl, sym, ap, subst, ◌∙◌, inl, inr, arith, append-nil, nat_lt, cases_lt, TableId, Applied, Noted, stamp_of, total, Change, is_at_rest, CoreState, IsMarkedLike, core_of, Exchanged, public_stamp, seal, unsealed, public_of, not_below, About, UpdatedIf, Asked, Stand, Began, SeatedPort, plan_of, seen_in, IsIdle, StaysAt, EndedIf, HasCompared, HasLooked, IsExpected, IsPlaceOf, noted_if, outcome_of, IsHeld, port_at, SeatSees, noted_by, opening_of, place_seen, stamp_seen, Expects, BeganBy, UpdateAttempted, ExpectsOne, IsEntryOf, IsOwnMachine, MayCall, NotesNothing, PortStayed, noted_where, take, value_word}
-use Rattle.partial_model.specs.declared.call.Call.TheVariants as call
-use Rattle.partial_model.specs.declared.call.Answer.TheVariants as answer
-use Rattle.partial_model.specs.declared.call.Note.TheVariants as note
+use Rattle.partial_long_lived.proofs.{Common.{ℕ, ◌≡◌, ◌<◌, ◌≤◌, ◌==◌, ◌&&◌, ◌++◌, Bool, true, false, not, cond, Some, List, [], ◌∷◌, length, refl, sym, ap, subst, ◌∙◌, inl, inr, arith, append-nil, nat_lt, cases_lt, TableId, Applied, Noted, stamp_of, total, Change, is_at_rest, CoreState, IsMarkedLike, core_of, Exchanged, public_stamp, seal, unsealed, public_of, not_below, About, UpdatedIf, Asked, Stand, Began, SeatedPort, plan_of, seen_in, IsIdle, StaysAt, EndedIf, HasCompared, HasLooked, IsExpected, IsPlaceOf, noted_if, outcome_of, IsHeld, port_at, SeatSees, noted_by, opening_of, place_seen, stamp_seen, Expects, BeganBy, UpdateAttempted, ExpectsOne, IsEntryOf, IsOwnMachine, MayCall, NotesNothing, PortStayed, noted_where, take, value_word, Call, Answer, Note}, Coming.kept_on}
 use Rattle.partial_lines.specs.declared.exchange.Exchanged.TheVariants.{Applied as IsApplied, Overtaken}
-use Rattle.partial_long_lived.specs.declared.answers.UpdatedIf.TheVariants as ended
 use Rattle.partial_long_lived.specs.declared.update_if.Compared.TheVariants.{Sealed, Same, Other}
-use Rattle.partial_long_lived.proofs.Coming.{kept_on}
 
 -- the word of a record is a small number
 pub record_small : (table : TableId) (about : About) (s : Stand) (at : ℕ) → IsHeld table about s → value_word at < total (port_at s).about.sizes → at < 8388608
@@ -67,7 +62,7 @@ module _ (table : TableId) (about : About) (s u t : Stand) (h : IsHeld table abo
         ∙ ap (public_of (plan_of x.about) x.port.before j) w.stamp
 
     abbrev changed : Noted
-    changed = record { call = call.UpdateIf j asked.expected asked.value; answer = answer.Changed (stamp_seen x w.log j); note = Some (note.Saw (place_seen x w.log)) }
+    changed = record { call = Call.UpdateIf j asked.expected asked.value; answer = Answer.Changed (stamp_seen x w.log j); note = Some (Note.Saw (place_seen x w.log)) }
 
     noted_then : (port_at t).notes ≡ x.notes ++ cond (stamp_seen x w.log j == asked.expected) [] (changed ∷ [])
     noted_then = notes_are ∙ ap (λ b. x.notes ++ cond b [] (noted_by (Expects asked.expected asked.value) x w.log j)) answers
@@ -89,8 +84,8 @@ module _ (table : TableId) (about : About) (s u t : Stand) (h : IsHeld table abo
         let lengths = ap (λ (g : Began). g.length) n in
         let time = w.time (omega (arith, young, epochs)) in (
           noted_then ∙ ap (λ n. x.notes ++ cond (n == asked.expected) [] (changed ∷ [])) (sym stamp_last) ∙ ap (λ b. x.notes ++ cond b [] (changed ∷ [])) unequal
-              ∙ ap (λ n. x.notes ++ record { call = call.UpdateIf j asked.expected asked.value; answer = answer.Changed n; note = Some (note.Saw (place_seen x w.log)) } ∷ []) (sym stamp_last)
-              ∙ ap (λ n. x.notes ++ record { call = call.UpdateIf j asked.expected asked.value; answer = answer.Changed stamp; note = Some (note.Saw n) } ∷ []) place,
+              ∙ ap (λ n. x.notes ++ record { call = Call.UpdateIf j asked.expected asked.value; answer = Answer.Changed n; note = Some (Note.Saw (place_seen x w.log)) } ∷ []) (sym stamp_last)
+              ∙ ap (λ n. x.notes ++ record { call = Call.UpdateIf j asked.expected asked.value; answer = Answer.Changed stamp; note = Some (Note.Saw n) } ∷ []) place,
           omega (arith, time, lengths, place),
         )
 
@@ -143,7 +138,7 @@ pub looked_nothing : (first : Bool) (s t : Stand) → HasLooked first s t → (p
 looked_nothing first s t w same = record { stayed = w.stayed; notes = same }
 
 -- or has ended the call
-pub looked_ended : (first : Bool) (asked : Asked) (stamp : ℕ) (s t : Stand) → HasLooked first s t → HasCompared asked s (Other stamp) t → EndedIf first asked (ended.Changed stamp) s t
+pub looked_ended : (first : Bool) (asked : Asked) (stamp : ℕ) (s t : Stand) → HasLooked first s t → HasCompared asked s (Other stamp) t → EndedIf first asked (UpdatedIf.Changed stamp) s t
 looked_ended first asked stamp s t w found = record {
   stayed = w.stayed;
   place = length (seen_in (port_at t).port);
@@ -182,8 +177,8 @@ module _ (first : Bool) (s u v : Stand) (looked : HasLooked first s u) (same : (
         ∙ ap (λ (l : List (List Applied)). public_of (plan_of (port_at u).about) l asked.component at) w.before ∙ expected.stamp
 
     noted_public : (r : Exchanged) (k : ℕ) → noted_where (port_at v) (Some at) d r k ≡ noted_if asked (outcome_of (port_at v) asked.component r) k
-    noted_public (IsApplied stamp) k = ap (λ e. record { call = call.UpdateIf asked.component e asked.value; answer = answer.Applied (public_stamp (length (port_at v).port.before) stamp); note = Some (note.Wrote k) }) expected_then
-    noted_public (Overtaken by) k = ap (λ e. record { call = call.UpdateIf asked.component e asked.value; answer = answer.Changed (public_of (plan_of (port_at v).about) (port_at v).port.before asked.component by); note = Some (note.Saw k) }) expected_then
+    noted_public (IsApplied stamp) k = ap (λ e. record { call = Call.UpdateIf asked.component e asked.value; answer = Answer.Applied (public_stamp (length (port_at v).port.before) stamp); note = Some (Note.Wrote k) }) expected_then
+    noted_public (Overtaken by) k = ap (λ e. record { call = Call.UpdateIf asked.component e asked.value; answer = Answer.Changed (public_of (plan_of (port_at v).about) (port_at v).port.before asked.component by); note = Some (Note.Saw k) }) expected_then
 
     placed : (r : Exchanged) (k n : ℕ) → IsEntryOf (Some at) r k n → IsPlaceOf (outcome_of (port_at v) asked.component r) k n
     placed (IsApplied stamp) k n is = is

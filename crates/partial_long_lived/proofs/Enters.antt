@@ -1,10 +1,6 @@
 -- The exchange of the entering mark is allowed.
-use Rattle.partial_long_lived.proofs.Common.{ℕ, ◌≡◌, ◌<◌, ◌≤◌, ◌==◌, ◌++◌, cond, None, List, [], ◌∷◌, length, get_or, set, refl, sym, ap, subst, ◌∙◌, inl, inr, arith, append-nil, append_assoc, eqb_tells, either, Me, Allows, Applied, LegalNotes, Noted, put, IsPlace, Place, Plan, at_word, marked, packed, history_of, public_log, Entering, Port, Loaded, arrived_port, Beside, LawfulEpochs, place_now, KeepsTime, LawfulMemory, EpochReached, not_marked, arrivals_keep_notes, arrivals_keep_time, arrivals_stay_lawful, put_other, put_same, history_grows, history_longer, About, IsRuleKept, IsSeat, IsSeen, IsSince, SeatedPort, one_of, plan_of, seen_in, BeginsWith, IsSeatKnown, IsOne, tells, SeatArrives, place_found, unpacked, ends}
+use Rattle.partial_long_lived.proofs.{Common.{ℕ, ◌≡◌, ◌<◌, ◌≤◌, ◌==◌, ◌++◌, cond, None, List, [], ◌∷◌, length, get_or, set, refl, sym, ap, subst, ◌∙◌, inl, inr, arith, append-nil, append_assoc, eqb_tells, either, Me, Allows, Applied, LegalNotes, Noted, put, IsPlace, Place, Plan, at_word, marked, packed, history_of, public_log, Entering, Port, Loaded, arrived_port, Beside, LawfulEpochs, place_now, KeepsTime, LawfulMemory, EpochReached, not_marked, arrivals_keep_notes, arrivals_keep_time, arrivals_stay_lawful, put_other, put_same, history_grows, history_longer, About, IsRuleKept, IsSeat, IsSeen, IsSince, SeatedPort, one_of, plan_of, seen_in, BeginsWith, IsSeatKnown, IsOne, tells, SeatArrives, place_found, unpacked, ends}, Seen.legal_begins, Kept.{Moved, allowed, none_grown, not_grown}, Control.unpacked_is, Changes.either_cond}
 use Rattle.partial_epochs.specs.Entering as law
-use Rattle.partial_long_lived.proofs.Seen.{legal_begins}
-use Rattle.partial_long_lived.proofs.Kept.{Moved, allowed, none_grown, not_grown}
-use Rattle.partial_long_lived.proofs.Control.{unpacked_is}
-use Rattle.partial_long_lived.proofs.Changes.{either_cond}
 
 -- the place to which the port comes is the one that its word tells
 arrival_place : (e : Plan) (words : List ℕ) (ports : ℕ → Port) (b : Beside) (k : ℕ) (c : Place) → LawfulEpochs e words ports b → k < e.ports → (w : law.Arrives e words ports b k c) →

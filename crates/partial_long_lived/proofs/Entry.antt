@@ -1,8 +1,5 @@
 -- How a port enters an epoch, step by step.
-use Rattle.partial_long_lived.proofs.Common.{ℕ, ◌≡◌, ◌+◌, ◌==◌, List, sym, ap, subst, ◌∙◌, arith, either, Me, Allows, TableId, at_word, marked, packed, About, Stand, IsRuleKept, SeatedPort, one_of, tells, IsHeld, port_at, SeatArrives, LoadsCurrent, StoresMark, unpacked, MayEnter}
-use Rattle.partial_long_lived.proofs.Control.{may_load, may_mark}
-use Rattle.partial_long_lived.proofs.Enters.{may_arrive}
-use Rattle.partial_long_lived.proofs.Standing.{place_is}
+use Rattle.partial_long_lived.proofs.{Common.{ℕ, ◌≡◌, ◌+◌, ◌==◌, List, sym, ap, subst, ◌∙◌, arith, either, Me, Allows, TableId, at_word, marked, packed, About, Stand, IsRuleKept, SeatedPort, one_of, tells, IsHeld, port_at, SeatArrives, LoadsCurrent, StoresMark, unpacked, MayEnter}, Control.{may_load, may_mark}, Enters.may_arrive, Standing.place_is}
 
 module _ (table : TableId) (about : About) (s : Stand) (h : IsHeld table about s) where
   -- the mark that is stored

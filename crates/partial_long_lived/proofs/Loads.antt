@@ -1,14 +1,6 @@
 -- Loads of component words are allowed, and what they tell.
-use Rattle.partial_long_lived.proofs.Common.{ℕ, ◌≡◌, ◌≢◌, ◌+◌, ◌<◌, ◌≤◌, ◌==◌, ◌⊎◌, ◌&&◌, ◌++◌, not, Bool, true, false, cond, Option, Some, None, IfSome, List, [], ◌∷◌, length, map, take, get_or, set, refl, sym, ap, subst, ◌∙◌, inl, inr, arith, append-nil, append_assoc, length-append, ⊤, nat_lt, AllByRecursion, eqb_tells, length-map, take-append-le, take_all, Applied, Opening, Note, stamp_of, value_of, Fits, IsTrueOf, LegalNotes, Noted, place_of, seen_by, AreCollects, LegalNotes-push, first_free, put, MayPut, Place, Plan, base, component_words, seal, unsealed, carried_after, carried_behind, history_of, opening_behind, public_entry, public_log, Port, Stands, Beside, IsStanding, place_now, LawfulMemory, having_seen, noting, public_of, IsBesideAs, KeepsTime, asides_keep_time, components_name_records, epochs_are_histories, glances_stay_lawful, seen_records_stay, sights_stay_lawful, unsealed_is_present, history_took, at_of, put_all, put_other, put_same, held_history, history_grows, among, history_longer, About, Began, Found, BeganInTime, IsFinal, IsSeat, SeatedPort, plan_of, seen_in, BeginsWith, IsSeatKnown, Recalls, SeatSees, Wish, found_by, noted_by, place_seen, stamp_seen, MayNoteScan, NotesScan, noted_together, Expects, Finds, Glances, Reads, epochs_continue, stamp_public, value_public}
-use Rattle.partial_model.specs.declared.call.Call.TheVariants as call
-use Rattle.partial_model.specs.declared.call.Answer.TheVariants as answer
-use Rattle.partial_model.specs.declared.call.Note.TheVariants as note
+use Rattle.partial_long_lived.proofs.{Common.{ℕ, ◌≡◌, ◌≢◌, ◌+◌, ◌<◌, ◌≤◌, ◌==◌, ◌⊎◌, ◌&&◌, ◌++◌, not, Bool, true, false, cond, Option, Some, None, IfSome, List, [], ◌∷◌, length, map, take, get_or, set, refl, sym, ap, subst, ◌∙◌, inl, inr, arith, append-nil, append_assoc, length-append, ⊤, nat_lt, AllByRecursion, eqb_tells, length-map, take-append-le, take_all, Applied, Opening, Note, stamp_of, value_of, Fits, IsTrueOf, LegalNotes, Noted, place_of, seen_by, AreCollects, LegalNotes-push, first_free, put, MayPut, Place, Plan, base, component_words, seal, unsealed, carried_after, carried_behind, history_of, opening_behind, public_entry, public_log, Port, Stands, Beside, IsStanding, place_now, LawfulMemory, having_seen, noting, public_of, IsBesideAs, KeepsTime, asides_keep_time, components_name_records, epochs_are_histories, glances_stay_lawful, seen_records_stay, sights_stay_lawful, unsealed_is_present, history_took, at_of, put_all, put_other, put_same, held_history, history_grows, among, history_longer, About, Began, Found, BeganInTime, IsFinal, IsSeat, SeatedPort, plan_of, seen_in, BeginsWith, IsSeatKnown, Recalls, SeatSees, Wish, found_by, noted_by, place_seen, stamp_seen, MayNoteScan, NotesScan, noted_together, Expects, Finds, Glances, Reads, epochs_continue, stamp_public, value_public, Call, Answer}, Begins.{began_by, seen_few}, Control.{load_same, stands_since}, Kept.{Moved, begun_grows, final_grows, none_grown, not_grown}, Lists.{cut, same_before}, Seen.legal_begins}
 use Rattle.partial_epochs.proofs.Last.{is_raw, within as arena_within}
-use Rattle.partial_long_lived.proofs.Begins.{began_by, seen_few}
-use Rattle.partial_long_lived.proofs.Control.{load_same, stands_since}
-use Rattle.partial_long_lived.proofs.Kept.{Moved, begun_grows, final_grows, none_grown, not_grown}
-use Rattle.partial_long_lived.proofs.Lists.{cut, same_before}
-use Rattle.partial_long_lived.proofs.Seen.{legal_begins}
 
 -- the port wants what the next epoch begins with
 abbrev pub IsFinding : Wish → Type 0
@@ -82,8 +74,8 @@ module _ (a : About) (words : List ℕ) (ports : ℕ → Port) (notes : ℕ → 
 
   -- a note that is true behind the first i entries of the epoch's history, and behind all of them
   abbrev IsTrueAt : ℕ → Noted → Type 0
-  IsTrueAt i n = (n.note ≡ Some (note.Saw (length (history_of (ports k).before) + i))) × Fits (length a.opening.values) n.call n.answer n.note
-      × IsTrueOf a.opening (history_of (log ∷ (ports k).before)) k n.call n.answer (note.Saw (length (history_of (ports k).before) + i))
+  IsTrueAt i n = (n.note ≡ Some (Note.Saw (length (history_of (ports k).before) + i))) × Fits (length a.opening.values) n.call n.answer n.note
+      × IsTrueOf a.opening (history_of (log ∷ (ports k).before)) k n.call n.answer (Note.Saw (length (history_of (ports k).before) + i))
 
   abbrev IsTrueHere : Noted → Type 0
   IsTrueHere n = IsTrueAt (length log) n
@@ -118,7 +110,7 @@ module _ (a : About) (words : List ℕ) (ports : ℕ → Port) (notes : ℕ → 
         ∙ (epochs_continue a.opening log (ports k).before j (omega (arith, values, inside))).stamp
 
     abbrev changed_note : ℕ → ℕ → Noted
-    changed_note expected v = record { call = call.UpdateIf j expected v; answer = answer.Changed (stamp_seen X log j); note = Some (note.Saw (place_seen X log)) }
+    changed_note expected v = record { call = Call.UpdateIf j expected v; answer = Answer.Changed (stamp_seen X log j); note = Some (Note.Saw (place_seen X log)) }
 
     -- what is noted is true
     notes_true : (wish : Wish) → AllByRecursion IsTrueHere (noted_by wish X log j)
@@ -126,13 +118,13 @@ module _ (a : About) (words : List ℕ) (ports : ℕ → Port) (notes : ℕ → 
     notes_true Finds = tt
     notes_true Reads =
         let values = w.epochs.plan.values in
-        ((ap (λ n. Some (note.Saw n)) long, omega (arith, values, inside), (omega (arith, long), value_is, stamp_is)), tt)
+        ((ap (λ n. Some (Note.Saw n)) long, omega (arith, values, inside), (omega (arith, long), value_is, stamp_is)), tt)
     notes_true (Expects expected v) = elim (eqb_tells (stamp_seen X log j) expected) [
       | inl same ↦ subst (λ (c : Bool). AllByRecursion IsTrueHere (cond c [] (changed_note expected v ∷ []))) (sym same.0) tt
       | inr ne ↦
           let values = w.epochs.plan.values in
           subst (λ (c : Bool). AllByRecursion IsTrueHere (cond c [] (changed_note expected v ∷ []))) (sym ne.0)
-          ((ap (λ n. Some (note.Saw n)) long, omega (arith, values, inside), (omega (arith, long), sym stamp_is, ne.1)), tt)
+          ((ap (λ n. Some (Note.Saw n)) long, omega (arith, values, inside), (omega (arith, long), sym stamp_is, ne.1)), tt)
     ]
 
   -- the port once it has seen all of its epoch, and has noted these calls

@@ -1,13 +1,5 @@
 -- The steps of a port's machine are allowed.
-use Rattle.partial_long_lived.proofs.Common.{ℕ, ◌≡◌, ◌≢◌, ◌+◌, ◌<◌, ◌≤◌, ◌||◌, ◌++◌, Bool, true, false, cond, Option, Some, None, IfSome, List, [], ◌∷◌, length, map, take, drop, get_or, set, refl, sym, ap, subst, ◌∙◌, inl, inr, arith, append-nil, append_assoc, length-append, AllByRecursion, length-map, take-append-drop, take-append-le, set-get_or, Applied, Call, Answer, stamp_of, LegalNotes, Noted, seen_by, Step, Load, Store, Exchange, Add, answer_of, word_of, words_after, CoreState, advance, reply_of, answer_for, call_of, is_begun, Part, core_of, begun_with, since_with, put, IsSealed, Place, Plan, arena_words, base, component_words, plain, placed_step, history_of, opening_behind, public_entry, public_log, among, history_longer, known, Control, Entering, Epoch, Port, Stands, Marks, Loaded, IsOld, MayPut, option_map, present_history, all_back, Beside, IsStanding, LawfulEpochs, numbers, place_now, HaveSlots, MachineLeads, MeetsSeal, ends_over, ExpectedOne, LawfulMemory, EpochReached, noting, public_noted, KeepsTime, asides_keep_time, machines_are_never_refused, notes_stay_lawful, steps_keep_places, put_all, put_other, put_same, About, Began, Found, IsFinal, IsLast, IsSeat, SeatedPort, plan_of, seen_in, BeginsWith, IsSeatKnown, IsApart, SeatMakes, MayMake, unsealed_answer, change_of, over_by, told_of, legal_notes_seen, one_or_none}
-use Rattle.partial_model.specs.declared.call.Call.TheVariants as call
-use Rattle.partial_model.specs.declared.call.Answer.TheVariants as answer
-use Rattle.partial_long_lived.proofs.Begins.{began_by, seen_few}
-use Rattle.partial_long_lived.proofs.Control.{stands_since}
-use Rattle.partial_long_lived.proofs.Kept.{Grows, HasGrown, HaveGrown, Moved, begun_grows, final_grows, moved_says}
-use Rattle.partial_long_lived.proofs.Lists.{same_before}
-use Rattle.partial_long_lived.proofs.Seen.{legal_begins}
-use Rattle.partial_long_lived.proofs.Loads.{begun_place, seat_at}
+use Rattle.partial_long_lived.proofs.{Common.{ℕ, ◌≡◌, ◌≢◌, ◌+◌, ◌<◌, ◌≤◌, ◌||◌, ◌++◌, Bool, true, false, cond, Option, Some, None, IfSome, List, [], ◌∷◌, length, map, take, drop, get_or, set, refl, sym, ap, subst, ◌∙◌, inl, inr, arith, append-nil, append_assoc, length-append, AllByRecursion, length-map, take-append-drop, take-append-le, set-get_or, Applied, Call, Answer, stamp_of, LegalNotes, Noted, seen_by, Step, Load, Store, Exchange, Add, answer_of, word_of, words_after, CoreState, advance, reply_of, answer_for, call_of, is_begun, Part, core_of, begun_with, since_with, put, IsSealed, Place, Plan, arena_words, base, component_words, plain, placed_step, history_of, opening_behind, public_entry, public_log, among, history_longer, known, Control, Entering, Epoch, Port, Stands, Marks, Loaded, IsOld, MayPut, option_map, present_history, all_back, Beside, IsStanding, LawfulEpochs, numbers, place_now, HaveSlots, MachineLeads, MeetsSeal, ends_over, ExpectedOne, LawfulMemory, EpochReached, noting, public_noted, KeepsTime, asides_keep_time, machines_are_never_refused, notes_stay_lawful, steps_keep_places, put_all, put_other, put_same, About, Began, Found, IsFinal, IsLast, IsSeat, SeatedPort, plan_of, seen_in, BeginsWith, IsSeatKnown, IsApart, SeatMakes, MayMake, unsealed_answer, change_of, over_by, told_of, legal_notes_seen, one_or_none}, Begins.{began_by, seen_few}, Control.stands_since, Kept.{Grows, HasGrown, HaveGrown, Moved, begun_grows, final_grows, moved_says}, Lists.same_before, Seen.legal_begins, Loads.{begun_place, seat_at}}
 
 -- a step does the same to plain words as to those of a table
 pub words_then : (words : List ℕ) (e : Plan) (x : ℕ) (s : Step) → words_after words (placed_step e x s) ≡ set words (base e x + word_of s) (change_of s (get_or words (base e x + word_of s) 0))
@@ -193,21 +185,21 @@ module _ (a : About) (words : List ℕ) (ports : ℕ → Port) (notes : ℕ → 
   ]
     where
       by : (d : Call) (r : Answer) → call_of (begun_with c (ports k).part) ≡ Some d → ExpectedOne (opening_behind a.opening (ports k).before) lead.port.part.seen d r
-      by (call.UpdateIf j x v) (answer.Changed t) made =
+      by (Call.UpdateIf j x v) (Answer.Changed t) made =
           let had = may.expects j x v made in
           let r = seen_rest in
           let long = ap (λ (l : List Applied). length l) r.1 in
           let both = length-append (ports k).part.seen r.0 in
           let few = had.1 in
           (had.0, omega (arith, long, both, few), had.2 ∙ ap (λ (l : List Applied). stamp_of (opening_behind a.opening (ports k).before) l j) (sym (take-append-le had.0 (ports k).part.seen r.0 few) ∙ ap (take had.0) (sym r.1)))
-      by (call.UpdateIf j x v) (answer.Applied t) made = tt
-      by (call.UpdateIf j x v) (answer.Lost t) made = tt
-      by (call.UpdateIf j x v) (answer.Scanned vs n b) made = tt
-      by (call.UpdateIf j x v) (answer.Read y t) made = tt
-      by (call.UpdateIf j x v) (answer.Refused cause) made = tt
-      by (call.Update j v) r made = tt
-      by (call.Scan js) r made = tt
-      by (call.Read j) r made = tt
+      by (Call.UpdateIf j x v) (Answer.Applied t) made = tt
+      by (Call.UpdateIf j x v) (Answer.Lost t) made = tt
+      by (Call.UpdateIf j x v) (Answer.Scanned vs n b) made = tt
+      by (Call.UpdateIf j x v) (Answer.Read y t) made = tt
+      by (Call.UpdateIf j x v) (Answer.Refused cause) made = tt
+      by (Call.Update j v) r made = tt
+      by (Call.Scan js) r made = tt
+      by (Call.Read j) r made = tt
 
   abbrev words' : List ℕ
   words' = words_after words (placed_step e (ports k).control.here.arena step)

@@ -1,10 +1,6 @@
 -- The steps of the machine of a seat's port are allowed.
-use Rattle.partial_long_lived.proofs.Common.{ℕ, ◌≡◌, ◌+◌, ◌<◌, Bool, false, cond, List, get_or, set, refl, sym, ap, subst, ◌∙◌, inl, inr, arith, ◌⊎◌, set-get_or, Me, Allows, Step, Load, Exchange, word_of, CoreState, IsSealed, Place, Plan, base, component_words, HaveSlots, MachineLeads, MeetsSeal, machine_steps_stay_lawful, unsealed_is_present, at_of, eqb_tells, About, IsRuleKept, IsSeat, SeatedPort, one_of, plan_of, IsSeatKnown, IsOne, tells, seal, unsealed, cases_lt, lt-ltb, Glances, Exchanges, IsApart, SeatMakes, MayMake, MissesSeal, unsealed_answer, change_of, makes}
+use Rattle.partial_long_lived.proofs.{Common.{ℕ, ◌≡◌, ◌+◌, ◌<◌, Bool, false, cond, List, get_or, set, refl, sym, ap, subst, ◌∙◌, inl, inr, arith, ◌⊎◌, set-get_or, Me, Allows, Step, Load, Exchange, word_of, CoreState, IsSealed, Place, Plan, base, component_words, HaveSlots, MachineLeads, MeetsSeal, machine_steps_stay_lawful, unsealed_is_present, at_of, eqb_tells, About, IsRuleKept, IsSeat, SeatedPort, one_of, plan_of, IsSeatKnown, IsOne, tells, seal, unsealed, cases_lt, lt-ltb, Glances, Exchanges, IsApart, SeatMakes, MayMake, MissesSeal, unsealed_answer, change_of, makes}, Sights.nothing_moved, Kept.{Moved, allowed, moved_as, moved_says}, Loads.{moved_see, seat_at, seat_is}, Machine.{moved_come, moved_make, never_met, words_then}}
 use Rattle.partial_long_lived.specs.Inner.Machine.{SeatBegins as BeginsUpdate}
-use Rattle.partial_long_lived.proofs.Sights.{nothing_moved}
-use Rattle.partial_long_lived.proofs.Kept.{Moved, allowed, moved_as, moved_says}
-use Rattle.partial_long_lived.proofs.Loads.{moved_see, seat_at, seat_is}
-use Rattle.partial_long_lived.proofs.Machine.{moved_come, moved_make, never_met, words_then}
 
 -- a word is the record old, sealed, or it isn't
 seal_cases : (old n : ℕ) → (IsSealed n × unsealed n ≡ old) ⊎ MissesSeal old n

@@ -1,10 +1,5 @@
 -- The step by which one port of a seat of two sees all of its epoch.
-use Rattle.partial_long_lived.proofs.Common.{ℕ, ◌≡◌, ◌<◌, ◌≤◌, ◌++◌, List, [], ◌∷◌, length, get_or, set, refl, sym, ap, subst, ◌∙◌, arith, Option, append-nil, append_assoc, length-append, AllByRecursion, Me, Allows, keeps, Applied, Noted, all_at, all_after, history_of, public_log, Port, Stands, Beside, place_now, LawfulMemory, having_seen, one_history, KeepsTime, history_grows, history_longer, About, Began, Found, BeganInTime, IsRuleKept, IsSeat, SeatedPort, one_of, plan_of, seats_of, seen_in, BeginsWith, IsSeatKnown, IsOne, Observes, observes}
-use Rattle.partial_long_lived.proofs.Begins.{now, now_has_begun, seen_few}
-use Rattle.partial_long_lived.proofs.Kept.{Moved, goes_then, once_then, seats_then}
-use Rattle.partial_long_lived.proofs.Loads.{begun_place, moved_glance, seat_at, seat_is, standing, where_is}
-use Rattle.partial_long_lived.proofs.Seen.{seen_begins}
-use Rattle.partial_long_lived.proofs.Views.{around}
+use Rattle.partial_long_lived.proofs.{Common.{ℕ, ◌≡◌, ◌<◌, ◌≤◌, ◌++◌, List, [], ◌∷◌, length, get_or, set, refl, sym, ap, subst, ◌∙◌, arith, Option, append-nil, append_assoc, length-append, AllByRecursion, Me, Allows, keeps, Applied, Noted, all_at, all_after, history_of, public_log, Port, Stands, Beside, place_now, LawfulMemory, having_seen, one_history, KeepsTime, history_grows, history_longer, About, Began, Found, BeganInTime, IsRuleKept, IsSeat, SeatedPort, one_of, plan_of, seats_of, seen_in, BeginsWith, IsSeatKnown, IsOne, Observes, observes}, Begins.{now, now_has_begun, seen_few}, Kept.{Moved, goes_then, once_then, seats_then}, Loads.{begun_place, moved_glance, seat_at, seat_is, standing, where_is}, Seen.seen_begins, Views.around}
 
 -- of two beginnings of a history the longer one begins with the other
 begins_within : (h l m : List Applied) → BeginsWith h m → BeginsWith l m → length h ≤ length l → BeginsWith h l

@@ -1,8 +1,6 @@
 -- How a meeting of two ports leaves each of them.
-use Rattle.partial_long_lived.proofs.Common.{◌≡◌, ◌<◌, ◌≤◌, List, [], ◌∷◌, length, take, inl, sym, ap, subst, ◌∙◌, arith, append-nil, take-append_seam, Me, TableId, Applied, core_of, About, Stand, Began, SeatedPort, first_port, one_of, IsOf, MemoryView, PortView, port_view, seen_in, HasCome, IsIdle, StaysAt, EpochSettled, IsHeld, port_at, BeginsWith, IsOne, HasMet, Observes}
+use Rattle.partial_long_lived.proofs.{Common.{◌≡◌, ◌<◌, ◌≤◌, List, [], ◌∷◌, length, take, inl, sym, ap, subst, ◌∙◌, arith, append-nil, take-append_seam, Me, TableId, Applied, core_of, About, Stand, Began, SeatedPort, first_port, one_of, IsOf, MemoryView, PortView, port_view, seen_in, HasCome, IsIdle, StaysAt, EpochSettled, IsHeld, port_at, BeginsWith, IsOne, HasMet, Observes}, Answering.{callers_see, goes_seen, view_before, view_behind}, Coming.{begins_on, come_on}}
 use Rattle.partial_long_lived.specs.Calls as calls
-use Rattle.partial_long_lived.proofs.Answering.{callers_see, goes_seen, view_before, view_behind}
-use Rattle.partial_long_lived.proofs.Coming.{begins_on, come_on}
 
 -- a port that has seen all of its epoch stands where it stood
 observed_come : (s t : Stand) (y : SeatedPort) → IsIdle s → StaysAt s t → Observes (port_at s) y (port_at t) → HasCome s t

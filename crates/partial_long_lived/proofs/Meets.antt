@@ -1,6 +1,5 @@
 -- A port gets a seat of its own, and seats are gathered.
-use Rattle.partial_long_lived.proofs.Common.{ℕ, zero, suc, ◌≡◌, ◌≢◌, ◌++◌, List, [], ◌∷◌, set, refl, sym, ap, subst, ◌∙◌, arith, append-nil, AllByRecursion, get_elem?, Joins, Splits, State, all_after, all_append, all_at, all_back, all_before, all_front, About, IsRuleKept, IsSeat, SeatedPort, first_port, flatten, further_ports, seats_of}
-use Rattle.partial_long_lived.proofs.Views.{around, flatten-snoc, seats_both}
+use Rattle.partial_long_lived.proofs.{Common.{ℕ, zero, suc, ◌≡◌, ◌≢◌, ◌++◌, List, [], ◌∷◌, set, refl, sym, ap, subst, ◌∙◌, arith, append-nil, AllByRecursion, get_elem?, Joins, Splits, State, all_after, all_append, all_at, all_back, all_before, all_front, About, IsRuleKept, IsSeat, SeatedPort, first_port, flatten, further_ports, seats_of}, Views.{around, flatten-snoc, seats_both}}
 
 -- the rule holds with the same seats in other views
 regrouped : {S : Type 0} (about : About) (s : State S (List SeatedPort)) (views : List (List SeatedPort)) (kept : IsRuleKept about s) →

@@ -1,18 +1,8 @@
 -- A scan where a port stands: its first step is allowed, and what it leaves of its port.
-use Rattle.partial_long_lived.proofs.Common.{None, ℕ, ◌≡◌, ◌+◌, ◌-◌, ◌%◌, ◌^◌, ◌<◌, ◌≤◌, ◌||◌, ◌++◌, Bool, false, cond, Option, Some, List, [], ◌∷◌, length, map, refl, sym, ap, subst, ◌∙◌, inl, inr, arith, length-append, is_some, slice_index, length-map, Allows, TableId, Applied, Call, Note, Noted, place_of, Add, Layout, IsLayout, pool_counter, total, Reply, call_of, CoreState, advance, reply_of, scanned_values, step_of, AreComponentIndices, IsSound, AreNotesOf, IsNoteOf, IsPlacedAt, Plan, base, plain, unsealed, history_of, public_entry, public_log, public_noted, Control, not_below, RestsLike, About, Stand, Began, IsRuleKept, SeatedPort, plan_of, SeatGoes, IsOne, IsHeld, port_at, IsIdle, component_at, SeatMakes, unsealed_answer, makes, over_by, word_at, HasNotedScan, RestsUnmarked, ScanMade, SettledFirst, noted_scan, CallMade, IsGoing, ComesTo, MayBegin, machine_at, take, Opening, stamp_of, CollectsStamps, opening_behind, stamp_limit, public_of, stamp_public, opening_of, MadeNamed, NameStamps, ScannedNamed, stamp_at, announcement_size, scan_asked}
+use Rattle.partial_long_lived.proofs.{Common.{None, ℕ, ◌≡◌, ◌+◌, ◌-◌, ◌%◌, ◌^◌, ◌<◌, ◌≤◌, ◌||◌, ◌++◌, Bool, false, cond, Option, Some, List, [], ◌∷◌, length, map, refl, sym, ap, subst, ◌∙◌, inl, inr, arith, length-append, is_some, slice_index, length-map, Allows, TableId, Applied, Call, Note, Noted, place_of, Add, Layout, IsLayout, pool_counter, total, Reply, call_of, CoreState, advance, reply_of, scanned_values, step_of, AreComponentIndices, IsSound, AreNotesOf, IsNoteOf, IsPlacedAt, Plan, base, plain, unsealed, history_of, public_entry, public_log, public_noted, Control, not_below, RestsLike, About, Stand, Began, IsRuleKept, SeatedPort, plan_of, SeatGoes, IsOne, IsHeld, port_at, IsIdle, component_at, SeatMakes, unsealed_answer, makes, over_by, word_at, HasNotedScan, RestsUnmarked, ScanMade, SettledFirst, noted_scan, CallMade, IsGoing, ComesTo, MayBegin, machine_at, take, Opening, stamp_of, CollectsStamps, opening_behind, stamp_limit, public_of, stamp_public, opening_of, MadeNamed, NameStamps, ScannedNamed, stamp_at, announcement_size, scan_asked, Answer}, RecordStamps.{stamp_small, unsealed_same}, Coming.goes_on, Making.may_make, Standing.{arena_there, held_then, room_of}, Under.{first_made, first_may}, Unmarked.marks_stay}
 use Rattle.partial_knowledge.specs.Scans.{AreStamps}
-use Rattle.partial_long_lived.proofs.RecordStamps.{stamp_small, unsealed_same}
-use Rattle.partial_model.specs.declared.call.Call.TheVariants as call
-use Rattle.partial_model.specs.declared.call.Answer.TheVariants as answer
-use Rattle.partial_model.specs.declared.call.Note.TheVariants as note
 use Rattle.partial_embedded.specs.Embedded.{RowsState}
-use Rattle.partial_machine.specs.declared.stage.Reply.TheVariants as reply
 use Rattle.partial_long_lived.specs.Inner.Scans.{ScanBegun}
-use Rattle.partial_long_lived.proofs.Coming.{goes_on}
-use Rattle.partial_long_lived.proofs.Making.{may_make}
-use Rattle.partial_long_lived.proofs.Standing.{arena_there, held_then, room_of}
-use Rattle.partial_long_lived.proofs.Under.{first_made, first_may}
-use Rattle.partial_long_lived.proofs.Unmarked.{marks_stay}
 
 -- a machine without marks may begin a scan of some components
 pub scan_begins : (table : TableId) (about : About) (s : Stand) (core : CoreState) (which : List ℕ) → IsHeld table about s → IsIdle s → RestsUnmarked (port_at s) core → (port_at s).port.over ≡ false →
@@ -37,7 +27,7 @@ scan_begins table about s core which h idle rests spare asked some =
       sizes = rests.sizes;
       spare = spare;
       unmarked = (rests.pool, rests.slots);
-      expects = λ j t v is. (let bad : Some (call.Scan which) ≡ Some (call.UpdateIf j t v) = is in cc);
+      expects = λ j t v is. (let bad : Some (Call.Scan which) ≡ Some (Call.UpdateIf j t v) = is in cc);
     }
 
 -- the first step, the claim of n words by the add to word w of the arena
@@ -108,15 +98,15 @@ module _ (table : TableId) (about : About) (s : Stand) (h : IsHeld table about s
     }
 
 -- a scan is noted at a place that it has seen
-saw_at : (collects : ℕ) (borrowed : Option ℕ) (n : Note) (seen : ℕ) → IsPlacedAt (reply.Scanned collects borrowed) n seen → (k : ℕ) × (n ≡ note.Saw k) × (k ≤ seen)
-saw_at collects borrowed (note.Saw k) seen placed_step = (k, refl, placed_step)
-saw_at collects borrowed (note.Wrote k) seen placed_step = absurd placed_step
-saw_at collects borrowed (note.Lost k) seen placed_step = absurd placed_step
+saw_at : (collects : ℕ) (borrowed : Option ℕ) (n : Note) (seen : ℕ) → IsPlacedAt (Reply.Scanned collects borrowed) n seen → (k : ℕ) × (n ≡ Note.Saw k) × (k ≤ seen)
+saw_at collects borrowed (Note.Saw k) seen placed_step = (k, refl, placed_step)
+saw_at collects borrowed (Note.Wrote k) seen placed_step = absurd placed_step
+saw_at collects borrowed (Note.Lost k) seen placed_step = absurd placed_step
 
 -- The scan that the machine b began at the stand s, whose first step led to the stand u, has come to its reply at the stand t.
 module _ (table : TableId) (about : About) (s u t : Stand) (h : IsHeld table about s) (idle : IsIdle s) (core : CoreState) (which : List ℕ) (begins : MayBegin (scan_asked core which) (port_at s))
     (a : ℕ) (begun : ScanBegun (scan_asked core which) (length which) s a u) (leads : ComesTo u t) (collects : ℕ) (borrowed : Option ℕ)
-    (replies : reply_of (machine_at t) ≡ Some (reply.Scanned collects borrowed)) where
+    (replies : reply_of (machine_at t) ≡ Some (Reply.Scanned collects borrowed)) where
   abbrev x : SeatedPort
   x = port_at s
 
@@ -129,14 +119,14 @@ module _ (table : TableId) (about : About) (s u t : Stand) (h : IsHeld table abo
   call_over : CallMade b x (machine_at t) y
   call_over = leads.call b x begins begun.made
 
-  note_of : IsNoteOf (opening_of x) y.port.part (reply.Scanned collects borrowed) call_over.made.new
+  note_of : IsNoteOf (opening_of x) y.port.part (Reply.Scanned collects borrowed) call_over.made.new
   note_of = subst (λ (r : Option Reply). AreNotesOf (opening_of x) y.port.part r call_over.made.new) replies call_over.made.noted
 
-  saw : (k : ℕ) × (note_of.note ≡ note.Saw k) × (k ≤ length y.port.part.seen)
+  saw : (k : ℕ) × (note_of.note ≡ Note.Saw k) × (k ≤ length y.port.part.seen)
   saw = saw_at collects borrowed note_of.note (length y.port.part.seen) note_of.placed
 
-  call_is : note_of.call ≡ call.Scan which
-  call_is = let same : Some note_of.call ≡ Some (call.Scan which) = sym note_of.made ∙ ap call_of call_over.made.begun in cc
+  call_is : note_of.call ≡ Call.Scan which
+  call_is = let same : Some note_of.call ≡ Some (Call.Scan which) = sym note_of.made ∙ ap call_of call_over.made.begun in cc
 
   before_same : y.port.before ≡ x.port.before
   before_same = call_over.before
@@ -154,11 +144,11 @@ module _ (table : TableId) (about : About) (s u t : Stand) (h : IsHeld table abo
     values_are : values ≡ scanned_values (machine_at t)
     values_are = is_values ∙ ap (λ (r : RowsState). map (slice_index r.values) which) rows_are ∙ ap (map (slice_index (machine_at t).rows.values)) (sym asked)
 
-    new_is : call_over.made.new ≡ record { call = call.Scan which; answer = answer.Scanned values collects borrowed; note = Some (note.Saw saw.0) } ∷ []
+    new_is : call_over.made.new ≡ record { call = Call.Scan which; answer = Answer.Scanned values collects borrowed; note = Some (Note.Saw saw.0) } ∷ []
     new_is = note_of.is
-        ∙ ap (λ (c : Call). record { call = c; answer = answer.Scanned (scanned_values (machine_at t)) collects borrowed; note = Some note_of.note } ∷ []) call_is
-        ∙ ap (λ (n : Note). record { call = call.Scan which; answer = answer.Scanned (scanned_values (machine_at t)) collects borrowed; note = Some n } ∷ []) saw.1
-        ∙ ap (λ (v : List ℕ). record { call = call.Scan which; answer = answer.Scanned v collects borrowed; note = Some (note.Saw saw.0) } ∷ []) (sym values_are)
+        ∙ ap (λ (c : Call). record { call = c; answer = Answer.Scanned (scanned_values (machine_at t)) collects borrowed; note = Some note_of.note } ∷ []) call_is
+        ∙ ap (λ (n : Note). record { call = Call.Scan which; answer = Answer.Scanned (scanned_values (machine_at t)) collects borrowed; note = Some n } ∷ []) saw.1
+        ∙ ap (λ (v : List ℕ). record { call = Call.Scan which; answer = Answer.Scanned v collects borrowed; note = Some (Note.Saw saw.0) } ∷ []) (sym values_are)
 
     notes_are : y.notes ≡ x.notes ++ noted_scan t.epoch which values collects borrowed (length (history_of x.port.before) + saw.0) ∷ []
     notes_are = call_over.notes ∙ ap (λ (l : List Noted). x.notes ++ map (public_noted (plan_of x.about) x.port.before) l) new_is
@@ -202,8 +192,8 @@ module _ (table : TableId) (about : About) (s u t : Stand) (h : IsHeld table abo
 
         collected : borrowed ≡ None → (k : ℕ) → k < length which → slice_index rows.last k ≡ stamp_of (opening_of y) (take saw.0 y.port.part.seen) (slice_index which k)
         collected none k low =
-            let finds : CollectsStamps (opening_of x) y.port.part (reply.Scanned collects borrowed) (note.Saw saw.0) =
-            subst (CollectsStamps (opening_of x) y.port.part (reply.Scanned collects borrowed)) saw.1 note_of.stamps in
+            let finds : CollectsStamps (opening_of x) y.port.part (Reply.Scanned collects borrowed) (Note.Saw saw.0) =
+            subst (CollectsStamps (opening_of x) y.port.part (Reply.Scanned collects borrowed)) saw.1 note_of.stamps in
             let own : AreStamps (opening_of x) (take saw.0 y.port.part.seen) which rows.last =
             subst (λ (l : List ℕ). AreStamps (opening_of x) (take saw.0 y.port.part.seen) which l) (sym (ap (λ (r : RowsState). r.last) rows_are))
             (subst (λ (js : List ℕ). AreStamps (opening_of x) (take saw.0 y.port.part.seen) js (machine_at t).rows.last) asked (finds none)) in

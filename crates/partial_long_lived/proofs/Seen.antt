@@ -1,8 +1,5 @@
 -- What a port knows of the history that it has seen.
 use Rattle.partial_long_lived.proofs.Common.{ℕ, ◌≡◌, ◌≢◌, ◌+◌, ◌<◌, ◌≤◌, ◌==◌, ◌++◌, Bool, true, false, cond, Option, Some, None, IfSome, List, [], ◌∷◌, length, refl, sym, ap, subst, ◌∙◌, arith, append_assoc, AllByRecursion, Applied, Opening, Call, Answer, Note, HaveDistinctStamps, IsHistory, IsTrueOf, LegalNotes, Noted, place_of, seen_after, EachOnce, places_by, places_written, wrote, all_append, all_front, place_below, LegalNotes-grows, history_of, public_log, Port, Beside, LawfulMemory, one_history, epochs_fit_one_history, public_stamps_are_unique, history_grows, history_longer, About, IsSeen, plan_of, Knows, seen_in, BeginsWith, HasStampsInWords, initial_stamp, first_free, IsEpochHistory, places_both, present_history, stamp_limit, HasRecordStamps}
-use Rattle.partial_model.specs.declared.call.Call.TheVariants as call
-use Rattle.partial_model.specs.declared.call.Answer.TheVariants as answer
-use Rattle.partial_model.specs.declared.call.Note.TheVariants as note
 use Rattle.partial_core.proofs.Parts.{all_at}
 
 distinct_front : (h rest : List Applied) → HaveDistinctStamps (h ++ rest) → HaveDistinctStamps h
@@ -19,12 +16,12 @@ begin_history o h rest w = record {
 
 -- what is written stands within a history in which the notes are legal
 written_true : (o : Opening) (h : List Applied) (p : ℕ) (c : Call) (a : Answer) (n : Note) → IsTrueOf o h p c a n → AllByRecursion (λ k. k < length h) (wrote (Some n))
-written_true o h p (call.Update j v) (answer.Applied s) (note.Wrote k) w = (place_below h k _ w, tt)
-written_true o h p (call.Update j v) (answer.Lost by) (note.Lost k) w = tt
-written_true o h p (call.Scan js) (answer.Scanned vs c b) (note.Saw n) w = tt
-written_true o h p (call.Read j) (answer.Read v s) (note.Saw n) w = tt
-written_true o h p (call.UpdateIf j x v) (answer.Applied s) (note.Wrote k) w = (place_below h k _ w.0, tt)
-written_true o h p (call.UpdateIf j x v) (answer.Changed t) (note.Saw n) w = tt
+written_true o h p (Call.Update j v) (Answer.Applied s) (Note.Wrote k) w = (place_below h k _ w, tt)
+written_true o h p (Call.Update j v) (Answer.Lost by) (Note.Lost k) w = tt
+written_true o h p (Call.Scan js) (Answer.Scanned vs c b) (Note.Saw n) w = tt
+written_true o h p (Call.Read j) (Answer.Read v s) (Note.Saw n) w = tt
+written_true o h p (Call.UpdateIf j x v) (Answer.Applied s) (Note.Wrote k) w = (place_below h k _ w.0, tt)
+written_true o h p (Call.UpdateIf j x v) (Answer.Changed t) (Note.Saw n) w = tt
 written_true o h p _ _ _ w = absurd w
 
 written_within : (o : Opening) (h : List Applied) (p seen : ℕ) (ns : List Noted) → LegalNotes o h p seen ns → AllByRecursion (λ k. k < length h) (places_written ns)

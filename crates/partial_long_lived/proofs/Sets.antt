@@ -1,13 +1,8 @@
 -- The stores of an owner are allowed.
-use Rattle.partial_long_lived.proofs.Common.{ℕ, ◌≡◌, ◌≢◌, ◌+◌, ◌-◌, ◌/◌, ◌%◌, ◌<◌, ◌≤◌, ◌==◌, ◌⊎◌, ◌++◌, true, false, cond, Option, Some, IfSome, List, [], ◌∷◌, length, get_or, set, refl, sym, ap, subst, ◌∙◌, inl, inr, arith, length-append, nat_lt, lt-ltb, eqb_tells, get_or-set_same, Me, Allows, Applied, Opening, value_of, Noted, some_same, Layout, first_free, initial_record, list_base, list_counter, pool_base, pool_counter, initial_record_word, opening_word, list_of, IsToBeSet, behind_value, behind_values, Place, Plan, control_words, current_word, packed, set_word, carried_behind, opening_behind, OwnedArena, Port, MayPut, Beside, controls, next_epoch_word, numbers, place_now, having_set, vacated, LawfulMemory, many, sets_stay_lawful, at_of, below_whole, not_below, set_place, About, Found, IsFinal, IsRuleKept, IsLast, IsSeat, SeatedPort, one_of, plan_of, IsSeatKnown, IsOne, tells, Sets, FindsClear, becomes, LawfulEpochs, put, cases_lt, clear_slots_count_as_set, offset_behind, offset_front, slot_offset, slot_set, base, set_offset, slot_counter, slot_word, value_word, plain_record_size}
+use Rattle.partial_long_lived.proofs.{Common.{ℕ, ◌≡◌, ◌≢◌, ◌+◌, ◌-◌, ◌/◌, ◌%◌, ◌<◌, ◌≤◌, ◌==◌, ◌⊎◌, ◌++◌, true, false, cond, Option, Some, IfSome, List, [], ◌∷◌, length, get_or, set, refl, sym, ap, subst, ◌∙◌, inl, inr, arith, length-append, nat_lt, lt-ltb, eqb_tells, get_or-set_same, Me, Allows, Applied, Opening, value_of, Noted, some_same, Layout, first_free, initial_record, list_base, list_counter, pool_base, pool_counter, initial_record_word, opening_word, list_of, IsToBeSet, behind_value, behind_values, Place, Plan, control_words, current_word, packed, set_word, carried_behind, opening_behind, OwnedArena, Port, MayPut, Beside, controls, next_epoch_word, numbers, place_now, having_set, vacated, LawfulMemory, many, sets_stay_lawful, at_of, below_whole, not_below, set_place, About, Found, IsFinal, IsRuleKept, IsLast, IsSeat, SeatedPort, one_of, plan_of, IsSeatKnown, IsOne, tells, Sets, FindsClear, becomes, LawfulEpochs, put, cases_lt, clear_slots_count_as_set, offset_behind, offset_front, slot_offset, slot_set, base, set_offset, slot_counter, slot_word, value_word, plain_record_size}, Asides.{IsQuiet, aside}, Begins.here_is, Changes.{load_at, owning_same, still, store_at}, Control.{Quietly, lawful_itself, load_same, quietly, time_aside}, Kept.{allowed, begun_grows, none_grown}}
 use Rattle.partial_epochs.proofs.ClearRecords.{records_before, records_kept}
 use Rattle.partial_epochs.proofs.Sets as law
 use Rattle.partial_state.proofs.OpeningLaw.{slots_open}
-use Rattle.partial_long_lived.proofs.Asides.{IsQuiet, aside}
-use Rattle.partial_long_lived.proofs.Begins.{here_is}
-use Rattle.partial_long_lived.proofs.Changes.{load_at, owning_same, still, store_at}
-use Rattle.partial_long_lived.proofs.Control.{Quietly, lawful_itself, load_same, quietly, time_aside}
-use Rattle.partial_long_lived.proofs.Kept.{allowed, begun_grows, none_grown}
 
 -- a word of an opening before the list words is the same whatever the values are
 same_word : (s : Layout) (l : List ℕ) (i : ℕ) → i < list_base s → opening_word s l i ≡ opening_word s [] i

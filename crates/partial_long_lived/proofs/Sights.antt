@@ -1,8 +1,5 @@
 -- The loads of a call are allowed.
-use Rattle.partial_long_lived.proofs.Common.{ℕ, ◌≡◌, ◌+◌, ◌<◌, ◌++◌, Bool, List, [], ◌∷◌, get_or, set, refl, sym, ap, subst, ◌∙◌, arith, append-nil, Me, Allows, LegalNotes, Noted, Plan, base, Port, Stands, Beside, place_now, LawfulMemory, KeepsTime, About, IsRuleKept, IsSeat, SeatedPort, one_of, plan_of, seen_in, IsSeatKnown, IsOne, tells, Recalls, SeatSees, Wish, MayNoteScan, NotesScan, notes_scan}
-use Rattle.partial_long_lived.proofs.Control.{load_same}
-use Rattle.partial_long_lived.proofs.Kept.{Moved, allowed, none_grown, not_grown}
-use Rattle.partial_long_lived.proofs.Loads.{IsFinding, moved_note, moved_see, recalled, seat_is, standing, where_is}
+use Rattle.partial_long_lived.proofs.{Common.{ℕ, ◌≡◌, ◌+◌, ◌<◌, ◌++◌, Bool, List, [], ◌∷◌, get_or, set, refl, sym, ap, subst, ◌∙◌, arith, append-nil, Me, Allows, LegalNotes, Noted, Plan, base, Port, Stands, Beside, place_now, LawfulMemory, KeepsTime, About, IsRuleKept, IsSeat, SeatedPort, one_of, plan_of, seen_in, IsSeatKnown, IsOne, tells, Recalls, SeatSees, Wish, MayNoteScan, NotesScan, notes_scan}, Control.load_same, Kept.{Moved, allowed, none_grown, not_grown}, Loads.{IsFinding, moved_note, moved_see, recalled, seat_is, standing, where_is}}
 
 -- nothing has changed
 pub nothing_moved : (a : About) (words words' : List ℕ) (ports : ℕ → Port) (notes : ℕ → List Noted) (b : Beside) (since : ℕ → ℕ) (w : LawfulMemory (plan_of a) words ports b notes) →

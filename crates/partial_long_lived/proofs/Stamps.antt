@@ -1,6 +1,5 @@
 -- The stamps of a scan: those that the words name which it has collected last.
-use Rattle.partial_long_lived.proofs.Common.{ℕ, ◌≡◌, ◌++◌, Option, None, true, false, is_some, List, [], ◌∷◌, length, map, sym, ap, ◌∙◌, arith, ext_get_or, get_or-map, length-map, SeatedPort, Stand, port_at, seen_in, StaysAt, HasNotedScan, noted_scan, ArePublic, ScannedNamed, ScannedStamped, stamp_at}
-use Rattle.partial_long_lived.proofs.Coming.{goes_on}
+use Rattle.partial_long_lived.proofs.{Common.{ℕ, ◌≡◌, ◌++◌, Option, None, true, false, is_some, List, [], ◌∷◌, length, map, sym, ap, ◌∙◌, arith, ext_get_or, get_or-map, length-map, SeatedPort, Stand, port_at, seen_in, StaysAt, HasNotedScan, noted_scan, ArePublic, ScannedNamed, ScannedStamped, stamp_at}, Coming.goes_on}
 
 -- A scan led from s to t, and the loads of its stamps on to u, of which nothing is new.
 module _ (s t u : Stand) (which values : List ℕ) (collects : ℕ) (borrowed : Option ℕ) (ws stamps : List ℕ) (named : ScannedNamed s t which values collects borrowed ws) (none : borrowed ≡ None)

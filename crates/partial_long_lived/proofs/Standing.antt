@@ -1,8 +1,6 @@
 -- The seat of a port in a call, from step to step.
-use Rattle.partial_long_lived.proofs.Common.{ℕ, ◌≡◌, ◌+◌, ◌-◌, ◌*◌, ◌<◌, ◌≤◌, ◌==◌, ◌⊎◌, Bool, true, false, cond, Option, Some, None, IfSome, List, refl, sym, ap, subst, ◌∙◌, arith, option_map_or, TableId, Me, Allows, Place, base, packed, span, whole, IsEpochPlan, below_whole, SeatSees, Wish, component_at, sees, HaveSlots, OwnedArena, Port, Stands, having_passed, having_looked, About, Shape, Stand, IsRuleKept, SeatedPort, one_of, plan_of, SeatGoes, IsOne, tells, IsHeld, port_at, SeatLooks, looked_at, IsShapeOf}
+use Rattle.partial_long_lived.proofs.{Common.{ℕ, ◌≡◌, ◌+◌, ◌-◌, ◌*◌, ◌<◌, ◌≤◌, ◌==◌, ◌⊎◌, Bool, true, false, cond, Option, Some, None, IfSome, List, refl, sym, ap, subst, ◌∙◌, arith, option_map_or, TableId, Me, Allows, Place, base, packed, span, whole, IsEpochPlan, below_whole, SeatSees, Wish, component_at, sees, HaveSlots, OwnedArena, Port, Stands, having_passed, having_looked, About, Shape, Stand, IsRuleKept, SeatedPort, one_of, plan_of, SeatGoes, IsOne, tells, IsHeld, port_at, SeatLooks, looked_at, IsShapeOf}, Loads.IsFinding, Sights.may_see}
 use Rattle.std.proofs.Math.Nat.{mul-le-mul_right}
-use Rattle.partial_long_lived.proofs.Loads.{IsFinding}
-use Rattle.partial_long_lived.proofs.Sights.{may_see}
 use Rattle.partial_long_lived.specs.Inner.Calls as Calls
 use Rattle.partial_long_lived.proofs.Control as Control
 

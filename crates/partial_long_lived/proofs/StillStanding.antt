@@ -1,7 +1,5 @@
 -- Components that still have the stamps that they had.
-use Rattle.partial_long_lived.proofs.Common.{ℕ, ◌≡◌, ◌+◌, ◌<◌, ◌≤◌, List, [], ◌∷◌, length, take, sym, ap, subst, ◌∙◌, inl, inr, arith, append-nil, slice_index, eqb_tells, take-append-le, TableId, Applied, stamp_of, stamps_never_return, About, Stand, SeatedPort, IsOf, MemoryView, PortView, port_view, seen_in, Differ, HasStampThen, StillStand, SeatGoes, IsHeld, port_at, SettledFirst, HasGlanced, HadAnother, HadStamp, HadStamps, HasStamp, stamp_at}
-use Rattle.partial_long_lived.proofs.Answering.{callers_see, goes_seen}
-use Rattle.partial_long_lived.proofs.Coming.{seen_more}
+use Rattle.partial_long_lived.proofs.{Common.{ℕ, ◌≡◌, ◌+◌, ◌<◌, ◌≤◌, List, [], ◌∷◌, length, take, sym, ap, subst, ◌∙◌, inl, inr, arith, append-nil, slice_index, eqb_tells, take-append-le, TableId, Applied, stamp_of, stamps_never_return, About, Stand, SeatedPort, IsOf, MemoryView, PortView, port_view, seen_in, Differ, HasStampThen, StillStand, SeatGoes, IsHeld, port_at, SettledFirst, HasGlanced, HadAnother, HadStamp, HadStamps, HasStamp, stamp_at}, Answering.{callers_see, goes_seen}, Coming.seen_more}
 
 -- what the port had seen begins what it has seen then
 taken_more : (x y : SeatedPort) → SeatGoes x y → (n : ℕ) → n ≤ length (seen_in x.port) → take n (seen_in y.port) ≡ take n (seen_in x.port)

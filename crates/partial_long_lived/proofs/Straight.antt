@@ -1,10 +1,5 @@
 -- A call under way: each step of its machine is allowed, and leads the call on.
-use Rattle.partial_long_lived.proofs.Common.{ℕ, ◌≡◌, ◌+◌, ◌-◌, ◌<◌, ◌≤◌, ◌==◌, ◌%◌, ◌^◌, Bool, true, false, cond, Some, refl, sym, ap, subst, ◌∙◌, arith, nat_lt, either, Allows, TableId, Step, Load, Store, Exchange, Add, total, word_of, CoreState, advance, step_of, IsSound, base, plain, unsealed, IsEpochPlan, not_below, About, Stand, IsRuleKept, SeatedPort, plan_of, SeatGoes, IsOne, port_at, component_at, IsApart, LeavesComponents, SeatMakes, MayMake, unsealed_answer, change_of, goes_on, makes, word_at, CallMade, IsGoing, ComesTo, MayBegin, before_claim, machine_at, IsQuiet}
-use Rattle.partial_long_lived.proofs.Claims.{inner_word}
-use Rattle.partial_long_lived.proofs.Making.{may_make}
-use Rattle.partial_long_lived.proofs.Changes.{either_cond}
-use Rattle.partial_long_lived.proofs.Standing.{arena_there, base_small, held_then, room_of}
-use Rattle.partial_long_lived.proofs.Under.{next_made, next_over, next_may, next_within}
+use Rattle.partial_long_lived.proofs.{Common.{ℕ, ◌≡◌, ◌+◌, ◌-◌, ◌<◌, ◌≤◌, ◌==◌, ◌%◌, ◌^◌, Bool, true, false, cond, Some, refl, sym, ap, subst, ◌∙◌, arith, nat_lt, either, Allows, TableId, Step, Load, Store, Exchange, Add, total, word_of, CoreState, advance, step_of, IsSound, base, plain, unsealed, IsEpochPlan, not_below, About, Stand, IsRuleKept, SeatedPort, plan_of, SeatGoes, IsOne, port_at, component_at, IsApart, LeavesComponents, SeatMakes, MayMake, unsealed_answer, change_of, goes_on, makes, word_at, CallMade, IsGoing, ComesTo, MayBegin, before_claim, machine_at, IsQuiet}, Claims.inner_word, Making.may_make, Changes.either_cond, Standing.{arena_there, base_small, held_then, room_of}, Under.{next_made, next_over, next_may, next_within}}
 
 -- a word behind the component words is another
 apart_of : (a : About) (s : Step) → LeavesComponents a.sizes s → IsApart a.sizes s

@@ -1,14 +1,9 @@
 -- The steps of a call of a port's machine, one after the other.
-use Rattle.partial_long_lived.proofs.Common.{ℕ, ◌≡◌, ◌≢◌, ◌+◌, ◌<◌, ◌≤◌, ◌==◌, ◌⊎◌, ◌&&◌, ◌||◌, ◌++◌, Bool, true, false, cond, Option, Some, None, List, [], ◌∷◌, length, map, take, refl, sym, ap, subst, ◌∙◌, inl, inr, arith, append-nil, nat_lt, eqb_tells, append_cancel_left, Applied, Opening, stamp_of, Noted, seen_by, Step, Load, Store, Exchange, Add, Layout, IsLayout, greatest_record, pool_counter, total, word_of, Reply, Stage, Idle, ReadBegun, LoadingValue, UpdateBegun, GettingSet, Viewing, ClaimingRecord, StoringRecord, Exchanging, ScanBegun, StoringAnnouncement, Joining, Scanning, Leaving, Finished, some_same, not_below, cases_lt, CoreState, advance, record_size, reply_of, step_at, step_of, call_of, is_begun, IsSound, Part, first_at, AreNotesOf, Tells, begun_with, moved_part, take_within, first_steps_make_calls, further_steps_make_calls, history_of, opening_behind, Control, MayClaim, public_noted, About, Began, SeatedPort, plan_of, SeatGoes, opening_of, SeatMakes, MayMake, over_by, CallMade, MayBegin, before_claim, record_claim, IsBehind, refuses_pool, refuses_slots, due_is_unreplied, due_words_are_there, KeptAnswer}
-use Rattle.partial_model.specs.declared.call.Call.TheVariants as call
+use Rattle.partial_long_lived.proofs.{Common.{ℕ, ◌≡◌, ◌≢◌, ◌+◌, ◌<◌, ◌≤◌, ◌==◌, ◌⊎◌, ◌&&◌, ◌||◌, ◌++◌, Bool, true, false, cond, Option, Some, None, List, [], ◌∷◌, length, map, take, refl, sym, ap, subst, ◌∙◌, inl, inr, arith, append-nil, nat_lt, eqb_tells, append_cancel_left, Applied, Opening, stamp_of, Noted, seen_by, Step, Load, Store, Exchange, Add, Layout, IsLayout, greatest_record, pool_counter, total, word_of, Reply, Stage, Idle, ReadBegun, LoadingValue, UpdateBegun, GettingSet, Viewing, ClaimingRecord, StoringRecord, Exchanging, ScanBegun, StoringAnnouncement, Joining, Scanning, Leaving, Finished, some_same, not_below, cases_lt, CoreState, advance, record_size, reply_of, step_at, step_of, call_of, is_begun, IsSound, Part, first_at, AreNotesOf, Tells, begun_with, moved_part, take_within, first_steps_make_calls, further_steps_make_calls, history_of, opening_behind, Control, MayClaim, public_noted, About, Began, SeatedPort, plan_of, SeatGoes, opening_of, SeatMakes, MayMake, over_by, CallMade, MayBegin, before_claim, record_claim, IsBehind, refuses_pool, refuses_slots, due_is_unreplied, due_words_are_there, KeptAnswer, Call}, Claims.{claimed_from, pool_claims, unclaimed_before}, Coming.goes_on}
 use Rattle.partial_model.specs.declared.call.Refused.{Refused}
-use Rattle.partial_machine.specs.declared.stage.Reply.TheVariants as reply
 use Rattle.partial_machine.proofs.Sound.{size_few}
 use Rattle.partial_core.specs.Calls.{Made}
-use Rattle.partial_core.proofs.Parts.{seen_within as no_longer}
-use Rattle.partial_core.proofs.WholeCalls.{first_push}
-use Rattle.partial_long_lived.proofs.Claims.{claimed_from, pool_claims, unclaimed_before}
-use Rattle.partial_long_lived.proofs.Coming.{goes_on}
+use Rattle.partial_core.proofs.{Parts.seen_within as no_longer, WholeCalls.first_push}
 
 -- where a machine has yet to claim, its last step was no claim past the limit
 spare_step : (a : About) (c : CoreState) (s : Step) (x : ℕ) → IsSound c → c.sizes ≡ a.sizes → step_of c ≡ Some s → before_claim (advance c x).stage ≡ true → over_by (plan_of a) s x ≡ false
@@ -67,30 +62,30 @@ behind_stays c x behind = by (before_claim (advance c x).stage) refl
     by false is = is
 
 -- a machine that isn't refused comes to no marks
-stays_unmarked : (c : CoreState) (x : ℕ) → IsBehind c x → ((cause : Refused) → reply_of (advance c x) ≢ Some (reply.Refused cause)) → (c.pool_spent ≡ false) × (c.slots_spent ≡ false) →
+stays_unmarked : (c : CoreState) (x : ℕ) → IsBehind c x → ((cause : Refused) → reply_of (advance c x) ≢ Some (Reply.Refused cause)) → (c.pool_spent ≡ false) × (c.slots_spent ≡ false) →
     ((advance c x).pool_spent ≡ false) × ((advance c x).slots_spent ≡ false)
 stays_unmarked c x b none was = (
   b.pool ∙ ap (λ t. refuses_pool (reply_of (advance c x)) || t) was.0 ∙ ap (λ t. t || false) (no_pool (reply_of (advance c x)) none),
   b.slots ∙ ap (λ t. refuses_slots (reply_of (advance c x)) || t) was.1 ∙ ap (λ t. t || false) (no_slots (reply_of (advance c x)) none),
 )
   where
-    no_pool : (r : Option Reply) → ((cause : Refused) → r ≢ Some (reply.Refused cause)) → refuses_pool r ≡ false
+    no_pool : (r : Option Reply) → ((cause : Refused) → r ≢ Some (Reply.Refused cause)) → refuses_pool r ≡ false
     no_pool None none = refl
-    no_pool (Some (reply.Refused cause)) none = absurd (none cause refl)
-    no_pool (Some (reply.Applied s)) none = refl
-    no_pool (Some (reply.Lost s)) none = refl
-    no_pool (Some (reply.Changed s)) none = refl
-    no_pool (Some (reply.Read v s)) none = refl
-    no_pool (Some (reply.Scanned n b)) none = refl
+    no_pool (Some (Reply.Refused cause)) none = absurd (none cause refl)
+    no_pool (Some (Reply.Applied s)) none = refl
+    no_pool (Some (Reply.Lost s)) none = refl
+    no_pool (Some (Reply.Changed s)) none = refl
+    no_pool (Some (Reply.Read v s)) none = refl
+    no_pool (Some (Reply.Scanned n b)) none = refl
 
-    no_slots : (r : Option Reply) → ((cause : Refused) → r ≢ Some (reply.Refused cause)) → refuses_slots r ≡ false
+    no_slots : (r : Option Reply) → ((cause : Refused) → r ≢ Some (Reply.Refused cause)) → refuses_slots r ≡ false
     no_slots None none = refl
-    no_slots (Some (reply.Refused cause)) none = absurd (none cause refl)
-    no_slots (Some (reply.Applied s)) none = refl
-    no_slots (Some (reply.Lost s)) none = refl
-    no_slots (Some (reply.Changed s)) none = refl
-    no_slots (Some (reply.Read v s)) none = refl
-    no_slots (Some (reply.Scanned n b)) none = refl
+    no_slots (Some (Reply.Refused cause)) none = absurd (none cause refl)
+    no_slots (Some (Reply.Applied s)) none = refl
+    no_slots (Some (Reply.Lost s)) none = refl
+    no_slots (Some (Reply.Changed s)) none = refl
+    no_slots (Some (Reply.Read v s)) none = refl
+    no_slots (Some (Reply.Scanned n b)) none = refl
 
 -- a claim of a record ends past the limit only where a greatest record would
 claim_step : (a : About) (c : CoreState) (s : Step) (x : ℕ) (over : Bool) → IsSound c → c.sizes ≡ a.sizes → step_of c ≡ Some s → (before_claim c.stage ≡ true → over ≡ false) →
@@ -207,7 +202,7 @@ module _ (b : CoreState) (x : SeatedPort) (begins : MayBegin b x) (c : CoreState
     claim = may_claim y.about c s y.port.over had.made.sound sizes_same due had.spare;
     shown = inr (let shown = had.shown in let same = ap (seen_by 0) notes_same in omega (arith, shown, same));
     expects = λ j t v is.
-        let of_b : call_of (begun_with b x.port.part) ≡ Some (call.UpdateIf j t v) =
+        let of_b : call_of (begun_with b x.port.part) ≡ Some (Call.UpdateIf j t v) =
         ap (λ f. call_of (cond f b x.port.part.begun)) begins.begun.begun ∙ ap call_of (sym had.made.begun) ∙ ap (λ f. call_of (cond f c y.port.part.begun)) (sym going) ∙ is in
         let n = begins.expects j t v of_b in
         let few = n.1 in

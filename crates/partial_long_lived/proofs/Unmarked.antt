@@ -1,30 +1,28 @@
 -- A call that is not refused leaves its machine without marks.
 use Rattle.partial_long_lived.proofs.Common.{ℕ, ◌≡◌, ◌≢◌, ◌||◌, false, Option, Some, None, List, [], ◌∷◌, refl, sym, ap, subst, ◌∙◌, IsLayout, Reply, Stage, Finished, CoreState, advance, reply_at, reply_of, IsSound, refuses_pool, refuses_slots, IsPossibleAt, answers_lead_on}
 use Rattle.partial_model.specs.declared.call.Refused.{Refused}
-use Rattle.partial_model.specs.declared.call.Refused.TheVariants as refused
-use Rattle.partial_machine.specs.declared.stage.Reply.TheVariants as reply
 use Rattle.partial_machine.specs.Steps.{Run}
 
 -- the reply is no refusal
 abbrev IsUnrefused : Option Reply → Type 0
-IsUnrefused r = (cause : Refused) → r ≢ Some (reply.Refused cause)
+IsUnrefused r = (cause : Refused) → r ≢ Some (Reply.Refused cause)
 
 -- so it is none for a region
 no_refusal : (r : Option Reply) → IsUnrefused r → (refuses_pool r ≡ false) × (refuses_slots r ≡ false)
 no_refusal None h = (refl, refl)
-no_refusal (Some (reply.Refused refused.Component)) h = (refl, refl)
-no_refusal (Some (reply.Refused refused.PoolSpent)) h = absurd (h refused.PoolSpent refl)
-no_refusal (Some (reply.Refused refused.SlotsSpent)) h = absurd (h refused.SlotsSpent refl)
-no_refusal (Some (reply.Applied s)) h = (refl, refl)
-no_refusal (Some (reply.Lost by)) h = (refl, refl)
-no_refusal (Some (reply.Read v s)) h = (refl, refl)
-no_refusal (Some (reply.Scanned n b)) h = (refl, refl)
-no_refusal (Some (reply.Changed by)) h = (refl, refl)
+no_refusal (Some (Reply.Refused Refused.Component)) h = (refl, refl)
+no_refusal (Some (Reply.Refused Refused.PoolSpent)) h = absurd (h Refused.PoolSpent refl)
+no_refusal (Some (Reply.Refused Refused.SlotsSpent)) h = absurd (h Refused.SlotsSpent refl)
+no_refusal (Some (Reply.Applied s)) h = (refl, refl)
+no_refusal (Some (Reply.Lost by)) h = (refl, refl)
+no_refusal (Some (Reply.Read v s)) h = (refl, refl)
+no_refusal (Some (Reply.Scanned n b)) h = (refl, refl)
+no_refusal (Some (Reply.Changed by)) h = (refl, refl)
 
 -- a machine with a possible answer is not refused
 going_on : (s : CoreState) (t : Stage) (a : ℕ) → IsPossibleAt s t a → IsUnrefused (reply_at t)
 going_on s (Finished r) a p = absurd p
-going_on s _ a p = λ cause is. (let bad : None ≡ Some (reply.Refused cause) = is in cc)
+going_on s _ a p = λ cause is. (let bad : None ≡ Some (Reply.Refused cause) = is in cc)
 
 -- a run that ends with no refusal has met none
 met_none : (s t : CoreState) (xs : List ℕ) → Run s xs t → IsUnrefused (reply_of t) → IsUnrefused (reply_of s)

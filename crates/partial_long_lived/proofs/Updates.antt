@@ -1,10 +1,7 @@
 -- An update of a port, as callers see it.
-use Rattle.partial_long_lived.proofs.Common.{ℕ, ◌≡◌, ◌<◌, Bool, true, false, [], sym, subst, ◌∙◌, arith, append-nil, ap, ◌+◌, TableId, Applied, IsLegal, LegalNotes, seen_by, AllByRecursion-get, LegalNotes-last, Change, CoreState, Exchanged, About, UpdatedIf, Asked, Refused, Component, Overtaken, NoArena, EpochsSpent, Stand, IsOf, MemoryView, PortView, port_view, seen_in, IsHeld, epoch_at, port_at, IsIdle, HasUpdatedIf, RestsAt, CameBy, IsLate, IsOwnMachine, MayCall, UpdateEnded, noted_change, public_update, stamp_from}
-use Rattle.partial_model.specs.declared.call.Call.TheVariants as call
+use Rattle.partial_long_lived.proofs.{Common.{ℕ, ◌≡◌, ◌<◌, Bool, true, false, [], sym, subst, ◌∙◌, arith, append-nil, ap, ◌+◌, TableId, Applied, IsLegal, LegalNotes, seen_by, AllByRecursion-get, LegalNotes-last, Change, CoreState, Exchanged, About, UpdatedIf, Asked, Refused, Component, Overtaken, NoArena, EpochsSpent, Stand, IsOf, MemoryView, PortView, port_view, seen_in, IsHeld, epoch_at, port_at, IsIdle, HasUpdatedIf, RestsAt, CameBy, IsLate, IsOwnMachine, MayCall, UpdateEnded, noted_change, public_update, stamp_from, Call}, Answering.{callers_see, goes_seen, rests_unmarked}}
 use Rattle.partial_lines.specs.declared.exchange.Exchanged.TheVariants.{Applied as IsApplied, Overtaken as IsOvertaken}
-use Rattle.partial_long_lived.specs.declared.answers.UpdatedIf.TheVariants as conditional
 use Rattle.partial_long_lived.specs.Calls as calls
-use Rattle.partial_long_lived.proofs.Answering.{callers_see, goes_seen, rests_unmarked}
 
 -- a port in a call rests where the call ends
 pub rests_may : (table : TableId) (about : About) (s : Stand) (core : CoreState) (spent : Bool) → IsHeld table about s → RestsAt s core spent → spent ≡ false → MayCall (port_at s) core
@@ -70,7 +67,7 @@ has_updated_seen table s t c (IsOvertaken by) w inside =
 
 -- an update that was refused, as callers see it
 not_updated_seen : (table : TableId) (s t : Stand) (j v : ℕ) (cause : Refused) → (epoch_at t ≡ t.epoch) → IsLate 16 s cause t → CameBy true s t → j < (port_at s).about.sizes.m →
-    calls.IsRefused (port_view table (port_at s)) (call.Update j v) cause (port_view table (port_at t))
+    calls.IsRefused (port_view table (port_at s)) (Call.Update j v) cause (port_view table (port_at t))
 not_updated_seen table s t j v Component is late w inside = absurd late
 not_updated_seen table s t j v Overtaken is late w inside = ((inside, tt), goes_seen table (port_at s) (port_at t) [] w.goes (w.notes ∙ sym (append-nil (port_at s).notes)), late)
 not_updated_seen table s t j v NoArena is late w inside = ((inside, tt), goes_seen table (port_at s) (port_at t) [] w.goes (w.notes ∙ sym (append-nil (port_at s).notes)), late.1)
@@ -79,7 +76,7 @@ not_updated_seen table s t j v EpochsSpent is late w inside = ((inside, tt), goe
 -- a conditional update that ended, as callers see it
 has_updated_if_seen : (table : TableId) (s t : Stand) (a : Asked) (r : UpdatedIf) → HasUpdatedIf a r s t → a.component < (port_at s).about.sizes.m →
     calls.UpdatesIf (port_view table (port_at s)) a.component a.expected a.value r (port_view table (port_at t))
-has_updated_if_seen table s t a (conditional.Applied stamp) w inside =
+has_updated_if_seen table s t a (UpdatedIf.Applied stamp) w inside =
     let first = w.began in
     let behind = w.behind in
     let within = w.within in (
@@ -92,7 +89,7 @@ has_updated_if_seen table s t a (conditional.Applied stamp) w inside =
       },
       within,
     )
-has_updated_if_seen table s t a (conditional.Changed by) w inside =
+has_updated_if_seen table s t a (UpdatedIf.Changed by) w inside =
     let first = w.began in
     let behind = w.behind in (
       w.place,
@@ -106,7 +103,7 @@ has_updated_if_seen table s t a (conditional.Changed by) w inside =
 
 -- one that was refused, as callers see it
 not_updated_if_seen : (table : TableId) (s t : Stand) (j e v : ℕ) (cause : Refused) → (epoch_at t ≡ t.epoch) → IsLate 16 s cause t → CameBy true s t → j < (port_at s).about.sizes.m →
-    calls.IsRefused (port_view table (port_at s)) (call.UpdateIf j e v) cause (port_view table (port_at t))
+    calls.IsRefused (port_view table (port_at s)) (Call.UpdateIf j e v) cause (port_view table (port_at t))
 not_updated_if_seen table s t j e v Component is late w inside = absurd late
 not_updated_if_seen table s t j e v Overtaken is late w inside = ((inside, tt), goes_seen table (port_at s) (port_at t) [] w.goes (w.notes ∙ sym (append-nil (port_at s).notes)), late)
 not_updated_if_seen table s t j e v NoArena is late w inside = ((inside, tt), goes_seen table (port_at s) (port_at t) [] w.goes (w.notes ∙ sym (append-nil (port_at s).notes)), late.1)
@@ -121,9 +118,9 @@ module _ (m : MemoryView) (t u : Stand) (p : PortView) (view : port_view t.seat.
       (has_updated_seen m.table t u c r w (subst (λ (a : About). c.component < a.sizes.m) (sym (sym w.goes.about ∙ held.own)) inside))
 
   pub update_refused : (j v : ℕ) (cause : Refused) → IsLate 16 t cause u → CameBy true t u → j < m.about.sizes.m →
-      calls.IsRefused p (call.Update j v) cause (port_view u.seat.table_id (port_at u))
+      calls.IsRefused p (Call.Update j v) cause (port_view u.seat.table_id (port_at u))
   update_refused j v cause late w inside =
-      callers_see m t u p view own held (λ (a b : PortView). calls.IsRefused a (call.Update j v) cause b)
+      callers_see m t u p view own held (λ (a b : PortView). calls.IsRefused a (Call.Update j v) cause b)
       (not_updated_seen m.table t u j v cause (sym held.epoch) late w (subst (λ (a : About). j < a.sizes.m) (sym (sym w.goes.about ∙ held.own)) inside))
 
   pub update_if_answered : (a : Asked) (r : UpdatedIf) → HasUpdatedIf a r t u → a.component < m.about.sizes.m →
@@ -133,7 +130,7 @@ module _ (m : MemoryView) (t u : Stand) (p : PortView) (view : port_view t.seat.
       (has_updated_if_seen m.table t u a r w (subst (λ (b : About). a.component < b.sizes.m) (sym (sym w.goes.about ∙ held.own)) inside))
 
   pub update_if_refused : (j e v : ℕ) (cause : Refused) → IsLate 16 t cause u → CameBy true t u → j < m.about.sizes.m →
-      calls.IsRefused p (call.UpdateIf j e v) cause (port_view u.seat.table_id (port_at u))
+      calls.IsRefused p (Call.UpdateIf j e v) cause (port_view u.seat.table_id (port_at u))
   update_if_refused j e v cause late w inside =
-      callers_see m t u p view own held (λ (a b : PortView). calls.IsRefused a (call.UpdateIf j e v) cause b)
+      callers_see m t u p view own held (λ (a b : PortView). calls.IsRefused a (Call.UpdateIf j e v) cause b)
       (not_updated_if_seen m.table t u j e v cause (sym held.epoch) late w (subst (λ (a : About). j < a.sizes.m) (sym (sym w.goes.about ∙ held.own)) inside))

@@ -1,10 +1,5 @@
 -- The first step of an update, and the exchange of its component.
-use Rattle.partial_long_lived.proofs.Common.{ℕ, ◌≡◌, ◌+◌, ◌-◌, ◌<◌, ◌==◌, Bool, Some, List, sym, ap, subst, ◌∙◌, refl, arith, either, Me, Allows, TableId, Load, Exchange, Change, UpdateBegun, Exchanging, CoreState, step_at, step_of, base, About, Stand, IsRuleKept, SeatedPort, one_of, plan_of, tells, IsHeld, port_at, component_at, Exchanges, MayMake, begins, change_of, exchanges, word_at, IsGoing, MayBegin, machine_at, SeatBegins}
-use Rattle.partial_long_lived.proofs.Changes.{either_cond}
-use Rattle.partial_long_lived.proofs.Making.{may_begin, may_exchange}
-use Rattle.partial_long_lived.proofs.Standing.{base_is, room_of}
-use Rattle.partial_long_lived.proofs.Straight.{word_same}
-use Rattle.partial_long_lived.proofs.Under.{first_may, next_may}
+use Rattle.partial_long_lived.proofs.{Common.{ℕ, ◌≡◌, ◌+◌, ◌-◌, ◌<◌, ◌==◌, Bool, Some, List, sym, ap, subst, ◌∙◌, refl, arith, either, Me, Allows, TableId, Load, Exchange, Change, UpdateBegun, Exchanging, CoreState, step_at, step_of, base, About, Stand, IsRuleKept, SeatedPort, one_of, plan_of, tells, IsHeld, port_at, component_at, Exchanges, MayMake, begins, change_of, exchanges, word_at, IsGoing, MayBegin, machine_at, SeatBegins}, Changes.either_cond, Making.{may_begin, may_exchange}, Standing.{base_is, room_of}, Straight.word_same, Under.{first_may, next_may}}
 
 -- the load of the component's word by which an update begins
 module _ (table : TableId) (about : About) (s : Stand) (h : IsHeld table about s) (b : CoreState) (may : MayBegin b (port_at s)) (d : Change) (stage : b.stage ≡ UpdateBegun d)

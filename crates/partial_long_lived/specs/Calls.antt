@@ -1,11 +1,8 @@
 -- What each call of a memory leaves of its port.
 use Rattle.std.specs.Prelude.{ℕ, ◌≡◌, ◌+◌, ◌<◌, ◌≤◌, ◌⊎◌, List, [], ◌∷◌, ◌++◌, length, map, take, None, Some, slice_index}
 use Rattle.partial_model.specs.declared.call.Call.{Call}
-use Rattle.partial_model.specs.declared.call.Call.TheVariants as call
 use Rattle.partial_model.specs.declared.call.Answer.{Answer}
-use Rattle.partial_model.specs.declared.call.Answer.TheVariants as answer
 use Rattle.partial_model.specs.declared.call.Note.{Note}
-use Rattle.partial_model.specs.declared.call.Note.TheVariants as note
 use Rattle.partial_model.specs.History.{stamp_of}
 use Rattle.partial_model.specs.Notes.{NamesComponents, Noted, place_of, shown_by}
 pub use Rattle.partial_lines.specs.declared.whole_scan.Scanned.{Scanned}
@@ -13,7 +10,6 @@ use Rattle.partial_epochs.specs.Layout.{epoch_limit}
 use Rattle.partial_long_lived.specs.declared.answers.Updated.{Updated}
 use Rattle.partial_long_lived.specs.declared.answers.Updated.TheVariants.{Applied as IsApplied, Lost}
 use Rattle.partial_long_lived.specs.declared.answers.UpdatedIf.{UpdatedIf}
-use Rattle.partial_long_lived.specs.declared.answers.UpdatedIf.TheVariants as conditional
 use Rattle.partial_long_lived.specs.declared.error.Refused.{Refused}
 use Rattle.partial_long_lived.specs.declared.error.Refused.TheVariants.{Component, EpochsSpent, NoArena, Overtaken}
 use Rattle.partial_long_lived.specs.Ports.{Knows, PortView}
@@ -35,25 +31,25 @@ pub record Answered (p q : PortView) (c : Call) (a : Answer) (n : Note) : Type 0
 
 -- a read that ended: the value and the stamp of the component after a prefix of what is seen now
 abbrev pub Reads : PortView → ℕ → ℕ → ℕ → PortView → Type 0
-Reads p j value stamp q = (n : ℕ) × Answered p q (call.Read j) (answer.Read value stamp) (note.Saw n)
+Reads p j value stamp q = (n : ℕ) × Answered p q (Call.Read j) (Answer.Read value stamp) (Note.Saw n)
 
 -- An update that ended: an applied one is the last entry of all that is seen, a lost one was overwritten by an entry that had not been seen
 -- before.
 abbrev pub Updates : PortView → ℕ → ℕ → Updated → PortView → Type 0
-Updates p j v (IsApplied stamp) q = (k : ℕ) × Answered p q (call.Update j v) (answer.Applied stamp) (note.Wrote k) × (k + 1 ≡ length q.seen)
-Updates p j v (Lost by) q = (k : ℕ) × Answered p q (call.Update j v) (answer.Lost by) (note.Lost k)
+Updates p j v (IsApplied stamp) q = (k : ℕ) × Answered p q (Call.Update j v) (Answer.Applied stamp) (Note.Wrote k) × (k + 1 ≡ length q.seen)
+Updates p j v (Lost by) q = (k : ℕ) × Answered p q (Call.Update j v) (Answer.Lost by) (Note.Lost k)
 
 -- a conditional update that ended: applied likewise, or it saw another stamp than the expected one
 abbrev pub UpdatesIf : PortView → ℕ → ℕ → ℕ → UpdatedIf → PortView → Type 0
-UpdatesIf p j expected v (conditional.Applied stamp) q =
-    (k : ℕ) × Answered p q (call.UpdateIf j expected v) (answer.Applied stamp) (note.Wrote k) × (k + 1 ≡ length q.seen)
-UpdatesIf p j expected v (conditional.Changed by) q = (n : ℕ) × Answered p q (call.UpdateIf j expected v) (answer.Changed by) (note.Saw n)
+UpdatesIf p j expected v (UpdatedIf.Applied stamp) q =
+    (k : ℕ) × Answered p q (Call.UpdateIf j expected v) (Answer.Applied stamp) (Note.Wrote k) × (k + 1 ≡ length q.seen)
+UpdatesIf p j expected v (UpdatedIf.Changed by) q = (n : ℕ) × Answered p q (Call.UpdateIf j expected v) (Answer.Changed by) (Note.Saw n)
 
 -- a scan that ended: the values after one prefix of what is seen now; one of no position makes no step and isn't noted
 abbrev pub Scans : PortView → List ℕ → List ℕ → Scanned → PortView → Type 0
 Scans p [] values s q = (values ≡ []) × (s.collects ≡ 0) × (s.borrowed ≡ None) × (q ≡ p)
 Scans p (j ∷ js) values s q =
-    (n : ℕ) × Answered p q (call.Scan (j ∷ js)) (answer.Scanned values s.collects s.borrowed) (note.Saw n)
+    (n : ℕ) × Answered p q (Call.Scan (j ∷ js)) (Answer.Scanned values s.collects s.borrowed) (Note.Saw n)
 
 -- the component j has that stamp after the first n entries that the port has seen
 abbrev pub HasStampThen : PortView → ℕ → ℕ → ℕ → Type 0
@@ -63,7 +59,7 @@ HasStampThen p n j s = stamp_of p.memory.about.opening (take n p.seen) j ≡ s
 abbrev pub ScansStamped : PortView → List ℕ → List ℕ → List ℕ → Scanned → PortView → Type 0
 ScansStamped p [] values stamps s q = Scans p [] values s q × (stamps ≡ [])
 ScansStamped p (j ∷ js) values stamps s q =
-    (n : ℕ) × Answered p q (call.Scan (j ∷ js)) (answer.Scanned values s.collects s.borrowed) (note.Saw n)
+    (n : ℕ) × Answered p q (Call.Scan (j ∷ js)) (Answer.Scanned values s.collects s.borrowed) (Note.Saw n)
     × (s.borrowed ≡ None → stamps ≡ map (λ i. stamp_of q.memory.about.opening (take n q.seen) i) (j ∷ js))
 
 -- Each of these components had this stamp at a place of the call. There is one place, behind all that the port had seen before the call, at
@@ -105,6 +101,6 @@ CantEnd p EpochsSpent q = q.epoch + 1 ≡ epoch_limit
 -- and the port may have seen more. A read has no other cause, and only updates are overtaken.
 abbrev pub IsRefused : PortView → Call → Refused → PortView → Type 0
 IsRefused p c Component q = (¬ NamesComponents p.memory.about.sizes.m c) × (q ≡ p)
-IsRefused p (call.Read j) cause q = ⊥
-IsRefused p (call.Scan js) Overtaken q = ⊥
+IsRefused p (Call.Read j) cause q = ⊥
+IsRefused p (Call.Scan js) Overtaken q = ⊥
 IsRefused p c cause q = NamesComponents p.memory.about.sizes.m c × Goes p q [] × CantEnd p cause q

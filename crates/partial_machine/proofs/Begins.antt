@@ -1,11 +1,7 @@
 -- How a call begins at a machine, and why one is refused at once.
-use Rattle.partial_machine.proofs.Common.{ℕ, ◌≡◌, ◌<◌, ◌≤◌, ◌==◌, Bool, true, false, cond, Option, Some, None, List, [], ◌∷◌, length, refl, sym, ap, subst, ◌∙◌, arith, nat_lt, AllByRecursion, list_all, false≢true, ltb-true, ltb-false, ne_eqb, Call, Refused, Stage, ReadBegun, UpdateBegun, ScanBegun, Finished, CoreState, at_stage, call_at, is_begun, begun_like, begin_scan, begun_of, refusal_of, makes_steps, most_of_update, most_steps, left_at, steps_left, AreComponentIndices, IsSound, is_sound_at, IsBegunWith, IsOldMark, CallsBegin, RestsAreSound, CallsAreRefusedAtOnce, no_index, length-replicate}
-use Rattle.partial_model.specs.declared.call.Call.TheVariants as call
-use Rattle.partial_model.specs.declared.call.Refused.TheVariants as refused
+use Rattle.partial_machine.proofs.Common.{ℕ, ◌≡◌, ◌<◌, ◌≤◌, ◌==◌, Bool, true, false, cond, Option, Some, None, List, [], ◌∷◌, length, refl, sym, ap, subst, ◌∙◌, arith, nat_lt, AllByRecursion, list_all, false≢true, ltb-true, ltb-false, ne_eqb, Call, Refused, Stage, ReadBegun, UpdateBegun, ScanBegun, Finished, CoreState, at_stage, call_at, is_begun, begun_like, begin_scan, begun_of, refusal_of, makes_steps, most_of_update, most_steps, left_at, steps_left, AreComponentIndices, IsSound, is_sound_at, IsBegunWith, IsOldMark, CallsBegin, RestsAreSound, CallsAreRefusedAtOnce, no_index, length-replicate, Reply}
 use Rattle.partial_model.specs.Notes.{MayBeRefused}
-use Rattle.partial_model.proofs.Decisions.{Decides-list_all, Decides-nat_lt}
-use Rattle.partial_model.proofs.AllLemmas.{position_below}
-use Rattle.partial_machine.specs.declared.stage.Reply.TheVariants as reply
+use Rattle.partial_model.proofs.{Decisions.{Decides-list_all, Decides-nat_lt}, AllLemmas.position_below}
 
 -- the components of a list are there, or some is not
 all_below : (m : ℕ) (js : List ℕ) → list_all (λ i. nat_lt i m) js ≡ true → AllByRecursion (λ j. j < m) js
@@ -23,15 +19,15 @@ sound_with : (s : CoreState) (js : List ℕ) (t : Stage) → AreComponentIndices
 sound_with s js t asked stage w = record { asked = asked; found = w.found; indices = w.indices; distinct = w.distinct; rows = w.rows; stage = stage }
 
 -- what is known of an update that is begun, of a read, and of a scan
-begins_update : (s : CoreState) (j : ℕ) (a b : Bool) → nat_lt j s.sizes.m ≡ a → s.pool_spent ≡ b → cond a (cond b (Some refused.PoolSpent) None) (Some refused.Component) ≡ None →
+begins_update : (s : CoreState) (j : ℕ) (a b : Bool) → nat_lt j s.sizes.m ≡ a → s.pool_spent ≡ b → cond a (cond b (Some Refused.PoolSpent) None) (Some Refused.Component) ≡ None →
     (j < s.sizes.m) × (s.pool_spent ≡ false)
-begins_update s j true true below spent is = let bad : Some refused.PoolSpent ≡ None = is in absurd cc
+begins_update s j true true below spent is = let bad : Some Refused.PoolSpent ≡ None = is in absurd cc
 begins_update s j true false below spent is = (ltb-true j s.sizes.m below, spent)
-begins_update s j false b below spent is = let bad : Some refused.Component ≡ None = is in absurd cc
+begins_update s j false b below spent is = let bad : Some Refused.Component ≡ None = is in absurd cc
 
-begins_read : (s : CoreState) (j : ℕ) (a : Bool) → nat_lt j s.sizes.m ≡ a → cond a None (Some refused.Component) ≡ None → j < s.sizes.m
+begins_read : (s : CoreState) (j : ℕ) (a : Bool) → nat_lt j s.sizes.m ≡ a → cond a None (Some Refused.Component) ≡ None → j < s.sizes.m
 begins_read s j true below is = ltb-true j s.sizes.m below
-begins_read s j false below is = let bad : Some refused.Component ≡ None = is in absurd cc
+begins_read s j false below is = let bad : Some Refused.Component ≡ None = is in absurd cc
 
 -- what is known of a scan of some positions
 record ScanMay (s : CoreState) (js : List ℕ) : Type 0 where
@@ -39,23 +35,23 @@ record ScanMay (s : CoreState) (js : List ℕ) : Type 0 where
   may : (0 < length js) × (s.pool_spent ≡ false) × (s.slots_spent ≡ false)
 
 scan_may : (s : CoreState) (js : List ℕ) (a p q : Bool) → length js ≤ s.sizes.m → list_all (λ i. nat_lt i s.sizes.m) js ≡ a → s.pool_spent ≡ p → s.slots_spent ≡ q → 0 < length js →
-    cond a (cond p (Some refused.PoolSpent) (cond q (Some refused.SlotsSpent) None)) (Some refused.Component) ≡ None → ScanMay s js
-scan_may s js true true q few below pool slots some is = let bad : Some refused.PoolSpent ≡ None = is in absurd cc
-scan_may s js true false true few below pool slots some is = let bad : Some refused.SlotsSpent ≡ None = is in absurd cc
+    cond a (cond p (Some Refused.PoolSpent) (cond q (Some Refused.SlotsSpent) None)) (Some Refused.Component) ≡ None → ScanMay s js
+scan_may s js true true q few below pool slots some is = let bad : Some Refused.PoolSpent ≡ None = is in absurd cc
+scan_may s js true false true few below pool slots some is = let bad : Some Refused.SlotsSpent ≡ None = is in absurd cc
 scan_may s js true false false few below pool slots some is = record {
   asked = record { few = few; each = λ k. position_below js s.sizes.m k (all_below s.sizes.m js below) };
   may = (some, pool, slots);
 }
-scan_may s js false p q few below pool slots some is = let bad : Some refused.Component ≡ None = is in absurd cc
+scan_may s js false p q few below pool slots some is = let bad : Some Refused.Component ≡ None = is in absurd cc
 
-begins_scan : (s : CoreState) (js : List ℕ) → length js ≤ s.sizes.m → refusal_of s (call.Scan js) ≡ None → IsBegunWith s (call.Scan js)
+begins_scan : (s : CoreState) (js : List ℕ) → length js ≤ s.sizes.m → refusal_of s (Call.Scan js) ≡ None → IsBegunWith s (Call.Scan js)
 begins_scan s [] few is =
     let none : AreComponentIndices s.sizes [] = record { few = omega arith; each = λ k below. absurd (omega (arith, below)) } in
     record {
       like = refl;
       asked = none;
       may = tt;
-      sound = sound_with s [] (Finished (reply.Scanned 0 None)) none tt;
+      sound = sound_with s [] (Finished (Reply.Scanned 0 None)) none tt;
       few = omega arith;
       begun = refl;
       made = λ e. absurd (false≢true e);
@@ -63,10 +59,10 @@ begins_scan s [] few is =
     }
 begins_scan s (j ∷ js) few is =
     let none : (length (j ∷ js) == 0) ≡ false = ne_eqb (length (j ∷ js)) 0 (λ e. omega (arith, e)) in
-    let stage : cond (length (j ∷ js) == 0) (Finished (reply.Scanned 0 None)) ScanBegun ≡ ScanBegun = ap (λ (b : Bool). cond b (Finished (reply.Scanned 0 None)) ScanBegun) none in
-    let allowed : cond (list_all (λ i. nat_lt i s.sizes.m) (j ∷ js)) (cond s.pool_spent (Some refused.PoolSpent) (cond s.slots_spent (Some refused.SlotsSpent) None)) (Some refused.Component) ≡ None =
-    sym (ap (λ (b : Bool). cond (list_all (λ i. nat_lt i s.sizes.m) (j ∷ js)) (cond b None (cond s.pool_spent (Some refused.PoolSpent) (cond s.slots_spent (Some refused.SlotsSpent) None)))
-    (Some refused.Component)) none) ∙ is in
+    let stage : cond (length (j ∷ js) == 0) (Finished (Reply.Scanned 0 None)) ScanBegun ≡ ScanBegun = ap (λ (b : Bool). cond b (Finished (Reply.Scanned 0 None)) ScanBegun) none in
+    let allowed : cond (list_all (λ i. nat_lt i s.sizes.m) (j ∷ js)) (cond s.pool_spent (Some Refused.PoolSpent) (cond s.slots_spent (Some Refused.SlotsSpent) None)) (Some Refused.Component) ≡ None =
+    sym (ap (λ (b : Bool). cond (list_all (λ i. nat_lt i s.sizes.m) (j ∷ js)) (cond b None (cond s.pool_spent (Some Refused.PoolSpent) (cond s.slots_spent (Some Refused.SlotsSpent) None)))
+    (Some Refused.Component)) none) ∙ is in
     let m = scan_may s (j ∷ js) (list_all (λ i. nat_lt i s.sizes.m) (j ∷ js)) s.pool_spent s.slots_spent few refl refl refl (omega arith) allowed in
     let may : is_sound_at (begin_scan s (j ∷ js)) (begin_scan s (j ∷ js)).stage = subst (λ (u : Stage). is_sound_at (record s { asked = j ∷ js; stage = u }) u) (sym stage) m.may in
     record {
@@ -98,9 +94,9 @@ begins_change s j v e c asked may is made makes most =
     }
 
 pub calls_begin : CallsBegin
-calls_begin s (call.Update j v) asked served is = begins_change s j v None (call.Update j v) asked (begins_update s j (nat_lt j s.sizes.m) s.pool_spent refl refl is) refl refl refl refl
-calls_begin s (call.Scan js) asked served is = begins_scan s js served is
-calls_begin s (call.Read j) asked served is =
+calls_begin s (Call.Update j v) asked served is = begins_change s j v None (Call.Update j v) asked (begins_update s j (nat_lt j s.sizes.m) s.pool_spent refl refl is) refl refl refl refl
+calls_begin s (Call.Scan js) asked served is = begins_scan s js served is
+calls_begin s (Call.Read j) asked served is =
     let may = begins_read s j (nat_lt j s.sizes.m) refl is in
     record {
       like = refl;
@@ -112,7 +108,7 @@ calls_begin s (call.Read j) asked served is =
       made = λ e. refl;
       at_once = λ e. absurd (false≢true (sym e));
     }
-calls_begin s (call.UpdateIf j x v) asked served is = begins_change s j v (Some x) (call.UpdateIf j x v) asked (begins_update s j (nat_lt j s.sizes.m) s.pool_spent refl refl is) refl refl refl refl
+calls_begin s (Call.UpdateIf j x v) asked served is = begins_change s j v (Some x) (Call.UpdateIf j x v) asked (begins_update s j (nat_lt j s.sizes.m) s.pool_spent refl refl is) refl refl refl refl
 
 pub rests_are_sound : RestsAreSound
 rests_are_sound = record {
@@ -133,32 +129,32 @@ rests_are_sound = record {
 abbrev IsWhy : CoreState → Call → Refused → Type 0
 IsWhy s c cause = MayBeRefused s.sizes.m c cause × IsOldMark s cause
 
-refused_update : (s : CoreState) (j : ℕ) (cause : Refused) (a b : Bool) → nat_lt j s.sizes.m ≡ a → s.pool_spent ≡ b → cond a (cond b (Some refused.PoolSpent) None)
-    (Some refused.Component) ≡ Some cause → (c : Call) → ((k : j < s.sizes.m) → MayBeRefused s.sizes.m c refused.PoolSpent) →
-    (s.sizes.m ≤ j → MayBeRefused s.sizes.m c refused.Component) → IsWhy s c cause
-refused_update s j cause true true below spent is c pool out = let same : refused.PoolSpent ≡ cause = cc in subst (IsWhy s c) same (pool (ltb-true j s.sizes.m below), spent)
+refused_update : (s : CoreState) (j : ℕ) (cause : Refused) (a b : Bool) → nat_lt j s.sizes.m ≡ a → s.pool_spent ≡ b → cond a (cond b (Some Refused.PoolSpent) None)
+    (Some Refused.Component) ≡ Some cause → (c : Call) → ((k : j < s.sizes.m) → MayBeRefused s.sizes.m c Refused.PoolSpent) →
+    (s.sizes.m ≤ j → MayBeRefused s.sizes.m c Refused.Component) → IsWhy s c cause
+refused_update s j cause true true below spent is c pool out = let same : Refused.PoolSpent ≡ cause = cc in subst (IsWhy s c) same (pool (ltb-true j s.sizes.m below), spent)
 refused_update s j cause true false below spent is c pool out = let bad : None ≡ Some cause = is in absurd cc
-refused_update s j cause false b below spent is c pool out = let same : refused.Component ≡ cause = cc in subst (IsWhy s c) same (out (ltb-false j s.sizes.m below), tt)
+refused_update s j cause false b below spent is c pool out = let same : Refused.Component ≡ cause = cc in subst (IsWhy s c) same (out (ltb-false j s.sizes.m below), tt)
 
 refused_scan : (s : CoreState) (js : List ℕ) (cause : Refused) (a b p q : Bool) → list_all (λ i. nat_lt i s.sizes.m) js ≡ a → (length js == 0) ≡ b → s.pool_spent ≡ p → s.slots_spent ≡ q →
-    cond a (cond b None (cond p (Some refused.PoolSpent) (cond q (Some refused.SlotsSpent) None))) (Some refused.Component) ≡ Some cause → IsWhy s (call.Scan js) cause
+    cond a (cond b None (cond p (Some Refused.PoolSpent) (cond q (Some Refused.SlotsSpent) None))) (Some Refused.Component) ≡ Some cause → IsWhy s (Call.Scan js) cause
 refused_scan s js cause true true p q below none pool slots is = let bad : None ≡ Some cause = is in absurd cc
-refused_scan s js cause true false true q below none pool slots is = let same : refused.PoolSpent ≡ cause = cc in subst (IsWhy s (call.Scan js)) same
+refused_scan s js cause true false true q below none pool slots is = let same : Refused.PoolSpent ≡ cause = cc in subst (IsWhy s (Call.Scan js)) same
     ((all_below s.sizes.m js below, some_position js none), pool)
-refused_scan s js cause true false false true below none pool slots is = let same : refused.SlotsSpent ≡ cause = cc in subst (IsWhy s (call.Scan js)) same
+refused_scan s js cause true false false true below none pool slots is = let same : Refused.SlotsSpent ≡ cause = cc in subst (IsWhy s (Call.Scan js)) same
     ((all_below s.sizes.m js below, some_position js none), slots)
 refused_scan s js cause true false false false below none pool slots is = let bad : None ≡ Some cause = is in absurd cc
-refused_scan s js cause false b p q below none pool slots is = let same : refused.Component ≡ cause = cc in subst (IsWhy s (call.Scan js)) same (not_below s.sizes.m js below, tt)
+refused_scan s js cause false b p q below none pool slots is = let same : Refused.Component ≡ cause = cc in subst (IsWhy s (Call.Scan js)) same (not_below s.sizes.m js below, tt)
 
-refused_read : (s : CoreState) (j : ℕ) (cause : Refused) (a : Bool) → nat_lt j s.sizes.m ≡ a → cond a None (Some refused.Component) ≡ Some cause → IsWhy s (call.Read j) cause
+refused_read : (s : CoreState) (j : ℕ) (cause : Refused) (a : Bool) → nat_lt j s.sizes.m ≡ a → cond a None (Some Refused.Component) ≡ Some cause → IsWhy s (Call.Read j) cause
 refused_read s j cause true below is = let bad : None ≡ Some cause = is in absurd cc
-refused_read s j cause false below is = let same : refused.Component ≡ cause = cc in let out = ltb-false j s.sizes.m below in subst (IsWhy s (call.Read j)) same
+refused_read s j cause false below is = let same : Refused.Component ≡ cause = cc in let out = ltb-false j s.sizes.m below in subst (IsWhy s (Call.Read j)) same
     ((λ w. let below' = w.0 in omega (arith, out, below')), tt)
 
 pub calls_are_refused_at_once : CallsAreRefusedAtOnce
-calls_are_refused_at_once s (call.Update j v) cause is = refused_update s j cause (nat_lt j s.sizes.m) s.pool_spent refl refl is (call.Update j v) (λ below. ((below, tt), tt))
+calls_are_refused_at_once s (Call.Update j v) cause is = refused_update s j cause (nat_lt j s.sizes.m) s.pool_spent refl refl is (Call.Update j v) (λ below. ((below, tt), tt))
     (λ out w. let below' = w.0 in omega (arith, out, below'))
-calls_are_refused_at_once s (call.Scan js) cause is = refused_scan s js cause (list_all (λ i. nat_lt i s.sizes.m) js) (length js == 0) s.pool_spent s.slots_spent refl refl refl refl is
-calls_are_refused_at_once s (call.Read j) cause is = refused_read s j cause (nat_lt j s.sizes.m) refl is
-calls_are_refused_at_once s (call.UpdateIf j x v) cause is = refused_update s j cause (nat_lt j s.sizes.m) s.pool_spent refl refl is (call.UpdateIf j x v) (λ below. ((below, tt), tt))
+calls_are_refused_at_once s (Call.Scan js) cause is = refused_scan s js cause (list_all (λ i. nat_lt i s.sizes.m) js) (length js == 0) s.pool_spent s.slots_spent refl refl refl refl is
+calls_are_refused_at_once s (Call.Read j) cause is = refused_read s j cause (nat_lt j s.sizes.m) refl is
+calls_are_refused_at_once s (Call.UpdateIf j x v) cause is = refused_update s j cause (nat_lt j s.sizes.m) s.pool_spent refl refl is (Call.UpdateIf j x v) (λ below. ((below, tt), tt))
     (λ out w. let below' = w.0 in omega (arith, out, below'))

@@ -1,6 +1,5 @@
 -- What is known of a machine behind a possible answer.
-use Rattle.partial_machine.proofs.Common.{ℕ, ◌≡◌, ◌+◌, ◌-◌, ◌<◌, ◌≤◌, ◌==◌, ◌⊎◌, Bool, true, false, cond, not, ◌||◌, eqb, ltb, min, Option, Some, None, IsSome, List, [], ◌∷◌, length, refl, sym, ap, subst, ◌∙◌, inl, inr, arith, is_some, nat_lt, option_map_or, false≢true, cond_both, ltb-true, ltb-false, Refused, Step, Store, Add, Layout, IsLayout, slot_counter, slot_word, pool_counter, list_counter, list_end, pool_end, greatest_record, announcement_size, indices_word, next_word, with_index, begins_at, join_step, join_after, advance_join, JoinStage, Claiming, Storing, Joined, Spent, Change, Reply, Stage, is_begun, is_at_rest, IsSound, is_sound_at, IsPossibleAt, Run, ClaimsPastLists, IsRefusedBy, IsMarkedFor, refuses_pool, refuses_slots, AnswersLeadOn, DueIsUnreplied}
-use Rattle.partial_model.specs.declared.call.Refused.TheVariants as refused
+use Rattle.partial_machine.proofs.{Common.{ℕ, ◌≡◌, ◌+◌, ◌-◌, ◌<◌, ◌≤◌, ◌==◌, ◌⊎◌, Bool, true, false, cond, not, ◌||◌, eqb, ltb, min, Option, Some, None, IsSome, List, [], ◌∷◌, length, refl, sym, ap, subst, ◌∙◌, inl, inr, arith, is_some, nat_lt, option_map_or, false≢true, cond_both, ltb-true, ltb-false, Refused, Step, Store, Add, Layout, IsLayout, slot_counter, slot_word, pool_counter, list_counter, list_end, pool_end, greatest_record, announcement_size, indices_word, next_word, with_index, begins_at, join_step, join_after, advance_join, JoinStage, Claiming, Storing, Joined, Spent, Change, Reply, Stage, is_begun, is_at_rest, IsSound, is_sound_at, IsPossibleAt, Run, ClaimsPastLists, IsRefusedBy, IsMarkedFor, refuses_pool, refuses_slots, AnswersLeadOn, DueIsUnreplied}, Sound.{kept, size_few}}
 use Rattle.partial_intervals.specs.Intervals.{highest}
 use Rattle.partial_active.specs.declared.get_set.Stage.{Stage as SetStage}
 use Rattle.partial_active.specs.declared.get_set.Stage.TheVariants as set
@@ -8,10 +7,8 @@ use Rattle.partial_active.specs.GetSet as finding
 use Rattle.partial_active.specs.GetSetAnswers as finding_answers
 use Rattle.partial_active.proofs.Extended.{length_normal}
 use Rattle.partial_embedded.specs.Embedded as viewing
-use Rattle.partial_machine.specs.declared.stage.Reply.TheVariants as reply
 use Rattle.partial_machine.specs.declared.stage.Stage.TheVariants.{Idle, ReadBegun, LoadingValue, UpdateBegun, GettingSet, Viewing, ClaimingRecord, StoringRecord, Exchanging, ScanBegun, StoringAnnouncement, Joining, Scanning, Leaving, Finished}
 use Rattle.partial_machine.specs.Machine.{CoreState, at_stage, getting, scanning, with_getting, with_scanning, record_size, expects, overtaken_reply, fits_pool, pool_refused, slots_refused, begin_getting, begin_joining, after_joining, scanned_reply, lists_spent, advance_at, advance, step_at, reply_at}
-use Rattle.partial_machine.proofs.Sound.{kept, size_few}
 
 -- a call that has made a step
 abbrev is_behind : Stage → Bool
@@ -56,31 +53,31 @@ due_at s (Finished r) h = refl
 
 -- a refusal
 abbrev is_refusal : Option Reply → Bool
-is_refusal (Some (reply.Refused cause)) = true
+is_refusal (Some (Reply.Refused cause)) = true
 is_refusal _ = false
 
 no_pool : (f : Option Reply) → is_refusal f ≡ false → refuses_pool f ≡ false
 no_pool None h = refl
-no_pool (Some (reply.Refused cause)) h = absurd (false≢true (sym h))
-no_pool (Some (reply.Applied stamp)) h = refl
-no_pool (Some (reply.Lost by)) h = refl
-no_pool (Some (reply.Scanned c b)) h = refl
-no_pool (Some (reply.Read v stamp)) h = refl
-no_pool (Some (reply.Changed by)) h = refl
+no_pool (Some (Reply.Refused cause)) h = absurd (false≢true (sym h))
+no_pool (Some (Reply.Applied stamp)) h = refl
+no_pool (Some (Reply.Lost by)) h = refl
+no_pool (Some (Reply.Scanned c b)) h = refl
+no_pool (Some (Reply.Read v stamp)) h = refl
+no_pool (Some (Reply.Changed by)) h = refl
 
 no_slots : (f : Option Reply) → is_refusal f ≡ false → refuses_slots f ≡ false
 no_slots None h = refl
-no_slots (Some (reply.Refused cause)) h = absurd (false≢true (sym h))
-no_slots (Some (reply.Applied stamp)) h = refl
-no_slots (Some (reply.Lost by)) h = refl
-no_slots (Some (reply.Scanned c b)) h = refl
-no_slots (Some (reply.Read v stamp)) h = refl
-no_slots (Some (reply.Changed by)) h = refl
+no_slots (Some (Reply.Refused cause)) h = absurd (false≢true (sym h))
+no_slots (Some (Reply.Applied stamp)) h = refl
+no_slots (Some (Reply.Lost by)) h = refl
+no_slots (Some (Reply.Scanned c b)) h = refl
+no_slots (Some (Reply.Read v stamp)) h = refl
+no_slots (Some (Reply.Changed by)) h = refl
 
 -- what the machine t is behind an answer to s
 record After (s : CoreState) (x : ℕ) (t : CoreState) : Type 0 where
   ahead : is_behind t.stage ≡ true
-  refused_by : (cause : Refused) → reply_at t.stage ≡ Some (reply.Refused cause) → IsRefusedBy s x cause × (¬ IsMarkedFor s cause)
+  refused_by : (cause : Refused) → reply_at t.stage ≡ Some (Reply.Refused cause) → IsRefusedBy s x cause × (¬ IsMarkedFor s cause)
   pool : t.pool_spent ≡ (refuses_pool (reply_at t.stage) || s.pool_spent)
   slots : t.slots_spent ≡ (refuses_slots (reply_at t.stage) || s.slots_spent)
 
@@ -100,10 +97,10 @@ either None s t P p q = q
 either (Some a) s t P p q = p
 
 -- the reply to an exchange refuses nothing
-exchanged : (c : Change) (at x : ℕ) (b : Bool) (f : Option ℕ) → c.expected ≡ f → is_refusal (Some (cond b (reply.Applied at) (overtaken_reply c x))) ≡ false
+exchanged : (c : Change) (at x : ℕ) (b : Bool) (f : Option ℕ) → c.expected ≡ f → is_refusal (Some (cond b (Reply.Applied at) (overtaken_reply c x))) ≡ false
 exchanged c at x true f e = refl
-exchanged c at x false None e = ap (λ (g : Option ℕ). is_refusal (Some (option_map_or (λ _. reply.Changed x) g (reply.Lost x)))) e
-exchanged c at x false (Some v) e = ap (λ (g : Option ℕ). is_refusal (Some (option_map_or (λ _. reply.Changed x) g (reply.Lost x)))) e
+exchanged c at x false None e = ap (λ (g : Option ℕ). is_refusal (Some (option_map_or (λ _. Reply.Changed x) g (Reply.Lost x)))) e
+exchanged c at x false (Some v) e = ap (λ (g : Option ℕ). is_refusal (Some (option_map_or (λ _. Reply.Changed x) g (Reply.Lost x)))) e
 
 module _ (s : CoreState) (x : ℕ) (w : IsSound s) where
   here : (t : Stage) → s.stage ≡ t → is_sound_at s t
@@ -114,7 +111,7 @@ module _ (s : CoreState) (x : ℕ) (w : IsSound s) where
       After s x (pool_refused s)
   pool_after t size e due few unmarked past = record {
     ahead = refl;
-    refused_by = λ cause is. let same : refused.PoolSpent ≡ cause = cc in subst (λ (f : Refused). IsRefusedBy s x f × (¬ IsMarkedFor s f)) same (
+    refused_by = λ cause is. let same : Refused.PoolSpent ≡ cause = cc in subst (λ (f : Refused). IsRefusedBy s x f × (¬ IsMarkedFor s f)) same (
       record { size = size; step = ap (step_at s) e ∙ due; few = few; past = let over = ltb-false (x + size) (pool_end s.sizes + 1) past in omega (arith, over) },
       λ marked. false≢true (sym unmarked ∙ marked),
     );
@@ -143,7 +140,7 @@ module _ (s : CoreState) (x : ℕ) (w : IsSound s) where
       by true within = plain s x q Joining e refl refl refl refl
       by false past = record {
         ahead = refl;
-        refused_by = λ cause is. let same : refused.SlotsSpent ≡ cause = cc in subst (λ (f : Refused). IsRefusedBy s x f × (¬ IsMarkedFor s f)) same (
+        refused_by = λ cause is. let same : Refused.SlotsSpent ≡ cause = cc in subst (λ (f : Refused). IsRefusedBy s x f × (¬ IsMarkedFor s f)) same (
           record {
             step = ap (step_at s) e ∙ ap (join_step s.join.sizes s.join.announcement) at ∙ ap (λ (y : Layout). Some (Add (slot_counter y) 1)) h.2;
             past = subst (λ (y : Layout). y.slots ≤ x) h.2 (ltb-false x s.join.sizes.slots past);
@@ -160,10 +157,10 @@ module _ (s : CoreState) (x : ℕ) (w : IsSound s) where
   after_at : (t : Stage) → s.stage ≡ t → IsPossibleAt s t x → After s x (advance_at s t x)
   after_at Idle e p = absurd p
   after_at (ReadBegun j) e p = plain s x (at_stage s (LoadingValue x)) (LoadingValue x) refl refl refl refl refl
-  after_at (LoadingValue stamp) e p = plain s x (at_stage s (Finished (reply.Read x stamp))) (Finished (reply.Read x stamp)) refl refl refl refl refl
-  after_at (UpdateBegun c) e p = cond_both (expects c x) (begin_getting s c x) (at_stage s (Finished (reply.Changed x))) (After s x)
+  after_at (LoadingValue stamp) e p = plain s x (at_stage s (Finished (Reply.Read x stamp))) (Finished (Reply.Read x stamp)) refl refl refl refl refl
+  after_at (UpdateBegun c) e p = cond_both (expects c x) (begin_getting s c x) (at_stage s (Finished (Reply.Changed x))) (After s x)
       (λ _. plain s x (begin_getting s c x) (GettingSet c x) refl refl refl refl refl)
-      (λ _. plain s x (at_stage s (Finished (reply.Changed x))) (Finished (reply.Changed x)) refl refl refl refl refl)
+      (λ _. plain s x (at_stage s (Finished (Reply.Changed x))) (Finished (Reply.Changed x)) refl refl refl refl refl)
   after_at (GettingSet c old) e p = getting_after c old e
   after_at (Viewing c old) e p =
       let q = with_scanning s (viewing.advance_view s.found.indices (scanning s) x) in
@@ -178,7 +175,7 @@ module _ (s : CoreState) (x : ℕ) (w : IsSound s) where
       (λ _. plain s x (at_stage s (Exchanging c old at)) (Exchanging c old at) refl refl refl refl refl)
       (λ _. plain s x (at_stage s (StoringRecord c old at (k + 1))) (StoringRecord c old at (k + 1)) refl refl refl refl refl)
   after_at (Exchanging c old at) e p =
-      let u : Stage = Finished (cond (x == old) (reply.Applied at) (overtaken_reply c x)) in
+      let u : Stage = Finished (cond (x == old) (Reply.Applied at) (overtaken_reply c x)) in
       plain s x (at_stage s u) u refl refl (exchanged c at x (x == old) c.expected refl) refl refl
   after_at ScanBegun e p = by (fits_pool s.sizes (announcement_size (length s.asked)) x) refl
     where
@@ -270,9 +267,9 @@ module _ (s : CoreState) (x : ℕ) (layout : IsLayout s.sizes) (w : IsSound s) w
   lists_at : (t : Stage) → s.stage ≡ t → KeepsLists s x (advance_at s t x)
   lists_at Idle e = same_lists s x s refl
   lists_at (ReadBegun j) e = same_lists s x (at_stage s (LoadingValue x)) refl
-  lists_at (LoadingValue stamp) e = same_lists s x (at_stage s (Finished (reply.Read x stamp))) refl
-  lists_at (UpdateBegun c) e = cond_both (expects c x) (begin_getting s c x) (at_stage s (Finished (reply.Changed x))) (KeepsLists s x) (λ _. same_lists s x (begin_getting s c x) refl)
-      (λ _. same_lists s x (at_stage s (Finished (reply.Changed x))) refl)
+  lists_at (LoadingValue stamp) e = same_lists s x (at_stage s (Finished (Reply.Read x stamp))) refl
+  lists_at (UpdateBegun c) e = cond_both (expects c x) (begin_getting s c x) (at_stage s (Finished (Reply.Changed x))) (KeepsLists s x) (λ _. same_lists s x (begin_getting s c x) refl)
+      (λ _. same_lists s x (at_stage s (Finished (Reply.Changed x))) refl)
   lists_at (GettingSet c old) e =
       let q = with_getting s (finding.advance_set (getting s) x) in
       either (finding.set_step_due q.get_set) q (record q { embedded = viewing.fresh_view q.sizes true; stage = cond (length q.found.indices == 0) (ClaimingRecord c old) (Viewing c old) })

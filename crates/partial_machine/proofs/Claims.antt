@@ -1,16 +1,13 @@
 -- A call makes one claim of pool words at most, and one of a slot.
-use Rattle.partial_machine.proofs.Common.{ℕ, ◌≡◌, ◌+◌, ◌≤◌, ◌==◌, Bool, true, false, cond, Some, None, List, [], ◌∷◌, length, refl, sym, ap, subst, ◌∙◌, arith, nat_lt, cond_both, ne_eqb, Store, Layout, IsLayout, slot_word, slot_counter, pool_counter, list_counter, announcement_size, join_step, join_after, advance_join, JoinStage, Claiming, Storing, Joined, Spent, Change, Stage, CoreState, at_stage, getting, scanning, with_getting, with_scanning, record_size, expects, fits_pool, pool_refused, begin_getting, begin_joining, after_joining, advance_at, advance, step_at, IsSound, is_sound_at, IsPossibleAt, Run}
+use Rattle.partial_machine.proofs.{Common.{ℕ, ◌≡◌, ◌+◌, ◌≤◌, ◌==◌, Bool, true, false, cond, Some, None, List, [], ◌∷◌, length, refl, sym, ap, subst, ◌∙◌, arith, nat_lt, cond_both, ne_eqb, Store, Layout, IsLayout, slot_word, slot_counter, pool_counter, list_counter, announcement_size, join_step, join_after, advance_join, JoinStage, Claiming, Storing, Joined, Spent, Change, Stage, CoreState, at_stage, getting, scanning, with_getting, with_scanning, record_size, expects, fits_pool, pool_refused, begin_getting, begin_joining, after_joining, advance_at, advance, step_at, IsSound, is_sound_at, IsPossibleAt, Run, Reply}, Sound.kept, Behind.either}
 use Rattle.partial_active.specs.declared.get_set.Stage.{Stage as SetStage}
 use Rattle.partial_active.specs.declared.get_set.Stage.TheVariants as set
 use Rattle.partial_active.specs.GetSet as finding
 use Rattle.partial_embedded.specs.declared.embedded.Stage.{Stage as ViewStage}
 use Rattle.partial_embedded.specs.declared.embedded.Stage.TheVariants as view
 use Rattle.partial_embedded.specs.Embedded as viewing
-use Rattle.partial_machine.specs.declared.stage.Reply.TheVariants as reply
 use Rattle.partial_machine.specs.declared.stage.Stage.TheVariants.{Idle, ReadBegun, LoadingValue, UpdateBegun, GettingSet, Viewing, ClaimingRecord, StoringRecord, Exchanging, ScanBegun, StoringAnnouncement, Joining, Scanning, Leaving, Finished}
 use Rattle.partial_machine.specs.Claims.{claims, claims_of, CallsClaimOnce}
-use Rattle.partial_machine.proofs.Sound.{kept}
-use Rattle.partial_machine.proofs.Behind.{either}
 
 -- the claims that are left at a stage
 abbrev pool_left : CoreState → Stage → ℕ
@@ -104,7 +101,7 @@ module _ (s : CoreState) (x : ℕ) (w : IsSound s) where
   pool_at Idle e p = absurd p
   pool_at (ReadBegun j) e p = quiet false 0 0 refl (omega arith)
   pool_at (LoadingValue stamp) e p = quiet false 0 0 refl (omega arith)
-  pool_at (UpdateBegun c) e p = quiet false _ 1 refl (cond_both (expects c x) (begin_getting s c x) (at_stage s (Finished (reply.Changed x))) (λ (q : CoreState). pool_left q q.stage ≤ 1)
+  pool_at (UpdateBegun c) e p = quiet false _ 1 refl (cond_both (expects c x) (begin_getting s c x) (at_stage s (Finished (Reply.Changed x))) (λ (q : CoreState). pool_left q q.stage ≤ 1)
       (λ _. omega arith) (λ _. omega arith))
   pool_at (GettingSet c old) e p =
       let q = with_getting s (finding.advance_set (getting s) x) in
@@ -164,7 +161,7 @@ module _ (s : CoreState) (x : ℕ) (w : IsSound s) where
   slots_at Idle e p = absurd p
   slots_at (ReadBegun j) e p = quiet false 0 0 refl (omega arith)
   slots_at (LoadingValue stamp) e p = quiet false 0 0 refl (omega arith)
-  slots_at (UpdateBegun c) e p = quiet false _ 0 refl (cond_both (expects c x) (begin_getting s c x) (at_stage s (Finished (reply.Changed x))) (λ (q : CoreState). slots_left q q.stage ≤ 0)
+  slots_at (UpdateBegun c) e p = quiet false _ 0 refl (cond_both (expects c x) (begin_getting s c x) (at_stage s (Finished (Reply.Changed x))) (λ (q : CoreState). slots_left q q.stage ≤ 0)
       (λ _. omega arith) (λ _. omega arith))
   slots_at (GettingSet c old) e p =
       let q = with_getting s (finding.advance_set (getting s) x) in

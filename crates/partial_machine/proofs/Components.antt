@@ -1,6 +1,5 @@
 -- Which component words a call loads, and how its embedded scan ends, over every run.
-use Rattle.partial_machine.proofs.Common.{ℕ, ◌≡◌, ◌+◌, ◌-◌, ◌<◌, ◌≤◌, ◌⊎◌, inl, inr, ◌==◌, ◌&&◌, ◌++◌, Bool, true, false, cond, min, not, Option, Some, None, List, [], ◌∷◌, length, refl, sym, ap, subst, ◌∙◌, arith, append_assoc, append-nil, nat_lt, ⊤, option_map_or, eqb-true, eqb-false, Call, Step, Load, Store, Layout, IsLayout, slot_word, next_word, indices_word, advance_join, join_step, JoinStage, Claiming, Storing, Joined, Spent, begins_at, with_index, Change, Stage, CoreState, at_stage, getting, scanning, with_getting, with_scanning, begin_joining, after_joining, record_size, expects, fits_pool, pool_refused, begin_getting, advance_at, advance, step_at, step_of, call_at, update_call, IsSound, is_sound_at, IsPossible, IsPossibleAt, Run}
-use Rattle.partial_model.specs.declared.call.Call.TheVariants as call
+use Rattle.partial_machine.proofs.{Common.{ℕ, ◌≡◌, ◌+◌, ◌-◌, ◌<◌, ◌≤◌, ◌⊎◌, inl, inr, ◌==◌, ◌&&◌, ◌++◌, Bool, true, false, cond, min, not, Option, Some, None, List, [], ◌∷◌, length, refl, sym, ap, subst, ◌∙◌, arith, append_assoc, append-nil, nat_lt, ⊤, option_map_or, eqb-true, eqb-false, Call, Step, Load, Store, Layout, IsLayout, slot_word, next_word, indices_word, advance_join, join_step, JoinStage, Claiming, Storing, Joined, Spent, begins_at, with_index, Change, Stage, CoreState, at_stage, getting, scanning, with_getting, with_scanning, begin_joining, after_joining, record_size, expects, fits_pool, pool_refused, begin_getting, advance_at, advance, step_at, step_of, call_at, update_call, IsSound, is_sound_at, IsPossible, IsPossibleAt, Run, Reply}, Sound.{Keeps, kept}, StepCounts.stays_sound}
 use Rattle.partial_words.specs.VacatedList.{intervals_word}
 use Rattle.partial_active.specs.declared.get_set.Stage.{Stage as SetStage}
 use Rattle.partial_active.specs.declared.get_set.Stage.TheVariants as set
@@ -10,13 +9,9 @@ use Rattle.partial_embedded.specs.declared.embedded.Stage.{Stage as ViewStage}
 use Rattle.partial_embedded.specs.declared.embedded.Stage.TheVariants as view
 use Rattle.partial_embedded.specs.Embedded as viewing
 use Rattle.partial_embedded.specs.Runs as runs
-use Rattle.partial_embedded.proofs.RunLaws.{loads_its_positions_alone, makes_few_collects}
-use Rattle.partial_embedded.proofs.Ends.{finished_scans_end_well}
-use Rattle.partial_machine.specs.declared.stage.Reply.TheVariants as reply
+use Rattle.partial_embedded.proofs.{RunLaws.{loads_its_positions_alone, makes_few_collects}, Ends.finished_scans_end_well}
 use Rattle.partial_machine.specs.declared.stage.Stage.TheVariants.{Idle, ReadBegun, LoadingValue, UpdateBegun, GettingSet, Viewing, ClaimingRecord, StoringRecord, Exchanging, ScanBegun, StoringAnnouncement, Joining, Scanning, Leaving, Finished}
 use Rattle.partial_machine.specs.Components.{EndsInScan, HasScanned, scans_at, CallsLoadTheirComponents, CallsMakeEmbeddedScans, EmbeddedScansEndWell, MayLoad}
-use Rattle.partial_machine.proofs.Sound.{Keeps, kept}
-use Rattle.partial_machine.proofs.StepCounts.{stays_sound}
 
 -- an embedded scan with no step due is done
 none_due : (indices last : List ℕ) (p : viewing.ViewPair) (t : ViewStage) → viewing.view_step_at p.0.sizes indices last t ≡ None → t ≡ view.Done
@@ -234,7 +229,7 @@ module _ (s : CoreState) (layout : IsLayout s.sizes) (w : IsSound s) (answers : 
   written true at k = tt
   written false at k = tt
 
-  expected : (b : Bool) (c : Change) → Then (cond b (begin_getting s c x) (at_stage s (Finished (reply.Changed x))))
+  expected : (b : Bool) (c : Change) → Then (cond b (begin_getting s c x) (at_stage s (Finished (Reply.Changed x))))
   expected true c = tt
   expected false c = tt
 
@@ -327,10 +322,10 @@ of_scan _ = ⊥
 
 -- the machine with these positions is at a stage of the call
 abbrev is_of : Call → List ℕ → Stage → Type 0
-is_of (call.Read j) asked u = of_read j u
-is_of (call.Update j v) asked u = of_update j u
-is_of (call.UpdateIf j x v) asked u = of_update j u
-is_of (call.Scan js) asked u = (asked ≡ js) × of_scan u
+is_of (Call.Read j) asked u = of_read j u
+is_of (Call.Update j v) asked u = of_update j u
+is_of (Call.UpdateIf j x v) asked u = of_update j u
+is_of (Call.Scan js) asked u = (asked ≡ js) × of_scan u
 
 module _ (s : CoreState) (x : ℕ) where
   read_on : (j : ℕ) (u : Stage) → IsPossibleAt s u x → of_read j u → of_read j (advance_at s u x).stage
@@ -356,7 +351,7 @@ module _ (s : CoreState) (x : ℕ) where
   choice_on j false q r h g = g
 
   update_on : (j : ℕ) (u : Stage) → s.stage ≡ u → IsPossibleAt s u x → of_update j u → of_update j (advance_at s u x).stage
-  update_on j (UpdateBegun c) e possible h = choice_on j (expects c x) (begin_getting s c x) (at_stage s (Finished (reply.Changed x))) tt tt
+  update_on j (UpdateBegun c) e possible h = choice_on j (expects c x) (begin_getting s c x) (at_stage s (Finished (Reply.Changed x))) tt tt
   update_on j (GettingSet c old) e possible h =
       let p = finding.advance_set (getting s) x in
       set_on j c old (with_getting s p) (record (with_getting s p) { embedded = viewing.fresh_view s.sizes true; stage = cond (length p.1.indices == 0) (ClaimingRecord c old) (Viewing c old) })
@@ -396,10 +391,10 @@ module _ (s : CoreState) (x : ℕ) where
   scan_on _ e possible h = absurd h
 
   call_on : (c : Call) → IsPossible s x → (advance s x).asked ≡ s.asked → is_of c s.asked s.stage → is_of c (advance s x).asked (advance s x).stage
-  call_on (call.Read j) possible asked h = read_on j s.stage possible h
-  call_on (call.Update j v) possible asked h = update_on j s.stage refl possible h
-  call_on (call.UpdateIf j e v) possible asked h = update_on j s.stage refl possible h
-  call_on (call.Scan js) possible asked h = (asked ∙ h.0, scan_on s.stage refl possible h.1)
+  call_on (Call.Read j) possible asked h = read_on j s.stage possible h
+  call_on (Call.Update j v) possible asked h = update_on j s.stage refl possible h
+  call_on (Call.UpdateIf j e v) possible asked h = update_on j s.stage refl possible h
+  call_on (Call.Scan js) possible asked h = (asked ∙ h.0, scan_on s.stage refl possible h.1)
 
 call_runs : (s t : CoreState) (c : Call) (xs : List ℕ) → IsLayout s.sizes → IsSound s → is_of c s.asked s.stage → Run s xs t → is_of c t.asked t.stage
 call_runs s t c [] layout w h is = subst (λ (v : CoreState). is_of c v.asked v.stage) (sym is) h
@@ -408,13 +403,13 @@ call_runs s t c (x ∷ xs) layout w h run =
     call_runs (advance s x) t c xs (subst IsLayout (sym k.sizes) layout) k.sound (call_on s x c run.0 k.positions h) run.1
 
 begun_of_call : (s : CoreState) (u : Stage) (c : Call) → call_at s u ≡ Some c → is_of c s.asked u
-begun_of_call s (ReadBegun j) c e = let same : call.Read j ≡ c = cc in subst (λ (d : Call). is_of d s.asked (ReadBegun j)) same refl
+begun_of_call s (ReadBegun j) c e = let same : Call.Read j ≡ c = cc in subst (λ (d : Call). is_of d s.asked (ReadBegun j)) same refl
 begun_of_call s (UpdateBegun d) c e = let same : update_call d.component d.expected d.value ≡ c = cc in subst (λ (f : Call). is_of f s.asked (UpdateBegun d)) same (either d.expected)
   where
     either : (f : Option ℕ) → is_of (update_call d.component f d.value) s.asked (UpdateBegun d)
     either None = refl
     either (Some v) = refl
-begun_of_call s ScanBegun c e = let same : call.Scan s.asked ≡ c = cc in subst (λ (d : Call). is_of d s.asked ScanBegun) same (refl, tt)
+begun_of_call s ScanBegun c e = let same : Call.Scan s.asked ≡ c = cc in subst (λ (d : Call). is_of d s.asked ScanBegun) same (refl, tt)
 begun_of_call s _ c e = absurd cc
 
 -- a load of a word behind those of the components
@@ -491,10 +486,10 @@ module _ (t : CoreState) (w : IsSound t) (xs : List ℕ) (v : ℕ) (below : v < 
   scan_loads _ e h k is = absurd h
 
   may_load : (c : Call) → is_of c t.asked t.stage → scanned_at xs t t.stage → step_of t ≡ Some (Load v) → MayLoad c t v
-  may_load (call.Read j) h k is = read_loads j t.stage refl h is
-  may_load (call.Update j x) h k is = update_loads j t.stage refl h k is
-  may_load (call.UpdateIf j x y) h k is = update_loads j t.stage refl h k is
-  may_load (call.Scan js) h k is = subst (λ (l : List ℕ). runs.IsOfPosition l v) h.0 (scan_loads t.stage refl h.1 k is)
+  may_load (Call.Read j) h k is = read_loads j t.stage refl h is
+  may_load (Call.Update j x) h k is = update_loads j t.stage refl h k is
+  may_load (Call.UpdateIf j x y) h k is = update_loads j t.stage refl h k is
+  may_load (Call.Scan js) h k is = subst (λ (l : List ℕ). runs.IsOfPosition l v) h.0 (scan_loads t.stage refl h.1 k is)
 
 pub calls_load_their_components : CallsLoadTheirComponents
 calls_load_their_components s t c xs v layout w made run is below =

@@ -1,7 +1,6 @@
 -- An idle machine, whose getSet or embedded scan was made.
 use Rattle.partial_machine.proofs.Common.{ℕ, ◌≡◌, sym, subst, Layout, Idle, CoreState, IsMachine, is_sound_at, AreIndices, few_indices}
-use Rattle.partial_active.specs.Found.{Buffers, AreFoundFor as AreBuffersFor}
-use Rattle.partial_active.specs.GetSet.{GetSetState}
+use Rattle.partial_active.specs.{Found.{Buffers, AreFoundFor as AreBuffersFor}, GetSet.GetSetState}
 use Rattle.partial_embedded.specs.Embedded as viewing
 use Rattle.partial_machine.specs.Lines.{with_embedded, with_set}
 

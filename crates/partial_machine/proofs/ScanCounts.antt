@@ -1,11 +1,9 @@
 -- How many steps a scan has made at each stage, from its beginning on.
-use Rattle.partial_machine.proofs.Common.{ℕ, ◌≡◌, ◌+◌, ◌-◌, ◌*◌, ◌<◌, ◌≤◌, ◌==◌, Bool, true, false, cond, ◌&&◌, ◌||◌, List, [], ◌∷◌, length, get_or, Option, Some, None, refl, sym, ◌∙◌, ap, subst, arith, false≢true, eqb-true, ltb-false, nat_lt, IsSome, option_map_or, Step, IsLayout, announcement_size, pairs_word, next_word, view_size, pairs_size, join_after, join_left, join_step, advance_join, JoinStage, Claiming, Storing, Joined, Spent, Reply, Stage, CoreState, at_stage, scanning, with_scanning, begin_joining, after_joining, pool_refused, fits_pool, advance, advance_at, reply_at, IsSound, is_sound_at, IsPossibleAt, Run, is_len, loads_len, pairs_loaded, AreOfScan, ScansMakeTheirSteps}
+use Rattle.partial_machine.proofs.{Common.{ℕ, ◌≡◌, ◌+◌, ◌-◌, ◌*◌, ◌<◌, ◌≤◌, ◌==◌, Bool, true, false, cond, ◌&&◌, ◌||◌, List, [], ◌∷◌, length, get_or, Option, Some, None, refl, sym, ◌∙◌, ap, subst, arith, false≢true, eqb-true, ltb-false, nat_lt, IsSome, option_map_or, Step, IsLayout, announcement_size, pairs_word, next_word, view_size, pairs_size, join_after, join_left, join_step, advance_join, JoinStage, Claiming, Storing, Joined, Spent, Reply, Stage, CoreState, at_stage, scanning, with_scanning, begin_joining, after_joining, pool_refused, fits_pool, advance, advance_at, reply_at, IsSound, is_sound_at, IsPossibleAt, Run, is_len, loads_len, pairs_loaded, AreOfScan, ScansMakeTheirSteps}, Sound.kept}
 use Rattle.partial_embedded.specs.declared.embedded.Stage.{Stage as ViewStage}
 use Rattle.partial_embedded.specs.declared.embedded.Stage.TheVariants.{Collect, View, Len, Index, PairValue, Value, Done}
 use Rattle.partial_embedded.specs.Embedded as viewing
-use Rattle.partial_machine.specs.declared.stage.Reply.TheVariants as reply
 use Rattle.partial_machine.specs.declared.stage.Stage.TheVariants.{Idle, ReadBegun, LoadingValue, UpdateBegun, GettingSet, Viewing, ClaimingRecord, StoringRecord, Exchanging, ScanBegun, StoringAnnouncement, Joining, Scanning, Leaving, Finished}
-use Rattle.partial_machine.proofs.Sound.{kept}
 
 -- the steps that an embedded scan of r positions has made at a stage, where n pairs were announced
 abbrev pub counted_at : ℕ → viewing.ViewPair → ℕ → ℕ → ViewStage → Type 0
@@ -75,7 +73,7 @@ module _ (indices : List ℕ) (p : viewing.ViewPair) (made n x : ℕ) (w : viewi
 
 -- the steps of a finished scan
 abbrev pub ends_with : ℕ → ℕ → ℕ → Reply → Type 0
-ends_with r made n (reply.Scanned c borrowed) = AreOfScan r c n made borrowed
+ends_with r made n (Reply.Scanned c borrowed) = AreOfScan r c n made borrowed
 ends_with r made n _ = Unit {0}
 
 -- the steps that a scan has made at a stage, where n pairs were announced
@@ -223,8 +221,8 @@ pub scans_make_their_steps : ScansMakeTheirSteps
 scans_make_their_steps s t xs c borrowed layout w e run done =
     let begun : Made s 0 0 = subst (made_at s 0 0) (sym e) refl in
     let all = run_made s t xs 0 0 layout w begun run in
-    let end : ends_with (length t.asked) (0 + length xs) (0 + pairs_loaded s xs) (reply.Scanned c borrowed) = subst (made_at t (0 + length xs) (0 + pairs_loaded s xs))
-    (replied t.stage (reply.Scanned c borrowed) done) all.0 in
+    let end : ends_with (length t.asked) (0 + length xs) (0 + pairs_loaded s xs) (Reply.Scanned c borrowed) = subst (made_at t (0 + length xs) (0 + pairs_loaded s xs))
+    (replied t.stage (Reply.Scanned c borrowed) done) all.0 in
     let same = all.1 in
     let times : length t.asked * (c + 2) ≡ length s.asked * (c + 2) = ap (λ r. r * (c + 2)) same in
     let fewer : length t.asked * (c + 1) ≡ length s.asked * (c + 1) = ap (λ r. r * (c + 1)) same in

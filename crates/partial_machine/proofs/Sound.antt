@@ -1,7 +1,6 @@
 -- A possible answer leaves a sound machine, with fewer steps to make.
-use Rattle.partial_machine.proofs.Common.{ℕ, ◌≡◌, ◌+◌, ◌<◌, ◌≤◌, ◌==◌, Bool, true, false, cond, length, Option, Some, None, IsSome, refl, sym, ◌∙◌, ap, subst, arith, false≢true, eqb-true, eqb-false, ltb-true, IsTrue, nat_lt, option_map_or, Step, Layout, IsLayout, pool_end, greatest_record, plain_record_size, full_record_size, announcement_size, fits_join, join_step, join_after, join_left, step_of_join, advance_join, JoinStage, Claiming, Storing, Joined, Spent, Change, Stage, CoreState, at_stage, getting, scanning, with_getting, with_scanning, record_size, expects, overtaken_reply, fits_pool, pool_refused, slots_refused, begin_getting, begin_joining, after_joining, scanned_reply, advance_at, advance, AreComponentIndices, IsRecord, IsInPool, IsSound, is_sound_at, IsMachine, IsPoolCount, IsPossible, IsPossibleAt, left_at, steps_left, AreIndices, few_indices, found_kept}
+use Rattle.partial_machine.proofs.Common.{ℕ, ◌≡◌, ◌+◌, ◌<◌, ◌≤◌, ◌==◌, Bool, true, false, cond, length, Option, Some, None, IsSome, refl, sym, ◌∙◌, ap, subst, arith, false≢true, eqb-true, eqb-false, ltb-true, IsTrue, nat_lt, option_map_or, Step, Layout, IsLayout, pool_end, greatest_record, plain_record_size, full_record_size, announcement_size, fits_join, join_step, join_after, join_left, step_of_join, advance_join, JoinStage, Claiming, Storing, Joined, Spent, Change, Stage, CoreState, at_stage, getting, scanning, with_getting, with_scanning, record_size, expects, overtaken_reply, fits_pool, pool_refused, slots_refused, begin_getting, begin_joining, after_joining, scanned_reply, advance_at, advance, AreComponentIndices, IsRecord, IsInPool, IsSound, is_sound_at, IsMachine, IsPoolCount, IsPossible, IsPossibleAt, left_at, steps_left, AreIndices, few_indices, found_kept, Refused, Reply}
 use Rattle.std.proofs.Math.Nat.{mul-le-mul}
-use Rattle.partial_model.specs.declared.call.Refused.TheVariants as refused
 use Rattle.partial_active.specs.Found.{AreFoundFor as AreBuffersFor}
 use Rattle.partial_active.specs.GetSet as finding
 use Rattle.partial_active.specs.GetSetAnswers as finding_answers
@@ -9,7 +8,6 @@ use Rattle.partial_active.proofs.Answered as answered
 use Rattle.partial_active.proofs.Sizes.{sizes_kept}
 use Rattle.partial_embedded.specs.Embedded as viewing
 use Rattle.partial_embedded.proofs.Keeps as viewed
-use Rattle.partial_machine.specs.declared.stage.Reply.TheVariants as reply
 use Rattle.partial_machine.specs.declared.stage.Stage.TheVariants.{Idle, ReadBegun, LoadingValue, UpdateBegun, GettingSet, Viewing, ClaimingRecord, StoringRecord, Exchanging, ScanBegun, StoringAnnouncement, Joining, Scanning, Leaving, Finished}
 
 -- what an answer leaves of a machine
@@ -73,15 +71,15 @@ module _ (s : CoreState) (layout : IsLayout s.sizes) (w : IsSound s) where
   staying t u e stage fewer = kept_as (at_stage s u) t u e refl refl refl refl w.asked w.found same_indices w.rows stage fewer
 
   refused_pool : (t : Stage) → s.stage ≡ t → 0 < left_at s t → Keeps s (pool_refused s)
-  refused_pool t e fewer = kept_as (pool_refused s) t (Finished (reply.Refused refused.PoolSpent)) e refl refl refl refl w.asked w.found same_indices w.rows tt fewer
+  refused_pool t e fewer = kept_as (pool_refused s) t (Finished (Reply.Refused Refused.PoolSpent)) e refl refl refl refl w.asked w.found same_indices w.rows tt fewer
 
-  begun_kept : (c : Change) (x : ℕ) → s.stage ≡ UpdateBegun c → IsRecord s.sizes x → (b : Bool) → Keeps s (cond b (begin_getting s c x) (at_stage s (Finished (reply.Changed x))))
+  begun_kept : (c : Change) (x : ℕ) → s.stage ≡ UpdateBegun c → IsRecord s.sizes x → (b : Bool) → Keeps s (cond b (begin_getting s c x) (at_stage s (Finished (Reply.Changed x))))
   begun_kept c x e rec true =
       let h = here (UpdateBegun c) e in
       let fresh = finding.fresh_set s.sizes s.get_set.lists_spent in
       kept_as (begin_getting s c x) (UpdateBegun c) (GettingSet c x) e refl refl refl refl w.asked w.found same_indices w.rows
       ((h.0, rec, h.1), record { sizes = w.found; stage = tt }, refl, refl) (omega arith)
-  begun_kept c x e rec false = staying (UpdateBegun c) (Finished (reply.Changed x)) e tt (omega arith)
+  begun_kept c x e rec false = staying (UpdateBegun c) (Finished (Reply.Changed x)) e tt (omega arith)
 
   getting_kept : (c : Change) (old x : ℕ) → s.stage ≡ GettingSet c old → finding_answers.IsPossibleInSet (getting s) x → Keeps s (advance_at s (GettingSet c old) x)
   getting_kept c old x e possible = either (finding.set_step_due q.0) refl
@@ -240,7 +238,7 @@ module _ (s : CoreState) (layout : IsLayout s.sizes) (w : IsSound s) where
           let due : IsSome (step_of_join q.join) = subst (λ t. IsSome (join_step s.join.sizes s.join.announcement t)) (sym is) refl in
           let fits : IsTrue (fits_join s.join.sizes q.join.stage) = subst (λ t. IsTrue (fits_join s.join.sizes t)) (sym is) within in
           kept_as q Joining Joining e e refl refl refl w.asked w.found same_indices w.rows (h.0, h.1, h.2, h.3, due, fits) (omega (arith, before, after))
-      claimed j false past = kept_as (slots_refused q) Joining (Finished (reply.Refused refused.SlotsSpent)) e refl refl refl refl w.asked w.found same_indices w.rows tt (omega arith)
+      claimed j false past = kept_as (slots_refused q) Joining (Finished (Reply.Refused Refused.SlotsSpent)) e refl refl refl refl w.asked w.found same_indices w.rows tt (omega arith)
 
       -- the store
       stored : (slot : ℕ) → s.join.stage ≡ Storing slot → Keeps s (after_joining q (Joined slot))
@@ -264,13 +262,13 @@ module _ (s : CoreState) (layout : IsLayout s.sizes) (w : IsSound s) where
   kept_at : (t : Stage) (x : ℕ) → s.stage ≡ t → IsPossibleAt s t x → Keeps s (advance_at s t x)
   kept_at Idle x e possible = absurd possible
   kept_at (ReadBegun j) x e possible = staying (ReadBegun j) (LoadingValue x) e possible (omega arith)
-  kept_at (LoadingValue stamp) x e possible = staying (LoadingValue stamp) (Finished (reply.Read x stamp)) e tt (omega arith)
+  kept_at (LoadingValue stamp) x e possible = staying (LoadingValue stamp) (Finished (Reply.Read x stamp)) e tt (omega arith)
   kept_at (UpdateBegun c) x e possible = begun_kept c x e possible (expects c x)
   kept_at (GettingSet c old) x e possible = getting_kept c old x e possible
   kept_at (Viewing c old) x e possible = viewing_kept c old x e possible
   kept_at (ClaimingRecord c old) x e possible = record_claimed c old x e possible (fits_pool s.sizes (record_size s) x) refl
   kept_at (StoringRecord c old at k) x e possible = record_stored c old at k e (k + 1 == record_size s) refl
-  kept_at (Exchanging c old at) x e possible = staying (Exchanging c old at) (Finished (cond (x == old) (reply.Applied at) (overtaken_reply c x))) e tt (omega arith)
+  kept_at (Exchanging c old at) x e possible = staying (Exchanging c old at) (Finished (cond (x == old) (Reply.Applied at) (overtaken_reply c x))) e tt (omega arith)
   kept_at ScanBegun x e possible = announcement_claimed x e possible (fits_pool s.sizes (announcement_size (length s.asked)) x) refl
   kept_at (StoringAnnouncement at k) x e possible = announcement_stored at k e (k == length s.asked) refl
   kept_at Joining x e possible = joining_kept x e

@@ -1,12 +1,11 @@
 -- The machine holds behind an answer to one of the machines in it, as the code comes to it.
-use Rattle.partial_machine.proofs.Common.{ℕ, ◌≡◌, ◌<◌, ◌==◌, true, false, cond, List, length, Option, Some, None, refl, sym, ◌∙◌, ap, subst, false≢true, option_map_or, is_some, Step, answer_of, Change, Stage, IsPossible, IsPossibleAt, MayPerform, IsMachine, steps_left}
+use Rattle.partial_machine.proofs.{Common.{ℕ, ◌≡◌, ◌<◌, ◌==◌, true, false, cond, List, length, Option, Some, None, refl, sym, ◌∙◌, ap, subst, false≢true, option_map_or, is_some, Step, answer_of, Change, Stage, IsPossible, IsPossibleAt, MayPerform, IsMachine, steps_left}, Sound.{machine_on, fewer_on}}
 use Rattle.partial_model.proofs.ListLemmas.{some_same}
 use Rattle.partial_active.specs.GetSet as finding
 use Rattle.partial_active.specs.GetSetAnswers as finding_answers
 use Rattle.partial_embedded.specs.Embedded as viewing
 use Rattle.partial_machine.specs.declared.stage.Stage.TheVariants.{GettingSet, Viewing, ClaimingRecord, Scanning, Leaving}
 use Rattle.partial_machine.specs.Machine.{CoreState, getting, scanning, with_getting, with_scanning, after_getting, after_scanning, advance, advance_at, step_at, step_of}
-use Rattle.partial_machine.proofs.Sound.{machine_on, fewer_on}
 
 -- where a step is due the machine goes on, and else it has come to the next stage
 goes_on : {A B : Type 0} (o : Option A) (x y : B) → is_some o ≡ true → x ≡ option_map_or (λ _. x) o y

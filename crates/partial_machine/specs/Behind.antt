@@ -2,14 +2,12 @@
 use Rattle.std.specs.Prelude.{ℕ, ◌≡◌, ◌+◌, ◌<◌, ◌≤◌, ◌||◌, ⊤, Bool, true, false, not, Option, Some, None, is_some}
 use Rattle.partial_model.specs.declared.call.Call.{Call}
 use Rattle.partial_model.specs.declared.call.Refused.{Refused}
-use Rattle.partial_model.specs.declared.call.Refused.TheVariants as refused
 use Rattle.partial_model.specs.Notes.{MayBeRefused}
 use Rattle.partial_words.specs.declared.step.Step.{Step}
 use Rattle.partial_words.specs.declared.step.Step.TheVariants.{Add}
 use Rattle.partial_words.specs.Layout.{Layout, IsLayout, slot_counter, pool_counter, list_counter, list_end, pool_end, total, greatest_record, greatest_list}
 use Rattle.partial_words.specs.Step.{word_of}
 use Rattle.partial_machine.specs.declared.stage.Reply.{Reply}
-use Rattle.partial_machine.specs.declared.stage.Reply.TheVariants as reply
 use Rattle.partial_machine.specs.declared.stage.Stage.TheVariants.{Idle}
 use Rattle.partial_machine.specs.Machine.{CoreState, fresh, at_stage, lists_spent, advance, step_of, reply_of}
 use Rattle.partial_machine.specs.Calls.{is_begun, is_at_rest, begun_like, makes_steps, call_of, refusal_of, begun_of, IsServed}
@@ -38,24 +36,24 @@ pub record ClaimsPastLists (s : CoreState) (x : ℕ) : Type 0 where
 
 -- why a step ends its call with a refusal: its claim went past the end
 abbrev pub IsRefusedBy : CoreState → ℕ → Refused → Type 0
-IsRefusedBy s x refused.Component = ⊥
-IsRefusedBy s x refused.SlotsSpent = ClaimsPastSlots s x
-IsRefusedBy s x refused.PoolSpent = ClaimsPastPool s x
+IsRefusedBy s x Refused.Component = ⊥
+IsRefusedBy s x Refused.SlotsSpent = ClaimsPastSlots s x
+IsRefusedBy s x Refused.PoolSpent = ClaimsPastPool s x
 
 -- the machine is marked for the region for which a call is refused
 abbrev pub IsMarkedFor : CoreState → Refused → Type 0
-IsMarkedFor s refused.Component = ⊥
-IsMarkedFor s refused.SlotsSpent = s.slots_spent ≡ true
-IsMarkedFor s refused.PoolSpent = s.pool_spent ≡ true
+IsMarkedFor s Refused.Component = ⊥
+IsMarkedFor s Refused.SlotsSpent = s.slots_spent ≡ true
+IsMarkedFor s Refused.PoolSpent = s.pool_spent ≡ true
 
 -- whether the reply is a refusal for the pool
 abbrev pub refuses_pool : Option Reply → Bool
-refuses_pool (Some (reply.Refused refused.PoolSpent)) = true
+refuses_pool (Some (Reply.Refused Refused.PoolSpent)) = true
 refuses_pool _ = false
 
 -- whether the reply is a refusal for the slots
 abbrev pub refuses_slots : Option Reply → Bool
-refuses_slots (Some (reply.Refused refused.SlotsSpent)) = true
+refuses_slots (Some (Reply.Refused Refused.SlotsSpent)) = true
 refuses_slots _ = false
 
 -- what is known of the machine behind a possible answer
@@ -71,7 +69,7 @@ pub record IsBehind (s : CoreState) (x : ℕ) : Type 0 where
   pub due : is_some (step_of (advance s x)) ≡ not (is_some (reply_of (advance s x)))
   pub fewer : steps_left (advance s x) < steps_left s
   -- a call is refused only by its claim that went past the end, and it wasn't marked before
-  pub refused_by : (cause : Refused) → reply_of (advance s x) ≡ Some (reply.Refused cause) → IsRefusedBy s x cause × (¬ IsMarkedFor s cause)
+  pub refused_by : (cause : Refused) → reply_of (advance s x) ≡ Some (Reply.Refused cause) → IsRefusedBy s x cause × (¬ IsMarkedFor s cause)
   -- the marks stay, and the port gets a mark exactly when its call is refused
   pub pool : (advance s x).pool_spent ≡ (refuses_pool (reply_of (advance s x)) || s.pool_spent)
   pub slots : (advance s x).slots_spent ≡ (refuses_slots (reply_of (advance s x)) || s.slots_spent)
@@ -101,7 +99,7 @@ pub record IsBegunWith (s : CoreState) (c : Call) : Type 0 where
   pub few : steps_left (begun_of s c) ≤ most_steps s.sizes c
   pub begun : is_begun (begun_of s c).stage ≡ makes_steps c
   pub made : makes_steps c ≡ true → call_of (begun_of s c) ≡ Some c
-  pub at_once : makes_steps c ≡ false → reply_of (begun_of s c) ≡ Some (reply.Scanned 0 None)
+  pub at_once : makes_steps c ≡ false → reply_of (begun_of s c) ≡ Some (Reply.Scanned 0 None)
 
 -- a call that isn't refused at once is begun
 abbrev pub CallsBegin : Type 0
@@ -115,7 +113,7 @@ pub record RestsAreSound : Type 0 where
 
 -- the mark for which a call is refused at once; an index needs none
 abbrev pub IsOldMark : CoreState → Refused → Type 0
-IsOldMark s refused.Component = ⊤
+IsOldMark s Refused.Component = ⊤
 IsOldMark s cause = IsMarkedFor s cause
 
 -- a call is refused at once for an index, or for an old mark; either is a cause for which it may be refused

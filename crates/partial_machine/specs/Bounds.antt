@@ -1,7 +1,6 @@
 -- How many steps a call makes at most.
 use Rattle.std.specs.Prelude.{ℕ, ◌+◌, ◌-◌, [], length}
 use Rattle.partial_model.specs.declared.call.Call.{Call}
-use Rattle.partial_model.specs.declared.call.Call.TheVariants as call
 use Rattle.partial_words.specs.Layout.{Layout, greatest_record}
 use Rattle.partial_words.specs.Announcement.{announcement_size}
 use Rattle.partial_active.specs.Join.{join_left}
@@ -17,11 +16,11 @@ most_of_update z = finding.most_set_steps z + viewing.most_view_steps z z.m + gr
 
 -- a call; a scan of no position makes none
 abbrev pub most_steps : Layout → Call → ℕ
-most_steps z (call.Update j v) = most_of_update z
-most_steps z (call.Scan []) = 0
-most_steps z (call.Scan js) = viewing.most_view_steps z (length js) + length js + 5
-most_steps z (call.Read j) = 2
-most_steps z (call.UpdateIf j x v) = most_of_update z
+most_steps z (Call.Update j v) = most_of_update z
+most_steps z (Call.Scan []) = 0
+most_steps z (Call.Scan js) = viewing.most_view_steps z (length js) + length js + 5
+most_steps z (Call.Read j) = 2
+most_steps z (Call.UpdateIf j x v) = most_of_update z
 
 -- the steps of an update behind its getSet and its embedded scan at most: a claim, the stores, an exchange
 abbrev pub write_left : Layout → ℕ

@@ -1,7 +1,6 @@
 -- Which component words a call loads, and how its embedded scan ends, over every run.
 use Rattle.std.specs.Prelude.{ℕ, ◌≡◌, ◌+◌, ◌<◌, ◌≤◌, ◌⊎◌, ⊤, Bool, true, false, List, ◌++◌, length, Some}
 use Rattle.partial_model.specs.declared.call.Call.{Call}
-use Rattle.partial_model.specs.declared.call.Call.TheVariants as call
 use Rattle.partial_words.specs.declared.step.Step.TheVariants.{Load}
 use Rattle.partial_words.specs.Layout.{Layout, IsLayout}
 use Rattle.partial_embedded.specs.declared.embedded.Stage.TheVariants.{Done}
@@ -56,10 +55,10 @@ pub record EmbeddedScansEndWell : Type 0 where
 
 -- the component words that a call may load: its own, and those of the positions of its embedded scan
 abbrev pub MayLoad : Call → CoreState → ℕ → Type 0
-MayLoad (call.Update j v) t w = (w ≡ j) ⊎ IsOfPosition t.found.indices w
-MayLoad (call.UpdateIf j x v) t w = (w ≡ j) ⊎ IsOfPosition t.found.indices w
-MayLoad (call.Scan js) t w = IsOfPosition js w
-MayLoad (call.Read j) t w = w ≡ j
+MayLoad (Call.Update j v) t w = (w ≡ j) ⊎ IsOfPosition t.found.indices w
+MayLoad (Call.UpdateIf j x v) t w = (w ≡ j) ⊎ IsOfPosition t.found.indices w
+MayLoad (Call.Scan js) t w = IsOfPosition js w
+MayLoad (Call.Read j) t w = w ≡ j
 
 -- a scan loads no component word but those of its positions, an update its own and those that its getSet found, and a read its own
 abbrev pub CallsLoadTheirComponents : Type 0

@@ -1,7 +1,7 @@
 -- A port's machine: the step that is due, what an answer makes of it, and the reply.
 use Rattle.std.specs.Prelude.{ℕ, ◌+◌, ◌/◌, ◌==◌, Bool, true, false, List, [], length, map, slice_index, nat_lt, Option, Some, None, replicate, if◌then◌else◌}
 use Rattle.std.specs.Option.{option_map_or}
-use Rattle.partial_model.specs.declared.call.Refused.TheVariants as refused
+use Rattle.partial_model.specs.declared.call.Refused.{Refused}
 use Rattle.partial_words.specs.declared.step.Step.{Step}
 use Rattle.partial_words.specs.declared.step.Step.TheVariants.{Load, Store, Exchange, Add}
 use Rattle.partial_words.specs.Layout.{Layout, component_word, pool_counter, pool_end}
@@ -16,7 +16,6 @@ use Rattle.partial_active.specs.GetSet as finding
 use Rattle.partial_embedded.specs.Embedded as viewing
 use Rattle.partial_machine.specs.declared.stage.Change.{Change}
 use Rattle.partial_machine.specs.declared.stage.Reply.{Reply}
-use Rattle.partial_machine.specs.declared.stage.Reply.TheVariants as reply
 use Rattle.partial_machine.specs.declared.stage.Stage.{Stage}
 use Rattle.partial_machine.specs.declared.stage.Stage.TheVariants.{Idle, ReadBegun, LoadingValue, UpdateBegun, GettingSet, Viewing, ClaimingRecord, StoringRecord, Exchanging, ScanBegun, StoringAnnouncement, Joining, Scanning, Leaving, Finished}
 
@@ -132,7 +131,7 @@ expects c stamp = option_map_or (λ e. e == stamp) c.expected true
 
 -- the reply to an update whose component has another stamp
 abbrev pub overtaken_reply : Change → ℕ → Reply
-overtaken_reply c by = option_map_or (λ _. reply.Changed by) c.expected (reply.Lost by)
+overtaken_reply c by = option_map_or (λ _. Reply.Changed by) c.expected (Reply.Lost by)
 
 -- a claim of so many words at `at` is within the pool
 abbrev pub fits_pool : Layout → ℕ → ℕ → Bool
@@ -140,11 +139,11 @@ fits_pool z size at = nat_lt (at + size) (pool_end z + 1)
 
 -- the port is marked for the pool, and the call is refused
 abbrev pub pool_refused : CoreState → CoreState
-pool_refused s = record s { pool_spent = true; stage = Finished (reply.Refused refused.PoolSpent) }
+pool_refused s = record s { pool_spent = true; stage = Finished (Reply.Refused Refused.PoolSpent) }
 
 -- the port is marked for the slots, and the scan is refused
 abbrev pub slots_refused : CoreState → CoreState
-slots_refused s = record s { slots_spent = true; stage = Finished (reply.Refused refused.SlotsSpent) }
+slots_refused s = record s { slots_spent = true; stage = Finished (Reply.Refused Refused.SlotsSpent) }
 
 -- a getSet begins
 abbrev pub begin_getting : CoreState → Change → ℕ → CoreState
@@ -179,21 +178,21 @@ after_joining s Spent = slots_refused s
 
 -- the reply of a scan that is finished
 abbrev pub scanned_reply : CoreState → Reply
-scanned_reply s = reply.Scanned s.embedded.collects s.embedded.borrowed
+scanned_reply s = Reply.Scanned s.embedded.collects s.embedded.borrowed
 
 -- what an answer makes of the machine at a stage
 abbrev pub advance_at : CoreState → Stage → ℕ → CoreState
 advance_at s Idle x = s
 advance_at s (ReadBegun j) x = at_stage s (LoadingValue x)
-advance_at s (LoadingValue stamp) x = at_stage s (Finished (reply.Read x stamp))
-advance_at s (UpdateBegun c) x = if expects c x then begin_getting s c x else at_stage s (Finished (reply.Changed x))
+advance_at s (LoadingValue stamp) x = at_stage s (Finished (Reply.Read x stamp))
+advance_at s (UpdateBegun c) x = if expects c x then begin_getting s c x else at_stage s (Finished (Reply.Changed x))
 advance_at s (GettingSet c old) x = after_getting (with_getting s (finding.advance_set (getting s) x)) c old
 advance_at s (Viewing c old) x = after_scanning (with_scanning s (viewing.advance_view s.found.indices (scanning s) x))
     s.found.indices (ClaimingRecord c old)
 advance_at s (ClaimingRecord c old) x = if fits_pool s.sizes (record_size s) x then at_stage s (StoringRecord c old x 0) else pool_refused s
 advance_at s (StoringRecord c old at k) x = at_stage s
     (if k + 1 == record_size s then Exchanging c old at else StoringRecord c old at (k + 1))
-advance_at s (Exchanging c old at) x = at_stage s (Finished (if x == old then reply.Applied at else overtaken_reply c x))
+advance_at s (Exchanging c old at) x = at_stage s (Finished (if x == old then Reply.Applied at else overtaken_reply c x))
 advance_at s ScanBegun x = if fits_pool s.sizes (announcement_size (length s.asked)) x then at_stage s
     (StoringAnnouncement x 0) else pool_refused s
 advance_at s (StoringAnnouncement at k) x = if k == length s.asked then begin_joining s at else at_stage s (StoringAnnouncement at (k + 1))

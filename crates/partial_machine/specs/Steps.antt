@@ -5,7 +5,6 @@ use Rattle.partial_words.specs.Layout.{IsLayout}
 use Rattle.partial_embedded.specs.declared.embedded.Stage.{Stage as ViewStage}
 use Rattle.partial_embedded.specs.declared.embedded.Stage.TheVariants.{Len}
 use Rattle.partial_machine.specs.declared.stage.Reply.{Reply}
-use Rattle.partial_machine.specs.declared.stage.Reply.TheVariants as reply
 use Rattle.partial_machine.specs.declared.stage.Stage.{Stage}
 use Rattle.partial_machine.specs.declared.stage.Stage.TheVariants.{ReadBegun, ScanBegun, Scanning}
 use Rattle.partial_machine.specs.Machine.{CoreState, advance, reply_of}
@@ -57,4 +56,4 @@ pub record AreOfScan (r c n steps : ℕ) (borrowed : Option ℕ) : Type 0 where
 -- a scan makes its steps
 abbrev pub ScansMakeTheirSteps : Type 0
 ScansMakeTheirSteps = (s t : CoreState) (xs : List ℕ) (c : ℕ) (borrowed : Option ℕ) → IsLayout s.sizes → IsSound s → s.stage ≡ ScanBegun →
-    Run s xs t → reply_of t ≡ Some (reply.Scanned c borrowed) → AreOfScan (length s.asked) c (pairs_loaded s xs) (length xs) borrowed
+    Run s xs t → reply_of t ≡ Some (Reply.Scanned c borrowed) → AreOfScan (length s.asked) c (pairs_loaded s xs) (length xs) borrowed

@@ -1,9 +1,8 @@
 -- A memory that is closed with all its ports: each entry is in the notes of exactly one.
-use Rattle.partial_memory.proofs.Common.{ℕ, zero, suc, ◌≡◌, ◌≢◌, ◌+◌, ◌<◌, ◌≤◌, List, [], ◌∷◌, ◌++◌, map, Contains, refl, sym, ◌∙◌, ap, subst, Some, slice_get, inl, inr, arith, AllByRecursion, range_with_len, cases_lt, TableId, Applied, all_append, all_at, all_before, all_after, all_front, all_back, all_join, all_unmap, About, IsShuffle, newcomers, IsOf, MemoryView, PortView, new_ports, Closes, IsPortOf, LegalNotes, AllByRecursion-get, Closed}
+use Rattle.partial_memory.proofs.{Common.{ℕ, zero, suc, ◌≡◌, ◌≢◌, ◌+◌, ◌<◌, ◌≤◌, List, [], ◌∷◌, ◌++◌, map, Contains, refl, sym, ◌∙◌, ap, subst, Some, slice_get, inl, inr, arith, AllByRecursion, range_with_len, cases_lt, TableId, Applied, all_append, all_at, all_before, all_after, all_front, all_back, all_join, all_unmap, About, IsShuffle, newcomers, IsOf, MemoryView, PortView, new_ports, Closes, IsPortOf, LegalNotes, AllByRecursion-get, Closed}, Shuffles.{find, same_order}}
 use Rattle.partial_model.specs.Outcome.{places_written}
 use Rattle.partial_model.proofs.Entries.{entries_are_noted, written_at, written_by}
 use Rattle.partial_memory.specs.AllPorts.{AreAllPorts, ClosedWithAllPorts, IsInOnePort, IsPortIn, OpenedPortsAreAll}
-use Rattle.partial_memory.proofs.Shuffles.{find, same_order}
 
 -- the ports of a new memory
 new_own : (t : TableId) (about : About) (k n : ℕ) → AllByRecursion (IsOf (record { table = t; about = about })) (new_ports t (newcomers about k n))

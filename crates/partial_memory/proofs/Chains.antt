@@ -3,8 +3,7 @@ use Rattle.partial_memory.proofs.Common.{ℕ, zero, suc, ◌≡◌, ◌+◌, ◌
 use Rattle.std.specs.List.{IsDistinct}
 use Rattle.std.specs.declared.alloc.Global.{Global}
 use Rattle.std.specs.declared.vec.Vec.{Vec}
-use Rattle.std.proofs.lemmas.Map.Keys.{IsDistinct-cons}
-use Rattle.std.proofs.lemmas.Map.Steps.{length-le_from_distinct_below}
+use Rattle.std.proofs.lemmas.Map.{Keys.IsDistinct-cons, Steps.length-le_from_distinct_below}
 use Rattle.std.proofs.Math.Dec.{eqb}
 use Rattle.partial_model.specs.History.{HaveDistinctStamps, value_of as value_after}
 use Rattle.partial_words.specs.declared.record.Link.{Link}

@@ -1,23 +1,22 @@
 -- What follows from how a call was led to its reply, and why a call is refused at once.
 use Rattle.partial_memory.proofs.Common.{ℕ, ◌≡◌, ◌+◌, ◌<◌, ◌≤◌, Some, subst, ◌∙◌, Refused, Add, Layout, greatest_record, pool_counter, pool_end, slot_counter, CoreState, fresh, step_of, IsOldMark, IsRefusedBy, calls_are_refused_at_once, calls_claim_once, answers_of, PortView, HasMark, LateRefusalsArePastEnd, LedCallsClaimOnce, RefusalsAtOnceFit, run_sizes}
-use Rattle.partial_model.specs.declared.call.Refused.TheVariants as refused
 
 pub led_calls_claim_once : LedCallsClaimOnce
 led_calls_claim_once p q c r w = calls_claim_once w.begun w.machine (answers_of q.kept) w.began.layout w.began.sound w.run
 
 -- a claim that went past the end, in the sizes of the port's memory
-past_pool : (z : Layout) (claims : CoreState) (last : ℕ) (cause : Refused) → claims.sizes ≡ z → IsRefusedBy claims last cause → cause ≡ refused.PoolSpent →
+past_pool : (z : Layout) (claims : CoreState) (last : ℕ) (cause : Refused) → claims.sizes ≡ z → IsRefusedBy claims last cause → cause ≡ Refused.PoolSpent →
     (size : ℕ) × (step_of claims ≡ Some (Add (pool_counter z) size)) × (size ≤ greatest_record z) × (pool_end z < last + size)
-past_pool z claims last refused.Component same past is = absurd past
-past_pool z claims last refused.SlotsSpent same past is = cc
-past_pool z claims last refused.PoolSpent same past is =
+past_pool z claims last Refused.Component same past is = absurd past
+past_pool z claims last Refused.SlotsSpent same past is = cc
+past_pool z claims last Refused.PoolSpent same past is =
     subst (λ (y : Layout). (size : ℕ) × (step_of claims ≡ Some (Add (pool_counter y) size)) × (size ≤ greatest_record y) × (pool_end y < last + size)) same (past.size, past.step, past.few, past.past)
 
-past_slots : (z : Layout) (claims : CoreState) (last : ℕ) (cause : Refused) → claims.sizes ≡ z → IsRefusedBy claims last cause → cause ≡ refused.SlotsSpent →
+past_slots : (z : Layout) (claims : CoreState) (last : ℕ) (cause : Refused) → claims.sizes ≡ z → IsRefusedBy claims last cause → cause ≡ Refused.SlotsSpent →
     (step_of claims ≡ Some (Add (slot_counter z) 1)) × (z.slots ≤ last)
-past_slots z claims last refused.Component same past is = absurd past
-past_slots z claims last refused.PoolSpent same past is = cc
-past_slots z claims last refused.SlotsSpent same past is =
+past_slots z claims last Refused.Component same past is = absurd past
+past_slots z claims last Refused.PoolSpent same past is = cc
+past_slots z claims last Refused.SlotsSpent same past is =
     subst (λ (y : Layout). (step_of claims ≡ Some (Add (slot_counter y) 1)) × (y.slots ≤ last)) same (past.step, past.past)
 
 pub late_refusals_are_past_end : LateRefusalsArePastEnd
@@ -38,9 +37,9 @@ abbrev marked : PortView → CoreState
 marked p = record (fresh p.memory.about.sizes 0) { pool_spent = p.pool_spent; slots_spent = p.slots_spent }
 
 has_mark : (p : PortView) (cause : Refused) → IsOldMark (marked p) cause → HasMark p cause
-has_mark p refused.Component h = tt
-has_mark p refused.SlotsSpent h = h
-has_mark p refused.PoolSpent h = h
+has_mark p Refused.Component h = tt
+has_mark p Refused.SlotsSpent h = h
+has_mark p Refused.PoolSpent h = h
 
 pub refusals_at_once_fit : RefusalsAtOnceFit
 refusals_at_once_fit p c cause is = let w = calls_are_refused_at_once (marked p) c cause is in (w.0, has_mark p cause w.1)

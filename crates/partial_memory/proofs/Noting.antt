@@ -1,13 +1,9 @@
 -- What the calls of a memory leave in the notes of their ports.
 use Rattle.partial_memory.proofs.Common.{ℕ, ◌≡◌, List, [], ◌∷◌, sym, ap, ◌∙◌, inl, inr, Some, append-nil, Call, Refused, PortView, Answered, Goes, IsRefused, Updates, UpdatesIf, met_port, Note, Noted}
 use Rattle.partial_model.specs.declared.history.Applied.{Applied as Entry}
-use Rattle.partial_model.specs.declared.call.Call.TheVariants as call
 use Rattle.partial_model.specs.declared.call.Answer.{Answer}
-use Rattle.partial_model.specs.declared.call.Answer.TheVariants as answer
-use Rattle.partial_memory.specs.declared.answers.Updated.{Updated}
+use Rattle.partial_memory.specs.declared.answers.{Updated.Updated, UpdatedIf.UpdatedIf}
 use Rattle.partial_memory.specs.declared.answers.Updated.TheVariants.{Applied, Lost}
-use Rattle.partial_memory.specs.declared.answers.UpdatedIf.{UpdatedIf}
-use Rattle.partial_memory.specs.declared.answers.UpdatedIf.TheVariants as conditional
 use Rattle.partial_memory.specs.Noting.{CallsNoteOnce, NotesCall, NotesMore, noted_update, noted_update_if}
 
 goes_on : (p q : PortView) (new : List Noted) → Goes p q new → NotesMore p q new
@@ -23,13 +19,13 @@ unchanged p q e = record {
   notes = ap (λ (x : PortView). x.notes) e ∙ sym (append-nil p.notes);
 }
 
-update_noted : (p q : PortView) (j v : ℕ) (r : Updated) → Updates p j v r q → NotesCall p (call.Update j v) (noted_update r) q
-update_noted p q j v (Applied stamp) w = answered p q (call.Update j v) (answer.Applied stamp) _ w.1
-update_noted p q j v (Lost by) w = answered p q (call.Update j v) (answer.Lost by) _ w.1
+update_noted : (p q : PortView) (j v : ℕ) (r : Updated) → Updates p j v r q → NotesCall p (Call.Update j v) (noted_update r) q
+update_noted p q j v (Applied stamp) w = answered p q (Call.Update j v) (Answer.Applied stamp) _ w.1
+update_noted p q j v (Lost by) w = answered p q (Call.Update j v) (Answer.Lost by) _ w.1
 
-update_if_noted : (p q : PortView) (j x v : ℕ) (r : UpdatedIf) → UpdatesIf p j x v r q → NotesCall p (call.UpdateIf j x v) (noted_update_if r) q
-update_if_noted p q j x v (conditional.Applied stamp) w = answered p q (call.UpdateIf j x v) (answer.Applied stamp) _ w.1
-update_if_noted p q j x v (conditional.Changed by) w = answered p q (call.UpdateIf j x v) (answer.Changed by) _ w.1
+update_if_noted : (p q : PortView) (j x v : ℕ) (r : UpdatedIf) → UpdatesIf p j x v r q → NotesCall p (Call.UpdateIf j x v) (noted_update_if r) q
+update_if_noted p q j x v (UpdatedIf.Applied stamp) w = answered p q (Call.UpdateIf j x v) (Answer.Applied stamp) _ w.1
+update_if_noted p q j x v (UpdatedIf.Changed by) w = answered p q (Call.UpdateIf j x v) (Answer.Changed by) _ w.1
 
 refused_noted : (p q : PortView) (c : Call) (cause : Refused) → IsRefused p c cause q → NotesMore p q []
 refused_noted p q c cause (inl w) = unchanged p q w.1
@@ -46,8 +42,8 @@ pub calls_note_once : CallsNoteOnce
 calls_note_once = record {
   update = update_noted;
   update_if = update_if_noted;
-  read = λ p q j value stamp w. answered p q (call.Read j) (answer.Read value stamp) _ w.1;
-  scan = λ p q j js values s w. answered p q (call.Scan (j ∷ js)) (answer.Scanned values s.collects s.borrowed) _ w.1;
+  read = λ p q j value stamp w. answered p q (Call.Read j) (Answer.Read value stamp) _ w.1;
+  scan = λ p q j js values s w. answered p q (Call.Scan (j ∷ js)) (Answer.Scanned values s.collects s.borrowed) _ w.1;
   no_scan = λ p q values s w. unchanged p q w.3;
   refused = refused_noted;
   meet = λ a b c d w. (met_noted w.log a c w.first, met_noted w.log b d w.second);

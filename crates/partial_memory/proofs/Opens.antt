@@ -1,6 +1,5 @@
 -- A memory as it opens, and its ports.
-use Rattle.partial_memory.proofs.Common.{ℕ, zero, suc, ◌≡◌, ◌+◌, ◌-◌, ◌<◌, ◌≤◌, ◌++◌, List, [], ◌∷◌, refl, sym, ap, subst, ◌∙◌, arith, append-nil, append_assoc, Me, opening, TableId, Layout, IsLayout, OpensWith, CoreState, fresh, fresh_parts, Lawful, opens_lawful, ports_come_between, About, SeatedPort, AreOpened, IsRuleKept, IsShuffle, newcomer, newcomers, parts_of, first_port, further_ports, one_in, PortView, port_view, IsResting, new_ports}
-use Rattle.partial_memory.proofs.Shuffles.{same_order}
+use Rattle.partial_memory.proofs.{Common.{ℕ, zero, suc, ◌≡◌, ◌+◌, ◌-◌, ◌<◌, ◌≤◌, ◌++◌, List, [], ◌∷◌, refl, sym, ap, subst, ◌∙◌, arith, append-nil, append_assoc, Me, opening, TableId, Layout, IsLayout, OpensWith, CoreState, fresh, fresh_parts, Lawful, opens_lawful, ports_come_between, About, SeatedPort, AreOpened, IsRuleKept, IsShuffle, newcomer, newcomers, parts_of, first_port, further_ports, one_in, PortView, port_view, IsResting, new_ports}, Shuffles.same_order}
 
 newcomers_parts : (about : About) (port n : ℕ) → parts_of (newcomers about port n) ≡ fresh_parts about.sizes port n
 newcomers_parts about port zero = refl

@@ -1,8 +1,6 @@
 -- Calls in straight lines: each step is allowed, and leads the call on.
-use Rattle.partial_memory.proofs.Common.{ℕ, ◌≡◌, ◌<◌, Some, List, refl, sym, subst, ◌∙◌, inl, inr, Me, Allows, TableId, Step, total, word_of, CoreState, advance, step_of, IsMachineOf, core_of, About, SeatedPort, IsRuleKept, IsOne, Told, makes, one_of, Begins, CallMade, IsGoing, IsUnderWay, ComesTo, machine_of}
+use Rattle.partial_memory.proofs.{Common.{ℕ, ◌≡◌, ◌<◌, Some, List, refl, sym, subst, ◌∙◌, inl, inr, Me, Allows, TableId, Step, total, word_of, CoreState, advance, step_of, IsMachineOf, core_of, About, SeatedPort, IsRuleKept, IsOne, Told, makes, one_of, Begins, CallMade, IsGoing, IsUnderWay, ComesTo, machine_of}, Calls.{runs_machine, runs_on, runs_within}, Steps.{step_asked, change_of, told_of}}
 use Rattle.partial_machine.specs.Possible.{IsPossible}
-use Rattle.partial_memory.proofs.Calls.{runs_machine, runs_on, runs_within}
-use Rattle.partial_memory.proofs.Steps.{step_asked, change_of, told_of}
 
 -- a call in its middle at the port x, whose next step is answered
 module _ (x : SeatedPort) (under : IsUnderWay x) (s : Step) (due : step_of (core_of x.part) ≡ Some s) where

@@ -1,38 +1,37 @@
 -- What each call of a memory leaves of its port.
 use Rattle.std.specs.Prelude.{ℕ, ◌≡◌, ◌+◌, List, [], ◌∷◌, length, take, None}
 use Rattle.partial_model.specs.declared.history.Applied.{Applied}
-use Rattle.partial_model.specs.declared.call.Call.TheVariants as call
-use Rattle.partial_model.specs.declared.call.Answer.TheVariants as answer
-use Rattle.partial_model.specs.declared.call.Note.TheVariants as note
+use Rattle.partial_model.specs.declared.call.Call.{Call}
+use Rattle.partial_model.specs.declared.call.Answer.{Answer}
+use Rattle.partial_model.specs.declared.call.Note.{Note}
 pub use Rattle.partial_lines.specs.declared.whole_scan.Scanned.{Scanned}
 use Rattle.partial_memory.specs.declared.answers.Updated.{Updated}
 use Rattle.partial_memory.specs.declared.answers.Updated.TheVariants.{Applied as IsApplied, Lost}
 use Rattle.partial_memory.specs.declared.answers.UpdatedIf.{UpdatedIf}
-use Rattle.partial_memory.specs.declared.answers.UpdatedIf.TheVariants as conditional
 use Rattle.partial_memory.specs.Rule.{meeting_steps}
 use Rattle.partial_memory.specs.Ports.{PortView, Answered, Knows}
 
 -- An update that ended: an applied one is the last entry of all that is seen, a lost one was overwritten by an entry that had not been
 -- seen before.
 abbrev pub Updates : PortView → ℕ → ℕ → Updated → PortView → Type 0
-Updates p j v (IsApplied stamp) q = (k : ℕ) × Answered p q (call.Update j v) (answer.Applied stamp) (note.Wrote k) × (k + 1 ≡ length q.seen)
-Updates p j v (Lost by) q = (k : ℕ) × Answered p q (call.Update j v) (answer.Lost by) (note.Lost k)
+Updates p j v (IsApplied stamp) q = (k : ℕ) × Answered p q (Call.Update j v) (Answer.Applied stamp) (Note.Wrote k) × (k + 1 ≡ length q.seen)
+Updates p j v (Lost by) q = (k : ℕ) × Answered p q (Call.Update j v) (Answer.Lost by) (Note.Lost k)
 
 -- a conditional update that ended: applied likewise, or it saw another stamp than the expected one
 abbrev pub UpdatesIf : PortView → ℕ → ℕ → ℕ → UpdatedIf → PortView → Type 0
-UpdatesIf p j expected v (conditional.Applied stamp) q =
-    (k : ℕ) × Answered p q (call.UpdateIf j expected v) (answer.Applied stamp) (note.Wrote k) × (k + 1 ≡ length q.seen)
-UpdatesIf p j expected v (conditional.Changed by) q = (n : ℕ) × Answered p q (call.UpdateIf j expected v) (answer.Changed by) (note.Saw n)
+UpdatesIf p j expected v (UpdatedIf.Applied stamp) q =
+    (k : ℕ) × Answered p q (Call.UpdateIf j expected v) (Answer.Applied stamp) (Note.Wrote k) × (k + 1 ≡ length q.seen)
+UpdatesIf p j expected v (UpdatedIf.Changed by) q = (n : ℕ) × Answered p q (Call.UpdateIf j expected v) (Answer.Changed by) (Note.Saw n)
 
 -- a read that ended: the value and the stamp of the component after a prefix of what is seen now
 abbrev pub Reads : PortView → ℕ → ℕ → ℕ → PortView → Type 0
-Reads p j value stamp q = (n : ℕ) × Answered p q (call.Read j) (answer.Read value stamp) (note.Saw n)
+Reads p j value stamp q = (n : ℕ) × Answered p q (Call.Read j) (Answer.Read value stamp) (Note.Saw n)
 
 -- a scan that ended: the values after one prefix of what is seen now; one of no position makes no step and isn't noted
 abbrev pub Scans : PortView → List ℕ → List ℕ → Scanned → PortView → Type 0
 Scans p [] values s q = (values ≡ []) × (s.collects ≡ 0) × (s.borrowed ≡ None) × (q ≡ p)
 Scans p (j ∷ js) values s q =
-    (n : ℕ) × Answered p q (call.Scan (j ∷ js)) (answer.Scanned values s.collects s.borrowed) (note.Saw n)
+    (n : ℕ) × Answered p q (Call.Scan (j ∷ js)) (Answer.Scanned values s.collects s.borrowed) (Note.Saw n)
 
 -- the port after it has observed that history in a meeting
 abbrev pub met_port : List Applied → PortView → PortView

@@ -1,16 +1,12 @@
 -- How the answers that are kept of a call came about: a machine of a port began the call, and they lead it to its reply.
 use Rattle.std.specs.Prelude.{ℕ, ◌≡◌, ◌+◌, ◌≤◌, ◌<◌, ⊤, List, [], ◌∷◌, ◌++◌, length, Some, None, true}
 use Rattle.partial_model.specs.declared.call.Call.{Call}
-use Rattle.partial_model.specs.declared.call.Call.TheVariants as call
 use Rattle.partial_model.specs.declared.call.Answer.{Answer}
-use Rattle.partial_model.specs.declared.call.Answer.TheVariants as answer
 use Rattle.partial_model.specs.declared.call.Refused.{Refused}
-use Rattle.partial_model.specs.declared.call.Refused.TheVariants as refused
 use Rattle.partial_model.specs.Notes.{MayBeRefused}
 use Rattle.partial_words.specs.declared.step.Step.TheVariants.{Add}
 use Rattle.partial_words.specs.Layout.{Layout, IsLayout, greatest_record, pool_counter, pool_end, slot_counter}
 use Rattle.partial_machine.specs.declared.stage.Reply.{Reply}
-use Rattle.partial_machine.specs.declared.stage.Reply.TheVariants as reply
 use Rattle.partial_machine.specs.Machine.{CoreState, reply_of, step_of}
 use Rattle.partial_machine.specs.Calls.{answer_for, call_of}
 use Rattle.partial_machine.specs.Claims.{claims_of}
@@ -47,7 +43,7 @@ pub record IsLedToAnswer (p q : PortView) (c : Call) (a : Answer) : Type 0 where
 
 -- they lead it to a claim that went past the end of its region, and so to this refusal
 pub record IsLedToRefusal (p q : PortView) (c : Call) (cause : Refused) : Type 0 where
-  pub led : IsLed p q c (reply.Refused cause)
+  pub led : IsLed p q c (Reply.Refused cause)
   pub last : IsRefusedLast led.begun (answers_of q.kept) led.machine cause
 
 -- a call that wasn't refused at once is led to its refusal
@@ -56,7 +52,7 @@ IsLedWhereLate p q c cause = refusal p c ≡ None → IsLedToRefusal p q c cause
 
 -- a scan of some positions, with the number of steps that it makes
 pub record ScanIsLed (p : PortView) (which values : List ℕ) (s : Scanned) (q : PortView) : Type 0 where
-  pub to : IsLedToAnswer p q (call.Scan which) (answer.Scanned values s.collects s.borrowed)
+  pub to : IsLedToAnswer p q (Call.Scan which) (Answer.Scanned values s.collects s.borrowed)
   pub steps : AreOfScan (length which) s.collects (pairs_loaded to.led.begun (answers_of q.kept)) (length q.kept) s.borrowed
 
 -- a scan of no position makes no step
@@ -75,9 +71,9 @@ pub record ClaimedPastEnd (z : Layout) (answers : List ℕ) (cause : Refused) : 
   pub last : ℕ
   pub is : answers ≡ front ++ last ∷ []
   pub claims : CoreState
-  pub pool : cause ≡ refused.PoolSpent →
+  pub pool : cause ≡ Refused.PoolSpent →
       (size : ℕ) × (step_of claims ≡ Some (Add (pool_counter z) size)) × (size ≤ greatest_record z) × (pool_end z < last + size)
-  pub slots : cause ≡ refused.SlotsSpent → (step_of claims ≡ Some (Add (slot_counter z) 1)) × (z.slots ≤ last)
+  pub slots : cause ≡ Refused.SlotsSpent → (step_of claims ≡ Some (Add (slot_counter z) 1)) × (z.slots ≤ last)
 
 -- a call that is refused behind some steps claimed past the end of its own memory's pool or slots
 abbrev pub LateRefusalsArePastEnd : Type 0
@@ -86,9 +82,9 @@ LateRefusalsArePastEnd = (p q : PortView) (c : Call) (cause : Refused) → IsLed
 
 -- the port has the mark for which a call is refused at once; an index needs none
 abbrev pub HasMark : PortView → Refused → Type 0
-HasMark p refused.Component = ⊤
-HasMark p refused.SlotsSpent = p.slots_spent ≡ true
-HasMark p refused.PoolSpent = p.pool_spent ≡ true
+HasMark p Refused.Component = ⊤
+HasMark p Refused.SlotsSpent = p.slots_spent ≡ true
+HasMark p Refused.PoolSpent = p.pool_spent ≡ true
 
 -- a call is refused at once for a cause for which it may be refused, and for a mark that its port has
 abbrev pub RefusalsAtOnceFit : Type 0

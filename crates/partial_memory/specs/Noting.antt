@@ -1,9 +1,7 @@
 -- What a call leaves in the notes of its port, in one shape for all calls.
 use Rattle.std.specs.Prelude.{ℕ, ◌≡◌, List, [], ◌∷◌, ◌++◌, Some}
 use Rattle.partial_model.specs.declared.call.Call.{Call}
-use Rattle.partial_model.specs.declared.call.Call.TheVariants as call
 use Rattle.partial_model.specs.declared.call.Answer.{Answer}
-use Rattle.partial_model.specs.declared.call.Answer.TheVariants as answer
 use Rattle.partial_model.specs.declared.call.Note.{Note}
 use Rattle.partial_model.specs.declared.call.Refused.{Refused}
 use Rattle.partial_model.specs.Notes.{Noted}
@@ -11,7 +9,6 @@ use Rattle.partial_lines.specs.declared.whole_scan.Scanned.{Scanned}
 use Rattle.partial_memory.specs.declared.answers.Updated.{Updated}
 use Rattle.partial_memory.specs.declared.answers.Updated.TheVariants.{Applied, Lost}
 use Rattle.partial_memory.specs.declared.answers.UpdatedIf.{UpdatedIf}
-use Rattle.partial_memory.specs.declared.answers.UpdatedIf.TheVariants as conditional
 use Rattle.partial_memory.specs.Ports.{PortView, IsRefused}
 use Rattle.partial_memory.specs.Calls.{Updates, UpdatesIf, Reads, Scans, Meets}
 
@@ -27,22 +24,22 @@ NotesCall p c a q = (n : Note) × NotesMore p q (record { call = c; answer = a; 
 
 -- the answer that is noted of what an update came to
 abbrev pub noted_update : Updated → Answer
-noted_update (Applied stamp) = answer.Applied stamp
-noted_update (Lost by) = answer.Lost by
+noted_update (Applied stamp) = Answer.Applied stamp
+noted_update (Lost by) = Answer.Lost by
 
 -- the answer that is noted of what a conditional update came to
 abbrev pub noted_update_if : UpdatedIf → Answer
-noted_update_if (conditional.Applied stamp) = answer.Applied stamp
-noted_update_if (conditional.Changed by) = answer.Changed by
+noted_update_if (UpdatedIf.Applied stamp) = Answer.Applied stamp
+noted_update_if (UpdatedIf.Changed by) = Answer.Changed by
 
 -- an answered call is noted once, with its answer; a refused one, a scan of no position and a meeting note nothing
 pub record CallsNoteOnce : Type 0 where
-  pub update : (p q : PortView) (j v : ℕ) (r : Updated) → Updates p j v r q → NotesCall p (call.Update j v) (noted_update r) q
+  pub update : (p q : PortView) (j v : ℕ) (r : Updated) → Updates p j v r q → NotesCall p (Call.Update j v) (noted_update r) q
   pub update_if : (p q : PortView) (j x v : ℕ) (r : UpdatedIf) → UpdatesIf p j x v r q
-      → NotesCall p (call.UpdateIf j x v) (noted_update_if r) q
-  pub read : (p q : PortView) (j value stamp : ℕ) → Reads p j value stamp q → NotesCall p (call.Read j) (answer.Read value stamp) q
+      → NotesCall p (Call.UpdateIf j x v) (noted_update_if r) q
+  pub read : (p q : PortView) (j value stamp : ℕ) → Reads p j value stamp q → NotesCall p (Call.Read j) (Answer.Read value stamp) q
   pub scan : (p q : PortView) (j : ℕ) (js values : List ℕ) (s : Scanned) → Scans p (j ∷ js) values s q
-      → NotesCall p (call.Scan (j ∷ js)) (answer.Scanned values s.collects s.borrowed) q
+      → NotesCall p (Call.Scan (j ∷ js)) (Answer.Scanned values s.collects s.borrowed) q
   pub no_scan : (p q : PortView) (values : List ℕ) (s : Scanned) → Scans p [] values s q → NotesMore p q []
   pub refused : (p q : PortView) (c : Call) (cause : Refused) → IsRefused p c cause q → NotesMore p q []
   pub meet : (a b c d : PortView) → Meets a b c d → NotesMore a c [] × NotesMore b d []

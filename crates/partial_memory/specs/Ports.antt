@@ -6,7 +6,6 @@ use Rattle.partial_model.specs.declared.call.Call.{Call}
 use Rattle.partial_model.specs.declared.call.Answer.{Answer}
 use Rattle.partial_model.specs.declared.call.Note.{Note}
 use Rattle.partial_model.specs.declared.call.Refused.{Refused}
-use Rattle.partial_model.specs.declared.call.Refused.TheVariants as refused
 use Rattle.partial_model.specs.History.{IsHistory}
 use Rattle.partial_model.specs.Notes.{Noted, LegalNotes, MayBeRefused, place_of, shown_by}
 use Rattle.partial_model.specs.Outcome.{EachOnce}
@@ -107,19 +106,19 @@ pub record Answered (p q : PortView) (c : Call) (a : Answer) (n : Note) : Type 0
 
 -- whether a cause is the mark for the pool
 abbrev pub is_pool : Refused → Bool
-is_pool refused.PoolSpent = true
+is_pool Refused.PoolSpent = true
 is_pool _ = false
 
 -- whether a cause is the mark for the slots
 abbrev pub is_slots : Refused → Bool
-is_slots refused.SlotsSpent = true
+is_slots Refused.SlotsSpent = true
 is_slots _ = false
 
 -- The answer x to a claim puts it past the end of its region: some words of the pool, no more than the greatest record has, or a slot.
 abbrev pub IsPastEnd : Layout → ℕ → Refused → Type 0
-IsPastEnd z x refused.Component = ⊥
-IsPastEnd z x refused.SlotsSpent = z.slots ≤ x
-IsPastEnd z x refused.PoolSpent = (size : ℕ) × (size ≤ greatest_record z) × (pool_end z < x + size)
+IsPastEnd z x Refused.Component = ⊥
+IsPastEnd z x Refused.SlotsSpent = z.slots ≤ x
+IsPastEnd z x Refused.PoolSpent = (size : ℕ) × (size ≤ greatest_record z) × (pool_end z < x + size)
 
 -- the last of the answers puts a claim past the end
 abbrev pub EndsPastEnd : Layout → List KeptAnswer → Refused → Type 0

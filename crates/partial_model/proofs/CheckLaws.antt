@@ -1,11 +1,6 @@
 -- Each test of the checker decides its clause of a legal outcome.
-use Rattle.partial_model.proofs.Common.{ℕ, zero, suc, ◌≡◌, ◌≢◌, ◌+◌, ◌-◌, ◌*◌, ◌/◌, ◌%◌, ◌<◌, ◌≤◌, inl, inr, ◌==◌, nat_le, nat_lt, Bool, true, false, not, ◌&&◌, ◌||◌, List, [], ◌∷◌, length, map, take, drop, slice_get, refl, sym, ap, ◌∙◌, subst, Decides, Contains, Option, Some, None, IfSome, IsSome, IsSomeAnd, arith, AllByRecursion, list_all, list_any, option_map_or, is_none, true≢false, or_cases, Decides-and, Decides-or, Decides-not, Decides-like, Decides-eqb, Decides-by_or, slice_get_past, Applied, Opening, Call, Answer, Note, Finish, Called, initial_stamp, value_of, stamp_of, HaveDistinctStamps, IsHistory, ClaimsPool, ClaimsSlot, MayBeRefused, Fits, IsEntryFor, AreCollects, SawTogether, IsTrueOf, IsLegal, indices_of, place_of, shown_by, Follows, IsInTime, RealTime, is_initial, are_distinct, is_history, names_components, claims_pool, claims_slot, may_be_refused, stands_at, is_entry_for, are_collects, hold, shows_stamp, saw_together, is_right, is_refusal, is_legal, follows, ends_in_time, is_in_time, are_in_time, Decides-contains, any_passes_from_place}
-use Rattle.partial_model.specs.declared.call.Call.TheVariants as call
+use Rattle.partial_model.proofs.{Common.{ℕ, zero, suc, ◌≡◌, ◌≢◌, ◌+◌, ◌-◌, ◌*◌, ◌/◌, ◌%◌, ◌<◌, ◌≤◌, inl, inr, ◌==◌, nat_le, nat_lt, Bool, true, false, not, ◌&&◌, ◌||◌, List, [], ◌∷◌, length, map, take, drop, slice_get, refl, sym, ap, ◌∙◌, subst, Decides, Contains, Option, Some, None, IfSome, IsSome, IsSomeAnd, arith, AllByRecursion, list_all, list_any, option_map_or, is_none, true≢false, or_cases, Decides-and, Decides-or, Decides-not, Decides-like, Decides-eqb, Decides-by_or, slice_get_past, Applied, Opening, Call, Answer, Note, Finish, Called, initial_stamp, value_of, stamp_of, HaveDistinctStamps, IsHistory, ClaimsPool, ClaimsSlot, MayBeRefused, Fits, IsEntryFor, AreCollects, SawTogether, IsTrueOf, IsLegal, indices_of, place_of, shown_by, Follows, IsInTime, RealTime, is_initial, are_distinct, is_history, names_components, claims_pool, claims_slot, may_be_refused, stands_at, is_entry_for, are_collects, hold, shows_stamp, saw_together, is_right, is_refusal, is_legal, follows, ends_in_time, is_in_time, are_in_time, Decides-contains, any_passes_from_place}, Decisions.{Decides-nat_le, Decides-nat_lt, Decides-and3, Decides-never, Decides-always, Decides-list_all, Decides-list_none, Decides-if_some}}
 use Rattle.partial_model.specs.declared.call.Refused.{Refused}
-use Rattle.partial_model.specs.declared.call.Refused.TheVariants as refused
-use Rattle.partial_model.specs.declared.call.Answer.TheVariants as answer
-use Rattle.partial_model.specs.declared.call.Note.TheVariants as note
-use Rattle.partial_model.proofs.Decisions.{Decides-nat_le, Decides-nat_lt, Decides-and3, Decides-never, Decides-always, Decides-list_all, Decides-list_none, Decides-if_some}
 
 -- ---- the history
 
@@ -53,21 +48,21 @@ pub Decides-names_components : (m : ℕ) (js : List ℕ) → Decides (names_comp
 Decides-names_components m js = Decides-list_all (λ j. nat_lt j m) (λ j. j < m) (λ j. Decides-nat_lt j m) js
 
 Decides-claims_pool : (c : Call) → Decides (claims_pool c) (ClaimsPool c)
-Decides-claims_pool (call.Update j v) = Decides-always tt
-Decides-claims_pool (call.Scan js) = Decides-nat_lt 0 (length js)
-Decides-claims_pool (call.Read j) = Decides-never (λ w. w)
-Decides-claims_pool (call.UpdateIf j s v) = Decides-always tt
+Decides-claims_pool (Call.Update j v) = Decides-always tt
+Decides-claims_pool (Call.Scan js) = Decides-nat_lt 0 (length js)
+Decides-claims_pool (Call.Read j) = Decides-never (λ w. w)
+Decides-claims_pool (Call.UpdateIf j s v) = Decides-always tt
 
 Decides-claims_slot : (c : Call) → Decides (claims_slot c) (ClaimsSlot c)
-Decides-claims_slot (call.Update j v) = Decides-never (λ w. w)
-Decides-claims_slot (call.Scan js) = Decides-nat_lt 0 (length js)
-Decides-claims_slot (call.Read j) = Decides-never (λ w. w)
-Decides-claims_slot (call.UpdateIf j s v) = Decides-never (λ w. w)
+Decides-claims_slot (Call.Update j v) = Decides-never (λ w. w)
+Decides-claims_slot (Call.Scan js) = Decides-nat_lt 0 (length js)
+Decides-claims_slot (Call.Read j) = Decides-never (λ w. w)
+Decides-claims_slot (Call.UpdateIf j s v) = Decides-never (λ w. w)
 
 Decides-may_be_refused : (m : ℕ) (c : Call) (cause : Refused) → Decides (may_be_refused m c cause) (MayBeRefused m c cause)
-Decides-may_be_refused m c refused.Component = Decides-not (names_components m (indices_of c)) (Decides-names_components m (indices_of c))
-Decides-may_be_refused m c refused.SlotsSpent = Decides-and (names_components m (indices_of c)) (claims_slot c) (Decides-names_components m (indices_of c)) (Decides-claims_slot c)
-Decides-may_be_refused m c refused.PoolSpent = Decides-and (names_components m (indices_of c)) (claims_pool c) (Decides-names_components m (indices_of c)) (Decides-claims_pool c)
+Decides-may_be_refused m c Refused.Component = Decides-not (names_components m (indices_of c)) (Decides-names_components m (indices_of c))
+Decides-may_be_refused m c Refused.SlotsSpent = Decides-and (names_components m (indices_of c)) (claims_slot c) (Decides-names_components m (indices_of c)) (Decides-claims_slot c)
+Decides-may_be_refused m c Refused.PoolSpent = Decides-and (names_components m (indices_of c)) (claims_pool c) (Decides-names_components m (indices_of c)) (Decides-claims_pool c)
 
 same_entry : (e a : Applied) → (e.port ≡ a.port) × (e.component ≡ a.component) × (e.value ≡ a.value) × (e.stamp ≡ a.stamp) → e ≡ a
 same_entry e a w =
@@ -185,14 +180,14 @@ Decides-differ : (t x : ℕ) → Decides (not (t == x)) (t ≢ x)
 Decides-differ t x = Decides-not (t == x) (Decides-eqb t x)
 
 Decides-is_right : (o : Opening) (h : List Applied) (p : ℕ) (c : Call) (a : Answer) (n : Note) → Decides (is_right o h p c a n) (Fits (length o.values) c a (Some n) × IsTrueOf o h p c a n)
-Decides-is_right o h p (call.Update j v) (answer.Applied s) (note.Wrote k) =
+Decides-is_right o h p (Call.Update j v) (Answer.Applied s) (Note.Wrote k) =
     let e : Applied = record { port = p; component = j; value = v; stamp = s } in
     Decides-and (nat_lt j (length o.values)) (stands_at h k e) (Decides-nat_lt j (length o.values)) (Decides-stands_at h k e)
-Decides-is_right o h p (call.Update j v) (answer.Lost by) (note.Lost k) =
+Decides-is_right o h p (Call.Update j v) (Answer.Lost by) (Note.Lost k) =
     Decides-and (nat_lt j (length o.values)) (is_entry_for h k j by) (Decides-nat_lt j (length o.values)) (Decides-is_entry_for h k j by)
-Decides-is_right o h p (call.Scan js) (answer.Scanned vs c b) (note.Saw n) =
+Decides-is_right o h p (Call.Scan js) (Answer.Scanned vs c b) (Note.Saw n) =
     Decides-and (names_components (length o.values) js) (saw_together o h js vs c b n) (Decides-names_components (length o.values) js) (Decides-saw_together o h js vs c b n)
-Decides-is_right o h p (call.Read j) (answer.Read v s) (note.Saw n) =
+Decides-is_right o h p (Call.Read j) (Answer.Read v s) (Note.Saw n) =
     let value : ℕ = value_of o (take n h) j in
     let stamp : ℕ = stamp_of o (take n h) j in
     Decides-like (nat_lt j (length o.values) && nat_le n (length h) && (value == v) && (stamp == s))
@@ -201,14 +196,14 @@ Decides-is_right o h p (call.Read j) (answer.Read v s) (note.Saw n) =
     (Decides-and (nat_lt j (length o.values) && nat_le n (length h) && (value == v)) (stamp == s)
     (Decides-and3 (nat_lt j (length o.values)) (nat_le n (length h)) (value == v) (Decides-nat_lt j (length o.values)) (Decides-nat_le n (length h)) (Decides-eqb value v))
     (Decides-eqb stamp s))
-Decides-is_right o h p (call.UpdateIf j x v) (answer.Applied s) (note.Wrote k) =
+Decides-is_right o h p (Call.UpdateIf j x v) (Answer.Applied s) (Note.Wrote k) =
     let e : Applied = record { port = p; component = j; value = v; stamp = s } in
     let stamp : ℕ = stamp_of o (take k h) j in
     Decides-like (nat_lt j (length o.values) && stands_at h k e && (stamp == x))
     (λ w. (w.0, (w.1, w.2)))
     (λ w. (w.0, w.1.0, w.1.1))
     (Decides-and3 (nat_lt j (length o.values)) (stands_at h k e) (stamp == x) (Decides-nat_lt j (length o.values)) (Decides-stands_at h k e) (Decides-eqb stamp x))
-Decides-is_right o h p (call.UpdateIf j x v) (answer.Changed t) (note.Saw n) =
+Decides-is_right o h p (Call.UpdateIf j x v) (Answer.Changed t) (Note.Saw n) =
     let stamp : ℕ = stamp_of o (take n h) j in
     Decides-like (nat_lt j (length o.values) && nat_le n (length h) && (stamp == t) && not (t == x))
     (λ w. (w.0.0, (w.0.1, w.0.2, w.1)))
@@ -219,11 +214,11 @@ Decides-is_right o h p (call.UpdateIf j x v) (answer.Changed t) (note.Saw n) =
 Decides-is_right o h p _ _ _ = Decides-never (λ w. w.0)
 
 Decides-is_refusal : (m : ℕ) (c : Call) (a : Answer) → Decides (is_refusal m c a) (Fits m c a None)
-Decides-is_refusal m c (answer.Refused cause) = Decides-may_be_refused m c cause
-Decides-is_refusal m (call.Update j v) _ = Decides-never (λ w. w)
-Decides-is_refusal m (call.Scan js) _ = Decides-never (λ w. w)
-Decides-is_refusal m (call.Read j) _ = Decides-never (λ w. w)
-Decides-is_refusal m (call.UpdateIf j x v) _ = Decides-never (λ w. w)
+Decides-is_refusal m c (Answer.Refused cause) = Decides-may_be_refused m c cause
+Decides-is_refusal m (Call.Update j v) _ = Decides-never (λ w. w)
+Decides-is_refusal m (Call.Scan js) _ = Decides-never (λ w. w)
+Decides-is_refusal m (Call.Read j) _ = Decides-never (λ w. w)
+Decides-is_refusal m (Call.UpdateIf j x v) _ = Decides-never (λ w. w)
 
 pub Decides-is_legal : (o : Opening) (h : List Applied) (p seen : ℕ) (c : Call) (a : Answer) (n : Option Note) → Decides (is_legal o h p seen c a n)
     (IsLegal o h p seen (record { call = c; answer = a; note = n }))

@@ -1,9 +1,5 @@
 -- The entries of a port in a history are the updates of its notes; and what holds of its places and entries.
-use Rattle.partial_model.proofs.Common.{ℕ, zero, suc, ◌≡◌, ◌+◌, ◌==◌, ◌++◌, Bool, true, false, cond, List, [], ◌∷◌, map, get_or, refl, sym, ◌∙◌, ap, subst, Option, Some, None, slice_get, arith, ◌≤◌, Contains, AllByRecursion, get_or_from_slice_get, eq-eqb, eqb-true, Applied, Opening, Call, Answer, Note, Noted, IsTrueOf, IsLegal, LegalNotes, seen_after, wrote, places_by, places_written, EachOnce, EntriesAreNoted, entries_by, entry_of, applied_by, All-contains, All-contains_itself, All-from_recursion, recursion_from_All}
-use Rattle.partial_model.specs.declared.call.Call.TheVariants as call
-use Rattle.partial_model.specs.declared.call.Answer.TheVariants as answer
-use Rattle.partial_model.specs.declared.call.Note.TheVariants as note
-use Rattle.partial_model.proofs.AllLemmas.{all_weaker}
+use Rattle.partial_model.proofs.{Common.{ℕ, zero, suc, ◌≡◌, ◌+◌, ◌==◌, ◌++◌, Bool, true, false, cond, List, [], ◌∷◌, map, get_or, refl, sym, ◌∙◌, ap, subst, Option, Some, None, slice_get, arith, ◌≤◌, Contains, AllByRecursion, get_or_from_slice_get, eq-eqb, eqb-true, Applied, Opening, Call, Answer, Note, Noted, IsTrueOf, IsLegal, LegalNotes, seen_after, wrote, places_by, places_written, EachOnce, EntriesAreNoted, entries_by, entry_of, applied_by, All-contains, All-contains_itself, All-from_recursion, recursion_from_All}, AllLemmas.all_weaker}
 
 -- the function f gives the entry at each place of the list, whose first entry stands at place k
 abbrev pub GivesEntries : (ℕ → Applied) → ℕ → List Applied → Type 0
@@ -29,13 +25,13 @@ map_both f a (k ∷ ks) b ls x y = ap (λ (l : List Applied). l ++ b) x ∙ ap (
 
 module _ (o : Opening) (h : List Applied) (p : ℕ) (f : ℕ → Applied) (at : (i : ℕ) (e : Applied) → slice_get h i ≡ Some e → f i ≡ e) where
   one_entry : (c : Call) (a : Answer) (n : Note) → IsTrueOf o h p c a n → entry_of p (Some n) c a ≡ map f (wrote (Some n))
-  one_entry (call.Update j v) (answer.Applied s) (note.Wrote k) w = ap (λ (e : Applied). e ∷ []) (sym (at k (record { port = p; component = j; value = v; stamp = s }) w))
-  one_entry (call.UpdateIf j x v) (answer.Applied s) (note.Wrote k) w = ap (λ (e : Applied). e ∷ []) (sym (at k (record { port = p; component = j; value = v; stamp = s }) w.0))
-  one_entry _ _ (note.Lost k) w = refl
-  one_entry _ _ (note.Saw k) w = refl
-  one_entry (call.Scan js) (answer.Scanned vs c b) (note.Wrote k) w = absurd w
-  one_entry (call.Read j) (answer.Read v s) (note.Wrote k) w = absurd w
-  one_entry _ _ (note.Wrote k) w = absurd w
+  one_entry (Call.Update j v) (Answer.Applied s) (Note.Wrote k) w = ap (λ (e : Applied). e ∷ []) (sym (at k (record { port = p; component = j; value = v; stamp = s }) w))
+  one_entry (Call.UpdateIf j x v) (Answer.Applied s) (Note.Wrote k) w = ap (λ (e : Applied). e ∷ []) (sym (at k (record { port = p; component = j; value = v; stamp = s }) w.0))
+  one_entry _ _ (Note.Lost k) w = refl
+  one_entry _ _ (Note.Saw k) w = refl
+  one_entry (Call.Scan js) (Answer.Scanned vs c b) (Note.Wrote k) w = absurd w
+  one_entry (Call.Read j) (Answer.Read v s) (Note.Wrote k) w = absurd w
+  one_entry _ _ (Note.Wrote k) w = absurd w
 
   note_entry : (seen : ℕ) (c : Call) (a : Answer) (n : Option Note) → IsLegal o h p seen (record { call = c; answer = a; note = n }) → entry_of p n c a ≡ map f (wrote n)
   note_entry seen c a None w = refl

@@ -1,14 +1,8 @@
 -- An index of a history: what one entry more leaves of it, and what is looked up in it.
-use Rattle.partial_model.proofs.Common.{ℕ, zero, suc, ◌≡◌, ◌≢◌, ◌+◌, ◌-◌, ◌<◌, ◌≤◌, ◌⊎◌, inl, inr, ◌==◌, nat_eq, nat_le, ltb, true, false, cond, ◌&&◌, List, [], ◌∷◌, ◌++◌, length, take, drop, get_or, slice_get, refl, sym, ap, ◌∙◌, subst, Contains, Option, Some, None, is_some, arith, list_any, le-leb, lt-leb, ltb-true, ltb-false, false_from_ne_true, cases_lt, cases_eq, eq-eqb, ne_eqb, Decides-and, Decides-like, same_from_decides, get_or_push, take_more, slice_get_within, slice_get-get_or, get_or_from_slice_get, Applied, HaveDistinctStamps, last_entry, are_distinct, shows_stamp, ArePlacesOf, AreStampsOf, AreListsOf, list_at, length-append}
+use Rattle.partial_model.proofs.{Common.{ℕ, zero, suc, ◌≡◌, ◌≢◌, ◌+◌, ◌-◌, ◌<◌, ◌≤◌, ◌⊎◌, inl, inr, ◌==◌, nat_eq, nat_le, ltb, true, false, cond, ◌&&◌, List, [], ◌∷◌, ◌++◌, length, take, drop, get_or, slice_get, refl, sym, ap, ◌∙◌, subst, Contains, Option, Some, None, is_some, arith, list_any, le-leb, lt-leb, ltb-true, ltb-false, false_from_ne_true, cases_lt, cases_eq, eq-eqb, ne_eqb, Decides-and, Decides-like, same_from_decides, get_or_push, take_more, slice_get_within, slice_get-get_or, get_or_from_slice_get, Applied, HaveDistinctStamps, last_entry, are_distinct, shows_stamp, ArePlacesOf, AreStampsOf, AreListsOf, list_at, length-append}, AllLemmas.all_where, ListLemmas.some_same, CheckLaws.{Decides-are_distinct, Decides-contains_number, Decides-shows_stamp}, Decisions.Decides-nat_le, HistoryLemmas.{last_entry-nil, last_from-push}, NotesLemmas.AllByRecursion-get}
 use Rattle.std.specs.Global.{Vec}
 use Rattle.std.specs.List.Sorted.{IsPartitionPoint}
 use Rattle.std.proofs.Math.ListN.{set, get_or-append}
-use Rattle.partial_model.proofs.AllLemmas.{all_where}
-use Rattle.partial_model.proofs.ListLemmas.{some_same}
-use Rattle.partial_model.proofs.CheckLaws.{Decides-are_distinct, Decides-contains_number, Decides-shows_stamp}
-use Rattle.partial_model.proofs.Decisions.{Decides-nat_le}
-use Rattle.partial_model.proofs.HistoryLemmas.{last_entry-nil, last_from-push}
-use Rattle.partial_model.proofs.NotesLemmas.{AllByRecursion-get}
 
 -- ---- the places of a component's entries
 

@@ -1,10 +1,6 @@
 -- What a longer history and one note more leave of a port's notes.
-use Rattle.partial_model.proofs.Common.{ℕ, zero, suc, ◌≡◌, ◌≢◌, ◌+◌, ◌≤◌, ◌==◌, ◌++◌, Bool, true, false, cond, List, [], ◌∷◌, length, map, refl, sym, ◌∙◌, ap, subst, Option, Some, None, slice_get, IfSome, Contains, arith, append_assoc, append-nil, AllByRecursion, take-append-le, Applied, Opening, Call, Answer, Note, HaveDistinctStamps, value_of, stamp_of, Noted, IsEntryFor, IsTrueOf, IsLegal, LegalNotes, LegalNotesAreShown, seen_after, seen_by, place_of, shown_by, wrote, places_by, places_written, length-append}
-use Rattle.partial_model.specs.declared.call.Call.TheVariants as call
-use Rattle.partial_model.specs.declared.call.Answer.TheVariants as answer
-use Rattle.partial_model.specs.declared.call.Note.TheVariants as note
+use Rattle.partial_model.proofs.{Common.{ℕ, zero, suc, ◌≡◌, ◌≢◌, ◌+◌, ◌≤◌, ◌==◌, ◌++◌, Bool, true, false, cond, List, [], ◌∷◌, length, map, refl, sym, ◌∙◌, ap, subst, Option, Some, None, slice_get, IfSome, Contains, arith, append_assoc, append-nil, AllByRecursion, take-append-le, Applied, Opening, Call, Answer, Note, HaveDistinctStamps, value_of, stamp_of, Noted, IsEntryFor, IsTrueOf, IsLegal, LegalNotes, LegalNotesAreShown, seen_after, seen_by, place_of, shown_by, wrote, places_by, places_written, length-append}, HistoryLemmas.place_below}
 pub use Rattle.partial_model.proofs.AllLemmas.{all_append as AllByRecursion-append, all_weaker as AllByRecursion-weaker}
-use Rattle.partial_model.proofs.HistoryLemmas.{place_below}
 
 -- an entry stays where it stands
 pub slice_get_grows : {A : Type 0} (h es : List A) (k : ℕ) (e : A) → slice_get h k ≡ Some e → slice_get (h ++ es) k ≡ Some e
@@ -32,23 +28,23 @@ borrowed_grows h es js n (Some t) w = (w.0, w.1, w.2, w.3, entry_grows h es w.0 
 
 -- what is true of a history is true of a longer one
 pub IsTrueOf-grows : (o : Opening) (h es : List Applied) (p : ℕ) (c : Call) (a : Answer) (n : Note) → IsTrueOf o h p c a n → IsTrueOf o (h ++ es) p c a n
-IsTrueOf-grows o h es p (call.Update j v) (answer.Applied s) (note.Wrote k) w = slice_get_grows h es k (record { port = p; component = j; value = v; stamp = s }) w
-IsTrueOf-grows o h es p (call.Update j v) (answer.Lost by) (note.Lost k) w = entry_grows h es k j by w
-IsTrueOf-grows o h es p (call.Scan js) (answer.Scanned vs c b) (note.Saw n) w =
+IsTrueOf-grows o h es p (Call.Update j v) (Answer.Applied s) (Note.Wrote k) w = slice_get_grows h es k (record { port = p; component = j; value = v; stamp = s }) w
+IsTrueOf-grows o h es p (Call.Update j v) (Answer.Lost by) (Note.Lost k) w = entry_grows h es k j by w
+IsTrueOf-grows o h es p (Call.Scan js) (Answer.Scanned vs c b) (Note.Saw n) w =
     record {
       within = within_grows h es n w.within;
       values = w.values ∙ ap (λ (k : List Applied). map (λ j. value_of o k j) js) (sym (take-append-le n h es w.within));
       collects = w.collects;
       borrowed = borrowed_grows h es js n b w.borrowed;
     }
-IsTrueOf-grows o h es p (call.Read j) (answer.Read v s) (note.Saw n) w =
+IsTrueOf-grows o h es p (Call.Read j) (Answer.Read v s) (Note.Saw n) w =
     (within_grows h es n w.0, w.1 ∙ ap (λ (k : List Applied). value_of o k j) (sym (take-append-le n h es w.0)), w.2 ∙ ap (λ (k : List Applied). stamp_of o k j) (sym (take-append-le n h es w.0)))
-IsTrueOf-grows o h es p (call.UpdateIf j x v) (answer.Applied s) (note.Wrote k) w = (
+IsTrueOf-grows o h es p (Call.UpdateIf j x v) (Answer.Applied s) (Note.Wrote k) w = (
   slice_get_grows h es k (record { port = p; component = j; value = v; stamp = s }) w.0,
   ap (λ (l : List Applied). stamp_of o l j)
       (take-append-le k h es (place_within h k (record { port = p; component = j; value = v; stamp = s }) w.0)) ∙ w.1,
 )
-IsTrueOf-grows o h es p (call.UpdateIf j x v) (answer.Changed t) (note.Saw n) w =
+IsTrueOf-grows o h es p (Call.UpdateIf j x v) (Answer.Changed t) (Note.Saw n) w =
     (within_grows h es n w.0, ap (λ (k : List Applied). stamp_of o k j) (take-append-le n h es w.0) ∙ w.1, w.2)
 IsTrueOf-grows o h es p _ _ _ w = absurd w
 
@@ -112,12 +108,12 @@ distinct_push (x ∷ h) e w new = (AllByRecursion-push (λ f. x.stamp ≢ f.stam
 
 -- what is true of a history shows no more than it has
 pub shown_within : (o : Opening) (h : List Applied) (p : ℕ) (c : Call) (a : Answer) (n : Note) → IsTrueOf o h p c a n → shown_by n ≤ length h
-shown_within o h p (call.Update j v) (answer.Applied s) (note.Wrote k) w = let below = place_below h k (record { port = p; component = j; value = v; stamp = s }) w in omega arith
-shown_within o h p (call.Update j v) (answer.Lost by) (note.Lost k) w = let below = place_below h k w.0 w.1 in omega arith
-shown_within o h p (call.Scan js) (answer.Scanned vs c b) (note.Saw n) w = w.within
-shown_within o h p (call.Read j) (answer.Read v s) (note.Saw n) w = w.0
-shown_within o h p (call.UpdateIf j x v) (answer.Applied s) (note.Wrote k) w = let below = place_below h k (record { port = p; component = j; value = v; stamp = s }) w.0 in omega arith
-shown_within o h p (call.UpdateIf j x v) (answer.Changed t) (note.Saw n) w = w.0
+shown_within o h p (Call.Update j v) (Answer.Applied s) (Note.Wrote k) w = let below = place_below h k (record { port = p; component = j; value = v; stamp = s }) w in omega arith
+shown_within o h p (Call.Update j v) (Answer.Lost by) (Note.Lost k) w = let below = place_below h k w.0 w.1 in omega arith
+shown_within o h p (Call.Scan js) (Answer.Scanned vs c b) (Note.Saw n) w = w.within
+shown_within o h p (Call.Read j) (Answer.Read v s) (Note.Saw n) w = w.0
+shown_within o h p (Call.UpdateIf j x v) (Answer.Applied s) (Note.Wrote k) w = let below = place_below h k (record { port = p; component = j; value = v; stamp = s }) w.0 in omega arith
+shown_within o h p (Call.UpdateIf j x v) (Answer.Changed t) (Note.Saw n) w = w.0
 shown_within o h p _ _ _ w = absurd w
 
 pub note_within : (o : Opening) (h : List Applied) (p seen : ℕ) (c : Call) (a : Answer) (n : Option Note) → seen ≤ length h → IfSome n (λ note. IsTrueOf o h p c a note × (seen ≤ place_of note)) →

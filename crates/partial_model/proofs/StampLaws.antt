@@ -1,8 +1,5 @@
 -- Stamps that are compared with those before them.
-use Rattle.partial_model.proofs.Common.{ℕ, zero, suc, ◌≡◌, ◌≢◌, ◌+◌, ◌<◌, ◌≤◌, ◌==◌, inl, inr, Bool, true, false, not, ◌&&◌, List, [], ◌∷◌, ◌++◌, length, take, get_or, refl, sym, ap, ◌∙◌, subst, arith, AllByRecursion, list_any, true≢false, or_cases, take_more, take_all, slice_get-get_or, Decides-eqb, Applied, HaveDistinctStamps, are_distinct, any_passes_from_place}
-use Rattle.partial_model.proofs.CheckLaws.{Decides-are_distinct}
-use Rattle.partial_model.proofs.Decisions.{Decides-list_none}
-use Rattle.partial_model.proofs.NotesLemmas.{AllByRecursion-push, AllByRecursion-weaker, distinct_push}
+use Rattle.partial_model.proofs.{Common.{ℕ, zero, suc, ◌≡◌, ◌≢◌, ◌+◌, ◌<◌, ◌≤◌, ◌==◌, inl, inr, Bool, true, false, not, ◌&&◌, List, [], ◌∷◌, ◌++◌, length, take, get_or, refl, sym, ap, ◌∙◌, subst, arith, AllByRecursion, list_any, true≢false, or_cases, take_more, take_all, slice_get-get_or, Decides-eqb, Applied, HaveDistinctStamps, are_distinct, any_passes_from_place}, CheckLaws.Decides-are_distinct, Decisions.Decides-list_none, NotesLemmas.{AllByRecursion-push, AllByRecursion-weaker, distinct_push}}
 
 -- the first i entries have distinct stamps, of which none is above g
 pub record AreDistinctUpTo (h : List Applied) (i g : ℕ) : Type 0 where

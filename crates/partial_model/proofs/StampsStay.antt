@@ -1,9 +1,6 @@
 -- A stamp of a component never returns, since the stamps of a history are distinct.
-use Rattle.partial_model.proofs.Common.{ℕ, zero, suc, ◌≡◌, ◌≢◌, ◌<◌, ◌≤◌, List, [], ◌∷◌, length, map, take, get_or, Option, Some, None, slice_get, refl, sym, ◌∙◌, ap, subst, inl, inr, arith, option_map_or, cases_lt, Applied, Opening, IsHistory, HaveDistinctStamps, last_entry, initial_stamp, value_of, stamp_of}
+use Rattle.partial_model.proofs.{Common.{ℕ, zero, suc, ◌≡◌, ◌≢◌, ◌<◌, ◌≤◌, List, [], ◌∷◌, length, map, take, get_or, Option, Some, None, slice_get, refl, sym, ◌∙◌, ap, subst, inl, inr, arith, option_map_or, cases_lt, Applied, Opening, IsHistory, HaveDistinctStamps, last_entry, initial_stamp, value_of, stamp_of}, AllLemmas.all_where, HistoryLemmas.{last_at, stamp_all}, NotesLemmas.AllByRecursion-get}
 use Rattle.partial_model.specs.Stamps.{HasThen, StampsNeverReturn, Twice, EqualCollectsStandTogether}
-use Rattle.partial_model.proofs.AllLemmas.{all_where}
-use Rattle.partial_model.proofs.HistoryLemmas.{last_at, stamp_all}
-use Rattle.partial_model.proofs.NotesLemmas.{AllByRecursion-get}
 
 -- a prefix of a prefix
 pub take_within : {A : Type 0} (n b : ℕ) (h : List A) → n ≤ b → take n (take b h) ≡ take n h

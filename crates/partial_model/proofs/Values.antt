@@ -1,6 +1,5 @@
 -- A component's value, entry by entry.
-use Rattle.partial_model.proofs.Common.{ℕ, zero, suc, ◌≡◌, ◌+◌, ◌<◌, ◌≤◌, ◌==◌, ◌++◌, cond, List, [], ◌∷◌, length, take, get_or, slice_index, refl, ◌∙◌, ap, inl, inr, Option, Some, slice_get, arith, option_map_or, take_more, get_or_from_slice_get, slice_get_within, eq-eqb, ne_eqb, cases_lt, Applied, Opening, value_of, RisingNeverFalls}
-use Rattle.partial_model.proofs.HistoryLemmas.{last_entry-nil, value_of-push}
+use Rattle.partial_model.proofs.{Common.{ℕ, zero, suc, ◌≡◌, ◌+◌, ◌<◌, ◌≤◌, ◌==◌, ◌++◌, cond, List, [], ◌∷◌, length, take, get_or, slice_index, refl, ◌∙◌, ap, inl, inr, Option, Some, slice_get, arith, option_map_or, take_more, get_or_from_slice_get, slice_get_within, eq-eqb, ne_eqb, cases_lt, Applied, Opening, value_of, RisingNeverFalls}, HistoryLemmas.{last_entry-nil, value_of-push}}
 
 -- the value before the first entry
 pub value_at_first : (o : Opening) (j : ℕ) → value_of o [] j ≡ slice_index o.values j

@@ -1,7 +1,5 @@
 -- What one call more leaves of a walk over the calls.
-use Rattle.partial_model.proofs.Common.{ℕ, ◌≡◌, ◌+◌, ◌<◌, ◌≤◌, ◌==◌, Bool, true, cond, ◌&&◌, List, ◌∷◌, length, drop, get_or, sym, ap, ◌∙◌, Option, Some, None, drop_more, Applied, Opening, Finish, Called, call_is_legal, seen_behind, notes_are_legal}
-use Rattle.partial_model.proofs.NotesLemmas.{note_within}
-use Rattle.partial_model.proofs.PortLaws.{CallIsLegal, Decides-call_is_legal}
+use Rattle.partial_model.proofs.{Common.{ℕ, ◌≡◌, ◌+◌, ◌<◌, ◌≤◌, ◌==◌, Bool, true, cond, ◌&&◌, List, ◌∷◌, length, drop, get_or, sym, ap, ◌∙◌, Option, Some, None, drop_more, Applied, Opening, Finish, Called, call_is_legal, seen_behind, notes_are_legal}, NotesLemmas.note_within, PortLaws.{CallIsLegal, Decides-call_is_legal}}
 
 -- ---- what a legal call has seen
 

@@ -3,11 +3,8 @@ use Rattle.std.specs.Prelude.{ℕ, ◌≡◌, ◌≤◌, ◌==◌, List, [], ◌
 use Rattle.partial_model.specs.declared.history.Applied.{Applied}
 use Rattle.partial_model.specs.declared.history.Opening.{Opening}
 use Rattle.partial_model.specs.declared.call.Call.{Call}
-use Rattle.partial_model.specs.declared.call.Call.TheVariants as call
 use Rattle.partial_model.specs.declared.call.Answer.{Answer}
-use Rattle.partial_model.specs.declared.call.Answer.TheVariants as answer
 use Rattle.partial_model.specs.declared.call.Note.{Note}
-use Rattle.partial_model.specs.declared.call.Note.TheVariants as note
 use Rattle.partial_model.specs.History.{initial_stamp, stamp_of, value_of}
 use Rattle.partial_model.specs.Notes.{Noted, LegalNotes}
 use Rattle.partial_model.specs.Outcome.{EachOnce}
@@ -19,8 +16,8 @@ entries_by p (e ∷ h) = if e.port == p then e ∷ entries_by p h else entries_b
 
 -- the entry that a call of port p made, if it applied an update
 abbrev pub entry_of : ℕ → Option Note → Call → Answer → List Applied
-entry_of p (Some (note.Wrote k)) (call.Update j v) (answer.Applied s) = record { port = p; component = j; value = v; stamp = s } ∷ []
-entry_of p (Some (note.Wrote k)) (call.UpdateIf j x v) (answer.Applied s) = record { port = p; component = j; value = v; stamp = s } ∷ []
+entry_of p (Some (Note.Wrote k)) (Call.Update j v) (Answer.Applied s) = record { port = p; component = j; value = v; stamp = s } ∷ []
+entry_of p (Some (Note.Wrote k)) (Call.UpdateIf j x v) (Answer.Applied s) = record { port = p; component = j; value = v; stamp = s } ∷ []
 entry_of p _ _ _ = []
 
 -- the updates that the notes of port p say were applied, in order

@@ -4,13 +4,9 @@ use Rattle.std.specs.List.{AllByRecursion}
 use Rattle.partial_model.specs.declared.history.Applied.{Applied}
 use Rattle.partial_model.specs.declared.history.Opening.{Opening}
 use Rattle.partial_model.specs.declared.call.Call.{Call}
-use Rattle.partial_model.specs.declared.call.Call.TheVariants as call
 use Rattle.partial_model.specs.declared.call.Refused.{Refused}
-use Rattle.partial_model.specs.declared.call.Refused.TheVariants as refused
 use Rattle.partial_model.specs.declared.call.Answer.{Answer}
-use Rattle.partial_model.specs.declared.call.Answer.TheVariants as answer
 use Rattle.partial_model.specs.declared.call.Note.{Note}
-use Rattle.partial_model.specs.declared.call.Note.TheVariants as note
 use Rattle.partial_model.specs.History.{value_of, stamp_of}
 
 -- what a port knows of a finished call
@@ -21,10 +17,10 @@ pub record Noted : Type 0 where
 
 -- the components that a call names
 abbrev pub indices_of : Call → List ℕ
-indices_of (call.Update j v) = j ∷ []
-indices_of (call.Scan js) = js
-indices_of (call.Read j) = j ∷ []
-indices_of (call.UpdateIf j s v) = j ∷ []
+indices_of (Call.Update j v) = j ∷ []
+indices_of (Call.Scan js) = js
+indices_of (Call.Read j) = j ∷ []
+indices_of (Call.UpdateIf j s v) = j ∷ []
 
 -- each component that the call names is there
 abbrev pub NamesComponents : ℕ → Call → Type 0
@@ -32,44 +28,44 @@ NamesComponents m c = AllByRecursion (λ j. j < m) (indices_of c)
 
 -- the call claims words of the pool
 abbrev pub ClaimsPool : Call → Type 0
-ClaimsPool (call.Update j v) = ⊤
-ClaimsPool (call.Scan js) = 0 < length js
-ClaimsPool (call.Read j) = ⊥
-ClaimsPool (call.UpdateIf j s v) = ⊤
+ClaimsPool (Call.Update j v) = ⊤
+ClaimsPool (Call.Scan js) = 0 < length js
+ClaimsPool (Call.Read j) = ⊥
+ClaimsPool (Call.UpdateIf j s v) = ⊤
 
 -- the call claims a slot
 abbrev pub ClaimsSlot : Call → Type 0
-ClaimsSlot (call.Scan js) = 0 < length js
+ClaimsSlot (Call.Scan js) = 0 < length js
 ClaimsSlot _ = ⊥
 
 -- the causes for which a call may be refused: an index that isn't below m comes first
 abbrev pub MayBeRefused : ℕ → Call → Refused → Type 0
-MayBeRefused m c refused.Component = ¬ NamesComponents m c
-MayBeRefused m c refused.SlotsSpent = NamesComponents m c × ClaimsSlot c
-MayBeRefused m c refused.PoolSpent = NamesComponents m c × ClaimsPool c
+MayBeRefused m c Refused.Component = ¬ NamesComponents m c
+MayBeRefused m c Refused.SlotsSpent = NamesComponents m c × ClaimsSlot c
+MayBeRefused m c Refused.PoolSpent = NamesComponents m c × ClaimsPool c
 
 -- the answers that a call may have, each with its note; no other fits
 abbrev pub Fits : ℕ → Call → Answer → Option Note → Type 0
-Fits m c (answer.Refused cause) None = MayBeRefused m c cause
-Fits m (call.Update j v) (answer.Applied s) (Some (note.Wrote k)) = j < m
-Fits m (call.Update j v) (answer.Lost by) (Some (note.Lost k)) = j < m
-Fits m (call.Scan js) (answer.Scanned vs c b) (Some (note.Saw n)) = NamesComponents m (call.Scan js)
-Fits m (call.Read j) (answer.Read v s) (Some (note.Saw n)) = j < m
-Fits m (call.UpdateIf j x v) (answer.Applied s) (Some (note.Wrote k)) = j < m
-Fits m (call.UpdateIf j x v) (answer.Changed t) (Some (note.Saw n)) = j < m
+Fits m c (Answer.Refused cause) None = MayBeRefused m c cause
+Fits m (Call.Update j v) (Answer.Applied s) (Some (Note.Wrote k)) = j < m
+Fits m (Call.Update j v) (Answer.Lost by) (Some (Note.Lost k)) = j < m
+Fits m (Call.Scan js) (Answer.Scanned vs c b) (Some (Note.Saw n)) = NamesComponents m (Call.Scan js)
+Fits m (Call.Read j) (Answer.Read v s) (Some (Note.Saw n)) = j < m
+Fits m (Call.UpdateIf j x v) (Answer.Applied s) (Some (Note.Wrote k)) = j < m
+Fits m (Call.UpdateIf j x v) (Answer.Changed t) (Some (Note.Saw n)) = j < m
 Fits m _ _ _ = ⊥
 
 -- how many entries of the history a note shows
 abbrev pub shown_by : Note → ℕ
-shown_by (note.Wrote k) = k + 1
-shown_by (note.Lost k) = k + 1
-shown_by (note.Saw n) = n
+shown_by (Note.Wrote k) = k + 1
+shown_by (Note.Lost k) = k + 1
+shown_by (Note.Saw n) = n
 
 -- before how many entries the call has its place
 abbrev pub place_of : Note → ℕ
-place_of (note.Wrote k) = k
-place_of (note.Lost k) = k
-place_of (note.Saw n) = n
+place_of (Note.Wrote k) = k
+place_of (Note.Lost k) = k
+place_of (Note.Saw n) = n
 
 -- the entry at place k is for component j and has stamp t
 abbrev pub IsEntryFor : List Applied → ℕ → ℕ → ℕ → Type 0
@@ -90,14 +86,14 @@ pub record SawTogether (o : Opening) (h : List Applied) (js vs : List ℕ) (c : 
 
 -- what the answer and note of a call of port p say of the history h
 abbrev pub IsTrueOf : Opening → List Applied → ℕ → Call → Answer → Note → Type 0
-IsTrueOf o h p (call.Update j v) (answer.Applied s) (note.Wrote k) =
+IsTrueOf o h p (Call.Update j v) (Answer.Applied s) (Note.Wrote k) =
     slice_get h k ≡ Some (record { port = p; component = j; value = v; stamp = s })
-IsTrueOf o h p (call.Update j v) (answer.Lost by) (note.Lost k) = IsEntryFor h k j by
-IsTrueOf o h p (call.Scan js) (answer.Scanned vs c b) (note.Saw n) = SawTogether o h js vs c b n
-IsTrueOf o h p (call.Read j) (answer.Read v s) (note.Saw n) = (n ≤ length h) × (v ≡ value_of o (take n h) j) × (s ≡ stamp_of o (take n h) j)
-IsTrueOf o h p (call.UpdateIf j x v) (answer.Applied s) (note.Wrote k) =
+IsTrueOf o h p (Call.Update j v) (Answer.Lost by) (Note.Lost k) = IsEntryFor h k j by
+IsTrueOf o h p (Call.Scan js) (Answer.Scanned vs c b) (Note.Saw n) = SawTogether o h js vs c b n
+IsTrueOf o h p (Call.Read j) (Answer.Read v s) (Note.Saw n) = (n ≤ length h) × (v ≡ value_of o (take n h) j) × (s ≡ stamp_of o (take n h) j)
+IsTrueOf o h p (Call.UpdateIf j x v) (Answer.Applied s) (Note.Wrote k) =
     (slice_get h k ≡ Some (record { port = p; component = j; value = v; stamp = s })) × (stamp_of o (take k h) j ≡ x)
-IsTrueOf o h p (call.UpdateIf j x v) (answer.Changed t) (note.Saw n) = (n ≤ length h) × (stamp_of o (take n h) j ≡ t) × (t ≢ x)
+IsTrueOf o h p (Call.UpdateIf j x v) (Answer.Changed t) (Note.Saw n) = (n ≤ length h) × (stamp_of o (take n h) j ≡ t) × (t ≢ x)
 IsTrueOf o h p _ _ _ = ⊥
 
 -- the triple fits, and its note is true of the history and lies behind all that was seen before

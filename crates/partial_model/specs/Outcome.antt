@@ -5,7 +5,6 @@ use Rattle.std.specs.Option.{option_map}
 use Rattle.partial_model.specs.declared.history.Applied.{Applied}
 use Rattle.partial_model.specs.declared.history.Opening.{Opening}
 use Rattle.partial_model.specs.declared.call.Note.{Note}
-use Rattle.partial_model.specs.declared.call.Note.TheVariants as note
 use Rattle.partial_model.specs.declared.call.Called.{Called}
 use Rattle.partial_model.specs.History.{IsHistory}
 use Rattle.partial_model.specs.Notes.{Noted, LegalNotes, place_of, shown_by}
@@ -20,7 +19,7 @@ notes_of p calls = filter_map noted_of (filter (λ c. c.port == p) calls)
 
 -- the place that a note claims as the call's own entry
 abbrev pub wrote : Option Note → List ℕ
-wrote (Some (note.Wrote k)) = k ∷ []
+wrote (Some (Note.Wrote k)) = k ∷ []
 wrote _ = []
 
 -- the places of the entries that the notes claim

@@ -2,18 +2,16 @@
 use Rattle.std.specs.Prelude.{ℕ, ◌==◌, List, map, slice_range, if◌then◌else◌}
 use Rattle.partial_words.specs.declared.step.Event.{Event}
 use Rattle.partial_words.specs.declared.step.Step.{Step}
-use Rattle.partial_words.specs.declared.step.Step.TheVariants as step
 use Rattle.partial_picture.specs.declared.picture.Mark.{Mark}
 use Rattle.partial_picture.specs.declared.picture.Shape.{Shape}
-use Rattle.partial_picture.specs.declared.picture.Shape.TheVariants as shape
 use Rattle.partial_picture.specs.declared.window.Span.{Span}
 
 -- the shape of a step with an answer
 abbrev pub shape_of : Step → ℕ → Shape
-shape_of (step.Load w) answer = shape.Load
-shape_of (step.Store w v) answer = shape.Store
-shape_of (step.Exchange w old new) answer = if answer == old then shape.Won else shape.Lost
-shape_of (step.Add w v) answer = shape.Add
+shape_of (Step.Load w) answer = Shape.Load
+shape_of (Step.Store w v) answer = Shape.Store
+shape_of (Step.Exchange w old new) answer = if answer == old then Shape.Won else Shape.Lost
+shape_of (Step.Add w v) answer = Shape.Add
 
 -- the mark of an event
 abbrev pub mark_of : Event → Mark

@@ -3,39 +3,36 @@ use Rattle.std.specs.Prelude.{ℕ, Result, Ok, Err, IsOk}
 use Rattle.partial_text.specs.Fault as text
 use Rattle.partial_text.specs.PlanText.{PlanView}
 use Rattle.partial_text.specs.declared.fault.PlanError.{PlanError}
-use Rattle.partial_text.specs.declared.fault.PlanError.TheVariants as plan
-use Rattle.partial_text.specs.declared.fault.OutcomeError.TheVariants as outcome
+use Rattle.partial_text.specs.declared.fault.OutcomeError.{OutcomeError}
 use Rattle.partial_picture.specs.declared.fault.PictureError.{PictureError}
-use Rattle.partial_picture.specs.declared.fault.PictureError.TheVariants as picture
 use Rattle.partial_picture.specs.declared.fault.Fault.{Fault}
-use Rattle.partial_picture.specs.declared.fault.Fault.TheVariants as fault
 
 -- the number of the refusal of a picture
 abbrev pub picture_code_of : PictureError → ℕ
-picture_code_of picture.Memory = 6
-picture_code_of (picture.TooMany steps) = 15
-picture_code_of (picture.Window steps) = 16
+picture_code_of PictureError.Memory = 6
+picture_code_of (PictureError.TooMany steps) = 15
+picture_code_of (PictureError.Window steps) = 16
 
 -- the number of a refusal
 abbrev pub draw_code : Fault → ℕ
-draw_code (fault.Plan e) = text.plan_code e
-draw_code (fault.Replay e) = 6
-draw_code (fault.Picture e) = picture_code_of e
-draw_code (fault.Text e) = text.outcome_code_of e
+draw_code (Fault.Plan e) = text.plan_code e
+draw_code (Fault.Replay e) = 6
+draw_code (Fault.Picture e) = picture_code_of e
+draw_code (Fault.Text e) = text.outcome_code_of e
 
 -- the reader of the plan failed
 abbrev pub draw_reader_fault : Fault
-draw_reader_fault = fault.Plan plan.Read
+draw_reader_fault = Fault.Plan PlanError.Read
 
 -- the writer failed
 abbrev pub draw_writer_fault : Fault
-draw_writer_fault = fault.Text outcome.Write
+draw_writer_fault = Fault.Text OutcomeError.Write
 
 -- The plan was refused with the fault that judging its text gives, unless memory ran out, and anything else came only
 -- of what judging gives as a plan.
 abbrev pub IsDrawJudged : {X : Type 0} → Result X Fault → Result PlanView PlanError → Type 0
 IsDrawJudged (Ok x) judged = IsOk judged
-IsDrawJudged (Err (fault.Plan e)) judged = text.Fails e judged
-IsDrawJudged (Err (fault.Replay e)) judged = IsOk judged
-IsDrawJudged (Err (fault.Picture e)) judged = IsOk judged
-IsDrawJudged (Err (fault.Text e)) judged = IsOk judged
+IsDrawJudged (Err (Fault.Plan e)) judged = text.Fails e judged
+IsDrawJudged (Err (Fault.Replay e)) judged = IsOk judged
+IsDrawJudged (Err (Fault.Picture e)) judged = IsOk judged
+IsDrawJudged (Err (Fault.Text e)) judged = IsOk judged

@@ -2,7 +2,6 @@
 use Rattle.std.specs.Prelude.{ℕ, ◌-◌, ◌==◌, nat_lt, List, ◌++◌, codes, decimal, if◌then◌else◌}
 use Rattle.partial_words.specs.Layout.{Layout, slot_counter, list_head, pool_counter, list_counter, list_base, list_end}
 use Rattle.partial_words.specs.declared.step.Step.{Step}
-use Rattle.partial_words.specs.declared.step.Step.TheVariants as step
 
 -- the words and values of an exchange, and what it came to
 abbrev pub exchange_words : ℕ → ℕ → ℕ → List ℕ → List ℕ
@@ -10,11 +9,11 @@ exchange_words w old new end = codes "exchange " ++ (decimal w ++ (codes " " ++ 
 
 -- a step with its answer: an exchange has won when the answer is the value that it expects
 abbrev pub step_words : Step → ℕ → List ℕ
-step_words (step.Load w) answer = codes "load " ++ (decimal w ++ (codes ": " ++ decimal answer))
-step_words (step.Store w v) answer = codes "store " ++ (decimal w ++ (codes " " ++ decimal v))
-step_words (step.Exchange w old new) answer = if answer == old then exchange_words w old new (codes ": won")
+step_words (Step.Load w) answer = codes "load " ++ (decimal w ++ (codes ": " ++ decimal answer))
+step_words (Step.Store w v) answer = codes "store " ++ (decimal w ++ (codes " " ++ decimal v))
+step_words (Step.Exchange w old new) answer = if answer == old then exchange_words w old new (codes ": won")
     else exchange_words w old new (codes ": lost to " ++ decimal answer)
-step_words (step.Add w n) answer = codes "add " ++ (decimal w ++ (codes " " ++ (decimal n ++ (codes ": " ++ decimal answer))))
+step_words (Step.Add w n) answer = codes "add " ++ (decimal w ++ (codes " " ++ (decimal n ++ (codes ": " ++ decimal answer))))
 
 -- the name of a word behind the counters
 abbrev pub block_name : Layout → ℕ → List ℕ

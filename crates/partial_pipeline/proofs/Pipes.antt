@@ -2,9 +2,6 @@
 use Rattle.partial_pipeline.proofs.Common.{ℕ, zero, suc, ◌≡◌, ◌+◌, ◌<◌, ◌≤◌, ◌==◌, ◌++◌, Bool, true, false, cond, List, [], ◌∷◌, length, take, slice_index, refl, sym, ◌∙◌, ap, subst, inl, inr, Option, Some, None, slice_get, arith, AllByRecursion, eq-eqb, ne_eqb, Applied, Opening, Call, Answer, Note, Noted, IsLegal, LegalNotes, seen_after, wrote, places_written, all_append, AllByRecursion-get, AreFrom, IsPipeline, IsStageIn, Works, CountsStayOrdered, CountsNeverFall, last_value, published_count, OnlyRises, entries_by, entry_of, applied_by, entries_are_noted, entry_holds, noted_at, value_at_first, value_set, value_kept, element_at, rising_never_falls}
 use Rattle.std.specs.Option.{option_map_or}
 use Rattle.std.proofs.lemmas.Bool.Decides.{eqb_tells}
-use Rattle.partial_model.specs.declared.call.Call.TheVariants as call
-use Rattle.partial_model.specs.declared.call.Answer.TheVariants as answer
-use Rattle.partial_model.specs.declared.call.Note.TheVariants as note
 use Rattle.partial_model.specs.History.{last_from, value_of}
 
 -- ---- the entries of stage k: component k alone, to values that never fall
@@ -17,12 +14,12 @@ from_below : (k a b : ℕ) (es : List Applied) → a ≤ b → Rising k b es →
 from_below k a b [] le w = tt
 from_below k a b (e ∷ es) le w = (w.0, omega (arith, w.1), w.2)
 
-set_rises : (k a v : ℕ) (n : Option Note) (x : Answer) (es : List Applied) → a ≤ v → Rising k v es → Rising k a (entry_of k n (call.Update k v) x ++ es)
-set_rises k a v (Some (note.Wrote i)) (answer.Applied s) es le w = (refl, le, w)
+set_rises : (k a v : ℕ) (n : Option Note) (x : Answer) (es : List Applied) → a ≤ v → Rising k v es → Rising k a (entry_of k n (Call.Update k v) x ++ es)
+set_rises k a v (Some (Note.Wrote i)) (Answer.Applied s) es le w = (refl, le, w)
 set_rises k a v _ _ es le w = from_below k a v es le w
 
-pub read_makes_none : (p j : ℕ) (n : Option Note) (x : Answer) → entry_of p n (call.Read j) x ≡ []
-read_makes_none p j (Some (note.Wrote i)) x = refl
+pub read_makes_none : (p j : ℕ) (n : Option Note) (x : Answer) → entry_of p n (Call.Read j) x ≡ []
+read_makes_none p j (Some (Note.Wrote i)) x = refl
 read_makes_none p j _ x = refl
 
 works_rise : (k r a : ℕ) (ns : List Noted) (r' a' : ℕ) → Works k r a ns r' a' → Rising k a (applied_by k ns)
@@ -105,8 +102,8 @@ one_of : (f : Option Applied) (x y : Applied) → f ≡ Some x → f ≡ Some y 
 one_of f x y a b = cc
 
 set_reached : (o : Opening) (h : List Applied) (k j seen a v : ℕ) (x : Answer) (n : Option Note) → v ≤ a → HasRead o h j seen a →
-    IsLegal o h k seen (record { call = call.Update k v; answer = x; note = n }) → Reached o h j seen n a
-set_reached o h k j seen a v (answer.Applied s) (Some (note.Wrote i)) le r w =
+    IsLegal o h k seen (record { call = Call.Update k v; answer = x; note = n }) → Reached o h j seen n a
+set_reached o h k j seen a v (Answer.Applied s) (Some (Note.Wrote i)) le r w =
     let before : seen ≤ i = w.1.1 in
     let at = w.1.0 in (
       (
@@ -117,14 +114,14 @@ set_reached o h k j seen a v (answer.Applied s) (Some (note.Wrote i)) le r w =
       ),
       (r.0, omega (arith, r.1), r.2),
     )
-set_reached o h k j seen a v (answer.Lost by) (Some (note.Lost i)) le r w =
+set_reached o h k j seen a v (Answer.Lost by) (Some (Note.Lost i)) le r w =
     let before : seen ≤ i = w.1.1 in
     (tt, (r.0, omega (arith, r.1), r.2))
-set_reached o h k j seen a v (answer.Refused cause) None le r w = (tt, r)
+set_reached o h k j seen a v (Answer.Refused cause) None le r w = (tt, r)
 set_reached o h k j seen a v _ _ le r w = absurd w.0
 
-read_reached : (o : Opening) (h : List Applied) (k j seen x s : ℕ) (n : Option Note) → IsLegal o h k seen (record { call = call.Read j; answer = answer.Read x s; note = n }) → Reached o h j seen n x
-read_reached o h k j seen x s (Some (note.Saw i)) w = (tt, (i, omega arith, subst (λ v. x ≤ v) (w.1.0.1) (omega arith)))
+read_reached : (o : Opening) (h : List Applied) (k j seen x s : ℕ) (n : Option Note) → IsLegal o h k seen (record { call = Call.Read j; answer = Answer.Read x s; note = n }) → Reached o h j seen n x
+read_reached o h k j seen x s (Some (Note.Saw i)) w = (tt, (i, omega arith, subst (λ v. x ≤ v) (w.1.0.1) (omega arith)))
 read_reached o h k j seen x s _ w = absurd w.0
 
 before_is : (k i j : ℕ) → k ≡ i + 1 → k ≡ j + 1 → i ≡ j
@@ -136,14 +133,14 @@ reached o h k j seen r c [] r' c' is legal w had = tt
 reached o h k j seen r c (n ∷ ns) r' c' is legal w had =
     elim w [
       | inl t ↦
-          let read : n.call ≡ call.Read j = t.4 ∙ ap call.Read (before_is k t.0 j t.3 is) in
-          let one : IsLegal o h k seen (record { call = call.Read j; answer = answer.Read t.1 t.2; note = n.note }) =
-          subst (λ (y : Answer). IsLegal o h k seen (record { call = call.Read j; answer = y; note = n.note })) t.5
+          let read : n.call ≡ Call.Read j = t.4 ∙ ap Call.Read (before_is k t.0 j t.3 is) in
+          let one : IsLegal o h k seen (record { call = Call.Read j; answer = Answer.Read t.1 t.2; note = n.note }) =
+          subst (λ (y : Answer). IsLegal o h k seen (record { call = Call.Read j; answer = y; note = n.note })) t.5
           (subst (λ (y : Call). IsLegal o h k seen (record { call = y; answer = n.answer; note = n.note })) read legal.0) in
           let got = read_reached o h k j seen t.1 t.2 n.note one in
           all_append (IsReached o h j) (wrote n.note) (places_written ns) got.0 (reached o h k j (seen_after seen n.note) t.1 c ns r' c' is legal.1 t.6 got.1)
       | inr t ↦
-          let one : IsLegal o h k seen (record { call = call.Update k t.0; answer = n.answer; note = n.note }) =
+          let one : IsLegal o h k seen (record { call = Call.Update k t.0; answer = n.answer; note = n.note }) =
           subst (λ (y : Call). IsLegal o h k seen (record { call = y; answer = n.answer; note = n.note })) t.1 legal.0 in
           let got = set_reached o h k j seen r t.0 n.answer n.note t.3 had one in
           all_append (IsReached o h j) (wrote n.note) (places_written ns) got.0 (reached o h k j (seen_after seen n.note) r t.0 ns r' c' is legal.1 t.4 got.1)

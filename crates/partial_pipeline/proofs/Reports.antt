@@ -1,13 +1,8 @@
 -- What the closed memory of a pipeline tells of the monitor's scans.
-use Rattle.partial_pipeline.proofs.Common.{ℕ, zero, suc, inl, inr, ◌≡◌, ◌+◌, ◌<◌, ◌≤◌, ◌++◌, List, [], ◌∷◌, length, map, take, slice_index, refl, sym, ◌∙◌, ap, subst, Option, Some, None, slice_get, arith, AllByRecursion, ext_get_or, get_or-map, length-map, take_all, cases_lt, Applied, Opening, Call, Answer, Note, Noted, LegalNotes, IsLegal, seen_after, seen_by, EachOnce, places_written, wrote, AllByRecursion-get, LegalNotes-last, all_where, IsOf, MemoryView, PortView, AreFrom, AreOrdered, HaveEnded, HaveRisen, IsOrderly, IsPipeline, IsStageIn, NeverFall, last_of, EndEach, HasMetMonitor, IsEachStage, GoesOnNoting, Opens, Sees, StagesWatched, StageEnd, Finished, Global, Vec, noted_at, element_at}
+use Rattle.partial_pipeline.proofs.{Common.{ℕ, zero, suc, inl, inr, ◌≡◌, ◌+◌, ◌<◌, ◌≤◌, ◌++◌, List, [], ◌∷◌, length, map, take, slice_index, refl, sym, ◌∙◌, ap, subst, Option, Some, None, slice_get, arith, AllByRecursion, ext_get_or, get_or-map, length-map, take_all, cases_lt, Applied, Opening, Call, Answer, Note, Noted, LegalNotes, IsLegal, seen_after, seen_by, EachOnce, places_written, wrote, AllByRecursion-get, LegalNotes-last, all_where, IsOf, MemoryView, PortView, AreFrom, AreOrdered, HaveEnded, HaveRisen, IsOrderly, IsPipeline, IsStageIn, NeverFall, last_of, EndEach, HasMetMonitor, IsEachStage, GoesOnNoting, Opens, Sees, StagesWatched, StageEnd, Finished, Global, Vec, noted_at, element_at}, Pipes.{counts_never_fall, counts_stay_ordered, stage_value}, Stages.{ends_many, watched_sees}}
 use Rattle.std.specs.Prelude.{IfSome}
-use Rattle.partial_model.specs.declared.call.Call.TheVariants as call
-use Rattle.partial_model.specs.declared.call.Answer.TheVariants as answer
-use Rattle.partial_model.specs.declared.call.Note.TheVariants as note
 use Rattle.partial_model.specs.History.{value_of}
 use Rattle.partial_long_lived.specs.Closing.{Closes, IsPortOf}
-use Rattle.partial_pipeline.proofs.Pipes.{counts_never_fall, counts_stay_ordered, stage_value}
-use Rattle.partial_pipeline.proofs.Stages.{ends_many, watched_sees}
 
 -- the counts of n stages behind the first so many entries
 pub record AreCounts (o : Opening) (h : List Applied) (n at : ℕ) (counts : List ℕ) : Type 0 where
@@ -71,16 +66,16 @@ scan_counts o h n at stages s all is =
 
 -- a scan that was noted saw the counts behind some entries, at least as many as had been seen before
 scan_saw : (o : Opening) (h : List Applied) (p n seen : ℕ) (stages s : List ℕ) (c : ℕ) (b : Option ℕ) (t : Option Note) → IsEachStage n stages →
-    IsLegal o h p seen (record { call = call.Scan stages; answer = answer.Scanned s c b; note = t }) → (at : ℕ) × (seen ≤ at) × (at ≤ length h) × AreCounts o h n at s ×
+    IsLegal o h p seen (record { call = Call.Scan stages; answer = Answer.Scanned s c b; note = t }) → (at : ℕ) × (seen ≤ at) × (at ≤ length h) × AreCounts o h n at s ×
     (seen_after seen t ≡ at) × (wrote t ≡ [])
-scan_saw o h p n seen stages s c b (Some (note.Saw at)) all w =
+scan_saw o h p n seen stages s c b (Some (Note.Saw at)) all w =
     (at, w.1.1, w.1.0.within, scan_counts o h n at stages s all w.1.0.values, refl, refl)
 scan_saw o h p n seen stages s c b _ all w = absurd w.0
 
-scan_legal : (o : Opening) (h : List Applied) (p seen : ℕ) (n : Noted) (stages s : List ℕ) (c : ℕ) (b : Option ℕ) → n.call ≡ call.Scan stages → n.answer ≡ answer.Scanned s c b →
-    IsLegal o h p seen n → IsLegal o h p seen (record { call = call.Scan stages; answer = answer.Scanned s c b; note = n.note })
+scan_legal : (o : Opening) (h : List Applied) (p seen : ℕ) (n : Noted) (stages s : List ℕ) (c : ℕ) (b : Option ℕ) → n.call ≡ Call.Scan stages → n.answer ≡ Answer.Scanned s c b →
+    IsLegal o h p seen n → IsLegal o h p seen (record { call = Call.Scan stages; answer = Answer.Scanned s c b; note = n.note })
 scan_legal o h p seen n stages s c b is ans w =
-    subst (λ (y : Answer). IsLegal o h p seen (record { call = call.Scan stages; answer = y; note = n.note })) ans
+    subst (λ (y : Answer). IsLegal o h p seen (record { call = Call.Scan stages; answer = y; note = n.note })) ans
     (subst (λ (y : Call). IsLegal o h p seen (record { call = y; answer = n.answer; note = n.note })) is w)
 
 watched_saw : (o : Opening) (h : List Applied) (p n seen : ℕ) (stages : List ℕ) (ns : List Noted) (ss : List (List ℕ)) → IsEachStage n stages → StagesWatched stages ns ss →
@@ -223,9 +218,9 @@ module _ (m : MemoryView) (p q : PortView) (ports : List PortView) (stages : Lis
 
   sees_closed : (counts : Vec ℕ Global) → Sees p stages counts.items q → counts.items ≡ closed.items
   sees_closed counts s =
-      let n : Noted = record { call = call.Scan stages; answer = answer.Scanned counts.items s.collects s.borrowed; note = Some (note.Saw s.place) } in
+      let n : Noted = record { call = Call.Scan stages; answer = Answer.Scanned counts.items s.collects s.borrowed; note = Some (Note.Saw s.place) } in
       let one : IsLegal o log m.about.sizes.m (seen_by 0 p.notes) n = LegalNotes-last o log m.about.sizes.m 0 p.notes n (subst (LegalNotes o log m.about.sizes.m 0) s.goes.notes legal) in
-      let got = scan_saw o log m.about.sizes.m m.about.sizes.m (seen_by 0 p.notes) stages counts.items s.collects s.borrowed (Some (note.Saw s.place)) all one in
+      let got = scan_saw o log m.about.sizes.m m.about.sizes.m (seen_by 0 p.notes) stages counts.items s.collects s.borrowed (Some (Note.Saw s.place)) all one in
       let place : s.place ≡ got.0 = got.4 in
       let end : got.0 ≡ length log = omega (arith, got.2, ends_within got.0 (omega (arith, place, s.behind))) in
       same_counts o log m.about.sizes.m (length log) counts.items closed.items (subst (λ i. AreCounts o log m.about.sizes.m i counts.items) end got.3) closed_counts

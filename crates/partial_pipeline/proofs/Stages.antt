@@ -1,12 +1,7 @@
 -- One call more of a stage, of the monitor, and a meeting.
-use Rattle.partial_pipeline.proofs.Common.{ℕ, zero, suc, ◌≡◌, ◌+◌, ◌<◌, ◌≤◌, ◌++◌, List, [], ◌∷◌, length, map, take, get_or, refl, sym, ◌∙◌, ap, subst, inl, inr, Option, Some, append-nil, append_assoc, length-take, arith, AllByRecursion, Applied, Opening, Call, Answer, Note, Noted, LegalNotes, seen_after, places_written, wrote, all_append, all_weaker, shown_within, Goes, IsRefused, Meets, Reads, Scanned, Scans, Updates, IsOf, Knows, MemoryView, PortView, AreFrom, HasWorked, Works, EndEach, EndsAt, HasMetMonitor, IsStageDone, IsWorking, GoesOnNoting, Sees, StagesWatched, last_value, published_count, StageEnd, Finished, applied_by, entry_of, Updated, Stage, Worked}
-use Rattle.partial_model.specs.declared.call.Call.TheVariants as call
-use Rattle.partial_model.specs.declared.call.Answer.TheVariants as answer
-use Rattle.partial_model.specs.declared.call.Note.TheVariants as note
+use Rattle.partial_pipeline.proofs.{Common.{ℕ, zero, suc, ◌≡◌, ◌+◌, ◌<◌, ◌≤◌, ◌++◌, List, [], ◌∷◌, length, map, take, get_or, refl, sym, ◌∙◌, ap, subst, inl, inr, Option, Some, append-nil, append_assoc, length-take, arith, AllByRecursion, Applied, Opening, Call, Answer, Note, Noted, LegalNotes, seen_after, places_written, wrote, all_append, all_weaker, shown_within, Goes, IsRefused, Meets, Reads, Scanned, Scans, Updates, IsOf, Knows, MemoryView, PortView, AreFrom, HasWorked, Works, EndEach, EndsAt, HasMetMonitor, IsStageDone, IsWorking, GoesOnNoting, Sees, StagesWatched, last_value, published_count, StageEnd, Finished, applied_by, entry_of, Updated, Stage, Worked}, Pipes.read_makes_none}
 use Rattle.partial_long_lived.specs.declared.answers.Updated.TheVariants.{Applied as IsApplied, Lost}
 use Rattle.partial_long_lived.specs.declared.error.Refused.{Refused}
-use Rattle.partial_long_lived.specs.declared.error.Refused.TheVariants as refused
-use Rattle.partial_pipeline.proofs.Pipes.{read_makes_none}
 
 -- ---- what a call leaves of its port
 
@@ -33,11 +28,11 @@ then_more p x q new w v =
     }
 
 -- an update that was refused
-pub update_refused : (p q : PortView) (j v : ℕ) (cause : Refused) → IsRefused p (call.Update j v) cause q → GoesOnNoting p q []
-update_refused p q j v refused.Component w = stays p q w.1
-update_refused p q j v refused.Overtaken w = goes_more p q [] w.1
-update_refused p q j v refused.NoArena w = goes_more p q [] w.1
-update_refused p q j v refused.EpochsSpent w = goes_more p q [] w.1
+pub update_refused : (p q : PortView) (j v : ℕ) (cause : Refused) → IsRefused p (Call.Update j v) cause q → GoesOnNoting p q []
+update_refused p q j v Refused.Component w = stays p q w.1
+update_refused p q j v Refused.Overtaken w = goes_more p q [] w.1
+update_refused p q j v Refused.NoArena w = goes_more p q [] w.1
+update_refused p q j v Refused.EpochsSpent w = goes_more p q [] w.1
 
 -- ---- the notes of a stage
 
@@ -45,7 +40,7 @@ update_refused p q j v refused.EpochsSpent w = goes_more p q [] w.1
 pub none_more : (P : List Noted → Type 0) (p q : PortView) → GoesOnNoting p q [] → P p.notes → P q.notes
 none_more P p q n w = subst P (sym (n.notes ∙ append-nil p.notes)) w
 
-works_read : (k r c : ℕ) (ns : List Noted) (r' c' j v s : ℕ) (n : Noted) → Works k r c ns r' c' → k ≡ j + 1 → n.call ≡ call.Read j → n.answer ≡ answer.Read v s → Works k r c (ns ++ n ∷ []) v c'
+works_read : (k r c : ℕ) (ns : List Noted) (r' c' j v s : ℕ) (n : Noted) → Works k r c ns r' c' → k ≡ j + 1 → n.call ≡ Call.Read j → n.answer ≡ Answer.Read v s → Works k r c (ns ++ n ∷ []) v c'
 works_read k r c [] r' c' j v s n w is read ans = inl (j, v, s, is, read, ans, (refl, w.1))
 works_read k r c (m ∷ ns) r' c' j v s n w is read ans =
     elim w [
@@ -53,7 +48,7 @@ works_read k r c (m ∷ ns) r' c' j v s n w is read ans =
       | inr t ↦ inr (t.0, t.1, t.2, t.3, works_read k r t.0 ns r' c' j v s n t.4 is read ans)
     ]
 
-works_set : (k r c : ℕ) (ns : List Noted) (r' c' v : ℕ) (n : Noted) → Works k r c ns r' c' → n.call ≡ call.Update k v → c' ≤ v → v ≤ r' → Works k r c (ns ++ n ∷ []) r' v
+works_set : (k r c : ℕ) (ns : List Noted) (r' c' v : ℕ) (n : Noted) → Works k r c ns r' c' → n.call ≡ Call.Update k v → c' ≤ v → v ≤ r' → Works k r c (ns ++ n ∷ []) r' v
 works_set k r c [] r' c' v n w set more most = inr (v, set, subst (λ i. i ≤ v) (sym w.1) more, subst (λ i. v ≤ i) (sym w.0) most, (w.0, refl))
 works_set k r c (m ∷ ns) r' c' v n w set more most =
     elim w [
@@ -101,12 +96,12 @@ pub works_look : (m : MemoryView) (x : Stage) (q : PortView) (j v s : ℕ) → I
     IsWorking m (record { port = q; items = x.items; seen = v; count = x.count })
 works_look m x q j v s w own is reads =
     let goes = reads.1.goes in
-    let place : Note = note.Saw reads.0 in
+    let place : Note = Note.Saw reads.0 in
     let number : x.port.number ≡ q.number = sym goes.number in
-    let noted : Noted = record { call = call.Read j; answer = answer.Read v s; note = Some place } in
+    let noted : Noted = record { call = Call.Read j; answer = Answer.Read v s; note = Some place } in
     let before : Works q.number w.from 0 x.port.notes x.seen w.tried = subst (λ i. Works i w.from 0 x.port.notes x.seen w.tried) number w.works in
     let none : published_count x.port.number (x.port.notes ++ noted ∷ []) ≡ published_count x.port.number x.port.notes =
-    published_push x.port.number x.port.notes noted ∙ ap (last_value (published_count x.port.number x.port.notes)) (read_makes_none x.port.number j (Some place) (answer.Read v s)) in
+    published_push x.port.number x.port.notes noted ∙ ap (last_value (published_count x.port.number x.port.notes)) (read_makes_none x.port.number j (Some place) (Answer.Read v s)) in
     let held : published_count x.port.number q.notes ≡ x.count = ap (published_count x.port.number) goes.notes ∙ none ∙ w.held in
     record {
       own = own;
@@ -124,7 +119,7 @@ works_look m x q j v s w own is reads =
 
 -- a stage that has tried to publish the next number, and has published `count` since
 pub works_tried : (m : MemoryView) (x : Stage) (q : PortView) (v count : ℕ) (n : Noted) → IsWorking m x → IsOf m q → q.number ≡ x.port.number → q.notes ≡ x.port.notes ++ n ∷ [] →
-    n.call ≡ call.Update x.port.number v → v ≡ x.count + 1 → v ≤ x.seen → count ≤ x.items → v ≤ count + 1 →
+    n.call ≡ Call.Update x.port.number v → v ≡ x.count + 1 → v ≤ x.seen → count ≤ x.items → v ≤ count + 1 →
     last_value x.count (entry_of x.port.number n.note n.call n.answer) ≡ count → IsWorking m (record { port = q; items = x.items; seen = x.seen; count = count })
 works_tried m x q v count n w own number notes set next most all near gives =
     let before : x.port.number ≡ q.number = sym number in
@@ -149,14 +144,14 @@ works_tried m x q v count n w own number notes set next most all near gives =
 pub works_applied : (m : MemoryView) (x : Stage) (q : PortView) (v s : ℕ) → IsWorking m x → IsOf m q → v ≡ x.count + 1 → v ≤ x.seen → v ≤ x.items →
     Updates x.port x.port.number v (IsApplied s) q → IsWorking m (record { port = q; items = x.items; seen = x.seen; count = v })
 works_applied m x q v s w own next most all updates =
-    let noted : Noted = record { call = call.Update x.port.number v; answer = answer.Applied s; note = Some (note.Wrote updates.0) } in
+    let noted : Noted = record { call = Call.Update x.port.number v; answer = Answer.Applied s; note = Some (Note.Wrote updates.0) } in
     works_tried m x q v v noted w own updates.1.goes.number updates.1.goes.notes refl next most all (omega arith) refl
 
 -- a lost one leaves what it has published
 pub works_lost : (m : MemoryView) (x : Stage) (q : PortView) (v by : ℕ) → IsWorking m x → IsOf m q → v ≡ x.count + 1 → v ≤ x.seen →
     Updates x.port x.port.number v (Lost by) q → IsWorking m (record { port = q; items = x.items; seen = x.seen; count = x.count })
 works_lost m x q v by w own next most updates =
-    let noted : Noted = record { call = call.Update x.port.number v; answer = answer.Lost by; note = Some (note.Lost updates.0) } in
+    let noted : Noted = record { call = Call.Update x.port.number v; answer = Answer.Lost by; note = Some (Note.Lost updates.0) } in
     works_tried m x q v x.count noted w own updates.1.goes.number updates.1.goes.notes refl next most w.most (omega (arith, next)) refl
 
 pub number_update : (p q : PortView) (j v : ℕ) (u : Updated) → Updates p j v u q → q.number ≡ p.number
@@ -187,8 +182,8 @@ done_alike m v all items k i w done memory same number =
 
 -- ---- the notes of the monitor
 
-pub watched_push : (stages : List ℕ) (ns : List Noted) (ss : List (List ℕ)) (n : Noted) (counts : List ℕ) (c : ℕ) (b : Option ℕ) → StagesWatched stages ns ss → n.call ≡ call.Scan stages →
-    n.answer ≡ answer.Scanned counts c b → StagesWatched stages (ns ++ n ∷ []) (ss ++ counts ∷ [])
+pub watched_push : (stages : List ℕ) (ns : List Noted) (ss : List (List ℕ)) (n : Noted) (counts : List ℕ) (c : ℕ) (b : Option ℕ) → StagesWatched stages ns ss → n.call ≡ Call.Scan stages →
+    n.answer ≡ Answer.Scanned counts c b → StagesWatched stages (ns ++ n ∷ []) (ss ++ counts ∷ [])
 watched_push stages [] [] n counts c b w is ans = (c, b, is, ans, tt)
 watched_push stages [] (s ∷ ss) n counts c b w is ans = absurd w
 watched_push stages (m ∷ ns) [] n counts c b w is ans = absurd w
@@ -196,7 +191,7 @@ watched_push stages (m ∷ ns) (s ∷ ss) n counts c b w is ans = (w.0, w.1, w.2
 
 pub watched_sees : (p q : PortView) (stages counts : List ℕ) (ss : List (List ℕ)) → StagesWatched stages p.notes ss → Sees p stages counts q → StagesWatched stages q.notes (ss ++ counts ∷ [])
 watched_sees p q stages counts ss w s =
-    let n : Noted = record { call = call.Scan stages; answer = answer.Scanned counts s.collects s.borrowed; note = Some (note.Saw s.place) } in
+    let n : Noted = record { call = Call.Scan stages; answer = Answer.Scanned counts s.collects s.borrowed; note = Some (Note.Saw s.place) } in
     subst (λ ns. StagesWatched stages ns (ss ++ counts ∷ [])) (sym s.goes.notes) (watched_push stages p.notes ss n counts s.collects s.borrowed w refl refl)
 
 -- a scan of some stages that was answered
@@ -229,8 +224,8 @@ sees_then p x q stages counts w s =
 -- a port's entries lie within the history in which its notes are legal
 note_within : (o : Opening) (h : List Applied) (p : ℕ) (c : Call) (a : Answer) (n : Option Note) (seen : ℕ) → LegalNotes o h p seen (record { call = c; answer = a; note = n } ∷ []) →
     AllByRecursion (λ i. i < length h) (wrote n)
-note_within o h p c a (Some (note.Wrote i)) seen w =
-    let within = shown_within o h p c a (note.Wrote i) w.0.1.0 in
+note_within o h p c a (Some (Note.Wrote i)) seen w =
+    let within = shown_within o h p c a (Note.Wrote i) w.0.1.0 in
     (omega (arith, within), tt)
 note_within o h p c a _ seen w = tt
 

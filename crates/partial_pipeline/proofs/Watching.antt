@@ -1,10 +1,9 @@
 -- The monitor: one scan more, and a meeting. And the threads of the stages.
-use Rattle.partial_pipeline.proofs.Common.{ℕ, zero, suc, ◌≡◌, ◌+◌, ◌<◌, ◌≤◌, ◌++◌, List, [], ◌∷◌, length, map, get_or, refl, sym, ◌∙◌, ap, subst, append-nil, arith, AllByRecursion, vec_capacity, length_push, map-append, all_append, all_front, Meets, IsOf, Knows, MemoryView, PortView, new_ports, AreFrom, HasWorked, EndEach, EndsAt, HasMetMonitor, IsStageDone, IsNewStage, IsOpened, IsStageStarted, IsWatching, GoesOnNoting, Sees, StagesWatched, StageEnd, Global, Vec, Worked}
+use Rattle.partial_pipeline.proofs.{Common.{ℕ, zero, suc, ◌≡◌, ◌+◌, ◌<◌, ◌≤◌, ◌++◌, List, [], ◌∷◌, length, map, get_or, refl, sym, ◌∙◌, ap, subst, append-nil, arith, AllByRecursion, vec_capacity, length_push, map-append, all_append, all_front, Meets, IsOf, Knows, MemoryView, PortView, new_ports, AreFrom, HasWorked, EndEach, EndsAt, HasMetMonitor, IsStageDone, IsNewStage, IsOpened, IsStageStarted, IsWatching, GoesOnNoting, Sees, StagesWatched, StageEnd, Global, Vec, Worked}, Stages.{done_alike, ends_more, from_front, from_get, goes_more, has_met, met_more, none_more, seen_grows, watched_sees}}
 use Rattle.std.specs.declared.thread.PromisedHandle.{PromisedHandle}
 use Rattle.partial_long_lived.specs.Rule.{newcomers}
 use Rattle.partial_pipeline.specs.declared.monitor.Monitor.{Monitor}
 use Rattle.partial_pipeline.specs.declared.run.Works.{Works as Promised}
-use Rattle.partial_pipeline.proofs.Stages.{done_alike, ends_more, from_front, from_get, goes_more, has_met, met_more, none_more, seen_grows, watched_sees}
 
 -- ---- the monitor
 

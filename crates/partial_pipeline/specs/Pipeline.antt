@@ -5,13 +5,12 @@ use Rattle.std.specs.declared.alloc.Global.{Global}
 use Rattle.std.specs.declared.vec.Vec.{Vec}
 use Rattle.partial_model.specs.declared.history.Applied.{Applied}
 use Rattle.partial_model.specs.declared.history.Opening.{Opening}
-use Rattle.partial_model.specs.declared.call.Call.TheVariants as call
-use Rattle.partial_model.specs.declared.call.Answer.TheVariants as answer
+use Rattle.partial_model.specs.declared.call.Call.{Call}
+use Rattle.partial_model.specs.declared.call.Answer.{Answer}
 use Rattle.partial_model.specs.History.{value_of}
 use Rattle.partial_model.specs.Notes.{Noted, LegalNotes}
 use Rattle.partial_model.specs.Outcome.{EachOnce}
 use Rattle.partial_long_lived.specs.declared.open_error.OpenError.{OpenError}
-use Rattle.partial_long_lived.specs.declared.open_error.OpenError.TheVariants as opening
 use Rattle.partial_long_lived.specs.declared.options.Options.{Options}
 use Rattle.partial_long_lived.specs.Options.{most_lists, most_words, pool_words_behind}
 use Rattle.partial_pipeline.specs.declared.error.PipelineError.{PipelineError}
@@ -69,11 +68,11 @@ MayNotRun stages o Memory = AreStages stages
 
 -- what the refusal of a memory is to its pipeline
 abbrev pub error_of : OpenError → PipelineError
-error_of opening.Ports = Stages
-error_of opening.Components = Stages
-error_of opening.Lists = Lists
-error_of opening.Pool = Pool
-error_of opening.Memory = Memory
+error_of OpenError.Ports = Stages
+error_of OpenError.Components = Stages
+error_of OpenError.Lists = Lists
+error_of OpenError.Pool = Pool
+error_of OpenError.Memory = Memory
 
 -- the numbers of the refusals
 abbrev pub error_code : PipelineError → ℕ
@@ -92,8 +91,8 @@ AreFrom P k (x ∷ xs) = P k x × AreFrom P (k + 1) xs
 abbrev pub Works : ℕ → ℕ → ℕ → List Noted → ℕ → ℕ → Type 0
 Works k read count [] read' count' = (read ≡ read') × (count ≡ count')
 Works k read count (n ∷ ns) read' count' =
-    ((j v s : ℕ) × (k ≡ j + 1) × (n.call ≡ call.Read j) × (n.answer ≡ answer.Read v s) × Works k v count ns read' count')
-    ⊎ ((v : ℕ) × (n.call ≡ call.Update k v) × (count ≤ v) × (v ≤ read) × Works k read v ns read' count')
+    ((j v s : ℕ) × (k ≡ j + 1) × (n.call ≡ Call.Read j) × (n.answer ≡ Answer.Read v s) × Works k v count ns read' count')
+    ⊎ ((v : ℕ) × (n.call ≡ Call.Update k v) × (count ≤ v) × (v ≤ read) × Works k read v ns read' count')
 
 -- what stage k has noted; only the first stage has read anything at its begin
 pub record HasWorked (k : ℕ) (ns : List Noted) : Type 0 where

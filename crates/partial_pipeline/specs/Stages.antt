@@ -5,9 +5,9 @@ use Rattle.std.specs.Vec.{vec_capacity}
 use Rattle.std.specs.declared.alloc.Global.{Global}
 use Rattle.std.specs.declared.vec.Vec.{Vec}
 use Rattle.std.specs.declared.thread.PromisedHandle.{PromisedHandle}
-use Rattle.partial_model.specs.declared.call.Call.TheVariants as call
-use Rattle.partial_model.specs.declared.call.Answer.TheVariants as answer
-use Rattle.partial_model.specs.declared.call.Note.TheVariants as note
+use Rattle.partial_model.specs.declared.call.Call.{Call}
+use Rattle.partial_model.specs.declared.call.Answer.{Answer}
+use Rattle.partial_model.specs.declared.call.Note.{Note}
 use Rattle.partial_model.specs.declared.history.Applied.{Applied}
 use Rattle.partial_model.specs.Entries.{applied_by}
 use Rattle.partial_model.specs.Notes.{Noted}
@@ -103,7 +103,7 @@ AreRooms stages rooms = AllByRecursion (λ room. length room.items ≡ stages) r
 abbrev pub StagesWatched : List ℕ → List Noted → List (List ℕ) → Type 0
 StagesWatched stages [] [] = ⊤
 StagesWatched stages (n ∷ ns) (counts ∷ more) =
-    (c : ℕ) × (b : Option ℕ) × (n.call ≡ call.Scan stages) × (n.answer ≡ answer.Scanned counts c b) × StagesWatched stages ns more
+    (c : ℕ) × (b : Option ℕ) × (n.call ≡ Call.Scan stages) × (n.answer ≡ Answer.Scanned counts c b) × StagesWatched stages ns more
 StagesWatched stages _ _ = ⊥
 
 -- the port has noted a scan of these stages, which gave these counts, at a place behind all that it had seen before
@@ -112,9 +112,9 @@ pub record Sees (p : PortView) (stages counts : List ℕ) (q : PortView) : Type 
   pub collects : ℕ
   pub borrowed : Option ℕ
   pub goes : GoesOnNoting p q (record {
-    call = call.Scan stages;
-    answer = answer.Scanned counts collects borrowed;
-    note = Some (note.Saw place);
+    call = Call.Scan stages;
+    answer = Answer.Scanned counts collects borrowed;
+    note = Some (Note.Saw place);
   } ∷ [])
   pub behind : length p.seen ≤ place
   pub each : length counts ≡ length stages

@@ -1,11 +1,6 @@
 -- In the replay of a plan with one port each call is alone.
-use Rattle.partial_replay.proofs.Common.{ℕ, zero, suc, ◌≡◌, ◌+◌, ◌<◌, ◌≤◌, ◌==◌, ◌++◌, Bool, true, false, cond, List, [], ◌∷◌, length, map, take, Option, Some, None, IfSome, IsSomeAnd, refl, sym, ◌∙◌, ap, subst, inl, inr, arith, AllByRecursion, filter_map, cons_option, range_with_len, option_map, option_map_or, eqb_tells, Applied, Opening, Call, Answer, Note, Called, Finish, stamp_of, Noted, Fits, IsTrueOf, IsLegal, LegalNotes, seen_after, shown_by, place_of, noted_of, places_by, places_written, wrote, Follows, RealTime, LegalOutcome, calls_by, AreFirstOf, value_of}
-use Rattle.partial_model.specs.declared.call.Call.TheVariants as call
-use Rattle.partial_model.specs.declared.call.Answer.TheVariants as answer
-use Rattle.partial_model.specs.declared.call.Note.TheVariants as note
+use Rattle.partial_replay.proofs.{Common.{ℕ, zero, suc, ◌≡◌, ◌+◌, ◌<◌, ◌≤◌, ◌==◌, ◌++◌, Bool, true, false, cond, List, [], ◌∷◌, length, map, take, Option, Some, None, IfSome, IsSomeAnd, refl, sym, ◌∙◌, ap, subst, inl, inr, arith, AllByRecursion, filter_map, cons_option, range_with_len, option_map, option_map_or, eqb_tells, Applied, Opening, Call, Answer, Note, Called, Finish, stamp_of, Noted, Fits, IsTrueOf, IsLegal, LegalNotes, seen_after, shown_by, place_of, noted_of, places_by, places_written, wrote, Follows, RealTime, LegalOutcome, calls_by, AreFirstOf, value_of}, PortLaws.same_eqb, Replays.past_get}
 use Rattle.partial_replay.specs.Alone.{AddsAlone, AnswersAlone, IsAlone, OnePortIsAlone}
-use Rattle.partial_replay.proofs.PortLaws.{same_eqb}
-use Rattle.partial_replay.proofs.Replays.{past_get}
 
 -- all calls are of port 0
 kept_none : {A : Type 0} (b : Bool) (x : A) (xs : List A) → cond b (x ∷ xs) xs ≡ [] → (b ≡ false) × (xs ≡ [])
@@ -86,9 +81,9 @@ claimed_from n low began c (Some g) rest from time behind =
     of : (a : Option Note) → IfSome a (λ note. (began ≤ place_of note) × (shown_by note ≤ g.ended)) → AllByRecursion (λ k. low ≤ k) (places_written rest) →
         AllByRecursion (λ k. low ≤ k) (wrote a ++ places_written rest)
     of None t tail = tail
-    of (Some (note.Wrote k)) t tail = (let place = t.0 in omega (arith, from, place), tail)
-    of (Some (note.Lost k)) t tail = tail
-    of (Some (note.Saw k)) t tail = tail
+    of (Some (Note.Wrote k)) t tail = (let place = t.0 in omega (arith, from, place), tail)
+    of (Some (Note.Lost k)) t tail = tail
+    of (Some (Note.Saw k)) t tail = tail
 
 places_from : (n low : ℕ) (b : Option Called) (cs : List Called) → GoesFrom b low → AllByRecursion (λ (c : Called). c.port ≡ 0) cs → RealTime n b cs →
     AllByRecursion (λ k. low ≤ k) (places_written (filter_map noted_of cs))
@@ -104,14 +99,14 @@ reaches e low (suc d) n ks is sum within all = (subst (AllByRecursion (λ k. e �
 -- what a call alone answers
 answers_alone : (o : Opening) (h : List Applied) (p m began ended : ℕ) (c : Call) (a : Answer) (n : Option Note) → Fits m c a n → IfSome n (IsTrueOf o h p c a) → AddsAlone began ended n →
     AnswersAlone o (take began h) c a
-answers_alone o h p m began ended (call.Update j v) (answer.Lost by) (Some (note.Lost k)) fits is alone = alone
-answers_alone o h p m began ended (call.Scan js) (answer.Scanned vs c b) (Some (note.Saw n)) fits is alone = is.values ∙ ap (λ i. map (λ j. value_of o (take i h) j) js) alone.0
-answers_alone o h p m began ended (call.Read j) (answer.Read v s) (Some (note.Saw n)) fits is alone =
+answers_alone o h p m began ended (Call.Update j v) (Answer.Lost by) (Some (Note.Lost k)) fits is alone = alone
+answers_alone o h p m began ended (Call.Scan js) (Answer.Scanned vs c b) (Some (Note.Saw n)) fits is alone = is.values ∙ ap (λ i. map (λ j. value_of o (take i h) j) js) alone.0
+answers_alone o h p m began ended (Call.Read j) (Answer.Read v s) (Some (Note.Saw n)) fits is alone =
     (is.1 ∙ ap (λ i. value_of o (take i h) j) alone.0, is.2 ∙ ap (λ i. stamp_of o (take i h) j) alone.0)
-answers_alone o h p m began ended (call.UpdateIf j x v) (answer.Applied s) (Some (note.Wrote k)) fits is alone = ap (λ i. stamp_of o (take i h) j) (sym alone.0) ∙ is.1
-answers_alone o h p m began ended (call.UpdateIf j x v) (answer.Changed t) (Some (note.Saw n)) fits is alone = (ap (λ i. stamp_of o (take i h) j) (sym alone.0) ∙ is.1, is.2)
-answers_alone o h p m began ended (call.Update j v) (answer.Applied s) n fits is alone = tt
-answers_alone o h p m began ended _ (answer.Refused cause) n fits is alone = tt
+answers_alone o h p m began ended (Call.UpdateIf j x v) (Answer.Applied s) (Some (Note.Wrote k)) fits is alone = ap (λ i. stamp_of o (take i h) j) (sym alone.0) ∙ is.1
+answers_alone o h p m began ended (Call.UpdateIf j x v) (Answer.Changed t) (Some (Note.Saw n)) fits is alone = (ap (λ i. stamp_of o (take i h) j) (sym alone.0) ∙ is.1, is.2)
+answers_alone o h p m began ended (Call.Update j v) (Answer.Applied s) n fits is alone = tt
+answers_alone o h p m began ended _ (Answer.Refused cause) n fits is alone = tt
 answers_alone o h p m began ended _ _ _ fits is alone = absurd fits
 
 -- one call, and where the places of those behind it begin
@@ -142,7 +137,7 @@ adds_none o h low n began ended d later c a b rest none from time within legal p
 -- a call that adds its own entry
 adds_own : (o : Opening) (h : List Applied) (low n began ended k d later : ℕ) (c : Call) (a : Answer) (rest : List Noted) → low ≤ began → began ≤ k → k + 1 ≤ ended → ended ≤ n →
     LegalNotes o h 0 later rest → k ∷ places_written rest ≡ range_with_len low d → low + d ≡ n → AllByRecursion (λ i. ended ≤ i) (places_written rest) →
-    (AddsAlone began ended (Some (note.Wrote k)) → AnswersAlone o (take began h) c a) → GoesAlone o h low n began c (Some (record { ended = ended; answer = a; note = Some (note.Wrote k) })) rest
+    (AddsAlone began ended (Some (Note.Wrote k)) → AnswersAlone o (take began h) c a) → GoesAlone o h low n began c (Some (record { ended = ended; answer = a; note = Some (Note.Wrote k) })) rest
 adds_own o h low n began ended k zero later c a rest from place shown within legal places sum behind alone = let bad : k ∷ places_written rest ≡ [] = places in cc
 adds_own o h low n began ended k (suc d) later c a rest from place shown within legal places sum behind alone =
     let both : k ∷ places_written rest ≡ low ∷ range_with_len (low + 1) d = places in
@@ -150,7 +145,7 @@ adds_own o h low n began ended k (suc d) later c a rest from place shown within 
     let tail : places_written rest ≡ range_with_len (low + 1) d = cc in
     let e = reaches ended (low + 1) d n (places_written rest) tail (omega (arith, sum)) within behind in
     let same : low + 1 ≡ ended = omega (arith, from, place, first, shown, e) in
-    let adds : AddsAlone began ended (Some (note.Wrote k)) = (omega (arith, from, place, first), omega (arith, from, place, first, same)) in
+    let adds : AddsAlone began ended (Some (Note.Wrote k)) = (omega (arith, from, place, first), omega (arith, from, place, first, same)) in
     record {
       alone = (adds, alone adds);
       left = d;
@@ -172,19 +167,19 @@ goes_noted : (o : Opening) (h : List Applied) (low n began ended d seen : ℕ) (
 goes_noted o h low n began ended d seen c a None rest from time within placed legal later places sum behind =
     adds_none o h low n began ended d seen c a None rest refl from time within later places sum behind
     (λ same here. (sym same, answers_alone o h 0 (length o.values) began ended c a None legal.0 tt (sym same)))
-goes_noted o h low n began ended d seen c a (Some (note.Lost k)) rest from time within placed legal later places sum behind =
-    adds_none o h low n began ended d (k + 1) c a (Some (note.Lost k)) rest refl from time within later places sum behind
+goes_noted o h low n began ended d seen c a (Some (Note.Lost k)) rest from time within placed legal later places sum behind =
+    adds_none o h low n began ended d (k + 1) c a (Some (Note.Lost k)) rest refl from time within later places sum behind
     (λ same here. let place = placed.0 in let shown = placed.1 in absurd (omega (arith, same, place, shown)))
-goes_noted o h low n began ended d seen c a (Some (note.Saw m)) rest from time within placed legal later places sum behind =
-    adds_none o h low n began ended d m c a (Some (note.Saw m)) rest refl from time within later places sum behind
+goes_noted o h low n began ended d seen c a (Some (Note.Saw m)) rest from time within placed legal later places sum behind =
+    adds_none o h low n began ended d m c a (Some (Note.Saw m)) rest refl from time within later places sum behind
     (λ same here.
     let place = placed.0 in
     let shown = placed.1 in
-    let adds : AddsAlone began ended (Some (note.Saw m)) = (omega (arith, same, place, shown), sym same) in
-    (adds, answers_alone o h 0 (length o.values) began ended c a (Some (note.Saw m)) legal.0 (legal.1.0) adds))
-goes_noted o h low n began ended d seen c a (Some (note.Wrote k)) rest from time within placed legal later places sum behind =
+    let adds : AddsAlone began ended (Some (Note.Saw m)) = (omega (arith, same, place, shown), sym same) in
+    (adds, answers_alone o h 0 (length o.values) began ended c a (Some (Note.Saw m)) legal.0 (legal.1.0) adds))
+goes_noted o h low n began ended d seen c a (Some (Note.Wrote k)) rest from time within placed legal later places sum behind =
     adds_own o h low n began ended k d (k + 1) c a rest from placed.0 placed.1 within later places sum behind
-    (λ adds. answers_alone o h 0 (length o.values) began ended c a (Some (note.Wrote k)) legal.0 (legal.1.0) adds)
+    (λ adds. answers_alone o h 0 (length o.values) began ended c a (Some (Note.Wrote k)) legal.0 (legal.1.0) adds)
 
 goes_alone : (o : Opening) (h : List Applied) (low n began d seen : ℕ) (c : Call) (f : Option Finish) (rest : List Noted) → low ≤ began → InTime n began f →
     LegalNotes o h 0 seen (cons_option (noted_with c f) rest) → places_written (cons_option (noted_with c f) rest) ≡ range_with_len low d → low + d ≡ n → AllByRecursion (λ k. end_with low f ≤ k)

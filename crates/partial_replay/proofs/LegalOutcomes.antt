@@ -1,8 +1,6 @@
 -- The calls that a replay tells are a legal outcome.
-use Rattle.partial_replay.proofs.Common.{ℕ, zero, suc, ◌⊎◌, map, take, ◌≡◌, ◌≢◌, ◌+◌, ◌<◌, ◌≤◌, ◌++◌, ◌==◌, Bool, true, false, cond, List, [], ◌∷◌, length, Option, Some, None, IfSome, IsSomeAnd, MatchOption, slice_get, refl, sym, ◌∙◌, ap, subst, inl, inr, arith, append_assoc, filter, filter_map, AllByRecursion, filter-append, filter_map-append, append-nil, length_push, map_push, ne_eqb, eqb_tells, Applied, Opening, Call, Called, Finish, Noted, LegalNotes, shown_by, place_of, noted_of, notes_of, places_written, Follows, RealTime, LegalOutcome, Layout, CoreState, most_steps, AllByRecursion-append, Part, core_of, port_of, IsBetween, IsMachineOf, Port, UnderWay, HasLeastPlace, calls_by, AreFirstOf, AreAllMade, AreFew, IsSome, AreFinished, IsCallUnderWay, PortFits, end_of_call, ends_of, notes_in, unfinished_call, PortsFit, IsRunOf, left_over, calls_in, ReplayState, some_same, no_ports, first_port}
+use Rattle.partial_replay.proofs.{Common.{ℕ, zero, suc, ◌⊎◌, map, take, ◌≡◌, ◌≢◌, ◌+◌, ◌<◌, ◌≤◌, ◌++◌, ◌==◌, Bool, true, false, cond, List, [], ◌∷◌, length, Option, Some, None, IfSome, IsSomeAnd, MatchOption, slice_get, refl, sym, ◌∙◌, ap, subst, inl, inr, arith, append_assoc, filter, filter_map, AllByRecursion, filter-append, filter_map-append, append-nil, length_push, map_push, ne_eqb, eqb_tells, Applied, Opening, Call, Called, Finish, Noted, LegalNotes, shown_by, place_of, noted_of, notes_of, places_written, Follows, RealTime, LegalOutcome, Layout, CoreState, most_steps, AllByRecursion-append, Part, core_of, port_of, IsBetween, IsMachineOf, Port, UnderWay, HasLeastPlace, calls_by, AreFirstOf, AreAllMade, AreFew, IsSome, AreFinished, IsCallUnderWay, PortFits, end_of_call, ends_of, notes_in, unfinished_call, PortsFit, IsRunOf, left_over, calls_in, ReplayState, some_same, no_ports, first_port}, PortLaws.{take_next, same_eqb}, Opens.{over_none, none_over}}
 use Rattle.partial_core.specs.Known.{notes_by}
-use Rattle.partial_replay.proofs.PortLaws.{take_next, same_eqb}
-use Rattle.partial_replay.proofs.Opens.{over_none, none_over}
 
 notes_split : (p : ℕ) (xs ys : List Called) → notes_of p (xs ++ ys) ≡ notes_of p xs ++ notes_of p ys
 notes_split p xs ys = ap (filter_map noted_of) (filter-append (λ (c : Called). c.port == p) xs ys) ∙ filter_map-append noted_of (filter (λ (c : Called). c.port == p) xs)

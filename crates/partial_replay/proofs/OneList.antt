@@ -1,9 +1,5 @@
 -- The calls of a port are told by the plan, the events and the lengths of the history at the port's turns.
-use Rattle.partial_replay.proofs.Common.{ℕ, ◌⊎◌, ◌≡◌, ◌≢◌, ◌+◌, ◌<◌, ◌≤◌, ◌++◌, Bool, cond, List, [], ◌∷◌, length, map, take, Option, Some, None, IfSome, IsSomeAnd, refl, sym, ◌∙◌, ap, subst, inl, inr, arith, length-append, option_map, ne_eqb, eqb_tells, Applied, Opening, Answer, Call, Called, Finish, Note, Refused, HaveDistinctStamps, Follows, RealTime, Reply, Idle, CoreState, at_stage, advance, reply_of, answer_for, begun_of, refusal_of, Moment, last_behind, Makes, HasSteps, IsFinishedAtOnce, IsRefusedAtOnce, IsCallRun, AreStepsOf, calls_by, AreFirstOf, EndInStep, BeginInTurns, due_is_unreplied}
-use Rattle.partial_model.specs.declared.call.Answer.TheVariants as answer
-use Rattle.partial_replay.proofs.PortLaws.{same_eqb}
-use Rattle.partial_replay.proofs.PortRuns.{AreFinishedBut, none_map}
-use Rattle.partial_replay.proofs.OneNote.{IsRightNote, AreRight, notes_same}
+use Rattle.partial_replay.proofs.{Common.{ℕ, ◌⊎◌, ◌≡◌, ◌≢◌, ◌+◌, ◌<◌, ◌≤◌, ◌++◌, Bool, cond, List, [], ◌∷◌, length, map, take, Option, Some, None, IfSome, IsSomeAnd, refl, sym, ◌∙◌, ap, subst, inl, inr, arith, length-append, option_map, ne_eqb, eqb_tells, Applied, Opening, Answer, Call, Called, Finish, Note, Refused, HaveDistinctStamps, Follows, RealTime, Reply, Idle, CoreState, at_stage, advance, reply_of, answer_for, begun_of, refusal_of, Moment, last_behind, Makes, HasSteps, IsFinishedAtOnce, IsRefusedAtOnce, IsCallRun, AreStepsOf, calls_by, AreFirstOf, EndInStep, BeginInTurns, due_is_unreplied}, PortLaws.same_eqb, PortRuns.{AreFinishedBut, none_map}, OneNote.{IsRightNote, AreRight, notes_same}}
 
 -- ---- the calls of one port, numbered
 
@@ -106,7 +102,7 @@ module _ (s : CoreState) (c d : Called) (u v : CoreState) (behind behind' : List
         events = refl;
         rest = all;
         next = a.rests ∙ sym b.rests;
-        answers = ap (option_map (λ (f : Finish). f.answer)) a.finish ∙ ap (λ (r : Refused). Some (answer.Refused r)) cause ∙ sym (ap (option_map (λ (f : Finish). f.answer)) b.finish);
+        answers = ap (option_map (λ (f : Finish). f.answer)) a.finish ∙ ap (λ (r : Refused). Some (Answer.Refused r)) cause ∙ sym (ap (option_map (λ (f : Finish). f.answer)) b.finish);
         end = (c.began, ended_is c.finish c.began _ a.finish refl, ended_is d.finish c.began _ b.finish (sym began));
       }
 

@@ -1,8 +1,5 @@
 -- A finished call has one note: the entry with its stamp, or the least prefix that shows its answer.
 use Rattle.partial_replay.proofs.Common.{ℕ, ◌≡◌, ◌<◌, ◌≤◌, List, [], ◌∷◌, length, take, Option, Some, None, IfSome, slice_get, refl, sym, ◌∙◌, ap, subst, inl, inr, arith, AllByRecursion, filter_map, cons_option, option_map, cases_lt, Applied, Opening, Call, Answer, Refused, Note, Called, Finish, HaveDistinctStamps, Noted, Fits, IsTrueOf, IsLegal, LegalNotes, seen_after, shown_by, place_of, noted_of, IsInTime, Shows, IsLeastFrom, HasLeastPlace}
-use Rattle.partial_model.specs.declared.call.Call.TheVariants as call
-use Rattle.partial_model.specs.declared.call.Answer.TheVariants as answer
-use Rattle.partial_model.specs.declared.call.Note.TheVariants as note
 use Rattle.partial_model.proofs.StampsStay.{distinct_at}
 
 -- the note is right for a call of port p that began when the history had so many entries
@@ -33,60 +30,60 @@ same_least P began n m from from' at at' least least' = elim (cases_lt n m) [
 ]
 
 -- only a refused call has no note
-unnoted : (m : ℕ) (c : Call) (a : Answer) → Fits m c a None → (cause : Refused) × (a ≡ answer.Refused cause)
-unnoted m c (answer.Refused cause) fits = (cause, refl)
-unnoted m (call.Update j v) _ fits = absurd fits
-unnoted m (call.Scan js) _ fits = absurd fits
-unnoted m (call.Read j) _ fits = absurd fits
-unnoted m (call.UpdateIf j x v) _ fits = absurd fits
+unnoted : (m : ℕ) (c : Call) (a : Answer) → Fits m c a None → (cause : Refused) × (a ≡ Answer.Refused cause)
+unnoted m c (Answer.Refused cause) fits = (cause, refl)
+unnoted m (Call.Update j v) _ fits = absurd fits
+unnoted m (Call.Scan js) _ fits = absurd fits
+unnoted m (Call.Read j) _ fits = absurd fits
+unnoted m (Call.UpdateIf j x v) _ fits = absurd fits
 
-noted_unrefused : (m : ℕ) (c : Call) (cause : Refused) (n : Note) → Fits m c (answer.Refused cause) (Some n) → ⊥
+noted_unrefused : (m : ℕ) (c : Call) (cause : Refused) (n : Note) → Fits m c (Answer.Refused cause) (Some n) → ⊥
 noted_unrefused m _ cause n fits = absurd fits
 
 module _ (o : Opening) (h : List Applied) (p began : ℕ) (distinct : HaveDistinctStamps h) where
   abbrev Right : Call → Answer → Note → Type 0
   Right c a n = IsRightNote o h p began c a (Some n)
 
-  applied_same : (j v s : ℕ) (n m : Note) → Right (call.Update j v) (answer.Applied s) n → Right (call.Update j v) (answer.Applied s) m → n ≡ m
-  applied_same j v s (note.Wrote k) (note.Wrote i) a b = ap note.Wrote (same_place h k i _ _ distinct a.is b.is refl)
-  applied_same j v s (note.Wrote k) _ a b = absurd b.fits
+  applied_same : (j v s : ℕ) (n m : Note) → Right (Call.Update j v) (Answer.Applied s) n → Right (Call.Update j v) (Answer.Applied s) m → n ≡ m
+  applied_same j v s (Note.Wrote k) (Note.Wrote i) a b = ap Note.Wrote (same_place h k i _ _ distinct a.is b.is refl)
+  applied_same j v s (Note.Wrote k) _ a b = absurd b.fits
   applied_same j v s _ m a b = absurd a.fits
 
-  lost_same : (j v by : ℕ) (n m : Note) → Right (call.Update j v) (answer.Lost by) n → Right (call.Update j v) (answer.Lost by) m → n ≡ m
-  lost_same j v by (note.Lost k) (note.Lost i) a b = ap note.Lost (same_place h k i (a.is.0) (b.is.0) distinct a.is.1 b.is.1 (a.is.3 ∙ sym b.is.3))
-  lost_same j v by (note.Lost k) _ a b = absurd b.fits
+  lost_same : (j v by : ℕ) (n m : Note) → Right (Call.Update j v) (Answer.Lost by) n → Right (Call.Update j v) (Answer.Lost by) m → n ≡ m
+  lost_same j v by (Note.Lost k) (Note.Lost i) a b = ap Note.Lost (same_place h k i (a.is.0) (b.is.0) distinct a.is.1 b.is.1 (a.is.3 ∙ sym b.is.3))
+  lost_same j v by (Note.Lost k) _ a b = absurd b.fits
   lost_same j v by _ m a b = absurd a.fits
 
-  changes_same : (j x v s : ℕ) (n m : Note) → Right (call.UpdateIf j x v) (answer.Applied s) n → Right (call.UpdateIf j x v) (answer.Applied s) m → n ≡ m
-  changes_same j x v s (note.Wrote k) (note.Wrote i) a b = ap note.Wrote (same_place h k i _ _ distinct a.is.0 b.is.0 refl)
-  changes_same j x v s (note.Wrote k) _ a b = absurd b.fits
+  changes_same : (j x v s : ℕ) (n m : Note) → Right (Call.UpdateIf j x v) (Answer.Applied s) n → Right (Call.UpdateIf j x v) (Answer.Applied s) m → n ≡ m
+  changes_same j x v s (Note.Wrote k) (Note.Wrote i) a b = ap Note.Wrote (same_place h k i _ _ distinct a.is.0 b.is.0 refl)
+  changes_same j x v s (Note.Wrote k) _ a b = absurd b.fits
   changes_same j x v s _ m a b = absurd a.fits
 
-  scanned_same : (js vs : List ℕ) (c : ℕ) (w : Option ℕ) (n m : Note) → Right (call.Scan js) (answer.Scanned vs c w) n → Right (call.Scan js) (answer.Scanned vs c w) m → n ≡ m
-  scanned_same js vs c w (note.Saw n) (note.Saw m) a b = ap note.Saw (same_least (λ i. Shows o (take i h) (call.Scan js) (answer.Scanned vs c w)) began n m a.behind b.behind a.is.values
+  scanned_same : (js vs : List ℕ) (c : ℕ) (w : Option ℕ) (n m : Note) → Right (Call.Scan js) (Answer.Scanned vs c w) n → Right (Call.Scan js) (Answer.Scanned vs c w) m → n ≡ m
+  scanned_same js vs c w (Note.Saw n) (Note.Saw m) a b = ap Note.Saw (same_least (λ i. Shows o (take i h) (Call.Scan js) (Answer.Scanned vs c w)) began n m a.behind b.behind a.is.values
       b.is.values a.least b.least)
-  scanned_same js vs c w (note.Saw n) _ a b = absurd b.fits
+  scanned_same js vs c w (Note.Saw n) _ a b = absurd b.fits
   scanned_same js vs c w _ m a b = absurd a.fits
 
-  read_same : (j v s : ℕ) (n m : Note) → Right (call.Read j) (answer.Read v s) n → Right (call.Read j) (answer.Read v s) m → n ≡ m
-  read_same j v s (note.Saw n) (note.Saw m) a b = ap note.Saw (same_least (λ i. Shows o (take i h) (call.Read j) (answer.Read v s)) began n m a.behind b.behind (a.is.1, a.is.2)
+  read_same : (j v s : ℕ) (n m : Note) → Right (Call.Read j) (Answer.Read v s) n → Right (Call.Read j) (Answer.Read v s) m → n ≡ m
+  read_same j v s (Note.Saw n) (Note.Saw m) a b = ap Note.Saw (same_least (λ i. Shows o (take i h) (Call.Read j) (Answer.Read v s)) began n m a.behind b.behind (a.is.1, a.is.2)
       (b.is.1, b.is.2) a.least b.least)
-  read_same j v s (note.Saw n) _ a b = absurd b.fits
+  read_same j v s (Note.Saw n) _ a b = absurd b.fits
   read_same j v s _ m a b = absurd a.fits
 
-  changed_same : (j x v t : ℕ) (n m : Note) → Right (call.UpdateIf j x v) (answer.Changed t) n → Right (call.UpdateIf j x v) (answer.Changed t) m → n ≡ m
-  changed_same j x v t (note.Saw n) (note.Saw m) a b = ap note.Saw (same_least (λ i. Shows o (take i h) (call.UpdateIf j x v) (answer.Changed t)) began n m a.behind b.behind a.is.1
+  changed_same : (j x v t : ℕ) (n m : Note) → Right (Call.UpdateIf j x v) (Answer.Changed t) n → Right (Call.UpdateIf j x v) (Answer.Changed t) m → n ≡ m
+  changed_same j x v t (Note.Saw n) (Note.Saw m) a b = ap Note.Saw (same_least (λ i. Shows o (take i h) (Call.UpdateIf j x v) (Answer.Changed t)) began n m a.behind b.behind a.is.1
       b.is.1 a.least b.least)
-  changed_same j x v t (note.Saw n) _ a b = absurd b.fits
+  changed_same j x v t (Note.Saw n) _ a b = absurd b.fits
   changed_same j x v t _ m a b = absurd a.fits
 
   some_same : (c : Call) (a : Answer) (n m : Note) → Right c a n → Right c a m → n ≡ m
-  some_same (call.Update j v) (answer.Applied s) n m a b = applied_same j v s n m a b
-  some_same (call.Update j v) (answer.Lost by) n m a b = lost_same j v by n m a b
-  some_same (call.Scan js) (answer.Scanned vs c w) n m a b = scanned_same js vs c w n m a b
-  some_same (call.Read j) (answer.Read v s) n m a b = read_same j v s n m a b
-  some_same (call.UpdateIf j x v) (answer.Applied s) n m a b = changes_same j x v s n m a b
-  some_same (call.UpdateIf j x v) (answer.Changed t) n m a b = changed_same j x v t n m a b
+  some_same (Call.Update j v) (Answer.Applied s) n m a b = applied_same j v s n m a b
+  some_same (Call.Update j v) (Answer.Lost by) n m a b = lost_same j v by n m a b
+  some_same (Call.Scan js) (Answer.Scanned vs c w) n m a b = scanned_same js vs c w n m a b
+  some_same (Call.Read j) (Answer.Read v s) n m a b = read_same j v s n m a b
+  some_same (Call.UpdateIf j x v) (Answer.Applied s) n m a b = changes_same j x v s n m a b
+  some_same (Call.UpdateIf j x v) (Answer.Changed t) n m a b = changed_same j x v t n m a b
   some_same _ _ n m a b = absurd a.fits
 
   -- two right notes of one answer are the same

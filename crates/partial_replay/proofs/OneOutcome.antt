@@ -1,12 +1,6 @@
 -- Two outcomes of one plan tell the same.
-use Rattle.partial_replay.proofs.Common.{ℕ, ◌≡◌, ◌<◌, ◌≤◌, ◌==◌, Bool, true, false, cond, List, [], ◌∷◌, length, map, get_or, Option, Some, None, refl, sym, ◌∙◌, ap, subst, inl, inr, arith, AllByRecursion, filter_map, cases_lt, eqb_tells, ext_get_or, Applied, Opening, Call, Called, IsInTime, RealTime, opening_is, PlanView, Event, AreOpeningWords, Layout, pool_base, total, record_value, Leads, words_after, fresh, step_of, HasLeastPlace, IsReplayOf, turn_lengths, Moment, event_entry, moments_from, moments_by, ports_of, events_in, turns_of, turns_by, lengths_in, MakeTurns, calls_by, steps_by, AreAllMade, HaveMade, Outcome}
+use Rattle.partial_replay.proofs.{Common.{ℕ, ◌≡◌, ◌<◌, ◌≤◌, ◌==◌, Bool, true, false, cond, List, [], ◌∷◌, length, map, get_or, Option, Some, None, refl, sym, ◌∙◌, ap, subst, inl, inr, arith, AllByRecursion, filter_map, cases_lt, eqb_tells, ext_get_or, Applied, Opening, Call, Called, IsInTime, RealTime, opening_is, PlanView, Event, AreOpeningWords, Layout, pool_base, total, record_value, Leads, words_after, fresh, step_of, HasLeastPlace, IsReplayOf, turn_lengths, Moment, event_entry, moments_from, moments_by, ports_of, events_in, turns_of, turns_by, lengths_in, MakeTurns, calls_by, steps_by, AreAllMade, HaveMade, Outcome}, OneList.{AreListedFrom, calls_listed, finished_but, AreMade, EndAlike, calls_same, own_call, other_call}, OneNote.notes_right, OneTrace.{moments_events, Goes, traces_same, plan_turns}, PortRuns.{PortAt, PortRun, next_at, RunOf, runs_of}, PortSteps.events_steps, TurnLengths.lengths_same}
 use Rattle.partial_replay.specs.OneOutcome.{PlansHaveOneOutcome}
-use Rattle.partial_replay.proofs.OneList.{AreListedFrom, calls_listed, finished_but, AreMade, EndAlike, calls_same, own_call, other_call}
-use Rattle.partial_replay.proofs.OneNote.{notes_right}
-use Rattle.partial_replay.proofs.OneTrace.{moments_events, Goes, traces_same, plan_turns}
-use Rattle.partial_replay.proofs.PortRuns.{PortAt, PortRun, next_at, RunOf, runs_of}
-use Rattle.partial_replay.proofs.PortSteps.{events_steps}
-use Rattle.partial_replay.proofs.TurnLengths.{lengths_same}
 
 -- ---- the words and the trace
 

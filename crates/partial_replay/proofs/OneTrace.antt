@@ -1,8 +1,5 @@
 -- A plan has one trace: each port's next step is told by its machine, its answer by the words, and the next port by the turns.
-use Rattle.partial_replay.proofs.Common.{ℕ, zero, suc, ◌≡◌, ◌≢◌, ◌+◌, ◌-◌, ◌<◌, ◌≤◌, ◌==◌, ◌++◌, min, Bool, true, false, cond, List, [], ◌∷◌, length, map, replicate, Option, Some, None, refl, sym, ◌∙◌, ap, subst, inl, inr, arith, filter, range_with_len, ne_eqb, eqb_tells, sum_by-cons, Step, Event, Leads, answer_of, words_after, step_of, Moment, adds, moments_from, ports_of, events_in, so_many, to_its_end, made_in, left_behind, ports_in, turns_by, turns_of, PlanView, HasTurns, MakeTurns}
-use Rattle.partial_replay.proofs.PortLaws.{same_eqb}
-use Rattle.partial_replay.proofs.TurnLaws.{events_own, events_other}
-use Rattle.partial_replay.proofs.PortRuns.{PortAt, PortRun, port_behind}
+use Rattle.partial_replay.proofs.{Common.{ℕ, zero, suc, ◌≡◌, ◌≢◌, ◌+◌, ◌-◌, ◌<◌, ◌≤◌, ◌==◌, ◌++◌, min, Bool, true, false, cond, List, [], ◌∷◌, length, map, replicate, Option, Some, None, refl, sym, ◌∙◌, ap, subst, inl, inr, arith, filter, range_with_len, ne_eqb, eqb_tells, sum_by-cons, Step, Event, Leads, answer_of, words_after, step_of, Moment, adds, moments_from, ports_of, events_in, so_many, to_its_end, made_in, left_behind, ports_in, turns_by, turns_of, PlanView, HasTurns, MakeTurns}, PortLaws.same_eqb, TurnLaws.{events_own, events_other}, PortRuns.{PortAt, PortRun, port_behind}}
 
 -- the events of port q
 abbrev pub events_of : ℕ → List Event → List Event

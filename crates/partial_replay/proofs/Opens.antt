@@ -1,6 +1,5 @@
 -- A replay as it opens, and what it lists in the end.
-use Rattle.partial_replay.proofs.Common.{ℕ, zero, suc, ◌^◌, append_assoc, ◌≡◌, ◌+◌, ◌<◌, ◌≤◌, ◌++◌, List, [], ◌∷◌, length, take, get_or, Option, Some, None, MatchOption, slice_get, refl, sym, ◌∙◌, ap, subst, arith, map, IfSome, AllByRecursion, Opening, Call, Called, LegalNotes, seen_by, places_written, Layout, IsLayout, pool_base, AreOpeningWords, CoreState, fresh, IsSound, rests_are_sound, Part, fresh_parts, IsBetween, IsMarkedLike, opens_lawful, Port, UnderWay, unfinished_call, AreFinished, IsCallUnderWay, PortFits, notes_in, ends_of, IsCallGoing, HasTurned, steps_under_way, PortsFit, IsRunOf, FreshFrom, AreFreshPorts, AreListed, ArePlans, left_over, calls_in, ArePortsMade, AreStarted, IsSome, zip, append-nil, Applied, HasLeastPlace, Moment, AreStepsOf, BeginInTurns, StopsAtStep, steps_in, EndInStep, AreFew, place_below, filter_map, Event, Leads, Lawful, ReplayState, unvalued, event_entry, moments_by, no_ports, first_port, some_same, PortAt}
-use Rattle.partial_replay.proofs.PortLaws.{some_is, under_way}
+use Rattle.partial_replay.proofs.{Common.{ℕ, zero, suc, ◌^◌, append_assoc, ◌≡◌, ◌+◌, ◌<◌, ◌≤◌, ◌++◌, List, [], ◌∷◌, length, take, get_or, Option, Some, None, MatchOption, slice_get, refl, sym, ◌∙◌, ap, subst, arith, map, IfSome, AllByRecursion, Opening, Call, Called, LegalNotes, seen_by, places_written, Layout, IsLayout, pool_base, AreOpeningWords, CoreState, fresh, IsSound, rests_are_sound, Part, fresh_parts, IsBetween, IsMarkedLike, opens_lawful, Port, UnderWay, unfinished_call, AreFinished, IsCallUnderWay, PortFits, notes_in, ends_of, IsCallGoing, HasTurned, steps_under_way, PortsFit, IsRunOf, FreshFrom, AreFreshPorts, AreListed, ArePlans, left_over, calls_in, ArePortsMade, AreStarted, IsSome, zip, append-nil, Applied, HasLeastPlace, Moment, AreStepsOf, BeginInTurns, StopsAtStep, steps_in, EndInStep, AreFew, place_below, filter_map, Event, Leads, Lawful, ReplayState, unvalued, event_entry, moments_by, no_ports, first_port, some_same, PortAt}, PortLaws.{some_is, under_way}}
 
 -- one fresh port more
 pub fresh_push : (z : Layout) (p : ℕ) (ports : List Port) (port : Port) → FreshFrom z p ports → port.number ≡ p + length ports → port.core ≡ fresh z port.number → port.finished.items ≡ [] →

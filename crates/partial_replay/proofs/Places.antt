@@ -1,8 +1,5 @@
 -- The least place that fits: where a call's note is legal, so is the one that is found from its begin on.
 use Rattle.partial_replay.proofs.Common.{ℕ, zero, suc, ◌≡◌, ◌≢◌, ◌+◌, ◌<◌, ◌≤◌, List, [], ◌∷◌, length, take, get_or, Option, Some, None, IfSome, Contains, slice_get, refl, sym, ◌∙◌, ap, inl, inr, arith, option_map, option_map_or, cases_lt, take-take, Applied, Opening, Call, Answer, Note, HaveDistinctStamps, IsHistory, last_entry, initial_stamp, stamp_of, Fits, IsTrueOf, IsEntryFor, place_of, shown_by, wrote, LastAt, last_at, place_below, AllByRecursion-get, Agrees, IsPlaceFrom, IsNoteFrom, IsLeastFrom, prefix_from}
-use Rattle.partial_model.specs.declared.call.Call.TheVariants as call
-use Rattle.partial_model.specs.declared.call.Note.TheVariants as note
-use Rattle.partial_model.specs.declared.call.Answer.TheVariants as answer
 
 -- the place that is found is one of the history
 pub place_within : (h : List Applied) (began s : ℕ) (found : Option ℕ) → IsPlaceFrom h began s found → IfSome found (λ k. k < length h)
@@ -124,17 +121,17 @@ found_at o h began s k e (Some i) hist behind stands stamp place = ap Some (one_
 
 pub finds_place : (o : Opening) (h : List Applied) (p began : ℕ) (words : List ℕ) (c : Call) (a : Answer) (n : Note) (found : Option Note) → IsHistory o h → Agrees o words h →
     Fits (length o.values) c a (Some n) → IsTrueOf o h p c a n → began ≤ place_of n → IsNoteFrom words h began c a found → FindsPlace o h p began c a n found
-finds_place o h p began words (call.Update j v) (answer.Applied s) (note.Wrote k) found hist agrees fits w behind place =
+finds_place o h p began words (Call.Update j v) (Answer.Applied s) (Note.Wrote k) found hist agrees fits w behind place =
     let is = found_at o h began s k (record { port = p; component = j; value = v; stamp = s }) (place.0) hist behind w refl place.1 in
-    record { note = note.Wrote k; is = place.2 ∙ ap (option_map note.Wrote) is; fits = fits; true' = w; behind = behind; within = omega arith; wrote' = refl; least = tt }
-finds_place o h p began words (call.Update j v) (answer.Lost by) (note.Lost k) found hist agrees fits w behind place =
+    record { note = Note.Wrote k; is = place.2 ∙ ap (option_map Note.Wrote) is; fits = fits; true' = w; behind = behind; within = omega arith; wrote' = refl; least = tt }
+finds_place o h p began words (Call.Update j v) (Answer.Lost by) (Note.Lost k) found hist agrees fits w behind place =
     let is = found_at o h began by k (w.0) (place.0) hist behind (w.1) (w.3) place.1 in
-    record { note = note.Lost k; is = place.2 ∙ ap (option_map note.Lost) is; fits = fits; true' = w; behind = behind; within = omega arith; wrote' = refl; least = tt }
-finds_place o h p began words (call.Read j) (answer.Read v s) (note.Saw n) found hist agrees fits w behind place =
+    record { note = Note.Lost k; is = place.2 ∙ ap (option_map Note.Lost) is; fits = fits; true' = w; behind = behind; within = omega arith; wrote' = refl; least = tt }
+finds_place o h p began words (Call.Read j) (Answer.Read v s) (Note.Saw n) found hist agrees fits w behind place =
     let l = shows_same o h j began n s (place.0) hist behind fits (sym (w.2)) place.1 in
     let m = prefix_from began (place.0) in
     record {
-      note = note.Saw m;
+      note = Note.Saw m;
       is = place.2;
       fits = fits;
       true' = (
@@ -147,14 +144,14 @@ finds_place o h p began words (call.Read j) (answer.Read v s) (note.Saw n) found
       wrote' = refl;
       least = λ i from below shows. least_prefix o h j began s (place.0) hist fits place.1 i from below (sym shows.1);
     }
-finds_place o h p began words (call.UpdateIf j x v) (answer.Applied s) (note.Wrote k) found hist agrees fits w behind place =
+finds_place o h p began words (Call.UpdateIf j x v) (Answer.Applied s) (Note.Wrote k) found hist agrees fits w behind place =
     let is = found_at o h began s k (record { port = p; component = j; value = v; stamp = s }) (place.0) hist behind (w.0) refl place.1 in
-    record { note = note.Wrote k; is = place.2 ∙ ap (option_map note.Wrote) is; fits = fits; true' = w; behind = behind; within = omega arith; wrote' = refl; least = tt }
-finds_place o h p began words (call.UpdateIf j x v) (answer.Changed t) (note.Saw n) found hist agrees fits w behind place =
+    record { note = Note.Wrote k; is = place.2 ∙ ap (option_map Note.Wrote) is; fits = fits; true' = w; behind = behind; within = omega arith; wrote' = refl; least = tt }
+finds_place o h p began words (Call.UpdateIf j x v) (Answer.Changed t) (Note.Saw n) found hist agrees fits w behind place =
     let l = shows_same o h j began n t (place.0) hist behind fits (w.1) place.1 in
     let m = prefix_from began (place.0) in
     record {
-      note = note.Saw m;
+      note = Note.Saw m;
       is = place.2;
       fits = fits;
       true' = (omega (arith, l.least, w.0), ap (λ (f : Option Applied). option_map_or (λ (e : Applied). e.stamp) f (initial_stamp o j)) l.same ∙ w.1, w.2);
@@ -163,12 +160,12 @@ finds_place o h p began words (call.UpdateIf j x v) (answer.Changed t) (note.Saw
       wrote' = refl;
       least = λ i from below shows. least_prefix o h j began t (place.0) hist fits place.1 i from below shows;
     }
-finds_place o h p began words (call.Scan js) (answer.Scanned vs c b) (note.Saw n) found hist agrees fits w behind place =
+finds_place o h p began words (Call.Scan js) (Answer.Scanned vs c b) (Note.Saw n) found hist agrees fits w behind place =
     let l = place.1 o n agrees fits behind w.within w.values in
     let m = place.0 in
     let less : m ≤ n = elim (cases_lt n m) [ inl before ↦ absurd (l.least n behind before w.values) | inr from ↦ from ] in
     record {
-      note = note.Saw m;
+      note = Note.Saw m;
       is = place.2;
       fits = fits;
       true' = record { within = l.within; values = l.holds; collects = w.collects; borrowed = borrowed_from js m n b less w.borrowed };

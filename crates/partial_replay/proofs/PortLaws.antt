@@ -1,9 +1,5 @@
 -- How a port of a replay goes on as its part's port.
 use Rattle.partial_replay.proofs.Common.{ℕ, ◌==◌, ◌≢◌, set, inl, inr, zero, suc, ◌≡◌, ◌+◌, ◌<◌, ◌≤◌, ◌++◌, Bool, true, false, cond, List, [], ◌∷◌, length, take, map, get_or, Option, Some, None, IfSome, IsSomeAnd, MatchOption, slice_get, refl, sym, ◌∙◌, ap, subst, arith, length-append, AllByRecursion, cons_option, option_map, option_map_or, eqb_tells, false≢true, append-nil, length_push, map_push, take-append-le, Applied, Opening, Call, Refused, Answer, Note, Shows, IsLeastFrom, HasLeastPlace, Called, Finish, Noted, LegalNotes, IsLegal, MayBeRefused, seen_by, seen_after, shown_by, place_of, noted_of, places_written, wrote, AllByRecursion-push, LegalNotes-push, LegalNotes-grows, seen_by-push, places_written-push, Step, Layout, answer_of, words_after, Reply, Idle, ReadBegun, UpdateBegun, ScanBegun, Finished, CoreState, at_stage, advance, step_of, reply_at, reply_of, AreComponentIndices, IsSound, IsPossible, begin_scan, is_begun, is_at_rest, makes_steps, call_of, answer_for, begun_of, refusal_of, IsServed, steps_left, most_steps, Part, port_of, IsMachineOf, IsBetween, calls_begin, calls_are_refused_at_once, calls_begin_between, Port, UnderWay, IsRefusedAtOnce, IsFinishedAtOnce, end_of_call, ends_of, IsFinishedCall, AreFinished, notes_in, IsCallUnderWay, PortFits, IsDoneAtOnce, entry_at, one_step_more, IsEndedCall, CallGoesOn, Ends, StepMade, AreFew, place_below, IsSome, Vec, Global, HasBegun, Stage, some_same, Memory, core_behind, PortAt}
-use Rattle.partial_model.specs.declared.call.Call.TheVariants as call
-use Rattle.partial_model.specs.declared.call.Answer.TheVariants as answer
-use Rattle.partial_model.specs.declared.call.Note.TheVariants as note
-use Rattle.partial_machine.specs.declared.stage.Reply.TheVariants as reply
 
 pub same_eqb : (a b : ℕ) → a ≡ b → (a == b) ≡ true
 same_eqb a b h = elim (eqb_tells a b) [ inl w ↦ w.0 | inr w ↦ absurd (w.1 h) ]
@@ -114,9 +110,9 @@ finished_grows n m p k low (c ∷ cs) more w = (w.0, w.1, finished_grows_here n 
 -- the history grows: what a call saw is still the least
 least_from_grows : (o : Opening) (h es : List Applied) (began n : ℕ) (c : Call) (a : Answer) (note : Note) → shown_by note ≤ n → n ≤ length h → IsLeastFrom o h began c a note →
     IsLeastFrom o (h ++ es) began c a note
-least_from_grows o h es began n c a (note.Wrote k) within below w = tt
-least_from_grows o h es began n c a (note.Lost k) within below w = tt
-least_from_grows o h es began n c a (note.Saw m) within below w = λ i from less shows.
+least_from_grows o h es began n c a (Note.Wrote k) within below w = tt
+least_from_grows o h es began n c a (Note.Lost k) within below w = tt
+least_from_grows o h es began n c a (Note.Saw m) within below w = λ i from less shows.
     let front : take i (h ++ es) ≡ take i h = take-append-le i h es (omega (arith, less, within, below)) in
     w i from less (subst (λ (l : List Applied). Shows o l c a) front shows)
 
@@ -268,15 +264,15 @@ begins s c asked served is unreplied =
     let begun : is_begun (begun_of s c).stage ≡ true = b.begun ∙ makes in
     record { begun = begun; due = begun_due (begun_of s c).stage begun; makes = makes; called = b.made makes; few = b.few; sound = b.sound }
   where
-    either : (f : Bool) → makes_steps c ≡ f → (makes_steps c ≡ false → reply_of (begun_of s c) ≡ Some (reply.Scanned 0 None)) → makes_steps c ≡ true
+    either : (f : Bool) → makes_steps c ≡ f → (makes_steps c ≡ false → reply_of (begun_of s c) ≡ Some (Reply.Scanned 0 None)) → makes_steps c ≡ true
     either true e g = e
-    either false e g = let bad : Some (reply.Scanned 0 None) ≡ None = sym (g e) ∙ unreplied in absurd cc
+    either false e g = let bad : Some (Reply.Scanned 0 None) ≡ None = sym (g e) ∙ unreplied in absurd cc
 
 pub begun_sizes : (s : CoreState) (c : Call) → (begun_of s c).sizes ≡ s.sizes
-begun_sizes s (call.Update j v) = refl
-begun_sizes s (call.Scan js) = refl
-begun_sizes s (call.Read j) = refl
-begun_sizes s (call.UpdateIf j x v) = refl
+begun_sizes s (Call.Update j v) = refl
+begun_sizes s (Call.Scan js) = refl
+begun_sizes s (Call.Read j) = refl
+begun_sizes s (Call.UpdateIf j x v) = refl
 
 -- what is between calls
 pub between_of : {o : Opening} {log : List Applied} {calls : List Call} {p : ℕ} {x : Part} {port : Port} → PortFits o log calls p x port → port.under_way ≡ None → IsBetween x port.core
@@ -326,19 +322,19 @@ record OnceEnded (o : Opening) (log : List Applied) (p number low seen : ℕ) (c
   sizes : t.sizes ≡ s.sizes
 
 -- only a scan of no position is finished at once
-pub once_empty : (s : CoreState) (c : Call) (r : Reply) → reply_of (begun_of s c) ≡ Some r → (c ≡ call.Scan []) × (r ≡ reply.Scanned 0 None)
-once_empty s (call.Update j v) r is = let bad : None ≡ Some r = is in cc
-once_empty s (call.Scan js) r is = at (length js == 0) refl
+pub once_empty : (s : CoreState) (c : Call) (r : Reply) → reply_of (begun_of s c) ≡ Some r → (c ≡ Call.Scan []) × (r ≡ Reply.Scanned 0 None)
+once_empty s (Call.Update j v) r is = let bad : None ≡ Some r = is in cc
+once_empty s (Call.Scan js) r is = at (length js == 0) refl
   where
-    at : (b : Bool) → (length js == 0) ≡ b → (call.Scan js ≡ call.Scan []) × (r ≡ reply.Scanned 0 None)
+    at : (b : Bool) → (length js == 0) ≡ b → (Call.Scan js ≡ Call.Scan []) × (r ≡ Reply.Scanned 0 None)
     at true e = (
-      ap call.Scan (no_position js e),
-      (let same : Some (reply.Scanned 0 None) ≡ Some r =
-          ap (λ (b : Bool). reply_at (cond b (Finished (reply.Scanned 0 None)) ScanBegun)) (sym e) ∙ is in cc),
+      ap Call.Scan (no_position js e),
+      (let same : Some (Reply.Scanned 0 None) ≡ Some r =
+          ap (λ (b : Bool). reply_at (cond b (Finished (Reply.Scanned 0 None)) ScanBegun)) (sym e) ∙ is in cc),
     )
-    at false e = let bad : None ≡ Some r = ap (λ (b : Bool). reply_at (cond b (Finished (reply.Scanned 0 None)) ScanBegun)) (sym e) ∙ is in cc
-once_empty s (call.Read j) r is = let bad : None ≡ Some r = is in cc
-once_empty s (call.UpdateIf j x v) r is = let bad : None ≡ Some r = is in cc
+    at false e = let bad : None ≡ Some r = ap (λ (b : Bool). reply_at (cond b (Finished (Reply.Scanned 0 None)) ScanBegun)) (sym e) ∙ is in cc
+once_empty s (Call.Read j) r is = let bad : None ≡ Some r = is in cc
+once_empty s (Call.UpdateIf j x v) r is = let bad : None ≡ Some r = is in cc
 
 once_refused : {o : Opening} {log : List Applied} {p number low seen : ℕ} {call : Call} {c : Called} {s t : CoreState} {x : Part} → IsDoneAtOnce p number call (length log) s t c →
     IsRefusedAtOnce s c t → low ≤ length log → s.sizes.m ≡ length o.values → IsBetween x s → OnceEnded o log p number low seen call c s t x
@@ -346,14 +342,14 @@ once_refused {o} {call} {s} {x} d r behind sizes between =
     let may : MayBeRefused (length o.values) call r.cause = subst (λ m. MayBeRefused m call r.cause) sizes (may_be_refused s call r.cause (ap (refusal_of s) (sym d.call') ∙ r.refused)) in
     record {
       ended = record {
-        answer = answer.Refused r.cause;
+        answer = Answer.Refused r.cause;
         note = None;
         port = d.port;
         number' = d.number';
         call' = d.call';
         behind = let at = d.began in omega (arith, at, behind);
         within = let at = d.began in omega (arith, at);
-        finish = r.finish ∙ ap (λ n. Some (record { ended = n; answer = answer.Refused r.cause; note = None })) d.began;
+        finish = r.finish ∙ ap (λ n. Some (record { ended = n; answer = Answer.Refused r.cause; note = None })) d.began;
         placed = tt;
         legal = (may, tt);
         least = tt;
@@ -367,24 +363,24 @@ once_finished : {o : Opening} {log : List Applied} {p number low seen : ℕ} {ma
     IsFinishedAtOnce s c t → low ≤ length log → seen ≤ low → IsBetween x s → OnceEnded o log p number low seen made c s t x
 once_finished {o} {log} {p} {seen} {made} {c} {s} {t} {x} d f behind earlier between =
     let e = once_empty s c.call f.reply f.replied in
-    let is : made ≡ call.Scan [] = sym d.call' ∙ e.0 in
-    let a : answer_for (begun_of s c.call) f.reply ≡ answer.Scanned [] 0 None = ap (λ (v : Call). answer_for (begun_of s v) f.reply) e.0 ∙ ap (answer_for (begin_scan s [])) e.1 in
+    let is : made ≡ Call.Scan [] = sym d.call' ∙ e.0 in
+    let a : answer_for (begun_of s c.call) f.reply ≡ Answer.Scanned [] 0 None = ap (λ (v : Call). answer_for (begun_of s v) f.reply) e.0 ∙ ap (answer_for (begin_scan s [])) e.1 in
     let at_once = (calls_begin_between x s between).at_once in
     let rests : t ≡ at_stage (begin_scan s []) Idle = f.rests ∙ ap (λ (v : Call). at_stage (begun_of s v) Idle) e.0 in
     let nil : List ℕ = [] in
     record {
       ended = record {
-        answer = answer.Scanned [] 0 None;
-        note = Some (note.Saw (length log));
+        answer = Answer.Scanned [] 0 None;
+        note = Some (Note.Saw (length log));
         port = d.port;
         number' = d.number';
         call' = d.call';
         behind = let at = d.began in omega (arith, at, behind);
         within = let at = d.began in omega (arith, at);
-        finish = f.finish ∙ ap (λ (v : Answer). Some (record { ended = c.began; answer = v; note = Some (note.Saw c.began) })) a ∙
-            ap (λ n. Some (record { ended = n; answer = answer.Scanned [] 0 None; note = Some (note.Saw n) })) d.began;
+        finish = f.finish ∙ ap (λ (v : Answer). Some (record { ended = c.began; answer = v; note = Some (Note.Saw c.began) })) a ∙
+            ap (λ n. Some (record { ended = n; answer = Answer.Scanned [] 0 None; note = Some (Note.Saw n) })) d.began;
         placed = (let at = d.began in omega (arith, at), omega arith);
-        legal = subst (λ (v : Call). IsLegal o log p seen (record { call = v; answer = answer.Scanned [] 0 None; note = Some (note.Saw (length log)) })) (sym is)
+        legal = subst (λ (v : Call). IsLegal o log p seen (record { call = v; answer = Answer.Scanned [] 0 None; note = Some (Note.Saw (length log)) })) (sym is)
             (tt, (record { within = omega arith; values = refl; collects = (refl, refl); borrowed = tt }, omega (arith, earlier, behind)));
         least = λ i from below shows. let at = d.began in omega (arith, at, from, below);
       };
@@ -434,12 +430,12 @@ call_at_place calls done n call same below is = ap (slice_get calls) (sym same) 
 
 -- a machine between calls still has the values of its last scan
 pub answer_idle : (s : CoreState) (r : Reply) → answer_for (at_stage s Idle) r ≡ answer_for s r
-answer_idle s (reply.Applied stamp) = refl
-answer_idle s (reply.Lost by) = refl
-answer_idle s (reply.Scanned collects borrowed) = refl
-answer_idle s (reply.Read v stamp) = refl
-answer_idle s (reply.Refused cause) = refl
-answer_idle s (reply.Changed by) = refl
+answer_idle s (Reply.Applied stamp) = refl
+answer_idle s (Reply.Lost by) = refl
+answer_idle s (Reply.Scanned collects borrowed) = refl
+answer_idle s (Reply.Read v stamp) = refl
+answer_idle s (Reply.Refused cause) = refl
+answer_idle s (Reply.Changed by) = refl
 
 -- a step that ends its call
 pub step_ended : (calls : List Call) (old now : Memory) (port new : Port) (step : Step) (way : UnderWay) (a : ℕ) (core' core'' : CoreState) (r : Reply) (call : Call) (called : Called) →

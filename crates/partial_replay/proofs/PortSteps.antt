@@ -1,8 +1,5 @@
 -- The events of a port are the steps of its calls.
-use Rattle.partial_replay.proofs.Common.{ℕ, ◌≢◌, ◌≤◌, suc, ◌≡◌, ◌+◌, ◌<◌, ◌==◌, ◌++◌, Bool, true, false, cond, List, [], ◌∷◌, length, map, set, Option, Some, None, IfSome, MatchOption, slice_get, refl, sym, ◌∙◌, ap, subst, arith, append_assoc, length-append, AllByRecursion, filter, filter_map, cons_option, sum_by, option_map, is_some, IsSome, append-nil, length_push, length-map, sum_by-cons, false≢true, ne_eqb, filter-append, Applied, Call, Called, Finish, Opening, Step, Event, Layout, word_of, Reply, Idle, Finished, CoreState, at_stage, advance, step_of, reply_at, reply_of, fresh, IsPossible, Part, IsBetween, answer_for, is_at_rest, begun_of, refusal_of, Port, UnderWay, Moment, last_behind, adds, is_won, new_of, event_entry, moments_from, moments_by, ports_of, events_in, EndInStep, Makes, IsCallRun, AreStepsOf, IsCallUnderWay, PortFits, IsCallGoing, PortMade, KeepsMade, unfinished_call, began_at, IsDoneAtOnce, ended_call, one_step_more, CallGoesOn, Ends, StepMade, ArePortsMade, AreStarted, AreStartedBut, left_over, unvalued, StopsAtStep, Stage, some_same, Memory, core_behind, event_of, ReplayState, PortAt}
-use Rattle.partial_replay.proofs.PortLaws.{same_eqb, get_set_other, port_set, at_set, step_cases}
-use Rattle.partial_replay.proofs.Opens.{over_none}
-use Rattle.partial_replay.proofs.LegalOutcomes.{begun_by}
+use Rattle.partial_replay.proofs.{Common.{ℕ, ◌≢◌, ◌≤◌, suc, ◌≡◌, ◌+◌, ◌<◌, ◌==◌, ◌++◌, Bool, true, false, cond, List, [], ◌∷◌, length, map, set, Option, Some, None, IfSome, MatchOption, slice_get, refl, sym, ◌∙◌, ap, subst, arith, append_assoc, length-append, AllByRecursion, filter, filter_map, cons_option, sum_by, option_map, is_some, IsSome, append-nil, length_push, length-map, sum_by-cons, false≢true, ne_eqb, filter-append, Applied, Call, Called, Finish, Opening, Step, Event, Layout, word_of, Reply, Idle, Finished, CoreState, at_stage, advance, step_of, reply_at, reply_of, fresh, IsPossible, Part, IsBetween, answer_for, is_at_rest, begun_of, refusal_of, Port, UnderWay, Moment, last_behind, adds, is_won, new_of, event_entry, moments_from, moments_by, ports_of, events_in, EndInStep, Makes, IsCallRun, AreStepsOf, IsCallUnderWay, PortFits, IsCallGoing, PortMade, KeepsMade, unfinished_call, began_at, IsDoneAtOnce, ended_call, one_step_more, CallGoesOn, Ends, StepMade, ArePortsMade, AreStarted, AreStartedBut, left_over, unvalued, StopsAtStep, Stage, some_same, Memory, core_behind, event_of, ReplayState, PortAt}, PortLaws.{same_eqb, get_set_other, port_set, at_set, step_cases}, Opens.over_none, LegalOutcomes.begun_by}
 
 -- one call more
 pub steps_push : (s t u : CoreState) (cs : List Called) (c : Called) (xs own : List Moment) → AreStepsOf s cs xs t → IsCallRun t c own u → length own ≡ c.steps →

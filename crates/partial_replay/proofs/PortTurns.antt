@@ -1,8 +1,5 @@
 -- A port begins its calls in its turns.
-use Rattle.partial_replay.proofs.Common.{ℕ, ◌≡◌, ◌+◌, ◌<◌, ◌++◌, List, [], ◌∷◌, length, slice_get, Option, Some, None, IfSome, sym, ◌∙◌, ap, subst, arith, append-nil, length_push, sum_by_push, Call, Called, slice_get_grows, slice_get_last, answer_for, Port, UnderWay, HasTurned, steps_under_way, one_step_more, ended_call, unfinished_call, StepMade, core_behind, left_over, BeginInTurns, steps_in, Memory}
-use Rattle.partial_replay.proofs.PortLaws.{step_cases}
-use Rattle.partial_replay.proofs.TurnLengths.{begin_longer, begin_push}
-use Rattle.partial_replay.proofs.LegalOutcomes.{begun_by}
+use Rattle.partial_replay.proofs.{Common.{ℕ, ◌≡◌, ◌+◌, ◌<◌, ◌++◌, List, [], ◌∷◌, length, slice_get, Option, Some, None, IfSome, sym, ◌∙◌, ap, subst, arith, append-nil, length_push, sum_by_push, Call, Called, slice_get_grows, slice_get_last, answer_for, Port, UnderWay, HasTurned, steps_under_way, one_step_more, ended_call, unfinished_call, StepMade, core_behind, left_over, BeginInTurns, steps_in, Memory}, PortLaws.step_cases, TurnLengths.{begin_longer, begin_push}, LegalOutcomes.begun_by}
 
 way_longer : (ls more : List ℕ) (k : ℕ) (way : Option UnderWay) → IfSome way (λ (v : UnderWay). slice_get ls k ≡ Some v.began) → IfSome way (λ (v : UnderWay). slice_get (ls ++ more) k ≡ Some v.began)
 way_longer ls more k None w = tt

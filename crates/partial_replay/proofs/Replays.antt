@@ -1,13 +1,5 @@
 -- What a replay has come to is an outcome of its plan.
-use Rattle.partial_replay.proofs.Common.{ℕ, Bool, true, false, cond, zero, suc, ◌⊎◌, ◌≡◌, ◌<◌, ◌≤◌, ◌==◌, List, [], ◌∷◌, length, map, take, get_or, Some, slice_get, refl, sym, ◌∙◌, ap, subst, inl, inr, arith, filter_map, sum_by, AllByRecursion, get_or_from_slice_get, Applied, Opening, Call, Called, LegalOutcome, Event, Layout, pool_base, record_value, Leads, Agrees, AreOpeningWords, sum_by-cons, PlanView, CoreState, fresh, AreStepsOf, most_steps, Port, Run, HasLeastPlace, event_entry, moments_from, moments_by, ports_of, events_in, turns_of, turns_by, ports_in, lengths_in, BeginInTurns, calls_by, steps_by, AreFirstOf, AreAllMade, EndInStep, HaveMade, AreFew, IsReplayOf, turn_lengths, AreStarted, IsRunOf, TellsOutcome, calls_in, StopsAtStep, StopAtSteps, IsPortDone, BeganInTurns, lengths_so_far, lawful_ports_fit, place_below, Outcome, ReplayState, PortAt, HasReplayed}
-use Rattle.partial_replay.proofs.PortSteps.{ending_begun, steps_begun, events_steps, none_moments}
-use Rattle.partial_replay.proofs.RunLaws.{PartAt}
-use Rattle.partial_replay.proofs.RunSteps.{ports_length, part_at}
-use Rattle.partial_replay.proofs.LegalOutcomes.{begun_by, few_told, least_told, run_legal, listed_at, none_listed, first_begun, all_made}
-use Rattle.partial_replay.proofs.TurnLaws.{follows_ports, turns_told}
-use Rattle.partial_replay.proofs.TurnLengths.{lengths_same}
-use Rattle.partial_replay.proofs.PortTurns.{turns_over}
-use Rattle.partial_replay.proofs.Traces.{entries_told}
+use Rattle.partial_replay.proofs.{Common.{ℕ, Bool, true, false, cond, zero, suc, ◌⊎◌, ◌≡◌, ◌<◌, ◌≤◌, ◌==◌, List, [], ◌∷◌, length, map, take, get_or, Some, slice_get, refl, sym, ◌∙◌, ap, subst, inl, inr, arith, filter_map, sum_by, AllByRecursion, get_or_from_slice_get, Applied, Opening, Call, Called, LegalOutcome, Event, Layout, pool_base, record_value, Leads, Agrees, AreOpeningWords, sum_by-cons, PlanView, CoreState, fresh, AreStepsOf, most_steps, Port, Run, HasLeastPlace, event_entry, moments_from, moments_by, ports_of, events_in, turns_of, turns_by, ports_in, lengths_in, BeginInTurns, calls_by, steps_by, AreFirstOf, AreAllMade, EndInStep, HaveMade, AreFew, IsReplayOf, turn_lengths, AreStarted, IsRunOf, TellsOutcome, calls_in, StopsAtStep, StopAtSteps, IsPortDone, BeganInTurns, lengths_so_far, lawful_ports_fit, place_below, Outcome, ReplayState, PortAt, HasReplayed}, PortSteps.{ending_begun, steps_begun, events_steps, none_moments}, RunLaws.PartAt, RunSteps.{ports_length, part_at}, LegalOutcomes.{begun_by, few_told, least_told, run_legal, listed_at, none_listed, first_begun, all_made}, TurnLaws.{follows_ports, turns_told}, TurnLengths.lengths_same, PortTurns.turns_over, Traces.entries_told}
 
 -- a place of a list is in it or behind it
 pub at_place : {A : Type 0} (xs : List A) (i : ℕ) → ((x : A) × (slice_get xs i ≡ Some x)) ⊎ (length xs ≤ i)

@@ -1,14 +1,6 @@
 -- A step of a port keeps a replay's state lawful.
-use Rattle.partial_replay.proofs.Common.{ℕ, ◌≡◌, ◌<◌, ◌≤◌, ◌++◌, Bool, true, false, cond, List, [], ◌∷◌, length, Option, Some, None, IfSome, MatchOption, slice_get, inr, refl, sym, ◌∙◌, ap, subst, arith, length-append, append-nil, length-map, Applied, Opening, Call, Refused, Note, Called, Noted, LegalNotes, IsLegal, MayBeRefused, seen_by, shown_by, place_of, Fits, IsTrueOf, places_written, wrote, places_written-append, AllByRecursion-push, AllByRecursion-weaker, LegalNotes-last, Step, Event, Layout, Answers, Leads, answer_of, words_after, Reply, Idle, CoreState, at_stage, scanned_values, advance, step_of, reply_of, IsSound, rests_are_sound, steps_left, most_steps, Part, KeptAnswer, core_of, port_of, IsBetween, IsMarkedLike, first_at, is_begun, is_at_rest, call_of, answer_for, Port, UnderWay, ends_of, notes_in, IsCallUnderWay, PortFits, AreWithin, ScanHasValues, MayAnswer, one_step_more, ended_call, CallGoesOn, Ends, AreFew, IsNoteFrom, IsLeastFrom, view_word, lawful_records_are_within, initial_stamp, AllByRecursion, value_word, is_some, Lawful, begun_with, kept_with, added_by, LeadsOn, IsNoteOf, IsRefusal, AreNotesOf, set, steps_stay_lawful, ReplayState, PortsFit}
-use Rattle.partial_model.specs.declared.call.Answer.TheVariants as answer
-use Rattle.partial_model.specs.declared.call.Call.TheVariants as call
-use Rattle.partial_model.specs.declared.call.Note.TheVariants as note
-use Rattle.partial_machine.specs.declared.stage.Reply.TheVariants as reply
-use Rattle.partial_core.specs.Lawful.{LawfulAmong}
-use Rattle.partial_core.specs.Part.{PartAmong}
-use Rattle.partial_replay.proofs.ScanPlaces.{has_records, has_record}
-use Rattle.partial_replay.proofs.Places.{finds_place}
-use Rattle.partial_replay.proofs.PortLaws.{some_is, DoneFits, EndedCall, done_of, done_grows, push_fits, fits_with, under_way}
+use Rattle.partial_replay.proofs.{Common.{ℕ, ◌≡◌, ◌<◌, ◌≤◌, ◌++◌, Bool, true, false, cond, List, [], ◌∷◌, length, Option, Some, None, IfSome, MatchOption, slice_get, inr, refl, sym, ◌∙◌, ap, subst, arith, length-append, append-nil, length-map, Applied, Opening, Call, Refused, Note, Called, Noted, LegalNotes, IsLegal, MayBeRefused, seen_by, shown_by, place_of, Fits, IsTrueOf, places_written, wrote, places_written-append, AllByRecursion-push, AllByRecursion-weaker, LegalNotes-last, Step, Event, Layout, Answers, Leads, answer_of, words_after, Reply, Idle, CoreState, at_stage, scanned_values, advance, step_of, reply_of, IsSound, rests_are_sound, steps_left, most_steps, Part, KeptAnswer, core_of, port_of, IsBetween, IsMarkedLike, first_at, is_begun, is_at_rest, call_of, answer_for, Port, UnderWay, ends_of, notes_in, IsCallUnderWay, PortFits, AreWithin, ScanHasValues, MayAnswer, one_step_more, ended_call, CallGoesOn, Ends, AreFew, IsNoteFrom, IsLeastFrom, view_word, lawful_records_are_within, initial_stamp, AllByRecursion, value_word, is_some, Lawful, begun_with, kept_with, added_by, LeadsOn, IsNoteOf, IsRefusal, AreNotesOf, set, steps_stay_lawful, ReplayState, PortsFit, Answer}, ScanPlaces.{has_records, has_record}, Places.finds_place, PortLaws.{some_is, DoneFits, EndedCall, done_of, done_grows, push_fits, fits_with, under_way}}
+use Rattle.partial_core.specs.{Lawful.LawfulAmong, Part.PartAmong}
 
 -- the due step of a machine that isn't at rest
 pub due_step : (s : CoreState) → is_some (step_of s) ≡ true → (step : Step) × (step_of s ≡ Some step)
@@ -40,14 +32,14 @@ lawful_within z o words parts log w =
     }
 
 -- only a scan answers values: those of components that are there
-scan_values : (o : Opening) (h : List Applied) (p m : ℕ) (c : Call) (vs : List ℕ) (k : ℕ) (b : Option ℕ) (n : Note) → Fits m c (answer.Scanned vs k b) (Some n) →
-    IsTrueOf o h p c (answer.Scanned vs k b) n → ScanHasValues m c vs
-scan_values o h p m (call.Scan js) vs k b (note.Saw n) fits is = (fits, ap length is.values ∙ length-map js _)
-scan_values o h p m (call.Scan js) vs k b (note.Wrote n) fits is = absurd is
-scan_values o h p m (call.Scan js) vs k b (note.Lost n) fits is = absurd is
-scan_values o h p m (call.Update j v) vs k b n fits is = absurd is
-scan_values o h p m (call.Read j) vs k b n fits is = absurd is
-scan_values o h p m (call.UpdateIf j x v) vs k b n fits is = absurd is
+scan_values : (o : Opening) (h : List Applied) (p m : ℕ) (c : Call) (vs : List ℕ) (k : ℕ) (b : Option ℕ) (n : Note) → Fits m c (Answer.Scanned vs k b) (Some n) →
+    IsTrueOf o h p c (Answer.Scanned vs k b) n → ScanHasValues m c vs
+scan_values o h p m (Call.Scan js) vs k b (Note.Saw n) fits is = (fits, ap length is.values ∙ length-map js _)
+scan_values o h p m (Call.Scan js) vs k b (Note.Wrote n) fits is = absurd is
+scan_values o h p m (Call.Scan js) vs k b (Note.Lost n) fits is = absurd is
+scan_values o h p m (Call.Update j v) vs k b n fits is = absurd is
+scan_values o h p m (Call.Read j) vs k b n fits is = absurd is
+scan_values o h p m (Call.UpdateIf j x v) vs k b n fits is = absurd is
 
 -- the memory of a replay, with a port's part between those of the others
 abbrev pub among : ReplayState → List Part → Part → List Part → PartAmong
@@ -204,22 +196,22 @@ module _ {plans : List (List Call)} {s : ReplayState} {p : ℕ} {calls : List Ca
     same_call : (c : Call) → call_of y.begun ≡ Some c → c ≡ u.call
     same_call c made = let two : Some c ≡ Some (u.call) = sym made ∙ ap call_of begun_y ∙ u.begun in cc
 
-    refused_fits_step : (cause : Refused) → new.number ≡ port.number → steps_left core2 < steps_left port.core → reply_of core2 ≡ Some (reply.Refused cause) →
-        Ends calls words2 log2 port new way core2 (reply.Refused cause) → IsRefusal y cause leads.tells.new → PortFits o log2 calls p y new
+    refused_fits_step : (cause : Refused) → new.number ≡ port.number → steps_left core2 < steps_left port.core → reply_of core2 ≡ Some (Reply.Refused cause) →
+        Ends calls words2 log2 port new way core2 (Reply.Refused cause) → IsRefusal y cause leads.tells.new → PortFits o log2 calls p y new
     refused_fits_step cause number falls replied e n =
-        let call' : n.call ≡ e.call = same_call n.call n.made ∙ call_under_way (reply.Refused cause) e in
+        let call' : n.call ≡ e.call = same_call n.call n.made ∙ call_under_way (Reply.Refused cause) e in
         let m : (y.begun).sizes.m ≡ length o.values = ap (λ (t : Layout). t.m) leads.tells.begun_sizes ∙ sym (leads.lawful.memory.values) in
         let may : MayBeRefused (length o.values) (e.call) cause = subst (λ (k : ℕ). MayBeRefused k (e.call) cause) m (subst (λ (c : Call). MayBeRefused (y.begun).sizes.m c cause) call' n.may) in
         let more = longer in
-        ends_fits (reply.Refused cause) [] number falls replied e n.none (record {
-          answer = answer.Refused cause;
+        ends_fits (Reply.Refused cause) [] number falls replied e n.none (record {
+          answer = Answer.Refused cause;
           note = None;
           port = w.number;
           number' = refl;
           call' = refl;
           behind = u.behind;
           within = omega (arith, more, u.within);
-          finish = ap (λ (f : Option Note). Some (record { ended = length log2; answer = answer.Refused cause; note = f })) e.noted;
+          finish = ap (λ (f : Option Note). Some (record { ended = length log2; answer = Answer.Refused cause; note = f })) e.noted;
           placed = tt;
           legal = (may, tt);
           least = tt;
@@ -267,12 +259,12 @@ module _ {plans : List (List Call)} {s : ReplayState} {p : ℕ} {calls : List Ca
 
     replied_fits : (r : Reply) → new.number ≡ port.number → steps_left core2 < steps_left port.core → reply_of core2 ≡ Some r → Ends calls words2 log2 port new way core2 r →
         AreNotesOf o y (Some r) leads.tells.new → PortFits o log2 calls p y new
-    replied_fits (reply.Refused cause) number falls replied e n = refused_fits_step cause number falls replied e n
-    replied_fits (reply.Applied s) number falls replied e n = noted_fits (reply.Applied s) number falls replied e n
-    replied_fits (reply.Lost by) number falls replied e n = noted_fits (reply.Lost by) number falls replied e n
-    replied_fits (reply.Scanned k b) number falls replied e n = noted_fits (reply.Scanned k b) number falls replied e n
-    replied_fits (reply.Read v s) number falls replied e n = noted_fits (reply.Read v s) number falls replied e n
-    replied_fits (reply.Changed by) number falls replied e n = noted_fits (reply.Changed by) number falls replied e n
+    replied_fits (Reply.Refused cause) number falls replied e n = refused_fits_step cause number falls replied e n
+    replied_fits (Reply.Applied s) number falls replied e n = noted_fits (Reply.Applied s) number falls replied e n
+    replied_fits (Reply.Lost by) number falls replied e n = noted_fits (Reply.Lost by) number falls replied e n
+    replied_fits (Reply.Scanned k b) number falls replied e n = noted_fits (Reply.Scanned k b) number falls replied e n
+    replied_fits (Reply.Read v s) number falls replied e n = noted_fits (Reply.Read v s) number falls replied e n
+    replied_fits (Reply.Changed by) number falls replied e n = noted_fits (Reply.Changed by) number falls replied e n
 
     pub step_fits : (found : Option Reply) → reply_of core2 ≡ found → new.number ≡ port.number → steps_left core2 < steps_left port.core → MatchOption found (CallGoesOn port new way core2)
         (Ends calls words2 log2 port new way core2) → PortFits o log2 calls p leads.y new
@@ -281,15 +273,15 @@ module _ {plans : List (List Call)} {s : ReplayState} {p : ℕ} {calls : List Ca
 
     -- the answer of a call that ends is one that it may have
     answer_may : (r : Reply) → AreNotesOf o y (Some r) leads.tells.new → MayAnswer port.core.sizes.m u.call (answer_for core2 r)
-    answer_may (reply.Scanned k b) n =
-        let legal = legal_y (reply.Scanned k b) n in
+    answer_may (Reply.Scanned k b) n =
+        let legal = legal_y (Reply.Scanned k b) n in
         let values = scan_values o log2 p (length o.values) n.call (scanned_values core2) k b n.note legal.0 (legal.1.0) in
         subst (λ m. ScanHasValues m u.call (scanned_values core2)) (sym w.sizes) (subst (λ (c : Call). ScanHasValues (length o.values) c (scanned_values core2)) (same_call n.call n.made) values)
-    answer_may (reply.Applied s) n = tt
-    answer_may (reply.Lost by) n = tt
-    answer_may (reply.Read v s) n = tt
-    answer_may (reply.Refused cause) n = tt
-    answer_may (reply.Changed by) n = tt
+    answer_may (Reply.Applied s) n = tt
+    answer_may (Reply.Lost by) n = tt
+    answer_may (Reply.Read v s) n = tt
+    answer_may (Reply.Refused cause) n = tt
+    answer_may (Reply.Changed by) n = tt
 
     ends_may : (found : Option Reply) → AreNotesOf o y found leads.tells.new → IfSome found (λ r. MayAnswer port.core.sizes.m u.call (answer_for core2 r))
     ends_may None n = tt

@@ -1,11 +1,6 @@
 -- A turn of a port among the others.
-use Rattle.partial_replay.proofs.Common.{ℕ, zero, suc, ◌≡◌, ◌+◌, ◌-◌, ◌*◌, ◌<◌, ◌≤◌, ◌==◌, ◌++◌, Bool, true, false, cond, not, List, [], ◌∷◌, length, get_or, set, Option, Some, None, MatchOption, MatchBool, nat_lt, ◌^◌, slice_get, Result, Ok, Err, OnOk, refl, sym, ◌∙◌, ap, subst, arith, length-append, get_or-set_other, mul-le-mul, mul-suc, option_map_or, is_some, IsSome, false≢true, ltb-true, append-nil, length_push, Applied, Opening, Call, Called, LegalNotes-grows, AllByRecursion-get, AllByRecursion-push, Step, Event, Layout, IsLayout, Leads, answer_of, words_after, record_value, view_word, Idle, CoreState, reply_of, steps_left, most_of_update, most_steps, Part, port_of, IsBetween, answer_for, IsServed, lawful_machines_are_ready, lawful_records_are_within, Port, UnderWay, KeepsMade, IsExchangeWithin, AreWithin, notes_in, IsCallUnderWay, PortFits, core_behind, entry_at, one_step_more, ended_call, CallGoesOn, Ends, StepMade, MayStep, KeepsFit, AreStartedBut, ArePlans, PortsFit, IsRunOf, left_for, port_left, port_left_at, AllByRecursion, place_below, value_word, Load, Store, Exchange, Add, Lawful, added_by, PublishesWithin, some_same, step_of, Memory, Run, event_of, ReplayState, state_of, PortAt, IsTurnReady, no_ports, first_port}
+use Rattle.partial_replay.proofs.{Common.{ℕ, zero, suc, ◌≡◌, ◌+◌, ◌-◌, ◌*◌, ◌<◌, ◌≤◌, ◌==◌, ◌++◌, Bool, true, false, cond, not, List, [], ◌∷◌, length, get_or, set, Option, Some, None, MatchOption, MatchBool, nat_lt, ◌^◌, slice_get, Result, Ok, Err, OnOk, refl, sym, ◌∙◌, ap, subst, arith, length-append, get_or-set_other, mul-le-mul, mul-suc, option_map_or, is_some, IsSome, false≢true, ltb-true, append-nil, length_push, Applied, Opening, Call, Called, LegalNotes-grows, AllByRecursion-get, AllByRecursion-push, Step, Event, Layout, IsLayout, Leads, answer_of, words_after, record_value, view_word, Idle, CoreState, reply_of, steps_left, most_of_update, most_steps, Part, port_of, IsBetween, answer_for, IsServed, lawful_machines_are_ready, lawful_records_are_within, Port, UnderWay, KeepsMade, IsExchangeWithin, AreWithin, notes_in, IsCallUnderWay, PortFits, core_behind, entry_at, one_step_more, ended_call, CallGoesOn, Ends, StepMade, MayStep, KeepsFit, AreStartedBut, ArePlans, PortsFit, IsRunOf, left_for, port_left, port_left_at, AllByRecursion, place_below, value_word, Load, Store, Exchange, Add, Lawful, added_by, PublishesWithin, some_same, step_of, Memory, Run, event_of, ReplayState, state_of, PortAt, IsTurnReady, no_ports, first_port}, PortLaws.{least_grow, finished_grows, get_is, between_of, under_way, step_cases}, RunLaws.{PartAt, among, due_step, lawful_within, leads, leads_push, step_fits, end_may}, PortSteps.{ports_step, ports_begin, log_long}, Traces.entries_push}
 use Rattle.std.proofs.Math.Nat.{mul-le-mul_left}
-use Rattle.partial_model.specs.declared.call.Call.TheVariants as call
-use Rattle.partial_replay.proofs.PortLaws.{least_grow, finished_grows, get_is, between_of, under_way, step_cases}
-use Rattle.partial_replay.proofs.RunLaws.{PartAt, among, due_step, lawful_within, leads, leads_push, step_fits, end_may}
-use Rattle.partial_replay.proofs.PortSteps.{ports_step, ports_begin, log_long}
-use Rattle.partial_replay.proofs.Traces.{entries_push}
 
 -- another port's history grows
 way_grows : (log es : List Applied) (calls : List Call) (x : Part) (core : CoreState) (done : List Called) (way : Option UnderWay) → MatchOption way (IsBetween x core)
@@ -167,15 +162,15 @@ due_adds {s} {port} at was step due =
     subst (λ (n : ℕ). StepAdds z n words step port.number) (ap (λ (y : Layout). y.m) (sym l.tells.sizes)) (subst (StepAdds z z.m words step) (at.fits.part ∙ sym at.fits.number) own)
 
 -- fewer positions, fewer steps: a scan makes no more than an update
-most_of_scan : (z : Layout) (js : List ℕ) → length js ≤ z.m → most_steps z (call.Scan js) ≤ most_of_update z
+most_of_scan : (z : Layout) (js : List ℕ) → length js ≤ z.m → most_steps z (Call.Scan js) ≤ most_of_update z
 most_of_scan z [] few = omega arith
 most_of_scan z (j ∷ js) few = let times = mul-le-mul few (let more : length (j ∷ js) + 2 ≤ z.m + 2 = omega (arith, few) in more) in omega (arith, few, times)
 
 most_of_call : (z : Layout) (c : Call) → IsServed z.m c → most_steps z c ≤ most_of_update z
-most_of_call z (call.Update j v) served = omega arith
-most_of_call z (call.Scan js) served = most_of_scan z js served
-most_of_call z (call.Read j) served = omega arith
-most_of_call z (call.UpdateIf j x v) served = omega arith
+most_of_call z (Call.Update j v) served = omega arith
+most_of_call z (Call.Scan js) served = most_of_scan z js served
+most_of_call z (Call.Read j) served = omega arith
+most_of_call z (Call.UpdateIf j x v) served = omega arith
 
 -- no call makes more steps than 64 bits tell
 update_fits : (z : Layout) → IsLayout z → most_of_update z + 1 < 2 ^ 64

@@ -1,10 +1,5 @@
 -- The turns of a replay, and the calls that the ports begin in them.
-use Rattle.partial_replay.proofs.Common.{ℕ, suc, ◌≡◌, ◌+◌, ◌-◌, ◌<◌, ◌≤◌, ◌==◌, ◌++◌, Bool, true, false, cond, List, [], ◌∷◌, length, map, set, replicate, Option, Some, None, MatchOption, refl, sym, ◌∙◌, ap, subst, inl, inr, arith, append_assoc, append-nil, length-map, length-replicate, map-append, eqb_tells, Call, Event, Layout, Port, Run, Moment, moments_from, last_behind, ports_of, events_in, idle_in, lengths_of, lengths_in, HasTurned, StepMade, IsTurnReady, ChangesPortsOnly, IsSameOpening, IsPortDone, StayDone, StayStopped, StayStoppedBut, StayStoppedWith, GoesOnBy, BeganInTurns, own_turns, BeginsIn, StepsIn, GoesOnIn, moments_behind, TurnMade, StepsMade, TurnsMade, MakeTurns, HasMadeTurns, lengths_so_far, HaveBegun, Memory, state_of, PortAt, IsRunOf, Opening, PlanView, IsBetweenTurns, HasReplayed}
-use Rattle.partial_replay.proofs.PortLaws.{at_set, same_at}
-use Rattle.partial_replay.proofs.PortSteps.{log_long}
-use Rattle.partial_replay.proofs.TurnLaws.{ready_done, by_more, followed, last_turns}
-use Rattle.partial_replay.proofs.TurnLengths.{ports_at, befores_of, ports_moments, moments-append, behind-append, own_is, own_other, own_more, lengths_push}
-use Rattle.partial_replay.proofs.PortTurns.{turns_idle, turn_steps}
+use Rattle.partial_replay.proofs.{Common.{ℕ, suc, ◌≡◌, ◌+◌, ◌-◌, ◌<◌, ◌≤◌, ◌==◌, ◌++◌, Bool, true, false, cond, List, [], ◌∷◌, length, map, set, replicate, Option, Some, None, MatchOption, refl, sym, ◌∙◌, ap, subst, inl, inr, arith, append_assoc, append-nil, length-map, length-replicate, map-append, eqb_tells, Call, Event, Layout, Port, Run, Moment, moments_from, last_behind, ports_of, events_in, idle_in, lengths_of, lengths_in, HasTurned, StepMade, IsTurnReady, ChangesPortsOnly, IsSameOpening, IsPortDone, StayDone, StayStopped, StayStoppedBut, StayStoppedWith, GoesOnBy, BeganInTurns, own_turns, BeginsIn, StepsIn, GoesOnIn, moments_behind, TurnMade, StepsMade, TurnsMade, MakeTurns, HasMadeTurns, lengths_so_far, HaveBegun, Memory, state_of, PortAt, IsRunOf, Opening, PlanView, IsBetweenTurns, HasReplayed}, PortLaws.{at_set, same_at}, PortSteps.log_long, TurnLaws.{ready_done, by_more, followed, last_turns}, TurnLengths.{ports_at, befores_of, ports_moments, moments-append, behind-append, own_is, own_other, own_more, lengths_push}, PortTurns.{turns_idle, turn_steps}}
 
 -- how long the history is behind further events
 long_behind : (plans : List (List Call)) (p n : ℕ) (old new : Run) → IsRunOf plans (state_of old) → IsRunOf plans (state_of new) → IsSameOpening old new → (g : GoesOnBy n p old new) →

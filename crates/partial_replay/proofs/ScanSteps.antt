@@ -1,14 +1,8 @@
 -- The answered scans of a replay make their steps.
-use Rattle.partial_replay.proofs.Common.{ℕ, zero, suc, ◌≡◌, ◌<◌, ◌++◌, Bool, cond, List, [], ◌∷◌, length, map, get_or, Option, Some, None, refl, sym, ◌∙◌, ap, subst, inl, inr, arith, AllByRecursion, option_map, eqb_tells, length-map, Call, Called, Finish, all_take, Layout, IsLayout, Reply, Idle, ScanBegun, Finished, CoreState, at_stage, advance, reply_of, fresh, IsSound, begin_scan, answer_for, begun_of, IsServed, answers_lead_on, due_is_unreplied, rests_are_sound, stays_sound, scans_make_their_steps, PlanView, IsPlan, IsCall, Moment, moments_by, Makes, IsCallRun, HasSteps, AreStepsOf, calls_by}
-use Rattle.partial_model.specs.declared.call.Call.TheVariants as call
-use Rattle.partial_model.specs.declared.call.Answer.TheVariants as answer
-use Rattle.partial_machine.specs.declared.stage.Reply.TheVariants as reply
+use Rattle.partial_replay.proofs.{Common.{ℕ, zero, suc, ◌≡◌, ◌<◌, ◌++◌, Bool, cond, List, [], ◌∷◌, length, map, get_or, Option, Some, None, refl, sym, ◌∙◌, ap, subst, inl, inr, arith, AllByRecursion, option_map, eqb_tells, length-map, Call, Called, Finish, all_take, Layout, IsLayout, Reply, Idle, ScanBegun, Finished, CoreState, at_stage, advance, reply_of, fresh, IsSound, begin_scan, answer_for, begun_of, IsServed, answers_lead_on, due_is_unreplied, rests_are_sound, stays_sound, scans_make_their_steps, PlanView, IsPlan, IsCall, Moment, moments_by, Makes, IsCallRun, HasSteps, AreStepsOf, calls_by, Answer}, PortLaws.{Begins, begins, begun_sizes, once_empty}, StepsOf.{IsCut, steps_cut}, Plans.served}
 use Rattle.partial_machine.specs.Steps.{Run, AreOfScan, pairs_loaded}
 use Rattle.partial_machine.proofs.Behind.{run_sizes}
 use Rattle.partial_replay.specs.ScanSteps.{moment_answers, events_in_front, own_events, IsOfItsScan, AnsweredScansMakeTheirSteps}
-use Rattle.partial_replay.proofs.PortLaws.{Begins, begins, begun_sizes, once_empty}
-use Rattle.partial_replay.proofs.StepsOf.{IsCut, steps_cut}
-use Rattle.partial_replay.proofs.Plans.{served}
 
 -- the events are answers that lead the machine on
 run_of : (s t : CoreState) (xs : List Moment) → Makes s xs t → Run s (moment_answers xs) t
@@ -64,31 +58,31 @@ call_sound z s t c (x ∷ xs) layout sizes w served h =
     (subst IsSound (sym h.rests) (rests_are_sound.idle h.last r.last_sound), ap (λ (v : CoreState). v.sizes) h.rests ∙ r.last_sizes)
 
 -- the reply behind the answer of a scan
-scan_replied : (s : CoreState) (f : Option Reply) (vs : List ℕ) (k : ℕ) (b : Option ℕ) → option_map (answer_for s) f ≡ Some (answer.Scanned vs k b) → f ≡ Some (reply.Scanned k b)
-scan_replied s None vs k b e = let bad : None ≡ Some (answer.Scanned vs k b) = e in cc
-scan_replied s (Some (reply.Applied stamp)) vs k b e = let bad : Some (answer.Applied stamp) ≡ Some (answer.Scanned vs k b) = e in cc
-scan_replied s (Some (reply.Lost by)) vs k b e = let bad : Some (answer.Lost by) ≡ Some (answer.Scanned vs k b) = e in cc
-scan_replied s (Some (reply.Scanned c d)) vs k b e = same_scan _ vs c k d b e
+scan_replied : (s : CoreState) (f : Option Reply) (vs : List ℕ) (k : ℕ) (b : Option ℕ) → option_map (answer_for s) f ≡ Some (Answer.Scanned vs k b) → f ≡ Some (Reply.Scanned k b)
+scan_replied s None vs k b e = let bad : None ≡ Some (Answer.Scanned vs k b) = e in cc
+scan_replied s (Some (Reply.Applied stamp)) vs k b e = let bad : Some (Answer.Applied stamp) ≡ Some (Answer.Scanned vs k b) = e in cc
+scan_replied s (Some (Reply.Lost by)) vs k b e = let bad : Some (Answer.Lost by) ≡ Some (Answer.Scanned vs k b) = e in cc
+scan_replied s (Some (Reply.Scanned c d)) vs k b e = same_scan _ vs c k d b e
   where
-    same_scan : (us vs : List ℕ) (c k : ℕ) (d b : Option ℕ) → Some (answer.Scanned us c d) ≡ Some (answer.Scanned vs k b) → Some (reply.Scanned c d) ≡ Some (reply.Scanned k b)
+    same_scan : (us vs : List ℕ) (c k : ℕ) (d b : Option ℕ) → Some (Answer.Scanned us c d) ≡ Some (Answer.Scanned vs k b) → Some (Reply.Scanned c d) ≡ Some (Reply.Scanned k b)
     same_scan us vs c k d b e = cc
-scan_replied s (Some (reply.Read v stamp)) vs k b e = let bad : Some (answer.Read v stamp) ≡ Some (answer.Scanned vs k b) = e in cc
-scan_replied s (Some (reply.Refused cause)) vs k b e = let bad : Some (answer.Refused cause) ≡ Some (answer.Scanned vs k b) = e in cc
-scan_replied s (Some (reply.Changed by)) vs k b e = let bad : Some (answer.Changed by) ≡ Some (answer.Scanned vs k b) = e in cc
+scan_replied s (Some (Reply.Read v stamp)) vs k b e = let bad : Some (Answer.Read v stamp) ≡ Some (Answer.Scanned vs k b) = e in cc
+scan_replied s (Some (Reply.Refused cause)) vs k b e = let bad : Some (Answer.Refused cause) ≡ Some (Answer.Scanned vs k b) = e in cc
+scan_replied s (Some (Reply.Changed by)) vs k b e = let bad : Some (Answer.Changed by) ≡ Some (Answer.Scanned vs k b) = e in cc
 
 scan_begun : (s : CoreState) (js : List ℕ) → 0 < length js → (begin_scan s js).stage ≡ ScanBegun
 scan_begun s js some = elim (eqb_tells (length js) 0) [
   | inl none ↦ let n = none.1 in absurd (omega (arith, n, some))
-  | inr some' ↦ ap (λ (b : Bool). cond b (Finished (reply.Scanned 0 None)) ScanBegun) some'.0
+  | inr some' ↦ ap (λ (b : Bool). cond b (Finished (Reply.Scanned 0 None)) ScanBegun) some'.0
 ]
 
 scan_of : (z : Layout) (first : CoreState) (front : List Called) (c : Called) (behind : List Called) (xs : List Moment) (last : CoreState)
     (cut : IsCut first front c behind xs last) (own : List Moment) →
     own ≡ own_events front c xs → IsLayout z → (cut.at).sizes ≡ z → IsSound (cut.at) → IsServed z.m c.call → IsCallRun cut.at c own cut.next → IsOfItsScan first xs front c
 scan_of z first front c behind xs last cut [] own_is layout sizes w served h js vs k b is some answered = elim h [
-  | inl r ↦ let bad : Some (answer.Refused r.cause) ≡ Some (answer.Scanned vs k b) = sym (ap (option_map (λ (f : Finish). f.answer)) r.finish) ∙ answered in cc
+  | inl r ↦ let bad : Some (Answer.Refused r.cause) ≡ Some (Answer.Scanned vs k b) = sym (ap (option_map (λ (f : Finish). f.answer)) r.finish) ∙ answered in cc
   | inr f ↦
-      let empty : call.Scan [] ≡ call.Scan js = sym (once_empty cut.at c.call f.reply f.replied).0 ∙ is in
+      let empty : Call.Scan [] ≡ Call.Scan js = sym (once_empty cut.at c.call f.reply f.replied).0 ∙ is in
       let none : [] ≡ js = cc in
       let n : 0 ≡ length js = ap length none in
       absurd (omega (arith, n, some))
@@ -97,7 +91,7 @@ scan_of z first front c behind xs last cut (y ∷ ys) own_is layout sizes w serv
     let s = cut.at in
     let r = call_run z s cut.next c y ys layout sizes w served h in
     let own = moment_answers (y ∷ ys) in
-    let replied : reply_of h.last ≡ Some (reply.Scanned k b) = scan_replied h.last (reply_of h.last) vs k b (sym h.answered ∙ answered) in
+    let replied : reply_of h.last ≡ Some (Reply.Scanned k b) = scan_replied h.last (reply_of h.last) vs k b (sym h.answered ∙ answered) in
     let begun : begun_of s c.call ≡ begin_scan s js = ap (begun_of s) is in
     let stage : (begun_of s c.call).stage ≡ ScanBegun = ap (λ (v : CoreState). v.stage) begun ∙ scan_begun s js some in
     let made = scans_make_their_steps (begun_of s c.call) h.last own k b r.layout r.sound stage r.run replied in

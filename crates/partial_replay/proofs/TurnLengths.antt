@@ -1,7 +1,5 @@
 -- How long the history is at each turn of a port, and the calls that the port begins in its turns.
-use Rattle.partial_replay.proofs.Common.{ℕ, zero, suc, ◌≡◌, ◌≢◌, ◌+◌, ◌-◌, ◌≤◌, ◌==◌, ◌++◌, Bool, true, false, cond, List, [], ◌∷◌, length, map, take, drop, replicate, slice_get, Option, Some, refl, sym, ◌∙◌, ap, subst, arith, append_assoc, length-append, append-nil, length-map, length-replicate, map-append, take-append-drop, take-append-le, drop-append-le, sum_by-cons, ne_eqb, Called, slice_get_grows, Event, Moment, adds, moments_from, last_behind, ports_of, events_in, made_in, left_behind, lengths_of, lengths_in, BeginInTurns, steps_in, HasTurns, MakeTurns, own_turns}
-use Rattle.partial_replay.proofs.PortLaws.{same_eqb}
-use Rattle.partial_replay.proofs.TurnLaws.{own_events, made_is, left_same, turns_grow}
+use Rattle.partial_replay.proofs.{Common.{ℕ, zero, suc, ◌≡◌, ◌≢◌, ◌+◌, ◌-◌, ◌≤◌, ◌==◌, ◌++◌, Bool, true, false, cond, List, [], ◌∷◌, length, map, take, drop, replicate, slice_get, Option, Some, refl, sym, ◌∙◌, ap, subst, arith, append_assoc, length-append, append-nil, length-map, length-replicate, map-append, take-append-drop, take-append-le, drop-append-le, sum_by-cons, ne_eqb, Called, slice_get_grows, Event, Moment, adds, moments_from, last_behind, ports_of, events_in, made_in, left_behind, lengths_of, lengths_in, BeginInTurns, steps_in, HasTurns, MakeTurns, own_turns}, PortLaws.same_eqb, TurnLaws.{own_events, made_is, left_same, turns_grow}}
 
 -- whose these moments are
 abbrev pub ports_at : List Moment → List ℕ

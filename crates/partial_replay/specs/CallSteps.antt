@@ -2,8 +2,8 @@
 use Rattle.std.specs.Prelude.{◌≡◌, ◌⊎◌, List, [], ◌∷◌, ◌++◌, length, Some, None, IfSome}
 use Rattle.std.specs.Option.{option_map}
 use Rattle.partial_model.specs.declared.call.Refused.{Refused}
-use Rattle.partial_model.specs.declared.call.Answer.TheVariants as answer
-use Rattle.partial_model.specs.declared.call.Note.TheVariants as note
+use Rattle.partial_model.specs.declared.call.Answer.{Answer}
+use Rattle.partial_model.specs.declared.call.Note.{Note}
 use Rattle.partial_model.specs.declared.call.Called.{Called}
 use Rattle.partial_machine.specs.declared.stage.Reply.{Reply}
 use Rattle.partial_machine.specs.declared.stage.Stage.TheVariants.{Idle}
@@ -21,7 +21,7 @@ Makes s (x ∷ xs) t = (step_of s ≡ Some x.event.step) × IsPossible s x.event
 pub record IsRefusedAtOnce (s : CoreState) (c : Called) (t : CoreState) : Type 0 where
   pub cause : Refused
   pub refused : refusal_of s c.call ≡ Some cause
-  pub finish : c.finish ≡ Some (record { ended = c.began; answer = answer.Refused cause; note = None })
+  pub finish : c.finish ≡ Some (record { ended = c.began; answer = Answer.Refused cause; note = None })
   pub rests : t ≡ s
 
 -- A call without steps: the machine has finished it as it is begun, as it does a scan of no position. It
@@ -30,7 +30,7 @@ pub record IsFinishedAtOnce (s : CoreState) (c : Called) (t : CoreState) : Type 
   pub begins : refusal_of s c.call ≡ None
   pub reply : Reply
   pub replied : reply_of (begun_of s c.call) ≡ Some reply
-  pub finish : c.finish ≡ Some (record { ended = c.began; answer = answer_for (begun_of s c.call) reply; note = Some (note.Saw c.began) })
+  pub finish : c.finish ≡ Some (record { ended = c.began; answer = answer_for (begun_of s c.call) reply; note = Some (Note.Saw c.began) })
   pub rests : t ≡ at_stage (begun_of s c.call) Idle
 
 -- A call with steps: the machine begins it and makes its events. It begins with the history before the

@@ -4,13 +4,10 @@ use Rattle.std.specs.Option.{option_map}
 use Rattle.partial_model.specs.declared.history.Applied.{Applied}
 use Rattle.partial_model.specs.declared.history.Opening.{Opening}
 use Rattle.partial_model.specs.declared.call.Call.{Call}
-use Rattle.partial_model.specs.declared.call.Call.TheVariants as call
 use Rattle.partial_model.specs.declared.call.Answer.{Answer}
-use Rattle.partial_model.specs.declared.call.Answer.TheVariants as answer
 use Rattle.partial_model.specs.declared.call.Called.{Called}
 use Rattle.partial_model.specs.History.{value_of, stamp_of}
 use Rattle.partial_model.specs.declared.call.Note.{Note}
-use Rattle.partial_model.specs.declared.call.Note.TheVariants as note
 use Rattle.std.specs.List.{AllByRecursion}
 use Rattle.partial_words.specs.Chain.{Agrees}
 use Rattle.partial_replay.specs.ScanPlace.{ShowsValues, IsLeast}
@@ -40,28 +37,28 @@ IsScanPlace words h began js vs n = (o : Opening) (shown : ℕ) → Agrees o wor
 
 -- the note of a call that began at that length of the history and ended with that answer
 abbrev pub IsNoteFrom : List ℕ → List Applied → ℕ → Call → Answer → Option Note → Type 0
-IsNoteFrom words h began c (answer.Applied s) result = (found : Option ℕ) × IsPlaceFrom h began s found ×
-    (result ≡ option_map note.Wrote found)
-IsNoteFrom words h began c (answer.Lost by) result = (found : Option ℕ) × IsPlaceFrom h began by found ×
-    (result ≡ option_map note.Lost found)
-IsNoteFrom words h began c (answer.Read v s) result = (found : Option ℕ) × IsPlaceFrom h began s found ×
-    (result ≡ Some (note.Saw (prefix_from began found)))
-IsNoteFrom words h began c (answer.Changed by) result = (found : Option ℕ) × IsPlaceFrom h began by found ×
-    (result ≡ Some (note.Saw (prefix_from began found)))
-IsNoteFrom words h began (call.Scan js) (answer.Scanned vs collects borrowed) result = (n : ℕ) × IsScanPlace words h began js vs n ×
-    (result ≡ Some (note.Saw n))
+IsNoteFrom words h began c (Answer.Applied s) result = (found : Option ℕ) × IsPlaceFrom h began s found ×
+    (result ≡ option_map Note.Wrote found)
+IsNoteFrom words h began c (Answer.Lost by) result = (found : Option ℕ) × IsPlaceFrom h began by found ×
+    (result ≡ option_map Note.Lost found)
+IsNoteFrom words h began c (Answer.Read v s) result = (found : Option ℕ) × IsPlaceFrom h began s found ×
+    (result ≡ Some (Note.Saw (prefix_from began found)))
+IsNoteFrom words h began c (Answer.Changed by) result = (found : Option ℕ) × IsPlaceFrom h began by found ×
+    (result ≡ Some (Note.Saw (prefix_from began found)))
+IsNoteFrom words h began (Call.Scan js) (Answer.Scanned vs collects borrowed) result = (n : ℕ) × IsScanPlace words h began js vs n ×
+    (result ≡ Some (Note.Saw n))
 IsNoteFrom words h began c _ result = result ≡ None
 
 -- the history shows the answer: the values, of a read the stamp too, and of a changed component the stamp
 abbrev pub Shows : Opening → List Applied → Call → Answer → Type 0
-Shows o h (call.Scan js) (answer.Scanned vs c b) = vs ≡ map (λ j. value_of o h j) js
-Shows o h (call.Read j) (answer.Read v s) = (v ≡ value_of o h j) × (s ≡ stamp_of o h j)
-Shows o h (call.UpdateIf j x v) (answer.Changed t) = stamp_of o h j ≡ t
+Shows o h (Call.Scan js) (Answer.Scanned vs c b) = vs ≡ map (λ j. value_of o h j) js
+Shows o h (Call.Read j) (Answer.Read v s) = (v ≡ value_of o h j) × (s ≡ stamp_of o h j)
+Shows o h (Call.UpdateIf j x v) (Answer.Changed t) = stamp_of o h j ≡ t
 Shows o h _ _ = ⊤
 
 -- what a call saw is the least prefix from its begin on that shows its answer
 abbrev pub IsLeastFrom : Opening → List Applied → ℕ → Call → Answer → Note → Type 0
-IsLeastFrom o h began c a (note.Saw n) = (i : ℕ) → began ≤ i → i < n → ¬ Shows o (take i h) c a
+IsLeastFrom o h began c a (Note.Saw n) = (i : ℕ) → began ≤ i → i < n → ¬ Shows o (take i h) c a
 IsLeastFrom o h began c a _ = ⊤
 
 -- what a finished call saw is the least prefix from its begin on that shows its answer

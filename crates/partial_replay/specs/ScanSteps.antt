@@ -1,8 +1,8 @@
 -- How many steps the answered scans of a replay make.
 use Rattle.std.specs.Prelude.{ℕ, ◌≡◌, ◌<◌, List, ◌∷◌, ◌++◌, length, map, take, drop, Option, Some}
 use Rattle.std.specs.Option.{option_map}
-use Rattle.partial_model.specs.declared.call.Call.TheVariants as call
-use Rattle.partial_model.specs.declared.call.Answer.TheVariants as answer
+use Rattle.partial_model.specs.declared.call.Call.{Call}
+use Rattle.partial_model.specs.declared.call.Answer.{Answer}
 use Rattle.partial_model.specs.declared.call.Called.{Called}
 use Rattle.partial_machine.specs.Machine.{CoreState, fresh}
 use Rattle.partial_machine.specs.Steps.{AreOfScan, pairs_loaded}
@@ -41,7 +41,7 @@ pub record ScanMakesItsSteps (first : CoreState) (xs : List Moment) (front : Lis
 -- an answered scan of any position makes its steps
 abbrev pub IsOfItsScan : CoreState → List Moment → List Called → Called → Type 0
 IsOfItsScan first xs front c = (js vs : List ℕ) (collects : ℕ) (borrowed : Option ℕ) →
-    c.call ≡ call.Scan js → 0 < length js → option_map (λ f. f.answer) c.finish ≡ Some (answer.Scanned vs collects borrowed) →
+    c.call ≡ Call.Scan js → 0 < length js → option_map (λ f. f.answer) c.finish ≡ Some (Answer.Scanned vs collects borrowed) →
     ScanMakesItsSteps first xs front c (length js) collects borrowed
 
 -- in the replay of a plan each answered scan does, among the calls and the events of its port in the trace

@@ -1,13 +1,5 @@
 -- The steps by which a block is claimed and written, and by which a list is published.
-use Rattle.partial_state.proofs.Common.{ℕ, ◌≡◌, ◌≢◌, ◌+◌, ◌*◌, ◌<◌, ◌≤◌, ◌==◌, ◌++◌, ◌^◌, ◌%◌, Bool, true, false, cond, List, ◌∷◌, length, get_or, set, Some, None, refl, sym, ◌∙◌, ap, subst, inl, inr, arith, get_or-set_other, get_or-set_same, length-set, cases_lt, Applied, Opening, Layout, slot_counter, list_head, pool_counter, list_counter, slot_word, list_base, pool_end, total, length-pairs, Block, AreApart, IsApartFrom, IsPublishedList, IsHead, Own, Holding, Space, space_begin, end_of, counter_of, block_of, unpublished, blocks_in, other_holdings, EachTwo, Pool, Lists, LawfulWords, IsOwn, IsTied, IsDue, IsKept, ClaimsAreKept, StoresAreKept, PublishingsAreKept, list_block, Counted, ListWords, PoolWords, Slots, counter, marked_ports}
-use Rattle.partial_state.proofs.ListLemmas.{all_at, all_weaker, two_take, two_put}
-use Rattle.partial_state.proofs.Frames.{IsClaimedBlock, word_at, apart_turns, head_moves}
-use Rattle.partial_state.proofs.Claimed.{unpublished_two, all_claimed}
-use Rattle.partial_state.proofs.HoldingLemmas.{own_far, if_some_at, none_here, marks_kept}
-use Rattle.partial_state.proofs.Blocks.{unpublished_is, announced_same, own_added, blocks_same, own_block_added}
-use Rattle.partial_state.proofs.Rebuild.{Moves, frame_of}
-use Rattle.partial_state.proofs.NoNewEntry.{calm, fits_word, head_stays, high_stays, marked_stays, counters_stay, counters_same}
-use Rattle.partial_state.proofs.MarkLaws.{block_given_up}
+use Rattle.partial_state.proofs.{Common.{ℕ, ◌≡◌, ◌≢◌, ◌+◌, ◌*◌, ◌<◌, ◌≤◌, ◌==◌, ◌++◌, ◌^◌, ◌%◌, Bool, true, false, cond, List, ◌∷◌, length, get_or, set, Some, None, refl, sym, ◌∙◌, ap, subst, inl, inr, arith, get_or-set_other, get_or-set_same, length-set, cases_lt, Applied, Opening, Layout, slot_counter, list_head, pool_counter, list_counter, slot_word, list_base, pool_end, total, length-pairs, Block, AreApart, IsApartFrom, IsPublishedList, IsHead, Own, Holding, Space, space_begin, end_of, counter_of, block_of, unpublished, blocks_in, other_holdings, EachTwo, Pool, Lists, LawfulWords, IsOwn, IsTied, IsDue, IsKept, ClaimsAreKept, StoresAreKept, PublishingsAreKept, list_block, Counted, ListWords, PoolWords, Slots, counter, marked_ports}, ListLemmas.{all_at, all_weaker, two_take, two_put}, Frames.{IsClaimedBlock, word_at, apart_turns, head_moves}, Claimed.{unpublished_two, all_claimed}, HoldingLemmas.{own_far, if_some_at, none_here, marks_kept}, Blocks.{unpublished_is, announced_same, own_added, blocks_same, own_block_added}, Rebuild.{Moves, frame_of}, NoNewEntry.{calm, fits_word, head_stays, high_stays, marked_stays, counters_stay, counters_same}, MarkLaws.block_given_up}
 
 module _ (z : Layout) (o : Opening) (words : List ℕ) (before : List Holding) (h : Holding) (after : List Holding) (log : List Applied) (w : LawfulWords z o words (before ++ h ∷ after) log) where
   -- a block from the counter on is apart from each that is claimed

@@ -1,7 +1,5 @@
 -- The blocks of the words, with one port's holding in the place of another.
-use Rattle.partial_state.proofs.Common.{ℕ, ◌≡◌, ◌++◌, List, [], ◌∷◌, length, map, Option, Some, None, refl, sym, ◌∙◌, ap, cons_option, option_map, Applied, Layout, pool_base, Block, JoinedAnnouncement, Own, Holding, block_of, block_at, announcements, unpublished, blocks_in, joined_in, initial_words, announcement_size}
-use Rattle.partial_state.proofs.ListLemmas.{Adds, adds_behind, adds_before}
-use Rattle.partial_state.proofs.HoldingLemmas.{filter_split}
+use Rattle.partial_state.proofs.{Common.{ℕ, ◌≡◌, ◌++◌, List, [], ◌∷◌, length, map, Option, Some, None, refl, sym, ◌∙◌, ap, cons_option, option_map, Applied, Layout, pool_base, Block, JoinedAnnouncement, Own, Holding, block_of, block_at, announcements, unpublished, blocks_in, joined_in, initial_words, announcement_size}, ListLemmas.{Adds, adds_behind, adds_before}, HoldingLemmas.filter_split}
 
 -- the block of an announcement
 abbrev pub announcement_of : JoinedAnnouncement → Block

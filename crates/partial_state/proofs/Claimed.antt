@@ -1,9 +1,5 @@
 -- The blocks of lawful words: all their words are claimed, and those that are published are apart from the others.
-use Rattle.partial_state.proofs.Common.{ℕ, ◌≡◌, ◌+◌, ◌<◌, ◌≤◌, ◌==◌, ◌++◌, Bool, true, false, cond, List, [], ◌∷◌, length, map, get_or, Option, Some, None, IfSome, MatchOption, slice_get, refl, ◌∙◌, ap, subst, inl, inr, arith, AllByRecursion, cons_option, option_map, eqb-true, Applied, Opening, Layout, pool_counter, slot_word, pool_base, view_of, view_len, length-pairs, Block, AreApart, JoinedAnnouncement, HasPairs, IsAnnounced, IsApartFrom, ClaimedSlot, Holding, Space, space_begin, end_of, counter_of, block_of, block_at, announcements, unpublished, blocks_in, joined_in, EachTwo, Pool, Lists, LawfulWords, IsOwn, IsTied, IsClaim, IsEntry, IsPublished, AllByRecursion-get, all_where, own_view, plain_record_size, full_record_size, initial_words, PoolWords}
-use Rattle.partial_state.proofs.ListLemmas.{all_append, all_back, all_map, all_unmap, all_weaker, two_back, two_across}
-use Rattle.partial_state.proofs.Frames.{IsClaimedBlock, announcement_claimed, block_published}
-use Rattle.partial_state.proofs.HoldingLemmas.{if_some, if_all, all_unpublished}
-use Rattle.partial_state.proofs.Blocks.{announcement_of}
+use Rattle.partial_state.proofs.{Common.{ℕ, ◌≡◌, ◌+◌, ◌<◌, ◌≤◌, ◌==◌, ◌++◌, Bool, true, false, cond, List, [], ◌∷◌, length, map, get_or, Option, Some, None, IfSome, MatchOption, slice_get, refl, ◌∙◌, ap, subst, inl, inr, arith, AllByRecursion, cons_option, option_map, eqb-true, Applied, Opening, Layout, pool_counter, slot_word, pool_base, view_of, view_len, length-pairs, Block, AreApart, JoinedAnnouncement, HasPairs, IsAnnounced, IsApartFrom, ClaimedSlot, Holding, Space, space_begin, end_of, counter_of, block_of, block_at, announcements, unpublished, blocks_in, joined_in, EachTwo, Pool, Lists, LawfulWords, IsOwn, IsTied, IsClaim, IsEntry, IsPublished, AllByRecursion-get, all_where, own_view, plain_record_size, full_record_size, initial_words, PoolWords}, ListLemmas.{all_append, all_back, all_map, all_unmap, all_weaker, two_back, two_across}, Frames.{IsClaimedBlock, announcement_claimed, block_published}, HoldingLemmas.{if_some, if_all, all_unpublished}, Blocks.announcement_of}
 
 -- what holds of the value that stands there
 pub match_some : {A : Type 0} (P : Type 0) (Q : A → Type 0) (f : Option A) (a : A) → f ≡ Some a → MatchOption f P Q → Q a

@@ -1,9 +1,5 @@
 -- What a step changes, and that lawful words stay lawful by it and what was loaded true.
-use Rattle.partial_state.proofs.Common.{ℕ, ◌≡◌, ◌≢◌, ◌+◌, ◌*◌, ◌<◌, ◌≤◌, ◌⊎◌, ◌++◌, List, [], ◌∷◌, length, get_or, Option, Some, None, IfSome, IsSomeAnd, MatchOption, slice_get, refl, sym, ◌∙◌, ap, subst, inl, inr, arith, AllByRecursion, ne_eqb, cases_lt, Applied, Opening, IsHistory, stamp_of, place_below, Layout, slot_counter, list_head, slot_word, initial_record, view_word, prev_of, record_value, view_of, Agrees, Block, AreApart, JoinedAnnouncement, HasFreshView, IsWithin, Covers, IsAnnounced, IsHead, ClaimedSlot, Own, Due, Holding, block_of, block_at, unpublished, blocks_in, other_holdings, IfJoined, joined_in, EachTwo, HaveOtherPorts, HaveOtherSlots, Pool, LawfulWords, IsOwn, IsTied, IsClaimedIn, IsClaim, CoversAll, IsDue, IsEntry, KeptAnswer, IsLoaded, IsKept, AllByRecursion-get, all_where, prev_word, value_word, Counted, PoolWords, Slots, counter, marked_ports}
-use Rattle.partial_state.proofs.ListLemmas.{all_at, all_before, all_after, all_join, all_weaker, two_before, two_after, two_join, length_same}
-use Rattle.partial_state.proofs.Frames.{Frame, Grows, within_more, within_grows, published_moves, announced_moves, head_moves, slot_moves, fresh_moves, covers_moves, covers_newer}
-use Rattle.partial_state.proofs.HoldingLemmas.{own_far, if_some, if_some_at, some_found, found_some, joined_weaker, HaveOtherBlocks, blocks_turn, ports_turn, slots_turn, others_split, block_stays, three_words}
-use Rattle.partial_state.proofs.Rebuild.{Moves, frame_of, tied_moves, other_word, initial_word, entry_three, entry_prev, own_before, own_after}
+use Rattle.partial_state.proofs.{Common.{ℕ, ◌≡◌, ◌≢◌, ◌+◌, ◌*◌, ◌<◌, ◌≤◌, ◌⊎◌, ◌++◌, List, [], ◌∷◌, length, get_or, Option, Some, None, IfSome, IsSomeAnd, MatchOption, slice_get, refl, sym, ◌∙◌, ap, subst, inl, inr, arith, AllByRecursion, ne_eqb, cases_lt, Applied, Opening, IsHistory, stamp_of, place_below, Layout, slot_counter, list_head, slot_word, initial_record, view_word, prev_of, record_value, view_of, Agrees, Block, AreApart, JoinedAnnouncement, HasFreshView, IsWithin, Covers, IsAnnounced, IsHead, ClaimedSlot, Own, Due, Holding, block_of, block_at, unpublished, blocks_in, other_holdings, IfJoined, joined_in, EachTwo, HaveOtherPorts, HaveOtherSlots, Pool, LawfulWords, IsOwn, IsTied, IsClaimedIn, IsClaim, CoversAll, IsDue, IsEntry, KeptAnswer, IsLoaded, IsKept, AllByRecursion-get, all_where, prev_word, value_word, Counted, PoolWords, Slots, counter, marked_ports}, ListLemmas.{all_at, all_before, all_after, all_join, all_weaker, two_before, two_after, two_join, length_same}, Frames.{Frame, Grows, within_more, within_grows, published_moves, announced_moves, head_moves, slot_moves, fresh_moves, covers_moves, covers_newer}, HoldingLemmas.{own_far, if_some, if_some_at, some_found, found_some, joined_weaker, HaveOtherBlocks, blocks_turn, ports_turn, slots_turn, others_split, block_stays, three_words}, Rebuild.{Moves, frame_of, tied_moves, other_word, initial_word, entry_three, entry_prev, own_before, own_after}}
 
 -- an entry of the new history that the old one hadn't
 pub record IsNew (z : Layout) (o : Opening) (words : List ℕ) (hs : List Holding) (log : List Applied) (k : ℕ) (e : Applied) : Type 0 where

@@ -1,7 +1,6 @@
 -- What a step leaves of all that is published: blocks, and all that is said by them.
-use Rattle.partial_state.proofs.Common.{ℕ, ◌≡◌, ◌+◌, ◌<◌, ◌≤◌, ◌⊎◌, List, length, take, get_or, slice_get, Some, refl, sym, ◌∙◌, ap, subst, inl, inr, arith, cases_lt, Applied, Opening, place_below, Layout, pool_counter, list_counter, slot_word, list_base, list_end, pool_base, StandsAt, view_block, prev_of, view_of, length-pairs, IsViewOf, Block, AreApart, JoinedAnnouncement, HasFreshView, HasPairs, IsView, IsWithin, IsBegunSince, Covers, ViewNames, IsAnnounced, IsPublishedList, IsApartFrom, IsHead, IsPublished, IsSlotAnswer, value_of, announcement_block, announcement_size, list_block, Counted, ListWords, PoolWords, counter}
+use Rattle.partial_state.proofs.{Common.{ℕ, ◌≡◌, ◌+◌, ◌<◌, ◌≤◌, ◌⊎◌, List, length, take, get_or, slice_get, Some, refl, sym, ◌∙◌, ap, subst, inl, inr, arith, cases_lt, Applied, Opening, place_below, Layout, pool_counter, list_counter, slot_word, list_base, list_end, pool_base, StandsAt, view_block, prev_of, view_of, length-pairs, IsViewOf, Block, AreApart, JoinedAnnouncement, HasFreshView, HasPairs, IsView, IsWithin, IsBegunSince, Covers, ViewNames, IsAnnounced, IsPublishedList, IsApartFrom, IsHead, IsPublished, IsSlotAnswer, value_of, announcement_block, announcement_size, list_block, Counted, ListWords, PoolWords, counter}, ListLemmas.all_weaker}
 use Rattle.partial_intervals.specs.Intervals.{Ranges}
-use Rattle.partial_state.proofs.ListLemmas.{all_weaker}
 
 -- one word
 abbrev pub word_at : ℕ → Block

@@ -1,8 +1,5 @@
 -- What a load answers is true from then on.
-use Rattle.partial_state.proofs.Common.{ℕ, ◌≡◌, ◌<◌, ◌≤◌, List, [], ◌∷◌, length, get_or, Option, Some, None, IfSome, MatchOption, refl, sym, ◌∙◌, ap, subst, inl, inr, arith, AllByRecursion, cases_lt, take_all, Applied, Opening, stamp_of, Layout, slot_counter, slot_word, JoinedAnnouncement, IsAnnounced, IsHead, ClaimedSlot, Holding, unpublished, IfJoined, LawfulWords, IsClaimedIn, IsClaim, IsSlotAnswer, LoadsAreTrue}
-use Rattle.partial_state.proofs.ListLemmas.{all_weaker}
-use Rattle.partial_state.proofs.Claimed.{match_some}
-use Rattle.partial_state.proofs.HoldingLemmas.{if_some, if_all, if_some_at, some_found}
+use Rattle.partial_state.proofs.{Common.{ℕ, ◌≡◌, ◌<◌, ◌≤◌, List, [], ◌∷◌, length, get_or, Option, Some, None, IfSome, MatchOption, refl, sym, ◌∙◌, ap, subst, inl, inr, arith, AllByRecursion, cases_lt, take_all, Applied, Opening, stamp_of, Layout, slot_counter, slot_word, JoinedAnnouncement, IsAnnounced, IsHead, ClaimedSlot, Holding, unpublished, IfJoined, LawfulWords, IsClaimedIn, IsClaim, IsSlotAnswer, LoadsAreTrue}, ListLemmas.all_weaker, Claimed.match_some, HoldingLemmas.{if_some, if_all, if_some_at, some_found}}
 
 -- what holds of each claim holds of the slot's
 pub claim_found : (P : ClaimedSlot → Type 0) (l : ℕ) (hs : List Holding) → IsClaimedIn l hs → AllByRecursion (λ h. IfSome h.claimed P) hs → (c : ClaimedSlot) × (c.slot ≡ l) × P c

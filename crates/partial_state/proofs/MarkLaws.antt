@@ -1,11 +1,5 @@
 -- The steps that change no block and no slot: an exchange comes to be due, a block is given up, and claims that are refused.
-use Rattle.partial_state.proofs.Common.{ℕ, ◌≡◌, ◌≢◌, ◌+◌, ◌<◌, ◌≤◌, ◌++◌, ◌^◌, ◌%◌, true, List, ◌∷◌, get_or, set, Option, Some, None, IfSome, refl, sym, ◌∙◌, ap, subst, arith, get_or-set_other, get_or-set_same, length-set, eq-eqb, Applied, Layout, slot_counter, list_head, slot_word, list_base, pool_end, Block, AreApart, Own, Holding, block_of, blocks_in, other_holdings, joined_in, EachTwo, IsTied, IsDue, DuesAreKept, DropsAreKept, greatest_record, greatest_list, Counted, ListWords, PoolWords, RefusalsAreKept, Slots, counter, is_marked, marked_for, marked_ports, ◌*◌, ◌⊎◌, Opening, inl, inr, false, IsOwn, LawfulWords, IsKept}
-use Rattle.partial_state.proofs.ListLemmas.{all_at, two_take}
-use Rattle.partial_state.proofs.Frames.{apart_turns}
-use Rattle.partial_state.proofs.HoldingLemmas.{others_gone, marks_kept}
-use Rattle.partial_state.proofs.Blocks.{unpublished_same, announced_same, own_added, blocks_same, own_block_added}
-use Rattle.partial_state.proofs.Rebuild.{Moves, own_stays}
-use Rattle.partial_state.proofs.NoNewEntry.{calm, fits_word, head_stays, due_stays, high_stays, high_rises, marked_stays, counter_bound}
+use Rattle.partial_state.proofs.{Common.{ℕ, ◌≡◌, ◌≢◌, ◌+◌, ◌<◌, ◌≤◌, ◌++◌, ◌^◌, ◌%◌, true, List, ◌∷◌, get_or, set, Option, Some, None, IfSome, refl, sym, ◌∙◌, ap, subst, arith, get_or-set_other, get_or-set_same, length-set, eq-eqb, Applied, Layout, slot_counter, list_head, slot_word, list_base, pool_end, Block, AreApart, Own, Holding, block_of, blocks_in, other_holdings, joined_in, EachTwo, IsTied, IsDue, DuesAreKept, DropsAreKept, greatest_record, greatest_list, Counted, ListWords, PoolWords, RefusalsAreKept, Slots, counter, is_marked, marked_for, marked_ports, ◌*◌, ◌⊎◌, Opening, inl, inr, false, IsOwn, LawfulWords, IsKept}, ListLemmas.{all_at, two_take}, Frames.apart_turns, HoldingLemmas.{others_gone, marks_kept}, Blocks.{unpublished_same, announced_same, own_added, blocks_same, own_block_added}, Rebuild.{Moves, own_stays}, NoNewEntry.{calm, fits_word, head_stays, due_stays, high_stays, high_rises, marked_stays, counter_bound}}
 
 -- the words stay
 pub still_moves : (z : Layout) (words : List ℕ) (h h' : Holding) → h'.port ≡ h.port → ((b : Block) → IfSome h.own (λ c. AreApart b (block_of c)) → IfSome h'.own (λ c. AreApart b (block_of c))) →

@@ -1,11 +1,6 @@
 -- The steps that add nothing to the history, and what most steps leave as it was.
-use Rattle.partial_state.proofs.Common.{ℕ, ◌≡◌, ◌≢◌, ◌+◌, ◌*◌, ◌<◌, ◌≤◌, ◌⊎◌, ◌++◌, ◌^◌, ◌%◌, true, false, List, ◌∷◌, length, get_or, Option, None, IfSome, IsSomeAnd, refl, sym, ◌∙◌, ap, subst, inl, inr, arith, eq-eqb, Applied, Opening, place_below, Layout, IsLayout, slot_counter, list_head, pool_counter, list_counter, slot_word, list_base, pool_end, Block, AreApart, Covers, IsHead, ClaimedSlot, Own, Due, Holding, block_of, block_at, unpublished, blocks_in, other_holdings, IfJoined, joined_in, EachTwo, HaveOtherSlots, Pool, LawfulWords, IsOwn, IsTied, IsClaim, IsDue, IsKept, greatest_record, greatest_list, Counted, IsCounted, ListWords, PoolWords, Slots, counter, is_marked, marked_ports}
+use Rattle.partial_state.proofs.{Common.{ℕ, ◌≡◌, ◌≢◌, ◌+◌, ◌*◌, ◌<◌, ◌≤◌, ◌⊎◌, ◌++◌, ◌^◌, ◌%◌, true, false, List, ◌∷◌, length, get_or, Option, None, IfSome, IsSomeAnd, refl, sym, ◌∙◌, ap, subst, inl, inr, arith, eq-eqb, Applied, Opening, place_below, Layout, IsLayout, slot_counter, list_head, pool_counter, list_counter, slot_word, list_base, pool_end, Block, AreApart, Covers, IsHead, ClaimedSlot, Own, Due, Holding, block_of, block_at, unpublished, blocks_in, other_holdings, IfJoined, joined_in, EachTwo, HaveOtherSlots, Pool, LawfulWords, IsOwn, IsTied, IsClaim, IsDue, IsKept, greatest_record, greatest_list, Counted, IsCounted, ListWords, PoolWords, Slots, counter, is_marked, marked_ports}, ListLemmas.{all_at, all_weaker}, Frames.{Frame, stays, head_moves, covers_moves}, HoldingLemmas.{own_far, if_some, if_some_at, some_found, joined_weaker, others_gone, marks_same, marks_more, marks_few}, Rebuild.{Moves, frame_of, agrees_stay, blocks_stay}, EffectLemmas.{due_moves, claim_moves, keeps}}
 use Rattle.std.proofs.Math.Nat.{mul-le-mul_left}
-use Rattle.partial_state.proofs.ListLemmas.{all_at, all_weaker}
-use Rattle.partial_state.proofs.Frames.{Frame, stays, head_moves, covers_moves}
-use Rattle.partial_state.proofs.HoldingLemmas.{own_far, if_some, if_some_at, some_found, joined_weaker, others_gone, marks_same, marks_more, marks_few}
-use Rattle.partial_state.proofs.Rebuild.{Moves, frame_of, agrees_stay, blocks_stay}
-use Rattle.partial_state.proofs.EffectLemmas.{due_moves, claim_moves, keeps}
 
 -- what a step changes that adds nothing to the history
 pub record Quiet (z : Layout) (o : Opening) (words words' : List ℕ) (before : List Holding) (h h' : Holding) (after : List Holding) (log : List Applied) : Type 0 where

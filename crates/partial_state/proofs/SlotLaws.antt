@@ -1,14 +1,5 @@
 -- The steps on slots: a claim, a join and a leave.
-use Rattle.partial_state.proofs.Common.{ℕ, ◌≡◌, ◌≢◌, ◌+◌, ◌<◌, ◌≤◌, ◌++◌, ◌^◌, ◌%◌, ◌∷◌, length, get_or, set, Option, Some, None, IfSome, IsSomeAnd, refl, sym, ◌∙◌, ap, subst, inl, inr, arith, get_or-set_other, get_or-set_same, length-set, AllByRecursion, eqb_tells, slot_counter, list_head, pool_counter, list_counter, slot_word, list_base, Block, AreApart, JoinedAnnouncement, IsAnnounced, IsApartFrom, ClaimedSlot, Own, Holding, block_of, unpublished, blocks_in, other_holdings, joined_in, Pool, IsOwn, IsTied, IsClaim, IsDue, SlotClaimsAreKept, JoinsAreKept, LeavesAreKept, announcement_block, announcement_size, ListWords, PoolWords, Slots, ◌*◌, counter, marked_ports}
-use Rattle.partial_state.proofs.ListLemmas.{all_at, two_take, two_put}
-use Rattle.partial_state.proofs.Frames.{apart_turns}
-use Rattle.partial_state.proofs.Claimed.{unpublished_two}
-use Rattle.partial_state.proofs.HoldingLemmas.{if_some, if_some_at, none_here, marks_kept}
-use Rattle.partial_state.proofs.Blocks.{announcement_of, unpublished_same, announced_same, own_added, announcement_added, own_block_added, announced_block_added}
-use Rattle.partial_state.proofs.Rebuild.{Moves, own_stays}
-use Rattle.partial_state.proofs.NoNewEntry.{quiet, fits_word, head_stays, due_stays, high_stays, marked_stays, counters_stay, counters_same, counters_rise}
-use Rattle.partial_state.proofs.MarkLaws.{blocks_kept}
-use Rattle.partial_state.proofs.BlockLaws.{own_freed}
+use Rattle.partial_state.proofs.{Common.{ℕ, ◌≡◌, ◌≢◌, ◌+◌, ◌<◌, ◌≤◌, ◌++◌, ◌^◌, ◌%◌, ◌∷◌, length, get_or, set, Option, Some, None, IfSome, IsSomeAnd, refl, sym, ◌∙◌, ap, subst, inl, inr, arith, get_or-set_other, get_or-set_same, length-set, AllByRecursion, eqb_tells, slot_counter, list_head, pool_counter, list_counter, slot_word, list_base, Block, AreApart, JoinedAnnouncement, IsAnnounced, IsApartFrom, ClaimedSlot, Own, Holding, block_of, unpublished, blocks_in, other_holdings, joined_in, Pool, IsOwn, IsTied, IsClaim, IsDue, SlotClaimsAreKept, JoinsAreKept, LeavesAreKept, announcement_block, announcement_size, ListWords, PoolWords, Slots, ◌*◌, counter, marked_ports}, ListLemmas.{all_at, two_take, two_put}, Frames.apart_turns, Claimed.unpublished_two, HoldingLemmas.{if_some, if_some_at, none_here, marks_kept}, Blocks.{announcement_of, unpublished_same, announced_same, own_added, announcement_added, own_block_added, announced_block_added}, Rebuild.{Moves, own_stays}, NoNewEntry.{quiet, fits_word, head_stays, due_stays, high_stays, marked_stays, counters_stay, counters_same, counters_rise}, MarkLaws.blocks_kept, BlockLaws.own_freed}
 
 -- no slot is claimed where there is no claim, and where there is one it is its own
 none_claimed : (P : ClaimedSlot → Type 0) (f : Option ClaimedSlot) → f ≡ None → IsSomeAnd f P → ⊥

@@ -1,12 +1,5 @@
 -- A won exchange of a component: its record is published, and the history gains its entry.
-use Rattle.partial_state.proofs.Common.{ℕ, ◌≡◌, ◌≢◌, ◌+◌, ◌<◌, ◌≤◌, ◌==◌, ◌++◌, Bool, true, false, cond, List, [], ◌∷◌, length, map, get_or, set, Option, Some, None, IfSome, slice_get, refl, sym, ◌∙◌, ap, subst, inl, inr, arith, append_assoc, get_or-set_other, get_or-set_same, length-set, AllByRecursion, option_map, eq-eqb, eqb-true, eqb-false, eqb_tells, length_push, take-append-le, Applied, Opening, IsHistory, initial_stamp, stamp_of, stamp_of-push, distinct_push, slice_get_grows, AllByRecursion-push, AllByRecursion-get, Layout, slot_counter, list_head, pool_counter, list_counter, slot_word, pool_base, pool_end, prev_word, prev_of, view_of, IsLink, IsChain, chain_of, Block, AreApart, JoinedAnnouncement, HasFreshView, Covers, IsWithin, ClaimedSlot, Own, Due, Holding, Space, space_begin, end_of, counter_of, block_of, block_at, announcements, unpublished, blocks_in, other_holdings, IfJoined, joined_in, EachTwo, HaveOtherPorts, Pool, LawfulWords, IsOwn, IsTied, IsDue, IsKept, WinsAreKept, all_where, initial_words, first_free, view_word, value_word, plain_record_size, record_value, chain_cons, links_from-push, Counted, counter}
-use Rattle.partial_state.proofs.ListLemmas.{all_at, all_front, all_back, all_join, all_weaker, all_unmap, two_before, two_after, two_take, two_put, Adds, adds_behind, found_before, found_last}
-use Rattle.partial_state.proofs.Frames.{Frame, Grows, apart_turns, fresh_moves, covers_moves}
-use Rattle.partial_state.proofs.HoldingLemmas.{if_some_at, some_found, joined_weaker, ports_turn, others_gone, others_all, filter_append, three_words, block_stays, marks_kept}
-use Rattle.partial_state.proofs.Blocks.{unpublished_is, announced_same, own_added, own_block_added}
-use Rattle.partial_state.proofs.Rebuild.{Moves, chain_moves, entries_stay}
-use Rattle.partial_state.proofs.EffectLemmas.{IsNew, keeps}
-use Rattle.partial_state.proofs.NoNewEntry.{taken_stays, claim_stays, head_stays, marked_stays, counters_stay, counters_same}
+use Rattle.partial_state.proofs.{Common.{ℕ, ◌≡◌, ◌≢◌, ◌+◌, ◌<◌, ◌≤◌, ◌==◌, ◌++◌, Bool, true, false, cond, List, [], ◌∷◌, length, map, get_or, set, Option, Some, None, IfSome, slice_get, refl, sym, ◌∙◌, ap, subst, inl, inr, arith, append_assoc, get_or-set_other, get_or-set_same, length-set, AllByRecursion, option_map, eq-eqb, eqb-true, eqb-false, eqb_tells, length_push, take-append-le, Applied, Opening, IsHistory, initial_stamp, stamp_of, stamp_of-push, distinct_push, slice_get_grows, AllByRecursion-push, AllByRecursion-get, Layout, slot_counter, list_head, pool_counter, list_counter, slot_word, pool_base, pool_end, prev_word, prev_of, view_of, IsLink, IsChain, chain_of, Block, AreApart, JoinedAnnouncement, HasFreshView, Covers, IsWithin, ClaimedSlot, Own, Due, Holding, Space, space_begin, end_of, counter_of, block_of, block_at, announcements, unpublished, blocks_in, other_holdings, IfJoined, joined_in, EachTwo, HaveOtherPorts, Pool, LawfulWords, IsOwn, IsTied, IsDue, IsKept, WinsAreKept, all_where, initial_words, first_free, view_word, value_word, plain_record_size, record_value, chain_cons, links_from-push, Counted, counter}, ListLemmas.{all_at, all_front, all_back, all_join, all_weaker, all_unmap, two_before, two_after, two_take, two_put, Adds, adds_behind, found_before, found_last}, Frames.{Frame, Grows, apart_turns, fresh_moves, covers_moves}, HoldingLemmas.{if_some_at, some_found, joined_weaker, ports_turn, others_gone, others_all, filter_append, three_words, block_stays, marks_kept}, Blocks.{unpublished_is, announced_same, own_added, own_block_added}, Rebuild.{Moves, chain_moves, entries_stay}, EffectLemmas.{IsNew, keeps}, NoNewEntry.{taken_stays, claim_stays, head_stays, marked_stays, counters_stay, counters_same}}
 
 map_push : {A B : Type 0} (f : A → B) (xs : List A) (y : A) → map f (xs ++ y ∷ []) ≡ map f xs ++ f y ∷ []
 map_push f [] y = refl

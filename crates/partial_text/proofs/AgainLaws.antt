@@ -1,20 +1,11 @@
 -- The text of a plan is read as the plan.
-use Rattle.partial_text.proofs.Common.{◌≡◌, ℕ, ◌+◌, ◌^◌, ◌<◌, ◌≤◌, Bool, true, false, cond, eqb, leb, ltb, ◌&&◌, List, [], ◌∷◌, ◌++◌, length, map, drop, codes, Result, Ok, Err, refl, sym, ap, subst, ◌∙◌, append_assoc, eq-eqb, arith, decimal, flat_map, AllByRecursion, bytes_eq, ne_eqb, le-leb, lt-ltb, le-ltb, append-nil, length-append, length-map, flat_map-map, bytes_eq-Decides, Call, PlanError, until, from, onto_first, pieces, ◌>>=◌, PlanView, field, number_field, sizes_line, initial_line, call_text, next_call, port_line, entry_text, rest_text, steps_line, ended_line, plan_text, IsCall, IsTurnEntry, IsPlan, Tail, greatest, greatest_index, fields_of, number_at, in_range, is_cut, call_texts, is_nil, is_rest, is_end, tail_at, Layout, IsLayout, initial_words}
-use Rattle.partial_model.specs.declared.call.Call.TheVariants as call
-use Rattle.partial_text.specs.declared.fault.Cause.TheVariants as cause
-use Rattle.partial_text.specs.declared.fault.PlanError.TheVariants as plan
+use Rattle.partial_text.proofs.{Common.{◌≡◌, ℕ, ◌+◌, ◌^◌, ◌<◌, ◌≤◌, Bool, true, false, cond, eqb, leb, ltb, ◌&&◌, List, [], ◌∷◌, ◌++◌, length, map, drop, codes, Result, Ok, Err, refl, sym, ap, subst, ◌∙◌, append_assoc, eq-eqb, arith, decimal, flat_map, AllByRecursion, bytes_eq, ne_eqb, le-leb, lt-ltb, le-ltb, append-nil, length-append, length-map, flat_map-map, bytes_eq-Decides, Call, PlanError, until, from, onto_first, pieces, ◌>>=◌, PlanView, field, number_field, sizes_line, initial_line, call_text, next_call, port_line, entry_text, rest_text, steps_line, ended_line, plan_text, IsCall, IsTurnEntry, IsPlan, Tail, greatest, greatest_index, fields_of, number_at, in_range, is_cut, call_texts, is_nil, is_rest, is_end, tail_at, Layout, IsLayout, initial_words}, CallCuts.cut_more, Steps.{tail_by, tail_step}, NumberLaws.{both_and, HasNo, HasNo-append, HasNo-decimal, IsNoDigit}, PieceLaws.{behind_each, until_joined, pieces_before}, FieldLaws.{number_at_again, numbers_again, behind_numbers, word_again, fields_again, HasNo-numbers, HasNo-fields, space_no_digit, newline_no_digit, star_no_digit, semicolon_no_digit}, CallLaws.behind_cuts, PlanLaws.ended_port}
+use Rattle.partial_text.specs.declared.fault.Cause.{Cause}
 use Rattle.partial_text.specs.Judging.{sizes_from, sizes_at, initial_at, update_from, scan_from, read_from, update_if_from, call_text_at, calls_at, port_line_at, entry_text_at, entries_at, line_at, more_ports, last_at, lines_judged, judged_plan}
-use Rattle.partial_text.proofs.CallCuts.{cut_more}
-use Rattle.partial_text.proofs.Steps.{tail_by, tail_step}
-use Rattle.partial_text.proofs.NumberLaws.{both_and, HasNo, HasNo-append, HasNo-decimal, IsNoDigit}
-use Rattle.partial_text.proofs.PieceLaws.{behind_each, until_joined, pieces_before}
-use Rattle.partial_text.proofs.FieldLaws.{number_at_again, numbers_again, behind_numbers, word_again, fields_again, HasNo-numbers, HasNo-fields, space_no_digit, newline_no_digit, star_no_digit, semicolon_no_digit}
-use Rattle.partial_text.proofs.CallLaws.{behind_cuts}
-use Rattle.partial_text.proofs.PlanLaws.{ended_port}
 
 -- ---- calls
 
-update_again : (line j v : ℕ) → j ≤ greatest_index → v ≤ greatest → update_from line (decimal j ∷ decimal v ∷ []) ≡ Ok (call.Update j v)
+update_again : (line j v : ℕ) → j ≤ greatest_index → v ≤ greatest → update_from line (decimal j ∷ decimal v ∷ []) ≡ Ok (Call.Update j v)
 unfolding update_from
 update_again line j v a b = rw (number_at_again line greatest_index j (omega arith) a, number_at_again line greatest v (omega arith) b) refl
 
@@ -26,17 +17,17 @@ indices_small : (js : List ℕ) → AllByRecursion (λ (j : ℕ). j < 2 ^ 32) js
 indices_small [] fits = tt
 indices_small (j ∷ js) fits = (omega (arith, fits.0), indices_small js fits.1)
 
-scan_again : (m line : ℕ) (js : List ℕ) → length js ≤ m → AllByRecursion (λ (j : ℕ). j < 2 ^ 32) js → scan_from m line (map decimal js) ≡ Ok (call.Scan js)
+scan_again : (m line : ℕ) (js : List ℕ) → length js ≤ m → AllByRecursion (λ (j : ℕ). j < 2 ^ 32) js → scan_from m line (map decimal js) ≡ Ok (Call.Scan js)
 unfolding scan_from
 scan_again m line js few fits =
     let within : ltb m (length (map decimal js)) ≡ false = le-ltb m (length (map decimal js)) (omega (arith, length-map js decimal)) in
     rw (within, numbers_again line greatest_index [] js (omega arith) (indices_within js fits)) refl
 
-read_again : (line j : ℕ) → j ≤ greatest_index → read_from line (decimal j ∷ []) ≡ Ok (call.Read j)
+read_again : (line j : ℕ) → j ≤ greatest_index → read_from line (decimal j ∷ []) ≡ Ok (Call.Read j)
 unfolding read_from
 read_again line j a = rw (number_at_again line greatest_index j (omega arith) a) refl
 
-update_if_again : (line j s v : ℕ) → j ≤ greatest_index → s ≤ greatest → v ≤ greatest → update_if_from line (decimal j ∷ decimal s ∷ decimal v ∷ []) ≡ Ok (call.UpdateIf j s v)
+update_if_again : (line j s v : ℕ) → j ≤ greatest_index → s ≤ greatest → v ≤ greatest → update_if_from line (decimal j ∷ decimal s ∷ decimal v ∷ []) ≡ Ok (Call.UpdateIf j s v)
 unfolding update_if_from
 update_if_again line j s v a b c =
     rw (number_at_again line greatest_index j (omega arith) a, number_at_again line greatest s (omega arith) b, number_at_again line greatest v (omega arith) c) refl
@@ -44,7 +35,7 @@ update_if_again line j s v a b c =
 abbrev call_by : ℕ → ℕ → List ℕ → List (List ℕ) → Result Call PlanError
 call_by m line w fs =
     cond (bytes_eq w (codes "update")) (update_from line fs) (cond (bytes_eq w (codes "scan")) (scan_from m line fs)
-    (cond (bytes_eq w (codes "read")) (read_from line fs) (cond (bytes_eq w (codes "updateif")) (update_if_from line fs) (Err (plan.Line line cause.Word)))))
+    (cond (bytes_eq w (codes "read")) (read_from line fs) (cond (bytes_eq w (codes "updateif")) (update_if_from line fs) (Err (PlanError.Line line Cause.Word)))))
 
 call_is : (m line : ℕ) (text : List ℕ) → call_text_at m line text ≡ call_by m line (until 32 text) (fields_of text)
 unfolding call_text_at
@@ -56,15 +47,15 @@ call_parts m line word fs none nones =
     call_is m line text ∙ ap (λ (w : List ℕ). call_by m line w (fields_of text)) (until_joined 32 word fs none).0 ∙ ap (call_by m line word) (fields_again word fs none nones)
 
 pub call_again : (m line : ℕ) (c : Call) → IsCall m c → call_text_at m line (call_text c) ≡ Ok c
-call_again m line (call.Update j v) fits =
+call_again m line (Call.Update j v) fits =
     call_parts m line (codes "update") (decimal j ∷ decimal v ∷ []) (refl, (refl, (refl, (refl, (refl, (refl, tt))))))
     (HasNo-decimal 32 j space_no_digit (omega (arith, fits.0)), (HasNo-decimal 32 v space_no_digit fits.1, tt)) ∙ update_again line j v (omega (arith, fits.0)) (omega (arith, fits.1))
-call_again m line (call.Scan js) fits =
+call_again m line (Call.Scan js) fits =
     ap (λ (l : List ℕ). call_text_at m line (codes "scan" ++ l)) (sym (behind_numbers js)) ∙ call_parts m line (codes "scan") (map decimal js) (refl, (refl, (refl, (refl, tt))))
     (HasNo-numbers 32 js space_no_digit (indices_small js fits.1)) ∙ scan_again m line js fits.0 fits.1
-call_again m line (call.Read j) fits =
+call_again m line (Call.Read j) fits =
     call_parts m line (codes "read") (decimal j ∷ []) (refl, (refl, (refl, (refl, tt)))) (HasNo-decimal 32 j space_no_digit (omega (arith, fits)), tt) ∙ read_again line j (omega (arith, fits))
-call_again m line (call.UpdateIf j s v) fits =
+call_again m line (Call.UpdateIf j s v) fits =
     call_parts m line (codes "updateif") (decimal j ∷ decimal s ∷ decimal v ∷ []) (refl, (refl, (refl, (refl, (refl, (refl, (refl, (refl, tt))))))))
     (HasNo-decimal 32 j space_no_digit (omega (arith, fits.0)), (HasNo-decimal 32 s space_no_digit fits.1, (HasNo-decimal 32 v space_no_digit fits.2, tt))) ∙ update_if_again line j s v
     (omega (arith, fits.0)) (omega (arith, fits.1)) (omega (arith, fits.2))
@@ -78,13 +69,13 @@ calls_again m line found (c ∷ cs) fits =
 -- no byte of a call's text is the newline or the semicolon
 HasNo-call : (c m : ℕ) (x : Call) → IsNoDigit c → eqb 32 c ≡ false → HasNo c (codes "update") → HasNo c (codes "scan") → HasNo c (codes "read") → HasNo c (codes "updateif") →
     IsCall m x → HasNo c (call_text x)
-HasNo-call c m (call.Update j v) none space a s b d fits =
+HasNo-call c m (Call.Update j v) none space a s b d fits =
     HasNo-append c (codes "update") (flat_map number_field (j ∷ v ∷ [])) a (HasNo-fields c (j ∷ v ∷ []) none space (omega (arith, fits.0), (fits.1, tt)))
-HasNo-call c m (call.Scan js) none space a s b d fits =
+HasNo-call c m (Call.Scan js) none space a s b d fits =
     HasNo-append c (codes "scan") (flat_map number_field js) s (HasNo-fields c js none space (indices_small js fits.1))
-HasNo-call c m (call.Read j) none space a s b d fits =
+HasNo-call c m (Call.Read j) none space a s b d fits =
     HasNo-append c (codes "read") (flat_map number_field (j ∷ [])) b (HasNo-fields c (j ∷ []) none space (omega (arith, fits), tt))
-HasNo-call c m (call.UpdateIf j e v) none space a s b d fits =
+HasNo-call c m (Call.UpdateIf j e v) none space a s b d fits =
     HasNo-append c (codes "updateif") (flat_map number_field (j ∷ e ∷ v ∷ [])) d (HasNo-fields c (j ∷ e ∷ v ∷ []) none space (omega (arith, fits.0), (fits.1, (fits.2, tt))))
 
 semicolon_call : (m : ℕ) (x : Call) → IsCall m x → HasNo 59 (call_text x)
@@ -231,7 +222,7 @@ sizes_word : HasNo 32 (codes "sizes")
 sizes_word = (refl, (refl, (refl, (refl, (refl, tt)))))
 
 abbrev sizes_by : Bool → List (List ℕ) → Result Layout PlanError
-sizes_by word fs = cond word (sizes_from fs) (Err (plan.Line 1 cause.Word))
+sizes_by word fs = cond word (sizes_from fs) (Err (PlanError.Line 1 Cause.Word))
 
 sizes_is : (l : List ℕ) → sizes_at l ≡ sizes_by (bytes_eq (until 32 l) (codes "sizes")) (fields_of l)
 unfolding sizes_at
@@ -317,8 +308,8 @@ steps_word = (refl, (refl, (refl, (refl, (refl, tt)))))
 
 abbrev last_by : ℕ → ℕ → Bool → List (List ℕ) → List (List ℕ) → Result (List (ℕ × ℕ) × Bool) PlanError
 last_by line ports word fs behind =
-    cond word (cond (eqb ports 0) (Err plan.Ports) (entries_at line ports [] fs >>= λ steps. cond (is_end behind) (Ok steps) (Err (plan.Line (line + 1) cause.Extra))))
-    (Err (plan.Line line cause.Word))
+    cond word (cond (eqb ports 0) (Err PlanError.Ports) (entries_at line ports [] fs >>= λ steps. cond (is_end behind) (Ok steps) (Err (PlanError.Line (line + 1) Cause.Extra))))
+    (Err (PlanError.Line line Cause.Word))
 
 last_is : (line ports : ℕ) (l : List ℕ) (behind : List (List ℕ)) → last_at line ports l behind ≡ last_by line ports (bytes_eq (until 32 l) (codes "steps")) (fields_of l) behind
 unfolding last_at

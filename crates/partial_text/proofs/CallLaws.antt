@@ -1,25 +1,20 @@
 -- A call is read exactly from its text, and calls from their texts in a row.
-use Rattle.partial_text.proofs.Common.{◌≡◌, ℕ, ◌^◌, ◌<◌, ◌≤◌, Bool, true, false, cond, eqb, ltb, ◌&&◌, List, [], ◌∷◌, ◌++◌, length, map, codes, Ok, Err, refl, sym, ap, subst, ◌∙◌, append_assoc, drop, ◌⊎◌, inl, inr, arith, decimal, ok_or, flat_map, AllByRecursion, bytes_eq, eqb-true, ltb-false, append-nil, length-map, flat_map-map, Call, until, onto_first, ◌>>=◌, call_text, next_call, port_line, IsCall, greatest, greatest_index, fields_of, exactly_one, exactly_two, exactly_three, number_at, numbers_at, call_texts}
-use Rattle.partial_model.specs.declared.call.Call.TheVariants as call
-use Rattle.partial_text.specs.declared.fault.Cause.TheVariants as cause
-use Rattle.partial_text.specs.declared.fault.PlanError.TheVariants as plan
+use Rattle.partial_text.proofs.{Common.{◌≡◌, ℕ, ◌^◌, ◌<◌, ◌≤◌, Bool, true, false, cond, eqb, ltb, ◌&&◌, List, [], ◌∷◌, ◌++◌, length, map, codes, Ok, Err, refl, sym, ap, subst, ◌∙◌, append_assoc, drop, ◌⊎◌, inl, inr, arith, decimal, ok_or, flat_map, AllByRecursion, bytes_eq, eqb-true, ltb-false, append-nil, length-map, flat_map-map, Call, until, onto_first, ◌>>=◌, call_text, next_call, port_line, IsCall, greatest, greatest_index, fields_of, exactly_one, exactly_two, exactly_three, number_at, numbers_at, call_texts, PlanError}, NumberLaws.and_both, PieceLaws.behind_each, FieldLaws.{bind_ok, if_ok, unless_ok, ok_is, found_ok, number_at_ok, numbers_ok, behind_numbers, one_is, two_is, three_is, with_word}}
+use Rattle.partial_text.specs.declared.fault.Cause.{Cause}
 use Rattle.partial_text.specs.Judging.{update_from, scan_from, read_from, update_if_from, call_text_at, calls_at, port_line_at}
-use Rattle.partial_text.proofs.NumberLaws.{and_both}
-use Rattle.partial_text.proofs.PieceLaws.{behind_each}
-use Rattle.partial_text.proofs.FieldLaws.{bind_ok, if_ok, unless_ok, ok_is, found_ok, number_at_ok, numbers_ok, behind_numbers, one_is, two_is, three_is, with_word}
 
 update_ok : (line m : ℕ) (fs : List (List ℕ)) (c : Call) → update_from line fs ≡ Ok c → (call_text c ≡ codes "update" ++ behind_each 32 fs) × IsCall m c
 unfolding update_from
 update_ok line m fs c e =
-    let a = bind_ok (ok_or (exactly_two fs) (plan.Line line cause.Count)) (λ f. number_at line greatest_index f.0 >>= λ j. number_at line greatest f.1 >>= λ v. Ok (call.Update j v)) c e in
-    let b = bind_ok (number_at line greatest_index a.0.0) (λ j. number_at line greatest a.0.1 >>= λ v. Ok (call.Update j v)) c a.2 in
-    let d = bind_ok (number_at line greatest a.0.1) (λ v. Ok (call.Update b.0 v)) c b.2 in
-    let is = two_is fs a.0 (found_ok (exactly_two fs) (plan.Line line cause.Count) a.0 a.1) in
+    let a = bind_ok (ok_or (exactly_two fs) (PlanError.Line line Cause.Count)) (λ f. number_at line greatest_index f.0 >>= λ j. number_at line greatest f.1 >>= λ v. Ok (Call.Update j v)) c e in
+    let b = bind_ok (number_at line greatest_index a.0.0) (λ j. number_at line greatest a.0.1 >>= λ v. Ok (Call.Update j v)) c a.2 in
+    let d = bind_ok (number_at line greatest a.0.1) (λ v. Ok (Call.Update b.0 v)) c b.2 in
+    let is = two_is fs a.0 (found_ok (exactly_two fs) (PlanError.Line line Cause.Count) a.0 a.1) in
     let j = number_at_ok line greatest_index a.0.0 b.0 (omega arith) b.1 in
     let v = number_at_ok line greatest a.0.1 d.0 (omega arith) d.1 in
-    let same = ok_is (call.Update b.0 d.0) c d.2 in
+    let same = ok_is (Call.Update b.0 d.0) c d.2 in
     let fields : fs ≡ decimal b.0 ∷ decimal d.0 ∷ [] = cc (is, j.0, v.0) in
-    let text : codes "update" ++ behind_each 32 fs ≡ call_text (call.Update b.0 d.0) = ap (λ (l : List (List ℕ)). codes "update" ++ behind_each 32 l) fields in
+    let text : codes "update" ++ behind_each 32 fs ≡ call_text (Call.Update b.0 d.0) = ap (λ (l : List (List ℕ)). codes "update" ++ behind_each 32 l) fields in
     subst (λ (x : Call). (call_text x ≡ codes "update" ++ behind_each 32 fs) × IsCall m x) same (sym text, (omega (arith, j.1), omega (arith, v.1)))
 
 -- indices that are not above the greatest
@@ -30,12 +25,12 @@ indices_fit (j ∷ js) fits = (omega (arith, fits.0), indices_fit js fits.1)
 scan_ok : (line m : ℕ) (fs : List (List ℕ)) (c : Call) → scan_from m line fs ≡ Ok c → (call_text c ≡ codes "scan" ++ behind_each 32 fs) × IsCall m c
 unfolding scan_from
 scan_ok line m fs c e =
-    let a = unless_ok (ltb m (length fs)) (numbers_at line greatest_index [] fs >>= λ js. Ok (call.Scan js)) (plan.Line line cause.Count) c e in
-    let b = bind_ok (numbers_at line greatest_index [] fs) (λ js. Ok (call.Scan js)) c a.1 in
+    let a = unless_ok (ltb m (length fs)) (numbers_at line greatest_index [] fs >>= λ js. Ok (Call.Scan js)) (PlanError.Line line Cause.Count) c e in
+    let b = bind_ok (numbers_at line greatest_index [] fs) (λ js. Ok (Call.Scan js)) c a.1 in
     let r = numbers_ok line greatest_index [] fs b.0 (omega arith) b.1 in
     let fields : fs ≡ map decimal b.0 = r.2 ∙ ap (map decimal) (sym r.1) in
-    let same = ok_is (call.Scan b.0) c b.2 in
-    let text : codes "scan" ++ behind_each 32 fs ≡ call_text (call.Scan b.0) = ap (λ (l : List ℕ). codes "scan" ++ l) (ap (behind_each 32) fields ∙ behind_numbers b.0) in
+    let same = ok_is (Call.Scan b.0) c b.2 in
+    let text : codes "scan" ++ behind_each 32 fs ≡ call_text (Call.Scan b.0) = ap (λ (l : List ℕ). codes "scan" ++ l) (ap (behind_each 32) fields ∙ behind_numbers b.0) in
     let few : length b.0 ≤ m = omega (arith, ltb-false m (length fs) a.0, ap length fields, length-map b.0 decimal) in
     let fits = subst (AllByRecursion (λ (j : ℕ). j < 2 ^ 32)) (sym r.1) (indices_fit r.0 r.3) in
     subst (λ (x : Call). (call_text x ≡ codes "scan" ++ behind_each 32 fs) × IsCall m x) same (sym text, (few, fits))
@@ -43,30 +38,30 @@ scan_ok line m fs c e =
 read_ok : (line m : ℕ) (fs : List (List ℕ)) (c : Call) → read_from line fs ≡ Ok c → (call_text c ≡ codes "read" ++ behind_each 32 fs) × IsCall m c
 unfolding read_from
 read_ok line m fs c e =
-    let a = bind_ok (ok_or (exactly_one fs) (plan.Line line cause.Count)) (λ f. number_at line greatest_index f >>= λ j. Ok (call.Read j)) c e in
-    let b = bind_ok (number_at line greatest_index a.0) (λ j. Ok (call.Read j)) c a.2 in
-    let is = one_is fs a.0 (found_ok (exactly_one fs) (plan.Line line cause.Count) a.0 a.1) in
+    let a = bind_ok (ok_or (exactly_one fs) (PlanError.Line line Cause.Count)) (λ f. number_at line greatest_index f >>= λ j. Ok (Call.Read j)) c e in
+    let b = bind_ok (number_at line greatest_index a.0) (λ j. Ok (Call.Read j)) c a.2 in
+    let is = one_is fs a.0 (found_ok (exactly_one fs) (PlanError.Line line Cause.Count) a.0 a.1) in
     let j = number_at_ok line greatest_index a.0 b.0 (omega arith) b.1 in
-    let same = ok_is (call.Read b.0) c b.2 in
+    let same = ok_is (Call.Read b.0) c b.2 in
     let fields : fs ≡ decimal b.0 ∷ [] = cc (is, j.0) in
-    let text : codes "read" ++ behind_each 32 fs ≡ call_text (call.Read b.0) = ap (λ (l : List (List ℕ)). codes "read" ++ behind_each 32 l) fields in
+    let text : codes "read" ++ behind_each 32 fs ≡ call_text (Call.Read b.0) = ap (λ (l : List (List ℕ)). codes "read" ++ behind_each 32 l) fields in
     subst (λ (x : Call). (call_text x ≡ codes "read" ++ behind_each 32 fs) × IsCall m x) same (sym text, omega (arith, j.1))
 
 update_if_ok : (line m : ℕ) (fs : List (List ℕ)) (c : Call) → update_if_from line fs ≡ Ok c → (call_text c ≡ codes "updateif" ++ behind_each 32 fs) × IsCall m c
 unfolding update_if_from
 update_if_ok line m fs c e =
-    let a = bind_ok (ok_or (exactly_three fs) (plan.Line line cause.Count))
-    (λ f. number_at line greatest_index f.0 >>= λ j. number_at line greatest f.1 >>= λ s. number_at line greatest f.2 >>= λ v. Ok (call.UpdateIf j s v)) c e in
-    let b = bind_ok (number_at line greatest_index a.0.0) (λ j. number_at line greatest a.0.1 >>= λ s. number_at line greatest a.0.2 >>= λ v. Ok (call.UpdateIf j s v)) c a.2 in
-    let d = bind_ok (number_at line greatest a.0.1) (λ s. number_at line greatest a.0.2 >>= λ v. Ok (call.UpdateIf b.0 s v)) c b.2 in
-    let g = bind_ok (number_at line greatest a.0.2) (λ v. Ok (call.UpdateIf b.0 d.0 v)) c d.2 in
-    let is = three_is fs a.0 (found_ok (exactly_three fs) (plan.Line line cause.Count) a.0 a.1) in
+    let a = bind_ok (ok_or (exactly_three fs) (PlanError.Line line Cause.Count))
+    (λ f. number_at line greatest_index f.0 >>= λ j. number_at line greatest f.1 >>= λ s. number_at line greatest f.2 >>= λ v. Ok (Call.UpdateIf j s v)) c e in
+    let b = bind_ok (number_at line greatest_index a.0.0) (λ j. number_at line greatest a.0.1 >>= λ s. number_at line greatest a.0.2 >>= λ v. Ok (Call.UpdateIf j s v)) c a.2 in
+    let d = bind_ok (number_at line greatest a.0.1) (λ s. number_at line greatest a.0.2 >>= λ v. Ok (Call.UpdateIf b.0 s v)) c b.2 in
+    let g = bind_ok (number_at line greatest a.0.2) (λ v. Ok (Call.UpdateIf b.0 d.0 v)) c d.2 in
+    let is = three_is fs a.0 (found_ok (exactly_three fs) (PlanError.Line line Cause.Count) a.0 a.1) in
     let j = number_at_ok line greatest_index a.0.0 b.0 (omega arith) b.1 in
     let s = number_at_ok line greatest a.0.1 d.0 (omega arith) d.1 in
     let v = number_at_ok line greatest a.0.2 g.0 (omega arith) g.1 in
-    let same = ok_is (call.UpdateIf b.0 d.0 g.0) c g.2 in
+    let same = ok_is (Call.UpdateIf b.0 d.0 g.0) c g.2 in
     let fields : fs ≡ decimal b.0 ∷ decimal d.0 ∷ decimal g.0 ∷ [] = cc (is, j.0, s.0, v.0) in
-    let text : codes "updateif" ++ behind_each 32 fs ≡ call_text (call.UpdateIf b.0 d.0 g.0) = ap (λ (l : List (List ℕ)). codes "updateif" ++ behind_each 32 l) fields in
+    let text : codes "updateif" ++ behind_each 32 fs ≡ call_text (Call.UpdateIf b.0 d.0 g.0) = ap (λ (l : List (List ℕ)). codes "updateif" ++ behind_each 32 l) fields in
     subst (λ (x : Call). (call_text x ≡ codes "updateif" ++ behind_each 32 fs) × IsCall m x) same (sym text, (omega (arith, j.1), omega (arith, s.1), omega (arith, v.1)))
 
 pub chosen : {A : Type 0} (b : Bool) (x y : A) (z : A) → cond b x y ≡ z → ((b ≡ true) × (x ≡ z)) ⊎ ((b ≡ false) × (y ≡ z))
@@ -84,14 +79,14 @@ call_ok line m text c e =
     let fs = fields_of text in
     let w = until 32 text in
     elim (chosen (bytes_eq w (codes "update")) (update_from line fs) (cond (bytes_eq w (codes "scan")) (scan_from m line fs)
-    (cond (bytes_eq w (codes "read")) (read_from line fs) (cond (bytes_eq w (codes "updateif")) (update_if_from line fs) (Err (plan.Line line cause.Word))))) (Ok c) e) [
+    (cond (bytes_eq w (codes "read")) (read_from line fs) (cond (bytes_eq w (codes "updateif")) (update_if_from line fs) (Err (PlanError.Line line Cause.Word))))) (Ok c) e) [
       | inl h ↦ from_word line m (codes "update") text c h.0 (update_ok line m fs c h.1)
       | inr h ↦ elim (chosen (bytes_eq w (codes "scan")) (scan_from m line fs)
-          (cond (bytes_eq w (codes "read")) (read_from line fs) (cond (bytes_eq w (codes "updateif")) (update_if_from line fs) (Err (plan.Line line cause.Word)))) (Ok c) h.1) [
+          (cond (bytes_eq w (codes "read")) (read_from line fs) (cond (bytes_eq w (codes "updateif")) (update_if_from line fs) (Err (PlanError.Line line Cause.Word)))) (Ok c) h.1) [
             | inl k ↦ from_word line m (codes "scan") text c k.0 (scan_ok line m fs c k.1)
-            | inr k ↦ elim (chosen (bytes_eq w (codes "read")) (read_from line fs) (cond (bytes_eq w (codes "updateif")) (update_if_from line fs) (Err (plan.Line line cause.Word))) (Ok c) k.1) [
+            | inr k ↦ elim (chosen (bytes_eq w (codes "read")) (read_from line fs) (cond (bytes_eq w (codes "updateif")) (update_if_from line fs) (Err (PlanError.Line line Cause.Word))) (Ok c) k.1) [
               | inl l ↦ from_word line m (codes "read") text c l.0 (read_ok line m fs c l.1)
-              | inr l ↦ let n = if_ok (bytes_eq w (codes "updateif")) (update_if_from line fs) (plan.Line line cause.Word) c l.1 in from_word line m (codes "updateif") text c n.0
+              | inr l ↦ let n = if_ok (bytes_eq w (codes "updateif")) (update_if_from line fs) (PlanError.Line line Cause.Word) c l.1 in from_word line m (codes "updateif") text c n.0
                   (update_if_ok line m fs c n.1)
             ]
           ]

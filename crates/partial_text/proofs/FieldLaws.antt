@@ -1,10 +1,7 @@
 -- Fields that are read as numbers are the numbers' digits, and these are read as the numbers.
-use Rattle.partial_text.proofs.Common.{◌≡◌, ℕ, ◌^◌, ◌<◌, ◌≤◌, Bool, true, false, cond, eqb, List, [], ◌∷◌, ◌++◌, map, Option, None, Some, Result, Ok, Err, refl, sym, ap, ◌∙◌, append_assoc, arith, decimal, ok_or, flat_map, AllByRecursion, bytes_eq, append-nil, flat_map-map, bytes_eq-Decides, PlanError, until, pieces_behind, number_of, ◌>>=◌, number_field, fields_of, exactly_one, exactly_two, exactly_three, exactly_four, number_at}
-use Rattle.partial_text.specs.declared.fault.Cause.TheVariants as cause
-use Rattle.partial_text.specs.declared.fault.PlanError.TheVariants as plan
+use Rattle.partial_text.proofs.{Common.{◌≡◌, ℕ, ◌^◌, ◌<◌, ◌≤◌, Bool, true, false, cond, eqb, List, [], ◌∷◌, ◌++◌, map, Option, None, Some, Result, Ok, Err, refl, sym, ap, ◌∙◌, append_assoc, arith, decimal, ok_or, flat_map, AllByRecursion, bytes_eq, append-nil, flat_map-map, bytes_eq-Decides, PlanError, until, pieces_behind, number_of, ◌>>=◌, number_field, fields_of, exactly_one, exactly_two, exactly_three, exactly_four, number_at}, NumberLaws.{number_ok, number_again, HasNo, HasNo-append, HasNo-decimal, IsNoDigit}, PieceLaws.{behind_each, joined_is, until_joined, pieces_joined}}
+use Rattle.partial_text.specs.declared.fault.Cause.{Cause}
 use Rattle.partial_text.specs.Judging.{numbers_at}
-use Rattle.partial_text.proofs.NumberLaws.{number_ok, number_again, HasNo, HasNo-append, HasNo-decimal, IsNoDigit}
-use Rattle.partial_text.proofs.PieceLaws.{behind_each, joined_is, until_joined, pieces_joined}
 
 -- the value of a step that did not fail
 pub bind_ok : {A B : Type 0} (r : Result A PlanError) (f : A → Result B PlanError) (y : B) → (r >>= f) ≡ Ok y → (x : A) × (r ≡ Ok x) × (f x ≡ Ok y)
@@ -30,7 +27,7 @@ found_ok None d y e = absurd cc
 found_ok (Some x) d y e = ap Some (ok_is x y e)
 
 pub number_at_ok : (line most : ℕ) (f : List ℕ) (n : ℕ) → most < 2 ^ 64 → number_at line most f ≡ Ok n → (f ≡ decimal n) × (n ≤ most)
-number_at_ok line most f n small e = number_ok most f n small (found_ok (number_of most f) (plan.Line line cause.Number) n e)
+number_at_ok line most f n small e = number_ok most f n small (found_ok (number_of most f) (PlanError.Line line Cause.Number) n e)
 
 pub number_at_again : (line most n : ℕ) → most < 2 ^ 64 → n ≤ most → number_at line most (decimal n) ≡ Ok n
 number_at_again line most n small le = rw (number_again most n small le) refl

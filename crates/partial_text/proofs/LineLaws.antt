@@ -1,20 +1,15 @@
 -- Each line is read exactly from its text.
-use Rattle.partial_text.proofs.Common.{◌≡◌, ℕ, ◌^◌, ◌<◌, ◌≤◌, Bool, true, false, cond, eqb, leb, ltb, ◌&&◌, List, [], ◌∷◌, ◌++◌, length, map, drop, codes, Ok, Err, refl, sym, ap, subst, ◌∙◌, append_assoc, ◌⊎◌, inl, inr, arith, decimal, ok_or, flat_map, AllByRecursion, bytes_eq, eqb-true, leb-true, ltb-true, append-nil, length-map, bytes_eq-Decides, until, from, ◌>>=◌, field, sizes_line, initial_line, entry_text, rest_text, IsTurnEntry, greatest, greatest_index, fields_of, exactly_four, number_at, numbers_at, in_range, is_nil, is_rest, decimal_nonempty, Layout, IsLayout, initial_words}
-use Rattle.partial_words.specs.declared.sizes.SizeError.TheVariants as size
-use Rattle.partial_text.specs.declared.fault.Cause.TheVariants as cause
-use Rattle.partial_text.specs.declared.fault.PlanError.TheVariants as plan
+use Rattle.partial_text.proofs.{Common.{◌≡◌, ℕ, ◌^◌, ◌<◌, ◌≤◌, Bool, true, false, cond, eqb, leb, ltb, ◌&&◌, List, [], ◌∷◌, ◌++◌, length, map, drop, codes, Ok, Err, refl, sym, ap, subst, ◌∙◌, append_assoc, ◌⊎◌, inl, inr, arith, decimal, ok_or, flat_map, AllByRecursion, bytes_eq, eqb-true, leb-true, ltb-true, append-nil, length-map, bytes_eq-Decides, until, from, ◌>>=◌, field, sizes_line, initial_line, entry_text, rest_text, IsTurnEntry, greatest, greatest_index, fields_of, exactly_four, number_at, numbers_at, in_range, is_nil, is_rest, decimal_nonempty, Layout, IsLayout, initial_words, PlanError}, NumberLaws.and_both, PieceLaws.{behind_each, until_from}, FieldLaws.{bind_ok, if_ok, ok_is, found_ok, number_at_ok, numbers_ok, behind_numbers, four_is, with_word}, CallLaws.chosen}
+use Rattle.partial_words.specs.declared.sizes.SizeError.{SizeError}
+use Rattle.partial_text.specs.declared.fault.Cause.{Cause}
 use Rattle.partial_text.specs.Judging.{sizes_from, sizes_at, initial_at, entry_text_at, entries_at}
-use Rattle.partial_text.proofs.NumberLaws.{and_both}
-use Rattle.partial_text.proofs.PieceLaws.{behind_each, until_from}
-use Rattle.partial_text.proofs.FieldLaws.{bind_ok, if_ok, ok_is, found_ok, number_at_ok, numbers_ok, behind_numbers, four_is, with_word}
-use Rattle.partial_text.proofs.CallLaws.{chosen}
 
 pub in_range_ok : (s t : Layout) → in_range s ≡ Ok t → (s ≡ t) × IsLayout s
 in_range_ok s t e =
-    let a = if_ok (leb 1 s.m && leb s.m 65536) _ (plan.Size size.Components) t e in
-    let b = if_ok (leb 1 s.slots && leb s.slots 65536) _ (plan.Size size.Slots) t a.1 in
-    let c = if_ok (leb s.lists 65536) _ (plan.Size size.Lists) t b.1 in
-    let d = if_ok (leb (initial_words s) s.pool && leb s.pool 4194304) (Ok s) (plan.Size size.Pool) t c.1 in
+    let a = if_ok (leb 1 s.m && leb s.m 65536) _ (PlanError.Size SizeError.Components) t e in
+    let b = if_ok (leb 1 s.slots && leb s.slots 65536) _ (PlanError.Size SizeError.Slots) t a.1 in
+    let c = if_ok (leb s.lists 65536) _ (PlanError.Size SizeError.Lists) t b.1 in
+    let d = if_ok (leb (initial_words s) s.pool && leb s.pool 4194304) (Ok s) (PlanError.Size SizeError.Pool) t c.1 in
     let p = and_both (leb 1 s.m) (leb s.m 65536) a.0 in
     let q = and_both (leb 1 s.slots) (leb s.slots 65536) b.0 in
     let r = and_both (leb (initial_words s) s.pool) (leb s.pool 4194304) d.0 in (
@@ -30,7 +25,7 @@ in_range_ok s t e =
 sizes_from_ok : (fs : List (List ℕ)) (s : Layout) → sizes_from fs ≡ Ok s → (codes "sizes" ++ behind_each 32 fs ≡ sizes_line s) × IsLayout s
 unfolding sizes_from
 sizes_from_ok fs s e =
-    let a = bind_ok (ok_or (exactly_four fs) (plan.Line 1 cause.Count))
+    let a = bind_ok (ok_or (exactly_four fs) (PlanError.Line 1 Cause.Count))
     (λ f. number_at 1 greatest_index f.0 >>= λ m. number_at 1 greatest_index f.1 >>= λ slots. number_at 1 greatest_index f.2 >>= λ lists. number_at 1 greatest_index f.3 >>= λ pool. in_range
     (record { m = m; slots = slots; lists = lists; pool = pool })) s e in
     let f = a.0 in
@@ -40,7 +35,7 @@ sizes_from_ok fs s e =
     (record { m = b.0; slots = slots; lists = lists; pool = pool })) s b.2 in
     let d = bind_ok (number_at 1 greatest_index f.2) (λ lists. number_at 1 greatest_index f.3 >>= λ pool. in_range (record { m = b.0; slots = c.0; lists = lists; pool = pool })) s c.2 in
     let g = bind_ok (number_at 1 greatest_index f.3) (λ pool. in_range (record { m = b.0; slots = c.0; lists = d.0; pool = pool })) s d.2 in
-    let is = four_is fs f (found_ok (exactly_four fs) (plan.Line 1 cause.Count) f a.1) in
+    let is = four_is fs f (found_ok (exactly_four fs) (PlanError.Line 1 Cause.Count) f a.1) in
     let n0 = number_at_ok 1 greatest_index f.0 b.0 (omega arith) b.1 in
     let n1 = number_at_ok 1 greatest_index f.1 c.0 (omega arith) c.1 in
     let n2 = number_at_ok 1 greatest_index f.2 d.0 (omega arith) d.1 in
@@ -54,7 +49,7 @@ sizes_from_ok fs s e =
 pub sizes_ok : (l : List ℕ) (s : Layout) → sizes_at l ≡ Ok s → (l ≡ sizes_line s) × IsLayout s
 unfolding sizes_at
 sizes_ok l s e =
-    let a = if_ok (bytes_eq (until 32 l) (codes "sizes")) (sizes_from (fields_of l)) (plan.Line 1 cause.Word) s e in
+    let a = if_ok (bytes_eq (until 32 l) (codes "sizes")) (sizes_from (fields_of l)) (PlanError.Line 1 Cause.Word) s e in
     let b = sizes_from_ok (fields_of l) s a.1 in
     (with_word (codes "sizes") l a.0 ∙ b.0, b.1)
 
@@ -70,8 +65,8 @@ pub initial_ok : (m : ℕ) (l : List ℕ) (vs : List ℕ) → initial_at m l ≡
 unfolding initial_at
 initial_ok m l vs e =
     let fs = fields_of l in
-    let a = if_ok (bytes_eq (until 32 l) (codes "initial")) _ (plan.Line 2 cause.Word) vs e in
-    let b = if_ok (eqb (length fs) m) (numbers_at 2 greatest [] fs) (plan.Line 2 cause.Count) vs a.1 in
+    let a = if_ok (bytes_eq (until 32 l) (codes "initial")) _ (PlanError.Line 2 Cause.Word) vs e in
+    let b = if_ok (eqb (length fs) m) (numbers_at 2 greatest [] fs) (PlanError.Line 2 Cause.Count) vs a.1 in
     let r = numbers_ok 2 greatest [] fs vs (omega arith) b.1 in
     let fields : fs ≡ map decimal vs = r.2 ∙ ap (map decimal) (sym r.1) in (
       with_word (codes "initial") l a.0 ∙ ap (λ (t : List ℕ). codes "initial" ++ t) (ap (behind_each 32) fields ∙ behind_numbers vs),
@@ -95,9 +90,9 @@ entry_ok : (line ports : ℕ) (f : List ℕ) (e : ℕ × ℕ) → entry_text_at 
 unfolding entry_text_at
 entry_ok line ports f e h =
     let a = bind_ok (number_at line greatest_index (until 42 f)) (λ p. number_at line greatest_index (drop 1 (from 42 f)) >>= λ k. cond (ltb p ports && ltb 0 k) (Ok (p, k))
-    (Err (plan.Line line cause.Range))) e h in
-    let b = bind_ok (number_at line greatest_index (drop 1 (from 42 f))) (λ k. cond (ltb a.0 ports && ltb 0 k) (Ok (a.0, k)) (Err (plan.Line line cause.Range))) e a.2 in
-    let c = if_ok (ltb a.0 ports && ltb 0 b.0) (Ok (a.0, b.0)) (plan.Line line cause.Range) e b.2 in
+    (Err (PlanError.Line line Cause.Range))) e h in
+    let b = bind_ok (number_at line greatest_index (drop 1 (from 42 f))) (λ k. cond (ltb a.0 ports && ltb 0 k) (Ok (a.0, k)) (Err (PlanError.Line line Cause.Range))) e a.2 in
+    let c = if_ok (ltb a.0 ports && ltb 0 b.0) (Ok (a.0, b.0)) (PlanError.Line line Cause.Range) e b.2 in
     let d = and_both (ltb a.0 ports) (ltb 0 b.0) c.0 in
     let p = number_at_ok line greatest_index (until 42 f) a.0 (omega arith) a.1 in
     let k = number_at_ok line greatest_index (drop 1 (from 42 f)) b.0 (omega arith) b.1 in

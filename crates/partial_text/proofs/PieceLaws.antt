@@ -1,7 +1,5 @@
 -- The pieces of a text joined again are the text, and the pieces of joined pieces are these pieces.
-use Rattle.partial_text.proofs.Common.{◌≡◌, ℕ, Bool, true, false, cond, eqb, List, [], ◌∷◌, ◌++◌, refl, sym, ap, ◌∙◌, arith, flat_map, AllByRecursion, append-nil, eqb-true, until, from, onto_first, pieces, pieces_behind, eqb_refl}
-use Rattle.partial_text.proofs.Cuts.{pieces-cut}
-use Rattle.partial_text.proofs.NumberLaws.{HasNo}
+use Rattle.partial_text.proofs.{Common.{◌≡◌, ℕ, Bool, true, false, cond, eqb, List, [], ◌∷◌, ◌++◌, refl, sym, ap, ◌∙◌, arith, flat_map, AllByRecursion, append-nil, eqb-true, until, from, onto_first, pieces, pieces_behind, eqb_refl}, Cuts.pieces-cut, NumberLaws.HasNo}
 
 -- each piece behind a separator
 abbrev pub behind_each : ℕ → List (List ℕ) → List ℕ

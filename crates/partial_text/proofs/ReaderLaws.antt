@@ -1,16 +1,13 @@
 -- What a reader gave decides what is answered.
-use Rattle.partial_text.proofs.Common.{◌≡◌, ℕ, ◌<◌, ◌≤◌, true, false, List, ◌++◌, length, Option, None, Some, Result, Ok, Err, refl, sym, ap, subst, ◌∙◌, inl, inr, arith, IfSome, IfOk, Consumes, IsAtEnd, cases_lt, lt-ltb, append-nil, length-append, PlanError, Fails, Gives, IsReaderFault, PlanView, IsPlan, plan_text}
-use Rattle.partial_text.specs.declared.fault.Cause.TheVariants as cause
-use Rattle.partial_text.specs.declared.fault.PlanError.TheVariants as plan
+use Rattle.partial_text.proofs.{Common.{◌≡◌, ℕ, ◌<◌, ◌≤◌, true, false, List, ◌++◌, length, Option, None, Some, Result, Ok, Err, refl, sym, ap, subst, ◌∙◌, inl, inr, arith, IfSome, IfOk, Consumes, IsAtEnd, cases_lt, lt-ltb, append-nil, length-append, PlanError, Fails, Gives, IsReaderFault, PlanView, IsPlan, plan_text}, PlanLaws.judged_ok, AgainLaws.judged_again}
+use Rattle.partial_text.specs.declared.fault.Cause.{Cause}
 use Rattle.partial_text.specs.Judging.{judged_plan}
-use Rattle.partial_text.proofs.PlanLaws.{judged_ok}
-use Rattle.partial_text.proofs.AgainLaws.{judged_again}
 
 pub each_some : {A : Type 0} (o : Option A) (P Q : A → Type 0) → ((x : A) → P x → Q x) → IfSome o P → IfSome o Q
 each_some None P Q h p = tt
 each_some (Some x) P Q h p = h x p
 
-too_long : (text : List ℕ) → 4194304 < length text → judged_plan text ≡ Err (plan.Line 0 cause.Size)
+too_long : (text : List ℕ) → 4194304 < length text → judged_plan text ≡ Err (PlanError.Line 0 Cause.Size)
 unfolding judged_plan
 too_long text long = rw (lt-ltb 4194304 (length text) long) refl
 
@@ -25,12 +22,12 @@ judged_all (Some x) (Some y) text taken end =
     ]
 
 -- where the reader did not fail, no memory was left
-pub only_memory : (e : PlanError) (judged_plan : Result PlanView PlanError) → IsReaderFault e → (e ≡ plan.Read → ⊥) → Fails e judged_plan
-only_memory plan.Memory judged_plan h other = tt
-only_memory plan.Read judged_plan h other = absurd (other refl)
-only_memory (plan.Size x) judged_plan h other = absurd h
-only_memory plan.Ports judged_plan h other = absurd h
-only_memory (plan.Line l c) judged_plan h other = absurd h
+pub only_memory : (e : PlanError) (judged_plan : Result PlanView PlanError) → IsReaderFault e → (e ≡ PlanError.Read → ⊥) → Fails e judged_plan
+only_memory PlanError.Memory judged_plan h other = tt
+only_memory PlanError.Read judged_plan h other = absurd (other refl)
+only_memory (PlanError.Size x) judged_plan h other = absurd h
+only_memory PlanError.Ports judged_plan h other = absurd h
+only_memory (PlanError.Line l c) judged_plan h other = absurd h
 
 pub found_from : (r : Result PlanView PlanError) (a : Option (List ℕ)) (text : List ℕ) → Gives (λ (p : PlanView). p) r (judged_plan text) → IfSome a (λ bytes. judged_plan text ≡ judged_plan bytes) →
     IfOk r (λ (p : PlanView). IfSome a (λ bytes. bytes ≡ plan_text p))

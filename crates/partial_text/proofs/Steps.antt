@@ -1,15 +1,14 @@
 -- What an error says, and how one line of a plan text leads to the next.
 use Rattle.partial_text.proofs.Common.{◌≡◌, ℕ, ◌+◌, true, false, cond, List, [], ◌∷◌, length, codes, Result, Ok, refl, sym, ap, ◌∙◌, bytes_eq, Call, PlanError, until, from, ◌>>=◌, Fails, Tail, more_ports, last_at}
-use Rattle.partial_text.specs.declared.fault.PlanError.TheVariants as plan
 use Rattle.partial_text.specs.Judging.{line_at, tail_at}
 
 -- a step that fails fails the whole
 pub Fails_first : {A B : Type 0} (e : PlanError) (r : Result A PlanError) (f : A → Result B PlanError) (judged : Result B PlanError) → Fails e r → (r >>= f) ≡ judged → Fails e judged
-Fails_first plan.Memory r f judged h e = tt
-Fails_first plan.Read r f judged h e = absurd h
-Fails_first (plan.Size x) r f judged h e = sym e ∙ rw h refl
-Fails_first plan.Ports r f judged h e = sym e ∙ rw h refl
-Fails_first (plan.Line l c) r f judged h e = sym e ∙ rw h refl
+Fails_first PlanError.Memory r f judged h e = tt
+Fails_first PlanError.Read r f judged h e = absurd h
+Fails_first (PlanError.Size x) r f judged h e = sym e ∙ rw h refl
+Fails_first PlanError.Ports r f judged h e = sym e ∙ rw h refl
+Fails_first (PlanError.Line l c) r f judged h e = sym e ∙ rw h refl
 
 -- what one line makes of the ports so far
 abbrev pub tail_by : ℕ → ℕ → List (List Call) → List ℕ × List (List ℕ) → Result Tail PlanError

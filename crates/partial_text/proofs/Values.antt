@@ -1,8 +1,7 @@
 -- The values after a history, entry by entry.
 use Rattle.partial_text.proofs.Common.{◌≡◌, ℕ, ◌<◌, ◌≢◌, Bool, true, false, cond, eqb, List, [], ◌∷◌, length, get_or, set, Option, None, Some, refl, sym, ◌∙◌, zero-add, arith, option_map_or, eqb-true, eqb-false, get_or-set_same, get_or-set_other, length-set, ext_get_or, values_of}
 use Rattle.std.proofs.lemmas.List.FromFn.{length-map-range_with_len, get_or-map-range_with_len}
-use Rattle.partial_model.specs.declared.history.Applied.{Applied}
-use Rattle.partial_model.specs.declared.history.Opening.{Opening}
+use Rattle.partial_model.specs.declared.history.{Applied.Applied, Opening.Opening}
 use Rattle.partial_model.specs.History.{last_from, value_of}
 
 -- each entry sets its component

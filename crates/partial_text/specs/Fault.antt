@@ -3,27 +3,25 @@ use Rattle.std.specs.Prelude.{ℕ, ◌≡◌, Option, Some, None, Result, Ok, Er
 use Rattle.partial_words.specs.SizeFault as sizes
 use Rattle.partial_text.specs.declared.fault.Cause.{Cause}
 use Rattle.partial_text.specs.declared.fault.PlanError.{PlanError}
-use Rattle.partial_text.specs.declared.fault.PlanError.TheVariants as plan
 use Rattle.partial_text.specs.declared.fault.OutcomeError.{OutcomeError}
-use Rattle.partial_text.specs.declared.fault.OutcomeError.TheVariants as outcome
 
 -- the number of a refusal
 abbrev pub plan_code : PlanError → ℕ
-plan_code (plan.Size e) = sizes.size_code e
-plan_code plan.Ports = 5
-plan_code plan.Memory = 6
-plan_code (plan.Line l c) = 10
-plan_code plan.Read = 11
+plan_code (PlanError.Size e) = sizes.size_code e
+plan_code PlanError.Ports = 5
+plan_code PlanError.Memory = 6
+plan_code (PlanError.Line l c) = 10
+plan_code PlanError.Read = 11
 
 -- the line and the cause of a refused line
 abbrev pub line_of : PlanError → Option (ℕ × Cause)
-line_of (plan.Line l c) = Some (l, c)
+line_of (PlanError.Line l c) = Some (l, c)
 line_of _ = None
 
 -- the number of a refusal
 abbrev pub outcome_code_of : OutcomeError → ℕ
-outcome_code_of outcome.Memory = 6
-outcome_code_of outcome.Write = 12
+outcome_code_of OutcomeError.Memory = 6
+outcome_code_of OutcomeError.Write = 12
 
 -- a step that may be refused, and what is done with what it gives
 infixl 10 ◌>>=◌
@@ -33,11 +31,11 @@ abbrev pub ◌>>=◌ : {A B : Type 0} → Result A PlanError → (A → Result B
 
 -- The error is the one that judging gives, unless memory ran out. Judging reads nothing.
 abbrev pub Fails : {Y : Type 0} → PlanError → Result Y PlanError → Type 0
-Fails plan.Memory judged = Unit {0}
-Fails plan.Read judged = ⊥
-Fails (plan.Size e) judged = judged ≡ Err (plan.Size e)
-Fails plan.Ports judged = judged ≡ Err plan.Ports
-Fails (plan.Line l c) judged = judged ≡ Err (plan.Line l c)
+Fails PlanError.Memory judged = Unit {0}
+Fails PlanError.Read judged = ⊥
+Fails (PlanError.Size e) judged = judged ≡ Err (PlanError.Size e)
+Fails PlanError.Ports judged = judged ≡ Err PlanError.Ports
+Fails (PlanError.Line l c) judged = judged ≡ Err (PlanError.Line l c)
 
 -- What a function returned, seen by view, is what judging gives, unless memory ran out.
 abbrev pub Gives : {X Y : Type 0} → (X → Y) → Result X PlanError → Result Y PlanError → Type 0
@@ -46,6 +44,6 @@ Gives view (Err e) judged = Fails e judged
 
 -- what reading the bytes alone may answer
 abbrev pub IsReaderFault : PlanError → Type 0
-IsReaderFault plan.Memory = Unit {0}
-IsReaderFault plan.Read = Unit {0}
+IsReaderFault PlanError.Memory = Unit {0}
+IsReaderFault PlanError.Read = Unit {0}
 IsReaderFault _ = ⊥

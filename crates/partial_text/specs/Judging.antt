@@ -3,12 +3,10 @@ use Rattle.std.specs.Prelude.{ℕ, ◌+◌, List, [], ◌∷◌, ◌++◌, lengt
 use Rattle.std.specs.Option.{ok_or, option_map}
 use Rattle.std.specs.Str.{bytes_eq}
 use Rattle.partial_model.specs.declared.call.Call.{Call}
-use Rattle.partial_model.specs.declared.call.Call.TheVariants as call
 use Rattle.partial_words.specs.Layout.{Layout, initial_words}
-use Rattle.partial_words.specs.declared.sizes.SizeError.TheVariants as size
-use Rattle.partial_text.specs.declared.fault.Cause.TheVariants as cause
+use Rattle.partial_words.specs.declared.sizes.SizeError.{SizeError}
+use Rattle.partial_text.specs.declared.fault.Cause.{Cause}
 use Rattle.partial_text.specs.declared.fault.PlanError.{PlanError}
-use Rattle.partial_text.specs.declared.fault.PlanError.TheVariants as plan
 use Rattle.partial_text.specs.Pieces.{until, from, onto_first, pieces, pieces_behind}
 use Rattle.partial_text.specs.Number.{number_of}
 use Rattle.partial_text.specs.Fault.{◌>>=◌}
@@ -50,7 +48,7 @@ exactly_four (a ∷ fs) = option_map (λ x. (a, x.0, x.1, x.2)) (exactly_three f
 
 -- a field that has to be a number
 abbrev pub number_at : ℕ → ℕ → List ℕ → Result ℕ PlanError
-number_at line most field = ok_or (number_of most field) (plan.Line line cause.Number)
+number_at line most field = ok_or (number_of most field) (PlanError.Line line Cause.Number)
 
 -- fields that have to be numbers, behind the numbers so far
 unfoldable pub numbers_at : ℕ → ℕ → List ℕ → List (List ℕ) → Result (List ℕ) PlanError
@@ -66,12 +64,12 @@ abbrev pub in_range : Layout → Result Layout PlanError
 in_range s =
     if nat_le 1 s.m && nat_le s.m 65536 then (if nat_le 1 s.slots && nat_le s.slots 65536 then
     (if nat_le s.lists 65536 then
-    (if nat_le (initial_words s) s.pool && nat_le s.pool 4194304 then Ok s else Err (plan.Size size.Pool)) else
-    Err (plan.Size size.Lists)) else Err (plan.Size size.Slots)) else Err (plan.Size size.Components)
+    (if nat_le (initial_words s) s.pool && nat_le s.pool 4194304 then Ok s else Err (PlanError.Size SizeError.Pool)) else
+    Err (PlanError.Size SizeError.Lists)) else Err (PlanError.Size SizeError.Slots)) else Err (PlanError.Size SizeError.Components)
 
 unfoldable pub sizes_from : List (List ℕ) → Result Layout PlanError
 sizes_from fields = do
-  f ← ok_or (exactly_four fields) (plan.Line 1 cause.Count)
+  f ← ok_or (exactly_four fields) (PlanError.Line 1 Cause.Count)
   m ← number_at 1 greatest_index f.0
   slots ← number_at 1 greatest_index f.1
   lists ← number_at 1 greatest_index f.2
@@ -79,41 +77,41 @@ sizes_from fields = do
   in_range (record { m = m; slots = slots; lists = lists; pool = pool })
 
 unfoldable pub sizes_at : List ℕ → Result Layout PlanError
-sizes_at l = if bytes_eq (until 32 l) (codes "sizes") then sizes_from (fields_of l) else Err (plan.Line 1 cause.Word)
+sizes_at l = if bytes_eq (until 32 l) (codes "sizes") then sizes_from (fields_of l) else Err (PlanError.Line 1 Cause.Word)
 
 unfoldable pub initial_at : ℕ → List ℕ → Result (List ℕ) PlanError
 initial_at m l = if bytes_eq (until 32 l) (codes "initial") then
-    (if length (fields_of l) == m then numbers_at 2 greatest [] (fields_of l) else Err (plan.Line 2 cause.Count)) else Err
-    (plan.Line 2 cause.Word)
+    (if length (fields_of l) == m then numbers_at 2 greatest [] (fields_of l) else Err (PlanError.Line 2 Cause.Count)) else Err
+    (PlanError.Line 2 Cause.Word)
 
 -- ---- calls
 
 unfoldable pub update_from : ℕ → List (List ℕ) → Result Call PlanError
 update_from line fields = do
-  f ← ok_or (exactly_two fields) (plan.Line line cause.Count)
+  f ← ok_or (exactly_two fields) (PlanError.Line line Cause.Count)
   j ← number_at line greatest_index f.0
   v ← number_at line greatest f.1
-  Ok (call.Update j v)
+  Ok (Call.Update j v)
 
 -- a scan of no more positions than there are components
 unfoldable pub scan_from : ℕ → ℕ → List (List ℕ) → Result Call PlanError
 scan_from m line fields =
-    if nat_lt m (length fields) then Err (plan.Line line cause.Count) else
-    (numbers_at line greatest_index [] fields >>= λ js. Ok (call.Scan js))
+    if nat_lt m (length fields) then Err (PlanError.Line line Cause.Count) else
+    (numbers_at line greatest_index [] fields >>= λ js. Ok (Call.Scan js))
 
 unfoldable pub read_from : ℕ → List (List ℕ) → Result Call PlanError
 read_from line fields = do
-  f ← ok_or (exactly_one fields) (plan.Line line cause.Count)
+  f ← ok_or (exactly_one fields) (PlanError.Line line Cause.Count)
   j ← number_at line greatest_index f
-  Ok (call.Read j)
+  Ok (Call.Read j)
 
 unfoldable pub update_if_from : ℕ → List (List ℕ) → Result Call PlanError
 update_if_from line fields = do
-  f ← ok_or (exactly_three fields) (plan.Line line cause.Count)
+  f ← ok_or (exactly_three fields) (PlanError.Line line Cause.Count)
   j ← number_at line greatest_index f.0
   s ← number_at line greatest f.1
   v ← number_at line greatest f.2
-  Ok (call.UpdateIf j s v)
+  Ok (Call.UpdateIf j s v)
 
 -- the call that a text is, by its first field, in a plan of m components
 unfoldable pub call_text_at : ℕ → ℕ → List ℕ → Result Call PlanError
@@ -121,7 +119,7 @@ call_text_at m line text =
     if bytes_eq (until 32 text) (codes "update") then update_from line (fields_of text) else
     (if bytes_eq (until 32 text) (codes "scan") then scan_from m line (fields_of text) else
     (if bytes_eq (until 32 text) (codes "read") then read_from line (fields_of text) else
-    (if bytes_eq (until 32 text) (codes "updateif") then update_if_from line (fields_of text) else Err (plan.Line line cause.Word))))
+    (if bytes_eq (until 32 text) (codes "updateif") then update_if_from line (fields_of text) else Err (PlanError.Line line Cause.Word))))
 
 -- the calls that texts are, behind the calls so far
 unfoldable pub calls_at : ℕ → ℕ → List Call → List (List ℕ) → Result (List Call) PlanError
@@ -160,7 +158,7 @@ unfoldable pub entry_text_at : ℕ → ℕ → List ℕ → Result (ℕ × ℕ) 
 entry_text_at line ports f = do
   p ← number_at line greatest_index (until 42 f)
   k ← number_at line greatest_index (drop 1 (from 42 f))
-  if nat_lt p ports && nat_lt 0 k then Ok (p, k) else Err (plan.Line line cause.Range)
+  if nat_lt p ports && nat_lt 0 k then Ok (p, k) else Err (PlanError.Line line Cause.Range)
 
 -- whether there is no field
 abbrev pub is_nil : List (List ℕ) → Bool
@@ -181,14 +179,14 @@ entries_at line ports found (f ∷ fs) = if is_rest f fs then Ok (found, true) e
 
 -- the first line, and what stands behind it
 unfoldable pub line_at : ℕ → List (List ℕ) → Result (List ℕ × List (List ℕ)) PlanError
-line_at line [] = Err (plan.Line line cause.End)
-line_at line (l ∷ []) = Err (plan.Line line cause.End)
+line_at line [] = Err (PlanError.Line line Cause.End)
+line_at line (l ∷ []) = Err (PlanError.Line line Cause.End)
 line_at line (l ∷ k ∷ ls) = Ok (l, k ∷ ls)
 
 -- the ports with one more, of which these are the bytes behind the word
 unfoldable pub more_ports : ℕ → ℕ → List (List Call) → List ℕ → Result (List (List Call)) PlanError
 more_ports m line found calls = if nat_lt (length found) 64 then (port_line_at m line calls >>= λ cs. Ok (found ++ cs ∷ [])) else
-    Err plan.Ports
+    Err PlanError.Ports
 
 -- nothing stands behind the last line
 abbrev pub is_end : List (List ℕ) → Bool
@@ -199,8 +197,8 @@ is_end _ = false
 unfoldable pub last_at : ℕ → ℕ → List ℕ → List (List ℕ) → Result (List (ℕ × ℕ) × Bool) PlanError
 last_at line ports l behind =
     if bytes_eq (until 32 l) (codes "steps") then
-    (if ports == 0 then Err plan.Ports else (entries_at line ports [] (fields_of l) >>= λ steps. if is_end behind then Ok steps else
-    Err (plan.Line (line + 1) cause.Extra))) else Err (plan.Line line cause.Word)
+    (if ports == 0 then Err PlanError.Ports else (entries_at line ports [] (fields_of l) >>= λ steps. if is_end behind then Ok steps else
+    Err (PlanError.Line (line + 1) Cause.Extra))) else Err (PlanError.Line line Cause.Word)
 
 -- what stands behind the second line
 pub record Tail : Type 0 where
@@ -210,8 +208,8 @@ pub record Tail : Type 0 where
 
 -- the port lines behind those so far, and the last line, in a plan of m components
 unfoldable pub tail_at : ℕ → ℕ → List (List Call) → List (List ℕ) → Result Tail PlanError
-tail_at m line found [] = Err (plan.Line line cause.End)
-tail_at m line found (l ∷ []) = Err (plan.Line line cause.End)
+tail_at m line found [] = Err (PlanError.Line line Cause.End)
+tail_at m line found (l ∷ []) = Err (PlanError.Line line Cause.End)
 tail_at m line found (l ∷ k ∷ ls) =
     if bytes_eq (until 32 l) (codes "port") then (more_ports m line found (from 32 l) >>= λ ports. tail_at m (line + 1) ports (k ∷ ls))
     else (last_at line (length found) l (k ∷ ls) >>= λ steps. Ok (record { ports = found; steps = steps.0; rest = steps.1 }))
@@ -227,4 +225,4 @@ lines_judged lines = do
 
 -- The plan that a text is, or its first fault.
 unfoldable pub judged_plan : List ℕ → Result PlanView PlanError
-judged_plan text = if nat_lt 4194304 (length text) then Err (plan.Line 0 cause.Size) else lines_judged (pieces 10 text)
+judged_plan text = if nat_lt 4194304 (length text) then Err (PlanError.Line 0 Cause.Size) else lines_judged (pieces 10 text)

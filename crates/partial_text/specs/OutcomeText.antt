@@ -4,7 +4,6 @@ use Rattle.std.specs.List.{flat_map, range_with_len}
 use Rattle.partial_model.specs.declared.history.Applied.{Applied}
 use Rattle.partial_model.specs.declared.history.Opening.{Opening}
 use Rattle.partial_model.specs.declared.call.Answer.{Answer}
-use Rattle.partial_model.specs.declared.call.Answer.TheVariants as answer
 use Rattle.partial_model.specs.declared.call.Note.{Note}
 use Rattle.partial_model.specs.declared.call.Finish.{Finish}
 use Rattle.partial_model.specs.declared.call.Called.{Called}
@@ -36,30 +35,30 @@ told_place (Some note) = place_of note
 
 -- an answer, up to its place or prefix
 abbrev pub answer_front : Answer → List ℕ
-answer_front (answer.Applied t) = codes " applied" ++ number_field t
-answer_front (answer.Lost t) = codes " lost" ++ number_field t
-answer_front (answer.Scanned vs c b) = codes " scanned" ++ flat_map number_field vs
-answer_front (answer.Read v t) = codes " read" ++ number_field v ++ number_field t
-answer_front (answer.Refused r) = codes " refused" ++ number_field (refused_code r)
-answer_front (answer.Changed t) = codes " changed" ++ number_field t
+answer_front (Answer.Applied t) = codes " applied" ++ number_field t
+answer_front (Answer.Lost t) = codes " lost" ++ number_field t
+answer_front (Answer.Scanned vs c b) = codes " scanned" ++ flat_map number_field vs
+answer_front (Answer.Read v t) = codes " read" ++ number_field v ++ number_field t
+answer_front (Answer.Refused r) = codes " refused" ++ number_field (refused_code r)
+answer_front (Answer.Changed t) = codes " changed" ++ number_field t
 
 -- the place or the prefix of an answer, and nothing for a refusal
 abbrev pub place_field : Answer → ℕ → List ℕ
-place_field (answer.Applied t) k = codes " place" ++ number_field k
-place_field (answer.Lost t) k = codes " place" ++ number_field k
-place_field (answer.Scanned vs c b) k = codes " prefix" ++ number_field k
-place_field (answer.Read v t) k = codes " prefix" ++ number_field k
-place_field (answer.Refused r) k = []
-place_field (answer.Changed t) k = codes " prefix" ++ number_field k
+place_field (Answer.Applied t) k = codes " place" ++ number_field k
+place_field (Answer.Lost t) k = codes " place" ++ number_field k
+place_field (Answer.Scanned vs c b) k = codes " prefix" ++ number_field k
+place_field (Answer.Read v t) k = codes " prefix" ++ number_field k
+place_field (Answer.Refused r) k = []
+place_field (Answer.Changed t) k = codes " prefix" ++ number_field k
 
 -- what follows the prefix of a scan; nothing follows that of other answers
 abbrev pub answer_back : Answer → List ℕ
-answer_back (answer.Scanned vs c b) = codes " collects" ++ number_field c ++ codes " borrowed" ++ optional_field b
-answer_back (answer.Applied t) = []
-answer_back (answer.Lost t) = []
-answer_back (answer.Read v t) = []
-answer_back (answer.Refused r) = []
-answer_back (answer.Changed t) = []
+answer_back (Answer.Scanned vs c b) = codes " collects" ++ number_field c ++ codes " borrowed" ++ optional_field b
+answer_back (Answer.Applied t) = []
+answer_back (Answer.Lost t) = []
+answer_back (Answer.Read v t) = []
+answer_back (Answer.Refused r) = []
+answer_back (Answer.Changed t) = []
 
 -- an answer with its place or prefix
 abbrev pub answer_text : Answer → ℕ → List ℕ

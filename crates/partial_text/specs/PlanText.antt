@@ -2,7 +2,6 @@
 use Rattle.std.specs.Prelude.{ℕ, ◌≡◌, ◌<◌, ◌≤◌, ◌^◌, List, [], ◌∷◌, ◌++◌, length, Bool, true, false, codes, decimal}
 use Rattle.std.specs.List.{flat_map, AllByRecursion}
 use Rattle.partial_model.specs.declared.call.Call.{Call}
-use Rattle.partial_model.specs.declared.call.Call.TheVariants as call
 use Rattle.partial_words.specs.Layout.{Layout, IsLayout}
 
 -- a plan: the sizes, the value of each component, the calls of each port, the turns, and whether the rest runs behind them
@@ -31,10 +30,10 @@ initial_line values = codes "initial" ++ flat_map number_field values
 
 -- a call in a port's line
 abbrev pub call_text : Call → List ℕ
-call_text (call.Update j v) = codes "update" ++ flat_map number_field (j ∷ v ∷ [])
-call_text (call.Scan js) = codes "scan" ++ flat_map number_field js
-call_text (call.Read j) = codes "read" ++ flat_map number_field (j ∷ [])
-call_text (call.UpdateIf j s v) = codes "updateif" ++ flat_map number_field (j ∷ s ∷ v ∷ [])
+call_text (Call.Update j v) = codes "update" ++ flat_map number_field (j ∷ v ∷ [])
+call_text (Call.Scan js) = codes "scan" ++ flat_map number_field js
+call_text (Call.Read j) = codes "read" ++ flat_map number_field (j ∷ [])
+call_text (Call.UpdateIf j s v) = codes "updateif" ++ flat_map number_field (j ∷ s ∷ v ∷ [])
 
 -- a further call of a port: it stands behind a semicolon and a space
 abbrev pub next_call : Call → List ℕ
@@ -69,10 +68,10 @@ plan_text p = ended_line (sizes_line p.sizes) ++ ended_line (initial_line p.init
 
 -- a call that may stand in a plan of m components; an index beyond them is refused when the call is made
 abbrev pub IsCall : ℕ → Call → Type 0
-IsCall m (call.Update j v) = (j < 2 ^ 32) × (v < 2 ^ 64)
-IsCall m (call.Scan js) = (length js ≤ m) × AllByRecursion (λ j. j < 2 ^ 32) js
-IsCall m (call.Read j) = j < 2 ^ 32
-IsCall m (call.UpdateIf j s v) = (j < 2 ^ 32) × (s < 2 ^ 64) × (v < 2 ^ 64)
+IsCall m (Call.Update j v) = (j < 2 ^ 32) × (v < 2 ^ 64)
+IsCall m (Call.Scan js) = (length js ≤ m) × AllByRecursion (λ j. j < 2 ^ 32) js
+IsCall m (Call.Read j) = j < 2 ^ 32
+IsCall m (Call.UpdateIf j s v) = (j < 2 ^ 32) × (s < 2 ^ 64) × (v < 2 ^ 64)
 
 -- at least one turn of a port of the plan
 abbrev pub IsTurnEntry : ℕ → ℕ × ℕ → Type 0

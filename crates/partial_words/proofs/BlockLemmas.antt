@@ -1,8 +1,6 @@
 -- What is read back from announcements and lists.
-use Rattle.partial_words.proofs.Common.{ℕ, suc, ◌≡◌, ◌+◌, ◌-◌, ◌*◌, ◌/◌, ◌%◌, ◌<◌, List, ◌∷◌, length, get_or, ◌∙◌, sym, ap, arith, flat_map, pair_words, StandsAt}
-use Rattle.partial_words.specs.Announcement.{announcement_block, ReadsBackAnnouncement}
-use Rattle.partial_words.specs.VacatedList.{list_block, ReadsBackList}
-use Rattle.partial_words.proofs.RecordLemmas.{length-pairs, pairs_even, pairs_odd, word_even, word_odd}
+use Rattle.partial_words.proofs.{Common.{ℕ, suc, ◌≡◌, ◌+◌, ◌-◌, ◌*◌, ◌/◌, ◌%◌, ◌<◌, List, ◌∷◌, length, get_or, ◌∙◌, sym, ap, arith, flat_map, pair_words, StandsAt}, RecordLemmas.{length-pairs, pairs_even, pairs_odd, word_even, word_odd}}
+use Rattle.partial_words.specs.{Announcement.{announcement_block, ReadsBackAnnouncement}, VacatedList.{list_block, ReadsBackList}}
 
 -- the word behind the first
 word_behind : (n k : ℕ) (rest : List ℕ) → get_or (n ∷ rest) (k + 1) 0 ≡ get_or rest k 0

@@ -2,8 +2,7 @@
 use Rattle.partial_words.proofs.Common.{ℕ, ◌≡◌, ◌+◌, ◌-◌, ◌*◌, ◌/◌, ◌%◌, ◌<◌, ◌≤◌, ◌==◌, cond, List, [], length, slice_index, refl, sym, ◌∙◌, ap, inl, inr, arith, cases_lt, Opening, view_word, view_of}
 use Rattle.std.proofs.lemmas.Bool.Decides.{nat_tests}
 use Rattle.partial_model.specs.History.{last_from}
-use Rattle.partial_words.specs.Layout.{Layout, Region, Components, SlotCounter, ListHead, PoolCounter, ListCounter, Slots, Lists, Pool, StandsIn, AreRegionsOf, total, pool_base, initial_record}
-use Rattle.partial_words.specs.Chain.{OpensWith, Agrees, opening_word, initial_record_word, links_from}
+use Rattle.partial_words.specs.{Layout.{Layout, Region, Components, SlotCounter, ListHead, PoolCounter, ListCounter, Slots, Lists, Pool, StandsIn, AreRegionsOf, total, pool_base, initial_record}, Chain.{OpensWith, Agrees, opening_word, initial_record_word, links_from}}
 
 region_cover : (s : Layout) (w : ℕ) → w < total s → (region : Region) × StandsIn s w region
 region_cover s w below =

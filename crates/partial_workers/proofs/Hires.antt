@@ -1,7 +1,6 @@
 -- Workers for the ports of a memory, and what their threads come to.
-use Rattle.partial_workers.proofs.Common.{ℕ, suc, ◌≡◌, ◌+◌, ◌<◌, ◌≤◌, ◌++◌, List, [], ◌∷◌, length, take, get_or, sym, ap, subst, ◌∙◌, arith, AllByRecursion, vec_capacity, take-suc, get_or_default, length-map, map-append, Call, all_append, all_back, all_front, MemoryView, PortView, AreEach, IsCallWithin, ScanHasRoom, HaveCome, HaveRooms, IsWorkDone, IsHired, IsNewWork, IsWorkStarted, calls_of, Job, Worked, Worker, Results, Works}
+use Rattle.partial_workers.proofs.{Common.{ℕ, suc, ◌≡◌, ◌+◌, ◌<◌, ◌≤◌, ◌++◌, List, [], ◌∷◌, length, take, get_or, sym, ap, subst, ◌∙◌, arith, AllByRecursion, vec_capacity, take-suc, get_or_default, length-map, map-append, Call, all_append, all_back, all_front, MemoryView, PortView, AreEach, IsCallWithin, ScanHasRoom, HaveCome, HaveRooms, IsWorkDone, IsHired, IsNewWork, IsWorkStarted, calls_of, Job, Worked, Worker, Results, Works}, Pairs.{each_at, each_length, each_push}}
 use Rattle.std.specs.declared.thread.PromisedHandle.{PromisedHandle}
-use Rattle.partial_workers.proofs.Pairs.{each_at, each_length, each_push}
 
 -- one call more of a port
 pub calls_more : (before after : List Job) (job : Job) (calls : List Call) (n : ℕ) → after ≡ before ++ job ∷ [] → calls_of before ≡ take n calls → n < length calls →

@@ -1,24 +1,21 @@
 -- The calls of a port, one after the other: what is known of those that it doesn't note.
 use Rattle.partial_workers.proofs.Common.{ℕ, suc, ◌≡◌, ◌+◌, ◌<◌, ◌++◌, ◌⊎◌, Some, None, List, [], ◌∷◌, length, take, get_or, refl, sym, ap, subst, ◌∙◌, inl, inr, arith, take-suc, map-append, append-nil, Call, Answer, IsOf, MemoryView, PortView, Answered, IsRefused, AreMade, Fills, IsMade, IsUnnoted, Note, Noted, seen_after, seen_by}
-use Rattle.partial_model.specs.declared.call.Call.TheVariants as call
-use Rattle.partial_model.specs.declared.call.Answer.TheVariants as answer
-use Rattle.partial_model.specs.declared.call.Note.TheVariants as note
 use Rattle.partial_model.specs.declared.call.Refused.{Refused}
 use Rattle.partial_memory.specs.Calls.{Scanned, Scans}
 use Rattle.partial_memory.proofs.Laws.{refusals_at_once_fit}
 
 -- a call that was refused may have been, and the port's notes are the same
-pub made_refused : (p q : PortView) (c : Call) (cause : Refused) → IsRefused p c cause q → IsMade p.memory.about.sizes.m p c (answer.Refused cause) q
+pub made_refused : (p q : PortView) (c : Call) (cause : Refused) → IsRefused p c cause q → IsMade p.memory.about.sizes.m p c (Answer.Refused cause) q
 made_refused p q c cause (inl now) =
     record {
-      noted = record { call = c; answer = answer.Refused cause; note = None };
+      noted = record { call = c; answer = Answer.Refused cause; note = None };
       call = refl;
       answer = refl;
       notes = inr (inl (cause, refl, refl, (refusals_at_once_fit p c cause now.0).0), ap (λ (v : PortView). v.notes) now.1);
     }
 made_refused p q c cause (inr late) =
     record {
-      noted = record { call = c; answer = answer.Refused cause; note = None };
+      noted = record { call = c; answer = Answer.Refused cause; note = None };
       call = refl;
       answer = refl;
       notes = inr (inl (cause, refl, refl, late.may), late.goes.notes ∙ append-nil p.notes);
@@ -35,15 +32,15 @@ made_answered m p q c a n w =
     }
 
 -- a scan is noted, or it is one of no position
-pub made_scan : (m : ℕ) (p q : PortView) (js vs : List ℕ) (s : Scanned) → Scans p js vs s q → IsMade m p (call.Scan js) (answer.Scanned vs s.collects s.borrowed) q
+pub made_scan : (m : ℕ) (p q : PortView) (js vs : List ℕ) (s : Scanned) → Scans p js vs s q → IsMade m p (Call.Scan js) (Answer.Scanned vs s.collects s.borrowed) q
 made_scan m p q [] vs s w =
     record {
-      noted = record { call = call.Scan []; answer = answer.Scanned [] 0 None; note = Some (note.Saw (seen_by 0 p.notes)) };
+      noted = record { call = Call.Scan []; answer = Answer.Scanned [] 0 None; note = Some (Note.Saw (seen_by 0 p.notes)) };
       call = refl;
-      answer = ap (λ (l : List ℕ). answer.Scanned l 0 None) (sym w.0) ∙ ap (λ k. answer.Scanned vs k None) (sym w.1) ∙ ap (answer.Scanned vs s.collects) (sym w.2);
+      answer = ap (λ (l : List ℕ). Answer.Scanned l 0 None) (sym w.0) ∙ ap (λ k. Answer.Scanned vs k None) (sym w.1) ∙ ap (Answer.Scanned vs s.collects) (sym w.2);
       notes = inr (inr (refl, refl, refl), ap (λ (v : PortView). v.notes) w.3);
     }
-made_scan m p q (j ∷ js) vs s w = made_answered m p q (call.Scan (j ∷ js)) (answer.Scanned vs s.collects s.borrowed) (note.Saw w.0) w.1
+made_scan m p q (j ∷ js) vs s w = made_answered m p q (Call.Scan (j ∷ js)) (Answer.Scanned vs s.collects s.borrowed) (Note.Saw w.0) w.1
 
 -- calls that a port doesn't note leave unchanged what it has seen
 pub unnoted_seen : (m seen : ℕ) (n : Noted) → IsUnnoted m seen n → seen_after seen n.note ≡ seen
@@ -99,14 +96,14 @@ made_next m n next cs given c a p q had within at is new =
     subst (λ (l : List Call). AreMade m l (given ++ a ∷ []) q) (sym taken) (made_more m (take n cs) given c a p q had new)
 
 -- the same of a port of a memory
-pub refused_at : (m : MemoryView) (p q : PortView) (c d : Call) (cause : Refused) → IsOf m p → d ≡ c → IsRefused p c cause q → IsMade m.about.sizes.m p d (answer.Refused cause) q
+pub refused_at : (m : MemoryView) (p q : PortView) (c d : Call) (cause : Refused) → IsOf m p → d ≡ c → IsRefused p c cause q → IsMade m.about.sizes.m p d (Answer.Refused cause) q
 refused_at m p q c d cause of same w =
-    let now : IsMade m.about.sizes.m p c (answer.Refused cause) q = subst (λ (v : MemoryView). IsMade v.about.sizes.m p c (answer.Refused cause) q) of (made_refused p q c cause w) in
-    subst (λ (x : Call). IsMade m.about.sizes.m p x (answer.Refused cause) q) (sym same) now
+    let now : IsMade m.about.sizes.m p c (Answer.Refused cause) q = subst (λ (v : MemoryView). IsMade v.about.sizes.m p c (Answer.Refused cause) q) of (made_refused p q c cause w) in
+    subst (λ (x : Call). IsMade m.about.sizes.m p x (Answer.Refused cause) q) (sym same) now
 
-pub scanned_at : (m : ℕ) (p q : PortView) (d : Call) (js vs values : List ℕ) (s : Scanned) → d ≡ call.Scan js → values ≡ vs → Scans p js vs s q →
-    IsMade m p d (answer.Scanned values s.collects s.borrowed) q
+pub scanned_at : (m : ℕ) (p q : PortView) (d : Call) (js vs values : List ℕ) (s : Scanned) → d ≡ Call.Scan js → values ≡ vs → Scans p js vs s q →
+    IsMade m p d (Answer.Scanned values s.collects s.borrowed) q
 scanned_at m p q d js vs values s same told w =
-    let now : IsMade m p (call.Scan js) (answer.Scanned values s.collects s.borrowed) q = subst (λ (l : List ℕ). IsMade m p (call.Scan js) (answer.Scanned l s.collects s.borrowed) q) (sym told)
+    let now : IsMade m p (Call.Scan js) (Answer.Scanned values s.collects s.borrowed) q = subst (λ (l : List ℕ). IsMade m p (Call.Scan js) (Answer.Scanned l s.collects s.borrowed) q) (sym told)
     (made_scan m p q js vs s w) in
-    subst (λ (x : Call). IsMade m p x (answer.Scanned values s.collects s.borrowed) q) (sym same) now
+    subst (λ (x : Call). IsMade m p x (Answer.Scanned values s.collects s.borrowed) q) (sym same) now

@@ -1,34 +1,26 @@
 -- The answers of workers that have ended are right in the history of the memory that was closed with their ports.
-use Rattle.partial_workers.proofs.Common.{ℕ, ◌≡◌, ◌+◌, ◌<◌, ◌≤◌, ◌++◌, Option, Some, None, List, [], ◌∷◌, length, map, refl, sym, ap, subst, ◌∙◌, inl, inr, arith, AllByRecursion, length-map, Call, Answer, all_append, all_back, all_front, IsOf, MemoryView, PortView, new_ports, AreAnswered, AreEach, AreMakable, AreRight, Fills, HasNumber, HaveCome, IsWorkDone, IsNewWork, IsOpenedFor, IsUnnoted, WasClosedLawfully, WasEmpty, WasRefused, Note, Noted, LegalNotes, IsLegal, seen_after, Worked, Results}
+use Rattle.partial_workers.proofs.{Common.{ℕ, ◌≡◌, ◌+◌, ◌<◌, ◌≤◌, ◌++◌, Option, Some, None, List, [], ◌∷◌, length, map, refl, sym, ap, subst, ◌∙◌, inl, inr, arith, AllByRecursion, length-map, Call, Answer, all_append, all_back, all_front, IsOf, MemoryView, PortView, new_ports, AreAnswered, AreEach, AreMakable, AreRight, Fills, HasNumber, HaveCome, IsWorkDone, IsNewWork, IsOpenedFor, IsUnnoted, WasClosedLawfully, WasEmpty, WasRefused, Note, Noted, LegalNotes, IsLegal, seen_after, Worked, Results}, Made.unnoted_seen, Pairs.each_length}
 use Rattle.std.specs.declared.alloc.Global.{Global}
 use Rattle.std.specs.declared.vec.Vec.{Vec}
-use Rattle.partial_model.specs.declared.history.Applied.{Applied}
-use Rattle.partial_model.specs.declared.history.Opening.{Opening}
-use Rattle.partial_model.specs.declared.call.Call.TheVariants as call
-use Rattle.partial_model.specs.declared.call.Answer.TheVariants as answer
-use Rattle.partial_model.specs.declared.call.Note.TheVariants as note
+use Rattle.partial_model.specs.declared.history.{Applied.Applied, Opening.Opening}
 use Rattle.partial_model.specs.Outcome.{EachOnce, places_written, wrote}
 use Rattle.partial_model.proofs.NotesLemmas.{note_within}
-use Rattle.partial_memory.specs.Rule.{newcomers}
-use Rattle.partial_memory.specs.Closing.{Closes, IsPortOf}
-use Rattle.partial_memory.specs.Lawfulness.{ClosesLawfully}
+use Rattle.partial_memory.specs.{Rule.newcomers, Closing.{Closes, IsPortOf}, Lawfulness.ClosesLawfully}
 use Rattle.partial_memory.specs.declared.closed.Closed.{Closed}
-use Rattle.partial_workers.proofs.Made.{unnoted_seen}
-use Rattle.partial_workers.proofs.Pairs.{each_length}
 
 -- ---- calls that a port doesn't note are legal wherever they stand
 
 refused_legal : (o : Opening) (h : List Applied) (p seen : ℕ) (n : Noted) → WasRefused (length o.values) n → IsLegal o h p seen n
 refused_legal o h p seen n w =
-    let is : n ≡ record { call = n.call; answer = answer.Refused w.0; note = None } =
-    ap (λ (a : Answer). record n { answer = a }) w.1 ∙ ap (λ (t : Option Note). record { call = n.call; answer = answer.Refused w.0; note = t }) w.2 in
+    let is : n ≡ record { call = n.call; answer = Answer.Refused w.0; note = None } =
+    ap (λ (a : Answer). record n { answer = a }) w.1 ∙ ap (λ (t : Option Note). record { call = n.call; answer = Answer.Refused w.0; note = t }) w.2 in
     subst (IsLegal o h p seen) (sym is) (w.3, tt)
 
 empty_legal : (o : Opening) (h : List Applied) (p seen : ℕ) (n : Noted) → seen ≤ length h → WasEmpty seen n → IsLegal o h p seen n
 empty_legal o h p seen n within w =
-    let is : n ≡ record { call = call.Scan []; answer = answer.Scanned [] 0 None; note = Some (note.Saw seen) } =
-    ap (λ (c : Call). record n { call = c }) w.0 ∙ ap (λ (a : Answer). record { call = call.Scan []; answer = a; note = n.note }) w.1 ∙
-    ap (λ (t : Option Note). record { call = call.Scan []; answer = answer.Scanned [] 0 None; note = t }) w.2 in
+    let is : n ≡ record { call = Call.Scan []; answer = Answer.Scanned [] 0 None; note = Some (Note.Saw seen) } =
+    ap (λ (c : Call). record n { call = c }) w.0 ∙ ap (λ (a : Answer). record { call = Call.Scan []; answer = a; note = n.note }) w.1 ∙
+    ap (λ (t : Option Note). record { call = Call.Scan []; answer = Answer.Scanned [] 0 None; note = t }) w.2 in
     subst (IsLegal o h p seen) (sym is) (tt, (record { within = within; values = refl; collects = (refl, refl); borrowed = tt }, omega arith))
 
 unnoted_legal : (o : Opening) (h : List Applied) (p seen : ℕ) (n : Noted) → seen ≤ length h → IsUnnoted (length o.values) seen n → IsLegal o h p seen n

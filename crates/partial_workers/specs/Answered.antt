@@ -6,7 +6,6 @@ use Rattle.std.specs.declared.vec.Vec.{Vec}
 use Rattle.partial_model.specs.declared.history.Applied.{Applied}
 use Rattle.partial_model.specs.declared.history.Opening.{Opening}
 use Rattle.partial_model.specs.declared.call.Call.{Call}
-use Rattle.partial_model.specs.declared.call.Call.TheVariants as call
 use Rattle.partial_model.specs.declared.call.Answer.{Answer}
 use Rattle.partial_model.specs.History.{IsHistory}
 use Rattle.partial_model.specs.Notes.{Noted, LegalNotes}
@@ -21,7 +20,7 @@ AreEach P k _ _ = ⊥
 
 -- a memory of m components can be asked for the call: a scan has no more positions than that
 abbrev pub IsCallWithin : ℕ → Call → Type 0
-IsCallWithin m (call.Scan js) = length js ≤ m
+IsCallWithin m (Call.Scan js) = length js ≤ m
 IsCallWithin m _ = ⊤
 
 -- it can be asked for each of the calls of each port, and they can be numbered

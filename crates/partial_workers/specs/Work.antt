@@ -6,10 +6,8 @@ use Rattle.std.specs.declared.alloc.Global.{Global}
 use Rattle.std.specs.declared.vec.Vec.{Vec}
 use Rattle.std.specs.declared.thread.PromisedHandle.{PromisedHandle}
 use Rattle.partial_model.specs.declared.call.Call.{Call}
-use Rattle.partial_model.specs.declared.call.Call.TheVariants as call
 use Rattle.partial_model.specs.declared.call.Answer.{Answer}
-use Rattle.partial_model.specs.declared.call.Answer.TheVariants as answer
-use Rattle.partial_model.specs.declared.call.Note.TheVariants as note
+use Rattle.partial_model.specs.declared.call.Note.{Note}
 use Rattle.partial_model.specs.declared.call.Refused.{Refused}
 use Rattle.partial_model.specs.Notes.{Noted, MayBeRefused, seen_after, seen_by}
 use Rattle.partial_memory.specs.Ports.{IsOf, MemoryView, PortView, new_ports}
@@ -25,11 +23,11 @@ use Rattle.partial_workers.specs.Answered.{AreEach, IsCallWithin}
 
 -- the call was refused for a cause for which it may be
 abbrev pub WasRefused : ℕ → Noted → Type 0
-WasRefused m n = (cause : Refused) × (n.answer ≡ answer.Refused cause) × (n.note ≡ None) × MayBeRefused m n.call cause
+WasRefused m n = (cause : Refused) × (n.answer ≡ Answer.Refused cause) × (n.note ≡ None) × MayBeRefused m n.call cause
 
 -- a scan of no position, which saw nothing more than the calls before it
 abbrev pub WasEmpty : ℕ → Noted → Type 0
-WasEmpty seen n = (n.call ≡ call.Scan []) × (n.answer ≡ answer.Scanned [] 0 None) × (n.note ≡ Some (note.Saw seen))
+WasEmpty seen n = (n.call ≡ Call.Scan []) × (n.answer ≡ Answer.Scanned [] 0 None) × (n.note ≡ Some (Note.Saw seen))
 
 -- a port doesn't note the call
 abbrev pub IsUnnoted : ℕ → ℕ → Noted → Type 0
@@ -58,7 +56,7 @@ pub record AreMade (m : ℕ) (made : List Call) (given : List Answer) (q : PortV
 
 -- the values of a scan have room
 abbrev pub ScanHasRoom : ℕ → Call → List ℕ → Type 0
-ScanHasRoom m (call.Scan js) room = (length room ≡ length js) × (length js ≤ m)
+ScanHasRoom m (Call.Scan js) room = (length room ≡ length js) × (length js ≤ m)
 ScanHasRoom m _ room = Unit {0}
 
 -- the calls of a worker

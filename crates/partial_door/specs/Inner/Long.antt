@@ -6,13 +6,12 @@ use Rattle.partial_door.specs.declared.held.LongMemory.{LongMemory}
 use Rattle.partial_door.specs.declared.held.Held.{Held}
 use Rattle.partial_door.specs.declared.long_memories.Unready.{Unready}
 use Rattle.partial_door.specs.declared.long_memories.Unready.TheVariants.{Away, Shared}
-use Rattle.partial_door.specs.declared.held.Held.TheVariants as held
 use Rattle.partial_door.specs.LongMemories.{IsLongAway, KeepsLong, MayNotCloseLong}
 
 -- what is held is this memory with these ports at home
 abbrev pub IsLongOpenOf : ℕ → ℕ → MemoryView → List PortView → Held → Type 0
 IsLongOpenOf number count v ports h =
-    (m : LongMemory) × (h ≡ held.LongMemory m) × (m.number ≡ number) × (m.count ≡ count) × (arc_value m.memory ≡ v)
+    (m : LongMemory) × (h ≡ Held.LongMemory m) × (m.number ≡ number) × (m.count ≡ count) × (arc_value m.memory ≡ v)
     × (m.ports.items ≡ ports)
 
 -- a memory that isn't taken apart is as it was, and it is shared only with all its ports

@@ -1,9 +1,9 @@
 -- What parts of a call leave of a port.
 use Rattle.std.specs.Prelude.{ℕ, ◌≡◌, ◌<◌, ◌≤◌, ◌==◌, ◌⊎◌, ◌++◌, Bool, true, false, IfSome, List, [], ◌∷◌, length, Some, None}
 use Rattle.partial_model.specs.declared.history.Applied.{Applied}
-use Rattle.partial_model.specs.declared.call.Call.TheVariants as call
-use Rattle.partial_model.specs.declared.call.Answer.TheVariants as answer
-use Rattle.partial_model.specs.declared.call.Note.TheVariants as note
+use Rattle.partial_model.specs.declared.call.Call.{Call}
+use Rattle.partial_model.specs.declared.call.Answer.{Answer}
+use Rattle.partial_model.specs.declared.call.Note.{Note}
 use Rattle.partial_model.specs.History.{stamp_of, value_of}
 use Rattle.partial_words.specs.Layout.{total}
 use Rattle.partial_words.specs.Record.{value_word}
@@ -87,7 +87,7 @@ pub record EpochSettled (s t : Stand) : Type 0 where
 pub record HasNotedRead (s t : Stand) (j value stamp : ℕ) : Type 0 where
   pub come : HasCome s t
   pub notes : (port_at t).notes ≡ (port_at s).notes
-      ++ record { call = call.Read j; answer = answer.Read value stamp; note = Some (note.Saw (length (seen_in (port_at t).port))) } ∷ []
+      ++ record { call = Call.Read j; answer = Answer.Read value stamp; note = Some (Note.Saw (length (seen_in (port_at t).port))) } ∷ []
   pub first : length (seen_in (port_at s).port) ≤ (port_at t).began.length
   pub behind : (port_at t).began.length ≤ length (seen_in (port_at t).port)
 

@@ -1,8 +1,8 @@
 -- Parts of a conditional update.
 use Rattle.std.specs.Prelude.{ℕ, ◌≡◌, ◌+◌, ◌≤◌, ◌++◌, Bool, true, [], ◌∷◌, length, Some}
-use Rattle.partial_model.specs.declared.call.Call.TheVariants as call
-use Rattle.partial_model.specs.declared.call.Answer.TheVariants as answer
-use Rattle.partial_model.specs.declared.call.Note.TheVariants as note
+use Rattle.partial_model.specs.declared.call.Call.{Call}
+use Rattle.partial_model.specs.declared.call.Answer.{Answer}
+use Rattle.partial_model.specs.declared.call.Note.{Note}
 use Rattle.partial_model.specs.History.{stamp_of}
 use Rattle.partial_model.specs.Notes.{Noted}
 use Rattle.partial_core.specs.Part.{core_of}
@@ -11,7 +11,6 @@ use Rattle.partial_epochs.specs.Notes.{public_of}
 use Rattle.partial_lines.specs.declared.exchange.Exchanged.{Exchanged}
 use Rattle.partial_lines.specs.declared.exchange.Exchanged.TheVariants.{Applied, Overtaken}
 use Rattle.partial_long_lived.specs.declared.answers.UpdatedIf.{UpdatedIf}
-use Rattle.partial_long_lived.specs.declared.answers.UpdatedIf.TheVariants as ended
 use Rattle.partial_long_lived.specs.declared.stand.Stand.{Stand}
 use Rattle.partial_long_lived.specs.declared.update_if.Asked.{Asked}
 use Rattle.partial_long_lived.specs.declared.update_if.Compared.{Compared}
@@ -26,20 +25,20 @@ use Rattle.partial_long_lived.specs.Inner.Updates.{PortStayed}
 
 -- what a port notes of a conditional update that ended so, at that place
 abbrev pub noted_if : Asked → UpdatedIf → ℕ → Noted
-noted_if a (ended.Applied stamp) place =
-    record { call = call.UpdateIf a.component a.expected a.value; answer = answer.Applied stamp; note = Some (note.Wrote place) }
-noted_if a (ended.Changed by) place =
-    record { call = call.UpdateIf a.component a.expected a.value; answer = answer.Changed by; note = Some (note.Saw place) }
+noted_if a (UpdatedIf.Applied stamp) place =
+    record { call = Call.UpdateIf a.component a.expected a.value; answer = Answer.Applied stamp; note = Some (Note.Wrote place) }
+noted_if a (UpdatedIf.Changed by) place =
+    record { call = Call.UpdateIf a.component a.expected a.value; answer = Answer.Changed by; note = Some (Note.Saw place) }
 
 -- how it ended, as its caller is told, where it ended so in the port's epoch
 abbrev pub outcome_of : SeatedPort → ℕ → Exchanged → UpdatedIf
-outcome_of x j (Applied stamp) = ended.Applied (public_stamp (length x.port.before) stamp)
-outcome_of x j (Overtaken by) = ended.Changed (public_of (plan_of x.about) x.port.before j by)
+outcome_of x j (Applied stamp) = UpdatedIf.Applied (public_stamp (length x.port.before) stamp)
+outcome_of x j (Overtaken by) = UpdatedIf.Changed (public_of (plan_of x.about) x.port.before j by)
 
 -- where it has its place among n entries that the port has seen: an applied one is the last of them, another one sees some of them
 abbrev pub IsPlaceOf : UpdatedIf → ℕ → ℕ → Type 0
-IsPlaceOf (ended.Applied stamp) place n = place + 1 ≡ n
-IsPlaceOf (ended.Changed by) place n = place ≤ n
+IsPlaceOf (UpdatedIf.Applied stamp) place n = place + 1 ≡ n
+IsPlaceOf (UpdatedIf.Changed by) place n = place ≤ n
 
 -- The port has compared a component's stamp where it stood, with the same machine.
 pub record HasLooked (first : Bool) (s t : Stand) : Type 0 where
@@ -58,7 +57,7 @@ abbrev pub HasCompared : Asked → Stand → Compared → Stand → Type 0
 HasCompared a s Sealed t = (port_at t).notes ≡ (port_at s).notes
 HasCompared a s (Same at) t = ((port_at t).notes ≡ (port_at s).notes) × IsExpected a at t
 HasCompared a s (Other stamp) t =
-    ((port_at t).notes ≡ (port_at s).notes ++ noted_if a (ended.Changed stamp) (length (seen_in (port_at t).port)) ∷ [])
+    ((port_at t).notes ≡ (port_at s).notes ++ noted_if a (UpdatedIf.Changed stamp) (length (seen_in (port_at t).port)) ∷ [])
     × ((port_at t).began.length ≤ length (seen_in (port_at t).port))
 
 -- The conditional update has ended in the port's epoch: the port has noted this answer, at a place that is not before the call began.

@@ -3,9 +3,9 @@ use Rattle.std.specs.Prelude.{ℕ, ◌≡◌, ◌+◌, ◌<◌, ◌≤◌, ◌++
 use Rattle.std.specs.List.{AllByRecursion}
 use Rattle.atomic_table.specs.Table.{Me}
 use Rattle.partial_model.specs.declared.history.Applied.{Applied}
-use Rattle.partial_model.specs.declared.call.Call.TheVariants as call
-use Rattle.partial_model.specs.declared.call.Answer.TheVariants as answer
-use Rattle.partial_model.specs.declared.call.Note.TheVariants as note
+use Rattle.partial_model.specs.declared.call.Call.{Call}
+use Rattle.partial_model.specs.declared.call.Answer.{Answer}
+use Rattle.partial_model.specs.declared.call.Note.{Note}
 use Rattle.partial_model.specs.History.{IsHistory, stamp_of, value_of}
 use Rattle.partial_model.specs.Notes.{Noted, seen_by}
 use Rattle.partial_words.specs.Layout.{Layout, total}
@@ -58,9 +58,9 @@ pub record MayNoteScan (js : List ℕ) (b : ℕ) (x : SeatedPort) : Type 0 where
 -- that note: the values behind those entries
 abbrev pub noted_together : List ℕ → ℕ → SeatedPort → Noted
 noted_together js b x = record {
-  call = call.Scan js;
-  answer = answer.Scanned (map (λ j. value_of (opening_of x) (take b x.port.part.seen) j) js) 2 None;
-  note = Some (note.Saw (length (history_of x.port.before) + b));
+  call = Call.Scan js;
+  answer = Answer.Scanned (map (λ j. value_of (opening_of x) (take b x.port.part.seen) j) js) 2 None;
+  note = Some (Note.Saw (length (history_of x.port.before) + b));
 }
 
 -- A load of word i of the table by which the port notes that scan: it tells the same as a load of a word that is final for the port, and the

@@ -3,9 +3,9 @@ use Rattle.std.specs.Prelude.{ℕ, ◌≡◌, ◌+◌, ◌-◌, ◌<◌, ◌≤�
 use Rattle.atomic_table.specs.Table.{Me}
 use Rattle.partial_model.specs.declared.history.Applied.{Applied}
 use Rattle.partial_model.specs.declared.history.Opening.{Opening}
-use Rattle.partial_model.specs.declared.call.Call.TheVariants as call
-use Rattle.partial_model.specs.declared.call.Answer.TheVariants as answer
-use Rattle.partial_model.specs.declared.call.Note.TheVariants as note
+use Rattle.partial_model.specs.declared.call.Call.{Call}
+use Rattle.partial_model.specs.declared.call.Answer.{Answer}
+use Rattle.partial_model.specs.declared.call.Note.{Note}
 use Rattle.partial_model.specs.History.{stamp_of, value_of}
 use Rattle.partial_model.specs.Notes.{Noted}
 use Rattle.partial_words.specs.Layout.{total}
@@ -45,16 +45,16 @@ place_seen x log = length (history_of (log ∷ x.port.before))
 abbrev pub noted_by : Wish → SeatedPort → List Applied → ℕ → List Noted
 noted_by Reads x log j =
     record {
-      call = call.Read j;
-      answer = answer.Read (value_seen x log j) (stamp_seen x log j);
-      note = Some (note.Saw (place_seen x log));
+      call = Call.Read j;
+      answer = Answer.Read (value_seen x log j) (stamp_seen x log j);
+      note = Some (Note.Saw (place_seen x log));
     } ∷ []
 noted_by (Expects expected v) x log j =
     if stamp_seen x log j == expected then []
     else record {
-      call = call.UpdateIf j expected v;
-      answer = answer.Changed (stamp_seen x log j);
-      note = Some (note.Saw (place_seen x log));
+      call = Call.UpdateIf j expected v;
+      answer = Answer.Changed (stamp_seen x log j);
+      note = Some (Note.Saw (place_seen x log));
     } ∷ []
 noted_by _ x log j = []
 

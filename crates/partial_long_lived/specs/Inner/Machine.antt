@@ -2,7 +2,7 @@
 use Rattle.std.specs.Prelude.{⊤, ℕ, ◌≡◌, ◌≢◌, ◌+◌, ◌%◌, ◌^◌, ◌<◌, ◌≤◌, ◌==◌, ◌&&◌, ◌||◌, ◌⊎◌, ◌++◌, nat_lt, Bool, true, false, List, length, map, take, Some, if◌then◌else◌}
 use Rattle.atomic_table.specs.Table.{Me}
 use Rattle.partial_model.specs.declared.history.Applied.{Applied}
-use Rattle.partial_model.specs.declared.call.Call.TheVariants as call
+use Rattle.partial_model.specs.declared.call.Call.{Call}
 use Rattle.partial_model.specs.declared.call.Refused.{Refused}
 use Rattle.partial_model.specs.History.{stamp_of}
 use Rattle.partial_model.specs.Notes.{seen_by}
@@ -10,7 +10,7 @@ use Rattle.partial_words.specs.declared.step.Step.{Step}
 use Rattle.partial_words.specs.declared.step.Step.TheVariants.{Load, Store, Exchange, Add}
 use Rattle.partial_words.specs.Layout.{Layout, pool_counter}
 use Rattle.partial_words.specs.Step.{word_of}
-use Rattle.partial_machine.specs.declared.stage.Reply.TheVariants as reply
+use Rattle.partial_machine.specs.declared.stage.Reply.{Reply}
 use Rattle.partial_machine.specs.Machine.{CoreState, advance, reply_of, step_of}
 use Rattle.partial_machine.specs.Calls.{call_of, is_begun}
 use Rattle.partial_core.specs.Part.{IsMachineOf, core_of}
@@ -60,7 +60,7 @@ LeavesComponents z _ = ⊤
 
 -- a conditional update of the port's machine expects a stamp that its component has had in the epoch
 abbrev pub ExpectsSeen : SeatedPort → CoreState → Type 0
-ExpectsSeen x c = (j s v : ℕ) → call_of (begun_with c x.port.part) ≡ Some (call.UpdateIf j s v) →
+ExpectsSeen x c = (j s v : ℕ) → call_of (begun_with c x.port.part) ≡ Some (Call.UpdateIf j s v) →
     (n : ℕ) × (n ≤ length x.port.part.seen) × (s ≡ stamp_of (opening_of x) (take n x.port.part.seen) j)
 
 -- the port's earlier notes show no more than it had seen as the machine's call began
@@ -90,7 +90,7 @@ pub record SeatMakes (first : Bool) (c : CoreState) (s : Step) (x : SeatedPort) 
   }
   pub shown : seen_by 0 x.notes ≤ length (history_of x.port.before) + since_with c x.port.part
   -- the call isn't refused
-  pub unrefused : (cause : Refused) → reply_of (advance c a) ≢ Some (reply.Refused cause)
+  pub unrefused : (cause : Refused) → reply_of (advance c a) ≢ Some (Reply.Refused cause)
   -- in an epoch no older than its call the port has seen no less than there was as the call began
   pub time : n.epoch ≤ x.port.control.here.epoch → n.length ≤ length (history_of x.port.before) + length (log ++ entries)
 

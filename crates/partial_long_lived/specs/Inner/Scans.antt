@@ -1,9 +1,9 @@
 -- How a call of a port's machine begins, and what a scan leaves of its port.
 use Rattle.std.specs.Prelude.{ℕ, ◌≡◌, ◌≤◌, ◌++◌, false, List, [], ◌∷◌, length, Option, Some}
 use Rattle.std.specs.Option.{option_map}
-use Rattle.partial_model.specs.declared.call.Call.TheVariants as call
-use Rattle.partial_model.specs.declared.call.Answer.TheVariants as answer
-use Rattle.partial_model.specs.declared.call.Note.TheVariants as note
+use Rattle.partial_model.specs.declared.call.Call.{Call}
+use Rattle.partial_model.specs.declared.call.Answer.{Answer}
+use Rattle.partial_model.specs.declared.call.Note.{Note}
 use Rattle.partial_model.specs.Notes.{Noted}
 use Rattle.partial_words.specs.declared.step.Step.TheVariants.{Add}
 use Rattle.partial_words.specs.Layout.{pool_counter}
@@ -49,9 +49,9 @@ pub record ScanBegun (b : CoreState) (n : ℕ) (s : Stand) (a : ℕ) (t : Stand)
 -- what a port notes of a scan of these components in that epoch, answered so at that place
 abbrev pub noted_scan : ℕ → List ℕ → List ℕ → ℕ → Option ℕ → ℕ → Noted
 noted_scan epoch which values collects borrowed place = record {
-  call = call.Scan which;
-  answer = answer.Scanned values collects (option_map (public_stamp epoch) borrowed);
-  note = Some (note.Saw place);
+  call = Call.Scan which;
+  answer = Answer.Scanned values collects (option_map (public_stamp epoch) borrowed);
+  note = Some (Note.Saw place);
 }
 
 -- The port has scanned where it stood: what it has noted is this answer, at a place that is not before its call began.

@@ -7,7 +7,7 @@ use Rattle.partial_model.specs.Notes.{seen_by}
 use Rattle.partial_words.specs.Layout.{IsLayout, greatest_record}
 use Rattle.partial_machine.specs.declared.stage.Stage.{Stage}
 use Rattle.partial_machine.specs.declared.stage.Stage.TheVariants.{UpdateBegun, GettingSet, Viewing, ClaimingRecord, StoringRecord, Exchanging, ScanBegun}
-use Rattle.partial_machine.specs.declared.stage.Reply.TheVariants as reply
+use Rattle.partial_machine.specs.declared.stage.Reply.{Reply}
 use Rattle.partial_machine.specs.Machine.{CoreState, reply_of}
 use Rattle.partial_machine.specs.Sound.{IsSound}
 use Rattle.partial_core.specs.Part.{HasBegun, core_of, first_at}
@@ -63,7 +63,7 @@ pub record CallMade (b : CoreState) (x : SeatedPort) (c : CoreState) (y : Seated
   -- the machine has no marks
   pub unmarked : (c.pool_spent ≡ false) × (c.slots_spent ≡ false)
   -- it isn't refused
-  pub unrefused : (cause : Refused) → reply_of c ≢ Some (reply.Refused cause)
+  pub unrefused : (cause : Refused) → reply_of c ≢ Some (Reply.Refused cause)
   -- the port notes over all epochs what it notes in the epoch
   pub notes : y.notes ≡ x.notes ++ map (public_noted (plan_of x.about) x.port.before) made.new
   -- its earlier notes show no more than it had seen as the call began

@@ -1,8 +1,8 @@
 -- Parts of an update.
 use Rattle.std.specs.Prelude.{ℕ, ◌≡◌, ◌+◌, ◌<◌, ◌≤◌, ◌++◌, Bool, false, [], ◌∷◌, length, take, Option, None, Some, IfSome}
-use Rattle.partial_model.specs.declared.call.Call.TheVariants as call
-use Rattle.partial_model.specs.declared.call.Answer.TheVariants as answer
-use Rattle.partial_model.specs.declared.call.Note.TheVariants as note
+use Rattle.partial_model.specs.declared.call.Call.{Call}
+use Rattle.partial_model.specs.declared.call.Answer.{Answer}
+use Rattle.partial_model.specs.declared.call.Note.{Note}
 use Rattle.partial_model.specs.History.{stamp_of}
 use Rattle.partial_model.specs.Notes.{Noted}
 use Rattle.partial_words.specs.declared.step.Step.TheVariants.{Exchange}
@@ -15,12 +15,11 @@ use Rattle.partial_machine.specs.Sound.{IsSound}
 use Rattle.partial_epochs.specs.History.{public_stamp, stamp_limit}
 use Rattle.partial_epochs.specs.Notes.{public_of}
 use Rattle.partial_long_lived.specs.declared.answers.Updated as answers
-use Rattle.partial_long_lived.specs.declared.answers.Updated.TheVariants as ended
+use Rattle.partial_long_lived.specs.declared.answers.Updated.{Updated}
 use Rattle.partial_long_lived.specs.declared.error.Refused.{Refused}
 use Rattle.partial_long_lived.specs.declared.error.Refused.TheVariants.{Overtaken as IsOvertaken}
 use Rattle.partial_long_lived.specs.declared.stand.Stand.{Stand}
 use Rattle.partial_long_lived.specs.declared.update.Attempted.{Attempted}
-use Rattle.partial_long_lived.specs.declared.update.Attempted.TheVariants as attempted
 use Rattle.partial_long_lived.specs.Rule.{SeatedPort, plan_of}
 use Rattle.partial_long_lived.specs.Ports.{seen_in}
 use Rattle.partial_long_lived.specs.Inner.Moves.{BeganBy}
@@ -43,16 +42,16 @@ asked_change component expected value = record { component = component; expected
 
 -- how an attempt ended the update, unless it met a seal
 abbrev pub exchanged_in : Attempted → Option Exchanged
-exchanged_in (attempted.Applied stamp) = Some (Applied stamp)
-exchanged_in (attempted.Overtaken by) = Some (Overtaken by)
-exchanged_in attempted.Sealed = None
+exchanged_in (Attempted.Applied stamp) = Some (Applied stamp)
+exchanged_in (Attempted.Overtaken by) = Some (Overtaken by)
+exchanged_in Attempted.Sealed = None
 
 -- what a port notes of an update in that epoch that ended so, with an entry at that place
 abbrev pub noted_change : ℕ → Change → Exchanged → ℕ → Noted
 noted_change epoch c (Applied stamp) place =
-    record { call = call.Update c.component c.value; answer = answer.Applied (public_stamp epoch stamp); note = Some (note.Wrote place) }
+    record { call = Call.Update c.component c.value; answer = Answer.Applied (public_stamp epoch stamp); note = Some (Note.Wrote place) }
 noted_change epoch c (Overtaken by) place =
-    record { call = call.Update c.component c.value; answer = answer.Lost (public_stamp epoch by); note = Some (note.Lost place) }
+    record { call = Call.Update c.component c.value; answer = Answer.Lost (public_stamp epoch by); note = Some (Note.Lost place) }
 
 -- the public stamp of the record that an update put, or that overwrote it
 abbrev pub stamp_from : ℕ → Exchanged → ℕ
@@ -61,21 +60,21 @@ stamp_from epoch (Overtaken by) = public_stamp epoch by
 
 -- how such an update ended, as its caller is told
 abbrev pub public_update : ℕ → Exchanged → answers.Updated
-public_update epoch (Applied stamp) = ended.Applied (public_stamp epoch stamp)
-public_update epoch (Overtaken by) = ended.Lost (public_stamp epoch by)
+public_update epoch (Applied stamp) = Updated.Applied (public_stamp epoch stamp)
+public_update epoch (Overtaken by) = Updated.Lost (public_stamp epoch by)
 
 -- what a port notes where its update has ended so in its epoch, at that place: a conditional update expected the record at that word
 abbrev pub noted_where : SeatedPort → Option ℕ → Change → Exchanged → ℕ → Noted
 noted_where x None c r place = noted_change (length x.port.before) c r place
 noted_where x (Some at) c (Applied stamp) place = record {
-  call = call.UpdateIf c.component (public_of (plan_of x.about) x.port.before c.component at) c.value;
-  answer = answer.Applied (public_stamp (length x.port.before) stamp);
-  note = Some (note.Wrote place);
+  call = Call.UpdateIf c.component (public_of (plan_of x.about) x.port.before c.component at) c.value;
+  answer = Answer.Applied (public_stamp (length x.port.before) stamp);
+  note = Some (Note.Wrote place);
 }
 noted_where x (Some at) c (Overtaken by) place = record {
-  call = call.UpdateIf c.component (public_of (plan_of x.about) x.port.before c.component at) c.value;
-  answer = answer.Changed (public_of (plan_of x.about) x.port.before c.component by);
-  note = Some (note.Saw place);
+  call = Call.UpdateIf c.component (public_of (plan_of x.about) x.port.before c.component at) c.value;
+  answer = Answer.Changed (public_of (plan_of x.about) x.port.before c.component by);
+  note = Some (Note.Saw place);
 }
 
 -- Where an update has its place among n entries that the port has seen: an applied one is the last of them, a lost one names one of them, and

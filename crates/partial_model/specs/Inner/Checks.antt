@@ -5,13 +5,9 @@ use Rattle.std.specs.Option.{option_map_or, is_none}
 use Rattle.partial_model.specs.declared.history.Applied.{Applied}
 use Rattle.partial_model.specs.declared.history.Opening.{Opening}
 use Rattle.partial_model.specs.declared.call.Call.{Call}
-use Rattle.partial_model.specs.declared.call.Call.TheVariants as call
 use Rattle.partial_model.specs.declared.call.Refused.{Refused}
-use Rattle.partial_model.specs.declared.call.Refused.TheVariants as refused
 use Rattle.partial_model.specs.declared.call.Answer.{Answer}
-use Rattle.partial_model.specs.declared.call.Answer.TheVariants as answer
 use Rattle.partial_model.specs.declared.call.Note.{Note}
-use Rattle.partial_model.specs.declared.call.Note.TheVariants as note
 use Rattle.partial_model.specs.declared.call.Finish.{Finish}
 use Rattle.partial_model.specs.declared.call.Called.{Called}
 use Rattle.partial_model.specs.History.{value_of, stamp_of}
@@ -38,23 +34,23 @@ names_components m js = list_all (λ j. nat_lt j m) js
 
 -- `ClaimsPool`
 abbrev pub claims_pool : Call → Bool
-claims_pool (call.Update j v) = true
-claims_pool (call.Scan js) = nat_lt 0 (length js)
-claims_pool (call.Read j) = false
-claims_pool (call.UpdateIf j s v) = true
+claims_pool (Call.Update j v) = true
+claims_pool (Call.Scan js) = nat_lt 0 (length js)
+claims_pool (Call.Read j) = false
+claims_pool (Call.UpdateIf j s v) = true
 
 -- `ClaimsSlot`
 abbrev pub claims_slot : Call → Bool
-claims_slot (call.Update j v) = false
-claims_slot (call.Scan js) = nat_lt 0 (length js)
-claims_slot (call.Read j) = false
-claims_slot (call.UpdateIf j s v) = false
+claims_slot (Call.Update j v) = false
+claims_slot (Call.Scan js) = nat_lt 0 (length js)
+claims_slot (Call.Read j) = false
+claims_slot (Call.UpdateIf j s v) = false
 
 -- `MayBeRefused`
 abbrev pub may_be_refused : ℕ → Call → Refused → Bool
-may_be_refused m c refused.Component = not (names_components m (indices_of c))
-may_be_refused m c refused.SlotsSpent = names_components m (indices_of c) && claims_slot c
-may_be_refused m c refused.PoolSpent = names_components m (indices_of c) && claims_pool c
+may_be_refused m c Refused.Component = not (names_components m (indices_of c))
+may_be_refused m c Refused.SlotsSpent = names_components m (indices_of c) && claims_slot c
+may_be_refused m c Refused.PoolSpent = names_components m (indices_of c) && claims_pool c
 
 -- the entry at place k is that one
 abbrev pub stands_at : List Applied → ℕ → Applied → Bool
@@ -87,21 +83,21 @@ saw_together o h js vs c b n = nat_le n (length h) && hold (value_of o (take n h
 
 -- `Fits` and `IsTrueOf` of an answer with a note
 abbrev pub is_right : Opening → List Applied → ℕ → Call → Answer → Note → Bool
-is_right o h p (call.Update j v) (answer.Applied s) (note.Wrote k) = nat_lt j (length o.values) && stands_at h k
+is_right o h p (Call.Update j v) (Answer.Applied s) (Note.Wrote k) = nat_lt j (length o.values) && stands_at h k
     (record { port = p; component = j; value = v; stamp = s })
-is_right o h p (call.Update j v) (answer.Lost by) (note.Lost k) = nat_lt j (length o.values) && is_entry_for h k j by
-is_right o h p (call.Scan js) (answer.Scanned vs c b) (note.Saw n) = names_components (length o.values) js && saw_together o h js vs c b n
-is_right o h p (call.Read j) (answer.Read v s) (note.Saw n) = nat_lt j (length o.values) && nat_le n (length h) &&
+is_right o h p (Call.Update j v) (Answer.Lost by) (Note.Lost k) = nat_lt j (length o.values) && is_entry_for h k j by
+is_right o h p (Call.Scan js) (Answer.Scanned vs c b) (Note.Saw n) = names_components (length o.values) js && saw_together o h js vs c b n
+is_right o h p (Call.Read j) (Answer.Read v s) (Note.Saw n) = nat_lt j (length o.values) && nat_le n (length h) &&
     (value_of o (take n h) j == v) && (stamp_of o (take n h) j == s)
-is_right o h p (call.UpdateIf j x v) (answer.Applied s) (note.Wrote k) = nat_lt j (length o.values) && stands_at h k
+is_right o h p (Call.UpdateIf j x v) (Answer.Applied s) (Note.Wrote k) = nat_lt j (length o.values) && stands_at h k
     (record { port = p; component = j; value = v; stamp = s }) && (stamp_of o (take k h) j == x)
-is_right o h p (call.UpdateIf j x v) (answer.Changed t) (note.Saw n) = nat_lt j (length o.values) && nat_le n (length h) &&
+is_right o h p (Call.UpdateIf j x v) (Answer.Changed t) (Note.Saw n) = nat_lt j (length o.values) && nat_le n (length h) &&
     (stamp_of o (take n h) j == t) && not (t == x)
 is_right o h p _ _ _ = false
 
 -- `Fits` of an answer without a note
 abbrev pub is_refusal : ℕ → Call → Answer → Bool
-is_refusal m c (answer.Refused cause) = may_be_refused m c cause
+is_refusal m c (Answer.Refused cause) = may_be_refused m c cause
 is_refusal m c _ = false
 
 -- `IsLegal`, where the port had seen so many entries before

@@ -5,9 +5,7 @@ use Rattle.std.specs.Option.{option_map_or}
 use Rattle.partial_model.specs.declared.history.Applied.{Applied}
 use Rattle.partial_model.specs.declared.history.Opening.{Opening}
 use Rattle.partial_model.specs.declared.call.Call.{Call}
-use Rattle.partial_model.specs.declared.call.Call.TheVariants as call
 use Rattle.partial_model.specs.declared.call.Answer.{Answer}
-use Rattle.partial_model.specs.declared.call.Answer.TheVariants as answer
 use Rattle.partial_model.specs.declared.call.Note.{Note}
 use Rattle.partial_model.specs.declared.call.Called.{Called}
 use Rattle.partial_model.specs.Notes.{Noted, LegalNotes, seen_by, shown_by, place_of}
@@ -159,12 +157,12 @@ IsExchangeWithin m words _ = ⊤
 
 -- the call is a scan of components that are there, and each has a value
 abbrev pub ScanHasValues : ℕ → Call → List ℕ → Type 0
-ScanHasValues m (call.Scan js) vs = AllByRecursion (λ j. j < m) js × (length vs ≡ length js)
+ScanHasValues m (Call.Scan js) vs = AllByRecursion (λ j. j < m) js × (length vs ≡ length js)
 ScanHasValues m _ vs = ⊥
 
 -- an answer that the call may have: only a scan answers values
 abbrev pub MayAnswer : ℕ → Call → Answer → Type 0
-MayAnswer m c (answer.Scanned vs collects borrowed) = ScanHasValues m c vs
+MayAnswer m c (Answer.Scanned vs collects borrowed) = ScanHasValues m c vs
 MayAnswer m c _ = ⊤
 
 -- the records of the components, and of the entries, lie within the words

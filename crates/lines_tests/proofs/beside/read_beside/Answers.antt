@@ -1,5 +1,4 @@
-use Rattle.lines_tests.proofs.Common.{subst, CoreState, BeginsOn}
-use Rattle.lines_tests.proofs.Turning.{read_begins}
+use Rattle.lines_tests.proofs.{Common.{subst, CoreState, BeginsOn}, Turning.read_begins}
 use Rattle.lines_tests.proofs.beside.read_beside.Goals as goal
 
 pub open-requires-clause-begins : goal.open-requires-clause-begins

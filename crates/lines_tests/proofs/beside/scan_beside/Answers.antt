@@ -1,5 +1,4 @@
-use Rattle.lines_tests.proofs.Common.{◌≤◌, length, sym, ap, subst, ◌∙◌, arith, scan_asked, CoreState, BeginsOn}
-use Rattle.lines_tests.proofs.Turning.{scan_begins, scan_is}
+use Rattle.lines_tests.proofs.{Common.{◌≤◌, length, sym, ap, subst, ◌∙◌, arith, scan_asked, CoreState, BeginsOn}, Turning.{scan_begins, scan_is}}
 use Rattle.lines_tests.proofs.beside.scan_beside.Goals as goal
 
 pub open-requires-clause-begins : goal.open-requires-clause-begins

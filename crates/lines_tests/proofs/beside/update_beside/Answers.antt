@@ -1,5 +1,4 @@
-use Rattle.lines_tests.proofs.Common.{subst, CoreState, BeginsOn}
-use Rattle.lines_tests.proofs.Turning.{update_begins}
+use Rattle.lines_tests.proofs.{Common.{subst, CoreState, BeginsOn}, Turning.update_begins}
 use Rattle.lines_tests.proofs.beside.update_beside.Goals as goal
 
 pub open-requires-clause-begins : goal.open-requires-clause-begins

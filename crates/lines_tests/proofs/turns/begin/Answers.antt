@@ -1,5 +1,4 @@
-use Rattle.lines_tests.proofs.Common.{rules, ◌≤◌, [], ◌∷◌}
-use Rattle.lines_tests.proofs.Turning.{asked_scan, asked_update}
+use Rattle.lines_tests.proofs.{Common.{rules, ◌≤◌, [], ◌∷◌}, Turning.{asked_scan, asked_update}}
 use Rattle.lines_tests.proofs.turns.begin.Goals as goal
 
 pub returns-then-pick-lt5 : goal.returns-then-pick-lt5

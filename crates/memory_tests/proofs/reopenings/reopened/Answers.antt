@@ -1,5 +1,4 @@
-use Rattle.memory_tests.proofs.Common.{sym, subst, AllByRecursion, newcomers, IsOf, new_ports, opened_ports_are_all}
-use Rattle.memory_tests.proofs.Ports.{both}
+use Rattle.memory_tests.proofs.{Common.{sym, subst, AllByRecursion, newcomers, IsOf, new_ports, opened_ports_are_all}, Ports.both}
 use Rattle.memory_tests.proofs.reopenings.reopened.Goals as goal
 
 pub returns : goal.returns

@@ -1,8 +1,7 @@
-use Rattle.memory_tests.proofs.Common.{rules, ◌≡◌, List, [], ◌∷◌, ◌++◌, sym, subst, Option, Some, None, IfSome, Vec, Global, All, AllByRecursion, All-push, all_front, PortView, IsOf}
+use Rattle.memory_tests.proofs.{Common.{rules, ◌≡◌, List, [], ◌∷◌, ◌++◌, sym, subst, Option, Some, None, IfSome, Vec, Global, All, AllByRecursion, All-push, all_front, PortView, IsOf}, Ports.of_last}
 use Rattle.memory_tests.specs.declared.workers.Worker.{Worker}
 use Rattle.std.specs.Option.{option_to_list}
 use Rattle.partial_memory.specs.declared.port.Port.{Port}
-use Rattle.memory_tests.proofs.Ports.{of_last}
 use Rattle.memory_tests.proofs.workers.hire.Goals as goal
 use Rattle.memory_tests.proofs.workers.hire.Goals.{in-Meet, in_default-job}
 

@@ -1,5 +1,4 @@
-use Rattle.partial_active.proofs.Active.{steps_by_events}
-use Rattle.partial_active.proofs.Finds.{finds_by_events}
+use Rattle.partial_active.proofs.{Active.steps_by_events, Finds.finds_by_events}
 use Rattle.partial_active.proofs.law.finds_the_active_set.Goals as goal
 
 pub returns-clause-finds : goal.returns-clause-finds

@@ -1,5 +1,4 @@
-use Rattle.partial_cmd.proofs.Common.{◌≤◌, length, ap, subst, ◌∙◌, opening_is, Layout, pool_base, extended_values, report_of}
-use Rattle.partial_cmd.proofs.Nexts.{both_alike, both_reported}
+use Rattle.partial_cmd.proofs.{Common.{◌≤◌, length, ap, subst, ◌∙◌, opening_is, Layout, pool_base, extended_values, report_of}, Nexts.{both_alike, both_reported}}
 use Rattle.partial_cmd.proofs.next.run_both.Goals as goal
 
 pub returns : goal.returns

@@ -1,5 +1,4 @@
-use Rattle.partial_cmd.proofs.Common.{◌≡◌, List, map, Bor, ap, ◌∙◌, Call, Layout}
-use Rattle.partial_cmd.proofs.Reported.{plan_makable, plan_ran}
+use Rattle.partial_cmd.proofs.{Common.{◌≡◌, List, map, Bor, ap, ◌∙◌, Call, Layout}, Reported.{plan_makable, plan_ran}}
 use Rattle.partial_cmd.proofs.workers.run_plan.Goals as goal
 
 pub run_on-requires-clause-makable : goal.run_on-requires-clause-makable

@@ -1,5 +1,4 @@
-use Rattle.partial_cmd.proofs.Common.{ap, sym, subst, ◌∙◌, opening_is, pool_base, IsReportFrom}
-use Rattle.partial_cmd.proofs.Reported.{reported_of}
+use Rattle.partial_cmd.proofs.{Common.{ap, sym, subst, ◌∙◌, opening_is, pool_base, IsReportFrom}, Reported.reported_of}
 use Rattle.partial_cmd.proofs.workers.run_workers.Goals as goal
 
 pub returns : goal.returns

@@ -1,5 +1,4 @@
-use Rattle.partial_door.proofs.Common.{refl, inl, inr}
-use Rattle.partial_door.proofs.OpenedLong.{unclosed}
+use Rattle.partial_door.proofs.{Common.{refl, inl, inr}, OpenedLong.unclosed}
 use Rattle.partial_door.proofs.long_exports.partial_door_memory_close.Goals as goal
 
 pub returns-in-Ok : goal.returns-in-Ok

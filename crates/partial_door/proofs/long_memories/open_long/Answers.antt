@@ -1,5 +1,4 @@
-use Rattle.partial_door.proofs.Common.{rules, inl, inr, if_ok_then, IfErr-weaker}
-use Rattle.partial_door.proofs.OpenedLong.{still_new}
+use Rattle.partial_door.proofs.{Common.{rules, inl, inr, if_ok_then, IfErr-weaker}, OpenedLong.still_new}
 use Rattle.partial_door.proofs.long_memories.open_long.Goals as goal
 
 pub returns-in-Ok-clause-ok : goal.returns-in-Ok-clause-ok

@@ -1,15 +1,14 @@
-use Rattle.partial_door.proofs.Common.{◌∙◌, refl, sym, ap, subst, inl, inr, IsUnready}
-use Rattle.partial_door.specs.declared.held.Held.TheVariants as held
+use Rattle.partial_door.proofs.Common.{◌∙◌, refl, sym, ap, subst, inl, inr, IsUnready, Held}
 use Rattle.partial_door.proofs.long_memories.ready.Goals as goal
 
 pub returns-in-Err-Away-clause-err : goal.returns-in-Err-Away-clause-err
 returns-in-Err-Away-clause-err c =
     let own = c.in-LongMemory.open in
     let kept = subst (IsUnready own) c.in-Err-Away.field-0-is c.in-Err-Away.ensures.err in
-    (ap held.LongMemory kept.0 ∙ sym c.in-LongMemory.is, inr (inr (inl (own, c.in-LongMemory.is, refl, kept.1))))
+    (ap Held.LongMemory kept.0 ∙ sym c.in-LongMemory.is, inr (inr (inl (own, c.in-LongMemory.is, refl, kept.1))))
 
 pub returns-in-Err-Shared-clause-err : goal.returns-in-Err-Shared-clause-err
 returns-in-Err-Shared-clause-err c =
     let own = c.in-LongMemory.open in
     let kept = subst (IsUnready own) c.in-Err-Shared.field-0-is c.in-Err-Shared.ensures.err in
-    (ap held.LongMemory kept.0 ∙ sym c.in-LongMemory.is, inr (inr (inr (own, c.in-LongMemory.is, refl, kept.1))))
+    (ap Held.LongMemory kept.0 ∙ sym c.in-LongMemory.is, inr (inr (inr (own, c.in-LongMemory.is, refl, kept.1))))

@@ -1,18 +1,17 @@
-use Rattle.partial_door.proofs.Common.{rules, ◌∙◌, refl, sym, ap, subst, inl, inr, IsMemoryKept}
-use Rattle.partial_door.specs.declared.held.Held.TheVariants as held
+use Rattle.partial_door.proofs.Common.{rules, ◌∙◌, refl, sym, ap, subst, inl, inr, IsMemoryKept, Held}
 use Rattle.partial_door.proofs.memories.closed.Goals as goal
 
 pub returns-in-Err-Away-clause-err : goal.returns-in-Err-Away-clause-err
 returns-in-Err-Away-clause-err c =
     let own = c.in-Memory.open in
     let kept = subst (IsMemoryKept own) c.in-Err-Away.field-0-is c.in-Err-Away.ensures.err in
-    (ap held.Memory kept.0 ∙ sym c.in-Memory.is, inr (inl (own, c.in-Memory.is, refl, kept.1)))
+    (ap Held.Memory kept.0 ∙ sym c.in-Memory.is, inr (inl (own, c.in-Memory.is, refl, kept.1)))
 
 pub returns-in-Err-Shared-clause-err : goal.returns-in-Err-Shared-clause-err
 returns-in-Err-Shared-clause-err c =
     let own = c.in-Memory.open in
     let kept = subst (IsMemoryKept own) c.in-Err-Shared.field-0-is c.in-Err-Shared.ensures.err in
-    (ap held.Memory kept.0 ∙ sym c.in-Memory.is, inr (inr (own, c.in-Memory.is, refl, kept.1)))
+    (ap Held.Memory kept.0 ∙ sym c.in-Memory.is, inr (inr (own, c.in-Memory.is, refl, kept.1)))
 
 pub returns-in-Err-Lost-clause-err : goal.returns-in-Err-Lost-clause-err
 returns-in-Err-Lost-clause-err c = (c.in-Memory.open, search rules, search rules)

@@ -1,5 +1,4 @@
-use Rattle.partial_door.proofs.Common.{ap, refl, ◌∙◌, if_ok_then, pool_base}
-use Rattle.partial_door.proofs.Opened.{homes, opened_is}
+use Rattle.partial_door.proofs.{Common.{ap, refl, ◌∙◌, if_ok_then, pool_base}, Opened.{homes, opened_is}}
 use Rattle.partial_door.proofs.memories.open.Goals as goal
 
 pub at_home-requires-clause-of : goal.at_home-requires-clause-of

@@ -1,6 +1,5 @@
-use Rattle.partial_door.proofs.Common.{◌≤◌, length, ap, refl, subst, sym, ◌∙◌, if_ok_then, Layout, pool_base, MemoryView}
+use Rattle.partial_door.proofs.{Common.{◌≤◌, length, ap, refl, subst, sym, ◌∙◌, if_ok_then, Layout, pool_base, MemoryView}, Opened.{homes, opened_is}}
 use Rattle.partial_memory.specs.Reopening.{ContinuesAll, extended_values}
-use Rattle.partial_door.proofs.Opened.{homes, opened_is}
 use Rattle.partial_door.proofs.memories.reopen_closed.Goals as goal
 
 pub at_home-requires-clause-of : goal.at_home-requires-clause-of

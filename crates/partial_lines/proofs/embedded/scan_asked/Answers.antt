@@ -1,6 +1,5 @@
-use Rattle.partial_lines.proofs.Common.{◌≡◌, rules, refl, Result, Ok, Err, IfOk, CoreState, EmbeddedState, sym, ap, ◌∙◌, subst, Stage, Leaving, at_stage, scanning, with_scanning, IsScanStage, behind_scan, positions_at, ViewGoesTogether}
+use Rattle.partial_lines.proofs.{Common.{◌≡◌, rules, refl, Result, Ok, Err, IfOk, CoreState, EmbeddedState, sym, ap, ◌∙◌, subst, Stage, Leaving, at_stage, scanning, with_scanning, IsScanStage, behind_scan, positions_at, ViewGoesTogether}, Parts.{at_asked, scan_made, scan_over}}
 use Rattle.partial_embedded.specs.declared.embedded.Stage.TheVariants.{Done}
-use Rattle.partial_lines.proofs.Parts.{at_asked, scan_made, scan_over}
 use Rattle.partial_lines.proofs.embedded.scan_asked.Goals as goal
 
 pub scan_positions-requires-clause-together : goal.scan_positions-requires-clause-together

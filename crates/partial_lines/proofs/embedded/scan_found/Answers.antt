@@ -1,5 +1,4 @@
-use Rattle.partial_lines.proofs.Common.{◌≡◌, rules, refl, sym, ap, ◌∙◌, subst, CoreState, at_stage, scanning, with_scanning, behind_scan, ViewGoesTogether, ViewPair}
-use Rattle.partial_lines.proofs.Parts.{at_found, scan_made, scan_over}
+use Rattle.partial_lines.proofs.{Common.{◌≡◌, rules, refl, sym, ap, ◌∙◌, subst, CoreState, at_stage, scanning, with_scanning, behind_scan, ViewGoesTogether, ViewPair}, Parts.{at_found, scan_made, scan_over}}
 use Rattle.partial_lines.proofs.embedded.scan_found.Goals as goal
 
 pub scan_found-requires-clause-together : goal.scan_found-requires-clause-together

@@ -1,7 +1,5 @@
-use Rattle.partial_lines.proofs.Common.{ℕ, ◌≡◌, rules, true, Result, Ok, Err, IfOk, OnOk, Bool, cond, IfSome, IfNone, Option, Some, None, refl, ap, sym, subst, ◌∙◌, ClaimingRecord, Viewing, Exchanging, Idle, scan_begun, with_set, CoreState, at_stage, pool_refused, with_getting, IsSound, behind_scan, set_made, IsMarkedLike, RestsLike}
+use Rattle.partial_lines.proofs.{Common.{ℕ, ◌≡◌, rules, true, Result, Ok, Err, IfOk, OnOk, Bool, cond, IfSome, IfNone, Option, Some, None, refl, ap, sym, subst, ◌∙◌, ClaimingRecord, Viewing, Exchanging, Idle, scan_begun, with_set, CoreState, at_stage, pool_refused, with_getting, IsSound, behind_scan, set_made, IsMarkedLike, RestsLike}, Parts.set_ended, Resting.{rests_there, update_rests}}
 use Rattle.partial_active.specs.GetSet as finding
-use Rattle.partial_lines.proofs.Parts.{set_ended}
-use Rattle.partial_lines.proofs.Resting.{rests_there, update_rests}
 use Rattle.partial_lines.proofs.update.put.Goals as goal
 
 pub make_set-requires-clause-goes : goal.make_set-requires-clause-goes

@@ -1,5 +1,4 @@
-use Rattle.partial_lines.proofs.Common.{sym, ap, ◌∙◌, slice_index, at_stage, announcement_block}
-use Rattle.partial_lines.proofs.Announcing.{store_due, store_then}
+use Rattle.partial_lines.proofs.{Common.{sym, ap, ◌∙◌, slice_index, at_stage, announcement_block}, Announcing.{store_due, store_then}}
 use Rattle.partial_lines.proofs.whole_scan.store_index.Goals as goal
 
 pub make-requires-clause-due : goal.make-requires-clause-due

@@ -1,5 +1,4 @@
-use Rattle.partial_long_lived.proofs.Common.{false, ◌<◌, arith, Reads}
-use Rattle.partial_long_lived.proofs.Standing.{component_there, see_asked}
+use Rattle.partial_long_lived.proofs.{Common.{false, ◌<◌, arith, Reads}, Standing.{component_there, see_asked}}
 use Rattle.partial_long_lived.proofs.arena.read_again.Goals as goal
 
 pub load-requires : goal.load-requires

@@ -1,5 +1,4 @@
-use Rattle.partial_long_lived.proofs.Common.{true, ◌<◌, arith, Reads}
-use Rattle.partial_long_lived.proofs.Standing.{component_there, see_asked}
+use Rattle.partial_long_lived.proofs.{Common.{true, ◌<◌, arith, Reads}, Standing.{component_there, see_asked}}
 use Rattle.partial_long_lived.proofs.arena.read_first.Goals as goal
 
 pub load-requires : goal.load-requires

@@ -1,5 +1,4 @@
-use Rattle.partial_long_lived.proofs.Common.{sym, subst, ◌<◌}
-use Rattle.partial_long_lived.proofs.Sights.{may_recall}
+use Rattle.partial_long_lived.proofs.{Common.{sym, subst, ◌<◌}, Sights.may_recall}
 use Rattle.partial_long_lived.proofs.arena.recall.Goals as goal
 
 pub load-requires : goal.load-requires

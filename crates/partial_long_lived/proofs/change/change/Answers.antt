@@ -1,5 +1,4 @@
-use Rattle.partial_long_lived.proofs.Changed.{changed}
-use Rattle.partial_long_lived.proofs.Staying.{stays_same}
+use Rattle.partial_long_lived.proofs.{Changed.changed, Staying.stays_same}
 use Rattle.partial_long_lived.proofs.change.change.Goals as goal
 
 pub returns-then-not-look_as-clause-changed : goal.returns-then-not-look_as-clause-changed

@@ -1,7 +1,4 @@
-use Rattle.partial_long_lived.proofs.Common.{◌+◌, ◌*◌, ap}
-use Rattle.partial_long_lived.proofs.Asked.{publish_asked}
-use Rattle.partial_long_lived.proofs.Standing.{some_word}
-use Rattle.partial_long_lived.proofs.Working.{publish_owns}
+use Rattle.partial_long_lived.proofs.{Common.{◌+◌, ◌*◌, ap}, Asked.publish_asked, Standing.some_word, Working.publish_owns}
 use Rattle.partial_long_lived.proofs.change.publish.Goals as goal
 
 pub compare_exchange-requires : goal.compare_exchange-requires

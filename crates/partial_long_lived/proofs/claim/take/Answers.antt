@@ -1,5 +1,4 @@
-use Rattle.partial_long_lived.proofs.Common.{◌+◌, ap}
-use Rattle.partial_long_lived.proofs.Asked.{own_there, take_asked}
+use Rattle.partial_long_lived.proofs.{Common.{◌+◌, ap}, Asked.{own_there, take_asked}}
 use Rattle.partial_long_lived.proofs.claim.take.Goals as goal
 
 pub compare_exchange-requires : goal.compare_exchange-requires

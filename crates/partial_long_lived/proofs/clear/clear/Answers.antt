@@ -1,5 +1,4 @@
-use Rattle.partial_long_lived.proofs.Common.{false, refl, just_taken}
-use Rattle.partial_long_lived.proofs.Looking.{away_owns, away_past, looked_remains, taken_works}
+use Rattle.partial_long_lived.proofs.{Common.{false, refl, just_taken}, Looking.{away_owns, away_past, looked_remains, taken_works}}
 use Rattle.partial_long_lived.proofs.clear.clear.Goals as goal
 
 pub returns-then-not-look-clause-cleared : goal.returns-then-not-look-clause-cleared

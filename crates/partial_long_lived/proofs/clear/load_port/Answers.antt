@@ -1,5 +1,4 @@
-use Rattle.partial_long_lived.proofs.Asked.{load_port_asked, port_there}
-use Rattle.partial_long_lived.proofs.Working.{port_load}
+use Rattle.partial_long_lived.proofs.{Asked.{load_port_asked, port_there}, Working.port_load}
 use Rattle.partial_long_lived.proofs.clear.load_port.Goals as goal
 
 pub load-requires : goal.load-requires

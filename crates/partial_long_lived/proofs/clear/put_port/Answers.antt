@@ -1,6 +1,4 @@
-use Rattle.partial_long_lived.proofs.Common.{refl, sym, ◌∙◌}
-use Rattle.partial_long_lived.proofs.Asked.{port_there, put_asked}
-use Rattle.partial_long_lived.proofs.Working.{put_away, put_won}
+use Rattle.partial_long_lived.proofs.{Common.{refl, sym, ◌∙◌}, Asked.{port_there, put_asked}, Working.{put_away, put_won}}
 use Rattle.partial_long_lived.proofs.clear.put_port.Goals as goal
 
 pub compare_exchange-found-requires : goal.compare_exchange-found-requires

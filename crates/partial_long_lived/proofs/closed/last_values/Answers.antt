@@ -1,5 +1,4 @@
-use Rattle.partial_long_lived.proofs.Common.{rules, ℕ, ◌≡◌, ◌+◌, ◌<◌, ap, sym, ◌∙◌, subst, arith, some, get_elem?, slots_items, bare, shape_plan, value_now, slice_index}
-use Rattle.partial_long_lived.proofs.LastValues.{value_at, value_more}
+use Rattle.partial_long_lived.proofs.{Common.{rules, ℕ, ◌≡◌, ◌+◌, ◌<◌, ap, sym, ◌∙◌, subst, arith, some, get_elem?, slots_items, bare, shape_plan, value_now, slice_index}, LastValues.{value_at, value_more}}
 use Rattle.partial_long_lived.proofs.closed.last_values.Goals as goal
 
 pub word-value-requires : goal.word-value-requires

@@ -1,6 +1,4 @@
-use Rattle.partial_long_lived.proofs.Common.{refl}
-use Rattle.partial_long_lived.proofs.Collects.{glanced_itself}
-use Rattle.partial_long_lived.proofs.DoubleCollect.{begun_collect, fresh_looked, fresh_unsealed, look_same, look_stayed}
+use Rattle.partial_long_lived.proofs.{Common.refl, Collects.glanced_itself, DoubleCollect.{begun_collect, fresh_looked, fresh_unsealed, look_same, look_stayed}}
 use Rattle.partial_long_lived.proofs.double_collect.begin.Goals as goal
 
 pub returns-then-found-lt-SEAL-clause-begun : goal.returns-then-found-lt-SEAL-clause-begun

@@ -1,5 +1,4 @@
-use Rattle.partial_long_lived.proofs.Common.{◌<◌, length, refl, arith, length-set}
-use Rattle.partial_long_lived.proofs.Collects.{collects_one, glanced_by, glanced_idle, glanced_itself, glanced_on}
+use Rattle.partial_long_lived.proofs.{Common.{◌<◌, length, refl, arith, length-set}, Collects.{collects_one, glanced_by, glanced_idle, glanced_itself, glanced_on}}
 use Rattle.partial_long_lived.proofs.double_collect.collect.Goals as goal
 
 pub loop-k-init : goal.loop-k-init

@@ -1,5 +1,4 @@
-use Rattle.partial_long_lived.proofs.Common.{arith}
-use Rattle.partial_long_lived.proofs.Collects.{collects_same, glanced_by, glanced_idle, glanced_itself, glanced_on, glanced_seen}
+use Rattle.partial_long_lived.proofs.{Common.arith, Collects.{collects_same, glanced_by, glanced_idle, glanced_itself, glanced_on, glanced_seen}}
 use Rattle.partial_long_lived.proofs.double_collect.collects_again.Goals as goal
 
 pub loop-k-init : goal.loop-k-init

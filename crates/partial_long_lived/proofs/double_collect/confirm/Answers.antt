@@ -1,5 +1,4 @@
-use Rattle.partial_long_lived.proofs.Common.{ℕ, List, length, sym, subst, ◌∙◌, MayNoteScan, NotesScan, port_at}
-use Rattle.partial_long_lived.proofs.DoubleCollect.{may_together, together_named, together_stayed}
+use Rattle.partial_long_lived.proofs.{Common.{ℕ, List, length, sym, subst, ◌∙◌, MayNoteScan, NotesScan, port_at}, DoubleCollect.{may_together, together_named, together_stayed}}
 use Rattle.partial_long_lived.proofs.double_collect.confirm.Goals as goal
 
 pub load_noting-requires-clause-may : goal.load_noting-requires-clause-may

@@ -1,6 +1,4 @@
-use Rattle.partial_long_lived.proofs.Collects.{glanced_stayed, stayed_on}
-use Rattle.partial_long_lived.proofs.DoubleCollect.{settled_on}
-use Rattle.partial_long_lived.proofs.Scans.{has_named}
+use Rattle.partial_long_lived.proofs.{Collects.{glanced_stayed, stayed_on}, DoubleCollect.settled_on, Scans.has_named}
 use Rattle.partial_long_lived.proofs.double_collect.double_collect.Goals as goal
 
 pub returns-clause-stayed : goal.returns-clause-stayed

@@ -1,5 +1,4 @@
-use Rattle.partial_long_lived.proofs.Common.{false, ◌<◌, arith, Glances}
-use Rattle.partial_long_lived.proofs.Standing.{component_there, see_asked}
+use Rattle.partial_long_lived.proofs.{Common.{false, ◌<◌, arith, Glances}, Standing.{component_there, see_asked}}
 use Rattle.partial_long_lived.proofs.double_collect.glance.Goals as goal
 
 pub load-requires : goal.load-requires

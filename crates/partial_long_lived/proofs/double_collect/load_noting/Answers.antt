@@ -1,6 +1,4 @@
-use Rattle.partial_long_lived.proofs.Common.{arith}
-use Rattle.partial_long_lived.proofs.Sights.{may_note}
-use Rattle.partial_long_lived.proofs.Standing.{arena_there}
+use Rattle.partial_long_lived.proofs.{Common.arith, Sights.may_note, Standing.arena_there}
 use Rattle.partial_long_lived.proofs.double_collect.load_noting.Goals as goal
 
 pub load-requires : goal.load-requires

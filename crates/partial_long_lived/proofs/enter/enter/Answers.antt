@@ -1,6 +1,4 @@
-use Rattle.partial_long_lived.proofs.Common.{◌∙◌}
-use Rattle.partial_long_lived.proofs.Entry.{arrive_asked, load_asked, mark_asked}
-use Rattle.partial_long_lived.proofs.Standing.{port_word, some_word}
+use Rattle.partial_long_lived.proofs.{Common.◌∙◌, Entry.{arrive_asked, load_asked, mark_asked}, Standing.{port_word, some_word}}
 use Rattle.partial_long_lived.proofs.enter.enter.Goals as goal
 
 pub store-requires : goal.store-requires

@@ -1,6 +1,4 @@
-use Rattle.partial_long_lived.proofs.Common.{false}
-use Rattle.partial_long_lived.proofs.Control.{may_look}
-use Rattle.partial_long_lived.proofs.Standing.{some_word, own_look}
+use Rattle.partial_long_lived.proofs.{Common.false, Control.may_look, Standing.{some_word, own_look}}
 use Rattle.partial_long_lived.proofs.enter.look.Goals as goal
 
 pub load-found-requires : goal.load-found-requires

@@ -1,5 +1,4 @@
-use Rattle.partial_long_lived.proofs.Common.{rules, Stays}
-use Rattle.partial_long_lived.proofs.Staying.{stays_then}
+use Rattle.partial_long_lived.proofs.{Common.{rules, Stays}, Staying.stays_then}
 use Rattle.partial_long_lived.proofs.fill.fill.Goals as goal
 
 pub loop-component-init : goal.loop-component-init

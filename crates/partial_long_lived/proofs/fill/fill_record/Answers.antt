@@ -1,6 +1,4 @@
-use Rattle.partial_long_lived.proofs.Common.{ap, ◌≡◌, ◌∙◌, arith, initial_record, set_word, value_word, About, Layout, Plan, refl, sym, bare, shape_plan}
-use Rattle.partial_long_lived.proofs.Asked.{set_there, set_value_asked}
-use Rattle.partial_long_lived.proofs.Working.{set_kept, set_value_works}
+use Rattle.partial_long_lived.proofs.{Common.{ap, ◌≡◌, ◌∙◌, arith, initial_record, set_word, value_word, About, Layout, Plan, refl, sym, bare, shape_plan}, Asked.{set_there, set_value_asked}, Working.{set_kept, set_value_works}}
 use Rattle.partial_long_lived.proofs.fill.fill_record.Goals as goal
 
 pub store-requires : goal.store-requires

@@ -1,6 +1,4 @@
-use Rattle.partial_long_lived.proofs.Common.{◌≡◌, ◌+◌, ap, arith, Plan, About, base, bare, shape_plan, slot_counter}
-use Rattle.partial_long_lived.proofs.Asked.{clear_there, find_clear_asked}
-use Rattle.partial_long_lived.proofs.Working.{find_clear_works}
+use Rattle.partial_long_lived.proofs.{Common.{◌≡◌, ◌+◌, ap, arith, Plan, About, base, bare, shape_plan, slot_counter}, Asked.{clear_there, find_clear_asked}, Working.find_clear_works}
 use Rattle.partial_long_lived.proofs.fill.find_clear.Goals as goal
 
 pub load-claimed-requires : goal.load-claimed-requires

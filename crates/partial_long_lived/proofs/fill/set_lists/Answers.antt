@@ -1,6 +1,4 @@
-use Rattle.partial_long_lived.proofs.Common.{◌<◌, ◌+◌, ap, arith, first_free, About}
-use Rattle.partial_long_lived.proofs.Asked.{set_lists_asked, set_there}
-use Rattle.partial_long_lived.proofs.Working.{set_lists_works}
+use Rattle.partial_long_lived.proofs.{Common.{◌<◌, ◌+◌, ap, arith, first_free, About}, Asked.{set_lists_asked, set_there}, Working.set_lists_works}
 use Rattle.partial_long_lived.proofs.fill.set_lists.Goals as goal
 
 pub store-requires : goal.store-requires

@@ -1,6 +1,4 @@
-use Rattle.partial_long_lived.proofs.Common.{port_at}
-use Rattle.partial_long_lived.proofs.Asked.{set_asked, set_there}
-use Rattle.partial_long_lived.proofs.Working.{right_low, set_works}
+use Rattle.partial_long_lived.proofs.{Common.port_at, Asked.{set_asked, set_there}, Working.{right_low, set_works}}
 use Rattle.partial_long_lived.proofs.fill.set_word.Goals as goal
 
 pub store-requires : goal.store-requires

@@ -1,5 +1,4 @@
-use Rattle.partial_long_lived.proofs.Common.{◌<◌, false, arith, port_at, Finds}
-use Rattle.partial_long_lived.proofs.Standing.{component_there, see_asked}
+use Rattle.partial_long_lived.proofs.{Common.{◌<◌, false, arith, port_at, Finds}, Standing.{component_there, see_asked}}
 use Rattle.partial_long_lived.proofs.find.find.Goals as goal
 
 pub load-requires : goal.load-requires

@@ -1,5 +1,4 @@
-use Rattle.partial_long_lived.proofs.Common.{Some, refl, ap, ◌∙◌, Store, Exchange, Add}
-use Rattle.partial_long_lived.proofs.Straight.{add_asked, add_told, exchange_asked, exchange_told, going_on, leads_there, step_there, store_asked, store_told}
+use Rattle.partial_long_lived.proofs.{Common.{Some, refl, ap, ◌∙◌, Store, Exchange, Add}, Straight.{add_asked, add_told, exchange_asked, exchange_told, going_on, leads_there, step_there, store_asked, store_told}}
 use Rattle.partial_long_lived.proofs.lines.make.Goals as goal
 
 pub store-requires : goal.store-requires

@@ -1,5 +1,4 @@
-use Rattle.partial_long_lived.proofs.Common.{refl, arith, Load}
-use Rattle.partial_long_lived.proofs.Straight.{going_on, leads_there, load_asked, load_told, small_word, step_there}
+use Rattle.partial_long_lived.proofs.{Common.{refl, arith, Load}, Straight.{going_on, leads_there, load_asked, load_told, small_word, step_there}}
 use Rattle.partial_long_lived.proofs.lines.make_load.Goals as goal
 
 pub overflow_add-at : goal.overflow_add-at

@@ -1,6 +1,4 @@
-use Rattle.partial_long_lived.proofs.Common.{rules, ◌∙◌, List, [], ◌∷◌, ap, SeatedPort, one_of}
-use Rattle.partial_long_lived.proofs.Meeting.{may_observe, together}
-use Rattle.partial_long_lived.proofs.Meets.{deals, gathers}
+use Rattle.partial_long_lived.proofs.{Common.{rules, ◌∙◌, List, [], ◌∷◌, ap, SeatedPort, one_of}, Meeting.{may_observe, together}, Meets.{deals, gathers}}
 use Rattle.partial_long_lived.proofs.meet.look_together.Goals as goal
 
 pub join_seat-requires : goal.join_seat-requires

@@ -1,5 +1,4 @@
-use Rattle.partial_long_lived.proofs.Common.{◌<◌, arith}
-use Rattle.partial_long_lived.proofs.Meetings.{apart_first, apart_second, together_first, together_second}
+use Rattle.partial_long_lived.proofs.{Common.{◌<◌, arith}, Meetings.{apart_first, apart_second, together_first, together_second}}
 use Rattle.partial_long_lived.proofs.meet.meet_later.Goals as goal
 
 pub returns-then-is_one-clause-met : goal.returns-then-is_one-clause-met

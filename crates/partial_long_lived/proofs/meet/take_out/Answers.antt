@@ -1,7 +1,4 @@
-use Rattle.partial_long_lived.proofs.Common.{arith, refl, sym, ap, ◌∙◌, subst, SeatedPort, IsSeatKnown, SeatGoes, port_at}
-use Rattle.partial_long_lived.proofs.Meetings.{taken_one, taken_same}
-use Rattle.partial_long_lived.proofs.Staying.{goes_same}
-use Rattle.partial_long_lived.proofs.Meets.{deals}
+use Rattle.partial_long_lived.proofs.{Common.{arith, refl, sym, ap, ◌∙◌, subst, SeatedPort, IsSeatKnown, SeatGoes, port_at}, Meetings.{taken_one, taken_same}, Staying.goes_same, Meets.deals}
 use Rattle.partial_long_lived.proofs.meet.take_out.Goals as goal
 
 pub split_seat-requires : goal.split_seat-requires

@@ -1,5 +1,4 @@
-use Rattle.partial_long_lived.proofs.Common.{◌≡◌, ◌<◌, ◌≤◌, not, true, length, refl, ap, ◌∙◌, arith, lt-ltb, seal, unsealed, Began, SeatedPort, seen_in, plan_of, public_of, port_at}
-use Rattle.partial_long_lived.proofs.Coming.{come_itself, read_ends}
+use Rattle.partial_long_lived.proofs.{Common.{◌≡◌, ◌<◌, ◌≤◌, not, true, length, refl, ap, ◌∙◌, arith, lt-ltb, seal, unsealed, Began, SeatedPort, seen_in, plan_of, public_of, port_at}, Coming.{come_itself, read_ends}}
 use Rattle.partial_long_lived.proofs.read.read_here.Goals as goal
 
 pub returns-clause-read : goal.returns-clause-read

@@ -1,6 +1,4 @@
-use Rattle.partial_long_lived.proofs.Common.{false, refl, HasCome}
-use Rattle.partial_long_lived.proofs.Answering.{rests_anew, rests_here}
-use Rattle.partial_long_lived.proofs.Coming.{come_same, come_seen, read_ends, settled_began, settled_come, settled_fresh, settled_notes}
+use Rattle.partial_long_lived.proofs.{Common.{false, refl, HasCome}, Answering.{rests_anew, rests_here}, Coming.{come_same, come_seen, read_ends, settled_began, settled_come, settled_fresh, settled_notes}}
 use Rattle.partial_long_lived.proofs.read.read_late.Goals as goal
 
 pub returns-then-stand-epoch-clause-rests : goal.returns-then-stand-epoch-clause-rests

@@ -1,5 +1,4 @@
-use Rattle.partial_long_lived.proofs.Common.{refl, ◌∙◌}
-use Rattle.partial_long_lived.proofs.Scans.{claim_asked, claim_there, scan_begun, scan_going}
+use Rattle.partial_long_lived.proofs.{Common.{refl, ◌∙◌}, Scans.{claim_asked, claim_there, scan_begun, scan_going}}
 use Rattle.partial_long_lived.proofs.scan.begin_scan.Goals as goal
 
 pub fetch_add-requires : goal.fetch_add-requires

@@ -1,5 +1,4 @@
-use Rattle.partial_long_lived.proofs.Common.{rules}
-use Rattle.partial_long_lived.proofs.Answering.{changed_named}
+use Rattle.partial_long_lived.proofs.{Common.rules, Answering.changed_named}
 use Rattle.partial_long_lived.proofs.scan.scan_announced.Goals as goal
 
 pub returns-clause-scanned : goal.returns-clause-scanned

@@ -1,6 +1,4 @@
-use Rattle.partial_long_lived.proofs.Common.{◌+◌, ap, ◌∙◌, arith}
-use Rattle.partial_long_lived.proofs.Asked.{pass_asked, seal_asked}
-use Rattle.partial_long_lived.proofs.Standing.{component_there}
+use Rattle.partial_long_lived.proofs.{Common.{◌+◌, ap, ◌∙◌, arith}, Asked.{pass_asked, seal_asked}, Standing.component_there}
 use Rattle.partial_long_lived.proofs.seal.pass.Goals as goal
 
 pub load-found-requires : goal.load-found-requires

@@ -1,5 +1,4 @@
-use Rattle.partial_long_lived.proofs.Common.{◌+◌, refl, sym, ap, ◌∙◌, Plan}
-use Rattle.partial_long_lived.proofs.Staying.{same_itself, same_then, stays_same, stays_then}
+use Rattle.partial_long_lived.proofs.{Common.{◌+◌, refl, sym, ap, ◌∙◌, Plan}, Staying.{same_itself, same_then, stays_same, stays_then}}
 use Rattle.partial_long_lived.proofs.seal.seal.Goals as goal
 
 pub loop-init : goal.loop-init

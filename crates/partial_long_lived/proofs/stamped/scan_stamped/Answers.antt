@@ -1,8 +1,6 @@
-use Rattle.partial_long_lived.proofs.Common.{◌∙◌, not, refl, sym, ap, subst, IfErr, slice_index, length, ◌<◌, stamp_limit, unsealed, port_at, NotScanned, ArePublic}
+use Rattle.partial_long_lived.proofs.{Common.{◌∙◌, not, refl, sym, ap, subst, IfErr, slice_index, length, ◌<◌, stamp_limit, unsealed, port_at, NotScanned, ArePublic}, DoubleCollect.{come_named, come_refused}, Stamps.{stamped_behind, stamped_none}}
 use Rattle.std.proofs.lemmas.Result.{err_from_is_err_and}
 use Rattle.partial_model.proofs.IndexLaws.{none_of}
-use Rattle.partial_long_lived.proofs.DoubleCollect.{come_named, come_refused}
-use Rattle.partial_long_lived.proofs.Stamps.{stamped_behind, stamped_none}
 use Rattle.partial_long_lived.proofs.stamped.scan_stamped.Goals as goal
 
 pub returns-then-double_collect-clause-scanned : goal.returns-then-double_collect-clause-scanned

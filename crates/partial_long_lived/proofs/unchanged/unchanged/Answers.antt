@@ -1,7 +1,4 @@
-use Rattle.partial_long_lived.proofs.Common.{◌<◌, sym, ap, ◌∙◌, arith, slice_index, Plan, About, port_at}
-use Rattle.partial_long_lived.proofs.Collects.{glanced_idle}
-use Rattle.partial_long_lived.proofs.DoubleCollect.{settled_on}
-use Rattle.partial_long_lived.proofs.StillStanding.{had_more}
+use Rattle.partial_long_lived.proofs.{Common.{◌<◌, sym, ap, ◌∙◌, arith, slice_index, Plan, About, port_at}, Collects.glanced_idle, DoubleCollect.settled_on, StillStanding.had_more}
 use Rattle.partial_long_lived.proofs.unchanged.unchanged.Goals as goal
 
 pub returns-then-stamp_now-stamps-clause-settled : goal.returns-then-stamp_now-stamps-clause-settled

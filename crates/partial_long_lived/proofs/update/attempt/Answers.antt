@@ -1,5 +1,4 @@
-use Rattle.partial_long_lived.proofs.Common.{rules, ◌≡◌, ◌+◌, false, nat_lt, IfSome, arith, inl, inr, refl, subst, sym, MayCall, MissesSeal, port_at, UpdateAttempted, asked_change}
-use Rattle.partial_long_lived.proofs.Attempts.{attempt_between, attempt_ends, attempt_going, attempt_rests, attempt_spares, first_between, first_ends, first_spares, met_seal, update_begins}
+use Rattle.partial_long_lived.proofs.{Common.{rules, ◌≡◌, ◌+◌, false, nat_lt, IfSome, arith, inl, inr, refl, subst, sym, MayCall, MissesSeal, port_at, UpdateAttempted, asked_change}, Attempts.{attempt_between, attempt_ends, attempt_going, attempt_rests, attempt_spares, first_between, first_ends, first_spares, met_seal, update_begins}}
 use Rattle.partial_long_lived.proofs.update.attempt.Goals.{else-found-ge-SEAL-via-then-found-ge-SEAL+else-found-old, else-found-ge-SEAL-via-else-found-ge-SEAL}
 use Rattle.partial_long_lived.proofs.update.attempt.Goals as goal
 

@@ -1,6 +1,4 @@
-use Rattle.partial_long_lived.proofs.Common.{◌<◌, arith}
-use Rattle.partial_long_lived.proofs.Standing.{component_there}
-use Rattle.partial_long_lived.proofs.Updating.{exchange_asked, exchanged_at}
+use Rattle.partial_long_lived.proofs.{Common.{◌<◌, arith}, Standing.component_there, Updating.{exchange_asked, exchanged_at}}
 use Rattle.partial_long_lived.proofs.update.exchange.Goals as goal
 
 pub compare_exchange-requires : goal.compare_exchange-requires

@@ -1,5 +1,4 @@
-use Rattle.partial_long_lived.proofs.Common.{rules, refl, arith, false, UpdateAttempted, NotesNothing, asked_change, None}
-use Rattle.partial_long_lived.proofs.Rounds.{came_on, came_rounds, late_of, may_own, one_later, round_ended, round_met, rounds_begin, rounds_came}
+use Rattle.partial_long_lived.proofs.{Common.{rules, refl, arith, false, UpdateAttempted, NotesNothing, asked_change, None}, Rounds.{came_on, came_rounds, late_of, may_own, one_later, round_ended, round_met, rounds_begin, rounds_came}}
 use Rattle.partial_long_lived.proofs.update.rounds.Goals as goal
 
 pub loop-init : goal.loop-init

@@ -1,5 +1,4 @@
-use Rattle.partial_long_lived.proofs.Common.{◌+◌, ◌≤◌, false, epoch_at}
-use Rattle.partial_long_lived.proofs.Rounds.{RoundsOn}
+use Rattle.partial_long_lived.proofs.{Common.{◌+◌, ◌≤◌, false, epoch_at}, Rounds.RoundsOn}
 use Rattle.partial_long_lived.proofs.update.rounds.Given as goal
 
 -- the call has come so far, to a later epoch behind each round

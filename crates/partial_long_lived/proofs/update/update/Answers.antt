@@ -1,6 +1,4 @@
-use Rattle.partial_long_lived.proofs.Common.{rules, arith, true, false, epoch_at, ◌≤◌, Exchanged, Refused, CameBy, IsLate, NotesNothing, UpdateAttempted, UpdateEnded, asked_change, None, refl, Change}
-use Rattle.partial_long_lived.proofs.Rounds.{came_on, err_as, late_from, ok_as, round_ended, round_met, rounds_begin, updated_behind}
-use Rattle.partial_long_lived.proofs.Updates.{rests_may, rests_own}
+use Rattle.partial_long_lived.proofs.{Common.{rules, arith, true, false, epoch_at, ◌≤◌, Exchanged, Refused, CameBy, IsLate, NotesNothing, UpdateAttempted, UpdateEnded, asked_change, None, refl, Change}, Rounds.{came_on, err_as, late_from, ok_as, round_ended, round_met, rounds_begin, updated_behind}, Updates.{rests_may, rests_own}}
 use Rattle.partial_long_lived.proofs.update.update.Goals as goal
 
 pub update_late-requires-clause-rests : goal.update_late-requires-clause-rests

@@ -1,5 +1,4 @@
-use Rattle.partial_long_lived.proofs.Common.{rules, Exchanged, Refused, CameBy, IsLate, UpdateEnded, false, asked_change, None, Change}
-use Rattle.partial_long_lived.proofs.Rounds.{came_on, err_as, late_behind, late_of, ok_as, updated_behind}
+use Rattle.partial_long_lived.proofs.{Common.{rules, Exchanged, Refused, CameBy, IsLate, UpdateEnded, false, asked_change, None, Change}, Rounds.{came_on, err_as, late_behind, late_of, ok_as, updated_behind}}
 use Rattle.partial_long_lived.proofs.update.update_late.Goals as goal
 
 pub returns-clause-updated : goal.returns-clause-updated

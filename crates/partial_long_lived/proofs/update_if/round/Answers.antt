@@ -1,6 +1,5 @@
-use Rattle.partial_long_lived.proofs.Common.{ap, arith, length, sym, take_all, ◌∙◌, Applied, List, opening_of, port_at}
+use Rattle.partial_long_lived.proofs.{Common.{ap, arith, length, sym, take_all, ◌∙◌, Applied, List, opening_of, port_at}, Conditional.{ended_behind, nothing_behind}}
 use Rattle.partial_model.specs.History.{stamp_of}
-use Rattle.partial_long_lived.proofs.Conditional.{ended_behind, nothing_behind}
 use Rattle.partial_long_lived.proofs.update_if.round.Goals as goal
 
 pub attempt-attempted-requires-clause-expects : goal.attempt-attempted-requires-clause-expects

@@ -1,6 +1,4 @@
-use Rattle.partial_long_lived.proofs.Common.{true, false, ◌<◌, arith, subst}
-use Rattle.partial_long_lived.proofs.Loads.{IsFinding}
-use Rattle.partial_long_lived.proofs.Standing.{component_there, see_asked}
+use Rattle.partial_long_lived.proofs.{Common.{true, false, ◌<◌, arith, subst}, Loads.IsFinding, Standing.{component_there, see_asked}}
 use Rattle.partial_long_lived.proofs.update_if.see.Goals as goal
 
 pub load-requires : goal.load-requires

@@ -1,7 +1,4 @@
-use Rattle.partial_long_lived.proofs.Common.{true, refl, arith}
-use Rattle.partial_long_lived.proofs.ConditionalRounds.{compares_again, compares_begin, compares_came, compares_ended, compares_met}
-use Rattle.partial_long_lived.proofs.Rounds.{came_on, late_of, one_later}
-use Rattle.partial_long_lived.proofs.Updates.{own_rests}
+use Rattle.partial_long_lived.proofs.{Common.{true, refl, arith}, ConditionalRounds.{compares_again, compares_begin, compares_came, compares_ended, compares_met}, Rounds.{came_on, late_of, one_later}, Updates.own_rests}
 use Rattle.partial_long_lived.proofs.update_if.update_if.Goals as goal
 
 pub loop-init : goal.loop-init

@@ -1,5 +1,4 @@
-use Rattle.partial_long_lived.proofs.Common.{◌≡◌, ◌+◌, ◌<◌, ◌≤◌, false, epoch_at}
-use Rattle.partial_long_lived.proofs.ConditionalRounds.{ComparesOn}
+use Rattle.partial_long_lived.proofs.{Common.{◌≡◌, ◌+◌, ◌<◌, ◌≤◌, false, epoch_at}, ConditionalRounds.ComparesOn}
 use Rattle.partial_long_lived.proofs.update_if.update_if.Given as goal
 
 -- the call has come so far, to a later epoch behind each round; behind the first round its next step is not its first one, and the port is not spent

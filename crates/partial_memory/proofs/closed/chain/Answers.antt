@@ -1,5 +1,4 @@
-use Rattle.partial_memory.proofs.Common.{ap, sym, ◌∙◌, subst, length, get_or, refl, arith, slots_items, length_push}
-use Rattle.partial_memory.proofs.Chains.{Walked, elem_or, walked_none, walked_more, walked_all, walked_within}
+use Rattle.partial_memory.proofs.{Common.{ap, sym, ◌∙◌, subst, length, get_or, refl, arith, slots_items, length_push}, Chains.{Walked, elem_or, walked_none, walked_more, walked_all, walked_within}}
 use Rattle.partial_memory.proofs.closed.chain.Goals as goal
 
 pub loop-at-init : goal.loop-at-init

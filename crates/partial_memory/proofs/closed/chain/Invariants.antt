@@ -1,5 +1,4 @@
-use Rattle.partial_memory.proofs.Common.{◌+◌, ◌-◌, length, slots_len, slots_items}
-use Rattle.partial_memory.proofs.Chains.{Walked}
+use Rattle.partial_memory.proofs.{Common.{◌+◌, ◌-◌, length, slots_len, slots_items}, Chains.Walked}
 use Rattle.partial_memory.proofs.closed.chain.Given as goal
 
 abbrev pub invariant-loop-at : goal.invariant-loop-at

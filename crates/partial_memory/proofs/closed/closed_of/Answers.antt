@@ -1,5 +1,4 @@
-use Rattle.partial_memory.proofs.Common.{rules, ◌≡◌, ◌<◌, ◌≤◌, ap, sym, subst, length, arith, slots_items, chain_of, AreChains, AreChainsFrom, AreValues, IsWholeChain}
-use Rattle.partial_memory.proofs.Chains.{elem_or, whole_chain, values_more, chains_more, first_value, links_some}
+use Rattle.partial_memory.proofs.{Common.{rules, ◌≡◌, ◌<◌, ◌≤◌, ap, sym, subst, length, arith, slots_items, chain_of, AreChains, AreChainsFrom, AreValues, IsWholeChain}, Chains.{elem_or, whole_chain, values_more, chains_more, first_value, links_some}}
 use Rattle.partial_memory.proofs.closed.closed_of.Goals as goal
 
 pub chain-requires-clause-chain : goal.chain-requires-clause-chain

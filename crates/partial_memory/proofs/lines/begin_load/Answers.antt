@@ -1,7 +1,4 @@
-use Rattle.partial_memory.proofs.Common.{◌<◌, Some, refl, sym, ap, subst, ◌∙◌, inl, Load, total, About}
-use Rattle.partial_memory.proofs.Calls.{runs_within}
-use Rattle.partial_memory.proofs.Steps.{step_asked}
-use Rattle.partial_memory.proofs.Straight.{first_leads}
+use Rattle.partial_memory.proofs.{Common.{◌<◌, Some, refl, sym, ap, subst, ◌∙◌, inl, Load, total, About}, Calls.runs_within, Steps.step_asked, Straight.first_leads}
 use Rattle.partial_memory.proofs.lines.begin_load.Goals as goal
 
 pub load-requires : goal.load-requires

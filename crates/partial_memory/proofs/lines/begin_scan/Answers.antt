@@ -1,7 +1,4 @@
-use Rattle.partial_memory.proofs.Common.{ℕ, ◌≡◌, ◌<◌, Option, Some, refl, sym, ap, subst, ◌∙◌, inl, Step, Add, Layout, pool_counter, total, step_of, About}
-use Rattle.partial_memory.proofs.Calls.{runs_within}
-use Rattle.partial_memory.proofs.Steps.{step_asked}
-use Rattle.partial_memory.proofs.Straight.{first_leads}
+use Rattle.partial_memory.proofs.{Common.{ℕ, ◌≡◌, ◌<◌, Option, Some, refl, sym, ap, subst, ◌∙◌, inl, Step, Add, Layout, pool_counter, total, step_of, About}, Calls.runs_within, Steps.step_asked, Straight.first_leads}
 use Rattle.partial_memory.proofs.lines.begin_scan.Goals as goal
 
 claim_due : (due : Option Step) (z y : Layout) (word size n : ℕ) → due ≡ Some (Add (pool_counter z) n) → y ≡ z → word ≡ pool_counter y → size ≡ n → due ≡ Some (Add word size)

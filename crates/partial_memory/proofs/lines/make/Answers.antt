@@ -1,5 +1,4 @@
-use Rattle.partial_memory.proofs.Common.{Some, ap, ◌∙◌, Store, Exchange, Add}
-use Rattle.partial_memory.proofs.Straight.{next_asked, next_going, next_leads}
+use Rattle.partial_memory.proofs.{Common.{Some, ap, ◌∙◌, Store, Exchange, Add}, Straight.{next_asked, next_going, next_leads}}
 use Rattle.partial_memory.proofs.lines.make.Goals as goal
 
 pub store-requires : goal.store-requires

@@ -1,5 +1,4 @@
-use Rattle.partial_memory.proofs.Common.{Load}
-use Rattle.partial_memory.proofs.Straight.{next_asked, next_going, next_leads}
+use Rattle.partial_memory.proofs.{Common.Load, Straight.{next_asked, next_going, next_leads}}
 use Rattle.partial_memory.proofs.lines.make_load.Goals as goal
 
 pub load-requires : goal.load-requires

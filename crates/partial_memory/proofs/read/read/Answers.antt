@@ -1,5 +1,4 @@
-use Rattle.partial_memory.proofs.Common.{◌≡◌, refl, sym, ap, subst, ReadBegun, CoreState, at_stage, SeatedPort, one_in, one_of, CallMade, CallEnded, machine_of, RestsLike}
-use Rattle.partial_machine.specs.declared.stage.Reply.TheVariants as reply
+use Rattle.partial_memory.proofs.Common.{◌≡◌, refl, sym, ap, subst, ReadBegun, CoreState, at_stage, SeatedPort, one_in, one_of, CallMade, CallEnded, machine_of, RestsLike, Reply}
 use Rattle.partial_memory.proofs.read.read.Goals as goal
 
 pub returns-clause-ended : goal.returns-clause-ended
@@ -13,7 +12,7 @@ returns-clause-ended c =
     (record { like = record { sizes = refl; port = refl; pool = refl; slots = refl; lists = refl }; idle = c.requires.rest.idle; sound = c.requires.rest.sound }) in
     let rests = c.in-Ok.ensures.rests core begun in
     let me = c.read.new.lines.seat.me in
-    let ended : CallEnded (at_stage core (ReadBegun c.args.component)) (one_in c.args.badge.now.views) (reply.Read c.in-Ok.value c.begin_read-stamp.result) core (one_of me.0) = record {
+    let ended : CallEnded (at_stage core (ReadBegun c.args.component)) (one_in c.args.badge.now.views) (Reply.Read c.in-Ok.value c.begin_read-stamp.result) core (one_of me.0) = record {
       machine = machine_of me;
       made = c.in-Ok.ensures.leads.1 _ _ c.requires.begins made;
       replies = c.in-Ok.ensures.replies;
@@ -21,5 +20,5 @@ returns-clause-ended c =
       idle = rests.idle;
       sound = rests.sound;
     } in
-    subst (λ (x : SeatedPort). CallEnded (at_stage core (ReadBegun c.args.component)) (one_in c.args.badge.now.views) (reply.Read c.in-Ok.value c.begin_read-stamp.result) core x)
+    subst (λ (x : SeatedPort). CallEnded (at_stage core (ReadBegun c.args.component)) (one_in c.args.badge.now.views) (Reply.Read c.in-Ok.value c.begin_read-stamp.result) core x)
     (sym (ap one_in c.into_badge.ensures.2)) ended

@@ -1,13 +1,11 @@
-use Rattle.partial_memory.proofs.Common.{rules, ◌≡◌, Some, ap, subst, sym, ◌∙◌, Exchanging, CoreState, advance_at, reply_of, IsMarkedLike, machine_of, ending_reply}
-use Rattle.partial_model.specs.declared.call.Refused.TheVariants as refused
-use Rattle.partial_machine.specs.declared.stage.Reply.TheVariants as reply
+use Rattle.partial_memory.proofs.Common.{rules, ◌≡◌, Some, ap, subst, sym, ◌∙◌, Exchanging, CoreState, advance_at, reply_of, IsMarkedLike, machine_of, ending_reply, Refused, Reply}
 use Rattle.partial_machine.specs.declared.stage.Stage.{Stage}
 use Rattle.partial_memory.proofs.update.replace.Goals as goal
 
 pub returns-in_default-clause-ended : goal.returns-in_default-clause-ended
 returns-in_default-clause-ended c b x begins made =
     let rests = c.in-Ok.ensures.rests in
-    let replies : reply_of (machine_of c.put.new.lines.seat.me) ≡ Some (reply.Refused refused.PoolSpent) = search rules in
+    let replies : reply_of (machine_of c.put.new.lines.seat.me) ≡ Some (Reply.Refused Refused.PoolSpent) = search rules in
     record {
       machine = machine_of c.put.new.lines.seat.me;
       made = c.in-Ok.ensures.leads.1 b x begins made;

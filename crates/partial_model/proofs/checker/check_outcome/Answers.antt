@@ -1,5 +1,4 @@
-use Rattle.partial_model.proofs.Common.{Decides-at, is_legal_outcome}
-use Rattle.partial_model.proofs.PortLaws.{Decides-is_legal_outcome}
+use Rattle.partial_model.proofs.{Common.{Decides-at, is_legal_outcome}, PortLaws.Decides-is_legal_outcome}
 use Rattle.partial_model.proofs.checker.check_outcome.Goals as goal
 
 pub returns : goal.returns

@@ -1,5 +1,4 @@
-use Rattle.partial_model.proofs.Common.{ℕ, ◌≡◌, ◌<◌, ◌&&◌, nat_lt, not, Bool, true, false, length, refl, sym, ◌∙◌, subst, AllByRecursion, list_all, list_any, true≢false, Applied, is_initial}
-use Rattle.partial_model.proofs.Decisions.{Decides-list_all, Decides-nat_lt}
+use Rattle.partial_model.proofs.{Common.{ℕ, ◌≡◌, ◌<◌, ◌&&◌, nat_lt, not, Bool, true, false, length, refl, sym, ◌∙◌, subst, AllByRecursion, list_all, list_any, true≢false, Applied, is_initial}, Decisions.{Decides-list_all, Decides-nat_lt}}
 use Rattle.partial_model.proofs.checker.index_of.Goals as goal
 
 first_holds : (x y : Bool) → (x && y) ≡ true → x ≡ true

@@ -1,5 +1,4 @@
-use Rattle.partial_model.proofs.Common.{◌≡◌, take, sym, ap, ◌∙◌, arith, last_entry}
-use Rattle.partial_model.proofs.HistoryLemmas.{last_entry-found, last_entry-passed, last_entry-nil}
+use Rattle.partial_model.proofs.{Common.{◌≡◌, take, sym, ap, ◌∙◌, arith, last_entry}, HistoryLemmas.{last_entry-found, last_entry-passed, last_entry-nil}}
 use Rattle.partial_model.proofs.history.last_entry.Goals as goal
 
 pub returns-then-entry-component : goal.returns-then-entry-component

@@ -1,5 +1,4 @@
-use Rattle.partial_picture.proofs.Common.{◌++◌, ◌∷◌, []}
-use Rattle.partial_picture.proofs.Labels.{entry_is, made_of}
+use Rattle.partial_picture.proofs.{Common.{◌++◌, ◌∷◌, []}, Labels.{entry_is, made_of}}
 use Rattle.partial_picture.proofs.words.entry_words.Goals as goal
 
 pub returns : goal.returns

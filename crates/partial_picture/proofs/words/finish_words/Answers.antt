@@ -1,5 +1,4 @@
-use Rattle.partial_picture.proofs.Common.{◌∷◌}
-use Rattle.partial_picture.proofs.Labels.{applied_is, changed_is, lost_is, made_of, refused_is, shown_is}
+use Rattle.partial_picture.proofs.{Common.◌∷◌, Labels.{applied_is, changed_is, lost_is, made_of, refused_is, shown_is}}
 use Rattle.partial_picture.proofs.words.finish_words.Goals as goal
 
 pub returns-in-Applied : goal.returns-in-Applied

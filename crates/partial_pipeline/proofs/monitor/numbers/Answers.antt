@@ -1,5 +1,4 @@
-use Rattle.partial_pipeline.proofs.Common.{rules, ◌+◌, sym, subst, IsEachStage}
-use Rattle.partial_pipeline.proofs.Rooms.{numbers_more}
+use Rattle.partial_pipeline.proofs.{Common.{rules, ◌+◌, sym, subst, IsEachStage}, Rooms.numbers_more}
 use Rattle.partial_pipeline.proofs.monitor.numbers.Goals as goal
 
 pub loop-stage-preserved : goal.loop-stage-preserved

@@ -1,6 +1,5 @@
-use Rattle.partial_pipeline.proofs.Common.{rules, ◌≡◌, ◌<◌, ◌∙◌, List, ℕ, length, sym, subst, arith, Sees}
+use Rattle.partial_pipeline.proofs.{Common.{rules, ◌≡◌, ◌<◌, ◌∙◌, List, ℕ, length, sym, subst, arith, Sees}, Stages.{sees_scan, sees_then}}
 use Rattle.partial_model.proofs.ListLemmas.{written_whole}
-use Rattle.partial_pipeline.proofs.Stages.{sees_scan, sees_then}
 use Rattle.partial_pipeline.proofs.monitor.scan_into.Goals as goal
 
 pub returns-in-Ok-clause-some : goal.returns-in-Ok-clause-some

@@ -1,6 +1,4 @@
-use Rattle.partial_pipeline.proofs.Common.{◌≡◌, ◌∙◌, ℕ, List, length, subst, IsOf, HasMetMonitor}
-use Rattle.partial_pipeline.proofs.Stages.{from_all}
-use Rattle.partial_pipeline.proofs.Reports.{LastSees, ended, last_number, last_sees, orderly}
+use Rattle.partial_pipeline.proofs.{Common.{◌≡◌, ◌∙◌, ℕ, List, length, subst, IsOf, HasMetMonitor}, Stages.from_all, Reports.{LastSees, ended, last_number, last_sees, orderly}}
 use Rattle.partial_pipeline.proofs.run.close.Goals as goal
 
 pub close-requires-clause-rest : goal.close-requires-clause-rest

@@ -1,5 +1,4 @@
-use Rattle.partial_pipeline.proofs.Common.{rules, ◌+◌, length, refl, sym, ap, ◌∙◌, length_push, YieldsList-from_vec, YieldsList-turn, YieldsList-end}
-use Rattle.partial_pipeline.proofs.Watching.{ended_more, joined_more, started_done, watching_met}
+use Rattle.partial_pipeline.proofs.{Common.{rules, ◌+◌, length, refl, sym, ap, ◌∙◌, length_push, YieldsList-from_vec, YieldsList-turn, YieldsList-end}, Watching.{ended_more, joined_more, started_done, watching_met}}
 use Rattle.partial_pipeline.proofs.run.join.Goals as goal
 
 pub meet-requires : goal.meet-requires

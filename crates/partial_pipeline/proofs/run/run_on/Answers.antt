@@ -1,5 +1,4 @@
-use Rattle.partial_pipeline.proofs.Common.{rules, ◌≡◌, ◌<◌, ◌≤◌, [], arith, sym, subst, length, vec_capacity, AreFrom, IsNewStage}
-use Rattle.partial_pipeline.proofs.Watching.{opened_stages}
+use Rattle.partial_pipeline.proofs.{Common.{rules, ◌≡◌, ◌<◌, ◌≤◌, [], arith, sym, subst, length, vec_capacity, AreFrom, IsNewStage}, Watching.opened_stages}
 use Rattle.partial_pipeline.proofs.run.run_on.Goals as goal
 
 pub overflow_cast-stages : goal.overflow_cast-stages

@@ -1,7 +1,5 @@
-use Rattle.partial_pipeline.proofs.Common.{rules, ◌+◌, length, sym, ap, subst, ◌∙◌, arith, length_push, AreFrom, IsStageStarted, YieldsList-from_vec, YieldsList-turn}
+use Rattle.partial_pipeline.proofs.{Common.{rules, ◌+◌, length, sym, ap, subst, ◌∙◌, arith, length_push, AreFrom, IsStageStarted, YieldsList-from_vec, YieldsList-turn}, Stages.from_push, Watching.{new_at, new_self}}
 use Rattle.partial_pipeline.specs.declared.run.Works.{Works}
-use Rattle.partial_pipeline.proofs.Stages.{from_push}
-use Rattle.partial_pipeline.proofs.Watching.{new_at, new_self}
 use Rattle.partial_pipeline.proofs.run.start.Goals as goal
 
 pub new-stage-requires : goal.new-stage-requires

@@ -1,5 +1,4 @@
-use Rattle.partial_replay.proofs.Common.{ℕ, List, slice_get, sym, ◌∙◌, ap, subst, Applied, HasRecord}
-use Rattle.partial_replay.proofs.Places.{place_within}
+use Rattle.partial_replay.proofs.{Common.{ℕ, List, slice_get, sym, ◌∙◌, ap, subst, Applied, HasRecord}, Places.place_within}
 use Rattle.partial_replay.proofs.note.note_of.Goals as goal
 
 pub scan_place-requires-clause-entries : goal.scan_place-requires-clause-entries

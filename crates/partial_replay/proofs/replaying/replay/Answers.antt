@@ -1,9 +1,4 @@
-use Rattle.partial_replay.proofs.Common.{ℕ, ◌≡◌, ◌++◌, ◌∙◌, Bool, false, cond, List, [], length, get_or, Option, Some, None, map, take, ap, subst, sym, arith, ◌<◌, range_with_len, take_all, false≢true, Call, Run, TellsOutcome, ArePlans, StopAtSteps, TurnsMade, IsReplayOf, AllByRecursion-get, IsTurnEntry, Layout, ports_of, so_many, to_its_end, turns_of, HasReplayed}
-use Rattle.partial_replay.proofs.Plans.{are_plans}
-use Rattle.partial_replay.proofs.PortLaws.{get_is}
-use Rattle.partial_replay.proofs.Replays.{replay_told}
-use Rattle.partial_replay.proofs.RunTurns.{next_turns}
-use Rattle.partial_replay.proofs.TurnLaws.{next_steps, all_steps, next_end, ending_next}
+use Rattle.partial_replay.proofs.{Common.{ℕ, ◌≡◌, ◌++◌, ◌∙◌, Bool, false, cond, List, [], length, get_or, Option, Some, None, map, take, ap, subst, sym, arith, ◌<◌, range_with_len, take_all, false≢true, Call, Run, TellsOutcome, ArePlans, StopAtSteps, TurnsMade, IsReplayOf, AllByRecursion-get, IsTurnEntry, Layout, ports_of, so_many, to_its_end, turns_of, HasReplayed}, Plans.are_plans, PortLaws.get_is, Replays.replay_told, RunTurns.next_turns, TurnLaws.{next_steps, all_steps, next_end, ending_next}}
 use Rattle.partial_replay.proofs.replaying.replay.Goals.{then-rest+else-loop-p-then-rest-test, else-rest}
 use Rattle.partial_replay.proofs.replaying.replay.Goals as goal
 

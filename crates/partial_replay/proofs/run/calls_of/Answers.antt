@@ -1,9 +1,6 @@
-use Rattle.partial_replay.proofs.Common.{◌≡◌, ◌++◌, List, [], ◌∷◌, length, get_or, slice_get, sym, ◌∙◌, ap, arith, append-nil, length_push, take_all, is_some, Call, Called, unfinished_call, calls_in, Global, Vec, PortAt}
+use Rattle.partial_replay.proofs.{Common.{◌≡◌, ◌++◌, List, [], ◌∷◌, length, get_or, slice_get, sym, ◌∙◌, ap, arith, append-nil, length_push, take_all, is_some, Call, Called, unfinished_call, calls_in, Global, Vec, PortAt}, Opens.{pair_at, listed_at_place, length-zip, none_in, calls_more, over_is, none_over}, PortLaws.call_at_place}
 use Rattle.std.proofs.lemmas.Iterator.{YieldsList-from_slice, YieldsList-from_zip}
-use Rattle.std.proofs.lemmas.Iterator.Adapters.{YieldsList-from_vec}
-use Rattle.std.proofs.lemmas.Iterator.Consumers.{YieldsList-turn, YieldsList-end}
-use Rattle.partial_replay.proofs.Opens.{pair_at, listed_at_place, length-zip, none_in, calls_more, over_is, none_over}
-use Rattle.partial_replay.proofs.PortLaws.{call_at_place}
+use Rattle.std.proofs.lemmas.Iterator.{Adapters.YieldsList-from_vec, Consumers.{YieldsList-turn, YieldsList-end}}
 use Rattle.partial_replay.proofs.run.calls_of.Goals.{After-append, in-Some-under_way+in_ok-unfinished+in_ok-push, in_default}
 use Rattle.partial_replay.proofs.run.calls_of.Goals as goal
 

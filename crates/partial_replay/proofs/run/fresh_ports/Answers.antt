@@ -1,5 +1,4 @@
-use Rattle.partial_replay.proofs.Common.{◌+◌, length, ap, ◌∙◌, subst, sym, arith, refl, List, length_push, Port, FreshFrom}
-use Rattle.partial_replay.proofs.Opens.{fresh_push}
+use Rattle.partial_replay.proofs.{Common.{◌+◌, length, ap, ◌∙◌, subst, sym, arith, refl, List, length_push, Port, FreshFrom}, Opens.fresh_push}
 use Rattle.partial_replay.proofs.run.fresh_ports.Goals as goal
 
 pub loop-number-preserved : goal.loop-number-preserved

@@ -1,5 +1,4 @@
-use Rattle.partial_replay.proofs.Common.{ℕ, ◌≡◌, ◌≢◌, ◌-◌, ◌<◌, ◌≤◌, ◌⊎◌, List, Bool, Option, count_by, length, get_or, None, Some, slice_get, refl, sym, ◌∙◌, subst, inl, inr, arith, eqb-true, eq-eqb, false≢true, slice_get-get_or, Applied, prev_of, record_value, AllHave, HasRecord, marks_before, values_after}
-use Rattle.partial_replay.proofs.ScanPlaces.{IsFoundFrom, IsWalked, walked_at_end, walked_back, found_least}
+use Rattle.partial_replay.proofs.{Common.{ℕ, ◌≡◌, ◌≢◌, ◌-◌, ◌<◌, ◌≤◌, ◌⊎◌, List, Bool, Option, count_by, length, get_or, None, Some, slice_get, refl, sym, ◌∙◌, subst, inl, inr, arith, eqb-true, eq-eqb, false≢true, slice_get-get_or, Applied, prev_of, record_value, AllHave, HasRecord, marks_before, values_after}, ScanPlaces.{IsFoundFrom, IsWalked, walked_at_end, walked_back, found_least}}
 use Rattle.partial_replay.proofs.wanted.least_prefix.Goals as goal
 
 -- the entry before a place

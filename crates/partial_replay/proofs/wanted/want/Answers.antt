@@ -1,5 +1,4 @@
-use Rattle.partial_replay.proofs.Common.{◌<◌, length, get_or, refl, arith, rules, values_now, position_below}
-use Rattle.partial_replay.proofs.ScanPlaces.{wanted_more, marked_more}
+use Rattle.partial_replay.proofs.{Common.{◌<◌, length, get_or, refl, arith, rules, values_now, position_below}, ScanPlaces.{wanted_more, marked_more}}
 use Rattle.partial_replay.proofs.wanted.want.Goals as goal
 
 pub loop-k-preserved : goal.loop-k-preserved

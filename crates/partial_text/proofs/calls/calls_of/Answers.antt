@@ -1,5 +1,4 @@
-use Rattle.partial_text.proofs.Common.{[], calls_at, call_texts}
-use Rattle.partial_text.proofs.CallCuts.{next_call}
+use Rattle.partial_text.proofs.{Common.{[], calls_at, call_texts}, CallCuts.next_call}
 use Rattle.partial_text.proofs.calls.calls_of.Goals as goal
 
 pub loop-calls-preserved : goal.loop-calls-preserved

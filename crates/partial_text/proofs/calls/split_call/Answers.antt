@@ -1,5 +1,4 @@
-use Rattle.partial_text.proofs.Common.{◌≡◌, false, drop, sym, ap, ◌∙◌, take_rest, is_cut}
-use Rattle.partial_text.proofs.CallCuts.{texts_more}
+use Rattle.partial_text.proofs.{Common.{◌≡◌, false, drop, sym, ap, ◌∙◌, take_rest, is_cut}, CallCuts.texts_more}
 use Rattle.partial_text.proofs.calls.split_call.Goals as goal
 
 pub loop-index-preserved : goal.loop-index-preserved

@@ -1,5 +1,4 @@
-use Rattle.partial_text.proofs.Common.{◌≡◌, take, drop, call_texts}
-use Rattle.partial_text.proofs.CallCuts.{with_front}
+use Rattle.partial_text.proofs.{Common.{◌≡◌, take, drop, call_texts}, CallCuts.with_front}
 use Rattle.partial_text.proofs.calls.split_call.Given as goal
 
 abbrev pub invariant-loop-index : goal.invariant-loop-index

@@ -1,6 +1,4 @@
-use Rattle.partial_text.proofs.Common.{sym, ◌∙◌}
-use Rattle.partial_text.proofs.PlanLaws.{judged_ok}
-use Rattle.partial_text.proofs.AgainLaws.{judged_again}
+use Rattle.partial_text.proofs.{Common.{sym, ◌∙◌}, PlanLaws.judged_ok, AgainLaws.judged_again}
 use Rattle.partial_text.proofs.law.texts_tell_plans.Goals as goal
 
 pub returns-clause-read : goal.returns-clause-read

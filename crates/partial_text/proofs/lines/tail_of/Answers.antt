@@ -1,5 +1,4 @@
-use Rattle.partial_text.proofs.Common.{◌≡◌, ℕ, true, false, ◌+◌, List, [], length, codes, Result, Ok, refl, sym, ap, ◌∙◌, arith, bytes_eq, Call, PlanError, until, from, pieces, ◌>>=◌, line_at, more_ports, last_at, tail_at, err_from_is_err_and}
-use Rattle.partial_text.proofs.Steps.{Fails_first, tail_step, tail_by, at_port_line, at_last_line}
+use Rattle.partial_text.proofs.{Common.{◌≡◌, ℕ, true, false, ◌+◌, List, [], length, codes, Result, Ok, refl, sym, ap, ◌∙◌, arith, bytes_eq, Call, PlanError, until, from, pieces, ◌>>=◌, line_at, more_ports, last_at, tail_at, err_from_is_err_and}, Steps.{Fails_first, tail_step, tail_by, at_port_line, at_last_line}}
 use Rattle.partial_text.proofs.lines.tail_of.Goals as goal
 
 pub returns-in_err-front : goal.returns-in_err-front

@@ -1,5 +1,4 @@
-use Rattle.partial_text.proofs.Common.{sym, ◌∙◌, at_drop_all}
-use Rattle.partial_text.proofs.Values.{values_after, values_after_is}
+use Rattle.partial_text.proofs.{Common.{sym, ◌∙◌, at_drop_all}, Values.{values_after, values_after_is}}
 use Rattle.partial_text.proofs.outcome_text.final_values.Goals as goal
 
 pub returns : goal.returns

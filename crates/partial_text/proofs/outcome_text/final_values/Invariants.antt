@@ -1,5 +1,4 @@
-use Rattle.partial_text.proofs.Common.{◌≡◌, drop}
-use Rattle.partial_text.proofs.Values.{values_after}
+use Rattle.partial_text.proofs.{Common.{◌≡◌, drop}, Values.values_after}
 use Rattle.partial_text.proofs.outcome_text.final_values.Given as goal
 
 abbrev pub invariant-loop-entry : goal.invariant-loop-entry

@@ -1,5 +1,4 @@
-use Rattle.partial_text.proofs.Common.{eq-eqb, arith, ne_eqb}
-use Rattle.partial_text.proofs.Cuts.{length-pieces-here, length-pieces-more}
+use Rattle.partial_text.proofs.{Common.{eq-eqb, arith, ne_eqb}, Cuts.{length-pieces-here, length-pieces-more}}
 use Rattle.partial_text.proofs.pieces.count.Goals as goal
 use Rattle.partial_text.proofs.pieces.count.Goals.{then-byte-separator, else-byte-separator}
 

@@ -1,5 +1,4 @@
-use Rattle.partial_text.proofs.Common.{eq-eqb}
-use Rattle.partial_text.proofs.Cuts.{pieces_here, pieces_end}
+use Rattle.partial_text.proofs.{Common.eq-eqb, Cuts.{pieces_here, pieces_end}}
 use Rattle.partial_text.proofs.pieces.split_before.Goals as goal
 
 pub returns-then-byte-separator-clause-split : goal.returns-then-byte-separator-clause-split

@@ -1,5 +1,4 @@
-use Rattle.partial_text.proofs.Common.{refl, ◌∙◌}
-use Rattle.partial_text.proofs.Bytes.{written_more}
+use Rattle.partial_text.proofs.{Common.{refl, ◌∙◌}, Bytes.written_more}
 use Rattle.partial_text.proofs.writing.write_text.Goals as goal
 
 pub loop-rest-preserved : goal.loop-rest-preserved

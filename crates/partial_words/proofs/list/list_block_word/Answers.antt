@@ -1,5 +1,4 @@
-use Rattle.partial_words.proofs.Common.{ℕ, ap, ◌∙◌, arith}
-use Rattle.partial_words.proofs.BlockLemmas.{interval_within, interval_word_even, interval_word_odd}
+use Rattle.partial_words.proofs.{Common.{ℕ, ap, ◌∙◌, arith}, BlockLemmas.{interval_within, interval_word_even, interval_word_odd}}
 use Rattle.partial_words.proofs.list.list_block_word.Goals as goal
 
 pub get-lowest-requires : goal.get-lowest-requires

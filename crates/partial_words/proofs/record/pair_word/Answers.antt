@@ -1,5 +1,4 @@
-use Rattle.partial_words.proofs.Common.{◌∙◌}
-use Rattle.partial_words.proofs.RecordLemmas.{word_even, word_odd}
+use Rattle.partial_words.proofs.{Common.◌∙◌, RecordLemmas.{word_even, word_odd}}
 use Rattle.partial_words.proofs.record.pair_word.Goals as goal
 
 pub returns-then-k-eq0 : goal.returns-then-k-eq0

@@ -1,5 +1,4 @@
-use Rattle.partial_words.proofs.Common.{arith}
-use Rattle.partial_words.proofs.RecordLemmas.{block_tail}
+use Rattle.partial_words.proofs.{Common.arith, RecordLemmas.block_tail}
 use Rattle.partial_words.proofs.record.record_block_word.Goals as goal
 
 pub pair_word-requires : goal.pair_word-requires

@@ -1,5 +1,4 @@
-use Rattle.partial_workers.proofs.Common.{◌<◌, ◌^◌, length, refl, subst, arith, AllByRecursion, IsCallWithin}
-use Rattle.partial_workers.proofs.Pairs.{all_next}
+use Rattle.partial_workers.proofs.{Common.{◌<◌, ◌^◌, length, refl, subst, arith, AllByRecursion, IsCallWithin}, Pairs.all_next}
 use Rattle.partial_workers.proofs.makable.are_makable.Goals as goal
 
 pub loop-calls-preserved : goal.loop-calls-preserved

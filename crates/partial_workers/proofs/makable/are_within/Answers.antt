@@ -1,5 +1,4 @@
-use Rattle.partial_workers.proofs.Common.{refl, IsCallWithin}
-use Rattle.partial_workers.proofs.Pairs.{all_next}
+use Rattle.partial_workers.proofs.{Common.{refl, IsCallWithin}, Pairs.all_next}
 use Rattle.partial_workers.proofs.makable.are_within.Goals as goal
 
 pub loop-call-preserved : goal.loop-call-preserved

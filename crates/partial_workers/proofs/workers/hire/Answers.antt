@@ -1,6 +1,4 @@
-use Rattle.partial_workers.proofs.Common.{rules, ◌≡◌, ◌+◌, ◌++◌, List, [], ◌∷◌, length, map, get_or, Bor, sym, ap, subst, ◌∙◌, arith, YieldsList-from_vec, YieldsList-turn, YieldsList-end, length-map, length_push, take_all, Call, AreEach, IsHired, IsNewWork, calls_of, Worker}
-use Rattle.partial_workers.proofs.Hires.{as_many, hired, hire_more}
-use Rattle.partial_workers.proofs.Pairs.{each_at, each_length, each_some, map_at}
+use Rattle.partial_workers.proofs.{Common.{rules, ◌≡◌, ◌+◌, ◌++◌, List, [], ◌∷◌, length, map, get_or, Bor, sym, ap, subst, ◌∙◌, arith, YieldsList-from_vec, YieldsList-turn, YieldsList-end, length-map, length_push, take_all, Call, AreEach, IsHired, IsNewWork, calls_of, Worker}, Hires.{as_many, hired, hire_more}, Pairs.{each_at, each_length, each_some, map_at}}
 use Rattle.partial_workers.proofs.workers.hire.Goals as goal
 
 pub bounds-calls-number : goal.bounds-calls-number

@@ -1,5 +1,4 @@
-use Rattle.partial_workers.proofs.Common.{rules}
-use Rattle.partial_workers.proofs.Hires.{calls_more, rooms_more}
+use Rattle.partial_workers.proofs.{Common.rules, Hires.{calls_more, rooms_more}}
 use Rattle.partial_workers.proofs.workers.jobs_of.Goals as goal
 
 pub loop-call-preserved : goal.loop-call-preserved

@@ -1,6 +1,4 @@
-use Rattle.partial_workers.proofs.Common.{rules, ◌+◌, ◌++◌, [], ◌∷◌, length, sym, ap, subst, ◌∙◌, arith, YieldsList-from_vec, YieldsList-turn, YieldsList-end, length_push, take_all, HaveCome, IsWorkStarted}
-use Rattle.partial_workers.proofs.Hires.{come_more, done_as_started}
-use Rattle.partial_workers.proofs.Pairs.{each_length}
+use Rattle.partial_workers.proofs.{Common.{rules, ◌+◌, ◌++◌, [], ◌∷◌, length, sym, ap, subst, ◌∙◌, arith, YieldsList-from_vec, YieldsList-turn, YieldsList-end, length_push, take_all, HaveCome, IsWorkStarted}, Hires.{come_more, done_as_started}, Pairs.each_length}
 use Rattle.partial_workers.proofs.workers.join.Goals as goal
 
 pub loop-handle-preserved : goal.loop-handle-preserved

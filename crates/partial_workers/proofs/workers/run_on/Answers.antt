@@ -1,6 +1,5 @@
-use Rattle.partial_workers.proofs.Common.{rules, List, map, Bor, arith, Call}
+use Rattle.partial_workers.proofs.{Common.{rules, List, map, Bor, arith, Call}, Reported.{closed_lawfully, come_many, last_own, opened_new, ran}}
 use Rattle.std.proofs.lemmas.Bool.{false≢true}
-use Rattle.partial_workers.proofs.Reported.{closed_lawfully, come_many, last_own, opened_new, ran}
 use Rattle.partial_workers.proofs.workers.run_on.Goals as goal
 
 pub hire-requires : goal.hire-requires

@@ -1,6 +1,4 @@
-use Rattle.partial_workers.proofs.Common.{rules, ◌≡◌, ◌+◌, ◌++◌, List, [], ◌∷◌, length, map, take, get_or, Bor, sym, ap, subst, ◌∙◌, arith, YieldsList-from_vec, YieldsList-turn, YieldsList-end, length-map, length_push, take_all, Call, AreEach, IsHired, IsWorkStarted, calls_of, Works}
-use Rattle.partial_workers.proofs.Hires.{done_alike}
-use Rattle.partial_workers.proofs.Pairs.{each_at, each_length, each_push, each_some, map_at}
+use Rattle.partial_workers.proofs.{Common.{rules, ◌≡◌, ◌+◌, ◌++◌, List, [], ◌∷◌, length, map, take, get_or, Bor, sym, ap, subst, ◌∙◌, arith, YieldsList-from_vec, YieldsList-turn, YieldsList-end, length-map, length_push, take_all, Call, AreEach, IsHired, IsWorkStarted, calls_of, Works}, Hires.done_alike, Pairs.{each_at, each_length, each_push, each_some, map_at}}
 use Rattle.partial_workers.proofs.workers.start.Goals as goal
 
 pub bounds-calls-port : goal.bounds-calls-port

@@ -1,5 +1,4 @@
-use Rattle.lines_tests.proofs.Common.{ℕ, ◌<◌, List, length, sym, ap, subst, ◌∙◌, arith, with_items_is, answer_of, word_of, words_after, CoreState, advance, IsPossible, IsPlain}
-use Rattle.lines_tests.proofs.Turning.{stepped}
+use Rattle.lines_tests.proofs.{Common.{ℕ, ◌<◌, List, length, sym, ap, subst, ◌∙◌, arith, with_items_is, answer_of, word_of, words_after, CoreState, advance, IsPossible, IsPlain}, Turning.stepped}
 use Rattle.lines_tests.proofs.plain.Plain.answered.Goals as goal
 
 pub perform-answer-requires : goal.perform-answer-requires

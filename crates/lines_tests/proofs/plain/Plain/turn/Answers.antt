@@ -1,6 +1,5 @@
-use Rattle.lines_tests.proofs.Common.{ℕ, List, length, sym, ap, subst, arith, with_items_is, IsPlain, MayTurn, Turned}
+use Rattle.lines_tests.proofs.{Common.{ℕ, List, length, sym, ap, subst, arith, with_items_is, IsPlain, MayTurn, Turned}, Turning.{left_may, left_turned, right_may, right_turned}}
 use Rattle.lines_tests.specs.declared.plain.Plain.{Plain}
-use Rattle.lines_tests.proofs.Turning.{left_may, left_turned, right_may, right_turned}
 use Rattle.lines_tests.proofs.plain.Plain.turn.Goals as goal
 
 pub turn-requires : goal.turn-requires

@@ -1,5 +1,4 @@
-use Rattle.partial_active.proofs.Walk.{next_room}
-use Rattle.partial_active.proofs.Answered.{walk_noted}
+use Rattle.partial_active.proofs.{Walk.next_room, Answered.walk_noted}
 use Rattle.partial_active.proofs.get_set.GetSet.after_slot.Goals as goal
 
 pub note-requires-clause-room : goal.note-requires-clause-room

@@ -1,5 +1,4 @@
-use Rattle.partial_active.proofs.Common.{arith}
-use Rattle.partial_active.proofs.Extended.{length_normal}
+use Rattle.partial_active.proofs.{Common.arith, Extended.length_normal}
 use Rattle.partial_active.proofs.get_set.GetSet.after_walk.Goals as goal
 
 pub overflow_cast-self : goal.overflow_cast-self

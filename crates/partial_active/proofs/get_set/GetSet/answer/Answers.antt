@@ -1,5 +1,4 @@
-use Rattle.partial_active.proofs.Common.{subst, ap, sym, ◌∙◌, IsLayout, ListHigh, Counter, Slot, Len, Index, GetSetState}
-use Rattle.partial_active.proofs.Answered.{Keeps, kept}
+use Rattle.partial_active.proofs.{Common.{subst, ap, sym, ◌∙◌, IsLayout, ListHigh, Counter, Slot, Len, Index, GetSetState}, Answered.{Keeps, kept}}
 use Rattle.partial_active.proofs.get_set.GetSet.answer.Goals as goal
 
 pub returns-in-ListHigh-clause-together : goal.returns-in-ListHigh-clause-together

@@ -1,6 +1,4 @@
-use Rattle.partial_active.proofs.Common.{◌≡◌, true, sym, ◌∙◌, arith, begins_at}
-use Rattle.partial_active.proofs.Extended.{length_normal}
-use Rattle.partial_active.proofs.Walk.{next_room, walking_on}
+use Rattle.partial_active.proofs.{Common.{◌≡◌, true, sym, ◌∙◌, arith, begins_at}, Extended.length_normal, Walk.{next_room, walking_on}}
 use Rattle.partial_active.proofs.get_set.GetSet.come_to.Goals as goal
 
 pub note-requires-clause-room : goal.note-requires-clause-room

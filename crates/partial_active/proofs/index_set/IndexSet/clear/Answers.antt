@@ -1,5 +1,4 @@
-use Rattle.partial_active.proofs.Common.{arith}
-use Rattle.partial_active.proofs.Marks.{emptied_all}
+use Rattle.partial_active.proofs.{Common.arith, Marks.emptied_all}
 use Rattle.partial_active.proofs.index_set.IndexSet.clear.Goals as goal
 
 -- nothing is left, so nothing is marked

@@ -1,5 +1,4 @@
-use Rattle.partial_active.proofs.Common.{◌≤◌, vec_len, vec_capacity}
-use Rattle.partial_active.proofs.Marks.{IsEmptied}
+use Rattle.partial_active.proofs.{Common.{◌≤◌, vec_len, vec_capacity}, Marks.IsEmptied}
 use Rattle.partial_active.proofs.index_set.IndexSet.clear.Given as goal
 
 -- what is still marked is still in the list, and the room stays

@@ -1,5 +1,4 @@
-use Rattle.partial_active.proofs.Common.{◌≡◌, vec_len, ap, sym, ◌∙◌, arith, IndexList}
-use Rattle.partial_active.proofs.Marks.{count_lt-length}
+use Rattle.partial_active.proofs.{Common.{◌≡◌, vec_len, ap, sym, ◌∙◌, arith, IndexList}, Marks.count_lt-length}
 use Rattle.partial_active.proofs.index_set.IndexSet.insert.Goals as goal
 
 -- the index is not marked, so there are fewer than there is room for

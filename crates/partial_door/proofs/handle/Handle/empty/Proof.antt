@@ -1,9 +1,7 @@
 -- `empty` puts a null pointer beside the allocator's handle.
-use Rattle.partial_door.proofs.Common.{refl, sym, subst, List, [], ◌∷◌, ◌++◌, Ura, Val, vstruct, vcons, vnil, vnull, SProp, ent, emp, ftrue, fsep, Memory, Routine, WpFn, Tables, Logic, Fun, tables, WpFn-mono, Item, ‵, raw, ◌⊛◌, ◌$◌, ◌∵◌, !, qed, by, move, drop, join, split, fsplit, fjoin, suffices, done, agg, lit, no_more, and_then, returns, enter, alloc_all, pass_all, free_all, look_at, get, sets, yes, null_ptr, Slot, plain, nothing, triple_of, entered, says, Stays, stay_dropped, walk_of, ends_at, Goes-dropped, walk_Meets, handle_tells, None, handle}
+use Rattle.partial_door.proofs.{Common.{refl, sym, subst, List, [], ◌∷◌, ◌++◌, Ura, Val, vstruct, vcons, vnil, vnull, SProp, ent, emp, ftrue, fsep, Memory, Routine, WpFn, Tables, Logic, Fun, tables, WpFn-mono, Item, ‵, raw, ◌⊛◌, ◌$◌, ◌∵◌, !, qed, by, move, drop, join, split, fsplit, fjoin, suffices, done, agg, lit, no_more, and_then, returns, enter, alloc_all, pass_all, free_all, look_at, get, sets, yes, null_ptr, Slot, plain, nothing, triple_of, entered, says, Stays, stay_dropped, walk_of, ends_at, Goes-dropped, walk_Meets, handle_tells, None, handle}, AsBox.E, HandleSteps.{null_in, null_typed}}
 use contract.Running.{tables_of}
 use Rattle.std_heap.specs.contracts.Global as Heap
-use Rattle.partial_door.proofs.AsBox.{E}
-use Rattle.partial_door.proofs.HandleSteps.{null_in, null_typed}
 use Rattle.partial_door.specs.contracts.handle.Handle as Handle
 use Rattle.partial_door.specs.contracts.handle.Handle.empty as F
 use Rattle.partial_door.specs.contracts.handle.Handle.empty.Key.{name as #self}

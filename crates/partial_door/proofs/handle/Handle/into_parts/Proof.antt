@@ -1,10 +1,8 @@
 -- `into_parts` tests the pointer, and moves the two fields where it isn't null.
-use Rattle.partial_door.proofs.Common.{◌≡◌, refl, sym, subst, List, [], ◌∷◌, ◌++◌, lit<, Ura, Val, vstruct, vcons, vnil, SProp, ent, emp, id⊢, ftrue, fsep, Memory, Routine, WpFn, Tables, Logic, Fun, tables, WpFn-mono, Item, ‵, raw, ◌⊛◌, at_ret, ◌$◌, ◌∵◌, !, qed, by, move, drop, use0, use1, join, split, fsplit, fjoin, suffices, done, whole, sub, agg, stop, fld, lit, no_more, and_then, of_opd, bin, first, branches, exec, returns, enter, alloc_all, pass_all, free_all, look_at, get, get_in, sets, sets_last, env, yes, RattleType, Ptr, block_ptr, null_ptr, ptr_val, tests_null, type_at, nothing, triple_of, entered, says, Stays, stay_dropped, walk_of, ends_at, Goes-dropped, walk_Meets, None, Some, D, word, box_typed, box_in, ghosts, live, layout, after, Some-of, none_of, and_tt}
+use Rattle.partial_door.proofs.{Common.{◌≡◌, refl, sym, subst, List, [], ◌∷◌, ◌++◌, lit<, Ura, Val, vstruct, vcons, vnil, SProp, ent, emp, id⊢, ftrue, fsep, Memory, Routine, WpFn, Tables, Logic, Fun, tables, WpFn-mono, Item, ‵, raw, ◌⊛◌, at_ret, ◌$◌, ◌∵◌, !, qed, by, move, drop, use0, use1, join, split, fsplit, fjoin, suffices, done, whole, sub, agg, stop, fld, lit, no_more, and_then, of_opd, bin, first, branches, exec, returns, enter, alloc_all, pass_all, free_all, look_at, get, get_in, sets, sets_last, env, yes, RattleType, Ptr, block_ptr, null_ptr, ptr_val, tests_null, type_at, nothing, triple_of, entered, says, Stays, stay_dropped, walk_of, ends_at, Goes-dropped, walk_Meets, None, Some, D, word, box_typed, box_in, ghosts, live, layout, after, Some-of, none_of, and_tt}, AsBox.{E, FromHandle as From}, HandleSteps.{handle_out, owned_out, null_typed}}
 use contract.Running.{tables_of}
 use Rattle.core.proofs.cell.Inside.{Good}
 use Rattle.std_heap.specs.contracts.Global as Heap
-use Rattle.partial_door.proofs.AsBox.{E, FromHandle as From}
-use Rattle.partial_door.proofs.HandleSteps.{handle_out, owned_out, null_typed}
 use Rattle.partial_door.specs.contracts.held.Held as Held
 use Rattle.partial_door.specs.contracts.parts.Parts as Parts
 use Rattle.partial_door.specs.contracts.handle.Handle as Handle

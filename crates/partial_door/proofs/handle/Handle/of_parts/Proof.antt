@@ -1,7 +1,6 @@
 -- `of_parts` moves two fields, and what they own goes with them.
-use Rattle.partial_door.proofs.Common.{refl, sym, subst, List, [], ◌∷◌, ◌++◌, Ura, Val, SProp, ent, emp, id⊢, ftrue, fsep, Memory, Routine, WpFn, Tables, Logic, Fun, tables, WpFn-mono, Item, ‵, raw, ◌⊛◌, ◌$◌, ◌∵◌, !, qed, by, move, drop, use1, join, split, fsplit, fjoin, suffices, done, whole, sub, agg, stop, fld, no_more, and_then, of_opd, returns, enter, alloc_all, pass_all, free_all, look_at, get, get_in, sets, yes, type_at, nothing, triple_of, entered, says, Stays, stay_dropped, walk_of, ends_at, Goes-dropped, walk_Meets, Some, D, B, word, box_typed, box_out, box_in}
+use Rattle.partial_door.proofs.{Common.{refl, sym, subst, List, [], ◌∷◌, ◌++◌, Ura, Val, SProp, ent, emp, id⊢, ftrue, fsep, Memory, Routine, WpFn, Tables, Logic, Fun, tables, WpFn-mono, Item, ‵, raw, ◌⊛◌, ◌$◌, ◌∵◌, !, qed, by, move, drop, use1, join, split, fsplit, fjoin, suffices, done, whole, sub, agg, stop, fld, no_more, and_then, of_opd, returns, enter, alloc_all, pass_all, free_all, look_at, get, get_in, sets, yes, type_at, nothing, triple_of, entered, says, Stays, stay_dropped, walk_of, ends_at, Goes-dropped, walk_Meets, Some, D, B, word, box_typed, box_out, box_in}, AsBox.{E, FromParts as From}}
 use contract.Running.{tables_of}
-use Rattle.partial_door.proofs.AsBox.{E, FromParts as From}
 use Rattle.partial_door.specs.contracts.handle.Handle.of_parts as F
 use Rattle.partial_door.specs.contracts.handle.Handle.of_parts.Key.{name as #self}
 use Rattle.partial_door.proofs.handle.Handle.of_parts.Statement as stated

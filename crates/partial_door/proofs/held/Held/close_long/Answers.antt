@@ -1,5 +1,4 @@
-use Rattle.partial_door.proofs.Common.{rules, ◌≡◌, refl, subst, inr, Held, IsReadyToClose}
-use Rattle.partial_door.proofs.OpenedLong.{as_was}
+use Rattle.partial_door.proofs.{Common.{rules, ◌≡◌, refl, subst, inr, Held, IsReadyToClose}, OpenedLong.as_was}
 use Rattle.partial_door.proofs.held.Held.close_long.Goals as goal
 
 pub returns-in-Ok-close-clause-ok : goal.returns-in-Ok-close-clause-ok

@@ -1,5 +1,4 @@
-use Rattle.partial_door.proofs.Common.{rules, refl, inl, inr, MemoryView}
-use Rattle.partial_door.proofs.Opened.{more}
+use Rattle.partial_door.proofs.{Common.{rules, refl, inl, inr, MemoryView}, Opened.more}
 use Rattle.partial_door.proofs.held.Held.scan.Goals as goal
 
 pub returns-in-Ok : goal.returns-in-Ok

@@ -1,6 +1,5 @@
-use Rattle.partial_door.proofs.Common.{rules, refl, inl, inr}
+use Rattle.partial_door.proofs.{Common.{rules, refl, inl, inr}, Opened.more}
 use Rattle.partial_long_lived.specs.Ports.{MemoryView}
-use Rattle.partial_door.proofs.Opened.{more}
 use Rattle.partial_door.proofs.held.Held.scan_stamped_long.Goals as goal
 
 pub returns-in-Ok : goal.returns-in-Ok

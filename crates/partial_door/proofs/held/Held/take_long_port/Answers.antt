@@ -1,6 +1,5 @@
-use Rattle.partial_door.proofs.Common.{rules, refl, sym, inl, inr}
+use Rattle.partial_door.proofs.{Common.{rules, refl, sym, inl, inr}, Opened.last_of}
 use Rattle.partial_long_lived.specs.Ports.{IsOf}
-use Rattle.partial_door.proofs.Opened.{last_of}
 use Rattle.partial_door.proofs.held.Held.take_long_port.Goals as goal
 
 pub invariant_of-own-clause-of : goal.invariant_of-own-clause-of

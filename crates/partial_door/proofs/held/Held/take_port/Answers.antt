@@ -1,5 +1,4 @@
-use Rattle.partial_door.proofs.Common.{rules, refl, sym, inl, inr, IsOf}
-use Rattle.partial_door.proofs.Opened.{last_of}
+use Rattle.partial_door.proofs.{Common.{rules, refl, sym, inl, inr, IsOf}, Opened.last_of}
 use Rattle.partial_door.proofs.held.Held.take_port.Goals as goal
 
 pub invariant_of-own-clause-of : goal.invariant_of-own-clause-of

@@ -1,6 +1,5 @@
 use Rattle.partial_long_lived.specs.Ports.{IsOf}
-use Rattle.partial_door.proofs.Opened.{front_of, last_of}
-use Rattle.partial_door.proofs.OpenedLong.{count_of}
+use Rattle.partial_door.proofs.{Opened.{front_of, last_of}, OpenedLong.count_of}
 use Rattle.partial_door.proofs.held.LongMemory.alone.Goals as goal
 
 pub invariant_of-result-2-clause-values : goal.invariant_of-result-2-clause-values

@@ -1,5 +1,4 @@
-use Rattle.partial_embedded.proofs.Common.{◌<◌, subst, sym, ViewPair, ViewGoesTogether, view_left}
-use Rattle.partial_embedded.proofs.Keeps.{kept}
+use Rattle.partial_embedded.proofs.{Common.{◌<◌, subst, sym, ViewPair, ViewGoesTogether, view_left}, Keeps.kept}
 use Rattle.partial_embedded.proofs.embedded.Embedded.answer.Goals as goal
 
 pub returns-clause-together : goal.returns-clause-together

@@ -1,5 +1,4 @@
-use Rattle.partial_embedded.proofs.Common.{◌≡◌, sym, ap, ◌∙◌, ViewPair, advance_view, advance_view_at, buffers}
-use Rattle.partial_embedded.proofs.Loaded.{loaded, still_later}
+use Rattle.partial_embedded.proofs.{Common.{◌≡◌, sym, ap, ◌∙◌, ViewPair, advance_view, advance_view_at, buffers}, Loaded.{loaded, still_later}}
 use Rattle.partial_embedded.proofs.embedded.Embedded.make_loads.Goals as goal
 
 pub loop-position-preserved : goal.loop-position-preserved

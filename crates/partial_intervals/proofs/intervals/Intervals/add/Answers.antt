@@ -1,6 +1,5 @@
-use Rattle.partial_intervals.proofs.Common.{◌≡◌, refl, ap, ◌∙◌, arith, insert, remove, false≢true, iff_false, Set}
+use Rattle.partial_intervals.proofs.{Common.{◌≡◌, refl, ap, ◌∙◌, arith, insert, remove, false≢true, iff_false, Set}, Edits.{adds_before, adds_after, adds_between, adds_alone}}
 use Rattle.std.proofs.lemmas.Grind.{common_steps}
-use Rattle.partial_intervals.proofs.Edits.{adds_before, adds_after, adds_between, adds_alone}
 use Rattle.partial_intervals.proofs.intervals.Intervals.add.Goals as goal
 
 -- the two intervals become one

@@ -1,5 +1,4 @@
-use Rattle.partial_lines.proofs.Common.{ℕ, ◌≡◌, refl, sym, subst, Result, Ok, Err, IfOk, IfErr, CoreState, advance, IsQuiet, GetsOn, HasReachedSet, gets_itself}
-use Rattle.partial_lines.proofs.Parts.{set_follows, set_goes, set_now}
+use Rattle.partial_lines.proofs.{Common.{ℕ, ◌≡◌, refl, sym, subst, Result, Ok, Err, IfOk, IfErr, CoreState, advance, IsQuiet, GetsOn, HasReachedSet, gets_itself}, Parts.{set_follows, set_goes, set_now}}
 use Rattle.partial_lines.proofs.get_set.SetStepsSteps.make.Goals as goal
 
 pub returns-clause-goes : goal.returns-clause-goes

@@ -1,6 +1,4 @@
-use Rattle.partial_long_lived.proofs.Common.{rules, ◌≡◌, ap, sym, ◌∙◌, subst, List, arith, slots_items, Me, TableId, About, SeatedPort, IsShapeOf, MemoryView, port_view}
-use Rattle.partial_long_lived.proofs.Meets.{gathers}
-use Rattle.partial_long_lived.proofs.Closes.{Ends, closes, ends, have_shape, of_last, taken_more, taken_none}
+use Rattle.partial_long_lived.proofs.{Common.{rules, ◌≡◌, ap, sym, ◌∙◌, subst, List, arith, slots_items, Me, TableId, About, SeatedPort, IsShapeOf, MemoryView, port_view}, Meets.gathers, Closes.{Ends, closes, ends, have_shape, of_last, taken_more, taken_none}}
 use Rattle.partial_long_lived.proofs.long_lived.LongLived.close.Goals as goal
 
 pub loop-port-init : goal.loop-port-init

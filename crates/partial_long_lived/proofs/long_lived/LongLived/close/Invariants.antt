@@ -1,5 +1,4 @@
-use Rattle.partial_long_lived.proofs.Common.{◌≡◌, AllByRecursion, IsOf}
-use Rattle.partial_long_lived.proofs.Closes.{Taken}
+use Rattle.partial_long_lived.proofs.{Common.{◌≡◌, AllByRecursion, IsOf}, Closes.Taken}
 use Rattle.partial_long_lived.proofs.long_lived.LongLived.close.Given as goal
 
 abbrev pub invariant-loop-port : goal.invariant-loop-port

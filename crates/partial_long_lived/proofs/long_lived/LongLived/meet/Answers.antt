@@ -1,7 +1,4 @@
-use Rattle.partial_long_lived.proofs.Common.{◌≡◌, sym, ap, ◌∙◌, subst, vec_len, MemoryView, PortView, IsResting}
-use Rattle.partial_long_lived.proofs.Answering.{rests_anew, rests_here}
-use Rattle.partial_long_lived.proofs.Meetings.{all_seen, goes_met, met_out}
-use Rattle.partial_long_lived.proofs.Resting.{rests_on}
+use Rattle.partial_long_lived.proofs.{Common.{◌≡◌, sym, ap, ◌∙◌, subst, vec_len, MemoryView, PortView, IsResting}, Answering.{rests_anew, rests_here}, Meetings.{all_seen, goes_met, met_out}, Resting.rests_on}
 use Rattle.partial_long_lived.proofs.long_lived.LongLived.meet.Goals.{then-one-first_epoch, else-one-first_epoch, then-other-second_epoch, else-other-second_epoch}
 use Rattle.partial_long_lived.specs.declared.port.Port.TheInside.{Inside}
 use Rattle.partial_long_lived.proofs.long_lived.LongLived.meet.Goals as goal

@@ -1,7 +1,4 @@
-use Rattle.partial_long_lived.proofs.Common.{rules, ◌≡◌, ◌<◌, refl, ap, sym, ◌∙◌, subst, List, length, AllByRecursion, Me, TableId, all_front, base, OpensAll, About, SeatedPort, one_of, plan_of, IsShapeOf, IsOf, port_view, OpensShape}
-use Rattle.partial_long_lived.proofs.Opens.{opens}
-use Rattle.partial_long_lived.proofs.NewPorts.{deals_next, made_next, new_own, opens_as, rests_new, shape_here}
-use Rattle.partial_long_lived.proofs.Meets.{deals}
+use Rattle.partial_long_lived.proofs.{Common.{rules, ◌≡◌, ◌<◌, refl, ap, sym, ◌∙◌, subst, List, length, AllByRecursion, Me, TableId, all_front, base, OpensAll, About, SeatedPort, one_of, plan_of, IsShapeOf, IsOf, port_view, OpensShape}, Opens.opens, NewPorts.{deals_next, made_next, new_own, opens_as, rests_new, shape_here}, Meets.deals}
 use Rattle.partial_long_lived.proofs.long_lived.LongLived.open.Goals as goal
 
 pub of_words-requires : goal.of_words-requires

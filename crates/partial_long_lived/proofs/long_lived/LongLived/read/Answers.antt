@@ -1,6 +1,4 @@
-use Rattle.partial_long_lived.proofs.Common.{rules, ◌<◌, sym, ap, ◌∙◌, MemoryView, PortView, IsHeld}
-use Rattle.partial_long_lived.proofs.Answering.{read_seen}
-use Rattle.partial_long_lived.proofs.Resting.{held_resting}
+use Rattle.partial_long_lived.proofs.{Common.{rules, ◌<◌, sym, ap, ◌∙◌, MemoryView, PortView, IsHeld}, Answering.read_seen, Resting.held_resting}
 use Rattle.partial_long_lived.proofs.long_lived.LongLived.read.Goals as goal
 
 pub returns-in-Some-clause-answered : goal.returns-in-Some-clause-answered

@@ -1,6 +1,4 @@
-use Rattle.partial_long_lived.proofs.Common.{rules, ◌≡◌, ◌<◌, length, refl, sym, ◌∙◌, subst, is_some, true, IfOk, IfErr, AllByRecursion, IsRefused, port_view, port_at, ScansStamped}
-use Rattle.partial_model.specs.declared.call.Call.TheVariants as call
-use Rattle.partial_long_lived.proofs.Answering.{are_below, borrowed_fits, borrowed_public, not_below, scan_refused, stamped_answered}
+use Rattle.partial_long_lived.proofs.{Common.{rules, ◌≡◌, ◌<◌, length, refl, sym, ◌∙◌, subst, is_some, true, IfOk, IfErr, AllByRecursion, IsRefused, port_view, port_at, ScansStamped, Call}, Answering.{are_below, borrowed_fits, borrowed_public, not_below, scan_refused, stamped_answered}}
 use Rattle.partial_long_lived.proofs.long_lived.LongLived.scan_stamped.Goals.{in-Ok, in-Err}
 use Rattle.partial_long_lived.proofs.long_lived.LongLived.scan_stamped.Goals as goal
 
@@ -49,9 +47,9 @@ returns-clause-refused c =
     let new = c.scan_stamped-scanned.new.stand in
     let held = c.scan_stamped-scanned.ensures.held in
     elim c.match-scanned.branch [
-      | in-Ok w ↦ subst (λ r. IfErr r (λ cause. IsRefused c.args.me.now (call.Scan c.args.which.now) cause (port_view new.seat.table_id (port_at new)))) (sym w.result-is) tt
+      | in-Ok w ↦ subst (λ r. IfErr r (λ cause. IsRefused c.args.me.now (Call.Scan c.args.which.now) cause (port_view new.seat.table_id (port_at new)))) (sym w.result-is) tt
       | in-Err w ↦
           let not = rw w.in-Err.is at c.scan_stamped-scanned.ensures.refused in
-          subst (λ r. IfErr r (λ cause. IsRefused c.args.me.now (call.Scan c.args.which.now) cause (port_view new.seat.table_id (port_at new)))) (sym w.result-is)
+          subst (λ r. IfErr r (λ cause. IsRefused c.args.me.now (Call.Scan c.args.which.now) cause (port_view new.seat.table_id (port_at new)))) (sym w.result-is)
           (scan_refused _ c.me.inside.stand new _ c.me.view_is own held c.args.which.now below _ not)
     ]

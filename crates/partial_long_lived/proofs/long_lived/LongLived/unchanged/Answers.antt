@@ -1,5 +1,4 @@
-use Rattle.partial_long_lived.proofs.Common.{sym, ◌∙◌}
-use Rattle.partial_long_lived.proofs.StillStanding.{differ_seen, still_seen}
+use Rattle.partial_long_lived.proofs.{Common.{sym, ◌∙◌}, StillStanding.{differ_seen, still_seen}}
 use Rattle.partial_long_lived.proofs.long_lived.LongLived.unchanged.Goals as goal
 
 pub returns-then-me-epoch-clause-still : goal.returns-then-me-epoch-clause-still

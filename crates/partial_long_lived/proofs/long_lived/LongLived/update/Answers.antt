@@ -1,6 +1,4 @@
-use Rattle.partial_long_lived.proofs.Common.{rules, ◌<◌, sym, ◌∙◌, subst, IfOk, IfErr, IsRefused, Updates, port_view, port_at}
-use Rattle.partial_model.specs.declared.call.Call.TheVariants as call
-use Rattle.partial_long_lived.proofs.Updates.{update_answered, update_fits, update_refused}
+use Rattle.partial_long_lived.proofs.{Common.{rules, ◌<◌, sym, ◌∙◌, subst, IfOk, IfErr, IsRefused, Updates, port_view, port_at, Call}, Updates.{update_answered, update_fits, update_refused}}
 use Rattle.partial_long_lived.proofs.long_lived.LongLived.update.Goals.{in-Ok, in-Err}
 use Rattle.partial_long_lived.proofs.long_lived.LongLived.update.Goals as goal
 
@@ -29,9 +27,9 @@ returns-clause-refused c =
     let new = c.update-ended.new.stand in
     let held = c.update-ended.ensures.held in
     elim c.match-ended.branch [
-      | in-Ok w ↦ subst (λ r. IfErr r (λ cause. IsRefused c.args.me.now (call.Update c.args.component c.args.value) cause (port_view new.seat.table_id (port_at new)))) (sym w.result-is) tt
+      | in-Ok w ↦ subst (λ r. IfErr r (λ cause. IsRefused c.args.me.now (Call.Update c.args.component c.args.value) cause (port_view new.seat.table_id (port_at new)))) (sym w.result-is) tt
       | in-Err w ↦
           let not = rw w.in-Err.is at c.update-ended.ensures.refused in
-          subst (λ r. IfErr r (λ cause. IsRefused c.args.me.now (call.Update c.args.component c.args.value) cause (port_view new.seat.table_id (port_at new)))) (sym w.result-is)
+          subst (λ r. IfErr r (λ cause. IsRefused c.args.me.now (Call.Update c.args.component c.args.value) cause (port_view new.seat.table_id (port_at new)))) (sym w.result-is)
           (update_refused _ c.me.inside.stand new _ c.me.view_is own held c.args.component c.args.value _ not.0 not.1 inside)
     ]

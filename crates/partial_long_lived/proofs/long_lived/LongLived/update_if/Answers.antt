@@ -1,6 +1,4 @@
-use Rattle.partial_long_lived.proofs.Common.{rules, ◌<◌, sym, ◌∙◌}
-use Rattle.partial_long_lived.proofs.Rounds.{err_as, ok_as}
-use Rattle.partial_long_lived.proofs.Updates.{update_if_answered, update_if_refused}
+use Rattle.partial_long_lived.proofs.{Common.{rules, ◌<◌, sym, ◌∙◌}, Rounds.{err_as, ok_as}, Updates.{update_if_answered, update_if_refused}}
 use Rattle.partial_long_lived.proofs.long_lived.LongLived.update_if.Goals as goal
 
 pub returns-clause-answered : goal.returns-clause-answered

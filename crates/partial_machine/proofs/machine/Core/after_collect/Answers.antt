@@ -1,5 +1,4 @@
-use Rattle.partial_machine.proofs.Common.{not, ◌∙◌, ap}
-use Rattle.partial_machine.proofs.Submachines.{scanned_more}
+use Rattle.partial_machine.proofs.{Common.{not, ◌∙◌, ap}, Submachines.scanned_more}
 use Rattle.partial_machine.proofs.machine.Core.after_collect.Goals as goal
 
 pub invariant_of-self-else-is_none : goal.invariant_of-self-else-is_none

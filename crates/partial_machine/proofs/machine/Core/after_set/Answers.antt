@@ -1,5 +1,4 @@
-use Rattle.partial_machine.proofs.Common.{not, ◌∙◌, ap}
-use Rattle.partial_machine.proofs.Submachines.{got_more, got_all}
+use Rattle.partial_machine.proofs.{Common.{not, ◌∙◌, ap}, Submachines.{got_more, got_all}}
 use Rattle.partial_machine.proofs.machine.Core.after_set.Goals as goal
 
 pub invariant_of-self : goal.invariant_of-self

@@ -1,5 +1,4 @@
-use Rattle.partial_machine.proofs.Common.{not, ◌∙◌, ap}
-use Rattle.partial_machine.proofs.Submachines.{viewed_more}
+use Rattle.partial_machine.proofs.{Common.{not, ◌∙◌, ap}, Submachines.viewed_more}
 use Rattle.partial_machine.proofs.machine.Core.after_view.Goals as goal
 
 pub invariant_of-self-else-is_none : goal.invariant_of-self-else-is_none

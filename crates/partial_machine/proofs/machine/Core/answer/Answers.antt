@@ -1,6 +1,5 @@
-use Rattle.partial_machine.proofs.Common.{vec_capacity, sym, ◌∙◌, ap, subst, CoreState, IsMachine, IsPossibleAt}
+use Rattle.partial_machine.proofs.{Common.{vec_capacity, sym, ◌∙◌, ap, subst, CoreState, IsMachine, IsPossibleAt}, Sound.fewer_on}
 use Rattle.partial_machine.specs.declared.stage.Stage.TheVariants.{GettingSet, Viewing, Joining, Scanning}
-use Rattle.partial_machine.proofs.Sound.{fewer_on}
 use Rattle.partial_machine.proofs.machine.Core.answer.Goals as goal
 
 pub returns-in-GettingSet-clause-falls : goal.returns-in-GettingSet-clause-falls

@@ -1,6 +1,5 @@
-use Rattle.partial_machine.proofs.Common.{ap, ◌∙◌, CoreState}
+use Rattle.partial_machine.proofs.{Common.{ap, ◌∙◌, CoreState}, Parts.found_idle}
 use Rattle.partial_active.specs.GetSet.{GetSetState}
-use Rattle.partial_machine.proofs.Parts.{found_idle}
 use Rattle.partial_machine.proofs.machine.Core.make_set.Goals as goal
 
 pub invariant_of-self : goal.invariant_of-self

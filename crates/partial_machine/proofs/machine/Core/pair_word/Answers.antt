@@ -1,5 +1,4 @@
-use Rattle.partial_machine.proofs.Common.{◌∙◌, get_or}
-use Rattle.partial_machine.proofs.Pairs.{index_word, value_word}
+use Rattle.partial_machine.proofs.{Common.{◌∙◌, get_or}, Pairs.{index_word, value_word}}
 use Rattle.partial_machine.proofs.machine.Core.pair_word.Goals as goal
 
 pub returns-then-k-eq0 : goal.returns-then-k-eq0

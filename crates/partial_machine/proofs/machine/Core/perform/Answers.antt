@@ -1,5 +1,4 @@
-use Rattle.partial_machine.proofs.Common.{vec_capacity, subst, CoreState, IsMachine}
-use Rattle.partial_machine.proofs.Submachines.{performs_fewer}
+use Rattle.partial_machine.proofs.{Common.{vec_capacity, subst, CoreState, IsMachine}, Submachines.performs_fewer}
 use Rattle.partial_machine.proofs.machine.Core.perform.Goals as goal
 
 pub returns-in-GettingSet-clause-falls : goal.returns-in-GettingSet-clause-falls

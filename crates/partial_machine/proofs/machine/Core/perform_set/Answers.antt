@@ -1,5 +1,4 @@
-use Rattle.partial_machine.proofs.Common.{not, ◌∙◌, ap, GettingSet}
-use Rattle.partial_machine.proofs.Submachines.{got_more, got_all, possible_at}
+use Rattle.partial_machine.proofs.{Common.{not, ◌∙◌, ap, GettingSet}, Submachines.{got_more, got_all, possible_at}}
 use Rattle.partial_machine.proofs.machine.Core.perform_set.Goals as goal
 
 pub invariant_of-self : goal.invariant_of-self

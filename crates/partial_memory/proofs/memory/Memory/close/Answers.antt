@@ -1,6 +1,4 @@
-use Rattle.partial_memory.proofs.Common.{rules, ◌≡◌, ap, sym, ◌∙◌, subst, List, arith, slots_items, Me, Layout, About, TableId, SeatedPort, MemoryView, port_view}
-use Rattle.partial_memory.proofs.Looks.{gathers}
-use Rattle.partial_memory.proofs.Closes.{Ends, taken_none, taken_more, own_one, own_more, of_last, ends, closes}
+use Rattle.partial_memory.proofs.{Common.{rules, ◌≡◌, ap, sym, ◌∙◌, subst, List, arith, slots_items, Me, Layout, About, TableId, SeatedPort, MemoryView, port_view}, Looks.gathers, Closes.{Ends, taken_none, taken_more, own_one, own_more, of_last, ends, closes}}
 use Rattle.partial_memory.proofs.memory.Memory.close.Goals as goal
 
 pub loop-port-init : goal.loop-port-init

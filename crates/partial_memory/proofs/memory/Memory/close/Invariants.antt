@@ -1,5 +1,4 @@
-use Rattle.partial_memory.proofs.Common.{◌≡◌, AllByRecursion, IsOf, AreSeatedOf}
-use Rattle.partial_memory.proofs.Closes.{Taken}
+use Rattle.partial_memory.proofs.{Common.{◌≡◌, AllByRecursion, IsOf, AreSeatedOf}, Closes.Taken}
 use Rattle.partial_memory.proofs.memory.Memory.close.Given as goal
 
 abbrev pub invariant-loop-port : goal.invariant-loop-port

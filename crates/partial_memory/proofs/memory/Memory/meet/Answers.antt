@@ -1,7 +1,4 @@
-use Rattle.partial_memory.proofs.Common.{rules, ◌≡◌, ap, sym, ◌∙◌, List, [], ◌∷◌, Me, SeatedPort, first_port, one_in, further_ports, MemoryView, PortView, port_view}
-use Rattle.partial_memory.proofs.Views.{deals}
-use Rattle.partial_memory.proofs.Looks.{looks_on, gathers}
-use Rattle.partial_memory.proofs.Meetings.{both_of, joined, looked, meets, meets_lawfully, rests_met}
+use Rattle.partial_memory.proofs.{Common.{rules, ◌≡◌, ap, sym, ◌∙◌, List, [], ◌∷◌, Me, SeatedPort, first_port, one_in, further_ports, MemoryView, PortView, port_view}, Views.deals, Looks.{looks_on, gathers}, Meetings.{both_of, joined, looked, meets, meets_lawfully, rests_met}}
 use Rattle.partial_memory.proofs.memory.Memory.meet.Goals as goal
 
 pub join_seat-requires : goal.join_seat-requires

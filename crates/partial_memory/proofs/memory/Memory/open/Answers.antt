@@ -1,6 +1,4 @@
-use Rattle.partial_memory.proofs.Common.{rules, [], ◌∷◌, ◌≡◌, ap, sym, ◌∙◌, subst, List, ℕ, length, AreOpeningWords, Me, TableId, IsLayout, About, SeatedPort, one_in, port_view}
-use Rattle.partial_memory.proofs.Opens.{opens, rests_new, deals_next, made_next}
-use Rattle.partial_memory.proofs.Views.{deals}
+use Rattle.partial_memory.proofs.{Common.{rules, [], ◌∷◌, ◌≡◌, ap, sym, ◌∙◌, subst, List, ℕ, length, AreOpeningWords, Me, TableId, IsLayout, About, SeatedPort, one_in, port_view}, Opens.{opens, rests_new, deals_next, made_next}, Views.deals}
 use Rattle.partial_memory.proofs.memory.Memory.open.Goals as goal
 
 pub of_words-requires : goal.of_words-requires

@@ -1,6 +1,4 @@
-use Rattle.partial_memory.proofs.Common.{rules, ◌≡◌, ◌<◌, refl, sym, subst, Layout, one_in}
-use Rattle.partial_memory.proofs.Resting.{read_begins, rests, same_memory}
-use Rattle.partial_memory.proofs.Replies.{read_ended}
+use Rattle.partial_memory.proofs.{Common.{rules, ◌≡◌, ◌<◌, refl, sym, subst, Layout, one_in}, Resting.{read_begins, rests, same_memory}, Replies.read_ended}
 use Rattle.partial_memory.proofs.memory.Memory.read.Goals as goal
 
 pub read-requires : goal.read-requires

@@ -1,5 +1,4 @@
-use Rattle.partial_memory.proofs.Common.{rules, ◌≡◌, ◌∙◌, ◌-◌, ◌≤◌, ◌++◌, length, take, replicate, vec_len, Result, Err, IfOk, Ok, extended_values}
-use Rattle.partial_memory.proofs.Reopening.{closed_memories_continue, grown_is_extended}
+use Rattle.partial_memory.proofs.{Common.{rules, ◌≡◌, ◌∙◌, ◌-◌, ◌≤◌, ◌++◌, length, take, replicate, vec_len, Result, Err, IfOk, Ok, extended_values}, Reopening.{closed_memories_continue, grown_is_extended}}
 use Rattle.partial_memory.proofs.memory.Memory.reopen.Goals as goal
 
 -- what follows from a fact about the value of a result

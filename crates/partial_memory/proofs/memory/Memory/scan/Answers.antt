@@ -1,7 +1,4 @@
-use Rattle.partial_memory.proofs.Common.{rules, ◌≡◌, ◌≤◌, refl, sym, ap, ◌∙◌, subst, length, Some, inl, err_from_is_err_and, Layout, PortView, refusal, one_in}
-use Rattle.partial_model.specs.declared.call.Call.TheVariants as call
-use Rattle.partial_memory.proofs.Resting.{asked_begins, refusal_here, rests, scan_begins, same_memory}
-use Rattle.partial_memory.proofs.Replies.{scan_ended, scan_answered, at_once, err_err}
+use Rattle.partial_memory.proofs.{Common.{rules, ◌≡◌, ◌≤◌, refl, sym, ap, ◌∙◌, subst, length, Some, inl, err_from_is_err_and, Layout, PortView, refusal, one_in, Call}, Resting.{asked_begins, refusal_here, rests, scan_begins, same_memory}, Replies.{scan_ended, scan_answered, at_once, err_err}}
 use Rattle.partial_memory.proofs.memory.Memory.scan.Goals as goal
 
 pub scan-requires : goal.scan-requires
@@ -71,16 +68,16 @@ returns-clause-same c = same_memory _ _ (one_in c.me.inside.badge.views) (one_in
 
 pub returns-in_err-may_scan-clause-refused : goal.returns-in_err-may_scan-clause-refused
 returns-in_err-may_scan-clause-refused c =
-    let refused = refusal_here _ _ _ c.me.invariant c.me.inside.badge.table_id (call.Scan c.args.which.now) ∙ c.in_err-may_scan.ensures.err in
-    let seen : refusal c.args.me.now (call.Scan c.args.which.now) ≡ Some c.in_err-may_scan.field-0.0 =
-    ap (λ (p : PortView). refusal p (call.Scan c.args.which.now)) (sym c.me.view_is) ∙ refused in
+    let refused = refusal_here _ _ _ c.me.invariant c.me.inside.badge.table_id (Call.Scan c.args.which.now) ∙ c.in_err-may_scan.ensures.err in
+    let seen : refusal c.args.me.now (Call.Scan c.args.which.now) ≡ Some c.in_err-may_scan.field-0.0 =
+    ap (λ (p : PortView). refusal p (Call.Scan c.args.which.now)) (sym c.me.view_is) ∙ refused in
     let p = err_from_is_err_and c.from_residual.result c.from_residual.ensures.1 in
     err_err _ _ _ p.1 (inl (seen ∙ ap Some (sym p.2), refl))
 
 pub returns-in_err-may_scan-clause-led_to_refusal : goal.returns-in_err-may_scan-clause-led_to_refusal
 returns-in_err-may_scan-clause-led_to_refusal c =
-    let refused = refusal_here _ _ _ c.me.invariant c.me.inside.badge.table_id (call.Scan c.args.which.now) ∙ c.in_err-may_scan.ensures.err in
-    let seen : refusal c.args.me.now (call.Scan c.args.which.now) ≡ Some c.in_err-may_scan.field-0.0 =
-    ap (λ (p : PortView). refusal p (call.Scan c.args.which.now)) (sym c.me.view_is) ∙ refused in
+    let refused = refusal_here _ _ _ c.me.invariant c.me.inside.badge.table_id (Call.Scan c.args.which.now) ∙ c.in_err-may_scan.ensures.err in
+    let seen : refusal c.args.me.now (Call.Scan c.args.which.now) ≡ Some c.in_err-may_scan.field-0.0 =
+    ap (λ (p : PortView). refusal p (Call.Scan c.args.which.now)) (sym c.me.view_is) ∙ refused in
     let p = err_from_is_err_and c.from_residual.result c.from_residual.ensures.1 in
     err_err _ _ _ p.1 (at_once _ _ _ _ (seen ∙ ap Some (sym p.2)))

@@ -1,7 +1,6 @@
-use Rattle.partial_model.proofs.Common.{◌≡◌, ◌&&◌, Bool, true, false, List, length, Option, None, Decides, MatchOption, sym, ap, ◌∙◌, subst, Decides-at, Applied, Opening, Called, LegalOutcome, places_by, is_history, are_in_time, notes_are_legal, claim_all, is_legal_outcome, IsIndexOf}
+use Rattle.partial_model.proofs.{Common.{◌≡◌, ◌&&◌, Bool, true, false, List, length, Option, None, Decides, MatchOption, sym, ap, ◌∙◌, subst, Decides-at, Applied, Opening, Called, LegalOutcome, places_by, is_history, are_in_time, notes_are_legal, claim_all, is_legal_outcome, IsIndexOf}, PortLaws.Decides-is_legal_outcome}
 use Rattle.partial_model.specs.declared.checker.index.Index.{Index}
 use Rattle.partial_model.specs.Checked.{CheckedHistory}
-use Rattle.partial_model.proofs.PortLaws.{Decides-is_legal_outcome}
 use Rattle.partial_model.proofs.checker.Checker.check.Goals as goal
 
 -- what the index says of the history

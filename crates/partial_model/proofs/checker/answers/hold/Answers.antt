@@ -1,6 +1,5 @@
-use Rattle.partial_model.proofs.Common.{ℕ, ◌≡◌, ◌≢◌, ◌==◌, false, ◌&&◌, List, [], ◌∷◌, length, take, refl, sym, ap, ◌∙◌, arith, value_of, hold}
+use Rattle.partial_model.proofs.{Common.{ℕ, ◌≡◌, ◌≢◌, ◌==◌, false, ◌&&◌, List, [], ◌∷◌, length, take, refl, sym, ap, ◌∙◌, arith, value_of, hold}, StampLaws.and_false}
 use Rattle.partial_model.proofs.checker.answers.hold.Goals as goal
-use Rattle.partial_model.proofs.StampLaws.{and_false}
 
 -- lists of two lengths hold no values
 hold-lengths : (value : ℕ → ℕ) (js vs : List ℕ) → length js ≢ length vs → hold value js vs ≡ false

@@ -1,5 +1,4 @@
-use Rattle.partial_model.proofs.Common.{length, sym, ◌∙◌}
-use Rattle.partial_model.proofs.CheckLaws.{Decides-names_components}
+use Rattle.partial_model.proofs.{Common.{length, sym, ◌∙◌}, CheckLaws.Decides-names_components}
 use Rattle.partial_model.proofs.checker.answers.scan_is_right.Goals as goal
 
 pub saw_together-requires : goal.saw_together-requires

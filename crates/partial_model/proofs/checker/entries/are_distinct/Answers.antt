@@ -1,5 +1,4 @@
-use Rattle.partial_model.proofs.Common.{◌+◌, sym, ◌∙◌, subst}
-use Rattle.partial_model.proofs.StampLaws.{AreDistinctUpTo, above_is_new, unseen_is_new, seen_is_doubled, all_are_distinct}
+use Rattle.partial_model.proofs.{Common.{◌+◌, sym, ◌∙◌, subst}, StampLaws.{AreDistinctUpTo, above_is_new, unseen_is_new, seen_is_doubled, all_are_distinct}}
 use Rattle.partial_model.proofs.checker.entries.are_distinct.Goals as goal
 use Rattle.partial_model.proofs.checker.entries.are_distinct.Goals.{then-entry-greatest, else-entry-greatest+else-has_stamp}
 

@@ -1,6 +1,4 @@
-use Rattle.partial_model.proofs.Common.{ℕ, ◌≡◌, ◌<◌, length, get_or, [], ◌∷◌, ◌++◌, slice_get, Some, sym, ap, subst, ◌∙◌, arith, length-set, slice_get-get_or, Applied, AreListsOf}
-use Rattle.partial_model.proofs.IndexLaws.{list_at_within, lists_more}
-use Rattle.partial_model.proofs.NotesLemmas.{AllByRecursion-get}
+use Rattle.partial_model.proofs.{Common.{ℕ, ◌≡◌, ◌<◌, length, get_or, [], ◌∷◌, ◌++◌, slice_get, Some, sym, ap, subst, ◌∙◌, arith, length-set, slice_get-get_or, Applied, AreListsOf}, IndexLaws.{list_at_within, lists_more}, NotesLemmas.AllByRecursion-get}
 use Rattle.partial_model.proofs.checker.index.places_of.Goals as goal
 
 pub loop-place-preserved : goal.loop-place-preserved

@@ -1,6 +1,5 @@
-use Rattle.partial_model.proofs.Common.{ℕ, ◌≡◌, nat_eq, length, sym, subst, ◌∙◌, arith, slice_get-get_or, AreStampsOf}
+use Rattle.partial_model.proofs.{Common.{ℕ, ◌≡◌, nat_eq, length, sym, subst, ◌∙◌, arith, slice_get-get_or, AreStampsOf}, IndexLaws.{some_of, none_of, stamps_more, doubled, all_new}}
 use Rattle.std.specs.HashMap as hash
-use Rattle.partial_model.proofs.IndexLaws.{some_of, none_of, stamps_more, doubled, all_new}
 use Rattle.partial_model.proofs.checker.index.stamps_of.Goals as goal
 
 pub returns-then-is_some : goal.returns-then-is_some

@@ -1,5 +1,4 @@
-use Rattle.partial_model.proofs.Common.{ℕ, ◌≡◌, ◌+◌, ◌≤◌, ◌==◌, cond, true, length, drop, sym, ap, ◌∙◌, subst, arith, eq-eqb, ne_eqb, call_is_legal, notes_are_legal}
-use Rattle.partial_model.proofs.WalkLaws.{notes_more, seen_within}
+use Rattle.partial_model.proofs.{Common.{ℕ, ◌≡◌, ◌+◌, ◌≤◌, ◌==◌, cond, true, length, drop, sym, ap, ◌∙◌, subst, arith, eq-eqb, ne_eqb, call_is_legal, notes_are_legal}, WalkLaws.{notes_more, seen_within}}
 use Rattle.partial_model.proofs.checker.notes.notes_are_legal.Goals as goal
 use Rattle.partial_model.proofs.checker.notes.notes_are_legal.Goals.{then-call-port, else-call-port}
 

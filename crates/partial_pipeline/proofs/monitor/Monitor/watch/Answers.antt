@@ -1,5 +1,4 @@
-use Rattle.partial_pipeline.proofs.Common.{arith}
-use Rattle.partial_pipeline.proofs.Watching.{watching_more, watching_refused}
+use Rattle.partial_pipeline.proofs.{Common.arith, Watching.{watching_more, watching_refused}}
 use Rattle.partial_pipeline.proofs.monitor.Monitor.watch.Goals as goal
 
 pub loop-room-preserved : goal.loop-room-preserved

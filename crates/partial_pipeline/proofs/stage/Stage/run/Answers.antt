@@ -1,5 +1,4 @@
-use Rattle.partial_pipeline.proofs.Common.{ℕ, ◌≡◌, ◌∙◌, refl, sym, ap, subst, Some, MemoryView, IsStageDone, IsWorking, StageEnd, Finished, Stopped, Stage}
-use Rattle.partial_pipeline.proofs.Stages.{is_done}
+use Rattle.partial_pipeline.proofs.{Common.{ℕ, ◌≡◌, ◌∙◌, refl, sym, ap, subst, Some, MemoryView, IsStageDone, IsWorking, StageEnd, Finished, Stopped, Stage}, Stages.is_done}
 use Rattle.partial_pipeline.proofs.stage.Stage.run.Goals as goal
 use Rattle.partial_pipeline.proofs.stage.Stage.run.Goals.{else-loop-turn-test, then-loop-turn-test+in-Some}
 

@@ -1,6 +1,5 @@
-use Rattle.partial_pipeline.proofs.Common.{◌≤◌, subst, arith, Updates, Updated}
+use Rattle.partial_pipeline.proofs.{Common.{◌≤◌, subst, arith, Updates, Updated}, Stages.{update_refused, works_applied, works_lost, works_on}}
 use Rattle.partial_long_lived.specs.declared.answers.Updated.TheVariants.{Applied, Lost}
-use Rattle.partial_pipeline.proofs.Stages.{update_refused, works_applied, works_lost, works_on}
 use Rattle.partial_pipeline.proofs.stage.Stage.set.Goals as goal
 
 pub returns-in-Ok-Applied-clause-working : goal.returns-in-Ok-Applied-clause-working

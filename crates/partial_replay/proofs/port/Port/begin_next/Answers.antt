@@ -1,7 +1,4 @@
-use Rattle.partial_replay.proofs.Common.{◌≡◌, ◌+◌, ◌<◌, ◌++◌, refl, ◌∷◌, [], ℕ, length, Some, slice_get, sym, ◌∙◌, ap, subst, arith, length_push, AllByRecursion-get, Called, Layout, IsServed, IsDoneAtOnce}
-use Rattle.partial_replay.proofs.PortLaws.{begun_fits, once_fits, once_idle, once_sizes, call_at_place, match_none, match_some}
-use Rattle.partial_replay.proofs.PortSteps.{begun_made, once_made}
-use Rattle.partial_replay.proofs.PortTurns.{turn_comes, turn_once, turn_begins}
+use Rattle.partial_replay.proofs.{Common.{◌≡◌, ◌+◌, ◌<◌, ◌++◌, refl, ◌∷◌, [], ℕ, length, Some, slice_get, sym, ◌∙◌, ap, subst, arith, length_push, AllByRecursion-get, Called, Layout, IsServed, IsDoneAtOnce}, PortLaws.{begun_fits, once_fits, once_idle, once_sizes, call_at_place, match_none, match_some}, PortSteps.{begun_made, once_made}, PortTurns.{turn_comes, turn_once, turn_begins}}
 use Rattle.partial_replay.proofs.port.Port.begin_next.Goals as goal
 
 -- the call is one that the machine serves

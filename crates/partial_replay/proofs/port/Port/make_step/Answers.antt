@@ -1,5 +1,4 @@
-use Rattle.partial_replay.proofs.Common.{◌≡◌, ◌<◌, ◌++◌, ◌∷◌, [], ℕ, List, length, Some, slice_get, sym, ◌∙◌, ap, subst, arith, refl, option_to_list, append-nil, with_items_is, Applied, answer_of, words_after, answer_for, CoreState, at_stage, IsPossible, Step, Idle, Answer, entry_at, one_step_more, IsEndedCall, place_below, Memory, some_same}
-use Rattle.partial_replay.proofs.PortLaws.{answer_idle, step_ended, call_at_place}
+use Rattle.partial_replay.proofs.{Common.{◌≡◌, ◌<◌, ◌++◌, ◌∷◌, [], ℕ, List, length, Some, slice_get, sym, ◌∙◌, ap, subst, arith, refl, option_to_list, append-nil, with_items_is, Applied, answer_of, words_after, answer_for, CoreState, at_stage, IsPossible, Step, Idle, Answer, entry_at, one_step_more, IsEndedCall, place_below, Memory, some_same}, PortLaws.{answer_idle, step_ended, call_at_place}}
 use Rattle.partial_replay.proofs.port.Port.make_step.Goals as goal
 use Rattle.partial_replay.proofs.port.Port.make_step.Goals.{in-Some+in_ok-push-2, in_default}
 

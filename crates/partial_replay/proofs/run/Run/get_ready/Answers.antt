@@ -1,10 +1,4 @@
-use Rattle.partial_replay.proofs.Common.{◌≡◌, length, sym, ◌∙◌, subst, arith, set, KeepsMade, BeginsIn, PortAt}
-use Rattle.partial_replay.proofs.RunSteps.{port_here, part_at, begin_keeps, ports_length, none_of, some_of, match_bool, begun_done, idle_between, left_is, left_ready, served_here}
-use Rattle.partial_replay.proofs.PortLaws.{get_set, some_is}
-use Rattle.partial_replay.proofs.PortSteps.{ending_but, started_but, started_idle}
-use Rattle.partial_replay.proofs.TurnLaws.{done_set}
-use Rattle.partial_replay.proofs.PortTurns.{turn_comes}
-use Rattle.partial_replay.proofs.RunTurns.{begins_at}
+use Rattle.partial_replay.proofs.{Common.{◌≡◌, length, sym, ◌∙◌, subst, arith, set, KeepsMade, BeginsIn, PortAt}, RunSteps.{port_here, part_at, begin_keeps, ports_length, none_of, some_of, match_bool, begun_done, idle_between, left_is, left_ready, served_here}, PortLaws.{get_set, some_is}, PortSteps.{ending_but, started_but, started_idle}, TurnLaws.done_set, PortTurns.turn_comes, RunTurns.begins_at}
 use Rattle.partial_replay.proofs.run.Run.get_ready.Goals.{After-index_mut-port}
 use Rattle.partial_replay.proofs.run.Run.get_ready.Goals as goal
 

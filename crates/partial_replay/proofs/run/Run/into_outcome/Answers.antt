@@ -1,5 +1,4 @@
-use Rattle.partial_replay.proofs.Common.{refl, arith}
-use Rattle.partial_replay.proofs.Opens.{run_listed}
+use Rattle.partial_replay.proofs.{Common.{refl, arith}, Opens.run_listed}
 use Rattle.partial_replay.proofs.run.Run.into_outcome.Goals as goal
 
 pub calls_of-requires : goal.calls_of-requires

@@ -1,11 +1,5 @@
-use Rattle.partial_replay.proofs.Common.{◌∙◌, set, sym, ap, subst, arith, Layout, ArePlans, PortAt}
+use Rattle.partial_replay.proofs.{Common.{◌∙◌, set, sym, ap, subst, arith, Layout, ArePlans, PortAt}, RunSteps.{port_here, part_at, may_step, ready_way, ready_below, step_keeps, left_is, left_falls, components_here, on_ok_both}, RunLaws.sizes_y, PortLaws.get_set, PortSteps.{ending_with, started_set, step_ending, step_started}, TurnLaws.{done_set, by_step, stepped_done}, RunTurns.steps_at}
 use Rattle.std.proofs.lemmas.Result.{on_ok_weaker}
-use Rattle.partial_replay.proofs.RunSteps.{port_here, part_at, may_step, ready_way, ready_below, step_keeps, left_is, left_falls, components_here, on_ok_both}
-use Rattle.partial_replay.proofs.RunLaws.{sizes_y}
-use Rattle.partial_replay.proofs.PortLaws.{get_set}
-use Rattle.partial_replay.proofs.PortSteps.{ending_with, started_set, step_ending, step_started}
-use Rattle.partial_replay.proofs.TurnLaws.{done_set, by_step, stepped_done}
-use Rattle.partial_replay.proofs.RunTurns.{steps_at}
 use Rattle.partial_replay.proofs.run.Run.make_step.Goals.{After-index_mut-port}
 use Rattle.partial_replay.proofs.run.Run.make_step.Goals as goal
 

@@ -1,5 +1,4 @@
-use Rattle.partial_replay.proofs.Common.{◌≡◌, ℕ, List, length, ap, ◌∙◌, subst, sym, AreOpeningWords}
-use Rattle.partial_replay.proofs.Opens.{opens_run, fresh_started, fresh_turned, fresh_ending}
+use Rattle.partial_replay.proofs.{Common.{◌≡◌, ℕ, List, length, ap, ◌∙◌, subst, sym, AreOpeningWords}, Opens.{opens_run, fresh_started, fresh_turned, fresh_ending}}
 use Rattle.partial_replay.proofs.run.Run.open.Goals as goal
 
 pub returns-clause-between : goal.returns-clause-between

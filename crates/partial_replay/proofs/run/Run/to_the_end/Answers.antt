@@ -1,5 +1,4 @@
-use Rattle.partial_replay.proofs.Common.{◌∙◌, ◌+◌, Bool, None, refl, subst, TurnMade}
-use Rattle.partial_replay.proofs.RunTurns.{no_steps, step_more, turns_end}
+use Rattle.partial_replay.proofs.{Common.{◌∙◌, ◌+◌, Bool, None, refl, subst, TurnMade}, RunTurns.{no_steps, step_more, turns_end}}
 use Rattle.partial_replay.proofs.run.Run.to_the_end.Goals as goal
 
 pub loop-init : goal.loop-init

@@ -1,5 +1,4 @@
-use Rattle.partial_replay.proofs.Common.{Bool, subst, AreStarted, IsTurnReady, IsPortDone, MatchBool}
-use Rattle.partial_replay.proofs.RunTurns.{turn_done, turn_stepped}
+use Rattle.partial_replay.proofs.{Common.{Bool, subst, AreStarted, IsTurnReady, IsPortDone, MatchBool}, RunTurns.{turn_done, turn_stepped}}
 use Rattle.partial_replay.proofs.run.Run.turn.Goals as goal
 
 pub returns-then-not-branch-clause-turn : goal.returns-then-not-branch-clause-turn

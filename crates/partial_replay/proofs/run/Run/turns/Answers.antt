@@ -1,5 +1,4 @@
-use Rattle.partial_replay.proofs.Common.{◌≡◌, ◌∙◌, ℕ, Bool, Some, refl, subst, arith, TurnMade, TurnsMade}
-use Rattle.partial_replay.proofs.RunTurns.{no_steps, step_more, turns_all, turns_end}
+use Rattle.partial_replay.proofs.{Common.{◌≡◌, ◌∙◌, ℕ, Bool, Some, refl, subst, arith, TurnMade, TurnsMade}, RunTurns.{no_steps, step_more, turns_all, turns_end}}
 use Rattle.partial_replay.proofs.run.Run.turns.Goals as goal
 
 pub loop-init : goal.loop-init

@@ -1,5 +1,4 @@
-use Rattle.partial_replay.proofs.Common.{ℕ, ◌≡◌, ◌<◌, ◌∙◌, List, Option, length, None, get_or, sym, ap, subst, vec_len, arith, rules, AllByRecursion, AreMarked, AreWanted, HasRecord, values_after, values_now}
-use Rattle.partial_replay.proofs.ScanPlaces.{take_front, have_shown, least_shown, wanted_below}
+use Rattle.partial_replay.proofs.{Common.{ℕ, ◌≡◌, ◌<◌, ◌∙◌, List, Option, length, None, get_or, sym, ap, subst, vec_len, arith, rules, AllByRecursion, AreMarked, AreWanted, HasRecord, values_after, values_now}, ScanPlaces.{take_front, have_shown, least_shown, wanted_below}}
 use Rattle.partial_replay.proofs.wanted.Wanted.scan_place.Goals as goal
 
 pub least_prefix-least-requires-clause-entries : goal.least_prefix-least-requires-clause-entries

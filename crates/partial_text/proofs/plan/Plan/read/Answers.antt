@@ -1,5 +1,4 @@
-use Rattle.partial_text.proofs.Common.{Err, sym, subst, ap, ◌∙◌, PlanView, Fails, Gives, judged_plan, err_from_is_err_and}
-use Rattle.partial_text.proofs.ReaderLaws.{judged_all, only_memory, found_from, exact_from, only_from, always, true_not_false}
+use Rattle.partial_text.proofs.{Common.{Err, sym, subst, ap, ◌∙◌, PlanView, Fails, Gives, judged_plan, err_from_is_err_and}, ReaderLaws.{judged_all, only_memory, found_from, exact_from, only_from, always, true_not_false}}
 use Rattle.partial_text.proofs.plan.Plan.read.Goals as goal
 
 pub returns-in_err-text-clause-exact : goal.returns-in_err-text-clause-exact

@@ -1,6 +1,4 @@
-use Rattle.partial_workers.proofs.Common.{rules, ◌≡◌, ◌<◌, ◌+◌, List, length, take, get_or, sym, ap, subst, ◌∙◌, arith, YieldsList-from_vec, YieldsList-turn, YieldsList-end, length-map, length_push, take_all, Answer, AreMade, calls_of, Job}
-use Rattle.partial_workers.proofs.Made.{made_next}
-use Rattle.partial_workers.proofs.Pairs.{map_at}
+use Rattle.partial_workers.proofs.{Common.{rules, ◌≡◌, ◌<◌, ◌+◌, List, length, take, get_or, sym, ap, subst, ◌∙◌, arith, YieldsList-from_vec, YieldsList-turn, YieldsList-end, length-map, length_push, take_all, Answer, AreMade, calls_of, Job}, Made.made_next, Pairs.map_at}
 use Rattle.partial_workers.proofs.worker.Worker.work.Goals as goal
 
 pub loop-job-preserved : goal.loop-job-preserved

@@ -1,6 +1,5 @@
-use Rattle.partial_model.proofs.Common.{ℕ, ◌<◌, ltb, length, List, sym, subst, rules, arith, ArePlacesOf}
+use Rattle.partial_model.proofs.{Common.{ℕ, ◌<◌, ltb, length, List, sym, subst, rules, arith, ArePlacesOf}, IndexLaws.{Parts, parts_at, nothing_last, last_listed}}
 use Rattle.std.proofs.lemmas.List.Sorted.{IsPartitionPoint-from_clause, IsPartitionedBy-ltb, IsNonDecreasingBy-from_default}
-use Rattle.partial_model.proofs.IndexLaws.{Parts, parts_at, nothing_last, last_listed}
 use Rattle.partial_model.proofs.checker.index.Index.last_entry.Goals as goal
 
 pub returns-then-count-eq0 : goal.returns-then-count-eq0

@@ -1,6 +1,5 @@
-use Rattle.partial_model.proofs.Common.{nat_eq, sym, ◌∙◌, lt-leb}
+use Rattle.partial_model.proofs.{Common.{nat_eq, sym, ◌∙◌, lt-leb}, IndexLaws.{shows_nothing, shows_late, shows_early}}
 use Rattle.std.specs.HashMap as hash
-use Rattle.partial_model.proofs.IndexLaws.{shows_nothing, shows_late, shows_early}
 use Rattle.partial_model.proofs.checker.index.Index.shows_stamp.Goals as goal
 
 pub returns-in-None : goal.returns-in-None

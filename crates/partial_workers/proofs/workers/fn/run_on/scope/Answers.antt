@@ -1,5 +1,4 @@
-use Rattle.partial_workers.proofs.Common.{List, map, Bor, arith, length-map, Call, IsWorkStarted}
-use Rattle.partial_workers.proofs.Pairs.{each_length}
+use Rattle.partial_workers.proofs.{Common.{List, map, Bor, arith, length-map, Call, IsWorkStarted}, Pairs.each_length}
 use Rattle.partial_workers.proofs.workers.fn.run_on.scope.Goals as goal
 
 pub join-requires : goal.join-requires
