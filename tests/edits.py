@@ -277,7 +277,7 @@ def check(room, name, places, command, without):
         if text:
             for goal in [*goals, *citing(text, goals)]:
                 text = without_answer(text, goal)
-            answers_at(room, function).write_text(text, encoding='utf-8')
+            answers_at(room, function).write_text(without_idle_branches(text), encoding='utf-8')
     return run(command, room, LIMIT)
 
 
@@ -307,9 +307,18 @@ def citing(text, goals):
 
 def without_answer(text, goal):
     """A file of answers without the one of this goal: its type, and the lines of it."""
-    name = re.escape(goal)
-    return re.sub(rf'^(?:pub )?{name} : .*\n(?:[ \t].*\n|\n(?=[ \t]))*(?:{name}(?: .*)?\n(?:[ \t].*\n|\n(?=[ \t]))*)*', '',
-                  text + '\n', flags=re.M)
+    name, more = re.escape(goal), r'(?:[ \t)].*\n|\n(?=[ \t]))*'
+    return re.sub(rf'^(?:pub )?{name} : .*\n{more}(?:{name}(?: .*)?\n{more})*', '', text + '\n', flags=re.M)
+
+
+def without_idle_branches(text):
+    """A file of answers whose import of branches has those alone that it names: a turned function may lack the others."""
+    def import_of(found):
+        rest = text[:found.start()] + text[found.end():]
+        named = [it for it in found[2].split(', ') if re.search(rf'(?<![\w-]){re.escape(it)}(?![\w-])', rest)]
+        return f'{found[1]}.{{{", ".join(named)}}}\n' if named else ''
+
+    return re.sub(r'^(use \S+\.Goals)\.\{(.*)\}\n', import_of, text, flags=re.M)
 
 
 def is_of_meaning(goal, by):

@@ -108,6 +108,22 @@ other c = lower c below-low
 '''
 
 
+# Two answers, of which the first is closed at the margin, and what imports their branches.
+CLOSED = '''\
+pub low : goal.low
+low c = elim c.branch (
+    in-Err
+)
+
+pub high : goal.high
+high c = in-Ok
+'''
+BRANCHES = '''\
+use Rattle.low.proofs.a.f.Goals.{in-Ok, in-Err}
+use Rattle.low.proofs.a.f.Goals as goal
+'''
+
+
 def cases():
     """Each case: its name, and whether it holds."""
     for name, said in REFUSED.items():
@@ -136,6 +152,12 @@ def cases():
     left = edits.without_answer(ANSWERS, 'returns-clause-at')
     yield 'an answer that names another one is found, and one that names that', edits.citing(CITING, ['low']) == ['high', 'mid']
     yield 'an answer is taken away whole', 'first g' not in left and 'c.more' not in left and 'second c' in left
+    left = edits.without_answer(CLOSED, 'low')
+    yield 'an answer is taken away whole that is closed at the margin', left.strip() == 'pub high : goal.high\nhigh c = in-Ok'
+    yield 'branches that no answer names are not imported', edits.without_idle_branches(
+        f'{BRANCHES}{left}') == f'use Rattle.low.proofs.a.f.Goals.{{in-Ok}}\nuse Rattle.low.proofs.a.f.Goals as goal\n{left}'
+    yield 'an import of branches goes with the last answer that names one', edits.without_idle_branches(
+        f'{BRANCHES}high c = c.is\n') == 'use Rattle.low.proofs.a.f.Goals as goal\nhigh c = c.is\n'
     yield from of_counts()
     yield from of_runs()
     yield from of_turns()
