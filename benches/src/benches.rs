@@ -13,6 +13,8 @@ const CALLS: u32 = 1_000;
 // Parts of a repetition. The slots of a memory have room for those of scans.
 const PARTS: u32 = 200;
 const PARTS_OF_SCANS: u32 = 60;
+// Of 100 million updates, for which an opening has no room.
+const MANY_PARTS: u32 = 100_000;
 // The pool of a memory has room for the views that the updates store.
 const PARTS_OF_BOTH: u32 = 20;
 const OPENINGS: usize = 3;
@@ -34,10 +36,11 @@ const fn speed(name: &'static str, run: fn(&str) -> Sample) -> Bench {
     Bench { name, endings: &[""], is_time: false, run }
 }
 
-pub const BENCHES: [Bench; 17] = [
+pub const BENCHES: [Bench; 18] = [
     speed("read, 1 thread", |name| timed(name, 1, PARTS, rest, read)),
     speed("read, 4 threads", |name| timed(name, 4, PARTS, rest, read)),
     speed("update, 1 thread, nobody scans", |name| timed(name, 1, PARTS, rest, update)),
+    speed("update, 1 thread, 100 million of them", many),
     speed("update, 4 threads, nobody scans", |name| timed(name, 4, PARTS, rest, update)),
     speed("update, 1 thread, after scans", |name| timed(name, 1, PARTS, scan_often, update)),
     speed("update, 1 thread, after scans, no list words left", without_lists),
@@ -50,7 +53,7 @@ pub const BENCHES: [Bench; 17] = [
     speed("update of 3 writers beside scans of 8", writers),
     Bench {
         name: "scan of 8 beside 3 writers",
-        endings: &[": half take at most", ": 99 % take at most", ": 99.9 % take at most"],
+        endings: &[": half take at most", ": 99 % take at most", ": 99.9 % take at most", ": the slowest takes"],
         is_time: true,
         run: monitor,
     },
@@ -127,6 +130,14 @@ fn wait_for(ready: &AtomicUsize, threads: usize) {
     }
 }
 
+// Updates without end of a memory that never wears out, with all their changes of epoch.
+fn many(name: &str) -> Sample {
+    if name != "memory" {
+        return Sample::none();
+    }
+    timed(name, 1, MANY_PARTS, rest, update)
+}
+
 // An update in an opening that has no room for a list of the slots that scans have left: each update walks over them.
 fn without_lists(name: &str) -> Sample {
     if !matches!(name, "opening" | "raw" | "called") {
@@ -186,8 +197,8 @@ fn some_scans(face: &mut dyn Face, thread: u32, call: u32) {
     }
 }
 
-// The quantiles of a scan of 8 components in one thread, in nanoseconds, while three writers are at work. Each scan
-// is a part. They end early where the writers have used up the pool.
+// The quantiles of a scan of 8 components in one thread, and the slowest of them, in nanoseconds, while three writers are
+// at work. Each scan is a part. They end early where the writers have used up the pool.
 fn monitor(name: &str) -> Sample {
     let (mut scans, mut updates) = (Vec::new(), Vec::new());
     for _ in 0..MONITORS {
@@ -197,7 +208,7 @@ fn monitor(name: &str) -> Sample {
     }
     Sample::of(&scans, &updates, |mut times| {
         times.sort_by(f64::total_cmp);
-        [0.5, 0.99, 0.999].map(|part| times[(part * times.len() as f64) as usize]).to_vec()
+        [0.5, 0.99, 0.999, 1.0].map(|part| times[((part * times.len() as f64) as usize).min(times.len() - 1)]).to_vec()
     })
 }
 
