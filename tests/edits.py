@@ -18,9 +18,10 @@ refuses nothing.
 
 That a function calls one that isn't proved is said apart, and counts for nothing; where its goals weren't tried for
 that reason, its edit waits for a later round. No function may have an open goal that none of the round's edits turns.
-A later round begins with what the earlier ones have proved, and checks the functions alone that its edits turn, with
-those that they call: the first round has checked all others. The first round begins with what checks of the crate kept,
-here or in another copy of the repository on this machine; no edit is judged by that, since what it turns is checked.
+A round checks the functions alone that its edits turn, with those that they call, and its second check those alone
+whose answers it goes without: that the crate is proved as it is, is not seen here. The first round begins with what
+checks of the crate kept, here or in another copy of the repository on this machine, and a later one with what the
+earlier ones have proved; no edit is judged by that, since what it turns is checked.
 
 With words, it takes the crates with these names alone; with --jobs N, so many crates side by side, and so many jobs in
 all where fewer crates are left. What isn't proved yet of the crates below is proved first. The last line is
@@ -245,9 +246,9 @@ def made_at(library):
         return None
 
 
-def asked_of(edit):
-    """The words by which a check is of the functions alone that this edit turns, and of those that they call."""
-    return [word for it in edit.refused for word in ('--only', it)]
+def asked_of(functions):
+    """The words by which a check is of these functions alone, and of those that they call."""
+    return [word for it in functions for word in ('--only', it)]
 
 
 def run(command, room, limit):
@@ -448,13 +449,17 @@ def try_crate(name, crates, libraries, jobs_now):
         shutil.copytree(kept, f'{room}/kept') if kept.is_dir() else os.mkdir(f'{room}/kept')
         while left:
             members, places = first_round(left, crate)
-            command = command_of(name, crates, libraries.folder, jobs_now())
-            asked = [*libraries.priority(), *command, *[word for it in members for word in asked_of(it)]]
+            command = [*libraries.priority(), *command_of(name, crates, libraries.folder, jobs_now())]
+
+            def check_of(functions, without):
+                return check(Path(room), name, places, [*command, *asked_of(functions)], without)
 
             def again(without):
-                return check(Path(room), name, places, asked, without)
+                """The second check, of the functions alone whose answers it goes without."""
+                return check_of(without, without)
 
-            tried, wrong, others = try_round(name, members, *again({}), again)
+            turned = [it for edit in members for it in edit.refused]
+            tried, wrong, others = try_round(name, members, *check_of(turned, {}), again)
             faults += wrong
             more += others
             left = [it for it in left if it not in tried]
