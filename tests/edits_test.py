@@ -4,8 +4,10 @@
 The texts are those of the prover, of checks of this repository's crates with a function turned; long ones are cut.
 The last line is 'N passed, M failed'.
 """
+import os
 import sys
 import tempfile
+import threading
 import time
 from pathlib import Path
 
@@ -167,22 +169,32 @@ def cases():
 def of_turns():
     """The cases of names that are tried side by side, beside a command and alone."""
     edits.PAUSE = 0.01
-    most, now = [0], [0]
+    most, now, lock = [0], [0], threading.Lock()
 
     def call(name):
-        now[0] += 1
-        most[0] = max(most[0], now[0])
-        time.sleep(0.05)
-        now[0] -= 1
         return name.upper()
+
+    def at_once(count):
+        """A call that waits for others, until so many are under way."""
+        most[0], together = 0, threading.Barrier(count, timeout=60)
+
+        def counted(name):
+            with lock:
+                now[0] += 1
+                most[0] = max(most[0], now[0])
+            together.wait()
+            with lock:
+                now[0] -= 1
+            return call(name)
+
+        return counted
 
     names = ['a', 'b', 'c', 'd', 'e', 'f']
     every = {it: it.upper() for it in names}
-    yield 'each name has its answer', edits.in_turns(names, 3, lambda it: True, lambda: False, call) == every
+    yield 'each name has its answer', edits.in_turns(names, 3, lambda it: True, lambda: False, at_once(3)) == every
     yield 'so many are tried at once', most == [3]
-    most[0], ends = 0, time.monotonic() + 0.5
     yield 'each name has its answer beside a command', edits.in_turns(
-        names, 3, lambda it: True, lambda: time.monotonic() < ends, call) == every
+        names, 3, lambda it: True, lambda: True, at_once(2)) == every
     yield 'two are tried at once beside a command', most == [2]
     asked = []
 
@@ -199,29 +211,30 @@ def of_libraries():
     """The cases of libraries that are copied while a command makes them."""
     with tempfile.TemporaryDirectory() as room:
         top, edits.TOP = edits.TOP, Path(room)
-        edits.SETTLED = 0.2
+        edits.SETTLED = 3600
         ended, copies = Path(room) / 'ended', Path(room) / 'copies'
         copies.mkdir()
 
-        def make(name, text):
+        def make(name, text, second):
+            """Makes a library, whose file is last written to at this second."""
             made = Path(room) / 'crates' / name / 'out/rlib' / f'{name}.rlib'
             made.mkdir(parents=True, exist_ok=True)
             (made / 'format').write_text(text, encoding='utf-8')
+            os.utime(made / 'format', (second, second))
 
-        make('old', 'one')
+        later = time.time() + 3600
+        make('old', 'one', later)
         libraries = edits.Libraries(copies, ended)
-        make('new', 'one')
+        make('new', 'one', later)
         yield 'a library that was there before is not taken beside the command', not libraries.take('old')
-        yield 'nor one that is written just now', not libraries.take('new')
-        yield 'nor one that is not there', not libraries.take('none')
-        time.sleep(0.3)
-        make('new', 'written on')
-        yield 'nor one that is written again', not libraries.take('new')
-        make('new', 'two')
+        yield 'nor one that is seen for the first time', not libraries.take('new')
         yield 'nor one that is not seen to be the same for a while', not libraries.take('new')
-        time.sleep(0.3)
+        yield 'nor one that is not there', not libraries.take('none')
+        edits.SETTLED = 0
+        make('new', 'two', later + 1)
+        yield 'nor one that is written again', not libraries.take('new')
         yield 'a library that the command has made is taken', libraries.has(['new']) and libraries.are_beside()
-        make('new', 'three')
+        make('new', 'three', later + 2)
         copy = (copies / 'new/new.rlib/format').read_text(encoding='utf-8')
         yield 'it is copied once', libraries.take('new') and copy == 'two'
         yield 'a command beside is left the processors', libraries.priority() == ['nice']
@@ -260,7 +273,7 @@ def of_runs():
     """The cases of commands that are run."""
     with tempfile.TemporaryDirectory() as room:
         yield 'the status of a command is seen', edits.run(['sh', '-c', 'echo said; exit 3'], room, 60) == (3, 'said\n')
-        yield 'a command is stopped at its limit', edits.run(['sh', '-c', 'echo said; sleep 60'], room, 0.5) == (None, 'said\n')
+        yield 'a command is stopped at its limit', edits.run(['sh', '-c', 'echo said; sleep 60'], room, 5) == (None, 'said\n')
         path = Path(room) / 'named.edit'
         for by, well in (('make-requires-clause-due', True), ('returns', False), ('index-requires', False),
                          ('overflow_add-result', False)):
