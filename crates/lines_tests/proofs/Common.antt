@@ -1,5 +1,5 @@
 -- The names that several proofs of this crate take from elsewhere.
-pub use Rattle.std.proofs.Common.{subst, ap, length, sym, ◌∙◌, arith, ℕ, ◌≡◌, ◌≤◌, List, ◌<◌, None, Option, Some, [], refl, ◌∷◌, cond, inl, inr, rules, slice_index, true, ◌++◌}
+pub use Rattle.std.proofs.Common.{subst, ap, length, sym, ◌∙◌, arith, ℕ, ◌≡◌, ◌≤◌, List, ◌<◌, None, Option, Some, [], refl, ◌∷◌, if◌then◌else◌, inl, inr, rules, slice_index, true, ◌++◌}
 pub use Rattle.std.specs.Prelude.{Err, IfErr, MatchOption, Ok, OnOk, Result}
 pub use Rattle.std.proofs.lemmas.List.{with_items_is}
 pub use Rattle.partial_words.specs.{Chain.{AreOpeningWords, opening_word}, Layout.{IsLayout, Layout, pool_base, total}, Step.{answer_of, word_of, words_after}}

@@ -1,5 +1,5 @@
 -- Turns of ports on plain words keep the state lawful.
-use Rattle.lines_tests.proofs.Common.{ℕ, ◌≡◌, ◌<◌, ◌≤◌, ◌++◌, List, [], ◌∷◌, Option, Some, None, length, cond, true, refl, sym, ap, subst, ◌∙◌, inl, inr, arith, Result, Ok, Err, OnOk, IfErr, AreOpeningWords, Layout, IsLayout, pool_base, answer_of, word_of, words_after, Idle, ReadBegun, UpdateBegun, ScanBegun, Finished, CoreState, advance, at_stage, fresh, reply_at, step_at, step_of, asking_machine, scan_asked, IsPossible, BeginsOn, Begun, IsOfPort, IsPlain, MayTurn, Turned, Stepped, Taken, Started, Stayed}
+use Rattle.lines_tests.proofs.Common.{ℕ, ◌≡◌, ◌<◌, ◌≤◌, ◌++◌, List, [], ◌∷◌, Option, Some, None, length, if◌then◌else◌, true, refl, sym, ap, subst, ◌∙◌, inl, inr, arith, Result, Ok, Err, OnOk, IfErr, AreOpeningWords, Layout, IsLayout, pool_base, answer_of, word_of, words_after, Idle, ReadBegun, UpdateBegun, ScanBegun, Finished, CoreState, advance, at_stage, fresh, reply_at, step_at, step_of, asking_machine, scan_asked, IsPossible, BeginsOn, Begun, IsOfPort, IsPlain, MayTurn, Turned, Stepped, Taken, Started, Stayed}
 use Rattle.std.proofs.lemmas.{Bool.{false≢true, ne_eqb}, Option.none-some}
 use Rattle.partial_model.specs.declared.history.{Applied.Applied, Opening.Opening}
 use Rattle.partial_model.specs.declared.call.{Call.Call, Refused.Refused}
@@ -167,4 +167,4 @@ asked_scan {A} c d which (Err e) few some ok err = inl err.1
 
 -- a scan of some positions that has begun
 pub scan_is : (c d : CoreState) (which : List ℕ) → (length which ≡ 0 → ⊥) → d ≡ begin_scan c which → d ≡ scan_asked c which
-scan_is c d which some is = is ∙ ap (λ b. at_stage (asking_machine c which) (cond b (Finished (Reply.Scanned 0 None)) ScanBegun)) (ne_eqb (length which) 0 some)
+scan_is c d which some is = is ∙ ap (λ b. at_stage (asking_machine c which) (if b then Finished (Reply.Scanned 0 None) else ScanBegun)) (ne_eqb (length which) 0 some)

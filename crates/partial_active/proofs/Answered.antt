@@ -1,5 +1,5 @@
 -- What an answer keeps: the machine and its buffers go together, and the steps left fall.
-use Rattle.partial_active.proofs.{Common.{ℕ, ◌≡◌, ◌+◌, ◌-◌, ◌<◌, ◌≤◌, min, true, false, eqb, ltb, [], ◌∷◌, ◌++◌, length, cond, IsSome, slice_index, inl, inr, refl, sym, ap, subst, arith, false≢true, cond_both, ltb-false, eqb-true, eqb-false, length_push, IsNormal, Layout, IsLayout, list_end, list_base, pool_base, pool_end, list_block, AreFoundFor, LiesBehind, with_index, Stage, Head, ListLen, ListLow, ListHigh, Counter, Slot, Len, Index, Claim, Write, Publish, Done, SetPair, set_step_at, set_step_due, advance_set_at, come_to, note_slot, in_stage, set_left_at, set_left, walk_left, EndsBelow, IsListHead, IsListLen, IsNextLow, IsSlotWord, IsAnnouncedLen, IsListClaim, is_possible_at, IsPossibleInSet, HasRead, IsWalking, IsAtSlot, set_goes_at, SetGoesTogether, next_word, indices_word, intervals_word, mul-le-mul_right}, Extended.{normal-extended, below-extended, normal_push, below_push}, Walk.{come_to_goes, come_to_left}}
+use Rattle.partial_active.proofs.{Common.{ℕ, ◌≡◌, ◌+◌, ◌-◌, ◌<◌, ◌≤◌, min, true, false, nat_eq, ◌==◌, nat_lt, [], ◌∷◌, ◌++◌, length, if◌then◌else◌, IsSome, slice_index, inl, inr, refl, sym, ap, subst, arith, false≢true, cond_both, ltb-false, eqb-true, eqb-false, length_push, IsNormal, Layout, IsLayout, list_end, list_base, pool_base, pool_end, list_block, AreFoundFor, LiesBehind, with_index, Stage, Head, ListLen, ListLow, ListHigh, Counter, Slot, Len, Index, Claim, Write, Publish, Done, SetPair, set_step_at, set_step_due, advance_set_at, come_to, note_slot, in_stage, set_left_at, set_left, walk_left, EndsBelow, IsListHead, IsListLen, IsNextLow, IsSlotWord, IsAnnouncedLen, IsListClaim, is_possible_at, IsPossibleInSet, HasRead, IsWalking, IsAtSlot, set_goes_at, SetGoesTogether, next_word, indices_word, intervals_word, mul-le-mul_right}, Extended.{normal-extended, below-extended, normal_push, below_push}, Walk.{come_to_goes, come_to_left}}
 
 -- the empty list
 normal_nil : IsNormal []
@@ -81,11 +81,11 @@ module _ (p : SetPair) (layout : IsLayout p.0.sizes) (sizes : AreFoundFor p.0.si
   walk_whole : walk_left p.0.sizes 0 + p.0.sizes.lists + 2 ≡ set_left_at p.0.sizes Head
   walk_whole = let all : p.0.sizes.slots - 0 ≡ p.0.sizes.slots = omega arith in rw all (omega arith)
 
-  head_word : (x : ℕ) → IsListHead p.0.sizes x → eqb x 0 ≡ false → (list_base p.0.sizes ≤ x) × (x < list_end p.0.sizes)
+  head_word : (x : ℕ) → IsListHead p.0.sizes x → nat_eq x 0 ≡ false → (list_base p.0.sizes ≤ x) × (x < list_end p.0.sizes)
   head_word x possible e = elim possible [ inl none ↦ absurd (eqb-false x 0 e none) | inr some ↦ some ]
 
   pub keeps_head : (x : ℕ) → IsListHead p.0.sizes x → Keeps (advance_set_at Head p x) (set_left_at p.0.sizes Head)
-  keeps_head x possible = cond_both (eqb x 0) Counter (ListLen x) (λ stage. Keeps (record p.0 { head = x; stage = stage }, record p.1 { indices = []; read = []; next = [] })
+  keeps_head x possible = cond_both (x == 0) Counter (ListLen x) (λ stage. Keeps (record p.0 { head = x; stage = stage }, record p.1 { indices = []; read = []; next = [] })
       (set_left_at p.0.sizes Head))
       (λ e. record {
         together = record { sizes = record { limit = sizes.limit; room = sizes.room }; stage = (record { normal = normal_nil; within = below_nil p.0.sizes.slots }, refl) };
@@ -100,7 +100,7 @@ module _ (p : SetPair) (layout : IsLayout p.0.sizes) (sizes : AreFoundFor p.0.si
   keeps_list_len at x goes possible =
       let none : length p.1.read ≡ 0 = ap length goes.0 in
       let list : HasRead p.0.sizes p.1.read = rw goes.0 (record { normal = normal_nil; within = below_nil p.0.sizes.slots }) in
-      cond_both (eqb x 0) Counter (ListLow (intervals_word at) x) (λ stage. Keeps (in_stage p stage) (set_left_at p.0.sizes (ListLen at)))
+      cond_both (x == 0) Counter (ListLow (intervals_word at) x) (λ stage. Keeps (in_stage p stage) (set_left_at p.0.sizes (ListLen at)))
       (λ e. record {
         together = record { sizes = sizes; stage = (list, goes.1) };
         fewer = omega (arith, goes.3);
@@ -147,7 +147,7 @@ module _ (p : SetPair) (layout : IsLayout p.0.sizes) (sizes : AreFoundFor p.0.si
         within = below_push p.1.read lo x p.0.sizes.slots goes.0.list.within possible.1;
       } in
       let longer = length_push p.1.read (lo, x) in
-      cond_both (eqb left 1) Counter (ListLow (next_word at) (left - 1)) (λ stage. Keeps (record p.0 { stage = stage }, record p.1 { read = p.1.read ++ (lo, x) ∷ [] })
+      cond_both (left == 1) Counter (ListLow (next_word at) (left - 1)) (λ stage. Keeps (record p.0 { stage = stage }, record p.1 { read = p.1.read ++ (lo, x) ∷ [] })
       (set_left_at p.0.sizes (ListHigh at left lo)))
       (λ e. record {
         together = record { sizes = record { limit = sizes.limit; room = sizes.room }; stage = (list, goes.0.next) };
@@ -208,7 +208,7 @@ module _ (p : SetPair) (layout : IsLayout p.0.sizes) (sizes : AreFoundFor p.0.si
   fewer_at slot here = slot_steps p.0.sizes slot (omega (arith, here.below, here.walking.end_within))
 
   pub keeps_len : (slot at x : ℕ) → set_goes_at (Len slot at) p → IsAnnouncedLen p.0.sizes at x → Keeps (advance_set_at (Len slot at) p x) (set_left_at p.0.sizes (Len slot at))
-  keeps_len slot at x goes possible = cond_both (eqb x 0) (come_to p (slot + 1)) (in_stage p (Index slot (indices_word at) x)) (λ q. Keeps q (set_left_at p.0.sizes (Len slot at)))
+  keeps_len slot at x goes possible = cond_both (x == 0) (come_to p (slot + 1)) (in_stage p (Index slot (indices_word at) x)) (λ q. Keeps q (set_left_at p.0.sizes (Len slot at)))
       (λ e. keeps_next slot (set_left_at p.0.sizes (Len slot at)) (walk_next p slot goes.0) (omega arith))
       (λ e. record {
         together = record { sizes = sizes; stage = (at_in_stage slot (Index slot (indices_word at) x) goes.0, omega (arith, eqb-false x 0 e), possible.1, omega (arith, possible.0)) };
@@ -216,7 +216,7 @@ module _ (p : SetPair) (layout : IsLayout p.0.sizes) (sizes : AreFoundFor p.0.si
       })
 
   pub keeps_claim : (words x : ℕ) → set_goes_at (Claim words) p → IsListClaim p.0.sizes x → Keeps (advance_set_at (Claim words) p x) (set_left_at p.0.sizes (Claim words))
-  keeps_claim words x goes possible = cond_both (ltb (list_end p.0.sizes) (x + words)) (record p.0 { lists_spent = true; stage = Done }, p.1) (in_stage p (Write x 0 words (length p.1.next)))
+  keeps_claim words x goes possible = cond_both (nat_lt (list_end p.0.sizes) (x + words)) (record p.0 { lists_spent = true; stage = Done }, p.1) (in_stage p (Write x 0 words (length p.1.next)))
       (λ q. Keeps q (set_left_at p.0.sizes (Claim words)))
       (λ e. record { together = record { sizes = record { limit = sizes.limit; room = sizes.room }; stage = tt }; fewer = omega arith })
       (λ e. record {
@@ -233,7 +233,7 @@ module _ (p : SetPair) (layout : IsLayout p.0.sizes) (sizes : AreFoundFor p.0.si
       })
 
   pub keeps_write : (at k words word x : ℕ) → set_goes_at (Write at k words word) p → Keeps (advance_set_at (Write at k words word) p x) (set_left_at p.0.sizes (Write at k words word))
-  keeps_write at k words word x goes = cond_both (eqb (k + 1) words) (Publish at) (Write at (k + 1) words (slice_index (list_block p.1.next) (k + 1)))
+  keeps_write at k words word x goes = cond_both ((k + 1) == words) (Publish at) (Write at (k + 1) words (slice_index (list_block p.1.next) (k + 1)))
       (λ stage. Keeps (in_stage p stage) (set_left_at p.0.sizes (Write at k words word)))
       (λ e. record { together = record { sizes = sizes; stage = (goes.0.next, goes.0.within) }; fewer = omega (arith, goes.1) })
       (λ e. record {
@@ -268,7 +268,7 @@ module _ (p : SetPair) (layout : IsLayout p.0.sizes) (sizes : AreFoundFor p.0.si
       let q : SetPair = (p.0, record p.1 { indices = with_index p.1.indices x }) in
       let q_sizes : AreFoundFor p.0.sizes q.1 = record { limit = sizes.limit; room = sizes.room } in
       let here = at_with p slot x goes.0 in
-      cond_both (eqb left 1) (come_to q (slot + 1)) (in_stage q (Index slot (next_word at) (left - 1))) (λ r. Keeps r (set_left_at p.0.sizes (Index slot at left)))
+      cond_both (left == 1) (come_to q (slot + 1)) (in_stage q (Index slot (next_word at) (left - 1))) (λ r. Keeps r (set_left_at p.0.sizes (Index slot at left)))
       (λ e. keeps_next q layout q_sizes slot (set_left_at p.0.sizes (Index slot at left)) (walk_next q slot here) (omega (arith, goes.1)))
       (λ e.
       let more : 1 < left = omega (arith, eqb-false left 1 e, goes.1) in
@@ -290,9 +290,9 @@ module _ (p : SetPair) (layout : IsLayout p.0.sizes) (sizes : AreFoundFor p.0.si
       let fewer = fewer_at p layout sizes slot goes in
       let noted = note_slot p slot in
       let noted_sizes : AreFoundFor p.0.sizes noted.1 = record { limit = sizes.limit; room = sizes.room } in
-      cond_both (eqb x 0) (come_to p (slot + 1)) (cond (eqb x 1) (come_to noted (slot + 1)) (in_stage p (Len slot x))) (λ q. Keeps q (set_left_at p.0.sizes (Slot slot)))
+      cond_both (x == 0) (come_to p (slot + 1)) (if x == 1 then come_to noted (slot + 1) else in_stage p (Len slot x)) (λ q. Keeps q (set_left_at p.0.sizes (Slot slot)))
       (λ e. keeps_next p layout sizes slot (set_left_at p.0.sizes (Slot slot)) (walk_next p slot goes) (omega (arith, fewer)))
-      (λ not_empty. cond_both (eqb x 1) (come_to noted (slot + 1)) (in_stage p (Len slot x)) (λ q. Keeps q (set_left_at p.0.sizes (Slot slot)))
+      (λ not_empty. cond_both (x == 1) (come_to noted (slot + 1)) (in_stage p (Len slot x)) (λ q. Keeps q (set_left_at p.0.sizes (Slot slot)))
       (λ e. keeps_next noted layout noted_sizes slot (set_left_at p.0.sizes (Slot slot)) (walk_noted p slot layout goes) (omega (arith, fewer)))
       (λ not_vacated.
       let word : (pool_base p.0.sizes ≤ x) × (x < pool_end p.0.sizes) = elim possible [

@@ -1,5 +1,5 @@
 -- The list that a walk makes: it stays a normal form, and gains the numbers that were put behind it.
-use Rattle.partial_active.proofs.Common.{ℕ, zero, suc, ◌≡◌, ◌+◌, ◌-◌, ◌*◌, ◌<◌, ◌≤◌, ◌⊎◌, true, false, eqb, ltb, [], ◌∷◌, ◌++◌, length, set, inl, inr, refl, sym, ap, arith, cases_eq, cases_lt, cond_both, and_parts, and_cases, ltb-true, ltb-false, eqb-true, eqb-false, length_push, get_or_append_left, get_or_push, length-set, Ranges, lowest, highest, Holds, IsNormal, GoesOn, extended_list, touches, last_place, LiesBehind, EndsBelow}
+use Rattle.partial_active.proofs.Common.{ℕ, zero, suc, ◌≡◌, ◌+◌, ◌-◌, ◌*◌, ◌<◌, ◌≤◌, ◌⊎◌, true, false, ◌==◌, nat_lt, [], ◌∷◌, ◌++◌, length, slice_set, inl, inr, refl, sym, ap, arith, cases_eq, cases_lt, cond_both, and_parts, and_cases, ltb-true, ltb-false, eqb-true, eqb-false, length_push, get_or_append_left, get_or_push, length-set, Ranges, lowest, highest, Holds, IsNormal, GoesOn, extended_list, touches, last_place, LiesBehind, EndsBelow}
 use Rattle.partial_intervals.proofs.Edits.{normal_set, highest_here, highest_other, lowest_here, lowest_other}
 
 -- intervals that lie apart take two numbers each, but for the last
@@ -58,14 +58,14 @@ module _ (list : Ranges) (lo hi : ℕ) where
   -- what touching and not touching mean
   touching : touches list lo ≡ true → (0 < length list) × (highest list (last_place list) + 1 ≡ lo)
   touching e =
-      let both = and_parts (ltb 0 (length list)) (eqb (highest list (last_place list) + 1) lo) e in
+      let both = and_parts (nat_lt 0 (length list)) ((highest list (last_place list) + 1) == lo) e in
       (ltb-true 0 (length list) both.0, eqb-true (highest list (last_place list) + 1) lo both.1)
 
   apart_from : IsNormal list → LiesBehind list lo hi → touches list lo ≡ false → GoesOn list lo hi
   apart_from normal behind e = record {
     closed = behind.closed;
     bounded = behind.bounded;
-    beyond = λ k lt. elim (and_cases (ltb 0 (length list)) (eqb (highest list (last_place list) + 1) lo) e) [
+    beyond = λ k lt. elim (and_cases (nat_lt 0 (length list)) ((highest list (last_place list) + 1) == lo) e) [
       | inl none ↦ absurd (omega (arith, ltb-false 0 (length list) none))
       | inr apart ↦ elim (cases_eq k (last_place list)) [
         | inl here ↦ elim (cases_eq (highest list (last_place list) + 1) lo) [
@@ -79,7 +79,7 @@ module _ (list : Ranges) (lo hi : ℕ) where
 
 module _ (list : Ranges) (lo hi : ℕ) (normal : IsNormal list) (behind : LiesBehind list lo hi) where
   pub normal-extended : IsNormal (extended_list list lo hi)
-  normal-extended = cond_both (touches list lo) (set list (last_place list) (lowest list (last_place list), hi)) (list ++ (lo, hi) ∷ []) (λ l. IsNormal l)
+  normal-extended = cond_both (touches list lo) (slice_set list (last_place list) (lowest list (last_place list), hi)) (list ++ (lo, hi) ∷ []) (λ l. IsNormal l)
       (λ e.
       let t = touching list lo hi e in
       let last : last_place list < length list = omega (arith, t.0) in
@@ -91,7 +91,7 @@ module _ (list : Ranges) (lo hi : ℕ) (normal : IsNormal list) (behind : LiesBe
       (λ e. normal_push list lo hi normal (apart_from list lo hi normal behind e))
 
   pub below-extended : (n : ℕ) → EndsBelow list n → hi < n → EndsBelow (extended_list list lo hi) n
-  below-extended n below last_below = cond_both (touches list lo) (set list (last_place list) (lowest list (last_place list), hi)) (list ++ (lo, hi) ∷ []) (λ l. EndsBelow l n)
+  below-extended n below last_below = cond_both (touches list lo) (slice_set list (last_place list) (lowest list (last_place list), hi)) (list ++ (lo, hi) ∷ []) (λ l. EndsBelow l n)
       (λ e k lt.
       let t = touching list lo hi e in
       let last : last_place list < length list = omega (arith, t.0) in
@@ -107,7 +107,7 @@ module _ (list : Ranges) (lo hi : ℕ) (normal : IsNormal list) (behind : LiesBe
 
 -- it holds what the list held, and the new numbers
 pub held_extended : (list : Ranges) (lo hi : ℕ) → IsNormal list → (x : ℕ) → Holds (extended_list list lo hi) x → Holds list x ⊎ ((lo ≤ x) × (x ≤ hi))
-held_extended list lo hi normal x = cond_both (touches list lo) (set list (last_place list) (lowest list (last_place list), hi)) (list ++ (lo, hi) ∷ [])
+held_extended list lo hi normal x = cond_both (touches list lo) (slice_set list (last_place list) (lowest list (last_place list), hi)) (list ++ (lo, hi) ∷ [])
     (λ l. Holds l x → Holds list x ⊎ ((lo ≤ x) × (x ≤ hi)))
     (λ e h.
     let t = touching list lo hi e in
@@ -135,7 +135,7 @@ held_extended list lo hi normal x = cond_both (touches list lo) (set list (last_
 
 -- and it holds what the list held and the new numbers
 pub holds_extended : (list : Ranges) (lo hi : ℕ) → IsNormal list → LiesBehind list lo hi → (x : ℕ) → Holds list x ⊎ ((lo ≤ x) × (x ≤ hi)) → Holds (extended_list list lo hi) x
-holds_extended list lo hi normal behind x = cond_both (touches list lo) (set list (last_place list) (lowest list (last_place list), hi)) (list ++ (lo, hi) ∷ [])
+holds_extended list lo hi normal behind x = cond_both (touches list lo) (slice_set list (last_place list) (lowest list (last_place list), hi)) (list ++ (lo, hi) ∷ [])
     (λ l. Holds list x ⊎ ((lo ≤ x) × (x ≤ hi)) → Holds l x)
     (λ e.
     let t = touching list lo hi e in

@@ -1,20 +1,20 @@
 -- A finished getSet finds the active set: it misses no announcement that stood all the while, and names no index but those of
 -- the announcements that it found.
-use Rattle.partial_active.proofs.{Common.{ℕ, ◌≡◌, ◌≤◌, ◌⊎◌, true, ◌||◌, eqb, Some, None, List, [], ◌∷◌, Bool, inl, inr, refl, sym, ap, ◌∙◌, arith, flat_map, list_any, false≢true, or_left, or_right, eqb-true, eq-eqb, get_or_default, list_any-append, Any-from_list_any, Load, Layout, IsLayout, list_head, Buffers, AreFoundFor, has_index, with_index, SetPair, fresh_set, set_step_due, slot_at, AtSome, AtSomeStep, answered_from, own_moments, Announcement, FindsAnnouncement, Names, FindsActiveSet, GetSetsFind, with_all}, Orders.{Past, IsPairwiseOrderly, LeadsTo, own_leads, moments_of}, Indices.with_index_has, Knowledge.finished, Known.facts_of_moments, Active.{onto, onto_each, reached_from}, Named.{Named, named_behind}}
+use Rattle.partial_active.proofs.{Common.{ℕ, ◌≡◌, ◌≤◌, ◌⊎◌, true, ◌||◌, nat_eq, ◌==◌, Some, None, List, [], ◌∷◌, Bool, inl, inr, refl, sym, ap, ◌∙◌, arith, flat_map, list_any, false≢true, or_left, or_right, eqb-true, eq-eqb, get_or_default, list_any-append, Any-from_list_any, Load, Layout, IsLayout, list_head, Buffers, AreFoundFor, has_index, with_index, SetPair, fresh_set, set_step_due, slot_at, AtSome, AtSomeStep, answered_from, own_moments, Announcement, FindsAnnouncement, Names, FindsActiveSet, GetSetsFind, with_all}, Orders.{Past, IsPairwiseOrderly, LeadsTo, own_leads, moments_of}, Indices.with_index_has, Knowledge.finished, Known.facts_of_moments, Active.{onto, onto_each, reached_from}, Named.{Named, named_behind}}
 
 -- an index of a list with others put behind it is in one of the two
 with_all_has : (xs ys : List ℕ) (j : ℕ) → has_index (with_all xs ys) j ≡ true → (has_index xs j ≡ true) ⊎ (has_index ys j ≡ true)
 with_all_has xs [] j has = inl has
 with_all_has xs (y ∷ ys) j has = elim (with_all_has (with_index xs y) ys j has) [
-  | inl first ↦ elim (with_index_has xs y j first) [ inl old ↦ inl old | inr same ↦ inr (or_left (eqb y j) (has_index ys j) (eq-eqb y j same)) ]
-  | inr more ↦ inr (or_right (eqb y j) (has_index ys j) more)
+  | inl first ↦ elim (with_index_has xs y j first) [ inl old ↦ inl old | inr same ↦ inr (or_left (y == j) (has_index ys j) (eq-eqb y j same)) ]
+  | inr more ↦ inr (or_right (y == j) (has_index ys j) more)
 ]
 
 -- an index of all the announcements is one of one of them
 has_of_some : (found : List Announcement) (j : ℕ) → has_index (flat_map (λ (a : Announcement). a.named) found) j ≡ list_any (λ (a : Announcement). has_index a.named j) found
 has_of_some [] j = refl
 has_of_some (a ∷ found) j =
-    list_any-append (λ i. eqb i j) a.named (flat_map (λ (b : Announcement). b.named) found) ∙ ap (λ b. has_index a.named j || b) (has_of_some found j)
+    list_any-append (λ i. nat_eq i j) a.named (flat_map (λ (b : Announcement). b.named) found) ∙ ap (λ b. has_index a.named j || b) (has_of_some found j)
 
 -- what the machine met at some step, it met at some moment
 at_moment : (P : SetPair → List ℕ → Type 0) (Q : List ℕ → Type 0) (p : SetPair) (ms : Past) → ((r : SetPair) (w : List ℕ) → P r w → Q w) → AtSomeStep P p ms → AtSome Q ms
@@ -32,7 +32,7 @@ sound s start ms n indices within k j has =
     ] in
     let some = Any-from_list_any (λ (a : Announcement). has_index a.named j) k.found (sym (has_of_some k.found j) ∙ all) in
     let a : Announcement = some.1 in
-    let place = Any-from_list_any (λ i. eqb i j) a.named some.4 in
+    let place = Any-from_list_any (λ i. nat_eq i j) a.named some.4 in
     let below = k.below a (some.0, some.2, some.3) in
     at_moment (FindsAnnouncement s a) (Names s j) start ms (λ r w met. record {
       slot = a.slot;

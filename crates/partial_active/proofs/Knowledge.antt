@@ -1,5 +1,5 @@
 -- What a getSet knows by facts leads on, from stage to stage.
-use Rattle.partial_active.proofs.{Common.{ℕ, ◌≡◌, ◌+◌, ◌-◌, ◌<◌, ◌≤◌, ◌⊎◌, min, Bool, true, false, ◌&&◌, not, eqb, ltb, None, List, [], ◌∷◌, ◌++◌, length, take, get_or, slice_index, cond, inl, inr, refl, sym, ap, subst, ◌∙◌, arith, false≢true, and_parts, cases_eq, cases_lt, cond_both, ltb-false, eqb-true, eqb-false, take_more, take_all, get_or-take, length_push, Ranges, lowest, highest, Holds, IsNormal, Layout, IsLayout, list_end, list_block, announcement_reads_back, list_reads_back, Stage, Head, ListLen, ListLow, ListHigh, Counter, Slot, Len, Index, Claim, Write, Publish, Done, with_index, begins_at, SetPair, set_step_at, advance_set_at, after_walk, at_slot, come_to, pass_interval, note_slot, in_stage, next_words, EndsBelow, IsListClaim, is_possible_at, IsWalking, set_goes_at, Facts, AreVacated, HasEach, walks, has_found, knows_by, KnowsBy, slot_at, IsAnnouncement, IsVacatedList, next_word, indices_word, intervals_word}, Extended.{length_normal, held_extended}, Walk.begun, Answered.{walk_begins, walk_next, walk_noted, at_with}, Indices.first_more}
+use Rattle.partial_active.proofs.{Common.{ℕ, ◌≡◌, ◌+◌, ◌-◌, ◌<◌, ◌≤◌, ◌⊎◌, min, Bool, true, false, ◌&&◌, not, ◌==◌, nat_lt, None, List, [], ◌∷◌, ◌++◌, length, take, slice_index_or, slice_index, if◌then◌else◌, inl, inr, refl, sym, ap, subst, ◌∙◌, arith, false≢true, and_parts, cases_eq, cases_lt, cond_both, ltb-false, eqb-true, eqb-false, take_more, take_all, get_or-take, length_push, Ranges, lowest, highest, Holds, IsNormal, Layout, IsLayout, list_end, list_block, announcement_reads_back, list_reads_back, Stage, Head, ListLen, ListLow, ListHigh, Counter, Slot, Len, Index, Claim, Write, Publish, Done, with_index, begins_at, SetPair, set_step_at, advance_set_at, after_walk, at_slot, come_to, pass_interval, note_slot, in_stage, next_words, EndsBelow, IsListClaim, is_possible_at, IsWalking, set_goes_at, Facts, AreVacated, HasEach, walks, has_found, knows_by, KnowsBy, slot_at, IsAnnouncement, IsVacatedList, next_word, indices_word, intervals_word}, Extended.{length_normal, held_extended}, Walk.begun, Answered.{walk_begins, walk_next, walk_noted, at_with}, Indices.first_more}
 
 -- the facts are those of the words, and a slot is done that is VACATED, or of which the announcement was read
 pub record AreFacts (s : Layout) (words : List ℕ) (t : Facts) : Type 0 where
@@ -50,7 +50,7 @@ module _ (s : Layout) (words : List ℕ) (t : Facts) (w : AreFacts s words t) wh
       unmarked false e = refl
 
   known_at_slot : (p : SetPair) (slot : ℕ) → walks t p slot → KnowsBy t (at_slot p slot)
-  known_at_slot p slot k = cond_both (ltb slot p.0.end) (record p.0 { stage = Slot slot }, p.1) (after_walk p) (KnowsBy t)
+  known_at_slot p slot k = cond_both (nat_lt slot p.0.end) (record p.0 { stage = Slot slot }, p.1) (after_walk p) (KnowsBy t)
       (λ e. k)
       (λ e. known_after_walk p slot (ltb-false slot p.0.end e) k)
 
@@ -99,7 +99,7 @@ module _ (p : SetPair) (layout : IsLayout p.0.sizes) (words : List ℕ) (t : Fac
       let from = whole.from in
       let to = whole.to in (
         inr (from, omega (arith, to)),
-        cond_both (eqb x 0) Counter (ListLen x) (λ stage. KnowsBy t (record p.0 { head = x; stage = stage }, record p.1 { indices = []; read = []; next = [] }))
+        cond_both (x == 0) Counter (ListLen x) (λ stage. KnowsBy t (record p.0 { head = x; stage = stage }, record p.1 { indices = []; read = []; next = [] }))
             (λ e. λ y holds. let inside = holds.1 in absurd (omega (arith, inside)))
             (λ e. there),
       )
@@ -113,7 +113,7 @@ module _ (p : SetPair) (layout : IsLayout p.0.sizes) (words : List ℕ) (t : Fac
       let none : length p.1.read ≡ 0 = ap length goes.0 in
       rw count (
         (whole.to, length_normal list p.0.sizes.slots whole.normal (λ i lt. whole.within (highest list i) (i, lt, whole.normal.closed i lt, omega arith))),
-        cond_both (eqb (length list) 0) Counter (ListLow (intervals_word at) (length list)) (λ stage. KnowsBy t (in_stage p stage))
+        cond_both ((length list) == 0) Counter (ListLow (intervals_word at) (length list)) (λ stage. KnowsBy t (in_stage p stage))
             (λ e. λ y holds. let inside = holds.1 in absurd (omega (arith, none, inside)))
             (λ e. (at, list, record { stands = knows.1; read_is = nothing_read p.1.read list goes.0; sum = omega (arith, none) }, omega (arith, none))),
       )
@@ -163,11 +163,11 @@ module _ (p : SetPair) (layout : IsLayout p.0.sizes) (words : List ℕ) (t : Fac
       let high : x ≡ highest list i = told ∙ ap (slice_index words) place ∙ ap (λ (v : ℕ × ℕ). v.1) ((list_reads_back words from list whole.stands).each i (0, 0) lt) in
       let read : Ranges = p.1.read ++ (lo, highest list i) ∷ [] in
       let longer : length read ≡ i + 1 = length_push p.1.read (lo, highest list i) in
-      let so_far : read ≡ take (i + 1) list = ap (λ n. p.1.read ++ (n, highest list i) ∷ []) low ∙ ap (λ (l : Ranges). l ++ get_or list i (0, 0) ∷ []) r.read_is
+      let so_far : read ≡ take (i + 1) list = ap (λ n. p.1.read ++ (n, highest list i) ∷ []) low ∙ ap (λ (l : Ranges). l ++ slice_index_or list i (0, 0) ∷ []) r.read_is
       ∙ sym (take_more list i (0, 0) lt) in
       rw high (
         (omega (arith, low, closed), whole.within (highest list i) (i, lt, closed, omega arith)),
-        cond_both (eqb left 1) Counter (ListLow (next_word at) (left - 1)) (λ stage. KnowsBy t (record p.0 { stage = stage }, record p.1 { read = read }))
+        cond_both (left == 1) Counter (ListLow (next_word at) (left - 1)) (λ stage. KnowsBy t (record p.0 { stage = stage }, record p.1 { read = read }))
             (λ e.
             let one = eqb-true left 1 e in
             let all : read ≡ list = so_far ∙ take_all (i + 1) list (omega (arith, sum, one)) in
@@ -211,9 +211,9 @@ module _ (p : SetPair) (layout : IsLayout p.0.sizes) (words : List ℕ) (t : Fac
       let from = whole.from in
       let to = whole.to in (
         inr (inr (from, omega (arith, to))),
-        cond_both (eqb x 0) (come_to p (slot + 1)) (cond (eqb x 1) (come_to (note_slot p slot) (slot + 1)) (in_stage p (Len slot x))) (KnowsBy t)
+        cond_both (x == 0) (come_to p (slot + 1)) (if x == 1 then come_to (note_slot p slot) (slot + 1) else in_stage p (Len slot x)) (KnowsBy t)
             (λ e. let zero_is = eqb-true x 0 e in absurd (omega (arith, from, zero_is)))
-            (λ e. cond_both (eqb x 1) (come_to (note_slot p slot) (slot + 1)) (in_stage p (Len slot x)) (KnowsBy t)
+            (λ e. cond_both (x == 1) (come_to (note_slot p slot) (slot + 1)) (in_stage p (Len slot x)) (KnowsBy t)
             (λ f. let one = eqb-true x 1 f in absurd (omega (arith, from, one)))
             (λ f. (k, there))),
       )
@@ -230,7 +230,7 @@ module _ (p : SetPair) (layout : IsLayout p.0.sizes) (words : List ℕ) (t : Fac
       let count : x ≡ length named = told ∙ (announcement_reads_back words at named whole.stands).count in
       rw count (
         (whole.to, whole.count),
-        cond_both (eqb (length named) 0) (come_to p (slot + 1)) (in_stage p (Index slot (indices_word at) (length named))) (KnowsBy t)
+        cond_both ((length named) == 0) (come_to p (slot + 1)) (in_stage p (Index slot (indices_word at) (length named))) (KnowsBy t)
             (λ e. let none = eqb-true (length named) 0 e in
             goes_on p slot (walk_next p slot goes.0) knows.0 (w.read p.1.indices slot at named within shown (λ i lt. absurd (omega (arith, none, lt)))))
             (λ e. (knows.0, (at, named, 0, record { shown = shown; place = omega arith; sum = omega arith; so_far = λ i lt. absurd (omega (arith, lt)) }))),
@@ -263,7 +263,7 @@ module _ (p : SetPair) (layout : IsLayout p.0.sizes) (words : List ℕ) (t : Fac
       let so_far = first_more p.1.indices named i r.so_far in
       rw word (
         whole.each i lt,
-        cond_both (eqb left 1) (come_to q (slot + 1)) (in_stage q (Index slot (next_word at) (left - 1))) (KnowsBy t)
+        cond_both (left == 1) (come_to q (slot + 1)) (in_stage q (Index slot (next_word at) (left - 1))) (KnowsBy t)
             (λ e. let one = eqb-true left 1 e in
             let all : HasEach (with_index p.1.indices y) named = λ j below. so_far j (omega (arith, sum, one, below)) in
             goes_on q slot (walk_next q slot (at_with p slot y goes.0)) walked (w.read (with_index p.1.indices y) slot from named within r.shown all))
@@ -284,11 +284,11 @@ module _ (p : SetPair) (layout : IsLayout p.0.sizes) (words : List ℕ) (t : Fac
   leads_at (Index slot at left) x goes knows told = step_index slot at left x goes knows told
   leads_at (Claim count) x goes knows told = (
     told,
-    cond_both (ltb (list_end p.0.sizes) (x + count)) (record p.0 { lists_spent = true; stage = Done }, p.1) (in_stage p (Write x 0 count (length p.1.next))) (KnowsBy t) (λ e. knows.0) (λ e. knows.0),
+    cond_both (nat_lt (list_end p.0.sizes) (x + count)) (record p.0 { lists_spent = true; stage = Done }, p.1) (in_stage p (Write x 0 count (length p.1.next))) (KnowsBy t) (λ e. knows.0) (λ e. knows.0),
   )
   leads_at (Write at k count word) x goes knows told = (
     tt,
-    cond_both (eqb (k + 1) count) (Publish at) (Write at (k + 1) count (slice_index (list_block p.1.next) (k + 1))) (λ stage. KnowsBy t (in_stage p stage)) (λ e. knows) (λ e. knows),
+    cond_both ((k + 1) == count) (Publish at) (Write at (k + 1) count (slice_index (list_block p.1.next) (k + 1))) (λ stage. KnowsBy t (in_stage p stage)) (λ e. knows) (λ e. knows),
   )
   leads_at (Publish at) x goes knows told = (tt, knows)
   leads_at Done x goes knows told = absurd told

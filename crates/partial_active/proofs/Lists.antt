@@ -1,5 +1,5 @@
 -- What a getSet that is answered from orderly words knows of the list that it reads and of the one that it makes.
-use Rattle.partial_active.proofs.{Common.{ℕ, ◌≡◌, ◌+◌, ◌-◌, ◌<◌, ◌≤◌, ◌⊎◌, ◌↔◌, min, Bool, true, false, ◌&&◌, not, eqb, ltb, cond, Some, None, List, [], ◌∷◌, ◌++◌, length, take, get_or, slice_index, inl, inr, refl, sym, ap, subst, ◌∙◌, arith, false≢true, cases_eq, cases_lt, cond_both, ltb-false, eqb-true, eqb-false, take_more, take_all, length_push, Ranges, lowest, highest, Holds, IsNormal, Step, Load, Store, Exchange, Add, Layout, IsLayout, list_head, list_counter, slot_word, list_end, StandsAt, list_block, low_word, high_word, answer_of, list_reads_back, Stage, Head, ListLen, ListLow, ListHigh, Counter, Slot, Len, Index, Claim, Write, Publish, Done, with_index, Buffers, AreFoundFor, begins_at, SetPair, fresh_set, set_step_at, set_step_due, advance_set, advance_set_at, after_walk, at_slot, come_to, pass_interval, note_slot, in_stage, next_words, EndsBelow, is_possible_at, IsPossibleInSet, IsWalking, IsAtSlot, set_goes_at, SetGoesTogether, AreVacated, knows_by, slot_at, head_at, IsVacatedList, Orderly, AtSome, AtSomeStep, own_moments, next_word, indices_word, intervals_word, length-pairs}, Extended.{held_extended, holds_extended}, Walk.{interval_behind, walking_on}, Answered.{walk_begins, walk_next, walk_noted, slot_behind, at_with}, Known.{facts_of_moments, Knows}, Orders.{Past, IsPairwiseOrderly, LeadsTo, own_leads, moments_of}, Active.{Reached, onto, onto_some, reached_from}, Moments.{at_later, at_here, at_split, Behind, holds_behind}}
+use Rattle.partial_active.proofs.{Common.{ℕ, ◌≡◌, ◌+◌, ◌-◌, ◌<◌, ◌≤◌, ◌⊎◌, ◌↔◌, min, Bool, true, false, ◌&&◌, not, ◌==◌, nat_lt, if◌then◌else◌, Some, None, List, [], ◌∷◌, ◌++◌, length, take, slice_index_or, slice_index, inl, inr, refl, sym, ap, subst, ◌∙◌, arith, false≢true, cases_eq, cases_lt, cond_both, ltb-false, eqb-true, eqb-false, take_more, take_all, length_push, Ranges, lowest, highest, Holds, IsNormal, Step, Load, Store, Exchange, Add, Layout, IsLayout, list_head, list_counter, slot_word, list_end, StandsAt, list_block, low_word, high_word, answer_of, list_reads_back, Stage, Head, ListLen, ListLow, ListHigh, Counter, Slot, Len, Index, Claim, Write, Publish, Done, with_index, Buffers, AreFoundFor, begins_at, SetPair, fresh_set, set_step_at, set_step_due, advance_set, advance_set_at, after_walk, at_slot, come_to, pass_interval, note_slot, in_stage, next_words, EndsBelow, is_possible_at, IsPossibleInSet, IsWalking, IsAtSlot, set_goes_at, SetGoesTogether, AreVacated, knows_by, slot_at, head_at, IsVacatedList, Orderly, AtSome, AtSomeStep, own_moments, next_word, indices_word, intervals_word, length-pairs}, Extended.{held_extended, holds_extended}, Walk.{interval_behind, walking_on}, Answered.{walk_begins, walk_next, walk_noted, slot_behind, at_with}, Known.{facts_of_moments, Knows}, Orders.{Past, IsPairwiseOrderly, LeadsTo, own_leads, moments_of}, Active.{Reached, onto, onto_some, reached_from}, Moments.{at_later, at_here, at_split, Behind, holds_behind}}
 use Rattle.partial_active.specs.VacatedLists.{GetSetsKeepLists, WasVacated, IsListOf, FindsVacated, ClaimsWords, StoresWord, IsStored, KeepsLists, is_reading}
 
 -- the first n intervals hold the number
@@ -76,7 +76,7 @@ module _ (s : Layout) (start : SetPair) (first : List ℕ) (ms : Past) where
       (λ e. (record { head = read.head; list = read.list }, all))
 
   lists_at_slot : (p : SetPair) (slot : ℕ) → IsWalking p slot → HasReadFirst s first p → Gathered (Noted s start ms) p → ListsOf (at_slot p slot)
-  lists_at_slot p slot walking read gathered = cond_both (ltb slot p.0.end) (record p.0 { stage = Slot slot }, p.1) (after_walk p) ListsOf
+  lists_at_slot p slot walking read gathered = cond_both (nat_lt slot p.0.end) (record p.0 { stage = Slot slot }, p.1) (after_walk p) ListsOf
       (λ e. (record { head = read.head; list = read.list }, gathered))
       (λ e. lists_after_walk p slot (ltb-false slot p.0.end e) walking read gathered)
 
@@ -183,7 +183,7 @@ module _ (s : Layout) (layout : IsLayout s) (spent : Bool) (f : Buffers) (first 
       let count : slice_index now at ≡ length list = ap (slice_index now) knows.1 ∙ (list_reads_back now (head_at s first) list (list_stands list whole)).count in
       let none : length p.1.read ≡ 0 = ap length goes.0 in
       let unnoted = none_noted (λ x at one. let never : ⊥ = cc in never) knows.0 in
-      rw count (cond_both (eqb (length list) 0) Counter (ListLow (intervals_word at) (length list)) (λ stage. After (in_stage p stage))
+      rw count (cond_both ((length list) == 0) Counter (ListLow (intervals_word at) (length list)) (λ stage. After (in_stage p stage))
       (λ e.
       let same : list ≡ p.1.read = no_interval list (eqb-true (length list) 0 e) ∙ sym goes.0 in
       (unnoted, record { head = knows.2; list = inr (subst (IsVacatedList s first (head_at s first)) same whole) }))
@@ -214,9 +214,9 @@ module _ (s : Layout) (layout : IsLayout s) (spent : Bool) (f : Buffers) (first 
       ∙ ap (λ (r : ℕ × ℕ). r.1) ((list_reads_back now (head_at s first) list (list_stands list k.whole)).each i (0, 0) lt) in
       let longer : length (p.1.read ++ (lo, highest list i) ∷ []) ≡ i + 1 = length_push p.1.read (lo, highest list i) in
       let so_far : p.1.read ++ (lo, highest list i) ∷ [] ≡ take (i + 1) list = ap (λ n. p.1.read ++ (n, highest list i) ∷ []) knows.2.2
-      ∙ ap (λ (l : Ranges). l ++ get_or list i (0, 0) ∷ []) k.read_is ∙ sym (take_more list i (0, 0) lt) in
+      ∙ ap (λ (l : Ranges). l ++ slice_index_or list i (0, 0) ∷ []) k.read_is ∙ sym (take_more list i (0, 0) lt) in
       let unnoted = none_noted (λ x at one. let never : ⊥ = cc in never) knows.0 in
-      rw high (cond_both (eqb left 1) Counter (ListLow (next_word at) (left - 1)) (λ stage. After (record p.0 { stage = stage }, record p.1 { read = p.1.read ++ (lo, highest list i) ∷ [] }))
+      rw high (cond_both (left == 1) Counter (ListLow (next_word at) (left - 1)) (λ stage. After (record p.0 { stage = stage }, record p.1 { read = p.1.read ++ (lo, highest list i) ∷ [] }))
       (λ e.
       let all : p.1.read ++ (lo, highest list i) ∷ [] ≡ list = so_far ∙ take_all (i + 1) list (omega (arith, count, eqb-true left 1 e)) in
       (unnoted, record { head = k.head; list = inr (subst (IsVacatedList s first (head_at s first)) (sym all) k.whole) }))
@@ -263,9 +263,9 @@ module _ (s : Layout) (layout : IsLayout s) (spent : Bool) (f : Buffers) (first 
           ]
         ]),
       )) in
-      cond_both (eqb a 0) (come_to p (slot + 1)) (cond (eqb a 1) (come_to (note_slot p slot) (slot + 1)) (in_stage p (Len slot a))) (After)
+      cond_both (a == 0) (come_to p (slot + 1)) (if a == 1 then come_to (note_slot p slot) (slot + 1) else in_stage p (Len slot a)) (After)
       (λ e. let none = eqb-true a 0 e in passes (λ one. omega (arith, none, one)))
-      (λ not_empty. cond_both (eqb a 1) (come_to (note_slot p slot) (slot + 1)) (in_stage p (Len slot a)) (After)
+      (λ not_empty. cond_both (a == 1) (come_to (note_slot p slot) (slot + 1)) (in_stage p (Len slot a)) (After)
       (λ e. notes (eqb-true a 1 e))
       (λ e. (read (in_stage p (Len slot a)) refl refl, gathered_on p refl refl refl (quiet (eqb-false a 1 e)) knows.1)))
     where
@@ -284,7 +284,7 @@ module _ (s : Layout) (layout : IsLayout s) (spent : Bool) (f : Buffers) (first 
   unfolding Steps
   step_len slot at x stage goes knows =
       let on = step_on slot p (Len slot at) stage (λ x is. let never : ⊥ = cc in never) refl refl refl refl knows in
-      cond_both (eqb x 0) (come_to p (slot + 1)) (in_stage p (Index slot (indices_word at) x)) (After)
+      cond_both (x == 0) (come_to p (slot + 1)) (in_stage p (Index slot (indices_word at) x)) (After)
       (λ e. lists_come_to s (fresh_set s spent, f) first ((first ∷ done) ++ now ∷ []) p (slot + 1) (walk_next p slot goes.0) on.0 on.1)
       (λ e. (record { head = on.0.head; list = on.0.list }, on.1))
 
@@ -293,7 +293,7 @@ module _ (s : Layout) (layout : IsLayout s) (spent : Bool) (f : Buffers) (first 
   step_index slot at left x stage goes knows =
       let q : SetPair = (p.0, record p.1 { indices = with_index p.1.indices x }) in
       let on = step_on slot q (Index slot at left) stage (λ x is. let never : ⊥ = cc in never) refl refl refl refl knows in
-      cond_both (eqb left 1) (come_to q (slot + 1)) (in_stage q (Index slot (next_word at) (left - 1))) (After)
+      cond_both (left == 1) (come_to q (slot + 1)) (in_stage q (Index slot (next_word at) (left - 1))) (After)
       (λ e. lists_come_to s (fresh_set s spent, f) first ((first ∷ done) ++ now ∷ []) q (slot + 1) (walk_next q slot (at_with p slot x goes.0)) on.0 on.1)
       (λ e. (record { head = on.0.head; list = on.0.list }, on.1))
 
@@ -304,7 +304,7 @@ module _ (s : Layout) (layout : IsLayout s) (spent : Bool) (f : Buffers) (first 
       let whole = whole_on (λ x at one. let never : ⊥ = cc in never) knows.1 in
       let length_is : length (list_block p.1.next) ≡ count = let c = goes.count in let size = length-pairs p.1.next in omega (arith, c, size) in
       let end : list_end p.0.sizes ≡ list_end s = ap list_end b.sizes in
-      cond_both (ltb (list_end p.0.sizes) (x + count)) (record p.0 { lists_spent = true; stage = Done }, p.1) (in_stage p (Write x 0 count (length p.1.next))) (After)
+      cond_both (nat_lt (list_end p.0.sizes) (x + count)) (record p.0 { lists_spent = true; stage = Done }, p.1) (in_stage p (Write x 0 count (length p.1.next))) (After)
       (λ e. (record { head = knows.0.head; list = knows.0.list }, whole))
       (λ e. (
         record { head = knows.0.head; list = knows.0.list },
@@ -336,7 +336,7 @@ module _ (s : Layout) (layout : IsLayout s) (spent : Bool) (f : Buffers) (first 
       let length_is : length (list_block p.1.next) ≡ count = let c = goes.0.count in let size = length-pairs p.1.next in omega (arith, c, size) in
       let read : (q : SetPair) → q.0.head ≡ p.0.head → q.1.read ≡ p.1.read →
       HasReadFirst s first q = λ q head same. record { head = head ∙ knows.0.head; list = subst (IsListOf s first) (sym same) knows.0.list } in
-      cond_both (eqb (k + 1) count) (Publish at) (Write at (k + 1) count (slice_index (list_block p.1.next) (k + 1))) (λ stage. After (in_stage p stage))
+      cond_both ((k + 1) == count) (Publish at) (Write at (k + 1) count (slice_index (list_block p.1.next) (k + 1))) (λ stage. After (in_stage p stage))
       (λ e.
       let all : k + 1 ≡ length (list_block p.1.next) = eqb-true (k + 1) count e ∙ sym length_is in
       let stored : IsStored s (fresh_set s spent, f) ((first ∷ done) ++ now ∷ []) p at (length (list_block p.1.next)) = subst
@@ -380,7 +380,7 @@ lists_begin s spent f first orderly =
     let x = head_at s first in
     let p : SetPair = (fresh_set s spent, f) in
     let none : (y : ℕ) → AtSomeStep (FindsVacated s y) p (first ∷ []) → ⊥ = λ y h. elim h [ inl now ↦ let bad : Head ≡ Slot y = now.0 in cc | inr never ↦ never ] in
-    cond_both (eqb x 0) Counter (ListLen x) (λ stage. ListsOf s p first (first ∷ []) (record p.0 { head = x; stage = stage }, record p.1 { indices = []; read = []; next = [] }))
+    cond_both (x == 0) Counter (ListLen x) (λ stage. ListsOf s p first (first ∷ []) (record p.0 { head = x; stage = stage }, record p.1 { indices = []; read = []; next = [] }))
     (λ e. (none, record { head = refl; list = inl (eqb-true x 0 e, refl) }))
     (λ e. (none, refl, refl, elim orderly.head [ inl empty ↦ absurd (eqb-false x 0 e empty) | inr there ↦ there ]))
 
@@ -478,7 +478,7 @@ keeps_lists s spent f (first ∷ ms) q layout sizes orderly leads =
           (record { vacated = vacated_list s first ms q reached goes.0 goes.1 knows.0; slots = here.1 }, here.2, due);
       exchange = λ at x y is. subst (λ st. advance_set_at st q x ≡ advance_set_at st q y) (sym is) refl;
       refused = λ count x is past_end. subst (λ st. (set_step_due (advance_set_at st q x).0 ≡ None) × ((advance_set_at st q x).0.lists_spent ≡ true) × ((advance_set_at st q x).1 ≡ q.1)) (sym is)
-          (cond_both (ltb (list_end q.0.sizes) (x + count)) (record q.0 { lists_spent = true; stage = Done }, q.1) (in_stage q (Write x 0 count (length q.1.next)))
+          (cond_both (nat_lt (list_end q.0.sizes) (x + count)) (record q.0 { lists_spent = true; stage = Done }, q.1) (in_stage q (Write x 0 count (length q.1.next)))
           (λ (r : SetPair). (set_step_due r.0 ≡ None) × (r.0.lists_spent ≡ true) × (r.1 ≡ q.1))
           (λ e. (refl, refl, refl))
           (λ e. absurd (omega (arith, ltb-false (list_end q.0.sizes) (x + count) e, past_end))));

@@ -1,15 +1,15 @@
 -- The marks of a list of indices: how many there are, and what is left of them while it is emptied.
-use Rattle.partial_active.proofs.Common.{ℕ, zero, suc, ◌≡◌, ◌+◌, ◌<◌, ◌≤◌, eqb, Bool, true, false, cond, ◌||◌, inl, inr, List, [], ◌∷◌, ◌++◌, length, get_or, set, count_by, refl, sym, ◌∙◌, arith, false≢true, cases_eq, cases_Bool, or_cases, eqb-true, length-set, get_or-set_same, get_or-set_other, length_push, get_or_append_left, list_any-append, has_index, IsMarked}
+use Rattle.partial_active.proofs.Common.{ℕ, zero, suc, ◌≡◌, ◌+◌, ◌<◌, ◌≤◌, nat_eq, ◌==◌, Bool, true, false, if◌then◌else◌, ◌||◌, inl, inr, List, [], ◌∷◌, ◌++◌, length, slice_index_or, slice_index, slice_set, count_by, refl, sym, ◌∙◌, arith, false≢true, cases_eq, cases_Bool, or_cases, eqb-true, length-set, get_or-set_same, get_or-set_other, length_push, get_or_append_left, list_any-append, has_index, IsMarked}
 use Rattle.std.proofs.lemmas.List.Sums.{count_by-le-length, sum_by-cons}
 
 marked_first : (marks : List Bool) → count_by (λ b. b) (true ∷ marks) ≡ 1 + count_by (λ b. b) marks
-marked_first marks = sum_by-cons (λ b. cond b 1 0) true marks
+marked_first marks = sum_by-cons (λ b. if b then 1 else 0) true marks
 
 free_first : (marks : List Bool) → count_by (λ b. b) (false ∷ marks) ≡ count_by (λ b. b) marks
-free_first marks = omega (arith, sum_by-cons (λ b. cond b 1 0) false marks)
+free_first marks = omega (arith, sum_by-cons (λ b. if b then 1 else 0) false marks)
 
 -- where one is not marked, fewer are marked than there are
-pub count_lt-length : (marks : List Bool) (i : ℕ) (d : Bool) → i < length marks → get_or marks i d ≡ false → count_by (λ b. b) marks < length marks
+pub count_lt-length : (marks : List Bool) (i : ℕ) (d : Bool) → i < length marks → slice_index_or marks i d ≡ false → count_by (λ b. b) marks < length marks
 count_lt-length [] i d within free = absurd (omega arith)
 count_lt-length (true ∷ marks) zero d within free = absurd (false≢true (sym free))
 count_lt-length (false ∷ marks) zero d within free = omega (arith, free_first marks, count_by-le-length (λ b. b) marks)
@@ -17,15 +17,15 @@ count_lt-length (true ∷ marks) (suc i) d within free = omega (arith, marked_fi
 count_lt-length (false ∷ marks) (suc i) d within free = omega (arith, free_first marks, count_lt-length marks i d (omega arith) free)
 
 -- where none is marked, the count is 0
-pub count_none : (marks : List Bool) → ((j : ℕ) → j < length marks → get_or marks j false ≡ false) → count_by (λ b. b) marks ≡ 0
+pub count_none : (marks : List Bool) → ((j : ℕ) → j < length marks → slice_index_or marks j false ≡ false) → count_by (λ b. b) marks ≡ 0
 count_none [] none = refl
 count_none (true ∷ marks) none = absurd (false≢true (sym (none 0 (omega arith))))
 count_none (false ∷ marks) none = omega (arith, free_first marks, count_none marks (λ j lt. none (suc j) (omega arith)))
 
 -- what holds while the list is emptied: each index that is still marked is still in the list
 pub record IsEmptied (items : List ℕ) (marks : List Bool) (limit : ℕ) : Type 0 where
-  pub kept : (j : ℕ) → j < length marks → get_or marks j false ≡ true → has_index items j ≡ true
-  pub below : (k : ℕ) → k < length items → get_or items k 0 < length marks
+  pub kept : (j : ℕ) → j < length marks → slice_index_or marks j false ≡ true → has_index items j ≡ true
+  pub below : (k : ℕ) → k < length items → slice_index items k < length marks
   pub same : length marks ≡ limit
 
 pub emptied_init : (items : List ℕ) (marks : List Bool) (room : ℕ) → IsMarked items marks room → IsEmptied items marks (length marks)
@@ -35,18 +35,18 @@ emptied_init items marks room m = record {
   same = refl;
 }
 
-pub emptied_more : (items : List ℕ) (marks : List Bool) (limit index : ℕ) → IsEmptied (items ++ index ∷ []) marks limit → IsEmptied items (set marks index false) limit
+pub emptied_more : (items : List ℕ) (marks : List Bool) (limit index : ℕ) → IsEmptied (items ++ index ∷ []) marks limit → IsEmptied items (slice_set marks index false) limit
 emptied_more items marks limit index e = record {
   kept = λ j lt is. elim (cases_eq j index) [
     | inl here ↦
         let within : index < length marks = omega (arith, length-set marks index false) in
         absurd (false≢true (sym (get_or-set_same marks index false false within) ∙ rw here at is))
     | inr other ↦
-        let was : get_or marks j false ≡ true = sym (get_or-set_other marks index j false false other) ∙ is in
-        let had : (has_index items j || (eqb index j || false)) ≡ true = sym (list_any-append (λ i. eqb i j) items (index ∷ [])) ∙ e.kept j (omega (arith, length-set marks index false)) was in
-        elim (or_cases (has_index items j) (eqb index j || false) had) [
+        let was : slice_index_or marks j false ≡ true = sym (get_or-set_other marks index j false false other) ∙ is in
+        let had : (has_index items j || (nat_eq index j || false)) ≡ true = sym (list_any-append (λ i. nat_eq i j) items (index ∷ [])) ∙ e.kept j (omega (arith, length-set marks index false)) was in
+        elim (or_cases (has_index items j) (nat_eq index j || false) had) [
           | inl before ↦ before
-          | inr last ↦ elim (or_cases (eqb index j) false last) [
+          | inr last ↦ elim (or_cases (index == j) false last) [
             | inl same ↦ absurd (other (sym (eqb-true index j same)))
             | inr never ↦ absurd (false≢true never)
           ]
@@ -60,7 +60,7 @@ pub emptied_all : (items left : List ℕ) (marks : List Bool) (limit room : ℕ)
 emptied_all (x ∷ items) left marks limit room e empty gone fits = absurd (omega arith)
 emptied_all [] (x ∷ left) marks limit room e empty gone fits = absurd (omega arith)
 emptied_all [] [] marks limit room e empty gone fits =
-    let none : (j : ℕ) → j < length marks → get_or marks j false ≡ false = λ j lt. elim (cases_Bool (get_or marks j false)) [
+    let none : (j : ℕ) → j < length marks → slice_index_or marks j false ≡ false = λ j lt. elim (cases_Bool (slice_index_or marks j false)) [
       | inl marked ↦ absurd (false≢true (e.kept j lt marked))
       | inr free ↦ free
     ] in

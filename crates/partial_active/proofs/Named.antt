@@ -1,6 +1,6 @@
 -- What a getSet that is answered from orderly words knows of the announcements that it has found, and in which order it
 -- names their indices.
-use Rattle.partial_active.proofs.{Common.{ℕ, ◌≡◌, ◌+◌, ◌-◌, ◌<◌, ◌≤◌, ◌⊎◌, ◌↔◌, min, Bool, true, ◌||◌, ◌&&◌, not, eqb, ltb, cond, Some, None, List, [], ◌∷◌, ◌++◌, length, map, take, get_or, slice_index, inl, inr, refl, sym, ap, subst, ◌∙◌, arith, append-nil, flat_map, list_any, cases_lt, cond_both, eqb-true, eqb-false, take_more, take_all, length_push, ext_get_or, get_or_append_left, get_or_push, map-append, length-map, get_or-map, highest, Step, Load, Layout, IsLayout, list_head, slot_word, list_end, StandsAt, announcement_block, announced_word, list_block, answer_of, announcement_reads_back, Stage, Head, ListLen, ListLow, ListHigh, Counter, Slot, Len, Index, Claim, Write, Publish, Done, has_index, with_index, Buffers, AreFoundFor, begins_at, SetPair, fresh_set, set_step_at, set_step_due, advance_set, advance_set_at, after_walk, at_slot, come_to, pass_interval, note_slot, in_stage, next_words, EndsBelow, is_possible_at, IsPossibleInSet, IsWalking, IsAtSlot, set_goes_at, slot_at, head_at, IsAnnouncement, AtSome, AtSomeStep, own_moments, Announcement, FindsAnnouncement, with_all, each_once, AreRising, AreInOrder, GetSetsFindInOrder, next_word, indices_word, intervals_word, nat_eq_equiv, IsDistinct-push}, Walk.begun, Answered.{walk_begins, walk_next, walk_noted, at_with}, Orders.{Past, IsPairwiseOrderly, LeadsTo, own_leads, moments_of}, Indices.same_named, Known.{IsLoaded, announced_yet}, Moments.{at_later, at_here, at_split, Behind, holds_behind}}
+use Rattle.partial_active.proofs.{Common.{ℕ, ◌≡◌, ◌+◌, ◌-◌, ◌<◌, ◌≤◌, ◌⊎◌, ◌↔◌, min, Bool, true, ◌||◌, ◌&&◌, not, ◌==◌, nat_lt, if◌then◌else◌, Some, None, List, [], ◌∷◌, ◌++◌, length, map, take, slice_index_or, slice_index, inl, inr, refl, sym, ap, subst, ◌∙◌, arith, append-nil, flat_map, list_any, cases_lt, cond_both, eqb-true, eqb-false, take_more, take_all, length_push, ext_get_or, get_or_append_left, get_or_push, map-append, length-map, get_or-map, highest, Step, Load, Layout, IsLayout, list_head, slot_word, list_end, StandsAt, announcement_block, announced_word, list_block, answer_of, announcement_reads_back, Stage, Head, ListLen, ListLow, ListHigh, Counter, Slot, Len, Index, Claim, Write, Publish, Done, has_index, with_index, Buffers, AreFoundFor, begins_at, SetPair, fresh_set, set_step_at, set_step_due, advance_set, advance_set_at, after_walk, at_slot, come_to, pass_interval, note_slot, in_stage, next_words, EndsBelow, is_possible_at, IsPossibleInSet, IsWalking, IsAtSlot, set_goes_at, slot_at, head_at, IsAnnouncement, AtSome, AtSomeStep, own_moments, Announcement, FindsAnnouncement, with_all, each_once, AreRising, AreInOrder, GetSetsFindInOrder, next_word, indices_word, intervals_word, nat_eq_equiv, IsDistinct-push}, Walk.begun, Answered.{walk_begins, walk_next, walk_noted, at_with}, Orders.{Past, IsPairwiseOrderly, LeadsTo, own_leads, moments_of}, Indices.same_named, Known.{IsLoaded, announced_yet}, Moments.{at_later, at_here, at_split, Behind, holds_behind}}
 use Rattle.std.specs.{Prelude.{nat_eq, Contains}, List.IsDistinct}
 use Rattle.std.proofs.lemmas.Grind.{flat_map-append}
 use Rattle.std.proofs.lemmas.List.Elements.{Contains-append_left, Contains-push, Contains-push_cases, Contains-get_or}
@@ -11,9 +11,9 @@ with_all-append xs [] zs = refl
 with_all-append xs (y ∷ ys) zs = with_all-append (with_index xs y) ys zs
 
 -- none is there twice
-pub same_test : (l : List ℕ) (x : ℕ) → list_any (eqb x) l ≡ has_index l x
+pub same_test : (l : List ℕ) (x : ℕ) → list_any (nat_eq x) l ≡ has_index l x
 same_test [] x = refl
-same_test (y ∷ l) x = ap (λ b. b || list_any (eqb x) l) (nat_eq_equiv.symm x y) ∙ ap (λ b. eqb y x || b) (same_test l x)
+same_test (y ∷ l) x = ap (λ b. b || list_any (nat_eq x) l) (nat_eq_equiv.symm x y) ∙ ap (λ b. nat_eq y x || b) (same_test l x)
 
 with_index_distinct : (l : List ℕ) (x : ℕ) → IsDistinct nat_eq l → IsDistinct nat_eq (with_index l x)
 with_index_distinct l x distinct = cond_both (has_index l x) l (l ++ x ∷ []) (IsDistinct nat_eq) (λ e. distinct) (λ e. IsDistinct-push nat_eq_equiv l x distinct (same_test l x ∙ e))
@@ -91,7 +91,7 @@ named_after_walk s start ms p slot within w = cond_both (p.0.noted && not p.0.li
 
 named_at_slot : (s : Layout) (start : SetPair) (ms : Past) (p : SetPair) (slot : ℕ) → slot ≤ p.0.sizes.slots → Named s start ms slot p.1.indices → NamedBy s start ms (at_slot p slot)
 unfolding named_at
-named_at_slot s start ms p slot within w = cond_both (ltb slot p.0.end) (record p.0 { stage = Slot slot }, p.1) (after_walk p) (NamedBy s start ms) (λ e. w)
+named_at_slot s start ms p slot within w = cond_both (nat_lt slot p.0.end) (record p.0 { stage = Slot slot }, p.1) (after_walk p) (NamedBy s start ms) (λ e. w)
     (λ e. named_after_walk s start ms p slot within w)
 
 named_come_to : (s : Layout) (start : SetPair) (ms : Past) (p : SetPair) (slot : ℕ) → IsWalking p slot → Named s start ms slot p.1.indices → NamedBy s start ms (come_to p slot)
@@ -118,7 +118,7 @@ named_more s start ms a i indices whole w =
       rising = subst AreRising (sym slots) (rising_push (map g w.found) a.slot w.rising (λ k inside.
           let place : k < length w.found = let size = length-map w.found g in omega (arith, size, inside) in
           let is = get_or-map g w.found k a 0 place in
-          let below = w.below (get_or w.found k a) (Contains-get_or w.found k a place) in
+          let below = w.below (slice_index_or w.found k a) (Contains-get_or w.found k a place) in
           omega (arith, is, below)));
       below = λ b h. elim (Contains-push_cases w.found a b h) [
         | inl old ↦ let below = w.below b old in omega (arith, below)
@@ -210,13 +210,13 @@ module _ (s : Layout) (layout : IsLayout s) (spent : Bool) (f : Buffers) (first 
   unfolding Steps named_at
   step_list_len at x stage knows =
       let on = nothing_on (quiet_at (ListLen at) stage (λ slot is. let never : ⊥ = cc in never)) p.1.indices knows refl in
-      cond_both (eqb x 0) Counter (ListLow (intervals_word at) x) (λ stage. After (in_stage p stage)) (λ e. on) (λ e. on)
+      cond_both (x == 0) Counter (ListLow (intervals_word at) x) (λ stage. After (in_stage p stage)) (λ e. on) (λ e. on)
 
   step_list_high : (at left lo x : ℕ) → p.0.stage ≡ ListHigh at left lo → Before (ListHigh at left lo) p → Steps (ListHigh at left lo) x
   unfolding Steps named_at
   step_list_high at left lo x stage knows =
       let on = nothing_on (quiet_at (ListHigh at left lo) stage (λ slot is. let never : ⊥ = cc in never)) p.1.indices knows refl in
-      cond_both (eqb left 1) Counter (ListLow (next_word at) (left - 1)) (λ stage. After (record p.0 { stage = stage }, record p.1 { read = p.1.read ++ (lo, x) ∷ [] })) (λ e. on) (λ e. on)
+      cond_both (left == 1) Counter (ListLow (next_word at) (left - 1)) (λ stage. After (record p.0 { stage = stage }, record p.1 { read = p.1.read ++ (lo, x) ∷ [] })) (λ e. on) (λ e. on)
 
   step_counter : (x : ℕ) → p.0.stage ≡ Counter → set_goes_at Counter p → EndsBelow p.1.read x → Before Counter p → Steps Counter x
   unfolding Steps named_at IsDistinct
@@ -272,9 +272,9 @@ module _ (s : Layout) (layout : IsLayout s) (spent : Bool) (f : Buffers) (first 
       named_come_to s (fresh_set s spent, f) ((first ∷ done) ++ now ∷ []) q (slot + 1) walking
       (subst (Named s (fresh_set s spent, f) ((first ∷ done) ++ now ∷ []) (slot + 1)) (sym same)
       (named_higher s (fresh_set s spent, f) ((first ∷ done) ++ now ∷ []) slot (slot + 1) p.1.indices (omega arith) (named_on (quiet small) slot p.1.indices w))) in
-      cond_both (eqb a 0) (come_to p (slot + 1)) (cond (eqb a 1) (come_to (note_slot p slot) (slot + 1)) (in_stage p (Len slot a))) After
+      cond_both (a == 0) (come_to p (slot + 1)) (if a == 1 then come_to (note_slot p slot) (slot + 1) else in_stage p (Len slot a)) After
       (λ e. passes p (walk_next p slot goes) refl (let none = eqb-true a 0 e in omega (arith, none)))
-      (λ not_empty. cond_both (eqb a 1) (come_to (note_slot p slot) (slot + 1)) (in_stage p (Len slot a)) After
+      (λ not_empty. cond_both (a == 1) (come_to (note_slot p slot) (slot + 1)) (in_stage p (Len slot a)) After
       (λ e. passes (note_slot p slot) (walk_noted p slot good goes) refl (let one = eqb-true a 1 e in omega (arith, one)))
       (λ not_vacated. elim (b.orderly.slots slot within) [
         | inl empty ↦ absurd (eqb-false a 0 not_empty empty)
@@ -301,7 +301,7 @@ module _ (s : Layout) (layout : IsLayout s) (spent : Bool) (f : Buffers) (first 
       let count : slice_index now at ≡ length a.named = (announcement_reads_back now at a.named (stands slot at a.named goes.0 was)).count in
       let quiet = quiet_at (Len slot at) stage (λ slot is. let never : ⊥ = cc in never) in
       let on = reading_on quiet a 0 0 p.1.indices p.1.indices (λ l e. e) knows.2 in
-      rw count (cond_both (eqb (length a.named) 0) (come_to p (slot + 1)) (in_stage p (Index slot (indices_word at) (length a.named))) After
+      rw count (cond_both ((length a.named) == 0) (come_to p (slot + 1)) (in_stage p (Index slot (indices_word at) (length a.named))) After
       (λ e. let none = eqb-true (length a.named) 0 e in named_come_to s (fresh_set s spent, f) ((first ∷ done) ++ now ∷ []) p (slot + 1) (walk_next p slot goes.0)
       (subst (λ n. Named s (fresh_set s spent, f) ((first ∷ done) ++ now ∷ []) (n + 1) p.1.indices) same
       (named_more s (fresh_set s spent, f) ((first ∷ done) ++ now ∷ []) a 0 p.1.indices (omega (arith, none)) on)))
@@ -326,7 +326,7 @@ module _ (s : Layout) (layout : IsLayout s) (spent : Bool) (f : Buffers) (first 
       let one_more : (l : List ℕ) → p.1.indices ≡ with_all l (take i a.named) → with_index p.1.indices x ≡ with_all l (take (i + 1) a.named) = λ l e.
       ap (λ (m : List ℕ). with_index m x) e ∙ sym (with_all-append l (take i a.named) (x ∷ [])) ∙ ap (with_all l) (sym (take_more a.named i 0 lt)) in
       let on = reading_on quiet a i (i + 1) p.1.indices (with_index p.1.indices x) one_more knows.4 in
-      rw word (cond_both (eqb left 1) (come_to q (slot + 1)) (in_stage q (Index slot (next_word at) (left - 1))) After
+      rw word (cond_both (left == 1) (come_to q (slot + 1)) (in_stage q (Index slot (next_word at) (left - 1))) After
       (λ e. let last = eqb-true left 1 e in named_come_to s (fresh_set s spent, f) ((first ∷ done) ++ now ∷ []) q (slot + 1) (walk_next q slot (at_with p slot x goes.0))
       (subst (λ n. Named s (fresh_set s spent, f) ((first ∷ done) ++ now ∷ []) (n + 1) (with_index p.1.indices x)) same
       (named_more s (fresh_set s spent, f) ((first ∷ done) ++ now ∷ []) a (i + 1) (with_index p.1.indices x) (omega (arith, last, count)) on)))
@@ -357,11 +357,11 @@ module _ (s : Layout) (layout : IsLayout s) (spent : Bool) (f : Buffers) (first 
   step_known (Index slot at left) step is possible e goes knows = answered (Steps (Index slot at left)) (Load at) step e (step_index slot at left is goes knows)
   step_known (Claim count) step is possible e goes knows =
       let on = ended_on (Claim count) is (λ slot same. let never : ⊥ = cc in never) knows in
-      cond_both (ltb (list_end p.0.sizes) (answer_of now step + count)) (record p.0 { lists_spent = true; stage = Done }, p.1)
+      cond_both (nat_lt (list_end p.0.sizes) (answer_of now step + count)) (record p.0 { lists_spent = true; stage = Done }, p.1)
       (in_stage p (Write (answer_of now step) 0 count (length p.1.next))) After (λ e. on) (λ e. on)
   step_known (Write at k count word) step is possible e goes knows =
       let on = ended_on (Write at k count word) is (λ slot same. let never : ⊥ = cc in never) knows in
-      cond_both (eqb (k + 1) count) (Publish at) (Write at (k + 1) count (slice_index (list_block p.1.next) (k + 1))) (λ stage. After (in_stage p stage)) (λ e. on) (λ e. on)
+      cond_both ((k + 1) == count) (Publish at) (Write at (k + 1) count (slice_index (list_block p.1.next) (k + 1))) (λ stage. After (in_stage p stage)) (λ e. on) (λ e. on)
   step_known (Publish at) step is possible e goes knows = ended_on (Publish at) is (λ slot same. let never : ⊥ = cc in never) knows
   step_known Done step is possible e goes knows = let never : ⊥ = cc in absurd never
 
@@ -372,7 +372,7 @@ named_begin s spent f first =
     let x = head_at s first in
     let p : SetPair = (fresh_set s spent, f) in
     let none : (a : Announcement) → AtSomeStep (FindsAnnouncement s a) p (first ∷ []) → ⊥ = λ a h. elim h [ inl here ↦ let bad : Head ≡ Slot a.slot = here.0 in cc | inr never ↦ never ] in
-    cond_both (eqb x 0) Counter (ListLen x) (λ stage. NamedBy s p (first ∷ []) (record p.0 { head = x; stage = stage }, record p.1 { indices = []; read = []; next = [] }))
+    cond_both (x == 0) Counter (ListLen x) (λ stage. NamedBy s p (first ∷ []) (record p.0 { head = x; stage = stage }, record p.1 { indices = []; read = []; next = [] }))
     (λ e. (refl, none)) (λ e. (refl, none))
 
 -- a finished getSet

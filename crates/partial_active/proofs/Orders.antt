@@ -1,5 +1,5 @@
 -- The words of each two moments of an orderly run: the later ones come from the earlier ones.
-use Rattle.partial_active.proofs.Common.{ℕ, ◌≡◌, ◌<◌, ◌⊎◌, ◌++◌, eqb, Bool, true, false, cond, Some, MatchBool, List, [], ◌∷◌, inl, inr, refl, sym, ◌∙◌, arith, Ranges, Step, Layout, StandsAt, answer_of, words_after, announcement_block, list_block, SetPair, set_step_due, advance_set, slot_at, head_at, IsAnnouncement, IsVacatedList, Orderly, Publishes, OnEach, AtSome, IsOrderlyEvent, AreOrderly, IsOrderlyRun, words_behind, own_moments, MakesOwn}
+use Rattle.partial_active.proofs.Common.{ℕ, ◌≡◌, ◌<◌, ◌⊎◌, ◌++◌, ◌==◌, Bool, true, false, if◌then◌else◌, Some, MatchBool, List, [], ◌∷◌, inl, inr, refl, sym, ◌∙◌, arith, Ranges, Step, Layout, StandsAt, answer_of, words_after, announcement_block, list_block, SetPair, set_step_due, advance_set, slot_at, head_at, IsAnnouncement, IsVacatedList, Orderly, Publishes, OnEach, AtSome, IsOrderlyEvent, AreOrderly, IsOrderlyRun, words_behind, own_moments, MakesOwn}
 use Rattle.partial_words.specs.declared.step.Event.{Event}
 
 -- the moments behind, the latest first
@@ -69,7 +69,7 @@ own_orderly s own all past words [] fewer orderly comes run = (orderly, fewer wo
 own_orderly s own all past words (e ∷ es) fewer orderly comes run =
     let next = words_after words e.step in
     let behind = event_comes s all words next run.0 comes in
-    elim (eqb e.port own) as (λ b. IsPairwiseOrderly s past (cond b (words ∷ own_moments own next es) (own_moments own next es) ++ words_behind next es ∷ [])) [
+    elim (e.port == own) as (λ b. IsPairwiseOrderly s past ((if b then words ∷ own_moments own next es else own_moments own next es) ++ words_behind next es ∷ [])) [
       | true ↦ (orderly, fewer words comes, own_orderly s own (words ∷ all) (words ∷ past) next es (λ w h. (h.0, fewer w h.1)) run.0.orderly behind run.1)
       | false ↦ own_orderly s own (words ∷ all) past next es (λ w h. fewer w h.1) run.0.orderly behind run.1
     ]
@@ -94,9 +94,9 @@ own_leads own p q words (e ∷ es) makes =
     let rest = own_moments own after es in
     let Mine : Type 0 = (set_step_due p.0 ≡ Some e.step) × MakesOwn own (advance_set p (answer_of words e.step)) after es q in
     let Other : Type 0 = MakesOwn own p after es q in
-    let by_port : (b : Bool) → MatchBool b Mine Other → LeadsTo p (cond b (words ∷ rest) rest) q
-    = λ b. elim b as (λ b. MatchBool b Mine Other → LeadsTo p (cond b (words ∷ rest) rest) q) [
+    let by_port : (b : Bool) → MatchBool b Mine Other → LeadsTo p (if b then words ∷ rest else rest) q
+    = λ b. elim b as (λ b. MatchBool b Mine Other → LeadsTo p (if b then words ∷ rest else rest) q) [
       | true ↦ λ h. (e.step, h.0, own_leads own (advance_set p (answer_of words e.step)) q after es h.1)
       | false ↦ λ h. own_leads own p q after es h
     ] in
-    by_port (eqb e.port own) makes
+    by_port (e.port == own) makes

@@ -1,5 +1,5 @@
 -- The walk along the slots: the machine and its buffers go on together, and the steps left fall.
-use Rattle.partial_active.proofs.{Common.{ℕ, ◌≡◌, ◌+◌, ◌-◌, ◌<◌, ◌≤◌, true, false, ◌&&◌, not, eqb, ltb, length, inl, inr, refl, arith, cases_eq, cond_both, and_parts, and_cases, ltb-true, ltb-false, eqb-true, eqb-false, lowest, highest, Layout, AreFoundFor, begins_at, LiesBehind, Slot, Claim, Done, SetPair, after_walk, at_slot, come_to, pass_interval, next_words, set_left, walk_left, publish_left, EndsBelow, SetGoesTogether, IsWalking, mul-le-mul_right}, Extended.{length_normal, normal-extended, below-extended}}
+use Rattle.partial_active.proofs.{Common.{ℕ, ◌≡◌, ◌+◌, ◌-◌, ◌<◌, ◌≤◌, true, false, ◌&&◌, not, ◌==◌, nat_lt, length, inl, inr, refl, arith, cases_eq, cond_both, and_parts, and_cases, ltb-true, ltb-false, eqb-true, eqb-false, lowest, highest, Layout, AreFoundFor, begins_at, LiesBehind, Slot, Claim, Done, SetPair, after_walk, at_slot, come_to, pass_interval, next_words, set_left, walk_left, publish_left, EndsBelow, SetGoesTogether, IsWalking, mul-le-mul_right}, Extended.{length_normal, normal-extended, below-extended}}
 
 -- fewer slots, fewer steps
 pub walk_left_mono : (s : Layout) (a b : ℕ) → a ≤ b → walk_left s b ≤ walk_left s a
@@ -19,7 +19,7 @@ module _ (p : SetPair) (slot : ℕ) (walking : IsWalking p slot) where
   -- what begins at the slot
   pub begun : begins_at p.1.read p.0.passed slot ≡ true → (p.0.passed < length p.1.read) × (lowest p.1.read p.0.passed ≡ slot)
   begun e =
-      let both = and_parts (ltb p.0.passed (length p.1.read)) (eqb (lowest p.1.read p.0.passed) slot) e in
+      let both = and_parts (nat_lt p.0.passed (length p.1.read)) ((lowest p.1.read p.0.passed) == slot) e in
       (ltb-true p.0.passed (length p.1.read) both.0, eqb-true (lowest p.1.read p.0.passed) slot both.1)
 
   -- that interval lies behind the next list
@@ -57,7 +57,7 @@ module _ (p : SetPair) (slot : ℕ) (walking : IsWalking p slot) where
   outside_on e k le lt = walking.list.normal.apart p.0.passed k (omega arith) lt
 
   pub outside_here : begins_at p.1.read p.0.passed slot ≡ false → (k : ℕ) → p.0.passed ≤ k → k < length p.1.read → slot < lowest p.1.read k
-  outside_here e k le lt = elim (and_cases (ltb p.0.passed (length p.1.read)) (eqb (lowest p.1.read p.0.passed) slot) e) [
+  outside_here e k le lt = elim (and_cases (nat_lt p.0.passed (length p.1.read)) ((lowest p.1.read p.0.passed) == slot) e) [
     | inl none ↦ absurd (omega (arith, ltb-false p.0.passed (length p.1.read) none))
     | inr apart ↦ elim (cases_eq k p.0.passed) [
       | inl here ↦ elim (cases_eq (lowest p.1.read p.0.passed) slot) [
@@ -79,7 +79,7 @@ module _ (p : SetPair) (slot : ℕ) (walking : IsWalking p slot) where
       (λ e. omega arith)
 
   pub at_slot_goes : AreFoundFor p.0.sizes p.1 → ((k : ℕ) → p.0.passed ≤ k → k < length p.1.read → slot < lowest p.1.read k) → SetGoesTogether (at_slot p slot)
-  at_slot_goes sizes outside = cond_both (ltb slot p.0.end) (record p.0 { stage = Slot slot }, p.1) (after_walk p) (λ q. SetGoesTogether q)
+  at_slot_goes sizes outside = cond_both (nat_lt slot p.0.end) (record p.0 { stage = Slot slot }, p.1) (after_walk p) (λ q. SetGoesTogether q)
       (λ e. record {
         sizes = sizes;
         stage = record {
@@ -101,7 +101,7 @@ module _ (p : SetPair) (slot : ℕ) (walking : IsWalking p slot) where
       (λ e. after_walk_goes sizes)
 
   pub at_slot_left : set_left (at_slot p slot).0 ≤ walk_left p.0.sizes slot
-  at_slot_left = cond_both (ltb slot p.0.end) (record p.0 { stage = Slot slot }, p.1) (after_walk p) (λ (q : SetPair). set_left q.0 ≤ walk_left p.0.sizes slot)
+  at_slot_left = cond_both (nat_lt slot p.0.end) (record p.0 { stage = Slot slot }, p.1) (after_walk p) (λ (q : SetPair). set_left q.0 ≤ walk_left p.0.sizes slot)
       (λ e. omega arith)
       (λ e. omega (arith, after_walk_left))
 

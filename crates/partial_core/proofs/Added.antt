@@ -1,5 +1,5 @@
 -- The entry that a step adds to the history: by the stage of the machine that makes it, and by the step and the words.
-use Rattle.partial_core.proofs.{Common.{ℕ, ◌≡◌, ◌<◌, ◌≤◌, ◌==◌, Bool, true, false, cond, Some, None, List, [], ◌∷◌, length, get_or, refl, sym, ap, subst, ◌∙◌, arith, ⊤, nat_lt, is_some, if◌then◌else◌, lt-ltb, Applied, Step, Load, Store, Exchange, Add, Layout, slot_word, record_value, view_word, answer_of, join_step, JoinStage, Claiming, Storing, Joined, Spent, Change, Stage, CoreState, step_at, is_sound_at, added_by, PublishesWithin}, MidCalls.view_loads}
+use Rattle.partial_core.proofs.{Common.{ℕ, ◌≡◌, ◌<◌, ◌≤◌, ◌==◌, Bool, true, false, Some, None, List, [], ◌∷◌, length, slice_index, refl, sym, ap, subst, ◌∙◌, arith, ⊤, nat_lt, is_some, if◌then◌else◌, lt-ltb, Applied, Step, Load, Store, Exchange, Add, Layout, slot_word, record_value, view_word, answer_of, join_step, JoinStage, Claiming, Storing, Joined, Spent, Change, Stage, CoreState, step_at, is_sound_at, added_by, PublishesWithin}, MidCalls.view_loads}
 use Rattle.partial_model.proofs.ListLemmas.{some_same}
 use Rattle.partial_active.specs.declared.get_set.Stage.{Stage as SetStage}
 use Rattle.partial_active.specs.declared.get_set.Stage.TheVariants as set
@@ -27,12 +27,12 @@ pub record StepAdds (z : Layout) (port : ℕ) (t : Stage) (words : List ℕ) (st
   pub within : PublishesWithin z words step
 
 adds_quiet : (z : Layout) (port : ℕ) (t : Stage) (words : List ℕ) (step : Step) → IsQuiet z step → ((a : ℕ) → added_at port t a ≡ []) → StepAdds z port t words step
-adds_quiet z port t words (Load w) quiet none = record { entries = sym (none (get_or words w 0)); within = tt }
+adds_quiet z port t words (Load w) quiet none = record { entries = sym (none (slice_index words w)); within = tt }
 adds_quiet z port t words (Store w v) quiet none = record { entries = sym (none 0); within = tt }
-adds_quiet z port t words (Add w v) quiet none = record { entries = sym (none (get_or words w 0)); within = tt }
+adds_quiet z port t words (Add w v) quiet none = record { entries = sym (none (slice_index words w)); within = tt }
 adds_quiet z port t words (Exchange w old new) quiet none = record {
-  entries = ap (λ (c : Bool). cond c (cond (get_or words w 0 == old) (record { port = port; component = w; value = record_value words new; stamp = new } ∷ []) []) [])
-      (not_below w z.m quiet) ∙ sym (none (get_or words w 0));
+  entries = ap (λ (c : Bool). if c then (if slice_index words w == old then record { port = port; component = w; value = record_value words new; stamp = new } ∷ [] else []) else [])
+      (not_below w z.m quiet) ∙ sym (none (slice_index words w));
   within = λ below. absurd (omega (arith, quiet, below));
 }
 
@@ -61,7 +61,7 @@ joining_at z y at (Storing slot) step e = subst (IsQuiet z) (some_same e) tt
 joining_at z y at (Joined slot) step e = absurd cc
 joining_at z y at Spent step e = absurd cc
 
-leaving_at : (z y : Layout) (slot : ℕ) (b : Bool) (step : Step) → cond b None (Some (Store (slot_word y slot) 1)) ≡ Some step → IsQuiet z step
+leaving_at : (z y : Layout) (slot : ℕ) (b : Bool) (step : Step) → (if b then None else Some (Store (slot_word y slot) 1)) ≡ Some step → IsQuiet z step
 leaving_at z y slot true step e = absurd cc
 leaving_at z y slot false step e = subst (IsQuiet z) (some_same e) tt
 
@@ -73,11 +73,11 @@ pub record IsExchange (z : Layout) (words : List ℕ) (c : Change) (at : ℕ) : 
 
 exchange_adds : (z : Layout) (port : ℕ) (words : List ℕ) (c : Change) (old at : ℕ) → IsExchange z words c at → StepAdds z port (Exchanging c old at) words (Exchange c.component old at)
 exchange_adds z port words c old at x =
-    let found = get_or words c.component 0 in
+    let found = slice_index words c.component in
     record {
-      entries = ap (λ (b : Bool). cond b (cond (found == old) (record { port = port; component = c.component; value = record_value words at; stamp = at } ∷ []) []) [])
+      entries = ap (λ (b : Bool). if b then (if found == old then record { port = port; component = c.component; value = record_value words at; stamp = at } ∷ [] else []) else [])
           (lt-ltb c.component z.m x.component)
-          ∙ ap (λ v. cond (found == old) (record { port = port; component = c.component; value = v; stamp = at } ∷ []) []) x.value;
+          ∙ ap (λ v. if found == old then record { port = port; component = c.component; value = v; stamp = at } ∷ [] else []) x.value;
       within = λ _. x.within;
     }
 

@@ -1,5 +1,5 @@
 -- The one law of steps, over all stages, and how a call begins.
-use Rattle.partial_core.proofs.{Common.{ℕ, ◌≡◌, ◌<◌, ◌≤◌, ◌++◌, ◌⊎◌, Bool, true, false, cond, Some, None, List, [], ◌∷◌, length, take, get_or, refl, sym, ap, subst, ◌∙◌, inl, inr, arith, IfSome, false≢true, append-nil, take_all, Applied, Opening, LegalNotes, seen_by, places_by, Step, Add, Layout, IsLayout, pool_counter, list_base, pool_end, total, announcement_size, answer_of, words_after, Change, Stage, CoreState, lists_spent, record_size, advance, step_at, step_of, reply_of, is_begun, is_at_rest, IsPossible, IsBehind, size_few, answers_lead_on, Holding, unpublished, other_holdings, IsDue, IsLoaded, IsPublished, loads_are_true, Part, core_of, port_of, HasBegun, IsLedTo, IsMarkedLike, has_no_step, holding_of, holdings, joined_since, IsKnown, begun_with, kept_with, since_with, past_with, added_by, AreNotesOf, LeadsOn, StepsStayLawful, PartAmong, LawfulAmong, memory_after}, Added.{added_at, IsExchange, StepAdds, step_adds}, Parts.{IsKeptAmong, changed, gone, gone_core, all_at, holdings_split, once_same}, Ports.fits_here, Steps.{LeadsAt, holding_in, known_here, sizes_here, sound_here, sound_at, port_here, memory_here, memory_at}, Reading.{read_begun, value_loaded, update_begun, viewing_leads, scanning_leads}, GetSetSteps.getting_leads, Claims.{record_claimed, announcement_claimed, announcement_stored}, Joins.{same_step, joining_leads}, Leaves.{leave_due, leaves}, Exchange.record_exchanged, Stored.record_stored}
+use Rattle.partial_core.proofs.{Common.{ℕ, ◌≡◌, ◌<◌, ◌≤◌, ◌++◌, ◌⊎◌, Bool, true, false, if◌then◌else◌, Some, None, List, [], ◌∷◌, length, take, slice_index, refl, sym, ap, subst, ◌∙◌, inl, inr, arith, IfSome, false≢true, append-nil, take_all, Applied, Opening, LegalNotes, seen_by, places_by, Step, Add, Layout, IsLayout, pool_counter, list_base, pool_end, total, announcement_size, answer_of, words_after, Change, Stage, CoreState, lists_spent, record_size, advance, step_at, step_of, reply_of, is_begun, is_at_rest, IsPossible, IsBehind, size_few, answers_lead_on, Holding, unpublished, other_holdings, IsDue, IsLoaded, IsPublished, loads_are_true, Part, core_of, port_of, HasBegun, IsLedTo, IsMarkedLike, has_no_step, holding_of, holdings, joined_since, IsKnown, begun_with, kept_with, since_with, past_with, added_by, AreNotesOf, LeadsOn, StepsStayLawful, PartAmong, LawfulAmong, memory_after}, Added.{added_at, IsExchange, StepAdds, step_adds}, Parts.{IsKeptAmong, changed, gone, gone_core, all_at, holdings_split, once_same}, Ports.fits_here, Steps.{LeadsAt, holding_in, known_here, sizes_here, sound_here, sound_at, port_here, memory_here, memory_at}, Reading.{read_begun, value_loaded, update_begun, viewing_leads, scanning_leads}, GetSetSteps.getting_leads, Claims.{record_claimed, announcement_claimed, announcement_stored}, Joins.{same_step, joining_leads}, Leaves.{leave_due, leaves}, Exchange.record_exchanged, Stored.record_stored}
 use Rattle.partial_machine.specs.declared.stage.Stage.TheVariants.{Idle, ReadBegun, LoadingValue, UpdateBegun, GettingSet, Viewing, ClaimingRecord, StoringRecord, Exchanging, ScanBegun, StoringAnnouncement, Joining, Scanning, Leaving, Finished}
 
 -- the part with its call begun
@@ -14,20 +14,20 @@ pub started_fresh : (c : CoreState) (x : Part) → is_begun c.stage ≡ true →
 started_fresh c x begun = ap (λ (b : Bool). record {
   seen = x.seen;
   notes = x.notes;
-  begun = cond b c x.begun;
-  kept = cond b [] x.kept;
-  since = cond b (length x.seen) x.since;
-  past = cond b (length x.notes) x.past;
+  begun = if b then c else x.begun;
+  kept = if b then [] else x.kept;
+  since = if b then length x.seen else x.since;
+  past = if b then length x.notes else x.past;
 }) (sym begun)
 
 pub started_same : (c : CoreState) (x : Part) → is_begun c.stage ≡ false → x ≡ started c x
 started_same c x begun = ap (λ (b : Bool). record {
   seen = x.seen;
   notes = x.notes;
-  begun = cond b c x.begun;
-  kept = cond b [] x.kept;
-  since = cond b (length x.seen) x.since;
-  past = cond b (length x.notes) x.past;
+  begun = if b then c else x.begun;
+  kept = if b then [] else x.kept;
+  since = if b then length x.seen else x.since;
+  past = if b then length x.notes else x.past;
 }) (sym begun)
 
 -- what a machine holds that has no call under way, or one that has made no step
@@ -194,15 +194,15 @@ module _ (z : Layout) (o : Opening) (m : PartAmong) (c : CoreState) (step : Step
 
   -- a published word stays
   then_keeps : (n : ℕ) → list_base z ≤ n → n < total z → IsPublished z words (unpublished (holdings (before ++ x ∷ after))) n →
-      (get_or (words_after words step) n 0 ≡ get_or words n 0) × IsPublished z (words_after words step)
+      (slice_index (words_after words step) n ≡ slice_index words n) × IsPublished z (words_after words step)
       (unpublished (holdings (before ++ gone (started c x) (log ++ added_by z (port_of x) words step) (answer_of words step) leads.new ∷ after))) n
   then_keeps n low high published =
       let same : holdings (before ++ x ∷ after) ≡ holdings (before ++ started c x ∷ after) = holdings_split before x after ∙ ap (λ (h : Holding). holdings before ++ h ∷ holdings after)
       (sym holds) ∙ sym (holdings_split before (started c x) after) in
       let here : IsPublished z words (unpublished (holdings (before ++ started c x ∷ after))) n = subst (λ (hs : List Holding). IsPublished z words (unpublished hs) n) same published in
-      let loaded = leads.loads n (record { answer = get_or words n 0; at = length log }) (loads_are_true z o words (holdings (before ++ started c x ∷ after)) log n w.memory high (λ _. here)) in
+      let loaded = leads.loads n (record { answer = slice_index words n; at = length log }) (loads_are_true z o words (holdings (before ++ started c x ∷ after)) log n w.memory high (λ _. here)) in
       let block = (subst (λ (l : List Applied). IsLoaded z o (words_after words step) (holdings (before ++ gone (started c x) l (answer_of words step) leads.new ∷ after)) l n
-      (record { answer = get_or words n 0; at = length log })) grown loaded).block low in
+      (record { answer = slice_index words n; at = length log })) grown loaded).block low in
       (sym block.0, block.1)
 
   pub leads_on : LeadsOn z o m c step

@@ -1,5 +1,5 @@
 -- A port's call under way: where its answers lead its machine, and what it knows then.
-use Rattle.partial_core.proofs.{Common.{ℕ, true, ◌≡◌, ◌<◌, ◌≤◌, ◌++◌, cond, List, [], ◌∷◌, length, refl, sym, ap, subst, ◌∙◌, arith, false≢true, cond_both, Applied, Opening, Layout, IsLayout, announcement_size, Stage, Idle, ReadBegun, UpdateBegun, ScanBegun, StoringAnnouncement, Finished, CoreState, at_stage, expects, fits_pool, pool_refused, begin_getting, advance_at, advance, step_at, IsSound, IsPossibleAt, Holding, LawfulWords, KeptAnswer, led_by, joins_at, joined_from, IsTrueYet, AreAnswersKept, has_no_step, is_sound_at, Reply}, MidCalls.{Knows, on_at}}
+use Rattle.partial_core.proofs.{Common.{ℕ, true, ◌≡◌, ◌<◌, ◌≤◌, ◌++◌, if◌then◌else◌, List, [], ◌∷◌, length, refl, sym, ap, subst, ◌∙◌, arith, false≢true, cond_both, Applied, Opening, Layout, IsLayout, announcement_size, Stage, Idle, ReadBegun, UpdateBegun, ScanBegun, StoringAnnouncement, Finished, CoreState, at_stage, expects, fits_pool, pool_refused, begin_getting, advance_at, advance, step_at, IsSound, IsPossibleAt, Holding, LawfulWords, KeptAnswer, led_by, joins_at, joined_from, IsTrueYet, AreAnswersKept, has_no_step, is_sound_at, Reply}, MidCalls.{Knows, on_at}}
 use Rattle.partial_machine.proofs.Sound.{Keeps, kept}
 
 -- how long the history was at the last of the answers
@@ -13,9 +13,9 @@ led_push s [] k = refl
 led_push s (x ∷ ks) k = led_push (advance s x.answer) ks k
 
 pub joined_push : (since : ℕ) (s : CoreState) (ks : List KeptAnswer) (k : KeptAnswer) →
-    joined_from since s (ks ++ k ∷ []) ≡ cond (joins_at (led_by s ks) (led_by s ks).stage) k.at (joined_from since s ks)
+    joined_from since s (ks ++ k ∷ []) ≡ (if joins_at (led_by s ks) (led_by s ks).stage then k.at else joined_from since s ks)
 joined_push since s [] k = refl
-joined_push since s (x ∷ ks) k = joined_push (cond (joins_at s s.stage) x.at since) (advance s x.answer) ks k
+joined_push since s (x ∷ ks) k = joined_push (if joins_at s s.stage then x.at else since) (advance s x.answer) ks k
 
 -- what is left of a machine by its answers
 pub record IsLed (z : Layout) (s t : CoreState) : Type 0 where
@@ -67,12 +67,12 @@ module _ (z : Layout) (o : Opening) (words : List ℕ) (hs : List Holding) (log 
       let one : Keeps s (advance s k.answer) = kept s k.answer (subst IsLayout (sym sizes) layout) sound kept_all.0.possible in
       let order = g.order in
       let behind = kept_all.0.behind in
-      let next : HasGone first (cond (joins_at s s.stage) k.at since) k.at (advance s k.answer) = record {
+      let next : HasGone first (if joins_at s s.stage then k.at else since) k.at (advance s k.answer) = record {
         order = omega (arith, order, behind);
         inside = kept_all.0.within;
         knows = on_at z o words hs log w begun first since high order s sizes sound k behind kept_all.0.within s.stage refl g.knows kept_all.0.possible kept_all.0.true_yet;
       } in
-      led_on first (cond (joins_at s s.stage) k.at since) k.at (advance s k.answer) ks (one.sizes ∙ sizes) one.sound next kept_all.1
+      led_on first (if joins_at s s.stage then k.at else since) k.at (advance s k.answer) ks (one.sizes ∙ sizes) one.sound next kept_all.1
 
   -- a call that has made a step
   pub called_on : (low : ℕ) (k : KeptAnswer) (ks : List KeptAnswer) → begun.sizes ≡ z → IsSound begun → has_no_step begun.stage ≡ true → AreAnswersKept z o words hs log low begun (k ∷ ks) →
@@ -80,8 +80,8 @@ module _ (z : Layout) (o : Opening) (words : List ℕ) (hs : List Holding) (log 
   unfolding last_at
   called_on low k ks sizes sound may kept_all =
       let one : Keeps begun (advance begun k.answer) = kept begun k.answer (subst IsLayout (sym sizes) layout) sound kept_all.0.possible in
-      led_on k.at (cond (joins_at begun begun.stage) k.at 0) k.at (advance begun k.answer) ks (one.sizes ∙ sizes) one.sound (record {
+      led_on k.at (if joins_at begun begun.stage then k.at else 0) k.at (advance begun k.answer) ks (one.sizes ∙ sizes) one.sound (record {
         order = omega arith;
         inside = kept_all.0.within;
-        knows = first_on (cond (joins_at begun begun.stage) k.at 0) begun k begun.stage refl sizes refl may sound.stage kept_all.0.possible kept_all.0.true_yet;
+        knows = first_on (if joins_at begun begun.stage then k.at else 0) begun k begun.stage refl sizes refl may sound.stage kept_all.0.possible kept_all.0.true_yet;
       }) kept_all.1

@@ -1,12 +1,12 @@
 -- The claims of pool words, and the stores of an announcement.
-use Rattle.partial_core.proofs.{Common.{ℕ, suc, ◌≡◌, ◌+◌, ◌<◌, ◌≤◌, ◌==◌, ◌++◌, Bool, true, false, cond, Option, Some, None, List, [], ◌∷◌, length, map, get_or, refl, sym, ap, subst, ◌∙◌, arith, slice_index, ne_eqb, ltb-true, ltb-false, eqb-true, Opening, MayBeRefused, Store, Add, Layout, pool_counter, pool_end, greatest_record, words_after, announcement_block, announcement_size, record_block, plain_record_size, full_record_size, length-record_block, Change, Stage, ClaimingRecord, StoringRecord, ScanBegun, StoringAnnouncement, CoreState, at_stage, step_at, record_size, record_words, fits_pool, pool_refused, begin_joining, IsPoolCount, size_few, Holding, Own, Pool, claims_are_kept, stores_are_kept, is_sound_at, core_of, holding_of, holding_at, holdings, joined_since, call_at, update_call, PartAmong, LawfulAmong, PoolWords, counter_bound, refusals_are_kept}, Leaves.names_all, Parts.{LawfulWith, IsKeptAmong}, Steps.{LeadsAt, holding_in, known_here, sizes_here, sound_here, sound_at, memory_at, going, quiet}, Reading.begun_here, StoredFacts.length_record}
+use Rattle.partial_core.proofs.{Common.{ℕ, suc, ◌≡◌, ◌+◌, ◌<◌, ◌≤◌, ◌==◌, ◌++◌, Bool, true, false, if◌then◌else◌, Option, Some, None, List, [], ◌∷◌, length, map, refl, sym, ap, subst, ◌∙◌, arith, slice_index, ne_eqb, ltb-true, ltb-false, eqb-true, Opening, MayBeRefused, Store, Add, Layout, pool_counter, pool_end, greatest_record, words_after, announcement_block, announcement_size, record_block, plain_record_size, full_record_size, length-record_block, Change, Stage, ClaimingRecord, StoringRecord, ScanBegun, StoringAnnouncement, CoreState, at_stage, step_at, record_size, record_words, fits_pool, pool_refused, begin_joining, IsPoolCount, size_few, Holding, Own, Pool, claims_are_kept, stores_are_kept, is_sound_at, core_of, holding_of, holding_at, holdings, joined_since, call_at, update_call, PartAmong, LawfulAmong, PoolWords, counter_bound, refusals_are_kept}, Leaves.names_all, Parts.{LawfulWith, IsKeptAmong}, Steps.{LeadsAt, holding_in, known_here, sizes_here, sound_here, sound_at, memory_at, going, quiet}, Reading.begun_here, StoredFacts.length_record}
 use Rattle.partial_model.specs.declared.call.{Call.Call, Refused.Refused}
 
 -- how many words a record has, by its pairs
-length_block : (prev value view : ℕ) (pairs : List (ℕ × ℕ)) → length (record_block prev value view pairs) ≡ cond (length pairs == 0) plain_record_size (full_record_size (length pairs))
+length_block : (prev value view : ℕ) (pairs : List (ℕ × ℕ)) → length (record_block prev value view pairs) ≡ (if length pairs == 0 then plain_record_size else full_record_size (length pairs))
 length_block prev value view [] = refl
 length_block prev value view (p ∷ pairs) = length-record_block prev value view p pairs
-    ∙ sym (ap (λ b. cond b plain_record_size (full_record_size (length (p ∷ pairs)))) (ne_eqb (length (p ∷ pairs)) 0 (λ e. omega (arith, e))))
+    ∙ sym (ap (λ b. if b then plain_record_size else full_record_size (length (p ∷ pairs))) (ne_eqb (length (p ∷ pairs)) 0 (λ e. omega (arith, e))))
 
 length_of_map : (f : ℕ → ℕ × ℕ) (js : List ℕ) → length (map f js) ≡ length js
 length_of_map f [] = refl
@@ -19,7 +19,7 @@ module _ (z : Layout) (o : Opening) (m : PartAmong) (w : LawfulAmong z o m) wher
   s = core_of x
 
   abbrev a : ℕ
-  a = get_or words (pool_counter z) 0
+  a = slice_index words (pool_counter z)
 
   pool_possible : IsPoolCount s.sizes a
   pool_possible =
@@ -69,7 +69,7 @@ module _ (z : Layout) (o : Opening) (m : PartAmong) (w : LawfulAmong z o m) wher
           (claim_keeps (holding_in s (ClaimingRecord c old) (joined_since x)) (record_size s) (record_words s c old a) (memory_at z o m w (ClaimingRecord c old) e) refl
           refl (length_record s c old a) fits) in
           quiet z o m w (ClaimingRecord c old) (Add (pool_counter z) (record_size s)) (at_stage s (StoringRecord c old a 0))
-          (holding_at (at_stage s (StoringRecord c old a 0)) (joined_since x)) e due (ap (λ (b : Bool). cond b (at_stage s (StoringRecord c old a 0)) (pool_refused s)) fits) refl counter_inside
+          (holding_at (at_stage s (StoringRecord c old a 0)) (joined_since x)) e due (ap (λ (b : Bool). if b then at_stage s (StoringRecord c old a 0) else pool_refused s) fits) refl counter_inside
           pool_possible refl keeps (λ ks is. tt) refl refl
       either false over =
           let sound = sound_at z o m w (ClaimingRecord c old) e in
@@ -84,7 +84,7 @@ module _ (z : Layout) (o : Opening) (m : PartAmong) (w : LawfulAmong z o m) wher
           let k = known_here z o m w in
           let below : c.component < x.begun.sizes.m = (subst (is_sound_at x.begun) called k.sound.stage).0 in
           quiet z o m w (ClaimingRecord c old) (Add (pool_counter z) (record_size s)) (pool_refused s) (holding_at (pool_refused s) (joined_since x)) e due
-          (ap (λ (b : Bool). cond b (at_stage s (StoringRecord c old a 0)) (pool_refused s)) over) refl counter_inside pool_possible refl keeps (λ ks is. tt) refl
+          (ap (λ (b : Bool). if b then at_stage s (StoringRecord c old a 0) else pool_refused s) over) refl counter_inside pool_possible refl keeps (λ ks is. tt) refl
           (record { none = refl; call = update_call c.component c.expected c.value; made = ap (call_at x.begun) called; may = may_refuse c.expected below })
         where
           may_refuse : (f : Option ℕ) → c.component < x.begun.sizes.m → MayBeRefused x.begun.sizes.m (update_call c.component f c.value) Refused.PoolSpent
@@ -105,7 +105,7 @@ module _ (z : Layout) (o : Opening) (m : PartAmong) (w : LawfulAmong z o m) wher
           (claim_keeps (holding_in s ScanBegun (joined_since x)) (announcement_size (length s.asked)) (announcement_block s.asked) (memory_at z o m w ScanBegun e) refl
           refl (omega arith) fits) in
           quiet z o m w ScanBegun (Add (pool_counter z) (announcement_size (length s.asked))) t (holding_at t (joined_since x)) e due
-          (ap (λ (b : Bool). cond b (at_stage s (StoringAnnouncement a 0)) (pool_refused s)) fits) refl counter_inside pool_possible refl keeps (λ ks is. tt) refl refl
+          (ap (λ (b : Bool). if b then at_stage s (StoringAnnouncement a 0) else pool_refused s) fits) refl counter_inside pool_possible refl keeps (λ ks is. tt) refl refl
       either false over =
           let t = pool_refused s in
           let sound = sound_at z o m w ScanBegun e in
@@ -119,7 +119,7 @@ module _ (z : Layout) (o : Opening) (m : PartAmong) (w : LawfulAmong z o m) wher
           let k = known_here z o m w in
           let may = subst (is_sound_at x.begun) called k.sound.stage in
           quiet z o m w ScanBegun (Add (pool_counter z) (announcement_size (length s.asked))) t (holding_at t (joined_since x)) e due
-          (ap (λ (b : Bool). cond b (at_stage s (StoringAnnouncement a 0)) (pool_refused s)) over) refl counter_inside pool_possible refl keeps (λ ks is. tt) refl
+          (ap (λ (b : Bool). if b then at_stage s (StoringAnnouncement a 0) else pool_refused s) over) refl counter_inside pool_possible refl keeps (λ ks is. tt) refl
           (record { none = refl; call = Call.Scan x.begun.asked; made = ap (call_at x.begun) called; may = (names_all x.begun.sizes.m x.begun.asked k.sound.asked.each, may.0) })
 
   -- a word of the announcement is stored
@@ -159,11 +159,11 @@ module _ (z : Layout) (o : Opening) (m : PartAmong) (w : LawfulAmong z o m) wher
           let all : announcement_size (length s.asked) ≡ k + 1 = let is = eqb-true k (length s.asked) last in omega (arith, is) in
           quiet z o m w (StoringAnnouncement at k) (Store (at + k) (slice_index (announcement_block s.asked) k)) (begin_joining s at)
           (record (holding_in s (StoringAnnouncement at k) (joined_since x)) { own = Some (record { space = Pool; at = at; words = announcement_block s.asked; stored = k + 1 }) }) e refl
-          (ap (λ (b : Bool). cond b (begin_joining s at) (at_stage s (StoringAnnouncement at (k + 1)))) last) refl inside refl
+          (ap (λ (b : Bool). if b then begin_joining s at else at_stage s (StoringAnnouncement at (k + 1))) last) refl inside refl
           (ap (λ n. record (holding_in s (StoringAnnouncement at k) (joined_since x)) { own = Some (record { space = Pool; at = at; words = announcement_block s.asked; stored = n }) }) all)
           kept_stores (λ ks is. tt) refl refl
       either false more =
           quiet z o m w (StoringAnnouncement at k) (Store (at + k) (slice_index (announcement_block s.asked) k)) (at_stage s (StoringAnnouncement at (k + 1)))
           (record (holding_in s (StoringAnnouncement at k) (joined_since x)) { own = Some (record { space = Pool; at = at; words = announcement_block s.asked; stored = k + 1 }) }) e refl
-          (ap (λ (b : Bool). cond b (begin_joining s at) (at_stage s (StoringAnnouncement at (k + 1)))) more) refl inside refl
+          (ap (λ (b : Bool). if b then begin_joining s at else at_stage s (StoringAnnouncement at (k + 1))) more) refl inside refl
           refl kept_stores (λ ks is. tt) refl refl

@@ -1,6 +1,6 @@
 -- The exchange of a component word: won, it adds one entry to the history; lost, it changes nothing.
 use Rattle.partial_core.proofs.{Common.{option_map_or, eqb-false, eqb-true, append-nil, set-get_or, take_at, length_push, Applied, Opening, stamp_of, Noted, IsLegal, seen_by, places_by, places_written, overtaken_at, place_below, seen_by-push, places_written-append, places_by-push, slice_get_last, Step, Exchange, Layout, words_after, Change, Reply, Stage, Exchanging, Finished, CoreState, at_stage, advance_at, step_at, step_of, overtaken_reply, IsRecord, IsPossible, IsPossibleAt, Holding, Due, IsLoaded, all_weaker, drops_are_kept, wins_are_kept, Part, core_of, port_of, first_at, IsKnown, notes_by, IsTrueYet, holding_of, holdings, joined_since, is_at_rest, call_at, update_call, AreNotesOf, PartAmong, LawfulAmong}, Added.added_at, MidCalls.KnowsOld, Parts.{IsKeptAmong, known_grows, known_end, gone, changed, holdings_split, once_own, once_other}, Steps.{LeadsAt, holding_in, known_here, sizes_here, sound_at, port_here, seen_here, memory_at, holding_gone, going, ends}, Ports.others, Reading.{stamp_now, stamp_then, component_record}}
-use Rattle.std.proofs.Common.{ℕ, ◌≡◌, ◌≢◌, ◌+◌, ◌<◌, ◌==◌, ◌++◌, Bool, true, false, cond, Option, Some, None, List, [], ◌∷◌, length, get_or, set, slice_get, take, refl, sym, ap, subst, ◌∙◌, arith}
+use Rattle.std.proofs.Common.{ℕ, ◌≡◌, ◌≢◌, ◌+◌, ◌<◌, ◌==◌, ◌++◌, Bool, true, false, if◌then◌else◌, Option, Some, None, List, [], ◌∷◌, length, slice_index, slice_set, slice_get, take, refl, sym, ap, subst, ◌∙◌, arith}
 use Rattle.partial_model.specs.declared.call.{Call.Call, Answer.Answer, Note.Note}
 
 module _ (z : Layout) (o : Opening) (m : PartAmong) (w : LawfulAmong z o m) (c : Change)
@@ -35,8 +35,8 @@ module _ (z : Layout) (o : Opening) (m : PartAmong) (w : LawfulAmong z o m) (c :
   call_made : (f : Option ℕ) → c.expected ≡ f → call_at x.begun x.begun.stage ≡ Some (update_call c.component f c.value)
   call_made f is = let known = old_known in ap (call_at x.begun) known.called ∙ ap (λ (g : Option ℕ). Some (update_call c.component g c.value)) is
 
-  possible : IsRecord s.sizes (get_or words c.component 0)
-  possible = subst (λ (y : Layout). IsRecord y (get_or words c.component 0)) (sym (sizes_here z o m w)) (component_record z o m w c.component below)
+  possible : IsRecord s.sizes (slice_index words c.component)
+  possible = subst (λ (y : Layout). IsRecord y (slice_index words c.component)) (sym (sizes_here z o m w)) (component_record z o m w c.component below)
 
   inside : c.component < length words
   inside = let count = w.memory.count in let b = below in omega (arith, count, b)
@@ -49,11 +49,11 @@ module _ (z : Layout) (o : Opening) (m : PartAmong) (w : LawfulAmong z o m) (c :
   step = Exchange c.component old at
 
   abbrev found : ℕ
-  found = get_or words c.component 0
+  found = slice_index words c.component
 
   -- a lost exchange changes no word
   words_stay : (found == old) ≡ false → words_after words step ≡ words
-  words_stay lost = ap (λ b. set words c.component (cond b at found)) lost ∙ set-get_or words c.component 0
+  words_stay lost = ap (λ b. slice_set words c.component (if b then at else found)) lost ∙ set-get_or words c.component 0
 
   abbrev dropped : Holding
   dropped = record held { own = None; due = None }
@@ -63,7 +63,7 @@ module _ (z : Layout) (o : Opening) (m : PartAmong) (w : LawfulAmong z o m) (c :
       (kept_here words dropped log (drops_are_kept z o words (holdings before) held (holdings after) log (memory_at z o m w (Exchanging c old at) e)))
 
   nothing_added : (found == old) ≡ false → added_at s.port (Exchanging c old at) found ≡ []
-  nothing_added lost = ap (λ b. cond {A = List Applied} b (record { port = s.port; component = c.component; value = c.value; stamp = at } ∷ []) []) lost
+  nothing_added lost = ap (λ b. if b then record { port = s.port; component = c.component; value = c.value; stamp = at } ∷ [] else []) lost
 
   lost_at : (f : Option ℕ) → c.expected ≡ f → (found == old) ≡ false → LeadsAt z o m (Exchanging c old at) step
   lost_at None is lost =
@@ -73,7 +73,8 @@ module _ (z : Layout) (o : Opening) (m : PartAmong) (w : LawfulAmong z o m) (c :
       let over = overtaken_at o log c.component (first_at x.kept) (λ same. eqb-false found old lost (now ∙ same ∙ sym known.stamp)) in
       let n : Noted = record { call = Call.Update c.component c.value; answer = Answer.Lost found; note = Some (Note.Lost over.place) } in
       let reply_is : overtaken_reply c found ≡ Reply.Lost found = ap (λ (f : Option ℕ). option_map_or (λ _. Reply.Changed found) f (Reply.Lost found)) is in
-      let leads : advance_at s (Exchanging c old at) found ≡ at_stage s (Finished (Reply.Lost found)) = ap (λ (b : Bool). at_stage s (Finished (cond b (Reply.Applied at) (overtaken_reply c found)))) lost ∙
+      let leads : advance_at s (Exchanging c old at) found ≡ at_stage s (Finished (Reply.Lost found)) =
+      ap (λ (b : Bool). at_stage s (Finished (if b then Reply.Applied at else overtaken_reply c found))) lost ∙
       ap (λ (r : Reply). at_stage s (Finished r)) reply_is in
       let within = place_below log over.place over.entry over.stands in
       let low = g.low in
@@ -95,7 +96,8 @@ module _ (z : Layout) (o : Opening) (m : PartAmong) (w : LawfulAmong z o m) (c :
       let g = going z o m w (Exchanging c old at) e refl refl in
       let n : Noted = record { call = Call.UpdateIf c.component t c.value; answer = Answer.Changed found; note = Some (Note.Saw (length log)) } in
       let reply_is : overtaken_reply c found ≡ Reply.Changed found = ap (λ (f : Option ℕ). option_map_or (λ _. Reply.Changed found) f (Reply.Lost found)) is in
-      let leads : advance_at s (Exchanging c old at) found ≡ at_stage s (Finished (Reply.Changed found)) = ap (λ (b : Bool). at_stage s (Finished (cond b (Reply.Applied at) (overtaken_reply c found))))
+      let leads : advance_at s (Exchanging c old at) found ≡ at_stage s (Finished (Reply.Changed found)) =
+      ap (λ (b : Bool). at_stage s (Finished (if b then Reply.Applied at else overtaken_reply c found)))
       lost ∙ ap (λ (r : Reply). at_stage s (Finished r)) reply_is in
       let other : found ≢ t = λ same. eqb-false found old lost (same ∙ expected_old t is) in
       let order = g.order in
@@ -138,10 +140,10 @@ module _ (z : Layout) (o : Opening) (m : PartAmong) (w : LawfulAmong z o m) (c :
           let own_y : places_written (notes_by p (before ++ y ∷ after)) ≡ places_written y.notes = ap (λ n. places_written (notes_by n (before ++ y ∷ after))) (sym (port ∙ is)) ∙ once_own before y
           after (all_weaker (λ (v : Part). port_of x ≢ port_of v) (λ (v : Part). port_of y ≢ port_of v) away before (others z o m w).0)
           (all_weaker (λ (v : Part). port_of x ≢ port_of v) (λ (v : Part). port_of y ≢ port_of v) away after (others z o m w).1) in
-          places_by-push p 0 log entry ∙ ap (λ (b : Bool). places_by p 0 log ++ cond b ((0 + length log) ∷ []) []) h ∙ ap (λ n. places_by p 0 log ++ n ∷ [])
+          places_by-push p 0 log entry ∙ ap (λ (b : Bool). places_by p 0 log ++ (if b then (0 + length log) ∷ [] else [])) h ∙ ap (λ n. places_by p 0 log ++ n ∷ [])
           (omega arith) ∙ ap (λ (l : List ℕ). l ++ length log ∷ []) (w.once p ∙ own_x) ∙ sym more ∙ sym own_y
       either false h =
-          places_by-push p 0 log entry ∙ ap (λ (b : Bool). places_by p 0 log ++ cond b ((0 + length log) ∷ []) []) h ∙ append-nil
+          places_by-push p 0 log entry ∙ ap (λ (b : Bool). places_by p 0 log ++ (if b then (0 + length log) ∷ [] else [])) h ∙ append-nil
           (places_by p 0 log) ∙ w.once p ∙ sym (once_other p before x y after port (λ same. eqb-false s.port p h (mine ∙ same)))
 
   won_legal : (f : Option ℕ) → c.expected ≡ f → found ≡ old → IsLegal o won_log (port_of x) (seen_by 0 x.notes)
@@ -168,8 +170,8 @@ module _ (z : Layout) (o : Opening) (m : PartAmong) (w : LawfulAmong z o m) (c :
       let is : found ≡ old = eqb-true found old same in
       let y = gone x won_log found (won_note ∷ []) in
       let t : CoreState = at_stage s (Finished (Reply.Applied at)) in
-      let leads : advance_at s (Exchanging c old at) found ≡ t = ap (λ (b : Bool). at_stage s (Finished (cond b (Reply.Applied at) (overtaken_reply c found)))) same in
-      let added : added_at s.port (Exchanging c old at) found ≡ entry ∷ [] = ap (λ b. cond {A = List Applied} b (entry ∷ []) []) same in
+      let leads : advance_at s (Exchanging c old at) found ≡ t = ap (λ (b : Bool). at_stage s (Finished (if b then Reply.Applied at else overtaken_reply c found))) same in
+      let added : added_at s.port (Exchanging c old at) found ≡ entry ∷ [] = ap (λ b. if b then entry ∷ [] else []) same in
       let words' = words_after words step in
       let holds : holding_of y ≡ dropped = holding_gone z o m w (Exchanging c old at) t won_log found (won_note ∷ []) e leads in
       let keeps : IsKeptAmong z o m (holding_of x) words' (holding_of y) won_log =
@@ -195,7 +197,7 @@ module _ (z : Layout) (o : Opening) (m : PartAmong) (w : LawfulAmong z o m) (c :
         answers = record { within = inside; gives = refl };
         possible = possible;
         new = won_note ∷ [];
-        noted = subst (λ (b : Bool). AreNotesOf o (gone x (log ++ cond b (entry ∷ []) []) found (won_note ∷ [])) (Some (cond b (Reply.Applied at) (overtaken_reply c found)))
+        noted = subst (λ (b : Bool). AreNotesOf o (gone x (log ++ (if b then entry ∷ [] else [])) found (won_note ∷ [])) (Some (if b then Reply.Applied at else overtaken_reply c found))
             (won_note ∷ [])) (sym same) (record {
               call = update_call c.component c.expected c.value;
               note = Note.Wrote (length log);

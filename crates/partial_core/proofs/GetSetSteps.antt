@@ -1,5 +1,5 @@
 -- The steps of a getSet under way in an update.
-use Rattle.partial_core.proofs.{Common.{ℕ, ◌≡◌, ◌+◌, ◌-◌, ◌<◌, ◌≤◌, ◌==◌, ◌⊎◌, ◌&&◌, ◌++◌, not, eqb, ltb, Bool, true, false, cond, Option, Some, None, List, [], ◌∷◌, length, get_or, inl, inr, refl, sym, ap, subst, ◌∙◌, arith, min, cond_both, ltb-true, ltb-false, eqb-true, option_map_or, Opening, Ranges, highest, Step, Load, Store, Exchange, Add, Layout, list_counter, list_end, list_head, greatest_list, answer_of, words_after, word_of, list_block, list_size, intervals_word, length-pairs, next_word, indices_word, begins_at, with_index, Change, Reply, Stage, is_sound_at, Own, Holding, Lists, claims_are_kept, stores_are_kept, publishings_are_kept, loads_are_true, LawfulWords, getsets_know, core_of, first_at, holdings, holding_of, joined_since, own_list, holding_at, AreNotesOf, IsTrueYet, PartAmong, LawfulAmong, ListWords, counter_bound, refusals_are_kept}, Parts.{LawfulWith, IsKeptAmong, gone}, Steps.{LeadsAt, holding_in, sizes_here, sound_at, memory_at, going, quiet, load_quiet}}
+use Rattle.partial_core.proofs.{Common.{ℕ, ◌≡◌, ◌+◌, ◌-◌, ◌<◌, ◌≤◌, ◌==◌, ◌⊎◌, ◌&&◌, ◌++◌, not, nat_lt, Bool, true, false, if◌then◌else◌, Option, Some, None, List, [], ◌∷◌, length, slice_index, inl, inr, refl, sym, ap, subst, ◌∙◌, arith, min, cond_both, ltb-true, ltb-false, eqb-true, option_map_or, Opening, Ranges, highest, Step, Load, Store, Exchange, Add, Layout, list_counter, list_end, list_head, greatest_list, answer_of, words_after, word_of, list_block, list_size, intervals_word, length-pairs, next_word, indices_word, begins_at, with_index, Change, Reply, Stage, is_sound_at, Own, Holding, Lists, claims_are_kept, stores_are_kept, publishings_are_kept, loads_are_true, LawfulWords, getsets_know, core_of, first_at, holdings, holding_of, joined_since, own_list, holding_at, AreNotesOf, IsTrueYet, PartAmong, LawfulAmong, ListWords, counter_bound, refusals_are_kept}, Parts.{LawfulWith, IsKeptAmong, gone}, Steps.{LeadsAt, holding_in, sizes_here, sound_at, memory_at, going, quiet, load_quiet}}
 use Rattle.partial_active.specs.GetSet as finding
 use Rattle.partial_active.specs.GetSetAnswers as finding_answers
 use Rattle.partial_active.specs.Knowledge.{knows_by}
@@ -48,7 +48,7 @@ module _ (u : CoreState) (c : Change) (old : ℕ) (e : u.stage ≡ GettingSet c 
   by_due P goes ended = by_step (finding.set_step_due u.get_set) refl
     where
       Case : Option Step → Type 0
-      Case f = P (option_map_or (λ _. u) f (past (cond (length u.found.indices == 0) (ClaimingRecord c old) (Viewing c old))))
+      Case f = P (option_map_or (λ _. u) f (past (if length u.found.indices == 0 then ClaimingRecord c old else Viewing c old)))
 
       by_step : (f : Option Step) → finding.set_step_due u.get_set ≡ f → Case (finding.set_step_due u.get_set)
       by_step (Some step) is = subst Case (sym is) goes
@@ -78,7 +78,7 @@ abbrev IsCalm : Bool → finding.SetPair → Type 0
 IsCalm b p = (own_list p.1.next p.0.stage ≡ None) × (p.0.lists_spent ≡ b)
 
 calm_at_slot : (p : finding.SetPair) (slot : ℕ) → IsCalm p.0.lists_spent (finding.at_slot p slot)
-calm_at_slot p slot = cond_both (ltb slot p.0.end) (record p.0 { stage = Slot slot }, p.1) (finding.after_walk p) (IsCalm p.0.lists_spent) (λ f. (refl, refl))
+calm_at_slot p slot = cond_both (nat_lt slot p.0.end) (record p.0 { stage = Slot slot }, p.1) (finding.after_walk p) (IsCalm p.0.lists_spent) (λ f. (refl, refl))
     (λ f. cond_both (p.0.noted && not p.0.lists_spent) (Claim (finding.next_words p.1)) Done (λ stage. IsCalm p.0.lists_spent (record p.0 { stage = stage }, p.1))
     (λ g. (refl, refl)) (λ g. (refl, refl)))
 
@@ -91,33 +91,33 @@ calm_load : (y : Layout) (head n : ℕ) (stage : SetStage) (p : finding.SetPair)
     IsCalm p.0.lists_spent (finding.advance_set_at stage p a)
 calm_load y head n Head p a e = (
   refl,
-  cond_both (eqb a 0) Counter (ListLen a)
+  cond_both (a == 0) Counter (ListLen a)
       (λ stage. IsCalm p.0.lists_spent (record p.0 { head = a; stage = stage }, record p.1 { indices = []; read = []; next = [] })) (λ f. (refl, refl)) (λ f. (refl, refl)),
 )
 calm_load y head n (ListLen at) p a e =
-    (refl, cond_both (eqb a 0) Counter (ListLow (intervals_word at) a) (λ stage. IsCalm p.0.lists_spent (finding.in_stage p stage)) (λ f. (refl, refl)) (λ f. (refl, refl)))
+    (refl, cond_both (a == 0) Counter (ListLow (intervals_word at) a) (λ stage. IsCalm p.0.lists_spent (finding.in_stage p stage)) (λ f. (refl, refl)) (λ f. (refl, refl)))
 calm_load y head n (ListLow at left) p a e = (refl, (refl, refl))
 calm_load y head n (ListHigh at left lo) p a e = (
   refl,
-  cond_both (eqb left 1) Counter (ListLow (next_word at) (left - 1))
+  cond_both (left == 1) Counter (ListLow (next_word at) (left - 1))
       (λ stage. IsCalm p.0.lists_spent (record p.0 { stage = stage }, record p.1 { read = p.1.read ++ (lo, a) ∷ [] })) (λ f. (refl, refl)) (λ f. (refl, refl)),
 )
 calm_load y head n Counter p a e = (refl, calm_come (record p.0 { end = min a p.0.sizes.slots; passed = 0 }, p.1) 0)
 calm_load y head n (Slot slot) p a e = (
   refl,
-  cond_both (eqb a 0) (finding.come_to p (slot + 1)) (cond (eqb a 1) (finding.come_to (finding.note_slot p slot) (slot + 1)) (finding.in_stage p (Len slot a))) (IsCalm p.0.lists_spent)
+  cond_both (a == 0) (finding.come_to p (slot + 1)) (if a == 1 then finding.come_to (finding.note_slot p slot) (slot + 1) else finding.in_stage p (Len slot a)) (IsCalm p.0.lists_spent)
       (λ f. calm_come p (slot + 1))
-      (λ f. cond_both (eqb a 1) (finding.come_to (finding.note_slot p slot) (slot + 1)) (finding.in_stage p (Len slot a)) (IsCalm p.0.lists_spent)
+      (λ f. cond_both (a == 1) (finding.come_to (finding.note_slot p slot) (slot + 1)) (finding.in_stage p (Len slot a)) (IsCalm p.0.lists_spent)
       (λ g. calm_come (finding.note_slot p slot) (slot + 1)) (λ g. (refl, refl))),
 )
 calm_load y head n (Len slot at) p a e = (
   refl,
-  cond_both (eqb a 0) (finding.come_to p (slot + 1)) (finding.in_stage p (Index slot (indices_word at) a)) (IsCalm p.0.lists_spent)
+  cond_both (a == 0) (finding.come_to p (slot + 1)) (finding.in_stage p (Index slot (indices_word at) a)) (IsCalm p.0.lists_spent)
       (λ f. calm_come p (slot + 1)) (λ f. (refl, refl)),
 )
 calm_load y head n (Index slot at left) p a e =
     let q : finding.SetPair = (p.0, record p.1 { indices = with_index p.1.indices a }) in
-    (refl, cond_both (eqb left 1) (finding.come_to q (slot + 1)) (finding.in_stage q (Index slot (next_word at) (left - 1))) (IsCalm p.0.lists_spent) (λ f. calm_come q (slot + 1)) (λ f. (refl, refl)))
+    (refl, cond_both (left == 1) (finding.come_to q (slot + 1)) (finding.in_stage q (Index slot (next_word at) (left - 1))) (IsCalm p.0.lists_spent) (λ f. calm_come q (slot + 1)) (λ f. (refl, refl)))
 calm_load y head n (Claim count) p a e = absurd cc
 calm_load y head n (Write at k count word) p a e = absurd cc
 calm_load y head n (Publish at) p a e = absurd cc
@@ -167,10 +167,10 @@ module _ (z : Layout) (o : Opening) (m : PartAmong) (w : LawfulAmong z o m) (c :
       let leads = leads_on in
       let readable = leads.readable n due in
       let possible = leads.possible n due (loads_are_true z o words (holdings (before ++ x ∷ after)) log n w.memory readable.0 readable.1) (omega (arith, order, inside)) in
-      let calm = calm_load s.get_set.sizes s.get_set.head n s.get_set.stage (getting (core_of x)) (get_or words n 0) due in
-      load_quiet z o m w (GettingSet c old) n (advance_at (core_of x) (GettingSet c old) (get_or words n 0)) e due refl refl readable possible
-      (holds_then (get_or words n 0) (own_list s.found.next s.get_set.stage) s.get_set.lists_spent (calm.1.0 ∙ sym calm.0) calm.1.1)
-      refl (silent (get_or words n 0))
+      let calm = calm_load s.get_set.sizes s.get_set.head n s.get_set.stage (getting (core_of x)) (slice_index words n) due in
+      load_quiet z o m w (GettingSet c old) n (advance_at (core_of x) (GettingSet c old) (slice_index words n)) e due refl refl readable possible
+      (holds_then (slice_index words n) (own_list s.found.next s.get_set.stage) s.get_set.lists_spent (calm.1.0 ∙ sym calm.0) calm.1.1)
+      refl (silent (slice_index words n))
 
   -- what is known and what goes together at a stage of the getSet
   known_at : (stage : SetStage) → (core_of x).get_set.stage ≡ stage → knows_by (sets.facts_of_words z words (holdings (before ++ x ∷ after)) (first_at x.kept)) stage (getting (core_of x))
@@ -231,13 +231,13 @@ module _ (z : Layout) (o : Opening) (m : PartAmong) (w : LawfulAmong z o m) (c :
 
   -- the claim of the words of a list, within the list words or past their end
   claim_leads : (count : ℕ) → (core_of x).get_set.stage ≡ Claim count → LeadsAt z o m (GettingSet c old) (Add (list_counter z) count)
-  claim_leads count is = by_room (ltb (list_end s.get_set.sizes) (n + count)) refl
+  claim_leads count is = by_room (nat_lt (list_end s.get_set.sizes) (n + count)) refl
     where
       s : CoreState
       s = core_of x
 
       n : ℕ
-      n = get_or words (list_counter z) 0
+      n = slice_index words (list_counter z)
 
       has : finding_answers.HasNext (getting s) count
       has = goes_at (Claim count) is
@@ -264,11 +264,11 @@ module _ (z : Layout) (o : Opening) (m : PartAmong) (w : LawfulAmong z o m) (c :
           let slots : s.get_set.sizes.slots ≡ z.slots = ap (λ (y : Layout). y.slots) same_sizes in
           omega (arith, counts, most, slots)
 
-      by_room : (b : Bool) → ltb (list_end s.get_set.sizes) (n + count) ≡ b → LeadsAt z o m (GettingSet c old) (Add (list_counter z) count)
+      by_room : (b : Bool) → nat_lt (list_end s.get_set.sizes) (n + count) ≡ b → LeadsAt z o m (GettingSet c old) (Add (list_counter z) count)
       by_room true over =
           let beyond = ltb-true (list_end s.get_set.sizes) (n + count) over in
           let p : finding.SetPair = getting s in
-          let spent : Bool → finding.SetPair = λ b. cond b (record p.0 { lists_spent = true; stage = Done }, p.1) (finding.in_stage p (Write n 0 count (length p.1.next))) in
+          let spent : Bool → finding.SetPair = λ b. (if b then (record p.0 { lists_spent = true; stage = Done }, p.1) else finding.in_stage p (Write n 0 count (length p.1.next))) in
           made (Claim count) (Add (list_counter z) count) None None false true is refl within refl unmarked possible
           (ap (λ (b : Bool). own_list (spent b).1.next (spent b).0.stage) over) (ap (λ (b : Bool). (spent b).0.lists_spent) over)
           (λ memory. refusals_are_kept z o words (holdings before) (in_set s None false) (holdings after) log ListWords count memory refl few (omega (arith, beyond, end_is)))
@@ -276,7 +276,7 @@ module _ (z : Layout) (o : Opening) (m : PartAmong) (w : LawfulAmong z o m) (c :
       by_room false fits =
           let room = ltb-false (list_end s.get_set.sizes) (n + count) fits in
           let p : finding.SetPair = getting s in
-          let claimed : Bool → finding.SetPair = λ b. cond b (record p.0 { lists_spent = true; stage = Done }, p.1) (finding.in_stage p (Write n 0 count (length p.1.next))) in
+          let claimed : Bool → finding.SetPair = λ b. (if b then (record p.0 { lists_spent = true; stage = Done }, p.1) else finding.in_stage p (Write n 0 count (length p.1.next))) in
           made (Claim count) (Add (list_counter z) count) None (listed n 0) false false is refl within refl unmarked possible
           (ap (λ (b : Bool). own_list (claimed b).1.next (claimed b).0.stage) fits) (ap (λ (b : Bool). (claimed b).0.lists_spent) fits ∙ unmarked)
           (λ memory. subst (λ i. IsKeptAmong z o m (in_set s None false) (words_after words (Add (list_counter z) i)) (in_set s (listed n 0) false) log) length_is
@@ -295,7 +295,7 @@ module _ (z : Layout) (o : Opening) (m : PartAmong) (w : LawfulAmong z o m) (c :
       let end_is : list_end s.get_set.sizes ≡ list_end z = ap list_end same_sizes in
       let length_is : length (list_block s.found.next) ≡ count = (let blocks = block_length s.found.next in omega (arith, blocks, counts)) in
       made (Write at k count word) (Store (at + k) word) (listed at k) (listed at (k + 1)) s.get_set.lists_spent s.get_set.lists_spent is refl (omega (arith, less, room, long, end_is)) refl refl tt
-      (cond_both (eqb (k + 1) count) (Publish at) (Write at (k + 1) count (get_or (list_block s.found.next) (k + 1) 0)) (λ (t : SetStage). own_list s.found.next t ≡ listed at (k + 1))
+      (cond_both ((k + 1) == count) (Publish at) (Write at (k + 1) count (slice_index (list_block s.found.next) (k + 1))) (λ (t : SetStage). own_list s.found.next t ≡ listed at (k + 1))
       (λ last. let whole = eqb-true (k + 1) count last in ap (listed at) (omega (arith, whole, length_is)))
       (λ more. refl))
       refl

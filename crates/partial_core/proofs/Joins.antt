@@ -1,5 +1,5 @@
 -- The steps of a join: the claim of a slot, and the store of the announcement in it.
-use Rattle.partial_core.proofs.{Common.{ℕ, ◌≡◌, ◌+◌, ◌<◌, ◌≤◌, ◌++◌, Bool, true, false, cond, Some, None, List, [], ◌∷◌, length, get_or, refl, sym, ap, subst, ◌∙◌, arith, nat_lt, IsTrue, ltb-true, ltb-false, Applied, Opening, MayBeRefused, Step, Store, Add, Layout, slot_word, slot_counter, words_after, join_step, join_after, fits_join, JoinStage, Claiming, Storing, Spent, Stage, ScanBegun, Joining, CoreState, advance_at, step_at, after_joining, slots_refused, reply_at, IsSound, is_sound_at, Holding, State, Keeps, drops_are_kept, slot_claims_are_kept, joins_are_kept, core_of, holding_of, holding_at, holdings, joined_since, is_storing, joins_at, call_at, AreNotesOf, PartAmong, LawfulAmong, Slots, counter_bound, refusals_are_kept}, Parts.{LawfulWith, IsKeptAmong, gone}, Leaves.names_all, Steps.{LeadsAt, holding_in, known_here, sizes_here, sound_here, sound_at, memory_at, going, quiet}}
+use Rattle.partial_core.proofs.{Common.{ℕ, ◌≡◌, ◌+◌, ◌<◌, ◌≤◌, ◌++◌, Bool, true, false, if◌then◌else◌, Some, None, List, [], ◌∷◌, length, slice_index, refl, sym, ap, subst, ◌∙◌, arith, nat_lt, IsTrue, ltb-true, ltb-false, Applied, Opening, MayBeRefused, Step, Store, Add, Layout, slot_word, slot_counter, words_after, join_step, join_after, fits_join, JoinStage, Claiming, Storing, Spent, Stage, ScanBegun, Joining, CoreState, advance_at, step_at, after_joining, slots_refused, reply_at, IsSound, is_sound_at, Holding, State, Keeps, drops_are_kept, slot_claims_are_kept, joins_are_kept, core_of, holding_of, holding_at, holdings, joined_since, is_storing, joins_at, call_at, AreNotesOf, PartAmong, LawfulAmong, Slots, counter_bound, refusals_are_kept}, Parts.{LawfulWith, IsKeptAmong, gone}, Leaves.names_all, Steps.{LeadsAt, holding_in, known_here, sizes_here, sound_here, sound_at, memory_at, going, quiet}}
 use Rattle.partial_model.specs.declared.call.{Call.Call, Refused.Refused}
 use Rattle.partial_active.specs.declared.join.JoinStage.TheVariants.{Joined as JoinedIn}
 
@@ -40,28 +40,29 @@ module _ (z : Layout) (o : Opening) (m : PartAmong) (w : LawfulAmong z o m)
     due : step_at s Joining ≡ Some (Add (slot_counter z) 1)
     due = ap (λ (i : JoinStage). join_step s.join.sizes s.join.announcement i) at ∙ ap (λ (y : Layout). Some (Add (slot_counter y) 1)) join_sizes
 
-    leads : (b : Bool) → nat_lt (get_or words (slot_counter z) 0) s.join.sizes.slots ≡ b →
-        advance_at s Joining (get_or words (slot_counter z) 0) ≡ (let j = cond b (Storing (get_or words (slot_counter z) 0)) Spent in after_joining (record s { join = record s.join { stage = j } }) j)
-    leads b is = ap (λ (i : JoinStage). let j = join_after s.join.sizes i (get_or words (slot_counter z) 0) in after_joining (record s { join = record s.join { stage = j } }) j) at
-        ∙ ap (λ (c : Bool). let j = cond c (Storing (get_or words (slot_counter z) 0)) Spent in after_joining (record s { join = record s.join { stage = j } }) j) is
+    leads : (b : Bool) → nat_lt (slice_index words (slot_counter z)) s.join.sizes.slots ≡ b →
+        advance_at s Joining (slice_index words (slot_counter z))
+        ≡ (let j = (if b then Storing (slice_index words (slot_counter z)) else Spent) in after_joining (record s { join = record s.join { stage = j } }) j)
+    leads b is = ap (λ (i : JoinStage). let j = join_after s.join.sizes i (slice_index words (slot_counter z)) in after_joining (record s { join = record s.join { stage = j } }) j) at
+        ∙ ap (λ (c : Bool). let j = (if c then Storing (slice_index words (slot_counter z)) else Spent) in after_joining (record s { join = record s.join { stage = j } }) j) is
 
     not_storing : joins_at s Joining ≡ false
     not_storing = ap is_storing at
 
-    possible : get_or words (slot_counter z) 0 ≤ s.sizes.slots + 64
-    possible = subst (λ (y : Layout). get_or words (slot_counter z) 0 ≤ y.slots + 64) (sym (sizes_here z o m w))
+    possible : slice_index words (slot_counter z) ≤ s.sizes.slots + 64
+    possible = subst (λ (y : Layout). slice_index words (slot_counter z) ≤ y.slots + 64) (sym (sizes_here z o m w))
         (counter_bound z o words (holdings (before ++ x ∷ after)) log w.memory Slots)
 
     inside : slot_counter z < length words
     inside = let count = w.memory.count in omega (arith, count)
 
-    since_same : (t : CoreState) → holding_at t (cond (joins_at s Joining) (length log) (joined_since x)) ≡ holding_at t (joined_since x)
-    since_same t = ap (λ (b : Bool). holding_at t (cond b (length log) (joined_since x))) not_storing
+    since_same : (t : CoreState) → holding_at t (if joins_at s Joining then length log else joined_since x) ≡ holding_at t (joined_since x)
+    since_same t = ap (λ (b : Bool). holding_at t (if b then length log else joined_since x)) not_storing
 
     -- a slot is there
-    claimed : nat_lt (get_or words (slot_counter z) 0) s.join.sizes.slots ≡ true → LeadsAt z o m Joining (Add (slot_counter z) 1)
+    claimed : nat_lt (slice_index words (slot_counter z)) s.join.sizes.slots ≡ true → LeadsAt z o m Joining (Add (slot_counter z) 1)
     claimed room =
-        let n = get_or words (slot_counter z) 0 in
+        let n = slice_index words (slot_counter z) in
         let t : CoreState = record s { join = record s.join { stage = Storing n } } in
         let below : n < z.slots = subst (λ (y : Layout). n < y.slots) join_sizes (ltb-true n s.join.sizes.slots room) in
         let memory = subst (λ (h : Holding). LawfulWith z o m h) (ap held at) (memory_at z o m w Joining e) in
@@ -73,9 +74,9 @@ module _ (z : Layout) (o : Opening) (m : PartAmong) (w : LawfulAmong z o m)
         (subst (λ (u : Stage). AreNotesOf o (gone x log n []) (reply_at u) []) (sym e) refl)
 
     -- all slots were claimed before
-    spent : nat_lt (get_or words (slot_counter z) 0) s.join.sizes.slots ≡ false → LeadsAt z o m Joining (Add (slot_counter z) 1)
+    spent : nat_lt (slice_index words (slot_counter z)) s.join.sizes.slots ≡ false → LeadsAt z o m Joining (Add (slot_counter z) 1)
     spent over =
-        let n = get_or words (slot_counter z) 0 in
+        let n = slice_index words (slot_counter z) in
         let t : CoreState = slots_refused (record s { join = record s.join { stage = Spent } }) in
         let above : z.slots ≤ n = subst (λ (y : Layout). y.slots ≤ n) join_sizes (ltb-false n s.join.sizes.slots over) in
         let memory = subst (λ (h : Holding). LawfulWith z o m h) (ap held at) (memory_at z o m w Joining e) in
@@ -97,9 +98,9 @@ module _ (z : Layout) (o : Opening) (m : PartAmong) (w : LawfulAmong z o m)
         (record { none = refl; call = Call.Scan x.begun.asked; made = ap (call_at x.begun) known.called; may = scan_refused x.begun k.sound begun })
 
     pub slot_claimed : LeadsAt z o m Joining (Add (slot_counter z) 1)
-    slot_claimed = either (nat_lt (get_or words (slot_counter z) 0) s.join.sizes.slots) refl
+    slot_claimed = either (nat_lt (slice_index words (slot_counter z)) s.join.sizes.slots) refl
       where
-        either : (b : Bool) → nat_lt (get_or words (slot_counter z) 0) s.join.sizes.slots ≡ b → LeadsAt z o m Joining (Add (slot_counter z) 1)
+        either : (b : Bool) → nat_lt (slice_index words (slot_counter z)) s.join.sizes.slots ≡ b → LeadsAt z o m Joining (Add (slot_counter z) 1)
         either true is = claimed is
         either false is = spent is
 
@@ -116,7 +117,7 @@ module _ (z : Layout) (o : Opening) (m : PartAmong) (w : LawfulAmong z o m)
       let few : length s.asked ≤ z.m = subst (λ (y : Layout). length s.asked ≤ y.m) sizes all.asked.few in
       let words' = words_after words (Store (slot_word z slot) s.join.announcement) in
       let keeps = joins_are_kept z o words (holdings before) (held (Storing slot)) (holdings after) log slot s.join.announcement s.asked memory refl refl refl few
-      (λ i lt. subst (λ (y : Layout). get_or s.asked i 0 < y.m) sizes (all.asked.each i lt)) in
+      (λ i lt. subst (λ (y : Layout). slice_index s.asked i < y.m) sizes (all.asked.each i lt)) in
       let keeps_x = kept_here words' (holding_at t (length log)) log (subst (λ (h : Holding). IsKeptAmong z o m h words' (holding_at t (length log)) log)
       (sym (ap held at)) keeps) in
       let count = w.memory.count in
@@ -124,7 +125,7 @@ module _ (z : Layout) (o : Opening) (m : PartAmong) (w : LawfulAmong z o m)
       ap (λ (y : Layout). Some (Store (slot_word y slot) s.join.announcement)) join_sizes in
       quiet z o m w Joining (Store (slot_word z slot) s.join.announcement) t (holding_at t (length log)) e due
       (ap (λ (i : JoinStage). let j = join_after s.join.sizes i 0 in after_joining (record s { join = record s.join { stage = j } }) j) at) refl (omega (arith, below, count)) (omega arith)
-      (ap (λ (b : Bool). holding_at t (cond b (length log) (joined_since x))) (ap is_storing at)) keeps_x (λ ks is. tt) refl refl
+      (ap (λ (b : Bool). holding_at t (if b then length log else joined_since x)) (ap is_storing at)) keeps_x (λ ks is. tt) refl refl
 
   -- a join that isn't finished
   pub joining_leads : (step : Step) → step_at s Joining ≡ Some step → LeadsAt z o m Joining step

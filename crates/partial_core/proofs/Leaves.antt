@@ -1,5 +1,5 @@
 -- The last step of a scan: what it answers stood together after one prefix of the history.
-use Rattle.partial_core.proofs.{Common.{ℕ, zero, suc, ◌≡◌, ◌+◌, ◌<◌, ◌≤◌, ◌++◌, Bool, true, false, cond, Option, Some, None, IfSome, IsSome, List, [], ◌∷◌, length, map, slice_get, take, inl, inr, refl, sym, ap, subst, ◌∙◌, arith, Contains, slice_index, slice_index_or, AllByRecursion, Applied, Opening, value_of, Noted, NamesComponents, SawTogether, AreCollects, IsEntryFor, place_below, Store, Layout, slot_word, view_of, list_reads_back, Leaving, Finished, CoreState, scanning, scanned_values, scanned_reply, advance_at, step_at, HasPairs, Covers, ViewNames, Holding, IfJoined, unpublished, CoversAll, leaves_are_kept, words_after, AreStamps, got, is_sound_at, core_of, holding_of, holdings, joined_since, call_at, AllByRecursion-get, PartAmong, LawfulAmong}, MidCalls.is_finished, Parts.{IsKeptAmong, gone, gone_core, all_at, holdings_split}, Steps.{LeadsAt, holding_in, known_here, sizes_here, sound_here, sound_at, memory_at, going, ends}}
+use Rattle.partial_core.proofs.{Common.{ℕ, zero, suc, ◌≡◌, ◌+◌, ◌<◌, ◌≤◌, ◌++◌, Bool, true, false, if◌then◌else◌, Option, Some, None, IfSome, IsSome, List, [], ◌∷◌, length, map, slice_get, take, inl, inr, refl, sym, ap, subst, ◌∙◌, arith, Contains, slice_index, slice_index_or, AllByRecursion, Applied, Opening, value_of, Noted, NamesComponents, SawTogether, AreCollects, IsEntryFor, place_below, Store, Layout, slot_word, view_of, list_reads_back, Leaving, Finished, CoreState, scanning, scanned_values, scanned_reply, advance_at, step_at, HasPairs, Covers, ViewNames, Holding, IfJoined, unpublished, CoversAll, leaves_are_kept, words_after, AreStamps, got, is_sound_at, core_of, holding_of, holdings, joined_since, call_at, AllByRecursion-get, PartAmong, LawfulAmong}, MidCalls.is_finished, Parts.{IsKeptAmong, gone, gone_core, all_at, holdings_split}, Steps.{LeadsAt, holding_in, known_here, sizes_here, sound_here, sound_at, memory_at, going, ends}}
 use Rattle.partial_model.specs.declared.call.{Call.Call, Answer.Answer, Note.Note}
 use Rattle.partial_knowledge.specs.Scans as scans
 use Rattle.partial_model.proofs.Values.{element_at}
@@ -162,7 +162,7 @@ module _ (z : Layout) (o : Opening) (m : PartAmong) (w : LawfulAmong z o m)
   leave_due =
       let sound = sound_at z o m w Leaving e in
       let leave_sizes : s.leave.sizes ≡ z = sound.0 ∙ sizes_here z o m w in
-      ap (λ (b : Bool). cond b None (Some (Store (slot_word s.leave.sizes s.leave.slot) 1))) sound.2 ∙ ap (λ (y : Layout). Some (Store (slot_word y s.leave.slot) 1)) leave_sizes
+      ap (λ (b : Bool). if b then None else Some (Store (slot_word s.leave.sizes s.leave.slot) 1)) sound.2 ∙ ap (λ (y : Layout). Some (Store (slot_word y s.leave.slot) 1)) leave_sizes
 
   -- the scan's store that leaves its slot
   pub leaves : LeadsAt z o m Leaving (Store (slot_word z s.leave.slot) 1)

@@ -1,6 +1,6 @@
 -- What a machine in the middle of a call knows by the answers that it has kept, in lawful words.
 use Rattle.partial_core.proofs.Common.{nat_lt, slice_index, option_map_or, false≢true, cond_both, eqb-true, Applied, Opening, stamp_of, Step, Load, Store, Exchange, Add, Layout, value_word, view_word, join_after, join_step, JoinStage, Claiming, Storing, Spent, Change, CoreState, at_stage, getting, scanning, with_getting, with_scanning, record_size, expects, fits_pool, pool_refused, begin_joining, after_getting, after_scanning, after_joining, advance_at, step_at, IsSound, is_sound_at, IsPossibleAt, Holding, LawfulWords, KeptAnswer, getsets_know, embedded_scans_know, is_storing, joins_at, IsTrueYet}
-use Rattle.std.proofs.Common.{ℕ, ◌≡◌, ◌+◌, ◌≤◌, ◌==◌, ◌⊎◌, ◌&&◌, ◌||◌, Bool, true, false, cond, Option, Some, None, IsSome, List, length, take, inl, inr, refl, sym, subst, ◌∙◌, arith}
+use Rattle.std.proofs.Common.{ℕ, ◌≡◌, ◌+◌, ◌≤◌, ◌==◌, ◌⊎◌, ◌&&◌, ◌||◌, Bool, true, false, if◌then◌else◌, Option, Some, None, IsSome, List, length, take, inl, inr, refl, sym, subst, ◌∙◌, arith}
 use Rattle.partial_active.specs.declared.join.JoinStage.TheVariants.{Joined as JoinedIn}
 use Rattle.partial_active.specs.GetSet as finding
 use Rattle.partial_active.specs.GetSetAnswers as finding_answers
@@ -160,7 +160,7 @@ module _ (z : Layout) (o : Opening) (words : List ℕ) (hs : List Holding) (log 
 
       Case : Option Step → Type 0
       Case f = Knows z o words hs log begun first since k.at (option_map_or (λ _. t) f
-          (record t { embedded = viewing.fresh_view t.sizes true; stage = cond (length t.found.indices == 0) (ClaimingRecord c old) (Viewing c old) }))
+          (record t { embedded = viewing.fresh_view t.sizes true; stage = (if length t.found.indices == 0 then ClaimingRecord c old else Viewing c old) }))
 
       by_step : (f : Option Step) → finding.set_step_due t.get_set ≡ f → Case (finding.set_step_due t.get_set)
       by_step (Some step) is = subst Case (sym is) (subst (λ (u : Stage). knows_at z o words hs log begun first since k.at t u) (sym e) (knows, known))
@@ -237,7 +237,7 @@ module _ (z : Layout) (o : Opening) (words : List ℕ) (hs : List Holding) (log 
   join_then t Spent n e knows from to = tt
 
   -- a claim of a join knows nothing of a length, and its store is made at the length of its answer
-  joining_on : (j : JoinStage) → s.join.stage ≡ j → s.stage ≡ Joining → knows_at z o words hs log begun first since high s Joining → Then (cond (joins_at s Joining) k.at since)
+  joining_on : (j : JoinStage) → s.join.stage ≡ j → s.stage ≡ Joining → knows_at z o words hs log begun first since high s Joining → Then (if joins_at s Joining then k.at else since)
       (advance_at s Joining k.answer)
   joining_on j at e knows = subst Case (sym at) (by_stage j (subst (λ (i : JoinStage). IsSome (join_step s.join.sizes s.join.announcement i)) at (here Joining e).4))
     where
@@ -245,7 +245,7 @@ module _ (z : Layout) (o : Opening) (words : List ℕ) (hs : List Holding) (log 
       joined i = record s { join = record s.join { stage = i } }
 
       Case : JoinStage → Type 0
-      Case i = Knows z o words hs log begun first (cond (is_storing i) k.at since) k.at
+      Case i = Knows z o words hs log begun first (if is_storing i then k.at else since) k.at
           (after_joining (record s { join = record s.join { stage = join_after s.join.sizes i k.answer } }) (join_after s.join.sizes i k.answer))
 
       by_stage : (i : JoinStage) → IsSome (join_step s.join.sizes s.join.announcement i) → Case i
@@ -261,7 +261,7 @@ module _ (z : Layout) (o : Opening) (words : List ℕ) (hs : List Holding) (log 
 
   -- the first answer is an update's or a read's component, or a scan's claim
   pub on_at : (t : Stage) → s.stage ≡ t → knows_at z o words hs log begun first since high s t → IsPossibleAt s t k.answer → IsTrueYet z o words hs log (step_at s t) k →
-      Then (cond (joins_at s t) k.at since) (advance_at s t k.answer)
+      Then (if joins_at s t then k.at else since) (advance_at s t k.answer)
   on_at Idle e knows possible yet = absurd knows
   on_at (ReadBegun j) e knows possible yet = absurd knows
   on_at (LoadingValue stamp) e knows possible yet = tt

@@ -1,5 +1,5 @@
 -- A memory as it opens is lawful.
-use Rattle.partial_core.proofs.Common.{ℕ, zero, suc, ◌≡◌, ◌+◌, ◌≤◌, ◌==◌, ◌++◌, Bool, true, false, cond, None, List, [], ◌∷◌, refl, sym, ◌∙◌, ap, subst, arith, AllByRecursion, Opening, Noted, places_written, Layout, rests_are_sound, Holding, LawfulWords, idle_holdings, IsKnown, notes_by, holdings, fresh_parts, OpensLawful}
+use Rattle.partial_core.proofs.Common.{ℕ, zero, suc, ◌≡◌, ◌+◌, ◌≤◌, ◌==◌, ◌++◌, Bool, true, false, if◌then◌else◌, None, List, [], ◌∷◌, refl, sym, ◌∙◌, ap, subst, arith, AllByRecursion, Opening, Noted, places_written, Layout, rests_are_sound, Holding, LawfulWords, idle_holdings, IsKnown, notes_by, holdings, fresh_parts, OpensLawful}
 use Rattle.partial_state.proofs.OpeningLaw.{opening_is_lawful}
 
 -- a port that has made no call holds nothing
@@ -33,7 +33,7 @@ pub fresh_notes : (z : Layout) (q p n : ℕ) → notes_by q (fresh_parts z p n) 
 fresh_notes z q p zero = refl
 fresh_notes z q p (suc n) = nothing (p == q) (notes_by q (fresh_parts z (p + 1) n)) ∙ fresh_notes z q (p + 1) n
   where
-    nothing : (b : Bool) (ns : List Noted) → cond b [] [] ++ ns ≡ ns
+    nothing : (b : Bool) (ns : List Noted) → (if b then [] else []) ++ ns ≡ ns
     nothing true ns = refl
     nothing false ns = refl
 

@@ -1,5 +1,5 @@
 -- Lawful words are orderly, and the due step of a port moves a slot only as it may.
-use Rattle.partial_core.proofs.{Common.{ℕ, ◌≡◌, ◌≢◌, ◌+◌, ◌<◌, ◌≤◌, ◌==◌, ◌⊎◌, ◌++◌, cond, Option, Some, None, IfSome, IsSome, List, ◌∷◌, length, get_or, inl, inr, refl, sym, ap, subst, ◌∙◌, arith, get_or-set_other, get_or-set_same, length-set, IsTrue, nat_lt, slice_index, ltb-true, eqb_tells, Applied, Opening, Step, Load, Store, Exchange, Add, Layout, slot_counter, list_head, pool_counter, list_counter, slot_word, list_base, word_of, words_after, announcement_block, announcement_size, list_block, length-pairs, value_word, Orderly, IsSlotMove, IsSlotOf, IsHeadOf, slot_at, JoinedAnnouncement, IsHead, Pool, Lists, Holding, ClaimedSlot, Own, Space, space_begin, unpublished, LawfulWords, IsOwn, IsTied, IsClaim, IsSlotAnswer, loads_are_true, if_some_at, join_step, fits_join, JoinStage, Claiming, Storing, Spent, Stage, CoreState, getting, record_size, record_words, step_at, step_of, is_sound_at, HasBegun, IsLedTo, IsMachineOf, core_of, holding_of, holdings, joined_since, own_list, own_at, slot_claimed, LawfulIsOrderly, PartAmong, LawfulAmong, ListWords, counter_bound}, MidCalls.view_loads, Steps.{holding_in, sizes_here, sound_at, memory_here, memory_at}, StoredFacts.length_record, Leaves.leave_due, AllSteps.{fresh_call, begin_lawful}, Parts.all_at}
+use Rattle.partial_core.proofs.{Common.{ℕ, ◌≡◌, ◌≢◌, ◌+◌, ◌<◌, ◌≤◌, ◌==◌, ◌⊎◌, ◌++◌, if◌then◌else◌, Option, Some, None, IfSome, IsSome, List, ◌∷◌, length, inl, inr, refl, sym, ap, subst, ◌∙◌, arith, get_or-set_other, get_or-set_same, length-set, IsTrue, nat_lt, slice_index, ltb-true, eqb_tells, Applied, Opening, Step, Load, Store, Exchange, Add, Layout, slot_counter, list_head, pool_counter, list_counter, slot_word, list_base, word_of, words_after, announcement_block, announcement_size, list_block, length-pairs, value_word, Orderly, IsSlotMove, IsSlotOf, IsHeadOf, slot_at, JoinedAnnouncement, IsHead, Pool, Lists, Holding, ClaimedSlot, Own, Space, space_begin, unpublished, LawfulWords, IsOwn, IsTied, IsClaim, IsSlotAnswer, loads_are_true, if_some_at, join_step, fits_join, JoinStage, Claiming, Storing, Spent, Stage, CoreState, getting, record_size, record_words, step_at, step_of, is_sound_at, HasBegun, IsLedTo, IsMachineOf, core_of, holding_of, holdings, joined_since, own_list, own_at, slot_claimed, LawfulIsOrderly, PartAmong, LawfulAmong, ListWords, counter_bound}, MidCalls.view_loads, Steps.{holding_in, sizes_here, sound_at, memory_here, memory_at}, StoredFacts.length_record, Leaves.leave_due, AllSteps.{fresh_call, begin_lawful}, Parts.all_at}
 use Rattle.partial_active.specs.declared.join.JoinStage.TheVariants.{Joined as JoinedIn}
 use Rattle.partial_active.specs.GetSet as finding
 use Rattle.partial_active.specs.GetSetAnswers.{set_goes_at}
@@ -9,7 +9,7 @@ use Rattle.partial_machine.specs.declared.stage.Stage.TheVariants.{Idle, ReadBeg
 
 module _ (z : Layout) (o : Opening) (words : List ℕ) (hs : List Holding) (log : List Applied) (w : LawfulWords z o words hs log) where
   -- what stands in a slot now
-  pub slot_now : (l : ℕ) → l < z.slots → IsSlotAnswer z words (unpublished hs) l (get_or words (slot_word z l) 0)
+  pub slot_now : (l : ℕ) → l < z.slots → IsSlotAnswer z words (unpublished hs) l (slice_index words (slot_word z l))
   slot_now l below = (loads_are_true z o words hs log (slot_word z l) w (omega (arith, below)) (λ far. absurd (omega (arith, below, far)))).slot l below refl
 
   slot_of : (l a : ℕ) → IsSlotAnswer z words (unpublished hs) l a → IsSlotOf z words a
@@ -23,9 +23,9 @@ module _ (z : Layout) (o : Opening) (words : List ℕ) (hs : List Holding) (log 
 
   pub orderly_words : Orderly z words
   orderly_words = record {
-    slots = λ l below. slot_of l (get_or words (slot_word z l) 0) (slot_now l below);
+    slots = λ l below. slot_of l (slice_index words (slot_word z l)) (slot_now l below);
     unclaimed = w.unclaimed;
-    head = head_of (get_or words (list_head z) 0) w.head;
+    head = head_of (slice_index words (list_head z)) w.head;
     lists_from = (w.counters ListWords).low;
     lists_to = counter_bound z o words hs log w ListWords;
   }
@@ -40,19 +40,19 @@ Touches z words own step =
     ((n : ℕ) × (step ≡ Load n))
     ⊎ (word_of step < slot_word z 0)
     ⊎ ((b : Own) × (v : ℕ) × (own ≡ Some b) × (b.stored < length b.words) × (step ≡ Store (b.at + b.stored) v))
-    ⊎ ((l v : ℕ) × (l < z.slots) × (step ≡ Store (slot_word z l) v) × (((get_or words (slot_word z l) 0 ≡ 0) × (1 < v)) ⊎ ((v ≡ 1) × (1 < get_or words (slot_word z l) 0))))
+    ⊎ ((l v : ℕ) × (l < z.slots) × (step ≡ Store (slot_word z l) v) × (((slice_index words (slot_word z l) ≡ 0) × (1 < v)) ⊎ ((v ≡ 1) × (1 < slice_index words (slot_word z l)))))
 
 -- a word that a step isn't about stays
-elsewhere : (words : List ℕ) (step : Step) (n : ℕ) → n ≢ word_of step → get_or (words_after words step) n 0 ≡ get_or words n 0
+elsewhere : (words : List ℕ) (step : Step) (n : ℕ) → n ≢ word_of step → slice_index (words_after words step) n ≡ slice_index words n
 elsewhere words (Load m) n other = refl
 elsewhere words (Store m v) n other = get_or-set_other words m n v 0 other
-elsewhere words (Exchange m old new) n other = get_or-set_other words m n (cond (get_or words m 0 == old) new (get_or words m 0)) 0 other
+elsewhere words (Exchange m old new) n other = get_or-set_other words m n (if slice_index words m == old then new else slice_index words m) 0 other
 elsewhere words (Add m k) n other = get_or-set_other words m n _ 0 other
 
 pub same_long : (words : List ℕ) (step : Step) → length (words_after words step) ≡ length words
 same_long words (Load m) = refl
 same_long words (Store m v) = length-set words m v
-same_long words (Exchange m old new) = length-set words m (cond (get_or words m 0 == old) new (get_or words m 0))
+same_long words (Exchange m old new) = length-set words m (if slice_index words m == old then new else slice_index words m)
 same_long words (Add m k) = length-set words m _
 
 -- a slot that was EMPTY, and one that held a reference, in orderly words
@@ -96,9 +96,9 @@ module _ (z : Layout) (o : Opening) (words : List ℕ) (before : List Holding) (
       let count = w.count in
       elim (eqb_tells l n) [
         | inl same ↦
-            let stored : slot_at z (words_after words step) l ≡ v = ap (λ m. get_or (words_after words step) (slot_word z m) 0) same.1
-            ∙ ap (λ (s : Step). get_or (words_after words s) (slot_word z n) 0) slot.3 ∙ get_or-set_same words (slot_word z n) v 0 (omega (arith, inside, count)) in
-            let was : slot_at z words l ≡ get_or words (slot_word z n) 0 = ap (λ m. get_or words (slot_word z m) 0) same.1 in
+            let stored : slot_at z (words_after words step) l ≡ v = ap (λ m. slice_index (words_after words step) (slot_word z m)) same.1
+            ∙ ap (λ (s : Step). slice_index (words_after words s) (slot_word z n)) slot.3 ∙ get_or-set_same words (slot_word z n) v 0 (omega (arith, inside, count)) in
+            let was : slot_at z words l ≡ slice_index words (slot_word z n) = ap (λ m. slice_index words (slot_word z m)) same.1 in
             elim slot.4 [
               | inl join ↦ let far = join.1 in joins z words (words_after words step) l below later (was ∙ join.0) (omega (arith, stored, far))
               | inr leave ↦ let far = leave.1 in leaves z words (words_after words step) l below (orderly_words z o words (before ++ h ∷ after) log w) (omega (arith, was, far)) (stored ∙ leave.0)

@@ -1,5 +1,5 @@
 -- A lawful state with one part in the place of another, and with other words.
-use Rattle.partial_core.proofs.{Common.{ℕ, ◌+◌, ◌≡◌, ◌≢◌, ◌≤◌, ◌==◌, ◌++◌, Bool, true, false, cond, Option, Some, None, List, [], ◌∷◌, length, take, drop, min, refl, sym, ap, subst, ◌∙◌, arith, append_assoc, length-append, length-take, AllByRecursion, false≢true, ne_eqb, eq-eqb, append-nil, take_all, take-append-drop, take-append-le, Applied, Opening, Noted, LegalNotes, IsLegal, seen_by, places_by, places_written, LegalNotes-push, LegalNotes-grows, places_written-append, Step, Load, Store, Exchange, Add, Layout, CoreState, advance, step_of, IsPossible, Holding, LawfulWords, KeptAnswer, IsLoaded, all_weaker, Part, led_by, core_of, port_of, holding_of, holdings, is_at_rest, IsTrueYet, AreAnswersKept, IsKnown, notes_by, PartAmong, LawfulAmong, IsKept}, Calls.led_push}
+use Rattle.partial_core.proofs.{Common.{ℕ, ◌+◌, ◌≡◌, ◌≢◌, ◌≤◌, ◌==◌, ◌++◌, Bool, true, false, if◌then◌else◌, Option, Some, None, List, [], ◌∷◌, length, take, drop, min, refl, sym, ap, subst, ◌∙◌, arith, append_assoc, length-append, length-take, AllByRecursion, false≢true, ne_eqb, eq-eqb, append-nil, take_all, take-append-drop, take-append-le, Applied, Opening, Noted, LegalNotes, IsLegal, seen_by, places_by, places_written, LegalNotes-push, LegalNotes-grows, places_written-append, Step, Load, Store, Exchange, Add, Layout, CoreState, advance, step_of, IsPossible, Holding, LawfulWords, KeptAnswer, IsLoaded, all_weaker, Part, led_by, core_of, port_of, holding_of, holdings, is_at_rest, IsTrueYet, AreAnswersKept, IsKnown, notes_by, PartAmong, LawfulAmong, IsKept}, Calls.led_push}
 
 -- a beginning of a list is no longer than the list
 pub seen_within : {A : Type 0} (seen log : List A) → seen ≡ take (length seen) log → length seen ≤ length log
@@ -164,19 +164,19 @@ changed z o m words' y es w keeps once known =
 notes_none : (p : ℕ) (xs : List Part) → AllByRecursion (λ y. p ≢ port_of y) xs → notes_by p xs ≡ []
 notes_none p [] w = refl
 notes_none p (y ∷ ys) w =
-    ap (λ b. cond b y.notes [] ++ notes_by p ys) (ne_eqb (port_of y) p (λ e. w.0 (sym e))) ∙ notes_none p ys w.1
+    ap (λ b. (if b then y.notes else []) ++ notes_by p ys) (ne_eqb (port_of y) p (λ e. w.0 (sym e))) ∙ notes_none p ys w.1
 
 -- the notes of a port, with one part taken out
 pub notes_split : (p : ℕ) (before : List Part) (x : Part) (after : List Part) → places_written (notes_by p (before ++ x ∷ after)) ≡ places_written (notes_by p before) ++
-    (places_written (cond (port_of x == p) x.notes []) ++ places_written (notes_by p after))
-notes_split p [] x after = places_written-append (cond (port_of x == p) x.notes []) (notes_by p after)
+    (places_written (if port_of x == p then x.notes else []) ++ places_written (notes_by p after))
+notes_split p [] x after = places_written-append (if port_of x == p then x.notes else []) (notes_by p after)
 notes_split p (b ∷ before) x after =
-    places_written-append (cond (port_of b == p) b.notes []) (notes_by p (before ++ x ∷ after))
-    ∙ ap (λ (l : List ℕ). places_written (cond (port_of b == p) b.notes []) ++ l) (notes_split p before x after)
-    ∙ sym (append_assoc (places_written (cond (port_of b == p) b.notes [])) (places_written (notes_by p before))
-    (places_written (cond (port_of x == p) x.notes []) ++ places_written (notes_by p after)))
-    ∙ ap (λ (l : List ℕ). l ++ (places_written (cond (port_of x == p) x.notes []) ++ places_written (notes_by p after)))
-    (sym (places_written-append (cond (port_of b == p) b.notes []) (notes_by p before)))
+    places_written-append (if port_of b == p then b.notes else []) (notes_by p (before ++ x ∷ after))
+    ∙ ap (λ (l : List ℕ). places_written (if port_of b == p then b.notes else []) ++ l) (notes_split p before x after)
+    ∙ sym (append_assoc (places_written (if port_of b == p then b.notes else [])) (places_written (notes_by p before))
+    (places_written (if port_of x == p then x.notes else []) ++ places_written (notes_by p after)))
+    ∙ ap (λ (l : List ℕ). l ++ (places_written (if port_of x == p then x.notes else []) ++ places_written (notes_by p after)))
+    (sym (places_written-append (if port_of b == p then b.notes else []) (notes_by p before)))
 
 -- the same places are written where the part's notes write the same places
 pub once_same : (p : ℕ) (before : List Part) (x y : Part) (after : List Part) → port_of y ≡ port_of x → places_written y.notes ≡ places_written x.notes →
@@ -186,27 +186,27 @@ once_same p before x y after port same =
     ∙ ap (λ (l : List ℕ). places_written (notes_by p before) ++ (l ++ places_written (notes_by p after))) (chosen p (port_of y) (port_of x) x.notes y.notes port same)
     ∙ sym (notes_split p before x after)
   where
-    picked : (b : Bool) (ms ns : List Noted) → places_written ns ≡ places_written ms → places_written (cond b ns []) ≡ places_written (cond b ms [])
+    picked : (b : Bool) (ms ns : List Noted) → places_written ns ≡ places_written ms → places_written (if b then ns else []) ≡ places_written (if b then ms else [])
     picked true ms ns e = e
     picked false ms ns e = refl
 
-    chosen : (p q r : ℕ) (ms ns : List Noted) → q ≡ r → places_written ns ≡ places_written ms → places_written (cond (q == p) ns []) ≡ places_written (cond (r == p) ms [])
-    chosen p q r ms ns port e = ap (λ n. places_written (cond (n == p) ns [])) port ∙ picked (r == p) ms ns e
+    chosen : (p q r : ℕ) (ms ns : List Noted) → q ≡ r → places_written ns ≡ places_written ms → places_written (if q == p then ns else []) ≡ places_written (if r == p then ms else [])
+    chosen p q r ms ns port e = ap (λ n. places_written (if n == p then ns else [])) port ∙ picked (r == p) ms ns e
 
 -- the places of the port that writes one more, and those of each other port
 pub once_own : (before : List Part) (x : Part) (after : List Part) → AllByRecursion (λ y. port_of x ≢ port_of y) before → AllByRecursion (λ y. port_of x ≢ port_of y) after →
     places_written (notes_by (port_of x) (before ++ x ∷ after)) ≡ places_written x.notes
 once_own before x after b a =
     notes_split (port_of x) before x after
-    ∙ ap (λ (ns : List Noted). places_written ns ++ (places_written (cond (port_of x == port_of x) x.notes []) ++ places_written (notes_by (port_of x) after))) (notes_none (port_of x) before b)
-    ∙ ap (λ (ns : List Noted). places_written (cond (port_of x == port_of x) x.notes []) ++ places_written ns) (notes_none (port_of x) after a)
-    ∙ append-nil (places_written (cond (port_of x == port_of x) x.notes []))
-    ∙ ap (λ t. places_written (cond t x.notes [])) (eq-eqb (port_of x) (port_of x) refl)
+    ∙ ap (λ (ns : List Noted). places_written ns ++ (places_written (if port_of x == port_of x then x.notes else []) ++ places_written (notes_by (port_of x) after))) (notes_none (port_of x) before b)
+    ∙ ap (λ (ns : List Noted). places_written (if port_of x == port_of x then x.notes else []) ++ places_written ns) (notes_none (port_of x) after a)
+    ∙ append-nil (places_written (if port_of x == port_of x then x.notes else []))
+    ∙ ap (λ t. places_written (if t then x.notes else [])) (eq-eqb (port_of x) (port_of x) refl)
 
 pub once_other : (p : ℕ) (before : List Part) (x y : Part) (after : List Part) → port_of y ≡ port_of x → (port_of x ≡ p → ⊥) → places_written (notes_by p (before ++ y ∷ after)) ≡ places_written
     (notes_by p (before ++ x ∷ after))
 once_other p before x y after port other =
     notes_split p before y after
-    ∙ ap (λ t. places_written (notes_by p before) ++ (places_written (cond t y.notes []) ++ places_written (notes_by p after))) (ne_eqb (port_of y) p (λ e. other (sym port ∙ e)))
-    ∙ ap (λ t. places_written (notes_by p before) ++ (places_written (cond t x.notes []) ++ places_written (notes_by p after))) (sym (ne_eqb (port_of x) p other))
+    ∙ ap (λ t. places_written (notes_by p before) ++ (places_written (if t then y.notes else []) ++ places_written (notes_by p after))) (ne_eqb (port_of y) p (λ e. other (sym port ∙ e)))
+    ∙ ap (λ t. places_written (notes_by p before) ++ (places_written (if t then x.notes else []) ++ places_written (notes_by p after))) (sym (ne_eqb (port_of x) p other))
     ∙ sym (notes_split p before x after)

@@ -1,5 +1,5 @@
 -- What a lawful state says of its ports: they are distinct, fit the history, may look, and make few steps.
-use Rattle.partial_core.proofs.{Common.{ℕ, suc, ◌≡◌, ◌≢◌, ◌+◌, ◌<◌, ◌≤◌, ◌==◌, ◌++◌, ◌⊎◌, Bool, true, false, cond, List, [], ◌∷◌, length, map, refl, sym, ap, subst, ◌∙◌, inl, inr, arith, append_assoc, Contains, AllByRecursion, eq-eqb, eqb_tells, take_all, length-map, Applied, Opening, places_by, places_written, Layout, IsLayout, view_word, CoreState, advance, most_steps, Run, makes_few_steps, Holding, HaveOtherPorts, LawfulWords, IsEntry, KeptAnswer, all_unmap, all_before, all_after, all_weaker, two_before, two_after, Part, led_by, core_of, port_of, answers_of, with_seen, holding_of, holdings, AreAnswersKept, IsKnown, notes_by, Lawful, FitsHistory, LawfulPortsFit, LawfulRecordsAreWithin, LooksStayLawful, HasFewSteps, LawfulCallsAreBounded, PartAmong, LawfulAmong}, Calls.led, Parts.{seen_within, legal_on, all_changed, holdings_split, once_same, once_own}, Steps.{known_here, memory_here, port_here}}
+use Rattle.partial_core.proofs.{Common.{ℕ, suc, ◌≡◌, ◌≢◌, ◌+◌, ◌<◌, ◌≤◌, ◌==◌, ◌++◌, ◌⊎◌, Bool, true, false, if◌then◌else◌, List, [], ◌∷◌, length, map, refl, sym, ap, subst, ◌∙◌, inl, inr, arith, append_assoc, Contains, AllByRecursion, eq-eqb, eqb_tells, take_all, length-map, Applied, Opening, places_by, places_written, Layout, IsLayout, view_word, CoreState, advance, most_steps, Run, makes_few_steps, Holding, HaveOtherPorts, LawfulWords, IsEntry, KeptAnswer, all_unmap, all_before, all_after, all_weaker, two_before, two_after, Part, led_by, core_of, port_of, answers_of, with_seen, holding_of, holdings, AreAnswersKept, IsKnown, notes_by, Lawful, FitsHistory, LawfulPortsFit, LawfulRecordsAreWithin, LooksStayLawful, HasFewSteps, LawfulCallsAreBounded, PartAmong, LawfulAmong}, Calls.led, Parts.{seen_within, legal_on, all_changed, holdings_split, once_same, once_own}, Steps.{known_here, memory_here, port_here}}
 
 -- what holds of each element in two ways
 both_all : {A : Type 0} (P Q R : A → Type 0) → ((x : A) → P x → Q x → R x) → (xs : List A) → AllByRecursion P xs → AllByRecursion Q xs → AllByRecursion R xs
@@ -56,16 +56,16 @@ is_part p (x ∷ xs) = elim (eqb_tells (port_of x) p) [
   | inl same ↦ inl (0, omega arith, same.1)
   | inr other ↦ elim (is_part p xs) [
     | inl c ↦ let k = c.0 in let within = c.1 in inl (suc k, omega (arith, within), c.2)
-    | inr none ↦ inr (ap (λ (b : Bool). cond b x.notes [] ++ notes_by p xs) other.0 ∙ none)
+    | inr none ↦ inr (ap (λ (b : Bool). (if b then x.notes else []) ++ notes_by p xs) other.0 ∙ none)
   ]
 ]
 
 -- where a port has no entry
-taken : (k : ℕ) (l : List ℕ) (b : Bool) → b ≡ true → cond b (k ∷ l) l ≡ [] → ⊥
+taken : (k : ℕ) (l : List ℕ) (b : Bool) → b ≡ true → (if b then k ∷ l else l) ≡ [] → ⊥
 taken k l true e f = absurd cc
 taken k l false e f = absurd cc
 
-left : (k : ℕ) (l : List ℕ) (b : Bool) → cond b (k ∷ l) l ≡ [] → l ≡ []
+left : (k : ℕ) (l : List ℕ) (b : Bool) → (if b then k ∷ l else l) ≡ [] → l ≡ []
 left k l true f = absurd cc
 left k l false f = f
 

@@ -1,5 +1,5 @@
 -- What one step of a port's machine leads to, from what it does to the words and to what the port holds.
-use Rattle.partial_core.proofs.{Common.{ℕ, ◌≡◌, ◌<◌, ◌≤◌, ◌++◌, true, false, cond, Option, Some, List, [], ◌∷◌, length, get_or, refl, sym, ap, subst, ◌∙◌, arith, false≢true, append-nil, take_all, Applied, Opening, Noted, IsLegal, seen_by, seen_after, places_by, places_written, seen_by-push, places_written-append, Step, Load, Layout, Answers, answer_of, words_after, word_of, Stage, CoreState, lists_spent, advance_at, step_at, step_of, reply_of, IsSound, is_sound_at, IsPossible, IsPossibleAt, Holding, LawfulWords, KeptAnswer, IsLoaded, loads_are_true, IsReadable, Part, core_of, port_of, led_by, first_at, holding_of, holding_at, holdings, joined_from, joined_since, joins_at, own_at, is_begun, is_at_rest, IsTrueYet, IsKnown, AreAnswersKept, AreNotesOf, has_no_step, PartAmong, LawfulAmong, all_parts}, Added.added_at, MidCalls.{knows_at, Knows}, Calls.{led, IsLed, called_on, last_at, joined_push}, Parts.{LawfulWith, IsKeptAmong, seen_within, known_grows, gone, gone_core, known_on, known_end, holdings_split, all_at, changed, once_same}}
+use Rattle.partial_core.proofs.{Common.{ℕ, ◌≡◌, ◌<◌, ◌≤◌, ◌++◌, true, false, if◌then◌else◌, Option, Some, List, [], ◌∷◌, length, slice_index, refl, sym, ap, subst, ◌∙◌, arith, false≢true, append-nil, take_all, Applied, Opening, Noted, IsLegal, seen_by, seen_after, places_by, places_written, seen_by-push, places_written-append, Step, Load, Layout, Answers, answer_of, words_after, word_of, Stage, CoreState, lists_spent, advance_at, step_at, step_of, reply_of, IsSound, is_sound_at, IsPossible, IsPossibleAt, Holding, LawfulWords, KeptAnswer, IsLoaded, loads_are_true, IsReadable, Part, core_of, port_of, led_by, first_at, holding_of, holding_at, holdings, joined_from, joined_since, joins_at, own_at, is_begun, is_at_rest, IsTrueYet, IsKnown, AreAnswersKept, AreNotesOf, has_no_step, PartAmong, LawfulAmong, all_parts}, Added.added_at, MidCalls.{knows_at, Knows}, Calls.{led, IsLed, called_on, last_at, joined_push}, Parts.{LawfulWith, IsKeptAmong, seen_within, known_grows, gone, gone_core, known_on, known_end, holdings_split, all_at, changed, once_same}}
 use Rattle.partial_machine.specs.declared.stage.Stage.TheVariants.{Idle, ReadBegun, LoadingValue, UpdateBegun, GettingSet, Viewing, ClaimingRecord, StoringRecord, Exchanging, ScanBegun, StoringAnnouncement, Joining, Scanning, Leaving, Finished}
 use Rattle.partial_core.specs.Held.{claimed_at, due_at}
 
@@ -79,16 +79,16 @@ module _ (z : Layout) (o : Opening) (m : PartAmong) (w : LawfulAmong z o m) wher
 
   -- what the part holds behind one answer more
   pub holding_gone : (s : Stage) (t : CoreState) (l : List Applied) (a : ℕ) (new : List Noted) → (core_of x).stage ≡ s → advance_at (core_of x) s a ≡ t → holding_of (gone x l a new) ≡ holding_at t
-      (cond (joins_at (core_of x) s) (length l) (joined_since x))
+      (if joins_at (core_of x) s then length l else joined_since x)
   holding_gone s t l a new e leads =
       let core = gone_core x l a new ∙ ap (λ (u : Stage). advance_at (core_of x) u a) e ∙ leads in
-      let since = joined_push 0 x.begun x.kept (record { answer = a; at = length l }) ∙ ap (λ (u : Stage). cond (joins_at (core_of x) u) (length l) (joined_since x)) e in
+      let since = joined_push 0 x.begun x.kept (record { answer = a; at = length l }) ∙ ap (λ (u : Stage). if joins_at (core_of x) u then length l else joined_since x) e in
       ap (λ (c : CoreState). holding_at c (joined_since (gone x l a new))) core ∙ ap (λ (n : ℕ). holding_at t n) since
 
   -- a step that adds no entry leads to a state in which the part holds h'
   module _ (s : Stage) (step : Step) (t : CoreState) (h' : Holding) (e : (core_of x).stage ≡ s) (due : step_at (core_of x) s ≡ Some step) (leads : advance_at (core_of x) s (answer_of words step) ≡ t)
       (added : added_at (core_of x).port s (answer_of words step) ≡ []) (within : word_of step < length words) (possible : IsPossibleAt (core_of x) s (answer_of words step))
-      (holds : holding_at t (cond (joins_at (core_of x) s) (length log) (joined_since x)) ≡ h')
+      (holds : holding_at t (if joins_at (core_of x) s then length log else joined_since x) ≡ h')
       (keeps : IsKeptAmong z o m (holding_of x) (words_after words step) h' log)
       (yet : (hs : List Holding) → hs ≡ holdings before ++ h' ∷ holdings after → IsTrueYet z o (words_after words step) hs log (Some step)
       (record { answer = answer_of words step; at = length log })) where
@@ -167,27 +167,27 @@ module _ (z : Layout) (o : Opening) (m : PartAmong) (w : LawfulAmong z o m) wher
         (ap (λ (u : Stage). is_at_rest (advance_at (core_of x) u (answer_of words step)).stage) e ∙ ap (λ (c : CoreState). is_at_rest c.stage) leads ∙ rest))) noted
 
   -- a load changes no word, and what the port holds stays
-  module _ (s : Stage) (n : ℕ) (t : CoreState) (e : (core_of x).stage ≡ s) (due : step_at (core_of x) s ≡ Some (Load n)) (leads : advance_at (core_of x) s (get_or words n 0) ≡ t)
-      (added : added_at (core_of x).port s (get_or words n 0) ≡ []) (readable : IsReadable z words all_hold n) (possible : IsPossibleAt (core_of x) s (get_or words n 0))
-      (holds : holding_at t (cond (joins_at (core_of x) s) (length log) (joined_since x)) ≡ holding_in (core_of x) s (joined_since x)) where
+  module _ (s : Stage) (n : ℕ) (t : CoreState) (e : (core_of x).stage ≡ s) (due : step_at (core_of x) s ≡ Some (Load n)) (leads : advance_at (core_of x) s (slice_index words n) ≡ t)
+      (added : added_at (core_of x).port s (slice_index words n) ≡ []) (readable : IsReadable z words all_hold n) (possible : IsPossibleAt (core_of x) s (slice_index words n))
+      (holds : holding_at t (if joins_at (core_of x) s then length log else joined_since x) ≡ holding_in (core_of x) s (joined_since x)) where
     load_keeps : IsKeptAmong z o m (holding_of x) words (holding_in (core_of x) s (joined_since x)) log
     load_keeps = subst (λ (u : Stage). IsKeptAmong z o m (holding_of x) words (holding_in (core_of x) u (joined_since x)) log) e
         (record { lawful = memory_here; loads = λ m k l. l })
 
     load_yet : (hs : List Holding) → hs ≡ holdings before ++ holding_in (core_of x) s (joined_since x) ∷ holdings after →
-        IsLoaded z o words hs log n (record { answer = get_or words n 0; at = length log })
+        IsLoaded z o words hs log n (record { answer = slice_index words n; at = length log })
     load_yet hs is =
         let same : all_hold ≡ hs = holdings_split before x after ∙ ap (λ (u : Stage). holdings before ++ holding_in (core_of x) u (joined_since x) ∷ holdings after) e ∙ sym is in
-        subst (λ (ks : List Holding). IsLoaded z o words ks log n (record { answer = get_or words n 0; at = length log })) same (loads_are_true z o words all_hold log n w.memory readable.0 readable.1)
+        subst (λ (ks : List Holding). IsLoaded z o words ks log n (record { answer = slice_index words n; at = length log })) same (loads_are_true z o words all_hold log n w.memory readable.0 readable.1)
 
     load_within : n < length words
     load_within = let count = w.memory.count in let below = readable.0 in omega (arith, count, below)
 
-    pub load_quiet : is_at_rest s ≡ false → AreNotesOf o (gone x log (get_or words n 0) []) (reply_of t) [] → LeadsAt z o m s (Load n)
+    pub load_quiet : is_at_rest s ≡ false → AreNotesOf o (gone x log (slice_index words n) []) (reply_of t) [] → LeadsAt z o m s (Load n)
     load_quiet going noted = quiet s (Load n) t (holding_in (core_of x) s (joined_since x)) e due leads added load_within possible holds load_keeps load_yet going noted
 
     pub load_ends : (note : Noted) → places_written (note ∷ []) ≡ [] → IsLegal o log (port_of x) (seen_by 0 x.notes) note → seen_after (seen_by 0 x.notes) note.note ≤ length log →
-        is_at_rest t.stage ≡ true → AreNotesOf o (gone x log (get_or words n 0) (note ∷ [])) (reply_of t) (note ∷ []) → LeadsAt z o m s (Load n)
+        is_at_rest t.stage ≡ true → AreNotesOf o (gone x log (slice_index words n) (note ∷ [])) (reply_of t) (note ∷ []) → LeadsAt z o m s (Load n)
     load_ends note written legal shown rest noted = ends s (Load n) t (holding_in (core_of x) s (joined_since x)) e due leads added load_within possible holds load_keeps load_yet note
         written legal shown rest noted
 

@@ -1,5 +1,5 @@
 -- The store of a word of an update's record: behind the last one the exchange is due.
-use Rattle.partial_core.proofs.{Common.{ℕ, ◌≡◌, ◌+◌, ◌<◌, ◌≤◌, ◌==◌, ◌++◌, Bool, true, false, cond, Option, Some, None, IfSome, List, ◌∷◌, length, get_or, slice_get, inl, inr, refl, sym, ap, subst, ◌∙◌, arith, AllByRecursion, eqb-true, Applied, Opening, Step, Store, Layout, pool_end, words_after, prev_of, prev_word, view_word, plain_record_size, Change, Stage, StoringRecord, Exchanging, CoreState, at_stage, record_words, record_size, scanning, AreComponentIndices, is_sound_at, JoinedAnnouncement, IsBegunSince, ClaimedSlot, Holding, Own, Due, IfJoined, unpublished, Pool, IsEntry, IsPublished, stores_are_kept, dues_are_kept, loads_are_true, entry_published, if_all, three_words, all_before, all_after, all_append, IsThird, core_of, first_at, holding_of, holdings, joined_since, AllByRecursion-get, PartAmong, LawfulAmong}, MidCalls.IsViewed, Parts.{IsKeptAmong, holdings_split}, Steps.{LeadsAt, holding_in, sizes_here, sound_here, sound_at, memory_at, going, quiet}, Joins.keeps_then, StoredFacts.{HasViewed, length_record, record_due}}
+use Rattle.partial_core.proofs.{Common.{ℕ, ◌≡◌, ◌+◌, ◌<◌, ◌≤◌, ◌==◌, ◌++◌, Bool, true, false, if◌then◌else◌, Option, Some, None, IfSome, List, ◌∷◌, length, slice_index, slice_get, inl, inr, refl, sym, ap, subst, ◌∙◌, arith, AllByRecursion, eqb-true, Applied, Opening, Step, Store, Layout, pool_end, words_after, prev_of, prev_word, view_word, plain_record_size, Change, Stage, StoringRecord, Exchanging, CoreState, at_stage, record_words, record_size, scanning, AreComponentIndices, is_sound_at, JoinedAnnouncement, IsBegunSince, ClaimedSlot, Holding, Own, Due, IfJoined, unpublished, Pool, IsEntry, IsPublished, stores_are_kept, dues_are_kept, loads_are_true, entry_published, if_all, three_words, all_before, all_after, all_append, IsThird, core_of, first_at, holding_of, holdings, joined_since, AllByRecursion-get, PartAmong, LawfulAmong}, MidCalls.IsViewed, Parts.{IsKeptAmong, holdings_split}, Steps.{LeadsAt, holding_in, sizes_here, sound_here, sound_at, memory_at, going, quiet}, Joins.keeps_then, StoredFacts.{HasViewed, length_record, record_due}}
 use Rattle.partial_knowledge.specs.Sets as sets
 use Rattle.partial_model.proofs.AllLemmas.{all_where}
 
@@ -13,7 +13,7 @@ finds_all hs low indices finds =
 
 -- what an update has viewed, in words in which the entries' records are the same
 viewed_then : (z : Layout) (o : Opening) (words words' : List ℕ) (hs : List Holding) (log : List Applied) (first : ℕ) (s : CoreState) → first ≤ length log →
-    ((q : ℕ) (d : Applied) (n : ℕ) → slice_get log q ≡ Some d → n < plain_record_size → get_or words' (d.stamp + n) 0 ≡ get_or words (d.stamp + n) 0) → IsViewed z o words hs log first s →
+    ((q : ℕ) (d : Applied) (n : ℕ) → slice_get log q ≡ Some d → n < plain_record_size → slice_index words' (d.stamp + n) ≡ slice_index words (d.stamp + n)) → IsViewed z o words hs log first s →
     HasViewed o words' log first s
 viewed_then z o words words' hs log first s inside same viewed = elim viewed.1 [
   | inl nothing ↦ record {
@@ -25,9 +25,9 @@ viewed_then z o words words' hs log first s inside same viewed = elim viewed.1 [
     borrowed = λ stamp some.
         let known = finished.1 stamp some in
         let third : IsThird words log s.found.indices first (scanning s) stamp = known.0 in
-        let at : (n : ℕ) → n < plain_record_size → get_or words' (stamp + n) 0 ≡ get_or words (stamp + n) 0 = λ n lt. subst (λ t. get_or words' (t + n) 0 ≡ get_or words (t + n) 0) third.is
+        let at : (n : ℕ) → n < plain_record_size → slice_index words' (stamp + n) ≡ slice_index words (stamp + n) = λ n lt. subst (λ t. slice_index words' (t + n) ≡ slice_index words (t + n)) third.is
         (same third.place third.entry n third.stands lt) in
-        let prev : prev_of words' stamp ≡ prev_of words stamp = ap (λ n. get_or words' n 0) (omega arith) ∙ at (prev_word 0) (omega arith) ∙ ap (λ n. get_or words n 0) (omega arith) in
+        let prev : prev_of words' stamp ≡ prev_of words stamp = ap (λ n. slice_index words' n) (omega arith) ∙ at (prev_word 0) (omega arith) ∙ ap (λ n. slice_index words n) (omega arith) in
         let now : IsThird words' log s.found.indices first (scanning s) stamp = record {
           borrowed = third.borrowed;
           three = third.three;
@@ -55,7 +55,7 @@ module _ (z : Layout) (o : Opening) (m : PartAmong) (w : LawfulAmong z o m) (c :
   held = holding_in s (StoringRecord c old at k) (joined_since x)
 
   abbrev step : Step
-  step = Store (at + k) (get_or (record_words s c old at) k 0)
+  step = Store (at + k) (slice_index (record_words s c old at) k)
 
   abbrev words' : List ℕ
   words' = words_after words step
@@ -89,7 +89,7 @@ module _ (z : Layout) (o : Opening) (m : PartAmong) (w : LawfulAmong z o m) (c :
   word_stored more =
       let t : CoreState = at_stage s (StoringRecord c old at (k + 1)) in
       quiet z o m w (StoringRecord c old at k) step t (record held { own = Some (block (k + 1)) }) e refl
-      (ap (λ (b : Bool). at_stage s (cond b (Exchanging c old at) (StoringRecord c old at (k + 1)))) more) refl inside refl refl (kept_here (record held { own = Some (block (k + 1)) }) stored)
+      (ap (λ (b : Bool). at_stage s (if b then Exchanging c old at else StoringRecord c old at (k + 1))) more) refl inside refl refl (kept_here (record held { own = Some (block (k + 1)) }) stored)
       (λ ks is. tt) refl refl
 
   -- all that is held before the store
@@ -97,7 +97,7 @@ module _ (z : Layout) (o : Opening) (m : PartAmong) (w : LawfulAmong z o m) (c :
   hs = holdings before ++ held ∷ holdings after
 
   -- the store leaves the words of the entries' records
-  entry_stays : (q : ℕ) (d : Applied) (n : ℕ) → slice_get log q ≡ Some d → n < plain_record_size → get_or words' (d.stamp + n) 0 ≡ get_or words (d.stamp + n) 0
+  entry_stays : (q : ℕ) (d : Applied) (n : ℕ) → slice_get log q ≡ Some d → n < plain_record_size → slice_index words' (d.stamp + n) ≡ slice_index words (d.stamp + n)
   entry_stays q d n is few =
       let memory = memory_at z o m w (StoringRecord c old at k) e in
       let size = three_words words d.stamp in
@@ -105,7 +105,7 @@ module _ (z : Layout) (o : Opening) (m : PartAmong) (w : LawfulAmong z o m) (c :
       let entry = AllByRecursion-get (IsEntry z words) log q d memory.entries is in
       let above = entry.above in
       let within = entry.within in
-      let then' = stored.loads (d.stamp + n) (record { answer = get_or words (d.stamp + n) 0; at = length log })
+      let then' = stored.loads (d.stamp + n) (record { answer = slice_index words (d.stamp + n); at = length log })
       (loads_are_true z o words hs log (d.stamp + n) memory (omega (arith, within, few)) (λ far. published)) in
       sym (then'.block (omega (arith, above))).0
 
@@ -152,7 +152,7 @@ module _ (z : Layout) (o : Opening) (m : PartAmong) (w : LawfulAmong z o m) (c :
     last_stored =
         let t : CoreState = at_stage s (Exchanging c old at) in
         let h' : Holding = record held { own = Some whole; due = Some due } in
-        quiet z o m w (StoringRecord c old at k) step t h' e refl (ap (λ (b : Bool). at_stage s (cond b (Exchanging c old at) (StoringRecord c old at (k + 1)))) last) refl
+        quiet z o m w (StoringRecord c old at k) step t h' e refl (ap (λ (b : Bool). at_stage s (if b then Exchanging c old at else StoringRecord c old at (k + 1))) last) refl
         inside refl refl (kept_here h' comes_due) (λ ks is. tt) refl refl
 
   -- a word of the record is stored

@@ -1,21 +1,21 @@
 -- The record that an update writes: how many words it has, and what its view shows once all of them stand.
-use Rattle.partial_core.proofs.Common.{ℕ, ◌≡◌, ◌≢◌, ◌+◌, ◌<◌, ◌≤◌, ◌==◌, ◌++◌, ◌⊎◌, Bool, true, false, cond, suc, zero, Option, Some, None, List, [], ◌∷◌, length, get_or, slice_get, take, map, inl, inr, refl, sym, ap, subst, ◌∙◌, arith, Contains, nat_eq, AllByRecursion, IsDistinct, option_map_or, option_map, ne_eqb, eq-eqb, eqb-true, eqb-false, or_cases, false≢true, length-map, Applied, Opening, stamp_of, value_of, place_below, Layout, record_block, view_block, StandsAt, ReadsBackRecord, prev_of, view_of, own_view, plain_record_size, full_record_size, length-record_block, reads_back, has_index, Change, CoreState, record_words, record_size, own_pairs, view_at, scanning, AreComponentIndices, IsViewOf, Block, JoinedAnnouncement, HasPairs, IsView, HasFreshView, IsWithin, IsBegunSince, Covers, ViewNames, AreApart, IsApartFrom, Own, Holding, EachTwo, IfJoined, HaveOtherPorts, block_of, block_at, joined_in, other_holdings, unpublished, Pool, LawfulWords, IsTied, IsOwn, IsDue, CoversAll, all_weaker, all_at, all_before, all_after, all_append, all_front, all_back, all_map, two_before, two_after, if_some_at, joined_weaker, found_some, filter_append, others_gone, others_all, ports_turn, three_words, own_freed, entry_free, unpublished_two, Frame, parts_apart, within_more, pairs_move, own_in_pool, HasAll, HasValues, IsThird, stamp_within, begun_within, AllByRecursion-get}
+use Rattle.partial_core.proofs.Common.{ℕ, ◌≡◌, ◌≢◌, ◌+◌, ◌<◌, ◌≤◌, ◌==◌, ◌++◌, ◌⊎◌, Bool, true, false, if◌then◌else◌, suc, zero, Option, Some, None, List, [], ◌∷◌, length, slice_index, slice_get, take, map, inl, inr, refl, sym, ap, subst, ◌∙◌, arith, Contains, nat_eq, AllByRecursion, IsDistinct, option_map_or, option_map, ne_eqb, eq-eqb, eqb-true, eqb-false, or_cases, false≢true, length-map, Applied, Opening, stamp_of, value_of, place_below, Layout, record_block, view_block, StandsAt, ReadsBackRecord, prev_of, view_of, own_view, plain_record_size, full_record_size, length-record_block, reads_back, has_index, Change, CoreState, record_words, record_size, own_pairs, view_at, scanning, AreComponentIndices, IsViewOf, Block, JoinedAnnouncement, HasPairs, IsView, HasFreshView, IsWithin, IsBegunSince, Covers, ViewNames, AreApart, IsApartFrom, Own, Holding, EachTwo, IfJoined, HaveOtherPorts, block_of, block_at, joined_in, other_holdings, unpublished, Pool, LawfulWords, IsTied, IsOwn, IsDue, CoversAll, all_weaker, all_at, all_before, all_after, all_append, all_front, all_back, all_map, two_before, two_after, if_some_at, joined_weaker, found_some, filter_append, others_gone, others_all, ports_turn, three_words, own_freed, entry_free, unpublished_two, Frame, parts_apart, within_more, pairs_move, own_in_pool, HasAll, HasValues, IsThird, stamp_within, begun_within, AllByRecursion-get}
 use Rattle.partial_state.proofs.Blocks.{unpublished_is}
 
 length_by : (f : Option ℕ) (js : List ℕ) (value : ℕ → ℕ) (old v view : ℕ) → length (record_block old v view (option_map_or (λ _. []) f (map (λ j. (j, value j)) js)))
     ≡ option_map_or (λ _. plain_record_size) f
-    (cond (length js == 0) plain_record_size (full_record_size (length js)))
+    (if length js == 0 then plain_record_size else full_record_size (length js))
 length_by (Some n) js value old v view = refl
 length_by None [] value old v view = refl
 length_by None (j ∷ js) value old v view = length-record_block old v view (j, value j) (map (λ j. (j, value j)) js) ∙ ap (λ n. full_record_size n) (length-map (j ∷ js) (λ j. (j, value j)))
-    ∙ sym (ap (λ (b : Bool). cond b plain_record_size (full_record_size (length (j ∷ js)))) (ne_eqb (length (j ∷ js)) 0 (λ e. omega (arith, e))))
+    ∙ sym (ap (λ (b : Bool). if b then plain_record_size else full_record_size (length (j ∷ js))) (ne_eqb (length (j ∷ js)) 0 (λ e. omega (arith, e))))
 
 -- so many words has the record that an update writes
 pub length_record : (s : CoreState) (c : Change) (old at : ℕ) → length (record_words s c old at) ≡ record_size s
-length_record s c old at = length_by s.embedded.borrowed s.found.indices (λ j. get_or s.rows.values j 0) old c.value _
+length_record s c old at = length_by s.embedded.borrowed s.found.indices (λ j. slice_index s.rows.values j) old c.value _
 
 -- what holds at each place of a list
-each_index : (P : ℕ → Type 0) (js : List ℕ) → ((i : ℕ) → i < length js → P (get_or js i 0)) → AllByRecursion P js
+each_index : (P : ℕ → Type 0) (js : List ℕ) → ((i : ℕ) → i < length js → P (slice_index js i)) → AllByRecursion P js
 each_index P [] f = tt
 each_index P (j ∷ js) f = (f 0 (omega arith), each_index P js (λ i lt. f (suc i) (omega (arith, lt))))
 
@@ -46,7 +46,7 @@ view_stands words at old v view [] some stands = absurd (omega (arith, some))
 view_stands words at old v view (p ∷ ps) some stands = λ k lt.
     let h = stands (suc (suc (suc k))) (omega (arith, lt)) in
     let inside = h.0 in
-    (omega (arith, inside), ap (λ n. get_or words n 0) (omega arith) ∙ h.1)
+    (omega (arith, inside), ap (λ n. slice_index words n) (omega arith) ∙ h.1)
 
 -- a view stands behind the record of an entry, or is none
 abbrev IsOwned : List Applied → ℕ → Type 0
@@ -59,7 +59,7 @@ entry_owned log k e v is (inr (inl own)) = inr (k, e, is, own)
 entry_owned log k e v is (inr (inr its)) = inr its
 
 -- a record's view that is none or its own, and one that it shares
-own_or_none : (log : List Applied) (at v : ℕ) (b : Bool) → v ≡ cond b 0 (own_view at) → IsViewOf log at v
+own_or_none : (log : List Applied) (at v : ℕ) (b : Bool) → v ≡ (if b then 0 else own_view at) → IsViewOf log at v
 own_or_none log at v true e = inl e
 own_or_none log at v false e = inr (inl e)
 
@@ -157,19 +157,19 @@ module _ (z : Layout) (o : Opening) (words : List ℕ) (before : List Holding) (
 
   -- nothing is borrowed: the view is the record's own, with the values after one prefix
   module _ (none : s.embedded.borrowed ≡ None) (n : ℕ) (values : HasValues o log s.found.indices first (length log) s.rows n (length s.found.indices)) (few : length s.found.indices ≤ z.m)
-      (each : (i : ℕ) → i < length s.found.indices → get_or s.found.indices i 0 < z.m) (distinct : IsDistinct nat_eq s.found.indices) where
+      (each : (i : ℕ) → i < length s.found.indices → slice_index s.found.indices i < z.m) (distinct : IsDistinct nat_eq s.found.indices) where
     abbrev pairs : List (ℕ × ℕ)
-    pairs = map (λ j. (j, get_or s.rows.values j 0)) s.found.indices
+    pairs = map (λ j. (j, slice_index s.rows.values j)) s.found.indices
 
     pairs_are : own_pairs s ≡ pairs
     pairs_are = ap (λ (f : Option ℕ). option_map_or (λ _. []) f pairs) none
 
     count_is : length pairs ≡ length s.found.indices
-    count_is = length-map s.found.indices (λ j. (j, get_or s.rows.values j 0))
+    count_is = length-map s.found.indices (λ j. (j, slice_index s.rows.values j))
 
-    view_is : (b : Bool) → (length s.found.indices == 0) ≡ b → view_of words at ≡ cond b 0 (own_view at)
-    view_is b e = let r = reads in r.view ∙ ap (λ (f : Option ℕ). option_map_or (λ _. s.embedded.view) f (cond (length s.found.indices == 0) 0 (own_view at))) none
-        ∙ ap (λ (t : Bool). cond t 0 (own_view at)) e
+    view_is : (b : Bool) → (length s.found.indices == 0) ≡ b → view_of words at ≡ (if b then 0 else own_view at)
+    view_is b e = let r = reads in r.view ∙ ap (λ (f : Option ℕ). option_map_or (λ _. s.embedded.view) f (if length s.found.indices == 0 then 0 else own_view at)) none
+        ∙ ap (λ (t : Bool). if t then 0 else own_view at) e
 
     length_is : length (record_words s c old at) ≡ length (record_block old c.value (view_at s at) pairs)
     length_is = ap (λ (ps : List (ℕ × ℕ)). length (record_block old c.value (view_at s at) ps)) pairs_are
@@ -190,8 +190,8 @@ module _ (z : Layout) (o : Opening) (words : List ℕ) (before : List Holding) (
           within = omega (arith, t, size, total);
           below = omega (arith, l, size, total);
           few = omega (arith, few, count);
-          components = all_map (λ (q : ℕ × ℕ). q.0 < z.m) (λ j. (j, get_or s.rows.values j 0)) s.found.indices (each_index (λ j. j < z.m) s.found.indices each);
-          distinct = subst (IsDistinct nat_eq) (sym (firsts (λ j. get_or s.rows.values j 0) s.found.indices)) distinct;
+          components = all_map (λ (q : ℕ × ℕ). q.0 < z.m) (λ j. (j, slice_index s.rows.values j)) s.found.indices (each_index (λ j. j < z.m) s.found.indices each);
+          distinct = subst (IsDistinct nat_eq) (sym (firsts (λ j. slice_index s.rows.values j) s.found.indices)) distinct;
           stands = view_stands words at old c.value (view_at s at) pairs some (subst (λ (ps : List (ℕ × ℕ)). StandsAt words at (record_block old c.value (view_at s at) ps)) pairs_are stands);
           apart = parts_apart us (record { at = own_view at; size = length (view_block pairs) }) (block_of block) (omega arith) (omega (arith, size, total)) apart_own;
         }
@@ -201,7 +201,7 @@ module _ (z : Layout) (o : Opening) (words : List ℕ) (before : List Holding) (
         not_zero (suc k) d = omega arith
 
     shown_by : (b : Bool) → (length s.found.indices == 0) ≡ b → HasPairs z words us at pairs
-    shown_by true e = inl (view_is true e, no_pairs (λ j. get_or s.rows.values j 0) s.found.indices (eqb-true (length s.found.indices) 0 e))
+    shown_by true e = inl (view_is true e, no_pairs (λ j. slice_index s.rows.values j) s.found.indices (eqb-true (length s.found.indices) 0 e))
     shown_by false e = inr (subst (λ v. IsView z words us v pairs) (sym (view_is false e)) (own_stands e))
 
     shown : HasPairs z words us at pairs
@@ -212,27 +212,27 @@ module _ (z : Layout) (o : Opening) (words : List ℕ) (before : List Holding) (
       pairs,
       shown,
       each_index (λ i. Contains (map (λ (q : ℕ × ℕ). q.0) pairs) i) j.indices
-          (λ k lt. subst (λ (l : List ℕ). Contains l (get_or j.indices k 0)) (sym (firsts (λ i. get_or s.rows.values i 0) s.found.indices))
-          (has_contains s.found.indices (get_or j.indices k 0) (all k lt))),
+          (λ k lt. subst (λ (l : List ℕ). Contains l (slice_index j.indices k)) (sym (firsts (λ i. slice_index s.rows.values i) s.found.indices))
+          (has_contains s.found.indices (slice_index j.indices k) (all k lt))),
     )
 
     size_by : (b : Bool) → (length s.found.indices == 0) ≡ b → length (record_words s c old at) ≡ (block_at words at).size
     size_by true e =
-        let empty = no_pairs (λ j. get_or s.rows.values j 0) s.found.indices (eqb-true (length s.found.indices) 0 e) in
+        let empty = no_pairs (λ j. slice_index s.rows.values j) s.found.indices (eqb-true (length s.found.indices) 0 e) in
         let view = view_is true e in
         length_is ∙ ap (λ (ps : List (ℕ × ℕ)). length (record_block old c.value (view_at s at) ps)) empty ∙
-        sym (ap (λ (t : Bool). cond t (full_record_size (get_or words (own_view at) 0)) plain_record_size) (ne_eqb (view_of words at) (own_view at) (λ same. omega (arith, view, same))))
+        sym (ap (λ (t : Bool). if t then full_record_size (slice_index words (own_view at)) else plain_record_size) (ne_eqb (view_of words at) (own_view at) (λ same. omega (arith, view, same))))
     size_by false e =
         let v = own_stands e in
-        let len : get_or words (own_view at) 0 ≡ length pairs = ap (λ i. get_or words i 0) (omega arith) ∙ (v.stands 0 (omega arith)).1 in
+        let len : slice_index words (own_view at) ≡ length pairs = ap (λ i. slice_index words i) (omega arith) ∙ (v.stands 0 (omega arith)).1 in
         let count = count_is in
         let not_none = eqb-false (length s.found.indices) 0 e in
         let record_is : length (record_words s c old at) ≡ full_record_size (length pairs) =
         length_record s c old at
-        ∙ ap (λ (f : Option ℕ). option_map_or (λ _. plain_record_size) f (cond (length s.found.indices == 0) plain_record_size (full_record_size (length s.found.indices)))) none ∙
-        ap (λ (t : Bool). cond t plain_record_size (full_record_size (length s.found.indices))) e ∙ ap (λ k. full_record_size k) (sym count) in
+        ∙ ap (λ (f : Option ℕ). option_map_or (λ _. plain_record_size) f (if length s.found.indices == 0 then plain_record_size else full_record_size (length s.found.indices))) none ∙
+        ap (λ (t : Bool). if t then plain_record_size else full_record_size (length s.found.indices)) e ∙ ap (λ k. full_record_size k) (sym count) in
         record_is ∙ ap (λ k. full_record_size k) (sym len)
-        ∙ sym (ap (λ (t : Bool). cond t (full_record_size (get_or words (own_view at) 0)) plain_record_size) (eq-eqb (view_of words at) (own_view at) (view_is false e)))
+        ∙ sym (ap (λ (t : Bool). if t then full_record_size (slice_index words (own_view at)) else plain_record_size) (eq-eqb (view_of words at) (own_view at) (view_is false e)))
 
     shows_own : Shows
     shows_own = record {
@@ -244,8 +244,8 @@ module _ (z : Layout) (o : Opening) (words : List ℕ) (before : List Holding) (
         prefix = n;
         contains = prev_within n values.from;
         without = values.to;
-        values = all_map (λ (q : ℕ × ℕ). q.1 ≡ value_of o (take n log) q.0) (λ j. (j, get_or s.rows.values j 0)) s.found.indices
-            (each_index (λ j. get_or s.rows.values j 0 ≡ value_of o (take n log) j) s.found.indices values.values);
+        values = all_map (λ (q : ℕ × ℕ). q.1 ≡ value_of o (take n log) q.0) (λ j. (j, slice_index s.rows.values j)) s.found.indices
+            (each_index (λ j. slice_index s.rows.values j ≡ value_of o (take n log) j) s.found.indices values.values);
       };
       covers = all_weaker (λ (v : Holding). IfJoined v (λ l j. j.since < first → HasAll s.found.indices j)) (λ v. IfJoined v (λ l j. Covers z words us log at j))
           (λ v k. joined_weaker v (λ l j. j.since < first → HasAll s.found.indices j) (λ l j. Covers z words us log at j) (λ l j all begun. names_found j (all (joined_below j.since begun))) k)
@@ -255,13 +255,13 @@ module _ (z : Layout) (o : Opening) (words : List ℕ) (before : List Holding) (
   -- the view of a third record is borrowed: it is fresh and covering as that record's is
   module _ (stamp : ℕ) (some : s.embedded.borrowed ≡ Some stamp) (third : IsThird words log s.found.indices first (scanning s) stamp) (shared : s.embedded.view ≡ view_of words stamp) where
     bare : own_pairs s ≡ []
-    bare = ap (λ (f : Option ℕ). option_map_or (λ _. []) f (map {B = ℕ × ℕ} (λ j. (j, get_or s.rows.values j 0)) s.found.indices)) some
+    bare = ap (λ (f : Option ℕ). option_map_or (λ _. []) f (map {B = ℕ × ℕ} (λ j. (j, slice_index s.rows.values j)) s.found.indices)) some
 
     three_long : length (record_words s c old at) ≡ 3
     three_long = ap (λ (ps : List (ℕ × ℕ)). length (record_block old c.value (view_at s at) ps)) bare
 
     view_same : view_of words at ≡ view_of words third.entry.stamp
-    view_same = let r = reads in r.view ∙ ap (λ (f : Option ℕ). option_map_or (λ _. s.embedded.view) f (cond (length s.found.indices == 0) 0 (own_view at))) some ∙ shared ∙
+    view_same = let r = reads in r.view ∙ ap (λ (f : Option ℕ). option_map_or (λ _. s.embedded.view) f (if length s.found.indices == 0 then 0 else own_view at)) some ∙ shared ∙
         ap (view_of words) (sym third.is)
 
     theirs : HasFreshView z o words (unpublished hs) log third.place third.entry.stamp
@@ -304,7 +304,7 @@ module _ (z : Layout) (o : Opening) (words : List ℕ) (before : List Holding) (
         let P : Holding → Type 0 = λ v. IfJoined v (λ l j. Covers z words (unpublished hs) log third.entry.stamp j) in
         let others : AllByRecursion P (before ++ after) = all_append P before after (all_before P before h after covering) (all_after P before h after covering) in
         record {
-          size = three_long ∙ sym (ap (λ (t : Bool). cond t (full_record_size (get_or words (own_view at) 0)) plain_record_size) (ne_eqb (view_of words at) (own_view at) view_elsewhere));
+          size = three_long ∙ sym (ap (λ (t : Bool). if t then full_record_size (slice_index words (own_view at)) else plain_record_size) (ne_eqb (view_of words at) (own_view at) view_elsewhere));
           fresh = record {
             pairs = fresh.pairs;
             shown = shown_here fresh.pairs fresh.shown;

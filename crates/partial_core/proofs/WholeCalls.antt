@@ -1,5 +1,5 @@
 -- A whole call, step by step.
-use Rattle.partial_core.proofs.{Common.{ℕ, ◌≡◌, ◌+◌, ◌<◌, ◌≤◌, ◌++◌, ◌||◌, Bool, true, false, cond, Option, Some, None, List, [], ◌∷◌, length, take, refl, sym, ap, subst, ◌∙◌, arith, length-append, append-nil, length-map, length_push, map_push, take-append-le, Applied, Opening, Noted, Layout, IsLayout, Reply, Stage, Idle, Finished, CoreState, at_stage, advance, reply_at, reply_of, is_begun, is_at_rest, begun_of, begin_scan, IsSound, IsPossible, IsPossibleAt, Run, AreOfScan, pairs_loaded, most_steps, IsMarkedFor, refuses_pool, refuses_slots, IsBehind, calls_begin, rests_are_sound, makes_few_steps, reads_in_two, KeptAnswer, Part, core_of, answers_of, first_at, HasBegun, IsMarkedLike, AreNotesOf, Tells}, Parts.seen_within}
+use Rattle.partial_core.proofs.{Common.{ℕ, ◌≡◌, ◌+◌, ◌<◌, ◌≤◌, ◌++◌, ◌||◌, Bool, true, false, if◌then◌else◌, Option, Some, None, List, [], ◌∷◌, length, take, refl, sym, ap, subst, ◌∙◌, arith, length-append, append-nil, length-map, length_push, map_push, take-append-le, Applied, Opening, Noted, Layout, IsLayout, Reply, Stage, Idle, Finished, CoreState, at_stage, advance, reply_at, reply_of, is_begun, is_at_rest, begun_of, begin_scan, IsSound, IsPossible, IsPossibleAt, Run, AreOfScan, pairs_loaded, most_steps, IsMarkedFor, refuses_pool, refuses_slots, IsBehind, calls_begin, rests_are_sound, makes_few_steps, reads_in_two, KeptAnswer, Part, core_of, answers_of, first_at, HasBegun, IsMarkedLike, AreNotesOf, Tells}, Parts.seen_within}
 use Rattle.partial_model.specs.declared.call.{Call.Call, Refused.Refused}
 use Rattle.partial_machine.proofs.ScanCounts.{scans_make_their_steps}
 use Rattle.partial_core.specs.Calls.{IsRefusedLast, Made, FirstStepsMakeCalls, FurtherStepsMakeCalls, MadeCallsMakeTheirSteps, CallsBeginBetween, PortsComeBetween}
@@ -39,11 +39,11 @@ module _ (z : Layout) (o : Opening) (log entries : List Applied) (y : Part) (c :
   then_seen : v.seen ≡ log ++ entries
   then_seen = ap (λ (p : Part). p.seen) t.part
 
-  then_begun : (flag : Bool) → is_begun c.stage ≡ flag → v.begun ≡ cond flag c y.begun
-  then_begun flag is = ap (λ (p : Part). p.begun) t.part ∙ ap (λ f. cond f c y.begun) is
+  then_begun : (flag : Bool) → is_begun c.stage ≡ flag → v.begun ≡ (if flag then c else y.begun)
+  then_begun flag is = ap (λ (p : Part). p.begun) t.part ∙ ap (λ f. if f then c else y.begun) is
 
-  then_kept : (flag : Bool) → is_begun c.stage ≡ flag → v.kept ≡ cond flag [] y.kept ++ k ∷ []
-  then_kept flag is = ap (λ (p : Part). p.kept) t.part ∙ ap (λ f. cond f [] y.kept ++ k ∷ []) is
+  then_kept : (flag : Bool) → is_begun c.stage ≡ flag → v.kept ≡ (if flag then [] else y.kept) ++ k ∷ []
+  then_kept flag is = ap (λ (p : Part). p.kept) t.part ∙ ap (λ f. (if f then [] else y.kept) ++ k ∷ []) is
 
   grown : length y.seen ≤ length (log ++ entries)
   grown = let n = seen_within y.seen log t.seen in let m = length-append log entries in omega (arith, n, m)

@@ -1,5 +1,5 @@
 -- The names that several proofs of this crate take from elsewhere.
-pub use Rattle.std.proofs.Common.{◌≡◌, sym, ap, ℕ, ◌<◌, ◌∙◌, length, subst, List, arith, Bool, [], get_or, refl, ◌+◌, ◌∷◌, cond, false, true, ◌&&◌, ◌-◌, ◌==◌, ◌||◌, ◌≢◌, ◌≤◌, Some, append-nil, append_assoc, get_or-set_other, get_or-set_same, inl, inr, not, set, suc, zero, ◌*◌, ◌++◌, ◌⊎◌, None, length-append, length-set, slice_index, take}
+pub use Rattle.std.proofs.Common.{◌≡◌, sym, ap, ℕ, ◌<◌, ◌∙◌, length, subst, List, arith, Bool, [], slice_index_or, refl, ◌+◌, ◌∷◌, if◌then◌else◌, false, true, ◌&&◌, ◌-◌, ◌==◌, ◌||◌, ◌≢◌, ◌≤◌, Some, append-nil, append_assoc, get_or-set_other, get_or-set_same, inl, inr, not, slice_set, suc, zero, ◌*◌, ◌++◌, ◌⊎◌, None, length-append, length-set, slice_index, take}
 pub use Rattle.std.specs.Prelude.{nat_lt}
 pub use Rattle.std.proofs.Math.Nat.{mul-le-mul_left}
 pub use Rattle.std.proofs.lemmas.{Bool.{ltb-false, cases_lt, eq-eqb, eqb-false, false≢true, ne_eqb, eqb-true, ltb-true}, List.{get_or_append_left, length_push, set-get_or}}

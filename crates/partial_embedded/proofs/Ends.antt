@@ -1,5 +1,5 @@
 -- How a finished scan has ended.
-use Rattle.partial_embedded.proofs.{Common.{ℕ, zero, suc, ◌≡◌, ◌+◌, ◌-◌, ◌<◌, ◌==◌, ◌++◌, Bool, true, false, cond, ◌||◌, ◌&&◌, Some, None, List, [], ◌∷◌, length, take, get_or, set, refl, sym, ◌∙◌, ap, subst, arith, append_assoc, append-nil, nat_lt, ltb-false, length_push, pairs_word, next_word, Stage, Collect, View, Len, Index, PairValue, Value, Done, ViewPair, ViewGoesTogether, view_goes_at, fresh_view, advance_view, advance_view_at, is_first, differs, was_changed, noted_load, borrow, after_view, view_at_stage, with_value, pairs_from, IsPossibleInViewAt, ViewRun, LastTwoAreEqual, ShowsThirdRecord, written_values, LoadsValues, LoadsView, EndsWell, FinishedScansEndWell}, Keeps.{kept, fresh_together}, Traces.{trace_at, step_traced, fresh_traced}}
+use Rattle.partial_embedded.proofs.{Common.{ℕ, zero, suc, ◌≡◌, ◌+◌, ◌-◌, ◌<◌, ◌==◌, ◌++◌, Bool, true, false, if◌then◌else◌, ◌||◌, ◌&&◌, Some, None, List, [], ◌∷◌, length, take, slice_index, slice_set, refl, sym, ◌∙◌, ap, subst, arith, append_assoc, append-nil, nat_lt, ltb-false, length_push, pairs_word, next_word, Stage, Collect, View, Len, Index, PairValue, Value, Done, ViewPair, ViewGoesTogether, view_goes_at, fresh_view, advance_view, advance_view_at, is_first, differs, was_changed, noted_load, borrow, after_view, view_at_stage, with_value, pairs_from, IsPossibleInViewAt, ViewRun, LastTwoAreEqual, ShowsThirdRecord, written_values, LoadsValues, LoadsView, EndsWell, FinishedScansEndWell}, Keeps.{kept, fresh_together}, Traces.{trace_at, step_traced, fresh_traced}}
 
 -- the loads of some view
 pub record Views (r : ℕ) (xs : List ℕ) (q : ViewPair) : Type 0 where
@@ -15,12 +15,12 @@ ending_at indices p xs Done = EndsWell indices xs p
 ending_at indices p xs _ = Views (length indices) xs p
 
 -- one value more
-written_push : (js loads values : List ℕ) (k x : ℕ) → k < length js → length loads ≡ k → written_values (take (suc k) js) (loads ++ x ∷ []) values ≡ set (written_values (take k js) loads values) (get_or js k 0) x
+written_push : (js loads values : List ℕ) (k x : ℕ) → k < length js → length loads ≡ k → written_values (take (suc k) js) (loads ++ x ∷ []) values ≡ slice_set (written_values (take k js) loads values) (slice_index js k) x
 written_push [] loads values k x below long = absurd (omega (arith, below))
 written_push (j ∷ js) [] values zero x below long = refl
 written_push (j ∷ js) [] values (suc k) x below long = absurd (omega (arith, long))
 written_push (j ∷ js) (l ∷ loads) values zero x below long = absurd (omega (arith, long))
-written_push (j ∷ js) (l ∷ loads) values (suc k) x below long = written_push js loads (set values j l) k x (omega (arith, below)) (omega (arith, long))
+written_push (j ∷ js) (l ∷ loads) values (suc k) x below long = written_push js loads (slice_set values j l) k x (omega (arith, below)) (omega (arith, long))
 
 module _ (indices : List ℕ) (p : ViewPair) (x : ℕ) (xs : List ℕ) where
   -- a scan that has loaded a view ends with it
@@ -59,20 +59,21 @@ module _ (indices : List ℕ) (p : ViewPair) (x : ℕ) (xs : List ℕ) where
 
   -- the view goes on, or it is whole
   view_or : (q : ViewPair) (b : Bool) (s : Stage) → Views (length indices) (xs ++ x ∷ []) q → (Views (length indices) (xs ++ x ∷ []) q → ending_at indices q (xs ++ x ∷ []) s) →
-      ending_at indices q (xs ++ x ∷ []) (cond b Done s)
+      ending_at indices q (xs ++ x ∷ []) (if b then Done else s)
   view_or q true s v f = view_ends q (xs ++ x ∷ []) v
   view_or q false s v f = f v
 
   -- a whole view of so many pairs, or the next of them
-  pairs_end : (v : ViewPair) (at left : ℕ) (b : Bool) → Views (length indices) (xs ++ x ∷ []) (view_at_stage v (cond b Done (Index at left))) → let q =
-      view_at_stage v (cond b Done (Index at left)) in ending_at indices q (xs ++ x ∷ []) q.0.stage
+  pairs_end : (v : ViewPair) (at left : ℕ) (b : Bool) → Views (length indices) (xs ++ x ∷ []) (view_at_stage v (if b then Done else Index at left)) → let q =
+      view_at_stage v (if b then Done else Index at left) in ending_at indices q (xs ++ x ∷ []) q.0.stage
   pairs_end v at left true w = view_ends (view_at_stage v Done) (xs ++ x ∷ []) w
   pairs_end v at left false w = w
 
   -- behind a load of a collect
   collect_ends : (k : ℕ) → p.0.borrowed ≡ None → (b c d : Bool) → let q =
-      cond b (borrow p x) (cond c (view_at_stage (noted_load p k x) (Collect (k + 1))) (cond d (record (noted_load p k x).0 { collects = p.0.collects + 1; moved = false; stage = Collect 0 }, (noted_load p k x).1)
-      (view_at_stage (noted_load p k x) (Value 0)))) in trace_at (length indices) q (xs ++ x ∷ []) q.0.stage → ending_at indices q (xs ++ x ∷ []) q.0.stage
+      (if b then borrow p x else (if c then view_at_stage (noted_load p k x) (Collect (k + 1))
+      else (if d then (record (noted_load p k x).0 { collects = p.0.collects + 1; moved = false; stage = Collect 0 }, (noted_load p k x).1)
+      else view_at_stage (noted_load p k x) (Value 0)))) in trace_at (length indices) q (xs ++ x ∷ []) q.0.stage → ending_at indices q (xs ++ x ∷ []) q.0.stage
   collect_ends k none true c d t = (refl, t)
   collect_ends k none false true d t = none
   collect_ends k none false false true t = none
@@ -91,14 +92,14 @@ module _ (indices : List ℕ) (p : ViewPair) (x : ℕ) (xs : List ℕ) where
 
   -- behind the load of a value
   value_ends : (k : ℕ) → k < length indices → LoadsValues indices xs p k → p.0.borrowed ≡ None → (b : Bool) → nat_lt (k + 1) (length indices) ≡ b → let q =
-      view_at_stage (with_value p (get_or indices k 0) x) (cond b (Value (k + 1)) Done) in ending_at indices q (xs ++ x ∷ []) q.0.stage
+      view_at_stage (with_value p (slice_index indices k) x) (if b then Value (k + 1) else Done) in ending_at indices q (xs ++ x ∷ []) q.0.stage
   value_ends k below l none b e = by b e
     where
-      next : (q : ViewPair) → q.0.collects ≡ p.0.collects → q.1.values ≡ set p.1.values (get_or indices k 0) x → LoadsValues indices (xs ++ x ∷ []) q (k + 1)
+      next : (q : ViewPair) → q.0.collects ≡ p.0.collects → q.1.values ≡ slice_set p.1.values (slice_index indices k) x → LoadsValues indices (xs ++ x ∷ []) q (k + 1)
       next q collects values =
           let one : suc k ≡ k + 1 = omega arith in
           let count = l.count in
-          let pushed : written_values (take (k + 1) indices) (l.loads ++ x ∷ []) l.before ≡ set (written_values (take k indices) l.loads l.before) (get_or indices k 0) x =
+          let pushed : written_values (take (k + 1) indices) (l.loads ++ x ∷ []) l.before ≡ slice_set (written_values (take k indices) l.loads l.before) (slice_index indices k) x =
           ap (λ n. written_values (take n indices) (l.loads ++ x ∷ []) l.before) (sym one) ∙ written_push indices l.loads l.before k x below count in
           record {
             front = l.front;
@@ -107,15 +108,16 @@ module _ (indices : List ℕ) (p : ViewPair) (x : ℕ) (xs : List ℕ) where
             count = length_push l.loads x ∙ ap (λ n. n + 1) count;
             equal = subst (LastTwoAreEqual (length indices) l.front) (sym collects) l.equal;
             before = l.before;
-            values = values ∙ ap (λ (vs : List ℕ). set vs (get_or indices k 0) x) l.values ∙ sym pushed;
+            values = values ∙ ap (λ (vs : List ℕ). slice_set vs (slice_index indices k) x) l.values ∙ sym pushed;
           }
 
-      by : (b : Bool) → nat_lt (k + 1) (length indices) ≡ b → let q = view_at_stage (with_value p (get_or indices k 0) x) (cond b (Value (k + 1)) Done) in ending_at indices q (xs ++ x ∷ []) q.0.stage
-      by true e = (next (view_at_stage (with_value p (get_or indices k 0) x) (Value (k + 1))) refl refl, none)
+      by : (b : Bool) → nat_lt (k + 1) (length indices) ≡ b → let q = view_at_stage (with_value p (slice_index indices k) x) (if b then Value (k + 1) else Done) in
+          ending_at indices q (xs ++ x ∷ []) q.0.stage
+      by true e = (next (view_at_stage (with_value p (slice_index indices k) x) (Value (k + 1))) refl refl, none)
       by false e =
           let past = ltb-false (k + 1) (length indices) e in
           let last : k + 1 ≡ length indices = omega (arith, past, below) in
-          let q = view_at_stage (with_value p (get_or indices k 0) x) Done in
+          let q = view_at_stage (with_value p (slice_index indices k) x) Done in
           record {
             own = λ _. subst (LoadsValues indices (xs ++ x ∷ []) q) last (next q refl refl);
             shared = λ stamp some. let bad : None ≡ Some stamp = sym none ∙ some in absurd cc;

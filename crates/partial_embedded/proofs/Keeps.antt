@@ -1,15 +1,15 @@
 -- Each possible answer keeps the machine, its positions and its buffers together, and leaves fewer steps.
-use Rattle.partial_embedded.proofs.Common.{ℕ, zero, suc, ◌≡◌, ◌+◌, ◌-◌, ◌*◌, ◌<◌, ◌≤◌, ◌==◌, Bool, true, false, cond, not, ◌&&◌, ◌||◌, ◌⊎◌, List, [], ◌∷◌, length, get_or, set, refl, sym, ◌∙◌, ap, subst, inl, inr, arith, get_or-set_other, get_or-set_same, length-set, set-get_or, eqb-false, eq-eqb, ne_eqb, ltb-true, ltb-false, cases_lt, false≢true, eqb_tells, mul-le-mul_left, nat_lt, Layout, pool_base, pool_end, pairs_word, next_word, view_size, pairs_size, Stage, Collect, View, Len, Index, PairValue, Value, Done, EmbeddedState, RowsState, ViewPair, AreRowsFor, ArePositions, AreLoaded, IsPlainRecord, ViewGoesTogether, IsPossibleInView, IsPossibleInViewAt, view_goes_at, view_left_at, view_left, count_true, changes, future, is_first, differs, was_changed, noted_load, borrow, go_on, after_collect, after_load, after_view, view_at_stage, with_value, pairs_from, advance_view, advance_view_at, most_view_steps, fresh_view}
+use Rattle.partial_embedded.proofs.Common.{ℕ, zero, suc, ◌≡◌, ◌+◌, ◌-◌, ◌*◌, ◌<◌, ◌≤◌, ◌==◌, Bool, true, false, if◌then◌else◌, not, ◌&&◌, ◌||◌, ◌⊎◌, List, [], ◌∷◌, length, slice_index_or, slice_index, slice_set, refl, sym, ◌∙◌, ap, subst, inl, inr, arith, get_or-set_other, get_or-set_same, length-set, set-get_or, eqb-false, eq-eqb, ne_eqb, ltb-true, ltb-false, cases_lt, false≢true, eqb_tells, mul-le-mul_left, nat_lt, Layout, pool_base, pool_end, pairs_word, next_word, view_size, pairs_size, Stage, Collect, View, Len, Index, PairValue, Value, Done, EmbeddedState, RowsState, ViewPair, AreRowsFor, ArePositions, AreLoaded, IsPlainRecord, ViewGoesTogether, IsPossibleInView, IsPossibleInViewAt, view_goes_at, view_left_at, view_left, count_true, changes, future, is_first, differs, was_changed, noted_load, borrow, go_on, after_collect, after_load, after_view, view_at_stage, with_value, pairs_from, advance_view, advance_view_at, most_view_steps, fresh_view}
 
 -- one position more has changed
-count_set : (l : List Bool) (r k : ℕ) → k < r → k < length l → get_or l k false ≡ false → count_true r (set l k true) ≡ count_true r l + 1
+count_set : (l : List Bool) (r k : ℕ) → k < r → k < length l → slice_index_or l k false ≡ false → count_true r (slice_set l k true) ≡ count_true r l + 1
 count_set [] r k below within same = absurd (omega (arith, within))
 count_set (x ∷ l) zero k below within same = absurd (omega (arith, below))
 count_set (true ∷ l) (suc r) zero below within same = absurd (false≢true (sym same))
 count_set (false ∷ l) (suc r) zero below within same = let goal : 1 + count_true r l ≡ 0 + count_true r l + 1 = omega arith in goal
 count_set (x ∷ l) (suc r) (suc k) below within same =
     let rest = count_set l r k (omega (arith, below)) (omega (arith, within)) same in
-    let goal : cond x 1 0 + count_true r (set l k true) ≡ cond x 1 0 + count_true r l + 1 = omega (arith, rest) in
+    let goal : (if x then 1 else 0) + count_true r (slice_set l k true) ≡ (if x then 1 else 0) + count_true r l + 1 = omega (arith, rest) in
     goal
 
 count_few : (l : List Bool) (r : ℕ) → count_true r l ≤ r
@@ -20,7 +20,7 @@ count_few (false ∷ l) (suc r) = let rest = count_few l r in let goal : 0 + cou
 
 -- how many more collects there may be, by whether the one under way is the first and whether it has shown a change
 abbrev future_by : ℕ → ℕ → Bool → Bool → ℕ
-future_by r d first moved = cond first (r + 1) (cond moved (r - d + 1) (r - d))
+future_by r d first moved = if first then r + 1 else (if moved then r - d + 1 else (r - d))
 
 -- a first change leaves as many, no change changes nothing
 future_noted : (r d e : ℕ) (first moved b : Bool) → (b ≡ true → (e ≡ d + 1) × (e ≤ r)) → (first ≡ false → b ≡ false → e ≡ d) → future_by r e first (moved || b) ≤ future_by r d first moved
@@ -45,17 +45,17 @@ and_second false w e d = absurd (false≢true d)
 module _ (r : ℕ) (p : ViewPair) (k x : ℕ) (below : k < r) (within : k < length p.1.changed) (both : (differs p k x && was_changed p k) ≡ false) where
   newly : differs p k x ≡ true → (changes r (noted_load p k x).1 ≡ changes r p.1 + 1) × (changes r (noted_load p k x).1 ≤ r)
   newly d =
-      let first : is_first p ≡ false = and_first (is_first p) (not (get_or p.1.last k 0 == x)) d in
+      let first : is_first p ≡ false = and_first (is_first p) (not (slice_index p.1.last k == x)) d in
       let was : was_changed p k ≡ false = and_second (differs p k x) (was_changed p k) both d in
-      let unchanged : get_or p.1.changed k false ≡ false = ap (λ (f : Bool). not f && get_or p.1.changed k false) (sym first) ∙ was in
-      let is : changes r (noted_load p k x).1 ≡ count_true r (set p.1.changed k true) = ap (λ (b : Bool). count_true r (set p.1.changed k (b || was_changed p k))) d in
+      let unchanged : slice_index_or p.1.changed k false ≡ false = ap (λ (f : Bool). not f && slice_index_or p.1.changed k false) (sym first) ∙ was in
+      let is : changes r (noted_load p k x).1 ≡ count_true r (slice_set p.1.changed k true) = ap (λ (b : Bool). count_true r (slice_set p.1.changed k (b || was_changed p k))) d in
       let more : changes r (noted_load p k x).1 ≡ changes r p.1 + 1 = is ∙ count_set p.1.changed r k below within unchanged in
       (more, count_few (noted_load p k x).1.changed r)
 
   unmoved : is_first p ≡ false → differs p k x ≡ false → changes r (noted_load p k x).1 ≡ changes r p.1
   unmoved first d =
-      ap (λ (b : Bool). count_true r (set p.1.changed k (b || was_changed p k))) d
-      ∙ ap (λ (f : Bool). count_true r (set p.1.changed k (not f && get_or p.1.changed k false))) first
+      ap (λ (b : Bool). count_true r (slice_set p.1.changed k (b || was_changed p k))) d
+      ∙ ap (λ (f : Bool). count_true r (slice_set p.1.changed k (not f && slice_index_or p.1.changed k false))) first
       ∙ ap (λ (l : List Bool). count_true r l) (set-get_or p.1.changed k false)
 
   noted_future : future r (noted_load p k x) ≤ future r p
@@ -67,20 +67,20 @@ pub record Keeps (indices : List ℕ) (p q : ViewPair) : Type 0 where
   pub fewer : view_left indices q < view_left indices p
 
 -- the latest loads with one position more
-loaded_more : (s : Layout) (l : List ℕ) (n k x : ℕ) → k < length l → IsPlainRecord s x → ((i : ℕ) → i < n → IsPlainRecord s (get_or l i 0)) → (i : ℕ) → (i < n) ⊎ (i ≡ k) →
-    IsPlainRecord s (get_or (set l k x) i 0)
+loaded_more : (s : Layout) (l : List ℕ) (n k x : ℕ) → k < length l → IsPlainRecord s x → ((i : ℕ) → i < n → IsPlainRecord s (slice_index l i)) → (i : ℕ) → (i < n) ⊎ (i ≡ k) →
+    IsPlainRecord s (slice_index (slice_set l k x) i)
 loaded_more s l n k x below rec all i w =
     elim (eqb_tells i k) [
-      | inl t ↦ subst (IsPlainRecord s) (sym (ap (λ j. get_or (set l k x) j 0) t.1 ∙ get_or-set_same l k x 0 below)) rec
+      | inl t ↦ subst (IsPlainRecord s) (sym (ap (λ j. slice_index (slice_set l k x) j) t.1 ∙ get_or-set_same l k x 0 below)) rec
       | inr t ↦ subst (IsPlainRecord s) (sym (get_or-set_other l k i x 0 t.1)) (all i (elim w [ inl h ↦ h | inr h ↦ absurd (t.1 h) ]))
     ]
 
 -- a position of the collect was loaded before, or is the one loaded now
-next_loaded : (f : Bool) (r k i : ℕ) → i < cond f (k + 1) r → (i < cond f k r) ⊎ (i ≡ k)
+next_loaded : (f : Bool) (r k i : ℕ) → i < (if f then k + 1 else r) → (i < (if f then k else r)) ⊎ (i ≡ k)
 next_loaded true r k i h = elim (cases_lt i k) [ inl below ↦ inl below | inr from ↦ inr (omega (arith, h, from)) ]
 next_loaded false r k i h = inl h
 
-all_loaded : (f : Bool) (r k i : ℕ) → r ≡ k + 1 → i < r → (i < cond f k r) ⊎ (i ≡ k)
+all_loaded : (f : Bool) (r k i : ℕ) → r ≡ k + 1 → i < r → (i < (if f then k else r)) ⊎ (i ≡ k)
 all_loaded true r k i last h = elim (cases_lt i k) [ inl below ↦ inl below | inr from ↦ inr (omega (arith, h, from, last)) ]
 all_loaded false r k i last h = inl h
 
@@ -109,8 +109,8 @@ module _ (indices : List ℕ) (p : ViewPair) (k x : ℕ) (w : ViewGoesTogether i
   rows_noted : AreRowsFor p.0.sizes (noted_load p k x).1
   rows_noted = record { last = length-set p.1.last k x ∙ w.rows.last; changed = length-set p.1.changed k (differs p k x || was_changed p k) ∙ w.rows.changed; values = w.rows.values }
 
-  loaded_noted : (n : ℕ) → ((i : ℕ) → i < n → (i < cond (is_first p) k (length indices)) ⊎ (i ≡ k)) → AreLoaded p.0.sizes (noted_load p k x).1 n
-  loaded_noted n all i below = loaded_more p.0.sizes p.1.last (cond (is_first p) k (length indices)) k x within_last rec at_here.3 i (all i below)
+  loaded_noted : (n : ℕ) → ((i : ℕ) → i < n → (i < (if is_first p then k else length indices)) ⊎ (i ≡ k)) → AreLoaded p.0.sizes (noted_load p k x).1 n
+  loaded_noted n all i below = loaded_more p.0.sizes p.1.last (if is_first p then k else length indices) k x within_last rec at_here.3 i (all i below)
 
   borrowed : Keeps indices p (borrow p x)
   borrowed = let h = at_here in let k_r = h.0 in let l = left_here in
@@ -132,7 +132,7 @@ module _ (indices : List ℕ) (p : ViewPair) (k x : ℕ) (w : ViewGoesTogether i
             positions = w.positions;
             rows = rows_noted;
             collects = w.collects;
-            stage = (more, omega (arith, room, f), h.2, loaded_noted (cond (is_first p) (k + 1) (length indices)) (λ i below. next_loaded (is_first p) (length indices) k i below));
+            stage = (more, omega (arith, room, f), h.2, loaded_noted (if is_first p then k + 1 else length indices) (λ i below. next_loaded (is_first p) (length indices) k i below));
           };
           fewer = omega (arith, times, l, more);
         }
@@ -152,7 +152,8 @@ module _ (indices : List ℕ) (p : ViewPair) (k x : ℕ) (w : ViewGoesTogether i
         let one = one_fewer (length indices) (changes (length indices) (noted_load p k x).1) (is_first p) (noted_load p k x).0.moved e in
         let fewer : future (length indices) q + 1 ≤ future (length indices) p = omega (arith, next, one, f) in
         let times = mul-le-mul_left (length indices) fewer in
-        let all : AreLoaded p.0.sizes (noted_load p k x).1 (cond (is_first q) 0 (length indices)) = subst (λ (b : Bool). AreLoaded p.0.sizes (noted_load p k x).1 (cond b 0 (length indices))) (sym later)
+        let all : AreLoaded p.0.sizes (noted_load p k x).1 (if is_first q then 0 else length indices) =
+        subst (λ (b : Bool). AreLoaded p.0.sizes (noted_load p k x).1 (if b then 0 else length indices)) (sym later)
         (loaded_noted (length indices) (λ i below. all_loaded (is_first p) (length indices) k i last below)) in
         record {
           together = record { positions = w.positions; rows = rows_noted; collects = omega (arith, room, fewer); stage = (omega (arith, last), omega (arith, room, fewer), omega arith, all) };
@@ -174,18 +175,19 @@ module _ (indices : List ℕ) (p : ViewPair) (k x : ℕ) (w : ViewGoesTogether i
         }
 
     whole : length indices ≡ k + 1 → (b : Bool) → (is_first p || (noted_load p k x).0.moved) ≡ b →
-        Keeps indices p (cond b (record (noted_load p k x).0 { collects = p.0.collects + 1; moved = false; stage = Collect 0 }, (noted_load p k x).1) (view_at_stage (noted_load p k x) (Value 0)))
+        Keeps indices p (if b then (record (noted_load p k x).0 { collects = p.0.collects + 1; moved = false; stage = Collect 0 }, (noted_load p k x).1)
+        else view_at_stage (noted_load p k x) (Value 0))
     whole last true e = another last e
     whole last false e = values last
 
-    on_from : (b : Bool) → nat_lt (k + 1) (length indices) ≡ b → Keeps indices p (cond b (view_at_stage (noted_load p k x) (Collect (k + 1))) (after_collect (noted_load p k x)))
+    on_from : (b : Bool) → nat_lt (k + 1) (length indices) ≡ b → Keeps indices p (if b then view_at_stage (noted_load p k x) (Collect (k + 1)) else after_collect (noted_load p k x))
     on_from true e = next_position (ltb-true (k + 1) (length indices) e)
     on_from false e = let past = ltb-false (k + 1) (length indices) e in let h = at_here in let k_r = h.0 in whole (omega (arith, past, k_r)) (is_first p || (noted_load p k x).0.moved) refl
 
   pub load_kept : Keeps indices p (after_load (length indices) p k x)
   load_kept = either (differs p k x && was_changed p k) refl
     where
-      either : (b : Bool) → (differs p k x && was_changed p k) ≡ b → Keeps indices p (cond b (borrow p x) (go_on (length indices) (noted_load p k x) k))
+      either : (b : Bool) → (differs p k x && was_changed p k) ≡ b → Keeps indices p (if b then borrow p x else go_on (length indices) (noted_load p k x) k)
       either true e = borrowed
       either false e = on_from e (nat_lt (k + 1) (length indices)) refl
 
@@ -216,7 +218,7 @@ module _ (indices : List ℕ) (p : ViewPair) (x : ℕ) (w : ViewGoesTogether ind
   view_kept : (stamp : ℕ) → p.0.stage ≡ View stamp → IsPossibleInViewAt p.0.sizes (View stamp) x → Keeps indices p (after_view p.0 x, p.1)
   view_kept stamp e possible = either ((x == 0) || p.0.shares) refl
     where
-      either : (b : Bool) → ((x == 0) || p.0.shares) ≡ b → Keeps indices p (record p.0 { view = x; stage = cond b Done (Len x) }, p.1)
+      either : (b : Bool) → ((x == 0) || p.0.shares) ≡ b → Keeps indices p (record p.0 { view = x; stage = (if b then Done else Len x) }, p.1)
       either true c = stays (View stamp) Done (record p.0 { view = x; stage = Done }) e refl refl refl tt (omega arith)
       either false c = stays (View stamp) (Len x) (record p.0 { view = x; stage = Len x }) e refl refl refl
           (elim possible [ inl zero' ↦ absurd (false≢true (sym (neither (x == 0) p.0.shares c).0 ∙ eq-eqb x 0 zero')) | inr h ↦ h ]) (omega arith)
@@ -229,7 +231,7 @@ module _ (indices : List ℕ) (p : ViewPair) (x : ℕ) (w : ViewGoesTogether ind
       before : view_left indices p ≡ view_left_at (length indices) p s
       before = ap (view_left_at (length indices) p) e
 
-      either : (b : Bool) → (left == 0) ≡ b → Keeps indices p (view_at_stage (p.0, rows) (cond b Done (Index at left)))
+      either : (b : Bool) → (left == 0) ≡ b → Keeps indices p (view_at_stage (p.0, rows) (if b then Done else Index at left))
       either true c = let l = before in record { together = record { positions = w.positions; rows = for; collects = w.collects; stage = tt }; fewer = omega (arith, l, fewer) }
       either false c = let l = before in let some = eqb-false left 0 c in record
           { together = record { positions = w.positions; rows = for; collects = w.collects; stage = (omega (arith, some), few, room, base) }; fewer = omega (arith, l, fewer) }
@@ -258,20 +260,20 @@ module _ (indices : List ℕ) (p : ViewPair) (x : ℕ) (w : ViewGoesTogether ind
       pairs_kept (PairValue at left index) (with_value p index x).1 (next_word at) (left - 1) e (values_for index) (let base = h.4 in omega (arith, base)) (omega (arith, few))
       (omega (arith, some, room)) (omega (arith, some))
 
-  value_kept : (k : ℕ) → p.0.stage ≡ Value k → Keeps indices p (view_at_stage (with_value p (get_or indices k 0) x) (cond (nat_lt (k + 1) (length indices)) (Value (k + 1)) Done))
+  value_kept : (k : ℕ) → p.0.stage ≡ Value k → Keeps indices p (view_at_stage (with_value p (slice_index indices k) x) (if nat_lt (k + 1) (length indices) then Value (k + 1) else Done))
   value_kept k e = either (nat_lt (k + 1) (length indices)) refl
     where
       q : EmbeddedState → ViewPair
-      q f = (f, (with_value p (get_or indices k 0) x).1)
+      q f = (f, (with_value p (slice_index indices k) x).1)
 
       before : view_left indices p ≡ length indices - k
       before = ap (view_left_at (length indices) p) e
 
-      either : (b : Bool) → nat_lt (k + 1) (length indices) ≡ b → Keeps indices p (view_at_stage (with_value p (get_or indices k 0) x) (cond b (Value (k + 1)) Done))
+      either : (b : Bool) → nat_lt (k + 1) (length indices) ≡ b → Keeps indices p (view_at_stage (with_value p (slice_index indices k) x) (if b then Value (k + 1) else Done))
       either true c = let l = before in let more = ltb-true (k + 1) (length indices) c in record
-          { together = record { positions = w.positions; rows = values_for (get_or indices k 0); collects = w.collects; stage = (more, (here (Value k) e).1) }; fewer = omega (arith, l, more) }
+          { together = record { positions = w.positions; rows = values_for (slice_index indices k); collects = w.collects; stage = (more, (here (Value k) e).1) }; fewer = omega (arith, l, more) }
       either false c = let l = before in let below = (here (Value k) e).0 in record
-          { together = record { positions = w.positions; rows = values_for (get_or indices k 0); collects = w.collects; stage = tt }; fewer = omega (arith, l, below) }
+          { together = record { positions = w.positions; rows = values_for (slice_index indices k); collects = w.collects; stage = tt }; fewer = omega (arith, l, below) }
 
   kept_at : (s : Stage) → p.0.stage ≡ s → IsPossibleInViewAt p.0.sizes s x → Keeps indices p (advance_view_at indices p s x)
   kept_at (Collect k) e possible = load_kept indices p k x w e possible
@@ -295,13 +297,13 @@ pub fresh_left : (s : Layout) (shares : Bool) (indices : List ℕ) (rows : RowsS
 fresh_left s shares indices rows = omega arith
 
 -- the sizes stay
-on_sizes : (r : ℕ) (p : ViewPair) (k : ℕ) (b c : Bool) → (cond b (view_at_stage p (Collect (k + 1)))
-    (cond c (record p.0 { collects = p.0.collects + 1; moved = false; stage = Collect 0 }, p.1) (view_at_stage p (Value 0)))).0.sizes ≡ p.0.sizes
+on_sizes : (r : ℕ) (p : ViewPair) (k : ℕ) (b c : Bool) → (if b then view_at_stage p (Collect (k + 1))
+    else (if c then (record p.0 { collects = p.0.collects + 1; moved = false; stage = Collect 0 }, p.1) else view_at_stage p (Value 0))).0.sizes ≡ p.0.sizes
 on_sizes r p k true c = refl
 on_sizes r p k false true = refl
 on_sizes r p k false false = refl
 
-load_sizes : (r : ℕ) (p : ViewPair) (k x : ℕ) (b : Bool) → (cond b (borrow p x) (go_on r (noted_load p k x) k)).0.sizes ≡ p.0.sizes
+load_sizes : (r : ℕ) (p : ViewPair) (k x : ℕ) (b : Bool) → (if b then borrow p x else go_on r (noted_load p k x) k).0.sizes ≡ p.0.sizes
 load_sizes r p k x true = refl
 load_sizes r p k x false = on_sizes r (noted_load p k x) k (nat_lt (k + 1) r) (is_first p || (noted_load p k x).0.moved)
 
@@ -318,13 +320,13 @@ pub sizes_stay : (indices : List ℕ) (p : ViewPair) (x : ℕ) → (advance_view
 sizes_stay indices p x = sizes_at indices p p.0.stage x
 
 -- a load of a collect takes back none that was begun
-on_collects : (r : ℕ) (p : ViewPair) (k : ℕ) (b c : Bool) → p.0.collects ≤ (cond b (view_at_stage p (Collect (k + 1)))
-    (cond c (record p.0 { collects = p.0.collects + 1; moved = false; stage = Collect 0 }, p.1) (view_at_stage p (Value 0)))).0.collects
+on_collects : (r : ℕ) (p : ViewPair) (k : ℕ) (b c : Bool) → p.0.collects ≤ (if b then view_at_stage p (Collect (k + 1))
+    else (if c then (record p.0 { collects = p.0.collects + 1; moved = false; stage = Collect 0 }, p.1) else view_at_stage p (Value 0))).0.collects
 on_collects r p k true c = omega arith
 on_collects r p k false true = omega arith
 on_collects r p k false false = omega arith
 
-load_collects : (r : ℕ) (p : ViewPair) (k x : ℕ) (b : Bool) → p.0.collects ≤ (cond b (borrow p x) (go_on r (noted_load p k x) k)).0.collects
+load_collects : (r : ℕ) (p : ViewPair) (k x : ℕ) (b : Bool) → p.0.collects ≤ (if b then borrow p x else go_on r (noted_load p k x) k).0.collects
 load_collects r p k x true = omega arith
 load_collects r p k x false = on_collects r (noted_load p k x) k (nat_lt (k + 1) r) (is_first p || (noted_load p k x).0.moved)
 

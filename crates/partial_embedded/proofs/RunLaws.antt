@@ -1,5 +1,5 @@
 -- Over every run the machine goes together with its positions, so its steps and collects are bounded.
-use Rattle.partial_embedded.proofs.{Common.{ℕ, ◌≡◌, ◌+◌, ◌<◌, ◌≤◌, Bool, Some, List, [], ◌∷◌, length, get_or, refl, sym, ◌∙◌, ap, subst, arith, Layout, value_word, view_word, Stage, Collect, View, Len, Index, PairValue, Value, Done, ViewPair, RowsState, ViewGoesTogether, view_goes_at, fresh_view, advance_view, view_step_at, view_left, ViewRun, RunsTo, IsOfPosition, LoadsItsPositionsAlone, MakesFewCollects}, Keeps.{kept, sizes_stay, fresh_together, fresh_left}}
+use Rattle.partial_embedded.proofs.{Common.{ℕ, ◌≡◌, ◌+◌, ◌<◌, ◌≤◌, Bool, Some, List, [], ◌∷◌, length, slice_index, refl, sym, ◌∙◌, ap, subst, arith, Layout, value_word, view_word, Stage, Collect, View, Len, Index, PairValue, Value, Done, ViewPair, RowsState, ViewGoesTogether, view_goes_at, fresh_view, advance_view, view_step_at, view_left, ViewRun, RunsTo, IsOfPosition, LoadsItsPositionsAlone, MakesFewCollects}, Keeps.{kept, sizes_stay, fresh_together, fresh_left}}
 use Rattle.partial_words.specs.declared.step.Step.{Step}
 use Rattle.partial_words.specs.declared.step.Step.TheVariants.{Load}
 
@@ -37,13 +37,13 @@ makes_few_collects s shares indices rows xs q w =
 loads_at : (s : Layout) (indices : List ℕ) (q : ViewPair) (stage : Stage) (step : Step) → q.0.sizes ≡ s → view_goes_at indices q stage → view_step_at q.0.sizes indices q.1.last stage ≡ Some step →
     (w : ℕ) ×
     (step ≡ Load w) × (w < s.m → IsOfPosition indices w)
-loads_at s indices q (Collect k) step is goes due = (get_or indices k 0, cc, λ below. (k, goes.0, refl))
+loads_at s indices q (Collect k) step is goes due = (slice_index indices k, cc, λ below. (k, goes.0, refl))
 loads_at s indices q (View stamp) step is goes due = let base = goes.0 in let same = ap (λ (l : Layout). l.m) is in (view_word stamp, cc, λ below. absurd (omega (arith, base, below, same)))
 loads_at s indices q (Len at) step is goes due = let base = goes.0 in let same = ap (λ (l : Layout). l.m) is in (at, cc, λ below. absurd (omega (arith, base, below, same)))
 loads_at s indices q (Index at left) step is goes due = let base = goes.3 in let same = ap (λ (l : Layout). l.m) is in (at, cc, λ below. absurd (omega (arith, base, below, same)))
 loads_at s indices q (PairValue at left index) step is goes due = let base = goes.4 in let same = ap (λ (l : Layout). l.m) is in (at, cc, λ below. absurd (omega (arith, base, below, same)))
 loads_at s indices q (Value k) step is goes due = let base = (goes.1 k goes.0).0 in let same =
-    ap (λ (l : Layout). l.m) is in (value_word (get_or q.1.last k 0), cc, λ below. absurd (omega (arith, base, below, same)))
+    ap (λ (l : Layout). l.m) is in (value_word (slice_index q.1.last k), cc, λ below. absurd (omega (arith, base, below, same)))
 loads_at s indices q Done step is goes due = cc
 
 pub loads_its_positions_alone : LoadsItsPositionsAlone

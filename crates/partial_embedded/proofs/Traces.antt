@@ -1,5 +1,5 @@
 -- What the answers so far tell of the state in the middle of a collect, and how a scan's collects end.
-use Rattle.partial_embedded.proofs.{Common.{◌-◌, ℕ, ◌≡◌, ◌≢◌, ◌+◌, ◌*◌, ◌<◌, ◌≤◌, ◌==◌, ◌++◌, Bool, true, false, cond, not, ◌&&◌, ◌||◌, ◌⊎◌, List, [], ◌∷◌, length, get_or, refl, sym, ◌∙◌, ap, subst, inl, inr, arith, get_or-set_other, get_or-set_same, append_assoc, append-nil, length-append, nat_lt, eqb-true, eqb-false, eq-eqb, ne_eqb, ltb-false, cases_lt, false≢true, eqb_tells, get_or_append_left, mul-le-mul_left, Layout, pairs_word, next_word, Stage, Collect, View, Len, Index, PairValue, Value, Done, ViewPair, RowsState, ViewGoesTogether, view_goes_at, fresh_view, advance_view, advance_view_at, is_first, differs, was_changed, noted_load, borrow, go_on, after_collect, after_load, after_view, view_at_stage, with_value, pairs_from, IsPossibleInViewAt, ViewRun, load_in, Changes, LastTwoAreEqual, ShowsThirdRecord, EndsInEqualCollectsOrAThirdRecord}, Keeps.{kept, fresh_together, neither}}
+use Rattle.partial_embedded.proofs.{Common.{◌-◌, ℕ, ◌≡◌, ◌≢◌, ◌+◌, ◌*◌, ◌<◌, ◌≤◌, ◌==◌, ◌++◌, Bool, true, false, if◌then◌else◌, not, ◌&&◌, ◌||◌, ◌⊎◌, List, [], ◌∷◌, length, slice_index_or, slice_index, refl, sym, ◌∙◌, ap, subst, inl, inr, arith, get_or-set_other, get_or-set_same, append_assoc, append-nil, length-append, nat_lt, eqb-true, eqb-false, eq-eqb, ne_eqb, ltb-false, cases_lt, false≢true, eqb_tells, get_or_append_left, mul-le-mul_left, Layout, pairs_word, next_word, Stage, Collect, View, Len, Index, PairValue, Value, Done, ViewPair, RowsState, ViewGoesTogether, view_goes_at, fresh_view, advance_view, advance_view_at, is_first, differs, was_changed, noted_load, borrow, go_on, after_collect, after_load, after_view, view_at_stage, with_value, pairs_from, IsPossibleInViewAt, ViewRun, load_in, Changes, LastTwoAreEqual, ShowsThirdRecord, EndsInEqualCollectsOrAThirdRecord}, Keeps.{kept, fresh_together, neither}}
 use Rattle.std.proofs.Math.Seq.{get_or-append_seam}
 
 -- one answer more
@@ -18,10 +18,10 @@ pub record Traced (r : ℕ) (p : ViewPair) (k : ℕ) (xs : List ℕ) : Type 0 wh
   c : ℕ
   collects : p.0.collects ≡ c + 1
   long : length xs ≡ r * c + k
-  now : (i : ℕ) → i < k → get_or p.1.last i 0 ≡ load_in r xs c i
-  before : (b : ℕ) → c ≡ b + 1 → (i : ℕ) → k ≤ i → i < r → get_or p.1.last i 0 ≡ load_in r xs b i
-  cleared : c ≡ 0 → (i : ℕ) → i < k → get_or p.1.changed i false ≡ false
-  changed : (b : ℕ) → c ≡ b + 1 → (i : ℕ) → i < r → get_or p.1.changed i false ≡ true → HasChanged r xs c k i
+  now : (i : ℕ) → i < k → slice_index p.1.last i ≡ load_in r xs c i
+  before : (b : ℕ) → c ≡ b + 1 → (i : ℕ) → k ≤ i → i < r → slice_index p.1.last i ≡ load_in r xs b i
+  cleared : c ≡ 0 → (i : ℕ) → i < k → slice_index_or p.1.changed i false ≡ false
+  changed : (b : ℕ) → c ≡ b + 1 → (i : ℕ) → i < r → slice_index_or p.1.changed i false ≡ true → HasChanged r xs c k i
   unmoved : (b : ℕ) → c ≡ b + 1 → p.0.moved ≡ false → (i : ℕ) → i < k → load_in r xs c i ≡ load_in r xs b i
 
 -- what the answers so far tell at a stage
@@ -37,7 +37,7 @@ module _ (r : ℕ) (xs : List ℕ) (x c k : ℕ) (long : length xs ≡ r * c + k
   load_old a i less = get_or_append_left xs (x ∷ []) 0 (r * a + i) (omega (arith, long, less))
 
   load_here : load_in r (xs ++ x ∷ []) c k ≡ x
-  load_here = ap (λ n. get_or (xs ++ x ∷ []) n 0) (sym long) ∙ get_or-append_seam xs x [] 0
+  load_here = ap (λ n. slice_index (xs ++ x ∷ []) n) (sym long) ∙ get_or-append_seam xs x [] 0
 
   -- a position of an earlier collect
   earlier : (a i : ℕ) → i < r → a + 1 ≤ c → r * a + i < r * c + k
@@ -83,7 +83,7 @@ module _ (r : ℕ) (p : ViewPair) (k x : ℕ) (xs : List ℕ) (t : Traced r p k 
   only_first e = let collects = t.collects in eq-eqb p.0.collects 1 (omega (arith, collects, e))
 
   -- the load of position k before this one
-  last_is : (b : ℕ) → t.c ≡ b + 1 → get_or p.1.last k 0 ≡ load_in r xs b k
+  last_is : (b : ℕ) → t.c ≡ b + 1 → slice_index p.1.last k ≡ load_in r xs b k
   last_is b e = t.before b e k (omega arith) within
 
   now_is : load_in r (xs ++ x ∷ []) t.c k ≡ x
@@ -97,8 +97,8 @@ module _ (r : ℕ) (p : ViewPair) (k x : ℕ) (xs : List ℕ) (t : Traced r p k 
   third b e both =
       let first = first_is b e in
       let d : differs p k x ≡ true = and_left (differs p k x) (was_changed p k) both in
-      let other : (get_or p.1.last k 0 == x) ≡ false = is_differing (is_first p) (get_or p.1.last k 0 == x) first d in
-      let was : get_or p.1.changed k false ≡ true = sym (ap (λ (f : Bool). not f && get_or p.1.changed k false) first) ∙ and_right (differs p k x) (was_changed p k) both in
+      let other : (slice_index p.1.last k == x) ≡ false = is_differing (is_first p) (slice_index p.1.last k == x) first d in
+      let was : slice_index_or p.1.changed k false ≡ true = sym (ap (λ (f : Bool). not f && slice_index_or p.1.changed k false) first) ∙ and_right (differs p k x) (was_changed p k) both in
       let h = t.changed b e k within was in
       let by = h.by in
       let not_last : h.collect + 1 ≢ t.c = λ same. let below = h.loaded same in omega (arith, below) in
@@ -111,7 +111,7 @@ module _ (r : ℕ) (p : ViewPair) (k x : ℕ) (xs : List ℕ) (t : Traced r p k 
         second = b;
         order = omega (arith, e, by, not_last);
         changes = changes_old r xs x t.c k t.long within k within h;
-        again = λ same. eqb-false (get_or p.1.last k 0) x other (last_is b e ∙ sym (before_is b e k within) ∙ same ∙ next);
+        again = λ same. eqb-false (slice_index p.1.last k) x other (last_is b e ∙ sym (before_is b e k within) ∙ same ∙ next);
         last = omega (arith, collects, e);
         shown = next;
         left = let l = one_longer xs x in let long = t.long in let times : r * t.c ≡ r * (b + 1) = ap (λ n. r * n) e in omega (arith, l, long, times);
@@ -126,45 +126,45 @@ module _ (r : ℕ) (p : ViewPair) (k x : ℕ) (xs : List ℕ) (t : Traced r p k 
       and_right false b e = absurd (false≢true e)
 
   -- the latest loads and the marks once the load is noted
-  last_new : get_or (noted_load p k x).1.last k 0 ≡ x
+  last_new : slice_index (noted_load p k x).1.last k ≡ x
   last_new = get_or-set_same p.1.last k x 0 last_room
 
-  last_kept : (i : ℕ) → i ≢ k → get_or (noted_load p k x).1.last i 0 ≡ get_or p.1.last i 0
+  last_kept : (i : ℕ) → i ≢ k → slice_index (noted_load p k x).1.last i ≡ slice_index p.1.last i
   last_kept i other = get_or-set_other p.1.last k i x 0 other
 
-  mark_new : get_or (noted_load p k x).1.changed k false ≡ (differs p k x || was_changed p k)
+  mark_new : slice_index_or (noted_load p k x).1.changed k false ≡ (differs p k x || was_changed p k)
   mark_new = get_or-set_same p.1.changed k (differs p k x || was_changed p k) false changed_room
 
-  mark_kept : (i : ℕ) → i ≢ k → get_or (noted_load p k x).1.changed i false ≡ get_or p.1.changed i false
+  mark_kept : (i : ℕ) → i ≢ k → slice_index_or (noted_load p k x).1.changed i false ≡ slice_index_or p.1.changed i false
   mark_kept i other = get_or-set_other p.1.changed k i (differs p k x || was_changed p k) false other
 
-  now_next : (i : ℕ) → i < k + 1 → get_or (noted_load p k x).1.last i 0 ≡ load_in r (xs ++ x ∷ []) t.c i
+  now_next : (i : ℕ) → i < k + 1 → slice_index (noted_load p k x).1.last i ≡ load_in r (xs ++ x ∷ []) t.c i
   now_next i below = elim (eqb_tells i k) [
-    | inl e ↦ ap (λ n. get_or (noted_load p k x).1.last n 0) e.1 ∙ last_new ∙ sym now_is ∙ ap (λ n. load_in r (xs ++ x ∷ []) t.c n) (sym e.1)
+    | inl e ↦ ap (λ n. slice_index (noted_load p k x).1.last n) e.1 ∙ last_new ∙ sym now_is ∙ ap (λ n. load_in r (xs ++ x ∷ []) t.c n) (sym e.1)
     | inr e ↦ let less : i < k = omega (arith, below, e.1) in last_kept i e.1 ∙ t.now i less ∙ sym (load_old r xs x t.c k t.long within t.c i (here r xs x t.c k t.long within i less))
   ]
 
-  cleared_next : t.c ≡ 0 → (i : ℕ) → i < k + 1 → get_or (noted_load p k x).1.changed i false ≡ false
+  cleared_next : t.c ≡ 0 → (i : ℕ) → i < k + 1 → slice_index_or (noted_load p k x).1.changed i false ≡ false
   cleared_next first i below = elim (eqb_tells i k) [
-    | inl e ↦ ap (λ n. get_or (noted_load p k x).1.changed n false) e.1 ∙ mark_new ∙ ap (λ (f : Bool). (not f && not (get_or p.1.last k 0 == x)) || (not f && get_or p.1.changed k false)) (only_first first)
+    | inl e ↦ ap (λ n. slice_index_or (noted_load p k x).1.changed n false) e.1 ∙ mark_new ∙ ap (λ (f : Bool). (not f && not (slice_index p.1.last k == x)) || (not f && slice_index_or p.1.changed k false)) (only_first first)
     | inr e ↦ mark_kept i e.1 ∙ t.cleared first i (omega (arith, below, e.1))
   ]
 
-  changed_next : (b : ℕ) → t.c ≡ b + 1 → (i : ℕ) → i < r → get_or (noted_load p k x).1.changed i false ≡ true → HasChanged r (xs ++ x ∷ []) t.c (k + 1) i
+  changed_next : (b : ℕ) → t.c ≡ b + 1 → (i : ℕ) → i < r → slice_index_or (noted_load p k x).1.changed i false ≡ true → HasChanged r (xs ++ x ∷ []) t.c (k + 1) i
   changed_next b later i inside marked = elim (eqb_tells i k) [
     | inl e ↦ subst (HasChanged r (xs ++ x ∷ []) t.c (k + 1)) (sym e.1)
-        (elim (one_of (differs p k x) (was_changed p k) (sym mark_new ∙ ap (λ n. get_or (noted_load p k x).1.changed n false) (sym e.1) ∙ marked)) [
+        (elim (one_of (differs p k x) (was_changed p k) (sym mark_new ∙ ap (λ n. slice_index_or (noted_load p k x).1.changed n false) (sym e.1) ∙ marked)) [
           | inl d ↦
-              let other : (get_or p.1.last k 0 == x) ≡ false = is_differing (is_first p) (get_or p.1.last k 0 == x) (first_is b later) d in
+              let other : (slice_index p.1.last k == x) ≡ false = is_differing (is_first p) (slice_index p.1.last k == x) (first_is b later) d in
               let next : load_in r (xs ++ x ∷ []) (b + 1) k ≡ x = ap (λ n. load_in r (xs ++ x ∷ []) n k) (sym later) ∙ now_is in
               record {
                 collect = b;
                 by = omega (arith, later);
                 loaded = λ _. omega arith;
-                changes = λ same. eqb-false (get_or p.1.last k 0) x other
+                changes = λ same. eqb-false (slice_index p.1.last k) x other
                     (last_is b later ∙ sym (before_is b later k within) ∙ same ∙ next);
               }
-          | inr d ↦ changed_old r xs x t.c k t.long within k within (t.changed b later k within (sym (ap (λ (f : Bool). not f && get_or p.1.changed k false) (first_is b later)) ∙ d))
+          | inr d ↦ changed_old r xs x t.c k t.long within k within (t.changed b later k within (sym (ap (λ (f : Bool). not f && slice_index_or p.1.changed k false) (first_is b later)) ∙ d))
         ])
     | inr e ↦ changed_old r xs x t.c k t.long within i inside (t.changed b later i inside (sym (mark_kept i e.1) ∙ marked))
   ]
@@ -174,7 +174,7 @@ module _ (r : ℕ) (p : ViewPair) (k x : ℕ) (xs : List ℕ) (t : Traced r p k 
       let both = neither p.0.moved (differs p k x) still in
       elim (eqb_tells i k) [
         | inl e ↦
-            let same : get_or p.1.last k 0 ≡ x = eqb-true (get_or p.1.last k 0) x (is_same (is_first p) (get_or p.1.last k 0 == x) (first_is b later) both.1) in
+            let same : slice_index p.1.last k ≡ x = eqb-true (slice_index p.1.last k) x (is_same (is_first p) (slice_index p.1.last k == x) (first_is b later) both.1) in
             subst (λ n. load_in r (xs ++ x ∷ []) t.c n ≡ load_in r (xs ++ x ∷ []) b n) (sym e.1) (now_is ∙ sym same ∙ last_is b later ∙ sym (before_is b later k within))
         | inr e ↦
             let less : i < k = omega (arith, below, e.1) in
@@ -236,7 +236,7 @@ still_equal r q k xs last t e =
 
 module _ (indices : List ℕ) (p : ViewPair) (x : ℕ) (xs : List ℕ) (w : ViewGoesTogether indices p) where
   -- what is known of a stage that tells nothing
-  done_or : (q : ViewPair) (ys : List ℕ) (b : Bool) (s : Stage) → trace_at (length indices) q ys s → trace_at (length indices) q ys (cond b Done s)
+  done_or : (q : ViewPair) (ys : List ℕ) (b : Bool) (s : Stage) → trace_at (length indices) q ys s → trace_at (length indices) q ys (if b then Done else s)
   done_or q ys true s t = tt
   done_or q ys false s t = t
 
@@ -259,26 +259,29 @@ module _ (indices : List ℕ) (p : ViewPair) (x : ℕ) (xs : List ℕ) (w : View
       third_here : (differs p k x && was_changed p k) ≡ true → ShowsThirdRecord (length indices) (xs ++ x ∷ []) p.0.collects x
       third_here both = elim (cases_lt 0 t.c) [
         | inl some ↦ third (length indices) p k x xs t within last_room changed_room (t.c - 1) (omega (arith, some)) both
-        | inr none ↦ absurd (false≢true (sym (ap (λ (f : Bool). (not f && not (get_or p.1.last k 0 == x)) && was_changed p k)
+        | inr none ↦ absurd (false≢true (sym (ap (λ (f : Bool). (not f && not (slice_index p.1.last k == x)) && was_changed p k)
             (only_first (length indices) p k x xs t within last_room changed_room (omega (arith, none)))) ∙ both))
       ]
 
       whole : length indices ≡ k + 1 → (b : Bool) → (is_first p || (noted_load p k x).0.moved) ≡ b → let q =
-          cond b (record (noted_load p k x).0 { collects = p.0.collects + 1; moved = false; stage = Collect 0 }, (noted_load p k x).1) (view_at_stage (noted_load p k x) (Value 0)) in trace_at (length indices) q
+          (if b then (record (noted_load p k x).0 { collects = p.0.collects + 1; moved = false; stage = Collect 0 }, (noted_load p k x).1) else view_at_stage (noted_load p k x) (Value 0)) in
+          trace_at (length indices) q
           (xs ++ x ∷ []) q.0.stage
       whole last true e = again_traced (length indices) (noted_load p k x) k (xs ++ x ∷ []) last traced
       whole last false e = λ _. still_equal (length indices) (noted_load p k x) k (xs ++ x ∷ []) last traced e
 
-      on_from : (b : Bool) → nat_lt (k + 1) (length indices) ≡ b → let q = cond b (view_at_stage (noted_load p k x) (Collect (k + 1))) (after_collect (noted_load p k x)) in trace_at (length indices) q
+      on_from : (b : Bool) → nat_lt (k + 1) (length indices) ≡ b → let q = (if b then view_at_stage (noted_load p k x) (Collect (k + 1)) else after_collect (noted_load p k x)) in
+          trace_at (length indices) q
           (xs ++ x ∷ []) q.0.stage
       on_from true e = retraced (length indices) (noted_load p k x) (Collect (k + 1)) (k + 1) (xs ++ x ∷ []) traced
       on_from false e = let past = ltb-false (k + 1) (length indices) e in whole (omega (arith, past, within)) (is_first p || (noted_load p k x).0.moved) refl
 
-      either : (b : Bool) → (differs p k x && was_changed p k) ≡ b → let q = cond b (borrow p x) (go_on (length indices) (noted_load p k x) k) in trace_at (length indices) q (xs ++ x ∷ []) q.0.stage
+      either : (b : Bool) → (differs p k x && was_changed p k) ≡ b → let q = (if b then borrow p x else go_on (length indices) (noted_load p k x) k) in
+          trace_at (length indices) q (xs ++ x ∷ []) q.0.stage
       either true e = third_here e
       either false e = on_from (nat_lt (k + 1) (length indices)) refl
 
-  value_traced : (q : ViewPair) (ys : List ℕ) (k : ℕ) (b : Bool) → trace_at (length indices) q ys (cond b (Value (k + 1)) Done)
+  value_traced : (q : ViewPair) (ys : List ℕ) (k : ℕ) (b : Bool) → trace_at (length indices) q ys (if b then Value (k + 1) else Done)
   value_traced q ys k true = λ e. absurd (omega (arith, e))
   value_traced q ys k false = tt
 
@@ -291,7 +294,7 @@ module _ (indices : List ℕ) (p : ViewPair) (x : ℕ) (xs : List ℕ) (w : View
   step_traced (Index at left) goes possible t = tt
   step_traced (PairValue at left index) goes possible t = done_or (view_at_stage (with_value p index x) (pairs_from (next_word at) (left - 1))) (xs ++ x ∷ []) (left - 1 == 0)
       (Index (next_word at) (left - 1)) tt
-  step_traced (Value k) goes possible t = value_traced (view_at_stage (with_value p (get_or indices k 0) x) (cond (nat_lt (k + 1) (length indices)) (Value (k + 1)) Done)) (xs ++ x ∷ []) k
+  step_traced (Value k) goes possible t = value_traced (view_at_stage (with_value p (slice_index indices k) x) (if nat_lt (k + 1) (length indices) then Value (k + 1) else Done)) (xs ++ x ∷ []) k
       (nat_lt (k + 1) (length indices))
   step_traced Done goes possible t = absurd possible
 

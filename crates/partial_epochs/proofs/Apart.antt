@@ -1,5 +1,5 @@
 -- No due step stores or adds to a component word, and an exchange of one is of two references; the pool's counter grows by claims alone.
-use Rattle.partial_epochs.proofs.Common.{ℕ, ◌≡◌, ◌<◌, ◌≤◌, ◌⊎◌, Bool, true, false, cond, Some, None, IfSome, List, [], length, refl, sym, ap, subst, ◌∙◌, inl, inr, arith, ⊤, is_some, Opening, all_at, some_same, Step, Load, Store, Exchange, Add, Layout, IsLayout, slot_counter, slot_word, list_base, list_head, list_counter, pool_counter, greatest_record, CoreState, record_size, step_at, step_of, is_begun, IsSound, is_sound_at, Holding, IsOwn, IsTied, IsMachineOf, core_of, PartAmong, holdings, joined_since, own_list, lawful_machines_are_ready, seal, announcement_size, join_step, JoinStage, Claiming, Storing, Joined, Spent, Change, Stage, Idle, ReadBegun, LoadingValue, UpdateBegun, GettingSet, Viewing, ClaimingRecord, StoringRecord, Exchanging, ScanBegun, StoringAnnouncement, Joining, Scanning, Leaving, Finished, size_few, view_loads, holding_in, memory_at, sizes_here, sound_at, sound_here}
+use Rattle.partial_epochs.proofs.Common.{ℕ, ◌≡◌, ◌<◌, ◌≤◌, ◌⊎◌, Bool, true, false, if◌then◌else◌, Some, None, IfSome, List, [], length, refl, sym, ap, subst, ◌∙◌, inl, inr, arith, ⊤, is_some, Opening, all_at, some_same, Step, Load, Store, Exchange, Add, Layout, IsLayout, slot_counter, slot_word, list_base, list_head, list_counter, pool_counter, greatest_record, CoreState, record_size, step_at, step_of, is_begun, IsSound, is_sound_at, Holding, IsOwn, IsTied, IsMachineOf, core_of, PartAmong, holdings, joined_since, own_list, lawful_machines_are_ready, seal, announcement_size, join_step, JoinStage, Claiming, Storing, Joined, Spent, Change, Stage, Idle, ReadBegun, LoadingValue, UpdateBegun, GettingSet, Viewing, ClaimingRecord, StoringRecord, Exchanging, ScanBegun, StoringAnnouncement, Joining, Scanning, Leaving, Finished, size_few, view_loads, holding_in, memory_at, sizes_here, sound_at, sound_here}
 use Rattle.partial_active.specs.declared.get_set.Stage.{Stage as SetStage}
 use Rattle.partial_active.specs.declared.get_set.Stage.TheVariants as set
 use Rattle.partial_active.specs.GetSet as finding
@@ -55,7 +55,7 @@ joining_apart y at (Storing slot) step e = subst (IsApart y) (some_same e) (omeg
 joining_apart y at (Joined slot) step e = absurd cc
 joining_apart y at Spent step e = absurd cc
 
-leaving_apart : (y : Layout) (slot : ℕ) (b : Bool) (step : Step) → cond b None (Some (Store (slot_word y slot) 1)) ≡ Some step → IsApart y step
+leaving_apart : (y : Layout) (slot : ℕ) (b : Bool) (step : Step) → (if b then None else Some (Store (slot_word y slot) 1)) ≡ Some step → IsApart y step
 leaving_apart y slot true step e = absurd cc
 leaving_apart y slot false step e = subst (IsApart y) (some_same e) (omega arith)
 

@@ -1,5 +1,5 @@
 -- Each step of a call leaves fewer steps, so a call makes few.
-use Rattle.partial_epochs.proofs.{Common.{ℕ, zero, suc, ◌≡◌, ◌+◌, ◌*◌, ◌-◌, ◌<◌, ◌≤◌, ◌==◌, Bool, true, false, cond, Option, Some, None, List, [], ◌∷◌, length, refl, sym, ap, subst, arith, inl, inr, ◌∙◌, nat_lt, list_all, Call, Noted, indices_of, IsLayout, Layout, first_free, Step, most_steps, steps_left, CoreState, reply_of, call_of, IsSound, Reply, Plan, Port, Beside, MayMove, Makes, LawfulMemory, Act, ChangeLeads, Changing, next_arena, next_component, next_load, next_pass, next_port, next_set, passes, CallStep, Doing, IsCallOf, IsUpdate, CallLeads, MayAct, RunsCall, after_step, behind_answer, begun, changed, ran, round, started, last_loads, ChangesAreBounded, ConditionalUpdatesAreBounded, ReadsMakeEight, ScansAreBounded, UpdatesAreBounded, most_of_change, opening_steps, pass_steps}, Left.{arenas_left, behind, change_left, fresh_left, left}, MachineSteps.{machine_ready, makes_fewer}}
+use Rattle.partial_epochs.proofs.{Common.{ℕ, zero, suc, ◌≡◌, ◌+◌, ◌*◌, ◌-◌, ◌<◌, ◌≤◌, ◌==◌, Bool, true, false, if◌then◌else◌, Option, Some, None, List, [], ◌∷◌, length, refl, sym, ap, subst, arith, inl, inr, ◌∙◌, nat_lt, list_all, Call, Noted, indices_of, IsLayout, Layout, first_free, Step, most_steps, steps_left, CoreState, reply_of, call_of, IsSound, Reply, Plan, Port, Beside, MayMove, Makes, LawfulMemory, Act, ChangeLeads, Changing, next_arena, next_component, next_load, next_pass, next_port, next_set, passes, CallStep, Doing, IsCallOf, IsUpdate, CallLeads, MayAct, RunsCall, after_step, behind_answer, begun, changed, ran, round, started, last_loads, ChangesAreBounded, ConditionalUpdatesAreBounded, ReadsMakeEight, ScansAreBounded, UpdatesAreBounded, most_of_change, opening_steps, pass_steps}, Left.{arenas_left, behind, change_left, fresh_left, left}, MachineSteps.{machine_ready, makes_fewer}}
 use Rattle.partial_machine.proofs.Laws.{makes_few_steps}
 use Rattle.partial_epochs.specs.Changing as changing
 use Rattle.partial_epochs.specs.Calls as calls
@@ -23,7 +23,7 @@ module _ (e : Plan) where
   arena_next own n zero = omega arith
   arena_next own n (suc x) = by (x == own) (arena_next own n x)
     where
-      by : (b : Bool) → change_left e (next_arena own n x) ≤ arenas_left e n x → change_left e (cond b (next_arena own n x) (changing.Changing.TakesArena n x)) ≤ arenas_left e n (suc x)
+      by : (b : Bool) → change_left e (next_arena own n x) ≤ arenas_left e n x → change_left e (if b then next_arena own n x else changing.Changing.TakesArena n x) ≤ arenas_left e n (suc x)
       by true rest = omega (arith, rest)
       by false rest = omega arith
 
@@ -34,7 +34,7 @@ module _ (e : Plan) where
   component_next : (own j : ℕ) → change_left e (next_component e own j) ≤ 2 * (e.sizes.m - j) + passes e * pass_steps e + opening_steps e
   component_next own j = by (nat_lt j e.sizes.m)
     where
-      by : (b : Bool) → change_left e (cond b (changing.Changing.LoadsComponent j) (next_pass e own (passes e))) ≤ 2 * (e.sizes.m - j) + passes e * pass_steps e + opening_steps e
+      by : (b : Bool) → change_left e (if b then changing.Changing.LoadsComponent j else next_pass e own (passes e)) ≤ 2 * (e.sizes.m - j) + passes e * pass_steps e + opening_steps e
       by true = omega arith
       by false = let rest = pass_next own (passes e) in omega (arith, rest)
 
@@ -45,14 +45,14 @@ module _ (e : Plan) where
   port_next : (n x q : ℕ) → change_left e (next_port e n x q) ≤ 3 * (e.ports - q) + 1 + arenas_left e n x
   port_next n x q = by (nat_lt q e.ports)
     where
-      by : (b : Bool) → change_left e (cond b (changing.Changing.LoadsPort n x q) (next_load (last_loads e))) ≤ 3 * (e.ports - q) + 1 + arenas_left e n x
+      by : (b : Bool) → change_left e (if b then changing.Changing.LoadsPort n x q else next_load (last_loads e)) ≤ 3 * (e.ports - q) + 1 + arenas_left e n x
       by true = omega arith
       by false = let rest = load_next (last_loads e) in omega (arith, rest)
 
   set_next : (i : ℕ) → change_left e (next_set e i) ≤ first_free e.sizes + e.sizes.m - i + 5
   set_next i = by (nat_lt i (first_free e.sizes + e.sizes.m))
     where
-      by : (b : Bool) → change_left e (cond b (changing.Changing.SetsWord i) changing.Changing.Publishes) ≤ first_free e.sizes + e.sizes.m - i + 5
+      by : (b : Bool) → change_left e (if b then changing.Changing.SetsWord i else changing.Changing.Publishes) ≤ first_free e.sizes + e.sizes.m - i + 5
       by true = omega arith
       by false = omega arith
 
@@ -209,7 +209,7 @@ started_left e (suc n) over (Call.UpdateIf j x v) = let all = update_if_left e j
 begun_left : (e : Plan) (n : ℕ) (over : Bool) (c : Call) → left e (begun e n over c) ≤ most_of_call e n over c
 begun_left e n over c = by (list_all (λ j. nat_lt j e.sizes.m) (indices_of c))
   where
-    by : (b : Bool) → left e (cond b (started n over c) (calls.Doing.Refused changing.Refusal.Component)) ≤ most_of_call e n over c
+    by : (b : Bool) → left e (if b then started n over c else calls.Doing.Refused changing.Refusal.Component) ≤ most_of_call e n over c
     by true = started_left e n over c
     by false = omega arith
 
@@ -232,7 +232,7 @@ pub scans_are_bounded : ScansAreBounded
 scans_are_bounded e k n rounds js over p p' d below r = by js over (calls_are_bounded e k n rounds over p p' (Call.Scan js) d below r)
   where
     by : (js : List ℕ) (over : Bool) → n ≤ most_of_call e rounds over (Call.Scan js) →
-        n ≤ cond over (most_of_change e + most_steps e.sizes (Call.Scan js)) (2 * most_steps e.sizes (Call.Scan js) + 4)
+        n ≤ (if over then most_of_change e + most_steps e.sizes (Call.Scan js) else (2 * most_steps e.sizes (Call.Scan js) + 4))
     by [] over few = omega (arith, few)
     by (j ∷ js) true few = few
     by (j ∷ js) false few = few

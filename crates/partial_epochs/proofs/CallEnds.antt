@@ -1,5 +1,5 @@
 -- How a step of a call ends a change of epoch, and what it adds and where its port is then.
-use Rattle.partial_epochs.proofs.{Common.{ℕ, zero, suc, ◌≡◌, ◌≢◌, ◌+◌, ◌<◌, ◌≤◌, ◌==◌, ◌⊎◌, Bool, true, false, cond, Option, Some, None, List, [], refl, sym, ap, subst, ◌∙◌, inl, inr, arith, ⊤, nat_lt, Applied, Call, Noted, CoreState, reply_of, Reply, first_free, Place, Plan, epoch_limit, Port, Beside, Move, is_applied, Act, ChangeLeads, Changing, IsHere, next_arena, next_component, next_load, next_pass, next_port, next_set, passes, CallsStayLawful, ActLeads, CallStep, Doing, CallLeads, after_step, ran, Moves, Sees, Answered, Arrived, EndsPass, LoadsComponent, LoadsPort, LooksFirst, Publishes, Refuses, SetsWord, TakesArena, last_loads, EpochsSpent, NoArena}, EveryStep.every_step_stays_lawful}
+use Rattle.partial_epochs.proofs.{Common.{ℕ, zero, suc, ◌≡◌, ◌≢◌, ◌+◌, ◌<◌, ◌≤◌, ◌==◌, ◌⊎◌, Bool, true, false, if◌then◌else◌, Option, Some, None, List, [], refl, sym, ap, subst, ◌∙◌, inl, inr, arith, ⊤, nat_lt, Applied, Call, Noted, CoreState, reply_of, Reply, first_free, Place, Plan, epoch_limit, Port, Beside, Move, is_applied, Act, ChangeLeads, Changing, IsHere, next_arena, next_component, next_load, next_pass, next_port, next_set, passes, CallsStayLawful, ActLeads, CallStep, Doing, CallLeads, after_step, ran, Moves, Sees, Answered, Arrived, EndsPass, LoadsComponent, LoadsPort, LooksFirst, Publishes, Refuses, SetsWord, TakesArena, last_loads, EpochsSpent, NoArena}, EveryStep.every_step_stays_lawful}
 use Rattle.partial_epochs.specs.EveryStep as every
 use Rattle.partial_epochs.specs.Changing as changing
 use Rattle.partial_epochs.specs.Calls as calls
@@ -27,7 +27,7 @@ arena_going : (own n x : ℕ) → IsGoing (next_arena own n x)
 arena_going own n zero = tt
 arena_going own n (suc x) = by (x == own) (arena_going own n x)
   where
-    by : (b : Bool) → IsGoing (next_arena own n x) → IsGoing (cond b (next_arena own n x) (TakesArena n x))
+    by : (b : Bool) → IsGoing (next_arena own n x) → IsGoing (if b then next_arena own n x else TakesArena n x)
     by true h = h
     by false h = tt
 
@@ -39,7 +39,7 @@ module _ (e : Plan) where
   component_going : (own j : ℕ) → 0 < e.ports → IsGoing (next_component e own j)
   component_going own j some = by (nat_lt j e.sizes.m)
     where
-      by : (b : Bool) → IsGoing (cond b (LoadsComponent j) (next_pass e own (passes e)))
+      by : (b : Bool) → IsGoing (if b then LoadsComponent j else next_pass e own (passes e))
       by true = tt
       by false = pass_going own (passes e) (omega (arith, some))
 
@@ -50,14 +50,14 @@ module _ (e : Plan) where
   port_going : (n x q : ℕ) → IsGoing (next_port e n x q)
   port_going n x q = by (nat_lt q e.ports)
     where
-      by : (b : Bool) → IsGoing (cond b (LoadsPort n x q) (next_load (last_loads e)))
+      by : (b : Bool) → IsGoing (if b then LoadsPort n x q else next_load (last_loads e))
       by true = tt
       by false = load_going (last_loads e)
 
   set_going : (i : ℕ) → IsGoing (next_set e i)
   set_going i = by (nat_lt i (first_free e.sizes + e.sizes.m))
     where
-      by : (b : Bool) → IsGoing (cond b (SetsWord i) Publishes)
+      by : (b : Bool) → IsGoing (if b then SetsWord i else Publishes)
       by true = tt
       by false = tt
 

@@ -1,5 +1,5 @@
 -- Why calls are refused, and that a refused call has applied nothing.
-use Rattle.partial_epochs.proofs.{Common.{ℕ, zero, suc, ◌≡◌, ◌≢◌, ◌+◌, ◌<◌, ◌≤◌, Bool, true, false, cond, Option, Some, None, List, [], ◌∷◌, refl, sym, ap, subst, ◌∙◌, inl, inr, arith, ◌&&◌, nat_lt, AllByRecursion, list_all, cases_lt, lt-ltb, Applied, Call, Noted, indices_of, CoreState, reply_of, Reply, Plan, epoch_limit, Port, Beside, Move, Act, Changing, IsHere, Refusal, ActLeads, CallStep, Doing, IsUpdate, CallLeads, RunsCall, after_step, behind_answer, begun, changed, ran, round, started, Moves, Sees, Answered, Changes, Judges, LoadsWord, Looks, Refused, Runs, Starts, Tells, Arrived, EndsPass, LooksFirst, Refuses, not_below, Component, EpochsSpent, NoArena, Overtaken, AppliesNothing, ChangesAreRefused, ComponentsAreMissing, OvertakenCallsMovedOn, RefusedCallsApplyNothing}, CallBounds.steps_leave_fewer, CallEnds.{Ends, IsGoing, arrive_place, change_causes, change_ends, leads_here, step_none, still_epoch}, Room.not_true}
+use Rattle.partial_epochs.proofs.{Common.{ℕ, zero, suc, ◌≡◌, ◌≢◌, ◌+◌, ◌<◌, ◌≤◌, Bool, true, false, if◌then◌else◌, Option, Some, None, List, [], ◌∷◌, refl, sym, ap, subst, ◌∙◌, inl, inr, arith, ◌&&◌, nat_lt, AllByRecursion, list_all, cases_lt, lt-ltb, Applied, Call, Noted, indices_of, CoreState, reply_of, Reply, Plan, epoch_limit, Port, Beside, Move, Act, Changing, IsHere, Refusal, ActLeads, CallStep, Doing, IsUpdate, CallLeads, RunsCall, after_step, behind_answer, begun, changed, ran, round, started, Moves, Sees, Answered, Changes, Judges, LoadsWord, Looks, Refused, Runs, Starts, Tells, Arrived, EndsPass, LooksFirst, Refuses, not_below, Component, EpochsSpent, NoArena, Overtaken, AppliesNothing, ChangesAreRefused, ComponentsAreMissing, OvertakenCallsMovedOn, RefusedCallsApplyNothing}, CallBounds.steps_leave_fewer, CallEnds.{Ends, IsGoing, arrive_place, change_causes, change_ends, leads_here, step_none, still_epoch}, Room.not_true}
 use Rattle.partial_epochs.specs.EveryStep as every
 use Rattle.partial_epochs.specs.Calls as calls
 
@@ -127,7 +127,7 @@ module _ (e : Plan) where
   begun_reaches : (n : ℕ) (over : Bool) (c : Call) (a b : ℕ) → Reaches (begun e n over c) a b → IsUpdate c × (a + n ≤ b)
   begun_reaches n over c a b = by (list_all (λ j. nat_lt j e.sizes.m) (indices_of c))
     where
-      by : (t : Bool) → Reaches (cond t (started n over c) (Refused Component)) a b → IsUpdate c × (a + n ≤ b)
+      by : (t : Bool) → Reaches (if t then started n over c else Refused Component) a b → IsUpdate c × (a + n ≤ b)
       by true h = started_reaches n over c a b h
       by false h = absurd h
 
@@ -274,8 +274,8 @@ started_there (suc n) over (Call.UpdateIf j x v) is = absurd cc
 
 pub components_are_missing : ComponentsAreMissing
 components_are_missing e rounds over c = record {
-  missing = λ is names. started_there rounds over c (sym (ap (λ (b : Bool). cond b (started rounds over c) (Refused Component)) (all_there e.sizes.m (indices_of c) names)) ∙ is);
-  refused = λ missing. ap (λ (b : Bool). cond b (started rounds over c) (Refused Component))
+  missing = λ is names. started_there rounds over c (sym (ap (λ (b : Bool). if b then started rounds over c else Refused Component) (all_there e.sizes.m (indices_of c) names)) ∙ is);
+  refused = λ missing. ap (λ (b : Bool). if b then started rounds over c else Refused Component)
       (not_true (list_all (λ j. nat_lt j e.sizes.m) (indices_of c)) (λ h. missing (there_all e.sizes.m (indices_of c) h)));
   at_once = λ k p d below s is.
       let some : 0 < e.ports = omega (arith, below) in

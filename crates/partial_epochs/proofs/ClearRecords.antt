@@ -1,5 +1,5 @@
 -- What initial records have beside their values is 0 in every arena.
-use Rattle.partial_epochs.proofs.{Common.{ℕ, ◌≡◌, ◌≢◌, ◌+◌, ◌-◌, ◌*◌, ◌%◌, ◌/◌, ◌<◌, ◌≤◌, ◌==◌, ◌⊎◌, Bool, true, false, cond, Option, Some, None, List, [], ◌∷◌, get_or, set, refl, sym, ap, ◌∙◌, inl, inr, arith, cases_lt, get_or-set_other, Applied, Opening, initial_stamp, Layout, list_base, pool_base, first_free, initial_record, initial_words, plain_record_size, prev_word, value_word, view_word, opening_word, opening_record, initial_prev, initial_view, IsToBeSet, Plan, arena_words, base, Port, Epoch, Beside, HasClearRecords, LawfulEpochs, opening_behind, set_word}, Places.{offset_behind, set_apart, set_low}, Worded.{plain_at, plain_other}}
+use Rattle.partial_epochs.proofs.{Common.{ℕ, ◌≡◌, ◌≢◌, ◌+◌, ◌-◌, ◌*◌, ◌%◌, ◌/◌, ◌<◌, ◌≤◌, ◌==◌, ◌⊎◌, Bool, true, false, if◌then◌else◌, Option, Some, None, List, [], ◌∷◌, slice_index, slice_set, refl, sym, ap, ◌∙◌, inl, inr, arith, cases_lt, get_or-set_other, Applied, Opening, initial_stamp, Layout, list_base, pool_base, first_free, initial_record, initial_words, plain_record_size, prev_word, value_word, view_word, opening_word, opening_record, initial_prev, initial_view, IsToBeSet, Plan, arena_words, base, Port, Epoch, Beside, HasClearRecords, LawfulEpochs, opening_behind, set_word}, Places.{offset_behind, set_apart, set_low}, Worded.{plain_at, plain_other}}
 use Rattle.partial_words.specs.{Record.prev_of, Chain.{IsChain, links_from}}
 use Rattle.partial_words.specs.declared.record.Link.{Link}
 
@@ -16,7 +16,7 @@ chain_ends words at l [] chain ends = absurd chain
 chain_ends words at l (k ∷ []) chain ends = ap (λ (n : Link). prev_of words n.stamp) (sym ends) ∙ ap (prev_of words) chain.0.stamp ∙ chain.1
 chain_ends words at l (k ∷ m ∷ ls) chain ends = chain_ends words (prev_of words at) l (m ∷ ls) chain.1 ends
 
-ends_behind : (l k : Link) (ls : List Link) (b : Bool) → EndsWith l ls → EndsWith l (cond b (k ∷ ls) ls)
+ends_behind : (l k : Link) (ls : List Link) (b : Bool) → EndsWith l ls → EndsWith l (if b then k ∷ ls else ls)
 unfolding EndsWith
 ends_behind l k [] b ends = absurd ends
 ends_behind l k (m ∷ ls) true ends = ends
@@ -25,12 +25,12 @@ ends_behind l k (m ∷ ls) false ends = ends
 links_end : (l : Link) (found : List Link) (j : ℕ) (h : List Applied) → EndsWith l found → EndsWith l (links_from found j h)
 unfolding links_from
 links_end l found j [] ends = ends
-links_end l found j (e ∷ h) ends = links_end l (cond (e.component == j) (record { stamp = e.stamp; value = e.value } ∷ found) found) j h
+links_end l found j (e ∷ h) ends = links_end l (if e.component == j then (record { stamp = e.stamp; value = e.value } ∷ found) else found) j h
     (ends_behind l (record { stamp = e.stamp; value = e.value }) found (e.component == j) ends)
 
 -- the initial record of component j
 abbrev first_link : Opening → ℕ → Link
-first_link o j = record { stamp = initial_stamp o j; value = get_or o.values j 0 }
+first_link o j = record { stamp = initial_stamp o j; value = slice_index o.values j }
 
 first_ends : (o : Opening) (j : ℕ) (h : List Applied) → EndsWith (first_link o j) (links_from (first_link o j ∷ []) j h)
 unfolding EndsWith
@@ -59,18 +59,18 @@ word_of_record s i from low = ((i - pool_base s) / plain_record_size, omega (ari
 
 -- the words that are set, and those that are 0, are those of an opening
 pub opens_by_set : (e : Plan) (words values : List ℕ) (x i : ℕ) → HasClearRecords e words x → i < first_free e.sizes → (i < list_base e.sizes) ⊎ (pool_base e.sizes ≤ i) →
-    (IsToBeSet e.sizes i → get_or words (base e x + i) 0 ≡ opening_word e.sizes values i) → get_or words (base e x + i) 0 ≡ opening_word e.sizes values i
+    (IsToBeSet e.sizes i → slice_index words (base e x + i) ≡ opening_word e.sizes values i) → slice_index words (base e x + i) ≡ opening_word e.sizes values i
 opens_by_set e words values x i clear low (inl front) is_set = is_set (inl front)
 opens_by_set e words values x i clear low (inr from) is_set = by (word_of_record e.sizes i from low)
   where
     by : (j : ℕ) × (j < e.sizes.m) × ((i ≡ prev_word (initial_record e.sizes j)) ⊎ ((i ≡ value_word (initial_record e.sizes j)) ⊎ (i ≡ view_word (initial_record e.sizes j)))) →
-        get_or words (base e x + i) 0 ≡ opening_word e.sizes values i
-    by (j, less, inl is) = ap (λ n. get_or words (base e x + n) 0) is ∙ (clear j less).0 ∙ sym (ap (opening_word e.sizes values) is ∙ prev_opens e.sizes values j less)
+        slice_index words (base e x + i) ≡ opening_word e.sizes values i
+    by (j, less, inl is) = ap (λ n. slice_index words (base e x + n)) is ∙ (clear j less).0 ∙ sym (ap (opening_word e.sizes values) is ∙ prev_opens e.sizes values j less)
     by (j, less, inr (inl is)) = is_set (inr (inr (j, less, is)))
-    by (j, less, inr (inr is)) = ap (λ n. get_or words (base e x + n) 0) is ∙ (clear j less).1 ∙ sym (ap (opening_word e.sizes values) is ∙ view_opens e.sizes values j less)
+    by (j, less, inr (inr is)) = ap (λ n. slice_index words (base e x + n)) is ∙ (clear j less).1 ∙ sym (ap (opening_word e.sizes values) is ∙ view_opens e.sizes values j less)
 
 -- words that are the same there
-pub records_same : (e : Plan) (words words' : List ℕ) (x : ℕ) → ((i : ℕ) → pool_base e.sizes ≤ i → i < first_free e.sizes → get_or words' (base e x + i) 0 ≡ get_or words (base e x + i) 0) →
+pub records_same : (e : Plan) (words words' : List ℕ) (x : ℕ) → ((i : ℕ) → pool_base e.sizes ≤ i → i < first_free e.sizes → slice_index words' (base e x + i) ≡ slice_index words (base e x + i)) →
     HasClearRecords e words x → HasClearRecords e words' x
 records_same e words words' x same clear j low = (
   same (prev_word (initial_record e.sizes j)) (omega arith) (omega (arith, low)) ∙ (clear j low).0,
@@ -84,14 +84,14 @@ apart_from_set s i (inr (inl high)) j low = ((λ same. omega (arith, high, low, 
 apart_from_set s i (inr (inr (k, less, is))) j low = ((λ same. omega (arith, is, same)), (λ same. omega (arith, is, same)))
 
 -- the store of a word that is set leaves them as they are
-pub records_kept : (e : Plan) (words : List ℕ) (x i v : ℕ) → initial_words e.sizes ≤ e.sizes.pool → IsToBeSet e.sizes i → HasClearRecords e words x → HasClearRecords e (set words (set_word e x i) v) x
+pub records_kept : (e : Plan) (words : List ℕ) (x i v : ℕ) → initial_words e.sizes ≤ e.sizes.pool → IsToBeSet e.sizes i → HasClearRecords e words x → HasClearRecords e (slice_set words (set_word e x i) v) x
 records_kept e words x i v room to_set clear j low =
     let apart = apart_from_set e.sizes i to_set j low in (
       other (prev_word (initial_record e.sizes j)) (omega arith) (omega (arith, low)) apart.0 ∙ (clear j low).0,
       other (view_word (initial_record e.sizes j)) (omega arith) (omega (arith, low)) apart.1 ∙ (clear j low).1,
     )
   where
-    other : (n : ℕ) → pool_base e.sizes ≤ n → n < first_free e.sizes → n ≢ i → get_or (set words (set_word e x i) v) (base e x + n) 0 ≡ get_or words (base e x + n) 0
+    other : (n : ℕ) → pool_base e.sizes ≤ n → n < first_free e.sizes → n ≢ i → slice_index (slice_set words (set_word e x i) v) (base e x + n) ≡ slice_index words (base e x + n)
     other n from less ne =
         let at : set_word e x n ≡ base e x + n = set_low e x n less ∙ ap (λ m. base e x + m) (offset_behind e.sizes n (omega (arith, from))) in
         get_or-set_other words (set_word e x i) (base e x + n) v 0 (λ same. set_apart e x n i room ne (at ∙ same))
@@ -111,9 +111,9 @@ records_before e words ports b w y inside = by (b.holds y) refl
         let bw : List ℕ = arena_words e words y in
         let stamp : initial_stamp o j ≡ initial_record e.sizes j = omega (arith, first) in
         let prev : prev_of bw (initial_stamp o j) ≡ 0 =
-        chain_ends bw (get_or bw j 0) (first_link o j) (links_from (first_link o j ∷ []) j r.log) (m.agrees j (omega (arith, long, low))).1 (first_ends o j r.log) in
-        let seen : (i : ℕ) → pool_base e.sizes ≤ i → i < first_free e.sizes → get_or bw i 0 ≡ get_or words (base e y + i) 0 =
-        λ i from less. plain_at e words y i (omega (arith, less, pool)) ∙ plain_other e words y i (get_or words (base e y + i) 0) (omega (arith, from)) in (
+        chain_ends bw (slice_index bw j) (first_link o j) (links_from (first_link o j ∷ []) j r.log) (m.agrees j (omega (arith, long, low))).1 (first_ends o j r.log) in
+        let seen : (i : ℕ) → pool_base e.sizes ≤ i → i < first_free e.sizes → slice_index bw i ≡ slice_index words (base e y + i) =
+        λ i from less. plain_at e words y i (omega (arith, less, pool)) ∙ plain_other e words y i (slice_index words (base e y + i)) (omega (arith, from)) in (
           sym (seen (prev_word (initial_record e.sizes j)) (omega arith) (omega (arith, low))) ∙ ap (prev_of bw) (sym stamp) ∙ prev,
           sym (seen (view_word (initial_record e.sizes j)) (omega arith) (omega (arith, low))) ∙ m.initial j low,
         )

@@ -1,5 +1,5 @@
 -- The names that several proofs of this crate take from elsewhere.
-pub use Rattle.std.proofs.Common.{ℕ, ◌≡◌, ◌+◌, ◌<◌, ◌≤◌, ◌⊎◌, ◌++◌, Bool, true, false, cond, Some, None, IfSome, List, [], ◌∷◌, length, refl, sym, ap, subst, ◌∙◌, inl, inr, arith, zero, suc, ◌*◌, ◌-◌, ◌==◌, Option, ◌≢◌, map, take, get_or, set, ◌%◌, ◌^◌, length-append, slice_get, Contains, append_assoc, ◌/◌, IsSome, drop}
+pub use Rattle.std.proofs.Common.{ℕ, ◌≡◌, ◌+◌, ◌<◌, ◌≤◌, ◌⊎◌, ◌++◌, Bool, true, false, Some, None, IfSome, List, [], ◌∷◌, length, refl, sym, ap, subst, ◌∙◌, inl, inr, arith, zero, suc, ◌*◌, ◌-◌, ◌==◌, Option, ◌≢◌, map, take, slice_index_or, slice_set, ◌%◌, ◌^◌, length-append, slice_get, Contains, append_assoc, ◌/◌, IsSome, drop}
 pub use Rattle.std.specs.{List.{list_all, AllByRecursion}, Option.{option_map, option_map_or}, Prelude.{⊤, is_some, nat_lt, ◌&&◌, slice_index, if◌then◌else◌, ◌||◌}}
 pub use Rattle.std.proofs.Math.Nat.{mul-le-mul_right, mul-le-mul_left}
 pub use Rattle.std.proofs.lemmas.{Bool.{cases_lt, lt-ltb}, List.{append-nil, length-map, get_or-set_same, get_or-set_other, length-set, set-get_or, take_all, append_cancel_left, map-append, take-append-drop}}

@@ -1,10 +1,10 @@
 -- The history of all epochs goes on where an epoch ends.
-use Rattle.partial_epochs.proofs.{Common.{ℕ, zero, suc, ◌≡◌, ◌+◌, ◌<◌, ◌≤◌, ◌==◌, ◌++◌, Bool, true, false, cond, Option, Some, None, IfSome, List, [], ◌∷◌, length, take, map, get_or, refl, sym, ap, subst, ◌∙◌, arith, option_map, option_map_or, AllByRecursion, lt-ltb, length-map, Applied, Opening, last_entry, initial_stamp, stamp_of, value_of, behind_both, some_same, all_weaker, first_free, list_of, Plan, arena_words, carried_word, carried_words, carried_after, carried_behind, history_of, opening_behind, public_entry, public_log, public_stamp, EpochsContinue, Port, Epoch, Stands, IsPlaceWord, Beside, IsStanding, LawfulEpochs, ReadsTellAllEpochs, read_stamp, IsEntry, not_below}, Lists.at_of}
+use Rattle.partial_epochs.proofs.{Common.{ℕ, zero, suc, ◌≡◌, ◌+◌, ◌<◌, ◌≤◌, ◌==◌, ◌++◌, Bool, true, false, if◌then◌else◌, Option, Some, None, IfSome, List, [], ◌∷◌, length, take, map, slice_index, refl, sym, ap, subst, ◌∙◌, arith, option_map, option_map_or, AllByRecursion, lt-ltb, length-map, Applied, Opening, last_entry, initial_stamp, stamp_of, value_of, behind_both, some_same, all_weaker, first_free, list_of, Plan, arena_words, carried_word, carried_words, carried_after, carried_behind, history_of, opening_behind, public_entry, public_log, public_stamp, EpochsContinue, Port, Epoch, Stands, IsPlaceWord, Beside, IsStanding, LawfulEpochs, ReadsTellAllEpochs, read_stamp, IsEntry, not_below}, Lists.at_of}
 use Rattle.partial_model.specs.History.{last_from}
 use Rattle.partial_core.specs.Lawful as one
 
 -- with public stamps
-cond_map : (g : Applied → Applied) (c : Bool) (e : Applied) (found : Option Applied) → cond c (Some (g e)) (option_map g found) ≡ option_map g (cond c (Some e) found)
+cond_map : (g : Applied → Applied) (c : Bool) (e : Applied) (found : Option Applied) → (if c then Some (g e) else option_map g found) ≡ option_map g (if c then Some e else found)
 cond_map g true e found = refl
 cond_map g false e found = refl
 
@@ -13,7 +13,7 @@ public_last : (epoch j : ℕ) (found : Option Applied) (h : List Applied) →
 unfolding last_from
 public_last epoch j found [] = refl
 public_last epoch j found (e ∷ h) = ap (λ (t : Option Applied). last_from t j (map (public_entry epoch) h)) (cond_map (public_entry epoch) (e.component == j) e found)
-    ∙ public_last epoch j (cond (e.component == j) (Some e) found) h
+    ∙ public_last epoch j (if e.component == j then Some e else found) h
 
 value_public : (epoch : ℕ) (t : Option Applied) (d : ℕ) → option_map_or (λ (e : Applied). e.value) (option_map (public_entry epoch) t) d ≡ option_map_or (λ (e : Applied). e.value) t d
 value_public epoch None d = refl
@@ -33,11 +33,11 @@ many o (h ∷ before) = long (value_of (opening_behind o before) h) 0 (length (o
     long f p (suc n) = ap suc (long f (p + 1) n)
 
 -- what an epoch opens with
-values_behind : (o : Opening) (before : List (List Applied)) (j : ℕ) → j < length o.values → value_of o (history_of before) j ≡ get_or (opening_behind o before).values j 0
+values_behind : (o : Opening) (before : List (List Applied)) (j : ℕ) → j < length o.values → value_of o (history_of before) j ≡ slice_index (opening_behind o before).values j
 unfolding last_from
 values_behind o [] j low = refl
 values_behind o (h ∷ before) j low =
-    behind_both (λ (e : Applied). e.value) (history_of before) (public_log (length before) h) j (get_or o.values j 0)
+    behind_both (λ (e : Applied). e.value) (history_of before) (public_log (length before) h) j (slice_index o.values j)
     ∙ ap (λ (t : Option Applied). option_map_or (λ (e : Applied). e.value) t (value_of o (history_of before) j)) (public_last (length before) j None h)
     ∙ value_public (length before) (last_entry j h) (value_of o (history_of before) j)
     ∙ ap (option_map_or (λ (e : Applied). e.value) (last_entry j h)) (values_behind o before j low)
@@ -55,7 +55,7 @@ stamps_behind o (h ∷ before) j =
 
 pub epochs_continue : EpochsContinue
 epochs_continue o h before j low = record {
-  value = behind_both (λ (e : Applied). e.value) (history_of before) (public_log (length before) h) j (get_or o.values j 0)
+  value = behind_both (λ (e : Applied). e.value) (history_of before) (public_log (length before) h) j (slice_index o.values j)
       ∙ ap (λ (t : Option Applied). option_map_or (λ (e : Applied). e.value) t (value_of o (history_of before) j)) (public_last (length before) j None h)
       ∙ value_public (length before) (last_entry j h) (value_of o (history_of before) j)
       ∙ ap (option_map_or (λ (e : Applied). e.value) (last_entry j h)) (values_behind o before j low);
@@ -83,9 +83,9 @@ length_both (x ∷ a) b = let rest = length_both a b in omega (arith, rest)
 pub last_all : (P : Applied → Type 0) (found : Option Applied) (j : ℕ) (h : List Applied) → IfSome found P → AllByRecursion P h → IfSome (last_from found j h) P
 unfolding last_from
 last_all P found j [] f all = f
-last_all P found j (e ∷ h) f all = last_all P (cond (e.component == j) (Some e) found) j h (by (e.component == j)) all.1
+last_all P found j (e ∷ h) f all = last_all P (if e.component == j then Some e else found) j h (by (e.component == j)) all.1
   where
-    by : (c : Bool) → IfSome (cond c (Some e) found) P
+    by : (c : Bool) → IfSome (if c then Some e else found) P
     by true = all.0
     by false = f
 
@@ -103,11 +103,11 @@ module _ (e : Plan) (words : List ℕ) (ports : ℕ → Port) (b : Beside) (k : 
       let held = w.control.stands k (ports k).control.here below (w.control.places k below) at in
       ap (λ (l : List (List Applied)). length l) (sym s.before) ∙ some_same (ap (option_map (λ (r : Epoch). length r.before)) (sym s.is) ∙ held)
 
-  pub carried_there : (j : ℕ) → j < e.sizes.m → get_or words (carried_word e (ports k).control.here.arena j) 0 ≡ carried_behind e.opening (ports k).before j
+  pub carried_there : (j : ℕ) → j < e.sizes.m → slice_index words (carried_word e (ports k).control.here.arena j) ≡ carried_behind e.opening (ports k).before j
   carried_there j inside =
       let x : ℕ = (ports k).control.here.arena in
-      let at : get_or (carried_words e words x) j 0 ≡ get_or words (carried_word e x j) 0 = at_of (λ i. get_or words (carried_word e x i) 0) 0 e.sizes.m j inside
-      ∙ ap (λ i. get_or words (carried_word e x i) 0) (omega arith) in
+      let at : slice_index (carried_words e words x) j ≡ slice_index words (carried_word e x j) = at_of (λ i. slice_index words (carried_word e x i)) 0 e.sizes.m j inside
+      ∙ ap (λ i. slice_index words (carried_word e x i)) (omega arith) in
       sym at ∙ (w.arenas (ports k).control.here.arena s.epoch s.is).stamps j inside ∙ ap (λ (l : List (List Applied)). carried_behind e.opening l j) s.before
 
 pub reads_tell_all_epochs : ReadsTellAllEpochs
@@ -149,14 +149,14 @@ reads_tell_all_epochs e words ports b k j n w below stands inside s few =
     stamp_is None is =
         let o : Opening = opening_behind e.opening (ports k).before in
         ap (λ (t : Option Applied). read_stamp e words (ports k) j (option_map_or (λ (x : Applied). x.stamp) t (initial_stamp o j))) is
-        ∙ ap (λ (c : Bool). cond c (get_or words (carried_word e (ports k).control.here.arena j) 0) (public_stamp (ports k).control.here.epoch (initial_stamp o j)))
+        ∙ ap (λ (c : Bool). if c then slice_index words (carried_word e (ports k).control.here.arena j) else public_stamp (ports k).control.here.epoch (initial_stamp o j))
         (lt-ltb (initial_stamp o j) (first_free e.sizes) initial)
         ∙ carried_there e words ports b k w s j inside
         ∙ sym (ap (λ (t : Option Applied). option_map_or (λ (x : Applied). public_stamp (length (ports k).before) x.stamp) t (carried_behind e.opening (ports k).before j)) is)
     stamp_is (Some x) is =
         let o : Opening = opening_behind e.opening (ports k).before in
         ap (λ (t : Option Applied). read_stamp e words (ports k) j (option_map_or (λ (x : Applied). x.stamp) t (initial_stamp o j))) is
-        ∙ ap (λ (c : Bool). cond c (get_or words (carried_word e (ports k).control.here.arena j) 0) (public_stamp (ports k).control.here.epoch x.stamp))
+        ∙ ap (λ (c : Bool). if c then slice_index words (carried_word e (ports k).control.here.arena j) else public_stamp (ports k).control.here.epoch x.stamp)
         (not_below x.stamp (first_free e.sizes) (entry_above (Some x) is))
         ∙ ap (λ r. public_stamp r x.stamp) (sym (epoch_behind e words ports b k w s below stands))
         ∙ sym (ap (λ (t : Option Applied). option_map_or (λ (x : Applied). public_stamp (length (ports k).before) x.stamp) t (carried_behind e.opening (ports k).before j)) is)

@@ -1,22 +1,22 @@
 -- A step on the control words alone.
-use Rattle.partial_epochs.proofs.{Common.{ℕ, ◌≡◌, ◌≢◌, ◌+◌, ◌<◌, ◌==◌, ◌⊎◌, true, false, Option, Some, None, IfSome, List, length, get_or, set, sym, ap, subst, ◌∙◌, inl, inr, arith, eqb_tells, get_or-set_same, get_or-set_other, put, Plan, Place, IsPlace, at_word, control_size, current_word, marked, packed, Control, Entering, OwnedArena, IsPlaceWord, IsEarlier, IsStillMarked, IsOld, IsOut, IsOwner, LawfulControl, MayPut, NotInto, Stands, Marks, Loaded}, Lists.{put_all, put_other, put_same}}
+use Rattle.partial_epochs.proofs.{Common.{ℕ, ◌≡◌, ◌≢◌, ◌+◌, ◌<◌, ◌==◌, ◌⊎◌, true, false, Option, Some, None, IfSome, List, length, slice_index, slice_set, sym, ap, subst, ◌∙◌, inl, inr, arith, eqb_tells, get_or-set_same, get_or-set_other, put, Plan, Place, IsPlace, at_word, control_size, current_word, marked, packed, Control, Entering, OwnedArena, IsPlaceWord, IsEarlier, IsStillMarked, IsOld, IsOut, IsOwner, LawfulControl, MayPut, NotInto, Stands, Marks, Loaded}, Lists.{put_all, put_other, put_same}}
 
 -- port k, which owns no arena, changes what it does, and its word
 module _ (e : Plan) (words : List ℕ) (cs : ℕ → Control) (now : Place) (holds : ℕ → Option ℕ) (w : LawfulControl e words cs now holds) (k : ℕ) (below : k < e.ports) (c : Control) (v : ℕ)
     (free : (cs k).owned ≡ None) (free' : c.owned ≡ None) (long : length words ≡ control_size e) where
   abbrev words' : List ℕ
-  words' = set words (at_word k) v
+  words' = slice_set words (at_word k) v
 
   abbrev cs' : ℕ → Control
   cs' = put k c cs
 
-  pub own : get_or words' (at_word k) 0 ≡ v
+  pub own : slice_index words' (at_word k) ≡ v
   own = get_or-set_same words (at_word k) v 0 (omega (arith, long, below))
 
-  other : (i : ℕ) → i ≢ at_word k → get_or words' i 0 ≡ get_or words i 0
+  other : (i : ℕ) → i ≢ at_word k → slice_index words' i ≡ slice_index words i
   other i ne = get_or-set_other words (at_word k) i v 0 ne
 
-  other_at : (q : ℕ) → q ≢ k → get_or words' (at_word q) 0 ≡ get_or words (at_word q) 0
+  other_at : (q : ℕ) → q ≢ k → slice_index words' (at_word q) ≡ slice_index words (at_word q)
   other_at q ne = other (at_word q) (omega (arith, ne))
 
   none_some : (o : OwnedArena) → None ≡ Some o → ⊥
@@ -112,9 +112,9 @@ module _ (e : Plan) (words : List ℕ) (cs : ℕ → Control) (now : Place) (hol
         at_other q here (Loaded d) ne (inl h) = inl (other_at q ne ∙ h)
         at_other q here (Loaded d) ne (inr h) = inr (h.0, h.1, other_at q ne ∙ h.2, h.3)
 
-        stands : {q : ℕ} → (((q == k) ≡ true) × (q ≡ k)) ⊎ (((q == k) ≡ false) × (q ≢ k)) → (d : Place) → q < e.ports → IsPlace e d → get_or words' (at_word q) 0 ≡ packed d →
+        stands : {q : ℕ} → (((q == k) ≡ true) × (q ≡ k)) ⊎ (((q == k) ≡ false) × (q ≢ k)) → (d : Place) → q < e.ports → IsPlace e d → slice_index words' (at_word q) ≡ packed d →
             holds d.arena ≡ Some d.epoch
-        stands (inl same) d inside place at = g.stands d place (sym own ∙ sym (ap (λ i. get_or words' (at_word i) 0) same.1) ∙ at)
+        stands (inl same) d inside place at = g.stands d place (sym own ∙ sym (ap (λ i. slice_index words' (at_word i)) same.1) ∙ at)
         stands {q} (inr ne) d inside place at = w.stands q d inside place (sym (other_at q ne.1) ∙ at)
 
         owners : (q : ℕ) (t : Option OwnedArena) → q ≢ k → q < e.ports → IfSome t (IsOwner e words cs now holds q) → IfSome t (IsOwner e words' cs' now holds q)

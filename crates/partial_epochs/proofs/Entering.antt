@@ -1,17 +1,17 @@
 -- The steps by which a port comes to the present epoch.
-use Rattle.partial_epochs.proofs.{Common.{ℕ, ◌≡◌, ◌≢◌, ◌+◌, ◌<◌, ◌≤◌, ◌==◌, ◌⊎◌, Bool, true, false, cond, Option, Some, None, IfSome, List, length, get_or, set, refl, sym, ap, subst, ◌∙◌, inl, inr, arith, option_map, eqb_tells, get_or-set_same, get_or-set_other, length-set, set-get_or, Applied, some_same, total, slot_counter, slot_word, HasClearRecords, HasClearSlots, put, Plan, Place, IsPlace, at_word, arena_words, base, carried_word, carried_words, component_words, control_size, control_words, current_word, marked, packed, plain, set_word, arena_limit, Control, OwnedArena, Port, Epoch, IsPlaceWord, IsEarlier, IsOld, IsOut, IsOwner, LawfulControl, MayPut, NotInto, Beside, IsArena, IsNewPart, IsSetting, IsStanding, LawfulEpochs, controls, numbers, place_now, IsPresent, Arrives, ArrivalsStayLawful, EntriesLoad, LooksAreTrue, MarksStayLawful, arrived_port, Stands, Marks, Loaded}, ClearRecords.records_same, ControlChange.{Goes, control_goes, own, putter}, Lists.{at_of, length_of, put_all, put_other, put_same, same_of, set_of}, Places.{packed_arena, set_place}, Present.{present, same_place}}
+use Rattle.partial_epochs.proofs.{Common.{ℕ, ◌≡◌, ◌≢◌, ◌+◌, ◌<◌, ◌≤◌, ◌==◌, ◌⊎◌, Bool, true, false, if◌then◌else◌, Option, Some, None, IfSome, List, length, slice_index, slice_set, refl, sym, ap, subst, ◌∙◌, inl, inr, arith, option_map, eqb_tells, get_or-set_same, get_or-set_other, length-set, set-get_or, Applied, some_same, total, slot_counter, slot_word, HasClearRecords, HasClearSlots, put, Plan, Place, IsPlace, at_word, arena_words, base, carried_word, carried_words, component_words, control_size, control_words, current_word, marked, packed, plain, set_word, arena_limit, Control, OwnedArena, Port, Epoch, IsPlaceWord, IsEarlier, IsOld, IsOut, IsOwner, LawfulControl, MayPut, NotInto, Beside, IsArena, IsNewPart, IsSetting, IsStanding, LawfulEpochs, controls, numbers, place_now, IsPresent, Arrives, ArrivalsStayLawful, EntriesLoad, LooksAreTrue, MarksStayLawful, arrived_port, Stands, Marks, Loaded}, ClearRecords.records_same, ControlChange.{Goes, control_goes, own, putter}, Lists.{at_of, length_of, put_all, put_other, put_same, same_of, set_of}, Places.{packed_arena, set_place}, Present.{present, same_place}}
 
 -- words that differ in control words alone
-module _ (e : Plan) (words words' : List ℕ) (high : (i : ℕ) → control_size e ≤ i → get_or words' i 0 ≡ get_or words i 0) where
+module _ (e : Plan) (words words' : List ℕ) (high : (i : ℕ) → control_size e ≤ i → slice_index words' i ≡ slice_index words i) where
   pub high_arena : (y : ℕ) → arena_words e words' y ≡ arena_words e words y
-  high_arena y = same_of (λ i. plain e i (get_or words' (base e y + i) 0)) (λ i. plain e i (get_or words (base e y + i) 0)) 0 (total e.sizes)
+  high_arena y = same_of (λ i. plain e i (slice_index words' (base e y + i))) (λ i. plain e i (slice_index words (base e y + i))) 0 (total e.sizes)
       (λ i low up. ap (plain e i) (high (base e y + i) (omega arith)))
 
   pub high_components : (y : ℕ) → component_words e words' y ≡ component_words e words y
-  high_components y = same_of (λ j. get_or words' (base e y + j) 0) (λ j. get_or words (base e y + j) 0) 0 e.sizes.m (λ j low up. high (base e y + j) (omega arith))
+  high_components y = same_of (λ j. slice_index words' (base e y + j)) (λ j. slice_index words (base e y + j)) 0 e.sizes.m (λ j low up. high (base e y + j) (omega arith))
 
   pub high_carried : (y : ℕ) → carried_words e words' y ≡ carried_words e words y
-  high_carried y = same_of (λ j. get_or words' (carried_word e y j) 0) (λ j. get_or words (carried_word e y j) 0) 0 e.sizes.m (λ j low up. high (carried_word e y j) (omega arith))
+  high_carried y = same_of (λ j. slice_index words' (carried_word e y j)) (λ j. slice_index words (carried_word e y j)) 0 e.sizes.m (λ j low up. high (carried_word e y j) (omega arith))
 
   pub high_arenaed : (y : ℕ) (r : Epoch) (F : Type 0) → IsArena e (arena_words e words y) (component_words e words y) (carried_words e words y) r F →
       IsArena e (arena_words e words' y) (component_words e words' y) (carried_words e words' y) r F
@@ -27,8 +27,8 @@ module _ (e : Plan) (words words' : List ℕ) (high : (i : ℕ) → control_size
   high_records y = records_same e words words' y (λ i from low. high (base e y + i) (omega arith))
 
 -- port k comes to be p'
-module _ (e : Plan) (words words' : List ℕ) (high : (i : ℕ) → control_size e ≤ i → get_or words' i 0 ≡ get_or words i 0) (ports : ℕ → Port) (b : Beside) (k : ℕ) (p' : Port)
-    (w : LawfulEpochs e words ports b) (long : length words' ≡ length words) (first : get_or words' current_word 0 ≡ get_or words current_word 0)
+module _ (e : Plan) (words words' : List ℕ) (high : (i : ℕ) → control_size e ≤ i → slice_index words' i ≡ slice_index words i) (ports : ℕ → Port) (b : Beside) (k : ℕ) (p' : Port)
+    (w : LawfulEpochs e words ports b) (long : length words' ≡ length words) (first : slice_index words' current_word ≡ slice_index words current_word)
     (settled : IfSome p'.control.owned (IsSetting e words' b p')) (control : LawfulControl e (control_words e words') (put k p'.control (controls ports)) (place_now b) (numbers b))
     (stand : p'.control.entering ≡ Stands → IsStanding b k p') (later : (ports k).control.here.epoch ≤ p'.control.here.epoch) (inside : k < e.ports) where
   same_controls : (q : ℕ) → put k p'.control (controls ports) q ≡ controls (put k p' ports) q
@@ -67,30 +67,30 @@ module _ (e : Plan) (words words' : List ℕ) (high : (i : ℕ) → control_size
       }
 
 pub cw_long : (e : Plan) (words : List ℕ) → length (control_words e words) ≡ control_size e
-cw_long e words = length_of (λ i. get_or words i 0) 0 (control_size e)
+cw_long e words = length_of (λ i. slice_index words i) 0 (control_size e)
 
 -- the word of port k is set
 module _ (e : Plan) (words : List ℕ) (ports : ℕ → Port) (b : Beside) (k : ℕ) (p' : Port) (v : ℕ) (w : LawfulEpochs e words ports b) (inside : k < e.ports) where
   abbrev cw : List ℕ
   cw = control_words e words
 
-  pub cw_at : (i : ℕ) → i < control_size e → get_or cw i 0 ≡ get_or words i 0
-  cw_at i low = at_of (λ i. get_or words i 0) 0 (control_size e) i low ∙ ap (λ j. get_or words j 0) (omega arith)
+  pub cw_at : (i : ℕ) → i < control_size e → slice_index cw i ≡ slice_index words i
+  cw_at i low = at_of (λ i. slice_index words i) 0 (control_size e) i low ∙ ap (λ j. slice_index words j) (omega arith)
 
   long_words : control_size e ≤ length words
   long_words = let count = w.count in omega (arith, count)
 
   abbrev words' : List ℕ
-  words' = set words (at_word k) v
+  words' = slice_set words (at_word k) v
 
-  set_control : control_words e words' ≡ set cw (at_word k) v
+  set_control : control_words e words' ≡ slice_set cw (at_word k) v
   set_control =
       let zero_here : 0 + at_word k ≡ at_word k = omega arith in
       let long = long_words in
-      set_of (λ i. get_or words i 0) (λ i. get_or words' i 0) 0 (control_size e) (at_word k) (omega (arith, inside))
+      set_of (λ i. slice_index words i) (λ i. slice_index words' i) 0 (control_size e) (at_word k) (omega (arith, inside))
       (λ j ne. get_or-set_other words (at_word k) j v 0 (omega (arith, ne)))
-      ∙ ap (λ i. set cw (at_word k) (get_or words' i 0)) zero_here
-      ∙ ap (λ u. set cw (at_word k) u) (get_or-set_same words (at_word k) v 0 (omega (arith, inside, long)))
+      ∙ ap (λ i. slice_set cw (at_word k) (slice_index words' i)) zero_here
+      ∙ ap (λ u. slice_set cw (at_word k) u) (get_or-set_same words (at_word k) v 0 (omega (arith, inside, long)))
 
   module _ (free : (ports k).control.owned ≡ None) (free' : p'.control.owned ≡ None)
       (goes : Goes e cw (controls ports) (place_now b) (numbers b) w.control k inside p'.control v free free' (cw_long e words))
@@ -110,15 +110,15 @@ marked_epoch e p q few g h same = let b = g.arena in let c = h.arena in omega (a
 
 module _ (e : Plan) (words : List ℕ) (ports : ℕ → Port) (b : Beside) (k : ℕ) (w : LawfulEpochs e words ports b) (inside : k < e.ports) where
   abbrev at_now : ℕ
-  at_now = get_or (control_words e words) (at_word k) 0
+  at_now = slice_index (control_words e words) (at_word k)
 
   abbrev cs : ℕ → Control
   cs = controls ports
 
-  at_is : at_now ≡ get_or words (at_word k) 0
+  at_is : at_now ≡ slice_index words (at_word k)
   at_is = cw_at e words ports b k (ports k) 0 w inside (at_word k) (omega (arith, inside))
 
-  pub current_is : get_or words current_word 0 ≡ packed (place_now b)
+  pub current_is : slice_index words current_word ≡ packed (place_now b)
   current_is = sym (cw_at e words ports b k (ports k) 0 w inside current_word (omega arith)) ∙ w.control.current
 
   abbrev long : length (control_words e words) ≡ control_size e
@@ -134,17 +134,17 @@ module _ (e : Plan) (words : List ℕ) (ports : ℕ → Port) (b : Beside) (k : 
 
   -- a change that leaves the words
   module _ (p' : Port) (free : (ports k).control.owned ≡ None) (free' : p'.control.owned ≡ None)
-      (goes : Goes e (control_words e words) cs (place_now b) (numbers b) w.control k inside p'.control (get_or words (at_word k) 0) free free' long)
+      (goes : Goes e (control_words e words) cs (place_now b) (numbers b) w.control k inside p'.control (slice_index words (at_word k)) free free' long)
       (stand : p'.control.entering ≡ Stands → IsStanding b k p') (later : (ports k).control.here.epoch ≤ p'.control.here.epoch) where
     at_same : LawfulEpochs e words (put k p' ports) b
     at_same = subst (λ (l : List ℕ). LawfulEpochs e l (put k p' ports) b) (set-get_or words (at_word k) 0)
-        (at_set e words ports b k p' (get_or words (at_word k) 0) w inside free free' goes stand later)
+        (at_set e words ports b k p' (slice_index words (at_word k)) w inside free free' goes stand later)
 
   module _ (c : Control) (v : ℕ) (free : (ports k).control.owned ≡ None) (free' : c.owned ≡ None) where
     abbrev Going : Type 0
     Going = Goes e (control_words e words) cs (place_now b) (numbers b) w.control k inside c v free free' long
 
-    set_at : get_or (set (control_words e words) (at_word k) v) (at_word k) 0 ≡ v
+    set_at : slice_index (slice_set (control_words e words) (at_word k) v) (at_word k) ≡ v
     set_at = own e (control_words e words) cs (place_now b) (numbers b) w.control k inside c v free free' long
 
     was_putter : (q j : ℕ) (a : Place) → MayPut (put k c cs q) j a → MayPut (cs q) j a × (q ≢ k)
@@ -152,9 +152,9 @@ module _ (e : Plan) (words : List ℕ) (ports : ℕ → Port) (b : Beside) (k : 
 
   -- a look
   pub looks : (ports k).control.entering ≡ Stands → (ports k).control.owned ≡ None →
-      ((get_or words current_word 0 ≡ packed (ports k).control.here) × IsPresent b k (ports k))
-      ⊎ ((get_or words current_word 0 ≢ packed (ports k).control.here) × LawfulEpochs e words (put k (record (ports k) { control = record (ports k).control { past = true } }) ports) b)
-  looks stands free = by (eqb_tells (get_or words current_word 0) (packed (ports k).control.here))
+      ((slice_index words current_word ≡ packed (ports k).control.here) × IsPresent b k (ports k))
+      ⊎ ((slice_index words current_word ≢ packed (ports k).control.here) × LawfulEpochs e words (put k (record (ports k) { control = record (ports k).control { past = true } }) ports) b)
+  looks stands free = by (eqb_tells (slice_index words current_word) (packed (ports k).control.here))
     where
       here : Place
       here = (ports k).control.here
@@ -162,30 +162,30 @@ module _ (e : Plan) (words : List ℕ) (ports : ℕ → Port) (b : Beside) (k : 
       placed_at : at_now ≡ packed (ports k).control.here
       placed_at = subst (IsPlaceWord e (control_words e words) k (ports k).control.here) stands (w.control.at k inside)
 
-      older : get_or words current_word 0 ≢ packed (ports k).control.here → (ports k).control.here.epoch < length b.before
+      older : slice_index words current_word ≢ packed (ports k).control.here → (ports k).control.here.epoch < length b.before
       older ne = elim (w.control.earlier (ports k).control.here.arena (ports k).control.here.epoch (w.control.stands k (ports k).control.here inside (w.control.places k inside) placed_at)) [
         | inl less ↦ less
         | inr same ↦ absurd (ne (current_is ∙ ap packed (sym (same_place (ports k).control.here (place_now b) same.0 same.1))))
       ]
 
-      by : (((get_or words current_word 0 == packed (ports k).control.here) ≡ true) × (get_or words current_word 0 ≡ packed (ports k).control.here))
-          ⊎ (((get_or words current_word 0 == packed (ports k).control.here) ≡ false) × (get_or words current_word 0 ≢ packed (ports k).control.here)) →
-          ((get_or words current_word 0 ≡ packed (ports k).control.here) × IsPresent b k (ports k))
-          ⊎ ((get_or words current_word 0 ≢ packed (ports k).control.here) × LawfulEpochs e words (put k (record (ports k) { control = record (ports k).control { past = true } }) ports) b)
+      by : (((slice_index words current_word == packed (ports k).control.here) ≡ true) × (slice_index words current_word ≡ packed (ports k).control.here))
+          ⊎ (((slice_index words current_word == packed (ports k).control.here) ≡ false) × (slice_index words current_word ≢ packed (ports k).control.here)) →
+          ((slice_index words current_word ≡ packed (ports k).control.here) × IsPresent b k (ports k))
+          ⊎ ((slice_index words current_word ≢ packed (ports k).control.here) × LawfulEpochs e words (put k (record (ports k) { control = record (ports k).control { past = true } }) ports) b)
       by (inl same) =
           let both = packed_arena e (ports k).control.here (place_now b) w.plan.arenas (w.control.places k inside).arena w.control.place.arena (sym same.1 ∙ current_is) in
           inl (same.1, present e words ports b k w inside stands both.1)
       by (inr ne) =
           let less = older ne.1 in
           let c : Control = record (ports k).control { past = true } in
-          let v : ℕ = get_or words (at_word k) 0 in
-          let at : get_or (set (control_words e words) (at_word k) v) (at_word k) 0 ≡ at_now = set_at c v free free ∙ sym at_is in
+          let v : ℕ = slice_index words (at_word k) in
+          let at : slice_index (slice_set (control_words e words) (at_word k) v) (at_word k) ≡ at_now = set_at c v free free ∙ sym at_is in
           inr (
             ne.1,
             at_same (record (ports k) { control = c }) free free
                 (record {
                   place = w.control.places k inside;
-                  at = subst (IsPlaceWord e (set (control_words e words) (at_word k) v) k (ports k).control.here) (sym stands) (at ∙ placed_at);
+                  at = subst (IsPlaceWord e (slice_set (control_words e words) (at_word k) v) k (ports k).control.here) (sym stands) (at ∙ placed_at);
                   old = w.control.old k inside;
                   past = λ _. less;
                   stands = λ d place is. w.control.stands k d inside place (at_is ∙ is);
@@ -203,12 +203,12 @@ module _ (e : Plan) (words : List ℕ) (ports : ℕ → Port) (b : Beside) (k : 
 
   -- the mark is stored
   pub marks : (ports k).control.entering ≡ Stands → (ports k).control.past ≡ true → (ports k).control.owned ≡ None →
-      LawfulEpochs e (set words (at_word k) (marked (ports k).control.here)) (put k (record (ports k) { control = record (ports k).control { entering = Marks } }) ports) b
+      LawfulEpochs e (slice_set words (at_word k) (marked (ports k).control.here)) (put k (record (ports k) { control = record (ports k).control { entering = Marks } }) ports) b
   marks stands past free =
       let c : Control = record (ports k).control { entering = Marks } in
       let v : ℕ = marked (ports k).control.here in
       let less = w.control.past k inside past in
-      let at : get_or (set (control_words e words) (at_word k) v) (at_word k) 0 ≡ v = set_at c v free free in
+      let at : slice_index (slice_set (control_words e words) (at_word k) v) (at_word k) ≡ v = set_at c v free free in
       let none : (d : Place) → IsPlace e d → v ≡ packed d → ⊥ = λ d place is. not_marked e d (ports k).control.here w.plan.arenas place (sym is) in
       at_set e words ports b k (record (ports k) { control = c }) v w inside free free
       (record {
@@ -237,8 +237,8 @@ module _ (e : Plan) (words : List ℕ) (ports : ℕ → Port) (b : Beside) (k : 
   loads entering =
       let free = owns_none (ports k).control.owned refl (w.control.owners k inside) in
       let c : Control = record (ports k).control { entering = Loaded (place_now b) } in
-      let v : ℕ = get_or words (at_word k) 0 in
-      let at : get_or (set (control_words e words) (at_word k) v) (at_word k) 0 ≡ at_now = set_at c v free free ∙ sym at_is in
+      let v : ℕ = slice_index words (at_word k) in
+      let at : slice_index (slice_set (control_words e words) (at_word k) v) (at_word k) ≡ at_now = set_at c v free free ∙ sym at_is in
       let less : (ports k).control.here.epoch < length b.before = subst (IsOld e (length b.before) (ports k).control.here) entering (w.control.old k inside) in
       at_same (record (ports k) { control = c }) free free
       (record {
@@ -262,8 +262,8 @@ module _ (e : Plan) (words : List ℕ) (ports : ℕ → Port) (b : Beside) (k : 
       owns_none None is h = is
       owns_none (Some o) is h = let stands = h.stands in absurd cc
 
-      at_as : (v : ℕ) → IsPlaceWord e (control_words e words) k (ports k).control.here Marks → get_or (set (control_words e words) (at_word k) v) (at_word k) 0 ≡ at_now →
-          IsPlaceWord e (set (control_words e words) (at_word k) v) k (ports k).control.here (Loaded (place_now b))
+      at_as : (v : ℕ) → IsPlaceWord e (control_words e words) k (ports k).control.here Marks → slice_index (slice_set (control_words e words) (at_word k) v) (at_word k) ≡ at_now →
+          IsPlaceWord e (slice_set (control_words e words) (at_word k) v) k (ports k).control.here (Loaded (place_now b))
       at_as v (inl h) at = inl (at ∙ h)
       at_as v (inr h) at = inr (h.0, h.1, at ∙ h.2, h.3)
 
@@ -293,12 +293,12 @@ module _ (e : Plan) (words : List ℕ) (ports : ℕ → Port) (b : Beside) (k : 
   -- the port comes to the place p
   module _ (p : Place) (v : ℕ) (v_is : v ≡ packed p) (place : IsPlace e p) (later : (ports k).control.here.epoch < p.epoch) (within : p.epoch ≤ length b.before)
       (holds : numbers b p.arena ≡ Some p.epoch) (away : (x : ℕ) → IsOut e (control_words e words) (controls ports) x k → p.arena ≢ x) where
-    comes_to : (before : List (List Applied)) × (length before ≡ p.epoch) × LawfulEpochs e (set words (at_word k) v) (put k (arrived_port e k p before) ports) b
+    comes_to : (before : List (List Applied)) × (length before ≡ p.epoch) × LawfulEpochs e (slice_set words (at_word k) v) (put k (arrived_port e k p before) ports) b
     comes_to =
         let held = epoch_at b p.arena p.epoch holds in
         let r : Epoch = held.0 in
         let c' : Control = record { here = p; entering = Stands; past = false; owned = None } in
-        let at : get_or (set (control_words e words) (at_word k) v) (at_word k) 0 ≡ v =
+        let at : slice_index (slice_set (control_words e words) (at_word k) v) (at_word k) ≡ v =
         own e (control_words e words) (controls ports) (place_now b) (numbers b) w.control k inside c' v free refl (cw_long e words) in
         let is_p : (d : Place) → IsPlace e d → v ≡ packed d → p ≡ d = λ d there is.
         let both = packed_arena e p d w.plan.arenas place.arena there.arena (sym v_is ∙ is) in same_place p d both.0 both.1 in
@@ -328,10 +328,10 @@ module _ (e : Plan) (words : List ℕ) (ports : ℕ → Port) (b : Beside) (k : 
   arrives : Arrives e words ports b k c
   arrives = by (subst (IsPlaceWord e (control_words e words) k (ports k).control.here) entering (w.control.at k inside)) (at_is e words ports b k w inside)
     where
-      by : IsPlaceWord e (control_words e words) k (ports k).control.here (Loaded c) → get_or (control_words e words) (at_word k) 0 ≡ get_or words (at_word k) 0 → Arrives e words ports b k c
+      by : IsPlaceWord e (control_words e words) k (ports k).control.here (Loaded c) → slice_index (control_words e words) (at_word k) ≡ slice_index words (at_word k) → Arrives e words ports b k c
       by (inl is) same =
-          let raw : get_or words (at_word k) 0 ≡ mark = sym same ∙ is in
-          let won : (get_or words (at_word k) 0 == mark) ≡ true = (elim (eqb_tells (get_or words (at_word k) 0) mark) [ inl t ↦ t.0 | inr f ↦ absurd (f.1 raw) ]) in
+          let raw : slice_index words (at_word k) ≡ mark = sym same ∙ is in
+          let won : (slice_index words (at_word k) == mark) ≡ true = (elim (eqb_tells (slice_index words (at_word k)) mark) [ inl t ↦ t.0 | inr f ↦ absurd (f.1 raw) ]) in
           let holds = w.control.comes k c inside entering is in
           let away : (x : ℕ) → IsOut e (control_words e words) (controls ports) x k → c.arena ≢ x = λ x h. subst (NotInto x) entering (h.loaded is) in
           let g = comes_to c (packed c) refl old.2 old.0 old.1 holds away in
@@ -341,26 +341,26 @@ module _ (e : Plan) (words : List ℕ) (ports : ℕ → Port) (b : Beside) (k : 
             before = g.0;
             epoch = g.1;
             later = old.0;
-            lawful = subst (λ (t : Bool). LawfulEpochs e (set words (at_word k) (cond t (packed c) (get_or words (at_word k) 0))) (put k (arrived_port e k c g.0) ports) b) (sym won) g.2;
+            lawful = subst (λ (t : Bool). LawfulEpochs e (slice_set words (at_word k) (if t then packed c else slice_index words (at_word k))) (put k (arrived_port e k c g.0) ports) b) (sym won) g.2;
           }
       by (inr found) same =
           let p : Place = found.0 in
-          let raw : get_or words (at_word k) 0 ≡ packed p = sym same ∙ found.2 in
-          let lost : (get_or words (at_word k) 0 == mark) ≡ false = (elim (eqb_tells (get_or words (at_word k) 0) mark) [
+          let raw : slice_index words (at_word k) ≡ packed p = sym same ∙ found.2 in
+          let lost : (slice_index words (at_word k) == mark) ≡ false = (elim (eqb_tells (slice_index words (at_word k)) mark) [
             | inl t ↦ absurd (not_marked e p (ports k).control.here w.plan.arenas found.1 (sym raw ∙ t.1))
             | inr f ↦ f.0
           ]) in
           let holds = w.control.stands k p inside found.1 found.2 in
           let within : p.epoch ≤ length b.before = (elim (w.control.earlier p.arena p.epoch holds) [ inl less ↦ omega (arith, less) | inr even ↦ let n = even.0 in omega (arith, n) ]) in
           let away : (x : ℕ) → IsOut e (control_words e words) (controls ports) x k → p.arena ≢ x = λ x h. h.unmarked p found.1 found.2 in
-          let g = comes_to p (get_or words (at_word k) 0) raw found.1 found.3 within holds away in
+          let g = comes_to p (slice_index words (at_word k)) raw found.1 found.3 within holds away in
           record {
             place = p;
             is = inr raw;
             before = g.0;
             epoch = g.1;
             later = found.3;
-            lawful = subst (λ (t : Bool). LawfulEpochs e (set words (at_word k) (cond t (packed c) (get_or words (at_word k) 0))) (put k (arrived_port e k p g.0) ports) b) (sym lost) g.2;
+            lawful = subst (λ (t : Bool). LawfulEpochs e (slice_set words (at_word k) (if t then packed c else slice_index words (at_word k))) (put k (arrived_port e k p g.0) ports) b) (sym lost) g.2;
           }
 
 pub arrivals_stay_lawful : ArrivalsStayLawful

@@ -1,5 +1,5 @@
 -- Every step of every port keeps the memory lawful.
-use Rattle.partial_epochs.proofs.{Common.{ℕ, ◌≡◌, ◌+◌, ◌<◌, ◌≤◌, ◌⊎◌, ◌++◌, List, [], ◌∷◌, length, get_or, refl, sym, ap, subst, ◌∙◌, inl, inr, arith, append-nil, Applied, eqb_tells, Noted, Step, Add, CoreState, put, Place, Plan, at_word, current_word, packed, seal, Control, Port, history_of, public_log, Marks, Loaded, Beside, LawfulEpochs, place_now, arrived_port, having_passed, MayPut, at_next_port, having_given, having_loaded, having_looked, having_put, just_taken, owning_port, having_published, having_set, next_beside, vacated, EveryStepStaysLawful, IsPlacedBy, MayAdd, MayMove, MemoriesOpenLawful, Move, MoveLeads, moved_words, since_behind, Makes, Seals, PassesSealed, LooksAsOwner, StoresMark, LoadsCurrent, ExchangesMark, Takes, Gives, FindsElsewhere, LoadsMark, Puts, Sets, Notes, MachineLeads, IsAside, LawfulMemory, having_seen, noting, one_history, FindsClear, passing_port, KeepsTime}, Entering.{arrivals_stay_lawful, entries_load, looks_are_true, marks_stay_lawful}, Lists.{put_other, put_same}, MachineSteps.machine_steps_stay_lawful, NotesStay.{adds_of, history_is, notes_stay_lawful}, OpensAll.epochs_open_lawful, OwnerLooks.owners_look, Publishes.publishes_stay_lawful, Puts.puts_stay_lawful, Seals.{sealed_passes_stay_lawful, seals_stay_lawful}, Sets.{clear_slots_count_as_set, sets_stay_lawful}, Sights.{arrivals_keep_notes, asides_stay_lawful, publishes_keep_notes, sights_stay_lawful}, Taking.{gives_stay_lawful, marks_are_loaded, others_are_elsewhere, owners_look_away, takes_stay_lawful}, Time.{arrivals_keep_time, asides_keep_time, entries_keep_time, loaded_marks_keep_time, looks_keep_time, marks_keep_time, not_again, one_aside, publishes_keep_time, puts_keep_time, puts_nobody, set_puts, steps_keep_places}}
+use Rattle.partial_epochs.proofs.{Common.{ℕ, ◌≡◌, ◌+◌, ◌<◌, ◌≤◌, ◌⊎◌, ◌++◌, List, [], ◌∷◌, length, slice_index, refl, sym, ap, subst, ◌∙◌, inl, inr, arith, append-nil, Applied, eqb_tells, Noted, Step, Add, CoreState, put, Place, Plan, at_word, current_word, packed, seal, Control, Port, history_of, public_log, Marks, Loaded, Beside, LawfulEpochs, place_now, arrived_port, having_passed, MayPut, at_next_port, having_given, having_loaded, having_looked, having_put, just_taken, owning_port, having_published, having_set, next_beside, vacated, EveryStepStaysLawful, IsPlacedBy, MayAdd, MayMove, MemoriesOpenLawful, Move, MoveLeads, moved_words, since_behind, Makes, Seals, PassesSealed, LooksAsOwner, StoresMark, LoadsCurrent, ExchangesMark, Takes, Gives, FindsElsewhere, LoadsMark, Puts, Sets, Notes, MachineLeads, IsAside, LawfulMemory, having_seen, noting, one_history, FindsClear, passing_port, KeepsTime}, Entering.{arrivals_stay_lawful, entries_load, looks_are_true, marks_stay_lawful}, Lists.{put_other, put_same}, MachineSteps.machine_steps_stay_lawful, NotesStay.{adds_of, history_is, notes_stay_lawful}, OpensAll.epochs_open_lawful, OwnerLooks.owners_look, Publishes.publishes_stay_lawful, Puts.puts_stay_lawful, Seals.{sealed_passes_stay_lawful, seals_stay_lawful}, Sets.{clear_slots_count_as_set, sets_stay_lawful}, Sights.{arrivals_keep_notes, asides_stay_lawful, publishes_keep_notes, sights_stay_lawful}, Taking.{gives_stay_lawful, marks_are_loaded, others_are_elsewhere, owners_look_away, takes_stay_lawful}, Time.{arrivals_keep_time, asides_keep_time, entries_keep_time, loaded_marks_keep_time, looks_keep_time, marks_keep_time, not_again, one_aside, publishes_keep_time, puts_keep_time, puts_nobody, set_puts, steps_keep_places}}
 use Rattle.partial_epochs.specs.EveryStep.Move.{Looks, Publishes}
 
 module _ (e : Plan) (words : List ℕ) (ports : ℕ → Port) (b : Beside) (notes : ℕ → List Noted) (k : ℕ) (w : LawfulMemory e words ports b notes) (below : k < e.ports) where
@@ -23,7 +23,7 @@ module _ (e : Plan) (words : List ℕ) (ports : ℕ → Port) (b : Beside) (note
   Keeps words' ports' c = (since : ℕ → ℕ) → KeepsTime e words ports (place_now b) since → KeepsTime e words' ports' (place_now c) since
 
   -- where no port's word changes, and the port stays where it is
-  keeps : (words' : List ℕ) (p : Port) (c : Beside) → ((q : ℕ) → q < e.ports → get_or words' (at_word q) 0 ≡ get_or words (at_word q) 0) → p.control.here ≡ (ports k).control.here →
+  keeps : (words' : List ℕ) (p : Port) (c : Beside) → ((q : ℕ) → q < e.ports → slice_index words' (at_word q) ≡ slice_index words (at_word q)) → p.control.here ≡ (ports k).control.here →
       p.control.entering ≡ (ports k).control.entering → ((j : ℕ) (a : Place) → MayPut p.control j a → MayPut (ports k).control j a) → length b.before ≤ length c.before → Keeps words' (put k p ports) c
   keeps words' p c at here entering puts later since t = asides_keep_time e words words' ports (put k p ports) (place_now b) (place_now c) since
       (one_aside e words words' ports k p (place_now b) (place_now c) at here entering puts later) t
@@ -45,7 +45,7 @@ module _ (e : Plan) (words : List ℕ) (ports : ℕ → Port) (b : Beside) (note
       (λ j a. subst (λ (t : Control). MayPut t j a → MayPut (ports k).control j a) (sym lead.control) (λ may. may))
       (omega (arith, same))
 
-  keeps_pass : (words' : List ℕ) (c : Beside) → ((q : ℕ) → q < e.ports → get_or words' (at_word q) 0 ≡ get_or words (at_word q) 0) → c.before ≡ b.before →
+  keeps_pass : (words' : List ℕ) (c : Beside) → ((q : ℕ) → q < e.ports → slice_index words' (at_word q) ≡ slice_index words (at_word q)) → c.before ≡ b.before →
       Keeps words' (put k (passing_port (ports k)) ports) c
   keeps_pass words' c at epochs = let same = ap (λ (l : List (List Applied)). length l) epochs in keeps words' (passing_port (ports k)) c at refl refl (λ j a may. may) (omega (arith, same))
 
@@ -129,7 +129,7 @@ module _ (e : Plan) (words : List ℕ) (ports : ℕ → Port) (b : Beside) (note
     | inl now ↦ rests Looks (λ then is. is) (λ since t. t)
     | inr past ↦ aside Looks (λ then is. is) words (having_passed (ports k)) b (here (having_passed (ports k)) refl refl refl) keeps_passed past.1
   ]
-  every_step (LooksAsOwner o) may = elim (eqb_tells (get_or words current_word 0) (packed (ports k).control.here)) [
+  every_step (LooksAsOwner o) may = elim (eqb_tells (slice_index words current_word) (packed (ports k).control.here)) [
     | inl now ↦ aside (LooksAsOwner o) (λ then is. is) words (having_looked (ports k) o) b (here (having_looked (ports k) o) refl refl refl)
         (λ since t. looks_keep_time e words ports b k o since w.epochs below now.1 t) (owners_look e words ports b k o w.epochs below may.0 may.1 now.1).1
     | inr past ↦ aside (LooksAsOwner o) (λ then is. is) words (having_passed (ports k)) b (here (having_passed (ports k)) refl refl refl) keeps_passed

@@ -1,5 +1,5 @@
 -- What the words of an epoch tell last, and that it stays.
-use Rattle.partial_epochs.proofs.{Common.{ℕ, ◌≡◌, ◌≢◌, ◌+◌, ◌<◌, ◌≤◌, ◌==◌, ◌⊎◌, ◌++◌, Bool, true, false, cond, Option, Some, None, List, [], ◌∷◌, length, take, get_or, refl, sym, ap, subst, ◌∙◌, inl, inr, arith, AllByRecursion, option_map_or, eqb_tells, take_all, Applied, Opening, initial_stamp, stamp_of, value_of, stamp_all, total, lawful_records_are_within, list_of, Plan, IsSealed, arena_words, base, component_words, plain, unsealed, history_of, opening_behind, Port, Stands, Beside, IsStanding, LawfulEpochs, ComponentsNameRecords, LastWordsAreFinal, TellTheLast, read_stamp, behind_both, value_word, view_word, records_within, value_behind_stamp}, Continue.{epochs_continue, history_took, reads_tell_all_epochs}, Places.below_whole, Worded.{plain_at, plain_component, plain_other}}
+use Rattle.partial_epochs.proofs.{Common.{ℕ, ◌≡◌, ◌≢◌, ◌+◌, ◌<◌, ◌≤◌, ◌==◌, ◌⊎◌, ◌++◌, Bool, true, false, if◌then◌else◌, Option, Some, None, List, [], ◌∷◌, length, take, slice_index, refl, sym, ap, subst, ◌∙◌, inl, inr, arith, AllByRecursion, option_map_or, eqb_tells, take_all, Applied, Opening, initial_stamp, stamp_of, value_of, stamp_all, total, lawful_records_are_within, list_of, Plan, IsSealed, arena_words, base, component_words, plain, unsealed, history_of, opening_behind, Port, Stands, Beside, IsStanding, LawfulEpochs, ComponentsNameRecords, LastWordsAreFinal, TellTheLast, read_stamp, behind_both, value_word, view_word, records_within, value_behind_stamp}, Continue.{epochs_continue, history_took, reads_tell_all_epochs}, Places.below_whole, Worded.{plain_at, plain_component, plain_other}}
 use Rattle.partial_model.specs.History.{last_from}
 use Rattle.partial_core.specs.Lawful as one
 
@@ -9,21 +9,21 @@ unfolding last_from
 none_here j [] all = refl
 none_here j (a ∷ h) all = ap (λ (t : Option Applied). last_from t j h) (other (a.component == j) (eqb_tells a.component j)) ∙ none_here j h all.1
   where
-    other : (c : Bool) → ((c ≡ true) × (a.component ≡ j)) ⊎ ((c ≡ false) × (a.component ≢ j)) → cond c (Some a) None ≡ None
+    other : (c : Bool) → ((c ≡ true) × (a.component ≡ j)) ⊎ ((c ≡ false) × (a.component ≢ j)) → (if c then Some a else None) ≡ None
     other c (inl is) = absurd (all.0 is.1)
-    other c (inr ne) = ap (λ (t : Bool). cond t (Some a) None) ne.0
+    other c (inr ne) = ap (λ (t : Bool). if t then Some a else None) ne.0
 
 pub stays : (o : Opening) (log entries : List Applied) (j : ℕ) → AllByRecursion (λ (a : Applied). a.component ≢ j) entries →
     (value_of o (log ++ entries) j ≡ value_of o log j) × (stamp_of o (log ++ entries) j ≡ stamp_of o log j)
 stays o log entries j all = (
-  behind_both (λ (a : Applied). a.value) log entries j (get_or o.values j 0) ∙ ap (λ (t : Option Applied). option_map_or (λ (a : Applied). a.value) t (value_of o log j)) (none_here j entries all),
+  behind_both (λ (a : Applied). a.value) log entries j (slice_index o.values j) ∙ ap (λ (t : Option Applied). option_map_or (λ (a : Applied). a.value) t (value_of o log j)) (none_here j entries all),
   behind_both (λ (a : Applied). a.stamp) log entries j (initial_stamp o j) ∙ ap (λ (t : Option Applied). option_map_or (λ (a : Applied). a.stamp) t (stamp_of o log j)) (none_here j entries all),
 )
 
-others : (e : Plan) (words : List ℕ) (x j : ℕ) (h : List Applied) → IsSealed (get_or (component_words e words x) j 0) →
-    AllByRecursion (λ (a : Applied). ¬ IsSealed (get_or (component_words e words x) a.component 0)) h → AllByRecursion (λ (a : Applied). a.component ≢ j) h
+others : (e : Plan) (words : List ℕ) (x j : ℕ) (h : List Applied) → IsSealed (slice_index (component_words e words x) j) →
+    AllByRecursion (λ (a : Applied). ¬ IsSealed (slice_index (component_words e words x) a.component)) h → AllByRecursion (λ (a : Applied). a.component ≢ j) h
 others e words x j [] sealed all = tt
-others e words x j (a ∷ h) sealed all = (λ same. all.0 (subst (λ i. IsSealed (get_or (component_words e words x) i 0)) (sym same) sealed), others e words x j h sealed all.1)
+others e words x j (a ∷ h) sealed all = (λ same. all.0 (subst (λ i. IsSealed (slice_index (component_words e words x) i)) (sym same) sealed), others e words x j h sealed all.1)
 
 module _ (e : Plan) (words : List ℕ) (ports : ℕ → Port) (b : Beside) (k j : ℕ) (w : LawfulEpochs e words ports b) (below : k < e.ports) (stands : (ports k).control.entering ≡ Stands)
     (inside : j < e.sizes.m)
@@ -46,16 +46,16 @@ module _ (e : Plan) (words : List ℕ) (ports : ℕ → Port) (b : Beside) (k j 
   long : length (opening_behind e.opening (ports k).before).values ≡ e.sizes.m
   long = lawful.memory.values
 
-  last : get_or bw j 0 ≡ stamp_of (opening_behind e.opening (ports k).before) s.epoch.log j
+  last : slice_index bw j ≡ stamp_of (opening_behind e.opening (ports k).before) s.epoch.log j
   last = (lawful.memory.agrees j (let l = long in omega (arith, l, inside))).0
 
   abbrev raw : ℕ
-  raw = get_or words (base e x + j) 0
+  raw = slice_index words (base e x + j)
 
   low : j < total e.sizes
   low = omega (arith, inside)
 
-  pub is_raw : get_or bw j 0 ≡ unsealed raw
+  pub is_raw : slice_index bw j ≡ unsealed raw
   is_raw = plain_at e words x j low ∙ plain_component e words x j raw inside
 
   named : unsealed raw ≡ stamp_of (opening_behind e.opening (ports k).before) s.epoch.log j
@@ -72,14 +72,14 @@ module _ (e : Plan) (words : List ℕ) (ports : ℕ → Port) (b : Beside) (k j 
       weaker [] all = tt
       weaker (a ∷ h) all = (all.0.0, weaker h all.1)
 
-  pub within : view_word (get_or bw j 0) < total e.sizes
+  pub within : view_word (slice_index bw j) < total e.sizes
   within =
       let l = long in
       let c = lawful.memory.count in
       let r = (records_within (opening_behind e.opening (ports k).before) bw s.epoch.log lawful.memory.agrees).components j (omega (arith, l, inside)) in
       omega (arith, r, c)
 
-  value : get_or words (base e x + value_word (unsealed raw)) 0 ≡ value_of e.opening (history_of (s.epoch.log ∷ (ports k).before)) j
+  value : slice_index words (base e x + value_word (unsealed raw)) ≡ value_of e.opening (history_of (s.epoch.log ∷ (ports k).before)) j
   value =
       let l = long in
       let at = named in
@@ -87,12 +87,12 @@ module _ (e : Plan) (words : List ℕ) (ports : ℕ → Port) (b : Beside) (k j 
       let up = within in
       let is = is_raw in
       let v : ℕ = value_word (unsealed raw) in
-      let there : get_or bw (value_word (unsealed raw)) 0 ≡ plain e (value_word (unsealed raw)) (get_or words (base e x + value_word (unsealed raw)) 0) =
+      let there : slice_index bw (value_word (unsealed raw)) ≡ plain e (value_word (unsealed raw)) (slice_index words (base e x + value_word (unsealed raw))) =
       plain_at e words x (value_word (unsealed raw)) (omega (arith, up, is)) in
       let values = w.plan.values in
-      sym (there ∙ plain_other e words x (value_word (unsealed raw)) (get_or words (base e x + value_word (unsealed raw)) 0) (omega (arith, at, from)))
-      ∙ ap (λ n. get_or bw (value_word n) 0) named
-      ∙ ap (λ (h : List Applied). get_or bw (value_word (stamp_of (opening_behind e.opening (ports k).before) h j)) 0) (sym (take_all (length s.epoch.log) s.epoch.log (omega arith)))
+      sym (there ∙ plain_other e words x (value_word (unsealed raw)) (slice_index words (base e x + value_word (unsealed raw))) (omega (arith, at, from)))
+      ∙ ap (λ n. slice_index bw (value_word n)) named
+      ∙ ap (λ (h : List Applied). slice_index bw (value_word (stamp_of (opening_behind e.opening (ports k).before) h j))) (sym (take_all (length s.epoch.log) s.epoch.log (omega arith)))
       ∙ value_behind_stamp (opening_behind e.opening (ports k).before) bw s.epoch.log j (length s.epoch.log) lawful.memory.agrees (omega (arith, l, inside))
       ∙ ap (λ (h : List Applied). value_of (opening_behind e.opening (ports k).before) h j) (take_all (length s.epoch.log) s.epoch.log (omega arith))
       ∙ sym (epochs_continue e.opening s.epoch.log (ports k).before j (omega (arith, values, inside))).value

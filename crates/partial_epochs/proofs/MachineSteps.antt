@@ -1,5 +1,5 @@
 -- Each due step of a machine in the arena where its port stands keeps the lawful state of all epochs.
-use Rattle.partial_epochs.proofs.{Common.{ℕ, ◌≡◌, ◌≢◌, ◌+◌, ◌*◌, ◌%◌, ◌^◌, ◌<◌, ◌≤◌, ◌==◌, ◌⊎◌, ◌++◌, Bool, true, false, cond, Some, List, [], ◌∷◌, length, get_or, set, refl, sym, ap, subst, ◌∙◌, inl, inr, arith, ◌&&◌, ◌||◌, nat_lt, AllByRecursion, cases_lt, lt-ltb, eqb_tells, get_or-set_same, get_or-set_other, Applied, Opening, Step, Load, Store, Exchange, Add, IsLayout, Layout, first_free, total, pool_counter, slot_counter, greatest_record, answer_of, word_of, words_after, steps_left, CoreState, advance, step_of, Part, PartAmong, IsMachineOf, port_of, IsReady, LeadsOn, added_by, lawful_machines_are_ready, steps_stay_lawful, count, list_of, put, Plan, arena_words, carried_words, component_words, placed_step, opening_behind, Port, Epoch, Beside, IsArena, IsStanding, LawfulEpochs, IsPresent, awaits_slot, MachineLeads, MachineStepsStayLawful, MayClaim, MeetsSeal, ends_over, Stands, not_below, value_word, least_announcement}, Apart.{IsApart, due_apart}, Change.{Changes, beside_then, change_kept}, Lists.{Around, around_of, count_more, count_one, count_same, length_of, put_all, put_other, put_same}, Places.below_whole, Present.{by_seal, standing}, Slots.{awaits, awaits_same, counted, one, pool_small}, Worded.{Words, worded}}
+use Rattle.partial_epochs.proofs.{Common.{ℕ, ◌≡◌, ◌≢◌, ◌+◌, ◌*◌, ◌%◌, ◌^◌, ◌<◌, ◌≤◌, ◌==◌, ◌⊎◌, ◌++◌, Bool, true, false, if◌then◌else◌, Some, List, [], ◌∷◌, length, slice_index, slice_set, refl, sym, ap, subst, ◌∙◌, inl, inr, arith, ◌&&◌, ◌||◌, nat_lt, AllByRecursion, cases_lt, lt-ltb, eqb_tells, get_or-set_same, get_or-set_other, Applied, Opening, Step, Load, Store, Exchange, Add, IsLayout, Layout, first_free, total, pool_counter, slot_counter, greatest_record, answer_of, word_of, words_after, steps_left, CoreState, advance, step_of, Part, PartAmong, IsMachineOf, port_of, IsReady, LeadsOn, added_by, lawful_machines_are_ready, steps_stay_lawful, count, list_of, put, Plan, arena_words, carried_words, component_words, placed_step, opening_behind, Port, Epoch, Beside, IsArena, IsStanding, LawfulEpochs, IsPresent, awaits_slot, MachineLeads, MachineStepsStayLawful, MayClaim, MeetsSeal, ends_over, Stands, not_below, value_word, least_announcement}, Apart.{IsApart, due_apart}, Change.{Changes, beside_then, change_kept}, Lists.{Around, around_of, count_more, count_one, count_same, length_of, put_all, put_other, put_same}, Places.below_whole, Present.{by_seal, standing}, Slots.{awaits, awaits_same, counted, one, pool_small}, Worded.{Words, worded}}
 use Rattle.partial_core.specs.Lawful as one
 use Rattle.partial_core.specs.Steps.{Tells}
 
@@ -9,52 +9,52 @@ or_none false c e = e
 
 -- The reserve: a claim that ends past the limit is its port's last.
 module _ (e : Plan) (words : List ℕ) (over : ℕ → Bool) (k : ℕ) (below : k < e.ports) (there : pool_counter e.sizes < length words)
-    (reserve : get_or words (pool_counter e.sizes) 0 ≤ e.limit + greatest_record e.sizes * count over 0 e.ports) where
+    (reserve : slice_index words (pool_counter e.sizes) ≤ e.limit + greatest_record e.sizes * count over 0 e.ports) where
   abbrev Reserved : Bool → List ℕ → Type 0
-  Reserved v words' = get_or words' (pool_counter e.sizes) 0 ≤ e.limit + greatest_record e.sizes * count (put k v over) 0 e.ports
+  Reserved v words' = slice_index words' (pool_counter e.sizes) ≤ e.limit + greatest_record e.sizes * count (put k v over) 0 e.ports
 
   unchanged : (v : Bool) → v ≡ over k → count (put k v over) 0 e.ports ≡ count over 0 e.ports
   unchanged v is = count_same (put k v over) over 0 e.ports (λ i low high. put_all (λ j u. u ≡ over j) k v over i (λ _. is) (λ _. refl))
 
-  reserved_same : (v : Bool) (words' : List ℕ) → v ≡ over k → get_or words' (pool_counter e.sizes) 0 ≡ get_or words (pool_counter e.sizes) 0 → Reserved v words'
+  reserved_same : (v : Bool) (words' : List ℕ) → v ≡ over k → slice_index words' (pool_counter e.sizes) ≡ slice_index words (pool_counter e.sizes) → Reserved v words'
   reserved_same v words' is same =
       let times : greatest_record e.sizes * count (put k v over) 0 e.ports ≡ greatest_record e.sizes * count over 0 e.ports = ap (λ n. greatest_record e.sizes * n) (unchanged v is) in
       omega (arith, times, same, reserve)
 
   reserved_by : (step : Step) → IsApart e.sizes step → MayClaim e (over k) step → Reserved (over k || ends_over e words step) (words_after words step)
   reserved_by (Load w) apart may = reserved_same (over k || false) words (or_none (over k) false refl) refl
-  reserved_by (Store w v) apart may = reserved_same (over k || false) (set words w v) (or_none (over k) false refl)
+  reserved_by (Store w v) apart may = reserved_same (over k || false) (slice_set words w v) (or_none (over k) false refl)
       (get_or-set_other words w (pool_counter e.sizes) v 0 (omega (arith, apart)))
   reserved_by (Exchange w old new) apart may = reserved_same (over k || false) (words_after words (Exchange w old new)) (or_none (over k) false refl)
-      (get_or-set_other words w (pool_counter e.sizes) (cond (get_or words w 0 == old) new (get_or words w 0)) 0 (omega (arith, apart)))
+      (get_or-set_other words w (pool_counter e.sizes) (if slice_index words w == old then new else slice_index words w) 0 (omega (arith, apart)))
   reserved_by (Add w n) apart may = elim (eqb_tells w (pool_counter e.sizes)) [
     | inl same ↦ claimed same.0 same.1
     | inr other ↦
         let ne = other.1 in
         reserved_same (over k || ends_over e words (Add w n)) (words_after words (Add w n))
-        (or_none (over k) (ends_over e words (Add w n)) (ap (λ (b : Bool). b && nat_lt e.limit (get_or words w 0 + n)) other.0))
-        (get_or-set_other words w (pool_counter e.sizes) ((get_or words w 0 + n) % 2 ^ 64) 0 (omega (arith, ne)))
+        (or_none (over k) (ends_over e words (Add w n)) (ap (λ (b : Bool). b && nat_lt e.limit (slice_index words w + n)) other.0))
+        (get_or-set_other words w (pool_counter e.sizes) ((slice_index words w + n) % 2 ^ 64) 0 (omega (arith, ne)))
   ]
     where
       claimed : (w == pool_counter e.sizes) ≡ true → w ≡ pool_counter e.sizes → Reserved (over k || ends_over e words (Add w n)) (words_after words (Add w n))
       claimed test is =
-          let at : get_or words w 0 ≡ get_or words (pool_counter e.sizes) 0 = ap (λ i. get_or words i 0) is in
+          let at : slice_index words w ≡ slice_index words (pool_counter e.sizes) = ap (λ i. slice_index words i) is in
           let few : n ≤ greatest_record e.sizes = omega (arith, apart, is) in
-          let found : get_or (words_after words (Add w n)) (pool_counter e.sizes) 0 ≡ (get_or words w 0 + n) % 2 ^ 64 =
-          ap (λ i. get_or (words_after words (Add w n)) i 0) (sym is) ∙ get_or-set_same words w ((get_or words w 0 + n) % 2 ^ 64) 0 (subst (λ i. i < length words) (sym is) there) in
-          let less : (get_or words w 0 + n) % 2 ^ 64 ≤ get_or words w 0 + n = omega arith in
+          let found : slice_index (words_after words (Add w n)) (pool_counter e.sizes) ≡ (slice_index words w + n) % 2 ^ 64 =
+          ap (λ i. slice_index (words_after words (Add w n)) i) (sym is) ∙ get_or-set_same words w ((slice_index words w + n) % 2 ^ 64) 0 (subst (λ i. i < length words) (sym is) there) in
+          let less : (slice_index words w + n) % 2 ^ 64 ≤ slice_index words w + n = omega arith in
           let free = may is in
           let v : Bool = over k || ends_over e words (Add w n) in
-          let v_is : v ≡ nat_lt e.limit (get_or words w 0 + n) = ap (λ (b : Bool). b || ends_over e words (Add w n)) free ∙ ap (λ (b : Bool). b && nat_lt e.limit (get_or words w 0 + n)) test in
-          elim (cases_lt e.limit (get_or words w 0 + n)) [
+          let v_is : v ≡ nat_lt e.limit (slice_index words w + n) = ap (λ (b : Bool). b || ends_over e words (Add w n)) free ∙ ap (λ (b : Bool). b && nat_lt e.limit (slice_index words w + n)) test in
+          elim (cases_lt e.limit (slice_index words w + n)) [
             | inl past ↦
-                let on : put k v over k ≡ true = put_same k v over ∙ v_is ∙ lt-ltb e.limit (get_or words w 0 + n) past in
+                let on : put k v over k ≡ true = put_same k v over ∙ v_is ∙ lt-ltb e.limit (slice_index words w + n) past in
                 let more : count (put k v over) 0 e.ports ≡ count over 0 e.ports + 1 =
                 count_more over (put k v over) 0 e.ports k (omega arith) (omega (arith, below)) free on (λ i ne. put_other k v over i ne) in
                 let times : greatest_record e.sizes * count (put k v over) 0 e.ports ≡ greatest_record e.sizes * (count over 0 e.ports + 1) = ap (λ q. greatest_record e.sizes * q) more in
                 omega (arith, found, less, reserve, at, few, times)
             | inr within ↦
-                let off : v ≡ over k = v_is ∙ not_below e.limit (get_or words w 0 + n) within ∙ sym free in
+                let off : v ≡ over k = v_is ∙ not_below e.limit (slice_index words w + n) within ∙ sym free in
                 let times : greatest_record e.sizes * count (put k v over) 0 e.ports ≡ greatest_record e.sizes * count over 0 e.ports = ap (λ q. greatest_record e.sizes * q) (unchanged v off) in
                 omega (arith, found, less, within, times)
           ]
@@ -64,9 +64,10 @@ added_own : (z : Layout) (p : ℕ) (words : List ℕ) (step : Step) → AllByRec
 added_own z p words (Load v) = tt
 added_own z p words (Store v u) = tt
 added_own z p words (Add v u) = tt
-added_own z p words (Exchange v old new) = by (nat_lt v z.m) (get_or words v 0 == old)
+added_own z p words (Exchange v old new) = by (nat_lt v z.m) (slice_index words v == old)
   where
-    by : (b c : Bool) → AllByRecursion (λ (a : Applied). a.port ≡ p) (cond b (cond c (record { port = p; component = v; value = get_or words (value_word new) 0; stamp = new } ∷ []) []) [])
+    by : (b c : Bool) → AllByRecursion (λ (a : Applied). a.port ≡ p) (if b then (if c then record { port = p; component = v; value = slice_index words (value_word new); stamp = new } ∷ [] else [])
+        else [])
     by true true = (refl, tt)
     by true false = tt
     by false c = tt
@@ -119,8 +120,8 @@ module _ (e : Plan) (words : List ℕ) (ports : ℕ → Port) (b : Beside) (k : 
   -- what the step leaves of the counters of slots and of pool words, in a memory of these sizes
   abbrev Counts : Layout → Bool → Bool → Type 0
   Counts z before behind =
-      least_announcement * (get_or (words_after bw step) (slot_counter z) 0 + one behind) + get_or bw (pool_counter z) 0
-      ≤ least_announcement * (get_or bw (slot_counter z) 0 + one before) + get_or (words_after bw step) (pool_counter z) 0
+      least_announcement * (slice_index (words_after bw step) (slot_counter z) + one behind) + slice_index bw (pool_counter z)
+      ≤ least_announcement * (slice_index bw (slot_counter z) + one before) + slice_index (words_after bw step) (pool_counter z)
 
   counts : Counts e.sizes (awaits_slot (r.part k)) (awaits_slot leads.y)
   counts =
@@ -134,17 +135,17 @@ module _ (e : Plan) (words : List ℕ) (ports : ℕ → Port) (b : Beside) (k : 
       let pool_there : pool_counter e.sizes < length bw = omega (arith, long, pool, some, m) in
       let small = pool_small e bw (component_words e words x) (carried_words e words x) r (x ≢ b.arena) w.plan arena in
       let behind = arena.slots in
-      let slots_small : get_or bw (slot_counter e.sizes) 0 < 2 ^ 32 = omega (arith, behind, small) in
+      let slots_small : slice_index bw (slot_counter e.sizes) < 2 ^ 32 = omega (arith, behind, small) in
       let back : c.sizes ≡ e.sizes = ready.sizes in
       subst (λ (v : Bool). Counts e.sizes v (awaits_slot leads.y)) (awaits_same c (r.part k) machine_here)
       (subst (λ (v : Bool). Counts e.sizes (awaits c) v) (ap awaits leads.tells.machine.is)
       (subst (λ (l : Layout). Counts l (awaits c) (awaits (advance c (answer_of bw step)))) back
       (counted c (subst IsLayout (sym back) z) ready.sound bw (subst (λ (l : Layout). slot_counter l < length bw) (sym back) slots_there)
-      (subst (λ (l : Layout). pool_counter l < length bw) (sym back) pool_there) (subst (λ (l : Layout). get_or bw (slot_counter l) 0 < 2 ^ 32) (sym back) slots_small)
-      (subst (λ (l : Layout). get_or bw (pool_counter l) 0 < 2 ^ 32) (sym back) small) (answer_of bw step) step due (subst (λ (l : Layout). IsApart l step) (sym back) apart))))
+      (subst (λ (l : Layout). pool_counter l < length bw) (sym back) pool_there) (subst (λ (l : Layout). slice_index bw (slot_counter l) < 2 ^ 32) (sym back) slots_small)
+      (subst (λ (l : Layout). slice_index bw (pool_counter l) < 2 ^ 32) (sym back) small) (answer_of bw step) step due (subst (λ (l : Layout). IsApart l step) (sym back) apart))))
 
-  slots_then : first_free e.sizes + least_announcement * (get_or (words_after bw step) (slot_counter e.sizes) 0 + count (λ q. awaits_slot (put k leads.y r.part q)) 0 e.ports)
-      ≤ get_or (words_after bw step) (pool_counter e.sizes) 0
+  slots_then : first_free e.sizes + least_announcement * (slice_index (words_after bw step) (slot_counter e.sizes) + count (λ q. awaits_slot (put k leads.y r.part q)) 0 e.ports)
+      ≤ slice_index (words_after bw step) (pool_counter e.sizes)
   slots_then =
       let was = arena.slots in
       let changed = count_one (λ q. awaits_slot (r.part q)) (λ q. awaits_slot (put k leads.y r.part q)) 0 e.ports k (omega arith) (omega (arith, below))
@@ -172,7 +173,7 @@ module _ (e : Plan) (words : List ℕ) (ports : ℕ → Port) (b : Beside) (k : 
     arena_then : IsArena e (arena_words e words' x) (component_words e words' x) (carried_words e words x) r' (x ≢ b.arena)
     arena_then =
         let list : list_of (put k leads.y r.part) 0 e.ports ≡ around.before ++ leads.y ∷ around.after =
-        around.then (put k leads.y r.part) (λ i ne. put_other k leads.y r.part i ne) ∙ ap (λ (y : Part). around.before ++ y ∷ around.after) (put_same k leads.y r.part) in
+        around.renewed (put k leads.y r.part) (λ i ne. put_other k leads.y r.part i ne) ∙ ap (λ (y : Part). around.before ++ y ∷ around.after) (put_same k leads.y r.part) in
         let there : pool_counter e.sizes < length bw = let count = lawful_here.memory.count in let pool = lawful_here.memory.sizes.pool.0 in let some = lawful_here.memory.sizes.slots.0 in
         let m = lawful_here.memory.sizes.components.0 in omega (arith, count, pool, some, m) in
         let claim : MayClaim e (r.over k) step = subst (λ (v : Bool). MayClaim e v step) (sym s.over) may in
@@ -184,11 +185,11 @@ module _ (e : Plan) (words : List ℕ) (ports : ℕ → Port) (b : Beside) (k : 
           few = λ j inside. let same = (h.seals j inside).0 in let few = arena.few j inside in omega (arith, same, few);
           passed = λ q j in_ports in_passed inside. (h.seals j inside).1 (arena.passed q j in_ports in_passed inside);
           sealed = λ finished j inside. (h.seals j inside).1 (arena.sealed finished j inside);
-          reserve = subst (λ (l : List ℕ). get_or l (pool_counter e.sizes) 0 ≤ e.limit + greatest_record e.sizes * count (put k over' r.over) 0 e.ports) (sym h.arena)
-              (subst (λ (v : Bool). get_or (words_after bw step) (pool_counter e.sizes) 0 ≤ e.limit + greatest_record e.sizes * count (put k v r.over) 0 e.ports) (sym same_over)
+          reserve = subst (λ (l : List ℕ). slice_index l (pool_counter e.sizes) ≤ e.limit + greatest_record e.sizes * count (put k over' r.over) 0 e.ports) (sym h.arena)
+              (subst (λ (v : Bool). slice_index (words_after bw step) (pool_counter e.sizes) ≤ e.limit + greatest_record e.sizes * count (put k v r.over) 0 e.ports) (sym same_over)
               (reserved_by e bw r.over k below there arena.reserve step apart claim));
-          slots = subst (λ (l : List ℕ). first_free e.sizes + least_announcement * (get_or l (slot_counter e.sizes) 0 + count (λ q. awaits_slot (put k leads.y r.part q)) 0 e.ports)
-              ≤ get_or l (pool_counter e.sizes) 0)
+          slots = subst (λ (l : List ℕ). first_free e.sizes + least_announcement * (slice_index l (slot_counter e.sizes) + count (λ q. awaits_slot (put k leads.y r.part q)) 0 e.ports)
+              ≤ slice_index l (pool_counter e.sizes))
               (sym h.arena) slots_then;
         }
 

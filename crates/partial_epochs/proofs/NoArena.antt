@@ -1,5 +1,5 @@
 -- A change of epoch that finds no arena has found each one taken in each of its passes.
-use Rattle.partial_epochs.proofs.{Common.{ℕ, zero, suc, ◌≡◌, ◌≢◌, ◌+◌, ◌<◌, ◌≤◌, ◌==◌, ◌⊎◌, Bool, true, false, cond, Option, Some, None, List, refl, sym, ap, subst, ◌∙◌, inl, inr, arith, ⊤, nat_lt, cases_lt, eqb_tells, Call, CoreState, reply_of, Reply, first_free, Place, Plan, Port, Act, ChangeLeads, Changing, next_arena, next_component, next_load, next_pass, next_port, next_set, passes, Sees, Arrived, EndsPass, GivesBack, GivesUp, LoadsClaimed, LoadsComponent, LoadsLast, LoadsPort, LooksAgain, LooksFirst, Publishes, PutsPort, Refuses, SealsComponent, SetsWord, TakesArena, CallStep, Doing, CallLeads, RunsCall, after_step, behind_answer, changed, ran, round, Changes, Judges, LoadsWord, Looks, Runs, Starts, last_loads, FindsTaken, NoArenaIsFree, SomeFindsTaken}, CallEnds.{change_ends, still_place}}
+use Rattle.partial_epochs.proofs.{Common.{ℕ, zero, suc, ◌≡◌, ◌≢◌, ◌+◌, ◌<◌, ◌≤◌, ◌==◌, ◌⊎◌, Bool, true, false, if◌then◌else◌, Option, Some, None, List, refl, sym, ap, subst, ◌∙◌, inl, inr, arith, ⊤, nat_lt, cases_lt, eqb_tells, Call, CoreState, reply_of, Reply, first_free, Place, Plan, Port, Act, ChangeLeads, Changing, next_arena, next_component, next_load, next_pass, next_port, next_set, passes, Sees, Arrived, EndsPass, GivesBack, GivesUp, LoadsClaimed, LoadsComponent, LoadsLast, LoadsPort, LooksAgain, LooksFirst, Publishes, PutsPort, Refuses, SealsComponent, SetsWord, TakesArena, CallStep, Doing, CallLeads, RunsCall, after_step, behind_answer, changed, ran, round, Changes, Judges, LoadsWord, Looks, Runs, Starts, last_loads, FindsTaken, NoArenaIsFree, SomeFindsTaken}, CallEnds.{change_ends, still_place}}
 use Rattle.partial_epochs.specs.Changing.Changing.{ExchangesMark, LoadsCurrent, LooksAsOwner, StoresMark}
 use Rattle.partial_epochs.specs.Changing as changing
 use Rattle.partial_epochs.specs.Calls as calls
@@ -39,7 +39,7 @@ module _ (e : Plan) where
   set_late : (i : ℕ) → Late (next_set e i)
   set_late i = by (nat_lt i (first_free e.sizes + e.sizes.m))
     where
-      by : (b : Bool) → Late (cond b (SetsWord i) Publishes)
+      by : (b : Bool) → Late (if b then SetsWord i else Publishes)
       by true = tt
       by false = tt
 
@@ -195,7 +195,7 @@ module _ (e : Plan) where
     arena_ahead n0 (suc y) h = by (y == own) (eqb_tells y own) h (arena_ahead n0 y)
       where
         by : (b : Bool) → ((b ≡ true) × (y ≡ own)) ⊎ ((b ≡ false) × (y ≢ own)) → (n < n0) ⊎ ((n ≡ n0) × (x < suc y)) →
-            ((n < n0) ⊎ ((n ≡ n0) × (x < y)) → Ahead (next_arena own n0 y)) → Ahead (cond b (next_arena own n0 y) (TakesArena n0 y))
+            ((n < n0) ⊎ ((n ≡ n0) × (x < y)) → Ahead (next_arena own n0 y)) → Ahead (if b then next_arena own n0 y else TakesArena n0 y)
         by true t (inl less) rest = rest (inl less)
         by true (inl is) (inr same) rest = let low = same.1 in let at = is.1 in rest (inr (same.0, omega (arith, low, at, other)))
         by true (inr is) (inr same) rest = let bad = is.0 in absurd cc
@@ -212,14 +212,14 @@ module _ (e : Plan) where
     component_ahead : (j : ℕ) → Ahead (next_component e own j)
     component_ahead j = by (nat_lt j e.sizes.m)
       where
-        by : (b : Bool) → Ahead (cond b (LoadsComponent j) (next_pass e own (passes e)))
+        by : (b : Bool) → Ahead (if b then LoadsComponent j else next_pass e own (passes e))
         by true = tt
         by false = pass_ahead (passes e) few
 
     port_ahead : (n0 x0 q : ℕ) → IsAhead n0 x0 → Ahead (next_port e n0 x0 q) ⊎ Late (next_port e n0 x0 q)
     port_ahead n0 x0 q ahead = by (nat_lt q e.ports)
       where
-        by : (b : Bool) → Ahead (cond b (LoadsPort n0 x0 q) (next_load (last_loads e))) ⊎ Late (cond b (LoadsPort n0 x0 q) (next_load (last_loads e)))
+        by : (b : Bool) → Ahead (if b then LoadsPort n0 x0 q else next_load (last_loads e)) ⊎ Late (if b then LoadsPort n0 x0 q else next_load (last_loads e))
         by true = inl ahead
         by false = inr (load_late (last_loads e))
 

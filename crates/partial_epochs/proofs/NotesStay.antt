@@ -1,5 +1,5 @@
 -- Each step of a machine keeps the notes lawful, over all epochs.
-use Rattle.partial_epochs.proofs.{Common.{ℕ, suc, ◌≡◌, ◌≢◌, ◌+◌, ◌<◌, ◌≤◌, ◌==◌, ◌⊎◌, ◌++◌, Bool, true, false, cond, Option, Some, None, IfSome, List, [], ◌∷◌, length, map, refl, sym, ap, subst, ◌∙◌, inl, inr, arith, length-append, AllByRecursion, option_map, eqb_tells, append-nil, append_cancel_left, map-append, Applied, Opening, Note, Fits, IsLegal, IsTrueOf, LegalNotes, Noted, place_of, seen_by, shown_by, EachOnce, places_by, places_written, wrote, all_take, some_same, Step, Layout, first_free, answer_of, words_after, Reply, CoreState, advance, reply_of, answer_for, Holding, Part, core_of, first_at, port_of, holdings, AreAnswersKept, AreNotesOf, IsNoteOf, kept_with, since_with, list_of, put, Plan, arena_words, placed_step, history_of, opening_behind, public_log, Control, Epoch, Port, Stands, Beside, IsPresent, IsStanding, MachineLeads, MayAdd, is_applied, Makes, ExpectedOne, IsEpochHistory, LawfulMemory, LawfulNotes, MayNote, NotesStayLawful, EpochReached, noting, one_history, public_answer, public_call, public_note, public_noted, seen_of, LegalNotes-grows, LegalNotes-last, LegalNotes-push, IsTrueOf-grows, places_written-append, seen_by-push}, Lists.{put_all, put_other, put_same}, OneHistory.held_history, Public.{public_fits, public_true}, Written.{changed_none, lost_none, no_places, read_none, scanned_none}, Seats.{earlier, fits, history_longer, known, number, reached, reached_grows, seen_begins}}
+use Rattle.partial_epochs.proofs.{Common.{ℕ, suc, ◌≡◌, ◌≢◌, ◌+◌, ◌<◌, ◌≤◌, ◌==◌, ◌⊎◌, ◌++◌, Bool, true, false, if◌then◌else◌, Option, Some, None, IfSome, List, [], ◌∷◌, length, map, refl, sym, ap, subst, ◌∙◌, inl, inr, arith, length-append, AllByRecursion, option_map, eqb_tells, append-nil, append_cancel_left, map-append, Applied, Opening, Note, Fits, IsLegal, IsTrueOf, LegalNotes, Noted, place_of, seen_by, shown_by, EachOnce, places_by, places_written, wrote, all_take, some_same, Step, Layout, first_free, answer_of, words_after, Reply, CoreState, advance, reply_of, answer_for, Holding, Part, core_of, first_at, port_of, holdings, AreAnswersKept, AreNotesOf, IsNoteOf, kept_with, since_with, list_of, put, Plan, arena_words, placed_step, history_of, opening_behind, public_log, Control, Epoch, Port, Stands, Beside, IsPresent, IsStanding, MachineLeads, MayAdd, is_applied, Makes, ExpectedOne, IsEpochHistory, LawfulMemory, LawfulNotes, MayNote, NotesStayLawful, EpochReached, noting, one_history, public_answer, public_call, public_note, public_noted, seen_of, LegalNotes-grows, LegalNotes-last, LegalNotes-push, IsTrueOf-grows, places_written-append, seen_by-push}, Lists.{put_all, put_other, put_same}, OneHistory.held_history, Public.{public_fits, public_true}, Written.{changed_none, lost_none, no_places, read_none, scanned_none}, Seats.{earlier, fits, history_longer, known, number, reached, reached_grows, seen_begins}}
 use Rattle.partial_state.specs.Loads.{KeptAnswer}
 use Rattle.partial_core.proofs.Parts.{seen_within as no_longer}
 
@@ -8,10 +8,10 @@ pub places_both : (p k : ℕ) (a b : List Applied) → places_by p k (a ++ b) �
 places_both p k [] b = let is : k + 0 ≡ k = omega arith in ap (λ n. places_by p n b) (sym is)
 places_both p k (x ∷ a) b =
     let is : k + 1 + length a ≡ k + suc (length a) = omega arith in
-    ap (λ (l : List ℕ). cond (x.port == p) (k ∷ l) l) (places_both p (k + 1) a b ∙ ap (λ n. places_by p (k + 1) a ++ places_by p n b) is)
+    ap (λ (l : List ℕ). if x.port == p then k ∷ l else l) (places_both p (k + 1) a b ∙ ap (λ n. places_by p (k + 1) a ++ places_by p n b) is)
     ∙ turn (x.port == p) (places_by p (k + 1) a) (places_by p (k + suc (length a)) b)
   where
-    turn : (c : Bool) (m l : List ℕ) → cond c (k ∷ (m ++ l)) (m ++ l) ≡ cond c (k ∷ m) m ++ l
+    turn : (c : Bool) (m l : List ℕ) → (if c then k ∷ (m ++ l) else m ++ l) ≡ (if c then k ∷ m else m) ++ l
     turn true m l = refl
     turn false m l = refl
 
@@ -20,10 +20,10 @@ places_public : (p off n g : ℕ) (h : List Applied) → places_by p (off + n) (
 places_public p off n g [] = refl
 places_public p off n g (x ∷ h) =
     let is : off + n + 1 ≡ off + (n + 1) = omega arith in
-    ap (λ (l : List ℕ). cond (x.port == p) ((off + n) ∷ l) l) (ap (λ m. places_by p m (public_log g h)) is ∙ places_public p off (n + 1) g h)
+    ap (λ (l : List ℕ). if x.port == p then (off + n) ∷ l else l) (ap (λ m. places_by p m (public_log g h)) is ∙ places_public p off (n + 1) g h)
     ∙ turn (x.port == p) (places_by p (n + 1) h)
   where
-    turn : (c : Bool) (l : List ℕ) → cond c ((off + n) ∷ map (λ i. off + i) l) (map (λ i. off + i) l) ≡ map (λ i. off + i) (cond c (n ∷ l) l)
+    turn : (c : Bool) (l : List ℕ) → (if c then (off + n) ∷ map (λ i. off + i) l else map (λ i. off + i) l) ≡ map (λ i. off + i) (if c then n ∷ l else l)
     turn true l = refl
     turn false l = refl
 
@@ -33,9 +33,9 @@ places_none p q n g [] ne own = refl
 places_none p q n g (x ∷ h) ne own = by (x.port == q) (eqb_tells x.port q) (places_none p q (n + 1) g h ne own.1)
   where
     by : (c : Bool) → ((c ≡ true) × (x.port ≡ q)) ⊎ ((c ≡ false) × (x.port ≢ q)) → places_by q (n + 1) (public_log g h) ≡ [] →
-        cond c (n ∷ places_by q (n + 1) (public_log g h)) (places_by q (n + 1) (public_log g h)) ≡ []
+        (if c then n ∷ places_by q (n + 1) (public_log g h) else places_by q (n + 1) (public_log g h)) ≡ []
     by c (inl is) rest = absurd (ne (sym is.1 ∙ own.0))
-    by c (inr is) rest = ap (λ (t : Bool). cond t (n ∷ places_by q (n + 1) (public_log g h)) (places_by q (n + 1) (public_log g h))) is.0 ∙ rest
+    by c (inr is) rest = ap (λ (t : Bool). if t then n ∷ places_by q (n + 1) (public_log g h) else places_by q (n + 1) (public_log g h)) is.0 ∙ rest
 
 written_one : (off : ℕ) (t : Option Note) → wrote (option_map (public_note off) t) ≡ map (λ i. off + i) (wrote t)
 written_one off None = refl
@@ -270,7 +270,7 @@ module _ (e : Plan) (words : List ℕ) (ports : ℕ → Port) (b : Beside) (note
       let fit = subst (λ (t : Option Note). Fits (length (opening_behind e.opening (ports k).before).values) m.call m.answer t) noted l.0 in
       let true_here = (subst (λ (t : Option Note). IfSome t (λ (u : Note). IsTrueOf (opening_behind e.opening (ports k).before) lead.port.part.seen k m.call m.answer u
       × (seen_by 0 (ports k).part.notes ≤ place_of u))) noted l.1).0 in
-      let then = public_true e w.epochs.plan (ports k).before lead.port.part.seen above_seen before_is k m.call m.answer n fit expected true_here in
+      let thereafter = public_true e w.epochs.plan (ports k).before lead.port.part.seen above_seen before_is k m.call m.answer n fit expected true_here in
       let low = since_low in
       let place = place_public (length (history_of (ports k).before)) n in
       subst (λ (t : Option Note). Fits (length e.opening.values) (public_call e (ports k).before m.call) (public_answer e (ports k).before m.call m.answer)
@@ -278,7 +278,7 @@ module _ (e : Plan) (words : List ℕ) (ports : ℕ → Port) (b : Beside) (note
       × IfSome (option_map (public_note (length (history_of (ports k).before))) t)
       (λ (u : Note). IsTrueOf e.opening (history_of (lead.port.part.seen ∷ (ports k).before)) k (public_call e (ports k).before m.call)
       (public_answer e (ports k).before m.call m.answer) u × (seen_by 0 (notes k) ≤ place_of u))) (sym noted)
-      (public_fits e w.epochs.plan (ports k).before lead.port.part.seen above_seen before_is m.call m.answer n fit, (then, omega (arith, seen, behind, low, place)))
+      (public_fits e w.epochs.plan (ports k).before lead.port.part.seen above_seen before_is m.call m.answer n fit, (thereafter, omega (arith, seen, behind, low, place)))
 
   -- so it is legal in the one history
   legal_public : (n : Note) (call_is : Noted) → lead.tells.new ≡ call_is ∷ [] → call_is.note ≡ Some n → seen_by 0 (notes k) ≤ length (history_of (ports k).before) + since_with c (ports k).part →

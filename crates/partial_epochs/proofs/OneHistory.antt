@@ -1,5 +1,5 @@
 -- The histories of all epochs, one behind the other, are one history.
-use Rattle.partial_epochs.proofs.Common.{ℕ, zero, suc, ◌≡◌, ◌≢◌, ◌+◌, ◌*◌, ◌<◌, ◌≤◌, ◌++◌, Some, List, [], ◌∷◌, length, map, slice_get, Contains, get_or, refl, sym, ap, subst, ◌∙◌, inl, inr, arith, length-append, append_assoc, AllByRecursion, mul-le-mul_right, cases_lt, eqb_tells, length-map, Applied, HaveDistinctStamps, IsHistory, initial_stamp, all_append, all_map, all_weaker, distinct_at, first_free, total, IsEntry, Part, port_of, lawful_ports_fit, list_of, Plan, arena_words, epoch_limit, history_of, opening_behind, public_entry, public_log, stamp_limit, Epoch, Port, Beside, IsEpochPlan, LawfulEpochs, EpochsFitOneHistory, IsEpochHistory, PublicStampsAreUnique, EpochReached, one_history, seen_of, plain_record_size}
+use Rattle.partial_epochs.proofs.Common.{ℕ, zero, suc, ◌≡◌, ◌≢◌, ◌+◌, ◌*◌, ◌<◌, ◌≤◌, ◌++◌, Some, List, [], ◌∷◌, length, map, slice_get, Contains, slice_index_or, refl, sym, ap, subst, ◌∙◌, inl, inr, arith, length-append, append_assoc, AllByRecursion, mul-le-mul_right, cases_lt, eqb_tells, length-map, Applied, HaveDistinctStamps, IsHistory, initial_stamp, all_append, all_map, all_weaker, distinct_at, first_free, total, IsEntry, Part, port_of, lawful_ports_fit, list_of, Plan, arena_words, epoch_limit, history_of, opening_behind, public_entry, public_log, stamp_limit, Epoch, Port, Beside, IsEpochPlan, LawfulEpochs, EpochsFitOneHistory, IsEpochHistory, PublicStampsAreUnique, EpochReached, one_history, seen_of, plain_record_size}
 
 -- two histories whose stamps lie apart
 distinct_both : (n : ℕ) (a b : List Applied) → HaveDistinctStamps a → HaveDistinctStamps b → AllByRecursion (λ (x : Applied). x.stamp < n) a → AllByRecursion (λ (x : Applied). n ≤ x.stamp) b →
@@ -63,7 +63,7 @@ contains_of : (part : ℕ → Part) (p n q : ℕ) → ((i : ℕ) → p ≤ i →
 contains_of part p n q numbers c = by part p n q q numbers c.0 c.1 c.2
   where
     by : (part : ℕ → Part) (p n q d : ℕ) → ((i : ℕ) → p ≤ i → i < p + n → port_of (part i) ≡ i) → (i : ℕ) → i < length (map port_of (list_of part p n)) →
-        get_or (map port_of (list_of part p n)) i d ≡ q → q < p + n
+        slice_index_or (map port_of (list_of part p n)) i d ≡ q → q < p + n
     by part p zero q d numbers i low is = absurd (omega (arith, low))
     by part p (suc n) q d numbers zero low is = let here = numbers p (omega arith) (omega arith) in omega (arith, is, here)
     by part p (suc n) q d numbers (suc i) low is =

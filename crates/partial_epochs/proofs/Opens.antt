@@ -1,5 +1,5 @@
 -- An arena that was used before opens lawful again once the words below the first free one are set: what stands behind them doesn't matter.
-use Rattle.partial_epochs.proofs.Common.{ℕ, ◌≡◌, ◌+◌, ◌*◌, ◌<◌, ◌≤◌, ◌++◌, List, [], ◌∷◌, length, get_or, Some, None, IfSome, sym, ap, subst, inl, inr, arith, ◌∙◌, Opening, places_written, Layout, slot_counter, list_head, pool_counter, list_counter, slot_word, list_base, pool_base, total, initial_record, Holding, EachTwo, announcements, unpublished, IsTied, LawfulWords, holdings, fresh_parts, OpensOver, OpensOverLawful, initial_words, first_free, initial_stamp, slice_index, view_word, view_of, prev_word, value_word, plain_record_size, opening_component, opening_record, initial_value, initial_prev, initial_view, idle_length, idle_all, idle_ports, idle_slots, none_unpublished, none_announced, pool_opens, slot_opens, list_opens, lists_open, slots_open, counters_open, none_marked}
+use Rattle.partial_epochs.proofs.Common.{ℕ, ◌≡◌, ◌+◌, ◌*◌, ◌<◌, ◌≤◌, ◌++◌, List, [], ◌∷◌, length, Some, None, IfSome, sym, ap, subst, inl, inr, arith, ◌∙◌, Opening, places_written, Layout, slot_counter, list_head, pool_counter, list_counter, slot_word, list_base, pool_base, total, initial_record, Holding, EachTwo, announcements, unpublished, IsTied, LawfulWords, holdings, fresh_parts, OpensOver, OpensOverLawful, initial_words, first_free, initial_stamp, slice_index, view_word, view_of, prev_word, value_word, plain_record_size, opening_component, opening_record, initial_value, initial_prev, initial_view, idle_length, idle_all, idle_ports, idle_slots, none_unpublished, none_announced, pool_opens, slot_opens, list_opens, lists_open, slots_open, counters_open, none_marked}
 use Rattle.partial_model.specs.History.{last_from}
 use Rattle.partial_words.specs.Chain.{Agrees, links_from}
 use Rattle.partial_state.specs.{Views.{Block, AreApart}, Effects.idle_holdings}
@@ -38,10 +38,10 @@ opening_agrees s o words opens j below =
 opening_is_lawful : (z : Layout) (o : Opening) (words : List ℕ) (n : ℕ) → OpensOver z o words → n ≤ 64 → LawfulWords z o words (idle_holdings 0 n) []
 opening_is_lawful z o words n opens few =
     let some = opens.sizes.slots.0 in
-    let pool : get_or words (pool_counter z) 0 ≡ first_free z = opens.each (pool_counter z) (omega (arith, some)) (inl (omega (arith, some))) ∙ pool_opens z o.values in
-    let slots : get_or words (slot_counter z) 0 ≡ 0 = opens.each (slot_counter z) (omega (arith, some)) (inl (omega (arith, some))) ∙ slot_opens z o.values some in
-    let head : get_or words (list_head z) 0 ≡ 0 = opens.each (list_head z) (omega (arith, some)) (inl (omega (arith, some))) ∙ list_opens z o.values some in
-    let lists : get_or words (list_counter z) 0 ≡ list_base z = opens.each (list_counter z) (omega (arith, some)) (inl (omega (arith, some))) ∙ lists_open z o.values some in
+    let pool : slice_index words (pool_counter z) ≡ first_free z = opens.each (pool_counter z) (omega (arith, some)) (inl (omega (arith, some))) ∙ pool_opens z o.values in
+    let slots : slice_index words (slot_counter z) ≡ 0 = opens.each (slot_counter z) (omega (arith, some)) (inl (omega (arith, some))) ∙ slot_opens z o.values some in
+    let head : slice_index words (list_head z) ≡ 0 = opens.each (list_head z) (omega (arith, some)) (inl (omega (arith, some))) ∙ list_opens z o.values some in
+    let lists : slice_index words (list_counter z) ≡ list_base z = opens.each (list_counter z) (omega (arith, some)) (inl (omega (arith, some))) ∙ lists_open z o.values some in
     let room = opens.sizes.pool.0 in
     let count = idle_length 0 n in
     let blocks : announcements (idle_holdings 0 n) ++ unpublished (idle_holdings 0 n) ≡ [] = ap (λ (l : List Block). l ++ unpublished (idle_holdings 0 n))

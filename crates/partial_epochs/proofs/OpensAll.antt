@@ -1,9 +1,9 @@
 -- A memory opens lawful.
-use Rattle.partial_epochs.proofs.{Common.{ℕ, ◌≡◌, ◌≢◌, ◌+◌, ◌<◌, ◌≤◌, ◌⊎◌, Some, None, List, [], length, get_or, refl, sym, ap, subst, ◌∙◌, inl, inr, arith, option_map, cases_lt, eqb_tells, some_same, first_free, pool_counter, slot_counter, total, Part, fresh_part, Plan, arena_words, base, carried_word, carried_words, component_words, control_size, control_words, plain, seal, Epoch, LawfulControl, Beside, IsArena, LawfulEpochs, awaits_slot, controls, numbers, place_now, EpochsOpenLawful, OpensAll, first_beside, first_place, first_ports, first_epoch, nothing_held, OpensOver, opening_component, pool_opens, slot_opens}, Lists.{at_of, count_none, length_of, put_other, put_same}, Opens.opens_over, Places.packed_arena, Publishes.fresh_list, Worded.{component_at, plain_at, plain_component, plain_other}}
+use Rattle.partial_epochs.proofs.{Common.{ℕ, ◌≡◌, ◌≢◌, ◌+◌, ◌<◌, ◌≤◌, ◌⊎◌, Some, None, List, [], length, slice_index, refl, sym, ap, subst, ◌∙◌, inl, inr, arith, option_map, cases_lt, eqb_tells, some_same, first_free, pool_counter, slot_counter, total, Part, fresh_part, Plan, arena_words, base, carried_word, carried_words, component_words, control_size, control_words, plain, seal, Epoch, LawfulControl, Beside, IsArena, LawfulEpochs, awaits_slot, controls, numbers, place_now, EpochsOpenLawful, OpensAll, first_beside, first_place, first_ports, first_epoch, nothing_held, OpensOver, opening_component, pool_opens, slot_opens}, Lists.{at_of, count_none, length_of, put_other, put_same}, Opens.opens_over, Places.packed_arena, Publishes.fresh_list, Worded.{component_at, plain_at, plain_component, plain_other}}
 use Rattle.partial_core.specs.Lawful as one
 
 module _ (e : Plan) (words : List ℕ) (w : OpensAll e words) where
-  small : (j : ℕ) → j < e.sizes.m → get_or words (base e 0 + j) 0 < seal
+  small : (j : ℕ) → j < e.sizes.m → slice_index words (base e 0 + j) < seal
   small j low =
       let is = w.each j (omega (arith, low)) (inl (omega (arith, low))) ∙ opening_component e.sizes e.opening.values j low in
       let m = w.plan.sizes.components.1 in
@@ -16,20 +16,20 @@ module _ (e : Plan) (words : List ℕ) (w : OpensAll e words) where
     sizes = w.plan.sizes;
     values = w.plan.values;
     stamps = w.plan.first;
-    count = length_of (λ i. plain e i (get_or words (base e 0 + i) 0)) 0 (total e.sizes);
+    count = length_of (λ i. plain e i (slice_index words (base e 0 + i))) 0 (total e.sizes);
     each = λ i low asked. let pool = w.plan.sizes.pool.0 in plain_at e words 0 i (omega (arith, low, pool)) ∙ as_is i low (cases_lt i e.sizes.m) ∙ w.each i low asked;
   }
     where
-      as_is : (i : ℕ) → i < first_free e.sizes → (i < e.sizes.m) ⊎ (e.sizes.m ≤ i) → plain e i (get_or words (base e 0 + i) 0) ≡ get_or words (base e 0 + i) 0
-      as_is i low (inl inside) = let less = small i inside in plain_component e words 0 i (get_or words (base e 0 + i) 0) inside ∙ omega (arith, less)
-      as_is i low (inr from) = plain_other e words 0 i (get_or words (base e 0 + i) 0) from
+      as_is : (i : ℕ) → i < first_free e.sizes → (i < e.sizes.m) ⊎ (e.sizes.m ≤ i) → plain e i (slice_index words (base e 0 + i)) ≡ slice_index words (base e 0 + i)
+      as_is i low (inl inside) = let less = small i inside in plain_component e words 0 i (slice_index words (base e 0 + i)) inside ∙ omega (arith, less)
+      as_is i low (inr from) = plain_other e words 0 i (slice_index words (base e 0 + i)) from
 
   first_arena : IsArena e (arena_words e words 0) (component_words e words 0) (carried_words e words 0) (first_epoch e) (◌≢◌ {A = ℕ} 0 0)
   first_arena = record {
     lawful = subst (λ (l : List Part). one.Lawful e.sizes e.opening (arena_words e words 0) l []) (sym (fresh_list e.sizes 0 e.ports))
         (opens_over e.sizes e.opening (arena_words e words 0) e.ports opens w.plan.few);
     numbers = λ q low. refl;
-    stamps = λ j low. at_of (λ j. get_or words (carried_word e 0 j) 0) 0 e.sizes.m j low ∙ ap (λ i. get_or words (carried_word e 0 i) 0) (omega arith) ∙ w.carried j low;
+    stamps = λ j low. at_of (λ j. slice_index words (carried_word e 0 j)) 0 e.sizes.m j low ∙ ap (λ i. slice_index words (carried_word e 0 i)) (omega arith) ∙ w.carried j low;
     few = λ j low. let less = small j low in let at = component_at e words 0 j low in omega (arith, less, at);
     passed = λ q j low less. absurd (omega (arith, less));
     sealed = λ ne. absurd (ne refl);
@@ -37,15 +37,15 @@ module _ (e : Plan) (words : List ℕ) (w : OpensAll e words) where
         let some_slots = w.plan.sizes.slots.0 in
         let some_components = w.plan.sizes.components.0 in
         let room = w.plan.opens in
-        let is : get_or (arena_words e words 0) (pool_counter e.sizes) 0 ≡ first_free e.sizes =
+        let is : slice_index (arena_words e words 0) (pool_counter e.sizes) ≡ first_free e.sizes =
         opens.each (pool_counter e.sizes) (omega (arith, some_slots, some_components)) (inl (omega (arith, some_slots))) ∙ pool_opens e.sizes e.opening.values in
         omega (arith, is, room);
     slots =
         let some_slots = w.plan.sizes.slots.0 in
         let some_components = w.plan.sizes.components.0 in
-        let pool : get_or (arena_words e words 0) (pool_counter e.sizes) 0 ≡ first_free e.sizes =
+        let pool : slice_index (arena_words e words 0) (pool_counter e.sizes) ≡ first_free e.sizes =
         opens.each (pool_counter e.sizes) (omega (arith, some_slots, some_components)) (inl (omega (arith, some_slots))) ∙ pool_opens e.sizes e.opening.values in
-        let claimed : get_or (arena_words e words 0) (slot_counter e.sizes) 0 ≡ 0 = opens.each (slot_counter e.sizes) (omega (arith, some_slots, some_components)) (inl (omega (arith, some_slots)))
+        let claimed : slice_index (arena_words e words 0) (slot_counter e.sizes) ≡ 0 = opens.each (slot_counter e.sizes) (omega (arith, some_slots, some_components)) (inl (omega (arith, some_slots)))
         ∙ slot_opens e.sizes e.opening.values some_slots in
         let none = count_none (λ q. awaits_slot (fresh_part e.sizes q)) 0 e.ports (λ q. refl) in
         omega (arith, pool, claimed, none);
@@ -60,8 +60,8 @@ module _ (e : Plan) (words : List ℕ) (w : OpensAll e words) where
     | inr other ↦ let none : None ≡ Some r = sym (put_other 0 (Some (first_epoch e)) nothing_held y other.1) ∙ is in absurd cc
   ]
 
-  zero_at : (i : ℕ) → i < control_size e → get_or (control_words e words) i 0 ≡ 0
-  zero_at i low = at_of (λ i. get_or words i 0) 0 (control_size e) i low ∙ ap (λ j. get_or words j 0) (omega arith) ∙ w.control i low
+  zero_at : (i : ℕ) → i < control_size e → slice_index (control_words e words) i ≡ 0
+  zero_at i low = at_of (λ i. slice_index words i) 0 (control_size e) i low ∙ ap (λ j. slice_index words j) (omega arith) ∙ w.control i low
 
   number_first : numbers b 0 ≡ Some 0
   number_first = ap (option_map (λ (r : Epoch). length r.before)) (put_same 0 (Some (first_epoch e)) nothing_held)

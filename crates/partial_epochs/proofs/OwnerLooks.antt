@@ -1,5 +1,5 @@
 -- A port that owns an arena looks; and the claims of a port that is within the limit have room.
-use Rattle.partial_epochs.proofs.{Common.{ℕ, zero, suc, ◌≡◌, ◌≢◌, ◌+◌, ◌*◌, ◌<◌, ◌≤◌, ◌==◌, ◌⊎◌, Bool, true, false, cond, Option, Some, None, IfSome, List, get_or, refl, sym, ap, subst, ◌∙◌, inl, inr, arith, eqb_tells, mul-le-mul_left, greatest_record, count, put, Plan, Place, IsPlace, at_word, control_words, marked, Control, Entering, OwnedArena, IsPlaceWord, IsEarlier, IsOld, IsOut, IsOwner, LawfulControl, MayPut, NotInto, IsSetting, controls, numbers, place_now, ClaimsHaveRoom, OwnersLook, having_looked, Stands, Marks, Loaded}, Entering.{control_lifted, current_is}, Lists.{put_all, put_other}, Places.packed_arena, Present.present}
+use Rattle.partial_epochs.proofs.{Common.{ℕ, zero, suc, ◌≡◌, ◌≢◌, ◌+◌, ◌*◌, ◌<◌, ◌≤◌, ◌==◌, ◌⊎◌, Bool, true, false, if◌then◌else◌, Option, Some, None, IfSome, List, slice_index, refl, sym, ap, subst, ◌∙◌, inl, inr, arith, eqb_tells, mul-le-mul_left, greatest_record, count, put, Plan, Place, IsPlace, at_word, control_words, marked, Control, Entering, OwnedArena, IsPlaceWord, IsEarlier, IsOld, IsOut, IsOwner, LawfulControl, MayPut, NotInto, IsSetting, controls, numbers, place_now, ClaimsHaveRoom, OwnersLook, having_looked, Stands, Marks, Loaded}, Entering.{control_lifted, current_is}, Lists.{put_all, put_other}, Places.packed_arena, Present.present}
 
 module _ (e : Plan) (words : List ℕ) (cs : ℕ → Control) (now : Place) (holds : ℕ → Option ℕ) (w : LawfulControl e words cs now holds) (k : ℕ) (below : k < e.ports) (o : OwnedArena)
     (owned : (cs k).owned ≡ Some o) (is_now : (cs k).here ≡ now) (marks : (o.mark ≡ None) ⊎ (o.clean < e.ports)) where
@@ -25,7 +25,7 @@ module _ (e : Plan) (words : List ℕ) (cs : ℕ → Control) (now : Place) (hol
     put = λ p a low may at. by p a low may at (eqb_tells p k);
   }
     where
-      by : (p : ℕ) (a : Place) → p < e.ports → MayPut (cs' p) q a → get_or words (at_word q) 0 ≡ marked a → (((p == k) ≡ true) × (p ≡ k)) ⊎ (((p == k) ≡ false) × (p ≢ k)) → (cs' p).here.arena ≢ x
+      by : (p : ℕ) (a : Place) → p < e.ports → MayPut (cs' p) q a → slice_index words (at_word q) ≡ marked a → (((p == k) ≡ true) × (p ≡ k)) ⊎ (((p == k) ≡ false) × (p ≢ k)) → (cs' p).here.arena ≢ x
       by p a low may at (inl same) = subst (λ (d : Place). d.arena ≢ x) (sym (same_here p ∙ ap (λ i. (cs i).here) same.1 ∙ is_now)) ne
       by p a low may at (inr other) = subst (λ (d : Place). d.arena ≢ x) (sym (same_here p)) (h.put p a low (subst (λ (d : Control). MayPut d q a) (put_other k c cs p other.1) may) at)
 
@@ -117,7 +117,7 @@ count_less : (f : ℕ → Bool) (p n k : ℕ) → p ≤ k → k < p + n → f k 
 count_less f p zero k low high off = absurd (omega (arith, low, high))
 count_less f p (suc n) k low high off = elim (eqb_tells p k) [
   | inl same ↦
-      let none : ◌≡◌ {A = ℕ} (cond (f p) 1 0) 0 = ap (λ (c : Bool). cond c 1 0) (ap f same.1 ∙ off) in
+      let none : ◌≡◌ {A = ℕ} (if f p then 1 else 0) 0 = ap (λ (c : Bool). if c then 1 else 0) (ap f same.1 ∙ off) in
       let rest = few f (p + 1) n in
       omega (arith, none, rest)
   | inr ne ↦
@@ -127,7 +127,7 @@ count_less f p (suc n) k low high off = elim (eqb_tells p k) [
       omega (arith, rest, one)
 ]
   where
-    most : (c : Bool) → ◌≤◌ (cond {A = ℕ} c 1 0) 1
+    most : (c : Bool) → (if c then 1 else 0) ≤ 1
     most true = omega arith
     most false = omega arith
 

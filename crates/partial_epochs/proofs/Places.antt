@@ -1,5 +1,5 @@
 -- Where the words of control and of arenas stand.
-use Rattle.partial_epochs.proofs.{Common.{ℕ, ◌≡◌, ◌≢◌, ◌+◌, ◌-◌, ◌*◌, ◌<◌, ◌≤◌, ◌⊎◌, Bool, cond, List, ap, ◌∙◌, inl, inr, arith, slice_index, mul-le-mul_right, cases_lt, lt-ltb, total, first_free, not_below, Plan, Place, packed, base, span, whole, control_words, control_size, arena_words, component_words, carried_words, carried_word, plain, set_word, arena_limit, initial_words, Layout, list_base, slot_counter, slot_word, IsToBeSet, set_offset, eqb_tells, sym}, Lists.same_of}
+use Rattle.partial_epochs.proofs.{Common.{ℕ, ◌≡◌, ◌≢◌, ◌+◌, ◌-◌, ◌*◌, ◌<◌, ◌≤◌, ◌⊎◌, Bool, if◌then◌else◌, List, ap, ◌∙◌, inl, inr, arith, slice_index, mul-le-mul_right, cases_lt, lt-ltb, total, first_free, not_below, Plan, Place, packed, base, span, whole, control_words, control_size, arena_words, component_words, carried_words, carried_word, plain, set_word, arena_limit, initial_words, Layout, list_base, slot_counter, slot_word, IsToBeSet, set_offset, eqb_tells, sym}, Lists.same_of}
 
 -- arenas lie one behind the other
 pub bases_up : (e : Plan) (x y : ℕ) → x < y → base e x + span e ≤ base e y
@@ -20,10 +20,10 @@ below_whole e x i below inside = let up = bases_up e x e.arenas below in omega (
 
 -- the words before the list words are set from the last one down, and those behind in their order
 pub offset_front : (s : Layout) (i : ℕ) → i < list_base s → set_offset s i ≡ list_base s - (i + 1)
-offset_front s i low = ap (λ (c : Bool). cond c (list_base s - (i + 1)) i) (lt-ltb i (list_base s) low)
+offset_front s i low = ap (λ (c : Bool). if c then list_base s - (i + 1) else i) (lt-ltb i (list_base s) low)
 
 pub offset_behind : (s : Layout) (i : ℕ) → list_base s ≤ i → set_offset s i ≡ i
-offset_behind s i from = ap (λ (c : Bool). cond c (list_base s - (i + 1)) i) (not_below i (list_base s) from)
+offset_behind s i from = ap (λ (c : Bool). if c then list_base s - (i + 1) else i) (not_below i (list_base s) from)
 
 -- the word of that number is of the same kind, and its number is the first one again
 pub offset_low : (s : Layout) (i : ℕ) → i < first_free s → set_offset s i < first_free s
@@ -51,10 +51,10 @@ offset_apart s i j ne same = ne (sym (offset_back s i) ∙ ap (set_offset s) sam
 
 -- the words of an opening among those that are set, and the carried stamps behind them
 pub set_low : (e : Plan) (x i : ℕ) → i < first_free e.sizes → set_word e x i ≡ base e x + set_offset e.sizes i
-set_low e x i below = ap (λ (c : Bool). cond c (base e x + set_offset e.sizes i) (base e x + total e.sizes + (i - first_free e.sizes))) (lt-ltb i (first_free e.sizes) below)
+set_low e x i below = ap (λ (c : Bool). if c then base e x + set_offset e.sizes i else (base e x + total e.sizes + (i - first_free e.sizes))) (lt-ltb i (first_free e.sizes) below)
 
 pub set_high : (e : Plan) (x i : ℕ) → first_free e.sizes ≤ i → set_word e x i ≡ base e x + total e.sizes + (i - first_free e.sizes)
-set_high e x i from = ap (λ (c : Bool). cond c (base e x + set_offset e.sizes i) (base e x + total e.sizes + (i - first_free e.sizes))) (not_below i (first_free e.sizes) from)
+set_high e x i from = ap (λ (c : Bool). if c then base e x + set_offset e.sizes i else (base e x + total e.sizes + (i - first_free e.sizes))) (not_below i (first_free e.sizes) from)
 
 -- the words that are set lie in the arena
 pub set_place : (e : Plan) (x i : ℕ) → initial_words e.sizes ≤ e.sizes.pool → i < first_free e.sizes + e.sizes.m → (j : ℕ) × (j < span e) × (set_word e x i ≡ base e x + j)

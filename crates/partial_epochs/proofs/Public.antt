@@ -1,5 +1,5 @@
 -- What is true of an epoch's history is true of the one history, with public stamps.
-use Rattle.partial_epochs.proofs.{Common.{ℕ, zero, suc, ◌≡◌, ◌≢◌, ◌+◌, ◌*◌, ◌<◌, ◌≤◌, ◌⊎◌, ◌++◌, Bool, cond, Option, Some, None, IfSome, IsSome, List, [], ◌∷◌, length, map, take, slice_get, Contains, refl, sym, ap, subst, ◌∙◌, inl, inr, arith, length-append, AllByRecursion, option_map, option_map_or, lt-ltb, length-map, Applied, Opening, Call, Note, initial_stamp, last_entry, stamp_of, value_of, AreCollects, Fits, IsEntryFor, IsTrueOf, all_take, first_free, Plan, carried_behind, history_of, opening_behind, public_entry, public_log, public_stamp, stamp_limit, IsEpochPlan, ExpectedOne, IsEpochHistory, public_answer, public_call, public_note, public_of, not_below}, Continue.{epochs_continue, history_took, last_all, many}}
+use Rattle.partial_epochs.proofs.{Common.{ℕ, zero, suc, ◌≡◌, ◌≢◌, ◌+◌, ◌*◌, ◌<◌, ◌≤◌, ◌⊎◌, ◌++◌, Bool, if◌then◌else◌, Option, Some, None, IfSome, IsSome, List, [], ◌∷◌, length, map, take, slice_get, Contains, refl, sym, ap, subst, ◌∙◌, inl, inr, arith, length-append, AllByRecursion, option_map, option_map_or, lt-ltb, length-map, Applied, Opening, Call, Note, initial_stamp, last_entry, stamp_of, value_of, AreCollects, Fits, IsEntryFor, IsTrueOf, all_take, first_free, Plan, carried_behind, history_of, opening_behind, public_entry, public_log, public_stamp, stamp_limit, IsEpochPlan, ExpectedOne, IsEpochHistory, public_answer, public_call, public_note, public_of, not_below}, Continue.{epochs_continue, history_took, last_all, many}}
 use Rattle.partial_model.specs.declared.call.Answer.{Answer}
 
 -- the entry at a place behind others
@@ -33,10 +33,10 @@ module _ (e : Plan) (plan : IsEpochPlan e) (before : List (List Applied)) (h : L
   initial_low j low = let f = plan.first in let same = first_is before in omega (arith, low, f, same)
 
   public_low : (j s : ℕ) → s < first_free e.sizes → public_of e before j s ≡ carried_behind e.opening before j
-  public_low j s low = ap (λ (c : Bool). cond c (carried_behind e.opening before j) (public_stamp (length before) s)) (lt-ltb s (first_free e.sizes) low)
+  public_low j s low = ap (λ (c : Bool). if c then carried_behind e.opening before j else public_stamp (length before) s) (lt-ltb s (first_free e.sizes) low)
 
   public_high : (j s : ℕ) → first_free e.sizes ≤ s → public_of e before j s ≡ public_stamp (length before) s
-  public_high j s from = ap (λ (c : Bool). cond c (carried_behind e.opening before j) (public_stamp (length before) s)) (not_below s (first_free e.sizes) from)
+  public_high j s from = ap (λ (c : Bool). if c then carried_behind e.opening before j else public_stamp (length before) s) (not_below s (first_free e.sizes) from)
 
   last_above : (n j : ℕ) → IfSome (last_entry j (take n h)) (λ (a : Applied). first_free e.sizes ≤ a.stamp)
   last_above n j = last_all (λ (a : Applied). first_free e.sizes ≤ a.stamp) None j (take n h) tt (all_take (λ (a : Applied). first_free e.sizes ≤ a.stamp) n h above)

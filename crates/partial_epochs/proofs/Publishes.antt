@@ -1,5 +1,5 @@
 -- The exchange of the current word opens the next epoch.
-use Rattle.partial_epochs.proofs.{Common.{ℕ, zero, suc, ◌≡◌, ◌≢◌, ◌+◌, ◌-◌, ◌<◌, ◌≤◌, ◌==◌, ◌⊎◌, Bool, true, false, cond, Option, Some, None, IfSome, List, [], ◌∷◌, length, get_or, set, refl, sym, ap, subst, ◌∙◌, inl, inr, arith, option_map, cases_lt, lt-ltb, eqb_tells, get_or-set_same, get_or-set_other, length-set, set-get_or, Applied, Opening, value_of, some_same, Layout, total, first_free, pool_counter, slot_counter, slot_word, set_offset, HasClearRecords, HasClearSlots, Part, fresh_part, fresh_parts, list_of, put, IsToBeSet, Plan, Place, IsSealed, at_word, arena_words, base, carried_word, carried_words, component_words, control_size, control_words, current_word, packed, plain, seal, carried_behind, opening_behind, Control, OwnedArena, Port, Epoch, IsPlaceWord, IsOut, IsOwner, LawfulControl, MayPut, Beside, IsArena, IsFinished, IsNewPart, IsSetting, IsStanding, LawfulEpochs, awaits_slot, controls, numbers, place_now, IsPresent, IsWholeArena, PublishesStayLawful, having_published, next_beside, next_place, next_epoch, resting_arena, OpensOver, Stands, not_below, opening_word, opening_component, pool_opens, slot_opens}, ClearRecords.{opens_by_set, records_before}, Entering.{control_lifted, current_is, cw_long, high_arenaed, high_clear, high_records}, Lists.{at_of, count_none, length_of, put_all, put_other, put_same, set_of}, Opens.opens_over, Owning.{knows_more, out_then}, Places.{offset_back, offset_low, offset_to_be_set, packed_arena, set_high, set_low}, Present.{present, same_place}, Publishing.published, Worded.{component_at, plain_at, plain_component, plain_other}}
+use Rattle.partial_epochs.proofs.{Common.{ℕ, zero, suc, ◌≡◌, ◌≢◌, ◌+◌, ◌-◌, ◌<◌, ◌≤◌, ◌==◌, ◌⊎◌, Bool, true, false, if◌then◌else◌, Option, Some, None, IfSome, List, [], ◌∷◌, length, slice_index, slice_set, refl, sym, ap, subst, ◌∙◌, inl, inr, arith, option_map, cases_lt, lt-ltb, eqb_tells, get_or-set_same, get_or-set_other, length-set, set-get_or, Applied, Opening, value_of, some_same, Layout, total, first_free, pool_counter, slot_counter, slot_word, set_offset, HasClearRecords, HasClearSlots, Part, fresh_part, fresh_parts, list_of, put, IsToBeSet, Plan, Place, IsSealed, at_word, arena_words, base, carried_word, carried_words, component_words, control_size, control_words, current_word, packed, plain, seal, carried_behind, opening_behind, Control, OwnedArena, Port, Epoch, IsPlaceWord, IsOut, IsOwner, LawfulControl, MayPut, Beside, IsArena, IsFinished, IsNewPart, IsSetting, IsStanding, LawfulEpochs, awaits_slot, controls, numbers, place_now, IsPresent, IsWholeArena, PublishesStayLawful, having_published, next_beside, next_place, next_epoch, resting_arena, OpensOver, Stands, not_below, opening_word, opening_component, pool_opens, slot_opens}, ClearRecords.{opens_by_set, records_before}, Entering.{control_lifted, current_is, cw_long, high_arenaed, high_clear, high_records}, Lists.{at_of, count_none, length_of, put_all, put_other, put_same, set_of}, Opens.opens_over, Owning.{knows_more, out_then}, Places.{offset_back, offset_low, offset_to_be_set, packed_arena, set_high, set_low}, Present.{present, same_place}, Publishing.published, Worded.{component_at, plain_at, plain_component, plain_other}}
 use Rattle.partial_core.specs.Lawful as one
 
 -- what an epoch opens with has a value for each component, and the same first stamp
@@ -68,14 +68,14 @@ module _ (e : Plan) (words : List ℕ) (ports : ℕ → Port) (b : Beside) (k : 
   rests_setting : (l : List ℕ) (d : Beside) (p : Port) → IsSetting e l d p (resting_arena o)
   rests_setting l d p = record { few = omega arith; sealed = λ less. absurd (omega (arith, less)); each = λ at i less _. absurd (omega (arith, less)); cleared = λ l less set. absurd (omega (arith, less, set)) }
 
-  placed_here : get_or (control_words e words) (at_word k) 0 ≡ packed (ports k).control.here
+  placed_here : slice_index (control_words e words) (at_word k) ≡ packed (ports k).control.here
   placed_here = subst (IsPlaceWord e (control_words e words) k (ports k).control.here) own.stands (w.control.at k below)
 
   abbrev p' : Port
   p' = having_published (ports k) o
 
   -- the exchange is lost
-  lost : get_or words current_word 0 ≢ packed (ports k).control.here → LawfulEpochs e words (put k (having_published (ports k) o) ports) b
+  lost : slice_index words current_word ≢ packed (ports k).control.here → LawfulEpochs e words (put k (having_published (ports k) o) ports) b
   lost ne =
       let older : (ports k).control.here.epoch < length b.before =
       (elim (w.control.earlier (ports k).control.here.arena (ports k).control.here.epoch (w.control.stands k (ports k).control.here below (w.control.places k below) placed_here)) [
@@ -88,7 +88,7 @@ module _ (e : Plan) (words : List ℕ) (ports : ℕ → Port) (b : Beside) (k : 
       (omega arith) below
 
   -- the exchange is won
-  module _ (at : get_or words current_word 0 ≡ packed (ports k).control.here) where
+  module _ (at : slice_index words current_word ≡ packed (ports k).control.here) where
     here_arena : ((ports k).control.here.epoch ≡ length b.before) × ((ports k).control.here.arena ≡ b.arena)
     here_arena = packed_arena e (ports k).control.here (place_now b) w.plan.arenas (w.control.places k below).arena w.control.place.arena (sym at ∙ current_is e words ports b k w below)
 
@@ -99,24 +99,24 @@ module _ (e : Plan) (words : List ℕ) (ports : ℕ → Port) (b : Beside) (k : 
     v = packed (next_place (ports k).control.here o.arena)
 
     abbrev words' : List ℕ
-    words' = set words current_word v
+    words' = slice_set words current_word v
 
     abbrev b' : Beside
     b' = next_beside e b o.arena
 
-    high : (i : ℕ) → control_size e ≤ i → get_or words' i 0 ≡ get_or words i 0
+    high : (i : ℕ) → control_size e ≤ i → slice_index words' i ≡ slice_index words i
     high i from = get_or-set_other words current_word i v 0 (omega (arith, from))
 
-    set_control : control_words e words' ≡ set (control_words e words) current_word v
+    set_control : control_words e words' ≡ slice_set (control_words e words) current_word v
     set_control =
         let count = w.count in
-        set_of (λ i. get_or words i 0) (λ i. get_or words' i 0) 0 (control_size e) current_word (omega arith) (λ j ne. get_or-set_other words current_word j v 0 (omega (arith, ne)))
-        ∙ ap (λ u. set (control_words e words) current_word u) (get_or-set_same words current_word v 0 (omega (arith, count)))
+        set_of (λ i. slice_index words i) (λ i. slice_index words' i) 0 (control_size e) current_word (omega arith) (λ j ne. get_or-set_other words current_word j v 0 (omega (arith, ne)))
+        ∙ ap (λ u. slice_set (control_words e words) current_word u) (get_or-set_same words current_word v 0 (omega (arith, count)))
 
     -- no port stands in the arena
     not_stood : (q : ℕ) → q < e.ports → (ports q).control.entering ≡ Stands → (ports q).control.here.arena ≢ o.arena
     not_stood q low stands =
-        let mine : get_or (control_words e words) (at_word q) 0 ≡ packed (ports q).control.here = subst (IsPlaceWord e (control_words e words) q (ports q).control.here) stands (w.control.at q low) in
+        let mine : slice_index (control_words e words) (at_word q) ≡ packed (ports q).control.here = subst (IsPlaceWord e (control_words e words) q (ports q).control.here) stands (w.control.at q low) in
         elim (eqb_tells q k) [
           | inl same ↦ λ is. looked (sym here_arena.1 ∙ ap (λ i. (ports i).control.here.arena) (sym same.1) ∙ is)
           | inr ne ↦ (out q low ne.1).unmarked (ports q).control.here (w.control.places q low) mine
@@ -133,7 +133,7 @@ module _ (e : Plan) (words : List ℕ) (ports : ℕ → Port) (b : Beside) (k : 
         subst (λ (t : Option OwnedArena). IfSome t (IsOwner e (control_words e words) (controls ports) (place_now b) (numbers b) q)) is (w.control.owners q low) in
         let theirs = other.word in
         let ours = own.word in
-        inl (λ same. let moved = ap (λ y. get_or (control_words e words) (1 + e.ports + y) 0) same in ne (omega (arith, theirs, ours, moved))))
+        inl (λ same. let moved = ap (λ y. slice_index (control_words e words) (1 + e.ports + y)) same in ne (omega (arith, theirs, ours, moved))))
         low
 
     -- the control words
@@ -158,10 +158,10 @@ module _ (e : Plan) (words : List ℕ) (ports : ℕ → Port) (b : Beside) (k : 
         let next : Place = record { epoch = length b.before + 1; arena = o.arena } in
         let holds1 : ℕ → Option ℕ = put o.arena (Some (length b.before + 1)) ns in
         let here_epoch : (cs1 k).here.epoch ≡ length b.before = ap (λ (d : Place). d.epoch) here1 in
-        let own2 : IsOwner e (set (control_words e words) current_word (packed next)) cs1 next holds1 k (resting_arena o) =
-        subst (λ (t : Option OwnedArena). IfSome t (IsOwner e (set (control_words e words) current_word (packed next)) cs1 next holds1 k)) (ap (λ (c : Control). c.owned) is1) (w2.owners k below) in
-        let w3 : LawfulControl e (set (control_words e words) current_word (packed next)) (put k c' cs1) next holds1 =
-        knows_more e (set (control_words e words) current_word (packed next)) cs1 next holds1 w2 k below c' (sym (ap (λ (c : Control). c.here) is1)) (sym (ap (λ (c : Control). c.entering) is1))
+        let own2 : IsOwner e (slice_set (control_words e words) current_word (packed next)) cs1 next holds1 k (resting_arena o) =
+        subst (λ (t : Option OwnedArena). IfSome t (IsOwner e (slice_set (control_words e words) current_word (packed next)) cs1 next holds1 k)) (ap (λ (c : Control). c.owned) is1) (w2.owners k below) in
+        let w3 : LawfulControl e (slice_set (control_words e words) current_word (packed next)) (put k c' cs1) next holds1 =
+        knows_more e (slice_set (control_words e words) current_word (packed next)) cs1 next holds1 w2 k below c' (sym (ap (λ (c : Control). c.here) is1)) (sym (ap (λ (c : Control). c.entering) is1))
         (λ _. omega (arith, here_epoch)) (λ j a may. absurd (no_puts c' j a refl may)) own2 in
         let epoch_is : length b.before + 1 ≡ suc (length b.before) = omega arith in
         let packed_is : packed next ≡ v = ap (λ n. packed (record { epoch = n + 1; arena = o.arena })) (sym even) in
@@ -170,8 +170,8 @@ module _ (e : Plan) (words : List ℕ) (ports : ℕ → Port) (b : Beside) (k : 
         let holds_is : (y : ℕ) → holds1 y ≡ numbers b' y = λ y. put_all (λ i (t : Option ℕ). t ≡ numbers b' i) o.arena (Some (length b.before + 1)) ns y
         (λ _. ap Some epoch_is ∙ sym (ap (option_map (λ (r : Epoch). length r.before)) (put_same o.arena (Some (next_epoch e b)) b.holds)))
         (λ ne. sym (ap (option_map (λ (r : Epoch). length r.before)) (put_other o.arena (Some (next_epoch e b)) b.holds y ne))) in
-        let w4 : LawfulControl e (set (control_words e words) current_word v) (put k c' cs1) next holds1 =
-        subst (λ n. LawfulControl e (set (control_words e words) current_word n) (put k c' cs1) next holds1) packed_is w3 in
+        let w4 : LawfulControl e (slice_set (control_words e words) current_word v) (put k c' cs1) next holds1 =
+        subst (λ n. LawfulControl e (slice_set (control_words e words) current_word n) (put k c' cs1) next holds1) packed_is w3 in
         let w5 : LawfulControl e (control_words e words') (put k c' cs1) next holds1 = subst (λ (l : List ℕ). LawfulControl e l (put k c' cs1) next holds1) (sym set_control) w4 in
         let w6 : LawfulControl e (control_words e words') (controls (put k p' ports)) next holds1 =
         subst (λ (f : ℕ → Control). LawfulControl e (control_words e words') f next holds1) (λ i q. cs_is q i) w5 in
@@ -180,30 +180,31 @@ module _ (e : Plan) (words : List ℕ) (ports : ℕ → Port) (b : Beside) (k : 
         subst (λ (d : Place). LawfulControl e (control_words e words') (controls (put k p' ports)) d (numbers b')) (same_place next (place_now b') epoch_is refl) w7
 
     -- the arena that was set
-    word_set : (i : ℕ) → i < first_free e.sizes → IsToBeSet e.sizes i → get_or words (base e o.arena + i) 0 ≡ opening_word e.sizes (opening_behind e.opening (b.log ∷ b.before)).values i
+    word_set : (i : ℕ) → i < first_free e.sizes → IsToBeSet e.sizes i → slice_index words (base e o.arena + i) ≡ opening_word e.sizes (opening_behind e.opening (b.log ∷ b.before)).values i
     word_set i low to_set =
         let set = whole.set in
         let j : ℕ = set_offset e.sizes i in
         let less = offset_low e.sizes i low in
         let back = offset_back e.sizes i in
-        ap (λ n. get_or words (base e o.arena + n) 0) (sym back) ∙ ap (λ n. get_or words n 0) (sym (set_low e o.arena j less))
+        ap (λ n. slice_index words (base e o.arena + n)) (sym back) ∙ ap (λ n. slice_index words n) (sym (set_low e o.arena j less))
         ∙ setting.each at j (omega (arith, set, less)) (offset_to_be_set e.sizes i to_set)
-        ∙ ap (λ (c : Bool). cond c (opening_word e.sizes (opening_behind e.opening (b.log ∷ b.before)).values (set_offset e.sizes j))
-        (carried_behind e.opening (b.log ∷ b.before) (j - first_free e.sizes))) (lt-ltb j (first_free e.sizes) less)
+        ∙ ap (λ (c : Bool). if c then opening_word e.sizes (opening_behind e.opening (b.log ∷ b.before)).values (set_offset e.sizes j)
+        else carried_behind e.opening (b.log ∷ b.before) (j - first_free e.sizes)) (lt-ltb j (first_free e.sizes) less)
         ∙ ap (opening_word e.sizes (opening_behind e.opening (b.log ∷ b.before)).values) back
 
-    carried_set : (j : ℕ) → j < e.sizes.m → get_or words (carried_word e o.arena j) 0 ≡ carried_behind e.opening (b.log ∷ b.before) j
+    carried_set : (j : ℕ) → j < e.sizes.m → slice_index words (carried_word e o.arena j) ≡ carried_behind e.opening (b.log ∷ b.before) j
     carried_set j low =
         let set = whole.set in
         let i : ℕ = first_free e.sizes + j in
         let off : i - first_free e.sizes ≡ j = omega arith in
         let test = not_below i (first_free e.sizes) (omega arith) in
-        sym (ap (λ n. get_or words n 0) (set_high e o.arena i (omega arith)) ∙ ap (λ n. get_or words (base e o.arena + total e.sizes + n) 0) off)
+        sym (ap (λ n. slice_index words n) (set_high e o.arena i (omega arith)) ∙ ap (λ n. slice_index words (base e o.arena + total e.sizes + n)) off)
         ∙ setting.each at i (omega (arith, set, low)) (inr (inl (omega arith)))
-        ∙ ap (λ (c : Bool). cond c (opening_word e.sizes (opening_behind e.opening (b.log ∷ b.before)).values (set_offset e.sizes i)) (carried_behind e.opening (b.log ∷ b.before) (i - first_free e.sizes))) test
+        ∙ ap (λ (c : Bool). if c then opening_word e.sizes (opening_behind e.opening (b.log ∷ b.before)).values (set_offset e.sizes i)
+        else carried_behind e.opening (b.log ∷ b.before) (i - first_free e.sizes)) test
         ∙ ap (carried_behind e.opening (b.log ∷ b.before)) off
 
-    component_small : (j : ℕ) → j < e.sizes.m → get_or words (base e o.arena + j) 0 < seal
+    component_small : (j : ℕ) → j < e.sizes.m → slice_index words (base e o.arena + j) < seal
     component_small j low =
         let is = word_set j (omega (arith, low)) (inl (omega (arith, low))) ∙ opening_component e.sizes (opening_behind e.opening (b.log ∷ b.before)).values j low in
         let m = w.plan.sizes.components.1 in
@@ -216,21 +217,21 @@ module _ (e : Plan) (words : List ℕ) (ports : ℕ → Port) (b : Beside) (k : 
       sizes = w.plan.sizes;
       values = values_long e.opening (b.log ∷ b.before) ∙ w.plan.values;
       stamps = first_same e.opening (b.log ∷ b.before) ∙ w.plan.first;
-      count = length_of (λ i. plain e i (get_or words (base e o.arena + i) 0)) 0 (total e.sizes);
+      count = length_of (λ i. plain e i (slice_index words (base e o.arena + i))) 0 (total e.sizes);
       each = λ i low asked. let pool = w.plan.sizes.pool.0 in plain_at e words o.arena i (omega (arith, low, pool)) ∙ as_is i low (cases_lt i e.sizes.m)
           ∙ opens_by_set e words (opening_behind e.opening (b.log ∷ b.before)).values o.arena i (records_before e words ports b w o.arena own.arena) low asked (word_set i low);
     }
       where
-        as_is : (i : ℕ) → i < first_free e.sizes → (i < e.sizes.m) ⊎ (e.sizes.m ≤ i) → plain e i (get_or words (base e o.arena + i) 0) ≡ get_or words (base e o.arena + i) 0
-        as_is i low (inl inside) = let small = component_small i inside in plain_component e words o.arena i (get_or words (base e o.arena + i) 0) inside ∙ omega (arith, small)
-        as_is i low (inr from) = plain_other e words o.arena i (get_or words (base e o.arena + i) 0) from
+        as_is : (i : ℕ) → i < first_free e.sizes → (i < e.sizes.m) ⊎ (e.sizes.m ≤ i) → plain e i (slice_index words (base e o.arena + i)) ≡ slice_index words (base e o.arena + i)
+        as_is i low (inl inside) = let small = component_small i inside in plain_component e words o.arena i (slice_index words (base e o.arena + i)) inside ∙ omega (arith, small)
+        as_is i low (inr from) = plain_other e words o.arena i (slice_index words (base e o.arena + i)) from
 
     arena_new : IsArena e (arena_words e words o.arena) (component_words e words o.arena) (carried_words e words o.arena) (next_epoch e b) (o.arena ≢ o.arena)
     arena_new = record {
       lawful = subst (λ (l : List Part). one.Lawful e.sizes (opening_behind e.opening (b.log ∷ b.before)) (arena_words e words o.arena) l []) (sym (fresh_list e.sizes 0 e.ports))
           (opens_over e.sizes (opening_behind e.opening (b.log ∷ b.before)) (arena_words e words o.arena) e.ports opens w.plan.few);
       numbers = λ q low. refl;
-      stamps = λ j low. at_of (λ j. get_or words (carried_word e o.arena j) 0) 0 e.sizes.m j low ∙ ap (λ i. get_or words (carried_word e o.arena i) 0) (omega arith) ∙ carried_set j low;
+      stamps = λ j low. at_of (λ j. slice_index words (carried_word e o.arena j)) 0 e.sizes.m j low ∙ ap (λ i. slice_index words (carried_word e o.arena i)) (omega arith) ∙ carried_set j low;
       few = λ j low. let small = component_small j low in let at = component_at e words o.arena j low in omega (arith, small, at);
       passed = λ q j low less. absurd (omega (arith, less));
       sealed = λ ne. absurd (ne refl);
@@ -239,7 +240,7 @@ module _ (e : Plan) (words : List ℕ) (ports : ℕ → Port) (b : Beside) (k : 
           let some_slots = w.plan.sizes.slots.0 in
           let some_components = w.plan.sizes.components.0 in
           let room = w.plan.opens in
-          let is : get_or (arena_words e words o.arena) (pool_counter e.sizes) 0 ≡ first_free e.sizes =
+          let is : slice_index (arena_words e words o.arena) (pool_counter e.sizes) ≡ first_free e.sizes =
           opens.each (pool_counter e.sizes) (omega (arith, some_slots, some_components)) (inl (omega (arith, some_slots)))
           ∙ pool_opens e.sizes (opening_behind e.opening (b.log ∷ b.before)).values in
           omega (arith, is, room);
@@ -247,10 +248,10 @@ module _ (e : Plan) (words : List ℕ) (ports : ℕ → Port) (b : Beside) (k : 
           let pool = w.plan.sizes.pool.0 in
           let some_slots = w.plan.sizes.slots.0 in
           let some_components = w.plan.sizes.components.0 in
-          let free : get_or (arena_words e words o.arena) (pool_counter e.sizes) 0 ≡ first_free e.sizes =
+          let free : slice_index (arena_words e words o.arena) (pool_counter e.sizes) ≡ first_free e.sizes =
           opens.each (pool_counter e.sizes) (omega (arith, some_slots, some_components)) (inl (omega (arith, some_slots)))
           ∙ pool_opens e.sizes (opening_behind e.opening (b.log ∷ b.before)).values in
-          let claimed : get_or (arena_words e words o.arena) (slot_counter e.sizes) 0 ≡ 0 =
+          let claimed : slice_index (arena_words e words o.arena) (slot_counter e.sizes) ≡ 0 =
           opens.each (slot_counter e.sizes) (omega (arith, some_slots, some_components)) (inl (omega (arith, some_slots)))
           ∙ slot_opens e.sizes (opening_behind e.opening (b.log ∷ b.before)).values some_slots in
           let none = count_none (λ q. awaits_slot (fresh_part e.sizes q)) 0 e.ports (λ q. refl) in
@@ -290,7 +291,7 @@ module _ (e : Plan) (words : List ℕ) (ports : ℕ → Port) (b : Beside) (k : 
         }))
       where
         all : (y : ℕ) (r : Epoch) → b.holds y ≡ Some r → IsArena e (arena_words e words y) (component_words e words y) (carried_words e words y) r (y ≢ b.arena) →
-            (((y == b.arena) ≡ true) × (y ≡ b.arena)) ⊎ (((y == b.arena) ≡ false) × (y ≢ b.arena)) → (j : ℕ) → j < e.sizes.m → IsSealed (get_or (component_words e words y) j 0)
+            (((y == b.arena) ≡ true) × (y ≡ b.arena)) ⊎ (((y == b.arena) ≡ false) × (y ≢ b.arena)) → (j : ℕ) → j < e.sizes.m → IsSealed (slice_index (component_words e words y) j)
         all y r was t (inr other) j low = t.sealed other.1 j low
         all y r was t (inl same) j low =
             let s = w.standing k below own.stands in
@@ -336,7 +337,7 @@ module _ (e : Plan) (words : List ℕ) (ports : ℕ → Port) (b : Beside) (k : 
               few = h.few;
               sealed = h.sealed;
               each = λ at' i less asked.
-                  let now : get_or words' current_word 0 ≡ v = get_or-set_same words current_word v 0 (omega (arith, count)) in
+                  let now : slice_index words' current_word ≡ v = get_or-set_same words current_word v 0 (omega (arith, count)) in
                   let both = packed_arena e (next_place (ports k).control.here o.arena) (ports q).control.here w.plan.arenas own.arena (w.control.places q low).arena (sym now ∙ at') in
                   absurd (not_stood q low mine.stands (sym both.1));
               cleared = λ l less set. high (base e t.arena + slot_word e.sizes l) (omega arith) ∙ h.cleared l less set;
@@ -369,23 +370,25 @@ module _ (e : Plan) (words : List ℕ) (ports : ℕ → Port) (b : Beside) (k : 
       records = records_then;
     }
 
-  pub publishes : ((get_or words current_word 0 ≡ packed (ports k).control.here) × IsPresent b k (ports k)
-      × LawfulEpochs e (set words current_word (cond (get_or words current_word 0 == packed (ports k).control.here) (packed (next_place (ports k).control.here o.arena)) (get_or words current_word 0)))
+  pub publishes : ((slice_index words current_word ≡ packed (ports k).control.here) × IsPresent b k (ports k)
+      × LawfulEpochs e (slice_set words current_word (if slice_index words current_word == packed (ports k).control.here then packed (next_place (ports k).control.here o.arena)
+      else slice_index words current_word))
       (put k (having_published (ports k) o) ports) (next_beside e b o.arena))
-      ⊎ ((get_or words current_word 0 ≢ packed (ports k).control.here)
-      × LawfulEpochs e (set words current_word (cond (get_or words current_word 0 == packed (ports k).control.here) (packed (next_place (ports k).control.here o.arena)) (get_or words current_word 0)))
+      ⊎ ((slice_index words current_word ≢ packed (ports k).control.here)
+      × LawfulEpochs e (slice_set words current_word (if slice_index words current_word == packed (ports k).control.here then packed (next_place (ports k).control.here o.arena)
+      else slice_index words current_word))
       (put k (having_published (ports k) o) ports) b)
-  publishes = elim (eqb_tells (get_or words current_word 0) (packed (ports k).control.here)) [
+  publishes = elim (eqb_tells (slice_index words current_word) (packed (ports k).control.here)) [
     | inl same ↦ inl (
       same.1,
       is_present same.1,
-      subst (λ (t : Bool). LawfulEpochs e (set words current_word (cond t (packed (next_place (ports k).control.here o.arena)) (get_or words current_word 0)))
+      subst (λ (t : Bool). LawfulEpochs e (slice_set words current_word (if t then packed (next_place (ports k).control.here o.arena) else slice_index words current_word))
           (put k (having_published (ports k) o) ports) (next_beside e b o.arena))
           (sym same.0) (won same.1),
     )
     | inr other ↦ inr (
       other.1,
-      subst (λ (t : Bool). LawfulEpochs e (set words current_word (cond t (packed (next_place (ports k).control.here o.arena)) (get_or words current_word 0)))
+      subst (λ (t : Bool). LawfulEpochs e (slice_set words current_word (if t then packed (next_place (ports k).control.here o.arena) else slice_index words current_word))
           (put k (having_published (ports k) o) ports) b)
           (sym other.0) (subst (λ (l : List ℕ). LawfulEpochs e l (put k (having_published (ports k) o) ports) b) (sym (set-get_or words current_word 0)) (lost other.1)),
     )

@@ -1,5 +1,5 @@
 -- The control words as the next epoch is published.
-use Rattle.partial_epochs.proofs.{Common.{ℕ, ◌≡◌, ◌≢◌, ◌+◌, ◌<◌, ◌≤◌, ◌⊎◌, true, false, Option, Some, None, IfSome, List, length, get_or, set, refl, sym, ap, subst, ◌∙◌, inl, inr, arith, eqb_tells, get_or-set_same, get_or-set_other, some_same, put, Plan, Place, IsPlace, at_word, control_size, current_word, packed, arena_limit, epoch_limit, Control, Entering, OwnedArena, IsPlaceWord, IsStillMarked, IsOld, IsOut, IsOwner, LawfulControl, NotInto, Stands, Marks, Loaded}, Places.packed_arena, Lists.{put_all, put_other, put_same}}
+use Rattle.partial_epochs.proofs.{Common.{ℕ, ◌≡◌, ◌≢◌, ◌+◌, ◌<◌, ◌≤◌, ◌⊎◌, true, false, Option, Some, None, IfSome, List, length, slice_index, slice_set, refl, sym, ap, subst, ◌∙◌, inl, inr, arith, eqb_tells, get_or-set_same, get_or-set_other, some_same, put, Plan, Place, IsPlace, at_word, control_size, current_word, packed, arena_limit, epoch_limit, Control, Entering, OwnedArena, IsPlaceWord, IsStillMarked, IsOld, IsOut, IsOwner, LawfulControl, NotInto, Stands, Marks, Loaded}, Places.packed_arena, Lists.{put_all, put_other, put_same}}
 
 -- the next epoch is published in the arena x, of which all ports but k are out, and in which k isn't
 module _ (e : Plan) (words : List ℕ) (cs : ℕ → Control) (now : Place) (holds : ℕ → Option ℕ) (w : LawfulControl e words cs now holds) (k : ℕ) (below : k < e.ports) (x : ℕ) (inside : x < e.arenas)
@@ -11,24 +11,24 @@ module _ (e : Plan) (words : List ℕ) (cs : ℕ → Control) (now : Place) (hol
   next = record { epoch = now.epoch + 1; arena = x }
 
   abbrev words' : List ℕ
-  words' = set words current_word (packed next)
+  words' = slice_set words current_word (packed next)
 
   abbrev holds' : ℕ → Option ℕ
   holds' = put x (Some (now.epoch + 1)) holds
 
-  other : (i : ℕ) → i ≢ current_word → get_or words' i 0 ≡ get_or words i 0
+  other : (i : ℕ) → i ≢ current_word → slice_index words' i ≡ slice_index words i
   other i ne = get_or-set_other words current_word i (packed next) 0 ne
 
   -- where a port is, or comes to, isn't the arena x
-  not_stood : (q : ℕ) (d : Place) → q < e.ports → IsPlace e d → get_or words (at_word q) 0 ≡ packed d → d.arena ≢ x
+  not_stood : (q : ℕ) (d : Place) → q < e.ports → IsPlace e d → slice_index words (at_word q) ≡ packed d → d.arena ≢ x
   not_stood q d low place at = elim (eqb_tells q k) [
-    | inl same ↦ own (subst (λ i. get_or words (at_word i) 0 ≡ packed d) same.1 at)
+    | inl same ↦ own (subst (λ i. slice_index words (at_word i) ≡ packed d) same.1 at)
     | inr ne ↦ (out q low ne.1).unmarked d place at
   ]
     where
-      own : get_or words (at_word k) 0 ≡ packed d → d.arena ≢ x
+      own : slice_index words (at_word k) ≡ packed d → d.arena ≢ x
       own at =
-          let mine : get_or words (at_word k) 0 ≡ packed (cs k).here = subst (IsPlaceWord e words k (cs k).here) stands (w.at k below) in
+          let mine : slice_index words (at_word k) ≡ packed (cs k).here = subst (IsPlaceWord e words k (cs k).here) stands (w.at k below) in
           let arena : (cs k).here.arena ≡ now.arena = ap (λ (d : Place). d.arena) here in
           let same = packed_arena e (cs k).here d few (w.places k below).arena place.arena (sym mine ∙ at) in
           λ is. apart (sym arena ∙ same.1 ∙ is)

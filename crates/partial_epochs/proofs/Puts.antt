@@ -1,10 +1,10 @@
 -- A port puts another one where it stands itself.
-use Rattle.partial_epochs.proofs.{Common.{ℕ, ◌≡◌, ◌≢◌, ◌+◌, ◌<◌, ◌≤◌, ◌==◌, ◌⊎◌, Bool, true, false, cond, Option, Some, None, IfSome, List, length, get_or, set, refl, sym, ap, subst, ◌∙◌, inl, inr, arith, eqb_tells, get_or-set_same, get_or-set_other, length-set, put, Plan, Place, IsPlace, at_word, control_size, control_words, current_word, marked, packed, arena_limit, Control, Entering, OwnedArena, Port, IsPlaceWord, IsEarlier, IsStillMarked, IsOut, IsOwner, LawfulControl, MayPut, Beside, LawfulEpochs, controls, numbers, place_now, PutsStayLawful, at_next_port, having_put, Stands, Marks, Loaded}, Entering.{control_lifted, cw_at, cw_long, marked_epoch, not_marked}, Lists.set_of, Owning.knows_more, Places.packed_arena, Present.same_place}
+use Rattle.partial_epochs.proofs.{Common.{ℕ, ◌≡◌, ◌≢◌, ◌+◌, ◌<◌, ◌≤◌, ◌==◌, ◌⊎◌, Bool, true, false, if◌then◌else◌, Option, Some, None, IfSome, List, length, slice_index, slice_set, refl, sym, ap, subst, ◌∙◌, inl, inr, arith, eqb_tells, get_or-set_same, get_or-set_other, length-set, put, Plan, Place, IsPlace, at_word, control_size, control_words, current_word, marked, packed, arena_limit, Control, Entering, OwnedArena, Port, IsPlaceWord, IsEarlier, IsStillMarked, IsOut, IsOwner, LawfulControl, MayPut, Beside, LawfulEpochs, controls, numbers, place_now, PutsStayLawful, at_next_port, having_put, Stands, Marks, Loaded}, Entering.{control_lifted, cw_at, cw_long, marked_epoch, not_marked}, Lists.set_of, Owning.knows_more, Places.packed_arena, Present.same_place}
 
 -- the word of port q is set, which port k holds the mark of
 module _ (e : Plan) (words : List ℕ) (cs : ℕ → Control) (now : Place) (holds : ℕ → Option ℕ) (w : LawfulControl e words cs now holds) (k : ℕ) (below : k < e.ports) (o : OwnedArena) (a : Place)
     (few : e.arenas ≤ arena_limit) (long : length words ≡ control_size e) (owned : (cs k).owned ≡ Some o) (within : o.clean < e.ports) (none : o.set ≡ 0) (looked : o.looked ≡ true)
-    (mark : o.mark ≡ Some a) (again : o.again ≡ true) (there : get_or words (at_word o.clean) 0 ≡ marked a) where
+    (mark : o.mark ≡ Some a) (again : o.again ≡ true) (there : slice_index words (at_word o.clean) ≡ marked a) where
   abbrev q : ℕ
   q = o.clean
 
@@ -12,7 +12,7 @@ module _ (e : Plan) (words : List ℕ) (cs : ℕ → Control) (now : Place) (hol
   here = (cs k).here
 
   abbrev words' : List ℕ
-  words' = set words (at_word o.clean) (packed (cs k).here)
+  words' = slice_set words (at_word o.clean) (packed (cs k).here)
 
   own : IsOwner e words cs now holds k o
   own = subst (λ (t : Option OwnedArena). IfSome t (IsOwner e words cs now holds k)) owned (w.owners k below)
@@ -20,7 +20,7 @@ module _ (e : Plan) (words : List ℕ) (cs : ℕ → Control) (now : Place) (hol
   place : IsPlace e (cs k).here
   place = w.places k below
 
-  mine : get_or words (at_word k) 0 ≡ packed (cs k).here
+  mine : slice_index words (at_word k) ≡ packed (cs k).here
   mine = subst (IsPlaceWord e words k (cs k).here) own.stands (w.at k below)
 
   may : MayPut (cs k) o.clean a
@@ -32,13 +32,13 @@ module _ (e : Plan) (words : List ℕ) (cs : ℕ → Control) (now : Place) (hol
   older : a.epoch < (cs k).here.epoch
   older = subst (λ (m : Option Place). IfSome m (λ a. a.epoch < (cs k).here.epoch)) mark (own.older again)
 
-  set_at : get_or words' (at_word o.clean) 0 ≡ packed (cs k).here
+  set_at : slice_index words' (at_word o.clean) ≡ packed (cs k).here
   set_at = get_or-set_same words (at_word o.clean) (packed (cs k).here) 0 (omega (arith, long, within))
 
-  other : (i : ℕ) → i ≢ at_word o.clean → get_or words' i 0 ≡ get_or words i 0
+  other : (i : ℕ) → i ≢ at_word o.clean → slice_index words' i ≡ slice_index words i
   other i ne = get_or-set_other words (at_word o.clean) i (packed (cs k).here) 0 ne
 
-  other_at : (r : ℕ) → r ≢ o.clean → get_or words' (at_word r) 0 ≡ get_or words (at_word r) 0
+  other_at : (r : ℕ) → r ≢ o.clean → slice_index words' (at_word r) ≡ slice_index words (at_word r)
   other_at r ne = other (at_word r) (omega (arith, ne))
 
   is_here : (d : Place) → IsPlace e d → packed (cs k).here ≡ packed d → (cs k).here ≡ d
@@ -105,15 +105,15 @@ module _ (e : Plan) (words : List ℕ) (cs : ℕ → Control) (now : Place) (hol
     | inr ne ↦ at_other r (cs r).here (cs r).entering ne.1 (w.at r low)
   ]
 
-  stands_then : (r : ℕ) (d : Place) → r < e.ports → IsPlace e d → get_or words' (at_word r) 0 ≡ packed d → holds d.arena ≡ Some d.epoch
+  stands_then : (r : ℕ) (d : Place) → r < e.ports → IsPlace e d → slice_index words' (at_word r) ≡ packed d → holds d.arena ≡ Some d.epoch
   stands_then r d low there at = elim (eqb_tells r o.clean) [
-    | inl same ↦ subst (λ (d : Place). holds d.arena ≡ Some d.epoch) (is_here d there (sym set_at ∙ sym (ap (λ i. get_or words' (at_word i) 0) same.1) ∙ at)) (w.stands k (cs k).here below place mine)
+    | inl same ↦ subst (λ (d : Place). holds d.arena ≡ Some d.epoch) (is_here d there (sym set_at ∙ sym (ap (λ i. slice_index words' (at_word i)) same.1) ∙ at)) (w.stands k (cs k).here below place mine)
     | inr ne ↦ w.stands r d low there (sym (other_at r ne.1) ∙ at)
   ]
 
   comes_then : (r : ℕ) (d : Place) → r < e.ports → (cs r).entering ≡ Loaded d → IsStillMarked words' (cs r) r → holds d.arena ≡ Some d.epoch
   comes_then r d low is at = elim (eqb_tells r o.clean) [
-    | inl same ↦ absurd (not_marked e (cs k).here (cs r).here few place (sym set_at ∙ sym (ap (λ i. get_or words' (at_word i) 0) same.1) ∙ at))
+    | inl same ↦ absurd (not_marked e (cs k).here (cs r).here few place (sym set_at ∙ sym (ap (λ i. slice_index words' (at_word i)) same.1) ∙ at))
     | inr ne ↦ w.comes r d low is (sym (other_at r ne.1) ∙ at)
   ]
 
@@ -166,21 +166,21 @@ module _ (e : Plan) (words : List ℕ) (cs : ℕ → Control) (now : Place) (hol
   puts_on = knows_more e words' cs now holds helped k below c refl refl (w.past k below) (λ j d may. absurd (no_puts j d may)) own_at_next_port
 
 module _ (e : Plan) (words : List ℕ) (ports : ℕ → Port) (b : Beside) (k : ℕ) (o : OwnedArena) (a : Place) (w : LawfulEpochs e words ports b) (below : k < e.ports) (owned : (ports k).control.owned ≡ Some o)
-    (looked : o.looked ≡ true) (within : o.clean < e.ports) (none : o.set ≡ 0) (mark : o.mark ≡ Some a) (again : o.again ≡ true) (there : get_or words (at_word o.clean) 0 ≡ marked a) where
+    (looked : o.looked ≡ true) (within : o.clean < e.ports) (none : o.set ≡ 0) (mark : o.mark ≡ Some a) (again : o.again ≡ true) (there : slice_index words (at_word o.clean) ≡ marked a) where
   abbrev put_to : ℕ
   put_to = packed (ports k).control.here
 
   abbrev words_put : List ℕ
-  words_put = set words (at_word o.clean) put_to
+  words_put = slice_set words (at_word o.clean) put_to
 
-  set_control : control_words e words_put ≡ set (control_words e words) (at_word o.clean) put_to
+  set_control : control_words e words_put ≡ slice_set (control_words e words) (at_word o.clean) put_to
   set_control =
       let count = w.count in
       let zero_here : 0 + at_word o.clean ≡ at_word o.clean = omega arith in
-      set_of (λ i. get_or words i 0) (λ i. get_or words_put i 0) 0 (control_size e) (at_word o.clean) (omega (arith, within))
+      set_of (λ i. slice_index words i) (λ i. slice_index words_put i) 0 (control_size e) (at_word o.clean) (omega (arith, within))
       (λ j ne. get_or-set_other words (at_word o.clean) j put_to 0 (omega (arith, ne)))
-      ∙ ap (λ i. set (control_words e words) (at_word o.clean) (get_or words_put i 0)) zero_here
-      ∙ ap (λ u. set (control_words e words) (at_word o.clean) u) (get_or-set_same words (at_word o.clean) put_to 0 (omega (arith, count, within)))
+      ∙ ap (λ i. slice_set (control_words e words) (at_word o.clean) (slice_index words_put i)) zero_here
+      ∙ ap (λ u. slice_set (control_words e words) (at_word o.clean) u) (get_or-set_same words (at_word o.clean) put_to 0 (omega (arith, count, within)))
 
   pub put_kept : LawfulEpochs e words_put (put k (having_put (ports k) o) ports) b
   put_kept =
@@ -199,6 +199,7 @@ module _ (e : Plan) (words : List ℕ) (ports : ℕ → Port) (b : Beside) (k : 
 
 pub puts_stay_lawful : PutsStayLawful
 puts_stay_lawful e words ports b k o a w below owned looked within none mark again there =
-    let won : (get_or words (at_word o.clean) 0 == marked a) ≡ true = (elim (eqb_tells (get_or words (at_word o.clean) 0) (marked a)) [ inl t ↦ t.0 | inr f ↦ absurd (f.1 there) ]) in
-    subst (λ (t : Bool). LawfulEpochs e (set words (at_word o.clean) (cond t (packed (ports k).control.here) (get_or words (at_word o.clean) 0))) (put k (having_put (ports k) o) ports) b) (sym won)
+    let won : (slice_index words (at_word o.clean) == marked a) ≡ true = (elim (eqb_tells (slice_index words (at_word o.clean)) (marked a)) [ inl t ↦ t.0 | inr f ↦ absurd (f.1 there) ]) in
+    subst (λ (t : Bool). LawfulEpochs e (slice_set words (at_word o.clean) (if t then packed (ports k).control.here
+    else slice_index words (at_word o.clean))) (put k (having_put (ports k) o) ports) b) (sym won)
     (put_kept e words ports b k o a w below owned looked within none mark again there)

@@ -1,5 +1,5 @@
 -- A seal, and the load of a component that is sealed already.
-use Rattle.partial_epochs.proofs.{Common.{ℕ, ◌≡◌, ◌≢◌, ◌+◌, ◌/◌, ◌%◌, ◌^◌, ◌<◌, ◌≤◌, ◌⊎◌, true, List, [], length, get_or, set, refl, sym, ap, subst, ◌∙◌, inl, inr, arith, nat_lt, cases_lt, lt-ltb, eqb_tells, append-nil, get_or-set_same, get_or-set_other, length-set, set-get_or, Add, total, words_after, count, put, Plan, IsSealed, arena_words, base, carried_words, component_words, plain, seal, seals, Port, Epoch, Beside, IsArena, IsStanding, LawfulEpochs, Stands, not_below, PassLeads, SealsStayLawful, SealedPassesStayLawful, passing_port}, Change.{Changes, beside_then, change_kept}, Lists.{count_few, count_more, count_same, put_all, put_other, put_same}, Places.below_whole, Present.standing, Worded.{component_at, plain_at, plain_component, set_arena, set_outside}}
+use Rattle.partial_epochs.proofs.{Common.{ℕ, ◌≡◌, ◌≢◌, ◌+◌, ◌/◌, ◌%◌, ◌^◌, ◌<◌, ◌≤◌, ◌⊎◌, true, List, [], length, slice_index, slice_set, refl, sym, ap, subst, ◌∙◌, inl, inr, arith, nat_lt, cases_lt, lt-ltb, eqb_tells, append-nil, get_or-set_same, get_or-set_other, length-set, set-get_or, Add, total, words_after, count, put, Plan, IsSealed, arena_words, base, carried_words, component_words, plain, seal, seals, Port, Epoch, Beside, IsArena, IsStanding, LawfulEpochs, Stands, not_below, PassLeads, SealsStayLawful, SealedPassesStayLawful, passing_port}, Change.{Changes, beside_then, change_kept}, Lists.{count_few, count_more, count_same, put_all, put_other, put_same}, Places.below_whole, Present.standing, Worded.{component_at, plain_at, plain_component, set_arena, set_outside}}
 
 module _ (e : Plan) (words : List ℕ) (ports : ℕ → Port) (b : Beside) (k : ℕ) (w : LawfulEpochs e words ports b) (below : k < e.ports)
     (stands : (ports k).control.entering ≡ Stands) (inside : (ports k).passed < e.sizes.m) where
@@ -53,10 +53,10 @@ module _ (e : Plan) (words : List ℕ) (ports : ℕ → Port) (b : Beside) (k : 
       ]
 
   module _ (words' : List ℕ) (count_is : length words' ≡ length words)
-      (outside : (i : ℕ) → (i < base e x) ⊎ (base e x + total e.sizes ≤ i) → get_or words' i 0 ≡ get_or words i 0)
+      (outside : (i : ℕ) → (i < base e x) ⊎ (base e x + total e.sizes ≤ i) → slice_index words' i ≡ slice_index words i)
       (same : arena_words e words' x ≡ arena_words e words x)
-      (here : (seals (get_or (component_words e words' x) j 0) ≤ count (λ q. nat_lt j (passed' q)) 0 e.ports) × IsSealed (get_or (component_words e words' x) j 0))
-      (there : (i : ℕ) → i < e.sizes.m → i ≢ j → get_or (component_words e words' x) i 0 ≡ get_or (component_words e words x) i 0) where
+      (here : (seals (slice_index (component_words e words' x) j) ≤ count (λ q. nat_lt j (passed' q)) 0 e.ports) × IsSealed (slice_index (component_words e words' x) j))
+      (there : (i : ℕ) → i < e.sizes.m → i ≢ j → slice_index (component_words e words' x) i ≡ slice_index (component_words e words x) i) where
     arena_then : IsArena e (arena_words e words' x) (component_words e words' x) (carried_words e words x) r' (x ≢ b.arena)
     arena_then = subst (λ (l : List ℕ). IsArena e l (component_words e words' x) (carried_words e words x) r' (x ≢ b.arena)) (sym same) (record {
       lawful = arena.lawful;
@@ -64,20 +64,20 @@ module _ (e : Plan) (words : List ℕ) (ports : ℕ → Port) (b : Beside) (k : 
       stamps = arena.stamps;
       few = λ i low. few i low;
       passed = λ q i in_ports in_passed low. elim (eqb_tells i j) [
-        | inl is ↦ subst (λ n. IsSealed (get_or (component_words e words' x) n 0)) (sym is.1) here.1
+        | inl is ↦ subst (λ n. IsSealed (slice_index (component_words e words' x) n)) (sym is.1) here.1
         | inr ne ↦ subst IsSealed (sym (there i low ne.1)) (arena.passed q i in_ports (before q i in_passed ne.1) low)
       ];
       sealed = λ finished i low. elim (eqb_tells i j) [
-        | inl is ↦ subst (λ n. IsSealed (get_or (component_words e words' x) n 0)) (sym is.1) here.1
+        | inl is ↦ subst (λ n. IsSealed (slice_index (component_words e words' x) n)) (sym is.1) here.1
         | inr ne ↦ subst IsSealed (sym (there i low ne.1)) (arena.sealed finished i low)
       ];
       reserve = arena.reserve;
       slots = arena.slots;
     })
       where
-        few : (i : ℕ) → i < e.sizes.m → seals (get_or (component_words e words' x) i 0) ≤ count (λ q. nat_lt i (passed' q)) 0 e.ports
+        few : (i : ℕ) → i < e.sizes.m → seals (slice_index (component_words e words' x) i) ≤ count (λ q. nat_lt i (passed' q)) 0 e.ports
         few i low = elim (eqb_tells i j) [
-          | inl is ↦ subst (λ n. seals (get_or (component_words e words' x) n 0) ≤ count (λ q. nat_lt n (passed' q)) 0 e.ports) (sym is.1) here.0
+          | inl is ↦ subst (λ n. seals (slice_index (component_words e words' x) n) ≤ count (λ q. nat_lt n (passed' q)) 0 e.ports) (sym is.1) here.0
           | inr ne ↦
               let old = arena.few i low in
               let counted = passed_other i ne.1 in
@@ -114,14 +114,14 @@ module _ (e : Plan) (words : List ℕ) (ports : ℕ → Port) (b : Beside) (k : 
       lawful = change_kept e words ports b k w below stands words' (passing_port (ports k)) r' [] changes;
     }
 
-  pub sealed_passes : IsSealed (get_or (component_words e words x) j 0) → PassLeads e words words ports b k
+  pub sealed_passes : IsSealed (slice_index (component_words e words x) j) → PassLeads e words words ports b k
   sealed_passes sealed =
       let old = arena.few j inside in
       let more = passed_more in
       pass_leads words refl (λ i out. refl) refl (omega (arith, old, more), sealed) (λ i low ne. refl)
 
   abbrev raw : ℕ
-  raw = get_or words (base e x + j) 0
+  raw = slice_index words (base e x + j)
 
   abbrev next : ℕ
   next = (raw + seal) % 2 ^ 64
@@ -135,15 +135,15 @@ module _ (e : Plan) (words : List ℕ) (ports : ℕ → Port) (b : Beside) (k : 
       let few = w.plan.few in
       let small : raw / seal ≤ 64 = omega (arith, at, old, most, few) in
       let is : next ≡ raw + seal = omega (arith, small) in
-      let words' : List ℕ = set words (base e x + j) next in
+      let words' : List ℕ = slice_set words (base e x + j) next in
       let at' = component_at e words' x j inside in
-      let now : get_or words' (base e x + j) 0 ≡ next = get_or-set_same words (base e x + j) next 0 within in
-      let found : get_or (component_words e words' x) j 0 ≡ raw + seal = at' ∙ now ∙ is in
+      let now : slice_index words' (base e x + j) ≡ next = get_or-set_same words (base e x + j) next 0 within in
+      let found : slice_index (component_words e words' x) j ≡ raw + seal = at' ∙ now ∙ is in
       let more = passed_more in
-      let plain_is : plain e j next ≡ get_or (arena_words e words x) j 0 =
+      let plain_is : plain e j next ≡ slice_index (arena_words e words x) j =
       plain_component e words x j next inside ∙ omega (arith, is) ∙ sym (plain_component e words x j raw inside) ∙ sym (plain_at e words x j low) in
       pass_leads words' (length-set words (base e x + j) next) (set_outside e words x j next low within)
-      (set_arena e words x j next low within ∙ ap (set (arena_words e words x) j) plain_is ∙ set-get_or (arena_words e words x) j 0)
+      (set_arena e words x j next low within ∙ ap (slice_set (arena_words e words x) j) plain_is ∙ set-get_or (arena_words e words x) j 0)
       (omega (arith, found, old, at, more), omega (arith, found))
       (λ i low_i ne. component_at e words' x i low_i ∙ get_or-set_other words (base e x + j) (base e x + i) next 0 (omega (arith, ne)) ∙ sym (component_at e words x i low_i))
 

@@ -1,5 +1,5 @@
 -- What a port has seen of its epoch it finds in the words of its arena.
-use Rattle.partial_epochs.proofs.{Common.{ℕ, ◌≡◌, ◌+◌, ◌<◌, ◌≤◌, List, length, take, get_or, sym, ap, subst, ◌∙◌, arith, Applied, Opening, stamp_of, value_of, stamp_all, take_within, total, RecordsAreWithin, lawful_records_are_within, list_of, Plan, arena_words, base, opening_behind, Port, Beside, IsStanding, LawfulEpochs, IsSeenRecord, SeenRecordsStay, value_behind_stamp, value_word, view_word}, Continue.{all_taken, carried_there, epoch_behind}, Places.below_whole, Seats.{known, seen_few}, Worded.{plain_at, plain_other}}
+use Rattle.partial_epochs.proofs.{Common.{ℕ, ◌≡◌, ◌+◌, ◌<◌, ◌≤◌, List, length, take, slice_index, sym, ap, subst, ◌∙◌, arith, Applied, Opening, stamp_of, value_of, stamp_all, take_within, total, RecordsAreWithin, lawful_records_are_within, list_of, Plan, arena_words, base, opening_behind, Port, Beside, IsStanding, LawfulEpochs, IsSeenRecord, SeenRecordsStay, value_behind_stamp, value_word, view_word}, Continue.{all_taken, carried_there, epoch_behind}, Places.below_whole, Seats.{known, seen_few}, Worded.{plain_at, plain_other}}
 use Rattle.partial_core.specs.Lawful as one
 
 module _ (e : Plan) (words : List ℕ) (ports : ℕ → Port) (b : Beside) (k j : ℕ) (w : LawfulEpochs e words ports b) (below : k < e.ports) (inside : j < e.sizes.m) (s : IsStanding b k (ports k)) where
@@ -49,14 +49,14 @@ module _ (e : Plan) (words : List ℕ) (ports : ℕ → Port) (b : Beside) (k j 
         let low = below_whole e x (value_word at) arena_is (omega (arith, up, c)) in
         omega (arith, low, all)
 
-    read : get_or words (base e x + value_word at) 0 ≡ value_of o (take n seen) j
+    read : slice_index words (base e x + value_word at) ≡ value_of o (take n seen) j
     read =
         let from = lies.0 in
         let up = lies.1 in
         let c = count in
         let values = facts.values in
-        sym (plain_at e words x (value_word at) (omega (arith, up, c)) ∙ plain_other e words x (value_word at) (get_or words (base e x + value_word at) 0) (omega (arith, from)))
-        ∙ ap (λ (h : List Applied). get_or bw (value_word (stamp_of o h j)) 0) taken
+        sym (plain_at e words x (value_word at) (omega (arith, up, c)) ∙ plain_other e words x (value_word at) (slice_index words (base e x + value_word at)) (omega (arith, from)))
+        ∙ ap (λ (h : List Applied). slice_index bw (value_word (stamp_of o h j))) taken
         ∙ value_behind_stamp o bw s.epoch.log j n facts.agrees (omega (arith, values, inside))
         ∙ ap (λ (h : List Applied). value_of o h j) (sym taken)
 

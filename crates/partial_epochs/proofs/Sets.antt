@@ -1,5 +1,5 @@
 -- A word of an owned arena is set.
-use Rattle.partial_epochs.proofs.{Common.{ℕ, ◌≡◌, ◌≢◌, ◌+◌, ◌-◌, ◌<◌, ◌≤◌, Bool, cond, Option, Some, None, IfSome, List, length, get_or, set, refl, sym, ap, subst, ◌∙◌, inl, inr, arith, option_map, cases_lt, lt-ltb, eqb_tells, get_or-set_other, length-set, first_free, total, put, IsToBeSet, Plan, Place, IsPlace, at_word, arena_words, base, carried_word, carried_words, component_words, control_size, control_words, current_word, packed, plain, span, set_word, Control, OwnedArena, Port, Epoch, IsPlaceWord, IsStillMarked, IsOwner, LawfulControl, MayPut, NotInto, Beside, IsArena, IsNewPart, IsSetting, IsStanding, LawfulEpochs, controls, next_epoch_word, numbers, place_now, SetsStayLawful, having_set, vacated, Stands, Loaded, ClearSlotsCountAsSet, ClearsSlots, HasClearRecords, HasClearSlots, set-get_or, slot_counter, slot_word, ◌∷◌, carried_behind, opening_behind, set_offset, opening_word, slots_open}, ClearRecords.{records_before, records_same}, Lists.{put_all, put_other, put_same, same_of}, Owning.knows_more, Places.{bases_up, counter_number, packed_arena, set_apart, set_place, slot_number, slot_offset, slot_set}, Worded.{plain_at, plain_other}}
+use Rattle.partial_epochs.proofs.{Common.{ℕ, ◌≡◌, ◌≢◌, ◌+◌, ◌-◌, ◌<◌, ◌≤◌, Bool, if◌then◌else◌, Option, Some, None, IfSome, List, length, slice_index, slice_set, refl, sym, ap, subst, ◌∙◌, inl, inr, arith, option_map, cases_lt, lt-ltb, eqb_tells, get_or-set_other, length-set, first_free, total, put, IsToBeSet, Plan, Place, IsPlace, at_word, arena_words, base, carried_word, carried_words, component_words, control_size, control_words, current_word, packed, plain, span, set_word, Control, OwnedArena, Port, Epoch, IsPlaceWord, IsStillMarked, IsOwner, LawfulControl, MayPut, NotInto, Beside, IsArena, IsNewPart, IsSetting, IsStanding, LawfulEpochs, controls, next_epoch_word, numbers, place_now, SetsStayLawful, having_set, vacated, Stands, Loaded, ClearSlotsCountAsSet, ClearsSlots, HasClearRecords, HasClearSlots, set-get_or, slot_counter, slot_word, ◌∷◌, carried_behind, opening_behind, set_offset, opening_word, slots_open}, ClearRecords.{records_before, records_same}, Lists.{put_all, put_other, put_same, same_of}, Owning.knows_more, Places.{bases_up, counter_number, packed_arena, set_apart, set_place, slot_number, slot_offset, slot_set}, Worded.{plain_at, plain_other}}
 
 -- an arena that port k owns, of which all ports are out, holds no epoch
 module _ (e : Plan) (words : List ℕ) (cs : ℕ → Control) (now : Place) (holds : ℕ → Option ℕ) (w : LawfulControl e words cs now holds) (k : ℕ) (below : k < e.ports) (o : OwnedArena)
@@ -10,7 +10,7 @@ module _ (e : Plan) (words : List ℕ) (cs : ℕ → Control) (now : Place) (hol
   pub unlike : now.arena ≢ o.arena
   unlike = let h = own in h.looked (h.order (omega (arith, done, below)))
 
-  pub not_stood : (q : ℕ) (d : Place) → q < e.ports → IsPlace e d → get_or words (at_word q) 0 ≡ packed d → q ≢ k → d.arena ≢ o.arena
+  pub not_stood : (q : ℕ) (d : Place) → q < e.ports → IsPlace e d → slice_index words (at_word q) ≡ packed d → q ≢ k → d.arena ≢ o.arena
   not_stood q d low place at ne = let h = own in (h.out q (omega (arith, done, low)) low ne).unmarked d place at
 
   abbrev holds' : ℕ → Option ℕ
@@ -20,10 +20,10 @@ module _ (e : Plan) (words : List ℕ) (cs : ℕ → Control) (now : Place) (hol
   keeps x g = put_all (λ i (t : Option ℕ). t ≡ Some g → holds i ≡ Some g) o.arena None holds x (λ _ is. absurd cc) (λ _ is. is)
 
   -- of the words where ports stand: their places aren't in the arena
-  module _ (own_place : (d : Place) → IsPlace e d → get_or words (at_word k) 0 ≡ packed d → d.arena ≢ o.arena) where
-    stood : (q : ℕ) (d : Place) → q < e.ports → IsPlace e d → get_or words (at_word q) 0 ≡ packed d → d.arena ≢ o.arena
+  module _ (own_place : (d : Place) → IsPlace e d → slice_index words (at_word k) ≡ packed d → d.arena ≢ o.arena) where
+    stood : (q : ℕ) (d : Place) → q < e.ports → IsPlace e d → slice_index words (at_word q) ≡ packed d → d.arena ≢ o.arena
     stood q d low place at = elim (eqb_tells q k) [
-      | inl same ↦ own_place d place (ap (λ i. get_or words (at_word i) 0) (sym same.1) ∙ at)
+      | inl same ↦ own_place d place (ap (λ i. slice_index words (at_word i)) (sym same.1) ∙ at)
       | inr ne ↦ not_stood q d low place at ne.1
     ]
 
@@ -113,18 +113,18 @@ module _ (e : Plan) (words : List ℕ) (ports : ℕ → Port) (b : Beside) (w : 
           let a = w.arenas y r is in
           let m = a.lawful.memory in
           let pool = w.plan.sizes.pool.0 in
-          let claimed : get_or (arena_words e words y) (slot_counter e.sizes) 0 ≡ get_or words (base e y + slot_counter e.sizes) 0 =
-          plain_at e words y (slot_counter e.sizes) (omega arith) ∙ plain_other e words y (slot_counter e.sizes) (get_or words (base e y + slot_counter e.sizes) 0) (omega arith) in
+          let claimed : slice_index (arena_words e words y) (slot_counter e.sizes) ≡ slice_index words (base e y + slot_counter e.sizes) =
+          plain_at e words y (slot_counter e.sizes) (omega arith) ∙ plain_other e words y (slot_counter e.sizes) (slice_index words (base e y + slot_counter e.sizes)) (omega arith) in
           sym (plain_at e words y (slot_word e.sizes l) (omega (arith, less))
-          ∙ plain_other e words y (slot_word e.sizes l) (get_or words (base e y + slot_word e.sizes l) 0) (omega arith))
+          ∙ plain_other e words y (slot_word e.sizes l) (slice_index words (base e y + slot_word e.sizes l)) (omega arith))
           ∙ m.unclaimed l (omega (arith, claimed, from)) less
 
 module _ (e : Plan) (words : List ℕ) (ports : ℕ → Port) (b : Beside) (k : ℕ) (o : OwnedArena) (v next : ℕ) (w : LawfulEpochs e words ports b) (below : k < e.ports)
     (owned : (ports k).control.owned ≡ Some o)
     (done : o.clean ≡ e.ports) (goes : o.set < next) (most : next ≤ first_free e.sizes + e.sizes.m) (passed : e.sizes.m ≤ (ports k).passed)
-    (value : get_or words current_word 0 ≡ packed (ports k).control.here → (i : ℕ) → o.set ≤ i → i < next → IsToBeSet e.sizes i →
-    get_or (set words (set_word e o.arena o.set) v) (set_word e o.arena i) 0 ≡ next_epoch_word e b i)
-    (clears : ClearsSlots e o next (set words (set_word e o.arena o.set) v)) (records : HasClearRecords e (set words (set_word e o.arena o.set) v) o.arena) where
+    (value : slice_index words current_word ≡ packed (ports k).control.here → (i : ℕ) → o.set ≤ i → i < next → IsToBeSet e.sizes i →
+    slice_index (slice_set words (set_word e o.arena o.set) v) (set_word e o.arena i) ≡ next_epoch_word e b i)
+    (clears : ClearsSlots e o next (slice_set words (set_word e o.arena o.set) v)) (records : HasClearRecords e (slice_set words (set_word e o.arena o.set) v) o.arena) where
   more : o.set < first_free e.sizes + e.sizes.m
   more = omega (arith, goes, most)
 
@@ -138,16 +138,16 @@ module _ (e : Plan) (words : List ℕ) (ports : ℕ → Port) (b : Beside) (k : 
   place = let pool = w.plan.sizes.pool.0 in set_place e o.arena o.set pool more
 
   abbrev after : List ℕ
-  after = set words (set_word e o.arena o.set) v
+  after = slice_set words (set_word e o.arena o.set) v
 
   spot_high : control_size e ≤ set_word e o.arena o.set
   spot_high = let p = place in let at = p.2 in omega (arith, at)
 
-  other : (i : ℕ) → i ≢ set_word e o.arena o.set → get_or after i 0 ≡ get_or words i 0
+  other : (i : ℕ) → i ≢ set_word e o.arena o.set → slice_index after i ≡ slice_index words i
   other i ne = get_or-set_other words (set_word e o.arena o.set) i v 0 ne
 
   control_is : control_words e after ≡ control_words e words
-  control_is = same_of (λ i. get_or after i 0) (λ i. get_or words i 0) 0 (control_size e) (λ i _ high. let up = spot_high in other i (omega (arith, up, high)))
+  control_is = same_of (λ i. slice_index after i) (λ i. slice_index words i) 0 (control_size e) (λ i _ high. let up = spot_high in other i (omega (arith, up, high)))
 
   -- a word of another arena
   away : (y i : ℕ) → y ≢ o.arena → i < span e → base e y + i ≢ set_word e o.arena o.set
@@ -163,11 +163,11 @@ module _ (e : Plan) (words : List ℕ) (ports : ℕ → Port) (b : Beside) (k : 
   arena_kept : (y : ℕ) → y ≢ o.arena → (r : Epoch) (F : Type 0) → IsArena e (arena_words e words y) (component_words e words y) (carried_words e words y) r F →
       IsArena e (arena_words e after y) (component_words e after y) (carried_words e after y) r F
   arena_kept y ne r F h =
-      let ws : arena_words e after y ≡ arena_words e words y = same_of (λ i. plain e i (get_or after (base e y + i) 0)) (λ i. plain e i (get_or words (base e y + i) 0)) 0 (total e.sizes)
+      let ws : arena_words e after y ≡ arena_words e words y = same_of (λ i. plain e i (slice_index after (base e y + i))) (λ i. plain e i (slice_index words (base e y + i))) 0 (total e.sizes)
       (λ i _ high. ap (plain e i) (other (base e y + i) (away y i ne (omega (arith, high))))) in
-      let cs : component_words e after y ≡ component_words e words y = same_of (λ j. get_or after (base e y + j) 0) (λ j. get_or words (base e y + j) 0) 0 e.sizes.m
+      let cs : component_words e after y ≡ component_words e words y = same_of (λ j. slice_index after (base e y + j)) (λ j. slice_index words (base e y + j)) 0 e.sizes.m
       (λ j _ high. other (base e y + j) (away y j ne (omega (arith, high)))) in
-      let ss : carried_words e after y ≡ carried_words e words y = same_of (λ j. get_or after (carried_word e y j) 0) (λ j. get_or words (carried_word e y j) 0) 0 e.sizes.m
+      let ss : carried_words e after y ≡ carried_words e words y = same_of (λ j. slice_index after (carried_word e y j)) (λ j. slice_index words (carried_word e y j)) 0 e.sizes.m
       (λ j _ high. other (carried_word e y j) (λ is. away y (total e.sizes + j) ne (omega (arith, high)) (omega (arith, is)))) in
       subst (λ (l : List ℕ). IsArena e (arena_words e after y) (component_words e after y) l r F) (sym ss)
       (subst (λ (l : List ℕ). IsArena e (arena_words e after y) l (carried_words e words y) r F) (sym cs)
@@ -185,10 +185,10 @@ module _ (e : Plan) (words : List ℕ) (ports : ℕ → Port) (b : Beside) (k : 
     | inr ne ↦ (ne.1, sym (put_other o.arena None b.holds y ne.1) ∙ is)
   ]
 
-  placed_word : (q : ℕ) → q < e.ports → (ports q).control.entering ≡ Stands → get_or (control_words e words) (at_word q) 0 ≡ packed (ports q).control.here
+  placed_word : (q : ℕ) → q < e.ports → (ports q).control.entering ≡ Stands → slice_index (control_words e words) (at_word q) ≡ packed (ports q).control.here
   placed_word q low is = subst (IsPlaceWord e (control_words e words) q (ports q).control.here) is (w.control.at q low)
 
-  own_place : (d : Place) → IsPlace e d → get_or (control_words e words) (at_word k) 0 ≡ packed d → d.arena ≢ o.arena
+  own_place : (d : Place) → IsPlace e d → slice_index (control_words e words) (at_word k) ≡ packed d → d.arena ≢ o.arena
   own_place d there at =
       let h = mine in
       let both = packed_arena e (ports k).control.here d w.plan.arenas (w.control.places k below).arena there.arena (sym (placed_word k below h.stands) ∙ at) in
@@ -225,7 +225,7 @@ module _ (e : Plan) (words : List ℕ) (ports : ℕ → Port) (b : Beside) (k : 
       let m = mine in
       let a = theirs.word in
       let c = m.word in
-      let apart : t.arena ≢ o.arena = (λ same. let moved = ap (λ y. get_or (control_words e words) (1 + e.ports + y) 0) same in ne (omega (arith, a, c, moved))) in
+      let apart : t.arena ≢ o.arena = (λ same. let moved = ap (λ y. slice_index (control_words e words) (1 + e.ports + y)) same in ne (omega (arith, a, c, moved))) in
       let up = spot_high in
       record {
         few = h.few;
@@ -242,25 +242,25 @@ module _ (e : Plan) (words : List ℕ) (ports : ℕ → Port) (b : Beside) (k : 
   own_setting = subst (λ (t : Option OwnedArena). IfSome t (IsSetting e words b (ports k))) owned (w.setting k below)
 
   -- each slot that counts as set is 0
-  cleared_then : (l : ℕ) → l < e.sizes.slots → e.sizes.slots ≤ l + next → get_or after (base e o.arena + slot_word e.sizes l) 0 ≡ 0
+  cleared_then : (l : ℕ) → l < e.sizes.slots → e.sizes.slots ≤ l + next → slice_index after (base e o.arena + slot_word e.sizes l) ≡ 0
   cleared_then l less set = elim (cases_lt (l + o.set) e.sizes.slots) [
     | inl now ↦ clears l now set
-    | inr then ↦
+    | inr thereafter ↦
         let pool = w.plan.sizes.pool.0 in
         let h = own_setting in
-        other (base e o.arena + slot_word e.sizes l) (λ same. let number = slot_number e o.arena l o.set pool less (sym same) in omega (arith, number, then)) ∙ h.cleared l less then
+        other (base e o.arena + slot_word e.sizes l) (λ same. let number = slot_number e o.arena l o.set pool less (sym same) in omega (arith, number, thereafter)) ∙ h.cleared l less thereafter
   ]
 
   -- the slots that weren't claimed are 0 behind the store too
   clear_then : (y : ℕ) → y < e.arenas → HasClearSlots e after y
   clear_then y inside l from less = elim (eqb_tells y o.arena) [
-    | inl same ↦ subst (λ z. get_or after (base e z + slot_word e.sizes l) 0 ≡ 0) (sym same.1) (own_clear l (subst (λ z. get_or after (base e z + slot_counter e.sizes) 0 ≤ l) same.1 from) less)
+    | inl same ↦ subst (λ z. slice_index after (base e z + slot_word e.sizes l) ≡ 0) (sym same.1) (own_clear l (subst (λ z. slice_index after (base e z + slot_counter e.sizes) ≤ l) same.1 from) less)
     | inr ne ↦
         let count = other (base e y + slot_counter e.sizes) (away y (slot_counter e.sizes) ne.1 (omega arith)) in
         other (base e y + slot_word e.sizes l) (away y (slot_word e.sizes l) ne.1 (omega (arith, less))) ∙ clear_before e words ports b w y inside l (omega (arith, count, from)) less
   ]
     where
-      own_clear : (l : ℕ) → get_or after (base e o.arena + slot_counter e.sizes) 0 ≤ l → l < e.sizes.slots → get_or after (base e o.arena + slot_word e.sizes l) 0 ≡ 0
+      own_clear : (l : ℕ) → slice_index after (base e o.arena + slot_counter e.sizes) ≤ l → l < e.sizes.slots → slice_index after (base e o.arena + slot_word e.sizes l) ≡ 0
       own_clear l from less = elim (cases_lt (l + next) e.sizes.slots) [
         | inr set ↦ cleared_then l less set
         | inl free ↦
@@ -289,7 +289,7 @@ module _ (e : Plan) (words : List ℕ) (ports : ℕ → Port) (b : Beside) (k : 
         few = most;
         sealed = λ _. passed;
         each = λ at i less asked.
-            let was : get_or words current_word 0 ≡ packed (ports k).control.here = sym (other current_word (omega (arith, up))) ∙ at in
+            let was : slice_index words current_word ≡ packed (ports k).control.here = sym (other current_word (omega (arith, up))) ∙ at in
             elim (cases_lt i o.set) [
               | inl low ↦ other (set_word e o.arena i) (set_apart e o.arena i o.set pool (omega (arith, low))) ∙ h.each was i low asked
               | inr from ↦ value was i from less asked
@@ -333,26 +333,26 @@ sets_stay_lawful e words ports b k o v next w below owned done goes most passed 
 pub clear_slots_count_as_set : ClearSlotsCountAsSet
 clear_slots_count_as_set e words ports b k o next w below owned done goes free passed =
     subst (λ (l : List ℕ). LawfulEpochs e l (put k (having_set (ports k) o next) ports) (vacated b o.arena)) same
-    (sets_on e words ports b k o (get_or words (set_word e o.arena o.set) 0) next w below owned done goes (omega (arith, free)) passed
-    (λ at i from less asked. ap (λ (l : List ℕ). get_or l (set_word e o.arena i) 0) same ∙ ap (λ n. get_or words n 0) (slot_set e o.arena i (omega (arith, free, less)))
+    (sets_on e words ports b k o (slice_index words (set_word e o.arena o.set)) next w below owned done goes (omega (arith, free)) passed
+    (λ at i from less asked. ap (λ (l : List ℕ). slice_index l (set_word e o.arena i)) same ∙ ap (λ n. slice_index words n) (slot_set e o.arena i (omega (arith, free, less)))
     ∙ zero (e.sizes.slots - (i + 1)) (omega (arith, free, less)) (omega (arith, free, less)) ∙ sym (slot_next i (omega (arith, free, less))))
-    (λ l now set. ap (λ (l' : List ℕ). get_or l' (base e o.arena + slot_word e.sizes l) 0) same ∙ zero l (omega (arith, now)) (omega (arith, set, free)))
+    (λ l now set. ap (λ (l' : List ℕ). slice_index l' (base e o.arena + slot_word e.sizes l)) same ∙ zero l (omega (arith, now)) (omega (arith, set, free)))
     (subst (λ (l : List ℕ). HasClearRecords e l o.arena) (sym same) (records_before e words ports b w o.arena mine.arena)))
   where
     mine : IsOwner e (control_words e words) (controls ports) (place_now b) (numbers b) k o
     mine = own e (control_words e words) (controls ports) (place_now b) (numbers b) w.control k below o owned done
 
-    same : set words (set_word e o.arena o.set) (get_or words (set_word e o.arena o.set) 0) ≡ words
+    same : slice_set words (set_word e o.arena o.set) (slice_index words (set_word e o.arena o.set)) ≡ words
     same = set-get_or words (set_word e o.arena o.set) 0
 
-    zero : (l : ℕ) → l < e.sizes.slots → get_or words (base e o.arena + slot_counter e.sizes) 0 ≤ l → get_or words (base e o.arena + slot_word e.sizes l) 0 ≡ 0
+    zero : (l : ℕ) → l < e.sizes.slots → slice_index words (base e o.arena + slot_counter e.sizes) ≤ l → slice_index words (base e o.arena + slot_word e.sizes l) ≡ 0
     zero l less from =
         let m = mine in
         clear_before e words ports b w o.arena m.arena l from less
 
     slot_next : (i : ℕ) → i < e.sizes.slots → next_epoch_word e b i ≡ 0
     slot_next i less =
-        ap (λ (c : Bool). cond c (opening_word e.sizes (opening_behind e.opening (b.log ∷ b.before)).values (set_offset e.sizes i))
-        (carried_behind e.opening (b.log ∷ b.before) (i - first_free e.sizes))) (lt-ltb i (first_free e.sizes) (omega (arith, less)))
+        ap (λ (c : Bool). if c then opening_word e.sizes (opening_behind e.opening (b.log ∷ b.before)).values (set_offset e.sizes i)
+        else carried_behind e.opening (b.log ∷ b.before) (i - first_free e.sizes)) (lt-ltb i (first_free e.sizes) (omega (arith, less)))
         ∙ ap (opening_word e.sizes (opening_behind e.opening (b.log ∷ b.before)).values) (slot_offset e.sizes i less)
         ∙ slots_open e.sizes (opening_behind e.opening (b.log ∷ b.before)).values (e.sizes.slots - (i + 1)) (omega (arith, less))

@@ -128,7 +128,7 @@ module _ (e : Plan) (words : List ℕ) (ports : ℕ → Port) (b : Beside) (k : 
   arena_then : IsArena e (arena_words e words x) (component_words e words x) (carried_words e words x) r' (x ≢ b.arena)
   arena_then =
       let list : list_of (put k y r.part) 0 e.ports ≡ around.before ++ y ∷ around.after =
-      around.then (put k y r.part) (λ i ne. put_other k y r.part i ne) ∙ ap (λ (z : Part). around.before ++ z ∷ around.after) (put_same k y r.part) in
+      around.renewed (put k y r.part) (λ i ne. put_other k y r.part i ne) ∙ ap (λ (z : Part). around.before ++ z ∷ around.after) (put_same k y r.part) in
       record {
         lawful = subst (λ (l : List Part). one.Lawful e.sizes (opening_behind e.opening r.before) (arena_words e words x) l r.log) (sym list) looks.lawful;
         numbers = λ q inside. put_all (λ i (z : Part). i < e.ports → port_of z ≡ i) k y r.part q (λ _ _. arena.numbers k below) (λ _ inside. arena.numbers q inside) inside;

@@ -1,5 +1,5 @@
 -- Each slot that is claimed, or that a port has yet to claim, follows two words claimed of the pool.
-use Rattle.partial_epochs.proofs.{Common.{ℕ, ◌≡◌, ◌+◌, ◌*◌, ◌%◌, ◌^◌, ◌<◌, ◌≤◌, ◌==◌, ◌⊎◌, Bool, true, false, cond, Option, Some, None, List, length, get_or, refl, sym, ap, subst, ◌∙◌, inl, inr, arith, ⊤, nat_lt, is_some, option_map_or, get_or-set_same, get_or-set_other, mul-le-mul_left, some_same, Step, Load, Store, Exchange, Add, Layout, IsLayout, list_counter, pool_counter, pool_end, slot_counter, slot_word, greatest_record, words_after, CoreState, advance, advance_at, after_joining, at_stage, begin_getting, expects, fits_pool, getting, pool_refused, record_size, scanning, step_at, step_of, with_getting, with_scanning, is_at_rest, is_begun, IsSound, is_sound_at, IsMachineOf, Part, core_of, Plan, count, Epoch, IsArena, IsEpochPlan, awaits_at, awaits_slot, is_claiming, announcement_size, least_announcement, join_after, join_step, JoinStage, Claiming, Storing, Joined, Spent, Change, Stage, Idle, ReadBegun, LoadingValue, UpdateBegun, GettingSet, Viewing, ClaimingRecord, StoringRecord, Exchanging, ScanBegun, StoringAnnouncement, Joining, Scanning, Leaving, Finished, size_few, view_loads, Reply}, Apart.IsApart, Lists.count_few}
+use Rattle.partial_epochs.proofs.{Common.{ℕ, ◌≡◌, ◌+◌, ◌*◌, ◌%◌, ◌^◌, ◌<◌, ◌≤◌, ◌==◌, ◌⊎◌, Bool, true, false, if◌then◌else◌, Option, Some, None, List, length, slice_index, refl, sym, ap, subst, ◌∙◌, inl, inr, arith, ⊤, nat_lt, is_some, option_map_or, get_or-set_same, get_or-set_other, mul-le-mul_left, some_same, Step, Load, Store, Exchange, Add, Layout, IsLayout, list_counter, pool_counter, pool_end, slot_counter, slot_word, greatest_record, words_after, CoreState, advance, advance_at, after_joining, at_stage, begin_getting, expects, fits_pool, getting, pool_refused, record_size, scanning, step_at, step_of, with_getting, with_scanning, is_at_rest, is_begun, IsSound, is_sound_at, IsMachineOf, Part, core_of, Plan, count, Epoch, IsArena, IsEpochPlan, awaits_at, awaits_slot, is_claiming, announcement_size, least_announcement, join_after, join_step, JoinStage, Claiming, Storing, Joined, Spent, Change, Stage, Idle, ReadBegun, LoadingValue, UpdateBegun, GettingSet, Viewing, ClaimingRecord, StoringRecord, Exchanging, ScanBegun, StoringAnnouncement, Joining, Scanning, Leaving, Finished, size_few, view_loads, Reply}, Apart.IsApart, Lists.count_few}
 use Rattle.partial_active.specs.declared.get_set.Stage.{Stage as SetStage}
 use Rattle.partial_active.specs.declared.get_set.Stage.TheVariants as set_stage
 use Rattle.partial_active.specs.GetSet as finding
@@ -11,7 +11,7 @@ abbrev pub awaits : CoreState → Bool
 awaits s = awaits_at s s.stage
 
 abbrev pub one : Bool → ℕ
-one b = cond b 1 0
+one b = if b then 1 else 0
 
 pub one_few : (b : Bool) → one b ≤ 1
 one_few true = omega arith
@@ -55,11 +55,11 @@ awaits_same c x (inl begun) = begun_none c c.stage begun.begun ∙ sym (rest_non
 awaits_same c x (inr led) = ap awaits led.is
 
 -- which of two machines comes next
-either_none : (b : Bool) (s t : CoreState) → awaits s ≡ false → awaits t ≡ false → awaits (cond b s t) ≡ false
+either_none : (b : Bool) (s t : CoreState) → awaits s ≡ false → awaits t ≡ false → awaits (if b then s else t) ≡ false
 either_none true s t h g = h
 either_none false s t h g = g
 
-stage_none : (b : Bool) (s : CoreState) (t u : Stage) → awaits_at s t ≡ false → awaits_at s u ≡ false → awaits_at s (cond b t u) ≡ false
+stage_none : (b : Bool) (s : CoreState) (t u : Stage) → awaits_at s t ≡ false → awaits_at s u ≡ false → awaits_at s (if b then t else u) ≡ false
 stage_none true s t u h g = h
 stage_none false s t u h g = g
 
@@ -68,33 +68,33 @@ goes_on None s t h g = g
 goes_on (Some step) s t h g = h
 
 module _ (z : Layout) (sizes : IsLayout z) (words : List ℕ) (slots_there : slot_counter z < length words) (pool_there : pool_counter z < length words)
-    (slots_small : get_or words (slot_counter z) 0 < 2 ^ 32) (pool_small : get_or words (pool_counter z) 0 < 2 ^ 32) where
+    (slots_small : slice_index words (slot_counter z) < 2 ^ 32) (pool_small : slice_index words (pool_counter z) < 2 ^ 32) where
   -- what a step leaves of the two counters
   abbrev pub Counted : Bool → Bool → List ℕ → Type 0
   Counted before behind words' =
-      least_announcement * (get_or words' (slot_counter z) 0 + one behind) + get_or words (pool_counter z) 0
-      ≤ least_announcement * (get_or words (slot_counter z) 0 + one before) + get_or words' (pool_counter z) 0
+      least_announcement * (slice_index words' (slot_counter z) + one behind) + slice_index words (pool_counter z)
+      ≤ least_announcement * (slice_index words (slot_counter z) + one before) + slice_index words' (pool_counter z)
 
-  counted_same : (words' : List ℕ) (b : Bool) → get_or words' (slot_counter z) 0 ≡ get_or words (slot_counter z) 0 → get_or words' (pool_counter z) 0 ≡ get_or words (pool_counter z) 0 →
+  counted_same : (words' : List ℕ) (b : Bool) → slice_index words' (slot_counter z) ≡ slice_index words (slot_counter z) → slice_index words' (pool_counter z) ≡ slice_index words (pool_counter z) →
       Counted b false words'
   counted_same words' b slots pool = omega (arith, slots, pool)
 
-  counted_on : (words' : List ℕ) (c : Bool) → get_or words' (slot_counter z) 0 ≡ get_or words (slot_counter z) 0 → get_or words' (pool_counter z) 0 ≡ get_or words (pool_counter z) 0 →
+  counted_on : (words' : List ℕ) (c : Bool) → slice_index words' (slot_counter z) ≡ slice_index words (slot_counter z) → slice_index words' (pool_counter z) ≡ slice_index words (pool_counter z) →
       Counted true c words'
   counted_on words' c slots pool = let few = one_few c in omega (arith, few, slots, pool)
 
   -- a quiet step changes neither
   quiet : (step : Step) → IsApart z step → IsQuiet z step →
-      (get_or (words_after words step) (slot_counter z) 0 ≡ get_or words (slot_counter z) 0) × (get_or (words_after words step) (pool_counter z) 0 ≡ get_or words (pool_counter z) 0)
+      (slice_index (words_after words step) (slot_counter z) ≡ slice_index words (slot_counter z)) × (slice_index (words_after words step) (pool_counter z) ≡ slice_index words (pool_counter z))
   quiet (Load w) apart h = (refl, refl)
   quiet (Store w v) apart h = (get_or-set_other words w (slot_counter z) v 0 (omega (arith, apart)), get_or-set_other words w (pool_counter z) v 0 (omega (arith, apart)))
   quiet (Exchange w old new) apart h = (
-    get_or-set_other words w (slot_counter z) (cond (get_or words w 0 == old) new (get_or words w 0)) 0 (omega (arith, apart)),
-    get_or-set_other words w (pool_counter z) (cond (get_or words w 0 == old) new (get_or words w 0)) 0 (omega (arith, apart)),
+    get_or-set_other words w (slot_counter z) (if slice_index words w == old then new else slice_index words w) 0 (omega (arith, apart)),
+    get_or-set_other words w (pool_counter z) (if slice_index words w == old then new else slice_index words w) 0 (omega (arith, apart)),
   )
   quiet (Add w n) apart h = (
-    get_or-set_other words w (slot_counter z) ((get_or words w 0 + n) % 2 ^ 64) 0 (omega (arith, h)),
-    get_or-set_other words w (pool_counter z) ((get_or words w 0 + n) % 2 ^ 64) 0 (omega (arith, h)),
+    get_or-set_other words w (slot_counter z) ((slice_index words w + n) % 2 ^ 64) 0 (omega (arith, h)),
+    get_or-set_other words w (pool_counter z) ((slice_index words w + n) % 2 ^ 64) 0 (omega (arith, h)),
   )
 
   quiet_none : (step : Step) (b : Bool) → IsApart z step → IsQuiet z step → Counted b false (words_after words step)
@@ -105,25 +105,25 @@ module _ (z : Layout) (sizes : IsLayout z) (words : List ℕ) (slots_there : slo
   pool_claimed n b few some =
       let m = sizes.components.1 in
       let most = one_few b in
-      let slots : get_or (words_after words (Add (pool_counter z) n)) (slot_counter z) 0 ≡ get_or words (slot_counter z) 0 =
-      get_or-set_other words (pool_counter z) (slot_counter z) ((get_or words (pool_counter z) 0 + n) % 2 ^ 64) 0 (omega arith) in
-      let pool : get_or (words_after words (Add (pool_counter z) n)) (pool_counter z) 0 ≡ (get_or words (pool_counter z) 0 + n) % 2 ^ 64 =
-      get_or-set_same words (pool_counter z) ((get_or words (pool_counter z) 0 + n) % 2 ^ 64) 0 pool_there in
-      let is : (get_or words (pool_counter z) 0 + n) % 2 ^ 64 ≡ get_or words (pool_counter z) 0 + n = omega (arith, few, m, pool_small) in
+      let slots : slice_index (words_after words (Add (pool_counter z) n)) (slot_counter z) ≡ slice_index words (slot_counter z) =
+      get_or-set_other words (pool_counter z) (slot_counter z) ((slice_index words (pool_counter z) + n) % 2 ^ 64) 0 (omega arith) in
+      let pool : slice_index (words_after words (Add (pool_counter z) n)) (pool_counter z) ≡ (slice_index words (pool_counter z) + n) % 2 ^ 64 =
+      get_or-set_same words (pool_counter z) ((slice_index words (pool_counter z) + n) % 2 ^ 64) 0 pool_there in
+      let is : (slice_index words (pool_counter z) + n) % 2 ^ 64 ≡ slice_index words (pool_counter z) + n = omega (arith, few, m, pool_small) in
       omega (arith, slots, pool, is, most, some)
 
   -- the claim of a slot
   slot_claimed : Counted true false (words_after words (Add (slot_counter z) 1))
   slot_claimed =
-      let slots : get_or (words_after words (Add (slot_counter z) 1)) (slot_counter z) 0 ≡ (get_or words (slot_counter z) 0 + 1) % 2 ^ 64 =
-      get_or-set_same words (slot_counter z) ((get_or words (slot_counter z) 0 + 1) % 2 ^ 64) 0 slots_there in
-      let is : (get_or words (slot_counter z) 0 + 1) % 2 ^ 64 ≡ get_or words (slot_counter z) 0 + 1 = omega (arith, slots_small) in
-      let pool : get_or (words_after words (Add (slot_counter z) 1)) (pool_counter z) 0 ≡ get_or words (pool_counter z) 0 =
-      get_or-set_other words (slot_counter z) (pool_counter z) ((get_or words (slot_counter z) 0 + 1) % 2 ^ 64) 0 (omega arith) in
+      let slots : slice_index (words_after words (Add (slot_counter z) 1)) (slot_counter z) ≡ (slice_index words (slot_counter z) + 1) % 2 ^ 64 =
+      get_or-set_same words (slot_counter z) ((slice_index words (slot_counter z) + 1) % 2 ^ 64) 0 slots_there in
+      let is : (slice_index words (slot_counter z) + 1) % 2 ^ 64 ≡ slice_index words (slot_counter z) + 1 = omega (arith, slots_small) in
+      let pool : slice_index (words_after words (Add (slot_counter z) 1)) (pool_counter z) ≡ slice_index words (pool_counter z) =
+      get_or-set_other words (slot_counter z) (pool_counter z) ((slice_index words (slot_counter z) + 1) % 2 ^ 64) 0 (omega arith) in
       omega (arith, slots, is, pool)
 
 module _ (s : CoreState) (sizes : IsLayout s.sizes) (sound : IsSound s) (words : List ℕ) (slots_there : slot_counter s.sizes < length words) (pool_there : pool_counter s.sizes < length words)
-    (slots_small : get_or words (slot_counter s.sizes) 0 < 2 ^ 32) (pool_small : get_or words (pool_counter s.sizes) 0 < 2 ^ 32) (x : ℕ) where
+    (slots_small : slice_index words (slot_counter s.sizes) < 2 ^ 32) (pool_small : slice_index words (pool_counter s.sizes) < 2 ^ 32) (x : ℕ) where
   abbrev C : Bool → Bool → List ℕ → Type 0
   C = Counted s.sizes sizes words slots_there pool_there slots_small pool_small
 
@@ -149,14 +149,14 @@ module _ (s : CoreState) (sizes : IsLayout s.sizes) (sound : IsSound s) (words :
   joined_none (Joined slot) none is = refl
   joined_none Spent none is = refl
 
-  claimed_none : (b : Bool) → is_claiming (cond b (Storing x) Spent) ≡ false
+  claimed_none : (b : Bool) → is_claiming (if b then Storing x else Spent) ≡ false
   claimed_none true = refl
   claimed_none false = refl
 
   joining : (j : JoinStage) → s.join.stage ≡ j → s.stage ≡ Joining → s.join.sizes ≡ s.sizes → (step : Step) → join_step s.join.sizes s.join.announcement j ≡ Some step → IsApart s.sizes step →
       C (is_claiming j) (awaits (after_joining (record s { join = record s.join { stage = join_after s.join.sizes j x } }) (join_after s.join.sizes j x))) (words_after words step)
   joining Claiming at is same step due apart =
-      let none = joined_none (cond (nat_lt x s.join.sizes.slots) (Storing x) Spent) (claimed_none (nat_lt x s.join.sizes.slots)) is in
+      let none = joined_none (if nat_lt x s.join.sizes.slots then Storing x else Spent) (claimed_none (nat_lt x s.join.sizes.slots)) is in
       subst (λ v. C true v (words_after words step)) (sym none)
       (subst (λ (t : Step). C true false (words_after words t)) (some_same (ap (λ (y : Layout). Some (Add (slot_counter y) 1)) (sym same) ∙ due))
       (slot_claimed s.sizes sizes words slots_there pool_there slots_small pool_small))
@@ -166,7 +166,7 @@ module _ (s : CoreState) (sizes : IsLayout s.sizes) (sound : IsSound s) (words :
   joining (Joined slot) at is same step due apart = absurd cc
   joining Spent at is same step due apart = absurd cc
 
-  leaving_quiet : (b : Bool) (w : ℕ) (step : Step) → cond b None (Some (Store w 1)) ≡ Some step → IsQuiet s.sizes step
+  leaving_quiet : (b : Bool) (w : ℕ) (step : Step) → (if b then None else Some (Store w 1)) ≡ Some step → IsQuiet s.sizes step
   leaving_quiet true w step e = absurd cc
   leaving_quiet false w step e = subst (IsQuiet s.sizes) (some_same e) tt
 
@@ -179,7 +179,7 @@ module _ (s : CoreState) (sizes : IsLayout s.sizes) (sound : IsSound s) (words :
   counted_at (GettingSet c old) is here step due apart =
       let t : CoreState = with_getting s (finding.advance_set (getting s) x) in
       silent (GettingSet c old) step false
-      (goes_on (finding.set_step_due t.get_set) t (record t { embedded = viewing.fresh_view t.sizes true; stage = cond (length t.found.indices == 0) (ClaimingRecord c old) (Viewing c old) })
+      (goes_on (finding.set_step_due t.get_set) t (record t { embedded = viewing.fresh_view t.sizes true; stage = (if length t.found.indices == 0 then ClaimingRecord c old else Viewing c old) })
       (ap (awaits_at t) is)
       (stage_none (length t.found.indices == 0) (record t { embedded = viewing.fresh_view t.sizes true }) (ClaimingRecord c old) (Viewing c old) refl refl)) apart
       (subst (λ (y : Layout). IsQuiet y step) here.2 (getting_quiet s.get_set.sizes s.get_set.head s.get_set.stage step due))
@@ -215,14 +215,14 @@ module _ (s : CoreState) (sizes : IsLayout s.sizes) (sound : IsSound s) (words :
 
 -- what is claimed of the pool lies within it
 pub pool_within : (e : Plan) (words components carried : List ℕ) (r : Epoch) (f : Type 0) → IsEpochPlan e → IsArena e words components carried r f →
-    get_or words (pool_counter e.sizes) 0 ≤ pool_end e.sizes
+    slice_index words (pool_counter e.sizes) ≤ pool_end e.sizes
 pool_within e words components carried r f plan arena =
     let reserve = arena.reserve in
     let limit = plan.limit in
     let times : greatest_record e.sizes * count r.over 0 e.ports ≤ greatest_record e.sizes * e.ports = mul-le-mul_left (greatest_record e.sizes) (count_few r.over 0 e.ports) in
     omega (arith, reserve, limit, times)
 
-pub pool_small : (e : Plan) (words components carried : List ℕ) (r : Epoch) (f : Type 0) → IsEpochPlan e → IsArena e words components carried r f → get_or words (pool_counter e.sizes) 0 < 2 ^ 32
+pub pool_small : (e : Plan) (words components carried : List ℕ) (r : Epoch) (f : Type 0) → IsEpochPlan e → IsArena e words components carried r f → slice_index words (pool_counter e.sizes) < 2 ^ 32
 pool_small e words components carried r f plan arena =
     let within = pool_within e words components carried r f plan arena in
     let m = plan.sizes.components.1 in

@@ -1,16 +1,16 @@
 -- A port takes an arena and gives it back, finds the others elsewhere, and loads their marks.
-use Rattle.partial_epochs.proofs.{Common.{ℕ, ◌≡◌, ◌≢◌, ◌+◌, ◌<◌, ◌≤◌, ◌==◌, ◌⊎◌, Bool, true, false, cond, Option, Some, None, IfSome, List, length, get_or, set, refl, sym, ap, subst, ◌∙◌, inl, inr, arith, eqb_tells, get_or-set_same, get_or-set_other, length-set, put, Plan, Place, IsPlace, at_word, control_size, control_words, current_word, entering_mark, marked, own_word, packed, arena_limit, Control, Entering, OwnedArena, Port, Stands, Marks, Loaded, IsPlaceWord, IsEarlier, IsOut, IsOwner, LawfulControl, MayPut, Beside, IsSetting, IsStanding, LawfulEpochs, controls, numbers, place_now, GivesStayLawful, MarksAreLoaded, OthersAreElsewhere, OwnersLookAway, TakesStayLawful, at_next_port, having_given, having_loaded, having_put, just_taken, owning_port, having_passed}, Entering.{control_lifted, current_is, cw_at, cw_long, not_marked}, Lists.{put_all, set_of}, Owning.knows_more, Places.packed_arena, Present.same_place}
+use Rattle.partial_epochs.proofs.{Common.{ℕ, ◌≡◌, ◌≢◌, ◌+◌, ◌<◌, ◌≤◌, ◌==◌, ◌⊎◌, Bool, true, false, if◌then◌else◌, Option, Some, None, IfSome, List, length, slice_index, slice_set, refl, sym, ap, subst, ◌∙◌, inl, inr, arith, eqb_tells, get_or-set_same, get_or-set_other, length-set, put, Plan, Place, IsPlace, at_word, control_size, control_words, current_word, entering_mark, marked, own_word, packed, arena_limit, Control, Entering, OwnedArena, Port, Stands, Marks, Loaded, IsPlaceWord, IsEarlier, IsOut, IsOwner, LawfulControl, MayPut, Beside, IsSetting, IsStanding, LawfulEpochs, controls, numbers, place_now, GivesStayLawful, MarksAreLoaded, OthersAreElsewhere, OwnersLookAway, TakesStayLawful, at_next_port, having_given, having_loaded, having_put, just_taken, owning_port, having_passed}, Entering.{control_lifted, current_is, cw_at, cw_long, not_marked}, Lists.{put_all, set_of}, Owning.knows_more, Places.packed_arena, Present.same_place}
 
 -- the owner word of an arena that nobody owns is set
 module _ (e : Plan) (words : List ℕ) (cs : ℕ → Control) (now : Place) (holds : ℕ → Option ℕ) (w : LawfulControl e words cs now holds) (x v : ℕ)
     (nobody : (q : ℕ) (o : OwnedArena) → q < e.ports → (cs q).owned ≡ Some o → o.arena ≢ x) where
   abbrev words' : List ℕ
-  words' = set words (own_word e x) v
+  words' = slice_set words (own_word e x) v
 
-  other : (i : ℕ) → i ≢ own_word e x → get_or words' i 0 ≡ get_or words i 0
+  other : (i : ℕ) → i ≢ own_word e x → slice_index words' i ≡ slice_index words i
   other i ne = get_or-set_other words (own_word e x) i v 0 ne
 
-  at_same : (q : ℕ) → q < e.ports → get_or words' (at_word q) 0 ≡ get_or words (at_word q) 0
+  at_same : (q : ℕ) → q < e.ports → slice_index words' (at_word q) ≡ slice_index words (at_word q)
   at_same q low = other (at_word q) (omega (arith, low))
 
   out_then : (y q : ℕ) → q < e.ports → IsOut e words cs y q → IsOut e words' cs y q
@@ -66,12 +66,12 @@ module _ (e : Plan) (words : List ℕ) (cs : ℕ → Control) (now : Place) (hol
 -- a port takes an arena
 module _ (e : Plan) (words : List ℕ) (cs : ℕ → Control) (now : Place) (holds : ℕ → Option ℕ) (w : LawfulControl e words cs now holds) (k x : ℕ) (below : k < e.ports)
     (long : length words ≡ control_size e) (stands : (cs k).entering ≡ Stands) (inside : x < e.arenas) (apart : (cs k).here.arena ≢ x)
-    (zero_there : get_or words (own_word e x) 0 ≡ 0) where
+    (zero_there : slice_index words (own_word e x) ≡ 0) where
   nobody : (q : ℕ) (o : OwnedArena) → q < e.ports → (cs q).owned ≡ Some o → o.arena ≢ x
   nobody q o low is same =
       let own : IsOwner e words cs now holds q o = subst (λ (t : Option OwnedArena). IfSome t (IsOwner e words cs now holds q)) is (w.owners q low) in
       let word = own.word in
-      let there = ap (λ y. get_or words (own_word e y) 0) same in
+      let there = ap (λ y. slice_index words (own_word e y)) same in
       omega (arith, word, there, zero_there)
 
   abbrev c : Control
@@ -84,7 +84,7 @@ module _ (e : Plan) (words : List ℕ) (cs : ℕ → Control) (now : Place) (hol
       cc
 
   abbrev taken_words : List ℕ
-  taken_words = set words (own_word e x) (k + 1)
+  taken_words = slice_set words (own_word e x) (k + 1)
 
   pub taken_on : LawfulControl e taken_words (put k c cs) now holds
   taken_on = knows_more e taken_words cs now holds (own_word_set e words cs now holds w x (k + 1) nobody) k below c refl refl (w.past k below) (λ j a may. absurd (no_puts j a may))
@@ -125,10 +125,10 @@ module _ (e : Plan) (words : List ℕ) (cs : ℕ → Control) (now : Place) (hol
       let theirs : IsOwner e words cs now holds q t = subst (λ (u : Option OwnedArena). IfSome u (IsOwner e words cs now holds q)) is (w.owners q low) in
       let mine = own.word in
       let word = theirs.word in
-      let there = ap (λ y. get_or words (own_word e y) 0) same in
+      let there = ap (λ y. slice_index words (own_word e y)) same in
       ne (omega (arith, word, mine, there))) low
 
-  pub given_on : LawfulControl e (set words (own_word e o.arena) 0) (put k freed cs) now holds
+  pub given_on : LawfulControl e (slice_set words (own_word e o.arena) 0) (put k freed cs) now holds
   given_on = own_word_set e words (put k freed cs) now holds freed_on o.arena 0 others_own
 
 -- a port that owns an arena finds another one elsewhere, or loads its mark
@@ -137,7 +137,7 @@ module _ (e : Plan) (words : List ℕ) (cs : ℕ → Control) (now : Place) (hol
   own_here : IsOwner e words cs now holds k o
   own_here = subst (λ (t : Option OwnedArena). IfSome t (IsOwner e words cs now holds k)) owned (w.owners k below)
 
-  module _ (looked : o.looked ≡ true) (none : o.set ≡ 0) (d : Place) (place : IsPlace e d) (there : get_or words (at_word o.clean) 0 ≡ packed d) (apart : d.arena ≢ o.arena) where
+  module _ (looked : o.looked ≡ true) (none : o.set ≡ 0) (d : Place) (place : IsPlace e d) (there : slice_index words (at_word o.clean) ≡ packed d) (apart : d.arena ≢ o.arena) where
     abbrev done : Control
     done = record (cs k) { owned = Some (at_next_port o) }
 
@@ -179,22 +179,22 @@ module _ (e : Plan) (words : List ℕ) (cs : ℕ → Control) (now : Place) (hol
         last p less low ne (inr apart) = let other = apart.1 in own_here.out p (omega (arith, less, other)) low ne
 
   -- a word with the mark is that of a port that is entering
-  mark_is : (t : Entering) → (cs o.clean).entering ≡ t → entering_mark ≤ get_or words (at_word o.clean) 0 → IsPlaceWord e words o.clean (cs o.clean).here t →
-      (get_or words (at_word o.clean) 0 ≡ marked (cs o.clean).here) × IsEarlier (cs o.clean).here (cs o.clean).here t
+  mark_is : (t : Entering) → (cs o.clean).entering ≡ t → entering_mark ≤ slice_index words (at_word o.clean) → IsPlaceWord e words o.clean (cs o.clean).here t →
+      (slice_index words (at_word o.clean) ≡ marked (cs o.clean).here) × IsEarlier (cs o.clean).here (cs o.clean).here t
   mark_is Stands is high h = let place = w.places o.clean within in let r = place.epoch in let x = place.arena in absurd (omega (arith, high, h, few, r, x))
   mark_is Marks is high (inl h) = (h, omega arith)
   mark_is (Loaded f) is high (inl h) = (h, omega arith)
   mark_is Marks is high (inr h) = let place = h.1 in let r = place.epoch in let x = place.arena in let at = h.2 in absurd (omega (arith, high, at, few, r, x))
   mark_is (Loaded f) is high (inr h) = let place = h.1 in let r = place.epoch in let x = place.arena in let at = h.2 in absurd (omega (arith, high, at, few, r, x))
 
-  module _ (high : entering_mark ≤ get_or words (at_word o.clean) 0) where
+  module _ (high : entering_mark ≤ slice_index words (at_word o.clean)) where
     abbrev loaded_owned : OwnedArena
     loaded_owned = having_loaded o (cs o.clean).here
 
     abbrev loading : Control
     loading = record (cs k) { owned = Some loaded_owned }
 
-    pub found_mark : get_or words (at_word o.clean) 0 ≡ marked (cs o.clean).here
+    pub found_mark : slice_index words (at_word o.clean) ≡ marked (cs o.clean).here
     found_mark = (mark_is (cs o.clean).entering refl high (w.at o.clean within)).0
 
     no_puts_loading : (j : ℕ) (a : Place) → MayPut loading j a → ⊥
@@ -224,17 +224,17 @@ module _ (e : Plan) (words : List ℕ) (cs : ℕ → Control) (now : Place) (hol
 module _ (e : Plan) (words : List ℕ) (ports : ℕ → Port) (b : Beside) (k i v : ℕ) (p' : Port) (w : LawfulEpochs e words ports b) (below : k < e.ports) (inside : i < control_size e)
     (later : 0 < i) where
   abbrev word_set : List ℕ
-  word_set = set words i v
+  word_set = slice_set words i v
 
-  set_control : control_words e word_set ≡ set (control_words e words) i v
+  set_control : control_words e word_set ≡ slice_set (control_words e words) i v
   set_control =
       let count = w.count in
       let zero_here : 0 + i ≡ i = omega arith in
-      set_of (λ j. get_or words j 0) (λ j. get_or word_set j 0) 0 (control_size e) i inside (λ j ne. get_or-set_other words i j v 0 (omega (arith, ne)))
-      ∙ ap (λ j. set (control_words e words) i (get_or word_set j 0)) zero_here
-      ∙ ap (λ u. set (control_words e words) i u) (get_or-set_same words i v 0 (omega (arith, count, inside)))
+      set_of (λ j. slice_index words j) (λ j. slice_index word_set j) 0 (control_size e) i inside (λ j ne. get_or-set_other words i j v 0 (omega (arith, ne)))
+      ∙ ap (λ j. slice_set (control_words e words) i (slice_index word_set j)) zero_here
+      ∙ ap (λ u. slice_set (control_words e words) i u) (get_or-set_same words i v 0 (omega (arith, count, inside)))
 
-  pub word_lifted : LawfulControl e (set (control_words e words) i v) (put k p'.control (controls ports)) (place_now b) (numbers b) → IfSome p'.control.owned (IsSetting e word_set b p') →
+  pub word_lifted : LawfulControl e (slice_set (control_words e words) i v) (put k p'.control (controls ports)) (place_now b) (numbers b) → IfSome p'.control.owned (IsSetting e word_set b p') →
       (p'.control.entering ≡ Stands → IsStanding b k p') → (ports k).control.here.epoch ≤ p'.control.here.epoch → LawfulEpochs e word_set (put k p' ports) b
   word_lifted control settled stand up =
       control_lifted e words word_set (λ j from. get_or-set_other words i j v 0 (omega (arith, from, inside))) ports b k p' w (length-set words i v)
@@ -259,12 +259,12 @@ setting_is e words ports b k o w below owned = subst (λ (t : Option OwnedArena)
 pub takes_stay_lawful : TakesStayLawful
 takes_stay_lawful e words ports b k x w below stands free inside apart empty =
     let at = cw_at e words ports b k (ports k) 0 w below (own_word e x) (omega (arith, inside)) in
-    let won : (get_or words (own_word e x) 0 == 0) ≡ true = (elim (eqb_tells (get_or words (own_word e x) 0) 0) [ inl t ↦ t.0 | inr f ↦ absurd (f.1 empty) ]) in
+    let won : (slice_index words (own_word e x) == 0) ≡ true = (elim (eqb_tells (slice_index words (own_word e x)) 0) [ inl t ↦ t.0 | inr f ↦ absurd (f.1 empty) ]) in
     let p' : Port = owning_port (ports k) (just_taken x) in
-    subst (λ (t : Bool). LawfulEpochs e (set words (own_word e x) (cond t (k + 1) (get_or words (own_word e x) 0))) (put k p' ports) b) (sym won)
+    subst (λ (t : Bool). LawfulEpochs e (slice_set words (own_word e x) (if t then k + 1 else slice_index words (own_word e x))) (put k p' ports) b) (sym won)
     (word_lifted e words ports b k (own_word e x) (k + 1) p' w below (omega (arith, inside)) (omega arith)
     (taken_on e (control_words e words) (controls ports) (place_now b) (numbers b) w.control k x below (cw_long e words) stands inside apart (at ∙ empty))
-    (nothing_set e (set words (own_word e x) (k + 1)) b p' (just_taken x) refl) (λ _. still b k (ports k) (Some (just_taken x)) (w.standing k below stands)) (omega arith))
+    (nothing_set e (slice_set words (own_word e x) (k + 1)) b p' (just_taken x) refl) (λ _. still b k (ports k) (Some (just_taken x)) (w.standing k below stands)) (omega arith))
 
 pub gives_stay_lawful : GivesStayLawful
 gives_stay_lawful e words ports b k o w below owned =
@@ -291,7 +291,7 @@ pub marks_are_loaded : MarksAreLoaded
 marks_are_loaded e words ports b k o w below owned within high =
     let own = owner_is e words ports b k o w below owned in
     let at = cw_at e words ports b k (ports k) 0 w below (at_word o.clean) (omega (arith, within)) in
-    let raised : entering_mark ≤ get_or (control_words e words) (at_word o.clean) 0 = omega (arith, high, at) in
+    let raised : entering_mark ≤ slice_index (control_words e words) (at_word o.clean) = omega (arith, high, at) in
     let s = setting_is e words ports b k o w below owned in
     let n : OwnedArena = having_loaded o (ports o.clean).control.here in (
       sym at ∙ found_mark e (control_words e words) (controls ports) (place_now b) (numbers b) w.control k below o w.plan.arenas owned within raised,
@@ -305,7 +305,7 @@ owners_look_away e words ports b k o w below owned other =
     let own = owner_is e words ports b k o w below owned in
     let s = w.standing k below own.stands in
     let t = w.setting k below in
-    let at : get_or (control_words e words) (at_word k) 0 ≡ packed (ports k).control.here = subst (IsPlaceWord e (control_words e words) k (ports k).control.here) own.stands (w.control.at k below) in
+    let at : slice_index (control_words e words) (at_word k) ≡ packed (ports k).control.here = subst (IsPlaceWord e (control_words e words) k (ports k).control.here) own.stands (w.control.at k below) in
     let c : Control = record (ports k).control { past = true } in
     let earlier : (ports k).control.here.epoch < length b.before = (elim (w.control.earlier (ports k).control.here.arena (ports k).control.here.epoch
     (w.control.stands k (ports k).control.here below (w.control.places k below) at)) [

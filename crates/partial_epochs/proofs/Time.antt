@@ -1,5 +1,5 @@
 -- An entering port comes to no older epoch than the one that was the current one as it stored its mark.
-use Rattle.partial_epochs.proofs.{Common.{ℕ, ◌≡◌, ◌≢◌, ◌+◌, ◌%◌, ◌^◌, ◌<◌, ◌≤◌, ◌==◌, ◌⊎◌, Bool, true, false, cond, Some, None, List, get_or, set, refl, sym, ap, subst, ◌∙◌, inl, inr, arith, eqb_tells, get_or-set_same, get_or-set_other, some_same, words_after, Step, Load, Store, Exchange, Add, put, IsPlace, Place, Plan, at_word, base, control_words, current_word, marked, packed, placed_step, set_word, Control, OwnedArena, Port, Marks, Loaded, IsPlaceWord, IsEarlier, MayPut, Beside, LawfulEpochs, place_now, arrived_port, having_loaded, having_looked, having_put, owning_port, having_published, next_place, ArrivalsKeepTime, AsidesKeepTime, EntriesKeepTime, IsBesideTime, KeepsTime, LoadedMarksKeepTime, LooksKeepTime, MarksKeepTime, OpeningsKeepTime, PublishesKeepTime, PutsKeepTime, StepsKeepPlaces}, Entering.{cw_at, current_is, held_mark, marked_epoch, not_marked}, Lists.{put_all, put_other, put_same}, Places.packed_arena}
+use Rattle.partial_epochs.proofs.{Common.{ℕ, ◌≡◌, ◌≢◌, ◌+◌, ◌%◌, ◌^◌, ◌<◌, ◌≤◌, ◌==◌, ◌⊎◌, Bool, true, false, if◌then◌else◌, Some, None, List, slice_index, slice_set, refl, sym, ap, subst, ◌∙◌, inl, inr, arith, eqb_tells, get_or-set_same, get_or-set_other, some_same, words_after, Step, Load, Store, Exchange, Add, put, IsPlace, Place, Plan, at_word, base, control_words, current_word, marked, packed, placed_step, set_word, Control, OwnedArena, Port, Marks, Loaded, IsPlaceWord, IsEarlier, MayPut, Beside, LawfulEpochs, place_now, arrived_port, having_loaded, having_looked, having_put, owning_port, having_published, next_place, ArrivalsKeepTime, AsidesKeepTime, EntriesKeepTime, IsBesideTime, KeepsTime, LoadedMarksKeepTime, LooksKeepTime, MarksKeepTime, OpeningsKeepTime, PublishesKeepTime, PutsKeepTime, StepsKeepPlaces}, Entering.{cw_at, current_is, held_mark, marked_epoch, not_marked}, Lists.{put_all, put_other, put_same}, Places.packed_arena}
 
 -- an arena that a port owns, and none
 none_some : (o : OwnedArena) → None ≡ Some o → ⊥
@@ -29,7 +29,7 @@ set_puts c d o next j a was is may =
     }
 
 pub asides_keep_time : AsidesKeepTime
-asides_keep_time e words words' ports ports' now then since s t = record {
+asides_keep_time e words words' ports ports' now thereafter since s t = record {
   past = λ k low. let was = t.past k low in let up = s.later in omega (arith, was, up);
   loaded = λ k c low is. t.loaded k c low (sym (s.entering k low) ∙ is);
   put = λ k c low place at. t.put k c low place (sym (s.at k low) ∙ at);
@@ -38,10 +38,10 @@ asides_keep_time e words words' ports ports' now then since s t = record {
 }
 
 -- port k alone changes, and stays where it is
-module _ (e : Plan) (words words' : List ℕ) (ports : ℕ → Port) (k : ℕ) (p : Port) (now then : Place) (at : (q : ℕ) → q < e.ports → get_or words' (at_word q) 0 ≡ get_or words (at_word q) 0)
+module _ (e : Plan) (words words' : List ℕ) (ports : ℕ → Port) (k : ℕ) (p : Port) (now thereafter : Place) (at : (q : ℕ) → q < e.ports → slice_index words' (at_word q) ≡ slice_index words (at_word q))
     (here : p.control.here ≡ (ports k).control.here) (entering : p.control.entering ≡ (ports k).control.entering) (puts : (j : ℕ) (a : Place) → MayPut p.control j a → MayPut (ports k).control j a)
-    (later : now.epoch ≤ then.epoch) where
-  pub one_aside : IsBesideTime e words words' ports (put k p ports) now then
+    (later : now.epoch ≤ thereafter.epoch) where
+  pub one_aside : IsBesideTime e words words' ports (put k p ports) now thereafter
   one_aside = record {
     at = at;
     here = λ q _. put_all (λ i (r : Port). r.control.here ≡ (ports i).control.here) k p ports q (λ _. here) (λ _. refl);
@@ -74,12 +74,12 @@ marks_keep_time e words ports b k since w below stands free t = record {
     since' = put k (place_now b).epoch since
 
     words' : List ℕ
-    words' = set words (at_word k) (marked (ports k).control.here)
+    words' = slice_set words (at_word k) (marked (ports k).control.here)
 
-    other : (q : ℕ) → q ≢ k → get_or words' (at_word q) 0 ≡ get_or words (at_word q) 0
+    other : (q : ℕ) → q ≢ k → slice_index words' (at_word q) ≡ slice_index words (at_word q)
     other q ne = get_or-set_other words (at_word k) (at_word q) (marked (ports k).control.here) 0 (omega (arith, ne))
 
-    own_word_is : get_or words' (at_word k) 0 ≡ marked (ports k).control.here
+    own_word_is : slice_index words' (at_word k) ≡ marked (ports k).control.here
     own_word_is = let count = w.count in get_or-set_same words (at_word k) (marked (ports k).control.here) 0 (omega (arith, count, below))
 
     loaded_then : (q : ℕ) (c : Place) → q < e.ports → (put k p ports q).control.entering ≡ Loaded c → (((q == k) ≡ true) × (q ≡ k)) ⊎ (((q == k) ≡ false) × (q ≢ k)) → since' q ≤ c.epoch
@@ -91,19 +91,19 @@ marks_keep_time e words ports b k since w below stands free t = record {
         let so = put_other k (place_now b).epoch since q ne.1 in
         omega (arith, was, so)
 
-    put_then : (q : ℕ) (c : Place) → q < e.ports → IsPlace e c → get_or words' (at_word q) 0 ≡ packed c → (((q == k) ≡ true) × (q ≡ k)) ⊎ (((q == k) ≡ false) × (q ≢ k)) → since' q ≤ c.epoch
-    put_then q c low place at (inl same) = absurd (not_marked e c (ports k).control.here w.plan.arenas place (sym at ∙ ap (λ i. get_or words' (at_word i) 0) same.1 ∙ own_word_is))
+    put_then : (q : ℕ) (c : Place) → q < e.ports → IsPlace e c → slice_index words' (at_word q) ≡ packed c → (((q == k) ≡ true) × (q ≡ k)) ⊎ (((q == k) ≡ false) × (q ≢ k)) → since' q ≤ c.epoch
+    put_then q c low place at (inl same) = absurd (not_marked e c (ports k).control.here w.plan.arenas place (sym at ∙ ap (λ i. slice_index words' (at_word i)) same.1 ∙ own_word_is))
     put_then q c low place at (inr ne) =
         let was = t.put q c low place (sym (other q ne.1) ∙ at) in
         let so = put_other k (place_now b).epoch since q ne.1 in
         omega (arith, was, so)
 
-    may_then : (q j : ℕ) (a : Place) → q < e.ports → j < e.ports → MayPut (ports q).control j a → get_or words' (at_word j) 0 ≡ marked a →
+    may_then : (q j : ℕ) (a : Place) → q < e.ports → j < e.ports → MayPut (ports q).control j a → slice_index words' (at_word j) ≡ marked a →
         (((j == k) ≡ true) × (j ≡ k)) ⊎ (((j == k) ≡ false) × (j ≢ k)) → since' j ≤ (ports q).control.here.epoch
     may_then q j a inside low may at (inl same) =
         let mark = held_mark e words ports b k w below q a inside (subst (λ i. MayPut (ports q).control i a) same.1 may) in
         let early : a.epoch < (ports k).control.here.epoch = subst (IsEarlier a (ports k).control.here) stands mark.1 in
-        let even = marked_epoch e a (ports k).control.here w.plan.arenas mark.0 (w.control.places k below) (sym at ∙ ap (λ i. get_or words' (at_word i) 0) same.1 ∙ own_word_is) in
+        let even = marked_epoch e a (ports k).control.here w.plan.arenas mark.0 (w.control.places k below) (sym at ∙ ap (λ i. slice_index words' (at_word i)) same.1 ∙ own_word_is) in
         absurd (omega (arith, early, even))
     may_then q j a inside low may at (inr ne) =
         let was = t.may_put q j a inside low may (sym (other j ne.1) ∙ at) in
@@ -150,18 +150,18 @@ loaded_marks_keep_time e words ports now a k o since below t =
 -- the word of port q names the place d from then on, which no port leaves for an older one
 module _ (e : Plan) (words words' : List ℕ) (ports : ℕ → Port) (b : Beside) (k q : ℕ) (p : Port) (d : Place) (since : ℕ → ℕ)
     (w : LawfulEpochs e words ports b) (t : KeepsTime e words ports (place_now b) since)
-    (other : (i : ℕ) → i ≢ q → get_or words' (at_word i) 0 ≡ get_or words (at_word i) 0) (there : get_or words' (at_word q) 0 ≡ packed d) (place : IsPlace e d) (late : since q ≤ d.epoch)
+    (other : (i : ℕ) → i ≢ q → slice_index words' (at_word i) ≡ slice_index words (at_word i)) (there : slice_index words' (at_word q) ≡ packed d) (place : IsPlace e d) (late : since q ≤ d.epoch)
     (entering : (c : Place) → p.control.entering ≡ Loaded c → (ports k).control.entering ≡ Loaded c) (nobody : (j : ℕ) (a : Place) → MayPut p.control j a → ⊥) where
-  put_there : (i : ℕ) (c : Place) → i < e.ports → IsPlace e c → get_or words' (at_word i) 0 ≡ packed c → (((i == q) ≡ true) × (i ≡ q)) ⊎ (((i == q) ≡ false) × (i ≢ q)) → since i ≤ c.epoch
+  put_there : (i : ℕ) (c : Place) → i < e.ports → IsPlace e c → slice_index words' (at_word i) ≡ packed c → (((i == q) ≡ true) × (i ≡ q)) ⊎ (((i == q) ≡ false) × (i ≢ q)) → since i ≤ c.epoch
   put_there i c low in_range at (inl same) =
-      let both = packed_arena e d c w.plan.arenas place.arena in_range.arena (sym there ∙ sym (ap (λ n. get_or words' (at_word n) 0) same.1) ∙ at) in
+      let both = packed_arena e d c w.plan.arenas place.arena in_range.arena (sym there ∙ sym (ap (λ n. slice_index words' (at_word n)) same.1) ∙ at) in
       let even = both.0 in
       subst (λ n. since n ≤ c.epoch) (sym same.1) (omega (arith, late, even))
   put_there i c low in_range at (inr ne) = t.put i c low in_range (sym (other i ne.1) ∙ at)
 
-  may_there : (r j : ℕ) (a : Place) → r < e.ports → j < e.ports → MayPut (ports r).control j a → get_or words' (at_word j) 0 ≡ marked a →
+  may_there : (r j : ℕ) (a : Place) → r < e.ports → j < e.ports → MayPut (ports r).control j a → slice_index words' (at_word j) ≡ marked a →
       (((j == q) ≡ true) × (j ≡ q)) ⊎ (((j == q) ≡ false) × (j ≢ q)) → since j ≤ (ports r).control.here.epoch
-  may_there r j a inside low may at (inl same) = absurd (not_marked e d a w.plan.arenas place (sym there ∙ sym (ap (λ n. get_or words' (at_word n) 0) same.1) ∙ at))
+  may_there r j a inside low may at (inl same) = absurd (not_marked e d a w.plan.arenas place (sym there ∙ sym (ap (λ n. slice_index words' (at_word n)) same.1) ∙ at))
   may_there r j a inside low may at (inr ne) = t.may_put r j a inside low may (sym (other j ne.1) ∙ at)
 
   named : KeepsTime e words' (put k p ports) (place_now b) since
@@ -185,15 +185,15 @@ arrivals_keep_time e words ports b k c since w below entering t a = (
     p = arrived_port e k a.place a.before
 
     v : ℕ
-    v = cond (get_or words (at_word k) 0 == marked (ports k).control.here) (packed c) (get_or words (at_word k) 0)
+    v = if slice_index words (at_word k) == marked (ports k).control.here then packed c else slice_index words (at_word k)
 
     words' : List ℕ
-    words' = set words (at_word k) v
+    words' = slice_set words (at_word k) v
 
     place : IsPlace e a.place
     place = subst (λ (q : Port). IsPlace e q.control.here) (put_same k p ports) (a.lawful.control.places k below)
 
-    there : get_or words' (at_word k) 0 ≡ packed a.place
+    there : slice_index words' (at_word k) ≡ packed a.place
     there = sym (cw_at e words' (put k p ports) b k p 0 a.lawful below (at_word k) (omega (arith, below)))
         ∙ subst (λ (q : Port). IsPlaceWord e (control_words e words') k q.control.here q.control.entering) (put_same k p ports) (a.lawful.control.at k below)
 
@@ -210,45 +210,45 @@ puts_keep_time e words ports b k o a since w below owned low mark again there t 
     (λ j d may. not_again (having_put (ports k) o).control (record o { clean = o.clean + 1; mark = None; again = false }) j d refl refl may)
   where
     v : ℕ
-    v = cond (get_or words (at_word o.clean) 0 == marked a) (packed (ports k).control.here) (get_or words (at_word o.clean) 0)
+    v = if slice_index words (at_word o.clean) == marked a then packed (ports k).control.here else slice_index words (at_word o.clean)
 
     words' : List ℕ
-    words' = set words (at_word o.clean) v
+    words' = slice_set words (at_word o.clean) v
 
     won : v ≡ packed (ports k).control.here
-    won = elim (eqb_tells (get_or words (at_word o.clean) 0) (marked a)) [
-      | inl is ↦ ap (λ (t : Bool). cond t (packed (ports k).control.here) (get_or words (at_word o.clean) 0)) is.0
+    won = elim (eqb_tells (slice_index words (at_word o.clean)) (marked a)) [
+      | inl is ↦ ap (λ (t : Bool). if t then packed (ports k).control.here else slice_index words (at_word o.clean)) is.0
       | inr ne ↦ absurd (ne.1 there)
     ]
 
-    put_there : get_or words' (at_word o.clean) 0 ≡ packed (ports k).control.here
+    put_there : slice_index words' (at_word o.clean) ≡ packed (ports k).control.here
     put_there = let count = w.count in get_or-set_same words (at_word o.clean) v 0 (omega (arith, count, low)) ∙ won
 
 pub publishes_keep_time : PublishesKeepTime
-publishes_keep_time e words ports now then k o since below later t =
+publishes_keep_time e words ports now thereafter k o since below later t =
     let p : Port = having_published (ports k) o in
-    let v : ℕ = cond (get_or words current_word 0 == packed (ports k).control.here) (packed (next_place (ports k).control.here o.arena)) (get_or words current_word 0) in
-    asides_keep_time e words (set words current_word v) ports (put k p ports) now then since
-    (one_aside e words (set words current_word v) ports k p now then (λ q low. get_or-set_other words current_word (at_word q) v 0 (omega arith)) refl refl
+    let v : ℕ = (if slice_index words current_word == packed (ports k).control.here then packed (next_place (ports k).control.here o.arena) else slice_index words current_word) in
+    asides_keep_time e words (slice_set words current_word v) ports (put k p ports) now thereafter since
+    (one_aside e words (slice_set words current_word v) ports k p now thereafter (λ q low. get_or-set_other words current_word (at_word q) v 0 (omega arith)) refl refl
     (λ j d may. absurd (not_again p.control (record o { looked = false; clean = 0; mark = None; again = false; set = 0 }) j d refl refl may)) later) t
 
 -- a word behind those of the ports is another than each of them
-behind : (e : Plan) (words : List ℕ) (k i v : ℕ) → k < e.ports → 1 + e.ports ≤ i → get_or (set words i v) (at_word k) 0 ≡ get_or words (at_word k) 0
+behind : (e : Plan) (words : List ℕ) (k i v : ℕ) → k < e.ports → 1 + e.ports ≤ i → slice_index (slice_set words i v) (at_word k) ≡ slice_index words (at_word k)
 behind e words k i v low from = get_or-set_other words i (at_word k) v 0 (omega (arith, low, from))
 
 pub steps_keep_places : StepsKeepPlaces
 steps_keep_places e words k low = record {
   arena = arena;
   set = λ x i v. behind e words k (set_word e x i) v low (set_from x i);
-  taken = λ x old new. behind e words k (1 + e.ports + x) (cond (get_or words (1 + e.ports + x) 0 == old) new (get_or words (1 + e.ports + x) 0)) low (omega arith);
+  taken = λ x old new. behind e words k (1 + e.ports + x) (if slice_index words (1 + e.ports + x) == old then new else slice_index words (1 + e.ports + x)) low (omega arith);
   given = λ x v. behind e words k (1 + e.ports + x) v low (omega arith);
 }
   where
-    arena : (x : ℕ) (step : Step) → get_or (words_after words (placed_step e x step)) (at_word k) 0 ≡ get_or words (at_word k) 0
+    arena : (x : ℕ) (step : Step) → slice_index (words_after words (placed_step e x step)) (at_word k) ≡ slice_index words (at_word k)
     arena x (Load w) = refl
     arena x (Store w v) = behind e words k (base e x + w) v low (omega arith)
-    arena x (Exchange w old new) = behind e words k (base e x + w) (cond (get_or words (base e x + w) 0 == old) new (get_or words (base e x + w) 0)) low (omega arith)
-    arena x (Add w n) = behind e words k (base e x + w) ((get_or words (base e x + w) 0 + n) % 2 ^ 64) low (omega arith)
+    arena x (Exchange w old new) = behind e words k (base e x + w) (if slice_index words (base e x + w) == old then new else slice_index words (base e x + w)) low (omega arith)
+    arena x (Add w n) = behind e words k (base e x + w) ((slice_index words (base e x + w) + n) % 2 ^ 64) low (omega arith)
 
     set_from : (x i : ℕ) → 1 + e.ports ≤ set_word e x i
     set_from x i = search arith

@@ -1,5 +1,5 @@
 -- What a reply's note writes, and the places of a port's own entries.
-use Rattle.partial_epochs.proofs.Common.{ℕ, ◌≡◌, ◌+◌, ◌++◌, Bool, cond, Option, Some, List, [], ◌∷◌, refl, sym, ap, ◌∙◌, inl, inr, AllByRecursion, eqb_tells, Applied, Note, places_by, wrote, IsPlacedAt, Reply}
+use Rattle.partial_epochs.proofs.Common.{ℕ, ◌≡◌, ◌+◌, ◌++◌, Bool, if◌then◌else◌, Option, Some, List, [], ◌∷◌, refl, sym, ap, ◌∙◌, inl, inr, AllByRecursion, eqb_tells, Applied, Note, places_by, wrote, IsPlacedAt, Reply}
 
 -- a reply that isn't that of an applied update writes none
 pub lost_none : (s : ℕ) (n : Note) (i : ℕ) → IsPlacedAt (Reply.Lost s) n i → wrote (Some n) ++ [] ≡ []
@@ -27,7 +27,7 @@ pub no_places : (p n : ℕ) (h : List Applied) → AllByRecursion (λ (a : Appli
 no_places p n [] own is = refl
 no_places p n (x ∷ h) own is = elim (eqb_tells x.port p) [
   | inl same ↦
-      let bad : n ∷ places_by p (n + 1) h ≡ [] = sym (ap (λ (c : Bool). cond c (n ∷ places_by p (n + 1) h) (places_by p (n + 1) h)) same.0) ∙ is in
+      let bad : n ∷ places_by p (n + 1) h ≡ [] = sym (ap (λ (c : Bool). if c then n ∷ places_by p (n + 1) h else places_by p (n + 1) h) same.0) ∙ is in
       absurd cc
   | inr other ↦ absurd (other.1 own.0)
 ]

@@ -1,5 +1,5 @@
 -- What each edit of `add` makes of the list: a normal form of the set with one number more.
-use Rattle.partial_intervals.proofs.Common.{◌≡◌, ℕ, ◌+◌, ◌-◌, ◌<◌, ◌≤◌, ◌↔◌, ◌⊎◌, length, get_or, set, inl, inr, ap, subst, ◌∙◌, arith, insert, remove, cases_eq, cases_lt, cases_order, Ranges, lowest, highest, Holds, IsNormal, IsCountUpTo}
+use Rattle.partial_intervals.proofs.Common.{◌≡◌, ℕ, ◌+◌, ◌-◌, ◌<◌, ◌≤◌, ◌↔◌, ◌⊎◌, length, slice_index_or, slice_set, inl, inr, ap, subst, ◌∙◌, arith, insert, remove, cases_eq, cases_lt, cases_order, Ranges, lowest, highest, Holds, IsNormal, IsCountUpTo}
 use Rattle.std.proofs.lemmas.List.{length-set, get_or_read, get_or-set_same, get_or-set_other}
 use Rattle.std.proofs.lemmas.List.Edits.{length-insert, get_or-insert_below, get_or-insert_at, get_or-insert_above, length-remove, get_or-remove_below, get_or-remove_above}
 
@@ -10,23 +10,23 @@ pub record Adds (old new : Ranges) (l : ℕ) : Type 0 where
 
 module _ (list : Ranges) (i : ℕ) (range : ℕ × ℕ) (within : i < length list) where
   -- the interval that was written
-  pub lowest_here : lowest (set list i range) i ≡ range.0
+  pub lowest_here : lowest (slice_set list i range) i ≡ range.0
   lowest_here = ap (λ (r : ℕ × ℕ). r.0) (get_or-set_same list i range (0, 0) within)
 
-  pub highest_here : highest (set list i range) i ≡ range.1
+  pub highest_here : highest (slice_set list i range) i ≡ range.1
   highest_here = ap (λ (r : ℕ × ℕ). r.1) (get_or-set_same list i range (0, 0) within)
 
   -- another one stays
-  pub lowest_other : (k : ℕ) → (k ≡ i → ⊥) → lowest (set list i range) k ≡ lowest list k
+  pub lowest_other : (k : ℕ) → (k ≡ i → ⊥) → lowest (slice_set list i range) k ≡ lowest list k
   lowest_other k other = ap (λ (r : ℕ × ℕ). r.0) (get_or-set_other list i k range (0, 0) other)
 
-  pub highest_other : (k : ℕ) → (k ≡ i → ⊥) → highest (set list i range) k ≡ highest list k
+  pub highest_other : (k : ℕ) → (k ≡ i → ⊥) → highest (slice_set list i range) k ≡ highest list k
   highest_other k other = ap (λ (r : ℕ × ℕ). r.1) (get_or-set_other list i k range (0, 0) other)
 
 module _ (list : Ranges) (normal : IsNormal list) (i lo hi : ℕ) (within : i < length list) (closed : lo ≤ hi) (bounded : hi < 4294967295) (before : (j : ℕ) → j < i → highest list j + 1 < lo)
     (after : (k : ℕ) → i < k → k < length list → hi + 1 < lowest list k) where
   -- an interval may grow where it touches no other
-  pub normal_set : IsNormal (set list i (lo, hi))
+  pub normal_set : IsNormal (slice_set list i (lo, hi))
   normal_set = record {
     closed = λ k lt. elim (cases_eq k i) [
       | inl here ↦ rw here (omega (arith, lowest_here list i (lo, hi) within, highest_here list i (lo, hi) within))
@@ -49,7 +49,7 @@ module _ (list : Ranges) (normal : IsNormal list) (i lo hi : ℕ) (within : i < 
 
   -- it then holds what it held, and what the interval gained
   pub held_set : (l : ℕ) → (lo ≤ l) × (l ≤ hi) → lo ≤ lowest list i → highest list i ≤ hi → ((x : ℕ) → lo ≤ x → x ≤ hi → ((lowest list i ≤ x) × (x ≤ highest list i)) ⊎ (x ≡ l)) → (x : ℕ) →
-      Holds (set list i (lo, hi)) x ↔ (Holds list x ⊎ (x ≡ l))
+      Holds (slice_set list i (lo, hi)) x ↔ (Holds list x ⊎ (x ≡ l))
   held_set l gained low high grows x = (
     λ h. elim (cases_eq h.0 i) [
       | inl here ↦
@@ -121,8 +121,8 @@ module _ (list : Ranges) (normal : IsNormal list) (l : ℕ) (small : l < 4294967
   ]
 
   -- the interval before the place grows by l
-  pub adds_before : (range : ℕ × ℕ) → range ≡ get_or list (count - 1) range → (0 < count) × (highest list (count - 1) + 1 ≡ l) → ((count < length list) × (l + 1 ≡ lowest list count) → ⊥) →
-      Adds list (set list (count - 1) (range.0, l)) l
+  pub adds_before : (range : ℕ × ℕ) → range ≡ slice_index_or list (count - 1) range → (0 < count) × (highest list (count - 1) + 1 ≡ l) → ((count < length list) × (l + 1 ≡ lowest list count) → ⊥) →
+      Adds list (slice_set list (count - 1) (range.0, l)) l
   adds_before range read touches apart_after =
       let within : count - 1 < length list = omega (arith, counted.in_range, touches.0) in
       let low : range.0 ≡ lowest list (count - 1) = ap (λ (r : ℕ × ℕ). r.0) (get_or_read list (count - 1) range within read (0, 0)) in
@@ -139,8 +139,8 @@ module _ (list : Ranges) (normal : IsNormal list) (l : ℕ) (small : l < 4294967
       }
 
   -- the interval at the place grows by l
-  pub adds_after : (range : ℕ × ℕ) → range ≡ get_or list count range → ((0 < count) × (highest list (count - 1) + 1 ≡ l) → ⊥) → (count < length list) × (l + 1 ≡ lowest list count) →
-      Adds list (set list count (l, range.1)) l
+  pub adds_after : (range : ℕ × ℕ) → range ≡ slice_index_or list count range → ((0 < count) × (highest list (count - 1) + 1 ≡ l) → ⊥) → (count < length list) × (l + 1 ≡ lowest list count) →
+      Adds list (slice_set list count (l, range.1)) l
   adds_after range read apart_before touches =
       let within : count < length list = touches.0 in
       let high : range.1 ≡ highest list count = ap (λ (r : ℕ × ℕ). r.1) (get_or_read list count range within read (0, 0)) in
@@ -225,8 +225,8 @@ module _ (list : Ranges) (normal : IsNormal list) (l : ℕ) (small : l < 4294967
       high_above k lt = subst (λ q. highest (insert list count (l, l)) q ≡ highest list (k - 1)) {x = k - 1 + 1} (omega arith) (high_moved (k - 1) (omega arith))
 
   -- the intervals on both sides become one
-  pub adds_between : (range after : ℕ × ℕ) → range ≡ get_or (remove list count) (count - 1) range → after ≡ get_or list count after → (0 < count) × (highest list (count - 1) + 1 ≡ l) →
-      (count < length list) × (l + 1 ≡ lowest list count) → Adds list (set (remove list count) (count - 1) (range.0, after.1)) l
+  pub adds_between : (range after : ℕ × ℕ) → range ≡ slice_index_or (remove list count) (count - 1) range → after ≡ slice_index_or list count after → (0 < count) × (highest list (count - 1) + 1 ≡ l) →
+      (count < length list) × (l + 1 ≡ lowest list count) → Adds list (slice_set (remove list count) (count - 1) (range.0, after.1)) l
   adds_between range after read read_after touches_before touches_after =
       let rest = remove list count in
       let place = count - 1 in
@@ -259,7 +259,7 @@ module _ (list : Ranges) (normal : IsNormal list) (l : ℕ) (small : l < 4294967
       let closed_before = normal.closed place (omega (arith, touches_before.0)) in
       let closed_after = normal.closed count within in
       let bounded = normal.bounded count within in
-      let joined = set rest place (range.0, after.1) in
+      let joined = slice_set rest place (range.0, after.1) in
       let same_length : length joined ≡ length rest = length-set rest place (range.0, after.1) in
       record {
         normal = normal_set rest rest_normal place range.0 after.1 place_in (omega (arith, touches_before.1, touches_after.1)) (omega arith)

@@ -1,5 +1,5 @@
 -- Records of a history in lawful words: what stands before a record, and which words may be loaded.
-use Rattle.partial_knowledge.proofs.Common.{ℕ, zero, suc, ◌≡◌, ◌≢◌, ◌+◌, ◌<◌, ◌≤◌, ◌++◌, cond, List, [], ◌∷◌, length, map, take, get_or, slice_get, Some, None, refl, sym, ◌∙◌, ap, subst, inl, inr, arith, AllByRecursion, cases_lt, eq-eqb, Applied, Opening, IsHistory, initial_stamp, stamp_of, last_entry, last_from-push, last_at, overtaken_at, take_within, in_whole, distinct_at, stamp_told, Layout, pool_base, pool_end, pool_counter, initial_words, prev_of, plain_record_size, prev_before_entry, Block, AreApart, IsApartFrom, IsWithin, IsBegunSince, Holding, unpublished, announcements, block_at, EachTwo, LawfulWords, IsEntry, IsReadable, HasEntry, AllByRecursion-get, PoolWords}
+use Rattle.partial_knowledge.proofs.Common.{ℕ, zero, suc, ◌≡◌, ◌≢◌, ◌+◌, ◌<◌, ◌≤◌, ◌++◌, if◌then◌else◌, List, [], ◌∷◌, length, map, take, slice_index, slice_get, Some, None, refl, sym, ◌∙◌, ap, subst, inl, inr, arith, AllByRecursion, cases_lt, eq-eqb, Applied, Opening, IsHistory, initial_stamp, stamp_of, last_entry, last_from-push, last_at, overtaken_at, take_within, in_whole, distinct_at, stamp_told, Layout, pool_base, pool_end, pool_counter, initial_words, prev_of, plain_record_size, prev_before_entry, Block, AreApart, IsApartFrom, IsWithin, IsBegunSince, Holding, unpublished, announcements, block_at, EachTwo, LawfulWords, IsEntry, IsReadable, HasEntry, AllByRecursion-get, PoolWords}
 use Rattle.partial_model.proofs.AllLemmas.{all_back}
 use Rattle.partial_words.specs.Chain.{Agrees}
 use Rattle.partial_state.proofs.HoldingLemmas.{three_words}
@@ -28,7 +28,7 @@ take_one (x ∷ h) (suc k) e s = ap (λ l. x ∷ l) (take_one h k e s)
 
 last_there : (log : List Applied) (k : ℕ) (e : Applied) → slice_get log k ≡ Some e → last_entry e.component (take (k + 1) log) ≡ Some e
 last_there log k e stands = let next : k + 1 ≡ suc k = omega arith in ap (last_entry e.component) (ap (λ n. take n log) next ∙ take_one log k e stands) ∙ last_from-push None e.component
-    (take k log) e ∙ ap (λ b. cond b (Some e) (last_entry e.component (take k log))) (eq-eqb e.component e.component refl)
+    (take k log) e ∙ ap (λ b. if b then Some e else last_entry e.component (take k log)) (eq-eqb e.component e.component refl)
 
 -- behind an entry for the component, its stamp is that of an entry at that place or later
 pub entry_since : (o : Opening) (log : List Applied) (j low b : ℕ) → HasEntry log low b j → IsBegunSince log low (stamp_of o (take b log) j)
@@ -106,7 +106,7 @@ apart_part (b ∷ us) at size from count low high apart = (
 pub record IsStanding (z : Layout) (words : List ℕ) (hs : List Holding) (stamp : ℕ) : Type 0 where
   pub above : pool_base z ≤ stamp
   pub within : stamp + plain_record_size ≤ pool_end z
-  pub below : stamp + plain_record_size ≤ get_or words (pool_counter z) 0
+  pub below : stamp + plain_record_size ≤ slice_index words (pool_counter z)
   pub apart : IsApartFrom (unpublished hs) (record { at = stamp; size = plain_record_size })
 
 module _ (z : Layout) (o : Opening) (words : List ℕ) (hs : List Holding) (log : List Applied) (w : LawfulWords z o words hs log) where

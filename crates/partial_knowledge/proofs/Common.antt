@@ -1,5 +1,5 @@
 -- The names that several proofs of this crate take from elsewhere.
-pub use Rattle.std.proofs.Common.{List, Some, arith, subst, ℕ, ◌<◌, ◌≡◌, None, Option, [], ap, inl, inr, length, refl, slice_index, sym, ◌+◌, ◌∙◌, ◌∷◌, ◌≤◌, cond, get_or, slice_get, suc, take, true, zero, ◌≢◌, Bool, IfSome, IsSome, false, get_or-set_other, get_or-set_same, is_some, map, min, not, set, ◌&&◌, ◌++◌, ◌-◌, ◌==◌, ◌||◌, ◌⊎◌}
+pub use Rattle.std.proofs.Common.{List, Some, arith, subst, ℕ, ◌<◌, ◌≡◌, None, Option, [], ap, inl, inr, length, refl, slice_index, sym, ◌+◌, ◌∙◌, ◌∷◌, ◌≤◌, if◌then◌else◌, slice_index_or, slice_get, suc, take, true, zero, ◌≢◌, Bool, IfSome, IsSome, false, get_or-set_other, get_or-set_same, is_some, map, min, not, slice_set, ◌&&◌, ◌++◌, ◌-◌, ◌==◌, ◌||◌, ◌⊎◌}
 pub use Rattle.std.specs.List.{AllByRecursion}
 pub use Rattle.std.proofs.lemmas.Bool.{eq-eqb, false≢true, and_parts, cases_lt, cond_both, eqb-false, eqb-true, ltb-false, ltb-true, or_cases}
 pub use Rattle.partial_model.specs.declared.history.{Applied.Applied, Opening.Opening}

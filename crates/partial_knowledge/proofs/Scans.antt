@@ -1,5 +1,5 @@
 -- What an embedded scan knows leads on, in lawful words.
-use Rattle.partial_knowledge.proofs.{Common.{ℕ, zero, suc, ◌≡◌, ◌≢◌, ◌+◌, ◌-◌, ◌<◌, ◌≤◌, ◌==◌, Bool, true, false, ◌&&◌, ◌||◌, not, cond, Option, Some, None, List, [], ◌∷◌, length, take, get_or, set, slice_get, inl, inr, refl, sym, ap, subst, ◌∙◌, arith, get_or-set_other, get_or-set_same, slice_index, false≢true, eq-eqb, cond_both, or_cases, and_parts, ltb-true, ltb-false, eqb-true, eqb-false, Applied, Opening, value_of, stamp_of, place_below, stamps_never_return, Load, Layout, list_base, pool_end, prev_of, view_of, view_block, view_size, view_word, pairs_word, next_word, pair_index_word, pair_value_word, value_word, value_behind_stamp, length-pairs, IsWithin, IsBegunSince, HasPairs, IsView, HasFreshView, Holding, unpublished, LawfulWords, KeptAnswer, IsLoaded, IsReadable, HasEntry, IsLatest, IsCollecting, HasValues, CollectsAgreed, IsThird, HasLoaded, Loads, knows_at, ScanKnows, EmbeddedScansKnow, AllByRecursion-get}, Chains.{newer, begun_since, begun_within, stamp_within, standing, standing_word, IsStanding, apart_part}}
+use Rattle.partial_knowledge.proofs.{Common.{ℕ, zero, suc, ◌≡◌, ◌≢◌, ◌+◌, ◌-◌, ◌<◌, ◌≤◌, ◌==◌, Bool, true, false, ◌&&◌, ◌||◌, not, if◌then◌else◌, Option, Some, None, List, [], ◌∷◌, length, take, slice_set, slice_get, inl, inr, refl, sym, ap, subst, ◌∙◌, arith, get_or-set_other, get_or-set_same, slice_index, false≢true, eq-eqb, cond_both, or_cases, and_parts, ltb-true, ltb-false, eqb-true, eqb-false, Applied, Opening, value_of, stamp_of, place_below, stamps_never_return, Load, Layout, list_base, pool_end, prev_of, view_of, view_block, view_size, view_word, pairs_word, next_word, pair_index_word, pair_value_word, value_word, value_behind_stamp, length-pairs, IsWithin, IsBegunSince, HasPairs, IsView, HasFreshView, Holding, unpublished, LawfulWords, KeptAnswer, IsLoaded, IsReadable, HasEntry, IsLatest, IsCollecting, HasValues, CollectsAgreed, IsThird, HasLoaded, Loads, knows_at, ScanKnows, EmbeddedScansKnow, AllByRecursion-get}, Chains.{newer, begun_since, begun_within, stamp_within, standing, standing_word, IsStanding, apart_part}}
 use Rattle.std.specs.{Option.option_map_or, Prelude.{nat_lt, slice_index_or}}
 use Rattle.std.proofs.lemmas.Bool.Decides.{eqb_tells}
 use Rattle.partial_words.proofs.BlockLemmas.{list_reads_back}
@@ -13,7 +13,7 @@ use Rattle.partial_model.proofs.Values.{element_at}
 wider : (log : List Applied) (low a b c : ℕ) → a ≤ b → HasEntry log low a c → HasEntry log low b c
 wider log low a b c le h = let below = h.5 in (h.0, h.1, h.2, h.3, h.4, omega (arith, below, le))
 
-pub got : {A : Type 0} (xs : List A) (i : ℕ) (x d : A) → slice_get xs i ≡ Some x → get_or xs i d ≡ x
+pub got : {A : Type 0} (xs : List A) (i : ℕ) (x d : A) → slice_get xs i ≡ Some x → slice_index_or xs i d ≡ x
 got [] i x d e = let bad : None ≡ Some x = e in absurd cc
 got (y ∷ xs) zero x d e = let is : y ≡ x = cc in is
 got (y ∷ xs) (suc i) x d e = got xs i x d e
@@ -34,19 +34,19 @@ view_readable z words hs at i pairs view lt =
     )
 
 -- what a position's load tells where it differs from the latest one
-differs_tells : (p : ViewPair) (k x : ℕ) → differs p k x ≡ true → (is_first p ≡ false) × (get_or p.1.last k 0 ≢ x)
+differs_tells : (p : ViewPair) (k x : ℕ) → differs p k x ≡ true → (is_first p ≡ false) × (slice_index p.1.last k ≢ x)
 differs_tells p k x d =
-    let both = and_parts (not (is_first p)) (not (get_or p.1.last k 0 == x)) d in
-    (unless (is_first p) both.0, λ same. elim (eqb_tells (get_or p.1.last k 0) x) [ inl t ↦ false≢true (ap not (sym t.0) ∙ both.1) | inr t ↦ t.1 same ])
+    let both = and_parts (not (is_first p)) (not (slice_index p.1.last k == x)) d in
+    (unless (is_first p) both.0, λ same. elim (eqb_tells (slice_index p.1.last k) x) [ inl t ↦ false≢true (ap not (sym t.0) ∙ both.1) | inr t ↦ t.1 same ])
   where
     unless : (b : Bool) → not b ≡ true → b ≡ false
     unless true e = absurd (false≢true e)
     unless false e = refl
 
-agrees_tells : (p : ViewPair) (k x : ℕ) → is_first p ≡ false → differs p k x ≡ false → get_or p.1.last k 0 ≡ x
-agrees_tells p k x first d = elim (eqb_tells (get_or p.1.last k 0) x) [
+agrees_tells : (p : ViewPair) (k x : ℕ) → is_first p ≡ false → differs p k x ≡ false → slice_index p.1.last k ≡ x
+agrees_tells p k x first d = elim (eqb_tells (slice_index p.1.last k) x) [
   | inl t ↦ t.1
-  | inr t ↦ absurd (false≢true (sym d ∙ ap (λ b. not b && not (get_or p.1.last k 0 == x)) first ∙ ap not t.0))
+  | inr t ↦ absurd (false≢true (sym d ∙ ap (λ b. not b && not (slice_index p.1.last k == x)) first ∙ ap not t.0))
 ]
 
 changed_tells : (p : ViewPair) (k : ℕ) → was_changed p k ≡ true → (is_first p ≡ false) × (slice_index_or p.1.changed k false ≡ true)
@@ -133,10 +133,10 @@ module _ (o : Opening) (words : List ℕ) (hs : List Holding) (log : List Applie
           | inl e ↦
               let b = knows.before first k (omega arith) here in
               let to = knows.to in
-              let latest : get_or p.1.last k 0 ≡ x = agrees_tells p k x first both.1 in
-              let then = stamps_never_return o log (slice_index indices k) b.0 t knows.middle w.history (there_is k here) b.2 (omega (arith, to, after)) (sym b.1.stamp ∙ latest ∙ is) in
+              let latest : slice_index p.1.last k ≡ x = agrees_tells p k x first both.1 in
+              let thereafter = stamps_never_return o log (slice_index indices k) b.0 t knows.middle w.history (there_is k here) b.2 (omega (arith, to, after)) (sym b.1.stamp ∙ latest ∙ is) in
               subst (λ n. slice_index (noted_load p k x).1.last n ≡ stamp_of o (take knows.middle log) (slice_index indices n)) (sym e.1)
-              (get_or-set_same p.1.last k x 0 in_last ∙ sym latest ∙ b.1.stamp ∙ sym then.0)
+              (get_or-set_same p.1.last k x 0 in_last ∙ sym latest ∙ b.1.stamp ∙ sym thereafter.0)
           | inr e ↦ let other = e.1 in get_or-set_other p.1.last k i x 0 other ∙ knows.same first both.0 i (omega (arith, lt, other))
         ]
 
@@ -144,7 +144,7 @@ module _ (o : Opening) (words : List ℕ) (hs : List Holding) (log : List Applie
     noted_calm : is_first p ≡ true → (i : ℕ) → i < k + 1 → slice_index_or (noted_load p k x).1.changed i false ≡ false
     noted_calm first i lt = elim (eqb_tells i k) [
       | inl e ↦ ap (λ n. slice_index_or (noted_load p k x).1.changed n false) e.1 ∙ get_or-set_same p.1.changed k (differs p k x || was_changed p k) false in_changed ∙
-          ap (λ (b : Bool). (not b && not (get_or p.1.last k 0 == x)) || (not b && slice_index_or p.1.changed k false)) first
+          ap (λ (b : Bool). (not b && not (slice_index p.1.last k == x)) || (not b && slice_index_or p.1.changed k false)) first
       | inr e ↦ let other = e.1 in get_or-set_other p.1.changed k i (differs p k x || was_changed p k) false other ∙ knows.calm_first first i (omega (arith, lt, other))
     ]
 
@@ -236,7 +236,7 @@ module _ (o : Opening) (words : List ℕ) (hs : List Holding) (log : List Applie
 
 -- two views at one word have the same pairs
 same_pairs : (words : List ℕ) (z : Layout) (hs : List Holding) (at : ℕ) (pairs : List (ℕ × ℕ)) (i : ℕ) (c v : ℕ) → IsView z words (unpublished hs) at pairs → slice_get pairs i ≡ Some (c, v) →
-    (get_or words (pair_index_word at i) 0 ≡ c) × (get_or words (pair_value_word at i) 0 ≡ v)
+    (slice_index words (pair_index_word at i) ≡ c) × (slice_index words (pair_value_word at i) ≡ v)
 same_pairs words z hs at pairs i c v view stands =
     let back = (list_reads_back words at pairs view.stands).each i (0, 0) (place_below pairs i (c, v) stands) in
     let is = back ∙ got pairs i (c, v) (0, 0) stands in
@@ -317,7 +317,7 @@ module _ (o : Opening) (words : List ℕ) (hs : List Holding) (log : List Applie
   view_here stamp pairs some (inl empty) = absurd (some empty.0)
   view_here stamp pairs some (inr view) = view
 
-  pub step_len : (at t x : ℕ) → knows_at p.0.sizes o words hs log indices low high (Len at) p → x ≡ get_or words at 0 → ((x ≤ p.0.sizes.m) × (at + view_size x ≤ pool_end p.0.sizes)) ×
+  pub step_len : (at t x : ℕ) → knows_at p.0.sizes o words hs log indices low high (Len at) p → x ≡ slice_index words at → ((x ≤ p.0.sizes.m) × (at + view_size x ≤ pool_end p.0.sizes)) ×
       Knows_at t (view_at_stage p (pairs_from (pairs_word at) x))
   unfolding Knows_at
   step_len at t x knows is =
@@ -327,7 +327,7 @@ module _ (o : Opening) (words : List ℕ) (hs : List Holding) (log : List Applie
       let at_is = knows.3 in
       let f = third_fresh stamp third in
       let view = view_here stamp f.pairs (λ none. knows.4 (at_is ∙ none)) f.shown in
-      let count : x ≡ length f.pairs = is ∙ ap (λ n. get_or words n 0) at_is ∙ (list_reads_back words (view_of words stamp) f.pairs view.stands).count in
+      let count : x ≡ length f.pairs = is ∙ ap (λ n. slice_index words n) at_is ∙ (list_reads_back words (view_of words stamp) f.pairs view.stands).count in
       let few = view.few in
       let within = view.within in
       let size = length-pairs f.pairs in (
@@ -353,7 +353,7 @@ module _ (o : Opening) (words : List ℕ) (hs : List Holding) (log : List Applie
 
   -- the word of the pair that is next
   next_pair : (left : ℕ) (l : Loads p.0.sizes o words hs log indices low p left) → 0 < left → p.0.view ≢ 0 → (pair : ℕ × ℕ) × (slice_get l.3 l.4 ≡ Some pair) ×
-      (get_or words (pair_index_word p.0.view l.4) 0 ≡ pair.0) × (get_or words (pair_value_word p.0.view l.4) 0 ≡ pair.1) × (pair.0 < p.0.sizes.m)
+      (slice_index words (pair_index_word p.0.view l.4) ≡ pair.0) × (slice_index words (pair_value_word p.0.view l.4) ≡ pair.1) × (pair.0 < p.0.sizes.m)
   next_pair left l some shown =
       let sum = l.5 in
       let pair = element_at l.3 l.4 (omega (arith, sum, some)) in
@@ -361,8 +361,8 @@ module _ (o : Opening) (words : List ℕ) (hs : List Holding) (log : List Applie
       let read = same_pairs words p.0.sizes hs (view_of words l.0) l.3 l.4 pair.0.0 pair.0.1 view pair.1 in (
         pair.0,
         pair.1,
-        ap (λ n. get_or words (pair_index_word n l.4) 0) l.2 ∙ read.0,
-        ap (λ n. get_or words (pair_value_word n l.4) 0) l.2 ∙ read.1,
+        ap (λ n. slice_index words (pair_index_word n l.4)) l.2 ∙ read.0,
+        ap (λ n. slice_index words (pair_value_word n l.4)) l.2 ∙ read.1,
         AllByRecursion-get (λ (q : ℕ × ℕ). q.0 < p.0.sizes.m) l.3 l.4 pair.0 view.components pair.1,
       )
 
@@ -370,14 +370,14 @@ module _ (o : Opening) (words : List ℕ) (hs : List Holding) (log : List Applie
   view_shown : (left : ℕ) (l : Loads p.0.sizes o words hs log indices low p left) → 0 < left → p.0.view ≢ 0
   view_shown left l some none = let sum = l.5 in let no = no_pairs l.3 l.0 (sym l.2 ∙ none) l.6.shown in omega (arith, sum, some, no)
 
-  pub step_index : (at left t x : ℕ) → knows_at p.0.sizes o words hs log indices low high (Index at left) p → x ≡ get_or words at 0 → (x < p.0.sizes.m) ×
+  pub step_index : (at left t x : ℕ) → knows_at p.0.sizes o words hs log indices low high (Index at left) p → x ≡ slice_index words at → (x < p.0.sizes.m) ×
       Knows_at t (view_at_stage p (PairValue (next_word at) left x))
   unfolding Knows_at
   step_index at left t x knows is =
       let l = knows.1 in
       let at_is = knows.2 in
       let next = next_pair left l knows.3 (view_shown left l knows.3) in
-      let index : x ≡ next.0.0 = is ∙ ap (λ n. get_or words n 0) at_is ∙ next.2 in (
+      let index : x ≡ next.0.0 = is ∙ ap (λ n. slice_index words n) at_is ∙ next.2 in (
         subst (λ n. n < p.0.sizes.m) (sym index) next.4,
         (
           knows.0,
@@ -388,7 +388,7 @@ module _ (o : Opening) (words : List ℕ) (hs : List Holding) (log : List Applie
         ),
       )
 
-  pub step_pair : (at left index t x : ℕ) → index < length p.1.values → knows_at p.0.sizes o words hs log indices low high (PairValue at left index) p → x ≡ get_or words at 0 →
+  pub step_pair : (at left index t x : ℕ) → index < length p.1.values → knows_at p.0.sizes o words hs log indices low high (PairValue at left index) p → x ≡ slice_index words at →
       Knows_at t (view_at_stage (with_value p index x) (pairs_from (next_word at) (left - 1)))
   unfolding Knows_at
   step_pair at left index t x room knows is =
@@ -399,7 +399,7 @@ module _ (o : Opening) (words : List ℕ) (hs : List Holding) (log : List Applie
       let pair = knows.4 in
       let view = view_here l.0 l.3 (λ none. view_shown left l some (l.2 ∙ none)) l.6.shown in
       let read = same_pairs words p.0.sizes hs (view_of words l.0) l.3 l.4 index pair.0 view pair.1 in
-      let value : x ≡ pair.0 = is ∙ ap (λ n. get_or words n 0) at_is ∙ ap (λ n. get_or words (pair_value_word n l.4) 0) l.2 ∙ read.1 in
+      let value : x ≡ pair.0 = is ∙ ap (λ n. slice_index words n) at_is ∙ ap (λ n. slice_index words (pair_value_word n l.4)) l.2 ∙ read.1 in
       let h = l.6 in
       let fresh_here : pair.0 ≡ value_of o (take h.prefix log) index = AllByRecursion-get (λ (q : ℕ × ℕ). q.1 ≡ value_of o (take h.prefix log) q.0) l.3 l.4 (index, pair.0) h.fresh pair.1 in
       let next : HasLoaded p.0.sizes o words hs log low l.1.place (with_value p index x).1 l.0 l.3 (l.4 + 1) = record {
@@ -409,7 +409,7 @@ module _ (o : Opening) (words : List ℕ) (hs : List Holding) (log : List Applie
         to = h.to;
         fresh = h.fresh;
         loaded = λ i lt c v e. elim (eqb_tells c index) [
-          | inl same ↦ subst (λ n. get_or (set p.1.values index x) n 0 ≡ value_of o (take h.prefix log) n) (sym same.1) (get_or-set_same p.1.values index x 0 room ∙ value ∙ fresh_here)
+          | inl same ↦ subst (λ n. slice_index (slice_set p.1.values index x) n ≡ value_of o (take h.prefix log) n) (sym same.1) (get_or-set_same p.1.values index x 0 room ∙ value ∙ fresh_here)
           | inr other ↦ elim (eqb_tells i l.4) [
             | inl last ↦ absurd (other.1 (ap (λ (f : Option (ℕ × ℕ)). option_map_or (λ (q : ℕ × ℕ). q.0) f 0) (sym e ∙ ap (slice_get l.3) last.1 ∙ pair.1)))
             | inr before ↦ let earlier = before.1 in get_or-set_other p.1.values index c x 0 other.1 ∙ h.loaded i (omega (arith, lt, earlier)) c v e
@@ -432,18 +432,18 @@ module _ (o : Opening) (words : List ℕ) (hs : List Holding) (log : List Applie
         omega (arith, more),
       ))
 
-  pub step_value : (k t x : ℕ) → k < length indices → slice_index indices k < length p.1.values → high ≤ t → CollectsAgreed o log indices low high p k → x ≡ get_or words (value_word (slice_index p.1.last k)) 0 →
-      Knows_at t (view_at_stage (with_value p (slice_index indices k) x) (cond (nat_lt (k + 1) (length indices)) (Value (k + 1)) Done))
+  pub step_value : (k t x : ℕ) → k < length indices → slice_index indices k < length p.1.values → high ≤ t → CollectsAgreed o log indices low high p k → x ≡ slice_index words (value_word (slice_index p.1.last k)) →
+      Knows_at t (view_at_stage (with_value p (slice_index indices k) x) (if nat_lt (k + 1) (length indices) then Value (k + 1) else Done))
   unfolding Knows_at
   step_value k t x here room after knows is =
       let j = slice_index indices k in
       let below : j < length o.values = let b = together.positions.components k here in let values = w.values in omega (arith, b, values) in
-      let value : x ≡ value_of o (take knows.prefix log) j = is ∙ ap (λ n. get_or words (value_word n) 0) (knows.stamps k here) ∙ value_behind_stamp o words log j knows.prefix w.agrees below in
+      let value : x ≡ value_of o (take knows.prefix log) j = is ∙ ap (λ n. slice_index words (value_word n)) (knows.stamps k here) ∙ value_behind_stamp o words log j knows.prefix w.agrees below in
       let next : HasValues o log indices low t (with_value p j x).1 knows.prefix (k + 1) = record {
         from = knows.values.from;
         to = let to = knows.values.to in omega (arith, to, after);
         values = λ i lt. elim (eqb_tells (slice_index indices i) j) [
-          | inl same ↦ subst (λ n. get_or (set p.1.values j x) n 0 ≡ value_of o (take knows.prefix log) n) (sym same.1) (get_or-set_same p.1.values j x 0 room ∙ value)
+          | inl same ↦ subst (λ n. slice_index (slice_set p.1.values j x) n ≡ value_of o (take knows.prefix log) n) (sym same.1) (get_or-set_same p.1.values j x 0 room ∙ value)
           | inr other ↦ elim (eqb_tells i k) [
             | inl last ↦ absurd (other.1 (ap (slice_index indices) last.1))
             | inr before ↦ let earlier = before.1 in get_or-set_other p.1.values j (slice_index indices i) x 0 other.1 ∙ knows.values.values i (omega (arith, lt, earlier))
@@ -508,7 +508,7 @@ module _ (o : Opening) (words : List ℕ) (hs : List Holding) (log : List Applie
   readable_at Done n e goes knows = absurd cc
 
   -- what a load of a block's word answered stands element_at
-  still : (n : ℕ) (k : KeptAnswer) → list_base p.0.sizes ≤ n → IsLoaded p.0.sizes o words hs log n k → k.answer ≡ get_or words n 0
+  still : (n : ℕ) (k : KeptAnswer) → list_base p.0.sizes ≤ n → IsLoaded p.0.sizes o words hs log n k → k.answer ≡ slice_index words n
   still n k far l = (l.block far).0
 
   -- the reference of a view
@@ -533,9 +533,9 @@ module _ (o : Opening) (words : List ℕ) (hs : List Holding) (log : List Applie
       let is : view_word stamp ≡ n = cc in
       let f = third_fresh o words hs log indices low high p w together order stamp knows in
       subst (λ m. IsPossibleInViewAt p.0.sizes (View stamp) (slice_index words m)) is (view_reference stamp f.pairs f.shown)
-  possible_at (Len at) n e goes knows l = let is : n ≡ at = cc in (step_len o words hs log indices low high p w together order at high (slice_index words n) knows (ap (λ m. get_or words m 0) is)).0
+  possible_at (Len at) n e goes knows l = let is : n ≡ at = cc in (step_len o words hs log indices low high p w together order at high (slice_index words n) knows (ap (λ m. slice_index words m) is)).0
   possible_at (Index at left) n e goes knows l = let is : n ≡ at = cc in
-      (step_index o words hs log indices low high p w together order at left high (slice_index words n) knows (ap (λ m. get_or words m 0) is)).0
+      (step_index o words hs log indices low high p w together order at left high (slice_index words n) knows (ap (λ m. slice_index words m) is)).0
   possible_at (PairValue at left index) n e goes knows l = tt
   possible_at (Value k) n e goes knows l = tt
   possible_at Done n e goes knows l = absurd cc
@@ -554,18 +554,18 @@ module _ (o : Opening) (words : List ℕ) (hs : List Holding) (log : List Applie
       let is : view_word stamp ≡ n = cc in
       let s = third_stands o words hs log indices low high p w together order stamp knows in
       let above = s.above in
-      step_view o words hs log indices low high p w together order stamp k.at k.answer knows (still n k (omega (arith, is, above)) l ∙ ap (λ m. get_or words m 0) (sym is))
+      step_view o words hs log indices low high p w together order stamp k.at k.answer knows (still n k (omega (arith, is, above)) l ∙ ap (λ m. slice_index words m) (sym is))
   on_at (Len at) n k stage e goes knows l after = let is : at ≡ n = cc in let above =
-      goes.0 in (step_len o words hs log indices low high p w together order at k.at k.answer knows (still n k (omega (arith, is, above)) l ∙ ap (λ m. get_or words m 0) (sym is))).1
+      goes.0 in (step_len o words hs log indices low high p w together order at k.at k.answer knows (still n k (omega (arith, is, above)) l ∙ ap (λ m. slice_index words m) (sym is))).1
   on_at (Index at left) n k stage e goes knows l after = let is : at ≡ n = cc in let above =
-      goes.3 in (step_index o words hs log indices low high p w together order at left k.at k.answer knows (still n k (omega (arith, is, above)) l ∙ ap (λ m. get_or words m 0) (sym is))).1
+      goes.3 in (step_index o words hs log indices low high p w together order at left k.at k.answer knows (still n k (omega (arith, is, above)) l ∙ ap (λ m. slice_index words m) (sym is))).1
   on_at (PairValue at left index) n k stage e goes knows l after =
       let is : at ≡ n = cc in
       let above = goes.4 in
       let below = goes.3 in
       let room = together.rows.values in
       step_pair o words hs log indices low high p w together order at left index k.at k.answer (omega (arith, below, room)) knows
-      (still n k (omega (arith, is, above)) l ∙ ap (λ m. get_or words m 0) (sym is))
+      (still n k (omega (arith, is, above)) l ∙ ap (λ m. slice_index words m) (sym is))
   on_at (Value i) n k stage e goes knows l after =
       let is : value_word (slice_index p.1.last i) ≡ n = cc in
       let here = goes.0 in
@@ -573,7 +573,7 @@ module _ (o : Opening) (words : List ℕ) (hs : List Holding) (log : List Applie
       let room = together.rows.values in
       let above = (goes.1 i here).0 in
       step_value o words hs log indices low high p w together order i k.at k.answer here (omega (arith, component, room)) after knows
-      (still n k (omega (arith, is, above)) l ∙ ap (λ m. get_or words m 0) (sym is))
+      (still n k (omega (arith, is, above)) l ∙ ap (λ m. slice_index words m) (sym is))
   on_at Done n k stage e goes knows l after = absurd cc
 
 pub embedded_scans_know : EmbeddedScansKnow

@@ -1,5 +1,5 @@
 -- The names that several proofs of this crate take from elsewhere.
-pub use Rattle.std.proofs.Common.{ℕ, ◌≡◌, ◌+◌, ◌<◌, ◌==◌, Bool, true, false, cond, length, Some, refl, sym, ap, ◌∙◌, arith, Option, None, subst, ◌≤◌, List, [], ◌∷◌, map, rules, IfSome, IfNone, Result, Ok, Err, IfOk, IfErr, OnOk}
+pub use Rattle.std.proofs.Common.{ℕ, ◌≡◌, ◌+◌, ◌<◌, ◌==◌, Bool, true, false, if◌then◌else◌, length, Some, refl, sym, ap, ◌∙◌, arith, Option, None, subst, ◌≤◌, List, [], ◌∷◌, map, rules, IfSome, IfNone, Result, Ok, Err, IfOk, IfErr, OnOk}
 pub use Rattle.std.specs.{Option.{option_map_or, is_some}, Prelude.{slice_index, IsSome, nat_eq}}
 pub use Rattle.std.proofs.lemmas.Bool.{ne_eqb, eq-eqb, eqb-true, eqb-false, le-ltb, false≢true, lt-ltb}
 pub use Rattle.partial_words.specs.declared.step.Step.TheVariants.{Store, Add}

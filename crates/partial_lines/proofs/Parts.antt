@@ -1,5 +1,5 @@
 -- The getSet and the embedded scan of a call in straight lines: where an answer leads its machine.
-use Rattle.partial_lines.proofs.Common.{ℕ, ◌≡◌, ◌==◌, cond, length, Option, Some, None, true, refl, sym, ap, subst, ◌∙◌, IsSome, false≢true, Stage, GettingSet, Viewing, ClaimingRecord, Scanning, Leaving, scan_begun, scan_step, set_begun, set_step, CoreState, advance, at_stage, getting, scanning, step_at, step_of, with_getting, with_scanning, IsSound, is_sound_at, GetsOn, IsScanStage, IsViewing, behind_scan, positions_at, set_kept, set_made, option_map_or, is_some, Change}
+use Rattle.partial_lines.proofs.Common.{ℕ, ◌≡◌, ◌==◌, if◌then◌else◌, length, Option, Some, None, true, refl, sym, ap, subst, ◌∙◌, IsSome, false≢true, Stage, GettingSet, Viewing, ClaimingRecord, Scanning, Leaving, scan_begun, scan_step, set_begun, set_step, CoreState, advance, at_stage, getting, scanning, step_at, step_of, with_getting, with_scanning, IsSound, is_sound_at, GetsOn, IsScanStage, IsViewing, behind_scan, positions_at, set_kept, set_made, option_map_or, is_some, Change}
 use Rattle.partial_words.specs.declared.step.Step.{Step}
 use Rattle.partial_active.specs.GetSet as finding
 use Rattle.partial_active.specs.GetSetAnswers as finding_answers
@@ -10,20 +10,20 @@ use Rattle.partial_machine.specs.Possible.{IsPossible, IsPossibleAt}
 
 -- what a getSet leaves that is over
 module _ (s : CoreState) (c : Change) (old : ℕ) where
-  pub set_over : set_step s ≡ None → set_made s c old ≡ at_stage (scan_begun s true) (cond (length s.found.indices == 0) (ClaimingRecord c old) (Viewing c old))
+  pub set_over : set_step s ≡ None → set_made s c old ≡ at_stage (scan_begun s true) (if length s.found.indices == 0 then ClaimingRecord c old else Viewing c old)
   set_over over = ap (λ (o : Option Step). option_map_or (λ _. at_stage s (GettingSet c old)) o
-      (at_stage (scan_begun s true) (cond (length s.found.indices == 0) (ClaimingRecord c old) (Viewing c old)))) over
+      (at_stage (scan_begun s true) (if length s.found.indices == 0 then ClaimingRecord c old else Viewing c old))) over
 
   pub set_under_way : (step : Step) → set_step s ≡ Some step → set_made s c old ≡ at_stage s (GettingSet c old)
   set_under_way step due = ap (λ (o : Option Step). option_map_or (λ _. at_stage s (GettingSet c old)) o
-      (at_stage (scan_begun s true) (cond (length s.found.indices == 0) (ClaimingRecord c old) (Viewing c old)))) due
+      (at_stage (scan_begun s true) (if length s.found.indices == 0 then ClaimingRecord c old else Viewing c old))) due
 
   -- made so twice, it is as made so once
   pub set_twice : set_made (set_made s c old) c old ≡ set_made s c old
   set_twice = by_step (set_step s) refl
     where
       made : Option Step → CoreState
-      made o = option_map_or (λ _. at_stage s (GettingSet c old)) o (at_stage (scan_begun s true) (cond (length s.found.indices == 0) (ClaimingRecord c old) (Viewing c old)))
+      made o = option_map_or (λ _. at_stage s (GettingSet c old)) o (at_stage (scan_begun s true) (if length s.found.indices == 0 then ClaimingRecord c old else Viewing c old))
 
       by_step : (o : Option Step) → set_step s ≡ o → set_made (made o) c old ≡ made o
       by_step (Some u) e = ap made e
@@ -47,12 +47,12 @@ module _ (s t : CoreState) (c : Change) (old : ℕ) (step : Step) (from : s ≡ 
       subst (λ (p : finding.SetPair). finding_answers.IsPossibleInSet p a) (sym (ap getting set_now)) may
 
   -- its answer changes the getSet and what it has found alone, until it is over
-  module _ (d : CoreState) (a : ℕ) (then : d ≡ advance s a) where
+  module _ (d : CoreState) (a : ℕ) (thereafter : d ≡ advance s a) where
     abbrev next : CoreState
     next = with_getting t (finding.advance_set (getting t) a)
 
     led : d ≡ set_made next c old
-    led = then ∙ ap (λ (u : CoreState). advance u a) set_now
+    led = thereafter ∙ ap (λ (u : CoreState). advance u a) set_now
 
     pub set_taken : getting d ≡ finding.advance_set (getting s) a
     set_taken = ap getting led ∙ set_kept next c old ∙ ap (λ (p : finding.SetPair). finding.advance_set p a) (sym (ap getting set_now))
@@ -66,7 +66,7 @@ module _ (s t : CoreState) (c : Change) (old : ℕ) (step : Step) (from : s ≡ 
 -- Where the call has come by its getSet, made to its end: to the record's claim where nothing was found, or else to the embedded scan.
 pub set_ended : (core : CoreState) (c : Change) (old : ℕ) (x y : CoreState) (p : finding.SetPair) → x ≡ set_made (set_begun core) c old → GetsOn x y → getting y ≡ p →
     finding.set_step_due p.0 ≡ None →
-    y ≡ at_stage (scan_begun (with_getting core p) true) (cond (length p.1.indices == 0) (ClaimingRecord c old) (Viewing c old))
+    y ≡ at_stage (scan_begun (with_getting core p) true) (if length p.1.indices == 0 then ClaimingRecord c old else Viewing c old)
 set_ended core c old x y p begun on at over =
     on c old (set_begun core) begun ∙ ap (λ (q : finding.SetPair). set_made (with_getting core q) c old) at ∙ set_over (with_getting core p) c old over
 
@@ -100,43 +100,43 @@ pub record Scanned (s d : CoreState) (a : ℕ) : Type 0 where
 
 module _ (s : CoreState) (a : ℕ) where
   asked_on : (d : CoreState) → d ≡ advance (at_stage s Scanning) a → Scanned (at_stage s Scanning) d a
-  asked_on d then = by_step (scan_step q s.asked) refl
+  asked_on d thereafter = by_step (scan_step q s.asked) refl
     where
       q : CoreState
       q = with_scanning (at_stage s Scanning) (viewing.advance_view s.asked (scanning s) a)
 
       by_step : (o : Option Step) → scan_step q s.asked ≡ o → Scanned (at_stage s Scanning) d a
       by_step (Some u) e =
-          let is : d ≡ q = then ∙ ap (λ (o : Option Step). option_map_or (λ _. q) o (at_stage q Leaving)) e in
+          let is : d ≡ q = thereafter ∙ ap (λ (o : Option Step). option_map_or (λ _. q) o (at_stage q Leaving)) e in
           subst (λ (f : CoreState). Scanned (at_stage s Scanning) f a) (sym is) (record { scan = refl; positions = refl; rest = refl; after = refl; stage = subst IsSome (sym e) refl })
       by_step None e =
-          let is : d ≡ at_stage q Leaving = then ∙ ap (λ (o : Option Step). option_map_or (λ _. q) o (at_stage q Leaving)) e in
+          let is : d ≡ at_stage q Leaving = thereafter ∙ ap (λ (o : Option Step). option_map_or (λ _. q) o (at_stage q Leaving)) e in
           subst (λ (f : CoreState). Scanned (at_stage s Scanning) f a) (sym is) (record { scan = refl; positions = refl; rest = refl; after = refl; stage = e })
 
   found_on : (c : Change) (old : ℕ) (d : CoreState) → d ≡ advance (at_stage s (Viewing c old)) a → Scanned (at_stage s (Viewing c old)) d a
-  found_on c old d then = by_step (scan_step q s.found.indices) refl
+  found_on c old d thereafter = by_step (scan_step q s.found.indices) refl
     where
       q : CoreState
       q = with_scanning (at_stage s (Viewing c old)) (viewing.advance_view s.found.indices (scanning s) a)
 
       by_step : (o : Option Step) → scan_step q s.found.indices ≡ o → Scanned (at_stage s (Viewing c old)) d a
       by_step (Some u) e =
-          let is : d ≡ q = then ∙ ap (λ (o : Option Step). option_map_or (λ _. q) o (at_stage q (ClaimingRecord c old))) e in
+          let is : d ≡ q = thereafter ∙ ap (λ (o : Option Step). option_map_or (λ _. q) o (at_stage q (ClaimingRecord c old))) e in
           subst (λ (f : CoreState). Scanned (at_stage s (Viewing c old)) f a) (sym is) (record { scan = refl; positions = refl; rest = refl; after = refl; stage = subst IsSome (sym e) refl })
       by_step None e =
-          let is : d ≡ at_stage q (ClaimingRecord c old) = then ∙ ap (λ (o : Option Step). option_map_or (λ _. q) o (at_stage q (ClaimingRecord c old))) e in
+          let is : d ≡ at_stage q (ClaimingRecord c old) = thereafter ∙ ap (λ (o : Option Step). option_map_or (λ _. q) o (at_stage q (ClaimingRecord c old))) e in
           subst (λ (f : CoreState). Scanned (at_stage s (Viewing c old)) f a) (sym is) (record { scan = refl; positions = refl; rest = refl; after = refl; stage = e })
 
 pub scan_on : (s d : CoreState) (t : Stage) (step : Step) (a : ℕ) → s.stage ≡ t → IsScanStage s t → scan_step s (positions_at s t) ≡ Some step → d ≡ advance s a → Scanned s d a
-scan_on s d Scanning step a e w due then =
+scan_on s d Scanning step a e w due thereafter =
     let at : s ≡ at_stage s Scanning = ap (at_stage s) e in
-    subst (λ (f : CoreState). Scanned f d a) (sym at) (asked_on s a d (then ∙ ap (λ (f : CoreState). advance f a) at))
-scan_on s d (Viewing c old) step a e w due then =
+    subst (λ (f : CoreState). Scanned f d a) (sym at) (asked_on s a d (thereafter ∙ ap (λ (f : CoreState). advance f a) at))
+scan_on s d (Viewing c old) step a e w due thereafter =
     let at : s ≡ at_stage s (Viewing c old) = ap (at_stage s) e in
-    subst (λ (f : CoreState). Scanned f d a) (sym at) (found_on s a c old d (then ∙ ap (λ (f : CoreState). advance f a) at))
-scan_on s d Leaving step a e w due then = absurd (none_some (sym w ∙ due))
-scan_on s d (ClaimingRecord c old) step a e w due then = absurd (none_some (sym w ∙ due))
-scan_on s d _ step a e w due then = absurd w
+    subst (λ (f : CoreState). Scanned f d a) (sym at) (found_on s a c old d (thereafter ∙ ap (λ (f : CoreState). advance f a) at))
+scan_on s d Leaving step a e w due thereafter = absurd (none_some (sym w ∙ due))
+scan_on s d (ClaimingRecord c old) step a e w due thereafter = absurd (none_some (sym w ∙ due))
+scan_on s d _ step a e w due thereafter = absurd w
 
 -- a sound machine is at an embedded scan of which a step is due
 pub record AtScan (s : CoreState) (t : Stage) : Type 0 where

@@ -1,5 +1,5 @@
 -- A memory that is closed with all its ports: each entry is in the notes of exactly one.
-use Rattle.partial_long_lived.proofs.{Common.{ℕ, zero, suc, ◌≡◌, ◌≢◌, ◌+◌, ◌<◌, ◌≤◌, ◌==◌, ◌⊎◌, Bool, true, false, cond, List, [], ◌∷◌, ◌++◌, Contains, refl, sym, ◌∙◌, ap, subst, Some, slice_get, inl, inr, arith, AllByRecursion, eqb_tells, TableId, Applied, LegalNotes, places_written, all_after, all_append, all_at, all_back, all_before, all_front, AllByRecursion-get, About, newcomers, IsOf, MemoryView, PortView, new_ports, Closes, IsPortOf}, NewPorts.new_own}
+use Rattle.partial_long_lived.proofs.{Common.{ℕ, zero, suc, ◌≡◌, ◌≢◌, ◌+◌, ◌<◌, ◌≤◌, ◌==◌, ◌⊎◌, Bool, true, false, if◌then◌else◌, List, [], ◌∷◌, ◌++◌, Contains, refl, sym, ◌∙◌, ap, subst, Some, slice_get, inl, inr, arith, AllByRecursion, eqb_tells, TableId, Applied, LegalNotes, places_written, all_after, all_append, all_at, all_back, all_before, all_front, AllByRecursion-get, About, newcomers, IsOf, MemoryView, PortView, new_ports, Closes, IsPortOf}, NewPorts.new_own}
 use Rattle.partial_model.proofs.Entries.{entries_are_noted, written_at, written_by}
 use Rattle.partial_long_lived.specs.AllPorts.{AreAllPorts, ClosedWithAllPorts, IsInOnePort, IsPortIn, OpenedPortsAreAll, port_count}
 
@@ -10,7 +10,7 @@ new_none t a q k (suc n) low =
     let rest = new_none t a q (k + 1) n (omega (arith, low)) in
     elim (eqb_tells k q) [
       | inl same ↦ let is = same.1 in absurd (omega (arith, low, is))
-      | inr other ↦ let same = ap (λ (b : Bool). cond b 1 0 + port_count q (new_ports t (newcomers a (k + 1) n))) other.0 in omega (arith, same, rest)
+      | inr other ↦ let same = ap (λ (b : Bool). (if b then 1 else 0) + port_count q (new_ports t (newcomers a (k + 1) n))) other.0 in omega (arith, same, rest)
     ]
 
 new_one : (t : TableId) (a : About) (q k n : ℕ) → k ≤ q → q < k + n → port_count q (new_ports t (newcomers a k n)) ≡ 1
@@ -19,10 +19,10 @@ new_one t a q k (suc n) from low = elim (eqb_tells k q) [
   | inl same ↦
       let is = same.1 in
       let rest = new_none t a q (k + 1) n (omega (arith, is)) in
-      ap (λ (b : Bool). cond b 1 0 + port_count q (new_ports t (newcomers a (k + 1) n))) same.0 ∙ ap (λ m. 1 + m) rest
+      ap (λ (b : Bool). (if b then 1 else 0) + port_count q (new_ports t (newcomers a (k + 1) n))) same.0 ∙ ap (λ m. 1 + m) rest
   | inr other ↦
       let ne = other.1 in
-      let same = ap (λ (b : Bool). cond b 1 0 + port_count q (new_ports t (newcomers a (k + 1) n))) other.0 in
+      let same = ap (λ (b : Bool). (if b then 1 else 0) + port_count q (new_ports t (newcomers a (k + 1) n))) other.0 in
       let rest = new_one t a q (k + 1) n (omega (arith, from, ne)) (omega (arith, low)) in
       omega (arith, same, rest)
 ]
@@ -45,8 +45,8 @@ none_left k (p ∷ ps) none = by (eqb_tells p.number k) (none_left k ps)
   where
     by : (((p.number == k) ≡ true) × (p.number ≡ k)) ⊎ (((p.number == k) ≡ false) × (p.number ≢ k)) → (port_count k ps ≡ 0 → AllByRecursion (λ (q : PortView). q.number ≢ k) ps) →
         AllByRecursion (λ (q : PortView). q.number ≢ k) (p ∷ ps)
-    by (inl same) rest = let one = ap (λ (b : Bool). cond b 1 0 + port_count k ps) same.0 in absurd (omega (arith, one, none))
-    by (inr other) rest = let no_more = ap (λ (b : Bool). cond b 1 0 + port_count k ps) other.0 in (other.1, rest (omega (arith, no_more, none)))
+    by (inl same) rest = let one = ap (λ (b : Bool). (if b then 1 else 0) + port_count k ps) same.0 in absurd (omega (arith, one, none))
+    by (inr other) rest = let no_more = ap (λ (b : Bool). (if b then 1 else 0) + port_count k ps) other.0 in (other.1, rest (omega (arith, no_more, none)))
 
 find_one : (k : ℕ) (ps : List PortView) → port_count k ps ≡ 1 → HasOne k ps
 find_one k [] one = absurd (omega (arith, one))
@@ -54,10 +54,10 @@ find_one k (p ∷ ps) one = by (eqb_tells p.number k) (find_one k ps)
   where
     by : (((p.number == k) ≡ true) × (p.number ≡ k)) ⊎ (((p.number == k) ≡ false) × (p.number ≢ k)) → (port_count k ps ≡ 1 → HasOne k ps) → HasOne k (p ∷ ps)
     by (inl same) rest =
-        let more = ap (λ (b : Bool). cond b 1 0 + port_count k ps) same.0 in
+        let more = ap (λ (b : Bool). (if b then 1 else 0) + port_count k ps) same.0 in
         record { front = []; port = p; back = ps; is = refl; number = same.1; others = none_left k ps (omega (arith, more, one)) }
     by (inr other) rest =
-        let same = ap (λ (b : Bool). cond b 1 0 + port_count k ps) other.0 in
+        let same = ap (λ (b : Bool). (if b then 1 else 0) + port_count k ps) other.0 in
         let r = rest (omega (arith, same, one)) in
         record { front = p ∷ r.front; port = r.port; back = r.back; is = ap (λ (l : List PortView). p ∷ l) r.is; number = r.number; others = (other.1, r.others) }
 

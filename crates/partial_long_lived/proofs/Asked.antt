@@ -1,5 +1,5 @@
 -- The steps of a change of epoch, as its code asks for them.
-use Rattle.partial_long_lived.proofs.{Common.{ℕ, ◌≡◌, ◌≢◌, ◌+◌, ◌-◌, ◌*◌, ◌%◌, ◌^◌, ◌<◌, ◌≤◌, ◌==◌, Bool, cond, Option, Some, IfSome, List, [], sym, ap, subst, ◌∙◌, inl, inr, arith, lt-ltb, either, Me, Allows, TableId, first_free, list_base, opening_word, Place, Plan, arena_limit, at_word, base, entering_mark, marked, own_word, packed, seal, set_word, OwnedArena, Port, Stands, next_place, passing_port, below_whole, set_place, About, Stand, IsRuleKept, SeatedPort, one_of, plan_of, bare, shape_plan, SeatGoes, IsOne, tells, IsHeld, port_at, SeatGives, LoadsPort, PassesSealed, SeatPublishes, PutsPort, Seals, Sets, Takes, passed_at, unpacked, IsIdle, IsCarriedStamp, IsRight, IsFixedWord, MayPutPort, OfOwned, Owns, PutsBy, SetsLists, SetsNext, TakesBy, HasSetWords, initial_words, slot_counter, FindsClear, behind_value, behind_values, value_word, initial_record, SetsValue, FoundValue}, Changes.{may_give, may_load_port, may_pass, may_put, may_seal, may_take}, Sets.{may_find_clear, may_set_over_lists, may_set_same, may_set_stamp, may_set_value, value_at}, Publishes.may_publish, Standing.{base_is, place_is}}
+use Rattle.partial_long_lived.proofs.{Common.{ℕ, ◌≡◌, ◌≢◌, ◌+◌, ◌-◌, ◌*◌, ◌%◌, ◌^◌, ◌<◌, ◌≤◌, ◌==◌, Bool, if◌then◌else◌, Option, Some, IfSome, List, [], sym, ap, subst, ◌∙◌, inl, inr, arith, lt-ltb, either, Me, Allows, TableId, first_free, list_base, opening_word, Place, Plan, arena_limit, at_word, base, entering_mark, marked, own_word, packed, seal, set_word, OwnedArena, Port, Stands, next_place, passing_port, below_whole, set_place, About, Stand, IsRuleKept, SeatedPort, one_of, plan_of, bare, shape_plan, SeatGoes, IsOne, tells, IsHeld, port_at, SeatGives, LoadsPort, PassesSealed, SeatPublishes, PutsPort, Seals, Sets, Takes, passed_at, unpacked, IsIdle, IsCarriedStamp, IsRight, IsFixedWord, MayPutPort, OfOwned, Owns, PutsBy, SetsLists, SetsNext, TakesBy, HasSetWords, initial_words, slot_counter, FindsClear, behind_value, behind_values, value_word, initial_record, SetsValue, FoundValue}, Changes.{may_give, may_load_port, may_pass, may_put, may_seal, may_take}, Sets.{may_find_clear, may_set_over_lists, may_set_same, may_set_stamp, may_set_value, value_at}, Publishes.may_publish, Standing.{base_is, place_is}}
 
 -- a step by the arena that the port owns
 of_owned : (about : About) (slots id i : ℕ) (f : ℕ → ℕ) (me : Me (Unit {0}) (List SeatedPort)) (R : OwnedArena → SeatedPort → ℕ → SeatedPort → Type 0) (o : OwnedArena) →
@@ -11,7 +11,7 @@ of_owned about slots id i f me R o is asked =
 
 -- a component that isn't sealed isn't passed
 passed_not : (a : ℕ) (p : Port) → a < seal → passed_at a p ≡ p
-passed_not a p low = ap (λ (c : Bool). cond c p (passing_port p)) (lt-ltb a seal low)
+passed_not a p low = ap (λ (c : Bool). if c then p else passing_port p) (lt-ltb a seal low)
 
 module _ (table : TableId) (about : About) (s : Stand) (h : IsHeld table about s) where
   abbrev x : SeatedPort

@@ -1,5 +1,5 @@
 -- An attempt of an update in the epoch where a port stands.
-use Rattle.partial_long_lived.proofs.{Common.{Opening, ℕ, ◌≡◌, ◌≢◌, ◌+◌, ◌<◌, ◌≤◌, ◌==◌, ◌++◌, Bool, true, false, cond, Option, None, Some, Ok, List, [], ◌∷◌, length, map, refl, sym, ap, subst, ◌∙◌, inl, inr, arith, option_map_or, nat_lt, is_some, lt-ltb, eqb_tells, length-map, TableId, Applied, Call, Answer, Note, stamp_of, Noted, place_of, Load, Exchange, IsLayout, Layout, greatest_record, pool_end, Change, Reply, Stage, Exchanging, Finished, UpdateBegun, CoreState, advance_at, at_stage, begin_getting, lists_spent, overtaken_reply, reply_of, step_at, step_of, answer_for, call_of, update_call, IsRecord, IsSound, is_sound_at, Part, AreNotesOf, IsNoteOf, IsPlacedAt, Exchanged, RestsLike, update_reply, Plan, seal, unsealed, history_of, public_entry, public_log, stamp_limit, public_noted, Control, About, Shape, Stand, Began, SeatedPort, plan_of, seen_in, SeatGoes, BeganBy, IsHeld, port_at, IsIdle, StaysAt, opening_of, SeatMakes, MissesSeal, unsealed_answer, RestsUnmarked, CallMade, record_claim, IsGoing, ComesTo, MayBegin, machine_at, UpdateAttempted, ExchangeDue, ExpectsOne, IsEntryOf, IsOwnMachine, NotesNothing, PortStayed, noted_where, word_from, ◌||◌, IfSome, take, length-append, IsPossibleAt, SeatBegins}, Coming.goes_on, Under.{first_made, next_made, notes_same}}
+use Rattle.partial_long_lived.proofs.{Common.{Opening, ℕ, ◌≡◌, ◌≢◌, ◌+◌, ◌<◌, ◌≤◌, ◌==◌, ◌++◌, Bool, true, false, if◌then◌else◌, Option, None, Some, Ok, List, [], ◌∷◌, length, map, refl, sym, ap, subst, ◌∙◌, inl, inr, arith, option_map_or, nat_lt, is_some, lt-ltb, eqb_tells, length-map, TableId, Applied, Call, Answer, Note, stamp_of, Noted, place_of, Load, Exchange, IsLayout, Layout, greatest_record, pool_end, Change, Reply, Stage, Exchanging, Finished, UpdateBegun, CoreState, advance_at, at_stage, begin_getting, lists_spent, overtaken_reply, reply_of, step_at, step_of, answer_for, call_of, update_call, IsRecord, IsSound, is_sound_at, Part, AreNotesOf, IsNoteOf, IsPlacedAt, Exchanged, RestsLike, update_reply, Plan, seal, unsealed, history_of, public_entry, public_log, stamp_limit, public_noted, Control, About, Shape, Stand, Began, SeatedPort, plan_of, seen_in, SeatGoes, BeganBy, IsHeld, port_at, IsIdle, StaysAt, opening_of, SeatMakes, MissesSeal, unsealed_answer, RestsUnmarked, CallMade, record_claim, IsGoing, ComesTo, MayBegin, machine_at, UpdateAttempted, ExchangeDue, ExpectsOne, IsEntryOf, IsOwnMachine, NotesNothing, PortStayed, noted_where, word_from, ◌||◌, IfSome, take, length-append, IsPossibleAt, SeatBegins}, Coming.goes_on, Under.{first_made, next_made, notes_same}}
 use Rattle.std.proofs.Math.Bool.{or-false}
 use Rattle.partial_lines.specs.declared.exchange.Exchanged.TheVariants.{Applied as IsApplied, Overtaken}
 
@@ -47,7 +47,7 @@ reply_is d (IsApplied stamp) = refl
 reply_is d (Overtaken by) = refl
 
 -- the word of its record
-word_is : (r : Exchanged) (c : Bool) (at found : ℕ) → ((d : Change) → update_reply d (Ok r) ≡ cond c (Reply.Applied at) (overtaken_reply d found)) → word_from r ≡ cond c at found
+word_is : (r : Exchanged) (c : Bool) (at found : ℕ) → ((d : Change) → update_reply d (Ok r) ≡ (if c then Reply.Applied at else overtaken_reply d found)) → word_from r ≡ (if c then at else found)
 word_is (IsApplied stamp) true at found ends = let is = ends (record { component = 0; expected = None; value = 0 }) in cc
 word_is (IsApplied stamp) false at found ends = let is : Reply.Applied stamp ≡ Reply.Lost found = ends (record { component = 0; expected = None; value = 0 }) in cc
 word_is (Overtaken by) true at found ends = let is : Reply.Lost by ≡ Reply.Applied at = ends (record { component = 0; expected = None; value = 0 }) in cc
@@ -221,8 +221,8 @@ module _ (table : TableId) (about : About) (s : Stand) (h : IsHeld table about s
 
     machine_first : machine_at u ≡ at_stage b (Finished (Reply.Changed old))
     machine_first = sym makes.0.told.machine.is
-        ∙ ap (λ (q : Option ℕ). cond (option_map_or (λ e. e == old) q true) (begin_getting b d old) (at_stage b (Finished (Reply.Changed old)))) expected
-        ∙ ap (λ c. cond c (begin_getting b d old) (at_stage b (Finished (Reply.Changed old)))) unequal
+        ∙ ap (λ (q : Option ℕ). if option_map_or (λ e. e == old) q true then begin_getting b d old else at_stage b (Finished (Reply.Changed old))) expected
+        ∙ ap (λ c. if c then begin_getting b d old else at_stage b (Finished (Reply.Changed old))) unequal
 
     replies_first : reply_of (machine_at u) ≡ Some (reply_as d.expected (Overtaken old))
     replies_first = ap reply_of machine_first ∙ ap (λ q. Some (option_map_or (λ _. Reply.Changed old) q (Reply.Lost old))) (sym expected)
@@ -290,12 +290,12 @@ module _ (table : TableId) (about : About) (s : Stand) (h : IsHeld table about s
 
     -- it isn't, or its record is another
     module _ (exchanged : ExchangeDue v d old at found t) (misses : MissesSeal old found) (r : Exchanged)
-        (ends : (c : Change) → update_reply c (Ok r) ≡ cond (unsealed found == old) (Reply.Applied at) (overtaken_reply c (unsealed found))) where
+        (ends : (c : Change) → update_reply c (Ok r) ≡ (if unsealed found == old then Reply.Applied at else overtaken_reply c (unsealed found))) where
       inside : d.component < (port_at v).about.sizes.m
       inside = subst (λ (z : Layout). d.component < z.m) (begins.sizes ∙ ap (λ (a : About). a.sizes) (sym over_call.goes.about)) begins.sound.stage.0
 
       answered_is : unsealed_answer (plan_of (port_at v).about) (Exchange d.component old at) found ≡ unsealed found
-      answered_is = ap (λ (c : Bool). cond c (unsealed found) found) (lt-ltb d.component (port_at v).about.sizes.m inside)
+      answered_is = ap (λ (c : Bool). if c then unsealed found else found) (lt-ltb d.component (port_at v).about.sizes.m inside)
 
       makes_last : SeatMakes false (machine_at v) (Exchange d.component old at) (port_at v) (unsealed found) (port_at t)
       makes_last = elim exchanged [
@@ -332,7 +332,7 @@ module _ (table : TableId) (about : About) (s : Stand) (h : IsHeld table about s
           subst (λ n. n < stamp_limit) (sym (word_is r (unsealed found == old) at (unsealed found) ends))
           (by (unsealed found == old) (pool_small b.sizes at begins.layout (omega (arith, up, end))) (pool_small b.sizes (unsealed found) begins.layout (omega (arith, low, end))))
         where
-          by : (c : Bool) → at < stamp_limit → unsealed found < stamp_limit → cond c at (unsealed found) < stamp_limit
+          by : (c : Bool) → at < stamp_limit → unsealed found < stamp_limit → (if c then at else unsealed found) < stamp_limit
           by true a f = a
           by false a f = f
 

@@ -1,8 +1,8 @@
 -- The steps of a change of epoch are allowed.
-use Rattle.partial_long_lived.proofs.{Common.{ℕ, ◌≡◌, ◌≢◌, ◌+◌, ◌-◌, ◌%◌, ◌^◌, ◌<◌, ◌≤◌, ◌==◌, ◌⊎◌, Bool, true, false, cond, Option, Some, None, List, get_or, set, refl, sym, ap, subst, ◌∙◌, inl, inr, arith, nat_lt, cases_lt, lt-ltb, eqb_tells, get_or-set_other, some_same, either, Me, Allows, put, IsPlace, Place, Plan, at_word, base, component_words, control_words, entering_mark, marked, own_word, packed, seal, Control, Entering, OwnedArena, Port, Stands, Marks, Loaded, IsPlaceWord, MayPut, Beside, LawfulEpochs, place_now, KeepsTime, passing_port, at_next_port, having_given, having_loaded, just_taken, owning_port, gives_stay_lawful, loaded_marks_keep_time, marks_are_loaded, others_are_elsewhere, puts_keep_time, puts_stay_lawful, sealed_passes_stay_lawful, seals_stay_lawful, takes_stay_lawful, at_of, not_below, About, Began, IsRuleKept, IsSince, SeatedPort, one_of, plan_of, IsSeatKnown, IsOne, tells, SeatGives, LoadsPort, PassesSealed, PutsPort, Seals, Takes, elsewhere, passed_at, port_loaded, port_put, taken_at, unpacked}, Asides.IsQuiet, Control.{Quietly, lawful_itself, load_same, quietly, time_aside, unpacked_is}}
+use Rattle.partial_long_lived.proofs.{Common.{ℕ, ◌≡◌, ◌≢◌, ◌+◌, ◌-◌, ◌%◌, ◌^◌, ◌<◌, ◌≤◌, ◌==◌, ◌⊎◌, Bool, true, false, if◌then◌else◌, Option, Some, None, List, slice_index, slice_set, refl, sym, ap, subst, ◌∙◌, inl, inr, arith, nat_lt, cases_lt, lt-ltb, eqb_tells, get_or-set_other, some_same, either, Me, Allows, put, IsPlace, Place, Plan, at_word, base, component_words, control_words, entering_mark, marked, own_word, packed, seal, Control, Entering, OwnedArena, Port, Stands, Marks, Loaded, IsPlaceWord, MayPut, Beside, LawfulEpochs, place_now, KeepsTime, passing_port, at_next_port, having_given, having_loaded, just_taken, owning_port, gives_stay_lawful, loaded_marks_keep_time, marks_are_loaded, others_are_elsewhere, puts_keep_time, puts_stay_lawful, sealed_passes_stay_lawful, seals_stay_lawful, takes_stay_lawful, at_of, not_below, About, Began, IsRuleKept, IsSince, SeatedPort, one_of, plan_of, IsSeatKnown, IsOne, tells, SeatGives, LoadsPort, PassesSealed, PutsPort, Seals, Takes, elsewhere, passed_at, port_loaded, port_put, taken_at, unpacked}, Asides.IsQuiet, Control.{Quietly, lawful_itself, load_same, quietly, time_aside, unpacked_is}}
 
 -- an exchange as a table makes it
-pub either_cond : (c : Bool) (x y : ℕ) → cond c x y ≡ either c x y
+pub either_cond : (c : Bool) (x y : ℕ) → (if c then x else y) ≡ either c x y
 either_cond true x y = refl
 either_cond false x y = refl
 
@@ -13,19 +13,19 @@ owning_same p o is = ap (λ (t : Option OwnedArena). record p { control = record
 passed_quiet : (n : ℕ) → IsQuiet (passed_at n)
 passed_quiet n = record { part = λ p. by_part p (nat_lt n seal); before = λ p. by_before p (nat_lt n seal); here = λ p. by_here p (nat_lt n seal); passed = λ p. by_passed p (nat_lt n seal) }
   where
-    by_part : (p : Port) (c : Bool) → (cond c p (passing_port p)).part ≡ p.part
+    by_part : (p : Port) (c : Bool) → (if c then p else passing_port p).part ≡ p.part
     by_part p true = refl
     by_part p false = refl
 
-    by_before : (p : Port) (c : Bool) → (cond c p (passing_port p)).before ≡ p.before
+    by_before : (p : Port) (c : Bool) → (if c then p else passing_port p).before ≡ p.before
     by_before p true = refl
     by_before p false = refl
 
-    by_here : (p : Port) (c : Bool) → (cond c p (passing_port p)).control.here ≡ p.control.here
+    by_here : (p : Port) (c : Bool) → (if c then p else passing_port p).control.here ≡ p.control.here
     by_here p true = refl
     by_here p false = refl
 
-    by_passed : (p : Port) (c : Bool) → p.passed ≤ (cond c p (passing_port p)).passed
+    by_passed : (p : Port) (c : Bool) → p.passed ≤ (if c then p else passing_port p).passed
     by_passed p true = omega arith
     by_passed p false = omega arith
 
@@ -35,47 +35,47 @@ owned_quiet g = record { part = λ p. refl; before = λ p. refl; here = λ p. re
 taken_quiet : (i n : ℕ) → IsQuiet (taken_at i n)
 taken_quiet i n = record { part = λ p. by_part p (n == 0); before = λ p. by_before p (n == 0); here = λ p. by_here p (n == 0); passed = λ p. by_passed p (n == 0) }
   where
-    then : Port → Bool → Port
-    then p c = cond c (owning_port p (just_taken i)) p
+    thereafter : Port → Bool → Port
+    thereafter p c = if c then owning_port p (just_taken i) else p
 
-    by_part : (p : Port) (c : Bool) → (then p c).part ≡ p.part
+    by_part : (p : Port) (c : Bool) → (thereafter p c).part ≡ p.part
     by_part p true = refl
     by_part p false = refl
 
-    by_before : (p : Port) (c : Bool) → (then p c).before ≡ p.before
+    by_before : (p : Port) (c : Bool) → (thereafter p c).before ≡ p.before
     by_before p true = refl
     by_before p false = refl
 
-    by_here : (p : Port) (c : Bool) → (then p c).control.here ≡ p.control.here
+    by_here : (p : Port) (c : Bool) → (thereafter p c).control.here ≡ p.control.here
     by_here p true = refl
     by_here p false = refl
 
-    by_passed : (p : Port) (c : Bool) → p.passed ≤ (then p c).passed
+    by_passed : (p : Port) (c : Bool) → p.passed ≤ (thereafter p c).passed
     by_passed p true = omega arith
     by_passed p false = omega arith
 
 -- the unmarked word of a port names a place
 module _ (e : Plan) (words : List ℕ) (ports : ℕ → Port) (b : Beside) (w : LawfulEpochs e words ports b) (q : ℕ) (low : q < e.ports) where
-  word_is : get_or (control_words e words) (at_word q) 0 ≡ get_or words (at_word q) 0
-  word_is = at_of (λ i. get_or words i 0) 0 (1 + e.ports + e.arenas) (at_word q) (omega (arith, low)) ∙ ap (λ i. get_or words i 0) (omega arith)
+  word_is : slice_index (control_words e words) (at_word q) ≡ slice_index words (at_word q)
+  word_is = at_of (λ i. slice_index words i) 0 (1 + e.ports + e.arenas) (at_word q) (omega (arith, low)) ∙ ap (λ i. slice_index words i) (omega arith)
 
-  pub unmarked_place : get_or words (at_word q) 0 < entering_mark → (get_or words (at_word q) 0 ≡ packed (unpacked (get_or words (at_word q) 0))) × IsPlace e (unpacked (get_or words (at_word q) 0))
+  pub unmarked_place : slice_index words (at_word q) < entering_mark → (slice_index words (at_word q) ≡ packed (unpacked (slice_index words (at_word q)))) × IsPlace e (unpacked (slice_index words (at_word q)))
   unmarked_place less = by (ports q).control.entering (w.control.at q low)
     where
-      named : (c : Place) → IsPlace e c → get_or words (at_word q) 0 ≡ packed c →
-          (get_or words (at_word q) 0 ≡ packed (unpacked (get_or words (at_word q) 0))) × IsPlace e (unpacked (get_or words (at_word q) 0))
+      named : (c : Place) → IsPlace e c → slice_index words (at_word q) ≡ packed c →
+          (slice_index words (at_word q) ≡ packed (unpacked (slice_index words (at_word q)))) × IsPlace e (unpacked (slice_index words (at_word q)))
       named c place at =
-          let same : unpacked (get_or words (at_word q) 0) ≡ c = ap unpacked at ∙ unpacked_is c w.plan.arenas place.arena in
+          let same : unpacked (slice_index words (at_word q)) ≡ c = ap unpacked at ∙ unpacked_is c w.plan.arenas place.arena in
           (at ∙ ap packed (sym same), subst (IsPlace e) (sym same) place)
 
-      entering : (get_or (control_words e words) (at_word q) 0 ≡ marked (ports q).control.here) ⊎
-          ((c : Place) × IsPlace e c × (get_or (control_words e words) (at_word q) 0 ≡ packed c) × ((ports q).control.here.epoch < c.epoch)) →
-          (get_or words (at_word q) 0 ≡ packed (unpacked (get_or words (at_word q) 0))) × IsPlace e (unpacked (get_or words (at_word q) 0))
+      entering : (slice_index (control_words e words) (at_word q) ≡ marked (ports q).control.here) ⊎
+          ((c : Place) × IsPlace e c × (slice_index (control_words e words) (at_word q) ≡ packed c) × ((ports q).control.here.epoch < c.epoch)) →
+          (slice_index words (at_word q) ≡ packed (unpacked (slice_index words (at_word q)))) × IsPlace e (unpacked (slice_index words (at_word q)))
       entering (inl at) = let is = word_is in absurd (omega (arith, at, is, less))
       entering (inr c) = named c.0 c.1 (sym word_is ∙ c.2)
 
       by : (t : Entering) → IsPlaceWord e (control_words e words) q (ports q).control.here t →
-          (get_or words (at_word q) 0 ≡ packed (unpacked (get_or words (at_word q) 0))) × IsPlace e (unpacked (get_or words (at_word q) 0))
+          (slice_index words (at_word q) ≡ packed (unpacked (slice_index words (at_word q)))) × IsPlace e (unpacked (slice_index words (at_word q)))
       by Stands at = named (ports q).control.here (w.control.places q low) (sym word_is ∙ at)
       by Marks at = entering at
       by (Loaded c) at = entering at
@@ -86,20 +86,20 @@ module _ (e : Plan) (words : List ℕ) (ports : ℕ → Port) (b : Beside) (w : 
   pub same_owned : LawfulEpochs e words (put k (owning_port (ports k) o) ports) b
   same_owned = subst (λ (p : Port). LawfulEpochs e words (put k p ports) b) (sym (owning_same (ports k) o owned)) (lawful_itself e words ports b k w)
 
-  pub elsewhere_lawful : get_or words (at_word o.clean) 0 < entering_mark → LawfulEpochs e words (put k (owning_port (ports k) (elsewhere (get_or words (at_word o.clean) 0) o)) ports) b
+  pub elsewhere_lawful : slice_index words (at_word o.clean) < entering_mark → LawfulEpochs e words (put k (owning_port (ports k) (elsewhere (slice_index words (at_word o.clean)) o)) ports) b
   elsewhere_lawful less =
-      let n : ℕ = get_or words (at_word o.clean) 0 in
+      let n : ℕ = slice_index words (at_word o.clean) in
       let there = unmarked_place e words ports b w o.clean more less in
       elim (eqb_tells (unpacked n).arena o.arena) [
-        | inl is ↦ subst (λ (c : Bool). LawfulEpochs e words (put k (owning_port (ports k) (cond c o (at_next_port o))) ports) b) (sym is.0) same_owned
-        | inr ne ↦ subst (λ (c : Bool). LawfulEpochs e words (put k (owning_port (ports k) (cond c o (at_next_port o))) ports) b) (sym ne.0)
+        | inl is ↦ subst (λ (c : Bool). LawfulEpochs e words (put k (owning_port (ports k) (if c then o else at_next_port o)) ports) b) (sym is.0) same_owned
+        | inr ne ↦ subst (λ (c : Bool). LawfulEpochs e words (put k (owning_port (ports k) (if c then o else at_next_port o)) ports) b) (sym ne.0)
             (others_are_elsewhere e words ports b k o (unpacked n) w below owned looked none more there.1 there.0 ne.1)
       ]
 
 -- a quiet step after which others find the port as it was
 module _ (a : About) (words words' : List ℕ) (ports : ℕ → Port) (b c : Beside) (since : ℕ → ℕ) (time : KeepsTime (plan_of a) words ports (place_now b) since) (log : c.log ≡ b.log)
     (before : c.before ≡ b.before)
-    (k : ℕ) (n : Began) (old : IsSince n (ports k).control.entering (since k)) (at : (q : ℕ) → q < a.ports → get_or words' (at_word q) 0 ≡ get_or words (at_word q) 0) where
+    (k : ℕ) (n : Began) (old : IsSince n (ports k).control.entering (since k)) (at : (q : ℕ) → q < a.ports → slice_index words' (at_word q) ≡ slice_index words (at_word q)) where
   pub still : (p : Port) → p.control.here ≡ (ports k).control.here → p.control.entering ≡ (ports k).control.entering → ((j : ℕ) (m : Place) → MayPut p.control j m → MayPut (ports k).control j m) →
       LawfulEpochs (plan_of a) words' (put k p ports) c → Quietly a words' ports b since k n p
   still p here entering puts lawful = record {
@@ -114,10 +114,10 @@ module _ (a : About) (words words' : List ℕ) (ports : ℕ → Port) (b c : Bes
   }
 
 -- a load leaves the words of ports as they are, and so does a store behind them
-pub load_at : (words : List ℕ) (i q : ℕ) → get_or (set words i (get_or words i 0)) (at_word q) 0 ≡ get_or words (at_word q) 0
-load_at words i q = ap (λ (l : List ℕ). get_or l (at_word q) 0) (sym (load_same words i))
+pub load_at : (words : List ℕ) (i q : ℕ) → slice_index (slice_set words i (slice_index words i)) (at_word q) ≡ slice_index words (at_word q)
+load_at words i q = ap (λ (l : List ℕ). slice_index l (at_word q)) (sym (load_same words i))
 
-pub store_at : (e : Plan) (words : List ℕ) (i v q : ℕ) → q < e.ports → 1 + e.ports ≤ i → get_or (set words i v) (at_word q) 0 ≡ get_or words (at_word q) 0
+pub store_at : (e : Plan) (words : List ℕ) (i v q : ℕ) → q < e.ports → 1 + e.ports ≤ i → slice_index (slice_set words i v) (at_word q) ≡ slice_index words (at_word q)
 store_at e words i v q low from = get_or-set_other words i (at_word q) v 0 (omega (arith, low, from))
 
 -- who owns no arena, or has no mark, puts nobody
@@ -131,7 +131,7 @@ unmarked_puts c R o is none j m may =
     absurd cc
 
 -- the arena as it was, or its next port
-elsewhere_puts : (p : Port) (o : OwnedArena) (c : Bool) → p.control.owned ≡ Some o → (j : ℕ) (m : Place) → MayPut (owning_port p (cond c o (at_next_port o))).control j m → MayPut p.control j m
+elsewhere_puts : (p : Port) (o : OwnedArena) (c : Bool) → p.control.owned ≡ Some o → (j : ℕ) (m : Place) → MayPut (owning_port p (if c then o else at_next_port o)).control j m → MayPut p.control j m
 elsewhere_puts p o true is j m may = record {
   owned = o;
   is = is;
@@ -156,21 +156,21 @@ module _ {S : Type 0} (a : About) (slots id : ℕ) (me : Me S (List SeatedPort))
       (λ words ports notes b since w time below is old come.
       let k : ℕ = x.number in
       let i : ℕ = base e x.port.control.here.arena + x.port.passed in
-      let n : ℕ = get_or words i 0 in
-      let P : Bool → Port = λ t. cond t (ports k) (passing_port (ports k)) in
+      let n : ℕ = slice_index words i in
+      let P : Bool → Port = λ t. (if t then ports k else passing_port (ports k)) in
       (elim (cases_lt n seal) [
-        | inl less ↦ subst (λ (t : Bool). Quietly a (set words i n) ports b since k x.began (P t)) (sym (lt-ltb n seal less))
-            (still a words (set words i n) ports b b since time refl refl k x.began old (λ q low. load_at words i q) (ports k) refl refl (λ j m may. may)
+        | inl less ↦ subst (λ (t : Bool). Quietly a (slice_set words i n) ports b since k x.began (P t)) (sym (lt-ltb n seal less))
+            (still a words (slice_set words i n) ports b b since time refl refl k x.began old (λ q low. load_at words i q) (ports k) refl refl (λ j m may. may)
             (subst (λ (l : List ℕ). LawfulEpochs e l (put k (ports k) ports) b) (load_same words i) (lawful_itself e words ports b k w.epochs)))
         | inr from ↦
             let here = ap (λ (p : Port). p.control.here.arena) is in
             let passed = ap (λ (p : Port). p.passed) is in
-            let at : get_or (component_words e words (ports k).control.here.arena) (ports k).passed 0 ≡ n =
-            at_of (λ j. get_or words (base e (ports k).control.here.arena + j) 0) 0 e.sizes.m (ports k).passed (omega (arith, more, passed))
-            ∙ ap (λ j. get_or words (base e (ports k).control.here.arena + j) 0) (omega (arith, passed)) ∙ ap (λ z. get_or words (base e z + x.port.passed) 0) (sym here) in
+            let at : slice_index (component_words e words (ports k).control.here.arena) (ports k).passed ≡ n =
+            at_of (λ j. slice_index words (base e (ports k).control.here.arena + j)) 0 e.sizes.m (ports k).passed (omega (arith, more, passed))
+            ∙ ap (λ j. slice_index words (base e (ports k).control.here.arena + j)) (omega (arith, passed)) ∙ ap (λ z. slice_index words (base e z + x.port.passed)) (sym here) in
             let to = sealed_passes_stay_lawful e words ports b k w.epochs below (ap (λ (p : Port). p.control.entering) (sym is) ∙ stands) (omega (arith, more, passed)) (omega (arith, at, from)) in
-            subst (λ (t : Bool). Quietly a (set words i n) ports b since k x.began (P t)) (sym (not_below n seal from))
-            (still a words (set words i n) ports b to.beside since time to.same.log to.same.before k x.began old (λ q low. load_at words i q) (passing_port (ports k)) refl refl (λ j m may. may)
+            subst (λ (t : Bool). Quietly a (slice_set words i n) ports b since k x.began (P t)) (sym (not_below n seal from))
+            (still a words (slice_set words i n) ports b to.beside since time to.same.log to.same.before k x.began old (λ q low. load_at words i q) (passing_port (ports k)) refl refl (λ j m may. may)
             (subst (λ (l : List ℕ). LawfulEpochs e l (put k (passing_port (ports k)) ports) to.beside) (load_same words i) to.lawful))
       ]))
       (λ words ports b w below is. refl)
@@ -185,9 +185,9 @@ module _ {S : Type 0} (a : About) (slots id : ℕ) (me : Me S (List SeatedPort))
       let i : ℕ = base e x.port.control.here.arena + x.port.passed in
       let passed = ap (λ (p : Port). p.passed) is in
       let to = seals_stay_lawful e words ports b k w.epochs below (ap (λ (p : Port). p.control.entering) (sym is) ∙ stands) (omega (arith, more, passed)) in
-      still a words (set words i ((get_or words i 0 + seal) % 2 ^ 64)) ports b to.beside since time to.same.log to.same.before k x.began old
-      (λ q low. store_at e words i ((get_or words i 0 + seal) % 2 ^ 64) q low (omega arith)) (passing_port (ports k)) refl refl (λ j m may. may)
-      (subst (λ (p : Port). LawfulEpochs e (set words (base e p.control.here.arena + p.passed) ((get_or words (base e p.control.here.arena + p.passed) 0 + seal) % 2 ^ 64))
+      still a words (slice_set words i ((slice_index words i + seal) % 2 ^ 64)) ports b to.beside since time to.same.log to.same.before k x.began old
+      (λ q low. store_at e words i ((slice_index words i + seal) % 2 ^ 64) q low (omega arith)) (passing_port (ports k)) refl refl (λ j m may. may)
+      (subst (λ (p : Port). LawfulEpochs e (slice_set words (base e p.control.here.arena + p.passed) ((slice_index words (base e p.control.here.arena + p.passed) + seal) % 2 ^ 64))
       (put k (passing_port (ports k)) ports) to.beside) (sym is) to.lawful))
       (λ words ports b w below is. refl)
 
@@ -197,23 +197,23 @@ module _ {S : Type 0} (a : About) (slots id : ℕ) (me : Me S (List SeatedPort))
   may_take i stands none inside apart = quietly a slots id me one own known (own_word e i) (λ n. either (n == 0) (x.number + 1) n) (taken_at i) (Takes i) (taken_quiet i)
       (λ words ports notes b since w time below is old come.
       let k : ℕ = x.number in
-      let n : ℕ = get_or words (own_word e i) 0 in
+      let n : ℕ = slice_index words (own_word e i) in
       let v : ℕ = either (n == 0) (k + 1) n in
-      let P : Bool → Port = λ t. cond t (owning_port (ports k) (just_taken i)) (ports k) in
+      let P : Bool → Port = λ t. (if t then owning_port (ports k) (just_taken i) else ports k) in
       (elim (eqb_tells n 0) [
         | inl free ↦
             let to = takes_stay_lawful e words ports b k i w.epochs below (ap (λ (p : Port). p.control.entering) (sym is) ∙ stands) (ap (λ (p : Port). p.control.owned) (sym is) ∙ none) inside
             (λ same. apart (ap (λ (p : Port). p.control.here.arena) is ∙ same)) free.1 in
-            subst (λ (t : Bool). Quietly a (set words (own_word e i) v) ports b since k x.began (P t)) (sym free.0)
-            (still a words (set words (own_word e i) v) ports b b since time refl refl k x.began old (λ q low. store_at e words (own_word e i) v q low (omega arith))
+            subst (λ (t : Bool). Quietly a (slice_set words (own_word e i) v) ports b since k x.began (P t)) (sym free.0)
+            (still a words (slice_set words (own_word e i) v) ports b b since time refl refl k x.began old (λ q low. store_at e words (own_word e i) v q low (omega arith))
             (owning_port (ports k) (just_taken i)) refl refl
             (λ j m may. unmarked_puts (owning_port (ports k) (just_taken i)).control (MayPut (ports k).control j m) (just_taken i) refl refl j m may)
-            (subst (λ v. LawfulEpochs e (set words (own_word e i) v) (put k (owning_port (ports k) (just_taken i)) ports) b) (either_cond (n == 0) (k + 1) n) to))
+            (subst (λ v. LawfulEpochs e (slice_set words (own_word e i) v) (put k (owning_port (ports k) (just_taken i)) ports) b) (either_cond (n == 0) (k + 1) n) to))
         | inr held ↦
-            subst (λ (t : Bool). Quietly a (set words (own_word e i) v) ports b since k x.began (P t)) (sym held.0)
-            (still a words (set words (own_word e i) v) ports b b since time refl refl k x.began old (λ q low. store_at e words (own_word e i) v q low (omega arith)) (ports k) refl refl
+            subst (λ (t : Bool). Quietly a (slice_set words (own_word e i) v) ports b since k x.began (P t)) (sym held.0)
+            (still a words (slice_set words (own_word e i) v) ports b b since time refl refl k x.began old (λ q low. store_at e words (own_word e i) v q low (omega arith)) (ports k) refl refl
             (λ j m may. may)
-            (subst (λ (t : Bool). LawfulEpochs e (set words (own_word e i) (either t (k + 1) n)) (put k (ports k) ports) b) (sym held.0)
+            (subst (λ (t : Bool). LawfulEpochs e (slice_set words (own_word e i) (either t (k + 1) n)) (put k (ports k) ports) b) (sym held.0)
             (subst (λ (l : List ℕ). LawfulEpochs e l (put k (ports k) ports) b) (load_same words (own_word e i)) (lawful_itself e words ports b k w.epochs))))
       ]))
       (λ words ports b w below is. refl)
@@ -224,7 +224,7 @@ module _ {S : Type 0} (a : About) (slots id : ℕ) (me : Me S (List SeatedPort))
       (λ n. record { part = λ p. refl; before = λ p. refl; here = λ p. refl; passed = λ p. omega arith })
       (λ words ports notes b since w time below is old come.
       let k : ℕ = x.number in
-      still a words (set words (own_word e o.arena) 0) ports b b since time refl refl k x.began old (λ q low. store_at e words (own_word e o.arena) 0 q low (omega arith))
+      still a words (slice_set words (own_word e o.arena) 0) ports b b since time refl refl k x.began old (λ q low. store_at e words (own_word e o.arena) 0 q low (omega arith))
       (having_given (ports k)) refl refl
       (λ j m may. none_puts (having_given (ports k)).control (MayPut (ports k).control j m) refl j m may)
       (gives_stay_lawful e words ports b k o w.epochs below (ap (λ (p : Port). p.control.owned) (sym is) ∙ owned)))
@@ -236,10 +236,10 @@ module _ {S : Type 0} (a : About) (slots id : ℕ) (me : Me S (List SeatedPort))
   may_load_port o owned looked none more = quietly a slots id me one own known (at_word o.clean) (λ n. n) (λ n p. owning_port p (port_loaded n o)) (LoadsPort o) (λ n. owned_quiet (λ p. port_loaded n o))
       (λ words ports notes b since w time below is old come.
       let k : ℕ = x.number in
-      let n : ℕ = get_or words (at_word o.clean) 0 in
-      let words' : List ℕ = set words (at_word o.clean) n in
+      let n : ℕ = slice_index words (at_word o.clean) in
+      let words' : List ℕ = slice_set words (at_word o.clean) n in
       let owned' : (ports k).control.owned ≡ Some o = ap (λ (p : Port). p.control.owned) (sym is) ∙ owned in
-      let P : Bool → Port = λ t. owning_port (ports k) (cond t (elsewhere n o) (having_loaded o (unpacked (n - entering_mark)))) in
+      let P : Bool → Port = λ t. owning_port (ports k) (if t then elsewhere n o else having_loaded o (unpacked (n - entering_mark))) in
       (elim (cases_lt n entering_mark) [
         | inl less ↦ subst (λ (t : Bool). Quietly a words' ports b since k x.began (P t)) (sym (lt-ltb n entering_mark less))
             (still a words words' ports b b since time refl refl k x.began old (λ q low. load_at words (at_word o.clean) q) (owning_port (ports k) (elsewhere n o)) refl refl
@@ -276,40 +276,41 @@ module _ {S : Type 0} (a : About) (slots id : ℕ) (me : Me S (List SeatedPort))
       (λ words ports notes b since w time below is old come.
       let k : ℕ = x.number in
       let i : ℕ = at_word o.clean in
-      let n : ℕ = get_or words i 0 in
+      let n : ℕ = slice_index words i in
       let there : ℕ = packed x.port.control.here in
       let v : ℕ = either (n == marked m) there n in
       let owned' : (ports k).control.owned ≡ Some o = ap (λ (p : Port). p.control.owned) (sym is) ∙ owned in
-      let P : Bool → Port = λ t. owning_port (ports k) (cond t (at_next_port o) (cond (nat_lt n entering_mark) (elsewhere n o) o)) in
+      let P : Bool → Port = λ t. owning_port (ports k) (if t then at_next_port o else (if nat_lt n entering_mark then elsewhere n o else o)) in
       (elim (eqb_tells n (marked m)) [
         | inl won ↦
             let to = puts_stay_lawful e words ports b k o m w.epochs below owned' looked more none mark again won.1 in
             let in_time = puts_keep_time e words ports b k o m since w.epochs below owned' more mark again won.1 time in
-            let word : cond (n == marked m) (packed (ports k).control.here) n ≡ v = ap (λ (p : Port). cond (n == marked m) (packed p.control.here) n) (sym is) ∙ either_cond (n == marked m) there n in
-            subst (λ (t : Bool). Quietly a (set words i v) ports b since k x.began (P t)) (sym won.0) (record {
+            let word : (if n == marked m then packed (ports k).control.here else n) ≡ v = ap (λ (p : Port). if n == marked m then packed p.control.here else n) (sym is)
+            ∙ either_cond (n == marked m) there n in
+            subst (λ (t : Bool). Quietly a (slice_set words i v) ports b since k x.began (P t)) (sym won.0) (record {
               since' = since;
               beside = b;
               log = refl;
               before = refl;
-              lawful = subst (λ v. LawfulEpochs e (set words i v) (put k (owning_port (ports k) (at_next_port o)) ports) b) word to;
-              time = subst (λ v. KeepsTime e (set words i v) (put k (owning_port (ports k) (at_next_port o)) ports) (place_now b) since) word in_time;
+              lawful = subst (λ v. LawfulEpochs e (slice_set words i v) (put k (owning_port (ports k) (at_next_port o)) ports) b) word to;
+              time = subst (λ v. KeepsTime e (slice_set words i v) (put k (owning_port (ports k) (at_next_port o)) ports) (place_now b) since) word in_time;
               others = λ q ne. refl;
               entering = old;
             })
         | inr lost ↦
-            let Q : Bool → Port = λ t. owning_port (ports k) (cond t (elsewhere n o) o) in
-            let stays : Quietly a (set words i n) ports b since k x.began (Q (nat_lt n entering_mark)) =
+            let Q : Bool → Port = λ t. owning_port (ports k) (if t then elsewhere n o else o) in
+            let stays : Quietly a (slice_set words i n) ports b since k x.began (Q (nat_lt n entering_mark)) =
             (elim (cases_lt n entering_mark) [
-              | inl less ↦ subst (λ (t : Bool). Quietly a (set words i n) ports b since k x.began (Q t)) (sym (lt-ltb n entering_mark less))
-                  (still a words (set words i n) ports b b since time refl refl k x.began old (λ q low. load_at words i q) (owning_port (ports k) (elsewhere n o)) refl refl
+              | inl less ↦ subst (λ (t : Bool). Quietly a (slice_set words i n) ports b since k x.began (Q t)) (sym (lt-ltb n entering_mark less))
+                  (still a words (slice_set words i n) ports b b since time refl refl k x.began old (λ q low. load_at words i q) (owning_port (ports k) (elsewhere n o)) refl refl
                   (λ j d may. elsewhere_puts (ports k) o ((unpacked n).arena == o.arena) owned' j d may)
                   (subst (λ (l : List ℕ). LawfulEpochs e l (put k (owning_port (ports k) (elsewhere n o)) ports) b) (load_same words i)
                   (elsewhere_lawful e words ports b w.epochs k below o owned' looked none more less)))
-              | inr from ↦ subst (λ (t : Bool). Quietly a (set words i n) ports b since k x.began (Q t)) (sym (not_below n entering_mark from))
-                  (still a words (set words i n) ports b b since time refl refl k x.began old (λ q low. load_at words i q) (owning_port (ports k) o) refl refl
+              | inr from ↦ subst (λ (t : Bool). Quietly a (slice_set words i n) ports b since k x.began (Q t)) (sym (not_below n entering_mark from))
+                  (still a words (slice_set words i n) ports b b since time refl refl k x.began old (λ q low. load_at words i q) (owning_port (ports k) o) refl refl
                   (λ j d may. elsewhere_puts (ports k) o true owned' j d may)
                   (subst (λ (l : List ℕ). LawfulEpochs e l (put k (owning_port (ports k) o) ports) b) (load_same words i) (same_owned e words ports b w.epochs k below o owned' looked none more)))
             ]) in
-            subst (λ (t : Bool). Quietly a (set words i (either t there n)) ports b since k x.began (P t)) (sym lost.0) stays
+            subst (λ (t : Bool). Quietly a (slice_set words i (either t there n)) ports b since k x.began (P t)) (sym lost.0) stays
       ]))
       (λ words ports b w below is. refl)

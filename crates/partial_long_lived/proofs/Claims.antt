@@ -1,5 +1,5 @@
 -- A machine claims words of the pool once in a call.
-use Rattle.partial_long_lived.proofs.Common.{ℕ, ◌≡◌, ◌+◌, ◌≤◌, ◌==◌, ◌⊎◌, Bool, true, false, cond, Option, Some, None, List, length, refl, sym, ap, subst, ◌∙◌, inl, inr, arith, option_map_or, some_same, Step, Load, Store, Exchange, Add, Layout, list_counter, list_head, pool_counter, slot_counter, slot_word, Change, Stage, Idle, ReadBegun, LoadingValue, UpdateBegun, GettingSet, Viewing, ClaimingRecord, StoringRecord, Exchanging, ScanBegun, StoringAnnouncement, Joining, Scanning, Leaving, Finished, CoreState, advance, advance_at, after_joining, at_stage, begin_getting, begin_joining, expects, fits_pool, getting, pool_refused, record_size, step_at, step_of, with_getting, IsSound, is_sound_at, LeavesComponents, before_claim, record_claim, announcement_size, IsQuiet, Reply}
+use Rattle.partial_long_lived.proofs.Common.{ℕ, ◌≡◌, ◌+◌, ◌≤◌, ◌==◌, ◌⊎◌, Bool, true, false, if◌then◌else◌, Option, Some, None, List, length, refl, sym, ap, subst, ◌∙◌, inl, inr, arith, option_map_or, some_same, Step, Load, Store, Exchange, Add, Layout, list_counter, list_head, pool_counter, slot_counter, slot_word, Change, Stage, Idle, ReadBegun, LoadingValue, UpdateBegun, GettingSet, Viewing, ClaimingRecord, StoringRecord, Exchanging, ScanBegun, StoringAnnouncement, Joining, Scanning, Leaving, Finished, CoreState, advance, advance_at, after_joining, at_stage, begin_getting, begin_joining, expects, fits_pool, getting, pool_refused, record_size, step_at, step_of, with_getting, IsSound, is_sound_at, LeavesComponents, before_claim, record_claim, announcement_size, IsQuiet, Reply}
 use Rattle.partial_active.specs.declared.join.JoinStage.{JoinStage}
 use Rattle.partial_active.specs.declared.join.JoinStage.TheVariants.{Claiming, Storing, Joined, Spent}
 use Rattle.partial_active.specs.declared.get_set.Stage.{Stage as SetStage}
@@ -14,11 +14,11 @@ use Rattle.partial_embedded.specs.declared.embedded.Stage.TheVariants as scan
 pub unclaimed_before : (s : CoreState) (x : ℕ) → before_claim (advance s x).stage ≡ true → before_claim s.stage ≡ true
 unclaimed_before s x = by s.stage refl
   where
-    two : (c : Bool) (a b : Stage) → before_claim a ≡ false → before_claim b ≡ false → before_claim (cond c a b) ≡ false
+    two : (c : Bool) (a b : Stage) → before_claim a ≡ false → before_claim b ≡ false → before_claim (if c then a else b) ≡ false
     two true a b p q = p
     two false a b p q = q
 
-    two_of : (c : Bool) (a b : CoreState) → before_claim a.stage ≡ false → before_claim b.stage ≡ false → before_claim (cond c a b).stage ≡ false
+    two_of : (c : Bool) (a b : CoreState) → before_claim a.stage ≡ false → before_claim b.stage ≡ false → before_claim (if c then a else b).stage ≡ false
     two_of true a b p q = p
     two_of false a b p q = q
 
@@ -43,7 +43,7 @@ unclaimed_before s x = by s.stage refl
     by (GettingSet c old) is h = refl
     by (Viewing c old) is h = refl
     by (ClaimingRecord c old) is h = refl
-    by (StoringRecord c old at k) is h = never (before_claim (cond (k + 1 == record_size s) (Exchanging c old at) (StoringRecord c old at (k + 1)))) (StoringRecord c old at k)
+    by (StoringRecord c old at k) is h = never (before_claim (if k + 1 == record_size s then Exchanging c old at else StoringRecord c old at (k + 1))) (StoringRecord c old at k)
         (two (k + 1 == record_size s) (Exchanging c old at) (StoringRecord c old at (k + 1)) refl refl) h
     by (Exchanging c old at) is h = h
     by ScanBegun is h = refl
@@ -63,11 +63,11 @@ claimed_from s x at = by s.stage refl
     none : (t : Stage) (o : Option ℕ) → o ≡ None → o ≡ Some at → ((c : Change) × (old : ℕ) × (t ≡ ClaimingRecord c old) × (at ≡ x)) ⊎ (record_claim t ≡ Some at)
     none t o is h = let bad : None ≡ Some at = sym is ∙ h in cc
 
-    two : (c : Bool) (a b : CoreState) → record_claim a.stage ≡ None → record_claim b.stage ≡ None → record_claim (cond c a b).stage ≡ None
+    two : (c : Bool) (a b : CoreState) → record_claim a.stage ≡ None → record_claim b.stage ≡ None → record_claim (if c then a else b).stage ≡ None
     two true a b p q = p
     two false a b p q = q
 
-    two_stages : (c : Bool) (a b : Stage) → record_claim a ≡ None → record_claim b ≡ None → record_claim (cond c a b) ≡ None
+    two_stages : (c : Bool) (a b : Stage) → record_claim a ≡ None → record_claim b ≡ None → record_claim (if c then a else b) ≡ None
     two_stages true a b p q = p
     two_stages false a b p q = q
 
@@ -76,7 +76,7 @@ claimed_from s x at = by s.stage refl
     scans s (Some u) a b is p q = ap record_claim is ∙ p
 
     gets : (s : CoreState) (o : Option Step) (c : Change) (old : ℕ) → s.stage ≡ GettingSet c old →
-        record_claim (option_map_or (λ _. s) o (record s { embedded = viewing.fresh_view s.sizes true; stage = cond (length s.found.indices == 0) (ClaimingRecord c old) (Viewing c old) })).stage
+        record_claim (option_map_or (λ _. s) o (record s { embedded = viewing.fresh_view s.sizes true; stage = (if length s.found.indices == 0 then ClaimingRecord c old else Viewing c old) })).stage
         ≡ None
     gets s None c old is = two_stages (length s.found.indices == 0) (ClaimingRecord c old) (Viewing c old) refl refl
     gets s (Some u) c old is = ap record_claim is
@@ -98,13 +98,13 @@ claimed_from s x at = by s.stage refl
     by (Viewing c old) is h = none (Viewing c old) _ (scans _ _ (Viewing c old) (ClaimingRecord c old) is refl refl) h
     by (ClaimingRecord c old) is h = claims (fits_pool s.sizes (record_size s) x) h
       where
-        claims : (b : Bool) → record_claim (cond b (at_stage s (StoringRecord c old x 0)) (pool_refused s)).stage ≡ Some at →
+        claims : (b : Bool) → record_claim (if b then at_stage s (StoringRecord c old x 0) else pool_refused s).stage ≡ Some at →
             ((d : Change) × (o : ℕ) × (ClaimingRecord c old ≡ ClaimingRecord d o) × (at ≡ x)) ⊎ (record_claim (ClaimingRecord c old) ≡ Some at)
         claims true h = inl (c, old, refl, sym (some_same h))
         claims false h = let bad : None ≡ Some at = h in cc
     by (StoringRecord c old at' k) is h = stores (k + 1 == record_size s) h
       where
-        stores : (b : Bool) → record_claim (cond b (Exchanging c old at') (StoringRecord c old at' (k + 1))) ≡ Some at →
+        stores : (b : Bool) → record_claim (if b then Exchanging c old at' else StoringRecord c old at' (k + 1)) ≡ Some at →
             ((d : Change) × (o : ℕ) × (StoringRecord c old at' k ≡ ClaimingRecord d o) × (at ≡ x)) ⊎ (Some at' ≡ Some at)
         stores true h = inr h
         stores false h = inr h
@@ -151,12 +151,12 @@ join_claims y at Spent w n is = cc
 -- a claim of pool words is that of a record or of an announcement, and behind it the machine has claimed
 pub record Claims (c : CoreState) : Type 0 where
   pub now : before_claim c.stage ≡ true
-  pub then : (a : ℕ) → before_claim (advance c a).stage ≡ false
+  pub behind_claim : (a : ℕ) → before_claim (advance c a).stage ≡ false
 
 pub pool_claims : (c : CoreState) (z : Layout) → IsSound c → c.sizes ≡ z → (w n : ℕ) → step_of c ≡ Some (Add w n) → w ≡ pool_counter z → Claims c
 pool_claims c z sound sizes w n due pool = by c.stage refl sound.stage due
   where
-    two_of : (b : Bool) (x y : CoreState) → before_claim x.stage ≡ false → before_claim y.stage ≡ false → before_claim (cond b x y).stage ≡ false
+    two_of : (b : Bool) (x y : CoreState) → before_claim x.stage ≡ false → before_claim y.stage ≡ false → before_claim (if b then x else y).stage ≡ false
     two_of true x y p q = p
     two_of false x y p q = q
 
@@ -175,14 +175,14 @@ pool_claims c z sound sizes w n due pool = by c.stage refl sound.stage due
     by (Viewing d old) at ok is = scan_never c.embedded.sizes c.found.indices c.rows.last c.embedded.stage w n (Claims c) is
     by (ClaimingRecord d old) at ok is = record {
       now = ap before_claim at;
-      then = λ a. subst (λ (t : Stage). before_claim (advance_at c t a).stage ≡ false) (sym at)
+      behind_claim = λ a. subst (λ (t : Stage). before_claim (advance_at c t a).stage ≡ false) (sym at)
           (two_of (fits_pool c.sizes (record_size c) a) (at_stage c (StoringRecord d old a 0)) (pool_refused c) refl refl);
     }
     by (StoringRecord d old at' k) at ok is = let bad : Store _ _ ≡ Add w n = some_same is in cc
     by (Exchanging d old at') at ok is = let bad : Exchange _ _ _ ≡ Add w n = some_same is in cc
     by ScanBegun at ok is = record {
       now = ap before_claim at;
-      then = λ a. subst (λ (t : Stage). before_claim (advance_at c t a).stage ≡ false) (sym at)
+      behind_claim = λ a. subst (λ (t : Stage). before_claim (advance_at c t a).stage ≡ false) (sym at)
           (two_of (fits_pool c.sizes (announcement_size (length c.asked)) a) (at_stage c (StoringAnnouncement a 0)) (pool_refused c) refl refl);
     }
     by (StoringAnnouncement at' k) at ok is = let bad : Store _ _ ≡ Add w n = some_same is in cc
@@ -193,7 +193,7 @@ pool_claims c z sound sizes w n due pool = by c.stage refl sound.stage due
     by Scanning at ok is = scan_never c.embedded.sizes c.asked c.rows.last c.embedded.stage w n (Claims c) is
     by Leaving at ok is = leaves c.leave.left is
       where
-        leaves : (b : Bool) → cond b None (Some (Store (slot_word c.leave.sizes c.leave.slot) 1)) ≡ Some (Add w n) → Claims c
+        leaves : (b : Bool) → (if b then None else Some (Store (slot_word c.leave.sizes c.leave.slot) 1)) ≡ Some (Add w n) → Claims c
         leaves true is = let bad : None ≡ Some (Add w n) = is in cc
         leaves false is = let bad : Store _ _ ≡ Add w n = some_same is in cc
     by (Finished r) at ok is = let bad : None ≡ Some (Add w n) = is in cc
@@ -255,7 +255,7 @@ inner_word c z sound sizes quiet (Exchange w old new) due = by c.stage refl soun
     by Scanning at ok q is = scan_exchanges c.embedded.sizes c.asked c.rows.last c.embedded.stage w old new (z.m ≤ w) is
     by Leaving at ok q is = leaves c.leave.left is
       where
-        leaves : (b : Bool) → cond b None (Some (Store (slot_word c.leave.sizes c.leave.slot) 1)) ≡ Some (Exchange w old new) → z.m ≤ w
+        leaves : (b : Bool) → (if b then None else Some (Store (slot_word c.leave.sizes c.leave.slot) 1)) ≡ Some (Exchange w old new) → z.m ≤ w
         leaves true is = let bad : None ≡ Some (Exchange w old new) = is in cc
         leaves false is = let bad : Store _ _ ≡ Exchange w old new = some_same is in cc
     by (Finished r) at ok q is = let bad : None ≡ Some (Exchange w old new) = is in cc
@@ -283,7 +283,7 @@ inner_word c z sound sizes quiet (Add w k) due = by c.stage refl sound.stage due
     by Scanning at ok is = scan_never c.embedded.sizes c.asked c.rows.last c.embedded.stage w k (z.m ≤ w) is
     by Leaving at ok is = leaves c.leave.left is
       where
-        leaves : (b : Bool) → cond b None (Some (Store (slot_word c.leave.sizes c.leave.slot) 1)) ≡ Some (Add w k) → z.m ≤ w
+        leaves : (b : Bool) → (if b then None else Some (Store (slot_word c.leave.sizes c.leave.slot) 1)) ≡ Some (Add w k) → z.m ≤ w
         leaves true is = let bad : None ≡ Some (Add w k) = is in cc
         leaves false is = let bad : Store _ _ ≡ Add w k = some_same is in cc
     by (Finished r) at ok is = let bad : None ≡ Some (Add w k) = is in cc

@@ -1,5 +1,5 @@
 -- The loads of a collect: what they leave of a port, and what they tell it.
-use Rattle.partial_long_lived.proofs.{Common.{ℕ, ◌≡◌, ◌+◌, ◌<◌, ◌≤◌, ◌++◌, Bool, false, List, [], length, take, set, refl, sym, ap, subst, ◌∙◌, inl, inr, arith, append-nil, length-append, slice_index, eqb_tells, get_or-set_other, get_or-set_same, take-append-le, take_all, TableId, Applied, stamp_of, Noted, total, core_of, having_seen, About, Stand, Began, SeatedPort, BeginsWith, IsHeld, port_at, HasCome, IsIdle, StaysAt, SeatSees, opening_of, Glances, AreCollected, HasGlanced, HasStayed, WasThere}, Coming.{begins_on, come_on, kept_on}, Staying.goes_same}
+use Rattle.partial_long_lived.proofs.{Common.{ℕ, ◌≡◌, ◌+◌, ◌<◌, ◌≤◌, ◌++◌, Bool, false, List, [], length, take, slice_set, refl, sym, ap, subst, ◌∙◌, inl, inr, arith, append-nil, length-append, slice_index, eqb_tells, get_or-set_other, get_or-set_same, take-append-le, take_all, TableId, Applied, stamp_of, Noted, total, core_of, having_seen, About, Stand, Began, SeatedPort, BeginsWith, IsHeld, port_at, HasCome, IsIdle, StaysAt, SeatSees, opening_of, Glances, AreCollected, HasGlanced, HasStayed, WasThere}, Coming.{begins_on, come_on, kept_on}, Staying.goes_same}
 
 kept_same : (table : TableId) (about : About) (s : Stand) → IsHeld table about s → StaysAt s s
 kept_same table about s h = record { shape = refl; number = refl; epoch = refl; arena = refl; base = refl; passed = refl; goes = goes_same (port_at s) h.known }
@@ -87,9 +87,9 @@ there_now first x y low j a w few =
 
 -- one word more of a collect
 collected_more : (x : SeatedPort) (low high : ℕ) (js ws : List ℕ) (n a : ℕ) → n < length ws → AreCollected x low high js ws n → WasThere x low high (slice_index js n) a →
-    AreCollected x low high js (set ws n a) (n + 1)
+    AreCollected x low high js (slice_set ws n a) (n + 1)
 collected_more x low high js ws n a room all new k less = elim (eqb_tells k n) [
-  | inl same ↦ subst (λ i. WasThere x low high (slice_index js i) (slice_index (set ws n a) i)) (sym same.1) (subst (WasThere x low high (slice_index js n)) (sym (get_or-set_same ws n a 0 room)) new)
+  | inl same ↦ subst (λ i. WasThere x low high (slice_index js i) (slice_index (slice_set ws n a) i)) (sym same.1) (subst (WasThere x low high (slice_index js n)) (sym (get_or-set_same ws n a 0 room)) new)
   | inr other ↦
       let ne = other.1 in
       subst (WasThere x low high (slice_index js k)) (sym (get_or-set_other ws n k a 0 ne)) (all k (omega (arith, less, ne)))
@@ -97,7 +97,7 @@ collected_more x low high js ws n a room all new k less = elim (eqb_tells k n) [
 
 -- the next load of the first collect
 pub collects_one : (s t : Stand) (js ws : List ℕ) (n a : ℕ) → n < length ws → StaysAt s t → SeatSees false Glances (slice_index js n) (port_at s) a (port_at t) →
-    AreCollected (port_at s) 0 (length (port_at s).port.part.seen) js ws n → AreCollected (port_at t) 0 (length (port_at t).port.part.seen) js (set ws n a) (n + 1)
+    AreCollected (port_at s) 0 (length (port_at s).port.part.seen) js ws n → AreCollected (port_at t) 0 (length (port_at t).port.part.seen) js (slice_set ws n a) (n + 1)
 collects_one s t js ws n a room kept w all =
     let g = glanced_by s t (slice_index js n) a kept w in
     collected_more (port_at t) 0 (length (port_at t).port.part.seen) js ws n a room

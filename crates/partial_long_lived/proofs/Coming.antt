@@ -1,5 +1,5 @@
 -- A port between the parts of a call: it stands where it stood, or has come to a later epoch.
-use Rattle.partial_long_lived.proofs.Common.{ℕ, ◌≡◌, ◌<◌, ◌≤◌, ◌&&◌, ◌++◌, not, Bool, true, false, cond, Some, List, [], ◌∷◌, length, refl, sym, ap, subst, ◌∙◌, inl, inr, arith, append-nil, append_assoc, length-append, nat_lt, TableId, Applied, value_of, Noted, fresh, core_of, seal, unsealed, not_below, public_of, About, Stand, Began, SeatedPort, plan_of, seen_in, BeginsWith, SeatGoes, IsHeld, port_at, SeatSees, Wish, noted_by, opening_of, place_seen, stamp_seen, value_seen, Reads, HasCome, HasNotedRead, HasValue, IsIdle, StaysAt, EpochSettled, Call, Answer, Note}
+use Rattle.partial_long_lived.proofs.Common.{ℕ, ◌≡◌, ◌<◌, ◌≤◌, ◌&&◌, ◌++◌, not, Bool, true, false, if◌then◌else◌, Some, List, [], ◌∷◌, length, refl, sym, ap, subst, ◌∙◌, inl, inr, arith, append-nil, append_assoc, length-append, nat_lt, TableId, Applied, value_of, Noted, fresh, core_of, seal, unsealed, not_below, public_of, About, Stand, Began, SeatedPort, plan_of, seen_in, BeginsWith, SeatGoes, IsHeld, port_at, SeatSees, Wish, noted_by, opening_of, place_seen, stamp_seen, value_seen, Reads, HasCome, HasNotedRead, HasValue, IsIdle, StaysAt, EpochSettled, Call, Answer, Note}
 
 pub begins_on : (h l m : List Applied) → BeginsWith h l → BeginsWith l m → BeginsWith h m
 begins_on h l m a c = (a.0 ++ c.0, c.1 ∙ ap (λ (t : List Applied). t ++ c.0) a.1 ∙ append_assoc h a.0 c.0)
@@ -115,7 +115,7 @@ module _ (table : TableId) (about : About) (s u v t : Stand) (h : IsHeld table a
     answer = Answer.Read (value_seen (port_at u) w.log j) (stamp_seen (port_at u) w.log j);
     note = Some (Note.Saw (place_seen (port_at u) w.log));
   } ∷ []
-  noted_then = ap (λ (x : SeatedPort). x.notes) w.is ∙ ap (λ (c : Bool). (port_at u).notes ++ cond c [] (noted_by Reads (port_at u) w.log j)) noted
+  noted_then = ap (λ (x : SeatedPort). x.notes) w.is ∙ ap (λ (c : Bool). (port_at u).notes ++ (if c then [] else noted_by Reads (port_at u) w.log j)) noted
 
   pub has_read : HasNotedRead s t j value stamp
   has_read =
@@ -178,7 +178,7 @@ module _ (table : TableId) (about : About) (s r u v : Stand) (h : IsHeld table a
   pub settled_notes : (port_at u).notes ≡ (port_at s).notes
   settled_notes =
       let skip : (true && not (nat_lt a seal)) ≡ true = ap not (not_below a seal sealed) in
-      settled.notes ∙ ap (λ (x : SeatedPort). x.notes) w.is ∙ ap (λ (t : Bool). (port_at s).notes ++ cond t [] (noted_by Reads (port_at s) w.log j)) skip ∙ append-nil (port_at s).notes
+      settled.notes ∙ ap (λ (x : SeatedPort). x.notes) w.is ∙ ap (λ (t : Bool). (port_at s).notes ++ (if t then [] else noted_by Reads (port_at s) w.log j)) skip ∙ append-nil (port_at s).notes
 
   began_is : (port_at v).began ≡ (port_at r).began
   began_is = ap (λ (x : SeatedPort). x.began) last.is ∙ last.began ∙ settled.began

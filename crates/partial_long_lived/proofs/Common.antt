@@ -1,5 +1,5 @@
 -- The names that several proofs of this crate take from elsewhere.
-pub use Rattle.std.proofs.Common.{ℕ, zero, suc, ◌≡◌, ◌≢◌, ◌+◌, ◌<◌, ◌≤◌, ◌==◌, ◌⊎◌, Bool, true, false, cond, List, [], ◌∷◌, ◌++◌, Contains, refl, sym, ◌∙◌, ap, subst, Some, slice_get, inl, inr, arith, None, append-nil, Option, IfSome, true≢false, length, take, ◌-◌, ◌*◌, ◌%◌, ◌^◌, Ok, map, get_or, length-append, set, append_assoc, ◌&&◌, not, Result, Err, IfOk, IfErr, ◌||◌, drop, ◌/◌, rules}
+pub use Rattle.std.proofs.Common.{ℕ, zero, suc, ◌≡◌, ◌≢◌, ◌+◌, ◌<◌, ◌≤◌, ◌==◌, ◌⊎◌, Bool, true, false, if◌then◌else◌, List, [], ◌∷◌, ◌++◌, Contains, refl, sym, ◌∙◌, ap, subst, Some, slice_get, inl, inr, arith, None, append-nil, Option, IfSome, true≢false, length, take, ◌-◌, ◌*◌, ◌%◌, ◌^◌, Ok, map, length-append, slice_set, append_assoc, ◌&&◌, not, Result, Err, IfOk, IfErr, ◌||◌, drop, ◌/◌, rules}
 pub use Rattle.std.specs.{List.{AllByRecursion, list_all}, Option.{option_map, option_map_or}, Prelude.{nat_lt, slice_index, is_some, ⊤}, Slots.slots_items, Vec.{vec_capacity, vec_len}}
 pub use Rattle.std.proofs.Math.Seq.{take-append_seam}
 pub use Rattle.std.proofs.lemmas.{Bool.{lt-ltb, cases_lt}, List.{length-map, get_or-set_other, nil_from_length, get_or-set_same, take-append-le, take_all, ext_get_or, get_or-map, length-set, get_or_push, get_or_append_left, take-append-drop, append_cancel_left}}

@@ -1,5 +1,5 @@
 -- A conditional update of a port: the comparison, and how it ends in the port's epoch.
-use Rattle.partial_long_lived.proofs.{Common.{ℕ, ◌≡◌, ◌<◌, ◌≤◌, ◌==◌, ◌&&◌, ◌++◌, Bool, true, false, not, cond, Some, List, [], ◌∷◌, length, refl, sym, ap, subst, ◌∙◌, inl, inr, arith, append-nil, nat_lt, cases_lt, TableId, Applied, Noted, stamp_of, total, Change, is_at_rest, CoreState, IsMarkedLike, core_of, Exchanged, public_stamp, seal, unsealed, public_of, not_below, About, UpdatedIf, Asked, Stand, Began, SeatedPort, plan_of, seen_in, IsIdle, StaysAt, EndedIf, HasCompared, HasLooked, IsExpected, IsPlaceOf, noted_if, outcome_of, IsHeld, port_at, SeatSees, noted_by, opening_of, place_seen, stamp_seen, Expects, BeganBy, UpdateAttempted, ExpectsOne, IsEntryOf, IsOwnMachine, MayCall, NotesNothing, PortStayed, noted_where, take, value_word, Call, Answer, Note}, Coming.kept_on}
+use Rattle.partial_long_lived.proofs.{Common.{ℕ, ◌≡◌, ◌<◌, ◌≤◌, ◌==◌, ◌&&◌, ◌++◌, Bool, true, false, not, if◌then◌else◌, Some, List, [], ◌∷◌, length, refl, sym, ap, subst, ◌∙◌, inl, inr, arith, append-nil, nat_lt, cases_lt, TableId, Applied, Noted, stamp_of, total, Change, is_at_rest, CoreState, IsMarkedLike, core_of, Exchanged, public_stamp, seal, unsealed, public_of, not_below, About, UpdatedIf, Asked, Stand, Began, SeatedPort, plan_of, seen_in, IsIdle, StaysAt, EndedIf, HasCompared, HasLooked, IsExpected, IsPlaceOf, noted_if, outcome_of, IsHeld, port_at, SeatSees, noted_by, opening_of, place_seen, stamp_seen, Expects, BeganBy, UpdateAttempted, ExpectsOne, IsEntryOf, IsOwnMachine, MayCall, NotesNothing, PortStayed, noted_where, take, value_word, Call, Answer, Note}, Coming.kept_on}
 use Rattle.partial_lines.specs.declared.exchange.Exchanged.TheVariants.{Applied as IsApplied, Overtaken}
 use Rattle.partial_long_lived.specs.declared.update_if.Compared.TheVariants.{Sealed, Same, Other}
 
@@ -25,7 +25,7 @@ module _ (table : TableId) (about : About) (s u t : Stand) (h : IsHeld table abo
   is : port_at t ≡ record x {
     port = record x.port { part = record x.port.part { seen = w.log } };
     began = w.n;
-    notes = x.notes ++ (cond (first && not (nat_lt a seal)) [] (noted_by (Expects asked.expected asked.value) x w.log j));
+    notes = x.notes ++ (if first && not (nat_lt a seal) then [] else noted_by (Expects asked.expected asked.value) x w.log j);
     found = x.found;
   }
   is = same ∙ w.is
@@ -44,14 +44,14 @@ module _ (table : TableId) (about : About) (s u t : Stand) (h : IsHeld table abo
     over = ap (λ (y : SeatedPort). y.port.over) is;
   }
 
-  notes_are : (port_at t).notes ≡ x.notes ++ cond (first && not (nat_lt a seal)) [] (noted_by (Expects asked.expected asked.value) x w.log j)
+  notes_are : (port_at t).notes ≡ x.notes ++ (if first && not (nat_lt a seal) then [] else noted_by (Expects asked.expected asked.value) x w.log j)
   notes_are = ap (λ (y : SeatedPort). y.notes) is
 
   -- where the call is not to know the epoch as the current one, it notes nothing
   pub found_sealed : first ≡ true → seal ≤ a → HasCompared asked s Sealed t
   found_sealed begins sealed =
       let skip : (first && not (nat_lt a seal)) ≡ true = ap (λ b. b && not (nat_lt a seal)) begins ∙ ap not (not_below a seal sealed) in
-      notes_are ∙ ap (λ b. x.notes ++ cond b [] (noted_by (Expects asked.expected asked.value) x w.log j)) skip ∙ append-nil x.notes
+      notes_are ∙ ap (λ b. x.notes ++ (if b then [] else noted_by (Expects asked.expected asked.value) x w.log j)) skip ∙ append-nil x.notes
 
   -- otherwise it has compared the component's last stamp
   module _ (answers : (first && not (nat_lt a seal)) ≡ false) (stamp : ℕ) (stamp_is : stamp ≡ public_of (plan_of about) (port_at u).port.before j (unsealed a)) where
@@ -64,12 +64,12 @@ module _ (table : TableId) (about : About) (s u t : Stand) (h : IsHeld table abo
     abbrev changed : Noted
     changed = record { call = Call.UpdateIf j asked.expected asked.value; answer = Answer.Changed (stamp_seen x w.log j); note = Some (Note.Saw (place_seen x w.log)) }
 
-    noted_then : (port_at t).notes ≡ x.notes ++ cond (stamp_seen x w.log j == asked.expected) [] (changed ∷ [])
-    noted_then = notes_are ∙ ap (λ b. x.notes ++ cond b [] (noted_by (Expects asked.expected asked.value) x w.log j)) answers
+    noted_then : (port_at t).notes ≡ x.notes ++ (if stamp_seen x w.log j == asked.expected then [] else changed ∷ [])
+    noted_then = notes_are ∙ ap (λ b. x.notes ++ (if b then [] else noted_by (Expects asked.expected asked.value) x w.log j)) answers
 
     pub found_same : (stamp == asked.expected) ≡ true → stamp ≡ asked.expected → HasCompared asked s (Same (unsealed a)) t
     found_same equal expected = (
-      noted_then ∙ ap (λ n. x.notes ++ cond (n == asked.expected) [] (changed ∷ [])) (sym stamp_last) ∙ ap (λ b. x.notes ++ cond b [] (changed ∷ [])) equal ∙ append-nil x.notes,
+      noted_then ∙ ap (λ n. x.notes ++ (if n == asked.expected then [] else changed ∷ [])) (sym stamp_last) ∙ ap (λ b. x.notes ++ (if b then [] else changed ∷ [])) equal ∙ append-nil x.notes,
       record {
         last = w.stamp ∙ ap (λ (y : SeatedPort). stamp_of (opening_of y) y.port.part.seen j) (sym is);
         stamp = ap (λ (y : SeatedPort). public_of (plan_of y.about) y.port.before j (unsealed a)) is ∙ ap (public_of (plan_of x.about) x.port.before j) w.stamp ∙ sym stamp_last ∙ expected;
@@ -83,7 +83,7 @@ module _ (table : TableId) (about : About) (s u t : Stand) (h : IsHeld table abo
         let epochs = ap (λ (g : Began). g.epoch) n in
         let lengths = ap (λ (g : Began). g.length) n in
         let time = w.time (omega (arith, young, epochs)) in (
-          noted_then ∙ ap (λ n. x.notes ++ cond (n == asked.expected) [] (changed ∷ [])) (sym stamp_last) ∙ ap (λ b. x.notes ++ cond b [] (changed ∷ [])) unequal
+          noted_then ∙ ap (λ n. x.notes ++ (if n == asked.expected then [] else changed ∷ [])) (sym stamp_last) ∙ ap (λ b. x.notes ++ (if b then [] else changed ∷ [])) unequal
               ∙ ap (λ n. x.notes ++ record { call = Call.UpdateIf j asked.expected asked.value; answer = Answer.Changed n; note = Some (Note.Saw (place_seen x w.log)) } ∷ []) (sym stamp_last)
               ∙ ap (λ n. x.notes ++ record { call = Call.UpdateIf j asked.expected asked.value; answer = Answer.Changed stamp; note = Some (Note.Saw n) } ∷ []) place,
           omega (arith, time, lengths, place),

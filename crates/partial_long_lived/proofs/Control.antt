@@ -1,8 +1,8 @@
 -- The steps of a change of epoch and of entering one are allowed.
-use Rattle.partial_long_lived.proofs.{Common.{ℕ, ◌≡◌, ◌≢◌, ◌<◌, ◌≤◌, ◌==◌, ◌⊎◌, Bool, true, false, cond, Option, Some, None, IfSome, List, length, get_or, set, refl, sym, ap, subst, ◌∙◌, inl, inr, arith, eqb_tells, set-get_or, Me, Allows, Applied, Noted, put, IsPlace, Place, Plan, arena_limit, at_word, current_word, marked, packed, Entering, OwnedArena, Port, Stands, Marks, Beside, LawfulEpochs, place_now, having_passed, having_looked, LawfulMemory, put_all, put_same, put_other, option_map_or, MayPut, KeepsTime, asides_keep_time, entries_keep_time, entries_load, looks_are_true, looks_keep_time, marks_keep_time, marks_stay_lawful, owners_look, owners_look_away, About, Began, IsRuleKept, IsSince, SeatedPort, one_of, plan_of, IsSeatKnown, IsOne, tells, LoadsCurrent, SeatLooks, StoresMark, becomes, having_found, loads, looked_at, marks, unpacked, same_place}, Asides.{IsQuiet, aside}, Kept.{allowed, begun_grows, none_grown}, Begins.{began_by, here_is, seen_few}}
+use Rattle.partial_long_lived.proofs.{Common.{ℕ, ◌≡◌, ◌≢◌, ◌<◌, ◌≤◌, ◌==◌, ◌⊎◌, Bool, true, false, if◌then◌else◌, Option, Some, None, IfSome, List, length, slice_index, slice_set, refl, sym, ap, subst, ◌∙◌, inl, inr, arith, eqb_tells, set-get_or, Me, Allows, Applied, Noted, put, IsPlace, Place, Plan, arena_limit, at_word, current_word, marked, packed, Entering, OwnedArena, Port, Stands, Marks, Beside, LawfulEpochs, place_now, having_passed, having_looked, LawfulMemory, put_all, put_same, put_other, option_map_or, MayPut, KeepsTime, asides_keep_time, entries_keep_time, entries_load, looks_are_true, looks_keep_time, marks_keep_time, marks_stay_lawful, owners_look, owners_look_away, About, Began, IsRuleKept, IsSince, SeatedPort, one_of, plan_of, IsSeatKnown, IsOne, tells, LoadsCurrent, SeatLooks, StoresMark, becomes, having_found, loads, looked_at, marks, unpacked, same_place}, Asides.{IsQuiet, aside}, Kept.{allowed, begun_grows, none_grown}, Begins.{began_by, here_is, seen_few}}
 
 -- a load leaves the words as they are
-pub load_same : (words : List ℕ) (i : ℕ) → words ≡ set words i (get_or words i 0)
+pub load_same : (words : List ℕ) (i : ℕ) → words ≡ slice_set words i (slice_index words i)
 load_same words i = sym (set-get_or words i 0)
 
 -- a port that is as it was
@@ -27,25 +27,25 @@ looked_quiet a = record {
   passed = λ p. by_passed p (a == packed p.control.here) p.control.owned;
 }
   where
-    then : Port → Bool → Option OwnedArena → Port
-    then p c o = cond c (option_map_or (having_looked p) o p) (having_passed p)
+    thereafter : Port → Bool → Option OwnedArena → Port
+    thereafter p c o = if c then option_map_or (having_looked p) o p else having_passed p
 
-    by_part : (p : Port) (c : Bool) (o : Option OwnedArena) → (then p c o).part ≡ p.part
+    by_part : (p : Port) (c : Bool) (o : Option OwnedArena) → (thereafter p c o).part ≡ p.part
     by_part p true None = refl
     by_part p true (Some o) = refl
     by_part p false o = refl
 
-    by_before : (p : Port) (c : Bool) (o : Option OwnedArena) → (then p c o).before ≡ p.before
+    by_before : (p : Port) (c : Bool) (o : Option OwnedArena) → (thereafter p c o).before ≡ p.before
     by_before p true None = refl
     by_before p true (Some o) = refl
     by_before p false o = refl
 
-    by_here : (p : Port) (c : Bool) (o : Option OwnedArena) → (then p c o).control.here ≡ p.control.here
+    by_here : (p : Port) (c : Bool) (o : Option OwnedArena) → (thereafter p c o).control.here ≡ p.control.here
     by_here p true None = refl
     by_here p true (Some o) = refl
     by_here p false o = refl
 
-    by_passed : (p : Port) (c : Bool) (o : Option OwnedArena) → p.passed ≤ (then p c o).passed
+    by_passed : (p : Port) (c : Bool) (o : Option OwnedArena) → p.passed ≤ (thereafter p c o).passed
     by_passed p true None = omega arith
     by_passed p true (Some o) = omega arith
     by_passed p false o = omega arith
@@ -55,41 +55,41 @@ abbrev pub MayLook : About → Port → Type 0
 MayLook a p = (p.control.entering ≡ Stands) × IfSome p.control.owned (λ o. (o.mark ≡ None) ⊎ (o.clean < a.ports))
 
 looked_lawful : (a : About) (words : List ℕ) (ports : ℕ → Port) (notes : ℕ → List Noted) (b : Beside) (k : ℕ) → LawfulMemory (plan_of a) words ports b notes → k < a.ports → MayLook a (ports k) →
-    LawfulEpochs (plan_of a) words (put k (looked_at (get_or words current_word 0) (ports k)) ports) b
-looked_lawful a words ports notes b k w below may = by (ports k).control.owned refl may.1 (eqb_tells (get_or words current_word 0) (packed (ports k).control.here))
+    LawfulEpochs (plan_of a) words (put k (looked_at (slice_index words current_word) (ports k)) ports) b
+looked_lawful a words ports notes b k w below may = by (ports k).control.owned refl may.1 (eqb_tells (slice_index words current_word) (packed (ports k).control.here))
   where
     e : Plan
     e = plan_of a
 
     at : ℕ
-    at = get_or words current_word 0
+    at = slice_index words current_word
 
     by : (o : Option OwnedArena) → (ports k).control.owned ≡ o → IfSome o (λ o. (o.mark ≡ None) ⊎ (o.clean < a.ports)) →
         (((at == packed (ports k).control.here) ≡ true) × (at ≡ packed (ports k).control.here)) ⊎ (((at == packed (ports k).control.here) ≡ false) × (at ≢ packed (ports k).control.here)) →
-        LawfulEpochs (plan_of a) words (put k (looked_at (get_or words current_word 0) (ports k)) ports) b
+        LawfulEpochs (plan_of a) words (put k (looked_at (slice_index words current_word) (ports k)) ports) b
     by None none tt (inl is) =
-        let same : looked_at at (ports k) ≡ ports k = ap (λ c. cond c (having_found (ports k)) (having_passed (ports k))) is.0
+        let same : looked_at at (ports k) ≡ ports k = ap (λ c. if c then having_found (ports k) else having_passed (ports k)) is.0
         ∙ ap (λ (o : Option OwnedArena). option_map_or (having_looked (ports k)) o (ports k)) none in
         subst (λ (p : Port). LawfulEpochs (plan_of a) words (put k p ports) b) (sym same) (lawful_itself (plan_of a) words ports b k w.epochs)
     by None none tt (inr ne) =
-        let same : looked_at at (ports k) ≡ having_passed (ports k) = ap (λ c. cond c (having_found (ports k)) (having_passed (ports k))) ne.0 in
+        let same : looked_at at (ports k) ≡ having_passed (ports k) = ap (λ c. if c then having_found (ports k) else having_passed (ports k)) ne.0 in
         subst (λ (p : Port). LawfulEpochs (plan_of a) words (put k p ports) b) (sym same)
         (elim (looks_are_true (plan_of a) words ports b k w.epochs below may.0 none) [
           | inl here ↦ absurd (ne.1 here.0)
           | inr away ↦ away.1
         ])
     by (Some o) is marks (inl here) =
-        let same : looked_at at (ports k) ≡ having_looked (ports k) o = ap (λ c. cond c (having_found (ports k)) (having_passed (ports k))) here.0
+        let same : looked_at at (ports k) ≡ having_looked (ports k) o = ap (λ c. if c then having_found (ports k) else having_passed (ports k)) here.0
         ∙ ap (λ (o : Option OwnedArena). option_map_or (having_looked (ports k)) o (ports k)) is in
         subst (λ (p : Port). LawfulEpochs (plan_of a) words (put k p ports) b) (sym same) (owners_look (plan_of a) words ports b k o w.epochs below is marks here.1).1
     by (Some o) is marks (inr ne) =
-        let same : looked_at at (ports k) ≡ having_passed (ports k) = ap (λ c. cond c (having_found (ports k)) (having_passed (ports k))) ne.0 in
+        let same : looked_at at (ports k) ≡ having_passed (ports k) = ap (λ c. if c then having_found (ports k) else having_passed (ports k)) ne.0 in
         subst (λ (p : Port). LawfulEpochs (plan_of a) words (put k p ports) b) (sym same) (owners_look_away (plan_of a) words ports b k o w.epochs below is ne.1)
 
 looked_stands : (n : ℕ) (p : Port) → p.control.entering ≡ Stands → (looked_at n p).control.entering ≡ Stands
 looked_stands n p is = by (n == packed p.control.here) p.control.owned
   where
-    by : (c : Bool) (o : Option OwnedArena) → (cond c (option_map_or (having_looked p) o p) (having_passed p)).control.entering ≡ Stands
+    by : (c : Bool) (o : Option OwnedArena) → (if c then option_map_or (having_looked p) o p else having_passed p).control.entering ≡ Stands
     by true None = is
     by true (Some o) = is
     by false o = is
@@ -101,7 +101,7 @@ stands_since g t n is = subst (λ (t : Entering). IsSince g t n) (sym is) tt
 -- a port that is as it was in what other ports may see of it keeps time
 module _ (a : About) (words words' : List ℕ) (ports : ℕ → Port) (b c : Beside) (since : ℕ → ℕ) (time : KeepsTime (plan_of a) words ports (place_now b) since) (before : c.before ≡ b.before) (k : ℕ)
     (p : Port)
-    (at : (q : ℕ) → q < a.ports → get_or words' (at_word q) 0 ≡ get_or words (at_word q) 0) (here : p.control.here ≡ (ports k).control.here)
+    (at : (q : ℕ) → q < a.ports → slice_index words' (at_word q) ≡ slice_index words (at_word q)) (here : p.control.here ≡ (ports k).control.here)
     (entering : p.control.entering ≡ (ports k).control.entering)
     (puts : (j : ℕ) (m : Place) → MayPut p.control j m → MayPut (ports k).control j m) where
   pub time_aside : KeepsTime (plan_of a) words' (put k p ports) (place_now c) since
@@ -114,11 +114,11 @@ module _ (a : About) (words words' : List ℕ) (ports : ℕ → Port) (b c : Bes
   }) time
 
 looked_time : (a : About) (words : List ℕ) (ports : ℕ → Port) (notes : ℕ → List Noted) (b : Beside) (since : ℕ → ℕ) (k : ℕ) → LawfulMemory (plan_of a) words ports b notes →
-    KeepsTime (plan_of a) words ports (place_now b) since → k < a.ports → KeepsTime (plan_of a) words (put k (looked_at (get_or words current_word 0) (ports k)) ports) (place_now b) since
-looked_time a words ports notes b since k w time below = by (ports k).control.owned refl (eqb_tells (get_or words current_word 0) (packed (ports k).control.here))
+    KeepsTime (plan_of a) words ports (place_now b) since → k < a.ports → KeepsTime (plan_of a) words (put k (looked_at (slice_index words current_word) (ports k)) ports) (place_now b) since
+looked_time a words ports notes b since k w time below = by (ports k).control.owned refl (eqb_tells (slice_index words current_word) (packed (ports k).control.here))
   where
     at : ℕ
-    at = get_or words current_word 0
+    at = slice_index words current_word
 
     same : (p : Port) → p.control.here ≡ (ports k).control.here → p.control.entering ≡ (ports k).control.entering → ((j : ℕ) (m : Place) → MayPut p.control j m → MayPut (ports k).control j m) →
         looked_at at (ports k) ≡ p → KeepsTime (plan_of a) words (put k (looked_at at (ports k)) ports) (place_now b) since
@@ -127,14 +127,14 @@ looked_time a words ports notes b since k w time below = by (ports k).control.ow
 
     by : (o : Option OwnedArena) → (ports k).control.owned ≡ o →
         (((at == packed (ports k).control.here) ≡ true) × (at ≡ packed (ports k).control.here)) ⊎ (((at == packed (ports k).control.here) ≡ false) × (at ≢ packed (ports k).control.here)) →
-        KeepsTime (plan_of a) words (put k (looked_at (get_or words current_word 0) (ports k)) ports) (place_now b) since
+        KeepsTime (plan_of a) words (put k (looked_at (slice_index words current_word) (ports k)) ports) (place_now b) since
     by None none (inl is) = same (ports k) refl refl (λ j m may. may)
-        (ap (λ c. cond c (having_found (ports k)) (having_passed (ports k))) is.0 ∙ ap (λ (o : Option OwnedArena). option_map_or (having_looked (ports k)) o (ports k)) none)
+        (ap (λ c. if c then having_found (ports k) else having_passed (ports k)) is.0 ∙ ap (λ (o : Option OwnedArena). option_map_or (having_looked (ports k)) o (ports k)) none)
     by (Some o) is (inl here) = subst (λ (p : Port). KeepsTime (plan_of a) words (put k p ports) (place_now b) since)
-        (sym (ap (λ c. cond c (having_found (ports k)) (having_passed (ports k))) here.0 ∙ ap (λ (o : Option OwnedArena). option_map_or (having_looked (ports k)) o (ports k)) is))
+        (sym (ap (λ c. if c then having_found (ports k) else having_passed (ports k)) here.0 ∙ ap (λ (o : Option OwnedArena). option_map_or (having_looked (ports k)) o (ports k)) is))
         (looks_keep_time (plan_of a) words ports b k o since w.epochs below here.1 time)
     by o is (inr ne) = same (having_passed (ports k)) refl refl (λ j m may. record { owned = may.owned; is = may.is; port = may.port; mark = may.mark; again = may.again })
-        (ap (λ c. cond c (having_found (ports k)) (having_passed (ports k))) ne.0)
+        (ap (λ c. if c then having_found (ports k) else having_passed (ports k)) ne.0)
 
 -- what a quiet step of a port leads to
 pub record Quietly (a : About) (words' : List ℕ) (ports : ℕ → Port) (b : Beside) (since : ℕ → ℕ) (k : ℕ) (g : Began) (p : Port) : Type 0 where
@@ -159,15 +159,15 @@ module _ {S : Type 0} (a : About) (slots id : ℕ) (me : Me S (List SeatedPort))
       Quietly a (f words) ports b since x.number x.began (g words (ports x.number))
 
   pub quietly : (i : ℕ) (f : ℕ → ℕ) (g : ℕ → Port → Port) (R : SeatedPort → ℕ → SeatedPort → Type 0) → ((n : ℕ) → IsQuiet (g n)) →
-      Leads (λ words. set words i (f (get_or words i 0))) (λ words. g (get_or words i 0)) →
+      Leads (λ words. slice_set words i (f (slice_index words i))) (λ words. g (slice_index words i)) →
       ((words : List ℕ) (ports : ℕ → Port) (b : Beside) → LawfulEpochs (plan_of a) words ports b → x.number < a.ports → x.port ≡ ports x.number →
-      R x (get_or words i 0) (becomes x x.began (g (get_or words i 0) x.port))) →
+      R x (slice_index words i) (becomes x x.began (g (slice_index words i) x.port))) →
       Allows (IsRuleKept a) slots id me i f (tells R me)
   quietly i f g R quiet leads says = allowed a slots id me i f R one own (λ words ports notes b since w time s small.
-      let n : ℕ = get_or words i 0 in
+      let n : ℕ = slice_index words i in
       let to = leads words ports notes b since w time s.number s.port (subst (λ (p : Port). IsSince x.began p.control.entering (since x.number)) s.port s.entering) (s.began).come in
       let began = begun_grows b to.beside x.began (let same = ap (λ (l : List (List Applied)). length l) to.before in omega (arith, same)) (none_grown b to.beside to.log to.before) s.began in
-      aside a words (set words i (f n)) ports notes b to.beside since to.since' x w s known (g n) (quiet n) x.began
+      aside a words (slice_set words i (f n)) ports notes b to.beside since to.since' x w s known (g n) (quiet n) x.began
       (subst (λ (p : Port). IsSince x.began (g n p).control.entering (to.since' x.number)) (sym s.port) to.entering) began to.time to.others to.log to.before to.lawful (R x n)
       (says words ports b w.epochs s.number s.port))
 
@@ -189,8 +189,8 @@ module _ {S : Type 0} (a : About) (slots id : ℕ) (me : Me S (List SeatedPort))
         beside = b;
         log = refl;
         before = refl;
-        lawful = subst (λ v. LawfulEpochs e (set words (at_word k) v) (put k (marks (ports k)) ports) b) word to;
-        time = subst (λ v. KeepsTime e (set words (at_word k) v) (put k (marks (ports k)) ports) (place_now b) (put k (place_now b).epoch since)) word in_time;
+        lawful = subst (λ v. LawfulEpochs e (slice_set words (at_word k) v) (put k (marks (ports k)) ports) b) word to;
+        time = subst (λ v. KeepsTime e (slice_set words (at_word k) v) (put k (marks (ports k)) ports) (place_now b) (put k (place_now b).epoch since)) word in_time;
         others = λ q ne. put_other k (place_now b).epoch since q ne;
         entering = subst (λ n. x.began.epoch ≤ n) (sym (put_same k (place_now b).epoch since)) come;
       })
@@ -202,7 +202,7 @@ module _ {S : Type 0} (a : About) (slots id : ℕ) (me : Me S (List SeatedPort))
       (λ words ports notes b since w time below is entering come.
       let e : Plan = plan_of a in
       let k : ℕ = x.number in
-      let n : ℕ = get_or words current_word 0 in
+      let n : ℕ = slice_index words current_word in
       let marks' = ap (λ (p : Port). p.control.entering) (sym is) ∙ marks_it in
       let to = entries_load e words ports b k w.epochs below marks' in
       let place : unpacked n ≡ place_now b = ap unpacked to.0 ∙ unpacked_is (place_now b) w.epochs.plan.arenas w.epochs.control.place.arena in
@@ -221,9 +221,9 @@ module _ {S : Type 0} (a : About) (slots id : ℕ) (me : Me S (List SeatedPort))
       })
       (λ words ports b w below is.
       let to = entries_load (plan_of a) words ports b x.number w below (ap (λ (p : Port). p.control.entering) (sym is) ∙ marks_it) in
-      let place : unpacked (get_or words current_word 0) ≡ place_now b = ap unpacked to.0 ∙ unpacked_is (place_now b) w.plan.arenas w.control.place.arena in (
+      let place : unpacked (slice_index words current_word) ≡ place_now b = ap unpacked to.0 ∙ unpacked_is (place_now b) w.plan.arenas w.control.place.arena in (
         to.0 ∙ ap packed (sym place),
-        subst (λ (z : About). IsPlace (plan_of z) (unpacked (get_or words current_word 0))) (sym own) (subst (IsPlace (plan_of a)) (sym place) w.control.place),
+        subst (λ (z : About). IsPlace (plan_of z) (unpacked (slice_index words current_word))) (sym own) (subst (IsPlace (plan_of a)) (sym place) w.control.place),
         refl,
       ))
 
@@ -232,13 +232,13 @@ module _ {S : Type 0} (a : About) (slots id : ℕ) (me : Me S (List SeatedPort))
   may_look first may = allowed a slots id me current_word (λ n. n) (SeatLooks first) one own (λ words ports notes b since w time s small.
       let e : Plan = plan_of a in
       let k : ℕ = x.number in
-      let n : ℕ = get_or words current_word 0 in
+      let n : ℕ = slice_index words current_word in
       let may' = subst (MayLook a) s.port may in
       let to = looked_lawful a words ports notes b k w s.number may' in
       let in_time = looked_time a words ports notes b since k w time s.number in
       let g = began_by first x b (seen_few a words ports notes b since x w s) s.began in
       let stands : (looked_at n x.port).control.entering ≡ Stands = looked_stands n x.port may.0 in
-      aside a words (set words current_word n) ports notes b b since since x w s known (looked_at n) (looked_quiet n) g.0 (stands_since g.0 (looked_at n x.port).control.entering (since k) stands) g.2
+      aside a words (slice_set words current_word n) ports notes b b since since x w s known (looked_at n) (looked_quiet n) g.0 (stands_since g.0 (looked_at n x.port).control.entering (since k) stands) g.2
       (subst (λ (l : List ℕ). KeepsTime e l (put k (looked_at n (ports k)) ports) (place_now b) since) (load_same words current_word) in_time) (λ q ne. refl) refl refl
       (subst (λ (l : List ℕ). LawfulEpochs e l (put k (looked_at n (ports k)) ports) b) (load_same words current_word) to) (SeatLooks first x n) (
         g.0,

@@ -1,5 +1,5 @@
 -- The words of the current arena tell the last values.
-use Rattle.partial_long_lived.proofs.Common.{ℕ, ◌≡◌, ◌+◌, ◌<◌, ◌≤◌, List, length, take, get_or, sym, ap, subst, ◌∙◌, arith, take_all, Applied, Opening, stamp_of, value_of, all_weaker, stamp_all, total, lawful_records_are_within, list_of, Plan, arena_words, base, unsealed, opening_behind, Port, Beside, LawfulEpochs, one_history, epochs_continue, current_is, below_whole, HaveLast, arena_now, component_now, value_now, view_word, value_word}
+use Rattle.partial_long_lived.proofs.Common.{ℕ, ◌≡◌, ◌+◌, ◌<◌, ◌≤◌, List, length, take, slice_index, sym, ap, subst, ◌∙◌, arith, take_all, Applied, Opening, stamp_of, value_of, all_weaker, stamp_all, total, lawful_records_are_within, list_of, Plan, arena_words, base, unsealed, opening_behind, Port, Beside, LawfulEpochs, one_history, epochs_continue, current_is, below_whole, HaveLast, arena_now, component_now, value_now, view_word, value_word}
 use Rattle.partial_words.proofs.ChainLemmas.{records_within, value_behind_stamp}
 use Rattle.partial_core.specs.Lawful as one
 use Rattle.partial_epochs.proofs.Worded.{plain_at, plain_component, plain_other}
@@ -29,7 +29,7 @@ module _ (e : Plan) (words : List ℕ) (ports : ℕ → Port) (b : Beside) (w : 
 
   module _ (j : ℕ) (inside : j < e.sizes.m) where
     abbrev raw : ℕ
-    raw = get_or words (base e b.arena + j) 0
+    raw = slice_index words (base e b.arena + j)
 
     named : unsealed raw ≡ stamp_of o b.log j
     named =
@@ -51,7 +51,7 @@ module _ (e : Plan) (words : List ℕ) (ports : ℕ → Port) (b : Beside) (w : 
         let same = plain_at e words b.arena j (omega (arith, inside)) ∙ plain_component e words b.arena j raw inside in
         omega (arith, r, count, same)
 
-    value : get_or words (base e b.arena + value_word (unsealed raw)) 0 ≡ value_of e.opening (one_history b) j
+    value : slice_index words (base e b.arena + value_word (unsealed raw)) ≡ value_of e.opening (one_history b) j
     value =
         let long = lawful.1.memory.values in
         let at = named in
@@ -60,16 +60,16 @@ module _ (e : Plan) (words : List ℕ) (ports : ℕ → Port) (b : Beside) (w : 
         let values = w.plan.values in
         let all : take (length b.log) b.log ≡ b.log = take_all (length b.log) b.log (omega arith) in
         let here = plain_at e words b.arena (value_word (unsealed raw)) (omega (arith, up)) in
-        let other = plain_other e words b.arena (value_word (unsealed raw)) (get_or words (base e b.arena + value_word (unsealed raw)) 0) (omega (arith, at, from)) in
+        let other = plain_other e words b.arena (value_word (unsealed raw)) (slice_index words (base e b.arena + value_word (unsealed raw))) (omega (arith, at, from)) in
         sym (here ∙ other)
-        ∙ ap (λ n. get_or inner (value_word n) 0) named
-        ∙ ap (λ (h : List Applied). get_or inner (value_word (stamp_of o h j)) 0) (sym all)
+        ∙ ap (λ n. slice_index inner (value_word n)) named
+        ∙ ap (λ (h : List Applied). slice_index inner (value_word (stamp_of o h j))) (sym all)
         ∙ value_behind_stamp o inner b.log j (length b.log) lawful.1.memory.agrees (omega (arith, long, inside))
         ∙ ap (λ (h : List Applied). value_of o h j) all
         ∙ sym (epochs_continue e.opening b.log b.before j (omega (arith, values, inside))).value
 
-    pub value_last : get_or words (value_now e words j) 0 ≡ value_of e.opening (one_history b) j
-    value_last = ap (λ x. get_or words (base e x + value_word (unsealed (get_or words (base e x + j) 0))) 0) arena_is ∙ value
+    pub value_last : slice_index words (value_now e words j) ≡ value_of e.opening (one_history b) j
+    value_last = ap (λ x. slice_index words (base e x + value_word (unsealed (slice_index words (base e x + j))))) arena_is ∙ value
 
     component_there : component_now e words j < length words
     component_there =
@@ -80,7 +80,7 @@ module _ (e : Plan) (words : List ℕ) (ports : ℕ → Port) (b : Beside) (w : 
     value_there =
         let up = within in
         let low = below_whole e b.arena (value_word (unsealed raw)) w.control.place.arena (omega (arith, up)) in
-        subst (λ x. base e x + value_word (unsealed (get_or words (base e x + j) 0)) < length words) (sym arena_is) (let all = w.count in omega (arith, low, all))
+        subst (λ x. base e x + value_word (unsealed (slice_index words (base e x + j))) < length words) (sym arena_is) (let all = w.count in omega (arith, low, all))
 
   pub have_last : HaveLast e words
   have_last = record {

@@ -1,10 +1,10 @@
 -- A scan by a double collect: two equal collects stood together between them.
-use Rattle.partial_long_lived.proofs.{Common.{ℕ, suc, ◌≡◌, ◌+◌, ◌-◌, ◌<◌, ◌≤◌, ◌&&◌, ◌++◌, not, Bool, true, false, cond, Option, None, Result, Ok, Err, IfOk, IfErr, List, [], ◌∷◌, length, map, take, set, refl, sym, ap, subst, ◌∙◌, inl, inr, arith, append-nil, length-append, nat_lt, slice_index, option_map_or, AllByRecursion, eqb_tells, ext_get_or, get_or-map, get_or-set_other, get_or-set_same, length-map, length-set, TableId, Applied, IsHistory, value_of, Noted, seen_by, legal_notes_are_shown, stamps_never_return, core_of, packed, seal, having_passed, having_looked, history_of, public_entry, public_log, OwnedArena, Port, Refused, About, Stand, Began, SeatedPort, seen_in, IsHeld, port_at, having_found, looked_at, HasCome, IsIdle, StaysAt, LookFound, SeatSees, noted_by, opening_of, Glances, HasNotedScan, ScanMade, SettledFirst, noted_scan, NotScanned, AreCollected, AreInside, HadValue, HadValues, HasBegunCollect, HasGlanced, HasStayed, MayNoteScan, NotesScan, WasThere, stamp_of, Scanned, total, value_word, unsealed, public_of, plan_of, MadeNamed, NameStamps, ScannedNamed}, Coming.{come_itself, come_on, come_same, come_seen, goes_on, seen_more}, Looking.looked_away, Seen.begin_history, Conditional.record_small, Collects.{glanced_come, glanced_idle, glanced_notes, glanced_seen, glanced_stayed, glanced_there, stayed_on, there_now}}
+use Rattle.partial_long_lived.proofs.{Common.{ℕ, suc, ◌≡◌, ◌+◌, ◌-◌, ◌<◌, ◌≤◌, ◌&&◌, ◌++◌, not, Bool, true, false, if◌then◌else◌, Option, None, Result, Ok, Err, IfOk, IfErr, List, [], ◌∷◌, length, map, take, slice_set, refl, sym, ap, subst, ◌∙◌, inl, inr, arith, append-nil, length-append, nat_lt, slice_index, option_map_or, AllByRecursion, eqb_tells, ext_get_or, get_or-map, get_or-set_other, get_or-set_same, length-map, length-set, TableId, Applied, IsHistory, value_of, Noted, seen_by, legal_notes_are_shown, stamps_never_return, core_of, packed, seal, having_passed, having_looked, history_of, public_entry, public_log, OwnedArena, Port, Refused, About, Stand, Began, SeatedPort, seen_in, IsHeld, port_at, having_found, looked_at, HasCome, IsIdle, StaysAt, LookFound, SeatSees, noted_by, opening_of, Glances, HasNotedScan, ScanMade, SettledFirst, noted_scan, NotScanned, AreCollected, AreInside, HadValue, HadValues, HasBegunCollect, HasGlanced, HasStayed, MayNoteScan, NotesScan, WasThere, stamp_of, Scanned, total, value_word, unsealed, public_of, plan_of, MadeNamed, NameStamps, ScannedNamed}, Coming.{come_itself, come_on, come_same, come_seen, goes_on, seen_more}, Looking.looked_away, Seen.begin_history, Conditional.record_small, Collects.{glanced_come, glanced_idle, glanced_notes, glanced_seen, glanced_stayed, glanced_there, stayed_on, there_now}}
 
 -- The first step of the scan led from the stand s to u, and perhaps a look on to t, of which nothing is new.
 module _ (table : TableId) (about : About) (s u t : Stand) (h : IsHeld table about s) (idle : IsIdle s) (kept : StaysAt s u) (j a : ℕ)
     (w : SeatSees true Glances j (port_at s) a (port_at u)) (kept' : StaysAt u t) where
-  nothing : (c : Bool) → cond c [] (noted_by Glances (port_at s) w.log j) ≡ []
+  nothing : (c : Bool) → (if c then [] else noted_by Glances (port_at s) w.log j) ≡ []
   nothing true = refl
   nothing false = refl
 
@@ -61,7 +61,7 @@ module _ (table : TableId) (about : About) (s u t : Stand) (h : IsHeld table abo
     look_same here =
         let free : (port_at u).port.control.owned ≡ None = ap (λ (x : SeatedPort). x.port.control.owned) w.is ∙ idle.free in
         let port : looked_at looked.found (port_at u).port ≡ (port_at u).port =
-        ap (λ (c : Bool). cond c (having_found (port_at u).port) (having_passed (port_at u).port)) (sym looked.is ∙ here)
+        ap (λ (c : Bool). if c then having_found (port_at u).port else having_passed (port_at u).port) (sym looked.is ∙ here)
         ∙ ap (λ (o : Option OwnedArena). option_map_or (having_looked (port_at u).port) o (port_at u).port) free in
         looked.looks.2 ∙ ap (λ (n : Began). record (port_at u) { port = looked_at looked.found (port_at u).port; began = n }) looked.looks.1
         ∙ ap (λ (p : Port). record (port_at u) { port = p }) port
@@ -206,7 +206,7 @@ module _ (table : TableId) (about : About) (s u v : Stand) (h : IsHeld table abo
     module _ (vs : List ℕ) (second : AreCollected x b (length x.port.part.seen) js ws (length js)) (values : HadValues x js ws vs (length js - 1)) (many : length vs ≡ length js)
         (last : (j : ℕ) → j < about.sizes.m → HadValue (port_at v) j (slice_index ws (length js - 1)) a) where
       abbrev vs' : List ℕ
-      vs' = set vs (length js - 1) a
+      vs' = slice_set vs (length js - 1) a
 
       had_all : (k : ℕ) → k < length js → HadValue x (slice_index js k) (slice_index ws k) (slice_index vs' k)
       had_all k low = elim (eqb_tells k (length js - 1)) [

@@ -1,23 +1,23 @@
 -- The exchange of the entering mark is allowed.
-use Rattle.partial_long_lived.proofs.{Common.{ℕ, ◌≡◌, ◌<◌, ◌≤◌, ◌==◌, ◌++◌, cond, None, List, [], ◌∷◌, length, get_or, set, refl, sym, ap, subst, ◌∙◌, inl, inr, arith, append-nil, append_assoc, eqb_tells, either, Me, Allows, Applied, LegalNotes, Noted, put, IsPlace, Place, Plan, at_word, marked, packed, history_of, public_log, Entering, Port, Loaded, arrived_port, Beside, LawfulEpochs, place_now, KeepsTime, LawfulMemory, EpochReached, not_marked, arrivals_keep_notes, arrivals_keep_time, arrivals_stay_lawful, put_other, put_same, history_grows, history_longer, About, IsRuleKept, IsSeat, IsSeen, IsSince, SeatedPort, one_of, plan_of, seen_in, BeginsWith, IsSeatKnown, IsOne, tells, SeatArrives, place_found, unpacked, ends}, Seen.legal_begins, Kept.{Moved, allowed, none_grown, not_grown}, Control.unpacked_is, Changes.either_cond}
+use Rattle.partial_long_lived.proofs.{Common.{ℕ, ◌≡◌, ◌<◌, ◌≤◌, ◌==◌, ◌++◌, if◌then◌else◌, None, List, [], ◌∷◌, length, slice_index, slice_set, refl, sym, ap, subst, ◌∙◌, inl, inr, arith, append-nil, append_assoc, eqb_tells, either, Me, Allows, Applied, LegalNotes, Noted, put, IsPlace, Place, Plan, at_word, marked, packed, history_of, public_log, Entering, Port, Loaded, arrived_port, Beside, LawfulEpochs, place_now, KeepsTime, LawfulMemory, EpochReached, not_marked, arrivals_keep_notes, arrivals_keep_time, arrivals_stay_lawful, put_other, put_same, history_grows, history_longer, About, IsRuleKept, IsSeat, IsSeen, IsSince, SeatedPort, one_of, plan_of, seen_in, BeginsWith, IsSeatKnown, IsOne, tells, SeatArrives, place_found, unpacked, ends}, Seen.legal_begins, Kept.{Moved, allowed, none_grown, not_grown}, Control.unpacked_is, Changes.either_cond}
 use Rattle.partial_epochs.specs.Entering as law
 
 -- the place to which the port comes is the one that its word tells
 arrival_place : (e : Plan) (words : List ℕ) (ports : ℕ → Port) (b : Beside) (k : ℕ) (c : Place) → LawfulEpochs e words ports b → k < e.ports → (w : law.Arrives e words ports b k c) →
-    place_found (ports k) c (get_or words (at_word k) 0) ≡ w.place
+    place_found (ports k) c (slice_index words (at_word k)) ≡ w.place
 arrival_place e words ports b k c lawful below w = elim w.is [
   | inl won ↦ (elim (eqb_tells n (marked here)) [
-    | inl same ↦ ap (λ t. cond t c (unpacked n)) same.0 ∙ sym won.1
+    | inl same ↦ ap (λ t. if t then c else unpacked n) same.0 ∙ sym won.1
     | inr other ↦ absurd (other.1 won.0)
   ])
   | inr lost ↦ (elim (eqb_tells n (marked here)) [
     | inl same ↦ absurd (not_marked e w.place here lawful.plan.arenas there (sym lost ∙ same.1))
-    | inr other ↦ ap (λ t. cond t c (unpacked n)) other.0 ∙ ap unpacked lost ∙ unpacked_is w.place lawful.plan.arenas there.arena
+    | inr other ↦ ap (λ t. if t then c else unpacked n) other.0 ∙ ap unpacked lost ∙ unpacked_is w.place lawful.plan.arenas there.arena
   ])
 ]
   where
     n : ℕ
-    n = get_or words (at_word k) 0
+    n = slice_index words (at_word k)
 
     here : Place
     here = (ports k).control.here
@@ -43,18 +43,18 @@ arrival_seen b p q seen old new later none =
 
 arrival : (a : About) (words : List ℕ) (ports : ℕ → Port) (notes : ℕ → List Noted) (b : Beside) (since : ℕ → ℕ) (x : SeatedPort) → LawfulMemory (plan_of a) words ports b notes →
     KeepsTime (plan_of a) words ports (place_now b) since → IsSeat a ports notes b since x → IsSeatKnown x → (c : Place) → x.port.control.entering ≡ Loaded c → (v : ℕ) →
-    cond (get_or words (at_word x.number) 0 == marked (ports x.number).control.here) (packed c) (get_or words (at_word x.number) 0) ≡ v →
-    Moved a (set words (at_word x.number) v) ports notes b since x (SeatArrives c x (get_or words (at_word x.number) 0))
+    (if slice_index words (at_word x.number) == marked (ports x.number).control.here then packed c else slice_index words (at_word x.number)) ≡ v →
+    Moved a (slice_set words (at_word x.number) v) ports notes b since x (SeatArrives c x (slice_index words (at_word x.number)))
 arrival a words ports notes b since x w time s known c loaded v word =
     let e : Plan = plan_of a in
     let k : ℕ = x.number in
-    let n : ℕ = get_or words (at_word k) 0 in
+    let n : ℕ = slice_index words (at_word k) in
     let own : x.about ≡ a = s.about in
     let loaded' : (ports k).control.entering ≡ Loaded c = ap (λ (p : Port). p.control.entering) (sym s.port) ∙ loaded in
     let to : law.Arrives (plan_of a) words ports b k c = arrivals_stay_lawful e words ports b k c w.epochs s.number loaded' in
     let p : Port = arrived_port e k to.place to.before in
-    let lawful : LawfulMemory e (set words (at_word k) v) (put k p ports) b notes =
-    subst (λ v. LawfulMemory e (set words (at_word k) v) (put k p ports) b notes) word (arrivals_keep_notes e words ports b notes k c w s.number to) in
+    let lawful : LawfulMemory e (slice_set words (at_word k) v) (put k p ports) b notes =
+    subst (λ v. LawfulMemory e (slice_set words (at_word k) v) (put k p ports) b notes) word (arrivals_keep_notes e words ports b notes k c w s.number to) in
     let in_time = arrivals_keep_time e words ports b k c since w.epochs s.number loaded' time to in
     let place : place_found x.port c n ≡ to.place = ap (λ (q : Port). place_found q c n) s.port ∙ arrival_place e words ports b k c w.epochs s.number to in
     let old : EpochReached b x.port = subst (EpochReached b) (sym s.port) (w.noted.reached k s.number) in
@@ -73,7 +73,7 @@ arrival a words ports notes b since x w time s known c loaded v word =
       beside = b;
       since' = since;
       lawful = lawful;
-      time = subst (λ v. KeepsTime e (set words (at_word k) v) (put k p ports) (place_now b) since) word in_time.1;
+      time = subst (λ v. KeepsTime e (slice_set words (at_word k) v) (put k p ports) (place_now b) since) word in_time.1;
       others = λ q ne. (put_other k p ports q ne, refl, refl);
       number = refl;
       seat = record {
@@ -109,6 +109,6 @@ module _ {S : Type 0} (a : About) (slots id : ℕ) (me : Me S (List SeatedPort))
   pub may_arrive : (c : Place) → x.port.control.entering ≡ Loaded c →
       Allows (IsRuleKept a) slots id me (at_word x.number) (λ n. either (n == marked x.port.control.here) (packed c) n) (tells (SeatArrives c) me)
   may_arrive c loaded = allowed a slots id me (at_word x.number) (λ n. either (n == marked x.port.control.here) (packed c) n) (SeatArrives c) one own (λ words ports notes b since w time s small.
-      let n : ℕ = get_or words (at_word x.number) 0 in
+      let n : ℕ = slice_index words (at_word x.number) in
       arrival a words ports notes b since x w time s known c loaded (either (n == marked x.port.control.here) (packed c) n)
-      (ap (λ (p : Port). cond (n == marked p.control.here) (packed c) n) (sym s.port) ∙ either_cond (n == marked x.port.control.here) (packed c) n))
+      (ap (λ (p : Port). if n == marked p.control.here then packed c else n) (sym s.port) ∙ either_cond (n == marked x.port.control.here) (packed c) n))

@@ -1,5 +1,5 @@
 -- A step of one seat keeps the rule.
-use Rattle.partial_long_lived.proofs.{Common.{ℕ, ◌≡◌, ◌≢◌, ◌+◌, ◌<◌, ◌≤◌, ◌==◌, ◌++◌, cond, Option, Some, None, IfSome, List, [], ◌∷◌, length, get_or, set, refl, sym, ap, subst, ◌∙◌, arith, append-nil, length-append, AllByRecursion, some, get_elem?, Me, Allows, keeps, Applied, LegalNotes, Noted, all_at, all_join, all_before, all_after, all_weaker, Port, Beside, IsEpochPlan, place_now, KeepsTime, history_longer, LawfulMemory, option_map_or, behind_both, IsPlace, carried_after, carried_behind, history_of, opening_behind, public_log, public_stamp, value_of, About, Began, Found, BeganInTime, IsFinal, IsRuleKept, IsSeat, IsSeen, IsSince, SeatedPort, one_of, plan_of, seats_of, Knows, seen_in, BeginsWith, SeatGoes, IsSeatKnown, IsOne, tells, HasRecordStamps}, Seen.{fits_of, knows_of, own_of, seen_begins}, Views.{around, others_all, seat_own, seats_both}}
+use Rattle.partial_long_lived.proofs.{Common.{ℕ, ◌≡◌, ◌≢◌, ◌+◌, ◌<◌, ◌≤◌, ◌==◌, ◌++◌, if◌then◌else◌, Option, Some, None, IfSome, List, [], ◌∷◌, length, slice_index, slice_set, refl, sym, ap, subst, ◌∙◌, arith, append-nil, length-append, AllByRecursion, some, get_elem?, Me, Allows, keeps, Applied, LegalNotes, Noted, all_at, all_join, all_before, all_after, all_weaker, Port, Beside, IsEpochPlan, place_now, KeepsTime, history_longer, LawfulMemory, option_map_or, behind_both, IsPlace, carried_after, carried_behind, history_of, opening_behind, public_log, public_stamp, value_of, About, Began, Found, BeganInTime, IsFinal, IsRuleKept, IsSeat, IsSeen, IsSince, SeatedPort, one_of, plan_of, seats_of, Knows, seen_in, BeginsWith, SeatGoes, IsSeatKnown, IsOne, tells, HasRecordStamps}, Seen.{fits_of, knows_of, own_of, seen_begins}, Views.{around, others_all, seat_own, seats_both}}
 use Rattle.partial_epochs.proofs.Last.{none_here, stays}
 
 -- The histories of all epochs have grown: that of the epoch behind these has at most gained entries, for components of which that is so.
@@ -169,7 +169,7 @@ module _ {S : Type 0} (a : About) (me : Me S (List SeatedPort)) (one : IsOne me)
 
   pub once_then : (before behind : List SeatedPort) → ((k : ℕ) → seats_of k (before ++ x ∷ behind) ≤ 1) → (k : ℕ) → seats_of k (before ++ m.y ∷ behind) ≤ 1
   once_then before behind once k =
-      let same = ap (λ n. cond (n == k) 1 0 + seats_of k behind) m.number in
+      let same = ap (λ n. (if n == k then 1 else 0) + seats_of k behind) m.number in
       let was = seats_both k before (x ∷ behind) in
       let is = seats_both k before (m.y ∷ behind) in
       let most = once k in
@@ -202,7 +202,7 @@ module _ {S : Type 0} (a : About) (me : Me S (List SeatedPort)) (one : IsOne me)
 pub allowed : {S : Type 0} (a : About) (slots id : ℕ) (me : Me S (List SeatedPort)) (i : ℕ) (f : ℕ → ℕ) (R : SeatedPort → ℕ → SeatedPort → Type 0) → IsOne me → (one_of me.0).about ≡ a →
     ((words : List ℕ) (ports : ℕ → Port) (notes : ℕ → List Noted) (b : Beside) (since : ℕ → ℕ) → LawfulMemory (plan_of a) words ports b notes → KeepsTime (plan_of a) words ports (place_now b) since →
     IsSeat a ports notes b since (one_of me.0) →
-    get_or words i 0 < 18446744073709551616 → Moved a (set words i (f (get_or words i 0))) ports notes b since (one_of me.0) (R (one_of me.0) (get_or words i 0))) →
+    slice_index words i < 18446744073709551616 → Moved a (slice_set words i (f (slice_index words i))) ports notes b since (one_of me.0) (R (one_of me.0) (slice_index words i))) →
     Allows (IsRuleKept a) slots id me i f (tells R me)
 allowed {S} a slots id me i f R one own leads table kept homes at small =
     let x : SeatedPort = one_of me.0 in
@@ -212,8 +212,8 @@ allowed {S} a slots id me i f R one own leads table kept homes at small =
     let once : (k : ℕ) → seats_of k (r.before ++ x ∷ r.behind) ≤ 1 = λ k. subst (λ l. seats_of k l ≤ 1) r.now (kept.once k) in
     let here : IsSeat a kept.ports kept.notes kept.beside kept.since x = all_at (IsSeat a kept.ports kept.notes kept.beside kept.since) r.before x r.behind seats in
     let m = leads table.words kept.ports kept.notes kept.beside kept.since kept.lawful kept.time here small in
-    let words' : List ℕ = set table.words i (f (get_or table.words i 0)) in
-    let P : SeatedPort → Type 0 = R x (get_or table.words i 0) in (
+    let words' : List ℕ = slice_set table.words i (f (slice_index table.words i)) in
+    let P : SeatedPort → Type 0 = R x (slice_index table.words i) in (
       m.y ∷ [],
       keeps,
       tt,
@@ -224,9 +224,9 @@ allowed {S} a slots id me i f R one own leads table kept homes at small =
         since = m.since';
         lawful = m.lawful;
         time = m.time;
-        seats = subst (AllByRecursion (IsSeat a m.ports' m.notes' m.beside m.since')) (sym (r.then (m.y ∷ [])))
+        seats = subst (AllByRecursion (IsSeat a m.ports' m.notes' m.beside m.since')) (sym (r.renewed (m.y ∷ [])))
             (seats_then a me one words' kept.ports kept.notes kept.beside kept.since P m r.before r.behind once seats);
-        once = λ k. subst (λ l. seats_of k l ≤ 1) (sym (r.then (m.y ∷ []))) (once_then a me one words' kept.ports kept.notes kept.beside kept.since P m r.before r.behind once k);
+        once = λ k. subst (λ l. seats_of k l ≤ 1) (sym (r.renewed (m.y ∷ []))) (once_then a me one words' kept.ports kept.notes kept.beside kept.since P m r.before r.behind once k);
       },
       ((refl, one.1), goes_then a me one words' kept.ports kept.notes kept.beside kept.since P m own, m.says),
     )

@@ -1,5 +1,5 @@
 -- Loads of component words are allowed, and what they tell.
-use Rattle.partial_long_lived.proofs.{Common.{ℕ, ◌≡◌, ◌≢◌, ◌+◌, ◌<◌, ◌≤◌, ◌==◌, ◌⊎◌, ◌&&◌, ◌++◌, not, Bool, true, false, cond, Option, Some, None, IfSome, List, [], ◌∷◌, length, map, take, get_or, set, refl, sym, ap, subst, ◌∙◌, inl, inr, arith, append-nil, append_assoc, length-append, ⊤, nat_lt, AllByRecursion, eqb_tells, length-map, take-append-le, take_all, Applied, Opening, Note, stamp_of, value_of, Fits, IsTrueOf, LegalNotes, Noted, place_of, seen_by, AreCollects, LegalNotes-push, first_free, put, MayPut, Place, Plan, base, component_words, seal, unsealed, carried_after, carried_behind, history_of, opening_behind, public_entry, public_log, Port, Stands, Beside, IsStanding, place_now, LawfulMemory, having_seen, noting, public_of, IsBesideAs, KeepsTime, asides_keep_time, components_name_records, epochs_are_histories, glances_stay_lawful, seen_records_stay, sights_stay_lawful, unsealed_is_present, history_took, at_of, put_all, put_other, put_same, held_history, history_grows, among, history_longer, About, Began, Found, BeganInTime, IsFinal, IsSeat, SeatedPort, plan_of, seen_in, BeginsWith, IsSeatKnown, Recalls, SeatSees, Wish, found_by, noted_by, place_seen, stamp_seen, MayNoteScan, NotesScan, noted_together, Expects, Finds, Glances, Reads, epochs_continue, stamp_public, value_public, Call, Answer}, Begins.{began_by, seen_few}, Control.{load_same, stands_since}, Kept.{Moved, begun_grows, final_grows, none_grown, not_grown}, Lists.{cut, same_before}, Seen.legal_begins}
+use Rattle.partial_long_lived.proofs.{Common.{ℕ, ◌≡◌, ◌≢◌, ◌+◌, ◌<◌, ◌≤◌, ◌==◌, ◌⊎◌, ◌&&◌, ◌++◌, not, Bool, true, false, if◌then◌else◌, Option, Some, None, IfSome, List, [], ◌∷◌, length, map, take, slice_index, slice_set, refl, sym, ap, subst, ◌∙◌, inl, inr, arith, append-nil, append_assoc, length-append, ⊤, nat_lt, AllByRecursion, eqb_tells, length-map, take-append-le, take_all, Applied, Opening, Note, stamp_of, value_of, Fits, IsTrueOf, LegalNotes, Noted, place_of, seen_by, AreCollects, LegalNotes-push, first_free, put, MayPut, Place, Plan, base, component_words, seal, unsealed, carried_after, carried_behind, history_of, opening_behind, public_entry, public_log, Port, Stands, Beside, IsStanding, place_now, LawfulMemory, having_seen, noting, public_of, IsBesideAs, KeepsTime, asides_keep_time, components_name_records, epochs_are_histories, glances_stay_lawful, seen_records_stay, sights_stay_lawful, unsealed_is_present, history_took, at_of, put_all, put_other, put_same, held_history, history_grows, among, history_longer, About, Began, Found, BeganInTime, IsFinal, IsSeat, SeatedPort, plan_of, seen_in, BeginsWith, IsSeatKnown, Recalls, SeatSees, Wish, found_by, noted_by, place_seen, stamp_seen, MayNoteScan, NotesScan, noted_together, Expects, Finds, Glances, Reads, epochs_continue, stamp_public, value_public, Call, Answer}, Begins.{began_by, seen_few}, Control.{load_same, stands_since}, Kept.{Moved, begun_grows, final_grows, none_grown, not_grown}, Lists.{cut, same_before}, Seen.legal_begins}
 use Rattle.partial_epochs.proofs.Last.{is_raw, within as arena_within}
 
 -- the port wants what the next epoch begins with
@@ -81,13 +81,13 @@ module _ (a : About) (words : List ℕ) (ports : ℕ → Port) (notes : ℕ → 
   IsTrueHere n = IsTrueAt (length log) n
 
   -- what the port recalls of its epoch from word i of the table
-  pub recalled : (i : ℕ) → Recalls i X (get_or words i 0) X
+  pub recalled : (i : ℕ) → Recalls i X (slice_index words i) X
   recalled i =
       let records = λ (j : ℕ) (inside : j < a.sizes.m). seen_records_stay e words ports b k j w.epochs below stands inside standing in
       record {
         same = refl;
-        value = λ j m inside few is. ap (λ h. get_or words h 0) is ∙ ((records j inside).each m few).value;
-        carried = λ j inside is. ap (λ h. get_or words h 0) is ∙ (records j inside).carried;
+        value = λ j m inside few is. ap (λ h. slice_index words h) is ∙ ((records j inside).each m few).value;
+        carried = λ j inside is. ap (λ h. slice_index words h) is ∙ (records j inside).carried;
       }
 
   -- public values and stamps
@@ -120,10 +120,10 @@ module _ (a : About) (words : List ℕ) (ports : ℕ → Port) (notes : ℕ → 
         let values = w.epochs.plan.values in
         ((ap (λ n. Some (Note.Saw n)) long, omega (arith, values, inside), (omega (arith, long), value_is, stamp_is)), tt)
     notes_true (Expects expected v) = elim (eqb_tells (stamp_seen X log j) expected) [
-      | inl same ↦ subst (λ (c : Bool). AllByRecursion IsTrueHere (cond c [] (changed_note expected v ∷ []))) (sym same.0) tt
+      | inl same ↦ subst (λ (c : Bool). AllByRecursion IsTrueHere (if c then [] else changed_note expected v ∷ [])) (sym same.0) tt
       | inr ne ↦
           let values = w.epochs.plan.values in
-          subst (λ (c : Bool). AllByRecursion IsTrueHere (cond c [] (changed_note expected v ∷ []))) (sym ne.0)
+          subst (λ (c : Bool). AllByRecursion IsTrueHere (if c then [] else changed_note expected v ∷ [])) (sym ne.0)
           ((ap (λ n. Some (Note.Saw n)) long, omega (arith, values, inside), (omega (arith, long), sym stamp_is, ne.1)), tt)
     ]
 
@@ -182,12 +182,12 @@ module _ (a : About) (words : List ℕ) (ports : ℕ → Port) (notes : ℕ → 
     -- what a load of word i leads to, by which the port sees all of its epoch
     moved_to : (i : ℕ) (n : Began) → BeganInTime b n → (added : List Noted) → Seen added → LegalNotes a.opening (seen_in p') k 0 (notes k ++ added) → (found : Option Found) →
         ((c : Beside) → c.log ≡ b.log → c.before ≡ b.before → IfSome found (IsFinal e c p')) → (P : SeatedPort → Type 0) →
-        P (record { about = a; number = k; port = p'; notes = notes k ++ added; began = n; found = found }) → Moved a (set words i (get_or words i 0)) ports notes b since X P
+        P (record { about = a; number = k; port = p'; notes = notes k ++ added; began = n; found = found }) → Moved a (slice_set words i (slice_index words i)) ports notes b since X P
     moved_to i n has added to legal found final P says =
         let same_log = to.same.log in
         let same_before_is = to.same.before in
         let grown = not_grown p' b to.beside same_log same_before_is in
-        let lawful' : LawfulMemory e (set words i (get_or words i 0)) (put k p' ports) to.beside to.notes' =
+        let lawful' : LawfulMemory e (slice_set words i (slice_index words i)) (put k p' ports) to.beside to.notes' =
         subst (λ (l : List ℕ). LawfulMemory e l (put k p' ports) to.beside to.notes') (load_same words i) to.lawful in
         record {
           y = record { about = a; number = k; port = p'; notes = notes k ++ added; began = n; found = found };
@@ -230,7 +230,7 @@ module _ (a : About) (words : List ℕ) (ports : ℕ → Port) (notes : ℕ → 
 
     -- a load of word i by which the port sees all of its epoch, in a call that began then
     pub moved_glance : (i : ℕ) (n : Began) → BeganInTime b n → (P : SeatedPort → Type 0) → P (record { about = a; number = k; port = p'; notes = notes k ++ []; began = n; found = f }) →
-        Moved a (set words i (get_or words i 0)) ports notes b since X P
+        Moved a (slice_set words i (slice_index words i)) ports notes b since X P
     moved_glance i n has P says = moved_to i n has [] sees_nothing (subst (λ (l : List Noted). LegalNotes a.opening (seen_in p') k 0 l) (sym (append-nil (notes k))) legal_then) f
         (λ c same before. final_grows a p' b c (not_grown p' b c same before) f (final_seen f s.found)) P says
 
@@ -270,11 +270,11 @@ module _ (a : About) (words : List ℕ) (ports : ℕ → Port) (notes : ℕ → 
             },
           )
 
-      pub moved_note : (i : ℕ) → Moved a (set words i (get_or words i 0)) ports notes b since X (NotesScan js m i X (get_or words i 0))
+      pub moved_note : (i : ℕ) → Moved a (slice_set words i (slice_index words i)) ports notes b since X (NotesScan js m i X (slice_index words i))
       moved_note i =
           let histories = epochs_are_histories e words ports b k w.epochs below stands standing in
           moved_to i g s.began (scan ∷ []) (sees_note m few_seen may.behind scan scan_true) (legal_note m may.behind scan scan_true) f
-          (λ c same before. final_grows a p' b c (not_grown p' b c same before) f (final_seen f s.found)) (NotesScan js m i X (get_or words i 0))
+          (λ c same before. final_grows a p' b c (not_grown p' b c same before) f (final_seen f s.found)) (NotesScan js m i X (slice_index words i))
           (record { recalls = recalled i; log = log; begins = seen_rest; is = refl; history = histories.0; values = histories.1; stamps = λ j inside. ap (λ (l : List Applied). public_of e (ports k).before j (stamp_of o l j)) taken_seen ∙ stamp_public e w.epochs.plan (ports k).before log above m j inside })
 
     -- what a load of the component's word leads to
@@ -283,7 +283,7 @@ module _ (a : About) (words : List ℕ) (ports : ℕ → Port) (notes : ℕ → 
       i = base e (ports k).control.here.arena + j
 
       abbrev n : ℕ
-      n = get_or words i 0
+      n = slice_index words i
 
       names : unsealed n ≡ stamp_of o log j
       names = (components_name_records e words ports b k j w.epochs below stands inside standing).names
@@ -291,8 +291,8 @@ module _ (a : About) (words : List ℕ) (ports : ℕ → Port) (notes : ℕ → 
       -- an unsealed word is one of the current epoch
       young : n < seal → length b.before ≡ (ports k).control.here.epoch
       young less =
-          let at : get_or (component_words e words (ports k).control.here.arena) j 0 ≡ n =
-          at_of (λ i. get_or words (base e (ports k).control.here.arena + i) 0) 0 a.sizes.m j inside ∙ ap (λ i. get_or words (base e (ports k).control.here.arena + i) 0) (omega arith) in
+          let at : slice_index (component_words e words (ports k).control.here.arena) j ≡ n =
+          at_of (λ i. slice_index words (base e (ports k).control.here.arena + i)) 0 a.sizes.m j inside ∙ ap (λ i. slice_index words (base e (ports k).control.here.arena + i)) (omega arith) in
           let here = (unsealed_is_present e words ports b k j w.epochs below stands inside (λ sealed. omega (arith, at, less, sealed))).here in
           sym (ap (λ (d : Place). d.epoch) here)
 
@@ -312,8 +312,8 @@ module _ (a : About) (words : List ℕ) (ports : ℕ → Port) (notes : ℕ → 
       found_final Reads passed c same before = final_grows a p' b c (not_grown p' b c same before) f (final_seen f s.found)
       found_final (Expects x v) passed c same before = final_grows a p' b c (not_grown p' b c same before) f (final_seen f s.found)
 
-      pub moved_by : (added : List Noted) → Seen added → LegalNotes a.opening (seen_in p') k 0 (notes k ++ added) → added ≡ cond (first && not (nat_lt n seal)) [] (noted_by wish X log j) →
-          Moved a (set words i n) ports notes b since X (SeatSees first wish j X n)
+      pub moved_by : (added : List Noted) → Seen added → LegalNotes a.opening (seen_in p') k 0 (notes k ++ added) → added ≡ (if first && not (nat_lt n seal) then [] else noted_by wish X log j) →
+          Moved a (slice_set words i n) ports notes b since X (SeatSees first wish j X n)
       moved_by added to legal is =
           let d = began_by first X b (seen_few a words ports notes b since X w s) s.began in
           moved_to i d.0 d.2 added to legal (found_by wish X log j) (found_final wish finds) (SeatSees first wish j X n) (record {
@@ -336,20 +336,20 @@ module _ (a : About) (words : List ℕ) (ports : ℕ → Port) (notes : ℕ → 
       one_note Reads = inr (_, refl)
       one_note (Expects expected v) = by (stamp_seen X log j == expected)
         where
-          by : (c : Bool) → (cond c [] (changed_note j inside expected v ∷ []) ≡ []) ⊎ ((m : Noted) × (cond c [] (changed_note j inside expected v ∷ []) ≡ m ∷ []))
+          by : (c : Bool) → ((if c then [] else changed_note j inside expected v ∷ []) ≡ []) ⊎ ((m : Noted) × ((if c then [] else changed_note j inside expected v ∷ []) ≡ m ∷ []))
           by true = inl refl
           by false = inr (_, refl)
 
-      pub moved_see : Moved a (set words i n) ports notes b since X (SeatSees first wish j X n)
+      pub moved_see : Moved a (slice_set words i n) ports notes b since X (SeatSees first wish j X n)
       moved_see = by (first && not (nat_lt n seal)) refl (one_note wish)
         where
-          nothing : [] ≡ cond (first && not (nat_lt n seal)) [] (noted_by wish X log j) → Moved a (set words i n) ports notes b since X (SeatSees first wish j X n)
+          nothing : [] ≡ (if first && not (nat_lt n seal) then [] else noted_by wish X log j) → Moved a (slice_set words i n) ports notes b since X (SeatSees first wish j X n)
           nothing is = moved_by [] sees_nothing (subst (λ (l : List Noted). LegalNotes a.opening (seen_in p') k 0 l) (sym (append-nil (notes k))) legal_then) is
 
-          by : (c : Bool) → (first && not (nat_lt n seal)) ≡ c → ((noted_by wish X log j ≡ []) ⊎ ((m : Noted) × (noted_by wish X log j ≡ m ∷ []))) → Moved a (set words i n) ports notes b since X (SeatSees first wish j X n)
-          by true skip some = nothing (sym (ap (λ (c : Bool). cond c [] (noted_by wish X log j)) skip))
-          by false skip (inl none) = nothing (sym (ap (λ (c : Bool). cond c [] (noted_by wish X log j)) skip ∙ none))
+          by : (c : Bool) → (first && not (nat_lt n seal)) ≡ c → ((noted_by wish X log j ≡ []) ⊎ ((m : Noted) × (noted_by wish X log j ≡ m ∷ []))) → Moved a (slice_set words i n) ports notes b since X (SeatSees first wish j X n)
+          by true skip some = nothing (sym (ap (λ (c : Bool). if c then [] else noted_by wish X log j) skip))
+          by false skip (inl none) = nothing (sym (ap (λ (c : Bool). if c then [] else noted_by wish X log j) skip ∙ none))
           by false skip (inr one) =
               let is_true = (subst (AllByRecursion IsTrueHere) one.1 (notes_true j inside wish)).0 in
               moved_by (one.0 ∷ []) (sees_note (length log) (omega arith) shown_few one.0 is_true) (legal_note (length log) shown_few one.0 is_true)
-              (sym (ap (λ (c : Bool). cond c [] (noted_by wish X log j)) skip ∙ one.1))
+              (sym (ap (λ (c : Bool). if c then [] else noted_by wish X log j) skip ∙ one.1))

@@ -1,11 +1,11 @@
 -- What a look leaves of a port.
-use Rattle.partial_long_lived.proofs.Common.{ℕ, ◌≡◌, ◌==◌, Bool, true, false, cond, Option, Some, None, refl, sym, ap, ◌∙◌, option_map_or, packed, OwnedArena, Port, having_passed, having_looked, Stand, SeatedPort, port_at, having_found, looked_at, StaysAt, LookFound, HasTaken, HoldsMark, IsPast, MayPutPort, Owns, Remains, HasSetWords}
+use Rattle.partial_long_lived.proofs.Common.{ℕ, ◌≡◌, ◌==◌, Bool, true, false, if◌then◌else◌, Option, Some, None, refl, sym, ap, ◌∙◌, option_map_or, packed, OwnedArena, Port, having_passed, having_looked, Stand, SeatedPort, port_at, having_found, looked_at, StaysAt, LookFound, HasTaken, HoldsMark, IsPast, MayPutPort, Owns, Remains, HasSetWords}
 
 -- what a look leaves as it was, whatever it finds
 looked_same : {A : Type 0} (f : Port → A) (n : ℕ) (p : Port) → ((o : OwnedArena) → f (having_looked p o) ≡ f p) → f (having_passed p) ≡ f p → f (looked_at n p) ≡ f p
 looked_same {A} f n p here away = by (n == packed p.control.here) p.control.owned
   where
-    by : (c : Bool) (o : Option OwnedArena) → f (cond c (option_map_or (having_looked p) o p) (having_passed p)) ≡ f p
+    by : (c : Bool) (o : Option OwnedArena) → f (if c then option_map_or (having_looked p) o p else having_passed p) ≡ f p
     by true None = refl
     by true (Some o) = here o
     by false o = away
@@ -21,11 +21,11 @@ module _ (first : Bool) (s t : Stand) (b : Bool) (w : LookFound first s b t) whe
   -- it has found the port's own place, or another one
   pub looked_own : b ≡ true → (o : OwnedArena) → (port_at s).port.control.owned ≡ Some o → (port_at t).port ≡ having_looked (port_at s).port o
   looked_own here o is =
-      port_is ∙ ap (λ (c : Bool). cond c (having_found (port_at s).port) (having_passed (port_at s).port)) (sym w.is ∙ here)
+      port_is ∙ ap (λ (c : Bool). if c then having_found (port_at s).port else having_passed (port_at s).port) (sym w.is ∙ here)
       ∙ ap (λ (o : Option OwnedArena). option_map_or (having_looked (port_at s).port) o (port_at s).port) is
 
   pub looked_away : b ≡ false → (port_at t).port ≡ having_passed (port_at s).port
-  looked_away away = port_is ∙ ap (λ (c : Bool). cond c (having_found (port_at s).port) (having_passed (port_at s).port)) (sym w.is ∙ away)
+  looked_away away = port_is ∙ ap (λ (c : Bool). if c then having_found (port_at s).port else having_passed (port_at s).port) (sym w.is ∙ away)
 
   pub away_past : b ≡ false → IsPast t
   away_past away = ap (λ (p : Port). p.control.past) (looked_away away)

@@ -1,14 +1,14 @@
 -- The steps of a port's machine are allowed.
-use Rattle.partial_long_lived.proofs.{Common.{ℕ, ◌≡◌, ◌≢◌, ◌+◌, ◌<◌, ◌≤◌, ◌||◌, ◌++◌, Bool, true, false, cond, Option, Some, None, IfSome, List, [], ◌∷◌, length, map, take, drop, get_or, set, refl, sym, ap, subst, ◌∙◌, inl, inr, arith, append-nil, append_assoc, length-append, AllByRecursion, length-map, take-append-drop, take-append-le, set-get_or, Applied, Call, Answer, stamp_of, LegalNotes, Noted, seen_by, Step, Load, Store, Exchange, Add, answer_of, word_of, words_after, CoreState, advance, reply_of, answer_for, call_of, is_begun, Part, core_of, begun_with, since_with, put, IsSealed, Place, Plan, arena_words, base, component_words, plain, placed_step, history_of, opening_behind, public_entry, public_log, among, history_longer, known, Control, Entering, Epoch, Port, Stands, Marks, Loaded, IsOld, MayPut, option_map, present_history, all_back, Beside, IsStanding, LawfulEpochs, numbers, place_now, HaveSlots, MachineLeads, MeetsSeal, ends_over, ExpectedOne, LawfulMemory, EpochReached, noting, public_noted, KeepsTime, asides_keep_time, machines_are_never_refused, notes_stay_lawful, steps_keep_places, put_all, put_other, put_same, About, Began, Found, IsFinal, IsLast, IsSeat, SeatedPort, plan_of, seen_in, BeginsWith, IsSeatKnown, IsApart, SeatMakes, MayMake, unsealed_answer, change_of, over_by, told_of, legal_notes_seen, one_or_none}, Begins.{began_by, seen_few}, Control.stands_since, Kept.{Grows, HasGrown, HaveGrown, Moved, begun_grows, final_grows, moved_says}, Lists.same_before, Seen.legal_begins, Loads.{begun_place, seat_at}}
+use Rattle.partial_long_lived.proofs.{Common.{ℕ, ◌≡◌, ◌≢◌, ◌+◌, ◌<◌, ◌≤◌, ◌||◌, ◌++◌, Bool, true, false, if◌then◌else◌, Option, Some, None, IfSome, List, [], ◌∷◌, length, map, take, drop, slice_index, slice_set, refl, sym, ap, subst, ◌∙◌, inl, inr, arith, append-nil, append_assoc, length-append, AllByRecursion, length-map, take-append-drop, take-append-le, set-get_or, Applied, Call, Answer, stamp_of, LegalNotes, Noted, seen_by, Step, Load, Store, Exchange, Add, answer_of, word_of, words_after, CoreState, advance, reply_of, answer_for, call_of, is_begun, Part, core_of, begun_with, since_with, put, IsSealed, Place, Plan, arena_words, base, component_words, plain, placed_step, history_of, opening_behind, public_entry, public_log, among, history_longer, known, Control, Entering, Epoch, Port, Stands, Marks, Loaded, IsOld, MayPut, option_map, present_history, all_back, Beside, IsStanding, LawfulEpochs, numbers, place_now, HaveSlots, MachineLeads, MeetsSeal, ends_over, ExpectedOne, LawfulMemory, EpochReached, noting, public_noted, KeepsTime, asides_keep_time, machines_are_never_refused, notes_stay_lawful, steps_keep_places, put_all, put_other, put_same, About, Began, Found, IsFinal, IsLast, IsSeat, SeatedPort, plan_of, seen_in, BeginsWith, IsSeatKnown, IsApart, SeatMakes, MayMake, unsealed_answer, change_of, over_by, told_of, legal_notes_seen, one_or_none}, Begins.{began_by, seen_few}, Control.stands_since, Kept.{Grows, HasGrown, HaveGrown, Moved, begun_grows, final_grows, moved_says}, Lists.same_before, Seen.legal_begins, Loads.{begun_place, seat_at}}
 
 -- a step does the same to plain words as to those of a table
-pub words_then : (words : List ℕ) (e : Plan) (x : ℕ) (s : Step) → words_after words (placed_step e x s) ≡ set words (base e x + word_of s) (change_of s (get_or words (base e x + word_of s) 0))
+pub words_then : (words : List ℕ) (e : Plan) (x : ℕ) (s : Step) → words_after words (placed_step e x s) ≡ slice_set words (base e x + word_of s) (change_of s (slice_index words (base e x + word_of s)))
 words_then words e x (Load w) = sym (set-get_or words (base e x + w) 0)
 words_then words e x (Store w v) = refl
 words_then words e x (Exchange w old new) = refl
 words_then words e x (Add w k) = refl
 
-told_then : (words : List ℕ) (e : Plan) (x : ℕ) (s : Step) → answer_of words (placed_step e x s) ≡ told_of s (get_or words (base e x + word_of s) 0)
+told_then : (words : List ℕ) (e : Plan) (x : ℕ) (s : Step) → answer_of words (placed_step e x s) ≡ told_of s (slice_index words (base e x + word_of s))
 told_then words e x (Load w) = refl
 told_then words e x (Store w v) = refl
 told_then words e x (Exchange w old new) = refl
@@ -56,8 +56,8 @@ module _ (e : Plan) (words : List ℕ) (ports : ℕ → Port) (b : Beside) (w : 
           | inr now ↦ now.1
         ]) in
         let mine : (ports k).control.here.arena ≡ b.arena = ap (λ (d : Place). d.arena) here.here in
-        let sealed : (a : Applied) → a.component < e.sizes.m → a.component ≡ j → IsSealed (get_or (component_words e words (ports k).control.here.arena) a.component 0) = λ a inside is.
-        subst (λ z. IsSealed (get_or (component_words e words z) a.component 0)) (arena ∙ sym mine)
+        let sealed : (a : Applied) → a.component < e.sizes.m → a.component ≡ j → IsSealed (slice_index (component_words e words (ports k).control.here.arena) a.component) = λ a inside is.
+        subst (λ z. IsSealed (slice_index (component_words e words z) a.component)) (arena ∙ sym mine)
         ((w.arenas (ports q).control.here.arena s.epoch s.is).passed q a.component low (let count = s.passed in omega (arith, count, passed, is)) inside) in
         all_free sealed lead.entries inside_all lead.free
   ]
@@ -66,8 +66,8 @@ module _ (e : Plan) (words : List ℕ) (ports : ℕ → Port) (b : Beside) (w : 
       inside_all = all_back (λ (a : Applied). a.component < e.sizes.m) b.log lead.entries
           (subst (AllByRecursion (λ (a : Applied). a.component < e.sizes.m)) lead.log (present_history e (words_after words (placed_step e (ports k).control.here.arena step)) (put k lead.port ports) lead.beside lead.lawful).components)
 
-      all_free : ((a : Applied) → a.component < e.sizes.m → a.component ≡ j → IsSealed (get_or (component_words e words (ports k).control.here.arena) a.component 0)) → (h : List Applied) →
-          AllByRecursion (λ (a : Applied). a.component < e.sizes.m) h → AllByRecursion (λ (a : Applied). ¬ IsSealed (get_or (component_words e words (ports k).control.here.arena) a.component 0)) h →
+      all_free : ((a : Applied) → a.component < e.sizes.m → a.component ≡ j → IsSealed (slice_index (component_words e words (ports k).control.here.arena) a.component)) → (h : List Applied) →
+          AllByRecursion (λ (a : Applied). a.component < e.sizes.m) h → AllByRecursion (λ (a : Applied). ¬ IsSealed (slice_index (component_words e words (ports k).control.here.arena) a.component)) h →
           AllByRecursion (λ (a : Applied). a.component ≢ j) h
       all_free sealed [] inside free = tt
       all_free sealed (a ∷ h) inside free = (λ is. free.0 (sealed a inside.0 is), all_free sealed h inside.1 free.1)
@@ -118,7 +118,7 @@ module _ (a : About) (words : List ℕ) (ports : ℕ → Port) (notes : ℕ → 
   i = base e (ports k).control.here.arena + word_of step
 
   abbrev n : ℕ
-  n = get_or words i 0
+  n = slice_index words i
 
   abbrev A : ℕ
   A = answer_of (arena_words e words (ports k).control.here.arena) step
@@ -156,7 +156,7 @@ module _ (a : About) (words : List ℕ) (ports : ℕ → Port) (notes : ℕ → 
   shown_then : seen_by 0 (notes k) ≤ length (history_of (ports k).before) + since_with c (ports k).part
   shown_then = elim may.shown [
     | inl begun ↦
-        let is : since_with c (ports k).part ≡ length (ports k).part.seen = ap (λ t. cond t (length (ports k).part.seen) (ports k).part.since) begun in
+        let is : since_with c (ports k).part ≡ length (ports k).part.seen = ap (λ t. if t then length (ports k).part.seen else (ports k).part.since) begun in
         let shown = w.noted.shown k below in
         omega (arith, is, shown)
     | inr low ↦ by_begun low
@@ -167,11 +167,11 @@ module _ (a : About) (words : List ℕ) (ports : ℕ → Port) (notes : ℕ → 
         where
           by : (t : Bool) → is_begun c.stage ≡ t → seen_by 0 (notes k) ≤ length (history_of (ports k).before) + since_with c (ports k).part
           by true is =
-              let same : since_with c (ports k).part ≡ length (ports k).part.seen = ap (λ t. cond t (length (ports k).part.seen) (ports k).part.since) is in
+              let same : since_with c (ports k).part ≡ length (ports k).part.seen = ap (λ t. if t then length (ports k).part.seen else (ports k).part.since) is in
               let shown = w.noted.shown k below in
               omega (arith, same, shown)
           by false is =
-              let same : since_with c (ports k).part ≡ (ports k).part.since = ap (λ t. cond t (length (ports k).part.seen) (ports k).part.since) is in
+              let same : since_with c (ports k).part ≡ (ports k).part.since = ap (λ t. if t then length (ports k).part.seen else (ports k).part.since) is in
               omega (arith, same, low)
 
   -- a conditional update that found another stamp expected one of the epoch's
@@ -234,7 +234,7 @@ module _ (a : About) (words : List ℕ) (ports : ℕ → Port) (notes : ℕ → 
       (legal_notes_seen e words ports b notes k c step w below may.stands lead (map (public_noted e (ports k).before) lead.tells.new) (inr (refl, shown_then, expected)) was shown_then expected)
 
   -- the step that is due leads on
-  pub moved_make : Moved a (set words i (change_of step n)) ports notes b since X (λ y. SeatMakes first c step X (unsealed_answer e step n) y)
+  pub moved_make : Moved a (slice_set words i (change_of step n)) ports notes b since X (λ y. SeatMakes first c step X (unsealed_answer e step n) y)
   moved_make =
       let stands = may.stands in
       let words_is = words_then words e (ports k).control.here.arena step in
@@ -242,7 +242,7 @@ module _ (a : About) (words : List ℕ) (ports : ℕ → Port) (notes : ℕ → 
       let added : List Noted = map (public_noted e (ports k).before) lead.tells.new in
       let whole : LawfulMemory e (words_after words (placed_step e (ports k).control.here.arena step)) (put k lead.port ports) lead.beside (noting k added notes) =
       notes_stay_lawful e words ports b notes k c step w below stands lead added (inr (refl, shown_then, expected)) in
-      let lawful' : LawfulMemory e (set words i (change_of step n)) (put k lead.port ports) lead.beside (noting k added notes) =
+      let lawful' : LawfulMemory e (slice_set words i (change_of step n)) (put k lead.port ports) lead.beside (noting k added notes) =
       subst (λ (l : List ℕ). LawfulMemory e l (put k lead.port ports) lead.beside (noting k added notes)) words_is whole in
       let r = w.noted.reached k below in
       let again = whole.noted.reached k below in
@@ -311,6 +311,6 @@ module _ (a : About) (words : List ℕ) (ports : ℕ → Port) (notes : ℕ → 
       }
 
   -- its call began in an epoch that has come
-  pub moved_come : Moved a (set words i (change_of step n)) ports notes b since X (λ y. SeatMakes first c step X (unsealed_answer e step n) y × (y.began.epoch ≤ length b.before))
+  pub moved_come : Moved a (slice_set words i (change_of step n)) ports notes b since X (λ y. SeatMakes first c step X (unsealed_answer e step n) y × (y.began.epoch ≤ length b.before))
   unfolding moved_make
   moved_come = moved_says moved_make (moved_make.says, (began_by first X b (seen_few a words ports notes b since X w s) s.began).2.come)

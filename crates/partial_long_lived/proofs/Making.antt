@@ -1,5 +1,5 @@
 -- The steps of the machine of a seat's port are allowed.
-use Rattle.partial_long_lived.proofs.{Common.{ℕ, ◌≡◌, ◌+◌, ◌<◌, Bool, false, cond, List, get_or, set, refl, sym, ap, subst, ◌∙◌, inl, inr, arith, ◌⊎◌, set-get_or, Me, Allows, Step, Load, Exchange, word_of, CoreState, IsSealed, Place, Plan, base, component_words, HaveSlots, MachineLeads, MeetsSeal, machine_steps_stay_lawful, unsealed_is_present, at_of, eqb_tells, About, IsRuleKept, IsSeat, SeatedPort, one_of, plan_of, IsSeatKnown, IsOne, tells, seal, unsealed, cases_lt, lt-ltb, Glances, Exchanges, IsApart, SeatMakes, MayMake, MissesSeal, unsealed_answer, change_of, makes}, Sights.nothing_moved, Kept.{Moved, allowed, moved_as, moved_says}, Loads.{moved_see, seat_at, seat_is}, Machine.{moved_come, moved_make, never_met, words_then}}
+use Rattle.partial_long_lived.proofs.{Common.{ℕ, ◌≡◌, ◌+◌, ◌<◌, Bool, false, if◌then◌else◌, List, slice_index, slice_set, refl, sym, ap, subst, ◌∙◌, inl, inr, arith, ◌⊎◌, set-get_or, Me, Allows, Step, Load, Exchange, word_of, CoreState, IsSealed, Place, Plan, base, component_words, HaveSlots, MachineLeads, MeetsSeal, machine_steps_stay_lawful, unsealed_is_present, at_of, eqb_tells, About, IsRuleKept, IsSeat, SeatedPort, one_of, plan_of, IsSeatKnown, IsOne, tells, seal, unsealed, cases_lt, lt-ltb, Glances, Exchanges, IsApart, SeatMakes, MayMake, MissesSeal, unsealed_answer, change_of, makes}, Sights.nothing_moved, Kept.{Moved, allowed, moved_as, moved_says}, Loads.{moved_see, seat_at, seat_is}, Machine.{moved_come, moved_make, never_met, words_then}}
 use Rattle.partial_long_lived.specs.Inner.Machine.{SeatBegins as BeginsUpdate}
 
 -- a word is the record old, sealed, or it isn't
@@ -16,7 +16,7 @@ seal_cases old n = elim (cases_lt n seal) [
 stays_sealed : (step : Step) (j old new n : ℕ) → step ≡ Exchange j old new → IsSealed n → unsealed n ≡ old → change_of step n ≡ n
 stays_sealed step j old new n is sealed same = ap (λ (t : Step). change_of t n) is ∙ (elim (eqb_tells n old) [
   | inl equal ↦ let low = equal.1 in absurd (omega (arith, low, sealed, same))
-  | inr other ↦ ap (λ (c : Bool). cond c new n) other.0
+  | inr other ↦ ap (λ (c : Bool). if c then new else n) other.0
 ])
 
 -- a step of the machine of a seat's port is allowed
@@ -35,8 +35,8 @@ module _ {S : Type 0} (a : About) (slots id : ℕ) (me : Me S (List SeatedPort))
       let k : ℕ = x.number in
       let X : SeatedPort = seat_at a ports notes k x.began x.found in
       let same = seat_is a ports notes b since x s in
-      let P : SeatedPort → Type 0 = λ z. Moved a (set words (base e z.port.control.here.arena + word_of step) (change_of step (get_or words (base e z.port.control.here.arena + word_of step) 0))) ports notes b since z
-      (λ y. SeatMakes first c step z (unsealed_answer (plan_of z.about) step (get_or words (base e z.port.control.here.arena + word_of step) 0)) y) in
+      let P : SeatedPort → Type 0 = λ z. Moved a (slice_set words (base e z.port.control.here.arena + word_of step) (change_of step (slice_index words (base e z.port.control.here.arena + word_of step)))) ports notes b since z
+      (λ y. SeatMakes first c step z (unsealed_answer (plan_of z.about) step (slice_index words (base e z.port.control.here.arena + word_of step))) y) in
       let may' : MayMake X c step = subst (λ (z : SeatedPort). MayMake z c step) same may in
       let lead : MachineLeads e words ports b k c step = (elim (machine_steps_stay_lawful e words ports b k c step w.epochs s.number may'.stands may'.machine may'.due may'.claim) [
         | inl met ↦ absurd (never_met e (component_words e words (ports k).control.here.arena) step apart met.0)
@@ -52,21 +52,21 @@ module _ {S : Type 0} (a : About) (slots id : ℕ) (me : Me S (List SeatedPort))
       let X : SeatedPort = seat_at a ports notes k x.began x.found in
       let same = seat_is a ports notes b since x s in
       let i : ℕ = base e (ports k).control.here.arena + word_of step in
-      let n : ℕ = get_or words i 0 in
-      let P : SeatedPort → Type 0 = λ z. Moved a (set words (base e z.port.control.here.arena + word_of step) (change_of step (get_or words (base e z.port.control.here.arena + word_of step) 0))) ports notes b since z
-      (Exchanges c old step z (get_or words (base e z.port.control.here.arena + word_of step) 0)) in
+      let n : ℕ = slice_index words i in
+      let P : SeatedPort → Type 0 = λ z. Moved a (slice_set words (base e z.port.control.here.arena + word_of step) (change_of step (slice_index words (base e z.port.control.here.arena + word_of step)))) ports notes b since z
+      (Exchanges c old step z (slice_index words (base e z.port.control.here.arena + word_of step))) in
       let may' : MayMake X c step = subst (λ (z : SeatedPort). MayMake z c step) same may in
       let of_port = subst IsSeatKnown same known in
       let seat = subst (IsSeat a ports notes b since) same s in
       subst P (sym same) (elim (seal_cases old n) [
-        | inl met ↦ nothing_moved a words (set words i (change_of step n)) ports notes b since w time X seat refl of_port may'.stands (ap (set words i) (stays_sealed step j old new n is met.0 met.1) ∙ set-get_or words i 0)
+        | inl met ↦ nothing_moved a words (slice_set words i (change_of step n)) ports notes b since w time X seat refl of_port may'.stands (ap (slice_set words i) (stays_sealed step j old new n is met.0 met.1) ∙ set-get_or words i 0)
             (Exchanges c old step X n) (inl (met.0, met.1, refl))
         | inr misses ↦ (elim (machine_steps_stay_lawful e words ports b k c step w.epochs s.number may'.stands may'.machine may'.due may'.claim) [
           | inl met ↦
               let is_met = subst (λ (t : Step). MeetsSeal e (component_words e words (ports k).control.here.arena) t) is met.0 in
-              let at : get_or (component_words e words (ports k).control.here.arena) j 0 ≡ n =
-              at_of (λ i. get_or words (base e (ports k).control.here.arena + i) 0) 0 a.sizes.m j inside ∙ ap (λ i. get_or words (base e (ports k).control.here.arena + i) 0) (omega arith) ∙ ap (λ (t : Step). get_or words (base e (ports k).control.here.arena + word_of t) 0) (sym is) in
-              nothing_moved a words (set words i (change_of step n)) ports notes b since w time X seat refl of_port may'.stands (sym (words_then words e (ports k).control.here.arena step) ∙ met.1) (Exchanges c old step X n)
+              let at : slice_index (component_words e words (ports k).control.here.arena) j ≡ n =
+              at_of (λ i. slice_index words (base e (ports k).control.here.arena + i)) 0 a.sizes.m j inside ∙ ap (λ i. slice_index words (base e (ports k).control.here.arena + i)) (omega arith) ∙ ap (λ (t : Step). slice_index words (base e (ports k).control.here.arena + word_of t)) (sym is) in
+              nothing_moved a words (slice_set words i (change_of step n)) ports notes b since w time X seat refl of_port may'.stands (sym (words_then words e (ports k).control.here.arena step) ∙ met.1) (Exchanges c old step X n)
               (inl (subst IsSealed at is_met.1, ap unsealed (sym at) ∙ is_met.2, refl))
           | inr lead ↦ moved_as (λ y m. inr (misses, m)) (moved_make a words ports notes b since w time k s.number x.began x.found seat of_port room false c step may' lead)
         ])
@@ -80,9 +80,9 @@ module _ {S : Type 0} (a : About) (slots id : ℕ) (me : Me S (List SeatedPort))
       let X : SeatedPort = seat_at a ports notes k x.began x.found in
       let same = seat_is a ports notes b since x s in
       let i : ℕ = base e (ports k).control.here.arena + j in
-      let n : ℕ = get_or words i 0 in
-      let P : SeatedPort → Type 0 = λ z. Moved a (set words (base e z.port.control.here.arena + j) (get_or words (base e z.port.control.here.arena + j) 0)) ports notes b since z
-      (BeginsUpdate first c j z (get_or words (base e z.port.control.here.arena + j) 0)) in
+      let n : ℕ = slice_index words i in
+      let P : SeatedPort → Type 0 = λ z. Moved a (slice_set words (base e z.port.control.here.arena + j) (slice_index words (base e z.port.control.here.arena + j))) ports notes b since z
+      (BeginsUpdate first c j z (slice_index words (base e z.port.control.here.arena + j))) in
       let may' : MayMake X c (Load j) = subst (λ (t : Step). MayMake X c t) is (subst (λ (z : SeatedPort). MayMake z c step) same may) in
       let of_port = subst IsSeatKnown same known in
       let seat = subst (IsSeat a ports notes b since) same s in
@@ -92,9 +92,9 @@ module _ {S : Type 0} (a : About) (slots id : ℕ) (me : Me S (List SeatedPort))
               | inl met ↦ absurd (never_met e (component_words e words (ports k).control.here.arena) (Load j) tt met.0)
               | inr lead ↦ lead
             ]) in
-            let plain_is : unsealed_answer e (Load j) n ≡ n = ap (λ (t : Bool). cond t (unsealed n) n) (lt-ltb j a.sizes.m inside) ∙ omega (arith, less) in
+            let plain_is : unsealed_answer e (Load j) n ≡ n = ap (λ (t : Bool). if t then unsealed n else n) (lt-ltb j a.sizes.m inside) ∙ omega (arith, less) in
             let m = moved_come a words ports notes b since w time k s.number x.began x.found seat of_port room first c (Load j) may' lead in
-            let at : get_or (component_words e words (ports k).control.here.arena) j 0 ≡ n = at_of (λ i. get_or words (base e (ports k).control.here.arena + i) 0) 0 a.sizes.m j inside ∙ ap (λ i. get_or words (base e (ports k).control.here.arena + i) 0) (omega arith) in
+            let at : slice_index (component_words e words (ports k).control.here.arena) j ≡ n = at_of (λ i. slice_index words (base e (ports k).control.here.arena + i)) 0 a.sizes.m j inside ∙ ap (λ i. slice_index words (base e (ports k).control.here.arena + i)) (omega arith) in
             let here = ap (λ (d : Place). d.epoch) (unsealed_is_present e words ports b k j w.epochs s.number may'.stands inside (λ sealed. omega (arith, at, less, sealed))).here in
             let come = m.says.1 in
             moved_says m (inr (less, subst (λ t. SeatMakes first c (Load j) X t m.y) plain_is m.says.0, omega (arith, come, here)))

@@ -1,5 +1,5 @@
 -- The step by which one port of a seat of two sees all of its epoch.
-use Rattle.partial_long_lived.proofs.{Common.{ℕ, ◌≡◌, ◌<◌, ◌≤◌, ◌++◌, List, [], ◌∷◌, length, get_or, set, refl, sym, ap, subst, ◌∙◌, arith, Option, append-nil, append_assoc, length-append, AllByRecursion, Me, Allows, keeps, Applied, Noted, all_at, all_after, history_of, public_log, Port, Stands, Beside, place_now, LawfulMemory, having_seen, one_history, KeepsTime, history_grows, history_longer, About, Began, Found, BeganInTime, IsRuleKept, IsSeat, SeatedPort, one_of, plan_of, seats_of, seen_in, BeginsWith, IsSeatKnown, IsOne, Observes, observes}, Begins.{now, now_has_begun, seen_few}, Kept.{Moved, goes_then, once_then, seats_then}, Loads.{begun_place, moved_glance, seat_at, seat_is, standing, where_is}, Seen.seen_begins, Views.around}
+use Rattle.partial_long_lived.proofs.{Common.{ℕ, ◌≡◌, ◌<◌, ◌≤◌, ◌++◌, List, [], ◌∷◌, length, slice_index, slice_set, refl, sym, ap, subst, ◌∙◌, arith, Option, append-nil, append_assoc, length-append, AllByRecursion, Me, Allows, keeps, Applied, Noted, all_at, all_after, history_of, public_log, Port, Stands, Beside, place_now, LawfulMemory, having_seen, one_history, KeepsTime, history_grows, history_longer, About, Began, Found, BeganInTime, IsRuleKept, IsSeat, SeatedPort, one_of, plan_of, seats_of, seen_in, BeginsWith, IsSeatKnown, IsOne, Observes, observes}, Begins.{now, now_has_begun, seen_few}, Kept.{Moved, goes_then, once_then, seats_then}, Loads.{begun_place, moved_glance, seat_at, seat_is, standing, where_is}, Seen.seen_begins, Views.around}
 
 -- of two beginnings of a history the longer one begins with the other
 begins_within : (h l m : List Applied) → BeginsWith h m → BeginsWith l m → length h ≤ length l → BeginsWith h l
@@ -98,7 +98,7 @@ seen_before a words ports notes b since w x s y t early = by y.port.before refl
 observed : (a : About) (words : List ℕ) (ports : ℕ → Port) (notes : ℕ → List Noted) (b : Beside) (since : ℕ → ℕ) (w : LawfulMemory (plan_of a) words ports b notes) →
     KeepsTime (plan_of a) words ports (place_now b) since → (k : ℕ) → k < a.ports → (g : Began) → (f : Option Found) → (ports k).control.entering ≡ Stands →
     IsSeat a ports notes b since (seat_at a ports notes k g f) → IsSeatKnown (seat_at a ports notes k g f) → (y : SeatedPort) → IsSeat a ports notes b since y → (i : ℕ) →
-    Moved a (set words i (get_or words i 0)) ports notes b since (seat_at a ports notes k g f) (Observes (seat_at a ports notes k g f) y)
+    Moved a (slice_set words i (slice_index words i)) ports notes b since (seat_at a ports notes k g f) (Observes (seat_at a ports notes k g f) y)
 observed a words ports notes b since w time k below g f stands s known y t i =
     let x : SeatedPort = seat_at a ports notes k g f in
     let there = standing a words ports notes b since w time k below g f stands in
@@ -142,7 +142,7 @@ may_observe {S} a slots id me x y i is own known stands = subst (λ (m : Me S (L
         let t : P y = (all_after P r.before x (y ∷ r.behind) seats).0 in
         let same = seat_is a kept.ports kept.notes kept.beside kept.since x s in
         let stands' = ap (λ (p : Port). p.control.entering) (sym s.port) ∙ stands in
-        let m = subst (λ (z : SeatedPort). Moved a (set table.words i (get_or table.words i 0)) kept.ports kept.notes kept.beside kept.since z (Observes z y)) (sym same)
+        let m = subst (λ (z : SeatedPort). Moved a (slice_set table.words i (slice_index table.words i)) kept.ports kept.notes kept.beside kept.since z (Observes z y)) (sym same)
         (observed a table.words kept.ports kept.notes kept.beside kept.since kept.lawful kept.time x.number s.number x.began x.found stands' (subst P same s) (subst IsSeatKnown same known) y t i) in (
           m.y ∷ y ∷ [],
           keeps,
@@ -154,12 +154,12 @@ may_observe {S} a slots id me x y i is own known stands = subst (λ (m : Me S (L
             since = m.since';
             lawful = m.lawful;
             time = m.time;
-            seats = subst (AllByRecursion (IsSeat a m.ports' m.notes' m.beside m.since')) (sym (r.then (m.y ∷ y ∷ [])))
-                (seats_then a one (refl, refl) (set table.words i (get_or table.words i 0)) kept.ports kept.notes kept.beside kept.since (Observes x y) m r.before (y ∷ r.behind) once seats);
-            once = λ k. subst (λ l. seats_of k l ≤ 1) (sym (r.then (m.y ∷ y ∷ [])))
-                (once_then a one (refl, refl) (set table.words i (get_or table.words i 0)) kept.ports kept.notes kept.beside kept.since (Observes x y) m r.before (y ∷ r.behind) once k);
+            seats = subst (AllByRecursion (IsSeat a m.ports' m.notes' m.beside m.since')) (sym (r.renewed (m.y ∷ y ∷ [])))
+                (seats_then a one (refl, refl) (slice_set table.words i (slice_index table.words i)) kept.ports kept.notes kept.beside kept.since (Observes x y) m r.before (y ∷ r.behind) once seats);
+            once = λ k. subst (λ l. seats_of k l ≤ 1) (sym (r.renewed (m.y ∷ y ∷ [])))
+                (once_then a one (refl, refl) (slice_set table.words i (slice_index table.words i)) kept.ports kept.notes kept.beside kept.since (Observes x y) m r.before (y ∷ r.behind) once k);
           },
-          (refl, refl, goes_then a one (refl, refl) (set table.words i (get_or table.words i 0)) kept.ports kept.notes kept.beside kept.since (Observes x y) m own, m.says),
+          (refl, refl, goes_then a one (refl, refl) (slice_set table.words i (slice_index table.words i)) kept.ports kept.notes kept.beside kept.since (Observes x y) m own, m.says),
         )
 
 -- the seat of two ports that were seats of one

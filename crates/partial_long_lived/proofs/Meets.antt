@@ -1,5 +1,5 @@
 -- A port gets a seat of its own, and seats are gathered.
-use Rattle.partial_long_lived.proofs.{Common.{ℕ, zero, suc, ◌≡◌, ◌≢◌, ◌++◌, List, [], ◌∷◌, set, refl, sym, ap, subst, ◌∙◌, arith, append-nil, AllByRecursion, get_elem?, Joins, Splits, State, all_after, all_append, all_at, all_back, all_before, all_front, About, IsRuleKept, IsSeat, SeatedPort, first_port, flatten, further_ports, seats_of}, Views.{around, flatten-snoc, seats_both}}
+use Rattle.partial_long_lived.proofs.{Common.{ℕ, zero, suc, ◌≡◌, ◌≢◌, ◌++◌, List, [], ◌∷◌, slice_set, refl, sym, ap, subst, ◌∙◌, arith, append-nil, AllByRecursion, get_elem?, Joins, Splits, State, all_after, all_append, all_at, all_back, all_before, all_front, About, IsRuleKept, IsSeat, SeatedPort, first_port, flatten, further_ports, seats_of}, Views.{around, flatten-snoc, seats_both}}
 
 -- the rule holds with the same seats in other views
 regrouped : {S : Type 0} (about : About) (s : State S (List SeatedPort)) (views : List (List SeatedPort)) (kept : IsRuleKept about s) →
@@ -20,14 +20,14 @@ regrouped about s views kept seats same = record {
 pub deals : {S : Type 0} (about : About) (id : ℕ) (v : List SeatedPort) → Splits {S = S} (IsRuleKept about) id v (further_ports v) (first_port v)
 deals about id [] s kept at =
     let r = around s.views id [] at in
-    let same : flatten (set s.views id [] ++ [] ∷ []) ≡ flatten s.views = flatten-snoc (set s.views id []) [] ∙ append-nil (flatten (set s.views id [])) ∙ r.then [] ∙ sym r.now in
-    regrouped about s (set s.views id [] ++ [] ∷ []) kept (subst (AllByRecursion (IsSeat about kept.ports kept.notes kept.beside kept.since)) (sym same) kept.seats) (λ k. ap (seats_of k) same)
+    let same : flatten (slice_set s.views id [] ++ [] ∷ []) ≡ flatten s.views = flatten-snoc (slice_set s.views id []) [] ∙ append-nil (flatten (slice_set s.views id [])) ∙ r.renewed [] ∙ sym r.now in
+    regrouped about s (slice_set s.views id [] ++ [] ∷ []) kept (subst (AllByRecursion (IsSeat about kept.ports kept.notes kept.beside kept.since)) (sym same) kept.seats) (λ k. ap (seats_of k) same)
 deals about id (x ∷ xs) s kept at =
     let P : SeatedPort → Type 0 = IsSeat about kept.ports kept.notes kept.beside kept.since in
     let r = around s.views id (x ∷ xs) at in
-    let then : flatten (set s.views id xs ++ (x ∷ []) ∷ []) ≡ (r.before ++ (xs ++ r.behind)) ++ x ∷ [] = flatten-snoc (set s.views id xs) (x ∷ []) ∙ ap (λ l. l ++ x ∷ []) (r.then xs) in
+    let then : flatten (slice_set s.views id xs ++ (x ∷ []) ∷ []) ≡ (r.before ++ (xs ++ r.behind)) ++ x ∷ [] = flatten-snoc (slice_set s.views id xs) (x ∷ []) ∙ ap (λ l. l ++ x ∷ []) (r.renewed xs) in
     let all : AllByRecursion P (r.before ++ x ∷ (xs ++ r.behind)) = subst (AllByRecursion P) r.now kept.seats in
-    regrouped about s (set s.views id xs ++ (x ∷ []) ∷ []) kept
+    regrouped about s (slice_set s.views id xs ++ (x ∷ []) ∷ []) kept
     (subst (AllByRecursion P) (sym then) (all_append P (r.before ++ (xs ++ r.behind)) (x ∷ [])
     (all_append P r.before (xs ++ r.behind) (all_before P r.before x (xs ++ r.behind) all) (all_after P r.before x (xs ++ r.behind) all)) (all_at P r.before x (xs ++ r.behind) all, tt)))
     (λ k.
@@ -39,7 +39,7 @@ deals about id (x ∷ xs) s kept at =
     omega (arith, now_is, then_is, front, rest, last))
 
 -- another view is as it was
-elsewhere : (views : List (List SeatedPort)) (id other : ℕ) (u : List SeatedPort) → other ≢ id → get_elem? (set views id u) other ≡ get_elem? views other
+elsewhere : (views : List (List SeatedPort)) (id other : ℕ) (u : List SeatedPort) → other ≢ id → get_elem? (slice_set views id u) other ≡ get_elem? views other
 elsewhere [] id other u ne = refl
 elsewhere (v ∷ views) zero zero u ne = absurd (ne refl)
 elsewhere (v ∷ views) zero (suc other) u ne = refl
@@ -51,21 +51,21 @@ pub gathers : {S : Type 0} (about : About) (id : ℕ) (v : List SeatedPort) (oth
 gathers about id v other w s kept at ne there =
     let P : SeatedPort → Type 0 = IsSeat about kept.ports kept.notes kept.beside kept.since in
     let r = around s.views id v at in
-    let q = around (set s.views id (v ++ w)) other w there in
+    let q = around (slice_set s.views id (v ++ w)) other w there in
     let o = around s.views other w (sym (elsewhere s.views id other (v ++ w) ne) ∙ there) in
     let own : AllByRecursion P (r.before ++ (v ++ r.behind)) = subst (AllByRecursion P) r.now kept.seats in
     let theirs : AllByRecursion P w = all_front P w o.behind (all_back P o.before (w ++ o.behind) (subst (AllByRecursion P) o.now kept.seats)) in
     let behind : AllByRecursion P (v ++ r.behind) = all_back P r.before (v ++ r.behind) own in
     let both : AllByRecursion P (r.before ++ ((v ++ w) ++ r.behind)) = all_append P r.before ((v ++ w) ++ r.behind) (all_front P r.before (v ++ r.behind) own)
     (all_append P (v ++ w) r.behind (all_append P v w (all_front P v r.behind behind) theirs) (all_back P v r.behind behind)) in
-    let with_both : r.before ++ ((v ++ w) ++ r.behind) ≡ q.before ++ (w ++ q.behind) = sym (r.then (v ++ w)) ∙ q.now in
+    let with_both : r.before ++ ((v ++ w) ++ r.behind) ≡ q.before ++ (w ++ q.behind) = sym (r.renewed (v ++ w)) ∙ q.now in
     let all : AllByRecursion P (q.before ++ (w ++ q.behind)) = subst (AllByRecursion P) with_both both in
-    regrouped about s (set (set s.views id (v ++ w)) other []) kept
-    (subst (AllByRecursion P) (sym (q.then []))
+    regrouped about s (slice_set (slice_set s.views id (v ++ w)) other []) kept
+    (subst (AllByRecursion P) (sym (q.renewed []))
     (all_append P q.before q.behind (all_front P q.before (w ++ q.behind) all) (all_back P w q.behind (all_back P q.before (w ++ q.behind) all))))
     (λ k.
     let now_is = ap (seats_of k) r.now in
-    let then_is = ap (seats_of k) (q.then []) in
+    let then_is = ap (seats_of k) (q.renewed []) in
     let same = ap (seats_of k) with_both in
     let a = seats_both k r.before (v ++ r.behind) in
     let b = seats_both k v r.behind in

@@ -1,5 +1,5 @@
 -- The rule holds as a memory opens.
-use Rattle.partial_long_lived.proofs.Common.{ℕ, zero, suc, ◌≡◌, ◌+◌, ◌<◌, ◌≤◌, Bool, cond, List, [], refl, sym, ap, subst, inl, inr, arith, append-nil, AllByRecursion, eqb_tells, opening, OpensAll, first_beside, first_ports, memories_open_lawful, openings_keep_time, About, IsRuleKept, IsSeat, SeatedPort, newcomer, newcomers, plan_of, seats_of, IsSeatKnown}
+use Rattle.partial_long_lived.proofs.Common.{ℕ, zero, suc, ◌≡◌, ◌+◌, ◌<◌, ◌≤◌, Bool, if◌then◌else◌, List, [], refl, sym, ap, subst, inl, inr, arith, append-nil, AllByRecursion, eqb_tells, opening, OpensAll, first_beside, first_ports, memories_open_lawful, openings_keep_time, About, IsRuleKept, IsSeat, SeatedPort, newcomer, newcomers, plan_of, seats_of, IsSeatKnown}
 
 -- what is so of the seat of each port is so of all
 newcomers_all : (P : SeatedPort → Type 0) (a : About) (k n : ℕ) → ((i : ℕ) → i < k + n → P (newcomer a i)) → AllByRecursion P (newcomers a k n)
@@ -15,12 +15,12 @@ newcomers_once a q k (suc n) =
     let none = rest.1 in
     (elim (eqb_tells k q) [
       | inl same ↦
-          let one = ap (λ (t : Bool). cond t 1 0 + seats_of q (newcomers a (k + 1) n)) same.0 in
+          let one = ap (λ (t : Bool). (if t then 1 else 0) + seats_of q (newcomers a (k + 1) n)) same.0 in
           let is = same.1 in
           let no_more = none (omega (arith, is)) in
           (omega (arith, one, no_more), λ low. absurd (omega (arith, low, is)))
       | inr other ↦
-          let zero_more = ap (λ (t : Bool). cond t 1 0 + seats_of q (newcomers a (k + 1) n)) other.0 in
+          let zero_more = ap (λ (t : Bool). (if t then 1 else 0) + seats_of q (newcomers a (k + 1) n)) other.0 in
           (omega (arith, zero_more, most), λ low. let no_more = none (omega (arith, low)) in omega (arith, zero_more, no_more))
     ])
 

@@ -1,5 +1,5 @@
 -- The exchange of the current word is allowed.
-use Rattle.partial_long_lived.proofs.{Common.{ℕ, ◌≡◌, ◌<◌, ◌≤◌, ◌==◌, ◌++◌, cond, List, [], ◌∷◌, length, get_or, set, refl, sym, ap, subst, ◌∙◌, inl, inr, arith, append-nil, length-append, either, Me, Allows, Applied, LegalNotes, Noted, put, Plan, current_word, packed, OwnedArena, Port, Beside, LawfulEpochs, place_now, KeepsTime, IsWholeArena, having_published, next_beside, next_place, LawfulMemory, publishes_keep_notes, publishes_keep_time, publishes_stay_lawful, put_other, put_same, About, IsRuleKept, IsSeat, SeatedPort, one_of, plan_of, seen_in, IsSeatKnown, IsOne, tells, SeatPublishes, becomes}, Kept.{Grows, HasGrown, HaveGrown, Moved, allowed, begun_grows, final_grows, seen_grows}, Asides.{IsQuiet, aside, final_same}, Changes.either_cond}
+use Rattle.partial_long_lived.proofs.{Common.{ℕ, ◌≡◌, ◌<◌, ◌≤◌, ◌==◌, ◌++◌, if◌then◌else◌, List, [], ◌∷◌, length, slice_index, slice_set, refl, sym, ap, subst, ◌∙◌, inl, inr, arith, append-nil, length-append, either, Me, Allows, Applied, LegalNotes, Noted, put, Plan, current_word, packed, OwnedArena, Port, Beside, LawfulEpochs, place_now, KeepsTime, IsWholeArena, having_published, next_beside, next_place, LawfulMemory, publishes_keep_notes, publishes_keep_time, publishes_stay_lawful, put_other, put_same, About, IsRuleKept, IsSeat, SeatedPort, one_of, plan_of, seen_in, IsSeatKnown, IsOne, tells, SeatPublishes, becomes}, Kept.{Grows, HasGrown, HaveGrown, Moved, allowed, begun_grows, final_grows, seen_grows}, Asides.{IsQuiet, aside, final_same}, Changes.either_cond}
 
 -- once the next epoch is open, the epochs that had come have the histories that they had
 next_grows : (P : ℕ → Type 0) (e : Plan) (b : Beside) (y : ℕ) (before later : List (List Applied)) (log : List Applied) → length before ≤ length b.before →
@@ -24,7 +24,7 @@ won : (a : About) (words words' : List ℕ) (ports : ℕ → Port) (notes : ℕ 
     LawfulEpochs (plan_of a) words' (put x.number (having_published (ports x.number) o) ports) (next_beside (plan_of a) b o.arena) →
     KeepsTime (plan_of a) words' (put x.number (having_published (ports x.number) o) ports) (place_now (next_beside (plan_of a) b o.arena)) since → (P : SeatedPort → Type 0) →
     P (becomes x x.began (having_published x.port o)) → Moved a words' ports notes b since x P
-won a words words' ports notes b since x w s known o then time P says =
+won a words words' ports notes b since x w s known o thereafter time P says =
     let e : Plan = plan_of a in
     let k : ℕ = x.number in
     let p : Port = having_published (ports k) o in
@@ -32,7 +32,7 @@ won a words words' ports notes b since x w s known o then time P says =
     let c : Beside = next_beside e b o.arena in
     let own : x.about ≡ a = s.about in
     let knows = known.knows in
-    let to = publishes_keep_notes e words words' ports b notes k o w s.number then in
+    let to = publishes_keep_notes e words words' ports b notes k o w s.number thereafter in
     let come : (i : ℕ) → i < a.ports → length (ports i).before ≤ length b.before =
     λ i low. few b (ports i).before (w.noted.reached i low).later (w.noted.reached i low).log (w.noted.reached i low).is in
     let own_come : length x.port.before ≤ length b.before = subst (λ (r : Port). length r.before ≤ length b.before) (sym s.port) (come k s.number) in
@@ -84,20 +84,20 @@ module _ {S : Type 0} (a : About) (slots id : ℕ) (me : Me S (List SeatedPort))
       (λ words ports notes b since w time s small.
       let e : Plan = plan_of a in
       let k : ℕ = x.number in
-      let n : ℕ = get_or words current_word 0 in
+      let n : ℕ = slice_index words current_word in
       let p : Port = having_published (ports k) o in
       let v : ℕ = either (n == packed x.port.control.here) (packed (next_place x.port.control.here o.arena)) n in
-      let word : cond (n == packed (ports k).control.here) (packed (next_place (ports k).control.here o.arena)) n ≡ v =
-      ap (λ (q : Port). cond (n == packed q.control.here) (packed (next_place q.control.here o.arena)) n) (sym s.port)
+      let word : (if n == packed (ports k).control.here then packed (next_place (ports k).control.here o.arena) else n) ≡ v =
+      ap (λ (q : Port). if n == packed q.control.here then packed (next_place q.control.here o.arena) else n) (sym s.port)
       ∙ either_cond (n == packed x.port.control.here) (packed (next_place x.port.control.here o.arena)) n in
-      let words' : List ℕ = set words current_word v in
+      let words' : List ℕ = slice_set words current_word v in
       (elim (publishes_stay_lawful e words ports b k o w.epochs s.number (subst (λ (q : Port). IsWholeArena e q o) s.port whole)) [
         | inl opened ↦ won a words words' ports notes b since x w s known o
-            (subst (λ v. LawfulEpochs e (set words current_word v) (put k p ports) (next_beside e b o.arena)) word opened.2)
-            (subst (λ v. KeepsTime e (set words current_word v) (put k p ports) (place_now (next_beside e b o.arena)) since) word
+            (subst (λ v. LawfulEpochs e (slice_set words current_word v) (put k p ports) (next_beside e b o.arena)) word opened.2)
+            (subst (λ v. KeepsTime e (slice_set words current_word v) (put k p ports) (place_now (next_beside e b o.arena)) since) word
             (publishes_keep_time e words ports (place_now b) (place_now (next_beside e b o.arena)) k o since s.number (omega arith) time)) (SeatPublishes o x n) refl
         | inr lost ↦ aside a words words' ports notes b b since since x w s known (λ q. having_published q o) (published_quiet o) x.began s.entering s.began
-            (subst (λ v. KeepsTime e (set words current_word v) (put k p ports) (place_now b) since) word
+            (subst (λ v. KeepsTime e (slice_set words current_word v) (put k p ports) (place_now b) since) word
             (publishes_keep_time e words ports (place_now b) (place_now b) k o since s.number (omega arith) time)) (λ q ne. refl) refl refl
-            (subst (λ v. LawfulEpochs e (set words current_word v) (put k p ports) b) word lost.1) (SeatPublishes o x n) refl
+            (subst (λ v. LawfulEpochs e (slice_set words current_word v) (put k p ports) b) word lost.1) (SeatPublishes o x n) refl
       ]))

@@ -1,5 +1,5 @@
 -- A scan where a port stands: its first step is allowed, and what it leaves of its port.
-use Rattle.partial_long_lived.proofs.{Common.{None, ℕ, ◌≡◌, ◌+◌, ◌-◌, ◌%◌, ◌^◌, ◌<◌, ◌≤◌, ◌||◌, ◌++◌, Bool, false, cond, Option, Some, List, [], ◌∷◌, length, map, refl, sym, ap, subst, ◌∙◌, inl, inr, arith, length-append, is_some, slice_index, length-map, Allows, TableId, Applied, Call, Note, Noted, place_of, Add, Layout, IsLayout, pool_counter, total, Reply, call_of, CoreState, advance, reply_of, scanned_values, step_of, AreComponentIndices, IsSound, AreNotesOf, IsNoteOf, IsPlacedAt, Plan, base, plain, unsealed, history_of, public_entry, public_log, public_noted, Control, not_below, RestsLike, About, Stand, Began, IsRuleKept, SeatedPort, plan_of, SeatGoes, IsOne, IsHeld, port_at, IsIdle, component_at, SeatMakes, unsealed_answer, makes, over_by, word_at, HasNotedScan, RestsUnmarked, ScanMade, SettledFirst, noted_scan, CallMade, IsGoing, ComesTo, MayBegin, machine_at, take, Opening, stamp_of, CollectsStamps, opening_behind, stamp_limit, public_of, stamp_public, opening_of, MadeNamed, NameStamps, ScannedNamed, stamp_at, announcement_size, scan_asked, Answer}, RecordStamps.{stamp_small, unsealed_same}, Coming.goes_on, Making.may_make, Standing.{arena_there, held_then, room_of}, Under.{first_made, first_may}, Unmarked.marks_stay}
+use Rattle.partial_long_lived.proofs.{Common.{None, ℕ, ◌≡◌, ◌+◌, ◌-◌, ◌%◌, ◌^◌, ◌<◌, ◌≤◌, ◌||◌, ◌++◌, Bool, false, if◌then◌else◌, Option, Some, List, [], ◌∷◌, length, map, refl, sym, ap, subst, ◌∙◌, inl, inr, arith, length-append, is_some, slice_index, length-map, Allows, TableId, Applied, Call, Note, Noted, place_of, Add, Layout, IsLayout, pool_counter, total, Reply, call_of, CoreState, advance, reply_of, scanned_values, step_of, AreComponentIndices, IsSound, AreNotesOf, IsNoteOf, IsPlacedAt, Plan, base, plain, unsealed, history_of, public_entry, public_log, public_noted, Control, not_below, RestsLike, About, Stand, Began, IsRuleKept, SeatedPort, plan_of, SeatGoes, IsOne, IsHeld, port_at, IsIdle, component_at, SeatMakes, unsealed_answer, makes, over_by, word_at, HasNotedScan, RestsUnmarked, ScanMade, SettledFirst, noted_scan, CallMade, IsGoing, ComesTo, MayBegin, machine_at, take, Opening, stamp_of, CollectsStamps, opening_behind, stamp_limit, public_of, stamp_public, opening_of, MadeNamed, NameStamps, ScannedNamed, stamp_at, announcement_size, scan_asked, Answer}, RecordStamps.{stamp_small, unsealed_same}, Coming.goes_on, Making.may_make, Standing.{arena_there, held_then, room_of}, Under.{first_made, first_may}, Unmarked.marks_stay}
 use Rattle.partial_knowledge.specs.Scans.{AreStamps}
 use Rattle.partial_embedded.specs.Embedded.{RowsState}
 use Rattle.partial_long_lived.specs.Inner.Scans.{ScanBegun}
@@ -69,7 +69,7 @@ module _ (table : TableId) (about : About) (s : Stand) (h : IsHeld table about s
     claim_told : SeatMakes false b (Add w n) (port_at s) a (port_at t)
     claim_told =
         let is = at_there in
-        let plain_is : plain (plan_of (port_at s).about) w a ≡ a = ap (λ (c : Bool). cond c (unsealed a) a) (not_below w (port_at s).about.sizes.m (omega (arith, is))) in
+        let plain_is : plain (plan_of (port_at s).about) w a ≡ a = ap (λ (c : Bool). if c then unsealed a else a) (not_below w (port_at s).about.sizes.m (omega (arith, is))) in
         subst (λ x. SeatMakes false b (Add w n) (port_at s) x (port_at t)) plain_is
         (subst (λ u. SeatMakes false b (Add u n) (port_at s) (unsealed_answer (plan_of (port_at s).about) (Add u n) a) (port_at t)) word_same told)
 

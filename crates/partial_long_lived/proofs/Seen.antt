@@ -1,5 +1,5 @@
 -- What a port knows of the history that it has seen.
-use Rattle.partial_long_lived.proofs.Common.{ℕ, ◌≡◌, ◌≢◌, ◌+◌, ◌<◌, ◌≤◌, ◌==◌, ◌++◌, Bool, true, false, cond, Option, Some, None, IfSome, List, [], ◌∷◌, length, refl, sym, ap, subst, ◌∙◌, arith, append_assoc, AllByRecursion, Applied, Opening, Call, Answer, Note, HaveDistinctStamps, IsHistory, IsTrueOf, LegalNotes, Noted, place_of, seen_after, EachOnce, places_by, places_written, wrote, all_append, all_front, place_below, LegalNotes-grows, history_of, public_log, Port, Beside, LawfulMemory, one_history, epochs_fit_one_history, public_stamps_are_unique, history_grows, history_longer, About, IsSeen, plan_of, Knows, seen_in, BeginsWith, HasStampsInWords, initial_stamp, first_free, IsEpochHistory, places_both, present_history, stamp_limit, HasRecordStamps}
+use Rattle.partial_long_lived.proofs.Common.{ℕ, ◌≡◌, ◌≢◌, ◌+◌, ◌<◌, ◌≤◌, ◌==◌, ◌++◌, Bool, true, false, if◌then◌else◌, Option, Some, None, IfSome, List, [], ◌∷◌, length, refl, sym, ap, subst, ◌∙◌, arith, append_assoc, AllByRecursion, Applied, Opening, Call, Answer, Note, HaveDistinctStamps, IsHistory, IsTrueOf, LegalNotes, Noted, place_of, seen_after, EachOnce, places_by, places_written, wrote, all_append, all_front, place_below, LegalNotes-grows, history_of, public_log, Port, Beside, LawfulMemory, one_history, epochs_fit_one_history, public_stamps_are_unique, history_grows, history_longer, About, IsSeen, plan_of, Knows, seen_in, BeginsWith, HasStampsInWords, initial_stamp, first_free, IsEpochHistory, places_both, present_history, stamp_limit, HasRecordStamps}
 use Rattle.partial_core.proofs.Parts.{all_at}
 
 distinct_front : (h rest : List Applied) → HaveDistinctStamps (h ++ rest) → HaveDistinctStamps h
@@ -46,11 +46,11 @@ places_from p k (a ∷ h) places n low front is all = by (a.port == p) refl (λ 
   where
     by : (b : Bool) → (a.port == p) ≡ b → (front ++ places_by p (k + 1) h ≡ places → places_by p (k + 1) h ≡ []) → places_by p k (a ∷ h) ≡ []
     by true t rest =
-        let here : places_by p k (a ∷ h) ≡ k ∷ places_by p (k + 1) h = ap (λ c. cond c (k ∷ places_by p (k + 1) h) (places_by p (k + 1) h)) t in
+        let here : places_by p k (a ∷ h) ≡ k ∷ places_by p (k + 1) h = ap (λ c. if c then k ∷ places_by p (k + 1) h else places_by p (k + 1) h) t in
         let less = last_of n front (places_by p (k + 1) h) k places (ap (λ l. front ++ l) (sym here) ∙ is) all in
         absurd (omega (arith, less, low))
     by false t rest =
-        let here : places_by p k (a ∷ h) ≡ places_by p (k + 1) h = ap (λ c. cond c (k ∷ places_by p (k + 1) h) (places_by p (k + 1) h)) t in
+        let here : places_by p k (a ∷ h) ≡ places_by p (k + 1) h = ap (λ c. if c then k ∷ places_by p (k + 1) h else places_by p (k + 1) h) t in
         here ∙ rest (ap (λ l. front ++ l) (sym here) ∙ is)
 
 -- the entries of a port in a beginning of the history are those of its notes, where the notes are legal there

@@ -1,16 +1,16 @@
 -- The stores of an owner are allowed.
-use Rattle.partial_long_lived.proofs.{Common.{ℕ, ◌≡◌, ◌≢◌, ◌+◌, ◌-◌, ◌/◌, ◌%◌, ◌<◌, ◌≤◌, ◌==◌, ◌⊎◌, ◌++◌, true, false, cond, Option, Some, IfSome, List, [], ◌∷◌, length, get_or, set, refl, sym, ap, subst, ◌∙◌, inl, inr, arith, length-append, nat_lt, lt-ltb, eqb_tells, get_or-set_same, Me, Allows, Applied, Opening, value_of, Noted, some_same, Layout, first_free, initial_record, list_base, list_counter, pool_base, pool_counter, initial_record_word, opening_word, list_of, IsToBeSet, behind_value, behind_values, Place, Plan, control_words, current_word, packed, set_word, carried_behind, opening_behind, OwnedArena, Port, MayPut, Beside, controls, next_epoch_word, numbers, place_now, having_set, vacated, LawfulMemory, many, sets_stay_lawful, at_of, below_whole, not_below, set_place, About, Found, IsFinal, IsRuleKept, IsLast, IsSeat, SeatedPort, one_of, plan_of, IsSeatKnown, IsOne, tells, Sets, FindsClear, becomes, LawfulEpochs, put, cases_lt, clear_slots_count_as_set, offset_behind, offset_front, slot_offset, slot_set, base, set_offset, slot_counter, slot_word, value_word, plain_record_size}, Asides.{IsQuiet, aside}, Begins.here_is, Changes.{load_at, owning_same, still, store_at}, Control.{Quietly, lawful_itself, load_same, quietly, time_aside}, Kept.{allowed, begun_grows, none_grown}}
+use Rattle.partial_long_lived.proofs.{Common.{ℕ, ◌≡◌, ◌≢◌, ◌+◌, ◌-◌, ◌/◌, ◌%◌, ◌<◌, ◌≤◌, ◌==◌, ◌⊎◌, ◌++◌, true, false, if◌then◌else◌, Option, Some, IfSome, List, [], ◌∷◌, length, slice_index, slice_set, refl, sym, ap, subst, ◌∙◌, inl, inr, arith, length-append, nat_lt, lt-ltb, eqb_tells, get_or-set_same, Me, Allows, Applied, Opening, value_of, Noted, some_same, Layout, first_free, initial_record, list_base, list_counter, pool_base, pool_counter, initial_record_word, opening_word, list_of, IsToBeSet, behind_value, behind_values, Place, Plan, control_words, current_word, packed, set_word, carried_behind, opening_behind, OwnedArena, Port, MayPut, Beside, controls, next_epoch_word, numbers, place_now, having_set, vacated, LawfulMemory, many, sets_stay_lawful, at_of, below_whole, not_below, set_place, About, Found, IsFinal, IsRuleKept, IsLast, IsSeat, SeatedPort, one_of, plan_of, IsSeatKnown, IsOne, tells, Sets, FindsClear, becomes, LawfulEpochs, put, cases_lt, clear_slots_count_as_set, offset_behind, offset_front, slot_offset, slot_set, base, set_offset, slot_counter, slot_word, value_word, plain_record_size}, Asides.{IsQuiet, aside}, Begins.here_is, Changes.{load_at, owning_same, still, store_at}, Control.{Quietly, lawful_itself, load_same, quietly, time_aside}, Kept.{allowed, begun_grows, none_grown}}
 use Rattle.partial_epochs.proofs.ClearRecords.{records_before, records_kept}
 use Rattle.partial_epochs.proofs.Sets as law
 use Rattle.partial_state.proofs.OpeningLaw.{slots_open}
 
 -- a word of an opening before the list words is the same whatever the values are
 same_word : (s : Layout) (l : List ℕ) (i : ℕ) → i < list_base s → opening_word s l i ≡ opening_word s [] i
-same_word s l i low = ap (λ t. cond (nat_lt i s.m) (initial_record s i) (cond (i == pool_counter s) (first_free s) (cond (i == list_counter s) (list_base s) t)))
-    (ap (λ c. cond c 0 (rest l)) below ∙ sym (ap (λ c. cond c 0 (rest [])) below))
+same_word s l i low = ap (λ t. if nat_lt i s.m then initial_record s i else (if i == pool_counter s then first_free s else (if i == list_counter s then list_base s else t)))
+    (ap (λ c. if c then 0 else rest l) below ∙ sym (ap (λ c. if c then 0 else rest []) below))
   where
     rest : List ℕ → ℕ
-    rest l = cond (nat_lt i (first_free s)) (initial_record_word l (i - pool_base s)) 0
+    rest l = if nat_lt i (first_free s) then initial_record_word l (i - pool_base s) else 0
 
     below : nat_lt i (pool_base s) ≡ true
     below = lt-ltb i (pool_base s) (omega (arith, low))
@@ -22,14 +22,14 @@ same_set s l i front = let at = offset_front s i front in same_word s l (set_off
 -- where the next value is set, or the first carried stamp
 pub behind_values_is : (z : Layout) (n : ℕ) → ((n < z.m) × (behind_values z n ≡ value_word (initial_record z n))) ⊎ ((z.m ≤ n) × (behind_values z n ≡ first_free z))
 behind_values_is z n = elim (cases_lt n z.m) [
-  | inl low ↦ inl (low, ap (λ c. cond c (value_word (initial_record z n)) (first_free z)) (lt-ltb n z.m low))
-  | inr from ↦ inr (from, ap (λ c. cond c (value_word (initial_record z n)) (first_free z)) (not_below n z.m from))
+  | inl low ↦ inl (low, ap (λ c. if c then value_word (initial_record z n) else first_free z) (lt-ltb n z.m low))
+  | inr from ↦ inr (from, ap (λ c. if c then value_word (initial_record z n) else first_free z) (not_below n z.m from))
 ]
 
 behind_value_is : (z : Layout) (i : ℕ) → ((i + plain_record_size < first_free z) × (behind_value z i ≡ i + plain_record_size)) ⊎ ((first_free z ≤ i + plain_record_size) × (behind_value z i ≡ first_free z))
 behind_value_is z i = elim (cases_lt (i + plain_record_size) (first_free z)) [
-  | inl low ↦ inl (low, ap (λ c. cond c (i + plain_record_size) (first_free z)) (lt-ltb (i + plain_record_size) (first_free z) low))
-  | inr from ↦ inr (from, ap (λ c. cond c (i + plain_record_size) (first_free z)) (not_below (i + plain_record_size) (first_free z) from))
+  | inl low ↦ inl (low, ap (λ c. if c then i + plain_record_size else first_free z) (lt-ltb (i + plain_record_size) (first_free z) low))
+  | inr from ↦ inr (from, ap (λ c. if c then i + plain_record_size else first_free z) (not_below (i + plain_record_size) (first_free z) from))
 ]
 
 pub value_at : (z : Layout) (j : ℕ) → j < z.m → behind_values z j ≡ value_word (initial_record z j)
@@ -91,32 +91,33 @@ pub alike : (n m : ℕ) → n ≡ m → (n == m) ≡ true
 alike n m is = elim (eqb_tells n m) [ inl same ↦ same.0 | inr other ↦ absurd (other.1 is) ]
 
 -- the value word of an initial record
-value_opens : (s : Layout) (l : List ℕ) (j i : ℕ) → j < s.m → i ≡ value_word (initial_record s j) → opening_word s l i ≡ get_or l j 0
+value_opens : (s : Layout) (l : List ℕ) (j i : ℕ) → j < s.m → i ≡ value_word (initial_record s j) → opening_word s l i ≡ slice_index l j
 value_opens s l j i low is =
-    ap (λ c. cond c (initial_record s i) others) (not_below i s.m (omega (arith, is)))
-    ∙ ap (λ c. cond c (first_free s) lists) (unlike i (pool_counter s) (omega (arith, is)))
-    ∙ ap (λ c. cond c (list_base s) pool) (unlike i (list_counter s) (omega (arith, is)))
-    ∙ ap (λ c. cond c 0 records) (not_below i (pool_base s) (omega (arith, is)))
-    ∙ ap (λ c. cond c (initial_record_word l (i - pool_base s)) 0) (lt-ltb i (first_free s) (omega (arith, is, low)))
-    ∙ ap (λ c. cond c (get_or l ((i - pool_base s) / plain_record_size) 0) 0) (alike ((i - pool_base s) % plain_record_size) (value_word 0) (omega (arith, is)))
-    ∙ ap (λ k. get_or l k 0) (omega (arith, is))
+    ap (λ c. if c then initial_record s i else others) (not_below i s.m (omega (arith, is)))
+    ∙ ap (λ c. if c then first_free s else lists) (unlike i (pool_counter s) (omega (arith, is)))
+    ∙ ap (λ c. if c then list_base s else pool) (unlike i (list_counter s) (omega (arith, is)))
+    ∙ ap (λ c. if c then 0 else records) (not_below i (pool_base s) (omega (arith, is)))
+    ∙ ap (λ c. if c then initial_record_word l (i - pool_base s) else 0) (lt-ltb i (first_free s) (omega (arith, is, low)))
+    ∙ ap (λ c. if c then slice_index l ((i - pool_base s) / plain_record_size) else 0) (alike ((i - pool_base s) % plain_record_size) (value_word 0) (omega (arith, is)))
+    ∙ ap (λ k. slice_index l k) (omega (arith, is))
   where
     records : ℕ
-    records = cond (nat_lt i (first_free s)) (initial_record_word l (i - pool_base s)) 0
+    records = if nat_lt i (first_free s) then initial_record_word l (i - pool_base s) else 0
 
     pool : ℕ
-    pool = cond (nat_lt i (pool_base s)) 0 records
+    pool = if nat_lt i (pool_base s) then 0 else records
 
     lists : ℕ
-    lists = cond (i == list_counter s) (list_base s) pool
+    lists = if i == list_counter s then list_base s else pool
 
     others : ℕ
-    others = cond (i == pool_counter s) (first_free s) lists
+    others = if i == pool_counter s then first_free s else lists
 
 -- the word of a value, and that of a carried stamp, in the next epoch
 module _ (e : Plan) (b : Beside) (i j : ℕ) where
   next_below : i < first_free e.sizes → next_epoch_word e b i ≡ opening_word e.sizes (opening_behind e.opening (b.log ∷ b.before)).values (set_offset e.sizes i)
-  next_below low = ap (λ c. cond c (opening_word e.sizes (opening_behind e.opening (b.log ∷ b.before)).values (set_offset e.sizes i)) (carried_behind e.opening (b.log ∷ b.before) (i - first_free e.sizes)))
+  next_below low = ap (λ c. if c then opening_word e.sizes (opening_behind e.opening (b.log ∷ b.before)).values (set_offset e.sizes i)
+      else carried_behind e.opening (b.log ∷ b.before) (i - first_free e.sizes))
       (lt-ltb i (first_free e.sizes) low)
 
   next_value : length e.opening.values ≡ e.sizes.m → j < e.sizes.m → i ≡ value_word (initial_record e.sizes j) → next_epoch_word e b i ≡ value_of (opening_behind e.opening b.before) b.log j
@@ -128,12 +129,13 @@ module _ (e : Plan) (b : Beside) (i j : ℕ) where
       ∙ at_of (value_of o b.log) 0 (length o.values) j (omega (arith, low, n, long)) ∙ ap (value_of o b.log) (omega arith)
 
   next_stamp : i ≡ first_free e.sizes + j → next_epoch_word e b i ≡ carried_behind e.opening (b.log ∷ b.before) j
-  next_stamp is = ap (λ c. cond c (opening_word e.sizes (opening_behind e.opening (b.log ∷ b.before)).values (set_offset e.sizes i)) (carried_behind e.opening (b.log ∷ b.before) (i - first_free e.sizes)))
+  next_stamp is = ap (λ c. if c then opening_word e.sizes (opening_behind e.opening (b.log ∷ b.before)).values (set_offset e.sizes i)
+      else carried_behind e.opening (b.log ∷ b.before) (i - first_free e.sizes))
       (not_below i (first_free e.sizes) (omega (arith, is))) ∙ ap (carried_behind e.opening (b.log ∷ b.before)) (omega (arith, is))
 
 -- a port whose epoch is the current one has all finished epochs behind it
 before_is : (a : About) (words : List ℕ) (ports : ℕ → Port) (notes : ℕ → List Noted) (b : Beside) (k : ℕ) → LawfulMemory (plan_of a) words ports b notes → k < a.ports →
-    get_or words current_word 0 ≡ packed (ports k).control.here → (ports k).before ≡ b.before
+    slice_index words current_word ≡ packed (ports k).control.here → (ports k).before ≡ b.before
 before_is a words ports notes b k w below at =
     let r = w.noted.reached k below in
     by r.later r.log (ports k).before r.is (r.epoch ∙ ap (λ (d : Place). d.epoch) (here_is a words ports b w.epochs k below at))
@@ -176,8 +178,8 @@ module _ {S : Type 0} (a : About) (slots id : ℕ) (me : Me S (List SeatedPort))
   -- the words that count as set behind the store are those of the next epoch, while the port's epoch is the current one
   abbrev Right : OwnedArena → ℕ → ℕ → Type 0
   Right o v next = (words : List ℕ) (ports : ℕ → Port) (notes : ℕ → List Noted) (b : Beside) (since : ℕ → ℕ) → LawfulMemory (plan_of a) words ports b notes → IsSeat a ports notes b since x →
-      get_or words current_word 0 ≡ packed (ports x.number).control.here → (i : ℕ) → o.set ≤ i → i < next → IsToBeSet a.sizes i →
-      get_or (set words (set_word e o.arena o.set) v) (set_word e o.arena i) 0 ≡ next_epoch_word e b i
+      slice_index words current_word ≡ packed (ports x.number).control.here → (i : ℕ) → o.set ≤ i → i < next → IsToBeSet a.sizes i →
+      slice_index (slice_set words (set_word e o.arena o.set) v) (set_word e o.arena i) ≡ next_epoch_word e b i
 
   pub may_set : (o : OwnedArena) (v next : ℕ) → x.port.control.owned ≡ Some o → o.clean ≡ a.ports → o.set < next → next ≤ first_free a.sizes + a.sizes.m → a.sizes.m ≤ x.port.passed →
       Right o v next → (o.set < a.sizes.slots → (v ≡ 0) × (next ≡ o.set + 1)) → IsToBeSet a.sizes o.set →
@@ -195,20 +197,20 @@ module _ {S : Type 0} (a : About) (slots id : ℕ) (me : Me S (List SeatedPort))
       (λ l now set. let both = zero (omega (arith, now)) in let only = both.1 in clears words ports notes b w l owned' s.number now (omega (arith, now, set, only)) both.0)
       (let mine = law.own e (control_words e words) (controls ports) (place_now b) (numbers b) w.epochs.control k s.number o owned' clean in
       records_kept e words o.arena o.set v pool to_set (records_before e words ports b w.epochs o.arena mine.arena)) in
-      aside a words (set words i v) ports notes b c since since x w s known (λ p. having_set p o next) (set_quiet o next) x.began s.entering
+      aside a words (slice_set words i v) ports notes b c since since x w s known (λ p. having_set p o next) (set_quiet o next) x.began s.entering
       (begun_grows b c x.began (omega arith) (none_grown b c refl refl) s.began)
-      (time_aside a words (set words i v) ports b c since time refl k (having_set (ports k) o next)
+      (time_aside a words (slice_set words i v) ports b c since time refl k (having_set (ports k) o next)
       (λ q low. store_at e words i v q low (omega (arith, at))) refl refl (set_puts (ports k) o next owned'))
-      (λ q ne. refl) refl refl to (Sets o next x (get_or words i 0)) refl)
+      (λ q ne. refl) refl refl to (Sets o next x (slice_index words i)) refl)
     where
       clears : (words : List ℕ) (ports : ℕ → Port) (notes : ℕ → List Noted) (b : Beside) → LawfulMemory (plan_of a) words ports b notes → (l : ℕ) → (ports x.number).control.owned ≡ Some o →
-          x.number < a.ports → l + o.set < a.sizes.slots → l + o.set + 1 ≡ a.sizes.slots → v ≡ 0 → get_or (set words (set_word e o.arena o.set) v) (base e o.arena + slot_word a.sizes l) 0 ≡ 0
+          x.number < a.ports → l + o.set < a.sizes.slots → l + o.set + 1 ≡ a.sizes.slots → v ≡ 0 → slice_index (slice_set words (set_word e o.arena o.set) v) (base e o.arena + slot_word a.sizes l) ≡ 0
       clears words ports notes b w l owned' number now only zero =
           let mine = law.own e (control_words e words) (controls ports) (place_now b) (numbers b) w.epochs.control x.number number o owned' clean in
           let at = slot_set e o.arena o.set (omega (arith, now)) in
           let inside = below_whole e o.arena (slot_word a.sizes l) mine.arena (omega (arith, now)) in
           let count = w.epochs.count in
-          ap (λ i. get_or (set words (set_word e o.arena o.set) v) i 0) (omega (arith, at, only))
+          ap (λ i. slice_index (slice_set words (set_word e o.arena o.set) v) i) (omega (arith, at, only))
           ∙ get_or-set_same words (set_word e o.arena o.set) v 0 (omega (arith, at, only, inside, count)) ∙ zero
 
   -- where the store is that of a word of the next epoch, and none of the words behind it that count as set has to be set
@@ -228,7 +230,7 @@ module _ {S : Type 0} (a : About) (slots id : ℕ) (me : Me S (List SeatedPort))
             let at = place.2 in
             let inside = below_whole e o.arena place.0 mine.arena place.1 in
             let count = w.epochs.count in
-            ap (λ j. get_or (set words (set_word e o.arena o.set) v) (set_word e o.arena j) 0) same.1 ∙ get_or-set_same words (set_word e o.arena o.set) v 0 (omega (arith, at, inside, count))
+            ap (λ j. slice_index (slice_set words (set_word e o.arena o.set) v) (set_word e o.arena j)) same.1 ∙ get_or-set_same words (set_word e o.arena o.set) v 0 (omega (arith, at, inside, count))
             ∙ value b w.epochs.plan.values s.found (ap (λ (p : Port). p.before) s.port ∙ before_is a words ports notes b k w s.number current) ∙ ap (next_epoch_word e b) (sym same.1)
         | inr other ↦ let ne = other.1 in absurd (between i (omega (arith, from, ne)) up asked)
       ])) zero to_set
@@ -285,21 +287,21 @@ module _ {S : Type 0} (a : About) (slots id : ℕ) (me : Me S (List SeatedPort))
       (λ words ports notes b since w time below is old come.
       let k : ℕ = x.number in
       let i : ℕ = base e o.arena + slot_counter a.sizes in
-      let n : ℕ = get_or words i 0 in
+      let n : ℕ = slice_index words i in
       let next : ℕ = a.sizes.slots - n in
       let owned' : (ports k).control.owned ≡ Some o = ap (λ (p : Port). p.control.owned) (sym is) ∙ owned in
       (elim (cases_lt n a.sizes.slots) [
         | inl less ↦
             let to = clear_slots_count_as_set e words ports b k o next w.epochs below owned' clean (omega (arith, none, less)) (omega (arith, less))
             (subst (λ (p : Port). a.sizes.m ≤ p.passed) is passed) in
-            still a words (set words i n) ports b (vacated b o.arena) since time refl refl k x.began old (λ q low. load_at words i q) (having_set (ports k) o next) refl refl
+            still a words (slice_set words i n) ports b (vacated b o.arena) since time refl refl k x.began old (λ q low. load_at words i q) (having_set (ports k) o next) refl refl
             (set_puts (ports k) o next owned')
             (subst (λ (l : List ℕ). LawfulEpochs e l (put k (having_set (ports k) o next) ports) (vacated b o.arena)) (load_same words i) to)
         | inr from ↦
             let same : having_set (ports k) o next ≡ ports k =
             ap (λ (m : ℕ). having_set (ports k) o m) (omega (arith, from, none)) ∙ owning_same (ports k) o owned' in
-            subst (λ (p : Port). Quietly a (set words i n) ports b since k x.began p) (sym same)
-            (still a words (set words i n) ports b b since time refl refl k x.began old (λ q low. load_at words i q) (ports k) refl refl (λ j m may. may)
+            subst (λ (p : Port). Quietly a (slice_set words i n) ports b since k x.began p) (sym same)
+            (still a words (slice_set words i n) ports b b since time refl refl k x.began old (λ q low. load_at words i q) (ports k) refl refl (λ j m may. may)
             (subst (λ (l : List ℕ). LawfulEpochs e l (put k (ports k) ports) b) (load_same words i) (lawful_itself e words ports b k w.epochs)))
       ]))
-      (λ words ports b w below is. ap (λ (z : About). becomes x x.began (having_set x.port o (z.sizes.slots - get_or words (base e o.arena + slot_counter a.sizes) 0))) (sym own))
+      (λ words ports b w below is. ap (λ (z : About). becomes x x.began (having_set x.port o (z.sizes.slots - slice_index words (base e o.arena + slot_counter a.sizes)))) (sym own))

@@ -1,5 +1,5 @@
 -- The seat of a port in a call, from step to step.
-use Rattle.partial_long_lived.proofs.{Common.{ℕ, ◌≡◌, ◌+◌, ◌-◌, ◌*◌, ◌<◌, ◌≤◌, ◌==◌, ◌⊎◌, Bool, true, false, cond, Option, Some, None, IfSome, List, refl, sym, ap, subst, ◌∙◌, arith, option_map_or, TableId, Me, Allows, Place, base, packed, span, whole, IsEpochPlan, below_whole, SeatSees, Wish, component_at, sees, HaveSlots, OwnedArena, Port, Stands, having_passed, having_looked, About, Shape, Stand, IsRuleKept, SeatedPort, one_of, plan_of, SeatGoes, IsOne, tells, IsHeld, port_at, SeatLooks, looked_at, IsShapeOf}, Loads.IsFinding, Sights.may_see}
+use Rattle.partial_long_lived.proofs.{Common.{ℕ, ◌≡◌, ◌+◌, ◌-◌, ◌*◌, ◌<◌, ◌≤◌, ◌==◌, ◌⊎◌, Bool, true, false, if◌then◌else◌, Option, Some, None, IfSome, List, refl, sym, ap, subst, ◌∙◌, arith, option_map_or, TableId, Me, Allows, Place, base, packed, span, whole, IsEpochPlan, below_whole, SeatSees, Wish, component_at, sees, HaveSlots, OwnedArena, Port, Stands, having_passed, having_looked, About, Shape, Stand, IsRuleKept, SeatedPort, one_of, plan_of, SeatGoes, IsOne, tells, IsHeld, port_at, SeatLooks, looked_at, IsShapeOf}, Loads.IsFinding, Sights.may_see}
 use Rattle.std.proofs.Math.Nat.{mul-le-mul_right}
 use Rattle.partial_long_lived.specs.Inner.Calls as Calls
 use Rattle.partial_long_lived.proofs.Control as Control
@@ -54,7 +54,7 @@ place_small table about s h =
 looked_here : (n : ℕ) (p : Port) → (looked_at n p).control.here ≡ p.control.here
 looked_here n p = by (n == packed p.control.here) p.control.owned
   where
-    by : (c : Bool) (o : Option OwnedArena) → (cond c (option_map_or (having_looked p) o p) (having_passed p)).control.here ≡ p.control.here
+    by : (c : Bool) (o : Option OwnedArena) → (if c then option_map_or (having_looked p) o p else having_passed p).control.here ≡ p.control.here
     by true None = refl
     by true (Some o) = refl
     by false o = refl
@@ -66,7 +66,7 @@ looks_here first x n y w = ap (λ (z : SeatedPort). z.port.control.here) w.2 ∙
 looked_passed : (n : ℕ) (p : Port) → (looked_at n p).passed ≡ p.passed
 looked_passed n p = by (n == packed p.control.here) p.control.owned
   where
-    by : (c : Bool) (o : Option OwnedArena) → (cond c (option_map_or (having_looked p) o p) (having_passed p)).passed ≡ p.passed
+    by : (c : Bool) (o : Option OwnedArena) → (if c then option_map_or (having_looked p) o p else having_passed p).passed ≡ p.passed
     by true None = refl
     by true (Some o) = refl
     by false o = refl

@@ -1,5 +1,5 @@
 -- A call under way: each step of its machine is allowed, and leads the call on.
-use Rattle.partial_long_lived.proofs.{Common.{ℕ, ◌≡◌, ◌+◌, ◌-◌, ◌<◌, ◌≤◌, ◌==◌, ◌%◌, ◌^◌, Bool, true, false, cond, Some, refl, sym, ap, subst, ◌∙◌, arith, nat_lt, either, Allows, TableId, Step, Load, Store, Exchange, Add, total, word_of, CoreState, advance, step_of, IsSound, base, plain, unsealed, IsEpochPlan, not_below, About, Stand, IsRuleKept, SeatedPort, plan_of, SeatGoes, IsOne, port_at, component_at, IsApart, LeavesComponents, SeatMakes, MayMake, unsealed_answer, change_of, goes_on, makes, word_at, CallMade, IsGoing, ComesTo, MayBegin, before_claim, machine_at, IsQuiet}, Claims.inner_word, Making.may_make, Changes.either_cond, Standing.{arena_there, base_small, held_then, room_of}, Under.{next_made, next_over, next_may, next_within}}
+use Rattle.partial_long_lived.proofs.{Common.{ℕ, ◌≡◌, ◌+◌, ◌-◌, ◌<◌, ◌≤◌, ◌==◌, ◌%◌, ◌^◌, Bool, true, false, if◌then◌else◌, Some, refl, sym, ap, subst, ◌∙◌, arith, nat_lt, either, Allows, TableId, Step, Load, Store, Exchange, Add, total, word_of, CoreState, advance, step_of, IsSound, base, plain, unsealed, IsEpochPlan, not_below, About, Stand, IsRuleKept, SeatedPort, plan_of, SeatGoes, IsOne, port_at, component_at, IsApart, LeavesComponents, SeatMakes, MayMake, unsealed_answer, change_of, goes_on, makes, word_at, CallMade, IsGoing, ComesTo, MayBegin, before_claim, machine_at, IsQuiet}, Claims.inner_word, Making.may_make, Changes.either_cond, Standing.{arena_there, base_small, held_then, room_of}, Under.{next_made, next_over, next_may, next_within}}
 
 -- a word behind the component words is another
 apart_of : (a : About) (s : Step) → LeavesComponents a.sizes s → IsApart a.sizes s
@@ -40,7 +40,7 @@ module _ (table : TableId) (about : About) (s : Stand) (w : IsGoing table about 
 
   -- a word behind the component words is answered as it is
   pub plain_behind : (v n : ℕ) → (port_at s).about.sizes.m ≤ v → plain (plan_of (port_at s).about) v n ≡ n
-  plain_behind v n from = ap (λ (c : Bool). cond c (unsealed n) n) (not_below v (port_at s).about.sizes.m from)
+  plain_behind v n from = ap (λ (c : Bool). if c then unsealed n else n) (not_below v (port_at s).about.sizes.m from)
 
   pub quiet_apart : IsQuiet (machine_at s).stage → IsApart about.sizes step
   quiet_apart quiet = let m = sound_there in apart_of about step (inner_word (machine_at s) about.sizes m.0 m.1 quiet step due)
@@ -114,7 +114,7 @@ module _ (table : TableId) (about : About) (s : Stand) (w : IsGoing table about 
       m in
       subst (λ a. SeatMakes false (machine_at s) (Store v new) (port_at s) a y) (no_answer (nat_lt v (port_at s).about.sizes.m)) told
     where
-      no_answer : (c : Bool) → cond c (0 % 72057594037927936) 0 ≡ 0
+      no_answer : (c : Bool) → (if c then 0 % 72057594037927936 else 0) ≡ 0
       no_answer true = omega arith
       no_answer false = refl
 

@@ -1,5 +1,5 @@
 -- The steps of a call of a port's machine, one after the other.
-use Rattle.partial_long_lived.proofs.{Common.{ℕ, ◌≡◌, ◌≢◌, ◌+◌, ◌<◌, ◌≤◌, ◌==◌, ◌⊎◌, ◌&&◌, ◌||◌, ◌++◌, Bool, true, false, cond, Option, Some, None, List, [], ◌∷◌, length, map, take, refl, sym, ap, subst, ◌∙◌, inl, inr, arith, append-nil, nat_lt, eqb_tells, append_cancel_left, Applied, Opening, stamp_of, Noted, seen_by, Step, Load, Store, Exchange, Add, Layout, IsLayout, greatest_record, pool_counter, total, word_of, Reply, Stage, Idle, ReadBegun, LoadingValue, UpdateBegun, GettingSet, Viewing, ClaimingRecord, StoringRecord, Exchanging, ScanBegun, StoringAnnouncement, Joining, Scanning, Leaving, Finished, some_same, not_below, cases_lt, CoreState, advance, record_size, reply_of, step_at, step_of, call_of, is_begun, IsSound, Part, first_at, AreNotesOf, Tells, begun_with, moved_part, take_within, first_steps_make_calls, further_steps_make_calls, history_of, opening_behind, Control, MayClaim, public_noted, About, Began, SeatedPort, plan_of, SeatGoes, opening_of, SeatMakes, MayMake, over_by, CallMade, MayBegin, before_claim, record_claim, IsBehind, refuses_pool, refuses_slots, due_is_unreplied, due_words_are_there, KeptAnswer, Call}, Claims.{claimed_from, pool_claims, unclaimed_before}, Coming.goes_on}
+use Rattle.partial_long_lived.proofs.{Common.{ℕ, ◌≡◌, ◌≢◌, ◌+◌, ◌<◌, ◌≤◌, ◌==◌, ◌⊎◌, ◌&&◌, ◌||◌, ◌++◌, Bool, true, false, if◌then◌else◌, Option, Some, None, List, [], ◌∷◌, length, map, take, refl, sym, ap, subst, ◌∙◌, inl, inr, arith, append-nil, nat_lt, eqb_tells, append_cancel_left, Applied, Opening, stamp_of, Noted, seen_by, Step, Load, Store, Exchange, Add, Layout, IsLayout, greatest_record, pool_counter, total, word_of, Reply, Stage, Idle, ReadBegun, LoadingValue, UpdateBegun, GettingSet, Viewing, ClaimingRecord, StoringRecord, Exchanging, ScanBegun, StoringAnnouncement, Joining, Scanning, Leaving, Finished, some_same, not_below, cases_lt, CoreState, advance, record_size, reply_of, step_at, step_of, call_of, is_begun, IsSound, Part, first_at, AreNotesOf, Tells, begun_with, moved_part, take_within, first_steps_make_calls, further_steps_make_calls, history_of, opening_behind, Control, MayClaim, public_noted, About, Began, SeatedPort, plan_of, SeatGoes, opening_of, SeatMakes, MayMake, over_by, CallMade, MayBegin, before_claim, record_claim, IsBehind, refuses_pool, refuses_slots, due_is_unreplied, due_words_are_there, KeptAnswer, Call}, Claims.{claimed_from, pool_claims, unclaimed_before}, Coming.goes_on}
 use Rattle.partial_model.specs.declared.call.Refused.{Refused}
 use Rattle.partial_machine.proofs.Sound.{size_few}
 use Rattle.partial_core.specs.Calls.{Made}
@@ -13,7 +13,7 @@ spare_step a c (Exchange w old new) x sound sizes due yet = refl
 spare_step a c (Add w k) x sound sizes due yet = elim (eqb_tells w (pool_counter a.sizes)) [
   | inl same ↦
       let claims = pool_claims c a.sizes sound sizes w k due same.1 in
-      let bad : true ≡ false = sym yet ∙ claims.then x in
+      let bad : true ≡ false = sym yet ∙ claims.behind_claim x in
       cc
   | inr other ↦ ap (λ t. t && nat_lt a.limit (x + k)) other.0
 ]
@@ -165,7 +165,7 @@ module _ (b : CoreState) (x : SeatedPort) (begins : MayBegin b x) (first : Bool)
         let len = ap (λ (g : Began). g.length) n in
         let before = ap (λ (z : SeatedPort). length (history_of z.port.before)) m.is in
         let kept : y.port.part.kept ≡ record { answer = a; at = length (m.log ++ m.entries) } ∷ [] = ap (λ (p : Part). p.kept) part_is
-        ∙ ap (λ t. cond t [] x.port.part.kept ++ record { answer = a; at = length (m.log ++ m.entries) } ∷ []) begun_is in
+        ∙ ap (λ t. (if t then [] else x.port.part.kept) ++ record { answer = a; at = length (m.log ++ m.entries) } ∷ []) begun_is in
         let at = ap first_at kept in
         omega (arith, early, len, before, at);
   }
@@ -203,7 +203,7 @@ module _ (b : CoreState) (x : SeatedPort) (begins : MayBegin b x) (c : CoreState
     shown = inr (let shown = had.shown in let same = ap (seen_by 0) notes_same in omega (arith, shown, same));
     expects = λ j t v is.
         let of_b : call_of (begun_with b x.port.part) ≡ Some (Call.UpdateIf j t v) =
-        ap (λ f. call_of (cond f b x.port.part.begun)) begins.begun.begun ∙ ap call_of (sym had.made.begun) ∙ ap (λ f. call_of (cond f c y.port.part.begun)) (sym going) ∙ is in
+        ap (λ f. call_of (if f then b else x.port.part.begun)) begins.begun.begun ∙ ap call_of (sym had.made.begun) ∙ ap (λ f. call_of (if f then c else y.port.part.begun)) (sym going) ∙ is in
         let n = begins.expects j t v of_b in
         let few = n.1 in
         (n.0, seen_more n.0 few, n.2 ∙ ap (λ (o : Opening). stamp_of o (take n.0 x.port.part.seen) j) (sym opening_same) ∙ ap (λ (l : List Applied). stamp_of (opening_of y) l j) (taken n.0 few));
@@ -255,7 +255,7 @@ module _ (b : CoreState) (x : SeatedPort) (begins : MayBegin b x) (c : CoreState
           ∙ ap (λ (l : List Noted). x.notes ++ map (public_noted (plan_of x.about) x.port.before) l) new_same;
       shown =
           let shown = had.shown in
-          let since = ap (λ (p : Part). p.since) next_part ∙ ap (λ t. cond t (length y.port.part.seen) y.port.part.since) going in
+          let since = ap (λ (p : Part). p.since) next_part ∙ ap (λ t. if t then length y.port.part.seen else y.port.part.since) going in
           let before = ap (λ (t : SeatedPort). length (history_of t.port.before)) m.is in
           omega (arith, shown, since, before);
       time = λ young.
@@ -266,7 +266,7 @@ module _ (b : CoreState) (x : SeatedPort) (begins : MayBegin b x) (c : CoreState
           let len = ap (λ (g : Began). g.length) same in
           let before = ap (λ (t : SeatedPort). length (history_of t.port.before)) m.is in
           let last : KeptAnswer = record { answer = a; at = length (m.log ++ m.entries) } in
-          let kept : z.port.part.kept ≡ y.port.part.kept ++ last ∷ [] = ap (λ (p : Part). p.kept) next_part ∙ ap (λ t. cond t [] y.port.part.kept ++ last ∷ []) going in
+          let kept : z.port.part.kept ≡ y.port.part.kept ++ last ∷ [] = ap (λ (p : Part). p.kept) next_part ∙ ap (λ t. (if t then [] else y.port.part.kept) ++ last ∷ []) going in
           let at = ap first_at kept ∙ first_push y.port.part.kept last had.made.some in
           omega (arith, early, len, before, at);
     }

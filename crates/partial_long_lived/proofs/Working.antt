@@ -1,5 +1,5 @@
 -- What the owner of an arena has behind its steps.
-use Rattle.partial_long_lived.proofs.{Common.{ℕ, ◌≡◌, ◌≢◌, ◌+◌, ◌-◌, ◌%◌, ◌<◌, ◌≤◌, Bool, true, cond, Option, Some, None, IfSome, refl, sym, ap, subst, ◌∙◌, inl, inr, arith, nat_lt, lt-ltb, Layout, first_free, Place, arena_limit, entering_mark, marked, OwnedArena, Stands, at_next_port, having_loaded, owning_port, resting_arena, not_below, About, Stand, SeatedPort, port_at, LoadsPort, SeatPublishes, PutsPort, Sets, becomes, elsewhere, port_loaded, port_put, unpacked, HasLoadedPort, IsRight, MayPutPort, OfOwned, Owns, PutsBy, SetsLists, SetsValue, HasControl, Control, behind_value, behind_values, SetsNext, HasSetWords, FindsClear}, Sets.{alike, unlike, value_behind}}
+use Rattle.partial_long_lived.proofs.{Common.{ℕ, ◌≡◌, ◌≢◌, ◌+◌, ◌-◌, ◌%◌, ◌<◌, ◌≤◌, Bool, true, if◌then◌else◌, Option, Some, None, IfSome, refl, sym, ap, subst, ◌∙◌, inl, inr, arith, nat_lt, lt-ltb, Layout, first_free, Place, arena_limit, entering_mark, marked, OwnedArena, Stands, at_next_port, having_loaded, owning_port, resting_arena, not_below, About, Stand, SeatedPort, port_at, LoadsPort, SeatPublishes, PutsPort, Sets, becomes, elsewhere, port_loaded, port_put, unpacked, HasLoadedPort, IsRight, MayPutPort, OfOwned, Owns, PutsBy, SetsLists, SetsValue, HasControl, Control, behind_value, behind_values, SetsNext, HasSetWords, FindsClear}, Sets.{alike, unlike, value_behind}}
 
 -- a step by the arena that the port owns
 own_told : (R : OwnedArena → SeatedPort → ℕ → SeatedPort → Type 0) (x : SeatedPort) (a : ℕ) (y : SeatedPort) (o : OwnedArena) → x.port.control.owned ≡ Some o → OfOwned R x a y → R o x a y
@@ -84,16 +84,16 @@ module _ (s t : Stand) (y q a : ℕ) (w : HasSetWords s y q 0) (told : OfOwned L
   loaded_as o' same = told_is ∙ ap (λ (o : OwnedArena). becomes (port_at s) (port_at s).began (owning_port (port_at s).port o)) same
 
   unmarked : a < entering_mark → port_loaded a own ≡ elsewhere a own
-  unmarked low = ap (λ (c : Bool). cond c (elsewhere a own) holding) (lt-ltb a entering_mark low)
+  unmarked low = ap (λ (c : Bool). if c then elsewhere a own else holding) (lt-ltb a entering_mark low)
 
   is_away : a < entering_mark → a % arena_limit ≢ y → port_loaded a own ≡ at_next_port own
-  is_away low ne = unmarked low ∙ ap (λ (c : Bool). cond c own (at_next_port own)) (unlike (unpacked a).arena own.arena (λ same. ne (same ∙ w.arena)))
+  is_away low ne = unmarked low ∙ ap (λ (c : Bool). if c then own else at_next_port own) (unlike (unpacked a).arena own.arena (λ same. ne (same ∙ w.arena)))
 
   is_there : a < entering_mark → a % arena_limit ≡ y → port_loaded a own ≡ own
-  is_there low same = unmarked low ∙ ap (λ (c : Bool). cond c own (at_next_port own)) (alike (unpacked a).arena own.arena (same ∙ sym w.arena))
+  is_there low same = unmarked low ∙ ap (λ (c : Bool). if c then own else at_next_port own) (alike (unpacked a).arena own.arena (same ∙ sym w.arena))
 
   is_marked : entering_mark ≤ a → port_loaded a own ≡ holding
-  is_marked from = ap (λ (c : Bool). cond c (elsewhere a own) holding) (not_below a entering_mark from)
+  is_marked from = ap (λ (c : Bool). if c then elsewhere a own else holding) (not_below a entering_mark from)
 
   pub port_load : HasLoadedPort t y q a
   port_load = record {
@@ -132,11 +132,11 @@ module _ (s t : Stand) (y q m a : ℕ) (w : MayPutPort s y q m) (from : entering
       y (q + 1) 0 w.holds.arena w.holds.looked (ap (λ n. n + 1) w.holds.clean) refl w.holds.set
 
   abbrev others : Bool → OwnedArena
-  others c = cond c (elsewhere a put) put
+  others c = if c then elsewhere a put else put
 
   pub put_won : a ≡ m → HasSetWords t y (q + 1) 0
-  put_won same = put_as (ap (λ (c : Bool). cond c (at_next_port put) (others (nat_lt a entering_mark))) (alike a (marked mark) (same ∙ sym named)))
+  put_won same = put_as (ap (λ (c : Bool). if c then at_next_port put else others (nat_lt a entering_mark)) (alike a (marked mark) (same ∙ sym named)))
 
   pub put_away : a < entering_mark → a % arena_limit ≢ y → HasSetWords t y (q + 1) 0
-  put_away low ne = put_as (ap (λ (c : Bool). cond c (at_next_port put) (others (nat_lt a entering_mark))) (unlike a (marked mark) (λ same. absurd (omega (arith, same, low))))
-      ∙ ap others (lt-ltb a entering_mark low) ∙ ap (λ (c : Bool). cond c put (at_next_port put)) (unlike (unpacked a).arena put.arena (λ same. ne (same ∙ w.holds.arena))))
+  put_away low ne = put_as (ap (λ (c : Bool). if c then at_next_port put else others (nat_lt a entering_mark)) (unlike a (marked mark) (λ same. absurd (omega (arith, same, low))))
+      ∙ ap others (lt-ltb a entering_mark low) ∙ ap (λ (c : Bool). if c then put else at_next_port put) (unlike (unpacked a).arena put.arena (λ same. ne (same ∙ w.holds.arena))))

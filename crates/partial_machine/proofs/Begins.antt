@@ -1,5 +1,5 @@
 -- How a call begins at a machine, and why one is refused at once.
-use Rattle.partial_machine.proofs.Common.{ℕ, ◌≡◌, ◌<◌, ◌≤◌, ◌==◌, Bool, true, false, cond, Option, Some, None, List, [], ◌∷◌, length, refl, sym, ap, subst, ◌∙◌, arith, nat_lt, AllByRecursion, list_all, false≢true, ltb-true, ltb-false, ne_eqb, Call, Refused, Stage, ReadBegun, UpdateBegun, ScanBegun, Finished, CoreState, at_stage, call_at, is_begun, begun_like, begin_scan, begun_of, refusal_of, makes_steps, most_of_update, most_steps, left_at, steps_left, AreComponentIndices, IsSound, is_sound_at, IsBegunWith, IsOldMark, CallsBegin, RestsAreSound, CallsAreRefusedAtOnce, no_index, length-replicate, Reply}
+use Rattle.partial_machine.proofs.Common.{ℕ, ◌≡◌, ◌<◌, ◌≤◌, ◌==◌, Bool, true, false, if◌then◌else◌, Option, Some, None, List, [], ◌∷◌, length, refl, sym, ap, subst, ◌∙◌, arith, nat_lt, AllByRecursion, list_all, false≢true, ltb-true, ltb-false, ne_eqb, Call, Refused, Stage, ReadBegun, UpdateBegun, ScanBegun, Finished, CoreState, at_stage, call_at, is_begun, begun_like, begin_scan, begun_of, refusal_of, makes_steps, most_of_update, most_steps, left_at, steps_left, AreComponentIndices, IsSound, is_sound_at, IsBegunWith, IsOldMark, CallsBegin, RestsAreSound, CallsAreRefusedAtOnce, no_index, length-replicate, Reply}
 use Rattle.partial_model.specs.Notes.{MayBeRefused}
 use Rattle.partial_model.proofs.{Decisions.{Decides-list_all, Decides-nat_lt}, AllLemmas.position_below}
 
@@ -19,13 +19,13 @@ sound_with : (s : CoreState) (js : List ℕ) (t : Stage) → AreComponentIndices
 sound_with s js t asked stage w = record { asked = asked; found = w.found; indices = w.indices; distinct = w.distinct; rows = w.rows; stage = stage }
 
 -- what is known of an update that is begun, of a read, and of a scan
-begins_update : (s : CoreState) (j : ℕ) (a b : Bool) → nat_lt j s.sizes.m ≡ a → s.pool_spent ≡ b → cond a (cond b (Some Refused.PoolSpent) None) (Some Refused.Component) ≡ None →
+begins_update : (s : CoreState) (j : ℕ) (a b : Bool) → nat_lt j s.sizes.m ≡ a → s.pool_spent ≡ b → (if a then (if b then Some Refused.PoolSpent else None) else Some Refused.Component) ≡ None →
     (j < s.sizes.m) × (s.pool_spent ≡ false)
 begins_update s j true true below spent is = let bad : Some Refused.PoolSpent ≡ None = is in absurd cc
 begins_update s j true false below spent is = (ltb-true j s.sizes.m below, spent)
 begins_update s j false b below spent is = let bad : Some Refused.Component ≡ None = is in absurd cc
 
-begins_read : (s : CoreState) (j : ℕ) (a : Bool) → nat_lt j s.sizes.m ≡ a → cond a None (Some Refused.Component) ≡ None → j < s.sizes.m
+begins_read : (s : CoreState) (j : ℕ) (a : Bool) → nat_lt j s.sizes.m ≡ a → (if a then None else Some Refused.Component) ≡ None → j < s.sizes.m
 begins_read s j true below is = ltb-true j s.sizes.m below
 begins_read s j false below is = let bad : Some Refused.Component ≡ None = is in absurd cc
 
@@ -35,7 +35,7 @@ record ScanMay (s : CoreState) (js : List ℕ) : Type 0 where
   may : (0 < length js) × (s.pool_spent ≡ false) × (s.slots_spent ≡ false)
 
 scan_may : (s : CoreState) (js : List ℕ) (a p q : Bool) → length js ≤ s.sizes.m → list_all (λ i. nat_lt i s.sizes.m) js ≡ a → s.pool_spent ≡ p → s.slots_spent ≡ q → 0 < length js →
-    cond a (cond p (Some Refused.PoolSpent) (cond q (Some Refused.SlotsSpent) None)) (Some Refused.Component) ≡ None → ScanMay s js
+    (if a then (if p then Some Refused.PoolSpent else (if q then Some Refused.SlotsSpent else None)) else Some Refused.Component) ≡ None → ScanMay s js
 scan_may s js true true q few below pool slots some is = let bad : Some Refused.PoolSpent ≡ None = is in absurd cc
 scan_may s js true false true few below pool slots some is = let bad : Some Refused.SlotsSpent ≡ None = is in absurd cc
 scan_may s js true false false few below pool slots some is = record {
@@ -59,10 +59,12 @@ begins_scan s [] few is =
     }
 begins_scan s (j ∷ js) few is =
     let none : (length (j ∷ js) == 0) ≡ false = ne_eqb (length (j ∷ js)) 0 (λ e. omega (arith, e)) in
-    let stage : cond (length (j ∷ js) == 0) (Finished (Reply.Scanned 0 None)) ScanBegun ≡ ScanBegun = ap (λ (b : Bool). cond b (Finished (Reply.Scanned 0 None)) ScanBegun) none in
-    let allowed : cond (list_all (λ i. nat_lt i s.sizes.m) (j ∷ js)) (cond s.pool_spent (Some Refused.PoolSpent) (cond s.slots_spent (Some Refused.SlotsSpent) None)) (Some Refused.Component) ≡ None =
-    sym (ap (λ (b : Bool). cond (list_all (λ i. nat_lt i s.sizes.m) (j ∷ js)) (cond b None (cond s.pool_spent (Some Refused.PoolSpent) (cond s.slots_spent (Some Refused.SlotsSpent) None)))
-    (Some Refused.Component)) none) ∙ is in
+    let stage : (if length (j ∷ js) == 0 then Finished (Reply.Scanned 0 None) else ScanBegun) ≡ ScanBegun = ap (λ (b : Bool). if b then Finished (Reply.Scanned 0 None) else ScanBegun) none in
+    let allowed : (if list_all (λ i. nat_lt i s.sizes.m) (j ∷ js) then (if s.pool_spent then Some Refused.PoolSpent else (if s.slots_spent then Some Refused.SlotsSpent else None))
+    else Some Refused.Component) ≡ None =
+    sym (ap (λ (b : Bool). if list_all (λ i. nat_lt i s.sizes.m) (j ∷ js) then (if b then None
+    else (if s.pool_spent then Some Refused.PoolSpent else (if s.slots_spent then Some Refused.SlotsSpent else None)))
+    else Some Refused.Component) none) ∙ is in
     let m = scan_may s (j ∷ js) (list_all (λ i. nat_lt i s.sizes.m) (j ∷ js)) s.pool_spent s.slots_spent few refl refl refl (omega arith) allowed in
     let may : is_sound_at (begin_scan s (j ∷ js)) (begin_scan s (j ∷ js)).stage = subst (λ (u : Stage). is_sound_at (record s { asked = j ∷ js; stage = u }) u) (sym stage) m.may in
     record {
@@ -129,15 +131,15 @@ rests_are_sound = record {
 abbrev IsWhy : CoreState → Call → Refused → Type 0
 IsWhy s c cause = MayBeRefused s.sizes.m c cause × IsOldMark s cause
 
-refused_update : (s : CoreState) (j : ℕ) (cause : Refused) (a b : Bool) → nat_lt j s.sizes.m ≡ a → s.pool_spent ≡ b → cond a (cond b (Some Refused.PoolSpent) None)
-    (Some Refused.Component) ≡ Some cause → (c : Call) → ((k : j < s.sizes.m) → MayBeRefused s.sizes.m c Refused.PoolSpent) →
+refused_update : (s : CoreState) (j : ℕ) (cause : Refused) (a b : Bool) → nat_lt j s.sizes.m ≡ a → s.pool_spent ≡ b → (if a then (if b then Some Refused.PoolSpent else None)
+    else Some Refused.Component) ≡ Some cause → (c : Call) → ((k : j < s.sizes.m) → MayBeRefused s.sizes.m c Refused.PoolSpent) →
     (s.sizes.m ≤ j → MayBeRefused s.sizes.m c Refused.Component) → IsWhy s c cause
 refused_update s j cause true true below spent is c pool out = let same : Refused.PoolSpent ≡ cause = cc in subst (IsWhy s c) same (pool (ltb-true j s.sizes.m below), spent)
 refused_update s j cause true false below spent is c pool out = let bad : None ≡ Some cause = is in absurd cc
 refused_update s j cause false b below spent is c pool out = let same : Refused.Component ≡ cause = cc in subst (IsWhy s c) same (out (ltb-false j s.sizes.m below), tt)
 
 refused_scan : (s : CoreState) (js : List ℕ) (cause : Refused) (a b p q : Bool) → list_all (λ i. nat_lt i s.sizes.m) js ≡ a → (length js == 0) ≡ b → s.pool_spent ≡ p → s.slots_spent ≡ q →
-    cond a (cond b None (cond p (Some Refused.PoolSpent) (cond q (Some Refused.SlotsSpent) None))) (Some Refused.Component) ≡ Some cause → IsWhy s (Call.Scan js) cause
+    (if a then (if b then None else (if p then Some Refused.PoolSpent else (if q then Some Refused.SlotsSpent else None))) else Some Refused.Component) ≡ Some cause → IsWhy s (Call.Scan js) cause
 refused_scan s js cause true true p q below none pool slots is = let bad : None ≡ Some cause = is in absurd cc
 refused_scan s js cause true false true q below none pool slots is = let same : Refused.PoolSpent ≡ cause = cc in subst (IsWhy s (Call.Scan js)) same
     ((all_below s.sizes.m js below, some_position js none), pool)
@@ -146,7 +148,7 @@ refused_scan s js cause true false false true below none pool slots is = let sam
 refused_scan s js cause true false false false below none pool slots is = let bad : None ≡ Some cause = is in absurd cc
 refused_scan s js cause false b p q below none pool slots is = let same : Refused.Component ≡ cause = cc in subst (IsWhy s (Call.Scan js)) same (not_below s.sizes.m js below, tt)
 
-refused_read : (s : CoreState) (j : ℕ) (cause : Refused) (a : Bool) → nat_lt j s.sizes.m ≡ a → cond a None (Some Refused.Component) ≡ Some cause → IsWhy s (Call.Read j) cause
+refused_read : (s : CoreState) (j : ℕ) (cause : Refused) (a : Bool) → nat_lt j s.sizes.m ≡ a → (if a then None else Some Refused.Component) ≡ Some cause → IsWhy s (Call.Read j) cause
 refused_read s j cause true below is = let bad : None ≡ Some cause = is in absurd cc
 refused_read s j cause false below is = let same : Refused.Component ≡ cause = cc in let out = ltb-false j s.sizes.m below in subst (IsWhy s (Call.Read j)) same
     ((λ w. let below' = w.0 in omega (arith, out, below')), tt)

@@ -1,5 +1,5 @@
 -- What is known of a machine behind a possible answer.
-use Rattle.partial_machine.proofs.{Common.{ℕ, ◌≡◌, ◌+◌, ◌-◌, ◌<◌, ◌≤◌, ◌==◌, ◌⊎◌, Bool, true, false, cond, not, ◌||◌, eqb, ltb, min, Option, Some, None, IsSome, List, [], ◌∷◌, length, refl, sym, ap, subst, ◌∙◌, inl, inr, arith, is_some, nat_lt, option_map_or, false≢true, cond_both, ltb-true, ltb-false, Refused, Step, Store, Add, Layout, IsLayout, slot_counter, slot_word, pool_counter, list_counter, list_end, pool_end, greatest_record, announcement_size, indices_word, next_word, with_index, begins_at, join_step, join_after, advance_join, JoinStage, Claiming, Storing, Joined, Spent, Change, Reply, Stage, is_begun, is_at_rest, IsSound, is_sound_at, IsPossibleAt, Run, ClaimsPastLists, IsRefusedBy, IsMarkedFor, refuses_pool, refuses_slots, AnswersLeadOn, DueIsUnreplied}, Sound.{kept, size_few}}
+use Rattle.partial_machine.proofs.{Common.{ℕ, ◌≡◌, ◌+◌, ◌-◌, ◌<◌, ◌≤◌, ◌==◌, ◌⊎◌, Bool, true, false, if◌then◌else◌, not, ◌||◌, min, Option, Some, None, IsSome, List, [], ◌∷◌, length, refl, sym, ap, subst, ◌∙◌, inl, inr, arith, is_some, nat_lt, option_map_or, false≢true, cond_both, ltb-true, ltb-false, Refused, Step, Store, Add, Layout, IsLayout, slot_counter, slot_word, pool_counter, list_counter, list_end, pool_end, greatest_record, announcement_size, indices_word, next_word, with_index, begins_at, join_step, join_after, advance_join, JoinStage, Claiming, Storing, Joined, Spent, Change, Reply, Stage, is_begun, is_at_rest, IsSound, is_sound_at, IsPossibleAt, Run, ClaimsPastLists, IsRefusedBy, IsMarkedFor, refuses_pool, refuses_slots, AnswersLeadOn, DueIsUnreplied}, Sound.{kept, size_few}}
 use Rattle.partial_intervals.specs.Intervals.{highest}
 use Rattle.partial_active.specs.declared.get_set.Stage.{Stage as SetStage}
 use Rattle.partial_active.specs.declared.get_set.Stage.TheVariants as set
@@ -48,7 +48,7 @@ due_at s ScanBegun h = refl
 due_at s (StoringAnnouncement at k) h = refl
 due_at s Joining h = h.4
 due_at s Scanning h = h.2
-due_at s Leaving h = ap (λ (b : Bool). is_some (cond b None (Some (Store (slot_word s.leave.sizes s.leave.slot) 1)))) h.2
+due_at s Leaving h = ap (λ (b : Bool). is_some (if b then None else Some (Store (slot_word s.leave.sizes s.leave.slot) 1))) h.2
 due_at s (Finished r) h = refl
 
 -- a refusal
@@ -97,7 +97,7 @@ either None s t P p q = q
 either (Some a) s t P p q = p
 
 -- the reply to an exchange refuses nothing
-exchanged : (c : Change) (at x : ℕ) (b : Bool) (f : Option ℕ) → c.expected ≡ f → is_refusal (Some (cond b (Reply.Applied at) (overtaken_reply c x))) ≡ false
+exchanged : (c : Change) (at x : ℕ) (b : Bool) (f : Option ℕ) → c.expected ≡ f → is_refusal (Some (if b then Reply.Applied at else overtaken_reply c x)) ≡ false
 exchanged c at x true f e = refl
 exchanged c at x false None e = ap (λ (g : Option ℕ). is_refusal (Some (option_map_or (λ _. Reply.Changed x) g (Reply.Lost x)))) e
 exchanged c at x false (Some v) e = ap (λ (g : Option ℕ). is_refusal (Some (option_map_or (λ _. Reply.Changed x) g (Reply.Lost x)))) e
@@ -123,7 +123,7 @@ module _ (s : CoreState) (x : ℕ) (w : IsSound s) where
   getting_after c old e =
       let q = with_getting s (finding.advance_set (getting s) x) in
       let next : Stage → CoreState = λ u. record q { embedded = viewing.fresh_view q.sizes true; stage = u } in
-      either (finding.set_step_due q.get_set) q (next (cond (length q.found.indices == 0) (ClaimingRecord c old) (Viewing c old))) (After s x) (plain s x q (GettingSet c old) e refl refl refl refl)
+      either (finding.set_step_due q.get_set) q (next (if length q.found.indices == 0 then ClaimingRecord c old else Viewing c old)) (After s x) (plain s x q (GettingSet c old) e refl refl refl refl)
       (cond_both (length q.found.indices == 0) (ClaimingRecord c old) (Viewing c old) (λ (u : Stage). After s x (next u))
       (λ _. plain s x (next (ClaimingRecord c old)) (ClaimingRecord c old) refl refl refl refl refl) (λ _. plain s x (next (Viewing c old)) (Viewing c old) refl refl refl refl refl))
 
@@ -136,7 +136,7 @@ module _ (s : CoreState) (x : ℕ) (w : IsSound s) where
       h : is_sound_at s Joining
       h = here Joining e
 
-      by : (b : Bool) → nat_lt x s.join.sizes.slots ≡ b → After s x (after_joining q (cond b (Storing x) Spent))
+      by : (b : Bool) → nat_lt x s.join.sizes.slots ≡ b → After s x (after_joining q (if b then Storing x else Spent))
       by true within = plain s x q Joining e refl refl refl refl
       by false past = record {
         ahead = refl;
@@ -168,18 +168,18 @@ module _ (s : CoreState) (x : ℕ) (w : IsSound s) where
       (plain s x (at_stage q (ClaimingRecord c old)) (ClaimingRecord c old) refl refl refl refl refl)
   after_at (ClaimingRecord c old) e p = by (fits_pool s.sizes (record_size s) x) refl
     where
-      by : (b : Bool) → fits_pool s.sizes (record_size s) x ≡ b → After s x (cond b (at_stage s (StoringRecord c old x 0)) (pool_refused s))
+      by : (b : Bool) → fits_pool s.sizes (record_size s) x ≡ b → After s x (if b then at_stage s (StoringRecord c old x 0) else pool_refused s)
       by true fits = plain s x (at_stage s (StoringRecord c old x 0)) (StoringRecord c old x 0) refl refl refl refl refl
       by false past = pool_after (ClaimingRecord c old) (record_size s) e refl (size_few s w.indices.few).1 (here (ClaimingRecord c old) e).2 past
   after_at (StoringRecord c old at k) e p = cond_both (k + 1 == record_size s) (Exchanging c old at) (StoringRecord c old at (k + 1)) (λ (u : Stage). After s x (at_stage s u))
       (λ _. plain s x (at_stage s (Exchanging c old at)) (Exchanging c old at) refl refl refl refl refl)
       (λ _. plain s x (at_stage s (StoringRecord c old at (k + 1))) (StoringRecord c old at (k + 1)) refl refl refl refl refl)
   after_at (Exchanging c old at) e p =
-      let u : Stage = Finished (cond (x == old) (Reply.Applied at) (overtaken_reply c x)) in
+      let u : Stage = Finished (if x == old then Reply.Applied at else overtaken_reply c x) in
       plain s x (at_stage s u) u refl refl (exchanged c at x (x == old) c.expected refl) refl refl
   after_at ScanBegun e p = by (fits_pool s.sizes (announcement_size (length s.asked)) x) refl
     where
-      by : (b : Bool) → fits_pool s.sizes (announcement_size (length s.asked)) x ≡ b → After s x (cond b (at_stage s (StoringAnnouncement x 0)) (pool_refused s))
+      by : (b : Bool) → fits_pool s.sizes (announcement_size (length s.asked)) x ≡ b → After s x (if b then at_stage s (StoringAnnouncement x 0) else pool_refused s)
       by true fits = plain s x (at_stage s (StoringAnnouncement x 0)) (StoringAnnouncement x 0) refl refl refl refl refl
       by false past = let few = w.asked.few in pool_after ScanBegun (announcement_size (length s.asked)) e refl (omega (arith, few)) (here ScanBegun e).1 past
   after_at (StoringAnnouncement at k) e p = cond_both (k == length s.asked) (begin_joining s at) (at_stage s (StoringAnnouncement at (k + 1))) (After s x)
@@ -198,7 +198,7 @@ abbrev MarksLists : SetStage → finding.SetPair → ℕ → finding.SetPair →
 MarksLists t p x q = (q.0.lists_spent ≡ p.0.lists_spent) ⊎ ((words : ℕ) × (t ≡ set.Claim words) × (list_end p.0.sizes < x + words) × (q.0.lists_spent ≡ true))
 
 same_at_slot : (p : finding.SetPair) (slot : ℕ) → (finding.at_slot p slot).0.lists_spent ≡ p.0.lists_spent
-same_at_slot p slot = cond_both (ltb slot p.0.end) (record p.0 { stage = set.Slot slot }, p.1) (finding.after_walk p) (λ (q : finding.SetPair). q.0.lists_spent ≡ p.0.lists_spent) (λ e. refl)
+same_at_slot p slot = cond_both (nat_lt slot p.0.end) (record p.0 { stage = set.Slot slot }, p.1) (finding.after_walk p) (λ (q : finding.SetPair). q.0.lists_spent ≡ p.0.lists_spent) (λ e. refl)
     (λ e. refl)
 
 same_come_to : (p : finding.SetPair) (slot : ℕ) → (finding.come_to p slot).0.lists_spent ≡ p.0.lists_spent
@@ -213,22 +213,22 @@ marks_lists (set.ListLen at) p x = inl refl
 marks_lists (set.ListLow at left) p x = inl refl
 marks_lists (set.ListHigh at left lo) p x = inl refl
 marks_lists set.Counter p x = inl (same_come_to (record p.0 { end = min x p.0.sizes.slots; passed = 0 }, p.1) 0)
-marks_lists (set.Slot slot) p x = inl (cond_both (eqb x 0) (finding.come_to p (slot + 1))
-    (cond (eqb x 1) (finding.come_to (finding.note_slot p slot) (slot + 1)) (finding.in_stage p (set.Len slot x))) (λ (q : finding.SetPair). q.0.lists_spent ≡ p.0.lists_spent)
+marks_lists (set.Slot slot) p x = inl (cond_both (x == 0) (finding.come_to p (slot + 1))
+    (if x == 1 then finding.come_to (finding.note_slot p slot) (slot + 1) else finding.in_stage p (set.Len slot x)) (λ (q : finding.SetPair). q.0.lists_spent ≡ p.0.lists_spent)
     (λ e. same_come_to p (slot + 1))
-    (λ other. cond_both (eqb x 1) (finding.come_to (finding.note_slot p slot) (slot + 1)) (finding.in_stage p (set.Len slot x)) (λ (q : finding.SetPair). q.0.lists_spent ≡ p.0.lists_spent)
+    (λ other. cond_both (x == 1) (finding.come_to (finding.note_slot p slot) (slot + 1)) (finding.in_stage p (set.Len slot x)) (λ (q : finding.SetPair). q.0.lists_spent ≡ p.0.lists_spent)
     (λ e. same_come_to (finding.note_slot p slot) (slot + 1)) (λ e. refl)))
 marks_lists (set.Len slot at) p x =
-    inl (cond_both (eqb x 0) (finding.come_to p (slot + 1)) (finding.in_stage p (set.Index slot (indices_word at) x)) (λ (q : finding.SetPair). q.0.lists_spent ≡ p.0.lists_spent)
+    inl (cond_both (x == 0) (finding.come_to p (slot + 1)) (finding.in_stage p (set.Index slot (indices_word at) x)) (λ (q : finding.SetPair). q.0.lists_spent ≡ p.0.lists_spent)
     (λ e. same_come_to p (slot + 1)) (λ e. refl))
 marks_lists (set.Index slot at left) p x =
     let q : finding.SetPair = (p.0, record p.1 { indices = with_index p.1.indices x }) in
-    inl (cond_both (eqb left 1) (finding.come_to q (slot + 1)) (finding.in_stage q (set.Index slot (next_word at) (left - 1))) (λ (r : finding.SetPair). r.0.lists_spent ≡ p.0.lists_spent)
+    inl (cond_both (left == 1) (finding.come_to q (slot + 1)) (finding.in_stage q (set.Index slot (next_word at) (left - 1))) (λ (r : finding.SetPair). r.0.lists_spent ≡ p.0.lists_spent)
     (λ e. same_come_to q (slot + 1)) (λ e. refl))
-marks_lists (set.Claim words) p x = by (ltb (list_end p.0.sizes) (x + words)) refl
+marks_lists (set.Claim words) p x = by (nat_lt (list_end p.0.sizes) (x + words)) refl
   where
-    by : (b : Bool) → ltb (list_end p.0.sizes) (x + words) ≡ b → MarksLists (set.Claim words) p x
-        (cond b (record p.0 { lists_spent = true; stage = set.Done }, p.1) (finding.in_stage p (set.Write x 0 words (length p.1.next))))
+    by : (b : Bool) → nat_lt (list_end p.0.sizes) (x + words) ≡ b → MarksLists (set.Claim words) p x
+        (if b then (record p.0 { lists_spent = true; stage = set.Done }, p.1) else finding.in_stage p (set.Write x 0 words (length p.1.next)))
     by true over = inr (words, refl, ltb-true (list_end p.0.sizes) (x + words) over, refl)
     by false fits = inl refl
 marks_lists (set.Write at k words word) p x = inl refl
@@ -272,7 +272,7 @@ module _ (s : CoreState) (x : ℕ) (layout : IsLayout s.sizes) (w : IsSound s) w
       (λ _. same_lists s x (at_stage s (Finished (Reply.Changed x))) refl)
   lists_at (GettingSet c old) e =
       let q = with_getting s (finding.advance_set (getting s) x) in
-      either (finding.set_step_due q.get_set) q (record q { embedded = viewing.fresh_view q.sizes true; stage = cond (length q.found.indices == 0) (ClaimingRecord c old) (Viewing c old) })
+      either (finding.set_step_due q.get_set) q (record q { embedded = viewing.fresh_view q.sizes true; stage = (if length q.found.indices == 0 then ClaimingRecord c old else Viewing c old) })
       (KeepsLists s x)
       (getting_lists c old e) (getting_lists c old e)
   lists_at (Viewing c old) e =

@@ -1,5 +1,5 @@
 -- A call makes one claim of pool words at most, and one of a slot.
-use Rattle.partial_machine.proofs.{Common.{ℕ, ◌≡◌, ◌+◌, ◌≤◌, ◌==◌, Bool, true, false, cond, Some, None, List, [], ◌∷◌, length, refl, sym, ap, subst, ◌∙◌, arith, nat_lt, cond_both, ne_eqb, Store, Layout, IsLayout, slot_word, slot_counter, pool_counter, list_counter, announcement_size, join_step, join_after, advance_join, JoinStage, Claiming, Storing, Joined, Spent, Change, Stage, CoreState, at_stage, getting, scanning, with_getting, with_scanning, record_size, expects, fits_pool, pool_refused, begin_getting, begin_joining, after_joining, advance_at, advance, step_at, IsSound, is_sound_at, IsPossibleAt, Run, Reply}, Sound.kept, Behind.either}
+use Rattle.partial_machine.proofs.{Common.{ℕ, ◌≡◌, ◌+◌, ◌≤◌, ◌==◌, Bool, true, false, if◌then◌else◌, Some, None, List, [], ◌∷◌, length, refl, sym, ap, subst, ◌∙◌, arith, nat_lt, cond_both, ne_eqb, Store, Layout, IsLayout, slot_word, slot_counter, pool_counter, list_counter, announcement_size, join_step, join_after, advance_join, JoinStage, Claiming, Storing, Joined, Spent, Change, Stage, CoreState, at_stage, getting, scanning, with_getting, with_scanning, record_size, expects, fits_pool, pool_refused, begin_getting, begin_joining, after_joining, advance_at, advance, step_at, IsSound, is_sound_at, IsPossibleAt, Run, Reply}, Sound.kept, Behind.either}
 use Rattle.partial_active.specs.declared.get_set.Stage.{Stage as SetStage}
 use Rattle.partial_active.specs.declared.get_set.Stage.TheVariants as set
 use Rattle.partial_active.specs.GetSet as finding
@@ -29,7 +29,7 @@ slots_left s Joining = join_claims s.join.stage
 slots_left s _ = 0
 
 count : Bool → ℕ
-count b = cond b 1 0
+count b = if b then 1 else 0
 
 few : (b : Bool) → count b ≤ 1
 unfolding count
@@ -69,7 +69,7 @@ view_quiet z indices last counter (view.PairValue at left index) = refl
 view_quiet z indices last counter (view.Value k) = refl
 view_quiet z indices last counter view.Done = refl
 
-leave_quiet : (z : Layout) (slot counter : ℕ) (b : Bool) → claims counter (cond b None (Some (Store (slot_word z slot) 1))) ≡ false
+leave_quiet : (z : Layout) (slot counter : ℕ) (b : Bool) → claims counter (if b then None else Some (Store (slot_word z slot) 1)) ≡ false
 leave_quiet z slot counter true = refl
 leave_quiet z slot counter false = refl
 
@@ -106,7 +106,7 @@ module _ (s : CoreState) (x : ℕ) (w : IsSound s) where
   pool_at (GettingSet c old) e p =
       let q = with_getting s (finding.advance_set (getting s) x) in
       quiet (claims (pool_counter s.sizes) (step_at s (GettingSet c old))) _ 1 (set_step (pool_counter s.sizes) c old e (λ same. omega (arith, same)))
-      (either (finding.set_step_due q.get_set) q (record q { embedded = viewing.fresh_view q.sizes true; stage = cond (length q.found.indices == 0) (ClaimingRecord c old) (Viewing c old) })
+      (either (finding.set_step_due q.get_set) q (record q { embedded = viewing.fresh_view q.sizes true; stage = (if length q.found.indices == 0 then ClaimingRecord c old else Viewing c old) })
       (λ (v : CoreState). pool_left v v.stage ≤ 1)
       (left_is pool_left q (GettingSet c old) 1 e (omega arith))
       (cond_both (length q.found.indices == 0) (ClaimingRecord c old) (Viewing c old) (λ (u : Stage). pool_left (record q { embedded = viewing.fresh_view q.sizes true; stage = u }) u ≤ 1)
@@ -145,10 +145,11 @@ module _ (s : CoreState) (x : ℕ) (w : IsSound s) where
   joined_slots Claiming e at = by (nat_lt x s.join.sizes.slots) refl
     where
       by : (b : Bool) → nat_lt x s.join.sizes.slots ≡ b → count (slot_counter s.join.sizes == slot_counter s.sizes) + slots_left
-          (after_joining (record s { join = advance_join s.join x }) (cond b (Storing x) Spent)) (after_joining (record s { join = advance_join s.join x }) (cond b (Storing x) Spent)).stage ≤ 1
+          (after_joining (record s { join = advance_join s.join x }) (if b then Storing x else Spent)) (after_joining (record s { join = advance_join s.join x }) (if b then Storing x
+          else Spent)).stage ≤ 1
       by true within =
           let one = few (slot_counter s.join.sizes == slot_counter s.sizes) in
-          let is : (advance_join s.join x).stage ≡ Storing x = ap (λ t. join_after s.join.sizes t x) at ∙ ap (λ b. cond b (Storing x) Spent) within in
+          let is : (advance_join s.join x).stage ≡ Storing x = ap (λ t. join_after s.join.sizes t x) at ∙ ap (λ b. if b then Storing x else Spent) within in
           let none : slots_left (record s { join = advance_join s.join x }) s.stage ≤ 0 = left_is slots_left (record s { join = advance_join s.join x }) Joining 0 e
           (let zero_is : join_claims (advance_join s.join x).stage ≡ 0 = ap join_claims is in omega (arith, zero_is)) in
           omega (arith, one, none)
@@ -166,7 +167,7 @@ module _ (s : CoreState) (x : ℕ) (w : IsSound s) where
   slots_at (GettingSet c old) e p =
       let q = with_getting s (finding.advance_set (getting s) x) in
       quiet (claims (slot_counter s.sizes) (step_at s (GettingSet c old))) _ 0 (set_step (slot_counter s.sizes) c old e (λ same. omega (arith, same)))
-      (either (finding.set_step_due q.get_set) q (record q { embedded = viewing.fresh_view q.sizes true; stage = cond (length q.found.indices == 0) (ClaimingRecord c old) (Viewing c old) })
+      (either (finding.set_step_due q.get_set) q (record q { embedded = viewing.fresh_view q.sizes true; stage = (if length q.found.indices == 0 then ClaimingRecord c old else Viewing c old) })
       (λ (v : CoreState). slots_left v v.stage ≤ 0)
       (left_is slots_left q (GettingSet c old) 0 e (omega arith))
       (cond_both (length q.found.indices == 0) (ClaimingRecord c old) (Viewing c old) (λ (u : Stage). slots_left (record q { embedded = viewing.fresh_view q.sizes true; stage = u }) u ≤ 0)

@@ -1,5 +1,5 @@
 -- The names that several proofs of this crate take from elsewhere.
-pub use Rattle.std.proofs.Common.{ap, ◌∙◌, ◌≡◌, subst, sym, ℕ, arith, List, None, Some, length, Option, cond, false, refl, true, ◌<◌, Bool, ◌==◌, ◌≤◌, [], not, ◌+◌, ◌∷◌, get_or, IsSome, ◌&&◌, ◌-◌, inl, inr, min, ◌||◌, ◌⊎◌, append-nil, append_assoc, drop, eqb, ltb, map, take, ◌%◌, ◌*◌, ◌++◌, ◌/◌}
+pub use Rattle.std.proofs.Common.{ap, ◌∙◌, ◌≡◌, subst, sym, ℕ, arith, List, None, Some, length, Option, if◌then◌else◌, false, refl, true, ◌<◌, Bool, ◌==◌, ◌≤◌, [], not, ◌+◌, ◌∷◌, slice_index_or, slice_index, IsSome, ◌&&◌, ◌-◌, inl, inr, min, ◌||◌, ◌⊎◌, append-nil, append_assoc, drop, map, take, ◌%◌, ◌*◌, ◌++◌, ◌/◌}
 pub use Rattle.std.specs.{List.{list_all, AllByRecursion, flat_map}, Option.{option_map_or, is_some}, Prelude.{nat_lt, IsTrue, IfSome, ⊤}, Vec.vec_capacity}
 pub use Rattle.std.proofs.lemmas.{Bool.{false≢true, ltb-true, eqb-true, ltb-false, cond_both, eqb-false, ne_eqb}, List.{length-map, length-replicate}}
 pub use Rattle.partial_model.specs.declared.call.{Call.Call, Refused.Refused}

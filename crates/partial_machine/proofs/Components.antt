@@ -1,5 +1,5 @@
 -- Which component words a call loads, and how its embedded scan ends, over every run.
-use Rattle.partial_machine.proofs.{Common.{ℕ, ◌≡◌, ◌+◌, ◌-◌, ◌<◌, ◌≤◌, ◌⊎◌, inl, inr, ◌==◌, ◌&&◌, ◌++◌, Bool, true, false, cond, min, not, Option, Some, None, List, [], ◌∷◌, length, refl, sym, ap, subst, ◌∙◌, arith, append_assoc, append-nil, nat_lt, ⊤, option_map_or, eqb-true, eqb-false, Call, Step, Load, Store, Layout, IsLayout, slot_word, next_word, indices_word, advance_join, join_step, JoinStage, Claiming, Storing, Joined, Spent, begins_at, with_index, Change, Stage, CoreState, at_stage, getting, scanning, with_getting, with_scanning, begin_joining, after_joining, record_size, expects, fits_pool, pool_refused, begin_getting, advance_at, advance, step_at, step_of, call_at, update_call, IsSound, is_sound_at, IsPossible, IsPossibleAt, Run, Reply}, Sound.{Keeps, kept}, StepCounts.stays_sound}
+use Rattle.partial_machine.proofs.{Common.{ℕ, ◌≡◌, ◌+◌, ◌-◌, ◌<◌, ◌≤◌, ◌⊎◌, inl, inr, ◌==◌, ◌&&◌, ◌++◌, Bool, true, false, if◌then◌else◌, min, not, Option, Some, None, List, [], ◌∷◌, length, refl, sym, ap, subst, ◌∙◌, arith, append_assoc, append-nil, nat_lt, ⊤, option_map_or, eqb-true, eqb-false, Call, Step, Load, Store, Layout, IsLayout, slot_word, next_word, indices_word, advance_join, join_step, JoinStage, Claiming, Storing, Joined, Spent, begins_at, with_index, Change, Stage, CoreState, at_stage, getting, scanning, with_getting, with_scanning, begin_joining, after_joining, record_size, expects, fits_pool, pool_refused, begin_getting, advance_at, advance, step_at, step_of, call_at, update_call, IsSound, is_sound_at, IsPossible, IsPossibleAt, Run, Reply}, Sound.{Keeps, kept}, StepCounts.stays_sound}
 use Rattle.partial_words.specs.VacatedList.{intervals_word}
 use Rattle.partial_active.specs.declared.get_set.Stage.{Stage as SetStage}
 use Rattle.partial_active.specs.declared.get_set.Stage.TheVariants as set
@@ -53,15 +53,15 @@ is_behind z (set.Len slot at) = z.m ≤ at
 is_behind z (set.Index slot at left) = z.m ≤ at
 is_behind z _ = ⊤
 
-walk_behind : (z : Layout) (b : Bool) (words : ℕ) → is_behind z (cond b (set.Claim words) set.Done)
+walk_behind : (z : Layout) (b : Bool) (words : ℕ) → is_behind z (if b then set.Claim words else set.Done)
 walk_behind z true words = tt
 walk_behind z false words = tt
 
-slot_behind : (z : Layout) (p : finding.SetPair) (slot : ℕ) (b : Bool) → is_behind z (cond b (record p.0 { stage = set.Slot slot }, p.1) (finding.after_walk p)).0.stage
+slot_behind : (z : Layout) (p : finding.SetPair) (slot : ℕ) (b : Bool) → is_behind z (if b then (record p.0 { stage = set.Slot slot }, p.1) else finding.after_walk p).0.stage
 slot_behind z p slot true = tt
 slot_behind z p slot false = walk_behind z (p.0.noted && not p.0.lists_spent) (finding.next_words p.1)
 
-come_behind : (z : Layout) (p : finding.SetPair) (slot next : ℕ) (b : Bool) → is_behind z (cond b (finding.at_slot (finding.pass_interval p) next) (finding.at_slot p slot)).0.stage
+come_behind : (z : Layout) (p : finding.SetPair) (slot next : ℕ) (b : Bool) → is_behind z (if b then finding.at_slot (finding.pass_interval p) next else finding.at_slot p slot).0.stage
 come_behind z p slot next true = slot_behind z (finding.pass_interval p) next (nat_lt next (finding.pass_interval p).0.end)
 come_behind z p slot next false = slot_behind z p slot (nat_lt slot p.0.end)
 
@@ -69,7 +69,7 @@ comes_behind : (z : Layout) (p : finding.SetPair) (slot : ℕ) → is_behind z (
 comes_behind z p slot = come_behind z p slot _ (begins_at p.1.read p.0.passed slot)
 
 module _ (z : Layout) (p : finding.SetPair) (x : ℕ) (same : p.0.sizes ≡ z) where
-  head_behind : finding_answers.IsListHead p.0.sizes x → (b : Bool) → (x == 0) ≡ b → is_behind z (cond b set.Counter (set.ListLen x))
+  head_behind : finding_answers.IsListHead p.0.sizes x → (b : Bool) → (x == 0) ≡ b → is_behind z (if b then set.Counter else set.ListLen x)
   head_behind possible true e = tt
   head_behind (inl none) false e = absurd (eqb-false x 0 e none)
   head_behind (inr here) false e = let at = subst (λ (y : Layout). finding_answers.IsListHead y x) same (inr here) in by at
@@ -78,16 +78,16 @@ module _ (z : Layout) (p : finding.SetPair) (x : ℕ) (same : p.0.sizes ≡ z) w
       by (inl none) = absurd (eqb-false x 0 e none)
       by (inr there) = let above = there.0 in omega (arith, above)
 
-  list_behind : (at : ℕ) → z.m ≤ at → (b : Bool) → is_behind z (cond b set.Counter (set.ListLow (intervals_word at) x))
+  list_behind : (at : ℕ) → z.m ≤ at → (b : Bool) → is_behind z (if b then set.Counter else set.ListLow (intervals_word at) x)
   list_behind at behind true = tt
   list_behind at behind false = omega (arith, behind)
 
-  interval_behind : (at left : ℕ) → z.m ≤ at → (b : Bool) → is_behind z (cond b set.Counter (set.ListLow (next_word at) left))
+  interval_behind : (at left : ℕ) → z.m ≤ at → (b : Bool) → is_behind z (if b then set.Counter else set.ListLow (next_word at) left)
   interval_behind at left behind true = tt
   interval_behind at left behind false = omega (arith, behind)
 
   announced_behind : (slot : ℕ) → finding_answers.IsSlotWord p.0.sizes x → (b c : Bool) → (x == 0) ≡ b → (x == 1) ≡ c →
-      is_behind z (cond b (finding.come_to p (slot + 1)) (cond c (finding.come_to (finding.note_slot p slot) (slot + 1)) (finding.in_stage p (set.Len slot x)))).0.stage
+      is_behind z (if b then finding.come_to p (slot + 1) else (if c then finding.come_to (finding.note_slot p slot) (slot + 1) else finding.in_stage p (set.Len slot x))).0.stage
   announced_behind slot possible true c e f = comes_behind z p (slot + 1)
   announced_behind slot possible false true e f = comes_behind z (finding.note_slot p slot) (slot + 1)
   announced_behind slot possible false false e f = by (subst (λ (y : Layout). finding_answers.IsSlotWord y x) same possible)
@@ -97,20 +97,20 @@ module _ (z : Layout) (p : finding.SetPair) (x : ℕ) (same : p.0.sizes ≡ z) w
       by (inr (inl vacated)) = absurd (eqb-false x 1 f vacated)
       by (inr (inr there)) = let above = there.0 in omega (arith, above)
 
-  len_behind : (slot at : ℕ) → z.m ≤ at → (b : Bool) → is_behind z (cond b (finding.come_to p (slot + 1)) (finding.in_stage p (set.Index slot (indices_word at) x))).0.stage
+  len_behind : (slot at : ℕ) → z.m ≤ at → (b : Bool) → is_behind z (if b then finding.come_to p (slot + 1) else finding.in_stage p (set.Index slot (indices_word at) x)).0.stage
   len_behind slot at behind true = comes_behind z p (slot + 1)
   len_behind slot at behind false = omega (arith, behind)
 
   index_behind : (q : finding.SetPair) (slot at left : ℕ) → z.m ≤ at → (b : Bool) →
-      is_behind z (cond b (finding.come_to q (slot + 1)) (finding.in_stage q (set.Index slot (next_word at) left))).0.stage
+      is_behind z (if b then finding.come_to q (slot + 1) else finding.in_stage q (set.Index slot (next_word at) left)).0.stage
   index_behind q slot at left behind true = comes_behind z q (slot + 1)
   index_behind q slot at left behind false = omega (arith, behind)
 
-  claim_behind : (words : ℕ) (b : Bool) → is_behind z (cond b (record p.0 { lists_spent = true; stage = set.Done }, p.1) (finding.in_stage p (set.Write x 0 words (length p.1.next)))).0.stage
+  claim_behind : (words : ℕ) (b : Bool) → is_behind z (if b then (record p.0 { lists_spent = true; stage = set.Done }, p.1) else finding.in_stage p (set.Write x 0 words (length p.1.next))).0.stage
   claim_behind words true = tt
   claim_behind words false = tt
 
-  write_behind : (at k words word : ℕ) (b : Bool) → is_behind z (cond b (set.Publish at) (set.Write at k words word))
+  write_behind : (at k words word : ℕ) (b : Bool) → is_behind z (if b then set.Publish at else set.Write at k words word)
   write_behind at k words word true = tt
   write_behind at k words word false = tt
 
@@ -202,34 +202,34 @@ module _ (s : CoreState) (layout : IsLayout s.sizes) (w : IsSound s) (answers : 
       more : is_behind s.sizes p.0.stage
       more = set_behind s.sizes (getting s) x (here (GettingSet c old) e).2 s.get_set.stage refl possible behind
 
-      over : (b : Bool) → (length p.1.indices == 0) ≡ b → let r : CoreState = record on { embedded = viewing.fresh_view s.sizes true; stage = cond b (ClaimingRecord c old) (Viewing c old) } in
+      over : (b : Bool) → (length p.1.indices == 0) ≡ b → let r : CoreState = record on { embedded = viewing.fresh_view s.sizes true; stage = (if b then ClaimingRecord c old else Viewing c old) } in
           IsSound r → scanned_at (answers ++ x ∷ []) r r.stage
       over true none sound = let empty = eqb-true (length p.1.indices) 0 none in λ some. absurd (omega (arith, empty, some))
       over false some sound = scan_begins s.sizes true p.1.indices (answers ++ x ∷ []) s.rows sound.stage.1.positions sound.rows
 
       either : (o : Option Step) → let r = option_map_or (λ _. on) o
-          (record on { embedded = viewing.fresh_view s.sizes true; stage = cond (length p.1.indices == 0) (ClaimingRecord c old) (Viewing c old) }) in IsSound r →
+          (record on { embedded = viewing.fresh_view s.sizes true; stage = (if length p.1.indices == 0 then ClaimingRecord c old else Viewing c old) }) in IsSound r →
           scanned_at (answers ++ x ∷ []) r r.stage
       either (Some step) sound = subst (scanned_at (answers ++ x ∷ []) on) (sym e) more
       either None sound = over (length p.1.indices == 0) refl sound
 
-  claimed : (b : Bool) (at size : ℕ) (c : Change) (old : ℕ) → Then (cond b (at_stage s (StoringRecord c old x 0)) (pool_refused s))
+  claimed : (b : Bool) (at size : ℕ) (c : Change) (old : ℕ) → Then (if b then at_stage s (StoringRecord c old x 0) else pool_refused s)
   claimed true at size c old = tt
   claimed false at size c old = tt
 
-  announced : (b : Bool) → Then (cond b (at_stage s (StoringAnnouncement x 0)) (pool_refused s))
+  announced : (b : Bool) → Then (if b then at_stage s (StoringAnnouncement x 0) else pool_refused s)
   announced true = tt
   announced false = tt
 
-  stored : (b : Bool) (c : Change) (old at k : ℕ) → Then (at_stage s (cond b (Exchanging c old at) (StoringRecord c old at k)))
+  stored : (b : Bool) (c : Change) (old at k : ℕ) → Then (at_stage s (if b then Exchanging c old at else StoringRecord c old at k))
   stored true c old at k = tt
   stored false c old at k = tt
 
-  written : (b : Bool) (at k : ℕ) → Then (cond b (begin_joining s at) (at_stage s (StoringAnnouncement at k)))
+  written : (b : Bool) (at k : ℕ) → Then (if b then begin_joining s at else at_stage s (StoringAnnouncement at k))
   written true at k = tt
   written false at k = tt
 
-  expected : (b : Bool) (c : Change) → Then (cond b (begin_getting s c x) (at_stage s (Finished (Reply.Changed x))))
+  expected : (b : Bool) (c : Change) → Then (if b then begin_getting s c x else at_stage s (Finished (Reply.Changed x)))
   expected true c = tt
   expected false c = tt
 
@@ -334,7 +334,7 @@ module _ (s : CoreState) (x : ℕ) where
   read_on j (Finished r) possible h = absurd possible
   read_on j _ possible h = absurd h
 
-  found_on : (j : ℕ) (c : Change) (old : ℕ) (b : Bool) → of_update j (cond b (ClaimingRecord c old) (Viewing c old))
+  found_on : (j : ℕ) (c : Change) (old : ℕ) (b : Bool) → of_update j (if b then ClaimingRecord c old else Viewing c old)
   found_on j c old true = tt
   found_on j c old false = tt
 
@@ -342,11 +342,11 @@ module _ (s : CoreState) (x : ℕ) where
   set_on j c old q r (Some step) h g = h
   set_on j c old q r None h g = g
 
-  stored_on : (j : ℕ) (c : Change) (old at k : ℕ) (b : Bool) → of_update j (cond b (Exchanging c old at) (StoringRecord c old at k))
+  stored_on : (j : ℕ) (c : Change) (old at k : ℕ) (b : Bool) → of_update j (if b then Exchanging c old at else StoringRecord c old at k)
   stored_on j c old at k true = tt
   stored_on j c old at k false = tt
 
-  choice_on : (j : ℕ) (b : Bool) (q r : CoreState) → of_update j q.stage → of_update j r.stage → of_update j (cond b q r).stage
+  choice_on : (j : ℕ) (b : Bool) (q r : CoreState) → of_update j q.stage → of_update j r.stage → of_update j (if b then q else r).stage
   choice_on j true q r h g = h
   choice_on j false q r h g = g
 
@@ -354,7 +354,7 @@ module _ (s : CoreState) (x : ℕ) where
   update_on j (UpdateBegun c) e possible h = choice_on j (expects c x) (begin_getting s c x) (at_stage s (Finished (Reply.Changed x))) tt tt
   update_on j (GettingSet c old) e possible h =
       let p = finding.advance_set (getting s) x in
-      set_on j c old (with_getting s p) (record (with_getting s p) { embedded = viewing.fresh_view s.sizes true; stage = cond (length p.1.indices == 0) (ClaimingRecord c old) (Viewing c old) })
+      set_on j c old (with_getting s p) (record (with_getting s p) { embedded = viewing.fresh_view s.sizes true; stage = (if length p.1.indices == 0 then ClaimingRecord c old else Viewing c old) })
       (finding.set_step_due p.0) (subst (of_update j) (sym e) tt) (found_on j c old (length p.1.indices == 0))
   update_on j (Viewing c old) e possible h =
       let q = viewing.advance_view s.found.indices (scanning s) x in
@@ -365,7 +365,7 @@ module _ (s : CoreState) (x : ℕ) where
   update_on j (Finished r) e possible h = absurd possible
   update_on j _ e possible h = absurd h
 
-  pick_on : (b : Bool) (q r : CoreState) → of_scan q.stage → of_scan r.stage → of_scan (cond b q r).stage
+  pick_on : (b : Bool) (q r : CoreState) → of_scan q.stage → of_scan r.stage → of_scan (if b then q else r).stage
   pick_on true q r h g = h
   pick_on false q r h g = g
 
@@ -440,7 +440,7 @@ join_loads z y announcement (Storing slot) = tt
 join_loads z y announcement (Joined slot) = tt
 join_loads z y announcement Spent = tt
 
-leave_loads : (z y : Layout) (slot : ℕ) (b : Bool) → IsBehind z (cond b None (Some (Store (slot_word y slot) 1)))
+leave_loads : (z y : Layout) (slot : ℕ) (b : Bool) → IsBehind z (if b then None else Some (Store (slot_word y slot) 1))
 leave_loads z y slot true = tt
 leave_loads z y slot false = tt
 

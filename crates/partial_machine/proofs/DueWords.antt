@@ -1,5 +1,5 @@
 -- The word of a step that is due is one of the words.
-use Rattle.partial_machine.proofs.Common.{ℕ, ◌≡◌, ◌<◌, Bool, true, false, cond, Option, Some, None, List, get_or, sym, ap, subst, arith, IfSome, IsTrue, ltb-true, Step, Store, Layout, IsLayout, slot_word, total, word_of, fits_join, join_step, JoinStage, Claiming, Storing, Joined, Spent, Stage, CoreState, getting, scanning, step_at, IsSound, is_sound_at, DueWordsAreThere}
+use Rattle.partial_machine.proofs.Common.{ℕ, ◌≡◌, ◌<◌, Bool, true, false, if◌then◌else◌, Option, Some, None, List, slice_index, sym, ap, subst, arith, IfSome, IsTrue, ltb-true, Step, Store, Layout, IsLayout, slot_word, total, word_of, fits_join, join_step, JoinStage, Claiming, Storing, Joined, Spent, Stage, CoreState, getting, scanning, step_at, IsSound, is_sound_at, DueWordsAreThere}
 use Rattle.partial_active.specs.declared.get_set.Stage.{Stage as SetStage}
 use Rattle.partial_active.specs.declared.get_set.Stage.TheVariants as set
 use Rattle.partial_active.specs.GetSet as finding
@@ -47,7 +47,7 @@ set_there z head set.Done p layout same w = tt
 view_there : (z : Layout) (indices : List ℕ) (t : ViewStage) (p : viewing.ViewPair) → p.0.sizes ≡ z → viewing.ArePositions p.0.sizes indices → viewing.view_goes_at indices p t →
     IsThere z (viewing.view_step_at z indices p.1.last t)
 view_there z indices (view.Collect k) p same positions w =
-    let below : get_or indices k 0 < z.m = subst (λ (y : Layout). get_or indices k 0 < y.m) same (positions.components k w.0) in omega (arith, below)
+    let below : slice_index indices k < z.m = subst (λ (y : Layout). slice_index indices k < y.m) same (positions.components k w.0) in omega (arith, below)
 view_there z indices (view.View stamp) p same positions w = let r = subst (λ (y : Layout). viewing.IsPlainRecord y stamp) same w in let below = r.1 in omega (arith, below)
 view_there z indices (view.Len at) p same positions w = let w' = subst (λ (y : Layout). viewing.view_goes_at indices (record p.0 { sizes = y }, p.1) (view.Len at)) same w in let below =
     w'.1 in omega (arith, below)
@@ -58,7 +58,7 @@ view_there z indices (view.PairValue at left index) p same positions w =
     let w' = subst (λ (y : Layout). viewing.view_goes_at indices (record p.0 { sizes = y }, p.1) (view.PairValue at left index)) same w in
     let some = w'.0 in let below = w'.2 in omega (arith, some, below)
 view_there z indices (view.Value k) p same positions w =
-    let r = subst (λ (y : Layout). viewing.IsPlainRecord y (get_or p.1.last k 0)) same (w.1 k w.0) in let below = r.1 in omega (arith, below)
+    let r = subst (λ (y : Layout). viewing.IsPlainRecord y (slice_index p.1.last k)) same (w.1 k w.0) in let below = r.1 in omega (arith, below)
 view_there z indices view.Done p same positions w = tt
 
 -- a join's
@@ -94,7 +94,7 @@ due_there s Leaving layout w h = left s.leave.left
     below : s.leave.slot < s.sizes.slots
     below = h.1
 
-    left : (b : Bool) → IsThere s.sizes (cond b None (Some (Store (slot_word s.leave.sizes s.leave.slot) 1)))
+    left : (b : Bool) → IsThere s.sizes (if b then None else Some (Store (slot_word s.leave.sizes s.leave.slot) 1))
     left true = tt
     left false =
         let here = below in

@@ -1,5 +1,5 @@
 -- How many steps a scan has made at each stage, from its beginning on.
-use Rattle.partial_machine.proofs.{Common.{ℕ, ◌≡◌, ◌+◌, ◌-◌, ◌*◌, ◌<◌, ◌≤◌, ◌==◌, Bool, true, false, cond, ◌&&◌, ◌||◌, List, [], ◌∷◌, length, get_or, Option, Some, None, refl, sym, ◌∙◌, ap, subst, arith, false≢true, eqb-true, ltb-false, nat_lt, IsSome, option_map_or, Step, IsLayout, announcement_size, pairs_word, next_word, view_size, pairs_size, join_after, join_left, join_step, advance_join, JoinStage, Claiming, Storing, Joined, Spent, Reply, Stage, CoreState, at_stage, scanning, with_scanning, begin_joining, after_joining, pool_refused, fits_pool, advance, advance_at, reply_at, IsSound, is_sound_at, IsPossibleAt, Run, is_len, loads_len, pairs_loaded, AreOfScan, ScansMakeTheirSteps}, Sound.kept}
+use Rattle.partial_machine.proofs.{Common.{ℕ, ◌≡◌, ◌+◌, ◌-◌, ◌*◌, ◌<◌, ◌≤◌, ◌==◌, Bool, true, false, if◌then◌else◌, ◌&&◌, ◌||◌, List, [], ◌∷◌, length, slice_index, Option, Some, None, refl, sym, ◌∙◌, ap, subst, arith, false≢true, eqb-true, ltb-false, nat_lt, IsSome, option_map_or, Step, IsLayout, announcement_size, pairs_word, next_word, view_size, pairs_size, join_after, join_left, join_step, advance_join, JoinStage, Claiming, Storing, Joined, Spent, Reply, Stage, CoreState, at_stage, scanning, with_scanning, begin_joining, after_joining, pool_refused, fits_pool, advance, advance_at, reply_at, IsSound, is_sound_at, IsPossibleAt, Run, is_len, loads_len, pairs_loaded, AreOfScan, ScansMakeTheirSteps}, Sound.kept}
 use Rattle.partial_embedded.specs.declared.embedded.Stage.{Stage as ViewStage}
 use Rattle.partial_embedded.specs.declared.embedded.Stage.TheVariants.{Collect, View, Len, Index, PairValue, Value, Done}
 use Rattle.partial_embedded.specs.Embedded as viewing
@@ -26,20 +26,22 @@ module _ (indices : List ℕ) (p : viewing.ViewPair) (made n x : ℕ) (w : viewi
   Counts more q = counted_at (length indices) q (made + 1) (n + more) q.0.stage
 
   load_counted : (k : ℕ) → k < length indices → counted_at (length indices) p made n (Collect k) → (a b c : Bool) → nat_lt (k + 1) (length indices) ≡ b → let q = viewing.noted_load p k x in let v =
-      cond a (viewing.borrow p x) (cond b (viewing.view_at_stage q (Collect (k + 1)))
-      (cond c (record q.0 { collects = q.0.collects + 1; moved = false; stage = Collect 0 }, q.1) (viewing.view_at_stage q (Value 0)))) in counted_at (length indices) v (made + 1) (n + 0) v.0.stage
+      (if a then viewing.borrow p x else (if b then viewing.view_at_stage q (Collect (k + 1))
+      else (if c then (record q.0 { collects = q.0.collects + 1; moved = false; stage = Collect 0 }, q.1) else viewing.view_at_stage q (Value 0)))) in
+      counted_at (length indices) v (made + 1) (n + 0) v.0.stage
   load_counted k within h true b c e = let made_is = h.0 in (omega (arith, made_is, within), refl)
   load_counted k within h false true c e = let made_is = h.0 in (omega (arith, made_is), h.1)
   load_counted k within h false false true e = let past = ltb-false (k + 1) (length indices) e in let made_is = h.0 in (omega (arith, made_is, within, past), h.1)
   load_counted k within h false false false e = let past = ltb-false (k + 1) (length indices) e in let made_is = h.0 in (omega (arith, made_is, within, past), h.1)
 
-  view_counted : (stamp : ℕ) → counted_at (length indices) p made n (View stamp) → (b : Bool) → let v : viewing.ViewPair = (record p.0 { view = x; stage = cond b Done (Len x) }, p.1) in counted_at
+  view_counted : (stamp : ℕ) → counted_at (length indices) p made n (View stamp) → (b : Bool) → let v : viewing.ViewPair = (record p.0 { view = x; stage = (if b then Done else Len x) }, p.1) in
+      counted_at
       (length indices) v (made + 1) (n + 0) v.0.stage
   view_counted stamp h true = let few = h.0 in (λ none. never p.0.borrowed none h.1, λ some. omega (arith, few))
   view_counted stamp h false = let few = h.0 in (omega (arith, few), h.1)
 
   pairs_counted : (at left more : ℕ) (v : viewing.ViewPair) → v.0.collects ≡ p.0.collects → v.0.borrowed ≡ p.0.borrowed → IsSome p.0.borrowed →
-      made + 1 + pairs_size left ≤ length indices * p.0.collects + view_size (n + more) + 1 → (b : Bool) → let u = viewing.view_at_stage v (cond b Done (Index at left)) in
+      made + 1 + pairs_size left ≤ length indices * p.0.collects + view_size (n + more) + 1 → (b : Bool) → let u = viewing.view_at_stage v (if b then Done else Index at left) in
       counted_at (length indices) u
       (made + 1) (n + more) u.0.stage
   pairs_counted at left more v same borrowed some few true =
@@ -50,7 +52,7 @@ module _ (indices : List ℕ) (p : viewing.ViewPair) (made n x : ℕ) (w : viewi
       (omega (arith, few, times), subst IsSome (sym borrowed) some)
 
   value_counted : (k : ℕ) → k < length indices → counted_at (length indices) p made n (Value k) → (b : Bool) → nat_lt (k + 1) (length indices) ≡ b → let v =
-      viewing.view_at_stage (viewing.with_value p (get_or indices k 0) x) (cond b (Value (k + 1)) Done) in counted_at (length indices) v (made + 1) (n + 0) v.0.stage
+      viewing.view_at_stage (viewing.with_value p (slice_index indices k) x) (if b then Value (k + 1) else Done) in counted_at (length indices) v (made + 1) (n + 0) v.0.stage
   value_counted k within h true e = let made_is = h.0 in (omega (arith, made_is), h.1)
   value_counted k within h false e =
       let past = ltb-false (k + 1) (length indices) e in
@@ -60,7 +62,7 @@ module _ (indices : List ℕ) (p : viewing.ViewPair) (made n x : ℕ) (w : viewi
   -- over an answer
   step_counted : (s : ViewStage) → viewing.view_goes_at indices p s → viewing.IsPossibleInViewAt p.0.sizes s x → counted_at (length indices) p made n s → let q =
       viewing.advance_view_at indices p s x in counted_at
-      (length indices) q (made + 1) (n + cond (is_len s) x 0) q.0.stage
+      (length indices) q (made + 1) (n + (if is_len s then x else 0)) q.0.stage
   step_counted (Collect k) goes possible h = load_counted k goes.0 h (viewing.differs p k x && viewing.was_changed p k) (nat_lt (k + 1) (length indices))
       (viewing.is_first p || (viewing.noted_load p k x).0.moved) refl
   step_counted (View stamp) goes possible h = view_counted stamp h ((x == 0) || p.0.shares)
@@ -104,11 +106,11 @@ module _ (s : CoreState) (layout : IsLayout s.sizes) (w : IsSound s) (made n x :
   sound_here : (t : Stage) → s.stage ≡ t → is_sound_at s t
   sound_here t e = subst (is_sound_at s) e w.stage
 
-  claimed : s.stage ≡ ScanBegun → made ≡ 0 → (b : Bool) → let q = cond b (at_stage s (StoringAnnouncement x 0)) (pool_refused s) in made_at q (made + 1) (n + 0) q.stage
+  claimed : s.stage ≡ ScanBegun → made ≡ 0 → (b : Bool) → let q = (if b then at_stage s (StoringAnnouncement x 0) else pool_refused s) in made_at q (made + 1) (n + 0) q.stage
   claimed e h true = omega (arith, h)
   claimed e h false = tt
 
-  stored : (at k : ℕ) → made ≡ 1 + k → (b : Bool) → (k == length s.asked) ≡ b → let q = cond b (begin_joining s at) (at_stage s (StoringAnnouncement at (k + 1))) in made_at q
+  stored : (at k : ℕ) → made ≡ 1 + k → (b : Bool) → (k == length s.asked) ≡ b → let q = (if b then begin_joining s at else at_stage s (StoringAnnouncement at (k + 1))) in made_at q
       (made + 1) (n + 0) q.stage
   stored at k h true whole = let same = eqb-true k (length s.asked) whole in omega (arith, h, same)
   stored at k h false more = omega (arith, h)
@@ -122,9 +124,9 @@ module _ (s : CoreState) (layout : IsLayout s.sizes) (w : IsSound s) (made n x :
       due : IsSome (join_step s.join.sizes s.join.announcement s.join.stage)
       due = (sound_here Joining e).4
 
-      still : s.join.stage ≡ Claiming → (b : Bool) → nat_lt x s.join.sizes.slots ≡ b → Made (after_joining q (cond b (Storing x) Spent)) (made + 1) (n + 0)
+      still : s.join.stage ≡ Claiming → (b : Bool) → nat_lt x s.join.sizes.slots ≡ b → Made (after_joining q (if b then Storing x else Spent)) (made + 1) (n + 0)
       still j true within =
-          let is : q.join.stage ≡ Storing x = ap (λ t. join_after s.join.sizes t x) j ∙ ap (λ b. cond b (Storing x) Spent) within in
+          let is : q.join.stage ≡ Storing x = ap (λ t. join_after s.join.sizes t x) j ∙ ap (λ b. if b then Storing x else Spent) within in
           let before : join_left s.join.stage ≡ 2 = ap join_left j in
           let after : join_left q.join.stage ≡ 1 = ap join_left is in
           let count : made_at q (made + 1) (n + 0) Joining = omega (arith, h, before, after) in
@@ -139,11 +141,11 @@ module _ (s : CoreState) (layout : IsLayout s.sizes) (w : IsSound s) (made n x :
       by (Joined slot) j = absurd (false≢true (subst (λ t. IsSome (join_step s.join.sizes s.join.announcement t)) j due))
       by Spent j = absurd (false≢true (subst (λ t. IsSome (join_step s.join.sizes s.join.announcement t)) j due))
 
-  scanned : s.stage ≡ Scanning → viewing.IsPossibleInView (scanning s) x → made_at s made n Scanning → Made (advance_at s Scanning x) (made + 1) (n + cond (is_len s.embedded.stage) x 0)
+  scanned : s.stage ≡ Scanning → viewing.IsPossibleInView (scanning s) x → made_at s made n Scanning → Made (advance_at s Scanning x) (made + 1) (n + (if is_len s.embedded.stage then x else 0))
   scanned e possible h = either (viewing.view_step_due s.asked q) refl
     where
       more : ℕ
-      more = n + cond (is_len s.embedded.stage) x 0
+      more = n + (if is_len s.embedded.stage then x else 0)
 
       q : viewing.ViewPair
       q = viewing.advance_view s.asked (scanning s) x
@@ -151,15 +153,15 @@ module _ (s : CoreState) (layout : IsLayout s.sizes) (w : IsSound s) (made n x :
       on : CoreState
       on = with_scanning s q
 
-      counted : counted_at (length s.asked) q (h.0 + 1) (n + cond (is_len s.embedded.stage) x 0) q.0.stage
+      counted : counted_at (length s.asked) q (h.0 + 1) (n + (if is_len s.embedded.stage then x else 0)) q.0.stage
       counted = let together = (sound_here Scanning e).0 in step_counted s.asked (scanning s) h.0 n x together s.embedded.stage together.stage possible h.2
 
       long : made + 1 ≡ length s.asked + 4 + (h.0 + 1)
       long = let made_is = h.1 in omega (arith, made_is)
 
-      either : (o : Option Step) → viewing.view_step_due s.asked q ≡ o → Made (option_map_or (λ _. on) o (at_stage on Leaving)) (made + 1) (n + cond (is_len s.embedded.stage) x 0)
-      either (Some step) due = subst (made_at on (made + 1) (n + cond (is_len s.embedded.stage) x 0)) (sym e) (h.0 + 1, long, counted)
-      either None none = (h.0 + 1, long, subst (counted_at (length s.asked) q (h.0 + 1) (n + cond (is_len s.embedded.stage) x 0)) (none_due s.asked q.1.last q q.0.stage none) counted)
+      either : (o : Option Step) → viewing.view_step_due s.asked q ≡ o → Made (option_map_or (λ _. on) o (at_stage on Leaving)) (made + 1) (n + (if is_len s.embedded.stage then x else 0))
+      either (Some step) due = subst (made_at on (made + 1) (n + (if is_len s.embedded.stage then x else 0))) (sym e) (h.0 + 1, long, counted)
+      either None none = (h.0 + 1, long, subst (counted_at (length s.asked) q (h.0 + 1) (n + (if is_len s.embedded.stage then x else 0))) (none_due s.asked q.1.last q q.0.stage none) counted)
 
   left : made_at s made n Leaving → Made (advance_at s Leaving x) (made + 1) (n + 0)
   left h = record {
@@ -167,7 +169,7 @@ module _ (s : CoreState) (layout : IsLayout s.sizes) (w : IsSound s) (made n x :
     shared = λ stamp some. let made_is = h.1 in let few = h.2.1 (subst IsSome (sym some) refl) in omega (arith, made_is, few);
   }
 
-  made_on : (t : Stage) → s.stage ≡ t → IsPossibleAt s t x → made_at s made n t → Made (advance_at s t x) (made + 1) (n + cond (loads_len s t) x 0)
+  made_on : (t : Stage) → s.stage ≡ t → IsPossibleAt s t x → made_at s made n t → Made (advance_at s t x) (made + 1) (n + (if loads_len s t then x else 0))
   made_on Idle e possible h = absurd h
   made_on (ReadBegun j) e possible h = absurd h
   made_on (LoadingValue stamp) e possible h = absurd h
@@ -193,7 +195,7 @@ run_made s t [] made n layout w h is =
     (subst (λ (v : CoreState). Made v (made + 0) (n + 0)) (sym is) (subst (λ m. Made s m (n + 0)) (sym none) (subst (Made s made) (sym no_more) h)), ap (λ (v : CoreState). length v.asked) is)
 run_made s t (x ∷ xs) made n layout w h run =
     let k = kept s x layout w run.0 in
-    let more = cond (loads_len s s.stage) x 0 in
+    let more = (if loads_len s s.stage then x else 0) in
     let rest = run_made (advance s x) t xs (made + 1) (n + more) (subst IsLayout (sym k.sizes) layout) k.sound (made_on s layout w made n x s.stage refl run.0 h) run.1 in
     let steps : made + 1 + length xs ≡ made + length (x ∷ xs) = omega arith in
     let pairs : n + more + pairs_loaded (advance s x) xs ≡ n + pairs_loaded s (x ∷ xs) = omega arith in

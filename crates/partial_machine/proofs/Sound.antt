@@ -1,5 +1,5 @@
 -- A possible answer leaves a sound machine, with fewer steps to make.
-use Rattle.partial_machine.proofs.Common.{ℕ, ◌≡◌, ◌+◌, ◌<◌, ◌≤◌, ◌==◌, Bool, true, false, cond, length, Option, Some, None, IsSome, refl, sym, ◌∙◌, ap, subst, arith, false≢true, eqb-true, eqb-false, ltb-true, IsTrue, nat_lt, option_map_or, Step, Layout, IsLayout, pool_end, greatest_record, plain_record_size, full_record_size, announcement_size, fits_join, join_step, join_after, join_left, step_of_join, advance_join, JoinStage, Claiming, Storing, Joined, Spent, Change, Stage, CoreState, at_stage, getting, scanning, with_getting, with_scanning, record_size, expects, overtaken_reply, fits_pool, pool_refused, slots_refused, begin_getting, begin_joining, after_joining, scanned_reply, advance_at, advance, AreComponentIndices, IsRecord, IsInPool, IsSound, is_sound_at, IsMachine, IsPoolCount, IsPossible, IsPossibleAt, left_at, steps_left, AreIndices, few_indices, found_kept, Refused, Reply}
+use Rattle.partial_machine.proofs.Common.{ℕ, ◌≡◌, ◌+◌, ◌<◌, ◌≤◌, ◌==◌, Bool, true, false, if◌then◌else◌, length, Option, Some, None, IsSome, refl, sym, ◌∙◌, ap, subst, arith, false≢true, eqb-true, eqb-false, ltb-true, IsTrue, nat_lt, option_map_or, Step, Layout, IsLayout, pool_end, greatest_record, plain_record_size, full_record_size, announcement_size, fits_join, join_step, join_after, join_left, step_of_join, advance_join, JoinStage, Claiming, Storing, Joined, Spent, Change, Stage, CoreState, at_stage, getting, scanning, with_getting, with_scanning, record_size, expects, overtaken_reply, fits_pool, pool_refused, slots_refused, begin_getting, begin_joining, after_joining, scanned_reply, advance_at, advance, AreComponentIndices, IsRecord, IsInPool, IsSound, is_sound_at, IsMachine, IsPoolCount, IsPossible, IsPossibleAt, left_at, steps_left, AreIndices, few_indices, found_kept, Refused, Reply}
 use Rattle.std.proofs.Math.Nat.{mul-le-mul}
 use Rattle.partial_active.specs.Found.{AreFoundFor as AreBuffersFor}
 use Rattle.partial_active.specs.GetSet as finding
@@ -19,7 +19,7 @@ pub record Keeps (s q : CoreState) : Type 0 where
   pub positions : q.asked ≡ s.asked
 
 -- a record has 3 words, or those of its pairs
-size_by : (o : Option ℕ) (b : Bool) (n m : ℕ) → n ≤ m → let z = option_map_or (λ _. plain_record_size) o (cond b plain_record_size (full_record_size n)) in (plain_record_size ≤ z)
+size_by : (o : Option ℕ) (b : Bool) (n m : ℕ) → n ≤ m → let z = option_map_or (λ _. plain_record_size) o (if b then plain_record_size else full_record_size n) in (plain_record_size ≤ z)
     × (z ≤ full_record_size m)
 size_by (Some v) b n m few = (omega arith, omega arith)
 size_by None true n m few = (omega arith, omega arith)
@@ -73,7 +73,7 @@ module _ (s : CoreState) (layout : IsLayout s.sizes) (w : IsSound s) where
   refused_pool : (t : Stage) → s.stage ≡ t → 0 < left_at s t → Keeps s (pool_refused s)
   refused_pool t e fewer = kept_as (pool_refused s) t (Finished (Reply.Refused Refused.PoolSpent)) e refl refl refl refl w.asked w.found same_indices w.rows tt fewer
 
-  begun_kept : (c : Change) (x : ℕ) → s.stage ≡ UpdateBegun c → IsRecord s.sizes x → (b : Bool) → Keeps s (cond b (begin_getting s c x) (at_stage s (Finished (Reply.Changed x))))
+  begun_kept : (c : Change) (x : ℕ) → s.stage ≡ UpdateBegun c → IsRecord s.sizes x → (b : Bool) → Keeps s (if b then begin_getting s c x else at_stage s (Finished (Reply.Changed x)))
   begun_kept c x e rec true =
       let h = here (UpdateBegun c) e in
       let fresh = finding.fresh_set s.sizes s.get_set.lists_spent in
@@ -114,7 +114,7 @@ module _ (s : CoreState) (layout : IsLayout s.sizes) (w : IsSound s) where
       next u = record on { embedded = viewing.fresh_view s.sizes true; stage = u }
 
       -- the getSet is finished
-      found_some : (b : Bool) → (length q.1.indices == 0) ≡ b → Keeps s (next (cond b (ClaimingRecord c old) (Viewing c old)))
+      found_some : (b : Bool) → (length q.1.indices == 0) ≡ b → Keeps s (next (if b then ClaimingRecord c old else Viewing c old))
       found_some true none =
           let size = (size_few (next (ClaimingRecord c old)) (few_indices s.sizes.m q.1.indices named)).1 in
           kept_as (next (ClaimingRecord c old)) (GettingSet c old) (ClaimingRecord c old) e refl refl refl refl w.asked buffers named w.rows h.0 (omega (arith, size, k.fewer))
@@ -127,7 +127,7 @@ module _ (s : CoreState) (layout : IsLayout s.sizes) (w : IsSound s) where
           let most = most_mono s.sizes (length q.1.indices) s.sizes.m at_most in
           kept_as (next (Viewing c old)) (GettingSet c old) (Viewing c old) e refl refl refl refl w.asked buffers named w.rows (h.0, together, refl, refl) (omega (arith, left, most, k.fewer))
 
-      either : (o : Option Step) → finding.set_step_due q.0 ≡ o → Keeps s (option_map_or (λ _. on) o (next (cond (length q.1.indices == 0) (ClaimingRecord c old) (Viewing c old))))
+      either : (o : Option Step) → finding.set_step_due q.0 ≡ o → Keeps s (option_map_or (λ _. on) o (next (if length q.1.indices == 0 then ClaimingRecord c old else Viewing c old)))
       either (Some step) due = kept_as on (GettingSet c old) (GettingSet c old) e e refl refl refl w.asked buffers named w.rows (h.0, k.together, same, subst IsSome (sym due) refl)
           (omega (arith, k.fewer))
       either None done = found_some (length q.1.indices == 0) refl
@@ -186,7 +186,7 @@ module _ (s : CoreState) (layout : IsLayout s.sizes) (w : IsSound s) where
       either None done = kept_as (at_stage on Leaving) Scanning Leaving e refl refl refl refl w.asked w.found same_indices rows h.3 (omega (arith, k.fewer))
 
   record_claimed : (c : Change) (old x : ℕ) → s.stage ≡ ClaimingRecord c old → IsPoolCount s.sizes x → (b : Bool) → fits_pool s.sizes (record_size s) x ≡ b →
-      Keeps s (cond b (at_stage s (StoringRecord c old x 0)) (pool_refused s))
+      Keeps s (if b then at_stage s (StoringRecord c old x 0) else pool_refused s)
   record_claimed c old x e possible true fits =
       let h = here (ClaimingRecord c old) e in
       let size = (size_few s few).0 in
@@ -194,7 +194,7 @@ module _ (s : CoreState) (layout : IsLayout s.sizes) (w : IsSound s) where
   record_claimed c old x e possible false past = refused_pool (ClaimingRecord c old) e (omega arith)
 
   record_stored : (c : Change) (old at k : ℕ) → s.stage ≡ StoringRecord c old at k → (b : Bool) → (k + 1 == record_size s) ≡ b →
-      Keeps s (at_stage s (cond b (Exchanging c old at) (StoringRecord c old at (k + 1))))
+      Keeps s (at_stage s (if b then Exchanging c old at else StoringRecord c old at (k + 1)))
   record_stored c old at k e true last = let h = here (StoringRecord c old at k) e in let within = h.2 in staying (StoringRecord c old at k) (Exchanging c old at) e (h.0, h.1) (omega (arith, within))
   record_stored c old at k e false more =
       let h = here (StoringRecord c old at k) e in
@@ -203,13 +203,14 @@ module _ (s : CoreState) (layout : IsLayout s.sizes) (w : IsSound s) where
       staying (StoringRecord c old at k) (StoringRecord c old at (k + 1)) e (h.0, h.1, omega (arith, within, not_last)) (omega (arith, within))
 
   announcement_claimed : (x : ℕ) → s.stage ≡ ScanBegun → IsPoolCount s.sizes x → (b : Bool) → fits_pool s.sizes (announcement_size (length s.asked)) x ≡ b →
-      Keeps s (cond b (at_stage s (StoringAnnouncement x 0)) (pool_refused s))
+      Keeps s (if b then at_stage s (StoringAnnouncement x 0) else pool_refused s)
   announcement_claimed x e possible true fits =
       let h = here ScanBegun e in
       staying ScanBegun (StoringAnnouncement x 0) e (h.0, h.2, in_pool s.sizes (announcement_size (length s.asked)) x possible fits, omega arith) (omega arith)
   announcement_claimed x e possible false past = refused_pool ScanBegun e (omega arith)
 
-  announcement_stored : (at k : ℕ) → s.stage ≡ StoringAnnouncement at k → (b : Bool) → (k == length s.asked) ≡ b → Keeps s (cond b (begin_joining s at) (at_stage s (StoringAnnouncement at (k + 1))))
+  announcement_stored : (at k : ℕ) → s.stage ≡ StoringAnnouncement at k → (b : Bool) → (k == length s.asked) ≡ b →
+      Keeps s (if b then begin_joining s at else at_stage s (StoringAnnouncement at (k + 1)))
   announcement_stored at k e true last =
       let h = here (StoringAnnouncement at k) e in
       let whole = eqb-true k (length s.asked) last in
@@ -230,9 +231,9 @@ module _ (s : CoreState) (layout : IsLayout s.sizes) (w : IsSound s) where
       q = record s { join = advance_join s.join x }
 
       -- the claim
-      claimed : s.join.stage ≡ Claiming → (b : Bool) → nat_lt x s.join.sizes.slots ≡ b → Keeps s (after_joining q (cond b (Storing x) Spent))
+      claimed : s.join.stage ≡ Claiming → (b : Bool) → nat_lt x s.join.sizes.slots ≡ b → Keeps s (after_joining q (if b then Storing x else Spent))
       claimed j true within =
-          let is : q.join.stage ≡ Storing x = ap (λ t. join_after s.join.sizes t x) j ∙ ap (λ b. cond b (Storing x) Spent) within in
+          let is : q.join.stage ≡ Storing x = ap (λ t. join_after s.join.sizes t x) j ∙ ap (λ b. if b then Storing x else Spent) within in
           let before : join_left s.join.stage ≡ 2 = ap join_left j in
           let after : join_left q.join.stage ≡ 1 = ap join_left is in
           let due : IsSome (step_of_join q.join) = subst (λ t. IsSome (join_step s.join.sizes s.join.announcement t)) (sym is) refl in
@@ -268,7 +269,7 @@ module _ (s : CoreState) (layout : IsLayout s.sizes) (w : IsSound s) where
   kept_at (Viewing c old) x e possible = viewing_kept c old x e possible
   kept_at (ClaimingRecord c old) x e possible = record_claimed c old x e possible (fits_pool s.sizes (record_size s) x) refl
   kept_at (StoringRecord c old at k) x e possible = record_stored c old at k e (k + 1 == record_size s) refl
-  kept_at (Exchanging c old at) x e possible = staying (Exchanging c old at) (Finished (cond (x == old) (Reply.Applied at) (overtaken_reply c x))) e tt (omega arith)
+  kept_at (Exchanging c old at) x e possible = staying (Exchanging c old at) (Finished (if x == old then Reply.Applied at else overtaken_reply c x)) e tt (omega arith)
   kept_at ScanBegun x e possible = announcement_claimed x e possible (fits_pool s.sizes (announcement_size (length s.asked)) x) refl
   kept_at (StoringAnnouncement at k) x e possible = announcement_stored at k e (k == length s.asked) refl
   kept_at Joining x e possible = joining_kept x e

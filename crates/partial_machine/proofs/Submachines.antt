@@ -1,5 +1,5 @@
 -- The machine holds behind an answer to one of the machines in it, as the code comes to it.
-use Rattle.partial_machine.proofs.{Common.{ℕ, ◌≡◌, ◌<◌, ◌==◌, true, false, cond, List, length, Option, Some, None, refl, sym, ◌∙◌, ap, subst, false≢true, option_map_or, is_some, Step, answer_of, Change, Stage, IsPossible, IsPossibleAt, MayPerform, IsMachine, steps_left}, Sound.{machine_on, fewer_on}}
+use Rattle.partial_machine.proofs.{Common.{ℕ, ◌≡◌, ◌<◌, ◌==◌, true, false, if◌then◌else◌, List, length, Option, Some, None, refl, sym, ◌∙◌, ap, subst, false≢true, option_map_or, is_some, Step, answer_of, Change, Stage, IsPossible, IsPossibleAt, MayPerform, IsMachine, steps_left}, Sound.{machine_on, fewer_on}}
 use Rattle.partial_model.proofs.ListLemmas.{some_same}
 use Rattle.partial_active.specs.GetSet as finding
 use Rattle.partial_active.specs.GetSetAnswers as finding_answers
@@ -41,18 +41,18 @@ module _ (s : CoreState) (room x : ℕ) (w : IsMachine s room) where
   got_more c old p stage possible is due = machine_on s (with_getting s p) room x (GettingSet c old) w stage possible (got_more_is c old p is due)
 
   pub got_all_is : (c : Change) (old : ℕ) (p : finding.SetPair) (v : viewing.EmbeddedState) (u : Stage) → p ≡ finding.advance_set (getting s) x → is_some (finding.set_step_due p.0) ≡ false →
-      v ≡ viewing.fresh_view s.sizes true → u ≡ cond (length p.1.indices == 0) (ClaimingRecord c old) (Viewing c old) →
+      v ≡ viewing.fresh_view s.sizes true → u ≡ (if length p.1.indices == 0 then ClaimingRecord c old else Viewing c old) →
       record (with_getting s p) { embedded = v; stage = u } ≡ advance_at s (GettingSet c old) x
   got_all_is c old p v u is done fresh next =
       let q : CoreState = record (with_getting s p) { embedded = v; stage = u } in
-      let same : q ≡ record (with_getting s p) { embedded = viewing.fresh_view s.sizes true; stage = cond (length p.1.indices == 0) (ClaimingRecord c old) (Viewing c old) } =
+      let same : q ≡ record (with_getting s p) { embedded = viewing.fresh_view s.sizes true; stage = (if length p.1.indices == 0 then ClaimingRecord c old else Viewing c old) } =
       ap (λ e. record (with_getting s p) { embedded = e; stage = u }) fresh ∙ ap (λ t. record (with_getting s p) { embedded = viewing.fresh_view s.sizes true; stage = t }) next in
       let on : q ≡ after_getting (with_getting s p) c old = same ∙ comes_to (finding.set_step_due p.0) (with_getting s p) _ done in
       on ∙ ap (λ r. after_getting (with_getting s r) c old) is
 
   pub got_all : (c : Change) (old : ℕ) (p : finding.SetPair) (v : viewing.EmbeddedState) (u : Stage) → s.stage ≡ GettingSet c old → finding_answers.IsPossibleInSet (getting s) x →
       p ≡ finding.advance_set (getting s) x → is_some (finding.set_step_due p.0) ≡ false → v ≡ viewing.fresh_view s.sizes true →
-      u ≡ cond (length p.1.indices == 0) (ClaimingRecord c old) (Viewing c old) →
+      u ≡ (if length p.1.indices == 0 then ClaimingRecord c old else Viewing c old) →
       IsMachine (record (with_getting s p) { embedded = v; stage = u }) room
   got_all c old p v u stage possible is done fresh next =
       machine_on s (record (with_getting s p) { embedded = v; stage = u }) room x (GettingSet c old) w stage possible (got_all_is c old p v u is done fresh next)

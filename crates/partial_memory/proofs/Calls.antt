@@ -1,5 +1,5 @@
 -- The steps of a call, one after the other.
-use Rattle.partial_memory.proofs.Common.{ℕ, ◌≡◌, ◌+◌, ◌<◌, ◌++◌, ◌⊎◌, ◌||◌, false, cond, Some, None, List, [], ◌∷◌, length, sym, ap, subst, ◌∙◌, inl, inr, arith, length_push, Step, Layout, IsLayout, total, word_of, CoreState, advance, step_of, reply_of, is_begun, refuses_pool, refuses_slots, due_is_unreplied, due_words_are_there, Part, KeptAnswer, HasBegun, IsMachineOf, Tells, first_steps_make_calls, further_steps_make_calls, About, SeatedPort, AreByOpened, Told, Begins, CallMade}
+use Rattle.partial_memory.proofs.Common.{ℕ, ◌≡◌, ◌+◌, ◌<◌, ◌++◌, ◌⊎◌, ◌||◌, false, if◌then◌else◌, Some, None, List, [], ◌∷◌, length, sym, ap, subst, ◌∙◌, inl, inr, arith, length_push, Step, Layout, IsLayout, total, word_of, CoreState, advance, step_of, reply_of, is_begun, refuses_pool, refuses_slots, due_is_unreplied, due_words_are_there, Part, KeptAnswer, HasBegun, IsMachineOf, Tells, first_steps_make_calls, further_steps_make_calls, About, SeatedPort, AreByOpened, Told, Begins, CallMade}
 
 -- the machine that a step leads to, and its port
 module _ (x : SeatedPort) (c : CoreState) (y : SeatedPort) (a : ℕ) (z : SeatedPort) (about : y.about ≡ x.about) (t : Told c y a z) where
@@ -17,7 +17,7 @@ first_made : (b : CoreState) (x : SeatedPort) (a : ℕ) (z : SeatedPort) → Beg
 first_made b x a z w t =
     let m = first_steps_make_calls x.about.sizes x.about.opening t.log t.entries b x.part a z.part w.begun w.sound t.tells in
     let kept : z.part.kept ≡ record { answer = a; at = length (t.log ++ t.entries) } ∷ [] =
-    ap (λ (v : Part). v.kept) t.tells.part ∙ ap (λ f. cond f [] x.part.kept ++ record { answer = a; at = length (t.log ++ t.entries) } ∷ []) w.begun.begun in
+    ap (λ (v : Part). v.kept) t.tells.part ∙ ap (λ f. (if f then [] else x.part.kept) ++ record { answer = a; at = length (t.log ++ t.entries) } ∷ []) w.begun.begun in
     record {
       about = t.about;
       made = m;
@@ -33,7 +33,7 @@ next_made : (b : CoreState) (x : SeatedPort) (c : CoreState) (y : SeatedPort) (a
 next_made b x c y a z m none t =
     let going : is_begun c.stage ≡ false = m.made.machine.going in
     let last : KeptAnswer = record { answer = a; at = length (t.log ++ t.entries) } in
-    let kept : z.part.kept ≡ y.part.kept ++ last ∷ [] = ap (λ (v : Part). v.kept) t.tells.part ∙ ap (λ f. cond f [] y.part.kept ++ last ∷ []) going in
+    let kept : z.part.kept ≡ y.part.kept ++ last ∷ [] = ap (λ (v : Part). v.kept) t.tells.part ∙ ap (λ f. (if f then [] else y.part.kept) ++ last ∷ []) going in
     let count : length z.part.kept ≡ length y.part.kept + 1 = ap length kept ∙ length_push y.part.kept last in
     let steps = t.steps in
     let before = m.steps in

@@ -1,17 +1,16 @@
 -- The chains of a closed memory, read from its words.
-use Rattle.partial_memory.proofs.Common.{ℕ, zero, suc, ◌≡◌, ◌+◌, ◌≢◌, ◌<◌, ◌≤◌, ◌++◌, ◌⊎◌, Bool, true, false, List, [], ◌∷◌, length, map, get_or, refl, sym, ap, subst, ◌∙◌, inl, inr, arith, append_assoc, append-nil, length-append, AllByRecursion, list_any, eqb-true, false≢true, ltb-false, ltb-true, ne_eqb, or_cases, nat_lt, get_or_append_left, get_or_push, length-map, length_push, some, some-injective, some-ne-none, get_elem?, Applied, Opening, all_map, all_weaker, IsLink, chain_of, Layout, RecordsAreWithin, IsWholeChain, AreValues, AreChains, AreChainsFrom}
-use Rattle.std.specs.List.{IsDistinct}
+use Rattle.partial_memory.proofs.Common.{ℕ, zero, suc, ◌≡◌, ◌+◌, ◌≢◌, ◌<◌, ◌≤◌, ◌++◌, ◌⊎◌, Bool, true, false, List, [], ◌∷◌, length, map, slice_index_or, slice_index, refl, sym, ap, subst, ◌∙◌, inl, inr, arith, append_assoc, append-nil, length-append, AllByRecursion, list_any, eqb-true, false≢true, ltb-false, ltb-true, ne_eqb, or_cases, nat_lt, get_or_append_left, get_or_push, length-map, length_push, some, some-injective, some-ne-none, get_elem?, Applied, Opening, all_map, all_weaker, IsLink, chain_of, Layout, RecordsAreWithin, IsWholeChain, AreValues, AreChains, AreChainsFrom}
+use Rattle.std.specs.{List.IsDistinct, Prelude.{nat_eq, ◌==◌}}
 use Rattle.std.specs.declared.alloc.Global.{Global}
 use Rattle.std.specs.declared.vec.Vec.{Vec}
 use Rattle.std.proofs.lemmas.Map.{Keys.IsDistinct-cons, Steps.length-le_from_distinct_below}
-use Rattle.std.proofs.Math.Dec.{eqb}
 use Rattle.partial_model.specs.History.{HaveDistinctStamps, value_of as value_after}
 use Rattle.partial_words.specs.declared.record.Link.{Link}
 use Rattle.partial_words.specs.Record.{prev_of, record_value, view_word}
 use Rattle.partial_words.proofs.ChainLemmas.{chain_all, chain_count, chain_head}
 
 -- a word of a closed table
-pub elem_or : (ws : List ℕ) (k x : ℕ) → get_elem? ws k ≡ some x → get_or ws k 0 ≡ x
+pub elem_or : (ws : List ℕ) (k x : ℕ) → get_elem? ws k ≡ some x → slice_index ws k ≡ x
 elem_or [] k x e = absurd (some-ne-none x (sym e))
 elem_or (w ∷ ws) zero x e = some-injective w x e
 elem_or (w ∷ ws) (suc k) x e = elem_or ws k x e
@@ -89,19 +88,19 @@ walked_within words newest found at links walked busy w =
 stamps_of : List Applied → List ℕ
 stamps_of log = map (λ e. e.stamp) log
 
-stamps_distinct : (log : List Applied) → HaveDistinctStamps log → IsDistinct eqb (stamps_of log)
+stamps_distinct : (log : List Applied) → HaveDistinctStamps log → IsDistinct nat_eq (stamps_of log)
 unfolding stamps_of IsDistinct
 stamps_distinct [] w = tt
 stamps_distinct (e ∷ log) w =
-    let other = all_weaker (λ (f : Applied). e.stamp ≢ f.stamp) (λ (f : Applied). eqb e.stamp f.stamp ≡ false) (λ f apart. ne_eqb e.stamp f.stamp apart) log w.0 in
-    IsDistinct-cons eqb e.stamp (stamps_of log) (all_map (λ y. eqb e.stamp y ≡ false) (λ f. f.stamp) log other) (stamps_distinct log w.1)
+    let other = all_weaker (λ (f : Applied). e.stamp ≢ f.stamp) (λ (f : Applied). nat_eq e.stamp f.stamp ≡ false) (λ f apart. ne_eqb e.stamp f.stamp apart) log w.0 in
+    IsDistinct-cons nat_eq e.stamp (stamps_of log) (all_map (λ y. nat_eq e.stamp y ≡ false) (λ f. f.stamp) log other) (stamps_distinct log w.1)
 
-stamps_below : (n : ℕ) (log : List Applied) → AllByRecursion (λ e. e.stamp < n) log → (q : ℕ) → list_any (eqb q) (stamps_of log) ≡ true → q < n
+stamps_below : (n : ℕ) (log : List Applied) → AllByRecursion (λ e. e.stamp < n) log → (q : ℕ) → list_any (nat_eq q) (stamps_of log) ≡ true → q < n
 unfolding stamps_of
 stamps_below n [] w q e = absurd (false≢true e)
 stamps_below n (x ∷ log) w q e =
     let below = w.0 in
-    elim (or_cases (eqb q x.stamp) (list_any (eqb q) (stamps_of log)) e) [
+    elim (or_cases (q == x.stamp) (list_any (nat_eq q) (stamps_of log)) e) [
       | inl here ↦ let same = eqb-true q x.stamp here in omega (arith, below, same)
       | inr there ↦ stamps_below n log w.1 q there
     ]
@@ -117,7 +116,7 @@ entries_few z o words log r =
 
 -- the chain of a component is whole, and has no more links than there are words, and one
 pub whole_chain : (z : Layout) (o : Opening) (words : List ℕ) (log : List Applied) → RecordsAreWithin z o words log → (j : ℕ) → j < z.m →
-    IsWholeChain words (get_or words j 0) (chain_of o j log) × (length (chain_of o j log) ≤ length words + 1)
+    IsWholeChain words (slice_index words j) (chain_of o j log) × (length (chain_of o j log) ≤ length words + 1)
 whole_chain z o words log r j below =
     let values = r.values in
     let m = r.sizes.components in
@@ -134,10 +133,10 @@ pub values_more : (o : Opening) (log : List Applied) (j : ℕ) (values more : Li
     AreValues o log (j + 1) more
 values_more o log j values more v w is value = record {
   count = let count = w.count in let one = length_push values v in let long = ap length is in omega (arith, count, one, long);
-  each = λ k below. subst (λ (l : List ℕ). get_or l k 0 ≡ value_after o log k) (sym is) (values_at k below (nat_lt k j) refl);
+  each = λ k below. subst (λ (l : List ℕ). slice_index l k ≡ value_after o log k) (sym is) (values_at k below (nat_lt k j) refl);
 }
   where
-    values_at : (k : ℕ) → k < j + 1 → (b : Bool) → nat_lt k j ≡ b → get_or (values ++ v ∷ []) k 0 ≡ value_after o log k
+    values_at : (k : ℕ) → k < j + 1 → (b : Bool) → nat_lt k j ≡ b → slice_index (values ++ v ∷ []) k ≡ value_after o log k
     values_at k below true e =
         let less = ltb-true k j e in
         let count = w.count in
@@ -162,10 +161,10 @@ chains_more o log j chains more c w is chain =
     }
 
 -- the newest link of a component has its value
-pub first_value : (o : Opening) (log : List Applied) (j : ℕ) (links : List Link) (l : Link) → links ≡ chain_of o j log → l ≡ get_or links 0 l → l.value ≡ value_after o log j
+pub first_value : (o : Opening) (log : List Applied) (j : ℕ) (links : List Link) (l : Link) → links ≡ chain_of o j log → l ≡ slice_index_or links 0 l → l.value ≡ value_after o log j
 first_value o log j links l is first =
     let h = chain_head o j log in
-    ap (λ (k : Link). k.value) (first ∙ ap (λ (ls : List Link). get_or ls 0 l) (is ∙ h.1))
+    ap (λ (k : Link). k.value) (first ∙ ap (λ (ls : List Link). slice_index_or ls 0 l) (is ∙ h.1))
 
 pub links_some : (o : Opening) (log : List Applied) (j : ℕ) (links : List Link) → links ≡ chain_of o j log → 0 < length links
 links_some o log j links is = let h = chain_head o j log in let long = ap length (is ∙ h.1) in omega (arith, long)

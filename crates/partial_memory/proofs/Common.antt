@@ -1,5 +1,5 @@
 -- The names that several proofs of this crate take from elsewhere.
-pub use Rattle.std.proofs.Common.{ℕ, zero, suc, ◌≡◌, ◌≢◌, ◌+◌, ◌<◌, ◌≤◌, List, [], ◌∷◌, ◌++◌, map, Contains, refl, sym, ◌∙◌, ap, subst, Some, slice_get, inl, inr, arith, ◌⊎◌, ◌||◌, false, cond, None, length, Bool, true, get_or, append_assoc, append-nil, length-append, set, ◌-◌, replicate, take, slice_index, Option, ◌==◌, ◌%◌, ◌^◌, rules}
+pub use Rattle.std.proofs.Common.{ℕ, zero, suc, ◌≡◌, ◌≢◌, ◌+◌, ◌<◌, ◌≤◌, List, [], ◌∷◌, ◌++◌, map, Contains, refl, sym, ◌∙◌, ap, subst, Some, slice_get, inl, inr, arith, ◌⊎◌, ◌||◌, false, if◌then◌else◌, None, length, Bool, true, slice_index_or, append_assoc, append-nil, length-append, slice_set, ◌-◌, replicate, take, slice_index, Option, ◌==◌, ◌%◌, ◌^◌, rules}
 pub use Rattle.std.specs.{List.{AllByRecursion, range_with_len, list_any}, Prelude.{nat_lt, Result, Err, IfOk, IfErr, is_some, Ok}, Slots.{slots_items, slots_len}, Vec.{vec_capacity, vec_len}}
 pub use Rattle.std.proofs.lemmas.{Bool.{cases_lt, eqb-true, false≢true, ltb-false, ltb-true, ne_eqb, or_cases, lt-ltb}, List.{length_push, get_or_append_left, get_or_push, length-map, nil_from_length, get_or_past, take_all}, Result.err_from_is_err_and}
 pub use lib.{ListN.get_elem?, Seq.set-get_or}

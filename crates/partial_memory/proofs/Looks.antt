@@ -1,5 +1,5 @@
 -- A look at the whole history in a meeting, and the ports of two seats that come together.
-use Rattle.partial_memory.proofs.{Common.{ℕ, zero, suc, ◌≡◌, ◌<◌, ◌++◌, List, [], ◌∷◌, map, set, refl, sym, ap, subst, ◌∙◌, append_assoc, AllByRecursion, some, some-injective, some-ne-none, get_elem?, Me, keeps, Allows, Joins, Applied, all_at, all_join, all_before, all_after, port_of, with_seen, Lawful, FitsHistory, lawful_ports_fit, looks_stay_lawful, About, SeatedPort, AreByOpened, AreSeatedOf, AreOpened, IsIn, IsRuleKept, IsShuffle, parts_of, flatten, having_met, looks, set-get_or}, Shuffles.{find, put_elsewhere}, Views.{around, reordered}, Steps.{among, parts_split, entries_opened}}
+use Rattle.partial_memory.proofs.{Common.{ℕ, zero, suc, ◌≡◌, ◌<◌, ◌++◌, List, [], ◌∷◌, map, slice_set, refl, sym, ap, subst, ◌∙◌, append_assoc, AllByRecursion, some, some-injective, some-ne-none, get_elem?, Me, keeps, Allows, Joins, Applied, all_at, all_join, all_before, all_after, port_of, with_seen, Lawful, FitsHistory, lawful_ports_fit, looks_stay_lawful, About, SeatedPort, AreByOpened, AreSeatedOf, AreOpened, IsIn, IsRuleKept, IsShuffle, parts_of, flatten, having_met, looks, set-get_or}, Shuffles.{find, put_elsewhere}, Views.{around, reordered}, Steps.{among, parts_split, entries_opened}}
 use Rattle.partial_core.specs.Lawful.{LawfulAmong}
 
 -- the state with the ports of a view that have seen all
@@ -62,7 +62,7 @@ looks_on about slots id me own table kept homes at small =
       record {
         log = kept.log;
         all = s.all;
-        shuffle = subst (λ l. IsShuffle l s.all) (sym (r.then (map (having_met kept.log) me.0))) s.shuffle;
+        shuffle = subst (λ l. IsShuffle l s.all) (sym (r.renewed (map (having_met kept.log) me.0))) s.shuffle;
         lawful = subst (λ l. Lawful about.sizes about.opening l (parts_of s.all) kept.log) (sym (set-get_or table.words 0 0)) s.lawful;
         opened = s.opened;
       },
@@ -92,10 +92,10 @@ record Apart (views after : List (List SeatedPort)) (x : SeatedPort) : Type 0 wh
   e : List SeatedPort
   now : flatten views ≡ b ++ x ∷ a
   less : b ++ a ≡ d ++ e
-  then : flatten after ≡ d ++ x ∷ e
+  renewed : flatten after ≡ d ++ x ∷ e
 
 apart : (views : List (List SeatedPort)) (id other : ℕ) (v : List SeatedPort) (x : SeatedPort) → get_elem? views id ≡ some v → (other ≡ id → ⊥) →
-    get_elem? (set views id (v ++ x ∷ [])) other ≡ some (x ∷ []) → Apart views (set (set views id (v ++ x ∷ [])) other []) x
+    get_elem? (slice_set views id (v ++ x ∷ [])) other ≡ some (x ∷ []) → Apart views (slice_set (slice_set views id (v ++ x ∷ [])) other []) x
 apart [] id other v x e ne g = absurd (some-ne-none v (sym e))
 apart (u ∷ us) zero zero v x e ne g = absurd (ne refl)
 apart (u ∷ us) zero (suc other) v x e ne g =
@@ -108,7 +108,7 @@ apart (u ∷ us) zero (suc other) v x e ne g =
       e = r.before ++ r.behind;
       now = ap (λ w. w ++ flatten us) is ∙ ap (λ l. v ++ l) r.now ∙ sym (append_assoc v r.before (x ∷ r.behind));
       less = append_assoc v r.before r.behind;
-      then = ap (λ l. (v ++ x ∷ []) ++ l) (r.then []) ∙ append_assoc v (x ∷ []) (r.before ++ r.behind);
+      renewed = ap (λ l. (v ++ x ∷ []) ++ l) (r.renewed []) ∙ append_assoc v (x ∷ []) (r.before ++ r.behind);
     }
 apart (u ∷ us) (suc id) zero v x e ne g =
     let r = around us id v e in
@@ -120,7 +120,7 @@ apart (u ∷ us) (suc id) zero v x e ne g =
       e = r.behind;
       now = ap (λ w. w ++ flatten us) is;
       less = r.now ∙ sym (append_assoc r.before v r.behind);
-      then = r.then (v ++ x ∷ []) ∙ ap (λ l. r.before ++ l) (append_assoc v (x ∷ []) r.behind) ∙ sym (append_assoc r.before v (x ∷ r.behind));
+      renewed = r.renewed (v ++ x ∷ []) ∙ ap (λ l. r.before ++ l) (append_assoc v (x ∷ []) r.behind) ∙ sym (append_assoc r.before v (x ∷ r.behind));
     }
 apart (u ∷ us) (suc id) (suc other) v x e ne g =
     let r = apart us id other v x e (λ h. ne (ap suc h)) g in
@@ -131,7 +131,7 @@ apart (u ∷ us) (suc id) (suc other) v x e ne g =
       e = r.e;
       now = ap (λ l. u ++ l) r.now ∙ sym (append_assoc u r.b (x ∷ r.a));
       less = append_assoc u r.b r.a ∙ ap (λ l. u ++ l) r.less ∙ sym (append_assoc u r.d r.e);
-      then = ap (λ l. u ++ l) r.then ∙ sym (append_assoc u r.d (x ∷ r.e));
+      renewed = ap (λ l. u ++ l) r.renewed ∙ sym (append_assoc u r.d (x ∷ r.e));
     }
 
 -- a seat may take in the one port of another
@@ -139,4 +139,4 @@ pub gathers : {S : Type 0} (about : About) (id : ℕ) (v : List SeatedPort) (oth
 gathers {S} about id v other w x one = subst (λ u. Joins {S = S} (IsRuleKept about) id v other u (v ++ u) []) (sym one) (λ s kept at ne there.
     let r = apart s.views id other v x at ne there in
     let put = put_elsewhere r.b x r.a r.d r.e kept.all r.less (subst (λ l. IsShuffle l kept.all) r.now kept.shuffle) in
-    reordered about s (set (set s.views id (v ++ x ∷ [])) other []) kept (subst (λ l. IsShuffle l kept.all) (sym r.then) put))
+    reordered about s (slice_set (slice_set s.views id (v ++ x ∷ [])) other []) kept (subst (λ l. IsShuffle l kept.all) (sym r.renewed) put))

@@ -1,5 +1,5 @@
 -- A memory that opens with the values of a closed one goes on where its history ended.
-use Rattle.partial_memory.proofs.Common.{ℕ, zero, suc, ◌≡◌, ◌-◌, ◌<◌, ◌≤◌, ◌++◌, Bool, cond, List, [], ◌∷◌, length, get_or, replicate, take, slice_index, refl, sym, ◌∙◌, ap, inl, inr, Option, Some, None, arith, AllByRecursion, ne_eqb, cases_lt, get_or_past, take_all, Applied, Opening, AreValues, ClosedMemoriesContinue, extended_values, with_zeros}
+use Rattle.partial_memory.proofs.Common.{ℕ, zero, suc, ◌≡◌, ◌-◌, ◌<◌, ◌≤◌, ◌++◌, Bool, if◌then◌else◌, List, [], ◌∷◌, length, replicate, take, slice_index, refl, sym, ◌∙◌, ap, inl, inr, Option, Some, None, arith, AllByRecursion, ne_eqb, cases_lt, get_or_past, take_all, Applied, Opening, AreValues, ClosedMemoriesContinue, extended_values, with_zeros}
 use Rattle.std.specs.Option.{option_map_or}
 use Rattle.partial_model.proofs.HistoryLemmas.{behind_both}
 use Rattle.partial_model.specs.History.{IsHistory, last_from, last_entry, value_of}
@@ -23,15 +23,15 @@ unfolding last_from
 none_there m j [] past all = refl
 none_there m j (e ∷ log) past all =
     let other : e.component ≡ j → ⊥ = λ same. absurd (omega (arith, past, all.0, same)) in
-    ap (λ (b : Bool). last_from (cond b (Some e) None) j log) (ne_eqb e.component j other) ∙ none_there m j log past all.1
+    ap (λ (b : Bool). last_from (if b then Some e else None) j log) (ne_eqb e.component j other) ∙ none_there m j log past all.1
 
 -- zeros behind a list change no element of it that is asked for, since one that isn't there counts as 0
-zeros : (k j : ℕ) → ◌≡◌ {A = ℕ} (get_or (replicate k 0) j 0) 0
+zeros : (k j : ℕ) → ◌≡◌ {A = ℕ} (slice_index (replicate k 0) j) 0
 zeros zero j = refl
 zeros (suc k) zero = refl
 zeros (suc k) (suc j) = zeros k j
 
-zeros_behind : (values : List ℕ) (k j : ℕ) → get_or (values ++ replicate k 0) j 0 ≡ get_or values j 0
+zeros_behind : (values : List ℕ) (k j : ℕ) → slice_index (values ++ replicate k 0) j ≡ slice_index values j
 zeros_behind [] k j = zeros k j
 zeros_behind (v ∷ values) k zero = refl
 zeros_behind (v ∷ values) k (suc j) = zeros_behind values k j

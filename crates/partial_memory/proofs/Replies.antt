@@ -1,5 +1,5 @@
 -- What a call that has ended leaves of its port, by its reply.
-use Rattle.partial_memory.proofs.{Common.{ℕ, ◌≡◌, ◌≤◌, ◌<◌, ◌+◌, ◌++◌, ◌||◌, false, cond, Option, Some, None, List, [], ◌∷◌, length, map, slice_index, refl, sym, ap, subst, ◌∙◌, arith, inr, Result, Err, IfOk, IfErr, ne_eqb, TableId, Call, Refused, Finished, ReadBegun, ScanBegun, CoreState, at_stage, reply_of, scanned_values, answer_for, begin_scan, begun_of, call_of, core_scan_refusal, core_update_refusal, IsRefusedBy, refuses_pool, refuses_slots, KeptAnswer, answers_of, core_of, AreNotesOf, IsNoteOf, IsPlacedAt, IsRefusal, made_calls_make_their_steps, Layout, IsLayout, greatest_record, pool_end, About, scan_reply, SeatedPort, one_in, CallMade, CallEnded, PortView, port_view, refusal, IsResting, Knows, Goes, CountsSteps, Answered, IsPastEnd, RefusedLate, IsRefused, is_pool, is_slots, Updates, UpdatesIf, Reads, Scans, Ok, Note, LegalNotes-last, Noted, LegalNotes, Reply, run_sizes, BeganAs, IsLed, IsLedToAnswer, IsLedToRefusal, IsLedWhereLate, ScanIsLed, ScansLed}, Resting.{CallBegins, call_begins, read_begins, scan_begins}}
+use Rattle.partial_memory.proofs.{Common.{ℕ, ◌≡◌, ◌≤◌, ◌<◌, ◌+◌, ◌++◌, ◌||◌, false, if◌then◌else◌, Option, Some, None, List, [], ◌∷◌, length, map, slice_index, refl, sym, ap, subst, ◌∙◌, arith, inr, Result, Err, IfOk, IfErr, ne_eqb, TableId, Call, Refused, Finished, ReadBegun, ScanBegun, CoreState, at_stage, reply_of, scanned_values, answer_for, begin_scan, begun_of, call_of, core_scan_refusal, core_update_refusal, IsRefusedBy, refuses_pool, refuses_slots, KeptAnswer, answers_of, core_of, AreNotesOf, IsNoteOf, IsPlacedAt, IsRefusal, made_calls_make_their_steps, Layout, IsLayout, greatest_record, pool_end, About, scan_reply, SeatedPort, one_in, CallMade, CallEnded, PortView, port_view, refusal, IsResting, Knows, Goes, CountsSteps, Answered, IsPastEnd, RefusedLate, IsRefused, is_pool, is_slots, Updates, UpdatesIf, Reads, Scans, Ok, Note, LegalNotes-last, Noted, LegalNotes, Reply, run_sizes, BeganAs, IsLed, IsLedToAnswer, IsLedToRefusal, IsLedWhereLate, ScanIsLed, ScansLed}, Resting.{CallBegins, call_begins, read_begins, scan_begins}}
 use Rattle.partial_model.specs.declared.call.Answer.{Answer}
 use Rattle.partial_model.specs.Notes.{Fits as NoteFits, MayBeRefused}
 use Rattle.partial_embedded.specs.Embedded.{RowsState}
@@ -300,7 +300,7 @@ module _ (views : List (List SeatedPort)) (core : CoreState) (number : ℕ) (w :
       ScanTold p which e.machine s (port_view t' y)
   scan_ended which served some none is s told =
       let begins = scan_begins views core number w t b which served some none is in
-      let stage : b.stage ≡ ScanBegun = ap (λ (d : CoreState). d.stage) is ∙ ap (λ f. cond f (Finished (Reply.Scanned 0 None)) ScanBegun) (ne_eqb (length which) 0 some) in
+      let stage : b.stage ≡ ScanBegun = ap (λ (d : CoreState). d.stage) is ∙ ap (λ f. if f then Finished (Reply.Scanned 0 None) else ScanBegun) (ne_eqb (length which) 0 some) in
       seen_as (λ a z. ScanTold a which e.machine s z) (scan_told t b (one_in views) e.machine y e.made which begins stage (ap (λ (d : CoreState). d.asked) is) s (e.replies ∙ ap Some told))
 
 -- the values that a scan copied are those of the machine that replied

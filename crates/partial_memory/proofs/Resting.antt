@@ -1,5 +1,5 @@
 -- A port between two calls: how it begins one, and that it is between two again once that has ended.
-use Rattle.partial_memory.proofs.Common.{ℕ, ◌≡◌, ◌≤◌, ◌<◌, ◌==◌, true, false, cond, Some, None, List, [], ◌∷◌, length, refl, sym, ap, subst, ◌∙◌, is_some, ne_eqb, lt-ltb, TableId, Call, Layout, IsLayout, Finished, ReadBegun, ScanBegun, CoreState, at_stage, IsServed, begin_scan, begun_of, call_of, makes_steps, refusal_of, core_scan_refusal, calls_begin, IsMarkedLike, core_of, port_of, FitsHistory, calls_begin_between, ports_come_between, About, SeatedPort, IsBadgeOfOne, AreByOpened, one_in, Begins, CallEnded, IsOf, IsResting, MemoryView, PortView, port_view, refusal, Reply, asking_machine, scan_asked, Refused}
+use Rattle.partial_memory.proofs.Common.{ℕ, ◌≡◌, ◌≤◌, ◌<◌, ◌==◌, true, false, if◌then◌else◌, Some, None, List, [], ◌∷◌, length, refl, sym, ap, subst, ◌∙◌, is_some, ne_eqb, lt-ltb, TableId, Call, Layout, IsLayout, Finished, ReadBegun, ScanBegun, CoreState, at_stage, IsServed, begin_scan, begun_of, call_of, makes_steps, refusal_of, core_scan_refusal, calls_begin, IsMarkedLike, core_of, port_of, FitsHistory, calls_begin_between, ports_come_between, About, SeatedPort, IsBadgeOfOne, AreByOpened, one_in, Begins, CallEnded, IsOf, IsResting, MemoryView, PortView, port_view, refusal, Reply, asking_machine, scan_asked, Refused}
 use Rattle.partial_model.specs.Refusals.{refusal_at_once}
 
 -- a call that a port begins
@@ -39,7 +39,7 @@ module _ (views : List (List SeatedPort)) (core : CoreState) (number : ℕ) (w :
 
 -- a read of a component that is there
 below_none : (s : CoreState) (j : ℕ) → j < s.sizes.m → refusal_of s (Call.Read j) ≡ None
-below_none s j below = ap (λ b. cond b None (Some Refused.Component)) (lt-ltb j s.sizes.m below)
+below_none s j below = ap (λ b. if b then None else Some Refused.Component) (lt-ltb j s.sizes.m below)
 
 pub read_begins : (views : List (List SeatedPort)) (core : CoreState) (number : ℕ) → IsResting views core number → (t : TableId) (b : CoreState) (j : ℕ) → j < core.sizes.m →
     b ≡ at_stage core (ReadBegun j) → CallBegins t (one_in views) b (Call.Read j)
@@ -53,7 +53,7 @@ some_positions (j ∷ js) some = refl
 pub asked_begins : (core : CoreState) (which : List ℕ) → (length which ≡ 0 → ⊥) → scan_asked core which ≡ begin_scan core which
 asked_begins core which some =
     let begins : (length which == 0) ≡ false = ne_eqb (length which) 0 some in
-    sym (ap (λ b. at_stage (asking_machine core which) (cond b (Finished (Reply.Scanned 0 None)) ScanBegun)) begins)
+    sym (ap (λ b. at_stage (asking_machine core which) (if b then Finished (Reply.Scanned 0 None) else ScanBegun)) begins)
 
 pub scan_begins : (views : List (List SeatedPort)) (core : CoreState) (number : ℕ) → IsResting views core number → (t : TableId) (b : CoreState) (which : List ℕ) → length which ≤ core.sizes.m →
     (length which ≡ 0 → ⊥) →

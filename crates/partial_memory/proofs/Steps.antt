@@ -1,5 +1,5 @@
 -- Each step that is due is allowed: whatever the table is then, the words and the ports of all seats stay those of a lawful state.
-use Rattle.partial_memory.proofs.{Common.{ℕ, zero, suc, ◌≡◌, ◌+◌, ◌<◌, ◌==◌, ◌%◌, ◌^◌, ◌++◌, Bool, true, false, cond, Some, List, [], ◌∷◌, map, get_or, set, refl, sym, ap, subst, ◌∙◌, arith, AllByRecursion, some, get_elem?, Me, keeps, Allows, Applied, Step, Load, Store, Exchange, Add, word_of, answer_of, words_after, CoreState, step_of, all_at, all_join, all_before, all_after, Part, IsMachineOf, port_of, Lawful, LeadsOn, added_by, steps_stay_lawful, lawful_ports_fit, lawful_machines_are_ready, About, SeatedPort, AreOpened, AreByOpened, Told, IsRuleKept, IsShuffle, IsOne, one_of, parts_of, makes, Contains, set-get_or}, Shuffles.find, Views.around}
+use Rattle.partial_memory.proofs.{Common.{ℕ, zero, suc, ◌≡◌, ◌+◌, ◌<◌, ◌==◌, ◌%◌, ◌^◌, ◌++◌, Bool, true, false, if◌then◌else◌, Some, List, [], ◌∷◌, map, slice_index, slice_set, refl, sym, ap, subst, ◌∙◌, arith, AllByRecursion, some, get_elem?, Me, keeps, Allows, Applied, Step, Load, Store, Exchange, Add, word_of, answer_of, words_after, CoreState, step_of, all_at, all_join, all_before, all_after, Part, IsMachineOf, port_of, Lawful, LeadsOn, added_by, steps_stay_lawful, lawful_ports_fit, lawful_machines_are_ready, About, SeatedPort, AreOpened, AreByOpened, Told, IsRuleKept, IsShuffle, IsOne, one_of, parts_of, makes, Contains, set-get_or}, Shuffles.find, Views.around}
 use prog.Atomic.{either}
 use Rattle.partial_core.specs.{Lawful.LawfulAmong, Part.PartAmong}
 
@@ -25,18 +25,18 @@ parts_split (b ∷ before) x after = ap (λ l. b.part ∷ l) (parts_split before
 abbrev pub among : List ℕ → List SeatedPort → SeatedPort → List SeatedPort → List Applied → PartAmong
 among words before x after log = record { words = words; before = parts_of before; part = x.part; after = parts_of after; log = log }
 
-either_cond : (b : Bool) (x y : ℕ) → either b x y ≡ cond b x y
+either_cond : (b : Bool) (x y : ℕ) → either b x y ≡ (if b then x else y)
 either_cond true x y = refl
 either_cond false x y = refl
 
 -- a step does the same to the words of a table and to plain words
-words_then : (words : List ℕ) (s : Step) → words_after words s ≡ set words (word_of s) (change_of s (get_or words (word_of s) 0))
+words_then : (words : List ℕ) (s : Step) → words_after words s ≡ slice_set words (word_of s) (change_of s (slice_index words (word_of s)))
 words_then words (Load w) = sym (set-get_or words w 0)
 words_then words (Store w v) = refl
-words_then words (Exchange w old new) = ap (set words w) (sym (either_cond (get_or words w 0 == old) new (get_or words w 0)))
+words_then words (Exchange w old new) = ap (slice_set words w) (sym (either_cond (slice_index words w == old) new (slice_index words w)))
 words_then words (Add w k) = refl
 
-told_then : (words : List ℕ) (s : Step) → answer_of words s ≡ told_of s (get_or words (word_of s) 0)
+told_then : (words : List ℕ) (s : Step) → answer_of words s ≡ told_of s (slice_index words (word_of s))
 told_then words (Load w) = refl
 told_then words (Store w v) = refl
 told_then words (Exchange w old new) = refl
@@ -113,7 +113,7 @@ step_kept {S} slots id me c s one machine due table kept homes at small =
       record {
         log = log;
         all = f.before ++ y ∷ f.after;
-        shuffle = subst (λ l. IsShuffle l (f.before ++ y ∷ f.after)) (sym (r.then (y ∷ []))) (f.more y);
+        shuffle = subst (λ l. IsShuffle l (f.before ++ y ∷ f.after)) (sym (r.renewed (y ∷ []))) (f.more y);
         lawful = subst (λ l. Lawful x.about.sizes x.about.opening l (parts_of (f.before ++ y ∷ f.after)) log) (words_then table.words s)
             (lawful_then table.words f.before x f.after kept.log c s w opened machine due);
         opened = opened_then table.words f.before x f.after kept.log c s w opened machine due;

@@ -1,5 +1,5 @@
 -- What holds of all elements of a list.
-use Rattle.partial_model.proofs.Common.{ℕ, zero, suc, ◌≡◌, ◌<◌, ◌++◌, List, [], ◌∷◌, Some, slice_get, length, map, take, get_or, refl, arith, AllByRecursion}
+use Rattle.partial_model.proofs.Common.{ℕ, zero, suc, ◌≡◌, ◌<◌, ◌++◌, List, [], ◌∷◌, Some, slice_get, length, map, take, slice_index, refl, arith, AllByRecursion}
 
 -- one element in the middle
 module _ {A : Type 0} (P : A → Type 0) where
@@ -51,7 +51,7 @@ all_where P [] f = tt
 all_where P (x ∷ h) f = (f 0 x refl, all_where P h (λ k e s. f (suc k) e s))
 
 -- what holds of all numbers holds of each
-pub position_below : (xs : List ℕ) (n k : ℕ) → AllByRecursion (λ j. j < n) xs → k < length xs → get_or xs k 0 < n
+pub position_below : (xs : List ℕ) (n k : ℕ) → AllByRecursion (λ j. j < n) xs → k < length xs → slice_index xs k < n
 position_below [] n k all within = absurd (omega arith)
 position_below (x ∷ xs) n zero all within = all.0
 position_below (x ∷ xs) n (suc k) all within = position_below xs n k all.1 (omega (arith, within))

@@ -1,5 +1,5 @@
 -- The names that several proofs of this crate take from elsewhere.
-pub use Rattle.std.proofs.Common.{ℕ, zero, suc, ◌≡◌, ◌<◌, ◌++◌, List, [], ◌∷◌, Some, slice_get, length, map, take, get_or, refl, arith, ◌≢◌, ◌+◌, ◌-◌, ◌*◌, ◌/◌, ◌%◌, ◌≤◌, inl, inr, ◌==◌, nat_le, nat_lt, Bool, true, false, not, ◌&&◌, ◌||◌, drop, sym, ap, ◌∙◌, subst, Decides, Contains, Option, None, IfSome, IsSome, IsSomeAnd, cond, ◌⊎◌, nat_eq, ltb, is_some, append_assoc, append-nil, filter, filter_map, slice_index, MatchOption, rules, length-append}
+pub use Rattle.std.proofs.Common.{ℕ, zero, suc, ◌≡◌, ◌<◌, ◌++◌, List, [], ◌∷◌, Some, slice_get, length, map, take, slice_index_or, refl, arith, ◌≢◌, ◌+◌, ◌-◌, ◌*◌, ◌/◌, ◌%◌, ◌≤◌, inl, inr, ◌==◌, nat_le, nat_lt, Bool, true, false, not, ◌&&◌, ◌||◌, drop, sym, ap, ◌∙◌, subst, Decides, Contains, Option, None, IfSome, IsSome, IsSomeAnd, if◌then◌else◌, ◌⊎◌, nat_eq, is_some, append_assoc, append-nil, filter, filter_map, slice_index, MatchOption, rules, length-append}
 pub use Rattle.std.specs.{List.{AllByRecursion, list_all, list_any}, Option.{option_map_or, is_none, option_map}}
 pub use Rattle.std.proofs.lemmas.{Bool.{true≢false, or_cases, ltb-true, lt-ltb, leb-true, le-leb, eq-eqb, eqb-true, ne_eqb, cases_lt, lt-leb, ltb-false, false_from_ne_true, cases_eq}, List.{take_more, take_all, get_or_push, take-append-le, drop_more, length-set}, Option.{slice_get_past, get_or_from_slice_get, slice_get_within, slice_get-get_or}}
 pub use Rattle.std.proofs.lemmas.Bool.Decides.{Decides-and, Decides-or, Decides-not, Decides-like, Decides-eqb, Decides-by_or, eqb_tells, same_from_decides, Decides-at}

@@ -1,11 +1,11 @@
 -- The entries of a port in a history are the updates of its notes; and what holds of its places and entries.
-use Rattle.partial_model.proofs.{Common.{ℕ, zero, suc, ◌≡◌, ◌+◌, ◌==◌, ◌++◌, Bool, true, false, cond, List, [], ◌∷◌, map, get_or, refl, sym, ◌∙◌, ap, subst, Option, Some, None, slice_get, arith, ◌≤◌, Contains, AllByRecursion, get_or_from_slice_get, eq-eqb, eqb-true, Applied, Opening, Call, Answer, Note, Noted, IsTrueOf, IsLegal, LegalNotes, seen_after, wrote, places_by, places_written, EachOnce, EntriesAreNoted, entries_by, entry_of, applied_by, All-contains, All-contains_itself, All-from_recursion, recursion_from_All}, AllLemmas.all_weaker}
+use Rattle.partial_model.proofs.{Common.{ℕ, zero, suc, ◌≡◌, ◌+◌, ◌==◌, ◌++◌, Bool, true, false, if◌then◌else◌, List, [], ◌∷◌, map, slice_index_or, refl, sym, ◌∙◌, ap, subst, Option, Some, None, slice_get, arith, ◌≤◌, Contains, AllByRecursion, get_or_from_slice_get, eq-eqb, eqb-true, Applied, Opening, Call, Answer, Note, Noted, IsTrueOf, IsLegal, LegalNotes, seen_after, wrote, places_by, places_written, EachOnce, EntriesAreNoted, entries_by, entry_of, applied_by, All-contains, All-contains_itself, All-from_recursion, recursion_from_All}, AllLemmas.all_weaker}
 
 -- the function f gives the entry at each place of the list, whose first entry stands at place k
 abbrev pub GivesEntries : (ℕ → Applied) → ℕ → List Applied → Type 0
 GivesEntries f k t = (i : ℕ) (e : Applied) → slice_get t i ≡ Some e → f (k + i) ≡ e
 
-keep : (b : Bool) (f : ℕ → Applied) (k : ℕ) (e : Applied) (es : List Applied) (ks : List ℕ) → f k ≡ e → es ≡ map f ks → cond b (e ∷ es) es ≡ map f (cond b (k ∷ ks) ks)
+keep : (b : Bool) (f : ℕ → Applied) (k : ℕ) (e : Applied) (es : List Applied) (ks : List ℕ) → f k ≡ e → es ≡ map f ks → (if b then e ∷ es else es) ≡ map f (if b then k ∷ ks else ks)
 keep true f k e es ks x y = cc
 keep false f k e es ks x y = y
 
@@ -46,7 +46,7 @@ module _ (o : Opening) (h : List Applied) (p : ℕ) (f : ℕ → Applied) (at : 
 pub entries_are_noted : EntriesAreNoted
 entries_are_noted o h p ns legal once =
     let none : Applied = record { port = 0; component = 0; value = 0; stamp = 0 } in
-    let f : ℕ → Applied = λ i. get_or h i none in
+    let f : ℕ → Applied = λ i. slice_index_or h i none in
     let at : (i : ℕ) (e : Applied) → slice_get h i ≡ Some e → f i ≡ e = λ i e s. get_or_from_slice_get h i e none s in
     at_places p 0 f h (λ i e s. from_zero f i e (at i e s)) ∙ ap (map f) once ∙ sym (noted_places o h p f at 0 ns legal)
   where
@@ -55,11 +55,11 @@ entries_are_noted o h p ns legal once =
 
 -- the head and the tail of a list whose head may be left out
 module _ {A : Type 0} (P : A → Type 0) where
-  tail_holds : (b : Bool) (x : A) (xs : List A) → AllByRecursion P (cond b (x ∷ xs) xs) → AllByRecursion P xs
+  tail_holds : (b : Bool) (x : A) (xs : List A) → AllByRecursion P (if b then x ∷ xs else xs) → AllByRecursion P xs
   tail_holds true x xs w = w.1
   tail_holds false x xs w = w
 
-  head_holds : (b : Bool) (x : A) (xs : List A) → b ≡ true → AllByRecursion P (cond b (x ∷ xs) xs) → P x
+  head_holds : (b : Bool) (x : A) (xs : List A) → b ≡ true → AllByRecursion P (if b then x ∷ xs else xs) → P x
   head_holds true x xs is w = w.0
   head_holds false x xs is w = absurd cc
 
@@ -100,7 +100,7 @@ written_at h p ns k e once s by =
 abbrev pub IsPlaceOf : ℕ → ℕ → List Applied → ℕ → Type 0
 IsPlaceOf p k t n = (k ≤ n) × ((i : ℕ) (e : Applied) → n ≡ k + i → slice_get t i ≡ Some e → e.port ≡ p)
 
-join_holds : (P : ℕ → Type 0) (b : Bool) (k : ℕ) (ks : List ℕ) → (b ≡ true → P k) → AllByRecursion P ks → AllByRecursion P (cond b (k ∷ ks) ks)
+join_holds : (P : ℕ → Type 0) (b : Bool) (k : ℕ) (ks : List ℕ) → (b ≡ true → P k) → AllByRecursion P ks → AllByRecursion P (if b then k ∷ ks else ks)
 join_holds P true k ks here rest = (here refl, rest)
 join_holds P false k ks here rest = rest
 

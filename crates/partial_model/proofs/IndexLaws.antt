@@ -1,8 +1,8 @@
 -- An index of a history: what one entry more leaves of it, and what is looked up in it.
-use Rattle.partial_model.proofs.{Common.{ℕ, zero, suc, ◌≡◌, ◌≢◌, ◌+◌, ◌-◌, ◌<◌, ◌≤◌, ◌⊎◌, inl, inr, ◌==◌, nat_eq, nat_le, ltb, true, false, cond, ◌&&◌, List, [], ◌∷◌, ◌++◌, length, take, drop, get_or, slice_get, refl, sym, ap, ◌∙◌, subst, Contains, Option, Some, None, is_some, arith, list_any, le-leb, lt-leb, ltb-true, ltb-false, false_from_ne_true, cases_lt, cases_eq, eq-eqb, ne_eqb, Decides-and, Decides-like, same_from_decides, get_or_push, take_more, slice_get_within, slice_get-get_or, get_or_from_slice_get, Applied, HaveDistinctStamps, last_entry, are_distinct, shows_stamp, ArePlacesOf, AreStampsOf, AreListsOf, list_at, length-append}, AllLemmas.all_where, ListLemmas.some_same, CheckLaws.{Decides-are_distinct, Decides-contains_number, Decides-shows_stamp}, Decisions.Decides-nat_le, HistoryLemmas.{last_entry-nil, last_from-push}, NotesLemmas.AllByRecursion-get}
+use Rattle.partial_model.proofs.{Common.{ℕ, zero, suc, ◌≡◌, ◌≢◌, ◌+◌, ◌-◌, ◌<◌, ◌≤◌, ◌⊎◌, inl, inr, ◌==◌, nat_eq, nat_le, nat_lt, true, false, if◌then◌else◌, ◌&&◌, List, [], ◌∷◌, ◌++◌, length, take, drop, slice_index_or, slice_index, slice_get, refl, sym, ap, ◌∙◌, subst, Contains, Option, Some, None, is_some, arith, list_any, le-leb, lt-leb, ltb-true, ltb-false, false_from_ne_true, cases_lt, cases_eq, eq-eqb, ne_eqb, Decides-and, Decides-like, same_from_decides, get_or_push, take_more, slice_get_within, slice_get-get_or, get_or_from_slice_get, Applied, HaveDistinctStamps, last_entry, are_distinct, shows_stamp, ArePlacesOf, AreStampsOf, AreListsOf, list_at, length-append}, AllLemmas.all_where, ListLemmas.some_same, CheckLaws.{Decides-are_distinct, Decides-contains_number, Decides-shows_stamp}, Decisions.Decides-nat_le, HistoryLemmas.{last_entry-nil, last_from-push}, NotesLemmas.AllByRecursion-get}
 use Rattle.std.specs.Global.{Vec}
-use Rattle.std.specs.List.Sorted.{IsPartitionPoint}
-use Rattle.std.proofs.Math.ListN.{set, get_or-append}
+use Rattle.std.specs.{List.Sorted.IsPartitionPoint, Prelude.slice_set}
+use Rattle.std.proofs.Math.ListN.{get_or-append}
 
 -- ---- the places of a component's entries
 
@@ -14,7 +14,7 @@ no_places h j = record {
   rises = λ a b le w. absurd (omega arith);
 }
 
-pushed : (ls : List ℕ) (n a : ℕ) → a < length (ls ++ n ∷ []) → ((a < length ls) × (get_or (ls ++ n ∷ []) a 0 ≡ get_or ls a 0)) ⊎ ((a ≡ length ls) × (get_or (ls ++ n ∷ []) a 0 ≡ n))
+pushed : (ls : List ℕ) (n a : ℕ) → a < length (ls ++ n ∷ []) → ((a < length ls) × (slice_index (ls ++ n ∷ []) a ≡ slice_index ls a)) ⊎ ((a ≡ length ls) × (slice_index (ls ++ n ∷ []) a ≡ n))
 pushed ls n a w =
     let more : length (ls ++ n ∷ []) ≡ length ls + 1 = length-append ls (n ∷ []) in
     elim (cases_lt a (length ls)) [
@@ -68,26 +68,26 @@ places_kept h n j ls e w s other = record {
 }
 
 -- one entry more, for another component and for this one
-passed : (h : List Applied) (j n : ℕ) (d : Applied) → n < length h → (get_or h n d).component ≢ j → last_entry j (take (suc n) h) ≡ last_entry j (take n h)
+passed : (h : List Applied) (j n : ℕ) (d : Applied) → n < length h → (slice_index_or h n d).component ≢ j → last_entry j (take (suc n) h) ≡ last_entry j (take n h)
 passed h j n d within other =
-    let e : Applied = get_or h n d in
+    let e : Applied = slice_index_or h n d in
     let one : suc n ≡ n + 1 = omega arith in
     ap (λ k. last_entry j (take k h)) one ∙ ap (last_entry j) (take_more h n d within) ∙ last_from-push None j (take n h) e ∙
-    ap (λ b. cond b (Some e) (last_entry j (take n h))) (ne_eqb e.component j other)
+    ap (λ b. if b then Some e else last_entry j (take n h)) (ne_eqb e.component j other)
 
-found : (h : List Applied) (j n : ℕ) (d : Applied) → n < length h → (get_or h n d).component ≡ j → last_entry j (take (suc n) h) ≡ Some (get_or h n d)
+found : (h : List Applied) (j n : ℕ) (d : Applied) → n < length h → (slice_index_or h n d).component ≡ j → last_entry j (take (suc n) h) ≡ Some (slice_index_or h n d)
 found h j n d within same =
-    let e : Applied = get_or h n d in
+    let e : Applied = slice_index_or h n d in
     let one : suc n ≡ n + 1 = omega arith in
     ap (λ k. last_entry j (take k h)) one ∙ ap (last_entry j) (take_more h n d within) ∙ last_from-push None j (take n h) e ∙
-    ap (λ b. cond b (Some e) (last_entry j (take n h))) (eq-eqb e.component j same)
+    ap (λ b. if b then Some e else last_entry j (take n h)) (eq-eqb e.component j same)
 
 -- no entry of the first n is for the component
 none_for : (h : List Applied) (j n : ℕ) → n ≤ length h → ((k : ℕ) (e : Applied) → k < n → slice_get h k ≡ Some e → e.component ≢ j) → last_entry j (take n h) ≡ None
 none_for h j zero within none = last_entry-nil j
 none_for [] j (suc n) within none = absurd (omega arith)
 none_for (x ∷ h) j (suc n) within none =
-    let e : Applied = get_or (x ∷ h) n x in
+    let e : Applied = slice_index_or (x ∷ h) n x in
     let at : slice_get (x ∷ h) n ≡ Some e = slice_get-get_or (x ∷ h) n x (omega arith) in
     passed (x ∷ h) j n x (omega arith) (none n e (omega arith) at) ∙ none_for (x ∷ h) j n (omega arith) (λ k f lt s. none k f (omega arith) s)
 
@@ -98,24 +98,24 @@ last_for h j p e zero within below s is none = absurd (omega arith)
 last_for h j p e (suc n) within below s is none =
     elim (cases_lt p n) [
       | inl before ↦
-          let at : slice_get h n ≡ Some (get_or h n e) = slice_get-get_or h n e (omega arith) in
-          passed h j n e (omega arith) (none n (get_or h n e) before (omega arith) at) ∙ last_for h j p e n (omega arith) before s is (λ k f up lt t. none k f up (omega arith) t)
+          let at : slice_get h n ≡ Some (slice_index_or h n e) = slice_get-get_or h n e (omega arith) in
+          passed h j n e (omega arith) (none n (slice_index_or h n e) before (omega arith) at) ∙ last_for h j p e n (omega arith) before s is (λ k f up lt t. none k f up (omega arith) t)
       | inr le ↦
           let same : p ≡ n = omega arith in
-          let entry : get_or h n e ≡ e = get_or_from_slice_get h n e e (ap (slice_get h) (sym same) ∙ s) in
+          let entry : slice_index_or h n e ≡ e = get_or_from_slice_get h n e e (ap (slice_get h) (sym same) ∙ s) in
           found h j n e (omega arith) (ap (λ (x : Applied). x.component) entry ∙ is) ∙ ap (λ (x : Applied). Some x) entry
     ]
 
 -- i of the places lie below n
 pub record Parts (ls : List ℕ) (i n : ℕ) : Type 0 where
-  pub below : (a : ℕ) → a < i → get_or ls a 0 < n
-  pub behind : (a : ℕ) → i ≤ a → a < length ls → n ≤ get_or ls a 0
+  pub below : (a : ℕ) → a < i → slice_index ls a < n
+  pub behind : (a : ℕ) → i ≤ a → a < length ls → n ≤ slice_index ls a
 
 -- what a binary search in the places answers
-pub parts_at : (ls : List ℕ) (i n : ℕ) → IsPartitionPoint (λ y. ltb y n ≡ true) (λ y. ltb y n ≡ false) ls i → Parts ls i n
+pub parts_at : (ls : List ℕ) (i n : ℕ) → IsPartitionPoint (λ y. nat_lt y n ≡ true) (λ y. nat_lt y n ≡ false) ls i → Parts ls i n
 parts_at ls i n point = record {
-  below = λ a lt. ltb-true (get_or ls a 0) n (point.0 a 0 (omega arith) lt);
-  behind = λ a le lt. ltb-false (get_or ls a 0) n (point.1 a 0 le lt);
+  below = λ a lt. ltb-true (slice_index ls a) n (point.0 a 0 (omega arith) lt);
+  behind = λ a le lt. ltb-false (slice_index ls a) n (point.1 a 0 le lt);
 }
 
 pub nothing_last : (h : List Applied) (j n : ℕ) (ls : List ℕ) → ArePlacesOf h (length h) j ls → Parts ls 0 n → n ≤ length h → last_entry j (take n h) ≡ None
@@ -127,11 +127,11 @@ nothing_last h j n ls w parts within =
     omega arith)
 
 pub last_listed : (h : List Applied) (j n i : ℕ) (ls : List ℕ) (d : Applied) → ArePlacesOf h (length h) j ls → Parts ls i n → n ≤ length h → 0 < i → i ≤ length ls →
-    last_entry j (take n h) ≡ Some (get_or h (get_or ls (i - 1) 0) d)
+    last_entry j (take n h) ≡ Some (slice_index_or h (slice_index ls (i - 1)) d)
 last_listed h j n i ls d w parts within some le =
-    let p : ℕ = get_or ls (i - 1) 0 in
+    let p : ℕ = slice_index ls (i - 1) in
     let at = w.stands (i - 1) (omega arith) in
-    let entry : get_or h p d ≡ at.0 = get_or_from_slice_get h p (at.0) d at.1 in
+    let entry : slice_index_or h p d ≡ at.0 = get_or_from_slice_get h p (at.0) d at.1 in
     last_for h j p (at.0) n within (parts.below (i - 1) (omega arith)) at.1 at.2 (λ k f up lt s is.
     let there = w.whole k f (omega arith) s is in
     let same = there.2 in
@@ -159,7 +159,7 @@ no_stamps h place none = record {
 
 -- a new stamp is one more
 pub stamps_more : (h : List Applied) (n : ℕ) (place more : ℕ → Option ℕ) (e : Applied) → AreStampsOf h n place → slice_get h n ≡ Some e → place e.stamp ≡ None →
-    ((t : ℕ) → more t ≡ cond (nat_eq e.stamp t) (Some n) (place t)) → AreStampsOf h (n + 1) more
+    ((t : ℕ) → more t ≡ (if nat_eq e.stamp t then Some n else place t)) → AreStampsOf h (n + 1) more
 stamps_more h n place more e w s new put = record {
   found = λ k f lt t. elim (cases_lt k n) [
     | inl before ↦ put f.stamp ∙ other e.stamp f.stamp (Some n) (place f.stamp) (λ same.
@@ -180,11 +180,11 @@ stamps_more h n place more e w s new put = record {
   ];
 }
   where
-    own : (a b : ℕ) (x y : Option ℕ) → a ≡ b → cond (nat_eq a b) x y ≡ x
-    own a b x y same = ap (λ c. cond c x y) (eq-eqb a b same)
+    own : (a b : ℕ) (x y : Option ℕ) → a ≡ b → (if nat_eq a b then x else y) ≡ x
+    own a b x y same = ap (λ c. if c then x else y) (eq-eqb a b same)
 
-    other : (a b : ℕ) (x y : Option ℕ) → a ≢ b → cond (nat_eq a b) x y ≡ y
-    other a b x y apart = ap (λ c. cond c x y) (ne_eqb a b apart)
+    other : (a b : ℕ) (x y : Option ℕ) → a ≢ b → (if nat_eq a b then x else y) ≡ y
+    other a b x y apart = ap (λ c. if c then x else y) (ne_eqb a b apart)
 
 -- each stamp stands at one place
 abbrev AtOnePlace : List Applied → Type 0
@@ -234,10 +234,10 @@ shows_nothing h n t js place w none =
     cc)
 
 shows_there : (h : List Applied) (n t k : ℕ) (js : List ℕ) (place : ℕ → Option ℕ) (d : Applied) → AreStampsOf h (length h) place → place t ≡ Some k →
-    shows_stamp js t (drop n h) ≡ (nat_le n k && list_any (λ j. j == (get_or h k d).component) js)
+    shows_stamp js t (drop n h) ≡ (nat_le n k && list_any (λ j. j == (slice_index_or h k d).component) js)
 shows_there h n t k js place d w there =
     let at = w.stands t k there in
-    let e : Applied = get_or h k d in
+    let e : Applied = slice_index_or h k d in
     let same : e ≡ at.0 = get_or_from_slice_get h k (at.0) d at.2 in
     let stands : slice_get h k ≡ Some e = at.2 ∙ ap (λ (x : Applied). Some x) (sym same) in
     let stamp : e.stamp ≡ t = ap (λ (x : Applied). x.stamp) same ∙ at.3 in
@@ -254,18 +254,18 @@ shows_there h n t k js place d w there =
     (Decides-and (nat_le n k) (list_any (λ j. j == e.component) js) (Decides-nat_le n k) (Decides-contains_number js e.component)))
 
 pub shows_late : (h : List Applied) (n t k : ℕ) (js : List ℕ) (place : ℕ → Option ℕ) (d : Applied) → AreStampsOf h (length h) place → place t ≡ Some k → n ≤ k →
-    shows_stamp js t (drop n h) ≡ list_any (λ j. j == (get_or h k d).component) js
+    shows_stamp js t (drop n h) ≡ list_any (λ j. j == (slice_index_or h k d).component) js
 shows_late h n t k js place d w there late =
-    shows_there h n t k js place d w there ∙ ap (λ b. b && list_any (λ j. j == (get_or h k d).component) js) (le-leb n k late)
+    shows_there h n t k js place d w there ∙ ap (λ b. b && list_any (λ j. j == (slice_index_or h k d).component) js) (le-leb n k late)
 
 pub shows_early : (h : List Applied) (n t k : ℕ) (js : List ℕ) (place : ℕ → Option ℕ) (d : Applied) → AreStampsOf h (length h) place → place t ≡ Some k → k < n →
     shows_stamp js t (drop n h) ≡ false
 shows_early h n t k js place d w there early =
-    shows_there h n t k js place d w there ∙ ap (λ b. b && list_any (λ j. j == (get_or h k d).component) js) (lt-leb n k early)
+    shows_there h n t k js place d w there ∙ ap (λ b. b && list_any (λ j. j == (slice_index_or h k d).component) js) (lt-leb n k early)
 
 -- ---- the lists of all components
 
-pub list_at_within : (ls : List (Vec ℕ)) (j : ℕ) (d : Vec ℕ) → j < length ls → (get_or ls j d).items ≡ list_at ls j
+pub list_at_within : (ls : List (Vec ℕ)) (j : ℕ) (d : Vec ℕ) → j < length ls → (slice_index_or ls j d).items ≡ list_at ls j
 list_at_within [] j d w = absurd (omega arith)
 list_at_within (x ∷ ls) zero d w = refl
 list_at_within (x ∷ ls) (suc j) d w = list_at_within ls j d (omega arith)
@@ -275,12 +275,12 @@ list_at_past [] j w = refl
 list_at_past (x ∷ ls) zero w = absurd (omega arith)
 list_at_past (x ∷ ls) (suc j) w = list_at_past ls j (omega arith)
 
-list_set_same : (ls : List (Vec ℕ)) (c : ℕ) (v : Vec ℕ) → c < length ls → list_at (set ls c v) c ≡ v.items
+list_set_same : (ls : List (Vec ℕ)) (c : ℕ) (v : Vec ℕ) → c < length ls → list_at (slice_set ls c v) c ≡ v.items
 list_set_same [] c v w = absurd (omega arith)
 list_set_same (x ∷ ls) zero v w = refl
 list_set_same (x ∷ ls) (suc c) v w = list_set_same ls c v (omega arith)
 
-list_set_other : (ls : List (Vec ℕ)) (c j : ℕ) (v : Vec ℕ) → c ≢ j → list_at (set ls c v) j ≡ list_at ls j
+list_set_other : (ls : List (Vec ℕ)) (c j : ℕ) (v : Vec ℕ) → c ≢ j → list_at (slice_set ls c v) j ≡ list_at ls j
 list_set_other [] c j v apart = refl
 list_set_other (x ∷ ls) zero zero v apart = absurd (apart refl)
 list_set_other (x ∷ ls) zero (suc j) v apart = refl
@@ -297,11 +297,11 @@ pub lists_none : (h : List Applied) (ls : List (Vec ℕ)) → ((j : ℕ) → lis
 lists_none h ls none j = subst (ArePlacesOf h 0 j) (sym (none j)) (no_places h j)
 
 pub lists_more : (h : List Applied) (n : ℕ) (ls : List (Vec ℕ)) (e : Applied) (v : Vec ℕ) → AreListsOf h n ls → slice_get h n ≡ Some e → e.component < length ls →
-    v.items ≡ list_at ls e.component ++ n ∷ [] → AreListsOf h (n + 1) (set ls e.component v)
+    v.items ≡ list_at ls e.component ++ n ∷ [] → AreListsOf h (n + 1) (slice_set ls e.component v)
 lists_more h n ls e v w s within is j =
     elim (cases_eq e.component j) [
       | inl same ↦
-          subst (λ (i : ℕ). ArePlacesOf h (n + 1) i (list_at (set ls e.component v) i)) same
+          subst (λ (i : ℕ). ArePlacesOf h (n + 1) i (list_at (slice_set ls e.component v) i)) same
           (subst (ArePlacesOf h (n + 1) e.component) (sym (list_set_same ls e.component v within ∙ is))
           (places_more h n e.component (list_at ls e.component) e (w e.component) s refl))
       | inr apart ↦

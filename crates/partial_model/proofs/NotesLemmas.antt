@@ -1,5 +1,5 @@
 -- What a longer history and one note more leave of a port's notes.
-use Rattle.partial_model.proofs.{Common.{ℕ, zero, suc, ◌≡◌, ◌≢◌, ◌+◌, ◌≤◌, ◌==◌, ◌++◌, Bool, true, false, cond, List, [], ◌∷◌, length, map, refl, sym, ◌∙◌, ap, subst, Option, Some, None, slice_get, IfSome, Contains, arith, append_assoc, append-nil, AllByRecursion, take-append-le, Applied, Opening, Call, Answer, Note, HaveDistinctStamps, value_of, stamp_of, Noted, IsEntryFor, IsTrueOf, IsLegal, LegalNotes, LegalNotesAreShown, seen_after, seen_by, place_of, shown_by, wrote, places_by, places_written, length-append}, HistoryLemmas.place_below}
+use Rattle.partial_model.proofs.{Common.{ℕ, zero, suc, ◌≡◌, ◌≢◌, ◌+◌, ◌≤◌, ◌==◌, ◌++◌, Bool, true, false, if◌then◌else◌, List, [], ◌∷◌, length, map, refl, sym, ◌∙◌, ap, subst, Option, Some, None, slice_get, IfSome, Contains, arith, append_assoc, append-nil, AllByRecursion, take-append-le, Applied, Opening, Call, Answer, Note, HaveDistinctStamps, value_of, stamp_of, Noted, IsEntryFor, IsTrueOf, IsLegal, LegalNotes, LegalNotesAreShown, seen_after, seen_by, place_of, shown_by, wrote, places_by, places_written, length-append}, HistoryLemmas.place_below}
 pub use Rattle.partial_model.proofs.AllLemmas.{all_append as AllByRecursion-append, all_weaker as AllByRecursion-weaker}
 
 -- an entry stays where it stands
@@ -71,18 +71,18 @@ pub LegalNotes-last : (o : Opening) (h : List Applied) (p seen : ℕ) (ns : List
 LegalNotes-last o h p seen [] n w = w.0
 LegalNotes-last o h p seen (x ∷ ns) n w = LegalNotes-last o h p (seen_after seen x.note) ns n w.1
 
-places_step : (p k : ℕ) (x : Applied) (all rest last : List ℕ) (b : Bool) → all ≡ rest ++ last → cond b (k ∷ all) all ≡ cond b (k ∷ rest) rest ++ last
+places_step : (p k : ℕ) (x : Applied) (all rest last : List ℕ) (b : Bool) → all ≡ rest ++ last → (if b then k ∷ all else all) ≡ (if b then k ∷ rest else rest) ++ last
 places_step p k x all rest last true e = ap (λ (l : List ℕ). k ∷ l) e
 places_step p k x all rest last false e = e
 
 -- an entry more stands behind a port's other places
-pub places_by-push : (p k : ℕ) (h : List Applied) (e : Applied) → places_by p k (h ++ e ∷ []) ≡ places_by p k h ++ cond (e.port == p) ((k + length h) ∷ []) []
-places_by-push p k [] e = ap (λ n. cond (e.port == p) (n ∷ []) []) (omega arith)
+pub places_by-push : (p k : ℕ) (h : List Applied) (e : Applied) → places_by p k (h ++ e ∷ []) ≡ places_by p k h ++ (if e.port == p then (k + length h) ∷ [] else [])
+places_by-push p k [] e = ap (λ n. if e.port == p then n ∷ [] else []) (omega arith)
 places_by-push p k (x ∷ h) e =
     let one : k + 1 + length h ≡ k + suc (length h) = omega arith in
-    let rest : places_by p (k + 1) (h ++ e ∷ []) ≡ places_by p (k + 1) h ++ cond (e.port == p) ((k + suc (length h)) ∷ []) [] =
-    places_by-push p (k + 1) h e ∙ ap (λ n. places_by p (k + 1) h ++ cond (e.port == p) (n ∷ []) []) one in
-    places_step p k x (places_by p (k + 1) (h ++ e ∷ [])) (places_by p (k + 1) h) (cond (e.port == p) ((k + suc (length h)) ∷ []) []) (x.port == p) rest
+    let rest : places_by p (k + 1) (h ++ e ∷ []) ≡ places_by p (k + 1) h ++ (if e.port == p then (k + suc (length h)) ∷ [] else []) =
+    places_by-push p (k + 1) h e ∙ ap (λ n. places_by p (k + 1) h ++ (if e.port == p then n ∷ [] else [])) one in
+    places_step p k x (places_by p (k + 1) (h ++ e ∷ [])) (places_by p (k + 1) h) (if e.port == p then (k + suc (length h)) ∷ [] else []) (x.port == p) rest
 
 pub places_written-push : (ns : List Noted) (n : Noted) → places_written (ns ++ n ∷ []) ≡ places_written ns ++ wrote n.note
 places_written-push [] n = append-nil (wrote n.note)

@@ -1,5 +1,5 @@
 -- The calls of one port after the other: what the tests of all calls decide of each port.
-use Rattle.partial_model.proofs.{Common.{ℕ, zero, suc, ◌≡◌, ◌≢◌, ◌+◌, ◌<◌, ◌≤◌, ◌⊎◌, inl, inr, ◌==◌, nat_le, Bool, true, false, cond, ◌&&◌, ◌||◌, List, [], ◌∷◌, ◌++◌, length, refl, sym, ap, ◌∙◌, subst, Decides, Option, Some, None, IfSome, filter, filter_map, arith, list_all, option_map_or, true≢false, eq-eqb, ne_eqb, cases_lt, Decides-and, Decides-or, Decides-like, eqb_tells, Applied, Opening, Called, Finish, IsHistory, Noted, LegalNotes, IsLegal, Follows, RealTime, noted_of, notes_of, places_by, places_written, EachOnce, LegalOutcome, call_is_legal, seen_behind, notes_are_legal, claim_of, places_left, no_place_left, none_between, none_above, claim_all, is_legal_outcome, is_history, are_in_time}, Decisions.{Decides-nat_le, Decides-and3, Decides-never, Decides-always}, CheckLaws.{Decides-is_legal, Decides-is_history, Decides-are_in_time}}
+use Rattle.partial_model.proofs.{Common.{ℕ, zero, suc, ◌≡◌, ◌≢◌, ◌+◌, ◌<◌, ◌≤◌, ◌⊎◌, inl, inr, ◌==◌, nat_le, Bool, true, false, if◌then◌else◌, ◌&&◌, ◌||◌, List, [], ◌∷◌, ◌++◌, length, refl, sym, ap, ◌∙◌, subst, Decides, Option, Some, None, IfSome, filter, filter_map, arith, list_all, option_map_or, true≢false, eq-eqb, ne_eqb, cases_lt, Decides-and, Decides-or, Decides-like, eqb_tells, Applied, Opening, Called, Finish, IsHistory, Noted, LegalNotes, IsLegal, Follows, RealTime, noted_of, notes_of, places_by, places_written, EachOnce, LegalOutcome, call_is_legal, seen_behind, notes_are_legal, claim_of, places_left, no_place_left, none_between, none_above, claim_all, is_legal_outcome, is_history, are_in_time}, Decisions.{Decides-nat_le, Decides-and3, Decides-never, Decides-always}, CheckLaws.{Decides-is_legal, Decides-is_history, Decides-are_in_time}}
 
 -- the ports of the calls rise from that one on
 abbrev pub Rises : ℕ → List Called → Type 0
@@ -25,7 +25,7 @@ abbrev known : Option Noted → List Noted
 known None = []
 known (Some n) = n ∷ []
 
-filtered : (b : Bool) (c : Called) (cs : List Called) → filter_map noted_of (cond b (c ∷ cs) cs) ≡ cond b (known (noted_of c)) [] ++ filter_map noted_of cs
+filtered : (b : Bool) (c : Called) (cs : List Called) → filter_map noted_of (if b then c ∷ cs else cs) ≡ (if b then known (noted_of c) else []) ++ filter_map noted_of cs
 filtered true c cs = noted c.finish
   where
     noted : (f : Option Finish) → filter_map noted_of (record c { finish = f } ∷ cs) ≡ known (noted_of (record c { finish = f })) ++ filter_map noted_of cs
@@ -35,11 +35,11 @@ filtered false c cs = refl
 
 pub notes_of-own : (p : ℕ) (c : Called) (cs : List Called) → c.port ≡ p → notes_of p (c ∷ cs) ≡ known (noted_of c) ++ notes_of p cs
 notes_of-own p c cs own =
-    filtered (c.port == p) c (filter (λ (x : Called). x.port == p) cs) ∙ ap (λ b. cond b (known (noted_of c)) [] ++ notes_of p cs) (eq-eqb c.port p own)
+    filtered (c.port == p) c (filter (λ (x : Called). x.port == p) cs) ∙ ap (λ b. (if b then known (noted_of c) else []) ++ notes_of p cs) (eq-eqb c.port p own)
 
 pub notes_of-other : (p : ℕ) (c : Called) (cs : List Called) → c.port ≢ p → notes_of p (c ∷ cs) ≡ notes_of p cs
 notes_of-other p c cs other =
-    filtered (c.port == p) c (filter (λ (x : Called). x.port == p) cs) ∙ ap (λ b. cond b (known (noted_of c)) [] ++ notes_of p cs) (ne_eqb c.port p other)
+    filtered (c.port == p) c (filter (λ (x : Called). x.port == p) cs) ∙ ap (λ b. (if b then known (noted_of c) else []) ++ notes_of p cs) (ne_eqb c.port p other)
 
 -- ports below the rising ones have no notes
 pub notes_of-below : (p q : ℕ) (cs : List Called) → Rises q cs → p < q → notes_of p cs ≡ []
@@ -118,7 +118,7 @@ next_is_legal o h q seen c cs rest below rises d =
 pub Decides-notes_are_legal : (o : Opening) (h : List Applied) (q seen : ℕ) (cs : List Called) → Rises q cs → Decides (notes_are_legal o h q seen cs) (AreLegalFrom o h q seen cs)
 Decides-notes_are_legal o h q seen [] w = Decides-always (tt, λ p above. tt)
 Decides-notes_are_legal o h q seen (c ∷ cs) w =
-    let test : Bool → Bool = λ b. call_is_legal o h (cond b seen 0) c && notes_are_legal o h c.port (seen_behind (cond b seen 0) c.finish) cs in
+    let test : Bool → Bool = λ b. call_is_legal o h (if b then seen else 0) c && notes_are_legal o h c.port (seen_behind (if b then seen else 0) c.finish) cs in
     elim (cases_lt q c.port) [
       | inl below ↦
           let other : (c.port == q) ≡ false = ne_eqb c.port q (omega arith) in
@@ -158,7 +158,7 @@ Decides-is_spent : (places : List ℕ) → Decides (no_place_left places) (place
 Decides-is_spent [] = Decides-always refl
 Decides-is_spent (k ∷ ks) = Decides-never (λ w. cc)
 
-places_tail : (b : Bool) (k : ℕ) (l : List ℕ) → cond b (k ∷ l) l ≡ [] → l ≡ []
+places_tail : (b : Bool) (k : ℕ) (l : List ℕ) → (if b then k ∷ l else l) ≡ [] → l ≡ []
 places_tail true k l w = let no : k ∷ l ≡ [] = w in cc
 places_tail false k l w = w
 
@@ -171,10 +171,10 @@ Decides-none_in outside Within each k (e ∷ h) =
     Decides-like (outside e.port && list_all (λ (f : Applied). outside f.port) h)
     (λ w x within. elim (eqb_tells e.port x) [
       | inl own ↦ absurd (w.0 (subst Within (sym own.1) within))
-      | inr other ↦ ap (λ b. cond b (k ∷ rest x) (rest x)) other.0 ∙ w.1 x within
+      | inr other ↦ ap (λ b. if b then k ∷ rest x else rest x) other.0 ∙ w.1 x within
     ])
     (λ w. (
-      λ within. let no : k ∷ rest e.port ≡ [] = sym (ap (λ b. cond b (k ∷ rest e.port) (rest e.port)) (eq-eqb e.port e.port refl)) ∙ w e.port within in cc,
+      λ within. let no : k ∷ rest e.port ≡ [] = sym (ap (λ b. if b then k ∷ rest e.port else rest e.port) (eq-eqb e.port e.port refl)) ∙ w e.port within in cc,
       λ x within. places_tail (e.port == x) k (rest x) (w x within),
     ))
     (Decides-and (outside e.port) (list_all (λ (f : Applied). outside f.port) h) (each e.port) (Decides-none_in outside Within each (k + 1) h))
@@ -207,13 +207,13 @@ Decides-taken [] (k ∷ ks) tail R rest each = Decides-never (λ w. let no : [] 
 Decides-taken (i ∷ places) (k ∷ ks) tail R rest each =
     elim (eqb_tells i k) [
       | inl same ↦
-          subst (λ (b : Bool). Decides (option_map_or rest (cond b (places_left places ks) None) false) ((i ∷ places ≡ k ∷ (ks ++ tail)) × R)) (sym same.0)
+          subst (λ (b : Bool). Decides (option_map_or rest (if b then places_left places ks else None) false) ((i ∷ places ≡ k ∷ (ks ++ tail)) × R)) (sym same.0)
           (Decides-like (option_map_or rest (places_left places ks) false)
           (λ w. (let first : i ≡ k = same.1 in let more : places ≡ ks ++ tail = w.0 in let whole : i ∷ places ≡ k ∷ (ks ++ tail) = cc in whole, w.1))
           (λ w. (let whole : i ∷ places ≡ k ∷ (ks ++ tail) = w.0 in let more : places ≡ ks ++ tail = cc in more, w.1))
           (Decides-taken places ks tail R rest each))
       | inr other ↦
-          subst (λ (b : Bool). Decides (option_map_or rest (cond b (places_left places ks) None) false) ((i ∷ places ≡ k ∷ (ks ++ tail)) × R)) (sym other.0)
+          subst (λ (b : Bool). Decides (option_map_or rest (if b then places_left places ks else None) false) ((i ∷ places ≡ k ∷ (ks ++ tail)) × R)) (sym other.0)
           (Decides-never (λ w. other.1 (let whole : i ∷ places ≡ k ∷ (ks ++ tail) = w.0 in let first : i ≡ k = cc in first)))
     ]
 
@@ -256,7 +256,7 @@ Decides-claim_all h q places [] w = Decides-and (no_place_left places) (none_abo
 Decides-claim_all h q places (c ∷ cs) w =
     let rest : List ℕ → Bool = λ left. claim_all h c.port left cs in
     let each : (left : List ℕ) → Decides (rest left) (AreClaimedFrom h c.port left cs) = λ left. Decides-claim_all h c.port left cs w.1 in
-    let test : Bool → Bool = λ b. (b || (no_place_left places && none_between q c.port h)) && option_map_or rest (places_left (cond b places (places_by c.port 0 h)) (claim_of c.finish)) false in
+    let test : Bool → Bool = λ b. (b || (no_place_left places && none_between q c.port h)) && option_map_or rest (places_left (if b then places else places_by c.port 0 h) (claim_of c.finish)) false in
     elim (cases_lt q c.port) [
       | inl below ↦
           let other : (c.port == q) ≡ false = ne_eqb c.port q (omega arith) in

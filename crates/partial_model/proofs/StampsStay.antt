@@ -1,5 +1,5 @@
 -- A stamp of a component never returns, since the stamps of a history are distinct.
-use Rattle.partial_model.proofs.{Common.{ℕ, zero, suc, ◌≡◌, ◌≢◌, ◌<◌, ◌≤◌, List, [], ◌∷◌, length, map, take, get_or, Option, Some, None, slice_get, refl, sym, ◌∙◌, ap, subst, inl, inr, arith, option_map_or, cases_lt, Applied, Opening, IsHistory, HaveDistinctStamps, last_entry, initial_stamp, value_of, stamp_of}, AllLemmas.all_where, HistoryLemmas.{last_at, stamp_all}, NotesLemmas.AllByRecursion-get}
+use Rattle.partial_model.proofs.{Common.{ℕ, zero, suc, ◌≡◌, ◌≢◌, ◌<◌, ◌≤◌, List, [], ◌∷◌, length, map, take, slice_index, Option, Some, None, slice_get, refl, sym, ◌∙◌, ap, subst, inl, inr, arith, option_map_or, cases_lt, Applied, Opening, IsHistory, HaveDistinctStamps, last_entry, initial_stamp, value_of, stamp_of}, AllLemmas.all_where, HistoryLemmas.{last_at, stamp_all}, NotesLemmas.AllByRecursion-get}
 use Rattle.partial_model.specs.Stamps.{HasThen, StampsNeverReturn, Twice, EqualCollectsStandTogether}
 
 -- a prefix of a prefix
@@ -34,8 +34,8 @@ stamp_before o h j a q f w below t from =
 pub stamp_told : (o : Opening) (h : List Applied) (j : ℕ) (f : Option Applied) → last_entry j h ≡ f → stamp_of o h j ≡ option_map_or (λ (x : Applied). x.stamp) f (initial_stamp o j)
 stamp_told o h j f e = ap (λ (g : Option Applied). option_map_or (λ (x : Applied). x.stamp) g (initial_stamp o j)) e
 
-value_told : (o : Opening) (h : List Applied) (j : ℕ) (f : Option Applied) → last_entry j h ≡ f → value_of o h j ≡ option_map_or (λ (x : Applied). x.value) f (get_or o.values j 0)
-value_told o h j f e = ap (λ (g : Option Applied). option_map_or (λ (x : Applied). x.value) g (get_or o.values j 0)) e
+value_told : (o : Opening) (h : List Applied) (j : ℕ) (f : Option Applied) → last_entry j h ≡ f → value_of o h j ≡ option_map_or (λ (x : Applied). x.value) f (slice_index o.values j)
+value_told o h j f e = ap (λ (g : Option Applied). option_map_or (λ (x : Applied). x.value) g (slice_index o.values j)) e
 
 -- the same last entry at two lengths
 same_last : (o : Opening) (h : List Applied) (j a n : ℕ) (f : Option Applied) → last_entry j (take a h) ≡ f → last_entry j (take n h) ≡ f → HasThen o h j n (stamp_of o (take a h) j)

@@ -1,5 +1,5 @@
 -- The history of a pipeline: each stage's count only rises, and never passes that of the stage before it.
-use Rattle.partial_pipeline.proofs.Common.{ℕ, zero, suc, ◌≡◌, ◌+◌, ◌<◌, ◌≤◌, ◌==◌, ◌++◌, Bool, true, false, cond, List, [], ◌∷◌, length, take, slice_index, refl, sym, ◌∙◌, ap, subst, inl, inr, Option, Some, None, slice_get, arith, AllByRecursion, eq-eqb, ne_eqb, Applied, Opening, Call, Answer, Note, Noted, IsLegal, LegalNotes, seen_after, wrote, places_written, all_append, AllByRecursion-get, AreFrom, IsPipeline, IsStageIn, Works, CountsStayOrdered, CountsNeverFall, last_value, published_count, OnlyRises, entries_by, entry_of, applied_by, entries_are_noted, entry_holds, noted_at, value_at_first, value_set, value_kept, element_at, rising_never_falls}
+use Rattle.partial_pipeline.proofs.Common.{ℕ, zero, suc, ◌≡◌, ◌+◌, ◌<◌, ◌≤◌, ◌==◌, ◌++◌, Bool, true, false, if◌then◌else◌, List, [], ◌∷◌, length, take, slice_index, refl, sym, ◌∙◌, ap, subst, inl, inr, Option, Some, None, slice_get, arith, AllByRecursion, eq-eqb, ne_eqb, Applied, Opening, Call, Answer, Note, Noted, IsLegal, LegalNotes, seen_after, wrote, places_written, all_append, AllByRecursion-get, AreFrom, IsPipeline, IsStageIn, Works, CountsStayOrdered, CountsNeverFall, last_value, published_count, OnlyRises, entries_by, entry_of, applied_by, entries_are_noted, entry_holds, noted_at, value_at_first, value_set, value_kept, element_at, rising_never_falls}
 use Rattle.std.specs.Option.{option_map_or}
 use Rattle.std.proofs.lemmas.Bool.Decides.{eqb_tells}
 use Rattle.partial_model.specs.History.{last_from, value_of}
@@ -41,7 +41,7 @@ all_component k a (e ∷ es) w = (w.0, all_component k e.value es w.2)
 abbrev held : ℕ → Option Applied → ℕ
 held d found = option_map_or (λ (e : Applied). e.value) found d
 
-head_rises : (p : ℕ) (x : Applied) (b : Bool) (a : ℕ) (es : List Applied) → b ≡ true → Rising p a (cond b (x ∷ es) es) → a ≤ x.value
+head_rises : (p : ℕ) (x : Applied) (b : Bool) (a : ℕ) (es : List Applied) → b ≡ true → Rising p a (if b then x ∷ es else es) → a ≤ x.value
 head_rises p x true a es is w = w.1
 head_rises p x false a es is w = absurd cc
 
@@ -56,13 +56,13 @@ risen p d zero (x ∷ h) found e kinds w s by =
 risen p d (suc k) (x ∷ h) found e kinds w s by =
     elim (eqb_tells x.port p) [
       | inl t ↦
-          let r : (x.component ≡ p) × (held d found ≤ x.value) × Rising p x.value (entries_by p h) = subst (λ b. Rising p (held d found) (cond b (x ∷ entries_by p h) (entries_by p h))) t.0 w in
-          let one : cond (x.component == p) (Some x) found ≡ Some x = ap (λ b. cond b (Some x) found) (eq-eqb x.component p r.0) in
+          let r : (x.component ≡ p) × (held d found ≤ x.value) × Rising p x.value (entries_by p h) = subst (λ b. Rising p (held d found) (if b then x ∷ entries_by p h else entries_by p h)) t.0 w in
+          let one : (if x.component == p then Some x else found) ≡ Some x = ap (λ b. if b then Some x else found) (eq-eqb x.component p r.0) in
           subst (λ (f : Option Applied). held d (last_from f p (take k h)) ≤ e.value) (sym one) (risen p d k h (Some x) e (λ i y. kinds (suc i) y) r.2 s by)
       | inr t ↦
-          let r : Rising p (held d found) (entries_by p h) = subst (λ b. Rising p (held d found) (cond b (x ∷ entries_by p h) (entries_by p h))) t.0 w in
+          let r : Rising p (held d found) (entries_by p h) = subst (λ b. Rising p (held d found) (if b then x ∷ entries_by p h else entries_by p h)) t.0 w in
           let other : x.component ≡ p → ⊥ = λ c. t.1 (sym (kinds 0 x refl) ∙ c) in
-          let one : cond (x.component == p) (Some x) found ≡ found = ap (λ b. cond b (Some x) found) (ne_eqb x.component p other) in
+          let one : (if x.component == p then Some x else found) ≡ found = ap (λ b. if b then Some x else found) (ne_eqb x.component p other) in
           subst (λ (f : Option Applied). held d (last_from f p (take k h)) ≤ e.value) (sym one) (risen p d k h found e (λ i y. kinds (suc i) y) r s by)
     ]
 
@@ -75,13 +75,13 @@ held_last d k (x ∷ h) found kinds =
     let rest = entries_by k h in
     elim (eqb_tells x.port k) [
       | inl t ↦
-          let one : cond (x.component == k) (Some x) found ≡ Some x = ap (λ b. cond b (Some x) found) (eq-eqb x.component k (kinds 0 x refl ∙ t.1)) in
-          let two : cond (x.port == k) (x ∷ rest) rest ≡ x ∷ rest = ap (λ b. cond b (x ∷ rest) rest) t.0 in
+          let one : (if x.component == k then Some x else found) ≡ Some x = ap (λ b. if b then Some x else found) (eq-eqb x.component k (kinds 0 x refl ∙ t.1)) in
+          let two : (if x.port == k then x ∷ rest else rest) ≡ x ∷ rest = ap (λ b. if b then x ∷ rest else rest) t.0 in
           ap (λ (f : Option Applied). held d (last_from f k h)) one ∙ held_last d k h (Some x) (λ i y. kinds (suc i) y) ∙ ap (last_value (held d found)) (sym two)
       | inr t ↦
           let other : x.component ≡ k → ⊥ = λ c. t.1 (sym (kinds 0 x refl) ∙ c) in
-          let one : cond (x.component == k) (Some x) found ≡ found = ap (λ b. cond b (Some x) found) (ne_eqb x.component k other) in
-          let two : cond (x.port == k) (x ∷ rest) rest ≡ rest = ap (λ b. cond b (x ∷ rest) rest) t.0 in
+          let one : (if x.component == k then Some x else found) ≡ found = ap (λ b. if b then Some x else found) (ne_eqb x.component k other) in
+          let two : (if x.port == k then x ∷ rest else rest) ≡ rest = ap (λ b. if b then x ∷ rest else rest) t.0 in
           ap (λ (f : Option Applied). held d (last_from f k h)) one ∙ held_last d k h found (λ i y. kinds (suc i) y) ∙ ap (last_value (held d found)) (sym two)
     ]
 

@@ -1,5 +1,5 @@
 -- One call more of a stage, of the monitor, and a meeting.
-use Rattle.partial_pipeline.proofs.{Common.{ℕ, zero, suc, ◌≡◌, ◌+◌, ◌<◌, ◌≤◌, ◌++◌, List, [], ◌∷◌, length, map, take, get_or, refl, sym, ◌∙◌, ap, subst, inl, inr, Option, Some, append-nil, append_assoc, length-take, arith, AllByRecursion, Applied, Opening, Call, Answer, Note, Noted, LegalNotes, seen_after, places_written, wrote, all_append, all_weaker, shown_within, Goes, IsRefused, Meets, Reads, Scanned, Scans, Updates, IsOf, Knows, MemoryView, PortView, AreFrom, HasWorked, Works, EndEach, EndsAt, HasMetMonitor, IsStageDone, IsWorking, GoesOnNoting, Sees, StagesWatched, last_value, published_count, StageEnd, Finished, applied_by, entry_of, Updated, Stage, Worked}, Pipes.read_makes_none}
+use Rattle.partial_pipeline.proofs.{Common.{ℕ, zero, suc, ◌≡◌, ◌+◌, ◌<◌, ◌≤◌, ◌++◌, List, [], ◌∷◌, length, map, take, slice_index_or, refl, sym, ◌∙◌, ap, subst, inl, inr, Option, Some, append-nil, append_assoc, length-take, arith, AllByRecursion, Applied, Opening, Call, Answer, Note, Noted, LegalNotes, seen_after, places_written, wrote, all_append, all_weaker, shown_within, Goes, IsRefused, Meets, Reads, Scanned, Scans, Updates, IsOf, Knows, MemoryView, PortView, AreFrom, HasWorked, Works, EndEach, EndsAt, HasMetMonitor, IsStageDone, IsWorking, GoesOnNoting, Sees, StagesWatched, last_value, published_count, StageEnd, Finished, applied_by, entry_of, Updated, Stage, Worked}, Pipes.read_makes_none}
 use Rattle.partial_long_lived.specs.declared.answers.Updated.TheVariants.{Applied as IsApplied, Lost}
 use Rattle.partial_long_lived.specs.declared.error.Refused.{Refused}
 
@@ -289,7 +289,7 @@ from_map P Q g f k [] w = tt
 from_map P Q g f k (x ∷ xs) w = (f k x w.0, from_map P Q g f (k + 1) xs w.1)
 
 -- the element at a place
-pub from_get : {A : Type 0} (P : ℕ → A → Type 0) (k i : ℕ) (xs : List A) (x : A) → AreFrom P k xs → i < length xs → x ≡ get_or xs i x → P (k + i) x
+pub from_get : {A : Type 0} (P : ℕ → A → Type 0) (k i : ℕ) (xs : List A) (x : A) → AreFrom P k xs → i < length xs → x ≡ slice_index_or xs i x → P (k + i) x
 from_get P k i [] x w within is = absurd (omega arith)
 from_get P k zero (y ∷ xs) x w within is =
     let same : k ≡ k + 0 = omega arith in

@@ -1,5 +1,5 @@
 -- The monitor: one scan more, and a meeting. And the threads of the stages.
-use Rattle.partial_pipeline.proofs.{Common.{ℕ, zero, suc, ◌≡◌, ◌+◌, ◌<◌, ◌≤◌, ◌++◌, List, [], ◌∷◌, length, map, get_or, refl, sym, ◌∙◌, ap, subst, append-nil, arith, AllByRecursion, vec_capacity, length_push, map-append, all_append, all_front, Meets, IsOf, Knows, MemoryView, PortView, new_ports, AreFrom, HasWorked, EndEach, EndsAt, HasMetMonitor, IsStageDone, IsNewStage, IsOpened, IsStageStarted, IsWatching, GoesOnNoting, Sees, StagesWatched, StageEnd, Global, Vec, Worked}, Stages.{done_alike, ends_more, from_front, from_get, goes_more, has_met, met_more, none_more, seen_grows, watched_sees}}
+use Rattle.partial_pipeline.proofs.{Common.{ℕ, zero, suc, ◌≡◌, ◌+◌, ◌<◌, ◌≤◌, ◌++◌, List, [], ◌∷◌, length, map, slice_index_or, refl, sym, ◌∙◌, ap, subst, append-nil, arith, AllByRecursion, vec_capacity, length_push, map-append, all_append, all_front, Meets, IsOf, Knows, MemoryView, PortView, new_ports, AreFrom, HasWorked, EndEach, EndsAt, HasMetMonitor, IsStageDone, IsNewStage, IsOpened, IsStageStarted, IsWatching, GoesOnNoting, Sees, StagesWatched, StageEnd, Global, Vec, Worked}, Stages.{done_alike, ends_more, from_front, from_get, goes_more, has_met, met_more, none_more, seen_grows, watched_sees}}
 use Rattle.std.specs.declared.thread.PromisedHandle.{PromisedHandle}
 use Rattle.partial_long_lived.specs.Rule.{newcomers}
 use Rattle.partial_pipeline.specs.declared.monitor.Monitor.{Monitor}
@@ -66,7 +66,7 @@ watching_met m x b c d w own meets =
 
 -- a thread that was started for a stage has come to its end
 pub started_done : (m : MemoryView) (items n : ℕ) (all : List (PromisedHandle Worked Promised)) (h : PromisedHandle Worked Promised) (w : Worked) → AreFrom (IsStageStarted m items) 0 all →
-    n < length all → h ≡ get_or all n h → IsStageDone h.promise.memory.value h.promise.items h.promise.stage w → IsStageDone m items n w
+    n < length all → h ≡ slice_index_or all n h → IsStageDone h.promise.memory.value h.promise.items h.promise.stage w → IsStageDone m items n w
 started_done m items n all h w started within is kept =
     let s = from_get (IsStageStarted m items) 0 n all h started within is in
     let number : n ≡ h.promise.stage = omega (arith, s.number) in
@@ -93,7 +93,7 @@ ended_more m x ports after ends ended b c d items n w had many done same meets i
     subst (λ l. EndEach items 0 l ended) (sym is) (subst (EndEach items 0 (ports ++ d ∷ [])) (sym ends_is) (ends_more items 0 ports ends d w.end had at))
 
 -- a new port at a place
-pub new_at : (m : MemoryView) (n : ℕ) (all : List PortView) (p : PortView) → AreFrom (IsNewStage m) 0 all → n < length all → p ≡ get_or all n p → IsNewStage m n p
+pub new_at : (m : MemoryView) (n : ℕ) (all : List PortView) (p : PortView) → AreFrom (IsNewStage m) 0 all → n < length all → p ≡ slice_index_or all n p → IsNewStage m n p
 new_at m n all p new within is =
     let same : 0 + n ≡ n = omega arith in
     subst (λ i. IsNewStage m i p) same (from_get (IsNewStage m) 0 n all p new within is)

@@ -1,9 +1,9 @@
 -- In the replay of a plan with one port each call is alone.
-use Rattle.partial_replay.proofs.{Common.{ℕ, zero, suc, ◌≡◌, ◌+◌, ◌<◌, ◌≤◌, ◌==◌, ◌++◌, Bool, true, false, cond, List, [], ◌∷◌, length, map, take, Option, Some, None, IfSome, IsSomeAnd, refl, sym, ◌∙◌, ap, subst, inl, inr, arith, AllByRecursion, filter_map, cons_option, range_with_len, option_map, option_map_or, eqb_tells, Applied, Opening, Call, Answer, Note, Called, Finish, stamp_of, Noted, Fits, IsTrueOf, IsLegal, LegalNotes, seen_after, shown_by, place_of, noted_of, places_by, places_written, wrote, Follows, RealTime, LegalOutcome, calls_by, AreFirstOf, value_of}, PortLaws.same_eqb, Replays.past_get}
+use Rattle.partial_replay.proofs.{Common.{ℕ, zero, suc, ◌≡◌, ◌+◌, ◌<◌, ◌≤◌, ◌==◌, ◌++◌, Bool, true, false, if◌then◌else◌, List, [], ◌∷◌, length, map, take, Option, Some, None, IfSome, IsSomeAnd, refl, sym, ◌∙◌, ap, subst, inl, inr, arith, AllByRecursion, filter_map, cons_option, range_with_len, option_map, option_map_or, eqb_tells, Applied, Opening, Call, Answer, Note, Called, Finish, stamp_of, Noted, Fits, IsTrueOf, IsLegal, LegalNotes, seen_after, shown_by, place_of, noted_of, places_by, places_written, wrote, Follows, RealTime, LegalOutcome, calls_by, AreFirstOf, value_of}, PortLaws.same_eqb, Replays.past_get}
 use Rattle.partial_replay.specs.Alone.{AddsAlone, AnswersAlone, IsAlone, OnePortIsAlone}
 
 -- all calls are of port 0
-kept_none : {A : Type 0} (b : Bool) (x : A) (xs : List A) → cond b (x ∷ xs) xs ≡ [] → (b ≡ false) × (xs ≡ [])
+kept_none : {A : Type 0} (b : Bool) (x : A) (xs : List A) → (if b then x ∷ xs else xs) ≡ [] → (b ≡ false) × (xs ≡ [])
 kept_none true x xs h = let bad : x ∷ xs ≡ [] = h in cc
 kept_none false x xs h = (refl, h)
 
@@ -23,10 +23,10 @@ all_zero (c ∷ cs) none = (
 
 zero_calls : (cs : List Called) → AllByRecursion (λ (c : Called). c.port ≡ 0) cs → calls_by 0 cs ≡ cs
 zero_calls [] w = refl
-zero_calls (c ∷ cs) w = ap (λ (b : Bool). cond b (c ∷ calls_by 0 cs) (calls_by 0 cs)) (same_eqb c.port 0 w.0) ∙ ap (λ (l : List Called). c ∷ l) (zero_calls cs w.1)
+zero_calls (c ∷ cs) w = ap (λ (b : Bool). if b then c ∷ calls_by 0 cs else calls_by 0 cs) (same_eqb c.port 0 w.0) ∙ ap (λ (l : List Called). c ∷ l) (zero_calls cs w.1)
 
 -- all entries are of port 0
-kept_place : (b : Bool) (k : ℕ) (ks : List ℕ) → cond b (k ∷ ks) ks ≡ [] → (b ≡ false) × (ks ≡ [])
+kept_place : (b : Bool) (k : ℕ) (ks : List ℕ) → (if b then k ∷ ks else ks) ≡ [] → (b ≡ false) × (ks ≡ [])
 kept_place b k ks h = kept_none b k ks h
 
 zero_places : (h : List Applied) (k : ℕ) → ((q : ℕ) → 0 < q → places_by q k h ≡ []) → places_by 0 k h ≡ range_with_len k (length h)
@@ -34,7 +34,7 @@ zero_places [] k none = refl
 zero_places (e ∷ h) k none =
     let rest : places_by 0 (k + 1) h ≡ range_with_len (k + 1) (length h) = zero_places h (k + 1) (λ q some. (kept_none (e.port == q) k (places_by q (k + 1) h) (none q some)).1) in
     elim (eqb_tells e.port 0) [
-      | inl zero' ↦ ap (λ (b : Bool). cond b (k ∷ places_by 0 (k + 1) h) (places_by 0 (k + 1) h)) zero'.0 ∙ ap (λ (l : List ℕ). k ∷ l) rest
+      | inl zero' ↦ ap (λ (b : Bool). if b then k ∷ places_by 0 (k + 1) h else places_by 0 (k + 1) h) zero'.0 ∙ ap (λ (l : List ℕ). k ∷ l) rest
       | inr other ↦
           let away = other.1 in
           let gone = kept_none (e.port == e.port) k (places_by e.port (k + 1) h) (none e.port (omega (arith, away))) in

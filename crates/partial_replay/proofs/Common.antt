@@ -1,5 +1,5 @@
 -- The names that several proofs of this crate take from elsewhere.
-pub use Rattle.std.proofs.Common.{ℕ, zero, suc, ◌≡◌, ◌+◌, ◌<◌, ◌≤◌, ◌==◌, ◌++◌, Bool, true, false, cond, List, [], ◌∷◌, length, map, take, Option, Some, None, IfSome, IsSomeAnd, refl, sym, ◌∙◌, ap, subst, inl, inr, arith, ◌⊎◌, ◌≢◌, MatchOption, slice_get, append_assoc, length-append, get_or, ◌-◌, min, replicate, ◌^◌, Contains, set, ◌*◌, not, MatchBool, nat_lt, Result, Ok, Err, OnOk, get_or-set_other, mul-le-mul, mul-suc, count_by, drop, slice_index, vec_len, rules}
+pub use Rattle.std.proofs.Common.{ℕ, zero, suc, ◌≡◌, ◌+◌, ◌<◌, ◌≤◌, ◌==◌, ◌++◌, Bool, true, false, if◌then◌else◌, List, [], ◌∷◌, length, map, take, Option, Some, None, IfSome, IsSomeAnd, refl, sym, ◌∙◌, ap, subst, inl, inr, arith, ◌⊎◌, ◌≢◌, MatchOption, slice_get, append_assoc, length-append, slice_index_or, ◌-◌, min, replicate, ◌^◌, Contains, slice_set, ◌*◌, not, MatchBool, nat_lt, Result, Ok, Err, OnOk, get_or-set_other, mul-le-mul, mul-suc, count_by, drop, slice_index, vec_len, rules}
 pub use Rattle.std.specs.declared.alloc.Global.{Global}
 pub use Rattle.std.specs.declared.vec.Vec.{Vec}
 pub use Rattle.std.specs.{List.{AllByRecursion, filter_map, cons_option, range_with_len, filter, zip, sum_by}, Option.{option_map, option_map_or, IsSome, is_some, option_to_list}}

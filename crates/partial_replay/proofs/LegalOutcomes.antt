@@ -1,5 +1,5 @@
 -- The calls that a replay tells are a legal outcome.
-use Rattle.partial_replay.proofs.{Common.{ℕ, zero, suc, ◌⊎◌, map, take, ◌≡◌, ◌≢◌, ◌+◌, ◌<◌, ◌≤◌, ◌++◌, ◌==◌, Bool, true, false, cond, List, [], ◌∷◌, length, Option, Some, None, IfSome, IsSomeAnd, MatchOption, slice_get, refl, sym, ◌∙◌, ap, subst, inl, inr, arith, append_assoc, filter, filter_map, AllByRecursion, filter-append, filter_map-append, append-nil, length_push, map_push, ne_eqb, eqb_tells, Applied, Opening, Call, Called, Finish, Noted, LegalNotes, shown_by, place_of, noted_of, notes_of, places_written, Follows, RealTime, LegalOutcome, Layout, CoreState, most_steps, AllByRecursion-append, Part, core_of, port_of, IsBetween, IsMachineOf, Port, UnderWay, HasLeastPlace, calls_by, AreFirstOf, AreAllMade, AreFew, IsSome, AreFinished, IsCallUnderWay, PortFits, end_of_call, ends_of, notes_in, unfinished_call, PortsFit, IsRunOf, left_over, calls_in, ReplayState, some_same, no_ports, first_port}, PortLaws.{take_next, same_eqb}, Opens.{over_none, none_over}}
+use Rattle.partial_replay.proofs.{Common.{ℕ, zero, suc, ◌⊎◌, map, take, ◌≡◌, ◌≢◌, ◌+◌, ◌<◌, ◌≤◌, ◌++◌, ◌==◌, Bool, true, false, if◌then◌else◌, List, [], ◌∷◌, length, Option, Some, None, IfSome, IsSomeAnd, MatchOption, slice_get, refl, sym, ◌∙◌, ap, subst, inl, inr, arith, append_assoc, filter, filter_map, AllByRecursion, filter-append, filter_map-append, append-nil, length_push, map_push, ne_eqb, eqb_tells, Applied, Opening, Call, Called, Finish, Noted, LegalNotes, shown_by, place_of, noted_of, notes_of, places_written, Follows, RealTime, LegalOutcome, Layout, CoreState, most_steps, AllByRecursion-append, Part, core_of, port_of, IsBetween, IsMachineOf, Port, UnderWay, HasLeastPlace, calls_by, AreFirstOf, AreAllMade, AreFew, IsSome, AreFinished, IsCallUnderWay, PortFits, end_of_call, ends_of, notes_in, unfinished_call, PortsFit, IsRunOf, left_over, calls_in, ReplayState, some_same, no_ports, first_port}, PortLaws.{take_next, same_eqb}, Opens.{over_none, none_over}}
 use Rattle.partial_core.specs.Known.{notes_by}
 
 notes_split : (p : ℕ) (xs ys : List Called) → notes_of p (xs ++ ys) ≡ notes_of p xs ++ notes_of p ys
@@ -9,17 +9,17 @@ notes_split p xs ys = ap (filter_map noted_of) (filter-append (λ (c : Called). 
 own_filter : (n p k low : ℕ) (cs : List Called) → AreFinished n p k low cs → filter (λ (c : Called). c.port == p) cs ≡ cs
 own_filter n p k low [] w = refl
 own_filter n p k low (c ∷ cs) w =
-    ap (λ (b : Bool). cond b (c ∷ filter (λ (d : Called). d.port == p) cs) (filter (λ (d : Called). d.port == p) cs)) (same_eqb c.port p w.0)
+    ap (λ (b : Bool). if b then c ∷ filter (λ (d : Called). d.port == p) cs else filter (λ (d : Called). d.port == p) cs) (same_eqb c.port p w.0)
     ∙ ap (λ (l : List Called). c ∷ l) (own_filter n p (k + 1) (end_of_call low c) cs w.3)
 
 other_filter : (n q p k low : ℕ) (cs : List Called) → AreFinished n q k low cs → q ≢ p → filter (λ (c : Called). c.port == p) cs ≡ []
 other_filter n q p k low [] w d = refl
 other_filter n q p k low (c ∷ cs) w d =
     let away : c.port ≢ p = λ h. d (sym w.0 ∙ h) in
-    ap (λ (b : Bool). cond b (c ∷ filter (λ (e : Called). e.port == p) cs) (filter (λ (e : Called). e.port == p) cs)) (ne_eqb c.port p away)
+    ap (λ (b : Bool). if b then c ∷ filter (λ (e : Called). e.port == p) cs else filter (λ (e : Called). e.port == p) cs) (ne_eqb c.port p away)
     ∙ other_filter n q p (k + 1) (end_of_call low c) cs w.3 d
 
-over_kept : (c : Called) (b : Bool) → c.finish ≡ None → filter_map noted_of (cond b (c ∷ []) []) ≡ []
+over_kept : (c : Called) (b : Bool) → c.finish ≡ None → filter_map noted_of (if b then c ∷ [] else []) ≡ []
 over_kept c false h = refl
 over_kept c true h = ap (λ (f : Option Finish). filter_map noted_of (record { port = c.port; number = c.number; call = c.call; began = c.began; steps = c.steps; finish = f } ∷ [])) h
 
@@ -38,12 +38,12 @@ split_calls p calls plans port ports =
     ∙ ap (λ (l : List Called). l ++ calls_by p (calls_in plans ports)) (filter-append (λ (c : Called). c.port == p) port.finished.items over)
 
 over_own : (p : ℕ) (port : Port) (call : Option Call) (way : Option UnderWay) → port.number ≡ p → calls_by p (left_over port call way) ≡ left_over port call way
-over_own p port (Some call) (Some way) h = ap (λ (b : Bool). cond b (left_over port (Some call) (Some way)) []) (same_eqb port.number p h)
+over_own p port (Some call) (Some way) h = ap (λ (b : Bool). if b then left_over port (Some call) (Some way) else []) (same_eqb port.number p h)
 over_own p port None way h = refl
 over_own p port (Some call) None h = refl
 
 over_other : (p : ℕ) (port : Port) (call : Option Call) (way : Option UnderWay) → port.number ≢ p → calls_by p (left_over port call way) ≡ []
-over_other p port (Some call) (Some way) h = ap (λ (b : Bool). cond b (left_over port (Some call) (Some way)) []) (ne_eqb port.number p h)
+over_other p port (Some call) (Some way) h = ap (λ (b : Bool). if b then left_over port (Some call) (Some way) else []) (ne_eqb port.number p h)
 over_other p port None way h = refl
 over_other p port (Some call) None h = refl
 
@@ -138,7 +138,7 @@ none_behind {log} {q} p less (first_port {calls = c} {plans = plans} {x = x} {pa
     let away : q ≢ p = λ h. omega (arith, less, h) in
     let part : port_of x ≢ p = λ h. away (sym f.part ∙ h) in (
       head_notes p c plans t ports [] (ap (filter_map noted_of) (other_filter (length log) q p 0 0 t.finished.items f.finished away)) ∙ behind.0,
-      ap (λ (b : Bool). cond b x.notes [] ++ notes_by p parts) (ne_eqb (port_of x) p part) ∙ behind.1,
+      ap (λ (b : Bool). (if b then x.notes else []) ++ notes_by p parts) (ne_eqb (port_of x) p part) ∙ behind.1,
     )
 
 -- a port's notes are legal, and claim what its part's notes claim
@@ -156,7 +156,7 @@ notes_told {o} {log} {q} p (first_port {calls = c} {plans = plans} {x = x} {part
       head_notes p c plans t ports (notes_in t.finished.items) (ap (filter_map noted_of) (own_filter (length log) p 0 0 t.finished.items fits.finished))
       ∙ ap (λ (l : List Noted). notes_in t.finished.items ++ l) behind.0 ∙ append-nil (notes_in t.finished.items) in
       let part : notes_by p (x ∷ parts) ≡ x.notes =
-      ap (λ (b : Bool). cond b x.notes [] ++ notes_by p parts) (same_eqb (port_of x) p fits.part)
+      ap (λ (b : Bool). (if b then x.notes else []) ++ notes_by p parts) (same_eqb (port_of x) p fits.part)
       ∙ ap (λ (l : List Noted). x.notes ++ l) behind.1 ∙ append-nil x.notes in (
         subst (λ (l : List Noted). LegalNotes o log p 0 l) (sym own) fits.legal,
         ap places_written own ∙ fits.written ∙ ap places_written (sym part),
@@ -167,7 +167,7 @@ notes_told {o} {log} {q} p (first_port {calls = c} {plans = plans} {x = x} {part
       let part : port_of x ≢ p = λ h. away (sym f.part ∙ h) in
       let own : notes_of p (calls_in (c ∷ plans) (t ∷ ports)) ≡ notes_of p (calls_in plans ports) =
       head_notes p c plans t ports [] (ap (filter_map noted_of) (other_filter (length log) q p 0 0 t.finished.items f.finished away)) in
-      let left : notes_by p (x ∷ parts) ≡ notes_by p parts = ap (λ (b : Bool). cond b x.notes [] ++ notes_by p parts) (ne_eqb (port_of x) p part) in (
+      let left : notes_by p (x ∷ parts) ≡ notes_by p parts = ap (λ (b : Bool). (if b then x.notes else []) ++ notes_by p parts) (ne_eqb (port_of x) p part) in (
         subst (λ (l : List Noted). LegalNotes o log p 0 l) (sym own) rest.0,
         ap places_written own ∙ rest.1 ∙ ap places_written (sym left),
       )

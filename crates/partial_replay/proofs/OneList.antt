@@ -1,5 +1,5 @@
 -- The calls of a port are told by the plan, the events and the lengths of the history at the port's turns.
-use Rattle.partial_replay.proofs.{Common.{ℕ, ◌⊎◌, ◌≡◌, ◌≢◌, ◌+◌, ◌<◌, ◌≤◌, ◌++◌, Bool, cond, List, [], ◌∷◌, length, map, take, Option, Some, None, IfSome, IsSomeAnd, refl, sym, ◌∙◌, ap, subst, inl, inr, arith, length-append, option_map, ne_eqb, eqb_tells, Applied, Opening, Answer, Call, Called, Finish, Note, Refused, HaveDistinctStamps, Follows, RealTime, Reply, Idle, CoreState, at_stage, advance, reply_of, answer_for, begun_of, refusal_of, Moment, last_behind, Makes, HasSteps, IsFinishedAtOnce, IsRefusedAtOnce, IsCallRun, AreStepsOf, calls_by, AreFirstOf, EndInStep, BeginInTurns, due_is_unreplied}, PortLaws.same_eqb, PortRuns.{AreFinishedBut, none_map}, OneNote.{IsRightNote, AreRight, notes_same}}
+use Rattle.partial_replay.proofs.{Common.{ℕ, ◌⊎◌, ◌≡◌, ◌≢◌, ◌+◌, ◌<◌, ◌≤◌, ◌++◌, Bool, if◌then◌else◌, List, [], ◌∷◌, length, map, take, Option, Some, None, IfSome, IsSomeAnd, refl, sym, ◌∙◌, ap, subst, inl, inr, arith, length-append, option_map, ne_eqb, eqb_tells, Applied, Opening, Answer, Call, Called, Finish, Note, Refused, HaveDistinctStamps, Follows, RealTime, Reply, Idle, CoreState, at_stage, advance, reply_of, answer_for, begun_of, refusal_of, Moment, last_behind, Makes, HasSteps, IsFinishedAtOnce, IsRefusedAtOnce, IsCallRun, AreStepsOf, calls_by, AreFirstOf, EndInStep, BeginInTurns, due_is_unreplied}, PortLaws.same_eqb, PortRuns.{AreFinishedBut, none_map}, OneNote.{IsRightNote, AreRight, notes_same}}
 
 -- ---- the calls of one port, numbered
 
@@ -9,10 +9,10 @@ AreListedFrom q k [] = Unit {0}
 AreListedFrom q k (c ∷ cs) = (c.port ≡ q) × (c.number ≡ k) × (c.finish ≡ None → cs ≡ []) × AreListedFrom q (k + 1) cs
 
 pub own_call : (q : ℕ) (c : Called) (cs : List Called) → c.port ≡ q → calls_by q (c ∷ cs) ≡ c ∷ calls_by q cs
-own_call q c cs same = ap (λ (b : Bool). cond b (c ∷ calls_by q cs) (calls_by q cs)) (same_eqb c.port q same)
+own_call q c cs same = ap (λ (b : Bool). if b then c ∷ calls_by q cs else calls_by q cs) (same_eqb c.port q same)
 
 pub other_call : (q : ℕ) (c : Called) (cs : List Called) → c.port ≢ q → calls_by q (c ∷ cs) ≡ calls_by q cs
-other_call q c cs other = ap (λ (b : Bool). cond b (c ∷ calls_by q cs) (calls_by q cs)) (ne_eqb c.port q other)
+other_call q c cs other = ap (λ (b : Bool). if b then c ∷ calls_by q cs else calls_by q cs) (ne_eqb c.port q other)
 
 -- behind a call of a later port there is none of port q
 none_past : (n q : ℕ) (b : Called) (cs : List Called) → q < b.port → RealTime n (Some b) cs → calls_by q cs ≡ []

@@ -1,5 +1,5 @@
 -- Two outcomes of one plan tell the same.
-use Rattle.partial_replay.proofs.{Common.{ℕ, ◌≡◌, ◌<◌, ◌≤◌, ◌==◌, Bool, true, false, cond, List, [], ◌∷◌, length, map, get_or, Option, Some, None, refl, sym, ◌∙◌, ap, subst, inl, inr, arith, AllByRecursion, filter_map, cases_lt, eqb_tells, ext_get_or, Applied, Opening, Call, Called, IsInTime, RealTime, opening_is, PlanView, Event, AreOpeningWords, Layout, pool_base, total, record_value, Leads, words_after, fresh, step_of, HasLeastPlace, IsReplayOf, turn_lengths, Moment, event_entry, moments_from, moments_by, ports_of, events_in, turns_of, turns_by, lengths_in, MakeTurns, calls_by, steps_by, AreAllMade, HaveMade, Outcome}, OneList.{AreListedFrom, calls_listed, finished_but, AreMade, EndAlike, calls_same, own_call, other_call}, OneNote.notes_right, OneTrace.{moments_events, Goes, traces_same, plan_turns}, PortRuns.{PortAt, PortRun, next_at, RunOf, runs_of}, PortSteps.events_steps, TurnLengths.lengths_same}
+use Rattle.partial_replay.proofs.{Common.{ℕ, ◌≡◌, ◌<◌, ◌≤◌, ◌==◌, Bool, true, false, if◌then◌else◌, List, [], ◌∷◌, length, map, slice_index_or, Option, Some, None, refl, sym, ◌∙◌, ap, subst, inl, inr, arith, AllByRecursion, filter_map, cases_lt, eqb_tells, ext_get_or, Applied, Opening, Call, Called, IsInTime, RealTime, opening_is, PlanView, Event, AreOpeningWords, Layout, pool_base, total, record_value, Leads, words_after, fresh, step_of, HasLeastPlace, IsReplayOf, turn_lengths, Moment, event_entry, moments_from, moments_by, ports_of, events_in, turns_of, turns_by, lengths_in, MakeTurns, calls_by, steps_by, AreAllMade, HaveMade, Outcome}, OneList.{AreListedFrom, calls_listed, finished_but, AreMade, EndAlike, calls_same, own_call, other_call}, OneNote.notes_right, OneTrace.{moments_events, Goes, traces_same, plan_turns}, PortRuns.{PortAt, PortRun, next_at, RunOf, runs_of}, PortSteps.events_steps, TurnLengths.lengths_same}
 use Rattle.partial_replay.specs.OneOutcome.{PlansHaveOneOutcome}
 
 -- ---- the words and the trace
@@ -16,15 +16,15 @@ leads_same words last last' (e ∷ es) a b = leads_same (words_after words e.ste
 
 -- the ports as a plan opens
 abbrev opened_ports : PlanView → ℕ → PortAt
-opened_ports p q = next_at (fresh p.sizes q) (get_or p.ports q [])
+opened_ports p q = next_at (fresh p.sizes q) (slice_index_or p.ports q [])
 
 -- the calls of a port, numbered from 0
 listed_of : (p : PlanView) (x : Outcome) → IsReplayOf p x → (q : ℕ) → AreListedFrom q 0 (calls_by q x.calls.items)
 listed_of p x w q = calls_listed (length x.history.items) q None x.calls.items tt w.legal.time
 
 run_of : (p : PlanView) (x : Outcome) → IsReplayOf p x → (q : ℕ) →
-    RunOf (fresh p.sizes q) (get_or p.ports q []) (calls_by q x.calls.items) (map (λ (m : Moment). m.event) (moments_by p.sizes.m q x.trace.items))
-run_of p x w q = runs_of (fresh p.sizes q) ((w.events q).0) (get_or p.ports q []) (calls_by q x.calls.items) (moments_by p.sizes.m q x.trace.items) refl (w.calls q)
+    RunOf (fresh p.sizes q) (slice_index_or p.ports q []) (calls_by q x.calls.items) (map (λ (m : Moment). m.event) (moments_by p.sizes.m q x.trace.items))
+run_of p x w q = runs_of (fresh p.sizes q) ((w.events q).0) (slice_index_or p.ports q []) (calls_by q x.calls.items) (moments_by p.sizes.m q x.trace.items) refl (w.calls q)
     (finished_but q 0 (calls_by q x.calls.items) (listed_of p x w q)) (w.events q).1
 
 -- where each port ends
@@ -49,8 +49,8 @@ Stops p x w q = step_of (ports_last p x w q).core ≡ None
 
 turns_made : (p : PlanView) (x : Outcome) → (w : IsReplayOf p x) → MakeTurns (Stops p x w) (turns_of p) (ports_of x.trace.items)
 turns_made p x w = subst (MakeTurns (Stops p x w) (turns_of p)) (sym w.turns) (plan_turns (Stops p x w) p (λ q. steps_by q x.calls.items)
-    (λ is q. (run_of p x w q).done (rest_made p.rest (turns_by q p.steps) (steps_by q x.calls.items) (get_or p.ports q []) (calls_by q x.calls.items) is (w.made q)))
-    (λ is q less. (run_of p x w q).done (fewer_made p.rest (turns_by q p.steps) (steps_by q x.calls.items) (get_or p.ports q []) (calls_by q x.calls.items) is less (w.made q))))
+    (λ is q. (run_of p x w q).done (rest_made p.rest (turns_by q p.steps) (steps_by q x.calls.items) (slice_index_or p.ports q []) (calls_by q x.calls.items) is (w.made q)))
+    (λ is q less. (run_of p x w q).done (fewer_made p.rest (turns_by q p.steps) (steps_by q x.calls.items) (slice_index_or p.ports q []) (calls_by q x.calls.items) is less (w.made q))))
 
 -- ---- the calls of all ports
 
@@ -104,7 +104,7 @@ all_by : (P : Called → Type 0) (q : ℕ) (cs : List Called) → AllByRecursion
 all_by P q [] w = tt
 all_by P q (c ∷ cs) w = kept (c.port == q) (calls_by q cs) (all_by P q cs w.1)
   where
-    kept : (b : Bool) (l : List Called) → AllByRecursion P l → AllByRecursion P (cond b (c ∷ l) l)
+    kept : (b : Bool) (l : List Called) → AllByRecursion P l → AllByRecursion P (if b then c ∷ l else l)
     kept true l v = (w.0, v)
     kept false l v = v
 
@@ -113,7 +113,7 @@ all_in_time n b [] w = tt
 all_in_time n b (c ∷ cs) w = (w.1, all_in_time n (Some c) cs w.2)
 
 made_of : (p : PlanView) (x : Outcome) → IsReplayOf p x → (q : ℕ) →
-    AreMade x.opening x.history.items q (turn_lengths p x q) (get_or p.ports q []) 0 0 (fresh p.sizes q) (moments_by p.sizes.m q x.trace.items) (calls_by q x.calls.items)
+    AreMade x.opening x.history.items q (turn_lengths p x q) (slice_index_or p.ports q []) 0 0 (fresh p.sizes q) (moments_by p.sizes.m q x.trace.items) (calls_by q x.calls.items)
 made_of p x w q = record {
   first = w.calls q;
   listed = listed_of p x w q;
@@ -154,7 +154,7 @@ plans_have_one_outcome p a b w v =
     lengths_same q (turns_of p) (λ r. steps_by r b.calls.items) (λ r. steps_by r a.calls.items) 0 (moments_from z.m 0 b.trace.items) steps
     ∙ ap (λ (es : List Event). lengths_in q (turns_of p) (λ r. steps_by r a.calls.items) 0 (moments_from z.m 0 es)) (sym trace) in
     let own : (q : ℕ) → calls_by q a.calls.items ≡ calls_by q b.calls.items = λ q.
-    let plan = get_or p.ports q [] in
+    let plan = slice_index_or p.ports q [] in
     let ds = calls_by q b.calls.items in
     let first = fresh z q in
     let other : AreMade a.opening a.history.items q (turn_lengths p a q) plan 0 0 first (moments_by z.m q a.trace.items) ds =

@@ -1,5 +1,5 @@
 -- A plan has one trace: each port's next step is told by its machine, its answer by the words, and the next port by the turns.
-use Rattle.partial_replay.proofs.{Common.{ℕ, zero, suc, ◌≡◌, ◌≢◌, ◌+◌, ◌-◌, ◌<◌, ◌≤◌, ◌==◌, ◌++◌, min, Bool, true, false, cond, List, [], ◌∷◌, length, map, replicate, Option, Some, None, refl, sym, ◌∙◌, ap, subst, inl, inr, arith, filter, range_with_len, ne_eqb, eqb_tells, sum_by-cons, Step, Event, Leads, answer_of, words_after, step_of, Moment, adds, moments_from, ports_of, events_in, so_many, to_its_end, made_in, left_behind, ports_in, turns_by, turns_of, PlanView, HasTurns, MakeTurns}, PortLaws.same_eqb, TurnLaws.{events_own, events_other}, PortRuns.{PortAt, PortRun, port_behind}}
+use Rattle.partial_replay.proofs.{Common.{ℕ, zero, suc, ◌≡◌, ◌≢◌, ◌+◌, ◌-◌, ◌<◌, ◌≤◌, ◌==◌, ◌++◌, min, Bool, true, false, if◌then◌else◌, List, [], ◌∷◌, length, map, replicate, Option, Some, None, refl, sym, ◌∙◌, ap, subst, inl, inr, arith, filter, range_with_len, ne_eqb, eqb_tells, sum_by-cons, Step, Event, Leads, answer_of, words_after, step_of, Moment, adds, moments_from, ports_of, events_in, so_many, to_its_end, made_in, left_behind, ports_in, turns_by, turns_of, PlanView, HasTurns, MakeTurns}, PortLaws.same_eqb, TurnLaws.{events_own, events_other}, PortRuns.{PortAt, PortRun, port_behind}}
 
 -- the events of port q
 abbrev pub events_of : ℕ → List Event → List Event
@@ -10,19 +10,20 @@ moments_events m n q [] = refl
 moments_events m n q (e ∷ es) = kept (e.port == q) (record { event = e; before = n; behind = n + adds m e }) (filter (λ (x : Moment). x.event.port == q) (moments_from m (n + adds m e) es))
     (events_of q es) (moments_events m (n + adds m e) q es)
   where
-    kept : (b : Bool) (x : Moment) (xs : List Moment) (fs : List Event) → map (λ (y : Moment). y.event) xs ≡ fs → map (λ (y : Moment). y.event) (cond b (x ∷ xs) xs) ≡ cond b (x.event ∷ fs) fs
+    kept : (b : Bool) (x : Moment) (xs : List Moment) (fs : List Event) → map (λ (y : Moment). y.event) xs ≡ fs → map (λ (y : Moment). y.event) (if b then x ∷ xs else xs)
+        ≡ (if b then x.event ∷ fs else fs)
     kept true x xs fs same = ap (λ (l : List Event). x.event ∷ l) same
     kept false x xs fs same = same
 
 own_first : (e : Event) (es : List Event) (q : ℕ) → e.port ≡ q → events_of q (e ∷ es) ≡ e ∷ events_of q es
-own_first e es q same = ap (λ (b : Bool). cond b (e ∷ events_of q es) (events_of q es)) (same_eqb e.port q same)
+own_first e es q same = ap (λ (b : Bool). if b then e ∷ events_of q es else events_of q es) (same_eqb e.port q same)
 
 other_first : (e : Event) (es : List Event) (q : ℕ) → e.port ≢ q → events_of q (e ∷ es) ≡ events_of q es
-other_first e es q other = ap (λ (b : Bool). cond b (e ∷ events_of q es) (events_of q es)) (ne_eqb e.port q other)
+other_first e es q other = ap (λ (b : Bool). if b then e ∷ events_of q es else events_of q es) (ne_eqb e.port q other)
 
 -- the ports, of which one has come to another place
 abbrev pub with_port : ℕ → PortAt → (ℕ → PortAt) → ℕ → PortAt
-with_port p at ports q = cond (q == p) at (ports q)
+with_port p at ports q = if q == p then at else ports q
 
 -- these events lead the ports and the words to the last ones: each is the due step of its port, with the answer that the words give
 pub record Goes (ports : ℕ → PortAt) (words : List ℕ) (es : List Event) (last : List ℕ) (final : ℕ → PortAt) : Type 0 where
@@ -47,10 +48,10 @@ first_of ports words e es last final g =
         leads = g.leads.1;
         runs = λ q. elim (eqb_tells q p) [
           | inl same ↦
-              let here : next ≡ with_port p next ports q = sym (ap (λ (b : Bool). cond b next (ports q)) same.0) in
+              let here : next ≡ with_port p next ports q = sym (ap (λ (b : Bool). if b then next else ports q) same.0) in
               subst (λ (a : PortAt). PortRun a (events_of q es) (final q)) here (subst (λ r. PortRun next (events_of r es) (final r)) (sym same.1) own.1)
           | inr other ↦
-              let here : ports q ≡ with_port p next ports q = sym (ap (λ (b : Bool). cond b next (ports q)) other.0) in
+              let here : ports q ≡ with_port p next ports q = sym (ap (λ (b : Bool). if b then next else ports q) other.0) in
               subst (λ (a : PortAt). PortRun a (events_of q es) (final q)) here (subst (λ (l : List Event). PortRun (ports q) l (final q)) (other_first e es q (λ h. other.1 (sym h))) (g.runs q))
         ];
       };
@@ -82,7 +83,7 @@ stopped ports words es last final p g none done =
     own_count q [] = refl
     own_count q (e ∷ l) = kept (e.port == q) e (events_of q l) (filter (λ r. r == q) (ports_of l)) (own_count q l)
       where
-        kept : (b : Bool) (x : Event) (xs : List Event) (ps : List ℕ) → length xs ≡ length ps → length (cond b (x ∷ xs) xs) ≡ length (cond b (x.port ∷ ps) ps)
+        kept : (b : Bool) (x : Event) (xs : List Event) (ps : List ℕ) → length xs ≡ length ps → length (if b then x ∷ xs else xs) ≡ length (if b then x.port ∷ ps else ps)
         kept true x xs ps same = ap suc same
         kept false x xs ps same = same
 
@@ -160,10 +161,10 @@ made_few None left = omega arith
 made_few (Some k) left = omega arith
 
 left_own : (e : ℕ × Option ℕ) (left : ℕ → ℕ) → left_behind e left e.0 ≡ left e.0 - made_in e.1 (left e.0)
-left_own e left = ap (λ (b : Bool). cond b (left e.0 - made_in e.1 (left e.0)) (left e.0)) (same_eqb e.0 e.0 refl)
+left_own e left = ap (λ (b : Bool). if b then left e.0 - made_in e.1 (left e.0) else left e.0) (same_eqb e.0 e.0 refl)
 
 left_other : (e : ℕ × Option ℕ) (left : ℕ → ℕ) (q : ℕ) → q ≢ e.0 → left_behind e left q ≡ left q
-left_other e left q other = ap (λ (b : Bool). cond b (left q - made_in e.1 (left q)) (left q)) (ne_eqb q e.0 other)
+left_other e left q other = ap (λ (b : Bool). if b then left q - made_in e.1 (left q) else left q) (ne_eqb q e.0 other)
 
 ports_few : (es : List (ℕ × Option ℕ)) (left : ℕ → ℕ) (q : ℕ) → events_in q (ports_in es left) ≤ left q
 ports_few [] left q = omega arith
@@ -206,23 +207,23 @@ ends_made D done (q ∷ qs) left = (
 -- so many turns of each port, where one that makes fewer steps than it has turns has made its calls
 turns_left : (e : ℕ × ℕ) (steps : List (ℕ × ℕ)) (left : ℕ → ℕ) (q : ℕ) → left_behind (so_many e) left q < turns_by q steps → left q < turns_by q (e ∷ steps)
 turns_left e steps left q less =
-    let sum = sum_by-cons (λ (d : ℕ × ℕ). cond (d.0 == q) d.1 0) e steps in
+    let sum = sum_by-cons (λ (d : ℕ × ℕ). if d.0 == q then d.1 else 0) e steps in
     elim (eqb_tells q e.0) [
       | inl same ↦
           let left' : left_behind (so_many e) left q ≡ left q - min e.1 (left q) = ap (left_behind (so_many e) left) same.1 ∙ left_own
           (so_many e) left ∙ ap (λ r. left r - min e.1 (left r)) (sym same.1) in
-          let own : cond (e.0 == q) e.1 0 ≡ e.1 = ap (λ (b : Bool). cond b e.1 0) (same_eqb e.0 q (sym same.1)) in
+          let own : (if e.0 == q then e.1 else 0) ≡ e.1 = ap (λ (b : Bool). if b then e.1 else 0) (same_eqb e.0 q (sym same.1)) in
           omega (arith, sum, left', own, less)
       | inr other ↦
           let left' = left_other (so_many e) left q other.1 in
-          let own : cond (e.0 == q) e.1 0 ≡ 0 = ap (λ (b : Bool). cond b e.1 0) (ne_eqb e.0 q (λ h. other.1 (sym h))) in
+          let own : (if e.0 == q then e.1 else 0) ≡ 0 = ap (λ (b : Bool). if b then e.1 else 0) (ne_eqb e.0 q (λ h. other.1 (sym h))) in
           omega (arith, sum, left', own, less)
     ]
 
 turns_here : (e : ℕ × ℕ) (steps : List (ℕ × ℕ)) (left : ℕ → ℕ) → min e.1 (left e.0) < e.1 → left e.0 < turns_by e.0 (e ∷ steps)
 turns_here e steps left less =
-    let sum = sum_by-cons (λ (d : ℕ × ℕ). cond (d.0 == e.0) d.1 0) e steps in
-    let own : cond (e.0 == e.0) e.1 0 ≡ e.1 = ap (λ (b : Bool). cond b e.1 0) (same_eqb e.0 e.0 refl) in
+    let sum = sum_by-cons (λ (d : ℕ × ℕ). if d.0 == e.0 then d.1 else 0) e steps in
+    let own : (if e.0 == e.0 then e.1 else 0) ≡ e.1 = ap (λ (b : Bool). if b then e.1 else 0) (same_eqb e.0 e.0 refl) in
     omega (arith, sum, own, less)
 
 some_made : (D : ℕ → Type 0) (steps : List (ℕ × ℕ)) (ends : List (ℕ × Option ℕ)) (left : ℕ → ℕ) → ((q : ℕ) → left q < turns_by q steps → D q) →
@@ -245,7 +246,7 @@ pub plan_turns : (D : ℕ → Type 0) (p : PlanView) (left : ℕ → ℕ) → (p
 plan_turns D p left rest stops = at p.rest refl
   where
     at : (b : Bool) → p.rest ≡ b →
-        MakeTurns D (map so_many p.steps ++ cond b (map to_its_end (range_with_len 0 (length p.ports))) [])
-        (ports_in (map so_many p.steps ++ cond b (map to_its_end (range_with_len 0 (length p.ports))) []) left)
+        MakeTurns D (map so_many p.steps ++ (if b then map to_its_end (range_with_len 0 (length p.ports)) else []))
+        (ports_in (map so_many p.steps ++ (if b then map to_its_end (range_with_len 0 (length p.ports)) else [])) left)
     at true is = some_made D p.steps (map to_its_end (range_with_len 0 (length p.ports))) left (λ q less. rest is q) (ends_made D (rest is) (range_with_len 0 (length p.ports)))
     at false is = some_made D p.steps [] left (stops is) (λ left'. refl)

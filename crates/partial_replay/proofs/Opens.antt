@@ -1,5 +1,5 @@
 -- A replay as it opens, and what it lists in the end.
-use Rattle.partial_replay.proofs.{Common.{ℕ, zero, suc, ◌^◌, append_assoc, ◌≡◌, ◌+◌, ◌<◌, ◌≤◌, ◌++◌, List, [], ◌∷◌, length, take, get_or, Option, Some, None, MatchOption, slice_get, refl, sym, ◌∙◌, ap, subst, arith, map, IfSome, AllByRecursion, Opening, Call, Called, LegalNotes, seen_by, places_written, Layout, IsLayout, pool_base, AreOpeningWords, CoreState, fresh, IsSound, rests_are_sound, Part, fresh_parts, IsBetween, IsMarkedLike, opens_lawful, Port, UnderWay, unfinished_call, AreFinished, IsCallUnderWay, PortFits, notes_in, ends_of, IsCallGoing, HasTurned, steps_under_way, PortsFit, IsRunOf, FreshFrom, AreFreshPorts, AreListed, ArePlans, left_over, calls_in, ArePortsMade, AreStarted, IsSome, zip, append-nil, Applied, HasLeastPlace, Moment, AreStepsOf, BeginInTurns, StopsAtStep, steps_in, EndInStep, AreFew, place_below, filter_map, Event, Leads, Lawful, ReplayState, unvalued, event_entry, moments_by, no_ports, first_port, some_same, PortAt}, PortLaws.{some_is, under_way}}
+use Rattle.partial_replay.proofs.{Common.{ℕ, zero, suc, ◌^◌, append_assoc, ◌≡◌, ◌+◌, ◌<◌, ◌≤◌, ◌++◌, List, [], ◌∷◌, length, take, slice_index_or, Option, Some, None, MatchOption, slice_get, refl, sym, ◌∙◌, ap, subst, arith, map, IfSome, AllByRecursion, Opening, Call, Called, LegalNotes, seen_by, places_written, Layout, IsLayout, pool_base, AreOpeningWords, CoreState, fresh, IsSound, rests_are_sound, Part, fresh_parts, IsBetween, IsMarkedLike, opens_lawful, Port, UnderWay, unfinished_call, AreFinished, IsCallUnderWay, PortFits, notes_in, ends_of, IsCallGoing, HasTurned, steps_under_way, PortsFit, IsRunOf, FreshFrom, AreFreshPorts, AreListed, ArePlans, left_over, calls_in, ArePortsMade, AreStarted, IsSome, zip, append-nil, Applied, HasLeastPlace, Moment, AreStepsOf, BeginInTurns, StopsAtStep, steps_in, EndInStep, AreFew, place_below, filter_map, Event, Leads, Lawful, ReplayState, unvalued, event_entry, moments_by, no_ports, first_port, some_same, PortAt}, PortLaws.{some_is, under_way}}
 
 -- one fresh port more
 pub fresh_push : (z : Layout) (p : ℕ) (ports : List Port) (port : Port) → FreshFrom z p ports → port.number ≡ p + length ports → port.core ≡ fresh z port.number → port.finished.items ≡ [] →
@@ -124,7 +124,7 @@ run_listed m (first_port {calls = c} {port = t} f rest) served = (
 )
 
 -- the port at a place with its calls
-pub pair_at : (ports : List Port) (plans : List (List Call)) (n : ℕ) (port : Port) (calls : List Call) → (n < length (zip ports plans)) × ((port, calls) ≡ get_or (zip ports plans) n (port, calls)) →
+pub pair_at : (ports : List Port) (plans : List (List Call)) (n : ℕ) (port : Port) (calls : List Call) → (n < length (zip ports plans)) × ((port, calls) ≡ slice_index_or (zip ports plans) n (port, calls)) →
     PortAt plans ports n calls port
 pair_at [] plans n port calls here = let below = here.0 in absurd (omega (arith, below))
 pair_at (u ∷ ports) [] n port calls here = let below = here.0 in absurd (omega (arith, below))

@@ -1,5 +1,5 @@
 -- The least place that fits: where a call's note is legal, so is the one that is found from its begin on.
-use Rattle.partial_replay.proofs.Common.{ℕ, zero, suc, ◌≡◌, ◌≢◌, ◌+◌, ◌<◌, ◌≤◌, List, [], ◌∷◌, length, take, get_or, Option, Some, None, IfSome, Contains, slice_get, refl, sym, ◌∙◌, ap, inl, inr, arith, option_map, option_map_or, cases_lt, take-take, Applied, Opening, Call, Answer, Note, HaveDistinctStamps, IsHistory, last_entry, initial_stamp, stamp_of, Fits, IsTrueOf, IsEntryFor, place_of, shown_by, wrote, LastAt, last_at, place_below, AllByRecursion-get, Agrees, IsPlaceFrom, IsNoteFrom, IsLeastFrom, prefix_from}
+use Rattle.partial_replay.proofs.Common.{ℕ, zero, suc, ◌≡◌, ◌≢◌, ◌+◌, ◌<◌, ◌≤◌, List, [], ◌∷◌, length, take, slice_index, Option, Some, None, IfSome, Contains, slice_get, refl, sym, ◌∙◌, ap, inl, inr, arith, option_map, option_map_or, cases_lt, take-take, Applied, Opening, Call, Answer, Note, HaveDistinctStamps, IsHistory, last_entry, initial_stamp, stamp_of, Fits, IsTrueOf, IsEntryFor, place_of, shown_by, wrote, LastAt, last_at, place_below, AllByRecursion-get, Agrees, IsPlaceFrom, IsNoteFrom, IsLeastFrom, prefix_from}
 
 -- the place that is found is one of the history
 pub place_within : (h : List Applied) (began s : ℕ) (found : Option ℕ) → IsPlaceFrom h began s found → IfSome found (λ k. k < length h)
@@ -136,7 +136,7 @@ finds_place o h p began words (Call.Read j) (Answer.Read v s) (Note.Saw n) found
       fits = fits;
       true' = (
         omega (arith, l.least, w.0),
-        w.1 ∙ ap (λ (f : Option Applied). option_map_or (λ (e : Applied). e.value) f (get_or o.values j 0)) (sym l.same),
+        w.1 ∙ ap (λ (f : Option Applied). option_map_or (λ (e : Applied). e.value) f (slice_index o.values j)) (sym l.same),
         w.2 ∙ ap (λ (f : Option Applied). option_map_or (λ (e : Applied). e.stamp) f (initial_stamp o j)) (sym l.same),
       );
       behind = l.behind;

@@ -1,5 +1,5 @@
 -- How a port of a replay goes on as its part's port.
-use Rattle.partial_replay.proofs.Common.{ℕ, ◌==◌, ◌≢◌, set, inl, inr, zero, suc, ◌≡◌, ◌+◌, ◌<◌, ◌≤◌, ◌++◌, Bool, true, false, cond, List, [], ◌∷◌, length, take, map, get_or, Option, Some, None, IfSome, IsSomeAnd, MatchOption, slice_get, refl, sym, ◌∙◌, ap, subst, arith, length-append, AllByRecursion, cons_option, option_map, option_map_or, eqb_tells, false≢true, append-nil, length_push, map_push, take-append-le, Applied, Opening, Call, Refused, Answer, Note, Shows, IsLeastFrom, HasLeastPlace, Called, Finish, Noted, LegalNotes, IsLegal, MayBeRefused, seen_by, seen_after, shown_by, place_of, noted_of, places_written, wrote, AllByRecursion-push, LegalNotes-push, LegalNotes-grows, seen_by-push, places_written-push, Step, Layout, answer_of, words_after, Reply, Idle, ReadBegun, UpdateBegun, ScanBegun, Finished, CoreState, at_stage, advance, step_of, reply_at, reply_of, AreComponentIndices, IsSound, IsPossible, begin_scan, is_begun, is_at_rest, makes_steps, call_of, answer_for, begun_of, refusal_of, IsServed, steps_left, most_steps, Part, port_of, IsMachineOf, IsBetween, calls_begin, calls_are_refused_at_once, calls_begin_between, Port, UnderWay, IsRefusedAtOnce, IsFinishedAtOnce, end_of_call, ends_of, IsFinishedCall, AreFinished, notes_in, IsCallUnderWay, PortFits, IsDoneAtOnce, entry_at, one_step_more, IsEndedCall, CallGoesOn, Ends, StepMade, AreFew, place_below, IsSome, Vec, Global, HasBegun, Stage, some_same, Memory, core_behind, PortAt}
+use Rattle.partial_replay.proofs.Common.{ℕ, ◌==◌, ◌≢◌, slice_set, inl, inr, zero, suc, ◌≡◌, ◌+◌, ◌<◌, ◌≤◌, ◌++◌, Bool, true, false, if◌then◌else◌, List, [], ◌∷◌, length, take, map, slice_index_or, Option, Some, None, IfSome, IsSomeAnd, MatchOption, slice_get, refl, sym, ◌∙◌, ap, subst, arith, length-append, AllByRecursion, cons_option, option_map, option_map_or, eqb_tells, false≢true, append-nil, length_push, map_push, take-append-le, Applied, Opening, Call, Refused, Answer, Note, Shows, IsLeastFrom, HasLeastPlace, Called, Finish, Noted, LegalNotes, IsLegal, MayBeRefused, seen_by, seen_after, shown_by, place_of, noted_of, places_written, wrote, AllByRecursion-push, LegalNotes-push, LegalNotes-grows, seen_by-push, places_written-push, Step, Layout, answer_of, words_after, Reply, Idle, ReadBegun, UpdateBegun, ScanBegun, Finished, CoreState, at_stage, advance, step_of, reply_at, reply_of, AreComponentIndices, IsSound, IsPossible, begin_scan, is_begun, is_at_rest, makes_steps, call_of, answer_for, begun_of, refusal_of, IsServed, steps_left, most_steps, Part, port_of, IsMachineOf, IsBetween, calls_begin, calls_are_refused_at_once, calls_begin_between, Port, UnderWay, IsRefusedAtOnce, IsFinishedAtOnce, end_of_call, ends_of, IsFinishedCall, AreFinished, notes_in, IsCallUnderWay, PortFits, IsDoneAtOnce, entry_at, one_step_more, IsEndedCall, CallGoesOn, Ends, StepMade, AreFew, place_below, IsSome, Vec, Global, HasBegun, Stage, some_same, Memory, core_behind, PortAt}
 
 pub same_eqb : (a b : ℕ) → a ≡ b → (a == b) ≡ true
 same_eqb a b h = elim (eqb_tells a b) [ inl w ↦ w.0 | inr w ↦ absurd (w.1 h) ]
@@ -17,7 +17,7 @@ some_is None w = absurd (false≢true w)
 some_is (Some a) w = (a, refl)
 
 -- the element at a place
-pub get_is : {A : Type 0} (xs : List A) (k : ℕ) (d : A) → k < length xs → slice_get xs k ≡ Some (get_or xs k d)
+pub get_is : {A : Type 0} (xs : List A) (k : ℕ) (d : A) → k < length xs → slice_get xs k ≡ Some (slice_index_or xs k d)
 get_is [] k d below = absurd (omega arith)
 get_is (x ∷ xs) zero d below = refl
 get_is (x ∷ xs) (suc k) d below = get_is xs k d (omega arith)
@@ -30,12 +30,12 @@ take_next {A} (y ∷ ys) (suc k) x s =
     ap (λ n. take n (y ∷ ys)) e ∙ ap (λ (l : List A). y ∷ l) (take_next ys k x s)
 
 -- another element at a place
-pub get_set : {A : Type 0} (xs : List A) (i : ℕ) (a b : A) → slice_get xs i ≡ Some a → slice_get (set xs i b) i ≡ Some b
+pub get_set : {A : Type 0} (xs : List A) (i : ℕ) (a b : A) → slice_get xs i ≡ Some a → slice_get (slice_set xs i b) i ≡ Some b
 get_set [] i a b s = let bad : None ≡ Some a = s in cc
 get_set (x ∷ xs) zero a b s = refl
 get_set (x ∷ xs) (suc i) a b s = get_set xs i a b s
 
-pub get_set_other : {A : Type 0} (xs : List A) (i q : ℕ) (b : A) → q ≢ i → slice_get (set xs i b) q ≡ slice_get xs q
+pub get_set_other : {A : Type 0} (xs : List A) (i q : ℕ) (b : A) → q ≢ i → slice_get (slice_set xs i b) q ≡ slice_get xs q
 get_set_other [] i q b d = refl
 get_set_other (x ∷ xs) zero zero b d = absurd (d refl)
 get_set_other (x ∷ xs) zero (suc q) b d = refl
@@ -44,16 +44,16 @@ get_set_other (x ∷ xs) (suc i) (suc q) b d = get_set_other xs i q b (λ h. d (
 
 -- what holds of the port that was set, and of the others as they were, holds of each port then
 pub port_set : (ports : List Port) (i : ℕ) {port : Port} (new : Port) → slice_get ports i ≡ Some port → (q : ℕ) (R : Port → Type 0) → (q ≡ i → R new) →
-    (q ≢ i → (u : Port) → slice_get ports q ≡ Some u → R u) → (u : Port) → slice_get (set ports i new) q ≡ Some u → R u
+    (q ≢ i → (u : Port) → slice_get ports q ≡ Some u → R u) → (u : Port) → slice_get (slice_set ports i new) q ≡ Some u → R u
 port_set ports i {port} new t q R own others u is = elim (eqb_tells q i) [
-  | inl same ↦ subst R (some_same (sym (get_set ports i port new t) ∙ ap (slice_get (set ports i new)) (sym same.1) ∙ is)) (own same.1)
+  | inl same ↦ subst R (some_same (sym (get_set ports i port new t) ∙ ap (slice_get (slice_set ports i new)) (sym same.1) ∙ is)) (own same.1)
   | inr other ↦ others other.1 u (sym (get_set_other ports i q new other.1) ∙ is)
 ]
 
 -- the same of a port and its calls
 pub at_set : {plans : List (List Call)} {ports : List Port} {i : ℕ} {calls : List Call} {port : Port} (new : Port) → PortAt plans ports i calls port → (q : ℕ) (R : List Call → Port → Type 0) →
     (q ≡ i → PortAt plans ports q calls port → R calls new) → (q ≢ i → (ds : List Call) (u : Port) → PortAt plans ports q ds u → R ds u) →
-    (ds : List Call) (u : Port) → PortAt plans (set ports i new) q ds u → R ds u
+    (ds : List Call) (u : Port) → PortAt plans (slice_set ports i new) q ds u → R ds u
 at_set {plans} {ports} {i} {calls} {port} new at q R own others ds u now = port_set ports i new at.is q (R ds)
     (λ same. subst (λ (l : List Call). R l new) (some_same (sym at.plan ∙ ap (slice_get plans) (sym same) ∙ now.plan))
     (own same (subst (λ n. PortAt plans ports n calls port) (sym same) at)))
@@ -300,7 +300,7 @@ begun_fits {o} {log} {calls} {p} {x} {port} {new} {call} w none next served refu
     let going : IsCallUnderWay (length log) calls x c new.finished.items (record { began = length log; steps = 0 }) = record {
       call = call;
       next = ap (λ (l : List Called). slice_get calls (length l)) done ∙ next;
-      begun = ap (λ (b : Bool). call_of (cond b c x.begun)) begun ∙ ap call_of core ∙ b.called;
+      begun = ap (λ (b : Bool). call_of (if b then c else x.begun)) begun ∙ ap call_of core ∙ b.called;
       behind = subst (λ (l : List Called). ends_of 0 l ≤ length log) (sym done) low;
       within = omega arith;
       first = λ b. absurd (false≢true (sym b ∙ begun));
@@ -330,9 +330,9 @@ once_empty s (Call.Scan js) r is = at (length js == 0) refl
     at true e = (
       ap Call.Scan (no_position js e),
       (let same : Some (Reply.Scanned 0 None) ≡ Some r =
-          ap (λ (b : Bool). reply_at (cond b (Finished (Reply.Scanned 0 None)) ScanBegun)) (sym e) ∙ is in cc),
+          ap (λ (b : Bool). reply_at (if b then Finished (Reply.Scanned 0 None) else ScanBegun)) (sym e) ∙ is in cc),
     )
-    at false e = let bad : None ≡ Some r = ap (λ (b : Bool). reply_at (cond b (Finished (Reply.Scanned 0 None)) ScanBegun)) (sym e) ∙ is in cc
+    at false e = let bad : None ≡ Some r = ap (λ (b : Bool). reply_at (if b then Finished (Reply.Scanned 0 None) else ScanBegun)) (sym e) ∙ is in cc
 once_empty s (Call.Read j) r is = let bad : None ≡ Some r = is in cc
 once_empty s (Call.UpdateIf j x v) r is = let bad : None ≡ Some r = is in cc
 
@@ -425,7 +425,7 @@ once_fits {o} {log} {calls} {p} {x} {port} {new} {call} {c} w none next d number
     (subst (λ (f : Option UnderWay). MatchOption f (IsBetween x new.core) (IsCallUnderWay (length log) calls x new.core new.finished.items)) (sym way) e.between)
 
 -- the call that stands behind the finished ones
-pub call_at_place : (calls : List Call) (done : List Called) (n : ℕ) (call : Call) → n ≡ length done → n < length calls → call ≡ get_or calls n call → slice_get calls (length done) ≡ Some call
+pub call_at_place : (calls : List Call) (done : List Called) (n : ℕ) (call : Call) → n ≡ length done → n < length calls → call ≡ slice_index_or calls n call → slice_get calls (length done) ≡ Some call
 call_at_place calls done n call same below is = ap (slice_get calls) (sym same) ∙ get_is calls n call below ∙ ap Some (sym is)
 
 -- a machine between calls still has the values of its last scan

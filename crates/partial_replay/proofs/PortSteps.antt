@@ -1,5 +1,5 @@
 -- The events of a port are the steps of its calls.
-use Rattle.partial_replay.proofs.{Common.{ℕ, ◌≢◌, ◌≤◌, suc, ◌≡◌, ◌+◌, ◌<◌, ◌==◌, ◌++◌, Bool, true, false, cond, List, [], ◌∷◌, length, map, set, Option, Some, None, IfSome, MatchOption, slice_get, refl, sym, ◌∙◌, ap, subst, arith, append_assoc, length-append, AllByRecursion, filter, filter_map, cons_option, sum_by, option_map, is_some, IsSome, append-nil, length_push, length-map, sum_by-cons, false≢true, ne_eqb, filter-append, Applied, Call, Called, Finish, Opening, Step, Event, Layout, word_of, Reply, Idle, Finished, CoreState, at_stage, advance, step_of, reply_at, reply_of, fresh, IsPossible, Part, IsBetween, answer_for, is_at_rest, begun_of, refusal_of, Port, UnderWay, Moment, last_behind, adds, is_won, new_of, event_entry, moments_from, moments_by, ports_of, events_in, EndInStep, Makes, IsCallRun, AreStepsOf, IsCallUnderWay, PortFits, IsCallGoing, PortMade, KeepsMade, unfinished_call, began_at, IsDoneAtOnce, ended_call, one_step_more, CallGoesOn, Ends, StepMade, ArePortsMade, AreStarted, AreStartedBut, left_over, unvalued, StopsAtStep, Stage, some_same, Memory, core_behind, event_of, ReplayState, PortAt}, PortLaws.{same_eqb, get_set_other, port_set, at_set, step_cases}, Opens.over_none, LegalOutcomes.begun_by}
+use Rattle.partial_replay.proofs.{Common.{ℕ, ◌≢◌, ◌≤◌, suc, ◌≡◌, ◌+◌, ◌<◌, ◌==◌, ◌++◌, Bool, true, false, if◌then◌else◌, List, [], ◌∷◌, length, map, slice_set, Option, Some, None, IfSome, MatchOption, slice_get, refl, sym, ◌∙◌, ap, subst, arith, append_assoc, length-append, AllByRecursion, filter, filter_map, cons_option, sum_by, option_map, is_some, IsSome, append-nil, length_push, length-map, sum_by-cons, false≢true, ne_eqb, filter-append, Applied, Call, Called, Finish, Opening, Step, Event, Layout, word_of, Reply, Idle, Finished, CoreState, at_stage, advance, step_of, reply_at, reply_of, fresh, IsPossible, Part, IsBetween, answer_for, is_at_rest, begun_of, refusal_of, Port, UnderWay, Moment, last_behind, adds, is_won, new_of, event_entry, moments_from, moments_by, ports_of, events_in, EndInStep, Makes, IsCallRun, AreStepsOf, IsCallUnderWay, PortFits, IsCallGoing, PortMade, KeepsMade, unfinished_call, began_at, IsDoneAtOnce, ended_call, one_step_more, CallGoesOn, Ends, StepMade, ArePortsMade, AreStarted, AreStartedBut, left_over, unvalued, StopsAtStep, Stage, some_same, Memory, core_behind, event_of, ReplayState, PortAt}, PortLaws.{same_eqb, get_set_other, port_set, at_set, step_cases}, Opens.over_none, LegalOutcomes.begun_by}
 
 -- one call more
 pub steps_push : (s t u : CoreState) (cs : List Called) (c : Called) (xs own : List Moment) → AreStepsOf s cs xs t → IsCallRun t c own u → length own ≡ c.steps →
@@ -184,7 +184,7 @@ long_push : (m n : ℕ) (es : List Event) (e : Event) → long_by m n (es ++ e �
 long_push m n [] e = refl
 long_push m n (d ∷ es) e = long_push m (n + adds m d) es e
 
-long_entry : (b : Bool) (x : Applied) (xs : List Applied) → length (cons_option (cond b (Some x) None) xs) ≡ cond b 1 0 + length xs
+long_entry : (b : Bool) (x : Applied) (xs : List Applied) → length (cons_option (if b then Some x else None) xs) ≡ (if b then 1 else 0) + length xs
 long_entry true x xs = omega arith
 long_entry false x xs = omega arith
 
@@ -201,32 +201,32 @@ log_long m trace log same = let all = long_entries m 0 trace in let long : lengt
     ap length same ∙ length-map log unvalued in omega (arith, all, long)
 
 by_push : (m q n k : ℕ) (trace : List Event) (e : Event) → n ≡ long_by m 0 trace → k ≡ long_by m 0 (trace ++ e ∷ []) → moments_by m q (trace ++ e ∷ []) ≡ moments_by m q trace ++
-    cond (e.port == q) (record { event = e; before = n; behind = k } ∷ []) []
+    (if e.port == q then record { event = e; before = n; behind = k } ∷ [] else [])
 by_push m q n k trace e before behind =
     let last = long_push m 0 trace e in
     ap (filter (λ (x : Moment). x.event.port == q)) (moments_push m 0 trace e)
     ∙ filter-append (λ (x : Moment). x.event.port == q) (moments_from m 0 trace) (record { event = e; before = long_by m 0 trace; behind = long_by m 0 trace + adds m e } ∷ [])
-    ∙ ap (λ i. moments_by m q trace ++ cond (e.port == q) (record { event = e; before = i; behind = long_by m 0 trace + adds m e } ∷ []) []) (sym before)
-    ∙ ap (λ i. moments_by m q trace ++ cond (e.port == q) (record { event = e; before = n; behind = i } ∷ []) []) (sym last ∙ sym behind)
+    ∙ ap (λ i. moments_by m q trace ++ (if e.port == q then record { event = e; before = i; behind = long_by m 0 trace + adds m e } ∷ [] else [])) (sym before)
+    ∙ ap (λ i. moments_by m q trace ++ (if e.port == q then record { event = e; before = n; behind = i } ∷ [] else [])) (sym last ∙ sym behind)
 
 -- a step of port i, and a call that begins there
 pub ports_step : {plans : List (List Call)} (s : ReplayState) {now : Memory} {i : ℕ} {calls : List Call} {port new : Port} → ArePortsMade plans s →
     length s.memory.history.items ≡ long_by s.sizes.m 0 s.memory.trace.items → length now.history.items ≡ long_by s.sizes.m 0 now.trace.items → AreStartedBut i s.ports →
-    PortAt plans s.ports i calls port → port.number ≡ i → StepMade calls s.memory now port new → ArePortsMade plans (record s { memory = now; ports = set s.ports i new })
+    PortAt plans s.ports i calls port → port.number ≡ i → StepMade calls s.memory now port new → ArePortsMade plans (record s { memory = now; ports = slice_set s.ports i new })
 ports_step s {now} {calls} {port} {new} made before behind started at number m q =
     let n = length now.history.items in
     let x = moment_of s.memory now port.number m.step in
     let front = moments_by s.sizes.m q s.memory.trace.items in
-    let push : (b : Bool) → (port.number == q) ≡ b → front ++ cond b (x ∷ []) [] ≡ moments_by s.sizes.m q now.trace.items = λ b is.
+    let push : (b : Bool) → (port.number == q) ≡ b → front ++ (if b then x ∷ [] else []) ≡ moments_by s.sizes.m q now.trace.items = λ b is.
     sym (ap (moments_by s.sizes.m q) m.trace_is ∙ by_push s.sizes.m q (length s.memory.history.items) n s.memory.trace.items x.event before (behind ∙ ap (long_by s.sizes.m 0) m.trace_is)
-    ∙ ap (λ (c : Bool). front ++ cond c (x ∷ []) []) is) in
+    ∙ ap (λ (c : Bool). front ++ (if c then x ∷ [] else [])) is) in
     at_set new at q (λ ds u. PortMade s.sizes n ds q (moments_by s.sizes.m q now.trace.items) u)
     (λ same here. subst (λ (xs : List Moment). PortMade s.sizes n calls q xs new) (push true (same_eqb port.number q (number ∙ sym same))) (step_made m (made q calls port here)))
     (λ other ds u here. subst (λ (xs : List Moment). PortMade s.sizes n ds q xs u) (sym (append-nil front) ∙ push false (ne_eqb port.number q (λ h. other (sym h ∙ number))))
     (other_made n (λ v way. started q u v other here.is way) (made q ds u here)))
 
 pub ports_begin : {plans : List (List Call)} (s : ReplayState) {i : ℕ} {calls : List Call} {port new : Port} → ArePortsMade plans s → PortAt plans s.ports i calls port →
-    KeepsMade calls (length s.memory.history.items) port new → ArePortsMade plans (record s { ports = set s.ports i new })
+    KeepsMade calls (length s.memory.history.items) port new → ArePortsMade plans (record s { ports = slice_set s.ports i new })
 ports_begin s {calls} {port} {new} made at keeps q =
     let xs = moments_by s.sizes.m q s.memory.trace.items in
     at_set new at q (λ ds u. PortMade s.sizes (length s.memory.history.items) ds q xs u)
@@ -234,15 +234,15 @@ ports_begin s {calls} {port} {new} made at keeps q =
 
 -- the calls under way have made a step
 pub started_set : {plans : List (List Call)} {ports : List Port} {i : ℕ} {calls : List Call} {port : Port} (new : Port) → PortAt plans ports i calls port → AreStartedBut i ports →
-    ((way : UnderWay) → new.under_way ≡ Some way → 0 < way.steps) → AreStarted (set ports i new)
+    ((way : UnderWay) → new.under_way ≡ Some way → 0 < way.steps) → AreStarted (slice_set ports i new)
 started_set {ports} {i} new at started own q u way is under =
     port_set ports i new at.is q (λ (v : Port). (k : UnderWay) → v.under_way ≡ Some k → 0 < k.steps) (λ same. own) (λ other v here k. started q v k other here) u is way under
 
-pub started_but : (ports : List Port) (i : ℕ) (new : Port) → AreStarted ports → AreStartedBut i (set ports i new)
+pub started_but : (ports : List Port) (i : ℕ) (new : Port) → AreStarted ports → AreStartedBut i (slice_set ports i new)
 started_but ports i new started q u way other is under = started q u way (sym (get_set_other ports i q new other) ∙ is) under
 
 pub started_idle : {plans : List (List Call)} {ports : List Port} {i : ℕ} {calls : List Call} {port : Port} (new : Port) → PortAt plans ports i calls port → AreStarted ports →
-    new.under_way ≡ None → AreStarted (set ports i new)
+    new.under_way ≡ None → AreStarted (slice_set ports i new)
 started_idle new at started none = started_set new at (λ q u way other is under. started q u way is under) (λ way is. let bad : None ≡ Some way = sym none ∙ is in cc)
 
 pub step_started : {calls : List Call} {old now : Memory} {port new : Port} → StepMade calls old now port new → (way : UnderWay) → new.under_way ≡ Some way → 0 < way.steps
@@ -312,7 +312,7 @@ moment_ports m n q [] = refl
 moment_ports m n q (e ∷ es) = same_length (e.port == q) (record { event = e; before = n; behind = n + adds m e }) e.port
     (filter (λ (x : Moment). x.event.port == q) (moments_from m (n + adds m e) es)) (filter (λ r. r == q) (ports_of es)) (moment_ports m (n + adds m e) q es)
   where
-    same_length : (b : Bool) (x : Moment) (p : ℕ) (xs : List Moment) (ps : List ℕ) → length xs ≡ length ps → length (cond b (x ∷ xs) xs) ≡ length (cond b (p ∷ ps) ps)
+    same_length : (b : Bool) (x : Moment) (p : ℕ) (xs : List Moment) (ps : List ℕ) → length xs ≡ length ps → length (if b then x ∷ xs else xs) ≡ length (if b then p ∷ ps else ps)
     same_length true x p xs ps same = ap suc same
     same_length false x p xs ps same = same
 
@@ -324,8 +324,8 @@ past_moments : (m n q k : ℕ) (es : List Event) → k ≤ q → AllByRecursion 
 past_moments m n q k [] past w = refl
 past_moments m n q k (e ∷ es) past w =
     let away : e.port ≢ q = λ h. let below = w.0 in omega (arith, below, past, h) in
-    ap (λ (b : Bool). cond b (record { event = e; before = n; behind = n + adds m e } ∷ filter (λ (x : Moment). x.event.port == q) (moments_from m (n + adds m e) es))
-    (filter (λ (x : Moment). x.event.port == q) (moments_from m (n + adds m e) es))) (ne_eqb e.port q away)
+    ap (λ (b : Bool). if b then (record { event = e; before = n; behind = n + adds m e } ∷ filter (λ (x : Moment). x.event.port == q) (moments_from m (n + adds m e) es))
+    else filter (λ (x : Moment). x.event.port == q) (moments_from m (n + adds m e) es)) (ne_eqb e.port q away)
     ∙ past_moments m (n + adds m e) q k es past w.1
 
 pub none_moments : (m q k : ℕ) (es : List Event) → k ≤ q → AllByRecursion (λ (e : Event). e.port < k) es → moments_by m q es ≡ []
@@ -337,11 +337,11 @@ last_step [] c some = some
 last_step (d ∷ []) c some = some
 last_step (d ∷ e ∷ cs) c some = last_step (e ∷ cs) c some
 
-pub ending_but : (ports : List Port) (i : ℕ) (new : Port) (q : ℕ) → q ≢ i → StopsAtStep ports q → StopsAtStep (set ports i new) q
+pub ending_but : (ports : List Port) (i : ℕ) (new : Port) (q : ℕ) → q ≢ i → StopsAtStep ports q → StopsAtStep (slice_set ports i new) q
 ending_but ports i new q other ends u is none = ends u (sym (get_set_other ports i q new other) ∙ is) none
 
 pub ending_with : {plans : List (List Call)} {ports : List Port} {i : ℕ} {calls : List Call} {port : Port} (new : Port) → PortAt plans ports i calls port →
-    (new.under_way ≡ None → EndInStep new.finished.items) → (q : ℕ) → (q ≢ i → StopsAtStep ports q) → StopsAtStep (set ports i new) q
+    (new.under_way ≡ None → EndInStep new.finished.items) → (q : ℕ) → (q ≢ i → StopsAtStep ports q) → StopsAtStep (slice_set ports i new) q
 ending_with {ports} {i} new at own q ends = port_set ports i new at.is q (λ (u : Port). u.under_way ≡ None → EndInStep u.finished.items) (λ same. own) ends
 
 pub step_ending : {calls : List Call} {old now : Memory} {port new : Port} → StepMade calls old now port new → new.under_way ≡ None → EndInStep new.finished.items

@@ -1,5 +1,5 @@
 -- What a replay has come to is an outcome of its plan.
-use Rattle.partial_replay.proofs.{Common.{ℕ, Bool, true, false, cond, zero, suc, ◌⊎◌, ◌≡◌, ◌<◌, ◌≤◌, ◌==◌, List, [], ◌∷◌, length, map, take, get_or, Some, slice_get, refl, sym, ◌∙◌, ap, subst, inl, inr, arith, filter_map, sum_by, AllByRecursion, get_or_from_slice_get, Applied, Opening, Call, Called, LegalOutcome, Event, Layout, pool_base, record_value, Leads, Agrees, AreOpeningWords, sum_by-cons, PlanView, CoreState, fresh, AreStepsOf, most_steps, Port, Run, HasLeastPlace, event_entry, moments_from, moments_by, ports_of, events_in, turns_of, turns_by, ports_in, lengths_in, BeginInTurns, calls_by, steps_by, AreFirstOf, AreAllMade, EndInStep, HaveMade, AreFew, IsReplayOf, turn_lengths, AreStarted, IsRunOf, TellsOutcome, calls_in, StopsAtStep, StopAtSteps, IsPortDone, BeganInTurns, lengths_so_far, lawful_ports_fit, place_below, Outcome, ReplayState, PortAt, HasReplayed}, PortSteps.{ending_begun, steps_begun, events_steps, none_moments}, RunLaws.PartAt, RunSteps.{ports_length, part_at}, LegalOutcomes.{begun_by, few_told, least_told, run_legal, listed_at, none_listed, first_begun, all_made}, TurnLaws.{follows_ports, turns_told}, TurnLengths.lengths_same, PortTurns.turns_over, Traces.entries_told}
+use Rattle.partial_replay.proofs.{Common.{ℕ, Bool, true, false, if◌then◌else◌, zero, suc, ◌⊎◌, ◌≡◌, ◌<◌, ◌≤◌, ◌==◌, List, [], ◌∷◌, length, map, take, slice_index_or, Some, slice_get, refl, sym, ◌∙◌, ap, subst, inl, inr, arith, filter_map, sum_by, AllByRecursion, get_or_from_slice_get, Applied, Opening, Call, Called, LegalOutcome, Event, Layout, pool_base, record_value, Leads, Agrees, AreOpeningWords, sum_by-cons, PlanView, CoreState, fresh, AreStepsOf, most_steps, Port, Run, HasLeastPlace, event_entry, moments_from, moments_by, ports_of, events_in, turns_of, turns_by, ports_in, lengths_in, BeginInTurns, calls_by, steps_by, AreFirstOf, AreAllMade, EndInStep, HaveMade, AreFew, IsReplayOf, turn_lengths, AreStarted, IsRunOf, TellsOutcome, calls_in, StopsAtStep, StopAtSteps, IsPortDone, BeganInTurns, lengths_so_far, lawful_ports_fit, place_below, Outcome, ReplayState, PortAt, HasReplayed}, PortSteps.{ending_begun, steps_begun, events_steps, none_moments}, RunLaws.PartAt, RunSteps.{ports_length, part_at}, LegalOutcomes.{begun_by, few_told, least_told, run_legal, listed_at, none_listed, first_begun, all_made}, TurnLaws.{follows_ports, turns_told}, TurnLengths.lengths_same, PortTurns.turns_over, Traces.entries_told}
 
 -- a place of a list is in it or behind it
 pub at_place : {A : Type 0} (xs : List A) (i : ℕ) → ((x : A) × (slice_get xs i ≡ Some x)) ⊎ (length xs ≤ i)
@@ -7,7 +7,7 @@ at_place [] i = inr (omega arith)
 at_place (x ∷ xs) zero = inl (x, refl)
 at_place (x ∷ xs) (suc i) = elim (at_place xs i) [ inl found ↦ inl found | inr past ↦ inr (omega (arith, past)) ]
 
-pub past_get : {A : Type 0} (xs : List A) (i : ℕ) (d : A) → length xs ≤ i → get_or xs i d ≡ d
+pub past_get : {A : Type 0} (xs : List A) (i : ℕ) (d : A) → length xs ≤ i → slice_index_or xs i d ≡ d
 past_get [] i d past = refl
 past_get (x ∷ xs) zero d past = absurd (omega (arith, past))
 past_get (x ∷ xs) (suc i) d past = past_get xs i d (omega (arith, past))
@@ -26,7 +26,7 @@ module _ {plans : List (List Call)} {s : ReplayState} (w : IsRunOf plans s) wher
     at : PortAt plans s.ports q calls port
     part : PartAt plans s q calls port
     is : calls_by q listed ≡ begun_by calls port
-    plan : get_or plans q [] ≡ calls
+    plan : slice_index_or plans q [] ≡ calls
 
   abbrev lists_at : (q : ℕ) (calls : List Call) (port : Port) → PortAt plans s.ports q calls port → Lists q
   lists_at q calls port at =
@@ -40,7 +40,7 @@ module _ {plans : List (List Call)} {s : ReplayState} (w : IsRunOf plans s) wher
       }
 
   -- what holds of the calls that a port of the plan lists, and of none at a port that the plan doesn't have, holds of each port's
-  each_lists : (P : List Call → List Called → Type 0) (q : ℕ) → ((l : Lists q) → P l.calls (begun_by l.calls l.port)) → (length plans ≤ q → P [] []) → P (get_or plans q []) (calls_by q listed)
+  each_lists : (P : List Call → List Called → Type 0) (q : ℕ) → ((l : Lists q) → P l.calls (begun_by l.calls l.port)) → (length plans ≤ q → P [] []) → P (slice_index_or plans q []) (calls_by q listed)
   each_lists P q own past = elim (at_place plans q) [
     | inl found ↦
         let same = ports_length w.fit in
@@ -56,17 +56,17 @@ module _ {plans : List (List Call)} {s : ReplayState} (w : IsRunOf plans s) wher
         (subst (P []) (sym (none_listed q (inr (omega (arith, beyond))) w.fit)) (past beyond))
   ]
 
-  pub calls_told : (q : ℕ) → AreFirstOf (get_or plans q []) (calls_by q listed)
+  pub calls_told : (q : ℕ) → AreFirstOf (slice_index_or plans q []) (calls_by q listed)
   calls_told q = each_lists AreFirstOf q (λ l. first_begun l.part.fits) (λ past. refl)
 
   -- a port that has made all its calls lists them all, and one that the plan doesn't have lists none
-  pub done_told : (q : ℕ) → IsPortDone plans s.ports q → AreAllMade (get_or plans q []) (calls_by q listed)
+  pub done_told : (q : ℕ) → IsPortDone plans s.ports q → AreAllMade (slice_index_or plans q []) (calls_by q listed)
   done_told q d =
       let l = lists_at q d.calls d.port d.at in
-      subst (AreAllMade (get_or plans q [])) (sym l.is)
+      subst (AreAllMade (slice_index_or plans q [])) (sym l.is)
       (subst (λ (e : List Call). AreAllMade e (begun_by d.calls d.port)) (sym l.plan) (all_made l.part.fits d.idle d.all))
 
-  pub past_told : (q : ℕ) → length plans ≤ q → AreAllMade (get_or plans q []) (calls_by q listed)
+  pub past_told : (q : ℕ) → length plans ≤ q → AreAllMade (slice_index_or plans q []) (calls_by q listed)
   past_told q past = each_lists AreAllMade q (λ l. let below = place_below plans q l.calls l.at.plan in absurd (omega (arith, below, past))) (λ _. (refl, tt))
 
   -- each port's events are the steps of the calls that it lists
@@ -88,7 +88,7 @@ few_by : (z : Layout) (q : ℕ) (cs : List Called) → AreFew z cs → AreFew z 
 few_by z q [] w = tt
 few_by z q (c ∷ cs) w = kept (c.port == q) (calls_by q cs) (few_by z q cs w.1)
   where
-    kept : (b : Bool) (rest : List Called) → AreFew z rest → AreFew z (cond b (c ∷ rest) rest)
+    kept : (b : Bool) (rest : List Called) → AreFew z rest → AreFew z (if b then c ∷ rest else rest)
     kept true rest few = (w.0, few)
     kept false rest few = few
 
@@ -146,15 +146,15 @@ replay_told p run outcome replayed ends t =
     let steps : (q : ℕ) → steps_by q calls ≡ events_in q ports = λ q. events_steps (fresh z q) (events q).0 z.m q run.memory.trace.items (calls_by q calls) (events q).1 in
     let ending : (q : ℕ) → p.rest ≡ false → events_in q ports ≡ turns_by q p.steps → EndInStep (calls_by q calls) = λ q no same.
     ending_told w started q (ends no q same) in
-    let made : (q : ℕ) → HaveMade p.rest (turns_by q p.steps) (steps_by q calls) (get_or p.ports q []) (calls_by q calls) = λ q.
-    subst (λ n. HaveMade p.rest (turns_by q p.steps) n (get_or p.ports q []) (calls_by q calls)) (sym (steps q))
+    let made : (q : ℕ) → HaveMade p.rest (turns_by q p.steps) (steps_by q calls) (slice_index_or p.ports q []) (calls_by q calls) = λ q.
+    subst (λ n. HaveMade p.rest (turns_by q p.steps) n (slice_index_or p.ports q []) (calls_by q calls)) (sym (steps q))
     (turns_told D p ports q (calls_by q calls) (done_told w q) (past_told w q) (ending q) f) in
     let turns : ports ≡ ports_in (turns_of p) (λ q. steps_by q calls) = follows_ports D (turns_of p) ports (λ q. steps_by q calls) steps f in
     let entries = entries_told z.m o run.memory.words.items run.memory.trace.items run.memory.history.items w.lawful.memory.history w.lawful.memory.agrees w.entries in
-    let firsts : (q : ℕ) → AreFirstOf (get_or p.ports q []) (calls_by q outcome.calls.items) = λ q. subst (λ (l : List Called). AreFirstOf (get_or p.ports q []) (calls_by q l)) (sym t.calls)
+    let firsts : (q : ℕ) → AreFirstOf (slice_index_or p.ports q []) (calls_by q outcome.calls.items) = λ q. subst (λ (l : List Called). AreFirstOf (slice_index_or p.ports q []) (calls_by q l)) (sym t.calls)
     (calls_told w q) in
-    let all_made : (q : ℕ) → HaveMade p.rest (turns_by q p.steps) (steps_by q outcome.calls.items) (get_or p.ports q []) (calls_by q outcome.calls.items) =
-    λ q. subst (λ (l : List Called). HaveMade p.rest (turns_by q p.steps) (steps_by q l) (get_or p.ports q []) (calls_by q l)) (sym t.calls) (made q) in
+    let all_made : (q : ℕ) → HaveMade p.rest (turns_by q p.steps) (steps_by q outcome.calls.items) (slice_index_or p.ports q []) (calls_by q outcome.calls.items) =
+    λ q. subst (λ (l : List Called). HaveMade p.rest (turns_by q p.steps) (steps_by q l) (slice_index_or p.ports q []) (calls_by q l)) (sym t.calls) (made q) in
     let lengths : (q : ℕ) → lengths_so_far q (turns_of p) run ≡ turn_lengths p outcome q = λ q.
     lengths_same q (turns_of p) (λ r. events_in r ports) (λ r. steps_by r calls) 0 (moments_from z.m 0 run.memory.trace.items) (λ r. sym (steps r))
     ∙ ap (λ (l : List Called). lengths_in q (turns_of p) (λ r. steps_by r l) 0 (moments_from z.m 0 run.memory.trace.items)) (sym t.calls)
@@ -189,6 +189,6 @@ replay_told p run outcome replayed ends t =
       turns = ap ports_of t.trace ∙ turns ∙ ap (λ (l : List Called). ports_in (turns_of p) (λ q. steps_by q l)) (sym t.calls);
       begins = begins;
       few = few;
-      waits = λ q less. calls_wait p.sizes p.rest (turns_by q p.steps) (get_or p.ports q []) (calls_by q outcome.calls.items) (few_by p.sizes q outcome.calls.items few) (firsts q) less (all_made q);
+      waits = λ q less. calls_wait p.sizes p.rest (turns_by q p.steps) (slice_index_or p.ports q []) (calls_by q outcome.calls.items) (few_by p.sizes q outcome.calls.items few) (firsts q) less (all_made q);
       made = all_made;
     }

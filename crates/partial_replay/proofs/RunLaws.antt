@@ -1,5 +1,5 @@
 -- A step of a port keeps a replay's state lawful.
-use Rattle.partial_replay.proofs.{Common.{ℕ, ◌≡◌, ◌<◌, ◌≤◌, ◌++◌, Bool, true, false, cond, List, [], ◌∷◌, length, Option, Some, None, IfSome, MatchOption, slice_get, inr, refl, sym, ◌∙◌, ap, subst, arith, length-append, append-nil, length-map, Applied, Opening, Call, Refused, Note, Called, Noted, LegalNotes, IsLegal, MayBeRefused, seen_by, shown_by, place_of, Fits, IsTrueOf, places_written, wrote, places_written-append, AllByRecursion-push, AllByRecursion-weaker, LegalNotes-last, Step, Event, Layout, Answers, Leads, answer_of, words_after, Reply, Idle, CoreState, at_stage, scanned_values, advance, step_of, reply_of, IsSound, rests_are_sound, steps_left, most_steps, Part, KeptAnswer, core_of, port_of, IsBetween, IsMarkedLike, first_at, is_begun, is_at_rest, call_of, answer_for, Port, UnderWay, ends_of, notes_in, IsCallUnderWay, PortFits, AreWithin, ScanHasValues, MayAnswer, one_step_more, ended_call, CallGoesOn, Ends, AreFew, IsNoteFrom, IsLeastFrom, view_word, lawful_records_are_within, initial_stamp, AllByRecursion, value_word, is_some, Lawful, begun_with, kept_with, added_by, LeadsOn, IsNoteOf, IsRefusal, AreNotesOf, set, steps_stay_lawful, ReplayState, PortsFit, Answer}, ScanPlaces.{has_records, has_record}, Places.finds_place, PortLaws.{some_is, DoneFits, EndedCall, done_of, done_grows, push_fits, fits_with, under_way}}
+use Rattle.partial_replay.proofs.{Common.{ℕ, ◌≡◌, ◌<◌, ◌≤◌, ◌++◌, Bool, true, false, if◌then◌else◌, List, [], ◌∷◌, length, Option, Some, None, IfSome, MatchOption, slice_get, inr, refl, sym, ◌∙◌, ap, subst, arith, length-append, append-nil, length-map, Applied, Opening, Call, Refused, Note, Called, Noted, LegalNotes, IsLegal, MayBeRefused, seen_by, shown_by, place_of, Fits, IsTrueOf, places_written, wrote, places_written-append, AllByRecursion-push, AllByRecursion-weaker, LegalNotes-last, Step, Event, Layout, Answers, Leads, answer_of, words_after, Reply, Idle, CoreState, at_stage, scanned_values, advance, step_of, reply_of, IsSound, rests_are_sound, steps_left, most_steps, Part, KeptAnswer, core_of, port_of, IsBetween, IsMarkedLike, first_at, is_begun, is_at_rest, call_of, answer_for, Port, UnderWay, ends_of, notes_in, IsCallUnderWay, PortFits, AreWithin, ScanHasValues, MayAnswer, one_step_more, ended_call, CallGoesOn, Ends, AreFew, IsNoteFrom, IsLeastFrom, view_word, lawful_records_are_within, initial_stamp, AllByRecursion, value_word, is_some, Lawful, begun_with, kept_with, added_by, LeadsOn, IsNoteOf, IsRefusal, AreNotesOf, slice_set, steps_stay_lawful, ReplayState, PortsFit, Answer}, ScanPlaces.{has_records, has_record}, Places.finds_place, PortLaws.{some_is, DoneFits, EndedCall, done_of, done_grows, push_fits, fits_with, under_way}}
 use Rattle.partial_core.specs.{Lawful.LawfulAmong, Part.PartAmong}
 
 -- the due step of a machine that isn't at rest
@@ -10,7 +10,8 @@ first_kept : (began n : ℕ) (ks : List KeptAnswer) (k : KeptAnswer) → (ks ≡
 first_kept began n [] k none last h = last
 first_kept began n (x ∷ ks) k none last h = h
 
-first_moved : (c : CoreState) (x : Part) (began at a : ℕ) (b : Bool) → began ≤ at → (b ≡ false → began ≤ first_at x.kept) → began ≤ first_at (cond b [] x.kept ++ record { answer = a; at = at } ∷ [])
+first_moved : (c : CoreState) (x : Part) (began at a : ℕ) (b : Bool) → began ≤ at → (b ≡ false → began ≤ first_at x.kept) →
+    began ≤ first_at ((if b then [] else x.kept) ++ record { answer = a; at = at } ∷ [])
 first_moved c x began at a true last h = last
 first_moved c x began at a false last h = first_kept began at x.kept (record { answer = a; at = at }) (λ _. last) last (h refl)
 
@@ -53,7 +54,7 @@ pub record PartAt (plans : List (List Call)) (s : ReplayState) (p : ℕ) (calls 
   pub lawful : LawfulAmong s.sizes s.opening (among s before x after)
   pub fits : PortFits s.opening s.memory.history.items calls p x port
   pub replace : (es : List Applied) (y : Part) (new : Port) → PortFits s.opening (s.memory.history.items ++ es) calls p y new →
-      PortsFit s.opening (s.memory.history.items ++ es) 0 plans (before ++ y ∷ after) (set s.ports p new)
+      PortsFit s.opening (s.memory.history.items ++ es) 0 plans (before ++ y ∷ after) (slice_set s.ports p new)
 
 -- What a step makes of its port: it goes on as the port of the moved part.
 module _ {plans : List (List Call)} {s : ReplayState} {p : ℕ} {calls : List Call} {port : Port} (at : PartAt plans s p calls port) {way : UnderWay} (was : port.under_way ≡ Some way) (step : Step)
@@ -138,7 +139,7 @@ module _ {plans : List (List Call)} {s : ReplayState} {p : ℕ} {calls : List Ca
         let going : IsCallUnderWay (length log2) calls y new.core new.finished.items (one_step_more way) = record {
           call = u.call;
           next = ap (λ (d : List Called). slice_get calls (length d)) g.finished ∙ u.next;
-          begun = ap (λ (b : Bool). call_of (cond b new.core y.begun)) begun ∙ ap call_of begun_y ∙ u.begun;
+          begun = ap (λ (b : Bool). call_of (if b then new.core else y.begun)) begun ∙ ap call_of begun_y ∙ u.begun;
           behind = subst (λ (d : List Called). ends_of 0 d ≤ way.began) (sym g.finished) u.behind;
           within = let n = longer in omega (arith, n, u.within);
           first = λ _. first_y;

@@ -1,5 +1,5 @@
 -- A turn of a port among the others.
-use Rattle.partial_replay.proofs.{Common.{ℕ, zero, suc, ◌≡◌, ◌+◌, ◌-◌, ◌*◌, ◌<◌, ◌≤◌, ◌==◌, ◌++◌, Bool, true, false, cond, not, List, [], ◌∷◌, length, get_or, set, Option, Some, None, MatchOption, MatchBool, nat_lt, ◌^◌, slice_get, Result, Ok, Err, OnOk, refl, sym, ◌∙◌, ap, subst, arith, length-append, get_or-set_other, mul-le-mul, mul-suc, option_map_or, is_some, IsSome, false≢true, ltb-true, append-nil, length_push, Applied, Opening, Call, Called, LegalNotes-grows, AllByRecursion-get, AllByRecursion-push, Step, Event, Layout, IsLayout, Leads, answer_of, words_after, record_value, view_word, Idle, CoreState, reply_of, steps_left, most_of_update, most_steps, Part, port_of, IsBetween, answer_for, IsServed, lawful_machines_are_ready, lawful_records_are_within, Port, UnderWay, KeepsMade, IsExchangeWithin, AreWithin, notes_in, IsCallUnderWay, PortFits, core_behind, entry_at, one_step_more, ended_call, CallGoesOn, Ends, StepMade, MayStep, KeepsFit, AreStartedBut, ArePlans, PortsFit, IsRunOf, left_for, port_left, port_left_at, AllByRecursion, place_below, value_word, Load, Store, Exchange, Add, Lawful, added_by, PublishesWithin, some_same, step_of, Memory, Run, event_of, ReplayState, state_of, PortAt, IsTurnReady, no_ports, first_port}, PortLaws.{least_grow, finished_grows, get_is, between_of, under_way, step_cases}, RunLaws.{PartAt, among, due_step, lawful_within, leads, leads_push, step_fits, end_may}, PortSteps.{ports_step, ports_begin, log_long}, Traces.entries_push}
+use Rattle.partial_replay.proofs.{Common.{ℕ, zero, suc, ◌≡◌, ◌+◌, ◌-◌, ◌*◌, ◌<◌, ◌≤◌, ◌==◌, ◌++◌, Bool, true, false, if◌then◌else◌, not, List, [], ◌∷◌, length, slice_index_or, slice_index, slice_set, Option, Some, None, MatchOption, MatchBool, nat_lt, ◌^◌, slice_get, Result, Ok, Err, OnOk, refl, sym, ◌∙◌, ap, subst, arith, length-append, get_or-set_other, mul-le-mul, mul-suc, option_map_or, is_some, IsSome, false≢true, ltb-true, append-nil, length_push, Applied, Opening, Call, Called, LegalNotes-grows, AllByRecursion-get, AllByRecursion-push, Step, Event, Layout, IsLayout, Leads, answer_of, words_after, record_value, view_word, Idle, CoreState, reply_of, steps_left, most_of_update, most_steps, Part, port_of, IsBetween, answer_for, IsServed, lawful_machines_are_ready, lawful_records_are_within, Port, UnderWay, KeepsMade, IsExchangeWithin, AreWithin, notes_in, IsCallUnderWay, PortFits, core_behind, entry_at, one_step_more, ended_call, CallGoesOn, Ends, StepMade, MayStep, KeepsFit, AreStartedBut, ArePlans, PortsFit, IsRunOf, left_for, port_left, port_left_at, AllByRecursion, place_below, value_word, Load, Store, Exchange, Add, Lawful, added_by, PublishesWithin, some_same, step_of, Memory, Run, event_of, ReplayState, state_of, PortAt, IsTurnReady, no_ports, first_port}, PortLaws.{least_grow, finished_grows, get_is, between_of, under_way, step_cases}, RunLaws.{PartAt, among, due_step, lawful_within, leads, leads_push, step_fits, end_may}, PortSteps.{ports_step, ports_begin, log_long}, Traces.entries_push}
 use Rattle.std.proofs.Math.Nat.{mul-le-mul_left}
 
 -- another port's history grows
@@ -48,7 +48,7 @@ record AtPort (o : Opening) (log : List Applied) (q : ℕ) (plans : List (List C
   after : List Part
   is : parts ≡ before ++ x ∷ after
   fits : PortFits o log calls p x port
-  replace : (es : List Applied) (y : Part) (new : Port) → PortFits o (log ++ es) calls p y new → PortsFit o (log ++ es) q plans (before ++ y ∷ after) (set ports i new)
+  replace : (es : List Applied) (y : Part) (new : Port) → PortFits o (log ++ es) calls p y new → PortsFit o (log ++ es) q plans (before ++ y ∷ after) (slice_set ports i new)
 
 at_port : {o : Opening} {log : List Applied} {q : ℕ} {plans : List (List Call)} {parts : List Part} {ports : List Port} (i p : ℕ) {calls : List Call} {port : Port} →
     PortsFit o log q plans parts ports → p ≡ q + i → slice_get plans i ≡ Some calls → slice_get ports i ≡ Some port → AtPort o log q plans parts ports i p calls port
@@ -91,7 +91,7 @@ part_at {plans} {s} {p} {calls} {port} w here =
 
 -- a call begins, or is refused at once: the words and the history stay
 pub begin_keeps : {plans : List (List Call)} {s : ReplayState} {p : ℕ} {calls : List Call} {port : Port} (new : Port) → IsRunOf plans s → PortAt plans s.ports p calls port →
-    KeepsFit calls (length s.memory.history.items) port new → KeepsMade calls (length s.memory.history.items) port new → IsRunOf plans (record s { ports = set s.ports p new })
+    KeepsFit calls (length s.memory.history.items) port new → KeepsMade calls (length s.memory.history.items) port new → IsRunOf plans (record s { ports = slice_set s.ports p new })
 begin_keeps {plans} {s} {p} {calls} {port} new w here keeps keeps_made =
     let o = s.opening in
     let log = s.memory.history.items in
@@ -106,8 +106,8 @@ begin_keeps {plans} {s} {p} {calls} {port} new w here keeps keeps_made =
       entries = w.entries;
       senders = w.senders;
       made = ports_begin s w.made here keeps_made;
-      fit = subst (λ (l : List Part). PortsFit o log 0 plans l (set s.ports p new)) (sym at.is)
-          (subst (λ (l : List Applied). PortsFit o l 0 plans (at.before ++ at.x ∷ at.after) (set s.ports p new)) (append-nil log) grown);
+      fit = subst (λ (l : List Part). PortsFit o log 0 plans l (slice_set s.ports p new)) (sym at.is)
+          (subst (λ (l : List Applied). PortsFit o l 0 plans (at.before ++ at.x ∷ at.after) (slice_set s.ports p new)) (append-nil log) grown);
     }
 
 -- what a step adds to the history, as it is told by the words behind it, and that the record of an exchange lies within the words
@@ -120,27 +120,28 @@ adds : (z : Layout) (words : List ℕ) (port : ℕ) (step : Step) → PublishesW
 adds z words port (Load w) within above = record { entry = refl; within = tt }
 adds z words port (Store w v) within above = record { entry = refl; within = tt }
 adds z words port (Add w k) within above = record { entry = refl; within = tt }
-adds z words port (Exchange w old at) within above = record { entry = by (nat_lt w z.m) refl (get_or words w 0 == old) refl; within = λ below. let inside = within below in omega (arith, inside) }
+adds z words port (Exchange w old at) within above = record { entry = by (nat_lt w z.m) refl (slice_index words w == old) refl; within = λ below. let inside = within below in omega (arith, inside) }
   where
-    by : (a : Bool) → nat_lt w z.m ≡ a → (b : Bool) → (get_or words w 0 == old) ≡ b →
-        cond {A = List Applied} (nat_lt w z.m) (cond (get_or words w 0 == old)
-        (record { port = port; component = w; value = record_value (words_after words (Exchange w old at)) at; stamp = at } ∷ []) []) []
-        ≡ cond (nat_lt w z.m) (cond (get_or words w 0 == old) (record { port = port; component = w; value = record_value words at; stamp = at } ∷ []) []) []
-    by false ea b eb = ap (λ (c : Bool). cond {A = List Applied} c (cond (get_or words w 0 == old)
-        (record { port = port; component = w; value = record_value (words_after words (Exchange w old at)) at; stamp = at } ∷ []) []) []) ea
-        ∙ sym (ap (λ (c : Bool). cond c (cond (get_or words w 0 == old) (record { port = port; component = w; value = record_value words at; stamp = at } ∷ []) []) []) ea)
-    by true ea false eb = ap (λ (c : Bool). cond (nat_lt w z.m) (cond c (record { port = port; component = w; value = record_value (words_after words (Exchange w old at)) at; stamp = at } ∷ []) [])
-        []) eb
-        ∙ sym (ap (λ (c : Bool). cond (nat_lt w z.m) (cond c (record { port = port; component = w; value = record_value words at; stamp = at } ∷ []) []) []) eb)
+    -- what the exchange adds, whether its word is one of a component, and whether it is won
+    gained : Bool → Bool → ℕ → List Applied
+    gained inside won value = if inside then (if won then record { port = port; component = w; value = value; stamp = at } ∷ [] else []) else []
+
+    by : (a : Bool) → nat_lt w z.m ≡ a → (b : Bool) → (slice_index words w == old) ≡ b →
+        gained (nat_lt w z.m) (slice_index words w == old) (record_value (words_after words (Exchange w old at)) at)
+        ≡ gained (nat_lt w z.m) (slice_index words w == old) (record_value words at)
+    by false ea b eb = ap (λ c. gained c (slice_index words w == old) (record_value (words_after words (Exchange w old at)) at)) ea
+        ∙ sym (ap (λ c. gained c (slice_index words w == old) (record_value words at)) ea)
+    by true ea false eb = ap (λ c. gained (nat_lt w z.m) c (record_value (words_after words (Exchange w old at)) at)) eb
+        ∙ sym (ap (λ c. gained (nat_lt w z.m) c (record_value words at)) eb)
     by true ea true eb =
         let one : added_by z port words (Exchange w old at) ≡ record { port = port; component = w; value = record_value words at; stamp = at } ∷ [] =
-        ap (λ (c : Bool). cond c (cond (get_or words w 0 == old) (record { port = port; component = w; value = record_value words at; stamp = at } ∷ []) []) []) ea
-        ∙ ap (λ (c : Bool). cond c (record { port = port; component = w; value = record_value words at; stamp = at } ∷ []) []) eb in
+        ap (λ c. gained c (slice_index words w == old) (record_value words at)) ea ∙ ap (λ c. gained true c (record_value words at)) eb in
         let behind = above (record { port = port; component = w; value = record_value words at; stamp = at }) one in
         let below = ltb-true w z.m ea in
-        let same : record_value (words_after words (Exchange w old at)) at ≡ record_value words at = get_or-set_other words w (value_word at) (cond (get_or words w 0 == old) at (get_or words w 0)) 0
+        let same : record_value (words_after words (Exchange w old at)) at ≡ record_value words at =
+        get_or-set_other words w (value_word at) (if slice_index words w == old then at else slice_index words w) 0
         (λ h. omega (arith, behind, below, h)) in
-        ap (λ v. cond (nat_lt w z.m) (cond (get_or words w 0 == old) (record { port = port; component = w; value = v; stamp = at } ∷ []) []) []) same
+        ap (gained (nat_lt w z.m) (slice_index words w == old)) same
 
 -- the last entry of a history
 last_of : {A : Type 0} (P : A → Type 0) (xs : List A) (x : A) → AllByRecursion P (xs ++ x ∷ []) → P x
@@ -235,7 +236,7 @@ ready_below {calls} {port} w here r =
 
 -- a step keeps the replay's state
 pub step_keeps : {plans : List (List Call)} {s : ReplayState} {now : Memory} {p : ℕ} {calls : List Call} {port new : Port} → now.sizes ≡ s.sizes → IsRunOf plans s →
-    PortAt plans s.ports p calls port → AreStartedBut p s.ports → StepMade calls s.memory now port new → IsRunOf plans (record s { sizes = now.sizes; memory = now; ports = set s.ports p new })
+    PortAt plans s.ports p calls port → AreStartedBut p s.ports → StepMade calls s.memory now port new → IsRunOf plans (record s { sizes = now.sizes; memory = now; ports = slice_set s.ports p new })
 step_keeps {plans} {s} {now} {p} {calls} {port} {new} same w here started m =
     let z = s.sizes in
     let o = s.opening in
@@ -254,13 +255,13 @@ step_keeps {plans} {s} {now} {p} {calls} {port} {new} same w here started m =
     let parts = at.before ++ l.y ∷ at.after in
     let event = event_of s.memory port.number m.step in
     let entries = entries_push z.m (ap (λ (v : Layout). v.m) l.tells.sizes) w.entries m in
-    subst (λ (v : Layout). IsRunOf plans (record s { sizes = v; memory = now; ports = set s.ports p new })) (sym same) (record {
+    subst (λ (v : Layout). IsRunOf plans (record s { sizes = v; memory = now; ports = slice_set s.ports p new })) (sym same) (record {
       parts = parts;
       opened = w.opened;
       opens = w.opens;
       lawful = subst (λ (ws : List ℕ). Lawful z o ws parts now.history.items) (sym m.words_are)
           (subst (λ (k : List Applied). Lawful z o (words_after words m.step) parts k) (sym log_is) l.lawful);
-      fit = subst (λ (k : List Applied). PortsFit o k 0 plans parts (set s.ports p new)) (sym log_is)
+      fit = subst (λ (k : List Applied). PortsFit o k 0 plans parts (slice_set s.ports p new)) (sym log_is)
           (at.replace gained l.y new (step_fits at m.was m.step m.due new (reply_of core) refl m.number m.falls after));
       leads = subst (λ (ws : List ℕ). Leads w.opened now.trace.items ws) (sym m.words_are)
           (subst (λ (es : List Event). Leads w.opened es (words_after words m.step)) (sym m.trace_is) (leads_push w.opened words s.memory.trace.items event w.leads l.answers));
@@ -346,12 +347,12 @@ ports_length no_ports = refl
 ports_length (first_port f rest) = ap suc (ports_length rest)
 
 -- the element that was read at a place
-got : {A : Type 0} (xs : List A) (i : ℕ) (x : A) → i < length xs → x ≡ get_or xs i x → slice_get xs i ≡ Some x
+got : {A : Type 0} (xs : List A) (i : ℕ) (x : A) → i < length xs → x ≡ slice_index_or xs i x → slice_get xs i ≡ Some x
 got xs i x below is = get_is xs i x below ∙ ap Some (sym is)
 
 -- the port that a turn is about, and its calls, as they were read
-pub port_here : {plans : List (List Call)} {s : ReplayState} (p : ℕ) {plan calls : List Call} {port : Port} → IsRunOf plans s → p < length plans → plan ≡ get_or plans p plan → calls ≡ plan →
-    port ≡ get_or s.ports p port → PortAt plans s.ports p calls port
+pub port_here : {plans : List (List Call)} {s : ReplayState} (p : ℕ) {plan calls : List Call} {port : Port} → IsRunOf plans s → p < length plans → plan ≡ slice_index_or plans p plan → calls ≡ plan →
+    port ≡ slice_index_or s.ports p port → PortAt plans s.ports p calls port
 port_here {plans} {s} p {plan} {port} w below plan_is calls_are is =
     let many = ports_length w.fit in
     record { plan = got plans p plan below plan_is ∙ ap Some (sym calls_are); is = got s.ports p port (omega (arith, many, below)) is }

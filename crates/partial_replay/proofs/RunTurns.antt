@@ -1,5 +1,5 @@
 -- The turns of a replay, and the calls that the ports begin in them.
-use Rattle.partial_replay.proofs.{Common.{ℕ, suc, ◌≡◌, ◌+◌, ◌-◌, ◌<◌, ◌≤◌, ◌==◌, ◌++◌, Bool, true, false, cond, List, [], ◌∷◌, length, map, set, replicate, Option, Some, None, MatchOption, refl, sym, ◌∙◌, ap, subst, inl, inr, arith, append_assoc, append-nil, length-map, length-replicate, map-append, eqb_tells, Call, Event, Layout, Port, Run, Moment, moments_from, last_behind, ports_of, events_in, idle_in, lengths_of, lengths_in, HasTurned, StepMade, IsTurnReady, ChangesPortsOnly, IsSameOpening, IsPortDone, StayDone, StayStopped, StayStoppedBut, StayStoppedWith, GoesOnBy, BeganInTurns, own_turns, BeginsIn, StepsIn, GoesOnIn, moments_behind, TurnMade, StepsMade, TurnsMade, MakeTurns, HasMadeTurns, lengths_so_far, HaveBegun, Memory, state_of, PortAt, IsRunOf, Opening, PlanView, IsBetweenTurns, HasReplayed}, PortLaws.{at_set, same_at}, PortSteps.log_long, TurnLaws.{ready_done, by_more, followed, last_turns}, TurnLengths.{ports_at, befores_of, ports_moments, moments-append, behind-append, own_is, own_other, own_more, lengths_push}, PortTurns.{turns_idle, turn_steps}}
+use Rattle.partial_replay.proofs.{Common.{ℕ, suc, ◌≡◌, ◌+◌, ◌-◌, ◌<◌, ◌≤◌, ◌==◌, ◌++◌, Bool, true, false, if◌then◌else◌, List, [], ◌∷◌, length, map, slice_set, replicate, Option, Some, None, MatchOption, refl, sym, ◌∙◌, ap, subst, inl, inr, arith, append_assoc, append-nil, length-map, length-replicate, map-append, eqb_tells, Call, Event, Layout, Port, Run, Moment, moments_from, last_behind, ports_of, events_in, idle_in, lengths_of, lengths_in, HasTurned, StepMade, IsTurnReady, ChangesPortsOnly, IsSameOpening, IsPortDone, StayDone, StayStopped, StayStoppedBut, StayStoppedWith, GoesOnBy, BeganInTurns, own_turns, BeginsIn, StepsIn, GoesOnIn, moments_behind, TurnMade, StepsMade, TurnsMade, MakeTurns, HasMadeTurns, lengths_so_far, HaveBegun, Memory, state_of, PortAt, IsRunOf, Opening, PlanView, IsBetweenTurns, HasReplayed}, PortLaws.{at_set, same_at}, PortSteps.log_long, TurnLaws.{ready_done, by_more, followed, last_turns}, TurnLengths.{ports_at, befores_of, ports_moments, moments-append, behind-append, own_is, own_other, own_more, lengths_push}, PortTurns.{turns_idle, turn_steps}}
 
 -- how long the history is behind further events
 long_behind : (plans : List (List Call)) (p n : ℕ) (old new : Run) → IsRunOf plans (state_of old) → IsRunOf plans (state_of new) → IsSameOpening old new → (g : GoesOnBy n p old new) →
@@ -52,7 +52,7 @@ goes_on_idle plans p ls more old new d g q front w calls port at = elim (eqb_tel
 
 -- the next calls of a port in its turn
 pub begins_at : {plans : List (List Call)} {ports : List Port} {p : ℕ} {calls : List Call} {port : Port} (seen : ℕ) (new : Port) → PortAt plans ports p calls port →
-    ((lengths : List ℕ) → HasTurned 0 calls lengths port → HasTurned 1 calls (lengths ++ seen ∷ []) new) → BeginsIn plans p seen ports (set ports p new)
+    ((lengths : List ℕ) → HasTurned 0 calls lengths port → HasTurned 1 calls (lengths ++ seen ∷ []) new) → BeginsIn plans p seen ports (slice_set ports p new)
 begins_at {calls} {port} seen new at keeps q lengths w = (
   λ other. at_set new at q (λ ds u. HasTurned 0 ds lengths u) (λ same. absurd (other same)) (λ away. w),
   λ same. at_set new at q (λ ds u. HasTurned 1 ds (lengths ++ seen ∷ []) u) (λ is here. keeps lengths (w calls port here)) (λ other. absurd (other same)),
@@ -60,7 +60,7 @@ begins_at {calls} {port} seen new at keeps q lengths w = (
 
 -- its step in that turn
 pub steps_at : {plans : List (List Call)} {ports : List Port} {p : ℕ} {calls : List Call} {old now : Memory} {port : Port} (new : Port) → PortAt plans ports p calls port →
-    length port.finished.items < length calls → StepMade calls old now port new → StepsIn plans p ports (set ports p new)
+    length port.finished.items < length calls → StepMade calls old now port new → StepsIn plans p ports (slice_set ports p new)
 steps_at {calls} {port} new at less m q lengths others own = at_set new at q (λ ds u. HasTurned 0 ds lengths u) (λ same here. turn_steps lengths less m (own same calls port here)) others
 
 -- a turn in which a port has made all its calls
@@ -107,8 +107,8 @@ no_steps plans p run = record {
   kept = λ q d. d;
 }
   where
-    none : (b : Bool) → cond b [] [] ≡ map (λ (k : ℕ). k) []
-    none b = elim b as (λ c. cond c [] [] ≡ map (λ (k : ℕ). k) []) [ true ↦ refl | false ↦ refl ]
+    none : (b : Bool) → (if b then [] else []) ≡ map (λ (k : ℕ). k) []
+    none b = elim b as (λ c. (if c then [] else []) ≡ map (λ (k : ℕ). k) []) [ true ↦ refl | false ↦ refl ]
 
 -- one step more
 pub step_more : (plans : List (List Call)) (p n : ℕ) (old mid new : Run) → IsRunOf plans (state_of old) → IsRunOf plans (state_of mid) → IsSameOpening old mid → StepsMade plans p n old mid →

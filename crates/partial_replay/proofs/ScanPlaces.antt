@@ -1,5 +1,5 @@
 -- The search for the place of a scan: what is marked at each place, and that the least place is found.
-use Rattle.partial_replay.proofs.Common.{ℕ, zero, suc, ◌≡◌, ◌≢◌, ◌+◌, ◌-◌, ◌<◌, ◌≤◌, ◌==◌, ◌++◌, ◌⊎◌, Bool, true, false, not, cond, List, [], ◌∷◌, length, map, take, get_or, set, count_by, Option, Some, None, slice_get, refl, sym, ◌∙◌, ap, subst, inl, inr, get_or-set_other, arith, AllByRecursion, option_map_or, false≢true, cases_eq, cases_lt, eq-eqb, eqb-true, length-set, get_or-set_same, get_or-map, length-map, sum_by-cons, get_or_from_slice_get, slice_get_within, Applied, Opening, last_entry, initial_stamp, stamp_of, last_entry-passed, stamp_all, AllByRecursion-get, position_below, Agrees, prev_of, record_value, values_after, values_now, is_other, marks_before, AreMarked, AllHave, AreWanted, AreMarksOf, HasRecord, HasRecords, IsLeft, IsEmpty, IsLeast, ShowsValues, value_word, take-length, value_behind_stamp, prev_before_entry, AreWantedComponents}
+use Rattle.partial_replay.proofs.Common.{ℕ, zero, suc, ◌≡◌, ◌≢◌, ◌+◌, ◌-◌, ◌<◌, ◌≤◌, ◌==◌, ◌++◌, ◌⊎◌, Bool, true, false, not, if◌then◌else◌, List, [], ◌∷◌, length, map, take, slice_index_or, slice_index, slice_set, count_by, Option, Some, None, slice_get, refl, sym, ◌∙◌, ap, subst, inl, inr, get_or-set_other, arith, AllByRecursion, option_map_or, false≢true, cases_eq, cases_lt, eq-eqb, eqb-true, length-set, get_or-set_same, get_or-map, length-map, sum_by-cons, get_or_from_slice_get, slice_get_within, Applied, Opening, last_entry, initial_stamp, stamp_of, last_entry-passed, stamp_all, AllByRecursion-get, position_below, Agrees, prev_of, record_value, values_after, values_now, is_other, marks_before, AreMarked, AllHave, AreWanted, AreMarksOf, HasRecord, HasRecords, IsLeft, IsEmpty, IsLeast, ShowsValues, value_word, take-length, value_behind_stamp, prev_before_entry, AreWantedComponents}
 use Rattle.std.proofs.lemmas.Grind.{same_number_lists}
 
 -- the values in the words are those after the whole history
@@ -19,39 +19,39 @@ pub value_beside : (o : Opening) (h : List Applied) (k j : ℕ) (e : Applied) �
 value_beside o h k j e stands other =
     let within : k < length h = slice_get_within h k e stands in
     let back : k + 1 - 1 ≡ k = omega arith in
-    let at : get_or h (k + 1 - 1) e ≡ e = ap (λ n. get_or h n e) back ∙ get_or_from_slice_get h k e e stands in
+    let at : slice_index_or h (k + 1 - 1) e ≡ e = ap (λ n. slice_index_or h n e) back ∙ get_or_from_slice_get h k e e stands in
     let passed = last_entry-passed h (k + 1) j e (omega arith) (omega (arith, within)) (λ same. other (sym same ∙ ap (λ (x : Applied). x.component) at)) in
-    ap (λ (found : Option Applied). option_map_or (λ (x : Applied). x.value) found (get_or o.values j 0)) (passed ∙ ap (λ n. last_entry j (take n h)) back)
+    ap (λ (found : Option Applied). option_map_or (λ (x : Applied). x.value) found (slice_index o.values j)) (passed ∙ ap (λ n. last_entry j (take n h)) back)
 
 -- the marks at one place less
-marks_at : (w : Option ℕ) (wanted : List (Option ℕ)) (marks : List Bool) (c x : ℕ) (after before : ℕ → ℕ) → get_or wanted c None ≡ w → c < length marks → ((v : ℕ) → w ≡ Some v → x ≡ before c) →
+marks_at : (w : Option ℕ) (wanted : List (Option ℕ)) (marks : List Bool) (c x : ℕ) (after before : ℕ → ℕ) → slice_index_or wanted c None ≡ w → c < length marks → ((v : ℕ) → w ≡ Some v → x ≡ before c) →
     ((j : ℕ) → j ≢ c → after j ≡ before j) → AreMarked wanted marks after → AreMarked wanted (marks_before w marks c x) before
 marks_at None wanted marks c x after before is within own others marked = λ j. elim (cases_eq j c) [
   | inl here ↦
-      let none : get_or wanted j None ≡ None = ap (λ n. get_or wanted n None) here ∙ is in
+      let none : slice_index_or wanted j None ≡ None = ap (λ n. slice_index_or wanted n None) here ∙ is in
       marked j ∙ ap (λ (w : Option ℕ). is_other w (after j)) none ∙ sym (ap (λ (w : Option ℕ). is_other w (before j)) none)
-  | inr other ↦ marked j ∙ ap (is_other (get_or wanted j None)) (others j other)
+  | inr other ↦ marked j ∙ ap (is_other (slice_index_or wanted j None)) (others j other)
 ]
 marks_at (Some v) wanted marks c x after before is within own others marked = λ j. elim (cases_eq j c) [
   | inl here ↦
-      let wants : get_or wanted j None ≡ Some v = ap (λ n. get_or wanted n None) here ∙ is in
+      let wants : slice_index_or wanted j None ≡ Some v = ap (λ n. slice_index_or wanted n None) here ∙ is in
       let value : x ≡ before j = own v refl ∙ ap before (sym here) in
-      ap (λ n. get_or (set marks c (not (v == x))) n false) here ∙ get_or-set_same marks c (not (v == x)) false within ∙ ap (λ n. not (v == n)) value ∙
+      ap (λ n. slice_index_or (slice_set marks c (not (v == x))) n false) here ∙ get_or-set_same marks c (not (v == x)) false within ∙ ap (λ n. not (v == n)) value ∙
       sym (ap (λ (w : Option ℕ). is_other w (before j)) wants)
-  | inr other ↦ get_or-set_other marks c j (not (v == x)) false other ∙ marked j ∙ ap (is_other (get_or wanted j None)) (others j other)
+  | inr other ↦ get_or-set_other marks c j (not (v == x)) false other ∙ marked j ∙ ap (is_other (slice_index_or wanted j None)) (others j other)
 ]
 
 -- where none is marked, each component has the value that it is to have, and the other way round
-none_counted : (marks : List Bool) → count_by (λ b. b) marks ≡ 0 → (j : ℕ) → get_or marks j false ≡ false
+none_counted : (marks : List Bool) → count_by (λ b. b) marks ≡ 0 → (j : ℕ) → slice_index_or marks j false ≡ false
 none_counted [] none j = refl
-none_counted (true ∷ marks) none j = absurd (omega (arith, sum_by-cons (λ b. cond b 1 0) true marks, none))
+none_counted (true ∷ marks) none j = absurd (omega (arith, sum_by-cons (λ b. if b then 1 else 0) true marks, none))
 none_counted (false ∷ marks) none zero = refl
-none_counted (false ∷ marks) none (suc j) = none_counted marks (omega (arith, sum_by-cons (λ b. cond b 1 0) false marks, none)) j
+none_counted (false ∷ marks) none (suc j) = none_counted marks (omega (arith, sum_by-cons (λ b. if b then 1 else 0) false marks, none)) j
 
-counts_none : (marks : List Bool) → ((j : ℕ) → get_or marks j false ≡ false) → count_by (λ b. b) marks ≡ 0
+counts_none : (marks : List Bool) → ((j : ℕ) → slice_index_or marks j false ≡ false) → count_by (λ b. b) marks ≡ 0
 counts_none [] none = refl
 counts_none (true ∷ marks) none = absurd (false≢true (sym (none 0)))
-counts_none (false ∷ marks) none = omega (arith, sum_by-cons (λ b. cond b 1 0) false marks, counts_none marks (λ j. none (suc j)))
+counts_none (false ∷ marks) none = omega (arith, sum_by-cons (λ b. if b then 1 else 0) false marks, counts_none marks (λ j. none (suc j)))
 
 not_false : (b : Bool) → not b ≡ false → b ≡ true
 not_false true n = refl
@@ -66,7 +66,7 @@ no_differing None x has = refl
 no_differing (Some v) x has = ap not (eq-eqb v x (has v refl))
 
 unmarked_have : (wanted : List (Option ℕ)) (marks : List Bool) (value : ℕ → ℕ) → AreMarked wanted marks value → AllHave wanted value → count_by (λ b. b) marks ≡ 0
-unmarked_have wanted marks value marked all = counts_none marks (λ j. marked j ∙ no_differing (get_or wanted j None) (value j) (all j))
+unmarked_have wanted marks value marked all = counts_none marks (λ j. marked j ∙ no_differing (slice_index_or wanted j None) (value j) (all j))
 
 -- what has been found when the places from one on have been looked at
 pub record IsFoundFrom (Holds : ℕ → Type 0) (place end least : ℕ) : Type 0 where
@@ -114,7 +114,7 @@ pub record IsSearched (o : Opening) (wanted : List (Option ℕ)) (marks : List B
 searched_at_end : (o : Opening) (wanted : List (Option ℕ)) (marks : List Bool) (words : List ℕ) (h : List Applied) (place : ℕ) → Agrees o words h → AreWantedComponents o wanted →
     AreMarked wanted marks (values_now words) → place ≡ length h → IsSearched o wanted marks h place (length h)
 searched_at_end o wanted marks words h place agrees below marked is = record {
-  marked = λ j. marked j ∙ same (get_or wanted j None) (values_now words j) (values_after o h place j)
+  marked = λ j. marked j ∙ same (slice_index_or wanted j None) (values_now words j) (values_after o h place j)
       (λ v wants. now_is_after o words h j agrees (below j v wants) ∙ ap (λ n. values_after o h n j) (sym is));
   found = found_at_end (λ n. AllHave wanted (values_after o h n)) place (length h) is;
 }
@@ -125,15 +125,15 @@ searched_at_end o wanted marks words h place agrees below marked is = record {
 
 marked_back : (o : Opening) (wanted : List (Option ℕ)) (marks : List Bool) (words : List ℕ) (h : List Applied) (place least : ℕ) (e : Applied) → Agrees o words h → AreWantedComponents o wanted →
     slice_get h place ≡ Some e → e.component < length marks → IsSearched o wanted marks h (place + 1) least →
-    AreMarked wanted (marks_before (get_or wanted e.component None) marks e.component (record_value words (prev_of words e.stamp))) (values_after o h place)
+    AreMarked wanted (marks_before (slice_index_or wanted e.component None) marks e.component (record_value words (prev_of words e.stamp))) (values_after o h place)
 marked_back o wanted marks words h place least e agrees below stands within s =
-    marks_at (get_or wanted e.component None) wanted marks e.component (record_value words (prev_of words e.stamp)) (values_after o h (place + 1)) (values_after o h place) refl within
+    marks_at (slice_index_or wanted e.component None) wanted marks e.component (record_value words (prev_of words e.stamp)) (values_after o h (place + 1)) (values_after o h place) refl within
     (λ v wants. value_before o words h place e agrees (below e.component v wants) stands) (λ j other. value_beside o h place j e stands other) s.marked
 
 -- where all have their values, the place is the least so far
 searched_here : (o : Opening) (wanted : List (Option ℕ)) (marks after : List Bool) (words : List ℕ) (h : List Applied) (place least : ℕ) (e : Applied) → Agrees o words h →
     AreWantedComponents o wanted →
-    slice_get h place ≡ Some e → e.component < length marks → after ≡ marks_before (get_or wanted e.component None) marks e.component (record_value words (prev_of words e.stamp)) →
+    slice_get h place ≡ Some e → e.component < length marks → after ≡ marks_before (slice_index_or wanted e.component None) marks e.component (record_value words (prev_of words e.stamp)) →
     count_by (λ b. b) after ≡ 0 → IsSearched o wanted marks h (place + 1) least → IsSearched o wanted after h place place
 searched_here o wanted marks after words h place least e agrees below stands within is none s =
     let marked = subst (λ ms. AreMarked wanted ms (values_after o h place)) (sym is) (marked_back o wanted marks words h place least e agrees below stands within s) in
@@ -146,7 +146,7 @@ searched_here o wanted marks after words h place least e agrees below stands wit
 -- where some differ, it isn't
 searched_past : (o : Opening) (wanted : List (Option ℕ)) (marks after : List Bool) (words : List ℕ) (h : List Applied) (place least : ℕ) (e : Applied) → Agrees o words h →
     AreWantedComponents o wanted →
-    slice_get h place ≡ Some e → e.component < length marks → after ≡ marks_before (get_or wanted e.component None) marks e.component (record_value words (prev_of words e.stamp)) →
+    slice_get h place ≡ Some e → e.component < length marks → after ≡ marks_before (slice_index_or wanted e.component None) marks e.component (record_value words (prev_of words e.stamp)) →
     count_by (λ b. b) after ≢ 0 → IsSearched o wanted marks h (place + 1) least → IsSearched o wanted after h place least
 searched_past o wanted marks after words h place least e agrees below stands within is some s =
     let marked = subst (λ ms. AreMarked wanted ms (values_after o h place)) (sym is) (marked_back o wanted marks words h place least e agrees below stands within s) in
@@ -161,16 +161,16 @@ length_before : (w : Option ℕ) (marks : List Bool) (c x : ℕ) → length (mar
 length_before None marks c x = refl
 length_before (Some v) marks c x = length-set marks c (not (v == x))
 
-others_before : (w : Option ℕ) (wanted : List (Option ℕ)) (marks : List Bool) (c x j : ℕ) → get_or wanted c None ≡ w → get_or wanted j None ≡ None →
-    get_or (marks_before w marks c x) j false ≡ get_or marks j false
+others_before : (w : Option ℕ) (wanted : List (Option ℕ)) (marks : List Bool) (c x j : ℕ) → slice_index_or wanted c None ≡ w → slice_index_or wanted j None ≡ None →
+    slice_index_or (marks_before w marks c x) j false ≡ slice_index_or marks j false
 others_before None wanted marks c x j is none = refl
 others_before (Some v) wanted marks c x j is none =
-    get_or-set_other marks c j (not (v == x)) false (λ same. let bad : None ≡ Some v = sym none ∙ ap (λ n. get_or wanted n None) same ∙ is in cc)
+    get_or-set_other marks c j (not (v == x)) false (λ same. let bad : None ≡ Some v = sym none ∙ ap (λ n. slice_index_or wanted n None) same ∙ is in cc)
 
 -- what is known when the entries from a place on have been taken back, from the marks of the whole history
 pub record IsWalked (wanted : List (Option ℕ)) (first marks : List Bool) (words : List ℕ) (h : List Applied) (began place least : ℕ) : Type 0 where
   pub room : length marks ≡ length first
-  pub others : (j : ℕ) → get_or wanted j None ≡ None → get_or marks j false ≡ get_or first j false
+  pub others : (j : ℕ) → slice_index_or wanted j None ≡ None → slice_index_or marks j false ≡ slice_index_or first j false
   pub behind : began ≤ length h → began ≤ place
   pub searched : (o : Opening) → began ≤ length h → Agrees o words h → AreWantedComponents o wanted → AreMarked wanted first (values_now words) → IsSearched o wanted marks h place least
 
@@ -184,12 +184,12 @@ walked_at_end wanted first words h began = record {
 
 -- one entry more is taken back, and the least place is its own where none differs now
 pub walked_back : (wanted : List (Option ℕ)) (first marks after : List Bool) (words : List ℕ) (h : List Applied) (began place before least next : ℕ) (e : Applied) → slice_get h before ≡ Some e →
-    place ≡ before + 1 → began ≤ before → length wanted ≡ length first → e.component < length wanted → after ≡ marks_before (get_or wanted e.component None) marks e.component
+    place ≡ before + 1 → began ≤ before → length wanted ≡ length first → e.component < length wanted → after ≡ marks_before (slice_index_or wanted e.component None) marks e.component
     (record_value words (prev_of words e.stamp)) → ((count_by (λ b. b) after ≡ 0) × (next ≡ before)) ⊎ ((count_by (λ b. b) after ≢ 0) × (next ≡ least)) →
     IsWalked wanted first marks words h began place least → IsWalked wanted first after words h began before next
 walked_back wanted first marks after words h began place before least next e stands at from rooms component taken which w = record {
-  room = ap length taken ∙ length_before (get_or wanted e.component None) marks e.component (record_value words (prev_of words e.stamp)) ∙ w.room;
-  others = λ j is. ap (λ (ms : List Bool). get_or ms j false) taken ∙ others_before (get_or wanted e.component None) wanted marks e.component (record_value words (prev_of words e.stamp)) j
+  room = ap length taken ∙ length_before (slice_index_or wanted e.component None) marks e.component (record_value words (prev_of words e.stamp)) ∙ w.room;
+  others = λ j is. ap (λ (ms : List Bool). slice_index_or ms j false) taken ∙ others_before (slice_index_or wanted e.component None) wanted marks e.component (record_value words (prev_of words e.stamp)) j
       refl is ∙ w.others j is;
   behind = λ _. from;
   searched = λ o behind agrees below marked.
@@ -202,18 +202,18 @@ walked_back wanted first marks after words h began place before least next e sta
 }
 
 -- one position more
-pub wanted_more : (wanted : List (Option ℕ)) (components values : List ℕ) (k c v : ℕ) → get_or components k 0 ≡ c → get_or values k 0 ≡ v → c < length wanted → AreWanted wanted components values k →
-    AreWanted (set wanted c (Some v)) components values (k + 1)
+pub wanted_more : (wanted : List (Option ℕ)) (components values : List ℕ) (k c v : ℕ) → slice_index components k ≡ c → slice_index values k ≡ v → c < length wanted → AreWanted wanted components values k →
+    AreWanted (slice_set wanted c (Some v)) components values (k + 1)
 wanted_more wanted components values k c v component value within w = record {
-  each = λ i below. elim (cases_eq (get_or components i 0) c) [
-    | inl here ↦ (v, ap (λ n. get_or (set wanted c (Some v)) n None) here ∙ get_or-set_same wanted c (Some v) None within)
+  each = λ i below. elim (cases_eq (slice_index components i) c) [
+    | inl here ↦ (v, ap (λ n. slice_index_or (slice_set wanted c (Some v)) n None) here ∙ get_or-set_same wanted c (Some v) None within)
     | inr other ↦
-        let before : i < k = elim (cases_eq i k) [ inl last ↦ absurd (other (ap (λ n. get_or components n 0) last ∙ component)) | inr less ↦ omega (arith, below, less) ] in
-        let was = w.each i before in (was.0, get_or-set_other wanted c (get_or components i 0) (Some v) None other ∙ was.1)
+        let before : i < k = elim (cases_eq i k) [ inl last ↦ absurd (other (ap (λ n. slice_index components n) last ∙ component)) | inr less ↦ omega (arith, below, less) ] in
+        let was = w.each i before in (was.0, get_or-set_other wanted c (slice_index components i) (Some v) None other ∙ was.1)
   ];
   only = λ j x wants. elim (cases_eq j c) [
     | inl here ↦
-        let one : Some v ≡ Some x = sym (ap (λ n. get_or (set wanted c (Some v)) n None) here ∙ get_or-set_same wanted c (Some v) None within) ∙ wants in
+        let one : Some v ≡ Some x = sym (ap (λ n. slice_index_or (slice_set wanted c (Some v)) n None) here ∙ get_or-set_same wanted c (Some v) None within) ∙ wants in
         let same : v ≡ x = cc in
         (k, omega arith, component ∙ sym here, value ∙ same)
     | inr other ↦
@@ -223,51 +223,51 @@ wanted_more wanted components values k c v component value within w = record {
 }
 
 marked_set : (wanted : List (Option ℕ)) (marks : List Bool) (value : ℕ → ℕ) (c v : ℕ) → c < length wanted → c < length marks → AreMarked wanted marks value →
-    AreMarked (set wanted c (Some v)) (set marks c (not (v == value c))) value
+    AreMarked (slice_set wanted c (Some v)) (slice_set marks c (not (v == value c))) value
 marked_set wanted marks value c v within room marked = λ j. elim (cases_eq j c) [
   | inl here ↦
-      ap (λ n. get_or (set marks c (not (v == value c))) n false) here ∙ get_or-set_same marks c (not (v == value c)) false room ∙ ap (λ n. not (v == value n)) (sym here)
-      ∙ sym (ap (λ (w : Option ℕ). is_other w (value j)) (ap (λ n. get_or (set wanted c (Some v)) n None) here ∙ get_or-set_same wanted c (Some v) None within))
+      ap (λ n. slice_index_or (slice_set marks c (not (v == value c))) n false) here ∙ get_or-set_same marks c (not (v == value c)) false room ∙ ap (λ n. not (v == value n)) (sym here)
+      ∙ sym (ap (λ (w : Option ℕ). is_other w (value j)) (ap (λ n. slice_index_or (slice_set wanted c (Some v)) n None) here ∙ get_or-set_same wanted c (Some v) None within))
   | inr other ↦
       get_or-set_other marks c j (not (v == value c)) false other ∙ marked j ∙ ap (λ (w : Option ℕ). is_other w (value j)) (sym (get_or-set_other wanted c j (Some v) None other))
 ]
 
-pub marked_more : (wanted : List (Option ℕ)) (marks after : List Bool) (value : ℕ → ℕ) (c v x : ℕ) → after ≡ set marks c (not (v == x)) → x ≡ value c → c < length wanted → c < length marks →
-    AreMarked wanted marks value → AreMarked (set wanted c (Some v)) after value
+pub marked_more : (wanted : List (Option ℕ)) (marks after : List Bool) (value : ℕ → ℕ) (c v x : ℕ) → after ≡ slice_set marks c (not (v == x)) → x ≡ value c → c < length wanted → c < length marks →
+    AreMarked wanted marks value → AreMarked (slice_set wanted c (Some v)) after value
 marked_more wanted marks after value c v x is now within room marked =
-    subst (λ (ms : List Bool). AreMarked (set wanted c (Some v)) ms value) (sym (is ∙ ap (λ n. set marks c (not (v == n))) now)) (marked_set wanted marks value c v within room marked)
+    subst (λ (ms : List Bool). AreMarked (slice_set wanted c (Some v)) ms value) (sym (is ∙ ap (λ n. slice_set marks c (not (v == n))) now)) (marked_set wanted marks value c v within room marked)
 
 -- where the values are shown, each component has the value that it is to have, and the other way round
 pub have_shown : (wanted : List (Option ℕ)) (components values : List ℕ) (f : ℕ → ℕ) → AreWanted wanted components values (length components) → values ≡ map f components → AllHave wanted f
 have_shown wanted components values f w shown j v wants =
     let at = w.only j v wants in
-    sym at.3 ∙ ap (λ (l : List ℕ). get_or l at.0 0) shown ∙ get_or-map f components at.0 0 0 at.1 ∙ ap f at.2
+    sym at.3 ∙ ap (λ (l : List ℕ). slice_index l at.0) shown ∙ get_or-map f components at.0 0 0 at.1 ∙ ap f at.2
 
 pub shown_have : (wanted : List (Option ℕ)) (components values : List ℕ) (f g : ℕ → ℕ) → AreWanted wanted components values (length components) → values ≡ map g components → AllHave wanted f →
     values ≡ map f components
 shown_have wanted components values f g w shown all =
     same_number_lists values (map f components) (ap length shown ∙ length-map components g ∙ sym (length-map components f)) (λ k below.
     let within : k < length components = omega (arith, below, ap length shown, length-map components g) in
-    let j = get_or components k 0 in
+    let j = slice_index components k in
     let is = w.each k within in
-    ap (λ (l : List ℕ). get_or l k 0) shown ∙ get_or-map g components k 0 0 within ∙ sym (have_shown wanted components values g w shown j is.0 is.1) ∙ all j is.0 is.1 ∙
+    ap (λ (l : List ℕ). slice_index l k) shown ∙ get_or-map g components k 0 0 within ∙ sym (have_shown wanted components values g w shown j is.0 is.1) ∙ all j is.0 is.1 ∙
     sym (get_or-map f components k 0 0 within))
 
 -- one position less
-pub left_less : (wanted : List (Option ℕ)) (components : List ℕ) (k c : ℕ) → get_or components k 0 ≡ c → c < length wanted → IsLeft wanted components k → IsLeft (set wanted c None) components (k + 1)
+pub left_less : (wanted : List (Option ℕ)) (components : List ℕ) (k c : ℕ) → slice_index components k ≡ c → c < length wanted → IsLeft wanted components k → IsLeft (slice_set wanted c None) components (k + 1)
 left_less wanted components k c component within left j v wants = elim (cases_eq j c) [
   | inl here ↦
-      let bad : None ≡ Some v = sym (ap (λ n. get_or (set wanted c None) n None) here ∙ get_or-set_same wanted c None None within) ∙ wants in
+      let bad : None ≡ Some v = sym (ap (λ n. slice_index_or (slice_set wanted c None) n None) here ∙ get_or-set_same wanted c None None within) ∙ wants in
       cc
   | inr other ↦
       let was = left j v (sym (get_or-set_other wanted c j None None other) ∙ wants) in
-      let past : k ≢ was.0 = λ is. other (sym was.3 ∙ ap (λ n. get_or components n 0) (sym is) ∙ component) in
+      let past : k ≢ was.0 = λ is. other (sym was.3 ∙ ap (λ n. slice_index components n) (sym is) ∙ component) in
       (was.0, omega (arith, was.1, past), was.2, was.3)
 ]
 
-pub marks_less : (wanted : List (Option ℕ)) (marks : List Bool) (c : ℕ) → c < length marks → AreMarksOf wanted marks → AreMarksOf (set wanted c None) (set marks c false)
+pub marks_less : (wanted : List (Option ℕ)) (marks : List Bool) (c : ℕ) → c < length marks → AreMarksOf wanted marks → AreMarksOf (slice_set wanted c None) (slice_set marks c false)
 marks_less wanted marks c room of j none = elim (cases_eq j c) [
-  | inl here ↦ ap (λ n. get_or (set marks c false) n false) here ∙ get_or-set_same marks c false false room
+  | inl here ↦ ap (λ n. slice_index_or (slice_set marks c false) n false) here ∙ get_or-set_same marks c false false room
   | inr other ↦ get_or-set_other marks c j false false other ∙ of j (sym (get_or-set_other wanted c j None None other) ∙ none)
 ]
 
@@ -275,10 +275,10 @@ marks_less wanted marks c room of j none = elim (cases_eq j c) [
 pub nothing_left : (wanted : List (Option ℕ)) (marks : List Bool) (components : List ℕ) (k : ℕ) → length components ≤ k → length wanted ≡ length marks → IsLeft wanted components k →
     AreMarksOf wanted marks → IsEmpty wanted marks
 nothing_left wanted marks components k end room left of =
-    let none : (j : ℕ) → get_or wanted j None ≡ None = λ j. no (get_or wanted j None) j refl in
+    let none : (j : ℕ) → slice_index_or wanted j None ≡ None = λ j. no (slice_index_or wanted j None) j refl in
     record { room = room; none = none; clear = λ j. of j (none j) }
   where
-    no : (w : Option ℕ) (j : ℕ) → get_or wanted j None ≡ w → w ≡ None
+    no : (w : Option ℕ) (j : ℕ) → slice_index_or wanted j None ≡ w → w ≡ None
     no None j is = refl
     no (Some v) j is = let at = left j v is in absurd (omega (arith, at.1, at.2, end))
 

@@ -1,5 +1,5 @@
 -- The answered scans of a replay make their steps.
-use Rattle.partial_replay.proofs.{Common.{ℕ, zero, suc, ◌≡◌, ◌<◌, ◌++◌, Bool, cond, List, [], ◌∷◌, length, map, get_or, Option, Some, None, refl, sym, ◌∙◌, ap, subst, inl, inr, arith, AllByRecursion, option_map, eqb_tells, length-map, Call, Called, Finish, all_take, Layout, IsLayout, Reply, Idle, ScanBegun, Finished, CoreState, at_stage, advance, reply_of, fresh, IsSound, begin_scan, answer_for, begun_of, IsServed, answers_lead_on, due_is_unreplied, rests_are_sound, stays_sound, scans_make_their_steps, PlanView, IsPlan, IsCall, Moment, moments_by, Makes, IsCallRun, HasSteps, AreStepsOf, calls_by, Answer}, PortLaws.{Begins, begins, begun_sizes, once_empty}, StepsOf.{IsCut, steps_cut}, Plans.served}
+use Rattle.partial_replay.proofs.{Common.{ℕ, zero, suc, ◌≡◌, ◌<◌, ◌++◌, Bool, if◌then◌else◌, List, [], ◌∷◌, length, map, slice_index_or, Option, Some, None, refl, sym, ◌∙◌, ap, subst, inl, inr, arith, AllByRecursion, option_map, eqb_tells, length-map, Call, Called, Finish, all_take, Layout, IsLayout, Reply, Idle, ScanBegun, Finished, CoreState, at_stage, advance, reply_of, fresh, IsSound, begin_scan, answer_for, begun_of, IsServed, answers_lead_on, due_is_unreplied, rests_are_sound, stays_sound, scans_make_their_steps, PlanView, IsPlan, IsCall, Moment, moments_by, Makes, IsCallRun, HasSteps, AreStepsOf, calls_by, Answer}, PortLaws.{Begins, begins, begun_sizes, once_empty}, StepsOf.{IsCut, steps_cut}, Plans.served}
 use Rattle.partial_machine.specs.Steps.{Run, AreOfScan, pairs_loaded}
 use Rattle.partial_machine.proofs.Behind.{run_sizes}
 use Rattle.partial_replay.specs.ScanSteps.{moment_answers, events_in_front, own_events, IsOfItsScan, AnsweredScansMakeTheirSteps}
@@ -73,7 +73,7 @@ scan_replied s (Some (Reply.Changed by)) vs k b e = let bad : Some (Answer.Chang
 scan_begun : (s : CoreState) (js : List ℕ) → 0 < length js → (begin_scan s js).stage ≡ ScanBegun
 scan_begun s js some = elim (eqb_tells (length js) 0) [
   | inl none ↦ let n = none.1 in absurd (omega (arith, n, some))
-  | inr some' ↦ ap (λ (b : Bool). cond b (Finished (Reply.Scanned 0 None)) ScanBegun) some'.0
+  | inr some' ↦ ap (λ (b : Bool). if b then Finished (Reply.Scanned 0 None) else ScanBegun) some'.0
 ]
 
 scan_of : (z : Layout) (first : CoreState) (front : List Called) (c : Called) (behind : List Called) (xs : List Moment) (last : CoreState)
@@ -123,10 +123,10 @@ served_front m [] c behind w = (tt, w.0)
 served_front m (d ∷ front) c behind w = let rest = served_front m front c behind w.1 in ((w.0, rest.0), rest.1)
 
 -- the calls of a port of a plan are ones that its machine serves
-plan_served : (p : PlanView) (q : ℕ) → IsPlan p → AllByRecursion (IsServed p.sizes.m) (get_or p.ports q [])
+plan_served : (p : PlanView) (q : ℕ) → IsPlan p → AllByRecursion (IsServed p.sizes.m) (slice_index_or p.ports q [])
 plan_served p q w = at p.ports q w.calls
   where
-    at : (ports : List (List Call)) (q : ℕ) → AllByRecursion (λ cs. AllByRecursion (IsCall p.sizes.m) cs) ports → AllByRecursion (IsServed p.sizes.m) (get_or ports q [])
+    at : (ports : List (List Call)) (q : ℕ) → AllByRecursion (λ cs. AllByRecursion (IsCall p.sizes.m) cs) ports → AllByRecursion (IsServed p.sizes.m) (slice_index_or ports q [])
     at [] q all = tt
     at (cs ∷ ports) zero all = served p.sizes.m cs all.0
     at (cs ∷ ports) (suc q) all = at ports q all.1
@@ -139,7 +139,7 @@ answered_scans_make_their_steps p outcome plan w q front c behind is =
     let xs = moments_by z.m q outcome.trace.items in
     let events = w.events q in
     let calls : AllByRecursion (IsServed z.m) (map (λ (d : Called). d.call) cs) = subst (AllByRecursion (IsServed z.m)) (sym (w.calls q))
-    (all_take (IsServed z.m) (length cs) (get_or p.ports q []) (plan_served p q plan)) in
+    (all_take (IsServed z.m) (length cs) (slice_index_or p.ports q []) (plan_served p q plan)) in
     let served = served_front z.m front c behind (subst (λ (l : List Called). AllByRecursion (IsServed z.m) (map (λ (d : Called). d.call) l)) is calls) in
     let cut = steps_cut first (events.0) front c behind xs (subst (λ (l : List Called). AreStepsOf first l xs (events.0)) is events.1) in
     let sound = calls_sound z first cut.at front (events_in_front front xs) plan.sizes refl (rests_are_sound.fresh z q) served.0 cut.led in

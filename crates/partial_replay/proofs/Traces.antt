@@ -1,9 +1,9 @@
 -- What a trace says, event by event.
-use Rattle.partial_replay.proofs.Common.{ℕ, suc, ◌-◌, ◌≡◌, ◌+◌, ◌<◌, ◌==◌, ◌++◌, Bool, true, false, cond, List, [], ◌∷◌, length, map, get_or, take, nat_lt, Option, Some, None, slice_get, refl, sym, ◌∙◌, ap, arith, filter_map, cons_option, filter_map-append, map-append, get_or_from_slice_get, Applied, Opening, IsHistory, initial_stamp, last_entry, stamp_of, option_map_or, word_of, last_entry-found, place_below, AllByRecursion-get, Step, Event, record_value, Agrees, is_won, new_of, event_entry, entry_at, unvalued, Load, Store, Exchange, Add, value_behind_stamp, Call, answer_of, Memory, Port, StepMade, event_of}
+use Rattle.partial_replay.proofs.Common.{ℕ, suc, ◌-◌, ◌≡◌, ◌+◌, ◌<◌, ◌==◌, ◌++◌, Bool, true, false, if◌then◌else◌, List, [], ◌∷◌, length, map, slice_index_or, slice_index, take, nat_lt, Option, Some, None, slice_get, refl, sym, ◌∙◌, ap, arith, filter_map, cons_option, filter_map-append, map-append, get_or_from_slice_get, Applied, Opening, IsHistory, initial_stamp, last_entry, stamp_of, option_map_or, word_of, last_entry-found, place_below, AllByRecursion-get, Step, Event, record_value, Agrees, is_won, new_of, event_entry, entry_at, unvalued, Load, Store, Exchange, Add, value_behind_stamp, Call, answer_of, Memory, Port, StepMade, event_of}
 use Rattle.partial_model.specs.History as history
 
-entry_won : (p w old new v : ℕ) (c b : Bool) → cons_option (cond (cond c b false) (Some (record { port = p; component = w; value = 0; stamp = new })) None) [] ≡ map unvalued
-    (cond c (cond b (record { port = p; component = w; value = v; stamp = new } ∷ []) []) [])
+entry_won : (p w old new v : ℕ) (c b : Bool) → cons_option (if (if c then b else false) then Some (record { port = p; component = w; value = 0; stamp = new }) else None) [] ≡ map unvalued
+    (if c then (if b then record { port = p; component = w; value = v; stamp = new } ∷ [] else []) else [])
 entry_won p w old new v true true = refl
 entry_won p w old new v true false = refl
 entry_won p w old new v false b = refl
@@ -33,8 +33,8 @@ abbrev valued : (ℕ → ℕ) → Applied → Applied
 valued value e = record { port = e.port; component = e.component; value = value e.stamp; stamp = e.stamp }
 
 valued_won : (value : ℕ → ℕ) (e : Event) (b : Bool) (xs ys : List Applied) → xs ≡ map (valued value) ys →
-    cons_option (cond b (Some (record { port = e.port; component = word_of e.step; value = value (new_of e.step); stamp = new_of e.step })) None) xs ≡ map (valued value)
-    (cons_option (cond b (Some (record { port = e.port; component = word_of e.step; value = 0; stamp = new_of e.step })) None) ys)
+    cons_option (if b then Some (record { port = e.port; component = word_of e.step; value = value (new_of e.step); stamp = new_of e.step }) else None) xs ≡ map (valued value)
+    (cons_option (if b then Some (record { port = e.port; component = word_of e.step; value = 0; stamp = new_of e.step }) else None) ys)
 valued_won value e true xs ys same = ap (λ (l : List Applied). record { port = e.port; component = word_of e.step; value = value (new_of e.step); stamp = new_of e.step } ∷ l) same
 valued_won value e false xs ys same = same
 
@@ -46,11 +46,11 @@ valued_trace m value (e ∷ trace) = valued_won value e (is_won m e.step e.answe
 entry_value : (o : Opening) (words : List ℕ) (h : List Applied) (k : ℕ) (e : Applied) → IsHistory o h → Agrees o words h → slice_get h k ≡ Some e → record_value words e.stamp ≡ e.value
 entry_value o words h k e hist agrees stands =
     let below = place_below h k e stands in
-    let here : get_or h (k + 1 - 1) e ≡ e = ap (λ i. get_or h i e) (omega arith) ∙ get_or_from_slice_get h k e e stands in
+    let here : slice_index_or h (k + 1 - 1) e ≡ e = ap (λ i. slice_index_or h i e) (omega arith) ∙ get_or_from_slice_get h k e e stands in
     let last : last_entry e.component (take (k + 1) h) ≡ Some e = last_entry-found h (k + 1) e.component e (omega arith) (omega (arith, below))
     (ap (λ (f : Applied). f.component) here) ∙ ap Some here in
     let stamp : stamp_of o (take (k + 1) h) e.component ≡ e.stamp = ap (λ (f : Option Applied). option_map_or (λ (x : Applied). x.stamp) f (initial_stamp o e.component)) last in
-    let value : history.value_of o (take (k + 1) h) e.component ≡ e.value = ap (λ (f : Option Applied). option_map_or (λ (x : Applied). x.value) f (get_or o.values e.component 0)) last in
+    let value : history.value_of o (take (k + 1) h) e.component ≡ e.value = ap (λ (f : Option Applied). option_map_or (λ (x : Applied). x.value) f (slice_index o.values e.component)) last in
     ap (record_value words) (sym stamp) ∙ value_behind_stamp o words h e.component (k + 1) agrees (AllByRecursion-get (λ (f : Applied). f.component < length o.values) h k e hist.components stands)
     ∙ value
 

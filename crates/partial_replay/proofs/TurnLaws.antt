@@ -1,16 +1,16 @@
 -- The turns of a replay, one behind the other.
-use Rattle.partial_replay.proofs.{Common.{ℕ, zero, suc, ◌≡◌, ◌≢◌, ◌+◌, ◌-◌, ◌<◌, ◌≤◌, ◌==◌, ◌++◌, Bool, true, false, cond, List, [], ◌∷◌, length, get_or, map, take, replicate, set, Option, Some, None, slice_get, refl, sym, ◌∙◌, ap, subst, inl, inr, arith, append_assoc, length-append, MatchOption, filter, range_with_len, filter-append, sum_by-cons, sum_by-append, so_many, to_its_end, made_in, ports_in, turns_by, turns_of, left_behind, PlanView, AreAllMade, EndInStep, HaveMade, Called, take_all, append-nil, map_push, map-append, length-replicate, replicate-append-replicate, ne_eqb, cases_lt, eqb_tells, Call, Event, StepMade, Port, Run, ports_of, events_in, IsTurnReady, IsPortDone, GoesOnBy, TurnsMade, StopAtSteps, HasTurns, MakeTurns, HasMadeTurns, some_same, Memory, event_of, PortAt}, PortLaws.{get_set, get_set_other, same_at, take_next, get_is, same_eqb}}
+use Rattle.partial_replay.proofs.{Common.{ℕ, zero, suc, ◌≡◌, ◌≢◌, ◌+◌, ◌-◌, ◌<◌, ◌≤◌, ◌==◌, ◌++◌, Bool, true, false, if◌then◌else◌, List, [], ◌∷◌, length, slice_index_or, map, take, replicate, slice_set, Option, Some, None, slice_get, refl, sym, ◌∙◌, ap, subst, inl, inr, arith, append_assoc, length-append, MatchOption, filter, range_with_len, filter-append, sum_by-cons, sum_by-append, so_many, to_its_end, made_in, ports_in, turns_by, turns_of, left_behind, PlanView, AreAllMade, EndInStep, HaveMade, Called, take_all, append-nil, map_push, map-append, length-replicate, replicate-append-replicate, ne_eqb, cases_lt, eqb_tells, Call, Event, StepMade, Port, Run, ports_of, events_in, IsTurnReady, IsPortDone, GoesOnBy, TurnsMade, StopAtSteps, HasTurns, MakeTurns, HasMadeTurns, some_same, Memory, event_of, PortAt}, PortLaws.{get_set, get_set_other, same_at, take_next, get_is, same_eqb}}
 
 -- a port in another state: the ports that have made all their calls have still made them where this one has
 pub done_set : {plans : List (List Call)} {ports : List Port} {i : ℕ} {calls : List Call} {port : Port} (new : Port) → PortAt plans ports i calls port →
     (port.under_way ≡ None → length port.finished.items ≡ length calls → (new.under_way ≡ None) × (length new.finished.items ≡ length calls)) → (q : ℕ) → IsPortDone plans ports q →
-    IsPortDone plans (set ports i new) q
+    IsPortDone plans (slice_set ports i new) q
 done_set {plans} {ports} {i} {calls} {port} new at keeps q d = elim (eqb_tells q i) [
   | inl same ↦
       let one = same_at at d.at same.1 in
       let kept = keeps (ap (λ (u : Port). u.under_way) one.1 ∙ d.idle) (ap (λ (u : Port). length u.finished.items) one.1 ∙ d.all ∙ ap length (sym one.0)) in
-      let here : PortAt plans (set ports i new) i calls new = record { plan = at.plan; is = get_set ports i port new at.is } in
-      record { calls = calls; port = new; at = subst (λ n. PortAt plans (set ports i new) n calls new) (sym same.1) here; idle = kept.0; all = kept.1 }
+      let here : PortAt plans (slice_set ports i new) i calls new = record { plan = at.plan; is = get_set ports i port new at.is } in
+      record { calls = calls; port = new; at = subst (λ n. PortAt plans (slice_set ports i new) n calls new) (sym same.1) here; idle = kept.0; all = kept.1 }
   | inr other ↦ record { calls = d.calls; port = d.port; at = record { plan = d.at.plan; is = get_set_other ports i q new other.1 ∙ d.at.is }; idle = d.idle; all = d.all }
 ]
 
@@ -40,13 +40,13 @@ ports_more n p old new g = ap ports_of g.trace ∙ map-append (λ (e : Event). e
 -- one entry more
 pub own_events : (n p : ℕ) → filter (λ r. r == p) (replicate n p) ≡ replicate n p
 own_events zero p = refl
-own_events (suc n) p = ap (λ (b : Bool). cond b (p ∷ filter (λ r. r == p) (replicate n p)) (filter (λ r. r == p) (replicate n p))) (same_eqb p p refl) ∙ ap (λ (l : List ℕ). p ∷ l) (own_events n p)
+own_events (suc n) p = ap (λ (b : Bool). if b then p ∷ filter (λ r. r == p) (replicate n p) else filter (λ r. r == p) (replicate n p)) (same_eqb p p refl) ∙ ap (λ (l : List ℕ). p ∷ l) (own_events n p)
 
 other_events : (q n p : ℕ) → (q ≡ p → n ≡ 0) → filter (λ r. r == q) (replicate n p) ≡ []
 other_events q zero p same = refl
 other_events q (suc n) p same =
     let away : p ≢ q = λ h. let none = same (sym h) in omega (arith, none) in
-    ap (λ (b : Bool). cond b (p ∷ filter (λ r. r == q) (replicate n p)) (filter (λ r. r == q) (replicate n p))) (ne_eqb p q away) ∙ other_events q n p (λ h. absurd (away (sym h)))
+    ap (λ (b : Bool). if b then p ∷ filter (λ r. r == q) (replicate n p) else filter (λ r. r == q) (replicate n p)) (ne_eqb p q away) ∙ other_events q n p (λ h. absurd (away (sym h)))
 
 none_more : (q n p : ℕ) (ports : List ℕ) → events_in q ports ≡ 0 → (q ≡ p → n ≡ 0) → events_in q (ports ++ replicate n p) ≡ 0
 none_more q n p ports none same =
@@ -79,10 +79,10 @@ followed plans es p k old new f t =
     (last_turns (IsPortDone plans new.ports.items) p t.steps k t.all) f)
 
 -- one more entry, of the plan's
-turns_push : (q i : ℕ) (steps : List (ℕ × ℕ)) (e : ℕ × ℕ) → slice_get steps i ≡ Some e → turns_by q (take (i + 1) steps) ≡ turns_by q (take i steps) + cond (e.0 == q) e.1 0
+turns_push : (q i : ℕ) (steps : List (ℕ × ℕ)) (e : ℕ × ℕ) → slice_get steps i ≡ Some e → turns_by q (take (i + 1) steps) ≡ turns_by q (take i steps) + (if e.0 == q then e.1 else 0)
 turns_push q i steps e s =
-    let last = sum_by-cons (λ (d : ℕ × ℕ). cond (d.0 == q) d.1 0) e [] in
-    let both = sum_by-append (λ (d : ℕ × ℕ). cond (d.0 == q) d.1 0) (take i steps) (e ∷ []) in
+    let last = sum_by-cons (λ (d : ℕ × ℕ). if d.0 == q then d.1 else 0) e [] in
+    let both = sum_by-append (λ (d : ℕ × ℕ). if d.0 == q then d.1 else 0) (take i steps) (e ∷ []) in
     let next : turns_by q (take (i + 1) steps) ≡ turns_by q (take i steps ++ e ∷ []) = ap (turns_by q) (take_next steps i e s) in
     let none : turns_by q [] ≡ 0 = refl in
     omega (arith, last, both, next, none)
@@ -138,9 +138,9 @@ left_same D e n behind left all h =
     let made : made_in e.1 (left p) ≡ n = made_is D p e.1 n (left p) behind own h in (
       made,
       λ q. elim (eqb_tells q p) [
-        | inl is ↦ ap (λ (b : Bool). cond b (left q - made_in e.1 (left q)) (left q)) is.0 ∙ ap (λ r. left r - made_in e.1 (left r)) is.1 ∙ ap (λ k. left p - k) made ∙ omega (arith, own) ∙
+        | inl is ↦ ap (λ (b : Bool). if b then left q - made_in e.1 (left q) else left q) is.0 ∙ ap (λ r. left r - made_in e.1 (left r)) is.1 ∙ ap (λ k. left p - k) made ∙ omega (arith, own) ∙
             ap (λ r. events_in r behind) (sym is.1)
-        | inr other ↦ ap (λ (b : Bool). cond b (left q - made_in e.1 (left q)) (left q)) other.0 ∙ all q ∙ events_other q n p behind other.1
+        | inr other ↦ ap (λ (b : Bool). if b then left q - made_in e.1 (left q) else left q) other.0 ∙ all q ∙ events_other q n p behind other.1
       ],
     )
 
@@ -165,11 +165,11 @@ within_turns D q (e ∷ steps) ports f =
     let p = e.0 in
     let behind = f.1 in
     let rest = within_turns D q steps behind f.4 in
-    let sum : turns_by q (e ∷ steps) ≡ cond (p == q) e.1 0 + turns_by q steps = sum_by-cons (λ (d : ℕ × ℕ). cond (d.0 == q) d.1 0) e steps in
+    let sum : turns_by q (e ∷ steps) ≡ (if p == q then e.1 else 0) + turns_by q steps = sum_by-cons (λ (d : ℕ × ℕ). if d.0 == q then d.1 else 0) e steps in
     let few = f.3.0 in
     elim (eqb_tells p q) [
       | inl is ↦
-          let turns : turns_by q (e ∷ steps) ≡ e.1 + turns_by q steps = sum ∙ ap (λ (b : Bool). cond b e.1 0 + turns_by q steps) is.0 in
+          let turns : turns_by q (e ∷ steps) ≡ e.1 + turns_by q steps = sum ∙ ap (λ (b : Bool). (if b then e.1 else 0) + turns_by q steps) is.0 in
           let events : events_in q ports ≡ n + events_in q behind = ap (events_in q) f.2 ∙ ap (λ r. events_in r (replicate n p ++ behind)) (sym is.1) ∙ events_own n p behind ∙
           ap (λ r. n + events_in r behind) is.1 in
           record {
@@ -180,7 +180,7 @@ within_turns D q (e ∷ steps) ports f =
             ];
           }
       | inr other ↦
-          let turns : turns_by q (e ∷ steps) ≡ 0 + turns_by q steps = sum ∙ ap (λ (b : Bool). cond b e.1 0 + turns_by q steps) other.0 in
+          let turns : turns_by q (e ∷ steps) ≡ 0 + turns_by q steps = sum ∙ ap (λ (b : Bool). (if b then e.1 else 0) + turns_by q steps) other.0 in
           let events : events_in q ports ≡ events_in q behind = ap (events_in q) f.2 ∙ events_other q n p behind (λ h. other.1 (sym h)) in
           record { within = omega (arith, turns, events, rest.within); done = λ less. rest.done (omega (arith, turns, events, less)) }
     ]
@@ -198,9 +198,9 @@ rest_done D [] n q ports below f = ends_done D 0 n q ports (omega arith) (omega 
 rest_done D (e ∷ es) n q ports below f = rest_done D es n q (f.1) below f.4
 
 pub ending_next : (plans : List (List Call)) (steps : List (ℕ × ℕ)) (i : ℕ) (old new : Run) → i < length steps → HasMadeTurns plans (map so_many (take i steps)) old → StopAtSteps (take i steps) old →
-    TurnsMade plans (get_or steps i (0, 0)).0 (Some (get_or steps i (0, 0)).1) old new → StopAtSteps (take (i + 1) steps) new
+    TurnsMade plans (slice_index_or steps i (0, 0)).0 (Some (slice_index_or steps i (0, 0)).1) old new → StopAtSteps (take (i + 1) steps) new
 ending_next plans steps i old new below f ends t q same =
-    let e = get_or steps i (0, 0) in
+    let e = slice_index_or steps i (0, 0) in
     let p = e.0 in
     let n = t.steps in
     let ports = ports_of old.memory.trace.items in
@@ -211,25 +211,25 @@ ending_next plans steps i old new below f ends t q same =
     elim (eqb_tells p q) [
       | inl is ↦
           let own : events_in q (replicate n p) ≡ n = ap (λ r. events_in r (replicate n p)) (sym is.1) ∙ ap length (own_events n p) ∙ length-replicate n p in
-          let more : cond (p == q) e.1 0 ≡ e.1 = ap (λ (b : Bool). cond b e.1 0) is.0 in
+          let more : (if p == q then e.1 else 0) ≡ e.1 = ap (λ (b : Bool). if b then e.1 else 0) is.0 in
           let before : events_in q ports ≡ turns_by q (take i steps) = omega (arith, turns, events, within, few, own, more, same) in
           let all : e.1 ≡ n = omega (arith, turns, events, within, few, own, more, same) in
           t.ending q (λ h. ap Some all) (ends q before)
       | inr other ↦
           let none : events_in q (replicate n p) ≡ 0 = ap length (other_events q n p (λ h. absurd (other.1 (sym h)))) in
-          let more : cond (p == q) e.1 0 ≡ 0 = ap (λ (b : Bool). cond b e.1 0) other.0 in
+          let more : (if p == q then e.1 else 0) ≡ 0 = ap (λ (b : Bool). if b then e.1 else 0) other.0 in
           let before : events_in q ports ≡ turns_by q (take i steps) = omega (arith, turns, events, none, more, same) in
           t.ending q (λ h. absurd (other.1 (sym h))) (ends q before)
     ]
 
 -- what the turns make of each port
-pub turns_told : (D : ℕ → Type 0) (p : PlanView) (ports : List ℕ) (q : ℕ) (calls : List Called) → (D q → AreAllMade (get_or p.ports q []) calls) →
-    (length p.ports ≤ q → AreAllMade (get_or p.ports q []) calls) → (p.rest ≡ false → events_in q ports ≡ turns_by q p.steps → EndInStep calls) → MakeTurns D (turns_of p) ports →
-    HaveMade p.rest (turns_by q p.steps) (events_in q ports) (get_or p.ports q []) calls
+pub turns_told : (D : ℕ → Type 0) (p : PlanView) (ports : List ℕ) (q : ℕ) (calls : List Called) → (D q → AreAllMade (slice_index_or p.ports q []) calls) →
+    (length p.ports ≤ q → AreAllMade (slice_index_or p.ports q []) calls) → (p.rest ≡ false → events_in q ports ≡ turns_by q p.steps → EndInStep calls) → MakeTurns D (turns_of p) ports →
+    HaveMade p.rest (turns_by q p.steps) (events_in q ports) (slice_index_or p.ports q []) calls
 turns_told D p ports q calls done past ends f = at p.rest refl f
   where
-    at : (rest : Bool) → p.rest ≡ rest → MakeTurns D (map so_many p.steps ++ cond rest (map to_its_end (range_with_len 0 (length p.ports))) []) ports → HaveMade rest (turns_by q p.steps)
-        (events_in q ports) (get_or p.ports q []) calls
+    at : (rest : Bool) → p.rest ≡ rest → MakeTurns D (map so_many p.steps ++ (if rest then map to_its_end (range_with_len 0 (length p.ports)) else [])) ports → HaveMade rest (turns_by q p.steps)
+        (events_in q ports) (slice_index_or p.ports q []) calls
     at true is g = elim (cases_lt q (length p.ports)) [
       | inl below ↦ done (rest_done D (map so_many p.steps) (length p.ports) q ports below g)
       | inr beyond ↦ past beyond

@@ -1,5 +1,5 @@
 -- How long the history is at each turn of a port, and the calls that the port begins in its turns.
-use Rattle.partial_replay.proofs.{Common.{ℕ, zero, suc, ◌≡◌, ◌≢◌, ◌+◌, ◌-◌, ◌≤◌, ◌==◌, ◌++◌, Bool, true, false, cond, List, [], ◌∷◌, length, map, take, drop, replicate, slice_get, Option, Some, refl, sym, ◌∙◌, ap, subst, arith, append_assoc, length-append, append-nil, length-map, length-replicate, map-append, take-append-drop, take-append-le, drop-append-le, sum_by-cons, ne_eqb, Called, slice_get_grows, Event, Moment, adds, moments_from, last_behind, ports_of, events_in, made_in, left_behind, lengths_of, lengths_in, BeginInTurns, steps_in, HasTurns, MakeTurns, own_turns}, PortLaws.same_eqb, TurnLaws.{own_events, made_is, left_same, turns_grow}}
+use Rattle.partial_replay.proofs.{Common.{ℕ, zero, suc, ◌≡◌, ◌≢◌, ◌+◌, ◌-◌, ◌≤◌, ◌==◌, ◌++◌, Bool, true, false, if◌then◌else◌, List, [], ◌∷◌, length, map, take, drop, replicate, slice_get, Option, Some, refl, sym, ◌∙◌, ap, subst, arith, append_assoc, length-append, append-nil, length-map, length-replicate, map-append, take-append-drop, take-append-le, drop-append-le, sum_by-cons, ne_eqb, Called, slice_get_grows, Event, Moment, adds, moments_from, last_behind, ports_of, events_in, made_in, left_behind, lengths_of, lengths_in, BeginInTurns, steps_in, HasTurns, MakeTurns, own_turns}, PortLaws.same_eqb, TurnLaws.{own_events, made_is, left_same, turns_grow}}
 
 -- whose these moments are
 abbrev pub ports_at : List Moment → List ℕ
@@ -22,16 +22,16 @@ behind-append n (x ∷ xs) ys = behind-append x.behind xs ys
 
 -- the turns of one port
 pub own_is : (q p : ℕ) (ls : List ℕ) → q ≡ p → own_turns q p ls ≡ ls
-own_is q p ls same = ap (λ (b : Bool). cond b ls []) (same_eqb p q (sym same))
+own_is q p ls same = ap (λ (b : Bool). if b then ls else []) (same_eqb p q (sym same))
 
 pub own_other : (q p : ℕ) (ls : List ℕ) → q ≢ p → own_turns q p ls ≡ []
-own_other q p ls other = ap (λ (b : Bool). cond b ls []) (ne_eqb p q (λ h. other (sym h)))
+own_other q p ls other = ap (λ (b : Bool). if b then ls else []) (ne_eqb p q (λ h. other (sym h)))
 
 pub own_more : (q p : ℕ) (front ls ks : List ℕ) → (front ++ own_turns q p ls) ++ own_turns q p ks ≡ front ++ own_turns q p (ls ++ ks)
 own_more q p front ls ks = append_assoc front (own_turns q p ls) (own_turns q p ks) ∙ ap (λ (l : List ℕ). front ++ l) (both (p == q))
   where
-    both : (b : Bool) → cond b ls [] ++ cond b ks [] ≡ cond b (ls ++ ks) []
-    both b = elim b as (λ c. cond c ls [] ++ cond c ks [] ≡ cond c (ls ++ ks) []) [ true ↦ refl | false ↦ refl ]
+    both : (b : Bool) → (if b then ls else []) ++ (if b then ks else []) ≡ (if b then ls ++ ks else [])
+    both b = elim b as (λ c. (if c then ls else []) ++ (if c then ks else []) ≡ (if c then ls ++ ks else [])) [ true ↦ refl | false ↦ refl ]
 
 -- further turns change nothing for the calls that have begun
 pub begin_longer : (ls more : List ℕ) (turn : ℕ) (cs : List Called) → BeginInTurns ls turn cs → BeginInTurns (ls ++ more) turn cs
@@ -119,6 +119,6 @@ pub lengths_same : (q : ℕ) (es : List (ℕ × Option ℕ)) (left left' : ℕ �
 lengths_same q [] left left' n xs same = refl
 lengths_same q (e ∷ es) left left' n xs same =
     let i = made_in e.1 (left' e.0) in
-    let rest : (r : ℕ) → left_behind e left r ≡ left_behind e left' r = λ r. ap (λ k. cond (r == e.0) (k - made_in e.1 k) k) (same r) in
+    let rest : (r : ℕ) → left_behind e left r ≡ left_behind e left' r = λ r. ap (λ k. if r == e.0 then k - made_in e.1 k else k) (same r) in
     ap (λ k. own_turns q e.0 (lengths_of e.1 n (take (made_in e.1 k) xs)) ++ lengths_in q es (left_behind e left) (last_behind n (take (made_in e.1 k) xs)) (drop (made_in e.1 k) xs)) (same e.0)
     ∙ ap (λ (l : List ℕ). own_turns q e.0 (lengths_of e.1 n (take i xs)) ++ l) (lengths_same q es (left_behind e left) (left_behind e left') (last_behind n (take i xs)) (drop i xs) rest)

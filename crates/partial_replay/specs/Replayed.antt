@@ -1,5 +1,5 @@
 -- What a replay of a plan returns: a legal outcome of one history, with the words and the steps that led to them.
-use Rattle.std.specs.Prelude.{ℕ, ◌≡◌, ◌<◌, List, [], length, get_or, filter_map, sum_by}
+use Rattle.std.specs.Prelude.{ℕ, ◌≡◌, ◌<◌, List, [], length, slice_index_or, filter_map, sum_by}
 use Rattle.partial_model.specs.Outcome.{LegalOutcome}
 use Rattle.partial_words.specs.Layout.{pool_base}
 use Rattle.partial_words.specs.Record.{record_value}
@@ -31,7 +31,7 @@ pub record IsReplayOf (p : PlanView) (outcome : Outcome) : Type 0 where
   -- what a call saw is the least prefix from its begin on that shows its answer
   pub places : AllByRecursion (HasLeastPlace outcome.opening outcome.history.items) outcome.calls.items
   -- the calls of each port are the first of the plan's, in order
-  pub calls : (q : ℕ) → AreFirstOf (get_or p.ports q []) (calls_by q outcome.calls.items)
+  pub calls : (q : ℕ) → AreFirstOf (slice_index_or p.ports q []) (calls_by q outcome.calls.items)
   -- the trace leads from the words at opening to the words
   pub opened : List ℕ
   pub opens : AreOpeningWords p.sizes p.initial opened
@@ -47,11 +47,11 @@ pub record IsReplayOf (p : PlanView) (outcome : Outcome) : Type 0 where
   -- each call begins in the turn of its port that comes behind the steps of the calls in front of it, with the history as it is then
   pub begins : (q : ℕ) → BeginInTurns (turn_lengths p outcome q) 0 (calls_by q outcome.calls.items)
   -- each port makes a step in each of its turns until all its calls are made, and with the rest all are
-  pub made : (q : ℕ) → HaveMade p.rest (turns_by q p.steps) (steps_by q outcome.calls.items) (get_or p.ports q [])
+  pub made : (q : ℕ) → HaveMade p.rest (turns_by q p.steps) (steps_by q outcome.calls.items) (slice_index_or p.ports q [])
       (calls_by q outcome.calls.items)
   -- no call makes more steps than such a call may
   pub few : AreFew p.sizes outcome.calls.items
   -- Nothing waits for a stopped port: when a port has more turns than its calls make steps at most, they
   -- are all made, wherever the others stopped.
-  pub waits : (q : ℕ) → sum_by (most_steps p.sizes) (get_or p.ports q []) < turns_by q p.steps →
-      AreAllMade (get_or p.ports q []) (calls_by q outcome.calls.items)
+  pub waits : (q : ℕ) → sum_by (most_steps p.sizes) (slice_index_or p.ports q []) < turns_by q p.steps →
+      AreAllMade (slice_index_or p.ports q []) (calls_by q outcome.calls.items)

@@ -1,18 +1,18 @@
 -- The steps by which a block is claimed and written, and by which a list is published.
-use Rattle.partial_state.proofs.{Common.{ℕ, ◌≡◌, ◌≢◌, ◌+◌, ◌*◌, ◌<◌, ◌≤◌, ◌==◌, ◌++◌, ◌^◌, ◌%◌, Bool, true, false, cond, List, ◌∷◌, length, get_or, set, Some, None, refl, sym, ◌∙◌, ap, subst, inl, inr, arith, get_or-set_other, get_or-set_same, length-set, cases_lt, Applied, Opening, Layout, slot_counter, list_head, pool_counter, list_counter, slot_word, list_base, pool_end, total, length-pairs, Block, AreApart, IsApartFrom, IsPublishedList, IsHead, Own, Holding, Space, space_begin, end_of, counter_of, block_of, unpublished, blocks_in, other_holdings, EachTwo, Pool, Lists, LawfulWords, IsOwn, IsTied, IsDue, IsKept, ClaimsAreKept, StoresAreKept, PublishingsAreKept, list_block, Counted, ListWords, PoolWords, Slots, counter, marked_ports}, ListLemmas.{all_at, all_weaker, two_take, two_put}, Frames.{IsClaimedBlock, word_at, apart_turns, head_moves}, Claimed.{unpublished_two, all_claimed}, HoldingLemmas.{own_far, if_some_at, none_here, marks_kept}, Blocks.{unpublished_is, announced_same, own_added, blocks_same, own_block_added}, Rebuild.{Moves, frame_of}, NoNewEntry.{calm, fits_word, head_stays, high_stays, marked_stays, counters_stay, counters_same}, MarkLaws.block_given_up}
+use Rattle.partial_state.proofs.{Common.{ℕ, ◌≡◌, ◌≢◌, ◌+◌, ◌*◌, ◌<◌, ◌≤◌, ◌==◌, ◌++◌, ◌^◌, ◌%◌, Bool, true, false, if◌then◌else◌, List, ◌∷◌, length, slice_index, slice_set, Some, None, refl, sym, ◌∙◌, ap, subst, inl, inr, arith, get_or-set_other, get_or-set_same, length-set, cases_lt, Applied, Opening, Layout, slot_counter, list_head, pool_counter, list_counter, slot_word, list_base, pool_end, total, length-pairs, Block, AreApart, IsApartFrom, IsPublishedList, IsHead, Own, Holding, Space, space_begin, end_of, counter_of, block_of, unpublished, blocks_in, other_holdings, EachTwo, Pool, Lists, LawfulWords, IsOwn, IsTied, IsDue, IsKept, ClaimsAreKept, StoresAreKept, PublishingsAreKept, list_block, Counted, ListWords, PoolWords, Slots, counter, marked_ports}, ListLemmas.{all_at, all_weaker, two_take, two_put}, Frames.{IsClaimedBlock, word_at, apart_turns, head_moves}, Claimed.{unpublished_two, all_claimed}, HoldingLemmas.{own_far, if_some_at, none_here, marks_kept}, Blocks.{unpublished_is, announced_same, own_added, blocks_same, own_block_added}, Rebuild.{Moves, frame_of}, NoNewEntry.{calm, fits_word, head_stays, high_stays, marked_stays, counters_stay, counters_same}, MarkLaws.block_given_up}
 
 module _ (z : Layout) (o : Opening) (words : List ℕ) (before : List Holding) (h : Holding) (after : List Holding) (log : List Applied) (w : LawfulWords z o words (before ++ h ∷ after) log) where
   -- a block from the counter on is apart from each that is claimed
-  fresh_apart : (s : Space) (n : ℕ) → get_or words (counter_of z s) 0 + n ≤ end_of z s → (b : Block) → IsClaimedBlock z words b → AreApart b (record { at = get_or words (counter_of z s) 0; size = n })
+  fresh_apart : (s : Space) (n : ℕ) → slice_index words (counter_of z s) + n ≤ end_of z s → (b : Block) → IsClaimedBlock z words b → AreApart b (record { at = slice_index words (counter_of z s); size = n })
   fresh_apart Pool n room b (inl k) = let low = (w.counters PoolWords).low in let a = k.0 in inl (omega (arith, low, a))
   fresh_apart Pool n room b (inr k) = inl k.1
   fresh_apart Lists n room b (inl k) = inl k.1
   fresh_apart Lists n room b (inr k) = let a = k.0 in inr (omega (arith, room, a))
 
-  module _ (space : Space) (block : List ℕ) (unowned : h.own ≡ None) (idle : h.due ≡ None) (room : get_or words (counter_of z space) 0 + length block ≤ end_of z space) where
+  module _ (space : Space) (block : List ℕ) (unowned : h.own ≡ None) (idle : h.due ≡ None) (room : slice_index words (counter_of z space) + length block ≤ end_of z space) where
     -- the claimed words
     claimed : List ℕ
-    claimed = set words (counter_of z space) ((get_or words (counter_of z space) 0 + length block) % 2 ^ 64)
+    claimed = slice_set words (counter_of z space) ((slice_index words (counter_of z space) + length block) % 2 ^ 64)
 
     counter_low : (s : Space) → pool_counter z ≤ counter_of z s
     counter_low Pool = omega arith
@@ -26,28 +26,28 @@ module _ (z : Layout) (o : Opening) (words : List ℕ) (before : List Holding) (
     end_high Pool = omega arith
     end_high Lists = omega arith
 
-    start_low : (s : Space) → space_begin z s ≤ get_or words (counter_of z s) 0
+    start_low : (s : Space) → space_begin z s ≤ slice_index words (counter_of z s)
     start_low Pool = (w.counters PoolWords).low
     start_low Lists = (w.counters ListWords).low
 
-    now : get_or claimed (counter_of z space) 0 ≡ get_or words (counter_of z space) 0 + length block
+    now : slice_index claimed (counter_of z space) ≡ slice_index words (counter_of z space) + length block
     unfolding claimed
     now =
         let count = w.count in
         let some = w.sizes.slots.0 in
         let most = counter_high space in
         let end = end_high space in
-        get_or-set_same words (counter_of z space) ((get_or words (counter_of z space) 0 + length block) % 2 ^ 64) 0 (omega (arith, count, some, most)) ∙ fits_word z
-        (get_or words (counter_of z space) 0 + length block) w.sizes (omega (arith, room, end))
+        get_or-set_same words (counter_of z space) ((slice_index words (counter_of z space) + length block) % 2 ^ 64) 0 (omega (arith, count, some, most)) ∙ fits_word z
+        (slice_index words (counter_of z space) + length block) w.sizes (omega (arith, room, end))
 
-    other : (k : ℕ) → k ≢ counter_of z space → get_or claimed k 0 ≡ get_or words k 0
+    other : (k : ℕ) → k ≢ counter_of z space → slice_index claimed k ≡ slice_index words k
     unfolding claimed
-    other k differs = get_or-set_other words (counter_of z space) k ((get_or words (counter_of z space) 0 + length block) % 2 ^ 64) 0 differs
+    other k differs = get_or-set_other words (counter_of z space) k ((slice_index words (counter_of z space) + length block) % 2 ^ 64) 0 differs
 
     -- a counter is where it was, or behind the block
-    counter_now : (c : Counted) (s : Space) → (get_or claimed (counter_of z s) 0 ≡ get_or words (counter_of z s) 0 + length block) → ((k : ℕ) → k ≢ counter_of z s → get_or claimed k 0 ≡ get_or words k 0) →
-        get_or words (counter_of z s) 0 + length block ≤ end_of z s → (get_or words (counter z c).word 0 ≤ get_or claimed (counter z c).word 0) ×
-        ((n : ℕ) → get_or words (counter z c).word 0 ≤ (counter z c).end + n → get_or claimed (counter z c).word 0 ≤ (counter z c).end + n)
+    counter_now : (c : Counted) (s : Space) → (slice_index claimed (counter_of z s) ≡ slice_index words (counter_of z s) + length block) → ((k : ℕ) → k ≢ counter_of z s → slice_index claimed k ≡ slice_index words k) →
+        slice_index words (counter_of z s) + length block ≤ end_of z s → (slice_index words (counter z c).word ≤ slice_index claimed (counter z c).word) ×
+        ((n : ℕ) → slice_index words (counter z c).word ≤ (counter z c).end + n → slice_index claimed (counter z c).word ≤ (counter z c).end + n)
     counter_now PoolWords Pool now other room = (omega (arith, now), λ n high. omega (arith, now, room))
     counter_now ListWords Lists now other room = (omega (arith, now), λ n high. omega (arith, now, room))
     counter_now PoolWords Lists now other room = let same = other (pool_counter z) (λ e. omega (arith, e)) in (omega (arith, same), λ n high. omega (arith, same, high))
@@ -55,20 +55,20 @@ module _ (z : Layout) (o : Opening) (words : List ℕ) (before : List Holding) (
     counter_now Slots Pool now other room = let same = other (slot_counter z) (λ e. omega (arith, e)) in (omega (arith, same), λ n high. omega (arith, same, high))
     counter_now Slots Lists now other room = let same = other (slot_counter z) (λ e. omega (arith, e)) in (omega (arith, same), λ n high. omega (arith, same, high))
 
-    pub claim_is_kept : IsKept z o words before h after log (set words (counter_of z space) ((get_or words (counter_of z space) 0 + length block) % 2 ^ 64))
-        (record h { own = Some (record { space = space; at = get_or words (counter_of z space) 0; words = block; stored = 0 }) }) log
+    pub claim_is_kept : IsKept z o words before h after log (slice_set words (counter_of z space) ((slice_index words (counter_of z space) + length block) % 2 ^ 64))
+        (record h { own = Some (record { space = space; at = slice_index words (counter_of z space); words = block; stored = 0 }) }) log
     unfolding claimed
     claim_is_kept =
-        let h' : Holding = record h { own = Some (record { space = space; at = get_or words (counter_of z space) 0; words = block; stored = 0 }) } in
-        let b : Own = record { space = space; at = get_or words (counter_of z space) 0; words = block; stored = 0 } in
+        let h' : Holding = record h { own = Some (record { space = space; at = slice_index words (counter_of z space); words = block; stored = 0 }) } in
+        let b : Own = record { space = space; at = slice_index words (counter_of z space); words = block; stored = 0 } in
         let most = counter_high space in
         let least = counter_low space in
-        let slots : get_or claimed (slot_counter z) 0 ≡ get_or words (slot_counter z) 0 = other (slot_counter z) (λ e. omega (arith, e, least)) in
-        let slot_words : (l : ℕ) → l < z.slots → get_or claimed (slot_word z l) 0 ≡ get_or words (slot_word z l) 0 = λ l inside. other (slot_word z l) (λ e. omega (arith, e, most)) in
-        let far : (k : ℕ) → list_base z ≤ k → get_or claimed k 0 ≡ get_or words k 0 = λ k above. other k (λ e. omega (arith, above, e, most)) in
+        let slots : slice_index claimed (slot_counter z) ≡ slice_index words (slot_counter z) = other (slot_counter z) (λ e. omega (arith, e, least)) in
+        let slot_words : (l : ℕ) → l < z.slots → slice_index claimed (slot_word z l) ≡ slice_index words (slot_word z l) = λ l inside. other (slot_word z l) (λ e. omega (arith, e, most)) in
+        let far : (k : ℕ) → list_base z ≤ k → slice_index claimed k ≡ slice_index words k = λ k above. other k (λ e. omega (arith, above, e, most)) in
         let m : Moves z words claimed h h' = record {
           port = refl;
-          count = length-set words (counter_of z space) ((get_or words (counter_of z space) 0 + length block) % 2 ^ 64);
+          count = length-set words (counter_of z space) ((slice_index words (counter_of z space) + length block) % 2 ^ 64);
           rises = λ c. (counter_now c space now other room).0;
           same = λ k above free. far k above;
           apart = λ x taken free. fresh_apart space (length block) room x taken;
@@ -121,20 +121,20 @@ stores_are_kept z o words before h after log b w is idle more =
     let b' : Own = record b { stored = b.stored + 1 } in
     let h' : Holding = record h { own = Some (record b { stored = b.stored + 1 }) } in
     let n = b.at + b.stored in
-    let v = get_or b.words b.stored 0 in
-    let words' = set words n v in
+    let v = slice_index b.words b.stored in
+    let words' = slice_set words n v in
     let count = w.count in
     let tied = all_at (IsTied z words) before h after w.tied in
     let own : IsOwn z words b = if_some_at (IsOwn z words) h.own b is tied.own in
     let within = own_within z words b own in
     let above = own_far z words b own in
-    let other : (k : ℕ) → k ≢ n → get_or words' k 0 ≡ get_or words k 0 = λ k differs. get_or-set_other words n k v 0 differs in
-    let low : (k : ℕ) → k < list_base z → get_or words' k 0 ≡ get_or words k 0 = λ k below. other k (λ e. omega (arith, above, below, e)) in
+    let other : (k : ℕ) → k ≢ n → slice_index words' k ≡ slice_index words k = λ k differs. get_or-set_other words n k v 0 differs in
+    let low : (k : ℕ) → k < list_base z → slice_index words' k ≡ slice_index words k = λ k below. other k (λ e. omega (arith, above, below, e)) in
     let pool = low (pool_counter z) (omega arith) in
     let lists = low (list_counter z) (omega arith) in
     let slots = low (slot_counter z) (omega arith) in
     let counts = counters_same z words words' pool slots lists in
-    let slot_words : (l : ℕ) → l < z.slots → get_or words' (slot_word z l) 0 ≡ get_or words (slot_word z l) 0 = λ l room. low (slot_word z l) (omega (arith, room)) in
+    let slot_words : (l : ℕ) → l < z.slots → slice_index words' (slot_word z l) ≡ slice_index words (slot_word z l) = λ l room. low (slot_word z l) (omega (arith, room)) in
     let m : Moves z words words' h h' = record {
       port = refl;
       count = length-set words n v;
@@ -157,8 +157,8 @@ stores_are_kept z o words before h after log b w is idle more =
           few = omega (arith, more);
           stands = λ i stored. elim (cases_lt i b.stored) [
             | inl old ↦ other (b.at + i) (λ e. omega (arith, old, e)) ∙ own.stands i old
-            | inr from ↦ let last : i ≡ b.stored = omega (arith, from, stored) in ap (λ t. get_or words' (b.at + t) 0) last ∙ get_or-set_same words n v 0 (omega (arith, count, within, more)) ∙
-                ap (λ t. get_or b.words t 0) (sym last)
+            | inr from ↦ let last : i ≡ b.stored = omega (arith, from, stored) in ap (λ t. slice_index words' (b.at + t)) last ∙ get_or-set_same words n v 0 (omega (arith, count, within, more)) ∙
+                ap (λ t. slice_index b.words t) (sym last)
           ];
         };
         marked = marked_stays z words words' before h h' after (marks_kept h h' refl refl refl) m.rises tied.marked;
@@ -184,20 +184,20 @@ publishings_are_kept z o words before h after log old at list w idle is normal h
     let b : Own = record { space = Lists; at = at; words = list_block list; stored = length (list_block list) } in
     let h' : Holding = record h { own = None } in
     let n = list_head z in
-    let v = cond (get_or words n 0 == old) at (get_or words n 0) in
-    let words' = set words n v in
+    let v = (if slice_index words n == old then at else slice_index words n) in
+    let words' = slice_set words n v in
     let count = w.count in
     let some = w.sizes.slots.0 in
     let tied = all_at (IsTied z words) before h after w.tied in
     let own : IsOwn z words b = if_some_at (IsOwn z words) h.own b is tied.own in
-    let other : (k : ℕ) → k ≢ n → get_or words' k 0 ≡ get_or words k 0 = λ k differs. get_or-set_other words n k v 0 differs in
-    let now : get_or words' (list_head z) 0 ≡ v = get_or-set_same words n v 0 (omega (arith, count, some)) in
-    let pool : get_or words' (pool_counter z) 0 ≡ get_or words (pool_counter z) 0 = other (pool_counter z) (λ e. omega (arith, e)) in
-    let lists : get_or words' (list_counter z) 0 ≡ get_or words (list_counter z) 0 = other (list_counter z) (λ e. omega (arith, e)) in
-    let slots : get_or words' (slot_counter z) 0 ≡ get_or words (slot_counter z) 0 = other (slot_counter z) (λ e. omega (arith, e)) in
+    let other : (k : ℕ) → k ≢ n → slice_index words' k ≡ slice_index words k = λ k differs. get_or-set_other words n k v 0 differs in
+    let now : slice_index words' (list_head z) ≡ v = get_or-set_same words n v 0 (omega (arith, count, some)) in
+    let pool : slice_index words' (pool_counter z) ≡ slice_index words (pool_counter z) = other (pool_counter z) (λ e. omega (arith, e)) in
+    let lists : slice_index words' (list_counter z) ≡ slice_index words (list_counter z) = other (list_counter z) (λ e. omega (arith, e)) in
+    let slots : slice_index words' (slot_counter z) ≡ slice_index words (slot_counter z) = other (slot_counter z) (λ e. omega (arith, e)) in
     let counts = counters_same z words words' pool slots lists in
-    let slot_words : (l : ℕ) → l < z.slots → get_or words' (slot_word z l) 0 ≡ get_or words (slot_word z l) 0 = λ l room. other (slot_word z l) (λ e. omega (arith, e)) in
-    let far : (k : ℕ) → list_base z ≤ k → get_or words' k 0 ≡ get_or words k 0 = λ k above. other k (λ e. omega (arith, above, e)) in
+    let slot_words : (l : ℕ) → l < z.slots → slice_index words' (slot_word z l) ≡ slice_index words (slot_word z l) = λ l room. other (slot_word z l) (λ e. omega (arith, e)) in
+    let far : (k : ℕ) → list_base z ≤ k → slice_index words' k ≡ slice_index words k = λ k above. other k (λ e. omega (arith, above, e)) in
     let m : Moves z words words' h h' = record {
       port = refl;
       count = length-set words n v;
@@ -224,8 +224,8 @@ publishings_are_kept z o words before h after log old at list w idle is normal h
       below = omega (arith, below, lists);
       apart = own_freed before h h' after b is refl (unpublished_two z o words (before ++ h ∷ after) log w);
     } in
-    let head : IsHead z words' (unpublished (before ++ h' ∷ after)) (get_or words (list_head z) 0) = head_moves z words words' (unpublished (before ++ h ∷ after)) (unpublished (before ++ h' ∷ after))
-    frame (get_or words (list_head z) 0) w.head in
+    let head : IsHead z words' (unpublished (before ++ h' ∷ after)) (slice_index words (list_head z)) = head_moves z words words' (unpublished (before ++ h ∷ after)) (unpublished (before ++ h' ∷ after))
+    frame (slice_index words (list_head z)) w.head in
     calm z o words words' before h h' after log w (record {
       moves = m;
       components = λ j inside. other j (λ e. omega (arith, inside, e));
@@ -239,10 +239,10 @@ publishings_are_kept z o words before h after log old at list w idle is normal h
       slot_words = slot_words;
       counts = λ l inside room. omega (arith, inside, slots);
       head = subst (IsHead z words' (unpublished (before ++ h' ∷ after))) (sym now)
-          (either z words' (unpublished (before ++ h' ∷ after)) (get_or words n 0 == old) at (get_or words n 0) (inr (list, published)) head);
+          (either z words' (unpublished (before ++ h' ∷ after)) (slice_index words n == old) at (slice_index words n) (inr (list, published)) head);
       counters = counters_stay z words words' before h h' after (marks_kept h h' refl refl refl) counts w.counters;
     })
   where
-    either : (z : Layout) (words : List ℕ) (us : List Block) (t : Bool) (x y : ℕ) → IsHead z words us x → IsHead z words us y → IsHead z words us (cond t x y)
+    either : (z : Layout) (words : List ℕ) (us : List Block) (t : Bool) (x y : ℕ) → IsHead z words us x → IsHead z words us y → IsHead z words us (if t then x else y)
     either z words us true x y p q = p
     either z words us false x y p q = q

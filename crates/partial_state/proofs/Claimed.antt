@@ -1,27 +1,27 @@
 -- The blocks of lawful words: all their words are claimed, and those that are published are apart from the others.
-use Rattle.partial_state.proofs.{Common.{ℕ, ◌≡◌, ◌+◌, ◌<◌, ◌≤◌, ◌==◌, ◌++◌, Bool, true, false, cond, List, [], ◌∷◌, length, map, get_or, Option, Some, None, IfSome, MatchOption, slice_get, refl, ◌∙◌, ap, subst, inl, inr, arith, AllByRecursion, cons_option, option_map, eqb-true, Applied, Opening, Layout, pool_counter, slot_word, pool_base, view_of, view_len, length-pairs, Block, AreApart, JoinedAnnouncement, HasPairs, IsAnnounced, IsApartFrom, ClaimedSlot, Holding, Space, space_begin, end_of, counter_of, block_of, block_at, announcements, unpublished, blocks_in, joined_in, EachTwo, Pool, Lists, LawfulWords, IsOwn, IsTied, IsClaim, IsEntry, IsPublished, AllByRecursion-get, all_where, own_view, plain_record_size, full_record_size, initial_words, PoolWords}, ListLemmas.{all_append, all_back, all_map, all_unmap, all_weaker, two_back, two_across}, Frames.{IsClaimedBlock, announcement_claimed, block_published}, HoldingLemmas.{if_some, if_all, all_unpublished}, Blocks.announcement_of}
+use Rattle.partial_state.proofs.{Common.{ℕ, ◌≡◌, ◌+◌, ◌<◌, ◌≤◌, ◌==◌, ◌++◌, Bool, true, false, if◌then◌else◌, List, [], ◌∷◌, length, map, slice_index, Option, Some, None, IfSome, MatchOption, slice_get, refl, ◌∙◌, ap, subst, inl, inr, arith, AllByRecursion, cons_option, option_map, eqb-true, Applied, Opening, Layout, pool_counter, slot_word, pool_base, view_of, view_len, length-pairs, Block, AreApart, JoinedAnnouncement, HasPairs, IsAnnounced, IsApartFrom, ClaimedSlot, Holding, Space, space_begin, end_of, counter_of, block_of, block_at, announcements, unpublished, blocks_in, joined_in, EachTwo, Pool, Lists, LawfulWords, IsOwn, IsTied, IsClaim, IsEntry, IsPublished, AllByRecursion-get, all_where, own_view, plain_record_size, full_record_size, initial_words, PoolWords}, ListLemmas.{all_append, all_back, all_map, all_unmap, all_weaker, two_back, two_across}, Frames.{IsClaimedBlock, announcement_claimed, block_published}, HoldingLemmas.{if_some, if_all, all_unpublished}, Blocks.announcement_of}
 
 -- what holds of the value that stands there
 pub match_some : {A : Type 0} (P : Type 0) (Q : A → Type 0) (f : Option A) (a : A) → f ≡ Some a → MatchOption f P Q → Q a
 match_some P Q f a e w = let h : MatchOption (Some a) P Q = subst (λ (f : Option _). MatchOption f P Q) e w in h
 
 -- a record of the history with its view lies below the pool's counter
-entry_below : (z : Layout) (words : List ℕ) (us : List Block) (stamp : ℕ) (pairs : List (ℕ × ℕ)) → HasPairs z words us stamp pairs → stamp + plain_record_size ≤ get_or words (pool_counter z) 0 →
-    stamp + (block_at words stamp).size ≤ get_or words (pool_counter z) 0
+entry_below : (z : Layout) (words : List ℕ) (us : List Block) (stamp : ℕ) (pairs : List (ℕ × ℕ)) → HasPairs z words us stamp pairs → stamp + plain_record_size ≤ slice_index words (pool_counter z) →
+    stamp + (block_at words stamp).size ≤ slice_index words (pool_counter z)
 entry_below z words us stamp pairs shown low = either (view_of words stamp == own_view stamp) refl shown
   where
-    sized : (b : Bool) (n : ℕ) → stamp + plain_record_size ≤ get_or words (pool_counter z) 0 → (b ≡ true → stamp + full_record_size n ≤ get_or words (pool_counter z) 0) →
-        stamp + cond b (full_record_size n) plain_record_size ≤ get_or words (pool_counter z) 0
+    sized : (b : Bool) (n : ℕ) → stamp + plain_record_size ≤ slice_index words (pool_counter z) → (b ≡ true → stamp + full_record_size n ≤ slice_index words (pool_counter z)) →
+        stamp + (if b then full_record_size n else plain_record_size) ≤ slice_index words (pool_counter z)
     sized true n low f = f refl
     sized false n low f = low
 
-    either : (b : Bool) → (view_of words stamp == own_view stamp) ≡ b → HasPairs z words us stamp pairs → stamp + (block_at words stamp).size ≤ get_or words (pool_counter z) 0
+    either : (b : Bool) → (view_of words stamp == own_view stamp) ≡ b → HasPairs z words us stamp pairs → stamp + (block_at words stamp).size ≤ slice_index words (pool_counter z)
     either b e (inl h) = sized (view_of words stamp == own_view stamp) (view_len words (own_view stamp)) low
         (λ t. let is = eqb-true (view_of words stamp) (own_view stamp) t in let none = h.0 in absurd (omega (arith, is, none)))
     either b e (inr h) = sized (view_of words stamp == own_view stamp) (view_len words (own_view stamp)) low (λ t.
         let is : view_of words stamp ≡ own_view stamp = eqb-true (view_of words stamp) (own_view stamp) t in
-        let first : get_or words (view_of words stamp + 0) 0 ≡ length pairs = (h.stands 0 (omega arith)).1 in
-        let count : get_or words (own_view stamp) 0 ≡ length pairs = ap (λ n. get_or words n 0) (omega (arith, is)) ∙ first in
+        let first : slice_index words (view_of words stamp + 0) ≡ length pairs = (h.stands 0 (omega arith)).1 in
+        let count : slice_index words (own_view stamp) ≡ length pairs = ap (λ n. slice_index words n) (omega (arith, is)) ∙ first in
         let below = h.below in
         let long = length-pairs pairs in
         omega (arith, is, count, below, long))
@@ -41,7 +41,7 @@ all_announcements P (h ∷ hs) w = more P (joined_in h.claimed) (announcements h
     more P (Some j) rest w v = (w, v)
 
 -- all words of a port's own block are claimed
-own_claimed : (z : Layout) (words : List ℕ) (s : Space) (at n : ℕ) → space_begin z s ≤ at → at + n ≤ end_of z s → at + n ≤ get_or words (counter_of z s) 0 →
+own_claimed : (z : Layout) (words : List ℕ) (s : Space) (at n : ℕ) → space_begin z s ≤ at → at + n ≤ end_of z s → at + n ≤ slice_index words (counter_of z s) →
     IsClaimedBlock z words (record { at = at; size = n })
 own_claimed z words Pool at n above within below = inr (omega (arith, above), below)
 own_claimed z words Lists at n above within below = inl (within, below)
@@ -77,8 +77,8 @@ module _ (z : Layout) (o : Opening) (words : List ℕ) (hs : List Holding) (log 
       let P : JoinedAnnouncement → Type 0 = λ j. IsClaimedBlock z words (announcement_of j) in
       all_announcements (IsClaimedBlock z words) hs (all_weaker (λ (h : Holding). IfSome h.claimed (IsClaim z words hs log)) (λ h. IfSome h.claimed (λ c. IfSome c.joined P))
       (λ h k. if_some (IsClaim z words hs log) (λ c. IfSome c.joined P) h.claimed (λ c e claim. if_all P c.joined (λ j is.
-      announcement_claimed z words (unpublished hs) j.at j.indices (match_some (get_or words (slot_word z c.slot) 0 ≡ 0)
-      (λ j. (get_or words (slot_word z c.slot) 0 ≡ j.at) × (j.since ≤ length log) × IsAnnounced z words (unpublished hs) j.at j.indices) c.joined j is claim.holds).2)) k) hs w.claims)
+      announcement_claimed z words (unpublished hs) j.at j.indices (match_some (slice_index words (slot_word z c.slot) ≡ 0)
+      (λ j. (slice_index words (slot_word z c.slot) ≡ j.at) × (j.since ≤ length log) × IsAnnounced z words (unpublished hs) j.at j.indices) c.joined j is claim.holds).2)) k) hs w.claims)
 
   unpublished_claimed : AllByRecursion (IsClaimedBlock z words) (unpublished hs)
   unpublished_claimed =

@@ -1,5 +1,5 @@
 -- The names that several proofs of this crate take from elsewhere.
-pub use Rattle.std.proofs.Common.{ℕ, ◌≡◌, ◌≢◌, ◌+◌, ◌*◌, ◌<◌, ◌≤◌, ◌==◌, ◌++◌, ◌^◌, ◌%◌, Bool, true, false, cond, List, ◌∷◌, length, get_or, set, Some, None, refl, sym, ◌∙◌, ap, subst, inl, inr, arith, get_or-set_other, get_or-set_same, length-set, [], map, Option, IfSome, MatchOption, slice_get, ◌⊎◌, IsSomeAnd, take, suc, filter_map, zero, append_assoc}
+pub use Rattle.std.proofs.Common.{ℕ, ◌≡◌, ◌≢◌, ◌+◌, ◌*◌, ◌<◌, ◌≤◌, ◌==◌, ◌++◌, ◌^◌, ◌%◌, Bool, true, false, if◌then◌else◌, List, ◌∷◌, length, slice_index, slice_set, Some, None, refl, sym, ◌∙◌, ap, subst, inl, inr, arith, get_or-set_other, get_or-set_same, length-set, [], map, Option, IfSome, MatchOption, slice_get, ◌⊎◌, IsSomeAnd, take, suc, filter_map, zero, append_assoc}
 pub use Rattle.std.specs.{List.{cons_option, AllByRecursion}, Option.option_map}
 pub use Rattle.std.proofs.lemmas.{Bool.{cases_lt, eqb-true, ne_eqb, eq-eqb, eqb-false}, List.{length_push, take_all, take-append-le}}
 pub use Rattle.std.proofs.lemmas.Bool.Decides.{nat_tests, eqb_tells}

@@ -1,5 +1,5 @@
 -- What a step changes, and that lawful words stay lawful by it and what was loaded true.
-use Rattle.partial_state.proofs.{Common.{ℕ, ◌≡◌, ◌≢◌, ◌+◌, ◌*◌, ◌<◌, ◌≤◌, ◌⊎◌, ◌++◌, List, [], ◌∷◌, length, get_or, Option, Some, None, IfSome, IsSomeAnd, MatchOption, slice_get, refl, sym, ◌∙◌, ap, subst, inl, inr, arith, AllByRecursion, ne_eqb, cases_lt, Applied, Opening, IsHistory, stamp_of, place_below, Layout, slot_counter, list_head, slot_word, initial_record, view_word, prev_of, record_value, view_of, Agrees, Block, AreApart, JoinedAnnouncement, HasFreshView, IsWithin, Covers, IsAnnounced, IsHead, ClaimedSlot, Own, Due, Holding, block_of, block_at, unpublished, blocks_in, other_holdings, IfJoined, joined_in, EachTwo, HaveOtherPorts, HaveOtherSlots, Pool, LawfulWords, IsOwn, IsTied, IsClaimedIn, IsClaim, CoversAll, IsDue, IsEntry, KeptAnswer, IsLoaded, IsKept, AllByRecursion-get, all_where, prev_word, value_word, Counted, PoolWords, Slots, counter, marked_ports}, ListLemmas.{all_at, all_before, all_after, all_join, all_weaker, two_before, two_after, two_join, length_same}, Frames.{Frame, Grows, within_more, within_grows, published_moves, announced_moves, head_moves, slot_moves, fresh_moves, covers_moves, covers_newer}, HoldingLemmas.{own_far, if_some, if_some_at, some_found, found_some, joined_weaker, HaveOtherBlocks, blocks_turn, ports_turn, slots_turn, others_split, block_stays, three_words}, Rebuild.{Moves, frame_of, tied_moves, other_word, initial_word, entry_three, entry_prev, own_before, own_after}}
+use Rattle.partial_state.proofs.{Common.{ℕ, ◌≡◌, ◌≢◌, ◌+◌, ◌*◌, ◌<◌, ◌≤◌, ◌⊎◌, ◌++◌, List, [], ◌∷◌, length, slice_index, Option, Some, None, IfSome, IsSomeAnd, MatchOption, slice_get, refl, sym, ◌∙◌, ap, subst, inl, inr, arith, AllByRecursion, ne_eqb, cases_lt, Applied, Opening, IsHistory, stamp_of, place_below, Layout, slot_counter, list_head, slot_word, initial_record, view_word, prev_of, record_value, view_of, Agrees, Block, AreApart, JoinedAnnouncement, HasFreshView, IsWithin, Covers, IsAnnounced, IsHead, ClaimedSlot, Own, Due, Holding, block_of, block_at, unpublished, blocks_in, other_holdings, IfJoined, joined_in, EachTwo, HaveOtherPorts, HaveOtherSlots, Pool, LawfulWords, IsOwn, IsTied, IsClaimedIn, IsClaim, CoversAll, IsDue, IsEntry, KeptAnswer, IsLoaded, IsKept, AllByRecursion-get, all_where, prev_word, value_word, Counted, PoolWords, Slots, counter, marked_ports}, ListLemmas.{all_at, all_before, all_after, all_join, all_weaker, two_before, two_after, two_join, length_same}, Frames.{Frame, Grows, within_more, within_grows, published_moves, announced_moves, head_moves, slot_moves, fresh_moves, covers_moves, covers_newer}, HoldingLemmas.{own_far, if_some, if_some_at, some_found, found_some, joined_weaker, HaveOtherBlocks, blocks_turn, ports_turn, slots_turn, others_split, block_stays, three_words}, Rebuild.{Moves, frame_of, tied_moves, other_word, initial_word, entry_three, entry_prev, own_before, own_after}}
 
 -- an entry of the new history that the old one hadn't
 pub record IsNew (z : Layout) (o : Opening) (words : List ℕ) (hs : List Holding) (log : List Applied) (k : ℕ) (e : Applied) : Type 0 where
@@ -14,19 +14,19 @@ pub record Changes (z : Layout) (o : Opening) (words words' : List ℕ) (before 
   pub history : IsHistory o log'
   pub agrees : Agrees o words' log'
   -- a component names no record of the old history that it didn't name before
-  pub named : (j old : ℕ) → j < z.m → IsWithin o log (length log) old → get_or words' j 0 ≡ old → get_or words j 0 ≡ old
+  pub named : (j old : ℕ) → j < z.m → IsWithin o log (length log) old → slice_index words' j ≡ old → slice_index words j ≡ old
   pub newest : (k : ℕ) (e : Applied) → slice_get log' k ≡ Some e → length log ≤ k → IsNew z o words' (before ++ h' ∷ after) log' k e
   pub tied : IsTied z words' h'
   pub apart : EachTwo AreApart (blocks_in z words' (before ++ h' ∷ after) log')
   pub due : IfSome h'.due (IsDue z o words' h' (other_holdings h'.port (before ++ h' ∷ after)) log')
-  pub taken : (l : ℕ) → l < get_or words' (slot_counter z) 0 → l < z.slots → IsSomeAnd h.claimed (λ c. c.slot ≡ l) ⊎ (get_or words (slot_counter z) 0 ≤ l) → (get_or words' (slot_word z l) 0 ≡ 1) ⊎
+  pub taken : (l : ℕ) → l < slice_index words' (slot_counter z) → l < z.slots → IsSomeAnd h.claimed (λ c. c.slot ≡ l) ⊎ (slice_index words (slot_counter z) ≤ l) → (slice_index words' (slot_word z l) ≡ 1) ⊎
       IsSomeAnd h'.claimed (λ c. c.slot ≡ l)
   pub claim : IfSome h'.claimed (IsClaim z words' (before ++ h' ∷ after) log')
   pub owners : (v : Holding) → IfSome v.claimed (IsClaim z words (before ++ h ∷ after) log) → HaveOtherSlots h v → HaveOtherSlots h' v
   -- the port has joined just now, or it has what it had
   pub joined : (h'.claimed ≡ h.claimed) ⊎ IfJoined h' (λ l j. length log ≤ j.since)
-  pub head : IsHead z words' (unpublished (before ++ h' ∷ after)) (get_or words' (list_head z) 0)
-  pub counters : (c : Counted) → get_or words' (counter z c).word 0 ≤ (counter z c).end + (counter z c).greatest * marked_ports c (before ++ h' ∷ after)
+  pub head : IsHead z words' (unpublished (before ++ h' ∷ after)) (slice_index words' (list_head z))
+  pub counters : (c : Counted) → slice_index words' (counter z c).word ≤ (counter z c).end + (counter z c).greatest * marked_ports c (before ++ h' ∷ after)
 
 -- the port joined now, or has what it had: what holds of those joined before it, and of those since
 pub joined_moves : (h h' : Holding) (n : ℕ) (P Q : ℕ → JoinedAnnouncement → Type 0) → ((l : ℕ) (j : JoinedAnnouncement) → P l j → Q l j) → ((l : ℕ) (j : JoinedAnnouncement) → n ≤ j.since → Q l j) → (h'.claimed ≡ h.claimed) ⊎
@@ -37,17 +37,17 @@ joined_moves h h' n P Q f g (inr late) w = joined_weaker h' (λ l j. n ≤ j.sin
 -- a record that is due, where its words and what it covers stay
 pub due_moves : (z : Layout) (o : Opening) (words words' : List ℕ) (v v' : Holding) (others others' : List Holding) (log log' : List Applied) (d : Due) → Frame z words words' (unpublished others)
     (unpublished others') → Grows o log log' → v'.own ≡ v.own → joined_in v'.claimed ≡ None →
-    ((j old : ℕ) → j < z.m → IsWithin o log (length log) old → get_or words' j 0 ≡ old → get_or words j 0 ≡ old) →
-    ((n : ℕ) → n < (block_at words d.at).size → get_or words' (d.at + n) 0 ≡ get_or words (d.at + n) 0) →
+    ((j old : ℕ) → j < z.m → IsWithin o log (length log) old → slice_index words' j ≡ old → slice_index words j ≡ old) →
+    ((n : ℕ) → n < (block_at words d.at).size → slice_index words' (d.at + n) ≡ slice_index words (d.at + n)) →
     (prev_of words' d.at ≡ prev_of words d.at → view_of words' d.at ≡ view_of words d.at → IsWithin o log (length log) (prev_of words d.at) → CoversAll z words others log d.at →
     CoversAll z words' others' log' d.at) → IsDue z o words v others log d → IsDue z o words' v' others' log' d
 due_moves z o words words' v v' others others' log log' d f g own unjoined named same covers w =
     let size = three_words words d.at in
     let none : prev_word d.at ≡ d.at + prev_word 0 = omega arith in
     let there : value_word d.at ≡ d.at + value_word 0 = omega arith in
-    let prev : prev_of words' d.at ≡ prev_of words d.at = ap (λ n. get_or words' n 0) none ∙ same (prev_word 0) (omega (arith, size)) ∙ ap (λ n. get_or words n 0) (sym none) in
+    let prev : prev_of words' d.at ≡ prev_of words d.at = ap (λ n. slice_index words' n) none ∙ same (prev_word 0) (omega (arith, size)) ∙ ap (λ n. slice_index words n) (sym none) in
     let view : view_of words' d.at ≡ view_of words d.at = same (view_word 0) (omega (arith, size)) in
-    let value : record_value words' d.at ≡ record_value words d.at = ap (λ n. get_or words' n 0) there ∙ same (value_word 0) (omega (arith, size)) ∙ ap (λ n. get_or words n 0) (sym there) in
+    let value : record_value words' d.at ≡ record_value words d.at = ap (λ n. slice_index words' n) there ∙ same (value_word 0) (omega (arith, size)) ∙ ap (λ n. slice_index words n) (sym there) in
     let block : block_at words' d.at ≡ block_at words d.at = block_stays words words' d.at same in
     let found = some_found (λ (b : Own). (b.space ≡ Pool) × (block_of b ≡ block_at words d.at) × (b.stored ≡ length b.words)) v.own w.own in
     let more = g.more in
@@ -66,16 +66,16 @@ due_moves z o words words' v v' others others' log log' d f g own unjoined named
 
 -- a claim whose slot stays
 pub claim_moves : (z : Layout) (words words' : List ℕ) (hs hs' : List Holding) (log log' : List Applied) (d : ClaimedSlot) → Frame z words words' (unpublished hs) (unpublished hs') →
-    length log ≤ length log' → get_or words' (slot_word z d.slot) 0 ≡ get_or words (slot_word z d.slot) 0 → IsClaim z words hs log d → IsClaim z words' hs' log' d
+    length log ≤ length log' → slice_index words' (slot_word z d.slot) ≡ slice_index words (slot_word z d.slot) → IsClaim z words hs log d → IsClaim z words' hs' log' d
 claim_moves z words words' hs hs' log log' d f longer same k =
     let more = f.rises Slots in
     let below = k.below in
     record { slot = k.slot; below = omega (arith, below, more); holds = holds z words words' hs hs' log log' f longer d.slot d.joined same k.holds }
   where
     holds : (z : Layout) (words words' : List ℕ) (hs hs' : List Holding) (log log' : List Applied) → Frame z words words' (unpublished hs) (unpublished hs') → length log ≤ length log' →
-        (l : ℕ) (j : Option JoinedAnnouncement) → get_or words' (slot_word z l) 0 ≡ get_or words (slot_word z l) 0 → MatchOption j (get_or words (slot_word z l) 0 ≡ 0)
-        (λ j. (get_or words (slot_word z l) 0 ≡ j.at) × (j.since ≤ length log) × IsAnnounced z words (unpublished hs) j.at j.indices) → MatchOption j (get_or words' (slot_word z l) 0 ≡ 0)
-        (λ j. (get_or words' (slot_word z l) 0 ≡ j.at) × (j.since ≤ length log') × IsAnnounced z words' (unpublished hs') j.at j.indices)
+        (l : ℕ) (j : Option JoinedAnnouncement) → slice_index words' (slot_word z l) ≡ slice_index words (slot_word z l) → MatchOption j (slice_index words (slot_word z l) ≡ 0)
+        (λ j. (slice_index words (slot_word z l) ≡ j.at) × (j.since ≤ length log) × IsAnnounced z words (unpublished hs) j.at j.indices) → MatchOption j (slice_index words' (slot_word z l) ≡ 0)
+        (λ j. (slice_index words' (slot_word z l) ≡ j.at) × (j.since ≤ length log') × IsAnnounced z words' (unpublished hs') j.at j.indices)
     holds z words words' hs hs' log log' f longer l None same k = same ∙ k
     holds z words words' hs hs' log log' f longer l (Some j) same k =
         let since = k.1 in
@@ -120,7 +120,7 @@ module _ (z : Layout) (o : Opening) (words words' : List ℕ) (before : List Hol
       let size : length b.words ≡ (block_at words d.at).size = ap (λ (x : Block). x.size) block in
       let moved : IsDue z o words' v (front ++ h' ∷ back) log' d = due_moves z o words words' v v (front ++ h ∷ back) (front ++ h' ∷ back) log log' d (frame_of z words words' h h' c.moves front back)
       c.grows refl due'.unjoined c.named
-      (λ n below. subst (λ t. get_or words' (t + n) 0 ≡ get_or words (t + n) 0) at (other_word z words words' h h' c.moves b n (own_far z words b own) (omega (arith, below, size)) free))
+      (λ n below. subst (λ t. slice_index words' (t + n) ≡ slice_index words (t + n)) at (other_word z words words' h h' c.moves b n (own_far z words b own) (omega (arith, below, size)) free))
       (λ prev view within all. covers_all front back d.at (length log) prev view within all) due' in
       subst (λ (l : List Holding). IsDue z o words' v l log' d) (sym is') moved
 
@@ -143,12 +143,12 @@ module _ (z : Layout) (o : Opening) (words words' : List ℕ) (before : List Hol
   claimed_here l [] k = inl k
   claimed_here l (b ∷ front) k = inr (claimed_here l front k)
 
-  taken_now : (l : ℕ) → l < get_or words' (slot_counter z) 0 → l < z.slots → IsSomeAnd h.claimed (λ c. c.slot ≡ l) ⊎ (get_or words (slot_counter z) 0 ≤ l) → (get_or words' (slot_word z l) 0 ≡ 1) ⊎
+  taken_now : (l : ℕ) → l < slice_index words' (slot_counter z) → l < z.slots → IsSomeAnd h.claimed (λ c. c.slot ≡ l) ⊎ (slice_index words (slot_counter z) ≤ l) → (slice_index words' (slot_word z l) ≡ 1) ⊎
       IsClaimedIn l (before ++ h' ∷ after)
   taken_now l below room k = elim (c.taken l below room k) [ inl t ↦ inl t | inr t ↦ inr (claimed_here l before t) ]
 
-  taken_all : (l : ℕ) → l < get_or words' (slot_counter z) 0 → l < z.slots → (get_or words' (slot_word z l) 0 ≡ 1) ⊎ IsClaimedIn l (before ++ h' ∷ after)
-  taken_all l below room = elim (cases_lt l (get_or words (slot_counter z) 0)) [
+  taken_all : (l : ℕ) → l < slice_index words' (slot_counter z) → l < z.slots → (slice_index words' (slot_word z l) ≡ 1) ⊎ IsClaimedIn l (before ++ h' ∷ after)
+  taken_all l below room = elim (cases_lt l (slice_index words (slot_counter z))) [
     | inr from ↦ taken_now l below room (inr from)
     | inl old ↦ elim (w.taken l old room) [
       | inl one ↦ inl (c.moves.vacated l room one)
@@ -157,7 +157,7 @@ module _ (z : Layout) (o : Opening) (words words' : List ℕ) (before : List Hol
   ]
 
   -- a slot from the counter on isn't the port's
-  unclaimed_now : (l : ℕ) → get_or words' (slot_counter z) 0 ≤ l → l < z.slots → get_or words' (slot_word z l) 0 ≡ 0
+  unclaimed_now : (l : ℕ) → slice_index words' (slot_counter z) ≤ l → l < z.slots → slice_index words' (slot_word z l) ≡ 0
   unclaimed_now l from room =
       let more = c.moves.rises Slots in
       let claim = all_at (λ v. IfSome v.claimed (IsClaim z words (before ++ h ∷ after) log)) before h after w.claims in

@@ -1,5 +1,5 @@
 -- What a step leaves of all that is published: blocks, and all that is said by them.
-use Rattle.partial_state.proofs.{Common.{ℕ, ◌≡◌, ◌+◌, ◌<◌, ◌≤◌, ◌⊎◌, List, length, take, get_or, slice_get, Some, refl, sym, ◌∙◌, ap, subst, inl, inr, arith, cases_lt, Applied, Opening, place_below, Layout, pool_counter, list_counter, slot_word, list_base, list_end, pool_base, StandsAt, view_block, prev_of, view_of, length-pairs, IsViewOf, Block, AreApart, JoinedAnnouncement, HasFreshView, HasPairs, IsView, IsWithin, IsBegunSince, Covers, ViewNames, IsAnnounced, IsPublishedList, IsApartFrom, IsHead, IsPublished, IsSlotAnswer, value_of, announcement_block, announcement_size, list_block, Counted, ListWords, PoolWords, counter}, ListLemmas.all_weaker}
+use Rattle.partial_state.proofs.{Common.{ℕ, ◌≡◌, ◌+◌, ◌<◌, ◌≤◌, ◌⊎◌, List, length, take, slice_index, slice_get, Some, refl, sym, ◌∙◌, ap, subst, inl, inr, arith, cases_lt, Applied, Opening, place_below, Layout, pool_counter, list_counter, slot_word, list_base, list_end, pool_base, StandsAt, view_block, prev_of, view_of, length-pairs, IsViewOf, Block, AreApart, JoinedAnnouncement, HasFreshView, HasPairs, IsView, IsWithin, IsBegunSince, Covers, ViewNames, IsAnnounced, IsPublishedList, IsApartFrom, IsHead, IsPublished, IsSlotAnswer, value_of, announcement_block, announcement_size, list_block, Counted, ListWords, PoolWords, counter}, ListLemmas.all_weaker}
 use Rattle.partial_intervals.specs.Intervals.{Ranges}
 
 -- one word
@@ -8,16 +8,16 @@ word_at w = record { at = w; size = 1 }
 
 -- all words of the block are claimed
 abbrev pub IsClaimedBlock : Layout → List ℕ → Block → Type 0
-IsClaimedBlock z words b = ((b.at + b.size ≤ list_end z) × (b.at + b.size ≤ get_or words (list_counter z) 0)) ⊎ ((pool_base z ≤ b.at) × (b.at + b.size ≤ get_or words (pool_counter z) 0))
+IsClaimedBlock z words b = ((b.at + b.size ≤ list_end z) × (b.at + b.size ≤ slice_index words (list_counter z))) ⊎ ((pool_base z ≤ b.at) × (b.at + b.size ≤ slice_index words (pool_counter z)))
 
 -- A step leads from words to words', and the blocks that aren't published are us before and us' behind it: the
 -- counters don't fall, no published word changes nor is any more one of an unpublished block, and a vacated slot stays so.
 pub record Frame (z : Layout) (words words' : List ℕ) (us us' : List Block) : Type 0 where
   pub count : length words' ≡ length words
-  pub rises : (c : Counted) → get_or words (counter z c).word 0 ≤ get_or words' (counter z c).word 0
-  pub same : (w : ℕ) → list_base z ≤ w → IsPublished z words us w → get_or words' w 0 ≡ get_or words w 0
+  pub rises : (c : Counted) → slice_index words (counter z c).word ≤ slice_index words' (counter z c).word
+  pub same : (w : ℕ) → list_base z ≤ w → IsPublished z words us w → slice_index words' w ≡ slice_index words w
   pub apart : (b : Block) → IsClaimedBlock z words b → IsApartFrom us b → IsApartFrom us' b
-  pub vacated : (l : ℕ) → l < z.slots → get_or words (slot_word z l) 0 ≡ 1 → get_or words' (slot_word z l) 0 ≡ 1
+  pub vacated : (l : ℕ) → l < z.slots → slice_index words (slot_word z l) ≡ 1 → slice_index words' (slot_word z l) ≡ 1
 
 -- the history grows: its places stay, and the stamps of newer entries are not within the old one
 pub record Grows (o : Opening) (log log' : List Applied) : Type 0 where
@@ -112,7 +112,7 @@ module _ (z : Layout) (words words' : List ℕ) (us us' : List Block) (f : Frame
       }
 
   -- no word of a published block changes
-  pub block_same : (b : Block) (w : ℕ) → list_base z ≤ b.at → IsClaimedBlock z words b → IsApartFrom us b → b.at ≤ w → w < b.at + b.size → get_or words' w 0 ≡ get_or words w 0
+  pub block_same : (b : Block) (w : ℕ) → list_base z ≤ b.at → IsClaimedBlock z words b → IsApartFrom us b → b.at ≤ w → w < b.at + b.size → slice_index words' w ≡ slice_index words w
   block_same b w far claimed apart from to = f.same w (omega (arith, far, from)) (block_published z words us b w claimed apart from to)
 
   pub stands_moves : (at : ℕ) (block : List ℕ) → list_base z ≤ at → IsClaimedBlock z words (record { at = at; size = length block }) → IsApartFrom us (record { at = at; size = length block }) →

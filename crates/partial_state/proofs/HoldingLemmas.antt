@@ -1,5 +1,5 @@
 -- Holdings with one in the place of another: their blocks, the other ports' ones, and how many are marked.
-use Rattle.partial_state.proofs.Common.{ℕ, suc, ◌≡◌, ◌≢◌, ◌+◌, ◌<◌, ◌≤◌, ◌==◌, ◌++◌, Bool, true, false, cond, List, [], ◌∷◌, length, filter_map, get_or, Option, Some, None, IfSome, IsSomeAnd, refl, sym, ◌∙◌, ap, subst, inl, inr, arith, AllByRecursion, cons_option, option_map, ne_eqb, view_of, view_len, Layout, list_base, IsOwn, Pool, Lists, Block, AreApart, JoinedAnnouncement, Own, Holding, Space, space_begin, EachTwo, IfJoined, block_of, block_at, unpublished, other_holdings, HaveOtherPorts, HaveOtherSlots, own_view, plain_record_size, full_record_size, view_word, Counted, ListWords, PoolWords, Slots, is_marked, marked_ports}
+use Rattle.partial_state.proofs.Common.{ℕ, suc, ◌≡◌, ◌≢◌, ◌+◌, ◌<◌, ◌≤◌, ◌==◌, ◌++◌, Bool, true, false, if◌then◌else◌, List, [], ◌∷◌, length, filter_map, slice_index, Option, Some, None, IfSome, IsSomeAnd, refl, sym, ◌∙◌, ap, subst, inl, inr, arith, AllByRecursion, cons_option, option_map, ne_eqb, view_of, view_len, Layout, list_base, IsOwn, Pool, Lists, Block, AreApart, JoinedAnnouncement, Own, Holding, Space, space_begin, EachTwo, IfJoined, block_of, block_at, unpublished, other_holdings, HaveOtherPorts, HaveOtherSlots, own_view, plain_record_size, full_record_size, view_word, Counted, ListWords, PoolWords, Slots, is_marked, marked_ports}
 
 -- what holds of the value in an option
 pub if_some : {A : Type 0} (P Q : A → Type 0) (found : Option A) → ((a : A) → found ≡ Some a → P a → Q a) → IfSome found P → IfSome found Q
@@ -95,7 +95,7 @@ slots_turn x y w = if_all (λ c. IfSome x.claimed (λ d. c.slot ≢ d.slot)) y.c
     (if_some_at (λ d. IfSome y.claimed (λ c. d.slot ≢ c.slot)) x.claimed d e' w) (sym same)))
 
 -- the other ports' holdings, with one holding apart
-cond_append : {A : Type 0} (t : Bool) (b : A) (xs ys zs : List A) → xs ≡ ys ++ zs → cond t xs (b ∷ xs) ≡ cond t ys (b ∷ ys) ++ zs
+cond_append : {A : Type 0} (t : Bool) (b : A) (xs ys zs : List A) → xs ≡ ys ++ zs → (if t then xs else b ∷ xs) ≡ (if t then ys else b ∷ ys) ++ zs
 cond_append true b xs ys zs e = e
 cond_append false b xs ys zs e = ap (λ (l : List _). b ∷ l) e
 
@@ -105,36 +105,36 @@ others_append p (b ∷ before) after = cond_append (b.port == p) b (other_holdin
 
 pub others_split : (p : ℕ) (before : List Holding) (h : Holding) (after : List Holding) → (h.port == p) ≡ false →
     other_holdings p (before ++ h ∷ after) ≡ other_holdings p before ++ h ∷ other_holdings p after
-others_split p before h after e = others_append p before (h ∷ after) ∙ ap (λ (t : Bool). other_holdings p before ++ cond t (other_holdings p after) (h ∷ other_holdings p after)) e
+others_split p before h after e = others_append p before (h ∷ after) ∙ ap (λ (t : Bool). other_holdings p before ++ (if t then other_holdings p after else h ∷ other_holdings p after)) e
 
 pub others_gone : (p : ℕ) (before : List Holding) (h : Holding) (after : List Holding) → (h.port == p) ≡ true →
     other_holdings p (before ++ h ∷ after) ≡ other_holdings p before ++ other_holdings p after
-others_gone p before h after e = others_append p before (h ∷ after) ∙ ap (λ (t : Bool). other_holdings p before ++ cond t (other_holdings p after) (h ∷ other_holdings p after)) e
+others_gone p before h after e = others_append p before (h ∷ after) ∙ ap (λ (t : Bool). other_holdings p before ++ (if t then other_holdings p after else h ∷ other_holdings p after)) e
 
 pub others_all : (h : Holding) (hs : List Holding) → AllByRecursion (HaveOtherPorts h) hs → other_holdings h.port hs ≡ hs
 others_all h [] w = refl
-others_all h (x ∷ hs) w = ap (λ (t : Bool). cond t (other_holdings h.port hs) (x ∷ other_holdings h.port hs)) (ne_eqb x.port h.port (λ e. w.0 (sym e))) ∙
+others_all h (x ∷ hs) w = ap (λ (t : Bool). if t then other_holdings h.port hs else x ∷ other_holdings h.port hs) (ne_eqb x.port h.port (λ e. w.0 (sym e))) ∙
     ap (λ (l : List Holding). x ∷ l) (others_all h hs w.1)
 
 pub marks_same : (c : Counted) (before : List Holding) (h h' : Holding) (after : List Holding) → is_marked c h' ≡ is_marked c h → marked_ports c (before ++ h' ∷ after) ≡ marked_ports c (before ++ h ∷ after)
-marks_same c [] h h' after e = ap (λ b. cond b 1 0 + marked_ports c after) e
-marks_same c (b ∷ before) h h' after e = ap (λ n. cond (is_marked c b) 1 0 + n) (marks_same c before h h' after e)
+marks_same c [] h h' after e = ap (λ b. (if b then 1 else 0) + marked_ports c after) e
+marks_same c (b ∷ before) h h' after e = ap (λ n. (if is_marked c b then 1 else 0) + n) (marks_same c before h h' after e)
 
 pub marks_more : (c : Counted) (before : List Holding) (h h' : Holding) (after : List Holding) → is_marked c h ≡ false → is_marked c h' ≡ true →
     marked_ports c (before ++ h' ∷ after) ≡ 1 + marked_ports c (before ++ h ∷ after)
 marks_more c [] h h' after e f =
-    let one : ◌≡◌ {A = ℕ} (cond (is_marked c h') 1 0) 1 = ap (λ b. cond b 1 0) f in
-    let none : ◌≡◌ {A = ℕ} (cond (is_marked c h) 1 0) 0 = ap (λ b. cond b 1 0) e in
+    let one : ◌≡◌ {A = ℕ} (if is_marked c h' then 1 else 0) 1 = ap (λ b. if b then 1 else 0) f in
+    let none : ◌≡◌ {A = ℕ} (if is_marked c h then 1 else 0) 0 = ap (λ b. if b then 1 else 0) e in
     omega (arith, one, none)
 marks_more c (b ∷ before) h h' after e f =
     let rest = marks_more c before h h' after e f in
-    ap (λ n. cond (is_marked c b) 1 0 + n) rest ∙ omega arith
+    ap (λ n. (if is_marked c b then 1 else 0) + n) rest ∙ omega arith
 
 pub marks_few : (c : Counted) (hs : List Holding) → marked_ports c hs ≤ length hs
 marks_few c [] = omega arith
 marks_few c (h ∷ hs) = few (is_marked c h) (marked_ports c hs) (length hs) (marks_few c hs)
   where
-    few : (b : Bool) (m n : ℕ) → m ≤ n → cond b 1 0 + m ≤ suc n
+    few : (b : Bool) (m n : ℕ) → m ≤ n → (if b then 1 else 0) + m ≤ suc n
     few true m n w = omega arith
     few false m n w = omega arith
 
@@ -148,29 +148,34 @@ marks_kept h h' pool slots lists ListWords = lists
 pub three_words : (words : List ℕ) (stamp : ℕ) → plain_record_size ≤ (block_at words stamp).size
 three_words words stamp = least (view_of words stamp == own_view stamp) (view_len words (own_view stamp))
   where
-    least : (b : Bool) (n : ℕ) → plain_record_size ≤ cond b (full_record_size n) plain_record_size
+    least : (b : Bool) (n : ℕ) → plain_record_size ≤ (if b then full_record_size n else plain_record_size)
     least true n = omega arith
     least false n = omega arith
 
 -- a record's block stays where its words do
-pub block_stays : (words words' : List ℕ) (stamp : ℕ) → ((n : ℕ) → n < (block_at words stamp).size → get_or words' (stamp + n) 0 ≡ get_or words (stamp + n) 0) →
+pub block_stays : (words words' : List ℕ) (stamp : ℕ) → ((n : ℕ) → n < (block_at words stamp).size → slice_index words' (stamp + n) ≡ slice_index words (stamp + n)) →
     block_at words' stamp ≡ block_at words stamp
 block_stays words words' stamp same =
     let size = three_words words stamp in
     let view : view_of words' stamp ≡ view_of words stamp = same (view_word 0) (omega (arith, size)) in
-    ap (λ (v : ℕ). record { at = stamp; size = cond (v == own_view stamp) (full_record_size (view_len words' (own_view stamp))) plain_record_size }) view
+    ap (λ (v : ℕ). record { at = stamp; size = (if v == own_view stamp then full_record_size (view_len words' (own_view stamp)) else plain_record_size) }) view
     ∙ either words words' stamp same (view_of words stamp == own_view stamp) refl
   where
-    either : (words words' : List ℕ) (stamp : ℕ) → ((n : ℕ) → n < (block_at words stamp).size → get_or words' (stamp + n) 0 ≡ get_or words (stamp + n) 0) → (b : Bool) →
+    either : (words words' : List ℕ) (stamp : ℕ) → ((n : ℕ) → n < (block_at words stamp).size → slice_index words' (stamp + n) ≡ slice_index words (stamp + n)) → (b : Bool) →
         (view_of words stamp == own_view stamp) ≡ b →
-        ◌≡◌ {A = Block} (record { at = stamp; size = cond (view_of words stamp == own_view stamp) (full_record_size (view_len words' (own_view stamp))) plain_record_size }) (block_at words stamp)
+        ◌≡◌ {A = Block} (record {
+          at = stamp;
+          size =
+              (if view_of words stamp == own_view stamp then full_record_size (view_len words' (own_view stamp)) else plain_record_size);
+        }) (block_at words stamp)
     either words words' stamp same true e =
-        let inside : plain_record_size < (block_at words stamp).size = subst (λ (t : Bool). plain_record_size < cond t (full_record_size (view_len words (own_view stamp))) plain_record_size) (sym e)
+        let inside : plain_record_size < (block_at words stamp).size =
+        subst (λ (t : Bool). plain_record_size < (if t then full_record_size (view_len words (own_view stamp)) else plain_record_size)) (sym e)
         (omega arith) in
-        ap (λ (n : ℕ). record { at = stamp; size = cond (view_of words stamp == own_view stamp) (full_record_size n) plain_record_size }) (same plain_record_size inside)
+        ap (λ (n : ℕ). record { at = stamp; size = (if view_of words stamp == own_view stamp then full_record_size n else plain_record_size) }) (same plain_record_size inside)
     either words words' stamp same false e =
-        ap (λ (t : Bool). record { at = stamp; size = cond t (full_record_size (view_len words' (own_view stamp))) plain_record_size }) e ∙
-        sym (ap (λ (t : Bool). record { at = stamp; size = cond t (full_record_size (view_len words (own_view stamp))) plain_record_size }) e)
+        ap (λ (t : Bool). record { at = stamp; size = (if t then full_record_size (view_len words' (own_view stamp)) else plain_record_size) }) e ∙
+        sym (ap (λ (t : Bool). record { at = stamp; size = (if t then full_record_size (view_len words (own_view stamp)) else plain_record_size) }) e)
 
 -- a port's own block lies behind the slots
 pub own_far : (z : Layout) (words : List ℕ) (b : Own) → IsOwn z words b → list_base z ≤ b.at

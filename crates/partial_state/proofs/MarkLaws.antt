@@ -1,5 +1,5 @@
 -- The steps that change no block and no slot: an exchange comes to be due, a block is given up, and claims that are refused.
-use Rattle.partial_state.proofs.{Common.{ℕ, ◌≡◌, ◌≢◌, ◌+◌, ◌<◌, ◌≤◌, ◌++◌, ◌^◌, ◌%◌, true, List, ◌∷◌, get_or, set, Option, Some, None, IfSome, refl, sym, ◌∙◌, ap, subst, arith, get_or-set_other, get_or-set_same, length-set, eq-eqb, Applied, Layout, slot_counter, list_head, slot_word, list_base, pool_end, Block, AreApart, Own, Holding, block_of, blocks_in, other_holdings, joined_in, EachTwo, IsTied, IsDue, DuesAreKept, DropsAreKept, greatest_record, greatest_list, Counted, ListWords, PoolWords, RefusalsAreKept, Slots, counter, is_marked, marked_for, marked_ports, ◌*◌, ◌⊎◌, Opening, inl, inr, false, IsOwn, LawfulWords, IsKept}, ListLemmas.{all_at, two_take}, Frames.apart_turns, HoldingLemmas.{others_gone, marks_kept}, Blocks.{unpublished_same, announced_same, own_added, blocks_same, own_block_added}, Rebuild.{Moves, own_stays}, NoNewEntry.{calm, fits_word, head_stays, due_stays, high_stays, high_rises, marked_stays, counter_bound}}
+use Rattle.partial_state.proofs.{Common.{ℕ, ◌≡◌, ◌≢◌, ◌+◌, ◌<◌, ◌≤◌, ◌++◌, ◌^◌, ◌%◌, true, List, ◌∷◌, slice_index, slice_set, Option, Some, None, IfSome, refl, sym, ◌∙◌, ap, subst, arith, get_or-set_other, get_or-set_same, length-set, eq-eqb, Applied, Layout, slot_counter, list_head, slot_word, list_base, pool_end, Block, AreApart, Own, Holding, block_of, blocks_in, other_holdings, joined_in, EachTwo, IsTied, IsDue, DuesAreKept, DropsAreKept, greatest_record, greatest_list, Counted, ListWords, PoolWords, RefusalsAreKept, Slots, counter, is_marked, marked_for, marked_ports, ◌*◌, ◌⊎◌, Opening, inl, inr, false, IsOwn, LawfulWords, IsKept}, ListLemmas.{all_at, two_take}, Frames.apart_turns, HoldingLemmas.{others_gone, marks_kept}, Blocks.{unpublished_same, announced_same, own_added, blocks_same, own_block_added}, Rebuild.{Moves, own_stays}, NoNewEntry.{calm, fits_word, head_stays, due_stays, high_stays, high_rises, marked_stays, counter_bound}}
 
 -- the words stay
 pub still_moves : (z : Layout) (words : List ℕ) (h h' : Holding) → h'.port ≡ h.port → ((b : Block) → IfSome h.own (λ c. AreApart b (block_of c)) → IfSome h'.own (λ c. AreApart b (block_of c))) →
@@ -95,43 +95,43 @@ other_marks z ListWords h ListWords = inl refl
 -- the holding h' is h, marked for the counter
 module _ (z : Layout) (o : Opening) (words : List ℕ) (before : List Holding) (h h' : Holding) (after : List Holding) (log : List Applied) (c : Counted) (size : ℕ)
     (w : LawfulWords z o words (before ++ h ∷ after) log) (unmarked : is_marked c h ≡ false) (small : size ≤ (counter z c).greatest)
-    (past : (counter z c).end < get_or words (counter z c).word 0 + size) (port : h'.port ≡ h.port) (own : h'.own ≡ h.own) (claimed : h'.claimed ≡ h.claimed) (due : h'.due ≡ h.due)
+    (past : (counter z c).end < slice_index words (counter z c).word + size) (port : h'.port ≡ h.port) (own : h'.own ≡ h.own) (claimed : h'.claimed ≡ h.claimed) (due : h'.due ≡ h.due)
     (on : is_marked c h' ≡ true) (others : (d : Counted) → (d ≡ c) ⊎ (((counter z d).word ≢ (counter z c).word) × (is_marked d h' ≡ is_marked d h))) where
   abbrev n : ℕ
   n = (counter z c).word
 
   abbrev words' : List ℕ
-  words' = set words n ((get_or words n 0 + size) % 2 ^ 64)
+  words' = slice_set words n ((slice_index words n + size) % 2 ^ 64)
 
   at : (z.m ≤ n) × (n < list_base z) × (list_head z ≢ n) × ((l : ℕ) → slot_word z l ≢ n)
   at = word_of_counter z c
 
-  now : get_or words' n 0 ≡ get_or words n 0 + size
+  now : slice_index words' n ≡ slice_index words n + size
   now =
       let count = w.count in
       let low = at.1 in
       let bound = counter_bound z o words (before ++ h ∷ after) log w c in
       let most = end_of_counter z c in
-      get_or-set_same words n ((get_or words n 0 + size) % 2 ^ 64) 0 (omega (arith, count, low)) ∙ fits_word z (get_or words n 0 + size) w.sizes (omega (arith, bound, small, most))
+      get_or-set_same words n ((slice_index words n + size) % 2 ^ 64) 0 (omega (arith, count, low)) ∙ fits_word z (slice_index words n + size) w.sizes (omega (arith, bound, small, most))
 
-  other : (k : ℕ) → k ≢ n → get_or words' k 0 ≡ get_or words k 0
-  other k differs = get_or-set_other words n k ((get_or words n 0 + size) % 2 ^ 64) 0 differs
+  other : (k : ℕ) → k ≢ n → slice_index words' k ≡ slice_index words k
+  other k differs = get_or-set_other words n k ((slice_index words n + size) % 2 ^ 64) 0 differs
 
-  far : (k : ℕ) → list_base z ≤ k → get_or words' k 0 ≡ get_or words k 0
+  far : (k : ℕ) → list_base z ≤ k → slice_index words' k ≡ slice_index words k
   far k above = let low = at.1 in other k (λ e. omega (arith, above, low, e))
 
-  components : (j : ℕ) → j < z.m → get_or words' j 0 ≡ get_or words j 0
+  components : (j : ℕ) → j < z.m → slice_index words' j ≡ slice_index words j
   components j below = let from = at.0 in other j (λ e. omega (arith, below, from, e))
 
-  slot_words : (l : ℕ) → l < z.slots → get_or words' (slot_word z l) 0 ≡ get_or words (slot_word z l) 0
+  slot_words : (l : ℕ) → l < z.slots → slice_index words' (slot_word z l) ≡ slice_index words (slot_word z l)
   slot_words l room = other (slot_word z l) (at.3 l)
 
   moves : Moves z words words' h h'
   moves = record {
     port = port;
-    count = length-set words n ((get_or words n 0 + size) % 2 ^ 64);
+    count = length-set words n ((slice_index words n + size) % 2 ^ 64);
     rises = λ d. elim (others d) [
-      | inl same ↦ subst (λ d. get_or words (counter z d).word 0 ≤ get_or words' (counter z d).word 0) (sym same) (let is = now in omega (arith, is))
+      | inl same ↦ subst (λ d. slice_index words (counter z d).word ≤ slice_index words' (counter z d).word) (sym same) (let is = now in omega (arith, is))
       | inr apart ↦ let is = other (counter z d).word apart.0 in omega (arith, is)
     ];
     same = λ k above free. far k above;
@@ -149,7 +149,7 @@ module _ (z : Layout) (o : Opening) (words : List ℕ) (before : List Holding) (
         tied = record {
           own = subst (λ (f : Option Own). IfSome f (IsOwn z words')) (sym own) (own_stays z words words' h h' moves far h.own tied.own);
           marked = λ d is. elim (others d) [
-            | inl same ↦ subst (λ d. (counter z d).end < get_or words' (counter z d).word 0) (sym same) (let is' = now in omega (arith, is', past))
+            | inl same ↦ subst (λ d. (counter z d).end < slice_index words' (counter z d).word) (sym same) (let is' = now in omega (arith, is', past))
             | inr apart ↦ let old = tied.marked d (sym apart.1 ∙ is) in let is' = other (counter z d).word apart.0 in omega (arith, old, is')
           ];
         };
@@ -159,14 +159,14 @@ module _ (z : Layout) (o : Opening) (words : List ℕ) (before : List Holding) (
         slot_words = slot_words;
         counts = λ l below room. elim (others Slots) [
           | inl same ↦
-              let over = subst (λ d. (counter z d).end < get_or words (counter z d).word 0 + size) (sym same) past in
+              let over = subst (λ d. (counter z d).end < slice_index words (counter z d).word + size) (sym same) past in
               let one = subst (λ d. size ≤ (counter z d).greatest) (sym same) small in
               omega (arith, room, over, one)
           | inr apart ↦ let is = other (slot_counter z) apart.0 in omega (arith, below, is)
         ];
         head = head_stays z o words words' before h h' after log w moves (other (list_head z) at.2);
         counters = λ d. elim (others d) [
-          | inl same ↦ subst (λ d. get_or words' (counter z d).word 0 ≤ (counter z d).end + (counter z d).greatest * marked_ports d (before ++ h' ∷ after)) (sym same)
+          | inl same ↦ subst (λ d. slice_index words' (counter z d).word ≤ (counter z d).end + (counter z d).greatest * marked_ports d (before ++ h' ∷ after)) (sym same)
               (high_rises z words words' before h h' after c unmarked on (let high = (w.counters c).high in let is = now in omega (arith, is, high, small)))
           | inr apart ↦ high_stays z words words' before h h' after d apart.1 (let high = (w.counters d).high in let is = other (counter z d).word apart.0 in omega (arith, is, high))
         ];

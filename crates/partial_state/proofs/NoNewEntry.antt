@@ -1,21 +1,21 @@
 -- The steps that add nothing to the history, and what most steps leave as it was.
-use Rattle.partial_state.proofs.{Common.{ℕ, ◌≡◌, ◌≢◌, ◌+◌, ◌*◌, ◌<◌, ◌≤◌, ◌⊎◌, ◌++◌, ◌^◌, ◌%◌, true, false, List, ◌∷◌, length, get_or, Option, None, IfSome, IsSomeAnd, refl, sym, ◌∙◌, ap, subst, inl, inr, arith, eq-eqb, Applied, Opening, place_below, Layout, IsLayout, slot_counter, list_head, pool_counter, list_counter, slot_word, list_base, pool_end, Block, AreApart, Covers, IsHead, ClaimedSlot, Own, Due, Holding, block_of, block_at, unpublished, blocks_in, other_holdings, IfJoined, joined_in, EachTwo, HaveOtherSlots, Pool, LawfulWords, IsOwn, IsTied, IsClaim, IsDue, IsKept, greatest_record, greatest_list, Counted, IsCounted, ListWords, PoolWords, Slots, counter, is_marked, marked_ports}, ListLemmas.{all_at, all_weaker}, Frames.{Frame, stays, head_moves, covers_moves}, HoldingLemmas.{own_far, if_some, if_some_at, some_found, joined_weaker, others_gone, marks_same, marks_more, marks_few}, Rebuild.{Moves, frame_of, agrees_stay, blocks_stay}, EffectLemmas.{due_moves, claim_moves, keeps}}
+use Rattle.partial_state.proofs.{Common.{ℕ, ◌≡◌, ◌≢◌, ◌+◌, ◌*◌, ◌<◌, ◌≤◌, ◌⊎◌, ◌++◌, ◌^◌, ◌%◌, true, false, List, ◌∷◌, length, slice_index, Option, None, IfSome, IsSomeAnd, refl, sym, ◌∙◌, ap, subst, inl, inr, arith, eq-eqb, Applied, Opening, place_below, Layout, IsLayout, slot_counter, list_head, pool_counter, list_counter, slot_word, list_base, pool_end, Block, AreApart, Covers, IsHead, ClaimedSlot, Own, Due, Holding, block_of, block_at, unpublished, blocks_in, other_holdings, IfJoined, joined_in, EachTwo, HaveOtherSlots, Pool, LawfulWords, IsOwn, IsTied, IsClaim, IsDue, IsKept, greatest_record, greatest_list, Counted, IsCounted, ListWords, PoolWords, Slots, counter, is_marked, marked_ports}, ListLemmas.{all_at, all_weaker}, Frames.{Frame, stays, head_moves, covers_moves}, HoldingLemmas.{own_far, if_some, if_some_at, some_found, joined_weaker, others_gone, marks_same, marks_more, marks_few}, Rebuild.{Moves, frame_of, agrees_stay, blocks_stay}, EffectLemmas.{due_moves, claim_moves, keeps}}
 use Rattle.std.proofs.Math.Nat.{mul-le-mul_left}
 
 -- what a step changes that adds nothing to the history
 pub record Quiet (z : Layout) (o : Opening) (words words' : List ℕ) (before : List Holding) (h h' : Holding) (after : List Holding) (log : List Applied) : Type 0 where
   pub moves : Moves z words words' h h'
-  pub components : (j : ℕ) → j < z.m → get_or words' j 0 ≡ get_or words j 0
+  pub components : (j : ℕ) → j < z.m → slice_index words' j ≡ slice_index words j
   pub tied : IsTied z words' h'
   pub apart : EachTwo AreApart (blocks_in z words (before ++ h' ∷ after) log)
   pub due : IfSome h'.due (IsDue z o words' h' (other_holdings h'.port (before ++ h' ∷ after)) log)
-  pub taken : (l : ℕ) → l < get_or words' (slot_counter z) 0 → l < z.slots → IsSomeAnd h.claimed (λ c. c.slot ≡ l) ⊎ (get_or words (slot_counter z) 0 ≤ l) → (get_or words' (slot_word z l) 0 ≡ 1) ⊎
+  pub taken : (l : ℕ) → l < slice_index words' (slot_counter z) → l < z.slots → IsSomeAnd h.claimed (λ c. c.slot ≡ l) ⊎ (slice_index words (slot_counter z) ≤ l) → (slice_index words' (slot_word z l) ≡ 1) ⊎
       IsSomeAnd h'.claimed (λ c. c.slot ≡ l)
   pub claim : IfSome h'.claimed (IsClaim z words' (before ++ h' ∷ after) log)
   pub owners : (v : Holding) → IfSome v.claimed (IsClaim z words (before ++ h ∷ after) log) → HaveOtherSlots h v → HaveOtherSlots h' v
   pub joined : (h'.claimed ≡ h.claimed) ⊎ IfJoined h' (λ l j. length log ≤ j.since)
-  pub head : IsHead z words' (unpublished (before ++ h' ∷ after)) (get_or words' (list_head z) 0)
-  pub counters : (c : Counted) → get_or words' (counter z c).word 0 ≤ (counter z c).end + (counter z c).greatest * marked_ports c (before ++ h' ∷ after)
+  pub head : IsHead z words' (unpublished (before ++ h' ∷ after)) (slice_index words' (list_head z))
+  pub counters : (c : Counted) → slice_index words' (counter z c).word ≤ (counter z c).end + (counter z c).greatest * marked_ports c (before ++ h' ∷ after)
 
 pub quiet : (z : Layout) (o : Opening) (words words' : List ℕ) (before : List Holding) (h h' : Holding) (after : List Holding) (log : List Applied) → LawfulWords z o words (before ++ h ∷ after) log →
     Quiet z o words words' before h h' after log → IsKept z o words before h after log words' h' log
@@ -42,45 +42,45 @@ quiet z o words words' before h h' after log w q =
 module _ (z : Layout) (words words' : List ℕ) (before : List Holding) (h h' : Holding) (after : List Holding) where
   -- a counter with the same mark
   pub high_stays : (c : Counted) → is_marked c h' ≡ is_marked c h →
-      get_or words' (counter z c).word 0 ≤ (counter z c).end + (counter z c).greatest * marked_ports c (before ++ h ∷ after) →
-      get_or words' (counter z c).word 0 ≤ (counter z c).end + (counter z c).greatest * marked_ports c (before ++ h' ∷ after)
-  high_stays c same w = subst (λ m. get_or words' (counter z c).word 0 ≤ (counter z c).end + (counter z c).greatest * m) (sym (marks_same c before h h' after same)) w
+      slice_index words' (counter z c).word ≤ (counter z c).end + (counter z c).greatest * marked_ports c (before ++ h ∷ after) →
+      slice_index words' (counter z c).word ≤ (counter z c).end + (counter z c).greatest * marked_ports c (before ++ h' ∷ after)
+  high_stays c same w = subst (λ m. slice_index words' (counter z c).word ≤ (counter z c).end + (counter z c).greatest * m) (sym (marks_same c before h h' after same)) w
 
   -- and one that the port comes to be marked for
   pub high_rises : (c : Counted) → is_marked c h ≡ false → is_marked c h' ≡ true →
-      get_or words' (counter z c).word 0 ≤ (counter z c).end + (counter z c).greatest * marked_ports c (before ++ h ∷ after) + (counter z c).greatest →
-      get_or words' (counter z c).word 0 ≤ (counter z c).end + (counter z c).greatest * marked_ports c (before ++ h' ∷ after)
-  high_rises c off on w = subst (λ m. get_or words' (counter z c).word 0 ≤ (counter z c).end + (counter z c).greatest * m) (sym (marks_more c before h h' after off on)) (omega (arith, w))
+      slice_index words' (counter z c).word ≤ (counter z c).end + (counter z c).greatest * marked_ports c (before ++ h ∷ after) + (counter z c).greatest →
+      slice_index words' (counter z c).word ≤ (counter z c).end + (counter z c).greatest * marked_ports c (before ++ h' ∷ after)
+  high_rises c off on w = subst (λ m. slice_index words' (counter z c).word ≤ (counter z c).end + (counter z c).greatest * m) (sym (marks_more c before h h' after off on)) (omega (arith, w))
 
   -- where no counter falls, a marked port stays behind its end
-  pub marked_stays : ((c : Counted) → is_marked c h' ≡ is_marked c h) → ((c : Counted) → get_or words (counter z c).word 0 ≤ get_or words' (counter z c).word 0) →
-      ((c : Counted) → is_marked c h ≡ true → (counter z c).end < get_or words (counter z c).word 0) →
-      (c : Counted) → is_marked c h' ≡ true → (counter z c).end < get_or words' (counter z c).word 0
+  pub marked_stays : ((c : Counted) → is_marked c h' ≡ is_marked c h) → ((c : Counted) → slice_index words (counter z c).word ≤ slice_index words' (counter z c).word) →
+      ((c : Counted) → is_marked c h ≡ true → (counter z c).end < slice_index words (counter z c).word) →
+      (c : Counted) → is_marked c h' ≡ true → (counter z c).end < slice_index words' (counter z c).word
   marked_stays same rises marked c on = let past = marked c (sym (same c) ∙ on) in let up = rises c in omega (arith, past, up)
 
   -- where no counter changes, and no mark
-  pub counters_stay : ((c : Counted) → is_marked c h' ≡ is_marked c h) → ((c : Counted) → get_or words' (counter z c).word 0 ≡ get_or words (counter z c).word 0) →
+  pub counters_stay : ((c : Counted) → is_marked c h' ≡ is_marked c h) → ((c : Counted) → slice_index words' (counter z c).word ≡ slice_index words (counter z c).word) →
       ((c : Counted) → IsCounted z words (before ++ h ∷ after) c) →
-      (c : Counted) → get_or words' (counter z c).word 0 ≤ (counter z c).end + (counter z c).greatest * marked_ports c (before ++ h' ∷ after)
+      (c : Counted) → slice_index words' (counter z c).word ≤ (counter z c).end + (counter z c).greatest * marked_ports c (before ++ h' ∷ after)
   counters_stay same counts counters c = let now = counts c in let high = (counters c).high in high_stays c (same c) (omega (arith, now, high))
 
 -- the three counters are as they were
-pub counters_same : (z : Layout) (words words' : List ℕ) → get_or words' (pool_counter z) 0 ≡ get_or words (pool_counter z) 0 → get_or words' (slot_counter z) 0 ≡ get_or words (slot_counter z) 0 →
-    get_or words' (list_counter z) 0 ≡ get_or words (list_counter z) 0 → (c : Counted) → get_or words' (counter z c).word 0 ≡ get_or words (counter z c).word 0
+pub counters_same : (z : Layout) (words words' : List ℕ) → slice_index words' (pool_counter z) ≡ slice_index words (pool_counter z) → slice_index words' (slot_counter z) ≡ slice_index words (slot_counter z) →
+    slice_index words' (list_counter z) ≡ slice_index words (list_counter z) → (c : Counted) → slice_index words' (counter z c).word ≡ slice_index words (counter z c).word
 counters_same z words words' pool slots lists PoolWords = pool
 counters_same z words words' pool slots lists Slots = slots
 counters_same z words words' pool slots lists ListWords = lists
 
 -- none of them falls
-pub counters_rise : (z : Layout) (words words' : List ℕ) → get_or words (pool_counter z) 0 ≤ get_or words' (pool_counter z) 0 → get_or words (slot_counter z) 0 ≤ get_or words' (slot_counter z) 0 →
-    get_or words (list_counter z) 0 ≤ get_or words' (list_counter z) 0 → (c : Counted) → get_or words (counter z c).word 0 ≤ get_or words' (counter z c).word 0
+pub counters_rise : (z : Layout) (words words' : List ℕ) → slice_index words (pool_counter z) ≤ slice_index words' (pool_counter z) → slice_index words (slot_counter z) ≤ slice_index words' (slot_counter z) →
+    slice_index words (list_counter z) ≤ slice_index words' (list_counter z) → (c : Counted) → slice_index words (counter z c).word ≤ slice_index words' (counter z c).word
 counters_rise z words words' pool slots lists PoolWords = pool
 counters_rise z words words' pool slots lists Slots = slots
 counters_rise z words words' pool slots lists ListWords = lists
 
 -- the counters stay far below 2 ^ 64
 pub counter_bound : (z : Layout) (o : Opening) (words : List ℕ) (hs : List Holding) (log : List Applied) → LawfulWords z o words hs log → (c : Counted) →
-    get_or words (counter z c).word 0 ≤ (counter z c).end + 64 * (counter z c).greatest
+    slice_index words (counter z c).word ≤ (counter z c).end + 64 * (counter z c).greatest
 counter_bound z o words hs log w c =
     let few = marks_few c hs in
     let all = w.few in
@@ -93,8 +93,8 @@ fits_word z n s most = let m = s.components.1 in let l = s.slots.1 in let t = s.
 
 -- what stays where the port's claim does
 pub taken_stays : (z : Layout) (words words' : List ℕ) (h h' : Holding) → h'.claimed ≡ h.claimed →
-    ((l : ℕ) → l < get_or words' (slot_counter z) 0 → l < z.slots → l < get_or words (slot_counter z) 0) → (l : ℕ) → l < get_or words' (slot_counter z) 0 → l < z.slots →
-    IsSomeAnd h.claimed (λ c. c.slot ≡ l) ⊎ (get_or words (slot_counter z) 0 ≤ l) → (get_or words' (slot_word z l) 0 ≡ 1) ⊎ IsSomeAnd h'.claimed (λ c. c.slot ≡ l)
+    ((l : ℕ) → l < slice_index words' (slot_counter z) → l < z.slots → l < slice_index words (slot_counter z)) → (l : ℕ) → l < slice_index words' (slot_counter z) → l < z.slots →
+    IsSomeAnd h.claimed (λ c. c.slot ≡ l) ⊎ (slice_index words (slot_counter z) ≤ l) → (slice_index words' (slot_word z l) ≡ 1) ⊎ IsSomeAnd h'.claimed (λ c. c.slot ≡ l)
 taken_stays z words words' h h' same f l below room (inl k) = inr (subst (λ (c : Option ClaimedSlot). IsSomeAnd c (λ c. c.slot ≡ l)) (sym same) k)
 taken_stays z words words' h h' same f l below room (inr k) = let old = f l below room in absurd (omega (arith, old, k))
 
@@ -103,7 +103,7 @@ module _ (z : Layout) (o : Opening) (words words' : List ℕ) (before : List Hol
   frame : Frame z words words' (unpublished (before ++ h ∷ after)) (unpublished (before ++ h' ∷ after))
   frame = frame_of z words words' h h' m before after
 
-  pub claim_stays : (log' : List Applied) → length log ≤ length log' → h'.claimed ≡ h.claimed → ((l : ℕ) → l < z.slots → get_or words' (slot_word z l) 0 ≡ get_or words (slot_word z l) 0) →
+  pub claim_stays : (log' : List Applied) → length log ≤ length log' → h'.claimed ≡ h.claimed → ((l : ℕ) → l < z.slots → slice_index words' (slot_word z l) ≡ slice_index words (slot_word z l)) →
       IfSome h'.claimed (IsClaim z words' (before ++ h' ∷ after) log')
   claim_stays log' longer same slots =
       subst (λ (c : Option ClaimedSlot). IfSome c (IsClaim z words' (before ++ h' ∷ after) log')) (sym same)
@@ -114,13 +114,13 @@ module _ (z : Layout) (o : Opening) (words words' : List ℕ) (before : List Hol
   pub owners_stay : h'.claimed ≡ h.claimed → (v : Holding) → HaveOtherSlots h v → HaveOtherSlots h' v
   owners_stay same v k = subst (λ (c : Option ClaimedSlot). IfSome c (λ c. IfSome v.claimed (λ d. c.slot ≢ d.slot))) (sym same) k
 
-  pub head_stays : get_or words' (list_head z) 0 ≡ get_or words (list_head z) 0 → IsHead z words' (unpublished (before ++ h' ∷ after)) (get_or words' (list_head z) 0)
+  pub head_stays : slice_index words' (list_head z) ≡ slice_index words (list_head z) → IsHead z words' (unpublished (before ++ h' ∷ after)) (slice_index words' (list_head z))
   head_stays same = subst (IsHead z words' (unpublished (before ++ h' ∷ after))) (sym same)
-      (head_moves z words words' (unpublished (before ++ h ∷ after)) (unpublished (before ++ h' ∷ after)) frame (get_or words (list_head z) 0) w.head)
+      (head_moves z words words' (unpublished (before ++ h ∷ after)) (unpublished (before ++ h' ∷ after)) frame (slice_index words (list_head z)) w.head)
 
   -- the port's own exchange that is due, where no word of a block changes
-  pub due_stays : h'.own ≡ h.own → h'.due ≡ h.due → (joined_in h.claimed ≡ None → joined_in h'.claimed ≡ None) → ((n : ℕ) → list_base z ≤ n → get_or words' n 0 ≡ get_or words n 0) →
-      ((j : ℕ) → j < z.m → get_or words' j 0 ≡ get_or words j 0) → IfSome h'.due (IsDue z o words' h' (other_holdings h'.port (before ++ h' ∷ after)) log)
+  pub due_stays : h'.own ≡ h.own → h'.due ≡ h.due → (joined_in h.claimed ≡ None → joined_in h'.claimed ≡ None) → ((n : ℕ) → list_base z ≤ n → slice_index words' n ≡ slice_index words n) →
+      ((j : ℕ) → j < z.m → slice_index words' j ≡ slice_index words j) → IfSome h'.due (IsDue z o words' h' (other_holdings h'.port (before ++ h' ∷ after)) log)
   due_stays own due unjoined far components =
       subst (λ (d : Option Due). IfSome d (IsDue z o words' h' (other_holdings h'.port (before ++ h' ∷ after)) log)) (sym due)
       (if_some (IsDue z o words h (other_holdings h.port (before ++ h ∷ after)) log) (IsDue z o words' h' (other_holdings h'.port (before ++ h' ∷ after)) log) h.due
@@ -150,15 +150,15 @@ module _ (z : Layout) (o : Opening) (words words' : List ℕ) (before : List Hol
 -- what a step changes that leaves the slots and the port's claim as they were
 pub record Calm (z : Layout) (o : Opening) (words words' : List ℕ) (before : List Holding) (h h' : Holding) (after : List Holding) (log : List Applied) : Type 0 where
   pub moves : Moves z words words' h h'
-  pub components : (j : ℕ) → j < z.m → get_or words' j 0 ≡ get_or words j 0
+  pub components : (j : ℕ) → j < z.m → slice_index words' j ≡ slice_index words j
   pub tied : IsTied z words' h'
   pub apart : EachTwo AreApart (blocks_in z words (before ++ h' ∷ after) log)
   pub due : IfSome h'.due (IsDue z o words' h' (other_holdings h'.port (before ++ h' ∷ after)) log)
   pub claimed : h'.claimed ≡ h.claimed
-  pub slot_words : (l : ℕ) → l < z.slots → get_or words' (slot_word z l) 0 ≡ get_or words (slot_word z l) 0
-  pub counts : (l : ℕ) → l < get_or words' (slot_counter z) 0 → l < z.slots → l < get_or words (slot_counter z) 0
-  pub head : IsHead z words' (unpublished (before ++ h' ∷ after)) (get_or words' (list_head z) 0)
-  pub counters : (c : Counted) → get_or words' (counter z c).word 0 ≤ (counter z c).end + (counter z c).greatest * marked_ports c (before ++ h' ∷ after)
+  pub slot_words : (l : ℕ) → l < z.slots → slice_index words' (slot_word z l) ≡ slice_index words (slot_word z l)
+  pub counts : (l : ℕ) → l < slice_index words' (slot_counter z) → l < z.slots → l < slice_index words (slot_counter z)
+  pub head : IsHead z words' (unpublished (before ++ h' ∷ after)) (slice_index words' (list_head z))
+  pub counters : (c : Counted) → slice_index words' (counter z c).word ≤ (counter z c).end + (counter z c).greatest * marked_ports c (before ++ h' ∷ after)
 
 pub calm : (z : Layout) (o : Opening) (words words' : List ℕ) (before : List Holding) (h h' : Holding) (after : List Holding) (log : List Applied) → LawfulWords z o words (before ++ h ∷ after) log →
     Calm z o words words' before h h' after log → IsKept z o words before h after log words' h' log

@@ -1,5 +1,5 @@
 -- Words as they open are lawful.
-use Rattle.partial_state.proofs.Common.{ℕ, zero, suc, ◌≡◌, ◌+◌, ◌<◌, ◌≤◌, ◌++◌, false, List, [], ◌∷◌, length, get_or, Some, None, IfSome, refl, sym, ap, subst, inl, arith, ◌∙◌, AllByRecursion, nat_tests, Layout, slot_counter, list_head, pool_counter, list_counter, slot_word, list_base, pool_base, opening_word, Block, AreApart, Holding, EachTwo, HaveOtherPorts, HaveOtherSlots, announcements, unpublished, IsTied, idle_holdings, OpeningIsLawful, initial_words, first_free, Counted, IsCounted, ListWords, PoolWords, Slots, is_marked, true}
+use Rattle.partial_state.proofs.Common.{ℕ, zero, suc, ◌≡◌, ◌+◌, ◌<◌, ◌≤◌, ◌++◌, false, List, [], ◌∷◌, length, slice_index, Some, None, IfSome, refl, sym, ap, subst, inl, arith, ◌∙◌, AllByRecursion, nat_tests, Layout, slot_counter, list_head, pool_counter, list_counter, slot_word, list_base, pool_base, opening_word, Block, AreApart, Holding, EachTwo, HaveOtherPorts, HaveOtherSlots, announcements, unpublished, IsTied, idle_holdings, OpeningIsLawful, initial_words, first_free, Counted, IsCounted, ListWords, PoolWords, Slots, is_marked, true}
 use Rattle.partial_words.proofs.LayoutLemmas.{opening_agrees, view_opens}
 
 -- ports that hold nothing
@@ -56,8 +56,8 @@ pub slots_open : (z : Layout) (initial : List ℕ) (l : ℕ) → l < z.slots →
 slots_open z initial l below = grind (arith, nat_tests)
 
 -- the counters are where they begin
-pub counters_open : (z : Layout) (words : List ℕ) (hs : List Holding) → get_or words (pool_counter z) 0 ≡ first_free z → get_or words (slot_counter z) 0 ≡ 0 →
-    get_or words (list_counter z) 0 ≡ list_base z → initial_words z ≤ z.pool → (c : Counted) → IsCounted z words hs c
+pub counters_open : (z : Layout) (words : List ℕ) (hs : List Holding) → slice_index words (pool_counter z) ≡ first_free z → slice_index words (slot_counter z) ≡ 0 →
+    slice_index words (list_counter z) ≡ list_base z → initial_words z ≤ z.pool → (c : Counted) → IsCounted z words hs c
 counters_open z words hs pool slots lists room PoolWords = record { low = omega (arith, pool); high = omega (arith, pool, room) }
 counters_open z words hs pool slots lists room Slots = record { low = omega arith; high = omega (arith, slots) }
 counters_open z words hs pool slots lists room ListWords = record { low = omega (arith, lists); high = omega (arith, lists) }
@@ -65,10 +65,10 @@ counters_open z words hs pool slots lists room ListWords = record { low = omega 
 pub opening_is_lawful : OpeningIsLawful
 opening_is_lawful z o words n opens few =
     let some = opens.sizes.slots.0 in
-    let pool : get_or words (pool_counter z) 0 ≡ first_free z = opens.words.each (pool_counter z) (omega (arith, some)) ∙ pool_opens z o.values in
-    let slots : get_or words (slot_counter z) 0 ≡ 0 = opens.words.each (slot_counter z) (omega (arith, some)) ∙ slot_opens z o.values some in
-    let head : get_or words (list_head z) 0 ≡ 0 = opens.words.each (list_head z) (omega (arith, some)) ∙ list_opens z o.values some in
-    let lists : get_or words (list_counter z) 0 ≡ list_base z = opens.words.each (list_counter z) (omega (arith, some)) ∙ lists_open z o.values some in
+    let pool : slice_index words (pool_counter z) ≡ first_free z = opens.words.each (pool_counter z) (omega (arith, some)) ∙ pool_opens z o.values in
+    let slots : slice_index words (slot_counter z) ≡ 0 = opens.words.each (slot_counter z) (omega (arith, some)) ∙ slot_opens z o.values some in
+    let head : slice_index words (list_head z) ≡ 0 = opens.words.each (list_head z) (omega (arith, some)) ∙ list_opens z o.values some in
+    let lists : slice_index words (list_counter z) ≡ list_base z = opens.words.each (list_counter z) (omega (arith, some)) ∙ lists_open z o.values some in
     let room = opens.sizes.pool.0 in
     let count = idle_length 0 n in
     let blocks : announcements (idle_holdings 0 n) ++ unpublished (idle_holdings 0 n) ≡ [] = ap (λ (l : List Block). l ++ unpublished (idle_holdings 0 n))

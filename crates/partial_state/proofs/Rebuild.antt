@@ -1,18 +1,18 @@
 -- Lawful words with one port's holding in the place of another, and with other words.
-use Rattle.partial_state.proofs.{Common.{ℕ, ◌≡◌, ◌≢◌, ◌+◌, ◌<◌, ◌≤◌, ◌++◌, List, [], ◌∷◌, length, map, get_or, Option, Some, IfSome, slice_get, sym, ◌∙◌, ap, subst, arith, AllByRecursion, Applied, Opening, initial_stamp, Layout, slot_word, list_base, pool_base, prev_of, Agrees, IsLink, IsChain, chain_of, Block, AreApart, Own, Holding, Space, counter_of, block_of, block_at, announcements, unpublished, blocks_in, EachTwo, Pool, Lists, LawfulWords, IsOwn, IsTied, IsEntry, AllByRecursion-get, all_where, initial_words, first_free, value_word, record_value, prev_word, plain_record_size, chain_all, Counted, ListWords, PoolWords, counter}, ListLemmas.{all_at, all_before, all_after, all_join, two_before, two_after, map_same}, Frames.{Frame, IsClaimedBlock, word_at, part_apart}, Claimed.{unpublished_two, entry_free, initial_free}, HoldingLemmas.{own_far, if_some, if_some_at, all_unpublished, unpublished_all, HaveOtherBlocks, apart_others, blocks_turn, three_words, block_stays}}
+use Rattle.partial_state.proofs.{Common.{ℕ, ◌≡◌, ◌≢◌, ◌+◌, ◌<◌, ◌≤◌, ◌++◌, List, [], ◌∷◌, length, map, slice_index, Option, Some, IfSome, slice_get, sym, ◌∙◌, ap, subst, arith, AllByRecursion, Applied, Opening, initial_stamp, Layout, slot_word, list_base, pool_base, prev_of, Agrees, IsLink, IsChain, chain_of, Block, AreApart, Own, Holding, Space, counter_of, block_of, block_at, announcements, unpublished, blocks_in, EachTwo, Pool, Lists, LawfulWords, IsOwn, IsTied, IsEntry, AllByRecursion-get, all_where, initial_words, first_free, value_word, record_value, prev_word, plain_record_size, chain_all, Counted, ListWords, PoolWords, counter}, ListLemmas.{all_at, all_before, all_after, all_join, two_before, two_after, map_same}, Frames.{Frame, IsClaimedBlock, word_at, part_apart}, Claimed.{unpublished_two, entry_free, initial_free}, HoldingLemmas.{own_far, if_some, if_some_at, all_unpublished, unpublished_all, HaveOtherBlocks, apart_others, blocks_turn, three_words, block_stays}}
 use Rattle.partial_words.specs.declared.record.Link.{Link}
 
 -- What a step does to the words of others, where its port holds h before and h' behind it.
 pub record Moves (z : Layout) (words words' : List ℕ) (h h' : Holding) : Type 0 where
   pub port : h'.port ≡ h.port
   pub count : length words' ≡ length words
-  pub rises : (c : Counted) → get_or words (counter z c).word 0 ≤ get_or words' (counter z c).word 0
+  pub rises : (c : Counted) → slice_index words (counter z c).word ≤ slice_index words' (counter z c).word
   -- of the words of blocks none changes but those of its own block
-  pub same : (w : ℕ) → list_base z ≤ w → IfSome h.own (λ b. AreApart (word_at w) (block_of b)) → get_or words' w 0 ≡ get_or words w 0
+  pub same : (w : ℕ) → list_base z ≤ w → IfSome h.own (λ b. AreApart (word_at w) (block_of b)) → slice_index words' w ≡ slice_index words w
   pub apart : (b : Block) → IsClaimedBlock z words b → IfSome h.own (λ c. AreApart b (block_of c)) → IfSome h'.own (λ c. AreApart b (block_of c))
   -- of the slots none changes but its own
-  pub slot : (l : ℕ) → l < z.slots → IfSome h.claimed (λ c. c.slot ≢ l) → get_or words' (slot_word z l) 0 ≡ get_or words (slot_word z l) 0
-  pub vacated : (l : ℕ) → l < z.slots → get_or words (slot_word z l) 0 ≡ 1 → get_or words' (slot_word z l) 0 ≡ 1
+  pub slot : (l : ℕ) → l < z.slots → IfSome h.claimed (λ c. c.slot ≢ l) → slice_index words' (slot_word z l) ≡ slice_index words (slot_word z l)
+  pub vacated : (l : ℕ) → l < z.slots → slice_index words (slot_word z l) ≡ 1 → slice_index words' (slot_word z l) ≡ 1
 
 module _ (z : Layout) (words words' : List ℕ) (h h' : Holding) (m : Moves z words words' h h') where
   -- the frame, whatever the others hold
@@ -31,12 +31,12 @@ module _ (z : Layout) (words words' : List ℕ) (h h' : Holding) (m : Moves z wo
       }
 
   -- a word of another's own block stays
-  pub other_word : (b : Own) (n : ℕ) → list_base z ≤ b.at → n < length b.words → IfSome h.own (λ c. AreApart (block_of b) (block_of c)) → get_or words' (b.at + n) 0 ≡ get_or words (b.at + n) 0
+  pub other_word : (b : Own) (n : ℕ) → list_base z ≤ b.at → n < length b.words → IfSome h.own (λ c. AreApart (block_of b) (block_of c)) → slice_index words' (b.at + n) ≡ slice_index words (b.at + n)
   other_word b n far below apart =
       m.same (b.at + n) (omega (arith, far)) (if_some (λ c. AreApart (block_of b) (block_of c)) (λ c. AreApart (word_at (b.at + n)) (block_of c)) h.own
       (λ c e a. part_apart (word_at (b.at + n)) (block_of b) (block_of c) (omega arith) (omega (arith, below)) a) apart)
 
-  counter_grows : (s : Space) → get_or words (counter_of z s) 0 ≤ get_or words' (counter_of z s) 0
+  counter_grows : (s : Space) → slice_index words (counter_of z s) ≤ slice_index words' (counter_of z s)
   counter_grows Pool = m.rises PoolWords
   counter_grows Lists = m.rises ListWords
 
@@ -54,7 +54,7 @@ module _ (z : Layout) (words words' : List ℕ) (h h' : Holding) (m : Moves z wo
       }
 
   -- an own block stays where no word of a block changes
-  pub own_stays : ((n : ℕ) → list_base z ≤ n → get_or words' n 0 ≡ get_or words n 0) → (f : Option Own) → IfSome f (IsOwn z words) → IfSome f (IsOwn z words')
+  pub own_stays : ((n : ℕ) → list_base z ≤ n → slice_index words' n ≡ slice_index words n) → (f : Option Own) → IfSome f (IsOwn z words) → IfSome f (IsOwn z words')
   own_stays far f w =
       if_some (IsOwn z words) (IsOwn z words') f (λ b e own.
       let above = own_far z words b own in
@@ -103,7 +103,7 @@ module _ (z : Layout) (o : Opening) (words words' : List ℕ) (before : List Hol
   from_own b all = all_at (λ v. IfSome v.own (λ c. AreApart b (block_of c))) before h after (unpublished_all (AreApart b) (before ++ h ∷ after) all)
 
   -- the words of records of the history stay
-  pub entry_word : (k : ℕ) (e : Applied) (n : ℕ) → slice_get log k ≡ Some e → n < (block_at words e.stamp).size → get_or words' (e.stamp + n) 0 ≡ get_or words (e.stamp + n) 0
+  pub entry_word : (k : ℕ) (e : Applied) (n : ℕ) → slice_get log k ≡ Some e → n < (block_at words e.stamp).size → slice_index words' (e.stamp + n) ≡ slice_index words (e.stamp + n)
   entry_word k e n s below =
       let entry : IsEntry z words e = AllByRecursion-get (IsEntry z words) log k e w.entries s in
       let above = entry.above in
@@ -112,18 +112,18 @@ module _ (z : Layout) (o : Opening) (words words' : List ℕ) (before : List Hol
       (λ c is a. part_apart (word_at (e.stamp + n)) (block_at words e.stamp) (block_of c) (omega arith) (omega (arith, below)) a)
       (from_own b (entry_free z o words (before ++ h ∷ after) log w k e s)))
 
-  pub entry_three : (k : ℕ) (e : Applied) (n : ℕ) → slice_get log k ≡ Some e → n < plain_record_size → get_or words' (e.stamp + n) 0 ≡ get_or words (e.stamp + n) 0
+  pub entry_three : (k : ℕ) (e : Applied) (n : ℕ) → slice_get log k ≡ Some e → n < plain_record_size → slice_index words' (e.stamp + n) ≡ slice_index words (e.stamp + n)
   entry_three k e n s below = let size = three_words words e.stamp in entry_word k e n s (omega (arith, size, below))
 
   pub entry_prev : (k : ℕ) (e : Applied) → slice_get log k ≡ Some e → prev_of words' e.stamp ≡ prev_of words e.stamp
-  entry_prev k e s = let none : prev_word e.stamp ≡ e.stamp + prev_word 0 = omega arith in ap (λ n. get_or words' n 0) none ∙ entry_three k e (prev_word 0) s (omega arith)
-      ∙ ap (λ n. get_or words n 0) (sym none)
+  entry_prev k e s = let none : prev_word e.stamp ≡ e.stamp + prev_word 0 = omega arith in ap (λ n. slice_index words' n) none ∙ entry_three k e (prev_word 0) s (omega arith)
+      ∙ ap (λ n. slice_index words n) (sym none)
 
   pub entry_value : (k : ℕ) (e : Applied) → slice_get log k ≡ Some e → record_value words' e.stamp ≡ record_value words e.stamp
-  entry_value k e s = let there : value_word e.stamp ≡ e.stamp + value_word 0 = omega arith in ap (λ n. get_or words' n 0) there ∙ entry_three k e (value_word 0) s (omega arith)
-      ∙ ap (λ n. get_or words n 0) (sym there)
+  entry_value k e s = let there : value_word e.stamp ≡ e.stamp + value_word 0 = omega arith in ap (λ n. slice_index words' n) there ∙ entry_three k e (value_word 0) s (omega arith)
+      ∙ ap (λ n. slice_index words n) (sym there)
 
-  pub initial_word : (n : ℕ) → pool_base z ≤ n → n < first_free z → get_or words' n 0 ≡ get_or words n 0
+  pub initial_word : (n : ℕ) → pool_base z ≤ n → n < first_free z → slice_index words' n ≡ slice_index words n
   initial_word n from to =
       let b : Block = record { at = pool_base z; size = initial_words z } in
       m.same n (omega (arith, from)) (if_some (λ c. AreApart (record { at = pool_base z; size = initial_words z }) (block_of c)) (λ c. AreApart (word_at n) (block_of c)) h.own
@@ -131,12 +131,12 @@ module _ (z : Layout) (o : Opening) (words words' : List ℕ) (before : List Hol
       (from_own b (initial_free z o words (before ++ h ∷ after) log w)))
 
   -- the chains stay
-  pub chain_moves : (j : ℕ) → j < length o.values → IsChain words' (get_or words j 0) (chain_of o j log)
+  pub chain_moves : (j : ℕ) → j < length o.values → IsChain words' (slice_index words j) (chain_of o j log)
   chain_moves j below =
       let base = w.stamps in
       let values = w.values in
       let P : ℕ → Type 0 = λ s. (prev_of words' s ≡ prev_of words s) × (record_value words' s ≡ record_value words s) in
-      chain_stays words words' m.count (get_or words j 0) (chain_of o j log)
+      chain_stays words words' m.count (slice_index words j) (chain_of o j log)
       (chain_all P o j log (all_where (λ (e : Applied). P e.stamp) log (λ k e s. (entry_prev k e s, entry_value k e s))) (
         initial_word (prev_word (initial_stamp o j)) (omega (arith, base)) (omega (arith, base, values, below)),
         initial_word (value_word (initial_stamp o j)) (omega (arith, base))
@@ -144,7 +144,7 @@ module _ (z : Layout) (o : Opening) (words words' : List ℕ) (before : List Hol
       ))
       (w.agrees j below).1
 
-  pub agrees_stay : ((j : ℕ) → j < z.m → get_or words' j 0 ≡ get_or words j 0) → Agrees o words' log
+  pub agrees_stay : ((j : ℕ) → j < z.m → slice_index words' j ≡ slice_index words j) → Agrees o words' log
   agrees_stay same j below =
       let values = w.values in
       let now = same j (omega (arith, values, below)) in

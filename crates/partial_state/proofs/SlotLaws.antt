@@ -1,5 +1,5 @@
 -- The steps on slots: a claim, a join and a leave.
-use Rattle.partial_state.proofs.{Common.{ℕ, ◌≡◌, ◌≢◌, ◌+◌, ◌<◌, ◌≤◌, ◌++◌, ◌^◌, ◌%◌, ◌∷◌, length, get_or, set, Option, Some, None, IfSome, IsSomeAnd, refl, sym, ◌∙◌, ap, subst, inl, inr, arith, get_or-set_other, get_or-set_same, length-set, AllByRecursion, eqb_tells, slot_counter, list_head, pool_counter, list_counter, slot_word, list_base, Block, AreApart, JoinedAnnouncement, IsAnnounced, IsApartFrom, ClaimedSlot, Own, Holding, block_of, unpublished, blocks_in, other_holdings, joined_in, Pool, IsOwn, IsTied, IsClaim, IsDue, SlotClaimsAreKept, JoinsAreKept, LeavesAreKept, announcement_block, announcement_size, ListWords, PoolWords, Slots, ◌*◌, counter, marked_ports}, ListLemmas.{all_at, two_take, two_put}, Frames.apart_turns, Claimed.unpublished_two, HoldingLemmas.{if_some, if_some_at, none_here, marks_kept}, Blocks.{announcement_of, unpublished_same, announced_same, own_added, announcement_added, own_block_added, announced_block_added}, Rebuild.{Moves, own_stays}, NoNewEntry.{quiet, fits_word, head_stays, due_stays, high_stays, marked_stays, counters_stay, counters_same, counters_rise}, MarkLaws.blocks_kept, BlockLaws.own_freed}
+use Rattle.partial_state.proofs.{Common.{ℕ, ◌≡◌, ◌≢◌, ◌+◌, ◌<◌, ◌≤◌, ◌++◌, ◌^◌, ◌%◌, ◌∷◌, length, slice_index, slice_set, Option, Some, None, IfSome, IsSomeAnd, refl, sym, ◌∙◌, ap, subst, inl, inr, arith, get_or-set_other, get_or-set_same, length-set, AllByRecursion, eqb_tells, slot_counter, list_head, pool_counter, list_counter, slot_word, list_base, Block, AreApart, JoinedAnnouncement, IsAnnounced, IsApartFrom, ClaimedSlot, Own, Holding, block_of, unpublished, blocks_in, other_holdings, joined_in, Pool, IsOwn, IsTied, IsClaim, IsDue, SlotClaimsAreKept, JoinsAreKept, LeavesAreKept, announcement_block, announcement_size, ListWords, PoolWords, Slots, ◌*◌, counter, marked_ports}, ListLemmas.{all_at, two_take, two_put}, Frames.apart_turns, Claimed.unpublished_two, HoldingLemmas.{if_some, if_some_at, none_here, marks_kept}, Blocks.{announcement_of, unpublished_same, announced_same, own_added, announcement_added, own_block_added, announced_block_added}, Rebuild.{Moves, own_stays}, NoNewEntry.{quiet, fits_word, head_stays, due_stays, high_stays, marked_stays, counters_stay, counters_same, counters_rise}, MarkLaws.blocks_kept, BlockLaws.own_freed}
 
 -- no slot is claimed where there is no claim, and where there is one it is its own
 none_claimed : (P : ClaimedSlot → Type 0) (f : Option ClaimedSlot) → f ≡ None → IsSomeAnd f P → ⊥
@@ -11,21 +11,21 @@ one_claimed P f c e k = let h : IsSomeAnd (Some c) P = subst (λ (f : Option Cla
 pub slot_claims_are_kept : SlotClaimsAreKept
 slot_claims_are_kept z o words before h after log w unclaimed room =
     let n = slot_counter z in
-    let first = get_or words (slot_counter z) 0 in
-    let c : ClaimedSlot = record { slot = get_or words (slot_counter z) 0; joined = None } in
-    let h' : Holding = record h { claimed = Some (record { slot = get_or words (slot_counter z) 0; joined = None }) } in
-    let v = (get_or words n 0 + 1) % 2 ^ 64 in
-    let words' = set words n v in
+    let first = slice_index words (slot_counter z) in
+    let c : ClaimedSlot = record { slot = slice_index words (slot_counter z); joined = None } in
+    let h' : Holding = record h { claimed = Some (record { slot = slice_index words (slot_counter z); joined = None }) } in
+    let v = (slice_index words n + 1) % 2 ^ 64 in
+    let words' = slice_set words n v in
     let count = w.count in
     let some = w.sizes.slots.0 in
-    let now : get_or words' (slot_counter z) 0 ≡ get_or words (slot_counter z) 0 + 1 = get_or-set_same words (slot_counter z) v 0 (omega (arith, count, some)) ∙ fits_word z
-    (get_or words (slot_counter z) 0 + 1) w.sizes (omega (arith, room)) in
-    let other : (k : ℕ) → k ≢ n → get_or words' k 0 ≡ get_or words k 0 = λ k differs. get_or-set_other words n k v 0 differs in
-    let lists : get_or words' (list_counter z) 0 ≡ get_or words (list_counter z) 0 = other (list_counter z) (λ e. omega (arith, e)) in
-    let pool : get_or words' (pool_counter z) 0 ≡ get_or words (pool_counter z) 0 = other (pool_counter z) (λ e. omega (arith, e)) in
-    let slot_words : (l : ℕ) → l < z.slots → get_or words' (slot_word z l) 0 ≡ get_or words (slot_word z l) 0 = λ l room. other (slot_word z l) (λ e. omega (arith, e)) in
-    let far : (k : ℕ) → list_base z ≤ k → get_or words' k 0 ≡ get_or words k 0 = λ k above. other k (λ e. omega (arith, above, e)) in
-    let components : (j : ℕ) → j < z.m → get_or words' j 0 ≡ get_or words j 0 = λ j below. other j (λ e. omega (arith, below, e)) in
+    let now : slice_index words' (slot_counter z) ≡ slice_index words (slot_counter z) + 1 = get_or-set_same words (slot_counter z) v 0 (omega (arith, count, some)) ∙ fits_word z
+    (slice_index words (slot_counter z) + 1) w.sizes (omega (arith, room)) in
+    let other : (k : ℕ) → k ≢ n → slice_index words' k ≡ slice_index words k = λ k differs. get_or-set_other words n k v 0 differs in
+    let lists : slice_index words' (list_counter z) ≡ slice_index words (list_counter z) = other (list_counter z) (λ e. omega (arith, e)) in
+    let pool : slice_index words' (pool_counter z) ≡ slice_index words (pool_counter z) = other (pool_counter z) (λ e. omega (arith, e)) in
+    let slot_words : (l : ℕ) → l < z.slots → slice_index words' (slot_word z l) ≡ slice_index words (slot_word z l) = λ l room. other (slot_word z l) (λ e. omega (arith, e)) in
+    let far : (k : ℕ) → list_base z ≤ k → slice_index words' k ≡ slice_index words k = λ k above. other k (λ e. omega (arith, above, e)) in
+    let components : (j : ℕ) → j < z.m → slice_index words' j ≡ slice_index words j = λ j below. other j (λ e. omega (arith, below, e)) in
     let m : Moves z words words' h h' = record {
       port = refl;
       count = length-set words n v;
@@ -47,15 +47,15 @@ slot_claims_are_kept z o words before h after log w unclaimed room =
       due = due_stays z o words words' before h h' after log w m refl refl (λ e. refl) far components;
       taken = λ l below inside k. elim k [
         | inl t ↦ absurd (none_claimed (λ c. c.slot ≡ l) h.claimed unclaimed t)
-        | inr from ↦ let is : get_or words (slot_counter z) 0 ≡ l =
+        | inr from ↦ let is : slice_index words (slot_counter z) ≡ l =
             omega (arith, from, below, now) in inr is
       ];
-      claim = record { slot = room; below = omega (arith, now); holds = slot_words (get_or words (slot_counter z) 0) room ∙ w.unclaimed (get_or words (slot_counter z) 0) (omega arith) room };
-      owners = λ v k other. if_some (IsClaim z words (before ++ h ∷ after) log) (λ d. get_or words (slot_counter z) 0 ≢ d.slot) v.claimed
+      claim = record { slot = room; below = omega (arith, now); holds = slot_words (slice_index words (slot_counter z)) room ∙ w.unclaimed (slice_index words (slot_counter z)) (omega arith) room };
+      owners = λ v k other. if_some (IsClaim z words (before ++ h ∷ after) log) (λ d. slice_index words (slot_counter z) ≢ d.slot) v.claimed
           (λ d e claim. let below = claim.below in λ is. omega (arith, is, below)) k;
       joined = inr tt;
       head = head_stays z o words words' before h h' after log w m (other (list_head z) (λ e. omega (arith, e)));
-      counters = λ c. high_stays z words words' before h h' after c (marks_kept h h' refl refl refl c) (elim c as (λ k. get_or words' (counter z k).word 0 ≤ (counter z k).end + (counter z k).greatest * marked_ports k (before ++ h ∷ after)) [
+      counters = λ c. high_stays z words words' before h h' after c (marks_kept h h' refl refl refl c) (elim c as (λ k. slice_index words' (counter z k).word ≤ (counter z k).end + (counter z k).greatest * marked_ports k (before ++ h ∷ after)) [
         | PoolWords ↦ let high = (w.counters PoolWords).high in omega (arith, pool, high)
         | Slots ↦ omega (arith, now, room)
         | ListWords ↦ let high = (w.counters ListWords).high in omega (arith, lists, high)
@@ -67,20 +67,20 @@ leaves_are_kept z o words before h after log slot j w is =
     let c : ClaimedSlot = record { slot = slot; joined = Some j } in
     let h' : Holding = record h { claimed = None } in
     let n = slot_word z slot in
-    let words' = set words n 1 in
+    let words' = slice_set words n 1 in
     let count = w.count in
     let claim : IsClaim z words (before ++ h ∷ after) log c = if_some_at (IsClaim z words (before ++ h ∷ after) log) h.claimed c is
     (all_at (λ v. IfSome v.claimed (IsClaim z words (before ++ h ∷ after) log)) before h after w.claims) in
     let room : slot < z.slots = claim.slot in
-    let now : get_or words' (slot_word z slot) 0 ≡ 1 = get_or-set_same words (slot_word z slot) 1 0 (omega (arith, count, room)) in
-    let other : (k : ℕ) → k ≢ n → get_or words' k 0 ≡ get_or words k 0 = λ k differs. get_or-set_other words n k 1 0 differs in
-    let lists : get_or words' (list_counter z) 0 ≡ get_or words (list_counter z) 0 = other (list_counter z) (λ e. omega (arith, e)) in
-    let pool : get_or words' (pool_counter z) 0 ≡ get_or words (pool_counter z) 0 = other (pool_counter z) (λ e. omega (arith, e)) in
-    let slots : get_or words' (slot_counter z) 0 ≡ get_or words (slot_counter z) 0 = other (slot_counter z) (λ e. omega (arith, e)) in
+    let now : slice_index words' (slot_word z slot) ≡ 1 = get_or-set_same words (slot_word z slot) 1 0 (omega (arith, count, room)) in
+    let other : (k : ℕ) → k ≢ n → slice_index words' k ≡ slice_index words k = λ k differs. get_or-set_other words n k 1 0 differs in
+    let lists : slice_index words' (list_counter z) ≡ slice_index words (list_counter z) = other (list_counter z) (λ e. omega (arith, e)) in
+    let pool : slice_index words' (pool_counter z) ≡ slice_index words (pool_counter z) = other (pool_counter z) (λ e. omega (arith, e)) in
+    let slots : slice_index words' (slot_counter z) ≡ slice_index words (slot_counter z) = other (slot_counter z) (λ e. omega (arith, e)) in
     let counts = counters_same z words words' pool slots lists in
-    let far : (k : ℕ) → list_base z ≤ k → get_or words' k 0 ≡ get_or words k 0 = λ k above. other k (λ e. omega (arith, above, e, room)) in
-    let components : (i : ℕ) → i < z.m → get_or words' i 0 ≡ get_or words i 0 = λ i below. other i (λ e. omega (arith, below, e)) in
-    let left : (l : ℕ) → slot ≡ l → get_or words' (slot_word z l) 0 ≡ 1 = λ l e. ap (λ t. get_or words' (slot_word z t) 0) (sym e) ∙ now in
+    let far : (k : ℕ) → list_base z ≤ k → slice_index words' k ≡ slice_index words k = λ k above. other k (λ e. omega (arith, above, e, room)) in
+    let components : (i : ℕ) → i < z.m → slice_index words' i ≡ slice_index words i = λ i below. other i (λ e. omega (arith, below, e)) in
+    let left : (l : ℕ) → slot ≡ l → slice_index words' (slot_word z l) ≡ 1 = λ l e. ap (λ t. slice_index words' (slot_word z t)) (sym e) ∙ now in
     let m : Moves z words words' h h' = record {
       port = refl;
       count = length-set words n 1;
@@ -118,19 +118,19 @@ joins_are_kept z o words before h after log slot at indices w is idle owned few 
     let h' : Holding = record h { own = None; claimed = Some (record { slot = slot; joined = Some (record { at = at; indices = indices; since = length log }) }) } in
     let between : Holding = record h { own = None } in
     let n = slot_word z slot in
-    let words' = set words n at in
+    let words' = slice_set words n at in
     let count = w.count in
     let claim : IsClaim z words (before ++ h ∷ after) log c = if_some_at (IsClaim z words (before ++ h ∷ after) log) h.claimed c is
     (all_at (λ v. IfSome v.claimed (IsClaim z words (before ++ h ∷ after) log)) before h after w.claims) in
     let room : slot < z.slots = claim.slot in
-    let empty : get_or words (slot_word z slot) 0 ≡ 0 = claim.holds in
-    let now : get_or words' (slot_word z slot) 0 ≡ at = get_or-set_same words (slot_word z slot) at 0 (omega (arith, count, room)) in
-    let other : (k : ℕ) → k ≢ n → get_or words' k 0 ≡ get_or words k 0 = λ k differs. get_or-set_other words n k at 0 differs in
-    let lists : get_or words' (list_counter z) 0 ≡ get_or words (list_counter z) 0 = other (list_counter z) (λ e. omega (arith, e)) in
-    let pool : get_or words' (pool_counter z) 0 ≡ get_or words (pool_counter z) 0 = other (pool_counter z) (λ e. omega (arith, e)) in
-    let slots : get_or words' (slot_counter z) 0 ≡ get_or words (slot_counter z) 0 = other (slot_counter z) (λ e. omega (arith, e)) in
+    let empty : slice_index words (slot_word z slot) ≡ 0 = claim.holds in
+    let now : slice_index words' (slot_word z slot) ≡ at = get_or-set_same words (slot_word z slot) at 0 (omega (arith, count, room)) in
+    let other : (k : ℕ) → k ≢ n → slice_index words' k ≡ slice_index words k = λ k differs. get_or-set_other words n k at 0 differs in
+    let lists : slice_index words' (list_counter z) ≡ slice_index words (list_counter z) = other (list_counter z) (λ e. omega (arith, e)) in
+    let pool : slice_index words' (pool_counter z) ≡ slice_index words (pool_counter z) = other (pool_counter z) (λ e. omega (arith, e)) in
+    let slots : slice_index words' (slot_counter z) ≡ slice_index words (slot_counter z) = other (slot_counter z) (λ e. omega (arith, e)) in
     let counts = counters_same z words words' pool slots lists in
-    let far : (k : ℕ) → list_base z ≤ k → get_or words' k 0 ≡ get_or words k 0 = λ k above. other k (λ e. omega (arith, above, e, room)) in
+    let far : (k : ℕ) → list_base z ≤ k → slice_index words' k ≡ slice_index words k = λ k above. other k (λ e. omega (arith, above, e, room)) in
     let m : Moves z words words' h h' = record {
       port = refl;
       count = length-set words n at;
@@ -139,7 +139,7 @@ joins_are_kept z o words before h after log slot at indices w is idle owned few 
       apart = λ b claimed free. tt;
       slot = λ l inside free. let differs = if_some_at (λ c. c.slot ≢ l) h.claimed c is free in other (slot_word z l) (λ e. differs (omega (arith, e)));
       vacated = λ l inside one. elim (eqb_tells slot l) [
-        | inl t ↦ let none : get_or words (slot_word z l) 0 ≡ 0 = ap (λ t. get_or words (slot_word z t) 0) (sym t.1) ∙ empty in absurd
+        | inl t ↦ let none : slice_index words (slot_word z l) ≡ 0 = ap (λ t. slice_index words (slot_word z t)) (sym t.1) ∙ empty in absurd
             (omega (arith, none, one))
         | inr t ↦ let differs : slot ≢ l = t.1 in other (slot_word z l) (λ e. differs (omega (arith, e))) ∙ one
       ];

@@ -1,5 +1,5 @@
 -- A won exchange of a component: its record is published, and the history gains its entry.
-use Rattle.partial_state.proofs.{Common.{ℕ, ◌≡◌, ◌≢◌, ◌+◌, ◌<◌, ◌≤◌, ◌==◌, ◌++◌, Bool, true, false, cond, List, [], ◌∷◌, length, map, get_or, set, Option, Some, None, IfSome, slice_get, refl, sym, ◌∙◌, ap, subst, inl, inr, arith, append_assoc, get_or-set_other, get_or-set_same, length-set, AllByRecursion, option_map, eq-eqb, eqb-true, eqb-false, eqb_tells, length_push, take-append-le, Applied, Opening, IsHistory, initial_stamp, stamp_of, stamp_of-push, distinct_push, slice_get_grows, AllByRecursion-push, AllByRecursion-get, Layout, slot_counter, list_head, pool_counter, list_counter, slot_word, pool_base, pool_end, prev_word, prev_of, view_of, IsLink, IsChain, chain_of, Block, AreApart, JoinedAnnouncement, HasFreshView, Covers, IsWithin, ClaimedSlot, Own, Due, Holding, Space, space_begin, end_of, counter_of, block_of, block_at, announcements, unpublished, blocks_in, other_holdings, IfJoined, joined_in, EachTwo, HaveOtherPorts, Pool, LawfulWords, IsOwn, IsTied, IsDue, IsKept, WinsAreKept, all_where, initial_words, first_free, view_word, value_word, plain_record_size, record_value, chain_cons, links_from-push, Counted, counter}, ListLemmas.{all_at, all_front, all_back, all_join, all_weaker, all_unmap, two_before, two_after, two_take, two_put, Adds, adds_behind, found_before, found_last}, Frames.{Frame, Grows, apart_turns, fresh_moves, covers_moves}, HoldingLemmas.{if_some_at, some_found, joined_weaker, ports_turn, others_gone, others_all, filter_append, three_words, block_stays, marks_kept}, Blocks.{unpublished_is, announced_same, own_added, own_block_added}, Rebuild.{Moves, chain_moves, entries_stay}, EffectLemmas.{IsNew, keeps}, NoNewEntry.{taken_stays, claim_stays, head_stays, marked_stays, counters_stay, counters_same}}
+use Rattle.partial_state.proofs.{Common.{ℕ, ◌≡◌, ◌≢◌, ◌+◌, ◌<◌, ◌≤◌, ◌==◌, ◌++◌, Bool, true, false, if◌then◌else◌, List, [], ◌∷◌, length, map, slice_index, slice_set, Option, Some, None, IfSome, slice_get, refl, sym, ◌∙◌, ap, subst, inl, inr, arith, append_assoc, get_or-set_other, get_or-set_same, length-set, AllByRecursion, option_map, eq-eqb, eqb-true, eqb-false, eqb_tells, length_push, take-append-le, Applied, Opening, IsHistory, initial_stamp, stamp_of, stamp_of-push, distinct_push, slice_get_grows, AllByRecursion-push, AllByRecursion-get, Layout, slot_counter, list_head, pool_counter, list_counter, slot_word, pool_base, pool_end, prev_word, prev_of, view_of, IsLink, IsChain, chain_of, Block, AreApart, JoinedAnnouncement, HasFreshView, Covers, IsWithin, ClaimedSlot, Own, Due, Holding, Space, space_begin, end_of, counter_of, block_of, block_at, announcements, unpublished, blocks_in, other_holdings, IfJoined, joined_in, EachTwo, HaveOtherPorts, Pool, LawfulWords, IsOwn, IsTied, IsDue, IsKept, WinsAreKept, all_where, initial_words, first_free, view_word, value_word, plain_record_size, record_value, chain_cons, links_from-push, Counted, counter}, ListLemmas.{all_at, all_front, all_back, all_join, all_weaker, all_unmap, two_before, two_after, two_take, two_put, Adds, adds_behind, found_before, found_last}, Frames.{Frame, Grows, apart_turns, fresh_moves, covers_moves}, HoldingLemmas.{if_some_at, some_found, joined_weaker, ports_turn, others_gone, others_all, filter_append, three_words, block_stays, marks_kept}, Blocks.{unpublished_is, announced_same, own_added, own_block_added}, Rebuild.{Moves, chain_moves, entries_stay}, EffectLemmas.{IsNew, keeps}, NoNewEntry.{taken_stays, claim_stays, head_stays, marked_stays, counters_stay, counters_same}}
 
 map_push : {A B : Type 0} (f : A → B) (xs : List A) (y : A) → map f (xs ++ y ∷ []) ≡ map f xs ++ f y ∷ []
 map_push f [] y = refl
@@ -17,15 +17,15 @@ unjoined_if P (Some c) e = subst (λ (j : Option JoinedAnnouncement). IfSome j (
 
 -- where a block of a port's own lies in the pool
 pub own_in_pool : (z : Layout) (words : List ℕ) (b : Own) → b.space ≡ Pool → IsOwn z words b → (first_free z ≤ b.at) × (b.at + length b.words ≤ pool_end z) ×
-    (b.at + length b.words ≤ get_or words (pool_counter z) 0)
+    (b.at + length b.words ≤ slice_index words (pool_counter z))
 own_in_pool z words b e w = (
   subst (λ (s : Space). space_begin z s ≤ b.at) e w.above,
   subst (λ (s : Space). b.at + length b.words ≤ end_of z s) e w.within,
-  subst (λ (s : Space). b.at + length b.words ≤ get_or words (counter_of z s) 0) e w.below,
+  subst (λ (s : Space). b.at + length b.words ≤ slice_index words (counter_of z s)) e w.below,
 )
 
 module _ (z : Layout) (o : Opening) (words : List ℕ) (before : List Holding) (h : Holding) (after : List Holding) (log : List Applied) (d : Due) (w : LawfulWords z o words (before ++ h ∷ after) log)
-    (is : h.due ≡ Some d) (won : get_or words d.component 0 ≡ d.old) where
+    (is : h.due ≡ Some d) (won : slice_index words d.component ≡ d.old) where
   abbrev behind : Holding
   behind = record h { own = None; due = None }
 
@@ -39,7 +39,7 @@ module _ (z : Layout) (o : Opening) (words : List ℕ) (before : List Holding) (
   holdings_after = before ++ record h { own = None; due = None } ∷ after
 
   abbrev exchanged : List ℕ
-  exchanged = set words d.component (cond (get_or words d.component 0 == d.old) d.at (get_or words d.component 0))
+  exchanged = slice_set words d.component (if slice_index words d.component == d.old then d.at else slice_index words d.component)
 
   due : IsDue z o words h (other_holdings h.port (before ++ h ∷ after)) log d
   due = if_some_at (IsDue z o words h (other_holdings h.port (before ++ h ∷ after)) log) h.due d is
@@ -54,7 +54,7 @@ module _ (z : Layout) (o : Opening) (words : List ℕ) (before : List Holding) (
     pub block : block_of own ≡ block_at words d.at
     pub far : first_free z ≤ d.at
     pub within : d.at + (block_at words d.at).size ≤ pool_end z
-    pub below : d.at + (block_at words d.at).size ≤ get_or words (pool_counter z) 0
+    pub below : d.at + (block_at words d.at).size ≤ slice_index words (pool_counter z)
 
   published : Published
   published =
@@ -74,27 +74,27 @@ module _ (z : Layout) (o : Opening) (words : List ℕ) (before : List Holding) (
   inside : d.component < z.m
   inside = due.component
 
-  now : get_or exchanged d.component 0 ≡ d.at
+  now : slice_index exchanged d.component ≡ d.at
   now =
       let count = w.count in
       let below = inside in
-      get_or-set_same words d.component (cond (get_or words d.component 0 == d.old) d.at (get_or words d.component 0)) 0
-      (omega (arith, count, below)) ∙ ap (λ (t : Bool). cond t d.at (get_or words d.component 0)) (eq-eqb (get_or words d.component 0) d.old won)
+      get_or-set_same words d.component (if slice_index words d.component == d.old then d.at else slice_index words d.component) 0
+      (omega (arith, count, below)) ∙ ap (λ (t : Bool). if t then d.at else slice_index words d.component) (eq-eqb (slice_index words d.component) d.old won)
 
-  other : (k : ℕ) → k ≢ d.component → get_or exchanged k 0 ≡ get_or words k 0
-  other k differs = get_or-set_other words d.component k (cond (get_or words d.component 0 == d.old) d.at (get_or words d.component 0)) 0 differs
+  other : (k : ℕ) → k ≢ d.component → slice_index exchanged k ≡ slice_index words k
+  other k differs = get_or-set_other words d.component k (if slice_index words d.component == d.old then d.at else slice_index words d.component) 0 differs
 
-  higher : (k : ℕ) → z.m ≤ k → get_or exchanged k 0 ≡ get_or words k 0
+  higher : (k : ℕ) → z.m ≤ k → slice_index exchanged k ≡ slice_index words k
   higher k from = let below = inside in other k (λ e. omega (arith, from, below, e))
 
-  counts : (c : Counted) → get_or exchanged (counter z c).word 0 ≡ get_or words (counter z c).word 0
+  counts : (c : Counted) → slice_index exchanged (counter z c).word ≡ slice_index words (counter z c).word
   counts = counters_same z words exchanged (higher (pool_counter z) (omega arith)) (higher (slot_counter z) (omega arith)) (higher (list_counter z) (omega arith))
 
   moves : Moves z words exchanged h behind
   moves =
       record {
         port = refl;
-        count = length-set words d.component (cond (get_or words d.component 0 == d.old) d.at (get_or words d.component 0));
+        count = length-set words d.component (if slice_index words d.component == d.old then d.at else slice_index words d.component);
         rises = λ c. let now = counts c in omega (arith, now);
         same = λ k far free. higher k (omega (arith, far));
         apart = λ b claimed free. tt;
@@ -145,17 +145,17 @@ module _ (z : Layout) (o : Opening) (words : List ℕ) (before : List Holding) (
         not_initial = AllByRecursion-push (λ (e : Applied). (j : ℕ) → j < length o.values → e.stamp ≢ initial_stamp o j) log entry w.history.not_initial not_initial;
       }
 
-  agrees_at : (i : ℕ) → i < length o.values → (b : Bool) → (d.component == i) ≡ b → (get_or exchanged i 0 ≡ stamp_of o longer i) × IsChain exchanged (get_or exchanged i 0) (chain_of o i longer)
+  agrees_at : (i : ℕ) → i < length o.values → (b : Bool) → (d.component == i) ≡ b → (slice_index exchanged i ≡ stamp_of o longer i) × IsChain exchanged (slice_index exchanged i) (chain_of o i longer)
   agrees_at i below true same =
       let j = d.component in
       let at = d.at in
       let old = d.old in
       let far = published.far in
       let is' : j ≡ i = eqb-true j i same in
-      let now' : get_or exchanged i 0 ≡ at = ap (λ n. get_or exchanged n 0) (sym is') ∙ now in
-      let stamp : stamp_of o longer i ≡ at = stamp_of-push o log entry i ∙ ap (λ (b : Bool). cond b at (stamp_of o log i)) same in
-      let chain : chain_of o i longer ≡ record { stamp = at; value = d.value } ∷ chain_of o i log = links_from-push (record { stamp = initial_stamp o i; value = get_or o.values i 0 } ∷ []) i log
-      entry ∙ ap (λ (b : Bool). cond b (record { stamp = at; value = d.value } ∷ chain_of o i log) (chain_of o i log)) same in
+      let now' : slice_index exchanged i ≡ at = ap (λ n. slice_index exchanged n) (sym is') ∙ now in
+      let stamp : stamp_of o longer i ≡ at = stamp_of-push o log entry i ∙ ap (λ (b : Bool). if b then at else stamp_of o log i) same in
+      let chain : chain_of o i longer ≡ record { stamp = at; value = d.value } ∷ chain_of o i log = links_from-push (record { stamp = initial_stamp o i; value = slice_index o.values i } ∷ []) i log
+      entry ∙ ap (λ (b : Bool). if b then (record { stamp = at; value = d.value } ∷ chain_of o i log) else chain_of o i log) same in
       let value : record_value exchanged at ≡ d.value = higher (value_word at) (omega (arith, far)) ∙ due.value in
       let prev : prev_of exchanged at ≡ old = higher (prev_word at) (omega (arith, far)) ∙ due.prev in
       let count : length exchanged ≡ length words = moves.count in
@@ -163,7 +163,7 @@ module _ (z : Layout) (o : Opening) (words : List ℕ) (before : List Holding) (
       let whole = published.within in
       let all = w.count in
       let here : IsLink exchanged at (record { stamp = at; value = d.value }) = record { stamp = refl; within = omega (arith, count, size, whole, all); value = value } in
-      let before' : IsChain exchanged old (chain_of o i log) = subst (λ n. IsChain exchanged n (chain_of o i log)) (ap (λ n. get_or words n 0) (sym is') ∙ won)
+      let before' : IsChain exchanged old (chain_of o i log) = subst (λ n. IsChain exchanged n (chain_of o i log)) (ap (λ n. slice_index words n) (sym is') ∙ won)
       (chain_moves z o words exchanged before h behind after log w moves i below) in (
         now' ∙ sym stamp,
         subst (λ (n : ℕ). IsChain exchanged n (chain_of o i longer)) (sym now')
@@ -173,19 +173,19 @@ module _ (z : Layout) (o : Opening) (words : List ℕ) (before : List Holding) (
       let j = d.component in
       let at = d.at in
       let differs' = eqb-false j i same in
-      let now' : get_or exchanged i 0 ≡ get_or words i 0 = other i (λ e. differs' (sym e)) in
-      let stamp : stamp_of o longer i ≡ stamp_of o log i = stamp_of-push o log entry i ∙ ap (λ (b : Bool). cond b at (stamp_of o log i)) same in
-      let chain : chain_of o i longer ≡ chain_of o i log = links_from-push (record { stamp = initial_stamp o i; value = get_or o.values i 0 } ∷ []) i log entry ∙
-      ap (λ (b : Bool). cond b (record { stamp = at; value = d.value } ∷ chain_of o i log) (chain_of o i log)) same in (
+      let now' : slice_index exchanged i ≡ slice_index words i = other i (λ e. differs' (sym e)) in
+      let stamp : stamp_of o longer i ≡ stamp_of o log i = stamp_of-push o log entry i ∙ ap (λ (b : Bool). if b then at else stamp_of o log i) same in
+      let chain : chain_of o i longer ≡ chain_of o i log = links_from-push (record { stamp = initial_stamp o i; value = slice_index o.values i } ∷ []) i log entry ∙
+      ap (λ (b : Bool). if b then (record { stamp = at; value = d.value } ∷ chain_of o i log) else chain_of o i log) same in (
         now' ∙ (w.agrees i below).0 ∙ sym stamp,
         subst (λ (n : ℕ). IsChain exchanged n (chain_of o i longer)) (sym now')
-            (subst (IsChain exchanged (get_or words i 0)) (sym chain) (chain_moves z o words exchanged before h behind after log w moves i below)),
+            (subst (IsChain exchanged (slice_index words i)) (sym chain) (chain_moves z o words exchanged before h behind after log w moves i below)),
       )
 
   -- no component names the new record but the one that it is for
-  named : (j old : ℕ) → j < z.m → IsWithin o log (length log) old → get_or exchanged j 0 ≡ old → get_or words j 0 ≡ old
+  named : (j old : ℕ) → j < z.m → IsWithin o log (length log) old → slice_index exchanged j ≡ old → slice_index words j ≡ old
   named j old below within same = elim (eqb_tells d.component j) [
-    | inl t ↦ let at : d.at ≡ old = sym now ∙ ap (λ n. get_or exchanged n 0) t.1 ∙ same in absurd (is_new (length log) (subst (IsWithin o log (length log)) (sym at) within))
+    | inl t ↦ let at : d.at ≡ old = sym now ∙ ap (λ n. slice_index exchanged n) t.1 ∙ same in absurd (is_new (length log) (subst (IsWithin o log (length log)) (sym at) within))
     | inr t ↦ sym (other j (λ e. t.1 (sym e))) ∙ same
   ]
 

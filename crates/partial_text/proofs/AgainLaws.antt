@@ -1,5 +1,5 @@
 -- The text of a plan is read as the plan.
-use Rattle.partial_text.proofs.{Common.{◌≡◌, ℕ, ◌+◌, ◌^◌, ◌<◌, ◌≤◌, Bool, true, false, cond, eqb, leb, ltb, ◌&&◌, List, [], ◌∷◌, ◌++◌, length, map, drop, codes, Result, Ok, Err, refl, sym, ap, subst, ◌∙◌, append_assoc, eq-eqb, arith, decimal, flat_map, AllByRecursion, bytes_eq, ne_eqb, le-leb, lt-ltb, le-ltb, append-nil, length-append, length-map, flat_map-map, bytes_eq-Decides, Call, PlanError, until, from, onto_first, pieces, ◌>>=◌, PlanView, field, number_field, sizes_line, initial_line, call_text, next_call, port_line, entry_text, rest_text, steps_line, ended_line, plan_text, IsCall, IsTurnEntry, IsPlan, Tail, greatest, greatest_index, fields_of, number_at, in_range, is_cut, call_texts, is_nil, is_rest, is_end, tail_at, Layout, IsLayout, initial_words}, CallCuts.cut_more, Steps.{tail_by, tail_step}, NumberLaws.{both_and, HasNo, HasNo-append, HasNo-decimal, IsNoDigit}, PieceLaws.{behind_each, until_joined, pieces_before}, FieldLaws.{number_at_again, numbers_again, behind_numbers, word_again, fields_again, HasNo-numbers, HasNo-fields, space_no_digit, newline_no_digit, star_no_digit, semicolon_no_digit}, CallLaws.behind_cuts, PlanLaws.ended_port}
+use Rattle.partial_text.proofs.{Common.{◌≡◌, ℕ, ◌+◌, ◌^◌, ◌<◌, ◌≤◌, Bool, true, false, if◌then◌else◌, nat_eq, ◌==◌, nat_le, nat_lt, ◌&&◌, List, [], ◌∷◌, ◌++◌, length, map, drop, codes, Result, Ok, Err, refl, sym, ap, subst, ◌∙◌, append_assoc, eq-eqb, arith, decimal, flat_map, AllByRecursion, bytes_eq, ne_eqb, le-leb, lt-ltb, le-ltb, append-nil, length-append, length-map, flat_map-map, bytes_eq-Decides, Call, PlanError, until, from, onto_first, pieces, ◌>>=◌, PlanView, field, number_field, sizes_line, initial_line, call_text, next_call, port_line, entry_text, rest_text, steps_line, ended_line, plan_text, IsCall, IsTurnEntry, IsPlan, Tail, greatest, greatest_index, fields_of, number_at, in_range, is_cut, call_texts, is_nil, is_rest, is_end, tail_at, Layout, IsLayout, initial_words}, CallCuts.cut_more, Steps.{tail_by, tail_step}, NumberLaws.{both_and, HasNo, HasNo-append, HasNo-decimal, IsNoDigit}, PieceLaws.{behind_each, until_joined, pieces_before}, FieldLaws.{number_at_again, numbers_again, behind_numbers, word_again, fields_again, HasNo-numbers, HasNo-fields, space_no_digit, newline_no_digit, star_no_digit, semicolon_no_digit}, CallLaws.behind_cuts, PlanLaws.ended_port}
 use Rattle.partial_text.specs.declared.fault.Cause.{Cause}
 use Rattle.partial_text.specs.Judging.{sizes_from, sizes_at, initial_at, update_from, scan_from, read_from, update_if_from, call_text_at, calls_at, port_line_at, entry_text_at, entries_at, line_at, more_ports, last_at, lines_judged, judged_plan}
 
@@ -20,7 +20,7 @@ indices_small (j ∷ js) fits = (omega (arith, fits.0), indices_small js fits.1)
 scan_again : (m line : ℕ) (js : List ℕ) → length js ≤ m → AllByRecursion (λ (j : ℕ). j < 2 ^ 32) js → scan_from m line (map decimal js) ≡ Ok (Call.Scan js)
 unfolding scan_from
 scan_again m line js few fits =
-    let within : ltb m (length (map decimal js)) ≡ false = le-ltb m (length (map decimal js)) (omega (arith, length-map js decimal)) in
+    let within : nat_lt m (length (map decimal js)) ≡ false = le-ltb m (length (map decimal js)) (omega (arith, length-map js decimal)) in
     rw (within, numbers_again line greatest_index [] js (omega arith) (indices_within js fits)) refl
 
 read_again : (line j : ℕ) → j ≤ greatest_index → read_from line (decimal j ∷ []) ≡ Ok (Call.Read j)
@@ -34,8 +34,8 @@ update_if_again line j s v a b c =
 
 abbrev call_by : ℕ → ℕ → List ℕ → List (List ℕ) → Result Call PlanError
 call_by m line w fs =
-    cond (bytes_eq w (codes "update")) (update_from line fs) (cond (bytes_eq w (codes "scan")) (scan_from m line fs)
-    (cond (bytes_eq w (codes "read")) (read_from line fs) (cond (bytes_eq w (codes "updateif")) (update_if_from line fs) (Err (PlanError.Line line Cause.Word)))))
+    if bytes_eq w (codes "update") then update_from line fs else (if bytes_eq w (codes "scan") then scan_from m line fs
+    else (if bytes_eq w (codes "read") then read_from line fs else (if bytes_eq w (codes "updateif") then update_if_from line fs else Err (PlanError.Line line Cause.Word))))
 
 call_is : (m line : ℕ) (text : List ℕ) → call_text_at m line text ≡ call_by m line (until 32 text) (fields_of text)
 unfolding call_text_at
@@ -67,7 +67,7 @@ calls_again m line found (c ∷ cs) fits =
     rw (call_again m line c fits.0) (calls_again m line (found ++ c ∷ []) cs fits.1 ∙ ap Ok (append_assoc found (c ∷ []) cs))
 
 -- no byte of a call's text is the newline or the semicolon
-HasNo-call : (c m : ℕ) (x : Call) → IsNoDigit c → eqb 32 c ≡ false → HasNo c (codes "update") → HasNo c (codes "scan") → HasNo c (codes "read") → HasNo c (codes "updateif") →
+HasNo-call : (c m : ℕ) (x : Call) → IsNoDigit c → nat_eq 32 c ≡ false → HasNo c (codes "update") → HasNo c (codes "scan") → HasNo c (codes "read") → HasNo c (codes "updateif") →
     IsCall m x → HasNo c (call_text x)
 HasNo-call c m (Call.Update j v) none space a s b d fits =
     HasNo-append c (codes "update") (flat_map number_field (j ∷ v ∷ [])) a (HasNo-fields c (j ∷ v ∷ []) none space (omega (arith, fits.0), (fits.1, tt)))
@@ -88,7 +88,7 @@ newline_call m x fits =
     HasNo-call 10 m x newline_no_digit refl (refl, (refl, (refl, (refl, (refl, (refl, tt)))))) (refl, (refl, (refl, (refl, tt)))) (refl, (refl, (refl, (refl, tt))))
     (refl, (refl, (refl, (refl, (refl, (refl, (refl, (refl, tt)))))))) fits
 
-not_cut : (x : ℕ) (xs : List ℕ) → eqb x 59 ≡ false → is_cut (x ∷ xs) ≡ false
+not_cut : (x : ℕ) (xs : List ℕ) → nat_eq x 59 ≡ false → is_cut (x ∷ xs) ≡ false
 not_cut x [] h = refl
 not_cut x (y ∷ xs) h = rw h refl
 
@@ -124,7 +124,7 @@ port_again m line (c ∷ cs) fits =
 
 -- ---- turns
 
-HasNo-entry : (c : ℕ) (e : ℕ × ℕ) (ports : ℕ) → IsNoDigit c → eqb 42 c ≡ false → ports ≤ 2 ^ 64 → IsTurnEntry ports e → HasNo c (entry_text e)
+HasNo-entry : (c : ℕ) (e : ℕ × ℕ) (ports : ℕ) → IsNoDigit c → nat_eq 42 c ≡ false → ports ≤ 2 ^ 64 → IsTurnEntry ports e → HasNo c (entry_text e)
 HasNo-entry c e ports none star few fits =
     HasNo-append c (decimal e.0) (42 ∷ decimal e.1) (HasNo-decimal c e.0 none (omega (arith, fits.0))) (star, HasNo-decimal c e.1 none (omega (arith, fits.2)))
 
@@ -139,7 +139,7 @@ entry_again line ports e few fits =
     (omega (arith, fits.0)) in
     let b : number_at line greatest_index (drop 1 (from 42 (entry_text e))) ≡ Ok e.1 = ap (number_at line greatest_index) back ∙ number_at_again line greatest_index e.1 (omega arith)
     (omega (arith, fits.2)) in
-    let within : (ltb e.0 ports && ltb 0 e.1) ≡ true = both_and (ltb e.0 ports) (ltb 0 e.1) (lt-ltb e.0 ports fits.0) (lt-ltb 0 e.1 (omega (arith, fits.1))) in
+    let within : (nat_lt e.0 ports && nat_lt 0 e.1) ≡ true = both_and (nat_lt e.0 ports) (nat_lt 0 e.1) (lt-ltb e.0 ports fits.0) (lt-ltb 0 e.1 (omega (arith, fits.1))) in
     rw (a, b, within) refl
 
 -- an entry is not the word for the rest
@@ -183,13 +183,13 @@ steps_is : (es : List (ℕ × ℕ)) (rest : Bool) → steps_line es rest ≡ cod
 steps_is es rest =
     append_assoc (codes "steps") (flat_map (λ (e : ℕ × ℕ). field (entry_text e)) es) (rest_text rest) ∙ ap (λ (l : List ℕ). codes "steps" ++ l) (sym (behind_turns es rest))
 
-HasNo-turns : (c ports : ℕ) (es : List (ℕ × ℕ)) (rest : Bool) → IsNoDigit c → eqb 42 c ≡ false → HasNo c (codes "rest") → ports ≤ 64 → AllByRecursion (IsTurnEntry ports) es →
+HasNo-turns : (c ports : ℕ) (es : List (ℕ × ℕ)) (rest : Bool) → IsNoDigit c → nat_eq 42 c ≡ false → HasNo c (codes "rest") → ports ≤ 64 → AllByRecursion (IsTurnEntry ports) es →
     AllByRecursion (HasNo c) (turn_fields es rest)
 HasNo-turns c ports [] true none star word few fits = (word, tt)
 HasNo-turns c ports [] false none star word few fits = tt
 HasNo-turns c ports (e ∷ es) rest none star word few fits = (HasNo-entry c e ports none star (omega arith) fits.0, HasNo-turns c ports es rest none star word few fits.1)
 
-HasNo-behind : (c : ℕ) (fs : List (List ℕ)) → eqb 32 c ≡ false → AllByRecursion (HasNo c) fs → HasNo c (behind_each 32 fs)
+HasNo-behind : (c : ℕ) (fs : List (List ℕ)) → nat_eq 32 c ≡ false → AllByRecursion (HasNo c) fs → HasNo c (behind_each 32 fs)
 HasNo-behind c [] space nones = tt
 HasNo-behind c (f ∷ fs) space nones = (space, HasNo-append c f (behind_each 32 fs) nones.0 (HasNo-behind c fs space nones.1))
 
@@ -197,9 +197,9 @@ HasNo-behind c (f ∷ fs) space nones = (space, HasNo-append c f (behind_each 32
 
 in_range_again : (s : Layout) → IsLayout s → in_range s ≡ Ok s
 in_range_again s fits =
-    let a = both_and (leb 1 s.m) (leb s.m 65536) (le-leb 1 s.m fits.components.0) (le-leb s.m 65536 fits.components.1) in
-    let b = both_and (leb 1 s.slots) (leb s.slots 65536) (le-leb 1 s.slots fits.slots.0) (le-leb s.slots 65536 fits.slots.1) in
-    let d = both_and (leb (initial_words s) s.pool) (leb s.pool 4194304) (le-leb (initial_words s) s.pool fits.pool.0) (le-leb s.pool 4194304 fits.pool.1) in
+    let a = both_and (nat_le 1 s.m) (nat_le s.m 65536) (le-leb 1 s.m fits.components.0) (le-leb s.m 65536 fits.components.1) in
+    let b = both_and (nat_le 1 s.slots) (nat_le s.slots 65536) (le-leb 1 s.slots fits.slots.0) (le-leb s.slots 65536 fits.slots.1) in
+    let d = both_and (nat_le (initial_words s) s.pool) (nat_le s.pool 4194304) (le-leb (initial_words s) s.pool fits.pool.0) (le-leb s.pool 4194304 fits.pool.1) in
     rw (a, b, le-leb s.lists 65536 fits.lists, d) refl
 
 sizes_from_again : (s : Layout) → IsLayout s → sizes_from (decimal s.m ∷ decimal s.slots ∷ decimal s.lists ∷ decimal s.pool ∷ []) ≡ Ok s
@@ -222,7 +222,7 @@ sizes_word : HasNo 32 (codes "sizes")
 sizes_word = (refl, (refl, (refl, (refl, (refl, tt)))))
 
 abbrev sizes_by : Bool → List (List ℕ) → Result Layout PlanError
-sizes_by word fs = cond word (sizes_from fs) (Err (PlanError.Line 1 Cause.Word))
+sizes_by word fs = if word then sizes_from fs else Err (PlanError.Line 1 Cause.Word)
 
 sizes_is : (l : List ℕ) → sizes_at l ≡ sizes_by (bytes_eq (until 32 l) (codes "sizes")) (fields_of l)
 unfolding sizes_at
@@ -251,7 +251,7 @@ unfolding initial_at
 initial_by m vs many fits =
     let fs = map decimal vs in
     let nones = HasNo-numbers 32 vs space_no_digit fits in
-    let counted : eqb (length fs) m ≡ true = eq-eqb (length fs) m (length-map vs decimal ∙ many) in
+    let counted : nat_eq (length fs) m ≡ true = eq-eqb (length fs) m (length-map vs decimal ∙ many) in
     rw (word_again (codes "initial") fs initial_word, fields_again (codes "initial") fs initial_word nones, counted) (numbers_again 2 greatest [] vs (omega arith) (values_within vs fits))
 
 initial_again : (m : ℕ) (vs : List ℕ) → length vs ≡ m → AllByRecursion (λ (v : ℕ). v < 2 ^ 64) vs → initial_at m (initial_line vs) ≡ Ok vs
@@ -308,8 +308,8 @@ steps_word = (refl, (refl, (refl, (refl, (refl, tt)))))
 
 abbrev last_by : ℕ → ℕ → Bool → List (List ℕ) → List (List ℕ) → Result (List (ℕ × ℕ) × Bool) PlanError
 last_by line ports word fs behind =
-    cond word (cond (eqb ports 0) (Err PlanError.Ports) (entries_at line ports [] fs >>= λ steps. cond (is_end behind) (Ok steps) (Err (PlanError.Line (line + 1) Cause.Extra))))
-    (Err (PlanError.Line line Cause.Word))
+    if word then (if ports == 0 then Err PlanError.Ports else (entries_at line ports [] fs >>= λ steps. if is_end behind then Ok steps else Err (PlanError.Line (line + 1) Cause.Extra)))
+    else Err (PlanError.Line line Cause.Word)
 
 last_is : (line ports : ℕ) (l : List ℕ) (behind : List (List ℕ)) → last_at line ports l behind ≡ last_by line ports (bytes_eq (until 32 l) (codes "steps")) (fields_of l) behind
 unfolding last_at
@@ -320,7 +320,7 @@ last_again line ports es rest some few fits =
     let fs = turn_fields es rest in
     let l = codes "steps" ++ behind_each 32 fs in
     let nones = HasNo-turns 32 ports es rest space_no_digit refl (refl, (refl, (refl, (refl, tt)))) few fits in
-    let there : eqb ports 0 ≡ false = ne_eqb ports 0 (λ e. omega arith) in
+    let there : nat_eq ports 0 ≡ false = ne_eqb ports 0 (λ e. omega arith) in
     let whole : last_by line ports true fs ([] ∷ []) ≡ Ok (es, rest) = rw (there, entries_again line ports [] es rest few fits) refl in
     ap (λ (x : List ℕ). last_at line ports x ([] ∷ [])) (steps_is es rest) ∙ last_is line ports l ([] ∷ []) ∙ ap (λ (w : Bool). last_by line ports w (fields_of l) ([] ∷ []))
     (word_again (codes "steps") fs steps_word) ∙ ap (λ (x : List (List ℕ)). last_by line ports true x ([] ∷ [])) (fields_again (codes "steps") fs steps_word nones) ∙ whole

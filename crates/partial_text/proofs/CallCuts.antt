@@ -1,5 +1,5 @@
 -- How the texts of calls come one after the other.
-use Rattle.partial_text.proofs.Common.{◌≡◌, ℕ, ◌+◌, ◌<◌, ◌≤◌, Bool, true, false, cond, eqb, ◌&&◌, List, [], ◌∷◌, ◌++◌, length, get_or, take, drop, Result, Ok, ◌-◌, refl, sym, ap, ◌∙◌, append_assoc, arith, append-nil, at_drop_more, at_drop_all, take_more, take_all, take_rest, Call, PlanError, onto_first, is_cut, call_texts, call_texts_behind, call_text_at}
+use Rattle.partial_text.proofs.Common.{◌≡◌, ℕ, ◌+◌, ◌<◌, ◌≤◌, Bool, true, false, if◌then◌else◌, nat_eq, ◌&&◌, List, [], ◌∷◌, ◌++◌, length, slice_index, take, drop, Result, Ok, ◌-◌, refl, sym, ap, ◌∙◌, append_assoc, arith, append-nil, at_drop_more, at_drop_all, take_more, take_all, take_rest, Call, PlanError, onto_first, is_cut, call_texts, call_texts_behind, call_text_at}
 use Rattle.partial_text.specs.Judging.{calls_at}
 
 -- bytes in front of the first text
@@ -11,7 +11,7 @@ with_front-onto : (f : List ℕ) (x : ℕ) (ps : List (List ℕ)) → with_front
 with_front-onto f x [] = refl
 with_front-onto f x (p ∷ ps) = ap (λ (q : List ℕ). q ∷ ps) (sym (append_assoc f (x ∷ []) p))
 
-with_none : (b : Bool) (x : ℕ) (ps qs : List (List ℕ)) → with_front [] (cond b ([] ∷ ps) (onto_first x qs)) ≡ cond b ([] ∷ ps) (onto_first x qs)
+with_none : (b : Bool) (x : ℕ) (ps qs : List (List ℕ)) → with_front [] (if b then [] ∷ ps else onto_first x qs) ≡ (if b then [] ∷ ps else onto_first x qs)
 with_none true x ps qs = refl
 with_none false x ps [] = refl
 with_none false x ps (q ∷ qs) = refl
@@ -19,7 +19,7 @@ with_none false x ps (q ∷ qs) = refl
 pub with_front_nil : (xs : List ℕ) → call_texts xs ≡ with_front [] (call_texts xs)
 with_front_nil [] = refl
 with_front_nil (x ∷ []) = refl
-with_front_nil (x ∷ y ∷ xs) = sym (with_none (eqb x 59 && eqb y 32) x (call_texts xs) (call_texts (y ∷ xs)))
+with_front_nil (x ∷ y ∷ xs) = sym (with_none (nat_eq x 59 && nat_eq y 32) x (call_texts xs) (call_texts (y ∷ xs)))
 
 cut_here : (xs : List ℕ) → is_cut xs ≡ true → call_texts xs ≡ [] ∷ call_texts_behind xs
 cut_here [] h = absurd cc
@@ -39,8 +39,8 @@ texts_here xs i h so_far =
 pub texts_more : (xs : List ℕ) (i : ℕ) → i < length xs → is_cut (drop i xs) ≡ false → call_texts xs ≡ with_front (take i xs) (call_texts (drop i xs)) → call_texts xs ≡ with_front (take (i + 1) xs)
     (call_texts (drop (i + 1) xs))
 texts_more xs i lt h so_far =
-    let not_cut : is_cut (get_or xs i 0 ∷ drop (i + 1) xs) ≡ false = sym (at_drop_more is_cut xs i 0 lt) ∙ h in
-    so_far ∙ ap (with_front (take i xs)) (at_drop_more call_texts xs i 0 lt ∙ cut_more (get_or xs i 0) (drop (i + 1) xs) not_cut) ∙ with_front-onto (take i xs) (get_or xs i 0)
+    let not_cut : is_cut (slice_index xs i ∷ drop (i + 1) xs) ≡ false = sym (at_drop_more is_cut xs i 0 lt) ∙ h in
+    so_far ∙ ap (with_front (take i xs)) (at_drop_more call_texts xs i 0 lt ∙ cut_more (slice_index xs i) (drop (i + 1) xs) not_cut) ∙ with_front-onto (take i xs) (slice_index xs i)
     (call_texts (drop (i + 1) xs)) ∙ ap (λ (f : List ℕ). with_front f (call_texts (drop (i + 1) xs))) (sym (take_more xs i 0 lt))
 
 pub texts_end : (xs : List ℕ) (i : ℕ) → length xs ≤ i → call_texts xs ≡ with_front (take i xs) (call_texts (drop i xs)) → call_texts xs ≡ xs ∷ []

@@ -1,5 +1,5 @@
 -- A call is read exactly from its text, and calls from their texts in a row.
-use Rattle.partial_text.proofs.{Common.{◌≡◌, ℕ, ◌^◌, ◌<◌, ◌≤◌, Bool, true, false, cond, eqb, ltb, ◌&&◌, List, [], ◌∷◌, ◌++◌, length, map, codes, Ok, Err, refl, sym, ap, subst, ◌∙◌, append_assoc, drop, ◌⊎◌, inl, inr, arith, decimal, ok_or, flat_map, AllByRecursion, bytes_eq, eqb-true, ltb-false, append-nil, length-map, flat_map-map, Call, until, onto_first, ◌>>=◌, call_text, next_call, port_line, IsCall, greatest, greatest_index, fields_of, exactly_one, exactly_two, exactly_three, number_at, numbers_at, call_texts, PlanError}, NumberLaws.and_both, PieceLaws.behind_each, FieldLaws.{bind_ok, if_ok, unless_ok, ok_is, found_ok, number_at_ok, numbers_ok, behind_numbers, one_is, two_is, three_is, with_word}}
+use Rattle.partial_text.proofs.{Common.{◌≡◌, ℕ, ◌^◌, ◌<◌, ◌≤◌, Bool, true, false, if◌then◌else◌, nat_eq, ◌==◌, nat_lt, ◌&&◌, List, [], ◌∷◌, ◌++◌, length, map, codes, Ok, Err, refl, sym, ap, subst, ◌∙◌, append_assoc, drop, ◌⊎◌, inl, inr, arith, decimal, ok_or, flat_map, AllByRecursion, bytes_eq, eqb-true, ltb-false, append-nil, length-map, flat_map-map, Call, until, onto_first, ◌>>=◌, call_text, next_call, port_line, IsCall, greatest, greatest_index, fields_of, exactly_one, exactly_two, exactly_three, number_at, numbers_at, call_texts, PlanError}, NumberLaws.and_both, PieceLaws.behind_each, FieldLaws.{bind_ok, if_ok, unless_ok, ok_is, found_ok, number_at_ok, numbers_ok, behind_numbers, one_is, two_is, three_is, with_word}}
 use Rattle.partial_text.specs.declared.fault.Cause.{Cause}
 use Rattle.partial_text.specs.Judging.{update_from, scan_from, read_from, update_if_from, call_text_at, calls_at, port_line_at}
 
@@ -25,7 +25,7 @@ indices_fit (j ∷ js) fits = (omega (arith, fits.0), indices_fit js fits.1)
 scan_ok : (line m : ℕ) (fs : List (List ℕ)) (c : Call) → scan_from m line fs ≡ Ok c → (call_text c ≡ codes "scan" ++ behind_each 32 fs) × IsCall m c
 unfolding scan_from
 scan_ok line m fs c e =
-    let a = unless_ok (ltb m (length fs)) (numbers_at line greatest_index [] fs >>= λ js. Ok (Call.Scan js)) (PlanError.Line line Cause.Count) c e in
+    let a = unless_ok (nat_lt m (length fs)) (numbers_at line greatest_index [] fs >>= λ js. Ok (Call.Scan js)) (PlanError.Line line Cause.Count) c e in
     let b = bind_ok (numbers_at line greatest_index [] fs) (λ js. Ok (Call.Scan js)) c a.1 in
     let r = numbers_ok line greatest_index [] fs b.0 (omega arith) b.1 in
     let fields : fs ≡ map decimal b.0 = r.2 ∙ ap (map decimal) (sym r.1) in
@@ -64,7 +64,7 @@ update_if_ok line m fs c e =
     let text : codes "updateif" ++ behind_each 32 fs ≡ call_text (Call.UpdateIf b.0 d.0 g.0) = ap (λ (l : List (List ℕ)). codes "updateif" ++ behind_each 32 l) fields in
     subst (λ (x : Call). (call_text x ≡ codes "updateif" ++ behind_each 32 fs) × IsCall m x) same (sym text, (omega (arith, j.1), omega (arith, s.1), omega (arith, v.1)))
 
-pub chosen : {A : Type 0} (b : Bool) (x y : A) (z : A) → cond b x y ≡ z → ((b ≡ true) × (x ≡ z)) ⊎ ((b ≡ false) × (y ≡ z))
+pub chosen : {A : Type 0} (b : Bool) (x y : A) (z : A) → (if b then x else y) ≡ z → ((b ≡ true) × (x ≡ z)) ⊎ ((b ≡ false) × (y ≡ z))
 chosen true x y z e = inl (refl, e)
 chosen false x y z e = inr (refl, e)
 
@@ -78,17 +78,18 @@ unfolding call_text_at
 call_ok line m text c e =
     let fs = fields_of text in
     let w = until 32 text in
-    elim (chosen (bytes_eq w (codes "update")) (update_from line fs) (cond (bytes_eq w (codes "scan")) (scan_from m line fs)
-    (cond (bytes_eq w (codes "read")) (read_from line fs) (cond (bytes_eq w (codes "updateif")) (update_if_from line fs) (Err (PlanError.Line line Cause.Word))))) (Ok c) e) [
+    elim (chosen (bytes_eq w (codes "update")) (update_from line fs) (if bytes_eq w (codes "scan") then scan_from m line fs
+    else (if bytes_eq w (codes "read") then read_from line fs else (if bytes_eq w (codes "updateif") then update_if_from line fs else Err (PlanError.Line line Cause.Word)))) (Ok c) e) [
       | inl h ↦ from_word line m (codes "update") text c h.0 (update_ok line m fs c h.1)
       | inr h ↦ elim (chosen (bytes_eq w (codes "scan")) (scan_from m line fs)
-          (cond (bytes_eq w (codes "read")) (read_from line fs) (cond (bytes_eq w (codes "updateif")) (update_if_from line fs) (Err (PlanError.Line line Cause.Word)))) (Ok c) h.1) [
+          (if bytes_eq w (codes "read") then read_from line fs else (if bytes_eq w (codes "updateif") then update_if_from line fs else Err (PlanError.Line line Cause.Word))) (Ok c) h.1) [
             | inl k ↦ from_word line m (codes "scan") text c k.0 (scan_ok line m fs c k.1)
-            | inr k ↦ elim (chosen (bytes_eq w (codes "read")) (read_from line fs) (cond (bytes_eq w (codes "updateif")) (update_if_from line fs) (Err (PlanError.Line line Cause.Word))) (Ok c) k.1) [
-              | inl l ↦ from_word line m (codes "read") text c l.0 (read_ok line m fs c l.1)
-              | inr l ↦ let n = if_ok (bytes_eq w (codes "updateif")) (update_if_from line fs) (PlanError.Line line Cause.Word) c l.1 in from_word line m (codes "updateif") text c n.0
-                  (update_if_ok line m fs c n.1)
-            ]
+            | inr k ↦ elim (chosen (bytes_eq w (codes "read")) (read_from line fs) (if bytes_eq w (codes "updateif") then update_if_from line fs
+                else Err (PlanError.Line line Cause.Word)) (Ok c) k.1) [
+                  | inl l ↦ from_word line m (codes "read") text c l.0 (read_ok line m fs c l.1)
+                  | inr l ↦ let n = if_ok (bytes_eq w (codes "updateif")) (update_if_from line fs) (PlanError.Line line Cause.Word) c l.1 in from_word line m (codes "updateif") text c n.0
+                      (update_if_ok line m fs c n.1)
+                ]
           ]
     ]
 
@@ -111,17 +112,17 @@ cuts_onto : (x : ℕ) (ts : List (List ℕ)) (xs : List ℕ) → behind_cuts ts 
 cuts_onto x [] xs h = absurd cc
 cuts_onto x (t ∷ ts) xs h = ap (λ (l : List ℕ). 59 ∷ 32 ∷ x ∷ l) cc
 
-cuts_step : (b : Bool) (x y : ℕ) (xs : List ℕ) → (eqb x 59 && eqb y 32) ≡ b → behind_cuts (call_texts xs) ≡ 59 ∷ 32 ∷ xs → behind_cuts (call_texts (y ∷ xs)) ≡ 59 ∷ 32 ∷ y ∷ xs
-    → behind_cuts (cond b ([] ∷ call_texts xs) (onto_first x (call_texts (y ∷ xs)))) ≡ 59 ∷ 32 ∷ x ∷ y ∷ xs
+cuts_step : (b : Bool) (x y : ℕ) (xs : List ℕ) → (nat_eq x 59 && nat_eq y 32) ≡ b → behind_cuts (call_texts xs) ≡ 59 ∷ 32 ∷ xs → behind_cuts (call_texts (y ∷ xs)) ≡ 59 ∷ 32 ∷ y ∷ xs
+    → behind_cuts (if b then [] ∷ call_texts xs else onto_first x (call_texts (y ∷ xs))) ≡ 59 ∷ 32 ∷ x ∷ y ∷ xs
 cuts_step true x y xs same h k =
-    let both = and_both (eqb x 59) (eqb y 32) same in
+    let both = and_both (x == 59) (y == 32) same in
     ap (λ (l : List ℕ). 59 ∷ 32 ∷ l) (h ∙ rw (eqb-true x 59 both.0, eqb-true y 32 both.1) refl)
 cuts_step false x y xs same h k = cuts_onto x (call_texts (y ∷ xs)) (y ∷ xs) k
 
 behind_texts : (xs : List ℕ) → behind_cuts (call_texts xs) ≡ 59 ∷ 32 ∷ xs
 behind_texts [] = refl
 behind_texts (x ∷ []) = refl
-behind_texts (x ∷ y ∷ xs) = cuts_step (eqb x 59 && eqb y 32) x y xs refl (behind_texts xs) (behind_texts (y ∷ xs))
+behind_texts (x ∷ y ∷ xs) = cuts_step (nat_eq x 59 && nat_eq y 32) x y xs refl (behind_texts xs) (behind_texts (y ∷ xs))
 
 -- calls with these texts are the calls of this port line
 port_by : (cs : List Call) (text : List ℕ) → behind_cuts (map call_text cs) ≡ 59 ∷ 32 ∷ text → port_line cs ≡ codes "port" ++ 32 ∷ text

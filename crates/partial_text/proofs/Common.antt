@@ -1,5 +1,5 @@
 -- The names that several proofs of this crate take from elsewhere.
-pub use Rattle.std.proofs.Common.{◌≡◌, ℕ, ◌+◌, ◌*◌, ◌^◌, ◌<◌, ◌≤◌, Bool, true, false, cond, eqb, leb, ltb, ◌&&◌, List, [], ◌∷◌, ◌++◌, length, map, drop, codes, Result, Ok, Err, refl, sym, ap, subst, ◌∙◌, append_assoc, eq-eqb, arith, ◌-◌, take, Option, None, Some, get_or, ◌⊎◌, inl, inr, zero, suc, ◌/◌, ◌%◌, ◌≢◌, set, zero-add}
+pub use Rattle.std.proofs.Common.{◌≡◌, ℕ, ◌+◌, ◌*◌, ◌^◌, ◌<◌, ◌≤◌, Bool, true, false, if◌then◌else◌, nat_eq, ◌==◌, nat_le, nat_lt, ◌&&◌, List, [], ◌∷◌, ◌++◌, length, map, drop, codes, Result, Ok, Err, refl, sym, ap, subst, ◌∙◌, append_assoc, eq-eqb, arith, ◌-◌, take, Option, None, Some, slice_index, ◌⊎◌, inl, inr, zero, suc, ◌/◌, ◌%◌, ◌≢◌, slice_set, zero-add}
 pub use Rattle.std.specs.Io.KnownBytes.{Appends, Consumes, Keeps, IsAtEnd}
 pub use Rattle.std.specs.{List.{flat_map, AllByRecursion}, Option.{ok_or, option_map_or}, Prelude.{decimal, option_and_then, IfSome, IfOk}, Str.bytes_eq}
 pub use Rattle.std.proofs.Math.Dec.{eqb-suc-zero, eqb_refl}

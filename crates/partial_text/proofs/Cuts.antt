@@ -1,31 +1,31 @@
 -- How the pieces of a text come one after the other.
-use Rattle.partial_text.proofs.Common.{◌≡◌, ℕ, ◌+◌, ◌<◌, ◌≤◌, Bool, true, false, cond, eqb, List, [], ◌∷◌, ◌++◌, length, get_or, take, drop, refl, sym, ap, ◌∙◌, append_assoc, arith, append-nil, at_drop_more, at_drop_all, take_more, take_all, until, from, onto_first, pieces, pieces_behind, is_nil, is_end, eqb-suc-zero}
+use Rattle.partial_text.proofs.Common.{◌≡◌, ℕ, ◌+◌, ◌<◌, ◌≤◌, Bool, true, false, if◌then◌else◌, nat_eq, ◌==◌, List, [], ◌∷◌, ◌++◌, length, slice_index, take, drop, refl, sym, ap, ◌∙◌, append_assoc, arith, append-nil, at_drop_more, at_drop_all, take_more, take_all, until, from, onto_first, pieces, pieces_behind, is_nil, is_end, eqb-suc-zero}
 
 cut_step : (b : Bool) (c x : ℕ) (xs : List ℕ) → pieces c xs ≡ until c xs ∷ pieces_behind c (from c xs)
-    → cond b ([] ∷ pieces c xs) (onto_first x (pieces c xs)) ≡ cond b [] (x ∷ until c xs) ∷ pieces_behind c (cond b (x ∷ xs) (from c xs))
+    → (if b then [] ∷ pieces c xs else onto_first x (pieces c xs)) ≡ (if b then [] else x ∷ until c xs) ∷ pieces_behind c (if b then x ∷ xs else from c xs)
 cut_step true c x xs h = refl
 cut_step false c x xs h = ap (onto_first x) h
 
 -- the first piece, and those behind the first separator
 pub pieces-cut : (c : ℕ) (xs : List ℕ) → pieces c xs ≡ until c xs ∷ pieces_behind c (from c xs)
 pieces-cut c [] = refl
-pieces-cut c (x ∷ xs) = cut_step (eqb x c) c x xs (pieces-cut c xs)
+pieces-cut c (x ∷ xs) = cut_step (x == c) c x xs (pieces-cut c xs)
 
 -- one byte on, where the byte is no separator
-pub until_more : (c : ℕ) (xs : List ℕ) (i : ℕ) → i < length xs → eqb (get_or xs i 0) c ≡ false → until c xs ≡ take i xs ++ until c (drop i xs) → until c xs ≡ take (i + 1) xs ++
+pub until_more : (c : ℕ) (xs : List ℕ) (i : ℕ) → i < length xs → nat_eq (slice_index xs i) c ≡ false → until c xs ≡ take i xs ++ until c (drop i xs) → until c xs ≡ take (i + 1) xs ++
     until c (drop (i + 1) xs)
 until_more c xs i lt not_c so_far =
-    so_far ∙ ap (λ (t : List ℕ). take i xs ++ t) (at_drop_more (until c) xs i 0 lt ∙ rw not_c refl) ∙ sym (append_assoc (take i xs) (get_or xs i 0 ∷ []) (until c (drop (i + 1) xs))) ∙
+    so_far ∙ ap (λ (t : List ℕ). take i xs ++ t) (at_drop_more (until c) xs i 0 lt ∙ rw not_c refl) ∙ sym (append_assoc (take i xs) (slice_index xs i ∷ []) (until c (drop (i + 1) xs))) ∙
     ap (λ (t : List ℕ). t ++ until c (drop (i + 1) xs)) (sym (take_more xs i 0 lt))
 
-pub from_more : (c : ℕ) (xs : List ℕ) (i : ℕ) → i < length xs → eqb (get_or xs i 0) c ≡ false → from c xs ≡ from c (drop i xs) → from c xs ≡ from c (drop (i + 1) xs)
+pub from_more : (c : ℕ) (xs : List ℕ) (i : ℕ) → i < length xs → nat_eq (slice_index xs i) c ≡ false → from c xs ≡ from c (drop i xs) → from c xs ≡ from c (drop (i + 1) xs)
 from_more c xs i lt not_c so_far = so_far ∙ at_drop_more (from c) xs i 0 lt ∙ rw not_c refl
 
 -- at a separator
-pub until_here : (c : ℕ) (xs : List ℕ) (i : ℕ) → i < length xs → eqb (get_or xs i 0) c ≡ true → until c (drop i xs) ≡ []
+pub until_here : (c : ℕ) (xs : List ℕ) (i : ℕ) → i < length xs → nat_eq (slice_index xs i) c ≡ true → until c (drop i xs) ≡ []
 until_here c xs i lt is_c = at_drop_more (until c) xs i 0 lt ∙ rw is_c refl
 
-pub from_here : (c : ℕ) (xs : List ℕ) (i : ℕ) → i < length xs → eqb (get_or xs i 0) c ≡ true → from c (drop i xs) ≡ drop i xs
+pub from_here : (c : ℕ) (xs : List ℕ) (i : ℕ) → i < length xs → nat_eq (slice_index xs i) c ≡ true → from c (drop i xs) ≡ drop i xs
 from_here c xs i lt is_c = at_drop_more (from c) xs i 0 lt ∙ rw is_c (sym (at_drop_more (λ (t : List ℕ). t) xs i 0 lt))
 
 onto_longer : (x : ℕ) (ps : List (List ℕ)) → 0 < length ps → length (onto_first x ps) ≡ length ps
@@ -36,13 +36,13 @@ pub pieces_some : (c : ℕ) (xs : List ℕ) → 0 < length (pieces c xs)
 pieces_some c xs = rw pieces-cut (omega arith)
 
 -- the pieces of what is left, one byte on
-pub length-pieces-here : (c : ℕ) (xs : List ℕ) (i : ℕ) → i < length xs → eqb (get_or xs i 0) c ≡ true → length (pieces c (drop i xs)) ≡ length (pieces c (drop (i + 1) xs)) + 1
+pub length-pieces-here : (c : ℕ) (xs : List ℕ) (i : ℕ) → i < length xs → nat_eq (slice_index xs i) c ≡ true → length (pieces c (drop i xs)) ≡ length (pieces c (drop (i + 1) xs)) + 1
 length-pieces-here c xs i lt is_c = ap length (at_drop_more (pieces c) xs i 0 lt) ∙ rw is_c (omega arith)
 
-pub length-pieces-more : (c : ℕ) (xs : List ℕ) (i : ℕ) → i < length xs → eqb (get_or xs i 0) c ≡ false → length (pieces c (drop i xs)) ≡ length (pieces c (drop (i + 1) xs))
-length-pieces-more c xs i lt not_c = ap length (at_drop_more (pieces c) xs i 0 lt) ∙ rw not_c (onto_longer (get_or xs i 0) (pieces c (drop (i + 1) xs)) (pieces_some c (drop (i + 1) xs)))
+pub length-pieces-more : (c : ℕ) (xs : List ℕ) (i : ℕ) → i < length xs → nat_eq (slice_index xs i) c ≡ false → length (pieces c (drop i xs)) ≡ length (pieces c (drop (i + 1) xs))
+length-pieces-more c xs i lt not_c = ap length (at_drop_more (pieces c) xs i 0 lt) ∙ rw not_c (onto_longer (slice_index xs i) (pieces c (drop (i + 1) xs)) (pieces_some c (drop (i + 1) xs)))
 
-pub pieces_here : (c : ℕ) (xs : List ℕ) (i : ℕ) → i < length xs → eqb (get_or xs i 0) c ≡ true → until c xs ≡ take i xs ++ until c (drop i xs) → from c xs ≡ from c (drop i xs) →
+pub pieces_here : (c : ℕ) (xs : List ℕ) (i : ℕ) → i < length xs → nat_eq (slice_index xs i) c ≡ true → until c xs ≡ take i xs ++ until c (drop i xs) → from c xs ≡ from c (drop i xs) →
     pieces c xs ≡ take i xs ∷ pieces_behind c (drop i xs)
 pieces_here c xs i lt is_c front rest =
     let f : until c xs ≡ take i xs = front ∙ ap (λ (t : List ℕ). take i xs ++ t) (until_here c xs i lt is_c) ∙ append-nil (take i xs) in
@@ -55,14 +55,14 @@ pieces_end c xs i le front rest =
     let r : from c xs ≡ [] = rest ∙ at_drop_all (from c) xs i le in
     pieces-cut c xs ∙ rw (f, r) refl
 
-some_length : {A : Type 0} (x : A) (xs : List A) → eqb (length (x ∷ xs)) 0 ≡ false
+some_length : {A : Type 0} (x : A) (xs : List A) → nat_eq (length (x ∷ xs)) 0 ≡ false
 some_length x xs = eqb-suc-zero (length xs)
 
-pub is_nil_behind : (c : ℕ) (xs : List ℕ) → is_nil (pieces_behind c xs) ≡ eqb (length xs) 0
+pub is_nil_behind : (c : ℕ) (xs : List ℕ) → is_nil (pieces_behind c xs) ≡ nat_eq (length xs) 0
 is_nil_behind c [] = refl
 is_nil_behind c (x ∷ xs) = rw pieces-cut (sym (some_length x xs))
 
-first_some : (b : Bool) (x : ℕ) (ps qs : List (List ℕ)) → 0 < length ps → is_end (cond b ([] ∷ ps) (onto_first x qs)) ≡ false
+first_some : (b : Bool) (x : ℕ) (ps qs : List (List ℕ)) → 0 < length ps → is_end (if b then [] ∷ ps else onto_first x qs) ≡ false
 first_some true x [] qs h = absurd (omega arith)
 first_some true x (p ∷ ps) qs h = refl
 first_some false x ps [] h = refl
@@ -70,6 +70,6 @@ first_some false x ps (q ∷ []) h = refl
 first_some false x ps (q ∷ r ∷ qs) h = refl
 
 -- nothing stands behind a line where no byte does
-pub is_end_pieces : (c : ℕ) (xs : List ℕ) → is_end (pieces c xs) ≡ eqb (length xs) 0
+pub is_end_pieces : (c : ℕ) (xs : List ℕ) → is_end (pieces c xs) ≡ nat_eq (length xs) 0
 is_end_pieces c [] = refl
-is_end_pieces c (x ∷ xs) = first_some (eqb x c) x (pieces c xs) (pieces c xs) (pieces_some c xs) ∙ sym (some_length x xs)
+is_end_pieces c (x ∷ xs) = first_some (x == c) x (pieces c xs) (pieces c xs) (pieces_some c xs) ∙ sym (some_length x xs)

@@ -1,5 +1,5 @@
 -- Fields that are read as numbers are the numbers' digits, and these are read as the numbers.
-use Rattle.partial_text.proofs.{Common.{◌≡◌, ℕ, ◌^◌, ◌<◌, ◌≤◌, Bool, true, false, cond, eqb, List, [], ◌∷◌, ◌++◌, map, Option, None, Some, Result, Ok, Err, refl, sym, ap, ◌∙◌, append_assoc, arith, decimal, ok_or, flat_map, AllByRecursion, bytes_eq, append-nil, flat_map-map, bytes_eq-Decides, PlanError, until, pieces_behind, number_of, ◌>>=◌, number_field, fields_of, exactly_one, exactly_two, exactly_three, exactly_four, number_at}, NumberLaws.{number_ok, number_again, HasNo, HasNo-append, HasNo-decimal, IsNoDigit}, PieceLaws.{behind_each, joined_is, until_joined, pieces_joined}}
+use Rattle.partial_text.proofs.{Common.{◌≡◌, ℕ, ◌^◌, ◌<◌, ◌≤◌, Bool, true, false, if◌then◌else◌, nat_eq, List, [], ◌∷◌, ◌++◌, map, Option, None, Some, Result, Ok, Err, refl, sym, ap, ◌∙◌, append_assoc, arith, decimal, ok_or, flat_map, AllByRecursion, bytes_eq, append-nil, flat_map-map, bytes_eq-Decides, PlanError, until, pieces_behind, number_of, ◌>>=◌, number_field, fields_of, exactly_one, exactly_two, exactly_three, exactly_four, number_at}, NumberLaws.{number_ok, number_again, HasNo, HasNo-append, HasNo-decimal, IsNoDigit}, PieceLaws.{behind_each, joined_is, until_joined, pieces_joined}}
 use Rattle.partial_text.specs.declared.fault.Cause.{Cause}
 use Rattle.partial_text.specs.Judging.{numbers_at}
 
@@ -8,11 +8,11 @@ pub bind_ok : {A B : Type 0} (r : Result A PlanError) (f : A → Result B PlanEr
 bind_ok (Ok x) f y e = (x, refl, e)
 bind_ok (Err d) f y e = absurd cc
 
-pub if_ok : {A : Type 0} (b : Bool) (r : Result A PlanError) (d : PlanError) (y : A) → cond b r (Err d) ≡ Ok y → (b ≡ true) × (r ≡ Ok y)
+pub if_ok : {A : Type 0} (b : Bool) (r : Result A PlanError) (d : PlanError) (y : A) → (if b then r else Err d) ≡ Ok y → (b ≡ true) × (r ≡ Ok y)
 if_ok true r d y e = (refl, e)
 if_ok false r d y e = absurd cc
 
-pub unless_ok : {A : Type 0} (b : Bool) (r : Result A PlanError) (d : PlanError) (y : A) → cond b (Err d) r ≡ Ok y → (b ≡ false) × (r ≡ Ok y)
+pub unless_ok : {A : Type 0} (b : Bool) (r : Result A PlanError) (d : PlanError) (y : A) → (if b then Err d else r) ≡ Ok y → (b ≡ false) × (r ≡ Ok y)
 unless_ok true r d y e = absurd cc
 unless_ok false r d y e = (refl, e)
 
@@ -68,7 +68,7 @@ pub HasNo-numbers : (c : ℕ) (ns : List ℕ) → IsNoDigit c → AllByRecursion
 HasNo-numbers c [] none small = tt
 HasNo-numbers c (n ∷ ns) none small = (HasNo-decimal c n none small.0, HasNo-numbers c ns none small.1)
 
-pub HasNo-fields : (c : ℕ) (ns : List ℕ) → IsNoDigit c → eqb 32 c ≡ false → AllByRecursion (λ (n : ℕ). n < 2 ^ 64) ns → HasNo c (flat_map number_field ns)
+pub HasNo-fields : (c : ℕ) (ns : List ℕ) → IsNoDigit c → nat_eq 32 c ≡ false → AllByRecursion (λ (n : ℕ). n < 2 ^ 64) ns → HasNo c (flat_map number_field ns)
 HasNo-fields c [] none apart small = tt
 HasNo-fields c (n ∷ ns) none apart small = (apart, HasNo-append c (decimal n) (flat_map number_field ns) (HasNo-decimal c n none small.0) (HasNo-fields c ns none apart small.1))
 

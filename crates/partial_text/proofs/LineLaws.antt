@@ -1,18 +1,18 @@
 -- Each line is read exactly from its text.
-use Rattle.partial_text.proofs.{Common.{◌≡◌, ℕ, ◌^◌, ◌<◌, ◌≤◌, Bool, true, false, cond, eqb, leb, ltb, ◌&&◌, List, [], ◌∷◌, ◌++◌, length, map, drop, codes, Ok, Err, refl, sym, ap, subst, ◌∙◌, append_assoc, ◌⊎◌, inl, inr, arith, decimal, ok_or, flat_map, AllByRecursion, bytes_eq, eqb-true, leb-true, ltb-true, append-nil, length-map, bytes_eq-Decides, until, from, ◌>>=◌, field, sizes_line, initial_line, entry_text, rest_text, IsTurnEntry, greatest, greatest_index, fields_of, exactly_four, number_at, numbers_at, in_range, is_nil, is_rest, decimal_nonempty, Layout, IsLayout, initial_words, PlanError}, NumberLaws.and_both, PieceLaws.{behind_each, until_from}, FieldLaws.{bind_ok, if_ok, ok_is, found_ok, number_at_ok, numbers_ok, behind_numbers, four_is, with_word}, CallLaws.chosen}
+use Rattle.partial_text.proofs.{Common.{◌≡◌, ℕ, ◌^◌, ◌<◌, ◌≤◌, Bool, true, false, if◌then◌else◌, nat_eq, ◌==◌, nat_le, nat_lt, ◌&&◌, List, [], ◌∷◌, ◌++◌, length, map, drop, codes, Ok, Err, refl, sym, ap, subst, ◌∙◌, append_assoc, ◌⊎◌, inl, inr, arith, decimal, ok_or, flat_map, AllByRecursion, bytes_eq, eqb-true, leb-true, ltb-true, append-nil, length-map, bytes_eq-Decides, until, from, ◌>>=◌, field, sizes_line, initial_line, entry_text, rest_text, IsTurnEntry, greatest, greatest_index, fields_of, exactly_four, number_at, numbers_at, in_range, is_nil, is_rest, decimal_nonempty, Layout, IsLayout, initial_words, PlanError}, NumberLaws.and_both, PieceLaws.{behind_each, until_from}, FieldLaws.{bind_ok, if_ok, ok_is, found_ok, number_at_ok, numbers_ok, behind_numbers, four_is, with_word}, CallLaws.chosen}
 use Rattle.partial_words.specs.declared.sizes.SizeError.{SizeError}
 use Rattle.partial_text.specs.declared.fault.Cause.{Cause}
 use Rattle.partial_text.specs.Judging.{sizes_from, sizes_at, initial_at, entry_text_at, entries_at}
 
 pub in_range_ok : (s t : Layout) → in_range s ≡ Ok t → (s ≡ t) × IsLayout s
 in_range_ok s t e =
-    let a = if_ok (leb 1 s.m && leb s.m 65536) _ (PlanError.Size SizeError.Components) t e in
-    let b = if_ok (leb 1 s.slots && leb s.slots 65536) _ (PlanError.Size SizeError.Slots) t a.1 in
-    let c = if_ok (leb s.lists 65536) _ (PlanError.Size SizeError.Lists) t b.1 in
-    let d = if_ok (leb (initial_words s) s.pool && leb s.pool 4194304) (Ok s) (PlanError.Size SizeError.Pool) t c.1 in
-    let p = and_both (leb 1 s.m) (leb s.m 65536) a.0 in
-    let q = and_both (leb 1 s.slots) (leb s.slots 65536) b.0 in
-    let r = and_both (leb (initial_words s) s.pool) (leb s.pool 4194304) d.0 in (
+    let a = if_ok (nat_le 1 s.m && nat_le s.m 65536) _ (PlanError.Size SizeError.Components) t e in
+    let b = if_ok (nat_le 1 s.slots && nat_le s.slots 65536) _ (PlanError.Size SizeError.Slots) t a.1 in
+    let c = if_ok (nat_le s.lists 65536) _ (PlanError.Size SizeError.Lists) t b.1 in
+    let d = if_ok (nat_le (initial_words s) s.pool && nat_le s.pool 4194304) (Ok s) (PlanError.Size SizeError.Pool) t c.1 in
+    let p = and_both (nat_le 1 s.m) (nat_le s.m 65536) a.0 in
+    let q = and_both (nat_le 1 s.slots) (nat_le s.slots 65536) b.0 in
+    let r = and_both (nat_le (initial_words s) s.pool) (nat_le s.pool 4194304) d.0 in (
       ok_is s t d.1,
       record {
         components = (leb-true 1 s.m p.0, leb-true s.m 65536 p.1);
@@ -66,7 +66,7 @@ unfolding initial_at
 initial_ok m l vs e =
     let fs = fields_of l in
     let a = if_ok (bytes_eq (until 32 l) (codes "initial")) _ (PlanError.Line 2 Cause.Word) vs e in
-    let b = if_ok (eqb (length fs) m) (numbers_at 2 greatest [] fs) (PlanError.Line 2 Cause.Count) vs a.1 in
+    let b = if_ok ((length fs) == m) (numbers_at 2 greatest [] fs) (PlanError.Line 2 Cause.Count) vs a.1 in
     let r = numbers_ok 2 greatest [] fs vs (omega arith) b.1 in
     let fields : fs ≡ map decimal vs = r.2 ∙ ap (map decimal) (sym r.1) in (
       with_word (codes "initial") l a.0 ∙ ap (λ (t : List ℕ). codes "initial" ++ t) (ap (behind_each 32) fields ∙ behind_numbers vs),
@@ -76,24 +76,24 @@ initial_ok m l vs e =
 
 -- ---- the turns
 
-from_head : (b : Bool) (c x : ℕ) (xs : List ℕ) → eqb x c ≡ b → ((from c xs ≡ []) ⊎ (from c xs ≡ c ∷ drop 1 (from c xs))) → (cond b (x ∷ xs) (from c xs) ≡ []) ⊎
-    (cond b (x ∷ xs) (from c xs) ≡ c ∷ drop 1 (cond b (x ∷ xs) (from c xs)))
+from_head : (b : Bool) (c x : ℕ) (xs : List ℕ) → nat_eq x c ≡ b → ((from c xs ≡ []) ⊎ (from c xs ≡ c ∷ drop 1 (from c xs))) → ((if b then x ∷ xs else from c xs) ≡ []) ⊎
+    ((if b then x ∷ xs else from c xs) ≡ c ∷ drop 1 (if b then x ∷ xs else from c xs))
 from_head true c x xs same h = inr (ap (λ (y : ℕ). y ∷ xs) (eqb-true x c same))
 from_head false c x xs same h = h
 
 -- what begins at a separator is empty or begins with it
 pub from_is : (c : ℕ) (xs : List ℕ) → (from c xs ≡ []) ⊎ (from c xs ≡ c ∷ drop 1 (from c xs))
 from_is c [] = inl refl
-from_is c (x ∷ xs) = from_head (eqb x c) c x xs refl (from_is c xs)
+from_is c (x ∷ xs) = from_head (x == c) c x xs refl (from_is c xs)
 
 entry_ok : (line ports : ℕ) (f : List ℕ) (e : ℕ × ℕ) → entry_text_at line ports f ≡ Ok e → (f ≡ entry_text e) × IsTurnEntry ports e
 unfolding entry_text_at
 entry_ok line ports f e h =
-    let a = bind_ok (number_at line greatest_index (until 42 f)) (λ p. number_at line greatest_index (drop 1 (from 42 f)) >>= λ k. cond (ltb p ports && ltb 0 k) (Ok (p, k))
-    (Err (PlanError.Line line Cause.Range))) e h in
-    let b = bind_ok (number_at line greatest_index (drop 1 (from 42 f))) (λ k. cond (ltb a.0 ports && ltb 0 k) (Ok (a.0, k)) (Err (PlanError.Line line Cause.Range))) e a.2 in
-    let c = if_ok (ltb a.0 ports && ltb 0 b.0) (Ok (a.0, b.0)) (PlanError.Line line Cause.Range) e b.2 in
-    let d = and_both (ltb a.0 ports) (ltb 0 b.0) c.0 in
+    let a = bind_ok (number_at line greatest_index (until 42 f)) (λ p. number_at line greatest_index (drop 1 (from 42 f)) >>= λ k. if nat_lt p ports && nat_lt 0 k then Ok (p, k)
+    else Err (PlanError.Line line Cause.Range)) e h in
+    let b = bind_ok (number_at line greatest_index (drop 1 (from 42 f))) (λ k. if nat_lt a.0 ports && nat_lt 0 k then Ok (a.0, k) else Err (PlanError.Line line Cause.Range)) e a.2 in
+    let c = if_ok (nat_lt a.0 ports && nat_lt 0 b.0) (Ok (a.0, b.0)) (PlanError.Line line Cause.Range) e b.2 in
+    let d = and_both (nat_lt a.0 ports) (nat_lt 0 b.0) c.0 in
     let p = number_at_ok line greatest_index (until 42 f) a.0 (omega arith) a.1 in
     let k = number_at_ok line greatest_index (drop 1 (from 42 f)) b.0 (omega arith) b.1 in
     let star : from 42 f ≡ 42 ∷ drop 1 (from 42 f) = elim (from_is 42 f) [

@@ -1,5 +1,5 @@
 -- A text is read as a number exactly where it is the digits of that number.
-use Rattle.partial_text.proofs.Common.{◌≡◌, ℕ, zero, suc, ◌+◌, ◌*◌, ◌-◌, ◌/◌, ◌%◌, ◌^◌, ◌<◌, ◌≤◌, ◌≢◌, Bool, true, false, cond, eqb, leb, ◌&&◌, List, [], ◌∷◌, ◌++◌, length, get_or, Option, None, Some, refl, sym, ap, ◌∙◌, append_assoc, arith, decimal, option_and_then, AllByRecursion, append-nil, eqb-false, ne_eqb, leb-true, le-leb, with_digit, number_from, number_of, decimal_digit, decimal_step, decimal_by_steps, first_decimal, decimal_nonempty}
+use Rattle.partial_text.proofs.Common.{◌≡◌, ℕ, zero, suc, ◌+◌, ◌*◌, ◌-◌, ◌/◌, ◌%◌, ◌^◌, ◌<◌, ◌≤◌, ◌≢◌, Bool, true, false, if◌then◌else◌, nat_eq, ◌==◌, nat_le, ◌&&◌, List, [], ◌∷◌, ◌++◌, length, slice_index, Option, None, Some, refl, sym, ap, ◌∙◌, append_assoc, arith, decimal, option_and_then, AllByRecursion, append-nil, eqb-false, ne_eqb, leb-true, le-leb, with_digit, number_from, number_of, decimal_digit, decimal_step, decimal_by_steps, first_decimal, decimal_nonempty}
 use Rattle.std.specs.Char.{is_ascii_digit}
 
 pub and_both : (a b : Bool) → (a && b) ≡ true → (a ≡ true) × (b ≡ true)
@@ -9,11 +9,11 @@ and_both false b e = absurd cc
 pub both_and : (a b : Bool) → a ≡ true → b ≡ true → (a && b) ≡ true
 both_and a b p q = rw (p, q) refl
 
-some_if : {A : Type 0} (b : Bool) (x y : A) → cond b (Some x) None ≡ Some y → (b ≡ true) × (x ≡ y)
+some_if : {A : Type 0} (b : Bool) (x y : A) → (if b then Some x else None) ≡ Some y → (b ≡ true) × (x ≡ y)
 some_if true x y e = (refl, cc)
 some_if false x y e = absurd cc
 
-some_unless : {A : Type 0} (b : Bool) (o : Option A) (y : A) → cond b None o ≡ Some y → (b ≡ false) × (o ≡ Some y)
+some_unless : {A : Type 0} (b : Bool) (o : Option A) (y : A) → (if b then None else o) ≡ Some y → (b ≡ false) × (o ≡ Some y)
 some_unless true o y e = absurd cc
 some_unless false o y e = (refl, e)
 
@@ -27,15 +27,15 @@ same_some x y e = cc
 -- what one digit more tells
 digit_taken : (most n c m : ℕ) → with_digit most n c ≡ Some m → (48 ≤ c) × (c ≤ 57) × (m ≡ n * 10 + (c - 48)) × (m ≤ most)
 digit_taken most n c m e =
-    let t = some_if (is_ascii_digit c && leb (n * 10 + (c - 48)) most) (n * 10 + (c - 48)) m e in
-    let r = and_both (is_ascii_digit c) (leb (n * 10 + (c - 48)) most) t.0 in
-    let d = and_both (leb 48 c) (leb c 57) r.0 in
+    let t = some_if (is_ascii_digit c && nat_le (n * 10 + (c - 48)) most) (n * 10 + (c - 48)) m e in
+    let r = and_both (is_ascii_digit c) (nat_le (n * 10 + (c - 48)) most) t.0 in
+    let d = and_both (nat_le 48 c) (nat_le c 57) r.0 in
     let within = leb-true (n * 10 + (c - 48)) most r.1 in
     (leb-true 48 c d.0, leb-true c 57 d.1, sym t.1, omega (arith, within, t.1))
 
 digit_given : (most n d m : ℕ) → d < 10 → n * 10 + d ≡ m → m ≤ most → with_digit most n (48 + d) ≡ Some m
 digit_given most n d m lt is le =
-    let digit : is_ascii_digit (48 + d) ≡ true = both_and (leb 48 (48 + d)) (leb (48 + d) 57) (le-leb 48 (48 + d) (omega arith)) (le-leb (48 + d) 57 (omega arith)) in
+    let digit : is_ascii_digit (48 + d) ≡ true = both_and (nat_le 48 (48 + d)) (nat_le (48 + d) 57) (le-leb 48 (48 + d) (omega arith)) (le-leb (48 + d) 57 (omega arith)) in
     let made : n * 10 + (48 + d - 48) ≡ m = omega arith in
     rw (digit, made, le-leb m most le) refl
 
@@ -63,7 +63,7 @@ number_ok most (c ∷ []) m small e =
     let is : 48 + m ≡ c = omega (arith, t.0, t.1, t.2, same) in
     (sym (decimal_digit m (omega (arith, t.0, t.1, t.2, same)) ∙ ap (λ (j : ℕ). j ∷ []) is), omega (arith, t.3, same))
 number_ok most (c ∷ d ∷ cs) m small e =
-    let u = some_unless (eqb c 48) (number_from most 0 (c ∷ d ∷ cs)) m e in
+    let u = some_unless (c == 48) (number_from most 0 (c ∷ d ∷ cs)) m e in
     let b = bound (λ (k : ℕ). number_from most k (d ∷ cs)) (with_digit most 0 c) m u.1 in
     let k = b.0 in
     let t = digit_taken most 0 c k b.1 in
@@ -88,7 +88,7 @@ from_again most n small =
     let before : number_from most 0 ds ≡ Some (m / 10) = so_far (omega arith) in
     from_append most 0 ds ((48 + m % 10) ∷ []) ∙ rw (before, digit_given most (m / 10) (m % 10) m (omega arith) (omega arith) le) refl) n small
 
-number_of_is : (most : ℕ) (ds : List ℕ) (n : ℕ) → 0 < length ds → (2 ≤ length ds → get_or ds 0 0 ≢ 48) → number_from most 0 ds ≡ Some n → number_of most ds ≡ Some n
+number_of_is : (most : ℕ) (ds : List ℕ) (n : ℕ) → 0 < length ds → (2 ≤ length ds → slice_index ds 0 ≢ 48) → number_from most 0 ds ≡ Some n → number_of most ds ≡ Some n
 number_of_is most [] n some first e = absurd (omega arith)
 number_of_is most (c ∷ []) n some first e = e
 number_of_is most (c ∷ d ∷ cs) n some first e = rw (ne_eqb c 48 (first (omega arith))) e
@@ -104,7 +104,7 @@ number_again most (suc n) small le =
 
 -- no byte of the text is c
 abbrev pub HasNo : ℕ → List ℕ → Type 0
-HasNo c xs = AllByRecursion (λ (x : ℕ). eqb x c ≡ false) xs
+HasNo c xs = AllByRecursion (λ (x : ℕ). nat_eq x c ≡ false) xs
 
 pub HasNo-append : (c : ℕ) (xs ys : List ℕ) → HasNo c xs → HasNo c ys → HasNo c (xs ++ ys)
 HasNo-append c [] ys p q = q

@@ -1,45 +1,45 @@
 -- The pieces of a text joined again are the text, and the pieces of joined pieces are these pieces.
-use Rattle.partial_text.proofs.{Common.{◌≡◌, ℕ, Bool, true, false, cond, eqb, List, [], ◌∷◌, ◌++◌, refl, sym, ap, ◌∙◌, arith, flat_map, AllByRecursion, append-nil, eqb-true, until, from, onto_first, pieces, pieces_behind, eqb_refl}, Cuts.pieces-cut, NumberLaws.HasNo}
+use Rattle.partial_text.proofs.{Common.{◌≡◌, ℕ, Bool, true, false, if◌then◌else◌, nat_eq, ◌==◌, List, [], ◌∷◌, ◌++◌, refl, sym, ap, ◌∙◌, arith, flat_map, AllByRecursion, append-nil, eqb-true, until, from, onto_first, pieces, pieces_behind, eqb_refl}, Cuts.pieces-cut, NumberLaws.HasNo}
 
 -- each piece behind a separator
 abbrev pub behind_each : ℕ → List (List ℕ) → List ℕ
 behind_each c ps = flat_map (λ (p : List ℕ). c ∷ p) ps
 
-until_from_step : (b : Bool) (c x : ℕ) (xs : List ℕ) → until c xs ++ from c xs ≡ xs → cond b [] (x ∷ until c xs) ++ cond b (x ∷ xs) (from c xs) ≡ x ∷ xs
+until_from_step : (b : Bool) (c x : ℕ) (xs : List ℕ) → until c xs ++ from c xs ≡ xs → (if b then [] else x ∷ until c xs) ++ (if b then x ∷ xs else from c xs) ≡ x ∷ xs
 until_from_step true c x xs h = refl
 until_from_step false c x xs h = ap (λ (l : List ℕ). x ∷ l) h
 
 pub until_from : (c : ℕ) (xs : List ℕ) → until c xs ++ from c xs ≡ xs
 until_from c [] = refl
-until_from c (x ∷ xs) = until_from_step (eqb x c) c x xs (until_from c xs)
+until_from c (x ∷ xs) = until_from_step (x == c) c x xs (until_from c xs)
 
 behind_onto : (c x : ℕ) (ps : List (List ℕ)) (xs : List ℕ) → behind_each c ps ≡ c ∷ xs → behind_each c (onto_first x ps) ≡ c ∷ x ∷ xs
 behind_onto c x [] xs h = absurd cc
 behind_onto c x (p ∷ ps) xs h = ap (λ (l : List ℕ). c ∷ x ∷ l) cc
 
-pieces_step : (b : Bool) (c x : ℕ) (xs : List ℕ) → eqb x c ≡ b → behind_each c (pieces c xs) ≡ c ∷ xs → behind_each c (cond b ([] ∷ pieces c xs) (onto_first x (pieces c xs))) ≡ c ∷ x ∷ xs
+pieces_step : (b : Bool) (c x : ℕ) (xs : List ℕ) → nat_eq x c ≡ b → behind_each c (pieces c xs) ≡ c ∷ xs → behind_each c (if b then [] ∷ pieces c xs else onto_first x (pieces c xs)) ≡ c ∷ x ∷ xs
 pieces_step true c x xs same h = ap (λ (l : List ℕ). c ∷ l) (h ∙ ap (λ (y : ℕ). y ∷ xs) (sym (eqb-true x c same)))
 pieces_step false c x xs same h = behind_onto c x (pieces c xs) xs h
 
 -- each piece behind a separator is the text behind one
 pub behind_pieces : (c : ℕ) (xs : List ℕ) → behind_each c (pieces c xs) ≡ c ∷ xs
 behind_pieces c [] = refl
-behind_pieces c (x ∷ xs) = pieces_step (eqb x c) c x xs refl (behind_pieces c xs)
+behind_pieces c (x ∷ xs) = pieces_step (x == c) c x xs refl (behind_pieces c xs)
 
-from_step : (b : Bool) (c x : ℕ) (xs : List ℕ) → eqb x c ≡ b → behind_each c (pieces_behind c (from c xs)) ≡ from c xs →
-    behind_each c (pieces_behind c (cond b (x ∷ xs) (from c xs))) ≡ cond b (x ∷ xs) (from c xs)
+from_step : (b : Bool) (c x : ℕ) (xs : List ℕ) → nat_eq x c ≡ b → behind_each c (pieces_behind c (from c xs)) ≡ from c xs →
+    behind_each c (pieces_behind c (if b then x ∷ xs else from c xs)) ≡ (if b then x ∷ xs else from c xs)
 from_step true c x xs same h = behind_pieces c xs ∙ ap (λ (y : ℕ). y ∷ xs) (sym (eqb-true x c same))
 from_step false c x xs same h = h
 
 pub behind_from : (c : ℕ) (xs : List ℕ) → behind_each c (pieces_behind c (from c xs)) ≡ from c xs
 behind_from c [] = refl
-behind_from c (x ∷ xs) = from_step (eqb x c) c x xs refl (behind_from c xs)
+behind_from c (x ∷ xs) = from_step (x == c) c x xs refl (behind_from c xs)
 
 -- a text is its first piece, and each other one behind a separator
 pub joined_is : (c : ℕ) (xs : List ℕ) → xs ≡ until c xs ++ behind_each c (pieces_behind c (from c xs))
 joined_is c xs = sym (until_from c xs) ∙ ap (λ (l : List ℕ). until c xs ++ l) (sym (behind_from c xs))
 
-eqb_same : (c : ℕ) → eqb c c ≡ true
+eqb_same : (c : ℕ) → nat_eq c c ≡ true
 eqb_same c = grind (arith, eqb_refl)
 
 -- ---- the pieces of joined pieces

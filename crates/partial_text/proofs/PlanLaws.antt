@@ -1,5 +1,5 @@
 -- What is read as a plan is the plan's text.
-use Rattle.partial_text.proofs.{Common.{◌≡◌, ℕ, ◌+◌, ◌<◌, ◌≤◌, Bool, true, cond, eqb, ltb, List, [], ◌∷◌, ◌++◌, length, codes, Ok, Err, refl, sym, ap, subst, ◌∙◌, append_assoc, inl, inr, arith, flat_map, AllByRecursion, bytes_eq, eqb-false, ltb-true, ltb-false, append-nil, length-append, bytes_eq-Decides, Call, until, from, pieces, ◌>>=◌, PlanView, sizes_line, initial_line, port_line, entry_text, field, rest_text, steps_line, ended_line, plan_text, IsCall, IsTurnEntry, IsPlan, Tail, fields_of, sizes_at, initial_at, port_line_at, entries_at, is_end, PlanError}, PieceLaws.{behind_each, behind_pieces, until_from}, FieldLaws.{bind_ok, if_ok, unless_ok, ok_is, with_word}, CallLaws.{port_ok, chosen}, LineLaws.{sizes_ok, initial_ok, entries_ok, from_is}}
+use Rattle.partial_text.proofs.{Common.{◌≡◌, ℕ, ◌+◌, ◌<◌, ◌≤◌, Bool, true, if◌then◌else◌, ◌==◌, nat_lt, List, [], ◌∷◌, ◌++◌, length, codes, Ok, Err, refl, sym, ap, subst, ◌∙◌, append_assoc, inl, inr, arith, flat_map, AllByRecursion, bytes_eq, eqb-false, ltb-true, ltb-false, append-nil, length-append, bytes_eq-Decides, Call, until, from, pieces, ◌>>=◌, PlanView, sizes_line, initial_line, port_line, entry_text, field, rest_text, steps_line, ended_line, plan_text, IsCall, IsTurnEntry, IsPlan, Tail, fields_of, sizes_at, initial_at, port_line_at, entries_at, is_end, PlanError}, PieceLaws.{behind_each, behind_pieces, until_from}, FieldLaws.{bind_ok, if_ok, unless_ok, ok_is, with_word}, CallLaws.{port_ok, chosen}, LineLaws.{sizes_ok, initial_ok, entries_ok, from_is}}
 use Rattle.partial_text.specs.declared.fault.Cause.{Cause}
 use Rattle.partial_text.specs.Judging.{line_at, more_ports, last_at, tail_at, lines_judged, judged_plan}
 
@@ -49,8 +49,8 @@ unfolding last_at
 last_ok line m found l behind s e =
     let n = length found in
     let a = if_ok (bytes_eq (until 32 l) (codes "steps")) _ (PlanError.Line line Cause.Word) s e in
-    let b = unless_ok (eqb n 0) _ PlanError.Ports s a.1 in
-    let c = bind_ok (entries_at line n [] (fields_of l)) (λ steps. cond (is_end behind) (Ok steps) (Err (PlanError.Line (line + 1) Cause.Extra))) s b.1 in
+    let b = unless_ok (n == 0) _ PlanError.Ports s a.1 in
+    let c = bind_ok (entries_at line n [] (fields_of l)) (λ steps. if is_end behind then Ok steps else Err (PlanError.Line (line + 1) Cause.Extra)) s b.1 in
     let d = if_ok (is_end behind) (Ok c.0) (PlanError.Line (line + 1) Cause.Extra) s c.2 in
     let t = entries_ok line n [] (fields_of l) c.0 c.1 in
     let same : c.0 ≡ s = ok_is c.0 s d.1 in
@@ -66,7 +66,7 @@ more_ok : (line m : ℕ) (found all : List (List Call)) (l : List ℕ) → bytes
     → (cs : List Call) × (all ≡ found ++ cs ∷ []) × (l ≡ port_line cs) × AllByRecursion (IsCall m) cs × (length found < 64)
 unfolding more_ports
 more_ok line m found all l word e =
-    let a = if_ok (ltb (length found) 64) (port_line_at m line (from 32 l) >>= λ cs. Ok (found ++ cs ∷ [])) PlanError.Ports all e in
+    let a = if_ok (nat_lt (length found) 64) (port_line_at m line (from 32 l) >>= λ cs. Ok (found ++ cs ∷ [])) PlanError.Ports all e in
     let b = bind_ok (port_line_at m line (from 32 l)) (λ (cs : List Call). Ok (found ++ cs ∷ [])) all a.1 in
     let p = port_ok line m (from 32 l) b.0 b.1 (from_is 32 l) in
     let front : until 32 l ≡ codes "port" = (bytes_eq-Decides (until 32 l) (codes "port")).0 word in
@@ -107,7 +107,7 @@ tail_ok line m found (l ∷ k ∷ ls) t e =
 pub judged_ok : (text : List ℕ) (p : PlanView) → judged_plan text ≡ Ok p → IsPlan p × (text ≡ plan_text p)
 unfolding judged_plan lines_judged
 judged_ok text p e =
-    let u = unless_ok (ltb 4194304 (length text)) (lines_judged (pieces 10 text)) (PlanError.Line 0 Cause.Size) p e in
+    let u = unless_ok (nat_lt 4194304 (length text)) (lines_judged (pieces 10 text)) (PlanError.Line 0 Cause.Size) p e in
     let short : length text ≤ 4194304 = ltb-false 4194304 (length text) u.0 in
     let a = bind_ok (line_at 1 (pieces 10 text)) (λ first. sizes_at first.0 >>= λ sizes. line_at 2 first.1 >>= λ second. initial_at sizes.m second.0 >>= λ initial. tail_at sizes.m 3 [] second.1 >>=
     λ tail. Ok (record { sizes = sizes; initial = initial; ports = tail.ports; steps = tail.steps; rest = tail.rest })) p u.1 in

@@ -1,5 +1,5 @@
 -- What an error says, and how one line of a plan text leads to the next.
-use Rattle.partial_text.proofs.Common.{◌≡◌, ℕ, ◌+◌, true, false, cond, List, [], ◌∷◌, length, codes, Result, Ok, refl, sym, ap, ◌∙◌, bytes_eq, Call, PlanError, until, from, ◌>>=◌, Fails, Tail, more_ports, last_at}
+use Rattle.partial_text.proofs.Common.{◌≡◌, ℕ, ◌+◌, true, false, if◌then◌else◌, List, [], ◌∷◌, length, codes, Result, Ok, refl, sym, ap, ◌∙◌, bytes_eq, Call, PlanError, until, from, ◌>>=◌, Fails, Tail, more_ports, last_at}
 use Rattle.partial_text.specs.Judging.{line_at, tail_at}
 
 -- a step that fails fails the whole
@@ -13,8 +13,8 @@ Fails_first (PlanError.Line l c) r f judged h e = sym e ∙ rw h refl
 -- what one line makes of the ports so far
 abbrev pub tail_by : ℕ → ℕ → List (List Call) → List ℕ × List (List ℕ) → Result Tail PlanError
 tail_by m line found x =
-    cond (bytes_eq (until 32 x.0) (codes "port")) (more_ports m line found (from 32 x.0) >>= λ ports. tail_at m (line + 1) ports x.1)
-    (last_at line (length found) x.0 x.1 >>= λ steps. Ok (record { ports = found; steps = steps.0; rest = steps.1 }))
+    if bytes_eq (until 32 x.0) (codes "port") then (more_ports m line found (from 32 x.0) >>= λ ports. tail_at m (line + 1) ports x.1)
+    else (last_at line (length found) x.0 x.1 >>= λ steps. Ok (record { ports = found; steps = steps.0; rest = steps.1 }))
 
 pub tail_step : (m line : ℕ) (found : List (List Call)) (ls : List (List ℕ)) → tail_at m line found ls ≡ (line_at line ls >>= tail_by m line found)
 unfolding tail_at line_at

@@ -1,5 +1,5 @@
 -- The regions of the words, and the words at opening.
-use Rattle.partial_words.proofs.Common.{ℕ, ◌≡◌, ◌+◌, ◌-◌, ◌*◌, ◌/◌, ◌%◌, ◌<◌, ◌≤◌, ◌==◌, cond, List, [], length, slice_index, refl, sym, ◌∙◌, ap, inl, inr, arith, cases_lt, Opening, view_word, view_of}
+use Rattle.partial_words.proofs.Common.{ℕ, ◌≡◌, ◌+◌, ◌-◌, ◌*◌, ◌/◌, ◌%◌, ◌<◌, ◌≤◌, ◌==◌, if◌then◌else◌, List, [], length, slice_index, refl, sym, ◌∙◌, ap, inl, inr, arith, cases_lt, Opening, view_word, view_of}
 use Rattle.std.proofs.lemmas.Bool.Decides.{nat_tests}
 use Rattle.partial_model.specs.History.{last_from}
 use Rattle.partial_words.specs.{Layout.{Layout, Region, Components, SlotCounter, ListHead, PoolCounter, ListCounter, Slots, Lists, Pool, StandsIn, AreRegionsOf, total, pool_base, initial_record}, Chain.{OpensWith, Agrees, opening_word, initial_record_word, links_from}}
@@ -73,17 +73,17 @@ pub initial_value : (initial : List ℕ) (j : ℕ) → initial_record_word initi
 initial_value initial j =
     let e : (3 * j + 1) % 3 ≡ 1 = omega arith in
     let f : (3 * j + 1) / 3 ≡ j = omega arith in
-    ap (λ n. cond (n == 1) (slice_index initial ((3 * j + 1) / 3)) 0) e ∙ ap (slice_index initial) f
+    ap (λ n. if n == 1 then slice_index initial ((3 * j + 1) / 3) else 0) e ∙ ap (slice_index initial) f
 
 pub initial_prev : (initial : List ℕ) (j : ℕ) → initial_record_word initial (3 * j) ≡ 0
 initial_prev initial j =
     let e : (3 * j) % 3 ≡ 0 = omega arith in
-    ap (λ n. cond (n == 1) (slice_index initial (3 * j / 3)) 0) e
+    ap (λ n. if n == 1 then slice_index initial (3 * j / 3) else 0) e
 
 pub initial_view : (initial : List ℕ) (j : ℕ) → initial_record_word initial (3 * j + 2) ≡ 0
 initial_view initial j =
     let e : (3 * j + 2) % 3 ≡ 2 = omega arith in
-    ap (λ n. cond (n == 1) (slice_index initial ((3 * j + 2) / 3)) 0) e
+    ap (λ n. if n == 1 then slice_index initial ((3 * j + 2) / 3) else 0) e
 
 -- the view of the initial record of component j is the empty one
 pub view_opens : (s : Layout) (o : Opening) (words : List ℕ) (j : ℕ) → OpensWith s o words → j < s.m → view_of words (initial_record s j) ≡ 0

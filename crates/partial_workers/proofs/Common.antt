@@ -1,5 +1,5 @@
 -- The names that several proofs of this crate take from elsewhere.
-pub use Rattle.std.proofs.Common.{ℕ, suc, ◌≡◌, ◌+◌, ◌<◌, ◌≤◌, ◌++◌, List, [], ◌∷◌, length, take, get_or, sym, ap, subst, ◌∙◌, arith, ◌⊎◌, Some, None, refl, inl, inr, zero, map, Option, ◌^◌, rules, Bor}
+pub use Rattle.std.proofs.Common.{ℕ, suc, ◌≡◌, ◌+◌, ◌<◌, ◌≤◌, ◌++◌, List, [], ◌∷◌, length, take, slice_index_or, sym, ap, subst, ◌∙◌, arith, ◌⊎◌, Some, None, refl, inl, inr, zero, map, Option, ◌^◌, rules, Bor}
 pub use Rattle.std.specs.{List.AllByRecursion, Vec.vec_capacity}
 pub use Rattle.std.proofs.Math.Seq.{take-suc}
 pub use Rattle.std.proofs.lemmas.Iterator.{Adapters.YieldsList-from_vec, Consumers.{YieldsList-turn, YieldsList-end}}

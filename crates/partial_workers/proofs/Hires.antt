@@ -1,10 +1,10 @@
 -- Workers for the ports of a memory, and what their threads come to.
-use Rattle.partial_workers.proofs.{Common.{ℕ, suc, ◌≡◌, ◌+◌, ◌<◌, ◌≤◌, ◌++◌, List, [], ◌∷◌, length, take, get_or, sym, ap, subst, ◌∙◌, arith, AllByRecursion, vec_capacity, take-suc, get_or_default, length-map, map-append, Call, all_append, all_back, all_front, MemoryView, PortView, AreEach, IsCallWithin, ScanHasRoom, HaveCome, HaveRooms, IsWorkDone, IsHired, IsNewWork, IsWorkStarted, calls_of, Job, Worked, Worker, Results, Works}, Pairs.{each_at, each_length, each_push}}
+use Rattle.partial_workers.proofs.{Common.{ℕ, suc, ◌≡◌, ◌+◌, ◌<◌, ◌≤◌, ◌++◌, List, [], ◌∷◌, length, take, slice_index_or, sym, ap, subst, ◌∙◌, arith, AllByRecursion, vec_capacity, take-suc, get_or_default, length-map, map-append, Call, all_append, all_back, all_front, MemoryView, PortView, AreEach, IsCallWithin, ScanHasRoom, HaveCome, HaveRooms, IsWorkDone, IsHired, IsNewWork, IsWorkStarted, calls_of, Job, Worked, Worker, Results, Works}, Pairs.{each_at, each_length, each_push}}
 use Rattle.std.specs.declared.thread.PromisedHandle.{PromisedHandle}
 
 -- one call more of a port
 pub calls_more : (before after : List Job) (job : Job) (calls : List Call) (n : ℕ) → after ≡ before ++ job ∷ [] → calls_of before ≡ take n calls → n < length calls →
-    job.call.now ≡ get_or calls n job.call.now → calls_of after ≡ take (n + 1) calls
+    job.call.now ≡ slice_index_or calls n job.call.now → calls_of after ≡ take (n + 1) calls
 calls_more before after job calls n is had within at =
     let next : n + 1 ≡ suc n = omega arith in
     let taken : take (n + 1) calls ≡ take n calls ++ job.call.now ∷ [] = ap (λ i. take i calls) next ∙ take-suc calls n job.call.now within ∙ ap (λ (c : Call). take n calls ++ c ∷ []) (sym at) in
@@ -38,14 +38,14 @@ hired m n calls w new jobs rooms empty room many =
 
 -- one worker more
 pub hire_more : (m : MemoryView) (n next : ℕ) (plan : List (List Call)) (before after : List Worker) (calls : List Call) (w : Worker) → AreEach (IsHired m) 0 (take n plan) before → n < length plan →
-    calls ≡ get_or plan n calls → IsHired m n calls w → next ≡ n + 1 → after ≡ before ++ w ∷ [] → AreEach (IsHired m) 0 (take next plan) after
+    calls ≡ slice_index_or plan n calls → IsHired m n calls w → next ≡ n + 1 → after ≡ before ++ w ∷ [] → AreEach (IsHired m) 0 (take next plan) after
 hire_more m n next plan before after calls w had within at new is now =
     let zero_more : n ≡ 0 + n = omega arith in
     subst (AreEach (IsHired m) 0 (take next plan)) (sym now) (each_push (IsHired m) 0 n next plan before calls w had within at (subst (λ i. IsHired m i calls w) zero_more new) is)
 
 -- one thread more has ended
 pub come_more : (m : MemoryView) (n next : ℕ) (plan : List (List Call)) (before after : Results) (calls : List Call) (w : Worked) → HaveCome m (take n plan) before → n < length plan →
-    calls ≡ get_or plan n calls → IsWorkDone m n calls w → next ≡ n + 1 → after.ports.items ≡ before.ports.items ++ w.port ∷ [] → after.answers.items ≡ before.answers.items ++ w.answers ∷ [] →
+    calls ≡ slice_index_or plan n calls → IsWorkDone m n calls w → next ≡ n + 1 → after.ports.items ≡ before.ports.items ++ w.port ∷ [] → after.answers.items ≡ before.answers.items ++ w.answers ∷ [] →
     HaveCome m (take next plan) after
 come_more m n next plan before after calls w had within at new is ports answers =
     let zero_more : n ≡ 0 + n = omega arith in
@@ -66,11 +66,11 @@ done_alike m v n k calls given w done memory number same = subst (λ x. IsWorkDo
 
 -- a thread that was started for a port's calls has made them once it has kept its promise
 pub done_as_started : (m : MemoryView) (n : ℕ) (plan : List (List Call)) (all : List (PromisedHandle Worked Works)) (h : PromisedHandle Worked Works) (w : Worked) →
-    AreEach (IsWorkStarted m) 0 plan all → n < length all → h ≡ get_or all n h → IsWorkDone h.promise.memory.value h.promise.port h.promise.calls.value.now w → (calls : List Call) ×
-    (calls ≡ get_or plan n calls) × IsWorkDone m n calls w
+    AreEach (IsWorkStarted m) 0 plan all → n < length all → h ≡ slice_index_or all n h → IsWorkDone h.promise.memory.value h.promise.port h.promise.calls.value.now w → (calls : List Call) ×
+    (calls ≡ slice_index_or plan n calls) × IsWorkDone m n calls w
 done_as_started m n plan all h w started within is kept =
-    let calls : List Call = get_or plan n [] in
-    let at : calls ≡ get_or plan n calls = get_or_default plan n [] calls (omega (arith, within, each_length (IsWorkStarted m) 0 plan all started)) in
+    let calls : List Call = slice_index_or plan n [] in
+    let at : calls ≡ slice_index_or plan n calls = get_or_default plan n [] calls (omega (arith, within, each_length (IsWorkStarted m) 0 plan all started)) in
     let s = each_at (IsWorkStarted m) 0 n plan all calls h started within at is in
     let zero_more : 0 + n ≡ n = omega arith in
     (calls, at, done_alike h.promise.memory.value m h.promise.port n h.promise.calls.value.now calls w kept (sym s.memory) (sym (s.number ∙ zero_more)) (sym s.calls))

@@ -1,5 +1,5 @@
 -- The calls of a port, one after the other: what is known of those that it doesn't note.
-use Rattle.partial_workers.proofs.Common.{ℕ, suc, ◌≡◌, ◌+◌, ◌<◌, ◌++◌, ◌⊎◌, Some, None, List, [], ◌∷◌, length, take, get_or, refl, sym, ap, subst, ◌∙◌, inl, inr, arith, take-suc, map-append, append-nil, Call, Answer, IsOf, MemoryView, PortView, Answered, IsRefused, AreMade, Fills, IsMade, IsUnnoted, Note, Noted, seen_after, seen_by}
+use Rattle.partial_workers.proofs.Common.{ℕ, suc, ◌≡◌, ◌+◌, ◌<◌, ◌++◌, ◌⊎◌, Some, None, List, [], ◌∷◌, length, take, slice_index_or, refl, sym, ap, subst, ◌∙◌, inl, inr, arith, take-suc, map-append, append-nil, Call, Answer, IsOf, MemoryView, PortView, Answered, IsRefused, AreMade, Fills, IsMade, IsUnnoted, Note, Noted, seen_after, seen_by}
 use Rattle.partial_model.specs.declared.call.Refused.{Refused}
 use Rattle.partial_memory.specs.Calls.{Scanned, Scans}
 use Rattle.partial_memory.proofs.Laws.{refusals_at_once_fit}
@@ -88,7 +88,7 @@ made_same m cs given p q had same =
     record { all = had.all; calls = had.calls; answers = had.answers; fills = subst (λ (l : List Noted). Fills m 0 l had.all) (sym same) had.fills }
 
 -- one more of the first calls
-pub made_next : (m n next : ℕ) (cs : List Call) (given : List Answer) (c : Call) (a : Answer) (p q : PortView) → AreMade m (take n cs) given p → n < length cs → c ≡ get_or cs n c → next ≡ n + 1 →
+pub made_next : (m n next : ℕ) (cs : List Call) (given : List Answer) (c : Call) (a : Answer) (p q : PortView) → AreMade m (take n cs) given p → n < length cs → c ≡ slice_index_or cs n c → next ≡ n + 1 →
     IsMade m p c a q → AreMade m (take next cs) (given ++ a ∷ []) q
 made_next m n next cs given c a p q had within at is new =
     let one : next ≡ suc n = is ∙ omega arith in

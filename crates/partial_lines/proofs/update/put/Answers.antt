@@ -1,4 +1,4 @@
-use Rattle.partial_lines.proofs.{Common.{ℕ, ◌≡◌, rules, true, Result, Ok, Err, IfOk, OnOk, Bool, cond, IfSome, IfNone, Option, Some, None, refl, ap, sym, subst, ◌∙◌, ClaimingRecord, Viewing, Exchanging, Idle, scan_begun, with_set, CoreState, at_stage, pool_refused, with_getting, IsSound, behind_scan, set_made, IsMarkedLike, RestsLike}, Parts.set_ended, Resting.{rests_there, update_rests}}
+use Rattle.partial_lines.proofs.{Common.{ℕ, ◌≡◌, rules, true, Result, Ok, Err, IfOk, OnOk, Bool, if◌then◌else◌, IfSome, IfNone, Option, Some, None, refl, ap, sym, subst, ◌∙◌, ClaimingRecord, Viewing, Exchanging, Idle, scan_begun, with_set, CoreState, at_stage, pool_refused, with_getting, IsSound, behind_scan, set_made, IsMarkedLike, RestsLike}, Parts.set_ended, Resting.{rests_there, update_rests}}
 use Rattle.partial_active.specs.GetSet as finding
 use Rattle.partial_lines.proofs.update.put.Goals as goal
 
@@ -17,7 +17,7 @@ write_plain-requires-clause-stage g c =
     let set : finding.SetPair = (c.in_ok-set.set, c.make_set.new.self.found) in
     let got = set_ended c.args.core.now c.args.change c.args.old (g.M.Makes.machine c.args.lines.now) (g.M.Makes.machine c.make_set.new.steps.lines.now) set c.requires.machine
     c.in_ok-set.ensures.follows.1 c.in_ok-set.ensures.set c.in_ok-set.ensures.done in
-    ap (λ (t : CoreState). t.stage) got ∙ ap (λ b. cond b (ClaimingRecord c.args.change c.args.old) (Viewing c.args.change c.args.old)) (sym c.found_none.ensures ∙ c.if-found_none.true)
+    ap (λ (t : CoreState). t.stage) got ∙ ap (λ b. if b then ClaimingRecord c.args.change c.args.old else Viewing c.args.change c.args.old) (sym c.found_none.ensures ∙ c.if-found_none.true)
 
 pub write_plain-requires-clause-like : goal.write_plain-requires-clause-like
 write_plain-requires-clause-like g c =
@@ -43,7 +43,7 @@ write_record-requires-clause-machine g c =
     let got = set_ended c.args.core.now c.args.change c.args.old (g.M.Makes.machine c.args.lines.now) (g.M.Makes.machine c.make_set.new.steps.lines.now) set c.requires.machine
     c.in_ok-set.ensures.follows.1 c.in_ok-set.ensures.set c.in_ok-set.ensures.done in
     let none = sym c.found_none.ensures ∙ c.if-found_none.false in
-    let stage = ap (λ (t : CoreState). t.stage) got ∙ ap (λ b. cond b (ClaimingRecord c.args.change c.args.old) (Viewing c.args.change c.args.old)) none in
+    let stage = ap (λ (t : CoreState). t.stage) got ∙ ap (λ b. if b then ClaimingRecord c.args.change c.args.old else Viewing c.args.change c.args.old) none in
     c.in_ok-scan_found.ensures.machine ∙ ap (λ t. at_stage c.scan_found.new.core (behind_scan t)) stage
 
 pub returns-then-found_none-clause-rests : goal.returns-then-found_none-clause-rests

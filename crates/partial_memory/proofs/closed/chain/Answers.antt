@@ -1,4 +1,4 @@
-use Rattle.partial_memory.proofs.{Common.{ap, sym, ◌∙◌, subst, length, get_or, refl, arith, slots_items, length_push}, Chains.{Walked, elem_or, walked_none, walked_more, walked_all, walked_within}}
+use Rattle.partial_memory.proofs.{Common.{ap, sym, ◌∙◌, subst, length, slice_index, refl, arith, slots_items, length_push}, Chains.{Walked, elem_or, walked_none, walked_more, walked_all, walked_within}}
 use Rattle.partial_memory.proofs.closed.chain.Goals as goal
 
 pub loop-at-init : goal.loop-at-init
@@ -35,8 +35,8 @@ word-at-requires c =
 pub loop-at-preserved : goal.loop-at-preserved
 loop-at-preserved c =
     let words = slots_items c.args.words.now.words in
-    let value = sym (elem_or words c.value_word.result _ c.word-value.ensures) ∙ ap (λ k. get_or words k 0) c.value_word.ensures in
-    let prev = sym (ap (λ k. get_or words k 0) c.prev_word.ensures) ∙ elem_or words c.prev_word.result _ c.word-at.ensures in
+    let value = sym (elem_or words c.value_word.result _ c.word-value.ensures) ∙ ap (λ k. slice_index words k) c.value_word.ensures in
+    let prev = sym (ap (λ k. slice_index words k) c.prev_word.ensures) ∙ elem_or words c.prev_word.result _ c.word-at.ensures in
     let more = walked_more words _ _ _ (record { stamp = c.loop-at.at; value = c.word-value.result }) c.loop-at.invariant.walked c.loop-at-test.true refl value in
     record { walked = subst (λ l. Walked words c.args.newest l c.word-at.result) (sym c.in_ok-push.ensures.items) (subst (Walked words c.args.newest _) prev more) }
 

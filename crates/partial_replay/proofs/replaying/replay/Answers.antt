@@ -1,4 +1,4 @@
-use Rattle.partial_replay.proofs.{Common.{ℕ, ◌≡◌, ◌++◌, ◌∙◌, Bool, false, cond, List, [], length, get_or, Option, Some, None, map, take, ap, subst, sym, arith, ◌<◌, range_with_len, take_all, false≢true, Call, Run, TellsOutcome, ArePlans, StopAtSteps, TurnsMade, IsReplayOf, AllByRecursion-get, IsTurnEntry, Layout, ports_of, so_many, to_its_end, turns_of, HasReplayed}, Plans.are_plans, PortLaws.get_is, Replays.replay_told, RunTurns.next_turns, TurnLaws.{next_steps, all_steps, next_end, ending_next}}
+use Rattle.partial_replay.proofs.{Common.{ℕ, ◌≡◌, ◌++◌, ◌∙◌, Bool, false, if◌then◌else◌, List, [], length, slice_index_or, Option, Some, None, map, take, ap, subst, sym, arith, ◌<◌, range_with_len, take_all, false≢true, Call, Run, TellsOutcome, ArePlans, StopAtSteps, TurnsMade, IsReplayOf, AllByRecursion-get, IsTurnEntry, Layout, ports_of, so_many, to_its_end, turns_of, HasReplayed}, Plans.are_plans, PortLaws.get_is, Replays.replay_told, RunTurns.next_turns, TurnLaws.{next_steps, all_steps, next_end, ending_next}}
 use Rattle.partial_replay.proofs.replaying.replay.Goals.{then-rest+else-loop-p-then-rest-test, else-rest}
 use Rattle.partial_replay.proofs.replaying.replay.Goals as goal
 
@@ -23,13 +23,14 @@ returns c =
       | then-rest+else-loop-p-then-rest-test w ↦
           let all : w.loop-p-then-rest.p ≡ length p.ports = (let n = ap length is in omega (arith, n, w.loop-p-then-rest-test.false, w.loop-p-then-rest.auto.p-end)) in
           let turns : map so_many p.steps ++ map to_its_end (range_with_len 0 w.loop-p-then-rest.p) ≡ turns_of p =
-          ap (λ n. map so_many p.steps ++ map to_its_end (range_with_len 0 n)) all ∙ ap (λ (b : Bool). map so_many p.steps ++ cond b (map to_its_end (range_with_len 0 (length p.ports))) [])
+          ap (λ n. map so_many p.steps ++ map to_its_end (range_with_len 0 n)) all ∙ ap (λ (b : Bool). map so_many p.steps ++ (if b then map to_its_end (range_with_len 0 (length p.ports)) else []))
           w.if-rest.ensures.value in
           told w.loop-p-then-rest.run w.run-is (subst (λ (es : List (ℕ × Option ℕ)). HasReplayed p plans es w.loop-p-then-rest.run) turns w.loop-p-then-rest.invariant)
           (λ no. absurd (false≢true (sym no ∙ sym w.if-rest.ensures.value)))
       | else-rest w ↦
           let i = c.loop-p.invariant in
-          let turns : map so_many (take c.loop-p.p-index p.steps) ≡ turns_of p = front ∙ ap (λ (b : Bool). map so_many p.steps ++ cond b (map to_its_end (range_with_len 0 (length p.ports))) [])
+          let turns : map so_many (take c.loop-p.p-index p.steps) ≡ turns_of p = front
+          ∙ ap (λ (b : Bool). map so_many p.steps ++ (if b then map to_its_end (range_with_len 0 (length p.ports)) else []))
           w.if-rest.ensures.value in
           told c.loop-p.run w.run-is (subst (λ (es : List (ℕ × Option ℕ)). HasReplayed p plans es c.loop-p.run) turns i.replayed)
           (λ no. subst (λ (l : List (ℕ × ℕ)). StopAtSteps l c.loop-p.run) (take_all c.loop-p.p-index p.steps (omega (arith, c.loop-p-test.false, steps))) i.ending)
@@ -57,8 +58,8 @@ turns-requires-clause-port c =
     let many : length c.ports-plans.result.now ≡ length p.ports = ap length c.ports-plans.ensures.value in
     let steps : length c.steps-p-items.result.now ≡ length p.steps = ap length is in
     let below : i < length p.steps = omega (arith, c.loop-p-test.true, steps) in
-    let here : (get_or c.steps-p-items.result.now i (0, 0)).0 ≡ (get_or p.steps i (0, 0)).0 = ap (λ (l : List (ℕ × ℕ)). (get_or l i (0, 0)).0) is in
-    let entry = AllByRecursion-get (IsTurnEntry (length p.ports)) p.steps i (get_or p.steps i (0, 0)) c.ports-plans.ensures.lawful.steps (get_is p.steps i (0, 0) below) in
+    let here : (slice_index_or c.steps-p-items.result.now i (0, 0)).0 ≡ (slice_index_or p.steps i (0, 0)).0 = ap (λ (l : List (ℕ × ℕ)). (slice_index_or l i (0, 0)).0) is in
+    let entry = AllByRecursion-get (IsTurnEntry (length p.ports)) p.steps i (slice_index_or p.steps i (0, 0)) c.ports-plans.ensures.lawful.steps (get_is p.steps i (0, 0) below) in
     let port = entry.0 in
     omega (arith, many, here, port)
 
@@ -73,8 +74,8 @@ loop-p-preserved c =
     let p = c.args.plan.now in
     let steps : length c.steps-p-items.result.now ≡ length p.steps = ap length is in
     let below : i < length p.steps = omega (arith, c.loop-p-test.true, steps) in
-    let e = get_or p.steps i (0, 0) in
-    let t : TurnsMade plans e.0 (Some e.1) run new = subst (λ (l : List (ℕ × ℕ)). TurnsMade plans (get_or l i (0, 0)).0 (Some (get_or l i (0, 0)).1) run new) is c.in_ok-turns.ensures.turns in
+    let e = slice_index_or p.steps i (0, 0) in
+    let t : TurnsMade plans e.0 (Some e.1) run new = subst (λ (l : List (ℕ × ℕ)). TurnsMade plans (slice_index_or l i (0, 0)).0 (Some (slice_index_or l i (0, 0)).1) run new) is c.in_ok-turns.ensures.turns in
     record {
       replayed = subst (λ (es : List (ℕ × Option ℕ)). HasReplayed p plans es new) (sym (next_steps p.steps i e (get_is p.steps i (0, 0) below)))
           (next_turns e.0 (Some e.1) old.replayed c.in_ok-turns.ensures.between c.in_ok-turns.ensures.same t);

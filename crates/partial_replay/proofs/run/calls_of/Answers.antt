@@ -1,4 +1,4 @@
-use Rattle.partial_replay.proofs.{Common.{◌≡◌, ◌++◌, List, [], ◌∷◌, length, get_or, slice_get, sym, ◌∙◌, ap, arith, append-nil, length_push, take_all, is_some, Call, Called, unfinished_call, calls_in, Global, Vec, PortAt}, Opens.{pair_at, listed_at_place, length-zip, none_in, calls_more, over_is, none_over}, PortLaws.call_at_place}
+use Rattle.partial_replay.proofs.{Common.{◌≡◌, ◌++◌, List, [], ◌∷◌, length, slice_index_or, slice_get, sym, ◌∙◌, ap, arith, append-nil, length_push, take_all, is_some, Call, Called, unfinished_call, calls_in, Global, Vec, PortAt}, Opens.{pair_at, listed_at_place, length-zip, none_in, calls_more, over_is, none_over}, PortLaws.call_at_place}
 use Rattle.std.proofs.lemmas.Iterator.{YieldsList-from_slice, YieldsList-from_zip}
 use Rattle.std.proofs.lemmas.Iterator.{Adapters.YieldsList-from_vec, Consumers.{YieldsList-turn, YieldsList-end}}
 use Rattle.partial_replay.proofs.run.calls_of.Goals.{After-append, in-Some-under_way+in_ok-unfinished+in_ok-push, in_default}
@@ -53,7 +53,7 @@ loop-port-preserved c =
           let within = (listed_at_place c.args.plans.now c.args.ports.items (length c.loop-port.yielded) c.requires at).1 (ap is_some w.in-Some-under_way.is) in
           let same : c.len-done.result ≡ length port.finished.items = omega (arith, port.finished.ok.0, c.len-done.ensures) in
           let get = call_at_place plan port.finished.items c.len-done.result call same (omega (arith, same, within))
-          (w.index-as_slice-done.is ∙ ap (λ (l : List Call). get_or l c.len-done.result call) w.as_slice.ensures) in
+          (w.index-as_slice-done.is ∙ ap (λ (l : List Call). slice_index_or l c.len-done.result call) w.as_slice.ensures) in
           let over = over_is port plan w.in-Some-under_way.way call ended w.in-Some-under_way.is get
           (w.in_ok-unfinished.ensures ∙ ap (λ i. unfinished_call port.number i call w.in-Some-under_way.way) same) in
           let is : now ≡ (c.loop-port.calls.items ++ port.finished.items) ++ ended ∷ [] = ap (λ (v : Vec Called Global). v.items) w.calls-is ∙ w.in_ok-push.ensures.items ∙

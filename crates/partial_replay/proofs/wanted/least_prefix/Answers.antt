@@ -1,16 +1,16 @@
-use Rattle.partial_replay.proofs.{Common.{ℕ, ◌≡◌, ◌≢◌, ◌-◌, ◌<◌, ◌≤◌, ◌⊎◌, List, Bool, Option, count_by, length, get_or, None, Some, slice_get, refl, sym, ◌∙◌, subst, inl, inr, arith, eqb-true, eq-eqb, false≢true, slice_get-get_or, Applied, prev_of, record_value, AllHave, HasRecord, marks_before, values_after}, ScanPlaces.{IsFoundFrom, IsWalked, walked_at_end, walked_back, found_least}}
+use Rattle.partial_replay.proofs.{Common.{ℕ, ◌≡◌, ◌≢◌, ◌-◌, ◌<◌, ◌≤◌, ◌⊎◌, List, Bool, Option, count_by, length, slice_index_or, None, Some, slice_get, refl, sym, ◌∙◌, subst, inl, inr, arith, eqb-true, eq-eqb, false≢true, slice_get-get_or, Applied, prev_of, record_value, AllHave, HasRecord, marks_before, values_after}, ScanPlaces.{IsFoundFrom, IsWalked, walked_at_end, walked_back, found_least}}
 use Rattle.partial_replay.proofs.wanted.least_prefix.Goals as goal
 
 -- the entry before a place
 abbrev entry_before : List Applied → ℕ → Applied
-entry_before h place = get_or h (place - 1) (record { port = 0; component = 0; value = 0; stamp = 0 })
+entry_before h place = slice_index_or h (place - 1) (record { port = 0; component = 0; value = 0; stamp = 0 })
 
 entry_stands : (h : List Applied) (began place : ℕ) → began < place → place ≤ length h → slice_get h (place - 1) ≡ Some (entry_before h place)
 entry_stands h began place below within = slice_get-get_or h (place - 1) (record { port = 0; component = 0; value = 0; stamp = 0 }) (omega (arith, below, within))
 
 -- one step of the loop, whichever place is the least then
 stepped : (wanted : List (Option ℕ)) (first marks after : List Bool) (words : List ℕ) (h : List Applied) (began place least next : ℕ) → began < place → place ≤ length h →
-    length wanted ≡ length first → ((k : ℕ) (e : Applied) → slice_get h k ≡ Some e → HasRecord words (length wanted) e) → after ≡ marks_before (get_or wanted (entry_before h place).component None)
+    length wanted ≡ length first → ((k : ℕ) (e : Applied) → slice_get h k ≡ Some e → HasRecord words (length wanted) e) → after ≡ marks_before (slice_index_or wanted (entry_before h place).component None)
     marks (entry_before h place).component (record_value words (prev_of words (entry_before h place).stamp)) → ((count_by (λ b. b) after ≡ 0) × (next ≡ place - 1)) ⊎
     ((count_by (λ b. b) after ≢ 0) × (next ≡ least)) → IsWalked wanted first marks words h began place least → IsWalked wanted first after words h began (place - 1) next
 stepped wanted first marks after words h began place least next below within rooms entries taken which walked =

@@ -1,10 +1,10 @@
-use Rattle.partial_replay.proofs.{Common.{◌<◌, length, get_or, refl, arith, rules, values_now, position_below}, ScanPlaces.{wanted_more, marked_more}}
+use Rattle.partial_replay.proofs.{Common.{◌<◌, length, slice_index, refl, arith, rules, values_now, position_below}, ScanPlaces.{wanted_more, marked_more}}
 use Rattle.partial_replay.proofs.wanted.want.Goals as goal
 
 pub loop-k-preserved : goal.loop-k-preserved
 loop-k-preserved c =
-    let j = get_or c.args.components.now c.loop-k.k 0 in
-    let v = get_or c.args.values.now c.loop-k.k 0 in
+    let j = slice_index c.args.components.now c.loop-k.k in
+    let v = slice_index c.args.values.now c.loop-k.k in
     let within : j < length c.loop-k.wanted = omega (
       arith,
       position_below c.args.components.now (length c.args.wanted.now) c.loop-k.k c.requires.components c.loop-k-test.true,

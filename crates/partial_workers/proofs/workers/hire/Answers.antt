@@ -1,4 +1,4 @@
-use Rattle.partial_workers.proofs.{Common.{rules, ◌≡◌, ◌+◌, ◌++◌, List, [], ◌∷◌, length, map, get_or, Bor, sym, ap, subst, ◌∙◌, arith, YieldsList-from_vec, YieldsList-turn, YieldsList-end, length-map, length_push, take_all, Call, AreEach, IsHired, IsNewWork, calls_of, Worker}, Hires.{as_many, hired, hire_more}, Pairs.{each_at, each_length, each_some, map_at}}
+use Rattle.partial_workers.proofs.{Common.{rules, ◌≡◌, ◌+◌, ◌++◌, List, [], ◌∷◌, length, map, slice_index_or, Bor, sym, ap, subst, ◌∙◌, arith, YieldsList-from_vec, YieldsList-turn, YieldsList-end, length-map, length_push, take_all, Call, AreEach, IsHired, IsNewWork, calls_of, Worker}, Hires.{as_many, hired, hire_more}, Pairs.{each_at, each_length, each_some, map_at}}
 use Rattle.partial_workers.proofs.workers.hire.Goals as goal
 
 pub bounds-calls-number : goal.bounds-calls-number
@@ -29,7 +29,7 @@ loop-port-preserved c =
     let own = c.index-calls-number.result in
     let calls : List Call = own.now in
     let same = length-map given (λ (b : Bor (List Call)). b.now) in
-    let at : calls ≡ get_or plan n calls = map_at (λ (b : Bor (List Call)). b.now) n given own (omega (arith, turn.0, long, same)) (c.index-calls-number.is ∙ ap (λ i. get_or given i own) place) in
+    let at : calls ≡ slice_index_or plan n calls = map_at (λ (b : Bor (List Call)). b.now) n given own (omega (arith, turn.0, long, same)) (c.index-calls-number.is ∙ ap (λ i. slice_index_or given i own) place) in
     let new : IsNewWork m (0 + n) calls c.in-Some.port = each_at (IsNewWork m) 0 n plan all calls c.in-Some.port c.requires turn.0 at turn.1 in
     let zero_more : 0 + n ≡ n = omega arith in
     let worker : Worker = record { port = c.in-Some.port; jobs = c.in_ok-jobs.jobs; answers = c.in_ok-answers.answers } in

@@ -1,4 +1,4 @@
-use Rattle.partial_workers.proofs.{Common.{rules, ◌≡◌, ◌+◌, ◌++◌, List, [], ◌∷◌, length, map, take, get_or, Bor, sym, ap, subst, ◌∙◌, arith, YieldsList-from_vec, YieldsList-turn, YieldsList-end, length-map, length_push, take_all, Call, AreEach, IsHired, IsWorkStarted, calls_of, Works}, Hires.done_alike, Pairs.{each_at, each_length, each_push, each_some, map_at}}
+use Rattle.partial_workers.proofs.{Common.{rules, ◌≡◌, ◌+◌, ◌++◌, List, [], ◌∷◌, length, map, take, slice_index_or, Bor, sym, ap, subst, ◌∙◌, arith, YieldsList-from_vec, YieldsList-turn, YieldsList-end, length-map, length_push, take_all, Call, AreEach, IsHired, IsWorkStarted, calls_of, Works}, Hires.done_alike, Pairs.{each_at, each_length, each_push, each_some, map_at}}
 use Rattle.partial_workers.proofs.workers.start.Goals as goal
 
 pub bounds-calls-port : goal.bounds-calls-port
@@ -41,7 +41,7 @@ spawn_with-requires-clause-keeps g c =
     let calls : List Call = own.now in
     let same = length-map given (λ (b : Bor (List Call)). b.now) in
     let long = each_length (IsHired m) 0 plan all c.requires in
-    let at : calls ≡ get_or plan n calls = map_at (λ (b : Bor (List Call)). b.now) n given own (omega (arith, turn.0, long, same)) (c.index-calls-port.is ∙ ap (λ i. get_or given i own) place) in
+    let at : calls ≡ slice_index_or plan n calls = map_at (λ (b : Bor (List Call)). b.now) n given own (omega (arith, turn.0, long, same)) (c.index-calls-port.is ∙ ap (λ i. slice_index_or given i own) place) in
     let mine : IsHired m (0 + n) calls worker = each_at (IsHired m) 0 n plan all calls worker c.requires turn.0 at turn.1 in
     λ κs lives r done. done_alike m c.of.result.value worker.port.number c.number-port.result (calls_of worker.jobs.items) c.of-in-loop-worker.result.value.now r
     done c.of.ensures c.number-port.ensures.value (ap (λ (b : Bor (List Call)). b.now) c.of-in-loop-worker.ensures ∙ sym mine.jobs)
@@ -72,7 +72,7 @@ loop-worker-preserved g c =
     let calls : List Call = own.now in
     let same = length-map given (λ (b : Bor (List Call)). b.now) in
     let long = each_length (IsHired m) 0 plan all c.requires in
-    let at : calls ≡ get_or plan n calls = map_at (λ (b : Bor (List Call)). b.now) n given own (omega (arith, turn.0, long, same)) (c.index-calls-port.is ∙ ap (λ i. get_or given i own) place) in
+    let at : calls ≡ slice_index_or plan n calls = map_at (λ (b : Bor (List Call)). b.now) n given own (omega (arith, turn.0, long, same)) (c.index-calls-port.is ∙ ap (λ i. slice_index_or given i own) place) in
     let h = c.in_ok-spawn_with.field-0 in
     let promised = c.in_ok-spawn_with.ensures.ok in
     let started : IsWorkStarted m (0 + n) calls h = record {

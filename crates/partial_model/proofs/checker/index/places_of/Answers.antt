@@ -1,9 +1,9 @@
-use Rattle.partial_model.proofs.{Common.{ℕ, ◌≡◌, ◌<◌, length, get_or, [], ◌∷◌, ◌++◌, slice_get, Some, sym, ap, subst, ◌∙◌, arith, length-set, slice_get-get_or, Applied, AreListsOf}, IndexLaws.{list_at_within, lists_more}, NotesLemmas.AllByRecursion-get}
+use Rattle.partial_model.proofs.{Common.{ℕ, ◌≡◌, ◌<◌, length, slice_index_or, [], ◌∷◌, ◌++◌, slice_get, Some, sym, ap, subst, ◌∙◌, arith, length-set, slice_get-get_or, Applied, AreListsOf}, IndexLaws.{list_at_within, lists_more}, NotesLemmas.AllByRecursion-get}
 use Rattle.partial_model.proofs.checker.index.places_of.Goals as goal
 
 pub loop-place-preserved : goal.loop-place-preserved
 loop-place-preserved c =
-    let e : Applied = get_or c.args.history.now c.loop-place.place (record { port = 0; component = 0; value = 0; stamp = 0 }) in
+    let e : Applied = slice_index_or c.args.history.now c.loop-place.place (record { port = 0; component = 0; value = 0; stamp = 0 }) in
     let stands : slice_get c.args.history.now c.loop-place.place ≡ Some e =
     slice_get-get_or c.args.history.now c.loop-place.place (record { port = 0; component = 0; value = 0; stamp = 0 }) c.loop-place-test.true in
     let within : e.component < length c.loop-place.lists.items = subst (λ (n : ℕ). e.component < n) (sym c.loop-place.invariant.len)

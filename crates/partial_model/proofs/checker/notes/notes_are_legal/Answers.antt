@@ -1,4 +1,4 @@
-use Rattle.partial_model.proofs.{Common.{ℕ, ◌≡◌, ◌+◌, ◌≤◌, ◌==◌, cond, true, length, drop, sym, ap, ◌∙◌, subst, arith, eq-eqb, ne_eqb, call_is_legal, notes_are_legal}, WalkLaws.{notes_more, seen_within}}
+use Rattle.partial_model.proofs.{Common.{ℕ, ◌≡◌, ◌+◌, ◌≤◌, ◌==◌, if◌then◌else◌, true, length, drop, sym, ap, ◌∙◌, subst, arith, eq-eqb, ne_eqb, call_is_legal, notes_are_legal}, WalkLaws.{notes_more, seen_within}}
 use Rattle.partial_model.proofs.checker.notes.notes_are_legal.Goals as goal
 use Rattle.partial_model.proofs.checker.notes.notes_are_legal.Goals.{then-call-port, else-call-port}
 
@@ -6,10 +6,10 @@ pub loop-call-preserved : goal.loop-call-preserved
 loop-call-preserved c =
     let seen : ℕ = c.loop-call.seen in
     let before : ℕ = c.if-call-port.before in
-    let known : before ≡ cond (c.call-item.result.port == c.loop-call.port) seen 0 =
+    let known : before ≡ (if c.call-item.result.port == c.loop-call.port then seen else 0) =
     elim c.if-call-port.branch [
-      | then-call-port w ↦ w.before-is ∙ ap (λ b. cond b seen 0) (sym (eq-eqb _ _ w.if-call-port.true))
-      | else-call-port w ↦ w.before-is ∙ ap (λ b. cond b seen 0) (sym (ne_eqb _ _ w.if-call-port.false))
+      | then-call-port w ↦ w.before-is ∙ ap (λ b. if b then seen else 0) (sym (eq-eqb _ _ w.if-call-port.true))
+      | else-call-port w ↦ w.before-is ∙ ap (λ b. if b then seen else 0) (sym (ne_eqb _ _ w.if-call-port.false))
     ] in
     let within : before ≤ length c.args.history.now =
     elim c.if-call-port.branch [

@@ -1,4 +1,4 @@
-use Rattle.partial_replay.proofs.{Common.{◌≡◌, length, sym, ◌∙◌, subst, arith, set, KeepsMade, BeginsIn, PortAt}, RunSteps.{port_here, part_at, begin_keeps, ports_length, none_of, some_of, match_bool, begun_done, idle_between, left_is, left_ready, served_here}, PortLaws.{get_set, some_is}, PortSteps.{ending_but, started_but, started_idle}, TurnLaws.done_set, PortTurns.turn_comes, RunTurns.begins_at}
+use Rattle.partial_replay.proofs.{Common.{◌≡◌, length, sym, ◌∙◌, subst, arith, slice_set, KeepsMade, BeginsIn, PortAt}, RunSteps.{port_here, part_at, begin_keeps, ports_length, none_of, some_of, match_bool, begun_done, idle_between, left_is, left_ready, served_here}, PortLaws.{get_set, some_is}, PortSteps.{ending_but, started_but, started_idle}, TurnLaws.done_set, PortTurns.turn_comes, RunTurns.begins_at}
 use Rattle.partial_replay.proofs.run.Run.get_ready.Goals.{After-index_mut-port}
 use Rattle.partial_replay.proofs.run.Run.get_ready.Goals as goal
 
@@ -43,7 +43,7 @@ pub returns-clause-begun : goal.returns-clause-begun
 returns-clause-begun c =
     let at = here (goal.at.returns-clause-begun c).After-index_mut-port in
     let seen : c.len-seen.result ≡ length c.args.self.now.memory.history.items = omega (arith, c.len-seen.ensures, c.args.self.now.memory.history.ok.0) in
-    subst (λ n. BeginsIn c.args.plans.now c.args.p n c.args.self.now.ports.items (set c.args.self.now.ports.items c.args.p c.begin_next.new.self)) seen
+    subst (λ n. BeginsIn c.args.plans.now c.args.p n c.args.self.now.ports.items (slice_set c.args.self.now.ports.items c.args.p c.begin_next.new.self)) seen
     (begins_at c.len-seen.result c.begin_next.new.self at c.in_ok-begun.ensures.turn)
 
 pub returns-clause-replay : goal.returns-clause-replay
@@ -91,7 +91,7 @@ returns-clause-left c =
     let fits = c.in_ok-begun.ensures.fits c.args.self.now.opening c.args.self.now.memory.history.items c.args.p part.x (sym seen) part.fits in
     let none = none_of port.under_way (sym c.is_some.ensures ∙ c.if-is_some.false) in
     let less = left_ready port (served_here run.state run.served at) c.in_ok-begun.ensures.sizes fits none c.in_ok-begun.ensures.more in
-    let now = left_is plans (set ports c.args.p new) c.args.p (record { plan = at.plan; is = get_set ports c.args.p port new at.is }) in
+    let now = left_is plans (slice_set ports c.args.p new) c.args.p (record { plan = at.plan; is = get_set ports c.args.p port new at.is }) in
     let old = left_is plans ports c.args.p at in
     omega (arith, less, now, old)
 

@@ -1,4 +1,4 @@
-use Rattle.partial_replay.proofs.{Common.{◌∙◌, set, sym, ap, subst, arith, Layout, ArePlans, PortAt}, RunSteps.{port_here, part_at, may_step, ready_way, ready_below, step_keeps, left_is, left_falls, components_here, on_ok_both}, RunLaws.sizes_y, PortLaws.get_set, PortSteps.{ending_with, started_set, step_ending, step_started}, TurnLaws.{done_set, by_step, stepped_done}, RunTurns.steps_at}
+use Rattle.partial_replay.proofs.{Common.{◌∙◌, slice_set, sym, ap, subst, arith, Layout, ArePlans, PortAt}, RunSteps.{port_here, part_at, may_step, ready_way, ready_below, step_keeps, left_is, left_falls, components_here, on_ok_both}, RunLaws.sizes_y, PortLaws.get_set, PortSteps.{ending_with, started_set, step_ending, step_started}, TurnLaws.{done_set, by_step, stepped_done}, RunTurns.steps_at}
 use Rattle.std.proofs.lemmas.Result.{on_ok_weaker}
 use Rattle.partial_replay.proofs.run.Run.make_step.Goals.{After-index_mut-port}
 use Rattle.partial_replay.proofs.run.Run.make_step.Goals as goal
@@ -50,7 +50,7 @@ returns-clause-progress c =
     let new = c.make_step.new.self in
     on_ok_weaker c.make_step.result (λ m.
     let less = left_falls more m (sizes_y (part_at c.requires.replay.state at) m.was m.step m.due) in
-    let now = left_is c.args.plans.now (set ports c.args.p new) c.args.p (record { plan = at.plan; is = get_set ports c.args.p c.index_mut-port.result.now new at.is }) in
+    let now = left_is c.args.plans.now (slice_set ports c.args.p new) c.args.p (record { plan = at.plan; is = get_set ports c.args.p c.index_mut-port.result.now new at.is }) in
     let old = left_is c.args.plans.now ports c.args.p at in
     omega (arith, less, now, old)) c.make_step.ensures.made
 

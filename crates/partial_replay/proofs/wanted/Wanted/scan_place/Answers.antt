@@ -1,4 +1,4 @@
-use Rattle.partial_replay.proofs.{Common.{ℕ, ◌≡◌, ◌<◌, ◌∙◌, List, Option, length, None, get_or, sym, ap, subst, vec_len, arith, rules, AllByRecursion, AreMarked, AreWanted, HasRecord, values_after, values_now}, ScanPlaces.{take_front, have_shown, least_shown, wanted_below}}
+use Rattle.partial_replay.proofs.{Common.{ℕ, ◌≡◌, ◌<◌, ◌∙◌, List, Option, length, None, slice_index_or, sym, ap, subst, vec_len, arith, rules, AllByRecursion, AreMarked, AreWanted, HasRecord, values_after, values_now}, ScanPlaces.{take_front, have_shown, least_shown, wanted_below}}
 use Rattle.partial_replay.proofs.wanted.Wanted.scan_place.Goals as goal
 
 pub least_prefix-least-requires-clause-entries : goal.least_prefix-least-requires-clause-entries
@@ -16,7 +16,7 @@ forget-requires-clause-only c =
     let room : length c.want.new.wanted ≡ vec_len c.self.inside.wanted = c.want.ensures.wanted_room ∙ c.deref_mut.ensures.len in
     let same : c.deref_mut-2.result.now ≡ c.want.new.wanted = c.deref_mut-2.ensures.value ∙ take_front (vec_len c.self.inside.wanted) c.want.new.wanted _ room in
     λ j v wants.
-    let at = c.want.ensures.wanted.only j v (ap (λ (l : List (Option ℕ)). get_or l j None) (sym same) ∙ wants) in
+    let at = c.want.ensures.wanted.only j v (ap (λ (l : List (Option ℕ)). slice_index_or l j None) (sym same) ∙ wants) in
     (at.0, omega arith, at.1, at.2)
 
 pub returns-clause-least : goal.returns-clause-least

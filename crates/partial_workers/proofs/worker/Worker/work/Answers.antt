@@ -1,4 +1,4 @@
-use Rattle.partial_workers.proofs.{Common.{rules, ◌≡◌, ◌<◌, ◌+◌, List, length, take, get_or, sym, ap, subst, ◌∙◌, arith, YieldsList-from_vec, YieldsList-turn, YieldsList-end, length-map, length_push, take_all, Answer, AreMade, calls_of, Job}, Made.made_next, Pairs.map_at}
+use Rattle.partial_workers.proofs.{Common.{rules, ◌≡◌, ◌<◌, ◌+◌, List, length, take, slice_index_or, sym, ap, subst, ◌∙◌, arith, YieldsList-from_vec, YieldsList-turn, YieldsList-end, length-map, length_push, take_all, Answer, AreMade, calls_of, Job}, Made.made_next, Pairs.map_at}
 use Rattle.partial_workers.proofs.worker.Worker.work.Goals as goal
 
 pub loop-job-preserved : goal.loop-job-preserved
@@ -14,7 +14,7 @@ loop-job-preserved g c =
     let turn = YieldsList-turn (YieldsList-from_vec {s = c.into_iter-job-iterator.result} all (search rules) (search rules)) c.loop-job.yielded _ c.loop-job.yielded_by _ c.next.new.self job
     c.in-Some.is c.next.ensures.steps in
     let within : length old < length all = omega (arith, had.count, turn.0) in
-    let at : job ≡ get_or all (length old) job = turn.1 ∙ ap (λ k. get_or all k job) (sym had.count) in
+    let at : job ≡ slice_index_or all (length old) job = turn.1 ∙ ap (λ k. slice_index_or all k job) (sym had.count) in
     let place = map_at (λ (j : Job). j.call.now) (length old) all job within at in
     let long : length (calls_of all) ≡ length all = length-map all (λ (j : Job). j.call.now) in
     let items = c.push_reserved.ensures.items in
