@@ -12,6 +12,24 @@ use std::alloc::{AllocError, Global};
 use std::process::Abort;
 use std::test::Fail;
 
+// Adds the ports of a worker to those of the others.
+fn part_ports(
+    memory: &Memory,
+    port: Port,
+    other: Option<Port>,
+    ports: &mut Vec<Port>,
+) -> Result<(), AllocError>
+    requires own { IsOf memory.now port × IfSome other (IsOf memory.now) }
+    requires ports { AllByRecursion (IsOf memory.now) ports.old.items }
+    ensures { OnOk result (AllByRecursion (IsOf memory.now) ports.new.items) }
+{
+    ports.push(port)?;
+    if let Some(other) = other {
+        ports.push(other)?;
+    }
+    Ok(())
+}
+
 // Adds the ports of a worker and what it was told to those of the others.
 fn part(
     memory: &Memory,
@@ -30,11 +48,7 @@ fn part(
         ..
     } = worker;
     all.push(told)?;
-    ports.push(port)?;
-    if let Some(other) = other {
-        ports.push(other)?;
-    }
-    Ok(())
+    part_ports(memory, port, other, ports)
 }
 
 // The ports of all workers and what they were told, the last worker's first.
@@ -54,6 +68,14 @@ fn parted(
     Ok((ports, all))
 }
 
+// Closes the memory with these ports, of which the last one is the first to be handed in.
+fn closed_with(alloc: Global, memory: Memory, mut ports: Vec<Port>) -> Result<Closed, Fail>
+    requires { AllByRecursion (IsOf memory) ports.items }
+{
+    let first = ports.pop().ok_or("a port")?;
+    Ok(memory.close(alloc, first, ports)?)
+}
+
 /// Closes the memory with all its ports. What its workers were told comes back, the last worker's first.
 pub fn closed(
     alloc: Global,
@@ -62,9 +84,8 @@ pub fn closed(
 ) -> Result<(Closed, Vec<Told>), Fail>
     requires { All (λ w. IsOf memory w.port × IfSome w.other (IsOf memory)) workers.items }
 {
-    let (mut ports, all) = parted(alloc, &memory, workers)?;
-    let first = ports.pop().ok_or("a port")?;
-    let closed = memory.close(alloc, first, ports)?;
+    let (ports, all) = parted(alloc, &memory, workers)?;
+    let closed = closed_with(alloc, memory, ports)?;
     Ok((closed, all))
 }
 
@@ -80,6 +101,29 @@ fn has_in_order(chain: &[Link], stamps: &[u64]) -> bool {
     next.is_none()
 }
 
+/// Each worker's updates of the component stand in its chain in their order, and each worker's port has read its first link
+/// when all had ended. The number of these updates is returned.
+fn judge_workers(rt: &impl Abort, component: u32, chain: &[Link], all: &[Told]) -> usize {
+    let newest = chain.first().map(|link| (link.value, link.stamp));
+    let mut applied = 0usize;
+    for told in all {
+        assert_eq!(rt; told.seen.get(component as usize), Some(&newest));
+        let stamps = told.to_component(component);
+        assert!(rt; has_in_order(chain, stamps), "component {component}");
+        applied = applied.saturating_add(stamps.len());
+    }
+    applied
+}
+
+/// The chain has nothing else but the initial record, and its first link has the component's value.
+fn judge_chain(rt: &impl Abort, component: u32, chain: &[Link], value: Option<&u64>, all: &[Told]) {
+    let applied = judge_workers(rt, component, chain, all);
+    assert_eq!(rt; chain.len(), applied.saturating_add(1));
+    let newest = chain.first().map(|link| link.value);
+    assert_eq!(rt; newest.as_ref(), value);
+    assert_eq!(rt; chain.last().map(|link| link.value), Some(0));
+}
+
 /// The chain of a component has what the workers applied, each update once and in its caller's order,
 /// behind the initial record. Its first link has the component's value, which each worker's port has read
 /// with its stamp when all had ended.
@@ -87,20 +131,7 @@ pub fn judge_chains(rt: &impl Abort, closed: &Closed, all: &[Told]) {
     assert_eq!(rt; closed.values.len(), 2);
     assert_eq!(rt; closed.chains.len(), 2);
     for (component, chain) in (0u32..).zip(closed.chains.iter()) {
-        let mut applied = 0usize;
-        for told in all {
-            let newest = chain.first().map(|link| (link.value, link.stamp));
-            assert_eq!(rt; told.seen.get(component as usize), Some(&newest));
-            let stamps = told.to_component(component);
-            assert!(rt;
-                has_in_order(chain.as_slice(), stamps),
-                "component {component}"
-            );
-            applied = applied.saturating_add(stamps.len());
-        }
-        assert_eq!(rt; chain.len(), applied.saturating_add(1));
-        let newest = chain.first().map(|link| link.value);
-        assert_eq!(rt; newest.as_ref(), closed.values.get(component as usize));
-        assert_eq!(rt; chain.last().map(|link| link.value), Some(0));
+        let value = closed.values.get(component as usize);
+        judge_chain(rt, component, chain.as_slice(), value, all);
     }
 }

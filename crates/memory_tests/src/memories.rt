@@ -22,6 +22,16 @@ pub(super) fn opened(
     Memory::open(alloc, sizes, initial, ports)
 }
 
+// Takes two ports from their end: the one before the last, and the last one.
+fn last_two(memory: &Memory, mut ports: Vec<Port>) -> Result<(Port, Port), Fail>
+    requires { AllByRecursion (IsOf memory.now) ports.items }
+    ensures { IfOk result (λ r. IsOf memory.now r.0 × IsOf memory.now r.1) }
+{
+    let second = ports.pop().ok_or("a second port")?;
+    let first = ports.pop().ok_or("a first port")?;
+    Ok((first, second))
+}
+
 /// Opens a memory with two ports.
 pub(super) fn pair(
     alloc: Global,
@@ -31,9 +41,8 @@ pub(super) fn pair(
     requires { length initial.now ≡ sizes.m }
     ensures { IfOk result (λ r. (r.0.about.sizes ≡ sizes) × IsOf r.0 r.1 × IsOf r.0 r.2) }
 {
-    let (memory, mut ports) = opened(alloc, sizes, initial, 2)?;
-    let second = ports.pop().ok_or("a second port")?;
-    let first = ports.pop().ok_or("a first port")?;
+    let (memory, ports) = opened(alloc, sizes, initial, 2)?;
+    let (first, second) = last_two(&memory, ports)?;
     Ok((memory, first, second))
 }
 

@@ -103,12 +103,17 @@ fn reopened_beside(
     Ok(())
 }
 
+// Reopens a closed memory twice.
+fn reopened_twice(rt: &impl Abort, alloc: Global, closed: &Closed) -> Result<(), Fail> {
+    let sizes = Sizes::new(2, 4, 8, 64)?;
+    let (one, mut of_one) = alone(alloc, closed, sizes)?;
+    reopened_beside(rt, alloc, closed, &one, &mut of_one)
+}
+
 #[test]
 fn two_reopenings_are_apart(rt: HostRuntime) -> Result<(), Fail> {
-    let sizes = Sizes::new(2, 4, 8, 64)?;
     let closed = closed(&rt, rt.alloc())?;
-    let (one, mut of_one) = alone(rt.alloc(), &closed, sizes)?;
-    reopened_beside(&rt, rt.alloc(), &closed, &one, &mut of_one)
+    reopened_twice(&rt, rt.alloc(), &closed)
 }
 
 // Why a closed memory isn't reopened with these sizes and so many ports.
@@ -164,11 +169,19 @@ fn reads_last(rt: &impl Abort, memory: &Memory, me: &mut Port)
     assert_eq!(rt; last, Ok(7));
 }
 
+// Opens the greatest memory with the values of a closed one.
+fn reopened_greatest(alloc: Global, sizes: Sizes) -> Result<(Memory, Port), Fail>
+    requires { sizes.m ≡ 65536 }
+    ensures { IfOk result (λ r. IsOf r.0 r.1) }
+{
+    let closed = closed_greatest(alloc, sizes)?;
+    alone(alloc, &closed, sizes)
+}
+
 #[test]
 fn the_greatest_memory_reopens(rt: HostRuntime) -> Result<(), Fail> {
     let sizes = Sizes::new(65_536, 65_536, 65_536, 4_194_304)?;
-    let closed = closed_greatest(rt.alloc(), sizes)?;
-    let (memory, mut port) = alone(rt.alloc(), &closed, sizes)?;
+    let (memory, mut port) = reopened_greatest(rt.alloc(), sizes)?;
     reads_last(&rt, &memory, &mut port);
     Ok(())
 }

@@ -1,6 +1,7 @@
 //! Rows in one thread, each worked out by hand.
 
-ghost use Rattle.std.specs.Prelude.{◌≡◌, ◌≤◌};
+ghost use Rattle.std.specs.Prelude.{◌≡◌, ◌≤◌, IfOk};
+ghost use Rattle.std.specs.List.{AllByRecursion};
 ghost use Rattle.partial_memory.specs.Ports.{IsOf};
 
 use super::calls::{COLLECTED_TWICE, applies, reads, scans, updates_if};
@@ -8,7 +9,7 @@ use super::memories::{pair, single};
 use partial_memory::{Closed, Memory, OpenError, Port, Scanned, Updated, UpdatedIf};
 use partial_model::Refused;
 use partial_words::{Link, Sizes};
-use std::alloc::Global;
+use std::alloc::{AllocError, Global};
 use std::process::Abort;
 use std::test::Fail;
 
@@ -29,16 +30,43 @@ fn calls(rt: &impl Abort, memory: &Memory, first: &mut Port, second: &mut Port)
     assert_eq!(rt; memory.read(second, 2), Err(Refused::Component));
 }
 
+// The ports with which a memory is closed beside its first one: the second one where it is handed in.
+fn handed_in(
+    alloc: Global,
+    memory: &Memory,
+    second: Port,
+    both: bool,
+) -> Result<Vec<Port>, AllocError>
+    requires { IsOf memory.now second }
+    ensures { IfOk result (λ rest. AllByRecursion (IsOf memory.now) rest.items) }
+{
+    let mut rest = Vec::new(alloc);
+    if both {
+        rest.push(second)?;
+    }
+    Ok(rest)
+}
+
+// Closes the memory with the first port, and with the second one where it is handed in.
+fn closed_with(
+    alloc: Global,
+    memory: Memory,
+    first: Port,
+    second: Port,
+    both: bool,
+) -> Result<Closed, Fail>
+    requires { IsOf memory first × IsOf memory second }
+{
+    let rest = handed_in(alloc, &memory, second, both)?;
+    Ok(memory.close(alloc, first, rest)?)
+}
+
 // Makes them, and then the memory is closed with the first port, and with the second one where it is handed in.
 fn one_thread(rt: &impl Abort, alloc: Global, both: bool) -> Result<Closed, Fail> {
     let sizes = Sizes::new(2, 4, 8, 64)?;
     let (memory, mut first, mut second) = pair(alloc, sizes, &[10, 20])?;
     calls(rt, &memory, &mut first, &mut second);
-    let mut rest = Vec::new(alloc);
-    if both {
-        rest.push(second)?;
-    }
-    Ok(memory.close(alloc, first, rest)?)
+    closed_with(alloc, memory, first, second, both)
 }
 
 fn assert_closed(rt: &impl Abort, closed: &Closed) {
@@ -83,16 +111,31 @@ fn ports_of(alloc: Global, sizes: Sizes, ports: u32) -> Result<usize, OpenError>
     Ok(all.len())
 }
 
+// No memory opens with so many ports.
+fn refuses_ports(rt: &impl Abort, alloc: Global, sizes: Sizes, ports: u32)
+    requires { sizes.m ≡ 2 }
+{
+    let refused = ports_of(alloc, sizes, ports).err();
+    assert_eq!(rt; refused, Some(OpenError::Ports), "{ports} ports");
+}
+
+// A memory opens with so many ports.
+fn has_ports(rt: &impl Abort, alloc: Global, sizes: Sizes, ports: u32) -> Result<(), OpenError>
+    requires { sizes.m ≡ 2 }
+{
+    let all = ports_of(alloc, sizes, ports)?;
+    assert_eq!(rt; all, ports as usize);
+    Ok(())
+}
+
 #[test]
 fn ports_refused(rt: HostRuntime) -> Result<(), Fail> {
     let sizes = Sizes::new(2, 4, 8, 64)?;
     for ports in [0, 65] {
-        let refused = ports_of(rt.alloc(), sizes, ports).err();
-        assert_eq!(rt; refused, Some(OpenError::Ports), "{ports} ports");
+        refuses_ports(&rt, rt.alloc(), sizes, ports);
     }
     for ports in [1, 64] {
-        let all = ports_of(rt.alloc(), sizes, ports)?;
-        assert_eq!(rt; all, ports as usize);
+        has_ports(&rt, rt.alloc(), sizes, ports)?;
     }
     Ok(())
 }
@@ -271,26 +314,36 @@ fn between_scans(rt: &impl Abort, memory: &Memory, me: &mut Port)
     applies(rt, memory, me, 1, 13, 42);
 }
 
+// The links of a chain have these stamps, the newest first.
+fn has_stamps(rt: &impl Abort, chain: &[Link], stamps: &[u64]) {
+    assert_eq!(rt; chain.len(), stamps.len());
+    for (link, stamp) in chain.iter().zip(stamps) {
+        assert_eq!(rt; link.stamp, *stamp);
+    }
+}
+
 // The values and the chains of the closed memory behind these calls.
 fn assert_chains(rt: &impl Abort, closed: &Closed) {
     assert_eq!(rt; closed.values.as_slice(), [11, 13].as_slice());
     let stamps = [[36, 33, 24, 18].as_slice(), [42, 30, 21].as_slice()];
     for (chain, expected) in closed.chains.iter().zip(stamps) {
-        assert_eq!(rt; chain.len(), expected.len());
-        for (link, stamp) in chain.iter().zip(expected) {
-            assert_eq!(rt; link.stamp, *stamp);
-        }
+        has_stamps(rt, chain.as_slice(), expected);
     }
+}
+
+// Closes the memory behind these calls.
+fn closed_behind(rt: &impl Abort, alloc: Global) -> Result<Closed, Fail> {
+    let sizes = Sizes::new(2, 4, 8, 64)?;
+    let (memory, mut first, _) = pair(alloc, sizes, &[10, 20])?;
+    between_scans(rt, &memory, &mut first);
+    Ok(memory.close(alloc, first, Vec::new(alloc))?)
 }
 
 // The stamps and the chains are those of the steps by hand: a record takes 3 pool words, an announcement of two
 // positions 3, and an overtaken conditional update none.
 #[test]
 fn updates_between_scans(rt: HostRuntime) -> Result<(), Fail> {
-    let sizes = Sizes::new(2, 4, 8, 64)?;
-    let (memory, mut first, _) = pair(rt.alloc(), sizes, &[10, 20])?;
-    between_scans(&rt, &memory, &mut first);
-    let closed = memory.close(rt.alloc(), first, Vec::new(rt.alloc()))?;
+    let closed = closed_behind(&rt, rt.alloc())?;
     assert_chains(&rt, &closed);
     Ok(())
 }

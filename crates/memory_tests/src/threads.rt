@@ -1,11 +1,12 @@
 //! Runs of many threads, judged from outside.
 
-ghost use Rattle.std.specs.Prelude.{◌≡◌, ◌<◌, length};
+ghost use Rattle.std.specs.Prelude.{◌≡◌, ◌<◌, ◌≤◌, length, All, IfSome};
+ghost use Rattle.partial_memory.specs.Ports.{IsOf};
 
 use super::closings::{closed, judge_chains};
 use super::memories::opened;
-use super::workers::{Job, Told, hire, look, run};
-use partial_memory::Closed;
+use super::workers::{Job, Told, Worker, hire, look, run};
+use partial_memory::{Closed, Memory};
 use partial_model::Refused;
 use partial_words::Sizes;
 use std::alloc::{AllocError, Global};
@@ -17,9 +18,19 @@ const FIRST: Job = Job::Update { component: 0 };
 
 const SECOND: Job = Job::Update { component: 1 };
 
+/// Lets the workers work, and then read both components.
+fn work_and_look<R: Threads + Sync>(rt: &R, memory: &Memory, workers: &mut [Worker])
+    requires all { All (λ w. IsOf memory.now w.port × IfSome w.other (IsOf memory.now)) workers.old }
+    requires wide { 2 ≤ memory.now.about.sizes.m }
+    ensures { All (λ w. IsOf memory.now w.port × IfSome w.other (IsOf memory.now)) workers.new }
+{
+    run(rt, memory, workers);
+    look(rt, memory, workers);
+}
+
 /// Opens a memory of two zeros, lets its ports do these jobs in turn, each as often as that, and closes
-/// it with all of them. What each worker was told is judged, and so are the chains.
-fn worked<R: Threads + Sync + Abort>(
+/// it with all of them.
+fn closed_behind<R: Threads + Sync + Abort>(
     rt: &R,
     alloc: Global,
     sizes: Sizes,
@@ -31,9 +42,22 @@ fn worked<R: Threads + Sync + Abort>(
 {
     let (memory, ports) = opened(alloc, sizes, &[0, 0], ports)?;
     let mut workers = hire(alloc, &memory, ports, jobs)?;
-    run(rt, &memory, workers.as_mut_slice());
-    look(rt, &memory, workers.as_mut_slice());
-    let (closed, all) = closed(alloc, memory, workers)?;
+    work_and_look(rt, &memory, workers.as_mut_slice());
+    closed(alloc, memory, workers)
+}
+
+/// The same, and what each worker was told is judged, and so are the chains.
+fn worked<R: Threads + Sync + Abort>(
+    rt: &R,
+    alloc: Global,
+    sizes: Sizes,
+    ports: u32,
+    jobs: &[(Job, u64)],
+) -> Result<(Closed, Vec<Told>), Fail>
+    requires two { sizes.m ≡ 2 }
+    requires some { 0 < length jobs.now }
+{
+    let (closed, all) = closed_behind(rt, alloc, sizes, ports, jobs)?;
     judge(rt, alloc, &all)?;
     judge_chains(rt, &closed, &all);
     Ok((closed, all))
