@@ -51,6 +51,20 @@ pub(super) fn scanned(
     })
 }
 
+/// The first scan of a port, which began with no entry, with the history's length at its end, its answer and the prefix
+/// that it saw.
+pub(super) fn first_scan(
+    alloc: Global,
+    port: u32,
+    components: &[u32],
+    ended: usize,
+    seen: Answer,
+    prefix: usize,
+) -> Result<Called, AllocError> {
+    let call = scan(alloc, components)?;
+    Ok(called(port, 0, call, (0, ended), seen, Some(Note::Saw(prefix))))
+}
+
 /// A finished call of a port, with its number, the history's lengths at its begin and its end, its answer
 /// and its note.
 pub(super) fn called(
