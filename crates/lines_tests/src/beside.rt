@@ -15,6 +15,7 @@ use partial_lines::{Exchanged, put, read, scan};
 use partial_model::Refused;
 use partial_words::{Sizes, Step, announcement_size};
 use std::alloc::{AllocError, Global};
+use std::process::Abort;
 use std::test::Fail;
 
 // How a call ended beside its machine.
@@ -53,6 +54,41 @@ impl Ending {
             viewed: false,
             broken: true,
         }
+    }
+
+    // Whether an update was applied.
+    fn is_applied(&self) -> bool {
+        matches!(self.reply, Some(Reply::Applied { .. }))
+    }
+
+    // Whether an update was overtaken by another one.
+    fn is_lost(&self) -> bool {
+        matches!(self.reply, Some(Reply::Lost { .. }))
+    }
+
+    // Whether a conditional update found another stamp.
+    fn is_changed(&self) -> bool {
+        matches!(self.reply, Some(Reply::Changed { .. }))
+    }
+
+    // Whether a read was answered.
+    fn is_read(&self) -> bool {
+        matches!(self.reply, Some(Reply::Read { .. }))
+    }
+
+    // Whether a scan was answered.
+    fn is_scanned(&self) -> bool {
+        matches!(self.reply, Some(Reply::Scanned { .. }))
+    }
+
+    // Whether a scan was answered with values of its own.
+    fn is_own(&self) -> bool {
+        matches!(self.reply, Some(Reply::Scanned { borrowed: None, .. }))
+    }
+
+    // Whether the call was refused for that cause.
+    fn is_refused(&self, cause: Refused) -> bool {
+        self.reply == Some(Reply::Refused(cause))
     }
 }
 
@@ -268,28 +304,42 @@ fn reads(rt: HostRuntime) -> Result<(), Fail> {
     Ok(())
 }
 
+// Makes the update of that seed, which ends as its machine does.
+fn update_ends(
+    rt: &impl Abort,
+    alloc: Global,
+    sizes: Sizes,
+    expected: Option<u64>,
+    seed: u64,
+) -> Result<Ending, AllocError>
+    requires sizes { IsLayout sizes }
+    requires three { sizes.m ≡ 3 }
+{
+    let change = Change {
+        component: (seed % 3) as u32,
+        expected,
+        value: seed,
+    };
+    let ending = update_beside(alloc, sizes, &[5, 6, 7], change, whole(seed))?;
+    assert!(rt; ending.same, "at {seed}");
+    Ok(ending)
+}
+
 #[test]
 fn updates(rt: HostRuntime) -> Result<(), Fail> {
     let large = Sizes::new(3, 8, 16, 2000)?;
     let small = Sizes::new(3, 8, 16, 20)?;
-    let initial = [5, 6, 7];
     let mut applied = false;
     let mut lost = false;
     let mut refused = false;
     let mut viewed = false;
     for seed in 0..300u64 {
-        let change = Change {
-            component: (seed % 3) as u32,
-            expected: None,
-            value: seed,
-        };
         let sizes = if seed % 4 == 0 { small } else { large };
-        let ending = update_beside(rt.alloc(), sizes, &initial, change, whole(seed))?;
-        assert!(rt; ending.same, "at {seed}");
-        applied = applied || matches!(ending.reply, Some(Reply::Applied { .. }));
-        lost = lost || matches!(ending.reply, Some(Reply::Lost { .. }));
-        refused = refused || ending.reply == Some(Reply::Refused(Refused::PoolSpent));
-        viewed = viewed || ending.viewed;
+        let ending = update_ends(&rt, rt.alloc(), sizes, None, seed)?;
+        applied |= ending.is_applied();
+        lost |= ending.is_lost();
+        refused |= ending.is_refused(Refused::PoolSpent);
+        viewed |= ending.viewed;
     }
     assert!(rt; applied);
     assert!(rt; lost);
@@ -301,23 +351,26 @@ fn updates(rt: HostRuntime) -> Result<(), Fail> {
 #[test]
 fn conditional_updates(rt: HostRuntime) -> Result<(), Fail> {
     let sizes = Sizes::new(3, 8, 16, 2000)?;
-    let initial = [5, 6, 7];
     let mut applied = false;
     let mut changed = false;
     for seed in 0..300u64 {
-        let component = (seed % 3) as u32;
-        let change = Change {
-            component,
-            expected: Some(sizes.opening_word(&initial, component)),
-            value: seed,
-        };
-        let ending = update_beside(rt.alloc(), sizes, &initial, change, whole(seed))?;
-        assert!(rt; ending.same, "at {seed}");
-        applied = applied || matches!(ending.reply, Some(Reply::Applied { .. }));
-        changed = changed || matches!(ending.reply, Some(Reply::Changed { .. }));
+        let expected = sizes.opening_word(&[5, 6, 7], (seed % 3) as u32);
+        let ending = update_ends(&rt, rt.alloc(), sizes, Some(expected), seed)?;
+        applied |= ending.is_applied();
+        changed |= ending.is_changed();
     }
     assert!(rt; applied && changed);
     Ok(())
+}
+
+// Makes the scan of that seed, which ends as its machine does.
+fn scan_ends(rt: &impl Abort, alloc: Global, sizes: Sizes, seed: u64) -> Result<Ending, AllocError>
+    requires sizes { IsLayout sizes }
+    requires three { sizes.m ≡ 3 }
+{
+    let ending = scan_beside(alloc, sizes, &[5, 6, 7], &[2, 0, 1], whole(seed))?;
+    assert!(rt; ending.same, "at {seed}");
+    Ok(ending)
 }
 
 #[test]
@@ -325,7 +378,6 @@ fn scans(rt: HostRuntime) -> Result<(), Fail> {
     let large = Sizes::new(3, 8, 16, 2000)?;
     let few_words = Sizes::new(3, 8, 16, 20)?;
     let few_slots = Sizes::new(3, 1, 16, 2000)?;
-    let initial = [5, 6, 7];
     let mut own = false;
     let mut borrowed = false;
     let mut pool = false;
@@ -336,19 +388,11 @@ fn scans(rt: HostRuntime) -> Result<(), Fail> {
             1 => few_slots,
             _ => large,
         };
-        let ending = scan_beside(rt.alloc(), sizes, &initial, &[2, 0, 1], whole(seed))?;
-        assert!(rt; ending.same, "at {seed}");
-        own = own || matches!(ending.reply, Some(Reply::Scanned { borrowed: None, .. }));
-        borrowed = borrowed
-            || matches!(
-                ending.reply,
-                Some(Reply::Scanned {
-                    borrowed: Some(_),
-                    ..
-                })
-            );
-        pool = pool || ending.reply == Some(Reply::Refused(Refused::PoolSpent));
-        slots = slots || ending.reply == Some(Reply::Refused(Refused::SlotsSpent));
+        let ending = scan_ends(&rt, rt.alloc(), sizes, seed)?;
+        own |= ending.is_own();
+        borrowed |= ending.is_scanned() && !ending.is_own();
+        pool |= ending.is_refused(Refused::PoolSpent);
+        slots |= ending.is_refused(Refused::SlotsSpent);
     }
     assert!(rt; own);
     assert!(rt; borrowed);
@@ -357,42 +401,80 @@ fn scans(rt: HostRuntime) -> Result<(), Fail> {
     Ok(())
 }
 
+// Makes a read, which is broken off where it may make no step.
+fn read_breaks_off(
+    rt: &impl Abort,
+    alloc: Global,
+    sizes: Sizes,
+    course: Course,
+) -> Result<(), AllocError>
+    requires sizes { IsLayout sizes }
+    requires three { sizes.m ≡ 3 }
+{
+    let Course { seed, allowed } = course;
+    let read = read_beside(alloc, sizes, &[5, 6, 7], 0, course)?;
+    assert!(rt;
+        read.same && read.broken == (allowed < 1),
+        "{seed}, {allowed}"
+    );
+    assert!(rt; read.is_read(), "{seed}, {allowed}");
+    Ok(())
+}
+
+// Makes an update, which may be whole where it may make more than three steps.
+fn update_breaks_off(
+    rt: &impl Abort,
+    alloc: Global,
+    sizes: Sizes,
+    course: Course,
+) -> Result<Ending, AllocError>
+    requires sizes { IsLayout sizes }
+    requires three { sizes.m ≡ 3 }
+{
+    let Course { seed, allowed } = course;
+    let change = Change {
+        component: 1,
+        expected: None,
+        value: seed,
+    };
+    let update = update_beside(alloc, sizes, &[5, 6, 7], change, course)?;
+    assert!(rt;
+        update.same && (update.broken || allowed > 3),
+        "{seed}, {allowed}"
+    );
+    Ok(update)
+}
+
+// Makes a scan, which is broken off.
+fn scan_breaks_off(
+    rt: &impl Abort,
+    alloc: Global,
+    sizes: Sizes,
+    course: Course,
+) -> Result<(), AllocError>
+    requires sizes { IsLayout sizes }
+    requires three { sizes.m ≡ 3 }
+{
+    let Course { seed, allowed } = course;
+    let scan = scan_beside(alloc, sizes, &[5, 6, 7], &[2, 0, 1], course)?;
+    assert!(rt; scan.same && scan.broken, "{seed}, {allowed}");
+    assert!(rt; scan.is_scanned(), "{seed}, {allowed}");
+    Ok(())
+}
+
 #[test]
 fn calls_that_are_broken_off(rt: HostRuntime) -> Result<(), Fail> {
     let sizes = Sizes::new(3, 64, 16, 4000)?;
-    let initial = [5, 6, 7];
     let mut broken = false;
     let mut whole = false;
     for seed in 0..20u64 {
         for allowed in 0..16u64 {
             let course = Course { seed, allowed };
-            let read = read_beside(rt.alloc(), sizes, &initial, 0, course)?;
-            assert!(rt;
-                read.same && read.broken == (allowed < 1),
-                "{seed}, {allowed}"
-            );
-            assert!(rt;
-                matches!(read.reply, Some(Reply::Read { .. })),
-                "{seed}, {allowed}"
-            );
-            let change = Change {
-                component: 1,
-                expected: None,
-                value: seed,
-            };
-            let update = update_beside(rt.alloc(), sizes, &initial, change, course)?;
-            assert!(rt;
-                update.same && (update.broken || allowed > 3),
-                "{seed}, {allowed}"
-            );
-            broken = broken || update.broken && matches!(update.reply, Some(Reply::Applied { .. }));
-            whole = whole || !update.broken;
-            let scan = scan_beside(rt.alloc(), sizes, &initial, &[2, 0, 1], course)?;
-            assert!(rt; scan.same && scan.broken, "{seed}, {allowed}");
-            assert!(rt;
-                matches!(scan.reply, Some(Reply::Scanned { .. })),
-                "{seed}, {allowed}"
-            );
+            read_breaks_off(&rt, rt.alloc(), sizes, course)?;
+            let update = update_breaks_off(&rt, rt.alloc(), sizes, course)?;
+            broken |= update.broken && update.is_applied();
+            whole |= !update.broken;
+            scan_breaks_off(&rt, rt.alloc(), sizes, course)?;
         }
     }
     assert!(rt; broken && whole);
