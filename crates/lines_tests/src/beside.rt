@@ -208,6 +208,22 @@ fn follow_update(lines: &mut Plain, core: &mut Core, sizes: Sizes, change: Chang
     ending
 }
 
+// Makes an update on words that are open, beside the machine that has begun it.
+fn update_begun(
+    alloc: Global,
+    lines: &mut Plain,
+    sizes: Sizes,
+    change: Change,
+) -> Result<Ending, AllocError>
+    requires going { IsPlain lines.old.words.items lines.old.beside lines.old.left lines.old.right }
+    requires begun { lines.old.beside ≡ at_stage (fresh sizes 0) (UpdateBegun change) }
+    requires sizes { IsLayout sizes }
+    requires component { change.component < sizes.m }
+{
+    let mut core = Core::new(alloc, sizes, 0)?;
+    Ok(follow_update(lines, &mut core, sizes, change))
+}
+
 // Makes an update beside its machine.
 fn update_beside(
     alloc: Global,
@@ -225,8 +241,7 @@ fn update_beside(
         return Ok(Ending::of(true, Reply::Refused(cause)));
     }
     let mut lines = Plain::open(alloc, sizes, initial, beside, course)?;
-    let mut core = Core::new(alloc, sizes, 0)?;
-    Ok(follow_update(&mut lines, &mut core, sizes, change))
+    update_begun(alloc, &mut lines, sizes, change)
 }
 
 // Makes a scan on the words, beside the machine that has begun it. The other machine makes it in straight lines. The
@@ -260,6 +275,22 @@ fn follow_scan(
     Ending::of(lines.ends_with(reply) && same, reply)
 }
 
+// Makes a scan on words that are open, beside the machine that has begun it.
+fn scan_begun(
+    alloc: Global,
+    lines: &mut Plain,
+    sizes: Sizes,
+    which: &[u32],
+) -> Result<Ending, AllocError>
+    requires going { IsPlain lines.old.words.items lines.old.beside lines.old.left lines.old.right }
+    requires begun { lines.old.beside ≡ scan_asked (fresh sizes 0) which.now }
+    requires sizes { IsLayout sizes }
+{
+    let mut into = vec![in alloc; 0; which.len()]?;
+    let mut core = Core::new(alloc, sizes, 0)?;
+    Ok(follow_scan(lines, &mut core, sizes, which, &mut into))
+}
+
 // Makes a scan beside its machine.
 fn scan_beside(
     alloc: Global,
@@ -277,10 +308,8 @@ fn scan_beside(
     if let Err(cause) = beside.begin_scan(which) {
         return Ok(Ending::of(true, Reply::Refused(cause)));
     }
-    let mut into = vec![in alloc; 0; which.len()]?;
     let mut lines = Plain::open(alloc, sizes, initial, beside, course)?;
-    let mut core = Core::new(alloc, sizes, 0)?;
-    Ok(follow_scan(&mut lines, &mut core, sizes, which, &mut into))
+    scan_begun(alloc, &mut lines, sizes, which)
 }
 
 #[test]
