@@ -1,9 +1,11 @@
 //! Which texts are plans, and the first fault of those that are not.
 
+use super::repeated;
 use partial_model::Call;
 use partial_text::{Cause, Device, Plan, PlanError};
-use partial_words::SizeError;
-use std::alloc::Global;
+use partial_words::{SizeError, Sizes};
+use std::alloc::{AllocError, Global};
+use std::process::Abort;
 use std::test::Fail;
 
 // Texts and tables are results of functions, whose contents no proof of a test has to know.
@@ -64,19 +66,23 @@ steps 1*4294967295 0*1 rest
 "
 }
 
-#[test]
-fn a_plan_is_read(rt: HostRuntime) -> Result<(), Fail> {
-    let plan = read(rt.alloc(), greatest())
-        .ok()
-        .ok_or("the text is a plan")?;
-    let sizes = plan.sizes();
+/// Judges the sizes of that plan.
+fn judge_sizes(rt: &impl Abort, sizes: Sizes) {
     assert_eq!(rt; sizes.m(), 3);
     assert_eq!(rt; sizes.slots(), 65_536);
     assert_eq!(rt; sizes.lists(), 0);
     assert_eq!(rt; sizes.pool(), 4_194_304);
+}
+
+/// Judges its initial values and its steps.
+fn judge_steps(rt: &impl Abort, plan: &Plan) {
     assert_eq!(rt; plan.initial(), [0, u64::MAX, 7].as_slice());
     assert_eq!(rt; plan.steps(), [(1, u32::MAX), (0, 1)].as_slice());
     assert!(rt; plan.rest());
+}
+
+/// Judges the calls of its ports.
+fn judge_calls(rt: &impl Abort, plan: &Plan) {
     assert_eq!(rt; plan.ports().len(), 2);
     for (port, calls) in plan.ports().iter().enumerate() {
         assert_eq!(rt; calls.len(), 3 * port);
@@ -84,6 +90,16 @@ fn a_plan_is_read(rt: HostRuntime) -> Result<(), Fail> {
             assert!(rt; is_call(number, call), "call {number}");
         }
     }
+}
+
+#[test]
+fn a_plan_is_read(rt: HostRuntime) -> Result<(), Fail> {
+    let plan = read(rt.alloc(), greatest())
+        .ok()
+        .ok_or("the text is a plan")?;
+    judge_sizes(&rt, plan.sizes());
+    judge_steps(&rt, &plan);
+    judge_calls(&rt, &plan);
     Ok(())
 }
 
@@ -96,72 +112,83 @@ fn steps_without_rest(rt: HostRuntime) -> Result<(), Fail> {
     Ok(())
 }
 
-// Which line stands in place of another, and the refusal.
-fn refused_lines() -> [(usize, &'static [u8], PlanError); 44] {
-    let number = Cause::Number;
+// First lines with a size out of range, and which.
+fn refused_sizes() -> [(&'static [u8], SizeError); 7] {
     [
-        (1, b"sizes 0 4 8 64", PlanError::Size(SizeError::Components)),
-        (1, b"sizes 0 0 8 64", PlanError::Size(SizeError::Components)),
-        (1, b"sizes 2 0 8 64", PlanError::Size(SizeError::Slots)),
-        (1, b"sizes 2 4 65537 64", PlanError::Size(SizeError::Lists)),
-        (1, b"sizes 2 4 8 5", PlanError::Size(SizeError::Pool)),
-        (
-            1,
-            b"sizes 65537 1 0 196611",
-            PlanError::Size(SizeError::Components),
-        ),
-        (
-            1,
-            b"sizes 4294967295 4 8 64",
-            PlanError::Size(SizeError::Components),
-        ),
-        (1, b"sizes 2 4 8", line(1, Cause::Count)),
-        (1, b"sizes 2 4 8 64 1", line(1, Cause::Count)),
-        (1, b"sizes", line(1, Cause::Count)),
-        (1, b"sizes 2 4 08 64", line(1, number)),
-        (1, b"sizes 0 4 8 x", line(1, number)),
-        (1, b"sizes 4294967296 4 8 64", line(1, number)),
-        (1, b"sizes 2 4 8 64\r", line(1, number)),
-        (1, b"\xffizes 2 4 8 64", line(1, Cause::Word)),
-        (1, b"", line(1, Cause::Word)),
-        (1, b" sizes 2 4 8 64", line(1, Cause::Word)),
-        (2, b"initial 10 18446744073709551616", line(2, number)),
-        (2, b"initial 10  20", line(2, Cause::Count)),
-        (2, b"initial 10", line(2, Cause::Count)),
-        (2, b"initial 10 ", line(2, number)),
-        (2, b"initials 10 20", line(2, Cause::Word)),
-        (3, b"port swap 0 1", line(3, Cause::Word)),
-        (3, b"port update 0", line(3, Cause::Count)),
-        (3, b"port update 0 7 8", line(3, Cause::Count)),
-        (3, b"port update 4294967296 1", line(3, number)),
-        (3, b"port updateif 0 18", line(3, Cause::Count)),
-        (3, b"port updateif 0 x 7", line(3, number)),
-        (3, b"port read", line(3, Cause::Count)),
-        (3, b"port update 0 7;read 0", line(3, Cause::Count)),
-        (3, b"port update 0 7; ", line(3, Cause::Word)),
-        (3, b"port update 0 7;", line(3, number)),
-        (3, b"port update x; swap", line(3, Cause::Count)),
-        (3, b"port ", line(3, Cause::Word)),
-        (3, b"ports", line(3, Cause::Word)),
-        (3, b"steps rest", PlanError::Ports),
-        (4, b"steps 1*2", line(4, Cause::Range)),
-        (4, b"steps 1*x", line(4, number)),
-        (4, b"steps 0*0", line(4, Cause::Range)),
-        (4, b"steps 0*4294967296", line(4, number)),
-        (4, b"steps rest 0*1", line(4, number)),
-        (4, b"steps ", line(4, number)),
-        (4, b"steps rest ", line(4, number)),
-        (4, b"steps 0*1*1", line(4, number)),
+        (b"sizes 0 4 8 64", SizeError::Components),
+        (b"sizes 0 0 8 64", SizeError::Components),
+        (b"sizes 2 0 8 64", SizeError::Slots),
+        (b"sizes 2 4 65537 64", SizeError::Lists),
+        (b"sizes 2 4 8 5", SizeError::Pool),
+        (b"sizes 65537 1 0 196611", SizeError::Components),
+        (b"sizes 4294967295 4 8 64", SizeError::Components),
     ]
+}
+
+// Which line stands in place of another, and the cause of the refusal.
+fn refused_lines() -> [(u32, &'static [u8], Cause); 36] {
+    [
+        (1, b"sizes 2 4 8", Cause::Count),
+        (1, b"sizes 2 4 8 64 1", Cause::Count),
+        (1, b"sizes", Cause::Count),
+        (1, b"sizes 2 4 08 64", Cause::Number),
+        (1, b"sizes 0 4 8 x", Cause::Number),
+        (1, b"sizes 4294967296 4 8 64", Cause::Number),
+        (1, b"sizes 2 4 8 64\r", Cause::Number),
+        (1, b"\xffizes 2 4 8 64", Cause::Word),
+        (1, b"", Cause::Word),
+        (1, b" sizes 2 4 8 64", Cause::Word),
+        (2, b"initial 10 18446744073709551616", Cause::Number),
+        (2, b"initial 10  20", Cause::Count),
+        (2, b"initial 10", Cause::Count),
+        (2, b"initial 10 ", Cause::Number),
+        (2, b"initials 10 20", Cause::Word),
+        (3, b"port swap 0 1", Cause::Word),
+        (3, b"port update 0", Cause::Count),
+        (3, b"port update 0 7 8", Cause::Count),
+        (3, b"port update 4294967296 1", Cause::Number),
+        (3, b"port updateif 0 18", Cause::Count),
+        (3, b"port updateif 0 x 7", Cause::Number),
+        (3, b"port read", Cause::Count),
+        (3, b"port update 0 7;read 0", Cause::Count),
+        (3, b"port update 0 7; ", Cause::Word),
+        (3, b"port update 0 7;", Cause::Number),
+        (3, b"port update x; swap", Cause::Count),
+        (3, b"port ", Cause::Word),
+        (3, b"ports", Cause::Word),
+        (4, b"steps 1*2", Cause::Range),
+        (4, b"steps 1*x", Cause::Number),
+        (4, b"steps 0*0", Cause::Range),
+        (4, b"steps 0*4294967296", Cause::Number),
+        (4, b"steps rest 0*1", Cause::Number),
+        (4, b"steps ", Cause::Number),
+        (4, b"steps rest ", Cause::Number),
+        (4, b"steps 0*1*1", Cause::Number),
+    ]
+}
+
+/// Judges the refusal of the plan with this line in place of its own.
+fn judge_refusal(
+    rt: &impl Abort,
+    alloc: Global,
+    number: u32,
+    other: &[u8],
+    expected: PlanError,
+) -> Result<(), Fail> {
+    let given = refusal(alloc, number as usize, other)?;
+    assert_eq!(rt; given, Some(expected), "line {number} {other:?}");
+    Ok(())
 }
 
 #[test]
 fn plan_refusals(rt: HostRuntime) -> Result<(), Fail> {
-    for (number, other, expected) in refused_lines() {
-        let given = refusal(rt.alloc(), number, other)?;
-        assert_eq!(rt; given, Some(expected), "line {number} {other:?}");
+    for (other, size) in refused_sizes() {
+        judge_refusal(&rt, rt.alloc(), 1, other, PlanError::Size(size))?;
     }
-    Ok(())
+    for (number, other, cause) in refused_lines() {
+        judge_refusal(&rt, rt.alloc(), number, other, line(number, cause))?;
+    }
+    judge_refusal(&rt, rt.alloc(), 3, b"steps rest", PlanError::Ports)
 }
 
 #[test]
@@ -192,33 +219,28 @@ fn something_behind(rt: HostRuntime) -> Result<(), Fail> {
     Ok(())
 }
 
-fn many_ports(alloc: Global, ports: u32, end: &[u8]) -> Result<Vec<u8>, Fail> {
-    let mut text = Vec::from_slice(alloc, b"sizes 1 1 0 3\ninitial 0\n")?;
-    for _ in 0..ports {
-        text.extend_from_slice(b"port\n")?;
-    }
-    text.extend_from_slice(end)?;
-    Ok(text)
+/// Why a text isn't a plan, when it has as many ports as there may be and this end.
+fn refusal_of_most_ports(alloc: Global, end: &[u8]) -> Result<Option<PlanError>, AllocError> {
+    let front = b"sizes 1 1 0 3\ninitial 0\n";
+    let text = repeated(alloc, front, b"port\n", 64, end)?;
+    Ok(read(alloc, &text).err())
 }
 
 #[test]
 fn too_many_ports(rt: HostRuntime) -> Result<(), Fail> {
-    let most = many_ports(rt.alloc(), 64, b"steps\n")?;
-    assert!(rt; read(rt.alloc(), &most).is_ok());
-    let more = many_ports(rt.alloc(), 64, b"port swap\nsteps\n")?;
-    assert_eq!(rt; read(rt.alloc(), &more).err(), Some(PlanError::Ports));
-    let open = many_ports(rt.alloc(), 64, b"port swap")?;
-    assert_eq!(rt; read(rt.alloc(), &open).err(), Some(line(67, Cause::End)));
+    let most = refusal_of_most_ports(rt.alloc(), b"steps\n")?;
+    assert_eq!(rt; most, None);
+    let more = refusal_of_most_ports(rt.alloc(), b"port swap\nsteps\n")?;
+    assert_eq!(rt; more, Some(PlanError::Ports));
+    let open = refusal_of_most_ports(rt.alloc(), b"port swap")?;
+    assert_eq!(rt; open, Some(line(67, Cause::End)));
     Ok(())
 }
 
 #[test]
 fn many_components(rt: HostRuntime) -> Result<(), Fail> {
-    let mut text = Vec::from_slice(rt.alloc(), b"sizes 65536 1 0 196608\ninitial")?;
-    for _ in 0..65_536 {
-        text.extend_from_slice(b" 0")?;
-    }
-    text.extend_from_slice(b"\nport\nsteps\n")?;
+    let front = b"sizes 65536 1 0 196608\ninitial";
+    let text = repeated(rt.alloc(), front, b" 0", 65_536, b"\nport\nsteps\n")?;
     let plan = read(rt.alloc(), &text).ok().ok_or("the text is a plan")?;
     assert_eq!(rt; plan.initial().len(), 65_536);
     Ok(())

@@ -1,8 +1,11 @@
 //! Readers that return little at a time, fail, or never end.
 
+use super::repeated;
 use partial_text::{Cause, Device, Plan, PlanError};
+use std::alloc::Global;
 use std::io;
 use std::io::Read;
+use std::process::Abort;
 use std::test::Fail;
 
 // The text of a plan, which no proof of a test has to know.
@@ -106,26 +109,27 @@ fn never_ends(rt: HostRuntime) -> Result<(), Fail> {
     Ok(())
 }
 
+/// Judges that the text is refused for its size, or else that it is a plan.
+fn judge_size(rt: &impl Abort, alloc: Global, text: &[u8], step: usize, is_refused: bool) {
+    let given = Plan::read(alloc, &mut Device::new(Source::new(text, step))).err();
+    let size = PlanError::Line {
+        line: 0,
+        cause: Cause::Size,
+    };
+    assert_eq!(rt; given.is_some(), is_refused, "{given:?}");
+    assert!(rt; given.is_none() || given == Some(size));
+}
+
 #[test]
 fn longest_text(rt: HostRuntime) -> Result<(), Fail> {
-    let mut text = Vec::with_capacity(rt.alloc(), 4_194_305)?;
-    text.extend_from_slice(b"sizes 1 1 0 3\ninitial 0\nport\nsteps")?;
-    for _ in 0..838_852 {
-        text.extend_from_slice(b" 0*10")?;
-    }
-    text.extend_from_slice(b" 0*123456\n")?;
+    let front = b"sizes 1 1 0 3\ninitial 0\nport\nsteps";
+    let mut text = repeated(rt.alloc(), front, b" 0*10", 838_852, b" 0*123456\n")?;
     assert_eq!(rt; text.len(), 4_194_304);
     for (more, step) in [(false, 1 << 20), (true, 1 << 20)] {
         if more {
             text.push(b'\n')?;
         }
-        let given = Plan::read(rt.alloc(), &mut Device::new(Source::new(&text, step))).err();
-        let size = PlanError::Line {
-            line: 0,
-            cause: Cause::Size,
-        };
-        assert_eq!(rt; given.is_some(), more, "{given:?}");
-        assert!(rt; given.is_none() || given == Some(size));
+        judge_size(&rt, rt.alloc(), &text, step, more);
     }
     Ok(())
 }

@@ -1,6 +1,6 @@
 //! The text of a report or of two, and writers that stop within it.
 
-use super::writers::Sink;
+use super::writers::{Sink, judge_stop};
 use partial_model::{Answer, Refused, Sequence};
 use partial_text::{Device, OutcomeError, RunReport, write_report, write_reports};
 use std::alloc::{AllocError, Global};
@@ -45,16 +45,19 @@ fn scanned(values: Vec<u64>, collects: u32, borrowed: Option<u64>) -> Answer {
     }
 }
 
-/// Calls of three ports with each form of answer, the second port with none.
-pub(super) fn each_answer(alloc: Global) -> Result<RunReport, AllocError> {
-    let most = u64::MAX;
-    let first = vec![in alloc;
+/// Answers of a lost update and of each form of scan.
+fn first_answers(alloc: Global) -> Result<Vec<Answer>, AllocError> {
+    Ok(vec![in alloc;
         Answer::Lost { by: 27 },
-        scanned(vec![in alloc; 10, 10, most]?, 2, None),
+        scanned(vec![in alloc; 10, 10, u64::MAX]?, 2, None),
         scanned(vec![in alloc; 5]?, 3, Some(32)),
         scanned(Vec::new(alloc), 0, None),
-    ]?;
-    let last = vec![in alloc;
+    ]?)
+}
+
+/// Answers of the other forms.
+fn last_answers(alloc: Global) -> Result<Vec<Answer>, AllocError> {
+    Ok(vec![in alloc;
         Answer::Refused {
             cause: Refused::Component
         },
@@ -67,13 +70,19 @@ pub(super) fn each_answer(alloc: Global) -> Result<RunReport, AllocError> {
         Answer::Changed { by: 24 },
         Answer::Read {
             value: 0,
-            stamp: most
+            stamp: u64::MAX
         },
         Answer::Applied { stamp: 32 },
-    ]?;
+    ]?)
+}
+
+/// Calls of three ports with each form of answer, the second port with none.
+pub(super) fn each_answer(alloc: Global) -> Result<RunReport, AllocError> {
+    let first = first_answers(alloc)?;
+    let last = last_answers(alloc)?;
     Ok(RunReport {
         answers: vec![in alloc; first, Vec::new(alloc), last]?,
-        values: vec![in alloc; 6, most]?,
+        values: vec![in alloc; 6, u64::MAX]?,
     })
 }
 
@@ -147,17 +156,9 @@ fn each_stop_of_a_report(rt: HostRuntime) -> Result<(), Fail> {
     let row = row();
     for room in [0, 10, row.len().saturating_sub(1)] {
         for (step, takes_none) in [(1, false), (7, true), (1000, false)] {
-            let mut device = Device::new(Sink {
-                taken: Vec::new(rt.alloc()),
-                step,
-                room,
-                takes_none,
-            });
+            let mut device = Device::new(Sink::new(rt.alloc(), step, room, takes_none));
             let given = write_report(rt.alloc(), &report, &mut device);
-            assert_eq!(rt; given, Err(OutcomeError::Write), "room {room}");
-            assert!(rt; device.failed());
-            let sink = device.into_inner();
-            assert_eq!(rt; Some(sink.taken.as_slice()), row.get(..room));
+            judge_stop(&rt, given, device, row, room);
         }
     }
     assert_eq!(rt; OutcomeError::Write.code(), 12);
@@ -184,17 +185,9 @@ fn each_stop_of_two_reports(rt: HostRuntime) -> Result<(), Fail> {
     let rows = rows();
     for room in [0, 10, one, one + 10, rows.len().saturating_sub(1)] {
         for (step, takes_none) in [(1, false), (7, true), (1000, false)] {
-            let mut device = Device::new(Sink {
-                taken: Vec::new(rt.alloc()),
-                step,
-                room,
-                takes_none,
-            });
+            let mut device = Device::new(Sink::new(rt.alloc(), step, room, takes_none));
             let given = write_reports(rt.alloc(), &first, &second, &mut device);
-            assert_eq!(rt; given, Err(OutcomeError::Write), "room {room}");
-            assert!(rt; device.failed());
-            let sink = device.into_inner();
-            assert_eq!(rt; Some(sink.taken.as_slice()), rows.get(..room));
+            judge_stop(&rt, given, device, rows, room);
         }
     }
     Ok(())

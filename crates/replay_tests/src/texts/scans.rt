@@ -5,6 +5,7 @@ use itoa::Buffer;
 use partial_model::Call;
 use partial_text::{Cause, Plan, PlanError};
 use std::alloc::Global;
+use std::process::Abort;
 use std::test::Fail;
 
 // Texts and tables are results of functions, whose contents no proof of a test has to know.
@@ -41,27 +42,37 @@ fn its_scans() -> [(usize, usize, &'static [u32]); 5] {
     ]
 }
 
-#[test]
-fn scans_are_read(rt: HostRuntime) -> Result<(), Fail> {
-    let plan = read(rt.alloc(), seven_calls())
-        .ok()
-        .ok_or("the text is a plan")?;
+/// Judges the positions of that plan's scans, and that two of its calls are none.
+fn judge_scans(rt: &impl Abort, plan: &Plan) {
     for (port, number, expected) in its_scans() {
         assert_eq!(rt;
-            positions(&plan, port, number),
+            positions(plan, port, number),
             Some(expected),
             "port {port} call {number}"
         );
     }
+    for number in [0, 3] {
+        assert_eq!(rt; positions(plan, 2, number), None);
+    }
+}
+
+/// Judges how many calls each port of that plan makes.
+fn judge_ports(rt: &impl Abort, plan: &Plan) -> Result<(), Fail> {
     assert_eq!(rt; plan.ports().len(), 3);
     for (port, calls) in [1, 1, 5].into_iter().enumerate() {
         let port = plan.ports().get(port).ok_or("the port is there")?;
         assert_eq!(rt; port.len(), calls);
     }
-    for number in [0, 3] {
-        assert_eq!(rt; positions(&plan, 2, number), None);
-    }
     Ok(())
+}
+
+#[test]
+fn scans_are_read(rt: HostRuntime) -> Result<(), Fail> {
+    let plan = read(rt.alloc(), seven_calls())
+        .ok()
+        .ok_or("the text is a plan")?;
+    judge_scans(&rt, &plan);
+    judge_ports(&rt, &plan)
 }
 
 /// A plan of so many components, whose one port scans each of them, with `more` behind the last one.
@@ -82,20 +93,37 @@ fn scan_of_all(alloc: Global, components: u32, more: &[u8]) -> Result<Vec<u8>, F
     Ok(text)
 }
 
+/// Judges that the positions are each of so many components, in order.
+fn judge_positions(rt: &impl Abort, found: &[u32], components: u32) {
+    assert_eq!(rt; found.len(), components as usize);
+    for (place, component) in found.iter().enumerate() {
+        assert_eq!(rt; *component as usize, place);
+    }
+}
+
+/// Judges that the scan of each of so many components is read.
+fn judge_scan_of_all(rt: &impl Abort, alloc: Global, components: u32) -> Result<(), Fail> {
+    let text = scan_of_all(alloc, components, b"")?;
+    let plan = read(alloc, &text).ok().ok_or("the text is a plan")?;
+    let found = positions(&plan, 0, 0).ok_or("the call is a scan")?;
+    judge_positions(rt, found, components);
+    Ok(())
+}
+
+/// Judges that this scan is refused with more behind it.
+fn judge_more(rt: &impl Abort, alloc: Global, components: u32, more: &[u8]) -> Result<(), Fail> {
+    let text = scan_of_all(alloc, components, more)?;
+    let given = read(alloc, &text).err();
+    assert_eq!(rt; given, Some(line(3, Cause::Count)), "{more:?}");
+    Ok(())
+}
+
 #[test]
 fn scan_of_each_component(rt: HostRuntime) -> Result<(), Fail> {
     for components in [1, 2, 65_536] {
-        let text = scan_of_all(rt.alloc(), components, b"")?;
-        let plan = read(rt.alloc(), &text).ok().ok_or("the text is a plan")?;
-        let found = positions(&plan, 0, 0).ok_or("the call is a scan")?;
-        assert_eq!(rt; found.len(), components as usize);
-        for (place, component) in found.iter().enumerate() {
-            assert_eq!(rt; *component as usize, place);
-        }
+        judge_scan_of_all(&rt, rt.alloc(), components)?;
         for more in [b" 0".as_slice(), b" x", b" "] {
-            let text = scan_of_all(rt.alloc(), components, more)?;
-            let given = read(rt.alloc(), &text).err();
-            assert_eq!(rt; given, Some(line(3, Cause::Count)), "{more:?}");
+            judge_more(&rt, rt.alloc(), components, more)?;
         }
     }
     Ok(())

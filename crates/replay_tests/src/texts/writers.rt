@@ -5,15 +5,28 @@ use partial_text::{Device, Outcome, OutcomeError, write_outcome};
 use std::alloc::{AllocError, Global};
 use std::io;
 use std::io::Write;
+use std::process::Abort;
 use std::test::Fail;
 
 /// Takes at most so many bytes a write, and fails or takes none when it is full.
 #[derive(Drop)]
 pub(super) struct Sink {
-    pub(super) taken: Vec<u8>,
-    pub(super) step: usize,
-    pub(super) room: usize,
-    pub(super) takes_none: bool,
+    taken: Vec<u8>,
+    step: usize,
+    room: usize,
+    takes_none: bool,
+}
+
+impl Sink {
+    /// Has taken nothing yet.
+    pub(super) fn new(alloc: Global, step: usize, room: usize, takes_none: bool) -> Sink {
+        Sink {
+            taken: Vec::new(alloc),
+            step,
+            room,
+            takes_none,
+        }
+    }
 }
 
 impl Write for Sink {
@@ -30,6 +43,20 @@ impl Write for Sink {
     fn flush(&mut self) -> io::Result<()> {
         Ok(())
     }
+}
+
+/// Judges that the sink has failed when it had taken as much of the text as it has room for.
+pub(super) fn judge_stop(
+    rt: &impl Abort,
+    given: Result<(), OutcomeError>,
+    device: Device<Sink>,
+    text: &[u8],
+    room: usize,
+) {
+    assert_eq!(rt; given, Err(OutcomeError::Write), "room {room}");
+    assert!(rt; device.failed());
+    let sink = device.into_inner();
+    assert_eq!(rt; Some(sink.taken.as_slice()), text.get(..room));
 }
 
 // Texts are results of functions, whose contents no proof of a test has to know.
@@ -233,12 +260,12 @@ fn scans_are_written(rt: HostRuntime) -> Result<(), Fail> {
 /// The line of one scan in the text of an outcome with no other call.
 fn scan_line(
     alloc: Global,
-    values: Vec<u64>,
+    values: &[u64],
     collects: u32,
     borrowed: Option<u64>,
 ) -> Result<Vec<u8>, Fail> {
     let scanned = Answer::Scanned {
-        values: Sequence::from(values),
+        values: Sequence::from(Vec::from_slice(alloc, values)?),
         collects,
         borrowed,
     };
@@ -261,41 +288,39 @@ fn greatest_scan() -> &'static [u8] {
     b"scanned 18446744073709551615 0 18446744073709551615 prefix 0 collects 4294967295 borrowed 18446744073709551615"
 }
 
-#[test]
-fn each_scan_is_written(rt: HostRuntime) -> Result<(), Fail> {
-    let alloc = rt.alloc();
-    let most = u64::MAX;
-    let rows: [(Vec<u64>, u32, Option<u64>, &[u8]); 4] = [
+// The values of scans, their collects, the stamps that they borrow from, and what is told of them.
+fn scans() -> [(&'static [u64], u32, Option<u64>, &'static [u8]); 4] {
+    [
+        (&[], 0, None, b"scanned prefix 0 collects 0 borrowed -"),
+        (&[0], 2, None, b"scanned 0 prefix 0 collects 2 borrowed -"),
         (
-            Vec::new(alloc),
-            0,
-            None,
-            b"scanned prefix 0 collects 0 borrowed -",
-        ),
-        (
-            vec![in alloc; 0]?,
-            2,
-            None,
-            b"scanned 0 prefix 0 collects 2 borrowed -",
-        ),
-        (
-            vec![in alloc; 0]?,
+            &[0],
             3,
             Some(0),
             b"scanned 0 prefix 0 collects 3 borrowed 0",
         ),
         (
-            vec![in alloc; most, 0, most]?,
+            &[u64::MAX, 0, u64::MAX],
             u32::MAX,
-            Some(most),
+            Some(u64::MAX),
             greatest_scan(),
         ),
-    ];
-    for (values, collects, borrowed, told) in rows {
-        let mut expected = Vec::from_slice(alloc, b"call 0 0 ")?;
-        expected.extend_from_slice(told)?;
-        expected.extend_from_slice(b" steps 9 span 0 0\nvalues 1\ntotal 9\n")?;
-        let text = scan_line(alloc, values, collects, borrowed)?;
+    ]
+}
+
+/// The text of an outcome with that scan and no other call.
+fn text_of_scan(alloc: Global, told: &[u8]) -> Result<Vec<u8>, Fail> {
+    let mut text = Vec::from_slice(alloc, b"call 0 0 ")?;
+    text.extend_from_slice(told)?;
+    text.extend_from_slice(b" steps 9 span 0 0\nvalues 1\ntotal 9\n")?;
+    Ok(text)
+}
+
+#[test]
+fn each_scan_is_written(rt: HostRuntime) -> Result<(), Fail> {
+    for (values, collects, borrowed, told) in scans() {
+        let expected = text_of_scan(rt.alloc(), told)?;
+        let text = scan_line(rt.alloc(), values, collects, borrowed)?;
         assert_eq!(rt; text.as_slice(), expected.as_slice());
     }
     Ok(())
@@ -307,17 +332,9 @@ fn each_stop(rt: HostRuntime) -> Result<(), Fail> {
     let row = row();
     for room in 0..row.len() {
         for (step, takes_none) in [(1, false), (7, true), (1000, false)] {
-            let mut device = Device::new(Sink {
-                taken: Vec::new(rt.alloc()),
-                step,
-                room,
-                takes_none,
-            });
+            let mut device = Device::new(Sink::new(rt.alloc(), step, room, takes_none));
             let given = write_outcome(rt.alloc(), &outcome, &mut device);
-            assert_eq!(rt; given, Err(OutcomeError::Write), "room {room}");
-            assert!(rt; device.failed());
-            let sink = device.into_inner();
-            assert_eq!(rt; sink.taken.as_slice(), &row[..room]);
+            judge_stop(&rt, given, device, row, room);
         }
     }
     Ok(())
@@ -328,12 +345,7 @@ fn short_writes(rt: HostRuntime) -> Result<(), Fail> {
     let outcome = write_then_read(rt.alloc())?;
     let row = row();
     for step in 1..row.len() + 2 {
-        let mut device = Device::new(Sink {
-            taken: Vec::new(rt.alloc()),
-            step,
-            room: 1000,
-            takes_none: false,
-        });
+        let mut device = Device::new(Sink::new(rt.alloc(), step, 1000, false));
         assert_eq!(rt; write_outcome(rt.alloc(), &outcome, &mut device), Ok(()));
         assert!(rt; !device.failed());
         assert_eq!(rt; device.into_inner().taken.as_slice(), row);
