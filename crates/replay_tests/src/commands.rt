@@ -10,7 +10,9 @@ mod runs;
 
 use partial_cmd::{Fault, Verb, Verdict, execute};
 use partial_replay::Device;
+use rows::Row;
 use std::alloc::Global;
+use std::process::Abort;
 use std::sync::Wait;
 use std::thread::Threads;
 
@@ -24,6 +26,21 @@ fn executed<R: Threads + Wait + Sync>(
     let mut writer = Device::new(Vec::new(alloc));
     let verdict = execute(rt, alloc, verb, &mut Device::new(plan), &mut writer)?;
     Ok((verdict, writer.into_inner()))
+}
+
+/// Judges how the command ends, and what it writes.
+fn judge<R: Threads + Wait + Sync + Abort>(
+    rt: &R,
+    alloc: Global,
+    verb: Verb,
+    row: Row,
+    end: Verdict,
+) -> Result<(), Fault> {
+    let (name, plan, expected) = row;
+    let (verdict, written) = executed(rt, alloc, verb, plan)?;
+    assert_eq!(rt; verdict, end, "{name}");
+    assert_eq!(rt; written.as_slice(), expected, "{name}");
+    Ok(())
 }
 
 /// What a replay of the plan writes, when it succeeds.

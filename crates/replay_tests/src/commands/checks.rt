@@ -6,6 +6,7 @@ use partial_model::{Answer, Applied, Called, Checker, Note, Sequence, check_outc
 use partial_replay::Outcome;
 use std::alloc::{AllocError, Global};
 use std::mem;
+use std::process::Abort;
 use std::test::Fail;
 
 /// What the check without memory answers, and what the checker does.
@@ -140,27 +141,93 @@ fn worked_rows_pass_both(rt: HostRuntime) -> Result<(), Fail> {
     Ok(())
 }
 
+/// Judges the outcome with the answer in place of the call's own, which it puts back.
+fn judge_answer(
+    rt: &impl Abort,
+    alloc: Global,
+    name: &str,
+    outcome: &mut Outcome,
+    index: usize,
+    other: Answer,
+) -> Result<(), AllocError> {
+    let own = put_answer(&mut outcome.calls, index, other);
+    let answers = verdicts(alloc, outcome)?;
+    assert_eq!(rt; answers, (false, false), "{name} {index}");
+    if let Some(own) = own {
+        put_answer(&mut outcome.calls, index, own);
+    }
+    Ok(())
+}
+
+/// Judges the outcome with each of its answers turned, and says how many have a number to turn.
+fn judge_answers(
+    rt: &impl Abort,
+    alloc: Global,
+    name: &str,
+    outcome: &mut Outcome,
+) -> Result<u32, AllocError> {
+    let mut tried = 0u32;
+    for index in 0..outcome.calls.len() {
+        let other = turned(alloc, &outcome.calls, index)?;
+        if let Some(other) = other {
+            judge_answer(rt, alloc, name, outcome, index, other)?;
+            tried = tried.saturating_add(1);
+        }
+    }
+    Ok(tried)
+}
+
 // An answer with its first number turned isn't right. The count is that of the answers in the rows' texts.
 #[test]
 fn turned_answers_pass_neither(rt: HostRuntime) -> Result<(), Fail> {
     let mut tried = 0u32;
     for (name, plan, _) in rows() {
         let mut outcome = replayed(rt.alloc(), plan)?;
-        for index in 0..outcome.calls.len() {
-            let other = turned(rt.alloc(), &outcome.calls, index)?;
-            if let Some(other) = other {
-                let own = put_answer(&mut outcome.calls, index, other);
-                let answers = verdicts(rt.alloc(), &outcome)?;
-                assert_eq!(rt; answers, (false, false), "{name} {index}");
-                if let Some(own) = own {
-                    put_answer(&mut outcome.calls, index, own);
-                }
+        let turned = judge_answers(&rt, rt.alloc(), name, &mut outcome)?;
+        tried = tried.saturating_add(turned);
+    }
+    assert_eq!(rt; tried, 56);
+    Ok(())
+}
+
+/// Judges the outcome with the note one place further on, and puts the call's own back.
+fn judge_note(
+    rt: &impl Abort,
+    alloc: Global,
+    name: &str,
+    outcome: &mut Outcome,
+    index: usize,
+    own: Note,
+) -> Result<(), AllocError> {
+    put_note(&mut outcome.calls, index, further(own));
+    let answers = verdicts(alloc, outcome)?;
+    if let Note::Saw(_) = own {
+        assert_eq!(rt; answers.0, answers.1, "{name} {index}");
+    } else {
+        assert_eq!(rt; answers, (false, false), "{name} {index}");
+    }
+    put_note(&mut outcome.calls, index, own);
+    Ok(())
+}
+
+/// Judges the outcome with each of its notes turned, and says how many are of updates.
+fn judge_notes(
+    rt: &impl Abort,
+    alloc: Global,
+    name: &str,
+    outcome: &mut Outcome,
+) -> Result<u32, AllocError> {
+    let mut tried = 0u32;
+    for index in 0..outcome.calls.len() {
+        let own = note_of(&outcome.calls, index);
+        if let Some(own) = own {
+            judge_note(rt, alloc, name, outcome, index, own)?;
+            if !matches!(own, Note::Saw(_)) {
                 tried = tried.saturating_add(1);
             }
         }
     }
-    assert_eq!(rt; tried, 56);
-    Ok(())
+    Ok(tried)
 }
 
 // No other entry has an update's stamp, so its answer is wrong one place further on. A read or a scan may be right there.
@@ -169,22 +236,64 @@ fn turned_notes_pass_neither_or_both(rt: HostRuntime) -> Result<(), Fail> {
     let mut tried = 0u32;
     for (name, plan, _) in rows() {
         let mut outcome = replayed(rt.alloc(), plan)?;
-        for index in 0..outcome.calls.len() {
-            let own = note_of(&outcome.calls, index);
-            if let Some(own) = own {
-                put_note(&mut outcome.calls, index, further(own));
-                let answers = verdicts(rt.alloc(), &outcome)?;
-                if let Note::Saw(_) = own {
-                    assert_eq!(rt; answers.0, answers.1, "{name} {index}");
-                } else {
-                    assert_eq!(rt; answers, (false, false), "{name} {index}");
-                    tried = tried.saturating_add(1);
-                }
-                put_note(&mut outcome.calls, index, own);
-            }
-        }
+        let turned = judge_notes(&rt, rt.alloc(), name, &mut outcome)?;
+        tried = tried.saturating_add(turned);
     }
     assert_eq!(rt; tried, 38);
+    Ok(())
+}
+
+/// Judges the outcome with each number of the entry turned, and puts the entry back.
+fn judge_entry(
+    rt: &impl Abort,
+    alloc: Global,
+    name: &str,
+    outcome: &mut Outcome,
+    place: usize,
+    own: Applied,
+) -> Result<(), AllocError> {
+    for other in turned_entries(own) {
+        put_entry(&mut outcome.history, place, other);
+        let answers = verdicts(alloc, outcome)?;
+        assert_eq!(rt; answers, (false, false), "{name} {place}");
+    }
+    put_entry(&mut outcome.history, place, own);
+    Ok(())
+}
+
+/// Judges the outcome with each of its entries turned, and says how many it has.
+fn judge_entries(
+    rt: &impl Abort,
+    alloc: Global,
+    name: &str,
+    outcome: &mut Outcome,
+) -> Result<u32, AllocError> {
+    let mut tried = 0u32;
+    for place in 0..outcome.history.len() {
+        let own = outcome.history.get(place).copied();
+        if let Some(own) = own {
+            judge_entry(rt, alloc, name, outcome, place, own)?;
+            tried = tried.saturating_add(1);
+        }
+    }
+    Ok(tried)
+}
+
+/// Judges the outcome without its last entry, and with that entry twice.
+fn judge_last_entry(
+    rt: &impl Abort,
+    alloc: Global,
+    name: &str,
+    outcome: &mut Outcome,
+) -> Result<(), AllocError> {
+    if let Some(last) = outcome.history.pop() {
+        let answers = verdicts(alloc, outcome)?;
+        assert_eq!(rt; answers, (false, false), "{name} without its last entry");
+        outcome.history.push(last)?;
+        outcome.history.push(last)?;
+        let answers = verdicts(alloc, outcome)?;
+        assert_eq!(rt; answers, (false, false), "{name} with an entry twice");
+    }
     Ok(())
 }
 
@@ -194,26 +303,9 @@ fn turned_histories_pass_neither(rt: HostRuntime) -> Result<(), Fail> {
     let mut tried = 0u32;
     for (name, plan, _) in rows() {
         let mut outcome = replayed(rt.alloc(), plan)?;
-        for place in 0..outcome.history.len() {
-            let own = outcome.history.get(place).copied();
-            if let Some(own) = own {
-                for other in turned_entries(own) {
-                    put_entry(&mut outcome.history, place, other);
-                    let answers = verdicts(rt.alloc(), &outcome)?;
-                    assert_eq!(rt; answers, (false, false), "{name} {place}");
-                }
-                put_entry(&mut outcome.history, place, own);
-                tried = tried.saturating_add(1);
-            }
-        }
-        if let Some(last) = outcome.history.pop() {
-            let answers = verdicts(rt.alloc(), &outcome)?;
-            assert_eq!(rt; answers, (false, false), "{name} without its last entry");
-            outcome.history.push(last)?;
-            outcome.history.push(last)?;
-            let answers = verdicts(rt.alloc(), &outcome)?;
-            assert_eq!(rt; answers, (false, false), "{name} with an entry twice");
-        }
+        let turned = judge_entries(&rt, rt.alloc(), name, &mut outcome)?;
+        judge_last_entry(&rt, rt.alloc(), name, &mut outcome)?;
+        tried = tried.saturating_add(turned);
     }
     assert_eq!(rt; tried, 36);
     Ok(())

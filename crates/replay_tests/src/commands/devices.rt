@@ -2,13 +2,16 @@
 
 ghost use Rattle.std.specs.Prelude.{◌≡◌, false};
 
-use super::rows::{borrowed_view, rows, whole_scan, write_then_read};
-use partial_cmd::{Verb, execute};
+use super::rows::{Row, borrowed_view, rows, whole_scan, write_then_read};
+use partial_cmd::{Fault, Verb, execute};
 use partial_replay::Device;
 use std::alloc::Global;
 use std::io;
 use std::io::{Read, Write};
+use std::process::Abort;
+use std::sync::Wait;
 use std::test::Fail;
+use std::thread::Threads;
 
 /// Returns one byte a read, and fails or ends when none is left.
 #[derive(Drop)]
@@ -73,20 +76,27 @@ fn filled_to(alloc: Global, room: usize, takes_none: bool) -> Device<Filling>
     })
 }
 
+/// Why a replay is refused whose reader fails behind that part of a plan, and what it has written.
+fn replayed_part<R: Threads + Wait + Sync>(
+    rt: &R,
+    alloc: Global,
+    part: &[u8],
+) -> (Option<Fault>, Vec<u8>) {
+    let mut reader = Device::new(Bytewise::failing(part));
+    let mut writer = Device::new(Vec::new(alloc));
+    let given = execute(rt, alloc, Verb::Replay, &mut reader, &mut writer);
+    (given.err(), writer.into_inner())
+}
+
 #[test]
 fn failing_reader(rt: HostRuntime) -> Result<(), Fail> {
     let (_, plan, _) = whole_scan();
     for count in 0..=plan.len() {
-        let mut reader = Device::new(Bytewise {
-            text: &plan[..count],
-            fails: true,
-        });
-        let mut writer = Device::new(Vec::new(rt.alloc()));
-        let given = execute(&rt, rt.alloc(), Verb::Replay, &mut reader, &mut writer);
-        let fault = given.err().ok_or("a refusal")?;
+        let (fault, written) = replayed_part(&rt, rt.alloc(), &plan[..count]);
+        assert!(rt; written.is_empty());
+        let fault = fault.ok_or("a refusal")?;
         assert_eq!(rt; fault.code(), 11, "after {count} bytes");
         assert_eq!(rt; fault.at(), None);
-        assert!(rt; writer.into_inner().is_empty());
     }
     Ok(())
 }
@@ -105,35 +115,44 @@ fn one_byte_a_read(rt: HostRuntime) -> Result<(), Fail> {
     Ok(())
 }
 
+/// Judges a command whose writer has room for so many bytes of the text, which is less than all of it.
+fn judge_writer<R: Threads + Wait + Sync + Abort>(
+    rt: &R,
+    alloc: Global,
+    verb: Verb,
+    row: Row,
+    room: usize,
+    takes_none: bool,
+) {
+    let (name, plan, expected) = row;
+    let mut reader = Device::new(plan);
+    let mut writer = filled_to(alloc, room, takes_none);
+    let given = execute(rt, alloc, verb, &mut reader, &mut writer);
+    let code = given.err().map(|fault| fault.code());
+    assert_eq!(rt; code, Some(12), "{name} after {room} bytes");
+    let taken = writer.into_inner().taken;
+    assert_eq!(rt; Some(taken.as_slice()), expected.get(..room));
+}
+
 // A check writes its one line, or a part of it from the front.
 #[test]
 fn failing_writer_of_a_verdict(rt: HostRuntime) -> Result<(), Fail> {
-    let (_, plan, _) = write_then_read();
+    let (name, plan, _) = write_then_read();
     let line = b"lawful\n";
     for room in 0..line.len() {
-        let mut writer = filled_to(rt.alloc(), room, false);
-        let mut reader = Device::new(plan);
-        let given = execute(&rt, rt.alloc(), Verb::Check, &mut reader, &mut writer);
-        let fault = given.err().ok_or("a refusal")?;
-        assert_eq!(rt; fault.code(), 12, "after {room} bytes");
-        let taken = writer.into_inner().taken;
-        assert_eq!(rt; taken.as_slice(), &line[..room]);
+        let row: Row = (name, plan, line);
+        judge_writer(&rt, rt.alloc(), Verb::Check, row, room, false);
     }
     Ok(())
 }
 
 #[test]
 fn failing_writer(rt: HostRuntime) -> Result<(), Fail> {
-    for (name, plan, expected) in [write_then_read(), borrowed_view()] {
+    for row in [write_then_read(), borrowed_view()] {
+        let (_, _, expected) = row;
         for takes_none in [false, true] {
             for room in 0..expected.len() {
-                let mut reader = Device::new(plan);
-                let mut writer = filled_to(rt.alloc(), room, takes_none);
-                let given = execute(&rt, rt.alloc(), Verb::Replay, &mut reader, &mut writer);
-                let fault = given.err().ok_or("a refusal")?;
-                assert_eq!(rt; fault.code(), 12, "{name} after {room} bytes");
-                let taken = writer.into_inner().taken;
-                assert_eq!(rt; taken.as_slice(), &expected[..room]);
+                judge_writer(&rt, rt.alloc(), Verb::Replay, row, room, takes_none);
             }
         }
     }

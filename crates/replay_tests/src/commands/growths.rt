@@ -7,6 +7,7 @@ use partial_replay::Device;
 use std::alloc::Global;
 use std::io;
 use std::io::Write;
+use std::process::Abort;
 use std::sync::Wait;
 use std::test::Fail;
 use std::thread::Threads;
@@ -46,12 +47,9 @@ fn unwritten<R: Threads + Wait + Sync>(
     (writer.into_inner().left.len(), given.err())
 }
 
-// When an allocation is refused, in reading, replaying or writing, the fault is 6 and nothing is written.
-// The test then ends with that fault. When it passes, no allocation was refused and all was written.
-#[test]
-fn a_refused_growth_writes_nothing(rt: HostRuntime) -> Result<(), Fail> {
-    let (_, plan, expected) = borrowed_view();
-    let (left, fault) = unwritten(&rt, rt.alloc(), Verb::Replay, plan, expected);
+/// Judges what of a command's text isn't written: nothing, or all of it when an allocation was refused. Then the fault
+/// is returned.
+fn judge(rt: &impl Abort, left: usize, fault: Option<Fault>, expected: &[u8]) -> Result<(), Fault> {
     match fault {
         None => assert_eq!(rt; left, 0),
         Some(fault) => {
@@ -61,6 +59,16 @@ fn a_refused_growth_writes_nothing(rt: HostRuntime) -> Result<(), Fail> {
             Err(fault)?;
         }
     }
+    Ok(())
+}
+
+// When an allocation is refused, in reading, replaying or writing, the fault is 6 and nothing is written.
+// The test then ends with that fault. When it passes, no allocation was refused and all was written.
+#[test]
+fn a_refused_growth_writes_nothing(rt: HostRuntime) -> Result<(), Fail> {
+    let (_, plan, expected) = borrowed_view();
+    let (left, fault) = unwritten(&rt, rt.alloc(), Verb::Replay, plan, expected);
+    judge(&rt, left, fault, expected)?;
     Ok(())
 }
 
@@ -69,15 +77,7 @@ fn a_refused_growth_gives_no_verdict(rt: HostRuntime) -> Result<(), Fail> {
     let (_, plan, _) = borrowed_view();
     let line = b"lawful\n";
     let (left, fault) = unwritten(&rt, rt.alloc(), Verb::Check, plan, line);
-    match fault {
-        None => assert_eq!(rt; left, 0),
-        Some(fault) => {
-            assert_eq!(rt; fault.code(), 6);
-            assert_eq!(rt; fault.at(), None);
-            assert_eq!(rt; left, line.len());
-            Err(fault)?;
-        }
-    }
+    judge(&rt, left, fault, line)?;
     Ok(())
 }
 
@@ -85,15 +85,7 @@ fn a_refused_growth_gives_no_verdict(rt: HostRuntime) -> Result<(), Fail> {
 fn a_refused_growth_reports_no_run(rt: HostRuntime) -> Result<(), Fail> {
     let (_, plan, expected) = slots_spent();
     let (left, fault) = unwritten(&rt, rt.alloc(), Verb::Run, plan, expected);
-    match fault {
-        None => assert_eq!(rt; left, 0),
-        Some(fault) => {
-            assert_eq!(rt; fault.code(), 6);
-            assert_eq!(rt; fault.at(), None);
-            assert_eq!(rt; left, expected.len());
-            Err(fault)?;
-        }
-    }
+    judge(&rt, left, fault, expected)?;
     Ok(())
 }
 
@@ -104,15 +96,6 @@ fn a_refused_growth_reports_no_two_runs(rt: HostRuntime) -> Result<(), Fail> {
     let mut plan = Device::new(plan);
     let mut next = Device::new(next);
     let given = execute_next(&rt, rt.alloc(), &mut plan, &mut next, &mut writer);
-    let left = writer.into_inner().left.len();
-    match given.err() {
-        None => assert_eq!(rt; left, 0),
-        Some(fault) => {
-            assert_eq!(rt; fault.code(), 6);
-            assert_eq!(rt; fault.at(), None);
-            assert_eq!(rt; left, expected.len());
-            Err(fault)?;
-        }
-    }
+    judge(&rt, writer.into_inner().left.len(), given.err(), expected)?;
     Ok(())
 }

@@ -2,6 +2,7 @@
 //! are read.
 
 use super::outcome_of;
+use crate::texts::repeated;
 use partial_replay::Cause;
 use std::test::Fail;
 
@@ -74,14 +75,8 @@ fn many_components(rt: HostRuntime) -> Result<(), Fail> {
         (b"sizes 1024 1 0 3072\ninitial".as_slice(), 1024),
         (b"sizes 1025 1 0 3075\ninitial", 1025),
     ] {
-        let mut plan = Vec::from_slice(rt.alloc(), sizes)?;
-        let mut expected = Vec::from_slice(rt.alloc(), b"values")?;
-        for _ in 0..components {
-            plan.extend_from_slice(b" 0")?;
-            expected.extend_from_slice(b" 0")?;
-        }
-        plan.extend_from_slice(b"\nport\nsteps\n")?;
-        expected.extend_from_slice(b"\ntotal 0\n")?;
+        let plan = repeated(rt.alloc(), sizes, b" 0", components, b"\nport\nsteps\n")?;
+        let expected = repeated(rt.alloc(), b"values", b" 0", components, b"\ntotal 0\n")?;
         let written = outcome_of(&rt, rt.alloc(), &plan)?;
         assert!(rt; written.as_slice() == expected.as_slice());
     }

@@ -1,12 +1,14 @@
 //! Plans that are run: ports side by side, each in a thread of its own.
 
 use super::devices::Bytewise;
-use super::executed;
+use super::judge;
 use super::rows::Row;
+use crate::texts::repeated;
 use partial_cmd::{Fault, Gate, NoGate, Verb, Verdict, execute, execute_next, run_workers};
 use partial_model::Answer;
-use partial_replay::{Device, Plan};
+use partial_replay::{Device, Plan, PlanError};
 use std::alloc::Global;
+use std::process::Abort;
 use std::sync::Wait;
 use std::sync::atomic::{AtomicU64, Ordering};
 use std::test::Fail;
@@ -81,37 +83,54 @@ values 9 20
 // With one port that makes calls there is one report.
 #[test]
 fn run_reports(rt: HostRuntime) -> Result<(), Fail> {
-    for (name, plan, expected) in [run_report(), slots_spent(), empty_scan(), conditional()] {
-        let (verdict, written) = executed(&rt, rt.alloc(), Verb::Run, plan)?;
-        assert_eq!(rt; verdict, Verdict::Done, "{name}");
-        assert_eq!(rt; written.as_slice(), expected, "{name}");
+    for row in [run_report(), slots_spent(), empty_scan(), conditional()] {
+        judge(&rt, rt.alloc(), Verb::Run, row, Verdict::Done)?;
     }
     Ok(())
 }
 
+/// The plan with this text.
+fn read(alloc: Global, text: &[u8]) -> Result<Plan, PlanError> {
+    Plan::read(alloc, &mut Device::new(text))
+}
+
+/// Judges that a port read once, and found what component 0 holds at first.
+fn judge_reader(rt: &impl Abort, answers: &[Answer]) {
+    match answers {
+        [
+            Answer::Read {
+                value: 10,
+                stamp: 18,
+            },
+        ] => {}
+        other => assert!(rt; false, "{other:?}"),
+    }
+}
+
 #[test]
 fn sixty_four_readers(rt: HostRuntime) -> Result<(), Fail> {
-    let mut text = Vec::from_slice(rt.alloc(), b"sizes 2 4 8 64\ninitial 10 20\n")?;
-    for _ in 0..64 {
-        text.extend_from_slice(b"port read 0\n")?;
-    }
-    text.extend_from_slice(b"steps\n")?;
-    let plan = Plan::read(rt.alloc(), &mut Device::new(text.as_slice()))?;
+    let front = b"sizes 2 4 8 64\ninitial 10 20\n";
+    let text = repeated(rt.alloc(), front, b"port read 0\n", 64, b"steps\n")?;
+    let plan = read(rt.alloc(), &text)?;
     let report = run_workers(&rt, rt.alloc(), &plan, &NoGate)?;
     assert_eq!(rt; report.answers.len(), 64);
     for answers in &report.answers {
-        match answers.as_slice() {
-            [
-                Answer::Read {
-                    value: 10,
-                    stamp: 18,
-                },
-            ] => {}
-            other => assert!(rt; false, "{other:?}"),
-        }
+        judge_reader(&rt, answers);
     }
     assert_eq!(rt; report.values.as_slice(), [10, 20].as_slice());
     Ok(())
+}
+
+/// Why the report of the plan has no room there.
+fn fault_of_run<R: Threads + Wait + Sync>(
+    rt: &R,
+    alloc: Global,
+    plan: &[u8],
+    room: &mut [u8],
+) -> Option<Fault> {
+    let mut reader = Device::new(plan);
+    let mut writer = Device::new(room);
+    execute(rt, alloc, Verb::Run, &mut reader, &mut writer).err()
 }
 
 #[test]
@@ -120,15 +139,7 @@ fn a_report_to_a_failing_writer(rt: HostRuntime) -> Result<(), Fail> {
     assert!(rt; expected.len() <= 64);
     for room in 0..expected.len() {
         let mut taken = [0u8; 64];
-        let mut writer = Device::new(&mut taken[..room]);
-        let given = execute(
-            &rt,
-            rt.alloc(),
-            Verb::Run,
-            &mut Device::new(plan),
-            &mut writer,
-        );
-        let fault = given.err().ok_or("a refusal")?;
+        let fault = fault_of_run(&rt, rt.alloc(), plan, &mut taken[..room]).ok_or("a refusal")?;
         assert_eq!(rt; fault.code(), 12, "after {room} bytes");
         assert_eq!(rt; &taken[..room], &expected[..room]);
     }
@@ -320,27 +331,64 @@ fn refusals_of_two_plans(rt: HostRuntime) -> Result<(), Fail> {
     Ok(())
 }
 
+/// Judges two plans of which the first one's reader fails behind its part.
+fn judge_first_reader<R: Threads + Wait + Sync + Abort>(
+    rt: &R,
+    alloc: Global,
+    part: &[u8],
+    next: &[u8],
+) {
+    let mut first = Device::new(Bytewise::failing(part));
+    let mut second = Device::new(next);
+    let mut writer = Device::new(Vec::new(alloc));
+    let given = execute_next(rt, alloc, &mut first, &mut second, &mut writer);
+    assert_eq!(rt; given.err().map(|fault| fault.code()), Some(11));
+    assert_eq!(rt; second.into_inner(), next);
+    assert!(rt; writer.into_inner().is_empty());
+}
+
+/// Judges two plans of which the second one's reader fails behind its part.
+fn judge_second_reader<R: Threads + Wait + Sync + Abort>(
+    rt: &R,
+    alloc: Global,
+    plan: &[u8],
+    part: &[u8],
+) {
+    let mut first = Device::new(plan);
+    let mut second = Device::new(Bytewise::failing(part));
+    let mut writer = Device::new(Vec::new(alloc));
+    let given = execute_next(rt, alloc, &mut first, &mut second, &mut writer);
+    assert_eq!(rt; given.err().map(|fault| fault.code()), Some(11));
+    assert!(rt; writer.into_inner().is_empty());
+}
+
 // Where the first plan's reader fails the second plan isn't read, and nothing is written.
 #[test]
 fn readers_of_two_plans(rt: HostRuntime) -> Result<(), Fail> {
     let (plan, next, _) = two_plans();
     assert!(rt; 40 <= plan.len() && 40 <= next.len());
     for count in [0usize, 20, 40] {
-        let mut first = Device::new(Bytewise::failing(&plan[..count]));
-        let mut second = Device::new(next);
-        let mut writer = Device::new(Vec::new(rt.alloc()));
-        let given = execute_next(&rt, rt.alloc(), &mut first, &mut second, &mut writer);
-        assert_eq!(rt; given.err().map(|fault| fault.code()), Some(11));
-        assert_eq!(rt; second.into_inner(), next);
-        assert!(rt; writer.into_inner().is_empty());
-        let mut first = Device::new(plan);
-        let mut second = Device::new(Bytewise::failing(&next[..count]));
-        let mut writer = Device::new(Vec::new(rt.alloc()));
-        let given = execute_next(&rt, rt.alloc(), &mut first, &mut second, &mut writer);
-        assert_eq!(rt; given.err().map(|fault| fault.code()), Some(11));
-        assert!(rt; writer.into_inner().is_empty());
+        judge_first_reader(&rt, rt.alloc(), &plan[..count], next);
+        judge_second_reader(&rt, rt.alloc(), plan, &next[..count]);
     }
     Ok(())
+}
+
+/// Judges that the plan is refused with that number, before anything is read of the next one.
+fn judge_refused<R: Threads + Wait + Sync + Abort>(
+    rt: &R,
+    alloc: Global,
+    plan: &[u8],
+    code: u8,
+    part: &[u8],
+) {
+    let mut first = Device::new(plan);
+    let mut second = Device::new(Bytewise::failing(part));
+    let mut writer = Device::new(Vec::new(alloc));
+    let given = execute_next(rt, alloc, &mut first, &mut second, &mut writer);
+    assert_eq!(rt; given.err().map(|fault| fault.code()), Some(code));
+    assert!(rt; !second.failed());
+    assert!(rt; writer.into_inner().is_empty());
 }
 
 // When the first plan is refused the second one isn't read, though its reader would fail.
@@ -357,15 +405,23 @@ fn a_refused_plan_leaves_the_next_unread(rt: HostRuntime) -> Result<(), Fail> {
         (b"", 10),
     ];
     for (plan, code) in cases {
-        let mut first = Device::new(plan);
-        let mut second = Device::new(Bytewise::failing(&next[..20]));
-        let mut writer = Device::new(Vec::new(rt.alloc()));
-        let given = execute_next(&rt, rt.alloc(), &mut first, &mut second, &mut writer);
-        assert_eq!(rt; given.err().map(|fault| fault.code()), Some(code));
-        assert!(rt; !second.failed());
-        assert!(rt; writer.into_inner().is_empty());
+        judge_refused(&rt, rt.alloc(), plan, code, &next[..20]);
     }
     Ok(())
+}
+
+/// Why the reports of both plans have no room there.
+fn fault_of_both<R: Threads + Wait + Sync>(
+    rt: &R,
+    alloc: Global,
+    plan: &[u8],
+    next: &[u8],
+    room: &mut [u8],
+) -> Option<Fault> {
+    let mut first = Device::new(plan);
+    let mut second = Device::new(next);
+    let mut writer = Device::new(room);
+    execute_next(rt, alloc, &mut first, &mut second, &mut writer).err()
 }
 
 #[test]
@@ -374,11 +430,8 @@ fn two_reports_to_a_failing_writer(rt: HostRuntime) -> Result<(), Fail> {
     assert!(rt; expected.len() <= 128);
     for room in 0..expected.len() {
         let mut taken = [0u8; 128];
-        let mut writer = Device::new(&mut taken[..room]);
-        let mut first = Device::new(plan);
-        let mut second = Device::new(next);
-        let given = execute_next(&rt, rt.alloc(), &mut first, &mut second, &mut writer);
-        assert_eq!(rt; given.err().map(|fault| fault.code()), Some(12));
+        let fault = fault_of_both(&rt, rt.alloc(), plan, next, &mut taken[..room]);
+        assert_eq!(rt; fault.map(|fault| fault.code()), Some(12));
         assert_eq!(rt; &taken[..room], &expected[..room]);
     }
     Ok(())

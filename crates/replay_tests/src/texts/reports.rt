@@ -4,6 +4,7 @@ use super::writers::{Sink, judge_stop};
 use partial_model::{Answer, Refused, Sequence};
 use partial_text::{Device, OutcomeError, RunReport, write_report, write_reports};
 use std::alloc::{AllocError, Global};
+use std::process::Abort;
 use std::test::Fail;
 
 // Texts are results of functions, whose contents no proof of a test has to know.
@@ -92,11 +93,22 @@ fn full_text(alloc: Global, report: &RunReport) -> Result<Vec<u8>, Fail> {
     Ok(device.into_inner())
 }
 
+/// Judges the text of the report.
+fn judge_text(
+    rt: &impl Abort,
+    alloc: Global,
+    report: &RunReport,
+    expected: &[u8],
+) -> Result<(), Fail> {
+    let text = full_text(alloc, report)?;
+    assert_eq!(rt; text.as_slice(), expected);
+    Ok(())
+}
+
 #[test]
 fn report_is_written(rt: HostRuntime) -> Result<(), Fail> {
-    let text = full_text(rt.alloc(), &write_then_read(rt.alloc())?)?;
-    assert_eq!(rt; text.as_slice(), row());
-    Ok(())
+    let report = write_then_read(rt.alloc())?;
+    judge_text(&rt, rt.alloc(), &report, row())
 }
 
 fn text_of_each_answer() -> &'static [u8] {
@@ -116,9 +128,8 @@ values 6 18446744073709551615
 
 #[test]
 fn each_answer_is_reported(rt: HostRuntime) -> Result<(), Fail> {
-    let text = full_text(rt.alloc(), &each_answer(rt.alloc())?)?;
-    assert_eq!(rt; text.as_slice(), text_of_each_answer());
-    Ok(())
+    let report = each_answer(rt.alloc())?;
+    judge_text(&rt, rt.alloc(), &report, text_of_each_answer())
 }
 
 #[test]
@@ -128,10 +139,8 @@ fn empty_scan_is_reported(rt: HostRuntime) -> Result<(), Fail> {
         answers: vec![in alloc; vec![in alloc; scanned(Vec::new(alloc), 0, None)]?]?,
         values: vec![in alloc; 10, 20]?,
     };
-    let text = full_text(alloc, &report)?;
     let expected = b"call 0 0 scanned collects 0 borrowed -\nvalues 10 20\n";
-    assert_eq!(rt; text.as_slice(), expected.as_slice());
-    Ok(())
+    judge_text(&rt, alloc, &report, expected)
 }
 
 #[test]
@@ -144,8 +153,7 @@ fn no_call_is_reported(rt: HostRuntime) -> Result<(), Fail> {
             answers,
             values: vec![in alloc; 10, 0]?,
         };
-        let text = full_text(alloc, &report)?;
-        assert_eq!(rt; text.as_slice(), b"values 10 0\n".as_slice());
+        judge_text(&rt, alloc, &report, b"values 10 0\n")?;
     }
     Ok(())
 }

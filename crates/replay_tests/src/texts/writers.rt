@@ -88,6 +88,14 @@ fn called(port: u32, number: u32, began: usize, steps: u64, finish: Option<Finis
     }
 }
 
+/// Two components that hold 10 and 20, and the first stamp.
+fn opening(alloc: Global) -> Result<Opening, AllocError> {
+    Ok(Opening {
+        values: Sequence::from(vec![in alloc; 10, 20]?),
+        first: 18,
+    })
+}
+
 fn write_then_read(alloc: Global) -> Result<Outcome, AllocError> {
     let applied = Answer::Applied { stamp: 24 };
     let seen = Answer::Read {
@@ -95,10 +103,7 @@ fn write_then_read(alloc: Global) -> Result<Outcome, AllocError> {
         stamp: 24,
     };
     Ok(Outcome {
-        opening: Opening {
-            values: Sequence::from(vec![in alloc; 10, 20]?),
-            first: 18,
-        },
+        opening: opening(alloc)?,
         history: vec![in alloc;
             Applied {
                 port: 0,
@@ -167,11 +172,22 @@ fn full_text(alloc: Global, outcome: &Outcome) -> Result<Vec<u8>, Fail> {
     Ok(device.into_inner())
 }
 
+/// Judges the text of the outcome.
+fn judge_text(
+    rt: &impl Abort,
+    alloc: Global,
+    outcome: &Outcome,
+    expected: &[u8],
+) -> Result<(), Fail> {
+    let text = full_text(alloc, outcome)?;
+    assert_eq!(rt; text.as_slice(), expected);
+    Ok(())
+}
+
 #[test]
 fn outcome_is_written(rt: HostRuntime) -> Result<(), Fail> {
-    let text = full_text(rt.alloc(), &write_then_read(rt.alloc())?)?;
-    assert_eq!(rt; text.as_slice(), row());
-    Ok(())
+    let outcome = write_then_read(rt.alloc())?;
+    judge_text(&rt, rt.alloc(), &outcome, row())
 }
 
 fn text_of_each_answer() -> &'static [u8] {
@@ -192,19 +208,14 @@ total 51
 #[test]
 fn each_answer_is_written(rt: HostRuntime) -> Result<(), Fail> {
     let outcome = Outcome {
-        opening: Opening {
-            values: Sequence::from(vec![in rt.alloc(); 10, 20]?),
-            first: 18,
-        },
+        opening: opening(rt.alloc())?,
         history: Vec::new(rt.alloc()),
         calls: each_answer(rt.alloc())?,
         words: Vec::new(rt.alloc()),
         trace: Vec::new(rt.alloc()),
         steps: 51,
     };
-    let text = full_text(rt.alloc(), &outcome)?;
-    assert_eq!(rt; text.as_slice(), text_of_each_answer());
-    Ok(())
+    judge_text(&rt, rt.alloc(), &outcome, text_of_each_answer())
 }
 
 /// A scan that two updates overtook twice, so that its value is the borrowed one.
@@ -223,10 +234,7 @@ pub(super) fn borrowed_scan(alloc: Global) -> Result<Outcome, AllocError> {
     let first = Answer::Applied { stamp: 26 };
     let second = Answer::Applied { stamp: 32 };
     Ok(Outcome {
-        opening: Opening {
-            values: Sequence::from(vec![in alloc; 10, 20]?),
-            first: 18,
-        },
+        opening: opening(alloc)?,
         history: vec![in alloc; applied(5, 26), applied(6, 32)]?,
         calls: vec![in alloc;
             called(0, 0, 0, 13, finished(2, scanned, Some(Note::Saw(1)))),
@@ -252,9 +260,8 @@ total 47
 
 #[test]
 fn scans_are_written(rt: HostRuntime) -> Result<(), Fail> {
-    let text = full_text(rt.alloc(), &borrowed_scan(rt.alloc())?)?;
-    assert_eq!(rt; text.as_slice(), text_of_borrowed_scan());
-    Ok(())
+    let outcome = borrowed_scan(rt.alloc())?;
+    judge_text(&rt, rt.alloc(), &outcome, text_of_borrowed_scan())
 }
 
 /// The line of one scan in the text of an outcome with no other call.
