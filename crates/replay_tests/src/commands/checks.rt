@@ -151,11 +151,11 @@ fn judge_answer(
     other: Answer,
 ) -> Result<(), AllocError> {
     let own = put_answer(&mut outcome.calls, index, other);
-    let answers = verdicts(alloc, outcome)?;
-    assert_eq!(rt; answers, (false, false), "{name} {index}");
+    let answers = verdicts(alloc, outcome);
     if let Some(own) = own {
         put_answer(&mut outcome.calls, index, own);
     }
+    assert_eq!(rt; answers?, (false, false), "{name} {index}");
     Ok(())
 }
 
@@ -279,6 +279,19 @@ fn judge_entries(
     Ok(tried)
 }
 
+/// Judges that the outcome passes neither when it was turned as is told.
+fn judge_turned(
+    rt: &impl Abort,
+    alloc: Global,
+    name: &str,
+    outcome: &Outcome,
+    told: &str,
+) -> Result<(), AllocError> {
+    let answers = verdicts(alloc, outcome)?;
+    assert_eq!(rt; answers, (false, false), "{name} {told}");
+    Ok(())
+}
+
 /// Judges the outcome without its last entry, and with that entry twice.
 fn judge_last_entry(
     rt: &impl Abort,
@@ -287,12 +300,10 @@ fn judge_last_entry(
     outcome: &mut Outcome,
 ) -> Result<(), AllocError> {
     if let Some(last) = outcome.history.pop() {
-        let answers = verdicts(alloc, outcome)?;
-        assert_eq!(rt; answers, (false, false), "{name} without its last entry");
+        judge_turned(rt, alloc, name, outcome, "without its last entry")?;
         outcome.history.push(last)?;
         outcome.history.push(last)?;
-        let answers = verdicts(alloc, outcome)?;
-        assert_eq!(rt; answers, (false, false), "{name} with an entry twice");
+        judge_turned(rt, alloc, name, outcome, "with an entry twice")?;
     }
     Ok(())
 }
