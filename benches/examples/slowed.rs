@@ -1,7 +1,7 @@
-//! What calls of one thread take as the processor's core is shared with another thread, of this machine or of another one
-//! on the same host. A round times a loop over numbers that don't wait for each other, a scan of 4 components and a read of
-//! the memory that never wears out, and a scan of 4 of a list behind a lock, and writes a line of a table. The loop tells
-//! how much of the core the thread had: it takes twice as long where that was half. Its word is the number of rounds.
+//! What calls of one thread take while the processor is slower than at other times, as that of a virtual machine may be. A
+//! round times a loop over numbers that don't wait for each other, a scan of 4 components and a read of the memory that
+//! never wears out, and a scan of 4 of a list behind a lock, and writes a line of a table. The loop tells how fast the
+//! processor was. Its word is the number of rounds.
 
 use partial_door::Memory;
 use std::array;
@@ -59,7 +59,7 @@ fn main() -> Result<(), Box<dyn Error + Send + Sync>> {
     for _ in 0..rounds {
         let mut port = Memory::new(&[0; M as usize])?.port()?;
         let list = Mutex::new(vec![0; M as usize]);
-        let alone = least(|call| {
+        let steps = least(|call| {
             black_box(generate(black_box([u64::from(call) + 1; 8])));
         });
         let scan = least(|call| {
@@ -71,7 +71,7 @@ fn main() -> Result<(), Box<dyn Error + Send + Sync>> {
         let lock = least(|call| {
             black_box(locked(&list, positions(call)));
         });
-        println!("| {alone:.1} | {scan:.1} | {read:.1} | {lock:.1} |");
+        println!("| {steps:.1} | {scan:.1} | {read:.1} | {lock:.1} |");
     }
     Ok(())
 }
