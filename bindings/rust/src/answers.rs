@@ -13,6 +13,8 @@
 /// assert_ne!(port.read(0)?.stamp, before);
 /// # Ok::<(), Box<dyn std::error::Error + Send + Sync>>(())
 /// ```
+// The word stands last, and so not beside the value of a `Value`.
+#[repr(C)]
 #[derive(Clone, Copy, Debug, PartialEq, Eq, Hash)]
 pub struct Stamp {
     pub(crate) memory: u64,
@@ -70,6 +72,9 @@ pub enum UpdatedIf {
 }
 
 /// A value, and the stamp of the update that wrote it.
+// A read stores the value and the word of the stamp side by side. They are copied to two places that aren't, so that no
+// compiler copies them by one load, which waits until both stores have reached the cache.
+#[repr(C)]
 #[derive(Clone, Copy, Debug, PartialEq, Eq)]
 pub struct Value {
     /// The value of the component.
@@ -85,4 +90,13 @@ pub struct Scanned {
     pub collects: u32,
     /// The stamp of the update whose view the scan took, if it was helped.
     pub borrowed: Option<Stamp>,
+}
+
+/// The numbers that a call has stored here, each loaded by itself. Compilers copy arrays by loads of several numbers, and
+/// such a load waits until all their stores have reached the cache: a processor hands on to it what one store has written,
+/// but not what several have (store forwarding).
+#[inline]
+pub(crate) fn loaded<const N: usize>(stored: &[u64; N]) -> [u64; N] {
+    // SAFETY: what is read is a number of the array.
+    std::array::from_fn(|k| unsafe { std::ptr::read_volatile(&stored[k]) })
 }

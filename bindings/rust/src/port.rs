@@ -1,5 +1,6 @@
 //! Ports: the tokens by which threads call a memory.
 
+use crate::answers::loaded;
 use crate::memory::Shared;
 use crate::raw::{self, Handle};
 use crate::{Refused, Scanned, Stamp, TwoMemories, Updated, UpdatedIf, Value};
@@ -210,7 +211,7 @@ impl Port {
     pub fn scan_array<const N: usize>(&mut self, which: [u32; N]) -> Result<[u64; N], Refused> {
         let mut into = [0; N];
         self.scan(&which, &mut into)?;
-        Ok(into)
+        Ok(loaded(&into))
     }
 
     /// Scans these components, in this order and with repeats, and returns their stamps beside their values. Both are as
@@ -239,7 +240,7 @@ impl Port {
     ) -> Result<([u64; N], Option<[Stamp; N]>), Refused> {
         let (mut into, mut words) = ([0; N], [0; N]);
         let told = self.scan_words(&which, &mut into, &mut words)?;
-        Ok((into, told.then(|| words.map(|word| self.stamp(word)))))
+        Ok((loaded(&into), told.then(|| loaded(&words).map(|word| self.stamp(word)))))
     }
 
     /// Scans the components of a slice as [`Port::scan_stamped`] does: `into` has their values, and the list their stamps.

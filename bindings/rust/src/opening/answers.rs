@@ -50,6 +50,8 @@ impl Sizes {
 /// assert_eq!(ports[0].read(0)?.value, 5);
 /// # Ok::<(), Box<dyn std::error::Error + Send + Sync>>(())
 /// ```
+// The word stands last, and so not beside the value of a `Value`.
+#[repr(C)]
 #[derive(Clone, Copy, Debug, PartialEq, Eq, Hash)]
 pub struct Stamp {
     pub(crate) opening: u64,
@@ -94,6 +96,9 @@ pub enum UpdatedIf {
 }
 
 /// A value, and the stamp of the update that wrote it.
+// A read stores the value and the word of the stamp side by side. They are copied to two places that aren't, so that no
+// compiler copies them by one load, which waits until both stores have reached the cache.
+#[repr(C)]
 #[derive(Clone, Copy, Debug, PartialEq, Eq)]
 pub struct Value {
     /// The value of the component.

@@ -1,6 +1,7 @@
 //! Ports: the tokens by which threads call a memory.
 
 use super::memory::Home;
+use crate::answers::loaded;
 use crate::raw::{self, Handle};
 use super::{Refused, Scanned, Stamp, TwoMemories, Updated, UpdatedIf, Value};
 use std::fmt;
@@ -232,7 +233,7 @@ impl Port {
     pub fn scan_array<const N: usize>(&mut self, which: [u32; N]) -> Result<[u64; N], Refused> {
         let mut values = [0; N];
         self.scan(&which, &mut values)?;
-        Ok(values)
+        Ok(loaded(&values))
     }
 
     /// The number of the port: ports are numbered from 0 in the order in which [`open`](super::open) returns them.
