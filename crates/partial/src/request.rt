@@ -1,9 +1,9 @@
 //! The arguments of the program.
 
 use crate::stop::Stop;
-use clap::{Arg, Command, Error};
+use clap::{Arg, Command};
 use partial_cmd::Verb;
-use std::alloc::Global;
+use std::alloc::{AllocError, Global};
 
 /// What the arguments ask for.
 #[derive(Drop)]
@@ -17,18 +17,40 @@ pub struct Request<'a> {
 }
 
 /// The arguments that the program takes: `replay [PLAN]`, `check [PLAN]` and `run [PLAN] [NEXT]`.
-fn command<'a>(alloc: Global) -> Result<Command<'a>, Error> {
-    let replay = Command::new(alloc, "replay").arg(Arg::new(alloc, "plan"))?;
-    let check = Command::new(alloc, "check").arg(Arg::new(alloc, "plan"))?;
-    let run = Command::new(alloc, "run")
-        .arg(Arg::new(alloc, "plan"))?
-        .arg(Arg::new(alloc, "next"))?;
-    let partial = Command::new(alloc, "partial")
-        .subcommand_required(true)
-        .subcommand(replay)?
-        .subcommand(check)?
-        .subcommand(run)?;
-    Ok(partial)
+fn command<'a>(alloc: Global) -> Result<Command<'a>, AllocError> {
+    let partial = Command::new(alloc, "partial").subcommand_required(true);
+    let partial = with_verb(alloc, partial, "replay", &["plan"])?;
+    let partial = with_verb(alloc, partial, "check", &["plan"])?;
+    with_verb(alloc, partial, "run", &["plan", "next"])
+}
+
+/// The command with one more verb, which takes these arguments.
+fn with_verb<'a>(
+    alloc: Global,
+    command: Command<'a>,
+    verb: &'a str,
+    arguments: &[&'a str],
+) -> Result<Command<'a>, AllocError> {
+    match verb_of(alloc, verb, arguments) {
+        Ok(verb) => command.subcommand(verb),
+        Err(error) => {
+            drop(command);
+            Err(error)
+        }
+    }
+}
+
+/// A verb that takes these arguments.
+fn verb_of<'a>(
+    alloc: Global,
+    verb: &'a str,
+    arguments: &[&'a str],
+) -> Result<Command<'a>, AllocError> {
+    let mut command = Command::new(alloc, verb);
+    for argument in arguments {
+        command = command.arg(Arg::new(alloc, argument))?;
+    }
+    Ok(command)
 }
 
 /// Reads the arguments. The first of them is the program's name.

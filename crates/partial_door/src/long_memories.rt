@@ -11,7 +11,7 @@ ghost use Rattle.partial_door.specs.LongMemories.{MayNotBeNew, MayNotCloseLong, 
 use crate::answers::ArenaSizes;
 use crate::codes::{HOLDS_NONE, LENGTH, MEMORY, NONE_HOME, NOT_ALL_HOME, SHARED, TWO_MEMORIES};
 use crate::held::{Held, LongClosing, LongMemory, LongPort};
-use crate::memories::nothing;
+use crate::memories::{boxed, nothing};
 use partial_long_lived::{LongLived, Options, Port, Unclosed};
 use std::alloc::Global;
 use std::mem;
@@ -35,17 +35,14 @@ fn at_home(
     let Ok(memory) = Arc::new(alloc, memory) else {
         return Err(MEMORY);
     };
-    let held = Held::LongMemory(LongMemory {
+    let open = LongMemory {
         number,
         components,
         count,
         memory,
         ports,
-    });
-    match Box::new(alloc, held) {
-        Ok(held) => Ok(held),
-        Err(_) => Err(MEMORY),
-    }
+    };
+    boxed(alloc, Held::LongMemory(open))
 }
 
 /// Opens a long-lived memory that holds all its ports.
@@ -74,6 +71,17 @@ pub fn open_long(
 }
 
 impl Held {
+    // The port of a long-lived memory that this is.
+    fn into_long_port(self) -> LongPort
+        requires { (own : LongPort) × (self ≡ held.LongPort own) }
+        ensures { self ≡ held.LongPort result }
+    {
+        match self {
+            Held::LongPort(own) => own,
+            _ => unreachable!(),
+        }
+    }
+
     /// Takes out the last port that the long-lived memory holds.
     ///
     /// # Errors
@@ -89,7 +97,7 @@ impl Held {
         if open.ports.is_empty() {
             return Err(NONE_HOME);
         }
-        let Ok(mut taken) = Box::new(alloc, nothing(alloc)) else {
+        let Ok(mut taken) = boxed(alloc, nothing(alloc)) else {
             return Err(MEMORY);
         };
         let Ok(memory) = Arc::try_clone(&open.memory) else {
@@ -132,9 +140,7 @@ impl Held {
         if open.ports.reserve(1).is_err() {
             return Err((MEMORY, given));
         }
-        let Held::LongPort(own) = Box::into_inner(given) else {
-            unreachable!()
-        };
+        let own = Box::into_inner(given).into_long_port();
         open.ports.push_reserved(own.port);
         Ok(())
     }
@@ -242,6 +248,23 @@ fn ready(held: Held, room: usize) -> Result<LongClosing, (u32, Held)>
     }
 }
 
+// Closes what is held when it is a long-lived memory with all its ports, and puts its values into `into`. Returns what is
+// held then, and the number of the refusal if it was refused.
+fn closed(found: Held, alloc: Global, into: &mut [u64]) -> (Held, Result<(), u32>)
+    ensures ok { IfOk result.1 (λ _. ClosesLong found into.new) }
+    ensures unchanged { IfErr result.1 (λ _. into.new ≡ into.old) }
+    ensures err { IfErr result.1 (IsUnclosedLong found result.0 (length into.old)) }
+{
+    let closing = match ready(found, into.len()) {
+        Ok(closing) => closing,
+        Err((code, held)) => return (held, Err(code)),
+    };
+    match closing.close(alloc, into) {
+        Ok(()) => (nothing(alloc), Ok(())),
+        Err(kept) => (Held::LongClosing(kept), Err(MEMORY)),
+    }
+}
+
 impl Held {
     /// Closes a long-lived memory to which all ports were returned, and puts its values into `into`. What is
     /// left then holds nothing.
@@ -255,18 +278,8 @@ impl Held {
         ensures unchanged { IfErr result (λ _. into.new ≡ into.old) }
         ensures err { IfErr result (IsUnclosedLong self.old self.new (length into.old)) }
     {
-        match ready(mem::replace(self, nothing(alloc)), into.len()) {
-            Ok(closing) => match closing.close(alloc, into) {
-                Ok(()) => Ok(()),
-                Err(kept) => {
-                    *self = Held::LongClosing(kept);
-                    Err(MEMORY)
-                }
-            },
-            Err((code, held)) => {
-                *self = held;
-                Err(code)
-            }
-        }
+        let (left, answer) = closed(mem::replace(self, nothing(alloc)), alloc, into);
+        drop(mem::replace(self, left));
+        answer
     }
 }

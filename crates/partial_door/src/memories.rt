@@ -36,6 +36,20 @@ fn sizes_of(components: usize, room: &RoomSizes) -> Result<Sizes, u32>
     }
 }
 
+// Boxes what a handle is to hold. The number is that of a refused allocation.
+pub(crate) fn boxed(alloc: Global, held: Held) -> Result<Box<Held>, u32>
+    ensures ok { IfOk result (λ b. b.value ≡ held) }
+    ensures err { IfErr result (λ code. code ≡ 6) }
+{
+    match Box::new(alloc, held) {
+        Ok(held) => Ok(held),
+        Err(failed) => {
+            drop(failed);
+            Err(MEMORY)
+        }
+    }
+}
+
 // Boxes an opened memory with so many components and so many ports, all of which it holds.
 fn at_home(
     alloc: Global,
@@ -53,17 +67,14 @@ fn at_home(
     let Ok(memory) = Arc::new(alloc, memory) else {
         return Err(MEMORY);
     };
-    let held = Held::Memory(OpenMemory {
+    let open = OpenMemory {
         opening,
         components,
         count,
         memory,
         ports,
-    });
-    match Box::new(alloc, held) {
-        Ok(held) => Ok(held),
-        Err(_) => Err(MEMORY),
-    }
+    };
+    boxed(alloc, Held::Memory(open))
 }
 
 /// Opens a memory that holds all its ports.
@@ -145,6 +156,17 @@ pub fn nothing(alloc: Global) -> Held {
 }
 
 impl Held {
+    // The port that this is.
+    fn into_port(self) -> OwnedPort
+        requires { (own : OwnedPort) × (self ≡ held.Port own) }
+        ensures { self ≡ held.Port result }
+    {
+        match self {
+            Held::Port(own) => own,
+            _ => unreachable!(),
+        }
+    }
+
     /// Takes out the last port that the memory holds.
     ///
     /// # Errors
@@ -160,7 +182,7 @@ impl Held {
         if open.ports.is_empty() {
             return Err(NONE_HOME);
         }
-        let Ok(mut taken) = Box::new(alloc, nothing(alloc)) else {
+        let Ok(mut taken) = boxed(alloc, nothing(alloc)) else {
             return Err(MEMORY);
         };
         let Ok(memory) = Arc::try_clone(&open.memory) else {
@@ -203,9 +225,7 @@ impl Held {
         if open.ports.reserve(1).is_err() {
             return Err((MEMORY, given));
         }
-        let Held::Port(own) = Box::into_inner(given) else {
-            unreachable!()
-        };
+        let own = Box::into_inner(given).into_port();
         open.ports.push_reserved(own.port);
         Ok(())
     }
@@ -267,19 +287,19 @@ pub enum Unclosed {
     Lost,
 }
 
-// Closes what is held when it is a memory with all its ports, and otherwise gives it back with the cause.
-fn closed(found: Held, alloc: Global) -> Result<Closed, (Unclosed, Held)>
-    ensures ok { IfOk result (λ c. ClosesAt found (held.Closed c)) }
-    ensures err { IfErr result (λ e. IsUnclosed found e.1 e.0) }
+// Closes what is held when it is a memory with all its ports. Returns what is held then, and why it isn't closed if so.
+fn closed(found: Held, alloc: Global) -> (Held, Result<(), Unclosed>)
+    ensures ok { IfOk result.1 (λ _. ClosesAt found result.0) }
+    ensures err { IfErr result.1 (IsUnclosed found result.0) }
 {
-    match found {
-        Held::Memory(open) => match open.close(alloc) {
-            Ok(closed) => Ok(closed),
-            Err(Kept::Away(open)) => Err((Unclosed::Kept(NOT_ALL_HOME), Held::Memory(open))),
-            Err(Kept::Shared(open)) => Err((Unclosed::Kept(SHARED), Held::Memory(open))),
-            Err(Kept::Lost) => Err((Unclosed::Lost, nothing(alloc))),
-        },
-        other => Err((Unclosed::Kept(HOLDS_NONE), other)),
+    let Held::Memory(open) = found else {
+        return (found, Err(Unclosed::Kept(HOLDS_NONE)));
+    };
+    match open.close(alloc) {
+        Ok(closed) => (Held::Closed(closed), Ok(())),
+        Err(Kept::Away(open)) => (Held::Memory(open), Err(Unclosed::Kept(NOT_ALL_HOME))),
+        Err(Kept::Shared(open)) => (Held::Memory(open), Err(Unclosed::Kept(SHARED))),
+        Err(Kept::Lost) => (nothing(alloc), Err(Unclosed::Lost)),
     }
 }
 
@@ -294,16 +314,9 @@ impl Held {
         ensures ok { IfOk result (λ _. ClosesAt self.old self.new) }
         ensures err { IfErr result (IsUnclosed self.old self.new) }
     {
-        match closed(mem::replace(self, nothing(alloc)), alloc) {
-            Ok(closed) => {
-                *self = Held::Closed(closed);
-                Ok(())
-            }
-            Err((cause, held)) => {
-                *self = held;
-                Err(cause)
-            }
-        }
+        let (left, answer) = closed(mem::replace(self, nothing(alloc)), alloc);
+        drop(mem::replace(self, left));
+        answer
     }
 
     /// Merges what two ports have observed.

@@ -1,9 +1,9 @@
 //! The arguments of the program.
 
 use crate::stop::Stop;
-use clap::{Arg, ArgAction, ArgMatches, Command, Error};
+use clap::{Arg, ArgAction, ArgMatches, Command};
 use partial_picture::{Form, Window};
-use std::alloc::Global;
+use std::alloc::{AllocError, Global};
 
 /// What the arguments ask for.
 #[derive(Clone, Copy, Debug)]
@@ -25,34 +25,39 @@ fn flag<'a>(alloc: Global, name: &'a str, help: &'a str) -> Arg<'a> {
 }
 
 /// The arguments that the program takes: `[PLAN] [--window A B] [--words] [--text]`.
-fn command<'a>(alloc: Global) -> Result<Command<'a>, Error> {
+fn command<'a>(alloc: Global) -> Result<Command<'a>, AllocError> {
     let plan = Arg::new(alloc, "plan").help(
         "The file of the plan; standard input without it, or with -",
     );
+    let picture = Command::new(alloc, "picture")
+        .about("Draws the replay of a plan as SVG, to standard output")
+        .arg(plan)?;
     let window = Arg::new(alloc, "window")
         .long("window")
         .action(ArgAction::Set)
         .num_args(2)
         .value_name("STEP")
         .help("Draws the steps from the first of these two numbers to the second alone");
+    let picture = picture.arg(window)?;
     let words = flag(
         alloc,
         "words",
         "Draws the words of the memory below the ports",
     );
-    let text = flag(
-        alloc,
-        "text",
-        "Writes the steps as a table in place of a drawing",
-    )
-    .conflicts_with("words")?;
-    let picture = Command::new(alloc, "picture")
-        .about("Draws the replay of a plan as SVG, to standard output")
-        .arg(plan)?
-        .arg(window)?
-        .arg(words)?
-        .arg(text)?;
-    Ok(picture)
+    let picture = picture.arg(words)?;
+    match text_of(alloc) {
+        Ok(text) => picture.arg(text),
+        Err(error) => {
+            drop(picture);
+            Err(error)
+        }
+    }
+}
+
+/// The flag for a table in place of a drawing.
+fn text_of<'a>(alloc: Global) -> Result<Arg<'a>, AllocError> {
+    let help = "Writes the steps as a table in place of a drawing";
+    flag(alloc, "text", help).conflicts_with("words")
 }
 
 /// Reads the window.

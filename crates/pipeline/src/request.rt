@@ -1,9 +1,9 @@
 //! The arguments of the program.
 
 use crate::stop::Stop;
-use clap::{Arg, ArgAction, ArgMatches, Command, Error};
+use clap::{Arg, ArgAction, ArgMatches, Command};
 use partial_pipeline::{Options, Pipeline};
-use std::alloc::Global;
+use std::alloc::{AllocError, Global};
 
 /// An option with a number.
 fn option<'a>(alloc: Global, name: &'a str, help: &'a str) -> Arg<'a> {
@@ -15,28 +15,25 @@ fn option<'a>(alloc: Global, name: &'a str, help: &'a str) -> Arg<'a> {
 }
 
 /// The arguments that the program takes: `[--stages N] [--items N] [--looks N]`.
-fn command<'a>(alloc: Global) -> Result<Command<'a>, Error> {
-    let stages = option(
+fn command<'a>(alloc: Global) -> Result<Command<'a>, AllocError> {
+    let pipeline = Command::new(alloc, "pipeline").about(
+        "Runs a pipeline of stages in threads, and shows how far each of them is",
+    );
+    let pipeline = pipeline.arg(option(
         alloc,
         "stages",
         "How many stages there are, 1 to 63; 4 without this",
-    );
-    let items = option(
+    ))?;
+    let pipeline = pipeline.arg(option(
         alloc,
         "items",
         "How many items each stage works on; 20000 without this",
-    );
-    let looks = option(
+    ))?;
+    pipeline.arg(option(
         alloc,
         "looks",
         "How many scans the monitor makes before the last one at most, 0 to 65535; 1000 without this",
-    );
-    let pipeline = Command::new(alloc, "pipeline")
-        .about("Runs a pipeline of stages in threads, and shows how far each of them is")
-        .arg(stages)?
-        .arg(items)?
-        .arg(looks)?;
-    Ok(pipeline)
+    ))
 }
 
 /// What each option takes.

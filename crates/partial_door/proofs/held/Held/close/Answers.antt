@@ -1,12 +1,13 @@
-use Rattle.partial_door.proofs.Common.{rules, ◌≡◌, subst, Held, IsUnclosed, ClosesAt}
+use Rattle.partial_door.proofs.Common.{rules, ◌≡◌, sym, subst, Held, IsUnclosed, ClosesAt}
+use Rattle.core.specs.Result.{IfOk, IfErr}
 use Rattle.partial_door.proofs.held.Held.close.Goals as goal
 
-pub returns-in-Ok-clause-ok : goal.returns-in-Ok-clause-ok
-returns-in-Ok-clause-ok c =
-    let was : c.replace.result ≡ c.args.self.now = search rules in
-    subst (λ (h : Held). ClosesAt h (Held.Closed c.in-Ok.closed)) was c.in-Ok.ensures.ok
+pub returns-clause-ok : goal.returns-clause-ok
+returns-clause-ok c =
+    subst (λ (h : Held). IfOk c.closed-left.result.1 (λ _. ClosesAt h c.replace-2.new.dest)) c.replace.ensures.value
+    (subst (λ (h : Held). IfOk c.closed-left.result.1 (λ _. ClosesAt c.replace.result h)) (sym c.replace-2.ensures.after) c.closed-left.ensures.ok)
 
-pub returns-in-Err-clause-err : goal.returns-in-Err-clause-err
-returns-in-Err-clause-err c =
-    let was : c.replace.result ≡ c.args.self.now = search rules in
-    subst (λ (h : Held). IsUnclosed h c.in-Err.held c.in-Err.cause) was c.in-Err.ensures.err
+pub returns-clause-err : goal.returns-clause-err
+returns-clause-err c =
+    subst (λ (h : Held). IfErr c.closed-left.result.1 (IsUnclosed h c.replace-2.new.dest)) c.replace.ensures.value
+    (subst (λ (h : Held). IfErr c.closed-left.result.1 (IsUnclosed c.replace.result h)) (sym c.replace-2.ensures.after) c.closed-left.ensures.err)

@@ -1,18 +1,14 @@
-use Rattle.partial_door.proofs.{Common.{rules, ◌≡◌, refl, subst, inr, Held, IsReadyToClose}, OpenedLong.as_was}
+use Rattle.partial_door.proofs.Common.{◌≡◌, sym, subst, Held, length}
+use Rattle.core.specs.Result.{IfOk, IfErr}
+use Rattle.partial_door.specs.{Inner.Long.IsUnclosedLong, LongMemories.ClosesLong}
 use Rattle.partial_door.proofs.held.Held.close_long.Goals as goal
 
-pub returns-in-Ok-close-clause-ok : goal.returns-in-Ok-close-clause-ok
-returns-in-Ok-close-clause-ok c =
-    let was : c.replace.result ≡ c.args.self.now = search rules in
-    (c.in-Ok.closing, subst (λ (h : Held). IsReadyToClose h c.in-Ok.closing) was c.in-Ok.ensures.ok.0, c.in-Ok-close.ensures.ok)
+pub returns-clause-ok : goal.returns-clause-ok
+returns-clause-ok c =
+    subst (λ (h : Held). IfOk c.closed-left.result.1 (λ _. ClosesLong h c.closed-left.new.into)) c.replace.ensures.value c.closed-left.ensures.ok
 
-pub returns-in-Err-close-clause-err : goal.returns-in-Err-close-clause-err
-returns-in-Err-close-clause-err c =
-    let was : c.replace.result ≡ c.args.self.now = search rules in
-    let ready = subst (λ (h : Held). IsReadyToClose h c.in-Ok.closing) was c.in-Ok.ensures.ok.0 in
-    inr (refl, (c.in-Ok.closing, c.in-Err-close.kept, ready, c.in-Err-close.ensures.err.0, refl))
-
-pub returns-in-Err-clause-err : goal.returns-in-Err-clause-err
-returns-in-Err-clause-err c =
-    let was : c.replace.result ≡ c.args.self.now = search rules in
-    as_was _ _ _ _ _ was c.in-Err.ensures.err.0 c.in-Err.ensures.err.1
+pub returns-clause-err : goal.returns-clause-err
+returns-clause-err c =
+    subst (λ (h : Held). IfErr c.closed-left.result.1 (IsUnclosedLong h c.replace-2.new.dest (length c.args.into.now))) c.replace.ensures.value
+    (subst (λ (h : Held). IfErr c.closed-left.result.1 (IsUnclosedLong c.replace.result h (length c.args.into.now))) (sym c.replace-2.ensures.after)
+    c.closed-left.ensures.err)

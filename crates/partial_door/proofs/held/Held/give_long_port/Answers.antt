@@ -12,15 +12,18 @@ pub returns-clause-ok : goal.returns-clause-ok
 returns-clause-ok c = (
   c.in-LongMemory.open,
   _,
-  c.in-LongPort-into_inner.own,
+  c.into_long_port-own.result,
   c.in-LongMemory.is,
   refl,
-  sym c.into_inner.ensures ∙ c.in-LongPort-into_inner.is,
+  sym c.into_inner.ensures ∙ c.into_long_port-own.ensures,
   search rules,
   record { number = refl; count = refl; memory = refl },
-  c.push_reserved.ensures.items ∙ ap (λ (xs : List PortView). xs ++ c.in-LongPort-into_inner.own.port ∷ []) c.reserve.ensures.items,
+  c.push_reserved.ensures.items ∙ ap (λ (xs : List PortView). xs ++ c.into_long_port-own.result.port ∷ []) c.reserve.ensures.items,
 )
 
 pub returns-then-own-open-clause-err : goal.returns-then-own-open-clause-err
 returns-then-own-open-clause-err c =
     (refl, inl (sym c.in-LongMemory.is), inr (inr (inl (c.in-LongMemory.open, c.in-LongPort.own, c.in-LongMemory.is, search rules, search rules, refl))))
+
+pub into_long_port-own-requires : goal.into_long_port-own-requires
+into_long_port-own-requires c = (c.in-LongPort.own, c.into_inner.ensures ∙ sym c.deref.ensures ∙ c.in-LongPort.is)

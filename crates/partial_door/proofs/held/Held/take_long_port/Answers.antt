@@ -22,8 +22,8 @@ returns-clause-ok c = (
 pub returns-then-is_empty-clause-err : goal.returns-then-is_empty-clause-err
 returns-then-is_empty-clause-err c = (sym c.in-LongMemory.is, inr (inl (c.in-LongMemory.open, c.in-LongMemory.is, search rules, refl)))
 
-pub returns-in_default-new-clause-err : goal.returns-in_default-new-clause-err
-returns-in_default-new-clause-err c = (sym c.in-LongMemory.is, inr (inr (c.in-LongMemory.open, c.in-LongMemory.is, search rules, refl)))
+pub returns-in_default-boxed-clause-err : goal.returns-in_default-boxed-clause-err
+returns-in_default-boxed-clause-err c = (sym c.in-LongMemory.is, inr (inr (c.in-LongMemory.open, c.in-LongMemory.is, search rules, refl)))
 
 pub returns-in_default-try_clone-clause-err : goal.returns-in_default-try_clone-clause-err
 returns-in_default-try_clone-clause-err c = (sym c.in-LongMemory.is, inr (inr (c.in-LongMemory.open, c.in-LongMemory.is, search rules, refl)))
