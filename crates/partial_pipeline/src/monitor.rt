@@ -26,6 +26,15 @@ pub struct Monitor {
     pub room: Vec<u64>,
 }
 
+// All that a monitor has but its port.
+#[derive(Drop)]
+struct Space {
+    stages: Vec<u32>,
+    rooms: Vec<Vec<u64>>,
+    scans: Vec<Vec<u64>>,
+    room: Vec<u64>,
+}
+
 // The numbers of the stages, in order.
 fn numbers(alloc: Global, stages: u32) -> Result<Vec<u32>, AllocError>
     ensures { IfOk result (λ all. IsEachStage stages all.items) }
@@ -47,6 +56,22 @@ fn rooms_for(alloc: Global, stages: u32, scans: usize) -> Result<Vec<Vec<u64>>, 
         rooms.push_reserved(vec![in alloc; 0; stages as usize]?);
     }
     Ok(rooms)
+}
+
+// All that a monitor of `stages` stages has but its port, with room for `looks` scans and for the last one.
+fn space_for(alloc: Global, stages: u32, looks: usize) -> Result<Space, AllocError>
+    ensures each { IfOk result (λ space. IsEachStage stages space.stages.items) }
+    ensures rooms { IfOk result (λ space. AreRooms stages space.rooms.items) }
+    ensures last { IfOk result (λ space. length space.room.items ≡ stages) }
+    ensures none { IfOk result (λ space. space.scans.items ≡ []) }
+    ensures room { IfOk result (λ space. length space.rooms.items ≤ vec_capacity space.scans) }
+{
+    Ok(Space {
+        stages: numbers(alloc, stages)?,
+        rooms: rooms_for(alloc, stages, looks)?,
+        scans: Vec::with_capacity(alloc, looks)?,
+        room: vec![in alloc; 0; stages as usize]?,
+    })
 }
 
 /// Scans the counts of these stages into `room`, and returns it. A scan that finds no free arena is tried again. Returns
@@ -94,12 +119,18 @@ impl Monitor {
         ensures { IfOk result (IsWatching memory.now) }
     {
         let _of = memory;
+        let Space {
+            stages,
+            rooms,
+            scans,
+            room,
+        } = space_for(alloc, stages, looks)?;
         Ok(Monitor {
             port,
-            stages: numbers(alloc, stages)?,
-            rooms: rooms_for(alloc, stages, looks)?,
-            scans: Vec::with_capacity(alloc, looks)?,
-            room: vec![in alloc; 0; stages as usize]?,
+            stages,
+            rooms,
+            scans,
+            room,
         })
     }
 

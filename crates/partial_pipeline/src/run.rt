@@ -54,6 +54,16 @@ struct Joined {
     ends: Vec<StageEnd>,
 }
 
+// Room for what a run has of each stage: the flag that tells whether it has ended, and then its thread, its port and its
+// end.
+#[derive(Drop)]
+struct Room {
+    ended: Vec<AtomicBool>,
+    started: Vec<PromisedHandle<Worked, Works>>,
+    ports: Vec<Port>,
+    ends: Vec<StageEnd>,
+}
+
 // A flag for each stage that tells whether it has ended. No stage has.
 fn flags(alloc: Global, stages: usize) -> Result<Vec<AtomicBool>, AllocError> {
     let mut ended = Vec::with_capacity(alloc, stages)?;
@@ -61,6 +71,20 @@ fn flags(alloc: Global, stages: usize) -> Result<Vec<AtomicBool>, AllocError> {
         ended.push_reserved(AtomicBool::new(false));
     }
     Ok(ended)
+}
+
+// Room for what a run has of each stage.
+fn room_for(alloc: Global, stages: usize) -> Result<Room, AllocError>
+    ensures started { IfOk result (λ room. (room.started.items ≡ []) × (stages ≤ vec_capacity room.started)) }
+    ensures ports { IfOk result (λ room. (room.ports.items ≡ []) × (stages ≤ vec_capacity room.ports)) }
+    ensures ends { IfOk result (λ room. (room.ends.items ≡ []) × (stages ≤ vec_capacity room.ends)) }
+{
+    Ok(Room {
+        ended: flags(alloc, stages)?,
+        started: Vec::with_capacity(alloc, stages)?,
+        ports: Vec::with_capacity(alloc, stages)?,
+        ends: Vec::with_capacity(alloc, stages)?,
+    })
 }
 
 // Starts the stages of these ports, each in a thread of its own.
@@ -157,12 +181,63 @@ fn close(
     })
 }
 
-// Runs the stages and the monitor on a memory that was opened for them. The last port is the monitor's.
+// Runs the stages and the monitor on a memory that was opened for them, until all stages have ended. The last port is
+// the monitor's.
+fn run_stages<R: Threads + Wait + Sync, W: Work, V: Watch>(
+    rt: &R,
+    alloc: Global,
+    memory: &LongLived,
+    mut ports: Vec<Port>,
+    items: u64,
+    looks: usize,
+    work: &W,
+    watch: &mut V,
+) -> Result<Joined, AllocError>
+    requires { IsOpened memory.now ports.items }
+    ensures { IfOk result (HaveMet memory.now items memory.now.about.sizes.m) }
+{
+    let Some(port) = ports.pop() else {
+        unreachable!();
+    };
+    let stages = ports.len();
+    let monitor = Monitor::new(alloc, memory, port, stages as u32, looks)?;
+    let Room {
+        ended,
+        started,
+        ports: met,
+        ends,
+    } = room_for(alloc, stages)?;
+    let over = ended.as_slice();
+    thread::scope(
+        thread::scope_env(),
+        rt,
+        |scope| -> Result<Joined, AllocError>
+            requires new { AreFrom (IsNewStage memory.now) 0 ports.items }
+            requires some { (0 < memory.now.about.sizes.m) × (length ports.items ≡ memory.now.about.sizes.m) }
+            requires started { (started.items ≡ []) × (length ports.items ≤ vec_capacity started) }
+            requires watching { IsWatching memory.now monitor }
+            requires met { (met.items ≡ []) × (length ports.items ≤ vec_capacity met) }
+            requires ends { (ends.items ≡ []) × (length ports.items ≤ vec_capacity ends) }
+            ensures { IfOk result (HaveMet memory.entry.now items memory.entry.now.about.sizes.m) }
+        {
+            let started = start(scope, memory, items, over, work, ports, started)?;
+            let monitor = monitor.watch(memory, over, watch);
+            let joined = Joined {
+                monitor,
+                ports: met,
+                ends,
+            };
+            Ok(join(rt, memory, items, started, joined))
+        },
+    )
+}
+
+// Runs the stages and the monitor on a memory that was opened for them, and closes it. The last port is the monitor's.
 fn run_on<R: Threads + Wait + Sync, W: Work, V: Watch>(
     rt: &R,
     alloc: Global,
     memory: LongLived,
-    mut ports: Vec<Port>,
+    ports: Vec<Port>,
     items: u64,
     looks: usize,
     work: &W,
@@ -172,38 +247,7 @@ fn run_on<R: Threads + Wait + Sync, W: Work, V: Watch>(
     ensures orderly { IfOk result (IsOrderly memory.about.sizes.m) }
     ensures ended { IfOk result (HaveEnded memory.about.sizes.m items) }
 {
-    let Some(port) = ports.pop() else {
-        unreachable!();
-    };
-    let stages = ports.len();
-    let monitor = Monitor::new(alloc, &memory, port, stages as u32, looks)?;
-    let ended = flags(alloc, stages)?;
-    let started = Vec::with_capacity(alloc, stages)?;
-    let mut joined = Joined {
-        monitor,
-        ports: Vec::with_capacity(alloc, stages)?,
-        ends: Vec::with_capacity(alloc, stages)?,
-    };
-    let lent = &memory;
-    let over = ended.as_slice();
-    let joined = thread::scope(
-        thread::scope_env(),
-        rt,
-        |scope| -> Result<Joined, AllocError>
-            requires new { AreFrom (IsNewStage lent.now) 0 ports.items }
-            requires some { (0 < lent.now.about.sizes.m) × (length ports.items ≡ lent.now.about.sizes.m) }
-            requires started { (started.items ≡ []) × (length ports.items ≤ vec_capacity started) }
-            requires watching { IsWatching lent.now joined.monitor }
-            requires empty { (joined.ports.items ≡ []) × (joined.ends.items ≡ []) }
-            requires ports { length ports.items ≤ vec_capacity joined.ports }
-            requires ends { length ports.items ≤ vec_capacity joined.ends }
-            ensures { IfOk result (HaveMet lent.entry.now items lent.entry.now.about.sizes.m) }
-        {
-            let started = start(scope, lent, items, over, work, ports, started)?;
-            joined.monitor = joined.monitor.watch(lent, over, watch);
-            Ok(join(rt, lent, items, started, joined))
-        },
-    )?;
+    let joined = run_stages(rt, alloc, &memory, ports, items, looks, work, watch)?;
     close(alloc, memory, items, joined)
 }
 
