@@ -1,4 +1,4 @@
-use Rattle.partial_pipeline.proofs.{Common.{rules, ◌+◌, length, refl, sym, ap, ◌∙◌, length_push, YieldsList-from_vec, YieldsList-turn, YieldsList-end}, Watching.{ended_more, joined_more, started_done, watching_met}}
+use Rattle.partial_pipeline.proofs.{Common.{rules, arith, ◌+◌, length, refl, sym, ap, ◌∙◌, length_push, YieldsList-from_vec, YieldsList-turn, YieldsList-end}, Watching.{ended_more, joined_more, started_done, watching_met}}
 use Rattle.partial_pipeline.proofs.run.join.Goals as goal
 
 pub meet-requires : goal.meet-requires
@@ -10,6 +10,20 @@ meet-requires g c =
     c.in-Some.handle c.in-Some.is c.next.ensures.steps in
     let done = started_done m c.args.items n all c.in-Some.handle c.join-port.result c.requires.started turn.0 turn.1 c.join-port.ensures in
     (c.loop-handle.invariant.watching.own, done.own)
+
+pub push_reserved-requires : goal.push_reserved-requires
+push_reserved-requires g c =
+    let all = c.args.started.items in
+    let turn = YieldsList-turn (YieldsList-from_vec {s = c.into_iter-handle-iterator.result} all (search rules) (search rules)) c.loop-handle.yielded _ c.loop-handle.yielded_by _ c.next.new.self
+    c.in-Some.handle c.in-Some.is c.next.ensures.steps in
+    omega (arith, turn.0, c.loop-handle.invariant.ports, c.loop-handle.invariant.ports_room)
+
+pub push_reserved-requires-in-loop-handle : goal.push_reserved-requires-in-loop-handle
+push_reserved-requires-in-loop-handle g c =
+    let all = c.args.started.items in
+    let turn = YieldsList-turn (YieldsList-from_vec {s = c.into_iter-handle-iterator.result} all (search rules) (search rules)) c.loop-handle.yielded _ c.loop-handle.yielded_by _ c.next.new.self
+    c.in-Some.handle c.in-Some.is c.next.ensures.steps in
+    omega (arith, turn.0, c.loop-handle.invariant.ends, c.loop-handle.invariant.ends_room)
 
 pub loop-handle-preserved : goal.loop-handle-preserved
 loop-handle-preserved g c =
