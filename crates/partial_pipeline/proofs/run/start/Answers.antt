@@ -12,6 +12,13 @@ new-stage-requires g c =
     let new = new_at m n all c.in-Some.port c.requires.new turn.0 turn.1 in
     record { new = new_self m n c.in-Some.port new; inside = omega (arith, new.number, turn.0, c.requires.inside) }
 
+pub push_reserved-requires : goal.push_reserved-requires
+push_reserved-requires g c =
+    let all = c.args.ports.items in
+    let turn = YieldsList-turn (YieldsList-from_vec {s = c.into_iter-port-iterator.result} all (search rules) (search rules)) c.loop-port.yielded _ c.loop-port.yielded_by _ c.next.new.self
+    c.in-Some.port c.in-Some.is c.next.ensures.steps in
+    omega (arith, turn.0, c.loop-port.invariant.count, c.loop-port.invariant.room)
+
 pub loop-port-preserved : goal.loop-port-preserved
 loop-port-preserved g c =
     let m = c.args.memory.now in

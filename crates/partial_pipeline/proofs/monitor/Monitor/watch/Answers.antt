@@ -1,5 +1,8 @@
-use Rattle.partial_pipeline.proofs.{Common.arith, Watching.{watching_more, watching_refused}}
+use Rattle.partial_pipeline.proofs.{Common.{arith, length, ap, length_push}, Watching.{watching_more, watching_refused}}
 use Rattle.partial_pipeline.proofs.monitor.Monitor.watch.Goals as goal
+
+pub push_reserved-requires : goal.push_reserved-requires
+push_reserved-requires g c = omega (arith, c.loop-room.invariant.room, length_push c.pop.new.self.items c.in-Some.room, ap length c.in-Some.ensures.items)
 
 pub loop-room-preserved : goal.loop-room-preserved
 loop-room-preserved g c =
