@@ -8,7 +8,7 @@ pub use Rattle.std.proofs.lemmas.Iterator.{Adapters.YieldsList-from_vec, Consume
 pub use Rattle.partial_model.specs.declared.call.{Answer.Answer, Call.Call, Note.Note}
 pub use Rattle.partial_model.specs.declared.history.{Applied.Applied, Opening.Opening}
 pub use Rattle.partial_model.specs.{Entries.{applied_by, entry_of, OnlyRises, entries_by}, Notes.{Noted, IsLegal, LegalNotes, seen_after, seen_by}, Outcome.{wrote, places_written, EachOnce}}
-pub use Rattle.partial_model.proofs.{AllLemmas.{all_append, all_where, all_weaker, all_front}, Entries.{noted_at, entries_are_noted, entry_holds}, NotesLemmas.{AllByRecursion-get, LegalNotes-last, shown_within}, Values.{element_at, rising_never_falls, value_at_first, value_kept, value_set}}
+pub use Rattle.partial_model.proofs.{AllLemmas.{all_append, all_back, all_where, all_weaker, all_front}, Entries.{noted_at, entries_are_noted, entry_holds}, NotesLemmas.{AllByRecursion-get, LegalNotes-last, shown_within}, Values.{element_at, rising_never_falls, value_at_first, value_kept, value_set}}
 pub use Rattle.partial_long_lived.specs.declared.answers.Updated.{Updated}
 pub use Rattle.partial_long_lived.specs.{Calls.{Goes, IsRefused, Meets, Reads, Scanned, Scans, Updates}, Ports.{IsOf, MemoryView, PortView, Knows, new_ports}}
 pub use Rattle.partial_pipeline.specs.declared.stage.{Stage.Stage, StageEnd.StageEnd, Worked.Worked}

@@ -1,8 +1,17 @@
-use Rattle.partial_pipeline.proofs.{Common.{arith, length, ap, length_push}, Watching.{watching_more, watching_refused}}
+use Rattle.partial_pipeline.proofs.{Common.{arith, ℕ, ◌≡◌, ◌∷◌, [], length, sym, subst, Global, Vec, all_back, AreRooms, IsEachStage}, Watching.{watching_more, watching_refused}}
 use Rattle.partial_pipeline.proofs.monitor.Monitor.watch.Goals as goal
 
-pub push_reserved-requires : goal.push_reserved-requires
-push_reserved-requires g c = omega (arith, c.loop-room.invariant.room, length_push c.pop.new.self.items c.in-Some.room, ap length c.in-Some.ensures.items)
+pub scan_into-requires : goal.scan_into-requires
+scan_into-requires g c =
+    let m = c.args.memory.now in
+    let w = c.loop-room.invariant in
+    let rooms = subst (AreRooms m.about.sizes.m) c.in-Some.ensures.items w.rooms in
+    record {
+      own = w.own;
+      stages = subst (IsEachStage m.about.sizes.m) (sym c.deref.ensures.value) w.each;
+      some = c.requires.some;
+      room = (all_back (λ (v : Vec ℕ Global). length v.items ≡ m.about.sizes.m) c.pop.new.self.items (c.in-Some.room ∷ []) rooms).0;
+    }
 
 pub loop-room-preserved : goal.loop-room-preserved
 loop-room-preserved g c =
