@@ -1,5 +1,5 @@
 -- The names that several proofs of this crate take from elsewhere.
-pub use Rattle.std.proofs.Common.{ℕ, zero, suc, ◌≡◌, ◌+◌, ◌<◌, ◌≤◌, ◌==◌, ◌++◌, Bool, true, false, if◌then◌else◌, List, [], ◌∷◌, length, take, slice_index, refl, sym, ◌∙◌, ap, subst, inl, inr, Option, Some, None, slice_get, arith, map, slice_index_or, append-nil, append_assoc, length-take, rules}
+pub use Rattle.std.proofs.Common.{ℕ, zero, suc, ◌≡◌, ◌+◌, ◌<◌, ◌≤◌, ◌==◌, ◌++◌, Bool, true, false, if◌then◌else◌, List, [], ◌∷◌, length, replicate, take, slice_index, refl, sym, ◌∙◌, ap, subst, inl, inr, Option, Some, None, slice_get, arith, map, slice_index_or, append-nil, append_assoc, length-take, rules}
 pub use Rattle.std.specs.declared.alloc.Global.{Global}
 pub use Rattle.std.specs.declared.vec.Vec.{Vec}
 pub use Rattle.std.specs.{List.AllByRecursion, Vec.vec_capacity}

@@ -1,5 +1,5 @@
--- Room for the monitor's scans, and the numbers of the stages.
-use Rattle.partial_pipeline.proofs.Common.{ℕ, zero, suc, ◌≡◌, ◌+◌, ◌<◌, ◌++◌, List, [], ◌∷◌, length, slice_index, refl, sym, ◌∙◌, ap, inl, inr, arith, length_push, cases_lt, IsEachStage}
+-- The numbers of the stages, and the counts with which a pipeline begins.
+use Rattle.partial_pipeline.proofs.Common.{ℕ, zero, suc, ◌≡◌, ◌+◌, ◌<◌, ◌++◌, List, [], ◌∷◌, length, replicate, slice_index, refl, sym, ◌∙◌, ap, inl, inr, arith, length_push, cases_lt, IsEachStage}
 
 index_front : (xs : List ℕ) (x k : ℕ) → k < length xs → slice_index (xs ++ x ∷ []) k ≡ slice_index xs k
 index_front [] x k within = absurd (omega arith)
@@ -23,3 +23,9 @@ numbers_more n all w =
             ap (slice_index (all ++ n ∷ [])) at ∙ index_last all n ∙ sym is
       ];
     }
+
+-- all counts begin at 0
+pub zeros : (n k : ℕ) → ◌≡◌ {A = ℕ} (slice_index (replicate n 0) k) 0
+zeros zero k = refl
+zeros (suc n) zero = refl
+zeros (suc n) (suc k) = zeros n k

@@ -1,0 +1,18 @@
+use Rattle.partial_pipeline.proofs.{Common.{rules, ℕ, ◌≡◌, List, replicate, slice_index, sym, subst, IsOpened}, Rooms.zeros}
+use Rattle.partial_pipeline.proofs.run.run_pipeline.Goals as goal
+
+pub run_on-requires : goal.run_on-requires
+run_on-requires g c =
+    let m = c.in_ok-memory.memory in
+    let values : m.about.opening.values ≡ replicate c.args.pipeline.stages 0 = search rules in
+    let opened : IsOpened m c.in_ok-memory.ports.items = record {
+      opens = record {
+        zero = λ k. subst (λ (l : List ℕ). slice_index l k ≡ 0) (sym values) (zeros c.args.pipeline.stages k);
+        values = search rules;
+        some = search rules;
+        few = search rules;
+        count = search rules;
+      };
+      ports = search rules;
+    } in
+    (search rules, (search rules, opened))
