@@ -28,4 +28,4 @@ pub use Rattle.partial_memory.specs.Ports.{IsOf, MemoryView, new_ports}
 pub use Rattle.partial_long_lived.specs.Ports.{PortView}
 pub use Rattle.partial_door.specs.declared.held.Held.{Held}
 pub use Rattle.partial_door.specs.Inner.{Kept.{IsUnclosed, IsMemoryKept}, Long.{IsUnclosedLong, IsUnready}}
-pub use Rattle.partial_door.specs.{LongMemories.{IsNewMemory, IsReadyToClose, MayNotCloseLong}, Memories.{ClosesAt, HasOpened}, Owned.handle_owns}
+pub use Rattle.partial_door.specs.{LongMemories.IsNewMemory, Memories.{ClosesAt, HasOpened}, Owned.handle_owns}

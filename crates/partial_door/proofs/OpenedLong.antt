@@ -1,5 +1,5 @@
 -- What is held of a long-lived memory that has opened, and why it isn't closed.
-use Rattle.partial_door.proofs.Common.{◌≡◌, ◌∙◌, ℕ, length, sym, ap, subst, inl, inr, Option, Some, PortView, Held, List, IsNewMemory, MayNotCloseLong, IsUnclosedLong}
+use Rattle.partial_door.proofs.Common.{◌≡◌, ◌∙◌, ℕ, length, sym, ap, subst, inl, inr, Option, Some, PortView, Held, List, IsNewMemory, IsUnclosedLong}
 use Rattle.partial_long_lived.specs.declared.options.Options.{Options}
 use Rattle.partial_long_lived.specs.Ports.{MemoryView}
 use Rattle.partial_door.specs.LongExports.{ClosesLongAt}
@@ -13,10 +13,6 @@ pub still_new : (initial : List ℕ) (ports : ℕ) (o : Options) (v w : MemoryVi
     → IsNewMemory initial ports o v items → IsNewMemory initial ports o w all
 still_new initial ports o v w all items same still new =
     subst (λ (u : MemoryView). IsNewMemory initial ports o u all) (sym same) (subst (λ (xs : List PortView). IsNewMemory initial ports o v xs) (sym still) new)
-
--- what is held stays for the cause of what was taken out of it
-pub as_was : (g h k : Held) (room code : ℕ) → g ≡ h → k ≡ g → MayNotCloseLong g room code → IsUnclosedLong h k room code
-as_was g h k room code was same cause = inl (same ∙ was, subst (λ (x : Held). MayNotCloseLong x room code) was cause)
 
 -- what a handle holds after a refused close
 pub unclosed : (h k : Held) (room values : List ℕ) (code : ℕ) (before after : Option Held) → before ≡ Some h → after ≡ Some k → values ≡ room

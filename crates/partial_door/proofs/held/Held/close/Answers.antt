@@ -1,4 +1,4 @@
-use Rattle.partial_door.proofs.Common.{rules, ◌≡◌, sym, subst, Held, IsUnclosed, ClosesAt}
+use Rattle.partial_door.proofs.Common.{sym, subst, Held, IsUnclosed, ClosesAt}
 use Rattle.core.specs.Result.{IfOk, IfErr}
 use Rattle.partial_door.proofs.held.Held.close.Goals as goal
 

@@ -1,6 +1,6 @@
-use Rattle.partial_door.proofs.Common.{◌≡◌, sym, subst, Held, length}
+use Rattle.partial_door.proofs.Common.{sym, subst, length, Held, IsUnclosedLong}
 use Rattle.core.specs.Result.{IfOk, IfErr}
-use Rattle.partial_door.specs.{Inner.Long.IsUnclosedLong, LongMemories.ClosesLong}
+use Rattle.partial_door.specs.LongMemories.{ClosesLong}
 use Rattle.partial_door.proofs.held.Held.close_long.Goals as goal
 
 pub returns-clause-ok : goal.returns-clause-ok
