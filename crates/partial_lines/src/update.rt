@@ -4,7 +4,8 @@
 ghost use Rattle.std.specs.Prelude.{◌≡◌, ◌+◌, ◌^◌, ◌<◌, true, [], Some, None, IfOk, IfSome, IfNone, OnOk};
 ghost use Rattle.partial_model.specs.declared.call.Refused.TheVariants as refused;
 ghost use Rattle.partial_machine.specs.declared.stage.Reply.TheVariants as reply;
-ghost use Rattle.partial_machine.specs.declared.stage.Stage.TheVariants.{Idle, ClaimingRecord, Exchanging};
+ghost use Rattle.partial_machine.specs.declared.stage.Stage.TheVariants.{Idle, ClaimingRecord, StoringRecord, Exchanging};
+ghost use Rattle.partial_words.specs.Record.{plain_record_size};
 ghost use Rattle.partial_machine.specs.Lines.{set_begun};
 ghost use Rattle.partial_machine.specs.Machine.{at_stage, pool_refused, record_size, reply_of};
 ghost use Rattle.partial_machine.specs.Sound.{IsSound};
@@ -86,10 +87,26 @@ fn write_plain<M: Makes>(
         core.mark_pool();
         return Ok(None);
     }
+    fill_plain(lines, change, old, at)?;
+    Ok(Some(at))
+}
+
+// Stores the three words of a record without a view, at its place in the pool.
+#[inline(always)]
+fn fill_plain<M: Makes>(lines: &mut M, change: Change, old: u64, at: u64) -> Result<(), M::Break>
+    requires goes { M.goes lines.old }
+    requires stage { (M.machine lines.old).stage ≡ StoringRecord change old at 0 }
+    requires none { (M.machine lines.old).found.indices ≡ [] }
+    requires borrowed { (M.machine lines.old).embedded.borrowed ≡ None }
+    requires fits { at + plain_record_size < 2 ^ 32 }
+    ensures goes { M.goes lines.new }
+    ensures leads { M.leads lines.old lines.new }
+    ensures machine { OnOk result (M.machine lines.new ≡ at_stage (M.machine lines.old) (Exchanging change old at)) }
+{
     lines.make(Step::Store(prev_word(at) as u32, old))?;
     lines.make(Step::Store(value_word(at) as u32, change.value))?;
     lines.make(Step::Store(view_word(at) as u32, 0))?;
-    Ok(Some(at))
+    Ok(())
 }
 
 // Claims and writes the record of an update that made an embedded scan. Returns its reference, or `None` when
@@ -118,13 +135,33 @@ fn write_record<M: Makes>(
         core.mark_pool();
         return Ok(None);
     }
+    fill_record(lines, core, change, old, at)?;
+    Ok(Some(at))
+}
+
+// Stores the words of the record at its place in the pool: the three that each record has, and its view.
+#[inline(always)]
+fn fill_record<M: Makes>(
+    lines: &mut M,
+    core: &Core,
+    change: Change,
+    old: u64,
+    at: u64,
+) -> Result<(), M::Break>
+    requires goes { M.goes lines.old }
+    requires machine { M.machine lines.old ≡ at_stage core.now (writing_stage core.now change old at 0) }
+    requires fits { at + record_size core.now < 2 ^ 32 }
+    ensures goes { M.goes lines.new }
+    ensures leads { M.leads lines.old lines.new }
+    ensures machine { OnOk result (M.machine lines.new ≡ at_stage core.now (Exchanging change old at)) }
+{
     store_word(lines, core, change, old, at, 0)?;
     store_word(lines, core, change, old, at, 1)?;
     store_word(lines, core, change, old, at, 2)?;
-    for k in plain_record_size()..size {
+    for k in plain_record_size()..core.record_size() {
         store_word(lines, core, change, old, at, k)?;
     }
-    Ok(Some(at))
+    Ok(())
 }
 
 // Stores word `k` of the record.

@@ -1,6 +1,6 @@
 //! A scan in straight lines, behind its first step. Its embedded scan is made by its own machine, in loops.
 
-ghost use Rattle.std.specs.Prelude.{◌≡◌, ◌<◌, ◌+◌, ◌^◌, length, map, slice_index, false, Some, IfSome, IfNone, IfOk, IfErr, OnOk};
+ghost use Rattle.std.specs.Prelude.{ℕ, ◌≡◌, ◌<◌, ◌+◌, ◌^◌, length, map, slice_index, false, Ok, Some, IfSome, IfNone, IfOk, IfErr, OnOk};
 ghost use Rattle.partial_words.specs.Announcement.{announcement_size};
 ghost use Rattle.partial_machine.specs.declared.stage.Stage.TheVariants.{Idle, StoringAnnouncement, Scanning};
 ghost use Rattle.partial_machine.specs.Machine.{advance, at_stage, begin_joining, reply_of};
@@ -63,20 +63,63 @@ pub fn scan<M: Makes>(
         core.mark_pool();
         return Ok(Err(Refused::PoolSpent));
     }
-    for k in 0..size {
-        store_index(lines, which, at, k)?;
-    }
+    announce(lines, which, at, size)?;
     let Some(slot) = join(lines, sizes, at)? else {
         core.mark_slots();
         return Ok(Err(Refused::SlotsSpent));
     };
+    Ok(Ok(scan_joined(lines, core, which, slot, into)?))
+}
+
+// Makes the embedded scan of a port that is in the active set at this slot, copies its values, and leaves.
+#[inline(always)]
+fn scan_joined<M: Makes>(
+    lines: &mut M,
+    core: &mut Core,
+    which: &[u32],
+    slot: u32,
+    into: &mut [u64],
+) -> Result<Scanned, M::Break>
+    requires goes { M.goes lines.old }
+    requires idle { core.old.stage ≡ Idle }
+    requires sound { IsSound core.old }
+    requires slot { slot < core.old.sizes.slots }
+    requires machine { (at : ℕ) × (M.machine lines.old ≡
+        at_stage (scan_begun (scan_joined (scan_asked core.old which.now) at slot) false) Scanning) }
+    requires lengths { length into.old ≡ length which.now }
+    ensures goes { M.goes lines.new }
+    ensures leads { M.leads lines.old lines.new }
+    ensures replies { IfOk result (λ made. reply_of (M.machine lines.new) ≡ Some (scan_reply (Ok made))) }
+    ensures asked { OnOk result ((M.machine lines.new).asked ≡ which.now) }
+    ensures rows { OnOk result (core.new.rows ≡ (M.machine lines.new).rows) }
+    ensures rests { OnOk result (RestsLike (M.machine lines.new) core.new) }
+    ensures copied { OnOk result (into.new ≡ map (slice_index core.new.rows.values) which.now) }
+{
     let embedded = scan_asked(lines, core, which)?;
     core.copy_values(which, into);
-    lines.make(Step::Store(sizes.slot_word(slot), 1))?;
-    Ok(Ok(Scanned {
+    lines.make(Step::Store(core.sizes().slot_word(slot), 1))?;
+    Ok(Scanned {
         collects: embedded.collects(),
         borrowed: embedded.borrowed(),
-    }))
+    })
+}
+
+// Stores the announcement of these positions, of `size` words, in the block that begins at word `at`.
+#[inline(always)]
+fn announce<M: Makes>(lines: &mut M, which: &[u32], at: u64, size: u64) -> Result<(), M::Break>
+    requires goes { M.goes lines.old }
+    requires asked { (M.machine lines.old).asked ≡ which.now }
+    requires stage { (M.machine lines.old).stage ≡ StoringAnnouncement at 0 }
+    requires size { size ≡ announcement_size (length which.now) }
+    requires fits { at + size < 2 ^ 32 }
+    ensures goes { M.goes lines.new }
+    ensures leads { M.leads lines.old lines.new }
+    ensures machine { OnOk result (M.machine lines.new ≡ begin_joining (M.machine lines.old) at) }
+{
+    for k in 0..size {
+        store_index(lines, which, at, k)?;
+    }
+    Ok(())
 }
 
 // Stores word `k` of the announcement of these positions, whose block begins at word `at`.

@@ -1,0 +1,19 @@
+use Rattle.partial_embedded.proofs.Common.{◌≡◌, ViewPair, ViewGoesTogether, buffers, view_left}
+use Rattle.partial_embedded.proofs.embedded.Embedded.load_view.Given as goal
+
+-- the loads are at this scan and its buffers, and they have made no others
+abbrev pub invariant-loop-word : goal.invariant-loop-word
+invariant-loop-word g l =
+    let loads = g.L.Loads in
+    let here : ViewPair = (l.self, buffers l.last l.changed l.values) in
+    record {
+      goes : loads.goes l.loads;
+      together : ViewGoesTogether l.indices here;
+      scan : loads.scan l.loads ≡ here;
+      positions : loads.positions l.loads ≡ l.indices;
+      follows : loads.follows l.fn.loads l.loads;
+      sizes : l.self.sizes ≡ l.fn.self.sizes;
+    }
+
+abbrev pub decreases-loop-word : goal.decreases-loop-word
+decreases-loop-word g l = view_left l.indices (l.self, buffers l.last l.changed l.values)

@@ -1,9 +1,0 @@
-use Rattle.partial_lines.proofs.Common.{◌≡◌, scan_asked, announcing_scan}
-use Rattle.partial_lines.proofs.whole_scan.scan.Given as goal
-
-abbrev pub invariant-loop-k : goal.invariant-loop-k
-invariant-loop-k g l = record {
-  going : g.M.Makes.goes l.lines;
-  leads : g.M.Makes.leads l.fn.lines l.lines;
-  machine : g.M.Makes.machine l.lines ≡ announcing_scan (scan_asked l.fn.core l.which) l.at l.k;
-}
