@@ -6,8 +6,8 @@ prints it, below its crate; `file: PATH` a file of the crate; and then `old: TEX
 old text stands exactly once in that file as it is. Where what a function promises is carried by what it has to show to
 a function that it calls, as that a step is the due one, a line `by: GOAL` names the open goal that refuses it.
 
-Much of a check's time passes before its first proof, so a crate's edits are tried together, in rounds in each of
-which no function is turned twice. Each edit is judged by itself: of its function the check has to say that it did not
+Much of a check's time passes before its first proof, so a crate's edits are tried together, in rounds of so many in
+each of which no function is turned twice. Each edit is judged by itself: of its function the check has to say that it did not
 prove a goal of meaning, which is one of what the function ensures, of its type's invariant or of a loop's, or the one
 that the edit names, or that a loop has no measure, since each call has to end. Nothing else refuses an edit: no open
 goal of an overflow, a bound, a cast or of what a called function requires, no proof that names what the edit took
@@ -46,6 +46,8 @@ KIT = Path(shutil.which('rt')).resolve().parent.parent
 PARTS = ('src', 'specs', 'proofs')
 # Seconds for one check, which may have to prove a whole crate.
 LIMIT = 3600
+# So many edits at most in a round: the next one takes the jobs that are free by then.
+ROUND = 32
 # So many crates at once while a command proves them, and seconds until it is seen again what it has proved. A library
 # is whole once nothing was written to it for so many seconds.
 BESIDE = 2
@@ -132,6 +134,8 @@ def first_round(edits, crate):
     """Of these edits the first ones that can be tried together, no two of which turn one function, and their places."""
     members, turned = [], []
     for edit in edits:
+        if len(members) == ROUND:
+            break
         places = list(places_of(edit, crate))
         if all(set(edit.refused).isdisjoint(it.refused) for it in members) and not overlap(places, turned):
             members.append(edit)
@@ -492,8 +496,9 @@ def try_crates(chosen, crates, jobs, libraries):
     undone = set(chosen)
 
     def jobs_now():
-        """One job while the command is at work that proves the libraries, then the share of a crate that isn't done."""
-        return 1 if libraries.are_beside() else max(1, jobs // len(undone))
+        """One job while the command is at work that proves the libraries, then the share of a crate that isn't done,
+        rounded up."""
+        return 1 if libraries.are_beside() else -(-jobs // len(undone))
 
     def tried_crate(name):
         """What a crate's edits gave, which is done then."""
