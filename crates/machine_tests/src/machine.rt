@@ -1,95 +1,163 @@
 //! A machine that has made no call, the first step of each call, and the calls that need no words. The
 //! replay makes all others.
 
+ghost use Rattle.std.specs.Prelude.{◌≡◌, ◌<◌, IfOk};
+ghost use Rattle.partial_machine.specs.declared.stage.Stage.TheVariants.{Idle};
+
 use partial_machine::{Core, Reply};
 use partial_model::Refused;
 use partial_words::{Sizes, Step};
+use std::alloc::Global;
+use std::process::Abort;
 use std::test::Fail;
 
-#[test]
-fn no_call(rt: HostRuntime) -> Result<(), Fail> {
+// The machine of a port that has made no call. A test lends it to a function of its own, since what lives until a
+// function's end is proved to be let go on each way out of it.
+fn opened(alloc: Global, port: u32) -> Result<Core, Fail>
+    requires { port < 64 }
+    ensures idle { IfOk result (λ core. core.stage ≡ Idle) }
+    ensures sizes { IfOk result (λ core. core.sizes ≡ record { m = 2; slots = 4; lists = 8; pool = 64 }) }
+{
     let sizes = Sizes::new(2, 4, 8, 64)?;
-    let mut core = Core::new(rt.alloc(), sizes, 0)?;
+    Ok(Core::new(alloc, sizes, port)?)
+}
+
+// Whether a call was begun, or why it was refused.
+fn is_begun(rt: &impl Abort, begun: Result<(), Refused>, expected: Result<(), Refused>)
+    ensures { begun ≡ expected }
+{
+    assert_eq!(rt; begun, expected);
+}
+
+// The step that is due.
+fn is_due(rt: &impl Abort, core: &Core, step: Option<Step>) {
+    assert_eq!(rt; core.step(), step);
+}
+
+// The call has ended with that reply.
+fn replies(rt: &impl Abort, core: &mut Core, reply: Reply) {
+    assert_eq!(rt; core.take(), Some(reply));
+    assert!(rt; core.idle());
+}
+
+// Nothing is begun or spent.
+fn is_unused(rt: &impl Abort, core: &mut Core) {
     assert!(rt; core.idle());
     assert!(rt; !core.pool_spent());
     assert!(rt; !core.slots_spent());
     assert!(rt; !core.lists_spent());
-    assert_eq!(rt; core.step(), None);
+    is_due(rt, core, None);
     assert_eq!(rt; core.take(), None);
+}
+
+#[test]
+fn no_call(rt: HostRuntime) -> Result<(), Fail> {
+    let mut core = opened(rt.alloc(), 0)?;
+    is_unused(&rt, &mut core);
     Ok(())
 }
 
-// One machine a test: what lives until a test's end is proved to be let go on each way out of it.
+fn begins_read(rt: &impl Abort, core: &mut Core)
+    requires { core.old.stage ≡ Idle }
+{
+    is_begun(rt, core.begin_read(1), Ok(()));
+    is_due(rt, core, Some(Step::Load(1)));
+}
+
 #[test]
 fn first_step_of_a_read(rt: HostRuntime) -> Result<(), Fail> {
-    let sizes = Sizes::new(2, 4, 8, 64)?;
-    let mut core = Core::new(rt.alloc(), sizes, 0)?;
-    assert_eq!(rt; core.begin_read(1), Ok(()));
-    assert_eq!(rt; core.step(), Some(Step::Load(1)));
+    let mut core = opened(rt.alloc(), 0)?;
+    begins_read(&rt, &mut core);
     Ok(())
+}
+
+fn begins_update(rt: &impl Abort, core: &mut Core)
+    requires { core.old.stage ≡ Idle }
+{
+    is_begun(rt, core.begin_update(0, 7), Ok(()));
+    is_due(rt, core, Some(Step::Load(0)));
 }
 
 #[test]
 fn first_step_of_an_update(rt: HostRuntime) -> Result<(), Fail> {
-    let sizes = Sizes::new(2, 4, 8, 64)?;
-    let mut core = Core::new(rt.alloc(), sizes, 1)?;
-    assert_eq!(rt; core.begin_update(0, 7), Ok(()));
-    assert_eq!(rt; core.step(), Some(Step::Load(0)));
+    let mut core = opened(rt.alloc(), 1)?;
+    begins_update(&rt, &mut core);
     Ok(())
+}
+
+fn begins_scan(rt: &impl Abort, core: &mut Core)
+    requires idle { core.old.stage ≡ Idle }
+    requires two { core.old.sizes.m ≡ 2 }
+{
+    is_begun(rt, core.begin_scan(&[0, 1]), Ok(()));
+    is_due(rt, core, Some(Step::Add(4, 3)));
+    assert!(rt; !core.idle());
 }
 
 #[test]
 fn first_step_of_a_scan(rt: HostRuntime) -> Result<(), Fail> {
-    let sizes = Sizes::new(2, 4, 8, 64)?;
-    let mut core = Core::new(rt.alloc(), sizes, 2)?;
-    assert_eq!(rt; core.begin_scan(&[0, 1]), Ok(()));
-    assert_eq!(rt; core.step(), Some(Step::Add(4, 3)));
-    assert!(rt; !core.idle());
+    let mut core = opened(rt.alloc(), 2)?;
+    begins_scan(&rt, &mut core);
     Ok(())
+}
+
+// Component 1 has stamp 21 and value 20.
+fn reads(rt: &impl Abort, core: &mut Core)
+    requires idle { core.old.stage ≡ Idle }
+    requires sizes { core.old.sizes ≡ record { m = 2; slots = 4; lists = 8; pool = 64 } }
+{
+    is_begun(rt, core.begin_read(1), Ok(()));
+    core.answer(21);
+    is_due(rt, core, Some(Step::Load(22)));
+    core.answer(20);
+    let reply = Reply::Read {
+        value: 20,
+        stamp: 21,
+    };
+    assert_eq!(rt; core.take(), Some(reply));
+    assert!(rt; core.idle());
 }
 
 #[test]
 fn read(rt: HostRuntime) -> Result<(), Fail> {
-    let sizes = Sizes::new(2, 4, 8, 64)?;
-    let mut core = Core::new(rt.alloc(), sizes, 0)?;
-    assert_eq!(rt; core.begin_read(1), Ok(()));
-    core.answer(21);
-    assert_eq!(rt; core.step(), Some(Step::Load(22)));
-    core.answer(20);
-    assert_eq!(rt;
-        core.take(),
-        Some(Reply::Read {
-            value: 20,
-            stamp: 21
-        })
-    );
-    assert!(rt; core.idle());
+    let mut core = opened(rt.alloc(), 0)?;
+    reads(&rt, &mut core);
     Ok(())
 }
 
-#[test]
-fn empty_scan(rt: HostRuntime) -> Result<(), Fail> {
-    let sizes = Sizes::new(2, 4, 8, 64)?;
-    let mut core = Core::new(rt.alloc(), sizes, 0)?;
-    assert_eq!(rt; core.begin_scan(&[]), Ok(()));
-    assert_eq!(rt; core.step(), None);
+fn scans_nothing(rt: &impl Abort, core: &mut Core)
+    requires { core.old.stage ≡ Idle }
+{
+    is_begun(rt, core.begin_scan(&[]), Ok(()));
+    is_due(rt, core, None);
     let reply = Reply::Scanned {
         collects: 0,
         borrowed: None,
     };
-    assert_eq!(rt; core.take(), Some(reply));
-    assert!(rt; core.idle());
+    replies(rt, core, reply);
+}
+
+#[test]
+fn empty_scan(rt: HostRuntime) -> Result<(), Fail> {
+    let mut core = opened(rt.alloc(), 0)?;
+    scans_nothing(&rt, &mut core);
     Ok(())
+}
+
+fn refuses_component(rt: &impl Abort, core: &mut Core)
+    requires idle { core.old.stage ≡ Idle }
+    requires two { core.old.sizes.m ≡ 2 }
+{
+    is_begun(rt, core.begin_update(2, 1), Err(Refused::Component));
+    is_begun(rt, core.begin_update_if(2, 18, 1), Err(Refused::Component));
+    is_begun(rt, core.begin_scan(&[0, 2]), Err(Refused::Component));
+    is_begun(rt, core.begin_read(2), Err(Refused::Component));
+    assert!(rt; core.idle());
 }
 
 #[test]
 fn component_refused(rt: HostRuntime) -> Result<(), Fail> {
-    let sizes = Sizes::new(2, 4, 8, 64)?;
-    let mut core = Core::new(rt.alloc(), sizes, 0)?;
-    assert_eq!(rt; core.begin_update(2, 1), Err(Refused::Component));
-    assert_eq!(rt; core.begin_update_if(2, 18, 1), Err(Refused::Component));
-    assert_eq!(rt; core.begin_scan(&[0, 2]), Err(Refused::Component));
-    assert_eq!(rt; core.begin_read(2), Err(Refused::Component));
-    assert!(rt; core.idle());
+    let mut core = opened(rt.alloc(), 0)?;
+    refuses_component(&rt, &mut core);
     Ok(())
 }
