@@ -174,10 +174,13 @@ fn read_beside(
 {
     let mut beside = Core::new(alloc, sizes, 0)?;
     if let Err(cause) = beside.begin_read(component) {
+        drop(beside);
         return Ok(Ending::of(true, Reply::Refused(cause)));
     }
     let mut lines = Plain::open(alloc, sizes, initial, beside, course)?;
-    Ok(follow_read(&mut lines, sizes, component))
+    let ending = follow_read(&mut lines, sizes, component);
+    drop(lines);
+    Ok(ending)
 }
 
 // Makes an update on the words, beside the machine that has begun it. The other machine makes it in straight lines.
@@ -221,7 +224,9 @@ fn update_begun(
     requires component { change.component < sizes.m }
 {
     let mut core = Core::new(alloc, sizes, 0)?;
-    Ok(follow_update(lines, &mut core, sizes, change))
+    let ending = follow_update(lines, &mut core, sizes, change);
+    drop(core);
+    Ok(ending)
 }
 
 // Makes an update beside its machine.
@@ -238,10 +243,13 @@ fn update_beside(
 {
     let mut beside = Core::new(alloc, sizes, 0)?;
     if let Err(cause) = begin(&mut beside, change) {
+        drop(beside);
         return Ok(Ending::of(true, Reply::Refused(cause)));
     }
     let mut lines = Plain::open(alloc, sizes, initial, beside, course)?;
-    update_begun(alloc, &mut lines, sizes, change)
+    let ending = update_begun(alloc, &mut lines, sizes, change);
+    drop(lines);
+    ending
 }
 
 // Makes a scan on the words, beside the machine that has begun it. The other machine makes it in straight lines. The
@@ -288,7 +296,9 @@ fn scan_begun(
 {
     let mut into = vec![in alloc; 0; which.len()]?;
     let mut core = Core::new(alloc, sizes, 0)?;
-    Ok(follow_scan(lines, &mut core, sizes, which, &mut into))
+    let ending = follow_scan(lines, &mut core, sizes, which, &mut into);
+    drop((into, core));
+    Ok(ending)
 }
 
 // Makes a scan beside its machine.
@@ -306,10 +316,13 @@ fn scan_beside(
 {
     let mut beside = Core::new(alloc, sizes, 0)?;
     if let Err(cause) = beside.begin_scan(which) {
+        drop(beside);
         return Ok(Ending::of(true, Reply::Refused(cause)));
     }
     let mut lines = Plain::open(alloc, sizes, initial, beside, course)?;
-    scan_begun(alloc, &mut lines, sizes, which)
+    let ending = scan_begun(alloc, &mut lines, sizes, which);
+    drop(lines);
+    ending
 }
 
 #[test]

@@ -3,7 +3,7 @@
 ghost use Rattle.std.specs.Prelude.{◌≤◌};
 ghost use Rattle.partial_long_lived.specs.Ports.{IsOf};
 
-use crate::memories::{SPENT, one, pair};
+use crate::memories::{SPENT, one, pair, with_two};
 use partial_long_lived::{LongLived, Options, Port, Refused, Updated};
 use std::process::Abort;
 use std::test::Fail;
@@ -38,10 +38,10 @@ fn reads_initial(rt: &impl Abort, memory: &LongLived, first: &mut Port, last: &m
 #[test]
 fn initial_reads(rt: HostRuntime) -> Result<(), Fail> {
     let values = [10, u64::MAX, 30];
-    let (memory, mut ports) = LongLived::open(rt.alloc(), &values, 2, Options::default())?;
-    let mut last = ports.pop().ok_or("a last port")?;
-    let mut first = ports.pop().ok_or("a first port")?;
+    let (memory, ports) = LongLived::open(rt.alloc(), &values, 2, Options::default())?;
+    let (memory, mut first, mut last) = with_two(memory, ports)?;
     reads_initial(&rt, &memory, &mut first, &mut last);
+    drop((memory, first, last));
     Ok(())
 }
 
@@ -58,6 +58,7 @@ fn refuses(rt: &impl Abort, memory: &LongLived, port: &mut Port)
 fn refused_reads(rt: HostRuntime) -> Result<(), Fail> {
     let (memory, mut port) = one(rt.alloc(), Options::default())?;
     refuses(&rt, &memory, &mut port);
+    drop((memory, port));
     Ok(())
 }
 
@@ -106,6 +107,7 @@ fn works(rt: &impl Abort, memory: &LongLived, port: &mut Port)
 fn updates_over_epochs(rt: HostRuntime) -> Result<(), Fail> {
     let (memory, mut port) = one(rt.alloc(), SPENT)?;
     works(&rt, &memory, &mut port);
+    drop((memory, port));
     Ok(())
 }
 
@@ -128,6 +130,7 @@ fn takes_turns(rt: &impl Abort, memory: &LongLived, first: &mut Port, last: &mut
 fn ports_in_two_epochs(rt: HostRuntime) -> Result<(), Fail> {
     let (memory, mut first, mut last) = pair(rt.alloc(), SPENT)?;
     takes_turns(&rt, &memory, &mut first, &mut last);
+    drop((memory, first, last));
     Ok(())
 }
 
@@ -153,6 +156,7 @@ fn scans_alone(rt: &impl Abort, memory: &LongLived, first: &mut Port, last: &mut
 fn scans_of_spent_ports(rt: HostRuntime) -> Result<(), Fail> {
     let (memory, mut first, mut last) = pair(rt.alloc(), SPENT)?;
     scans_alone(&rt, &memory, &mut first, &mut last);
+    drop((memory, first, last));
     Ok(())
 }
 
@@ -179,6 +183,7 @@ fn keeps_stamps(rt: &impl Abort, memory: &LongLived, first: &mut Port, last: &mu
 fn stamps_over_epochs(rt: HostRuntime) -> Result<(), Fail> {
     let (memory, mut first, mut last) = pair(rt.alloc(), SPENT)?;
     keeps_stamps(&rt, &memory, &mut first, &mut last);
+    drop((memory, first, last));
     Ok(())
 }
 
@@ -205,5 +210,6 @@ fn meets(rt: &impl Abort, memory: &LongLived, first: &mut Port, last: &mut Port)
 fn meetings(rt: HostRuntime) -> Result<(), Fail> {
     let (memory, mut first, mut last) = pair(rt.alloc(), SPENT)?;
     meets(&rt, &memory, &mut first, &mut last);
+    drop((memory, first, last));
     Ok(())
 }

@@ -73,6 +73,7 @@ fn sets_in_turn(rt: &impl Abort, memory: &LongLived, first: &mut Port, last: &mu
 fn stamps_are_expected(rt: HostRuntime) -> Result<(), Fail> {
     let (memory, mut first, mut last) = pair(rt.alloc(), SPENT)?;
     sets_in_turn(&rt, &memory, &mut first, &mut last);
+    drop((memory, first, last));
     Ok(())
 }
 
@@ -90,5 +91,6 @@ fn refuses(rt: &impl Abort, memory: &LongLived, port: &mut Port)
 fn refused_components(rt: HostRuntime) -> Result<(), Fail> {
     let (memory, mut port) = one(rt.alloc(), Options::default())?;
     refuses(&rt, &memory, &mut port);
+    drop((memory, port));
     Ok(())
 }

@@ -1,6 +1,10 @@
 //! How a memory opens, and what is left of it when it closes.
 
-use partial_long_lived::{LongLived, OpenError, Options};
+ghost use Rattle.std.specs.List.{AllByRecursion};
+ghost use Rattle.partial_long_lived.specs.Ports.{IsOf};
+
+use crate::memories::{taken, with_last};
+use partial_long_lived::{LongLived, OpenError, Options, Port};
 use std::alloc::Global;
 use std::process::Abort;
 use std::test::Fail;
@@ -14,28 +18,52 @@ fn refused(
     options: Options,
     error: OpenError,
 ) {
-    match LongLived::open(alloc, initial, ports, options) {
-        Ok(_) => panic!(rt; "opened"),
-        Err(found) => assert_eq!(rt; found, error),
+    let found = LongLived::open(alloc, initial, ports, options).err();
+    assert_eq!(rt; found, Some(error));
+}
+
+// Closes a memory with its last port and these others.
+fn closed(
+    alloc: Global,
+    memory: LongLived,
+    last: Port,
+    rest: Vec<Port>,
+) -> Result<Vec<u64>, Fail>
+    requires last { IsOf memory last }
+    requires rest { AllByRecursion (IsOf memory) rest.items }
+{
+    Ok(memory.close(alloc, last, rest).ok().ok_or("memory")?)
+}
+
+// Closes a memory with all of its ports.
+fn closed_with_all(alloc: Global, memory: LongLived, mut rest: Vec<Port>) -> Result<Vec<u64>, Fail>
+    requires { AllByRecursion (IsOf memory) rest.items }
+{
+    let last = taken(&memory, &mut rest)?;
+    closed(alloc, memory, last, rest)
+}
+
+// There are three ports, which are numbered in their order.
+fn are_numbered(rt: &impl Abort, ports: &[Port]) {
+    assert_eq!(rt; ports.len(), 3);
+    for (number, port) in (0..3).zip(ports) {
+        assert_eq!(rt; port.number(), number);
     }
+}
+
+// A closed memory has these values.
+fn holds(rt: &impl Abort, values: Vec<u64>, expected: &[u64]) {
+    assert_eq!(rt; values.as_slice(), expected);
+    drop(values);
 }
 
 // Ports are numbered in their order, and without an update the initial values are the last ones.
 #[test]
 fn untouched(rt: HostRuntime) -> Result<(), Fail> {
     let alloc = rt.alloc();
-    let (memory, mut rest) = LongLived::open(alloc, &[10, 20, 30], 3, Options::default())?;
-    assert_eq!(rt; rest.len(), 3);
-    let mut number = 0;
-    for port in &rest {
-        assert_eq!(rt; port.number(), number);
-        number += 1;
-    }
-    let last = rest.pop().ok_or("a last port")?;
-    let Ok(values) = memory.close(alloc, last, rest) else {
-        return Err(Fail::from("memory"));
-    };
-    assert_eq!(rt; values.as_slice(), [10, 20, 30].as_slice());
+    let (memory, rest) = LongLived::open(alloc, &[10, 20, 30], 3, Options::default())?;
+    are_numbered(&rt, &rest);
+    holds(&rt, closed_with_all(alloc, memory, rest)?, &[10, 20, 30]);
     Ok(())
 }
 
@@ -44,14 +72,19 @@ fn untouched(rt: HostRuntime) -> Result<(), Fail> {
 fn closed_with_one_port(rt: HostRuntime) -> Result<(), Fail> {
     let alloc = rt.alloc();
     let greatest = u64::MAX;
-    let (memory, mut ports) = LongLived::open(alloc, &[greatest], 64, Options::default())?;
-    let port = ports.pop().ok_or("a port")?;
+    let (memory, ports) = LongLived::open(alloc, &[greatest], 64, Options::default())?;
+    let (memory, port) = with_last(memory, ports)?;
     assert_eq!(rt; port.number(), 63);
-    let Ok(values) = memory.close(alloc, port, Vec::new(alloc)) else {
-        return Err(Fail::from("memory"));
-    };
-    assert_eq!(rt; values.as_slice(), [greatest].as_slice());
+    holds(&rt, closed(alloc, memory, port, Vec::new(alloc))?, &[greatest]);
     Ok(())
+}
+
+// How many ports a memory has that opens with one component and one port.
+fn opened_ports(alloc: Global, options: Options) -> Result<usize, OpenError> {
+    let opened = LongLived::open(alloc, &[1], 1, options)?;
+    let ports = opened.1.len();
+    drop(opened);
+    Ok(ports)
 }
 
 // The first cause in the order of the documentation is the one that is named.
@@ -75,8 +108,15 @@ fn refused_openings(rt: HostRuntime) -> Result<(), Fail> {
     refused(&rt, alloc, &[], 1, lists, OpenError::Components);
     refused(&rt, alloc, &[1], 1, lists, OpenError::Lists);
     refused(&rt, alloc, &[1], 1, pool, OpenError::Pool);
-    let (_memory, ports) = LongLived::open(alloc, &[1], 1, most)?;
-    assert_eq!(rt; ports.len(), 1);
+    assert_eq!(rt; opened_ports(alloc, most)?, 1);
+    Ok(())
+}
+
+// A refusal has that text.
+fn says(rt: &impl Abort, alloc: Global, error: OpenError, text: &str) -> Result<(), Fail> {
+    let said = format!(in alloc; "{error}")?;
+    assert_eq!(rt; said.as_str(), text);
+    drop(said);
     Ok(())
 }
 
@@ -92,8 +132,7 @@ fn refusals(rt: HostRuntime) -> Result<(), Fail> {
     ];
     for (error, code, text) in &all {
         assert_eq!(rt; error.code(), *code);
-        let said = format!(in rt.alloc(); "{error}")?;
-        assert_eq!(rt; said.as_str(), *text);
+        says(&rt, rt.alloc(), *error, text)?;
     }
     Ok(())
 }

@@ -80,6 +80,7 @@ fn tells_stamps(rt: &impl Abort, memory: &LongLived, first: &mut Port, last: &mu
 fn stamps_are_told_over_epochs(rt: HostRuntime) -> Result<(), Fail> {
     let (memory, mut first, mut last) = pair(rt.alloc(), SPENT)?;
     tells_stamps(&rt, &memory, &mut first, &mut last);
+    drop((memory, first, last));
     Ok(())
 }
 
@@ -106,5 +107,6 @@ fn refuses(rt: &impl Abort, memory: &LongLived, port: &mut Port)
 fn refused_scans(rt: HostRuntime) -> Result<(), Fail> {
     let (memory, mut port) = one(rt.alloc(), Options::default())?;
     refuses(&rt, &memory, &mut port);
+    drop((memory, port));
     Ok(())
 }

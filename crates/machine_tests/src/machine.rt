@@ -12,7 +12,7 @@ use std::process::Abort;
 use std::test::Fail;
 
 // The machine of a port that has made no call. A test lends it to a function of its own, since what lives until a
-// function's end is proved to be let go on each way out of it.
+// function's end is proved to be let go on each way out of it, and drops it by one call.
 fn opened(alloc: Global, port: u32) -> Result<Core, Fail>
     requires { port < 64 }
     ensures idle { IfOk result (λ core. core.stage ≡ Idle) }
@@ -54,6 +54,7 @@ fn is_unused(rt: &impl Abort, core: &mut Core) {
 fn no_call(rt: HostRuntime) -> Result<(), Fail> {
     let mut core = opened(rt.alloc(), 0)?;
     is_unused(&rt, &mut core);
+    drop(core);
     Ok(())
 }
 
@@ -68,6 +69,7 @@ fn begins_read(rt: &impl Abort, core: &mut Core)
 fn first_step_of_a_read(rt: HostRuntime) -> Result<(), Fail> {
     let mut core = opened(rt.alloc(), 0)?;
     begins_read(&rt, &mut core);
+    drop(core);
     Ok(())
 }
 
@@ -82,6 +84,7 @@ fn begins_update(rt: &impl Abort, core: &mut Core)
 fn first_step_of_an_update(rt: HostRuntime) -> Result<(), Fail> {
     let mut core = opened(rt.alloc(), 1)?;
     begins_update(&rt, &mut core);
+    drop(core);
     Ok(())
 }
 
@@ -98,6 +101,7 @@ fn begins_scan(rt: &impl Abort, core: &mut Core)
 fn first_step_of_a_scan(rt: HostRuntime) -> Result<(), Fail> {
     let mut core = opened(rt.alloc(), 2)?;
     begins_scan(&rt, &mut core);
+    drop(core);
     Ok(())
 }
 
@@ -122,6 +126,7 @@ fn reads(rt: &impl Abort, core: &mut Core)
 fn read(rt: HostRuntime) -> Result<(), Fail> {
     let mut core = opened(rt.alloc(), 0)?;
     reads(&rt, &mut core);
+    drop(core);
     Ok(())
 }
 
@@ -141,6 +146,7 @@ fn scans_nothing(rt: &impl Abort, core: &mut Core)
 fn empty_scan(rt: HostRuntime) -> Result<(), Fail> {
     let mut core = opened(rt.alloc(), 0)?;
     scans_nothing(&rt, &mut core);
+    drop(core);
     Ok(())
 }
 
@@ -159,5 +165,6 @@ fn refuses_component(rt: &impl Abort, core: &mut Core)
 fn component_refused(rt: HostRuntime) -> Result<(), Fail> {
     let mut core = opened(rt.alloc(), 0)?;
     refuses_component(&rt, &mut core);
+    drop(core);
     Ok(())
 }

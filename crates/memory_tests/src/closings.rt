@@ -5,6 +5,7 @@ ghost use Rattle.std.specs.Prelude.{◌≡◌, All, IfOk, IfSome, OnOk};
 ghost use Rattle.std.specs.List.{AllByRecursion};
 ghost use Rattle.partial_memory.specs.Ports.{IsOf};
 
+use super::memories::{add, taken};
 use super::workers::{Told, Worker};
 use partial_memory::{Closed, Memory, Port};
 use partial_words::Link;
@@ -23,11 +24,11 @@ fn part_ports(
     requires ports { AllByRecursion (IsOf memory.now) ports.old.items }
     ensures { OnOk result (AllByRecursion (IsOf memory.now) ports.new.items) }
 {
-    ports.push(port)?;
+    let added = add(memory, ports, port);
     if let Some(other) = other {
-        ports.push(other)?;
+        add(memory, ports, other)?;
     }
-    Ok(())
+    added
 }
 
 // Adds the ports of a worker and what it was told to those of the others.
@@ -47,8 +48,9 @@ fn part(
         told,
         ..
     } = worker;
+    let parted = part_ports(memory, port, other, ports);
     all.push(told)?;
-    part_ports(memory, port, other, ports)
+    parted
 }
 
 // The ports of all workers and what they were told, the last worker's first.
@@ -72,7 +74,7 @@ fn parted(
 fn closed_with(alloc: Global, memory: Memory, mut ports: Vec<Port>) -> Result<Closed, Fail>
     requires { AllByRecursion (IsOf memory) ports.items }
 {
-    let first = ports.pop().ok_or("a port")?;
+    let first = taken(&memory, &mut ports)?;
     Ok(memory.close(alloc, first, ports)?)
 }
 

@@ -3,7 +3,7 @@
 ghost use Rattle.std.specs.Prelude.{◌≡◌, IfOk};
 ghost use Rattle.partial_memory.specs.Ports.{IsOf};
 
-use super::memories::opened;
+use super::memories::{opened, with_last};
 use partial_memory::{CloseError, Closed, Memory, OpenError, Port};
 use partial_words::Sizes;
 use std::alloc::{AllocError, Global};
@@ -14,8 +14,10 @@ use std::test::Fail;
 fn opened_ports(alloc: Global, sizes: Sizes) -> Result<usize, OpenError>
     requires { sizes.m ≡ 2 }
 {
-    let (_memory, ports) = Memory::open(alloc, sizes, &[10, 20], 2)?;
-    Ok(ports.len())
+    let opened = Memory::open(alloc, sizes, &[10, 20], 2)?;
+    let ports = opened.1.len();
+    drop(opened);
+    Ok(ports)
 }
 
 // A memory opened with two ports, or was refused for want of memory. Then the refusal is returned.
@@ -43,11 +45,10 @@ fn alone(alloc: Global, sizes: Sizes) -> Result<(Memory, Port), Fail>
     requires { sizes.m ≡ 2 }
     ensures { IfOk result (λ r. IsOf r.0 r.1) }
 {
-    let Ok((memory, mut ports)) = opened(alloc, sizes, &[10, 20], 1) else {
+    let Ok((memory, ports)) = opened(alloc, sizes, &[10, 20], 1) else {
         return Err(Fail::from(AllocError));
     };
-    let port = ports.pop().ok_or("a port")?;
-    Ok((memory, port))
+    with_last(memory, ports)
 }
 
 // When an allocation is refused, nothing is returned, and the test ends with that refusal.
@@ -75,8 +76,10 @@ fn closed(alloc: Global) -> Result<Closed, Fail> {
 
 // How many ports a closed memory has that reopens with two.
 fn reopened_ports(alloc: Global, closed: &Closed, sizes: Sizes) -> Result<usize, OpenError> {
-    let (_memory, ports) = Memory::reopen(alloc, closed, sizes, 2)?;
-    Ok(ports.len())
+    let reopened = Memory::reopen(alloc, closed, sizes, 2)?;
+    let ports = reopened.1.len();
+    drop(reopened);
+    Ok(ports)
 }
 
 // When an allocation is refused, nothing is opened, the closed memory can be reopened afterwards, and the test

@@ -6,7 +6,7 @@ ghost use Rattle.partial_memory.specs.Ports.{IsOf};
 
 use partial_memory::{Memory, OpenError, Port};
 use partial_words::Sizes;
-use std::alloc::Global;
+use std::alloc::{AllocError, Global};
 use std::test::Fail;
 
 /// Opens a memory with its ports.
@@ -22,13 +22,31 @@ pub(super) fn opened(
     Memory::open(alloc, sizes, initial, ports)
 }
 
+/// Takes the last one of some ports of a memory.
+pub(super) fn taken(memory: &Memory, ports: &mut Vec<Port>) -> Result<Port, Fail>
+    requires { AllByRecursion (IsOf memory.now) ports.old.items }
+    ensures port { IfOk result (IsOf memory.now) }
+    ensures left { AllByRecursion (IsOf memory.now) ports.new.items }
+{
+    Ok(ports.pop().ok_or("a port")?)
+}
+
+/// Adds a port of a memory to others.
+pub(super) fn add(memory: &Memory, ports: &mut Vec<Port>, port: Port) -> Result<(), AllocError>
+    requires own { IsOf memory.now port }
+    requires others { AllByRecursion (IsOf memory.now) ports.old.items }
+    ensures { AllByRecursion (IsOf memory.now) ports.new.items }
+{
+    Ok(ports.push(port)?)
+}
+
 // Takes two ports from their end: the one before the last, and the last one.
-fn last_two(memory: &Memory, mut ports: Vec<Port>) -> Result<(Port, Port), Fail>
-    requires { AllByRecursion (IsOf memory.now) ports.items }
+fn last_two(memory: &Memory, ports: &mut Vec<Port>) -> Result<(Port, Port), Fail>
+    requires { AllByRecursion (IsOf memory.now) ports.old.items }
     ensures { IfOk result (λ r. IsOf memory.now r.0 × IsOf memory.now r.1) }
 {
-    let second = ports.pop().ok_or("a second port")?;
-    let first = ports.pop().ok_or("a first port")?;
+    let second = taken(memory, ports)?;
+    let first = taken(memory, ports)?;
     Ok((first, second))
 }
 
@@ -41,9 +59,21 @@ pub(super) fn pair(
     requires { length initial.now ≡ sizes.m }
     ensures { IfOk result (λ r. (r.0.about.sizes ≡ sizes) × IsOf r.0 r.1 × IsOf r.0 r.2) }
 {
-    let (memory, ports) = opened(alloc, sizes, initial, 2)?;
-    let (first, second) = last_two(&memory, ports)?;
+    let (memory, mut ports) = opened(alloc, sizes, initial, 2)?;
+    let two = last_two(&memory, &mut ports);
+    drop(ports);
+    let (first, second) = two?;
     Ok((memory, first, second))
+}
+
+/// A memory with the last one of its ports.
+pub(super) fn with_last(memory: Memory, mut ports: Vec<Port>) -> Result<(Memory, Port), Fail>
+    requires { AllByRecursion (IsOf memory) ports.items }
+    ensures { IfOk result (λ r. (r.0 ≡ memory) × IsOf memory r.1) }
+{
+    let port = taken(&memory, &mut ports);
+    drop(ports);
+    Ok((memory, port?))
 }
 
 /// Opens a memory with one port.
@@ -51,7 +81,6 @@ pub(super) fn single(alloc: Global, sizes: Sizes, initial: &[u64]) -> Result<(Me
     requires { length initial.now ≡ sizes.m }
     ensures { IfOk result (λ r. (r.0.about.sizes ≡ sizes) × IsOf r.0 r.1) }
 {
-    let (memory, mut ports) = opened(alloc, sizes, initial, 1)?;
-    let port = ports.pop().ok_or("a port")?;
-    Ok((memory, port))
+    let (memory, ports) = opened(alloc, sizes, initial, 1)?;
+    with_last(memory, ports)
 }

@@ -5,7 +5,7 @@ ghost use Rattle.std.specs.List.{AllByRecursion};
 ghost use Rattle.partial_memory.specs.Ports.{IsOf};
 
 use super::calls::{applies, reads, updates_if};
-use super::memories::{pair, single};
+use super::memories::{pair, single, with_last};
 use partial_memory::{Closed, Memory, OpenError, Port, UpdatedIf};
 use partial_words::Sizes;
 use std::alloc::Global;
@@ -20,7 +20,8 @@ fn holds_both(rt: &impl Abort, closed: &Closed) {
 // Closes a memory of two components, 10 and 20, behind an update of the second one to 8.
 fn closed(rt: &impl Abort, alloc: Global) -> Result<Closed, Fail> {
     let sizes = Sizes::new(2, 4, 8, 64)?;
-    let (memory, mut first, _) = pair(alloc, sizes, &[10, 20])?;
+    let (memory, mut first, second) = pair(alloc, sizes, &[10, 20])?;
+    drop(second);
     applies(rt, &memory, &mut first, 1, 8, 24);
     let closed = memory.close(alloc, first, Vec::new(alloc))?;
     holds_both(rt, &closed);
@@ -43,9 +44,8 @@ fn reopened(
 fn alone(alloc: Global, closed: &Closed, sizes: Sizes) -> Result<(Memory, Port), Fail>
     ensures { IfOk result (λ r. IsOf r.0 r.1) }
 {
-    let (memory, mut ports) = reopened(alloc, closed, sizes, 1)?;
-    let port = ports.pop().ok_or("a port")?;
-    Ok((memory, port))
+    let (memory, ports) = reopened(alloc, closed, sizes, 1)?;
+    with_last(memory, ports)
 }
 
 // The port of a memory with an added component reads each of them.
@@ -66,7 +66,9 @@ fn reopened_alone(rt: &impl Abort, alloc: Global, sizes: Sizes) -> Result<(Memor
     ensures { IfOk result (λ r. IsOf r.0 r.1) }
 {
     let closed = closed(rt, alloc)?;
-    alone(alloc, &closed, sizes)
+    let opened = alone(alloc, &closed, sizes);
+    drop(closed);
+    opened
 }
 
 #[test]
@@ -74,6 +76,7 @@ fn an_added_component_is_zero(rt: HostRuntime) -> Result<(), Fail> {
     let sizes = Sizes::new(3, 4, 8, 64)?;
     let (memory, mut port) = reopened_alone(&rt, rt.alloc(), sizes)?;
     reads_three(&rt, &memory, &mut port);
+    drop((memory, port));
     Ok(())
 }
 
@@ -100,6 +103,7 @@ fn reopened_beside(
     let sizes = Sizes::new(2, 4, 8, 64)?;
     let (other, mut of_other) = alone(alloc, closed, sizes)?;
     are_apart(rt, one, of_one, &other, &mut of_other);
+    drop((other, of_other));
     Ok(())
 }
 
@@ -107,13 +111,17 @@ fn reopened_beside(
 fn reopened_twice(rt: &impl Abort, alloc: Global, closed: &Closed) -> Result<(), Fail> {
     let sizes = Sizes::new(2, 4, 8, 64)?;
     let (one, mut of_one) = alone(alloc, closed, sizes)?;
-    reopened_beside(rt, alloc, closed, &one, &mut of_one)
+    let judged = reopened_beside(rt, alloc, closed, &one, &mut of_one);
+    drop((one, of_one));
+    judged
 }
 
 #[test]
 fn two_reopenings_are_apart(rt: HostRuntime) -> Result<(), Fail> {
     let closed = closed(&rt, rt.alloc())?;
-    reopened_twice(&rt, rt.alloc(), &closed)
+    let judged = reopened_twice(&rt, rt.alloc(), &closed);
+    drop(closed);
+    judged
 }
 
 // Why a closed memory isn't reopened with these sizes and so many ports.
@@ -137,19 +145,27 @@ fn refuses(rt: &impl Abort, alloc: Global, closed: &Closed) -> Result<(), Fail> 
     Ok(())
 }
 
-// What was refused has left the closed memory as it was.
+// The closed memory reopens with its values.
 fn reopens(rt: &impl Abort, alloc: Global, closed: &Closed) -> Result<(), Fail> {
     let sizes = Sizes::new(2, 4, 8, 64)?;
     let (memory, mut port) = alone(alloc, closed, sizes)?;
     reads(rt, &memory, &mut port, 1, 8, 21);
+    drop((memory, port));
     Ok(())
+}
+
+// What was refused has left the closed memory as it was.
+fn refuses_and_reopens(rt: &impl Abort, alloc: Global, closed: &Closed) -> Result<(), Fail> {
+    refuses(rt, alloc, closed)?;
+    reopens(rt, alloc, closed)
 }
 
 #[test]
 fn reopening_refused(rt: HostRuntime) -> Result<(), Fail> {
     let closed = closed(&rt, rt.alloc())?;
-    refuses(&rt, rt.alloc(), &closed)?;
-    reopens(&rt, rt.alloc(), &closed)
+    let judged = refuses_and_reopens(&rt, rt.alloc(), &closed);
+    drop(closed);
+    judged
 }
 
 // Opens the greatest memory, each of whose components is 7, and closes it.
@@ -175,7 +191,9 @@ fn reopened_greatest(alloc: Global, sizes: Sizes) -> Result<(Memory, Port), Fail
     ensures { IfOk result (λ r. IsOf r.0 r.1) }
 {
     let closed = closed_greatest(alloc, sizes)?;
-    alone(alloc, &closed, sizes)
+    let opened = alone(alloc, &closed, sizes);
+    drop(closed);
+    opened
 }
 
 #[test]
@@ -183,5 +201,6 @@ fn the_greatest_memory_reopens(rt: HostRuntime) -> Result<(), Fail> {
     let sizes = Sizes::new(65_536, 65_536, 65_536, 4_194_304)?;
     let (memory, mut port) = reopened_greatest(rt.alloc(), sizes)?;
     reads_last(&rt, &memory, &mut port);
+    drop((memory, port));
     Ok(())
 }

@@ -5,7 +5,7 @@ ghost use Rattle.std.specs.List.{AllByRecursion};
 ghost use Rattle.partial_memory.specs.Ports.{IsOf};
 
 use super::calls::{COLLECTED_TWICE, applies, reads, scans, updates_if};
-use super::memories::{pair, single};
+use super::memories::{add, pair, single};
 use partial_memory::{Closed, Memory, OpenError, Port, Scanned, Updated, UpdatedIf};
 use partial_model::Refused;
 use partial_words::{Link, Sizes};
@@ -42,7 +42,7 @@ fn handed_in(
 {
     let mut rest = Vec::new(alloc);
     if both {
-        rest.push(second)?;
+        add(memory, &mut rest, second)?;
     }
     Ok(rest)
 }
@@ -93,6 +93,7 @@ fn assert_closed(rt: &impl Abort, closed: &Closed) {
 fn one_thread_with_both_ports(rt: HostRuntime) -> Result<(), Fail> {
     let closed = one_thread(&rt, rt.alloc(), true)?;
     assert_closed(&rt, &closed);
+    drop(closed);
     Ok(())
 }
 
@@ -100,6 +101,7 @@ fn one_thread_with_both_ports(rt: HostRuntime) -> Result<(), Fail> {
 fn one_thread_without_the_second_port(rt: HostRuntime) -> Result<(), Fail> {
     let closed = one_thread(&rt, rt.alloc(), false)?;
     assert_closed(&rt, &closed);
+    drop(closed);
     Ok(())
 }
 
@@ -107,8 +109,10 @@ fn one_thread_without_the_second_port(rt: HostRuntime) -> Result<(), Fail> {
 fn ports_of(alloc: Global, sizes: Sizes, ports: u32) -> Result<usize, OpenError>
     requires { sizes.m ≡ 2 }
 {
-    let (_, all) = Memory::open(alloc, sizes, &[10, 20], ports)?;
-    Ok(all.len())
+    let opened = Memory::open(alloc, sizes, &[10, 20], ports)?;
+    let ports = opened.1.len();
+    drop(opened);
+    Ok(ports)
 }
 
 // No memory opens with so many ports.
@@ -156,8 +160,9 @@ fn refuses_component(rt: &impl Abort, memory: &Memory, me: &mut Port)
 #[test]
 fn component_refused(rt: HostRuntime) -> Result<(), Fail> {
     let sizes = Sizes::new(2, 4, 8, 64)?;
-    let (memory, mut first, _) = pair(rt.alloc(), sizes, &[10, 20])?;
+    let (memory, mut first, second) = pair(rt.alloc(), sizes, &[10, 20])?;
     refuses_component(&rt, &memory, &mut first);
+    drop((memory, first, second));
     Ok(())
 }
 
@@ -182,6 +187,7 @@ fn pool_spent(rt: HostRuntime) -> Result<(), Fail> {
     refused_for_pool(&rt, &memory, &mut first, 0);
     refused_for_pool(&rt, &memory, &mut second, 1);
     reads(&rt, &memory, &mut second, 0, 7, 24);
+    drop((memory, first, second));
     Ok(())
 }
 
@@ -214,8 +220,9 @@ fn spends_slots(rt: &impl Abort, memory: &Memory, me: &mut Port)
 #[test]
 fn slots_spent(rt: HostRuntime) -> Result<(), Fail> {
     let sizes = Sizes::new(2, 1, 8, 64)?;
-    let (memory, mut port, _) = pair(rt.alloc(), sizes, &[10, 20])?;
-    spends_slots(&rt, &memory, &mut port);
+    let (memory, mut first, second) = pair(rt.alloc(), sizes, &[10, 20])?;
+    spends_slots(&rt, &memory, &mut first);
+    drop((memory, first, second));
     Ok(())
 }
 
@@ -245,6 +252,7 @@ fn never_met(rt: HostRuntime) -> Result<(), Fail> {
     let sizes = Sizes::new(2, 64, 0, 4096)?;
     let (memory, mut first, mut second) = pair(rt.alloc(), sizes, &[0, 0])?;
     update_and_look(&rt, &memory, &mut first, &mut second);
+    drop((memory, first, second));
     Ok(())
 }
 
@@ -258,6 +266,7 @@ fn conditional(rt: HostRuntime) -> Result<(), Fail> {
     updates_if(&rt, &memory, &mut second, 0, 18, 8, changed);
     let applied = UpdatedIf::Applied { stamp: 27 };
     updates_if(&rt, &memory, &mut second, 0, 24, 9, applied);
+    drop((memory, first, second));
     Ok(())
 }
 
@@ -276,8 +285,9 @@ fn scans_nothing(rt: &impl Abort, memory: &Memory, me: &mut Port)
 #[test]
 fn empty_scan(rt: HostRuntime) -> Result<(), Fail> {
     let sizes = Sizes::new(2, 1, 8, 9)?;
-    let (memory, mut first, _) = pair(rt.alloc(), sizes, &[10, 20])?;
+    let (memory, mut first, second) = pair(rt.alloc(), sizes, &[10, 20])?;
     scans_nothing(&rt, &memory, &mut first);
+    drop((memory, first, second));
     Ok(())
 }
 
@@ -296,6 +306,7 @@ fn repeated_position(rt: HostRuntime) -> Result<(), Fail> {
     let sizes = Sizes::new(3, 4, 8, 64)?;
     let (memory, mut port) = single(rt.alloc(), sizes, &[10, 20, 30])?;
     scans_twice(&rt, &memory, &mut port);
+    drop((memory, port));
     Ok(())
 }
 
@@ -334,7 +345,8 @@ fn assert_chains(rt: &impl Abort, closed: &Closed) {
 // Closes the memory behind these calls.
 fn closed_behind(rt: &impl Abort, alloc: Global) -> Result<Closed, Fail> {
     let sizes = Sizes::new(2, 4, 8, 64)?;
-    let (memory, mut first, _) = pair(alloc, sizes, &[10, 20])?;
+    let (memory, mut first, second) = pair(alloc, sizes, &[10, 20])?;
+    drop(second);
     between_scans(rt, &memory, &mut first);
     Ok(memory.close(alloc, first, Vec::new(alloc))?)
 }
@@ -345,5 +357,6 @@ fn closed_behind(rt: &impl Abort, alloc: Global) -> Result<Closed, Fail> {
 fn updates_between_scans(rt: HostRuntime) -> Result<(), Fail> {
     let closed = closed_behind(&rt, rt.alloc())?;
     assert_chains(&rt, &closed);
+    drop(closed);
     Ok(())
 }

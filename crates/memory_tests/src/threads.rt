@@ -115,7 +115,9 @@ fn judge_all(rt: &impl Abort, stamps: &[u64], all: &[Told]) -> Result<(), AllocE
 /// The same with the stamps of all applied updates.
 fn judge(rt: &impl Abort, alloc: Global, all: &[Told]) -> Result<(), AllocError> {
     let stamps = applied_stamps(alloc, all)?;
-    judge_all(rt, &stamps, all)
+    let judged = judge_all(rt, &stamps, all);
+    drop(stamps);
+    judged
 }
 
 /// Component 0 was only counted with: its value is the number of its entries.
@@ -139,8 +141,9 @@ fn each_ends(rt: &impl Abort, all: &[Told]) {
 #[test]
 fn two_ports_at_one_component(rt: HostRuntime) -> Result<(), Fail> {
     let sizes = Sizes::new(2, 4, 8, 4096)?;
-    let (_, all) = worked(&rt, rt.alloc(), sizes, 2, &[(FIRST, 100)])?;
+    let (closed, all) = worked(&rt, rt.alloc(), sizes, 2, &[(FIRST, 100)])?;
     each_ends(&rt, &all);
+    drop((closed, all));
     Ok(())
 }
 
@@ -160,8 +163,9 @@ fn rises_to_hundred(rt: &impl Abort, closed: &Closed) {
 fn two_writers(rt: HostRuntime) -> Result<(), Fail> {
     let sizes = Sizes::new(2, 4, 8, 4096)?;
     let jobs = [(FIRST, 100), (SECOND, 100)];
-    let (closed, _) = worked(&rt, rt.alloc(), sizes, 2, &jobs)?;
+    let (closed, all) = worked(&rt, rt.alloc(), sizes, 2, &jobs)?;
     rises_to_hundred(&rt, &closed);
+    drop((closed, all));
     Ok(())
 }
 
@@ -180,6 +184,7 @@ fn a_scanner_beside_two_writers(rt: HostRuntime) -> Result<(), Fail> {
     let jobs = [(FIRST, 100), (SECOND, 100), (Job::ScanTwo, 50)];
     let (closed, all) = worked(&rt, rt.alloc(), sizes, 3, &jobs)?;
     write_and_scan(&rt, &closed, &all);
+    drop((closed, all));
     Ok(())
 }
 
@@ -201,6 +206,7 @@ fn ten_applied_of_forty(rt: HostRuntime) -> Result<(), Fail> {
     let jobs = [(FIRST, 20), (SECOND, 20)];
     let (closed, all) = worked(&rt, rt.alloc(), sizes, 2, &jobs)?;
     apply_ten(&rt, &closed, &all);
+    drop((closed, all));
     Ok(())
 }
 
@@ -235,6 +241,7 @@ fn five_scans_of_twenty(rt: HostRuntime) -> Result<(), Fail> {
     let (closed, all) = worked(&rt, rt.alloc(), sizes, 2, &[(Job::ScanOne, 10)])?;
     scan_five_times(&rt, &all);
     has_initial_records(&rt, &closed);
+    drop((closed, all));
     Ok(())
 }
 
@@ -251,6 +258,7 @@ fn conditional_updates_count(rt: HostRuntime) -> Result<(), Fail> {
     let (closed, all) = worked(&rt, rt.alloc(), sizes, 2, &[(Job::Count, 100)])?;
     each_counts(&rt, &all);
     judge_count(&rt, &closed);
+    drop((closed, all));
     Ok(())
 }
 
@@ -267,6 +275,7 @@ fn eight_ports(rt: HostRuntime) -> Result<(), Fail> {
     let (closed, all) = worked(&rt, rt.alloc(), sizes, 8, &[(Job::Mix, 200)])?;
     spend_both(&rt, &all);
     judge_count(&rt, &closed);
+    drop((closed, all));
     Ok(())
 }
 
@@ -284,6 +293,7 @@ fn sixty_four_ports(rt: HostRuntime) -> Result<(), Fail> {
     let (closed, all) = worked(&rt, rt.alloc(), sizes, 64, &[(Job::Mix, 20)])?;
     each_scans(&rt, &all, 20);
     judge_count(&rt, &closed);
+    drop((closed, all));
     Ok(())
 }
 
@@ -300,5 +310,6 @@ fn four_pairs_that_meet(rt: HostRuntime) -> Result<(), Fail> {
     let (closed, all) = worked(&rt, rt.alloc(), sizes, 8, &[(Job::Meet, 50)])?;
     four_scan(&rt, &all);
     judge_count(&rt, &closed);
+    drop((closed, all));
     Ok(())
 }

@@ -1,18 +1,14 @@
 //! The examples of the document on the pipeline.
 
-use partial_pipeline::{NoWatch, NoWork, Options, Pipeline, Watch, Work, run_pipeline};
+use partial_pipeline::{
+    NoWatch, NoWork, Options, Pipeline, PipelineReport, Watch, Work, run_pipeline,
+};
+use std::process::Abort;
 use std::sync::atomic::{AtomicU64, Ordering};
 use std::test::Fail;
 
-#[test]
-fn four_stages(rt: HostRuntime) -> Result<(), Fail> {
-    let pipeline = Pipeline {
-        stages: 4,
-        items: 5_000,
-        looks: 1_000,
-        options: Options::default(),
-    };
-    let report = run_pipeline(&rt, rt.alloc(), pipeline, &NoWork, &mut NoWatch)?;
+// In each scan no count is greater than the one before it, and at the end each is 5,000.
+fn has_four_stages(rt: &impl Abort, report: &PipelineReport) {
     for scan in report.scans.iter().chain(report.last.iter()) {
         assert!(rt; scan.len() == 4);
         assert!(rt;
@@ -25,6 +21,19 @@ fn four_stages(rt: HostRuntime) -> Result<(), Fail> {
         report.counts.as_slice(),
         [5_000, 5_000, 5_000, 5_000].as_slice()
     );
+}
+
+#[test]
+fn four_stages(rt: HostRuntime) -> Result<(), Fail> {
+    let pipeline = Pipeline {
+        stages: 4,
+        items: 5_000,
+        looks: 1_000,
+        options: Options::default(),
+    };
+    let report = run_pipeline(&rt, rt.alloc(), pipeline, &NoWork, &mut NoWatch)?;
+    has_four_stages(&rt, &report);
+    drop(report);
     Ok(())
 }
 
@@ -70,7 +79,7 @@ fn work_and_watch(rt: HostRuntime) -> Result<(), Fail> {
         looks: 1_000,
         options: Options::default(),
     };
-    run_pipeline(&rt, rt.alloc(), pipeline, &total, &mut lag)?;
+    drop(run_pipeline(&rt, rt.alloc(), pipeline, &total, &mut lag)?);
     assert_eq!(rt; total.sum.load(Ordering::SeqCst), 5_050);
     assert!(rt; lag.most <= 100);
     Ok(())

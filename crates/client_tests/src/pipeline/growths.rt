@@ -9,7 +9,10 @@ use std::test::Fail;
 #[test]
 fn a_refused_growth_leaves_no_pipeline(rt: HostRuntime) -> Result<(), Fail> {
     match run_pipeline(&rt, rt.alloc(), sized(3, 20, 4), &NoWork, &mut NoWatch) {
-        Ok(report) => judge(&rt, &report, 3, 20),
+        Ok(report) => {
+            judge(&rt, &report, 3, 20);
+            drop(report);
+        }
         Err(error) => {
             assert_eq!(rt; error, PipelineError::Memory);
             Err(AllocError)?;

@@ -103,23 +103,50 @@ pub(super) fn unfinished(port: u32, number: u32, call: Call, began: usize) -> Ca
 
 /// Whether the history and the calls are lawful, when two components open with 10 and 20 and with the
 /// stamps 18 and 21. It fails when the check without memory and the checker answer differently.
-pub(super) fn verdict(alloc: Global, history: &[Applied], calls: &[Called]) -> Result<bool, Fail> {
+pub(super) fn verdict<const N: usize>(
+    alloc: Global,
+    history: &[Applied],
+    calls: [Called; N],
+) -> Result<bool, Fail> {
+    let answer = verdict_of(alloc, history, &calls);
+    drop(calls);
+    answer
+}
+
+fn verdict_of(alloc: Global, history: &[Applied], calls: &[Called]) -> Result<bool, Fail> {
     let opening = Opening {
         values: Sequence::from(vec![in alloc; 10, 20]?),
         first: 18,
     };
-    both(alloc, &opening, history, calls)
+    let answer = agreed(alloc, &opening, history, calls);
+    drop(opening);
+    answer
 }
 
 /// What both of them answer.
-pub(super) fn both(
+pub(super) fn both<const N: usize>(
+    alloc: Global,
+    opening: &Opening,
+    history: &[Applied],
+    calls: [Called; N],
+) -> Result<bool, Fail> {
+    let answer = agreed(alloc, opening, history, &calls);
+    drop(calls);
+    answer
+}
+
+// The same of calls that are lent.
+fn agreed(
     alloc: Global,
     opening: &Opening,
     history: &[Applied],
     calls: &[Called],
 ) -> Result<bool, Fail> {
     let plain = check_outcome(opening, history, calls);
-    if Checker::new(alloc, opening, history)?.check(calls) == plain {
+    let checker = Checker::new(alloc, opening, history)?;
+    let checked = checker.check(calls);
+    drop(checker);
+    if checked == plain {
         Ok(plain)
     } else {
         Err(Fail::new("the two answer otherwise"))

@@ -112,29 +112,29 @@ pub(super) fn changed_at_exchange(by: u64) -> [Called; 2] {
 
 #[test]
 fn nothing_at_all(rt: HostRuntime) -> Result<(), Fail> {
-    assert!(rt; verdict(rt.alloc(), &[], &[])?);
+    assert!(rt; verdict(rt.alloc(), &[], [])?);
     Ok(())
 }
 
 #[test]
 fn whole_scans(rt: HostRuntime) -> Result<(), Fail> {
     let alloc = rt.alloc();
-    assert!(rt; verdict(alloc, &[], &whole_scan(alloc, 2)?)?);
-    assert!(rt; verdict(alloc, &[], &whole_scan(alloc, 4)?)?);
+    assert!(rt; verdict(alloc, &[], whole_scan(alloc, 2)?)?);
+    assert!(rt; verdict(alloc, &[], whole_scan(alloc, 4)?)?);
     Ok(())
 }
 
 #[test]
 fn write_then_read_is_lawful(rt: HostRuntime) -> Result<(), Fail> {
     let calls = write_then_read(24);
-    assert!(rt; verdict(rt.alloc(), &[applied(0, 0, 7, 24)], &calls)?);
+    assert!(rt; verdict(rt.alloc(), &[applied(0, 0, 7, 24)], calls)?);
     Ok(())
 }
 
 #[test]
 fn lost_exchange(rt: HostRuntime) -> Result<(), Fail> {
     let calls = [loser(0, Answer::Lost { by: 27 }, Note::Lost(0)), winner()];
-    assert!(rt; verdict(rt.alloc(), &EXCHANGED, &calls)?);
+    assert!(rt; verdict(rt.alloc(), &EXCHANGED, calls)?);
     Ok(())
 }
 
@@ -147,7 +147,7 @@ fn two_components(rt: HostRuntime) -> Result<(), Fail> {
         called(1, 0, update(1, 9), (0, 1), second, Some(Note::Wrote(0))),
     ];
     let history = [applied(1, 1, 9, 27), applied(0, 0, 7, 24)];
-    assert!(rt; verdict(rt.alloc(), &history, &calls)?);
+    assert!(rt; verdict(rt.alloc(), &history, calls)?);
     Ok(())
 }
 
@@ -168,7 +168,7 @@ fn set_back(alloc: Global) -> Result<[Called; 3], AllocError> {
 fn value_set_back(rt: HostRuntime) -> Result<(), Fail> {
     let calls = set_back(rt.alloc())?;
     let history = [applied(1, 0, 10, 26), applied(1, 0, 10, 32)];
-    assert!(rt; verdict(rt.alloc(), &history, &calls)?);
+    assert!(rt; verdict(rt.alloc(), &history, calls)?);
     Ok(())
 }
 
@@ -177,7 +177,7 @@ fn empty_scan(rt: HostRuntime) -> Result<(), Fail> {
     let alloc = rt.alloc();
     let seen = scanned(alloc, &[], 0, None)?;
     let calls = [first_scan(alloc, 0, &[], 0, seen, 0)?];
-    assert!(rt; verdict(alloc, &[], &calls)?);
+    assert!(rt; verdict(alloc, &[], calls)?);
     Ok(())
 }
 
@@ -195,14 +195,16 @@ fn repeated_position(rt: HostRuntime) -> Result<(), Fail> {
         values: Sequence::from(vec![in alloc; 10, 20, 30]?),
         first: 18,
     };
-    assert!(rt; both(alloc, &opening, &[], &calls)?);
+    let lawful = both(alloc, &opening, &[], calls);
+    drop(opening);
+    assert!(rt; lawful?);
     Ok(())
 }
 
 #[test]
 fn borrowed_view_is_lawful(rt: HostRuntime) -> Result<(), Fail> {
     let alloc = rt.alloc();
-    assert!(rt; verdict(alloc, &BORROWED, &borrowed_view(alloc, 5, 1)?)?);
+    assert!(rt; verdict(alloc, &BORROWED, borrowed_view(alloc, 5, 1)?)?);
     Ok(())
 }
 
@@ -243,7 +245,7 @@ fn borrowed_chain(rt: HostRuntime) -> Result<(), Fail> {
         applied(3, 1, 9, 42),
         applied(2, 0, 7, 48),
     ];
-    assert!(rt; verdict(rt.alloc(), &history, &calls)?);
+    assert!(rt; verdict(rt.alloc(), &history, calls)?);
     Ok(())
 }
 
@@ -279,7 +281,9 @@ fn slots_spent(rt: HostRuntime) -> Result<(), Fail> {
         values: Sequence::from(vec![in alloc; 10, 20]?),
         first: 15,
     };
-    assert!(rt; both(alloc, &opening, &[applied(0, 1, 5, 25)], &calls)?);
+    let lawful = both(alloc, &opening, &[applied(0, 1, 5, 25)], calls);
+    drop(opening);
+    assert!(rt; lawful?);
     Ok(())
 }
 
@@ -299,14 +303,14 @@ fn pool_spent(rt: HostRuntime) -> Result<(), Fail> {
         called(0, 2, update(1, 9), (1, 1), spent(), None),
         called(0, 3, read(0), (1, 1), seen, Some(Note::Saw(1))),
     ];
-    assert!(rt; verdict(rt.alloc(), &[applied(0, 0, 7, 24)], &calls)?);
+    assert!(rt; verdict(rt.alloc(), &[applied(0, 0, 7, 24)], calls)?);
     Ok(())
 }
 
 #[test]
 fn refused_components(rt: HostRuntime) -> Result<(), Fail> {
     let alloc = rt.alloc();
-    assert!(rt; verdict(alloc, &[], &component_refused(alloc, Refused::Component)?)?);
+    assert!(rt; verdict(alloc, &[], component_refused(alloc, Refused::Component)?)?);
     Ok(())
 }
 
@@ -319,7 +323,7 @@ fn stopped_joiner(rt: HostRuntime) -> Result<(), Fail> {
         unfinished(0, 0, scan, 0),
         called(1, 0, update(0, 7), (0, 1), wrote, Some(Note::Wrote(0))),
     ];
-    assert!(rt; verdict(alloc, &[applied(1, 0, 7, 26)], &calls)?);
+    assert!(rt; verdict(alloc, &[applied(1, 0, 7, 26)], calls)?);
     Ok(())
 }
 
@@ -348,13 +352,13 @@ fn conditional(rt: HostRuntime) -> Result<(), Fail> {
         ),
     ];
     let history = [applied(0, 0, 7, 24), applied(0, 0, 9, 27)];
-    assert!(rt; verdict(rt.alloc(), &history, &calls)?);
+    assert!(rt; verdict(rt.alloc(), &history, calls)?);
     Ok(())
 }
 
 #[test]
 fn changed_at_exchange_is_lawful(rt: HostRuntime) -> Result<(), Fail> {
-    assert!(rt; verdict(rt.alloc(), &EXCHANGED, &changed_at_exchange(27))?);
+    assert!(rt; verdict(rt.alloc(), &EXCHANGED, changed_at_exchange(27))?);
     Ok(())
 }
 
@@ -367,6 +371,6 @@ fn greatest_value(rt: HostRuntime) -> Result<(), Fail> {
         called(0, 0, update(1, value), (0, 1), wrote, Some(Note::Wrote(0))),
         called(0, 1, read(1), (1, 1), seen, Some(Note::Saw(1))),
     ];
-    assert!(rt; verdict(rt.alloc(), &[applied(0, 1, value, 24)], &calls)?);
+    assert!(rt; verdict(rt.alloc(), &[applied(0, 1, value, 24)], calls)?);
     Ok(())
 }

@@ -4,7 +4,7 @@ use partial_words::{SizeError, Sizes};
 use std::test::Fail;
 
 #[test]
-fn word_numbers(rt: HostRuntime) -> Result<(), Fail> {
+fn counter_words(rt: HostRuntime) -> Result<(), Fail> {
     let sizes = Sizes::new(2, 4, 8, 64)?;
     let counters = [
         sizes.slot_counter(),
@@ -13,6 +13,12 @@ fn word_numbers(rt: HostRuntime) -> Result<(), Fail> {
         sizes.list_counter(),
     ];
     assert_eq!(rt; counters, [2, 3, 4, 5]);
+    Ok(())
+}
+
+#[test]
+fn word_numbers(rt: HostRuntime) -> Result<(), Fail> {
+    let sizes = Sizes::new(2, 4, 8, 64)?;
     assert_eq!(rt; (sizes.component_word(1), sizes.slot_word(3)), (1, 9));
     assert_eq!(rt; (sizes.list_base(), sizes.list_end()), (10, 18));
     assert_eq!(rt; (sizes.pool_base(), sizes.pool_end()), (18, 82));
