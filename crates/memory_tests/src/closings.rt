@@ -130,9 +130,11 @@ fn judge_chain(rt: &impl Abort, component: u32, chain: &[Link], value: Option<&u
 /// behind the initial record. Its first link has the component's value, which each worker's port has read
 /// with its stamp when all had ended.
 pub fn judge_chains(rt: &impl Abort, closed: &Closed, all: &[Told]) {
-    assert_eq!(rt; closed.values.len(), 2);
-    assert_eq!(rt; closed.chains.len(), 2);
-    for (component, chain) in (0u32..).zip(closed.chains.iter()) {
+    assert_eq!(rt; (closed.values.len(), closed.chains.len()), (2, 2));
+    for component in 0..2 {
+        let Some(chain) = closed.chains.get(component as usize) else {
+            panic!(rt; "no chain");
+        };
         let value = closed.values.get(component as usize);
         judge_chain(rt, component, chain.as_slice(), value, all);
     }

@@ -28,7 +28,10 @@ pub(super) fn taken(memory: &Memory, ports: &mut Vec<Port>) -> Result<Port, Fail
     ensures port { IfOk result (IsOf memory.now) }
     ensures left { AllByRecursion (IsOf memory.now) ports.new.items }
 {
-    Ok(ports.pop().ok_or("a port")?)
+    match ports.pop() {
+        Some(port) => Ok(port),
+        None => Err(Fail::from("a port")),
+    }
 }
 
 /// Adds a port of a memory to others.

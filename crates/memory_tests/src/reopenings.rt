@@ -129,8 +129,8 @@ fn refusal(alloc: Global, closed: &Closed, sizes: Sizes, ports: u32) -> Option<O
     Memory::reopen(alloc, closed, sizes, ports).err()
 }
 
-// What is refused.
-fn refuses(rt: &impl Abort, alloc: Global, closed: &Closed) -> Result<(), Fail> {
+// What is refused for its ports.
+fn refuses_ports(rt: &impl Abort, alloc: Global, closed: &Closed) -> Result<(), Fail> {
     for m in [1, 2, 3] {
         let sizes = Sizes::new(m, 4, 8, 64)?;
         for ports in [0, 65] {
@@ -138,6 +138,11 @@ fn refuses(rt: &impl Abort, alloc: Global, closed: &Closed) -> Result<(), Fail> 
             assert_eq!(rt; refused, Some(OpenError::Ports), "{m} components");
         }
     }
+    Ok(())
+}
+
+// What is refused for its components, and the numbers of both causes.
+fn refuses_sizes(rt: &impl Abort, alloc: Global, closed: &Closed) -> Result<(), Fail> {
     let sizes = Sizes::new(1, 4, 8, 64)?;
     assert_eq!(rt; refusal(alloc, closed, sizes, 1), Some(OpenError::TooSmall));
     assert_eq!(rt; OpenError::TooSmall.code(), 13);
@@ -156,7 +161,8 @@ fn reopens(rt: &impl Abort, alloc: Global, closed: &Closed) -> Result<(), Fail> 
 
 // What was refused has left the closed memory as it was.
 fn refuses_and_reopens(rt: &impl Abort, alloc: Global, closed: &Closed) -> Result<(), Fail> {
-    refuses(rt, alloc, closed)?;
+    refuses_ports(rt, alloc, closed)?;
+    refuses_sizes(rt, alloc, closed)?;
     reopens(rt, alloc, closed)
 }
 

@@ -6,7 +6,7 @@ ghost use Rattle.partial_memory.specs.Ports.{IsOf};
 
 use super::calls::{COLLECTED_TWICE, applies, reads, scans, updates_if};
 use super::memories::{add, pair, single};
-use partial_memory::{Closed, Memory, OpenError, Port, Scanned, Updated, UpdatedIf};
+use partial_memory::{Closed, Memory, OpenError, Port, Scanned, UpdatedIf};
 use partial_model::Refused;
 use partial_words::{Link, Sizes};
 use std::alloc::{AllocError, Global};
@@ -19,14 +19,10 @@ fn calls(rt: &impl Abort, memory: &Memory, first: &mut Port, second: &mut Port)
     ensures { IsOf memory.now first.new × IsOf memory.now second.new }
 {
     assert_eq!(rt; (first.number(), second.number()), (0, 1));
-    let updated = memory.update(first, 1, 8);
-    assert_eq!(rt; updated, Ok(Updated::Applied { stamp: 24 }));
-    let mut into = [0u64; 2];
-    let scanned = memory.scan(second, &[0, 1], &mut into);
-    assert_eq!(rt; scanned, Ok(COLLECTED_TWICE));
-    assert_eq!(rt; into, [10, 8]);
+    applies(rt, memory, first, 1, 8, 24);
+    scans(rt, memory, second, [0, 1], [10, 8]);
     memory.meet(first, second);
-    assert_eq!(rt; memory.read(second, 1), Ok((8, 24)));
+    reads(rt, memory, second, 1, 8, 24);
     assert_eq!(rt; memory.read(second, 2), Err(Refused::Component));
 }
 
@@ -69,9 +65,14 @@ fn one_thread(rt: &impl Abort, alloc: Global, both: bool) -> Result<Closed, Fail
     closed_with(alloc, memory, first, second, both)
 }
 
+// A chain of the closed memory has these links.
+fn has_links(rt: &impl Abort, closed: &Closed, component: usize, links: &[Link]) {
+    let chain = closed.chains.get(component).map(|chain| chain.as_slice());
+    assert_eq!(rt; chain, Some(links));
+}
+
 fn assert_closed(rt: &impl Abort, closed: &Closed) {
     assert_eq!(rt; closed.values.as_slice(), [10, 8].as_slice());
-    let links = |at: usize| closed.chains.get(at).map(|chain| chain.as_slice());
     let opening = Link {
         stamp: 18,
         value: 10,
@@ -84,8 +85,8 @@ fn assert_closed(rt: &impl Abort, closed: &Closed) {
         stamp: 21,
         value: 20,
     };
-    assert_eq!(rt; links(0), Some([opening].as_slice()));
-    assert_eq!(rt; links(1), Some([newest, oldest].as_slice()));
+    has_links(rt, closed, 0, &[opening]);
+    has_links(rt, closed, 1, &[newest, oldest]);
     assert_eq!(rt; closed.chains.len(), 2);
 }
 
@@ -144,15 +145,25 @@ fn ports_refused(rt: HostRuntime) -> Result<(), Fail> {
     Ok(())
 }
 
+// Updates that are refused for a component that isn't there.
+fn refuses_updates(rt: &impl Abort, memory: &Memory, me: &mut Port)
+    requires { IsOf memory.now me.old }
+    ensures { IsOf memory.now me.new }
+{
+    assert_eq!(rt; memory.update(me, 2, 1), Err(Refused::Component));
+    assert_eq!(rt; memory.update_if(me, 2, 18, 1), Err(Refused::Component));
+}
+
 // Calls that are refused for a component that isn't there, and one that is applied behind them.
 fn refuses_component(rt: &impl Abort, memory: &Memory, me: &mut Port)
     requires { IsOf memory.now me.old × (2 ≤ memory.now.about.sizes.m) }
 {
-    let absent = Refused::Component;
-    assert_eq!(rt; memory.update(me, 2, 1), Err(absent));
-    assert_eq!(rt; memory.update_if(me, 2, 18, 1), Err(absent));
+    refuses_updates(rt, memory, me);
     let mut into = [3u64, 4];
-    assert_eq!(rt; memory.scan(me, &[0, 2], &mut into), Err(absent));
+    assert_eq!(rt;
+        memory.scan(me, &[0, 2], &mut into),
+        Err(Refused::Component)
+    );
     assert_eq!(rt; into, [3, 4]);
     applies(rt, memory, me, 0, 7, 24);
 }

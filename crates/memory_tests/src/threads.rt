@@ -83,11 +83,8 @@ fn judge_stamps(rt: &impl Abort, stamps: &[u64]) {
     }
 }
 
-/// Each lost or changed update of the worker names one that another worker applied, no value fell that only rises, and
-/// each scan made 2 to 4 collects.
-fn judge_told(rt: &impl Abort, stamps: &[u64], told: &Told) -> Result<(), AllocError> {
-    told.ended?;
-    assert!(rt; !told.fell, "a value fell");
+/// Each lost or changed update of the worker names one that another worker applied.
+fn judge_named(rt: &impl Abort, stamps: &[u64], told: &Told) {
     for stamp in told.named.iter() {
         assert!(rt;
             stamps.binary_search(stamp).is_ok(),
@@ -96,14 +93,26 @@ fn judge_told(rt: &impl Abort, stamps: &[u64], told: &Told) -> Result<(), AllocE
         let own = told.applied.contains(stamp) || told.counted.contains(stamp);
         assert!(rt; !own, "{stamp} is its own");
     }
+}
+
+/// Each scan of the worker made 2 to 4 collects.
+fn judge_scans(rt: &impl Abort, told: &Told) {
     for scanned in told.scans.iter() {
         let few = 2 <= scanned.collects && scanned.collects <= 4;
         assert!(rt; few, "{} collects", scanned.collects);
     }
+}
+
+/// Both, and no value fell that only rises.
+fn judge_told(rt: &impl Abort, stamps: &[u64], told: &Told) -> Result<(), AllocError> {
+    told.ended?;
+    assert!(rt; !told.fell, "a value fell");
+    judge_named(rt, stamps, told);
+    judge_scans(rt, told);
     Ok(())
 }
 
-/// Both of all workers.
+/// No two updates of all workers were applied with one stamp, and each worker is judged.
 fn judge_all(rt: &impl Abort, stamps: &[u64], all: &[Told]) -> Result<(), AllocError> {
     judge_stamps(rt, stamps);
     for told in all {
@@ -188,16 +197,21 @@ fn a_scanner_beside_two_writers(rt: HostRuntime) -> Result<(), Fail> {
     Ok(())
 }
 
-/// Ten updates were applied, and each component has the number of its own.
-fn apply_ten(rt: &impl Abort, closed: &Closed, all: &[Told]) {
-    assert_eq!(rt; refused_in_all(all, Refused::PoolSpent), 30);
+/// Each component has the number of its own updates, and their sum is returned.
+fn count_applied(rt: &impl Abort, closed: &Closed, all: &[Told]) -> u64 {
     let mut sum = 0u64;
     for (told, value) in all.iter().rev().zip(closed.values.iter()) {
         assert!(rt; told.pool_spent);
         assert_eq!(rt; told.applied.len() as u64, *value);
         sum = sum.saturating_add(*value);
     }
-    assert_eq!(rt; sum, 10);
+    sum
+}
+
+/// Ten updates were applied.
+fn apply_ten(rt: &impl Abort, closed: &Closed, all: &[Told]) {
+    assert_eq!(rt; refused_in_all(all, Refused::PoolSpent), 30);
+    assert_eq!(rt; count_applied(rt, closed, all), 10);
 }
 
 #[test]

@@ -7,15 +7,20 @@ use std::process::Abort;
 use std::sync::atomic::{AtomicU64, Ordering};
 use std::test::Fail;
 
-// In each scan no count is greater than the one before it, and at the end each is 5,000.
+// A scan has four counts, none of which is greater than the one before it.
+fn has_four_counts(rt: &impl Abort, scan: &[u64]) {
+    assert!(rt; scan.len() == 4);
+    assert!(rt;
+        scan.iter()
+            .zip(scan.iter().skip(1))
+            .all(|(before, own)| own <= before)
+    );
+}
+
+// Each scan is ordered, and at the end each count is 5,000.
 fn has_four_stages(rt: &impl Abort, report: &PipelineReport) {
     for scan in report.scans.iter().chain(report.last.iter()) {
-        assert!(rt; scan.len() == 4);
-        assert!(rt;
-            scan.iter()
-                .zip(scan.iter().skip(1))
-                .all(|(before, own)| own <= before)
-        );
+        has_four_counts(rt, scan);
     }
     assert_eq!(rt;
         report.counts.as_slice(),

@@ -76,6 +76,12 @@ fn no_items_are_no_work(rt: HostRuntime) -> Result<(), Fail> {
     Ok(())
 }
 
+// Each of five stages has worked on the items from 1 to 1,000.
+fn has_worked(rt: &impl Abort, work: &Counted) {
+    assert_eq!(rt; work.calls.load(Ordering::SeqCst), 5 * 1_000);
+    assert_eq!(rt; work.items.load(Ordering::SeqCst), 5 * 500_500);
+}
+
 #[test]
 fn each_stage_works_on_each_item(rt: HostRuntime) -> Result<(), Fail> {
     let work = Counted {
@@ -87,8 +93,7 @@ fn each_stage_works_on_each_item(rt: HostRuntime) -> Result<(), Fail> {
     judge(&rt, &report, 5, 1_000);
     assert_eq!(rt; seen.scans, report.scans.len());
     drop(report);
-    assert_eq!(rt; work.calls.load(Ordering::SeqCst), 5 * 1_000);
-    assert_eq!(rt; work.items.load(Ordering::SeqCst), 5 * 500_500);
+    has_worked(&rt, &work);
     Ok(())
 }
 
@@ -146,12 +151,18 @@ fn stages_are_refused(rt: HostRuntime) -> Result<(), Fail> {
 fn options_are_refused(rt: HostRuntime) -> Result<(), Fail> {
     let mut pipeline = sized(2, 10, 50);
     pipeline.options.lists = 65_537;
-    assert_eq!(rt; ran(&rt, rt.alloc(), pipeline).err(), Some(PipelineError::Lists));
+    assert_eq!(rt;
+        ran(&rt, rt.alloc(), pipeline).err(),
+        Some(PipelineError::Lists)
+    );
     // With 2 stages and 3 ports the pool has 24 words more than the options ask for.
     pipeline.options = Options {
         lists: 0,
         pool: 131_049,
     };
-    assert_eq!(rt; ran(&rt, rt.alloc(), pipeline).err(), Some(PipelineError::Pool));
+    assert_eq!(rt;
+        ran(&rt, rt.alloc(), pipeline).err(),
+        Some(PipelineError::Pool)
+    );
     Ok(())
 }

@@ -1,14 +1,8 @@
-use Rattle.memory_tests.proofs.{Common.{rules, ◌≡◌, List, [], ◌∷◌, ◌++◌, sym, subst, Option, Some, None, IfSome, Vec, Global, All, AllByRecursion, All-push, all_front, PortView, IsOf}, Ports.of_last}
+use Rattle.memory_tests.proofs.{Common.{rules, ◌≡◌, List, [], ◌∷◌, ◌++◌, sym, subst, Option, IfSome, Vec, Global, All, AllByRecursion, All-push, PortView, IsOf}, Ports.popped}
 use Rattle.memory_tests.specs.declared.workers.Worker.{Worker}
-use Rattle.std.specs.Option.{option_to_list}
 use Rattle.partial_memory.specs.declared.port.Port.{Port}
 use Rattle.memory_tests.proofs.workers.hire.Goals as goal
 use Rattle.memory_tests.proofs.workers.hire.Goals.{in-Meet, in_default-job}
-
--- the same where there may be none
-popped : {A : Type 0} (P : A → Type 0) (all left : List A) (r : Option A) → AllByRecursion P all → all ≡ left ++ option_to_list r → AllByRecursion P left × IfSome r P
-popped P all left None w is = (all_front P left [] (subst (AllByRecursion P) is w), tt)
-popped P all left (Some x) w is = of_last P all left x w is
 
 pub loop-preserved : goal.loop-preserved
 loop-preserved c =
