@@ -165,9 +165,8 @@ fn keeps_stamps(rt: &impl Abort, memory: &LongLived, first: &mut Port, last: &mu
     requires first { IsOf memory.now first.old }
     requires last { IsOf memory.now last.old }
 {
-    let (Ok((_, zero)), Ok((_, one))) = (memory.read(first, 0), memory.read(first, 1)) else {
-        panic!(rt; "not read");
-    };
+    let zero = reads(rt, memory, first, 0, 10);
+    let one = reads(rt, memory, first, 1, 20);
     assert!(rt; memory.unchanged(first, &[0, 1], &[zero, one]));
     assert!(rt; memory.unchanged(last, &[1, 0], &[one, zero]));
     assert!(rt; !memory.unchanged(first, &[0, 1], &[one, zero]));

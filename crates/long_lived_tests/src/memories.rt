@@ -17,7 +17,10 @@ pub(super) fn taken(memory: &LongLived, ports: &mut Vec<Port>) -> Result<Port, F
     ensures port { IfOk result (IsOf memory.now) }
     ensures left { AllByRecursion (IsOf memory.now) ports.new.items }
 {
-    Ok(ports.pop().ok_or("a port")?)
+    match ports.pop() {
+        Some(port) => Ok(port),
+        None => Err(Fail::from("a port")),
+    }
 }
 
 /// A memory with the last one of its ports.

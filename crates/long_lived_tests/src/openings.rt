@@ -23,12 +23,7 @@ fn refused(
 }
 
 // Closes a memory with its last port and these others.
-fn closed(
-    alloc: Global,
-    memory: LongLived,
-    last: Port,
-    rest: Vec<Port>,
-) -> Result<Vec<u64>, Fail>
+fn closed(alloc: Global, memory: LongLived, last: Port, rest: Vec<Port>) -> Result<Vec<u64>, Fail>
     requires last { IsOf memory last }
     requires rest { AllByRecursion (IsOf memory) rest.items }
 {
@@ -75,7 +70,11 @@ fn closed_with_one_port(rt: HostRuntime) -> Result<(), Fail> {
     let (memory, ports) = LongLived::open(alloc, &[greatest], 64, Options::default())?;
     let (memory, port) = with_last(memory, ports)?;
     assert_eq!(rt; port.number(), 63);
-    holds(&rt, closed(alloc, memory, port, Vec::new(alloc))?, &[greatest]);
+    holds(
+        &rt,
+        closed(alloc, memory, port, Vec::new(alloc))?,
+        &[greatest],
+    );
     Ok(())
 }
 
