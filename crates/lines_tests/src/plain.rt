@@ -86,6 +86,30 @@ fn opened_words(alloc: Global, sizes: Sizes, initial: &[u64]) -> Result<Vec<u64>
     Ok(words)
 }
 
+// The machines of the second and the third port.
+fn others(alloc: Global, sizes: Sizes) -> Result<(Core, Core), AllocError>
+    ensures { IfOk result (λ r. (r.0 ≡ fresh sizes 1) × (r.1 ≡ fresh sizes 2)) }
+{
+    let left = Core::new(alloc, sizes, 1)?;
+    let right = Core::new(alloc, sizes, 2)?;
+    Ok((left, right))
+}
+
+// The words at opening, and these machines.
+fn opened(
+    alloc: Global,
+    sizes: Sizes,
+    initial: &[u64],
+) -> Result<(Vec<u64>, Core, Core), AllocError>
+    requires { length initial.now ≡ sizes.m }
+    ensures words { IfOk result (λ r. AreOpeningWords sizes initial.now r.0.items) }
+    ensures machines { IfOk result (λ r. (r.1 ≡ fresh sizes 1) × (r.2 ≡ fresh sizes 2)) }
+{
+    let words = opened_words(alloc, sizes, initial)?;
+    let (left, right) = others(alloc, sizes)?;
+    Ok((words, left, right))
+}
+
 impl Plain {
     /// Opens the words, for a call that the first port's machine has begun, and lets the others make some turns.
     pub fn open(
@@ -101,9 +125,10 @@ impl Plain {
         ensures going { IfOk result (λ l. IsPlain l.words.items l.beside l.left l.right) }
         ensures machine { IfOk result (λ l. l.beside ≡ beside) }
     {
-        let words = opened_words(alloc, sizes, initial)?;
-        let left = Core::new(alloc, sizes, 1)?;
-        let right = Core::new(alloc, sizes, 2)?;
+        let Ok((words, left, right)) = opened(alloc, sizes, initial) else {
+            drop(beside);
+            return Err(AllocError);
+        };
         let mut plain = Plain {
             words,
             beside,

@@ -1,6 +1,6 @@
 //! The words of a list of vacated slots.
 
-ghost use Rattle.std.specs.Prelude.{◌≡◌, length};
+ghost use Rattle.std.specs.Prelude.{◌≡◌, [], ◌∷◌};
 
 use partial_intervals::Intervals;
 use partial_words::{interval, list_block_word, list_len, list_size};
@@ -9,7 +9,7 @@ use std::test::Fail;
 
 // The words of the list of the intervals from 0 to 1 and from 3 to 4.
 fn has_words(rt: &impl Abort, intervals: &Intervals)
-    requires { length intervals.now.list ≡ 2 }
+    requires { intervals.now.list ≡ (0, 1) ∷ (3, 4) ∷ [] }
 {
     let block = [
         list_block_word(intervals, 0),

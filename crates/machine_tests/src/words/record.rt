@@ -18,7 +18,11 @@ fn block_of_a_record(rt: HostRuntime) {
 #[test]
 fn words_of_a_record(rt: HostRuntime) {
     assert_eq!(rt;
-        (prev_of(&RECORD, 0), value_of(&RECORD, 0), view_of(&RECORD, 0)),
+        (
+            prev_of(&RECORD, 0),
+            value_of(&RECORD, 0),
+            view_of(&RECORD, 0)
+        ),
         (18, 5, 29)
     );
     assert_eq!(rt; view_len(&RECORD, 3), 1);

@@ -8,8 +8,8 @@ open-requires-clause-begins c =
     let begins = scan_begins c.in_ok-beside.beside c.begin_scan.new.self c.args.which.now few (λ e. omega (arith, some, e)) c.in_default.ensures.ok.0 c.in_default.ensures.ok.1 in
     subst (λ (s : CoreState). BeginsOn s c.begin_scan.new.self) c.in_ok-beside.ensures begins
 
-pub scan_begun-requires-clause-begun : goal.scan_begun-requires-clause-begun
-scan_begun-requires-clause-begun c =
+pub scan_begun-ending-requires-clause-begun : goal.scan_begun-ending-requires-clause-begun
+scan_begun-ending-requires-clause-begun c =
     let some = c.requires.some in
     let begun = scan_is c.in_ok-beside.beside c.begin_scan.new.self c.args.which.now (λ e. omega (arith, some, e)) c.in_default.ensures.ok.1 in
     c.in_ok-lines.ensures.machine ∙ begun ∙ ap (λ (s : CoreState). scan_asked s c.args.which.now) c.in_ok-beside.ensures

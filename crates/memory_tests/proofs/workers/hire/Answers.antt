@@ -1,4 +1,4 @@
-use Rattle.memory_tests.proofs.{Common.{rules, ◌≡◌, List, [], ◌∷◌, ◌++◌, sym, subst, Option, IfSome, Vec, Global, All, AllByRecursion, All-push, PortView, IsOf}, Ports.popped}
+use Rattle.memory_tests.proofs.{Common.{rules, ◌≡◌, [], ◌∷◌, ◌++◌, sym, subst, IfSome, Vec, Global, All, AllByRecursion, All-push, PortView, IsOf}, Ports.popped}
 use Rattle.memory_tests.specs.declared.workers.Worker.{Worker}
 use Rattle.partial_memory.specs.declared.port.Port.{Port}
 use Rattle.memory_tests.proofs.workers.hire.Goals as goal
