@@ -33,11 +33,10 @@ steps 0*40 1*8 1*1 2*1
 "
 }
 
-/// The plan with this text, and its replay.
-pub(crate) fn replayed(alloc: Global, text: &[u8]) -> Result<(Plan, Outcome), Fail> {
+/// What comes of the plan with this text.
+pub(crate) fn replayed(alloc: Global, text: &[u8]) -> Result<Outcome, Fail> {
     let plan = Plan::read(alloc, &mut Device::new(text))?;
-    let outcome = replay(alloc, &plan)?;
-    Ok((plan, outcome))
+    Ok(replay(alloc, &plan)?)
 }
 
 /// The picture of the plan with this text.

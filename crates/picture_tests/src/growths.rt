@@ -1,7 +1,7 @@
 //! Allocations that are refused, one after another. The script that runs these tests says which.
 
 use super::examples::borrowed_view_plan;
-use partial_picture::{Form, Window, draw};
+use partial_picture::{Fault, Form, Window, draw};
 use partial_replay::Device;
 use std::alloc::Global;
 use std::io;
@@ -28,10 +28,10 @@ impl Write for Ending {
     }
 }
 
-/// Whether the picture of a window ends with these bytes. The window has two marks, two bars, an entry and an arrow.
-/// When an allocation is refused, the fault is 6 and nothing is written, or a smaller one serves as well: a list
-/// that is collected asks for room in advance, and then for what it needs.
-fn ends_with(alloc: Global, form: Form, wanted: &'static [u8]) -> Result<bool, Fail> {
+/// Why the picture of a window isn't drawn, if it isn't, how much of it is written, and whether that ends with these
+/// bytes. The window has two marks, two bars, an entry and an arrow.
+fn drawn(alloc: Global, form: Form, wanted: &'static [u8]) -> (Option<Fault>, usize, bool) {
+    let mut plan = Device::new(borrowed_view_plan());
     let mut out = Device::new(Ending {
         wanted,
         count: 0,
@@ -41,18 +41,18 @@ fn ends_with(alloc: Global, form: Form, wanted: &'static [u8]) -> Result<bool, F
         first: 40,
         last: 41,
     };
-    let given = draw(
-        alloc,
-        form,
-        window,
-        &mut Device::new(borrowed_view_plan()),
-        &mut out,
-    );
-    let out = out.into_inner();
-    match given {
-        Ok(()) => Ok(out.ends),
-        Err(fault) if fault.code() == 6 && out.count == 0 => Err(fault)?,
-        Err(_) => Ok(false),
+    let given = draw(alloc, form, window, &mut plan, &mut out);
+    let Ending { count, ends, .. } = out.into_inner();
+    (given.err(), count, ends)
+}
+
+/// Whether that picture ends with these bytes. When an allocation is refused, the fault is 6 and nothing is written,
+/// or a smaller one serves as well: a list that is collected asks for room in advance, and then for what it needs.
+fn ends_with(alloc: Global, form: Form, wanted: &'static [u8]) -> Result<bool, Fail> {
+    match drawn(alloc, form, wanted) {
+        (None, _, ends) => Ok(ends),
+        (Some(fault), 0, _) if fault.code() == 6 => Err(fault)?,
+        (Some(_), _, _) => Ok(false),
     }
 }
 

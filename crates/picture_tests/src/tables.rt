@@ -4,9 +4,9 @@ use super::examples::{drawn, lost_exchange_plan};
 use partial_picture::{Form, Window};
 use std::test::Fail;
 
-#[test]
-fn lost_exchange(rt: HostRuntime) -> Result<(), Fail> {
-    let wanted = "  step  port 0                        port 1
+// Texts are results of functions, whose contents no proof of a test has to know.
+fn table_of_lost_exchange() -> &'static str {
+    "  step  port 0                        port 1
      0  load 0: 18                                           call 0 0: update 0 7
      1  load 3: 0
      2  load 2: 0
@@ -24,19 +24,23 @@ fn lost_exchange(rt: HostRuntime) -> Result<(), Fail> {
     14                                exchange 0 18 27: won  applied 0 port 1 component 0 value 9 stamp 27; \
 call 1 0: applied 27 place 0
     15  exchange 0 18 24: lost to 27                         call 0 0: lost 27 place 0
-";
+"
+}
+
+#[test]
+fn lost_exchange(rt: HostRuntime) -> Result<(), Fail> {
     let text = drawn(rt.alloc(), Form::Table, Window::Whole, lost_exchange_plan())?;
-    assert_eq!(rt; text.as_str(), wanted);
+    assert_eq!(rt; text.as_str(), table_of_lost_exchange());
     Ok(())
 }
 
-// Calls without a step have lines of their own, also behind the last step, and a call that goes on beyond the
-// window isn't told to begin or to end in it.
-#[test]
-fn calls_between_steps(rt: HostRuntime) -> Result<(), Fail> {
-    let plan =
-        b"sizes 2 4 8 64\ninitial 10 20\nport read 1; scan; read 7; read 0; scan\nsteps rest\n";
-    let rows = [
+fn reads_and_empty_scans() -> &'static [u8] {
+    b"sizes 2 4 8 64\ninitial 10 20\nport read 1; scan; read 7; read 0; scan\nsteps rest\n"
+}
+
+// Windows of their picture, and the table of each.
+fn their_tables() -> [(Window, &'static str); 2] {
+    [
         (
             Window::Whole,
             "  step  port 0
@@ -56,9 +60,15 @@ fn calls_between_steps(rt: HostRuntime) -> Result<(), Fail> {
      2  load 0: 18   call 0 3: read 0
 ",
         ),
-    ];
-    for (window, wanted) in rows {
-        let text = drawn(rt.alloc(), Form::Table, window, plan)?;
+    ]
+}
+
+// Calls without a step have lines of their own, also behind the last step, and a call that goes on beyond the
+// window isn't told to begin or to end in it.
+#[test]
+fn calls_between_steps(rt: HostRuntime) -> Result<(), Fail> {
+    for (window, wanted) in their_tables() {
+        let text = drawn(rt.alloc(), Form::Table, window, reads_and_empty_scans())?;
         assert_eq!(rt; text.as_str(), wanted);
     }
     Ok(())
