@@ -110,7 +110,12 @@ fn judge_drawing(
     plan: &[u8],
     outcome: &Outcome,
 ) -> Result<(), Fail> {
-    let text = drawn(alloc, Form::Drawing { has_words: true }, Window::Whole, plan)?;
+    let text = drawn(
+        alloc,
+        Form::Drawing { has_words: true },
+        Window::Whole,
+        plan,
+    )?;
     judge_shapes(rt, alloc, &text, outcome)?;
     judge_steps(rt, alloc, &text, &outcome.trace)?;
     judge_calls(rt, alloc, &text, &outcome.calls)?;
@@ -259,12 +264,17 @@ fn labels_of_near_entries(alloc: Global) -> Result<Vec<Label>, AllocError> {
     labels_of(alloc, &places, Pixels(660))
 }
 
+/// Judges the label of an entry at a place.
+fn judge_label(rt: &impl Abort, label: Label, place: u64, raised: u64, room: u64) {
+    assert_eq!(rt; label.raised(), raised, "{place}");
+    assert_eq!(rt; label.room, Pixels(room), "{place}");
+}
+
 /// Judges the labels of entries at those places.
 fn judge_labels(rt: &impl Abort, labels: &[Label]) {
     assert_eq!(rt; labels.len(), near_entries().len());
     for (label, (place, raised, room)) in labels.iter().zip(near_entries()) {
-        assert_eq!(rt; label.raised(), raised, "{place}");
-        assert_eq!(rt; label.room, Pixels(room), "{place}");
+        judge_label(rt, *label, place, raised, room);
     }
 }
 

@@ -3,7 +3,7 @@
 use super::examples::{borrowed_view_plan, count, drawn, lost_exchange_plan};
 use partial_picture::{Fault, Form, PictureError, Window, draw};
 use partial_replay::{Cause, Device, OutcomeError, PlanError, ReplayError};
-use std::alloc::Global;
+use std::alloc::{AllocError, Global};
 use std::io;
 use std::io::Write;
 use std::process::Abort;
@@ -24,13 +24,19 @@ fn windows() -> [Counted; 5] {
     ]
 }
 
+/// Judges how often the part stands in the drawing of a window.
+fn judge_part(rt: &impl Abort, text: &str, part: &str, expected: usize, window: (usize, usize)) {
+    let (first, last) = window;
+    assert_eq!(rt; count(text, part), expected, "{first} {last}");
+}
+
 /// Judges what the drawing of a window tells.
 fn judge_window(rt: &impl Abort, text: &str, counted: Counted) {
     let (first, last, marks, bars, entries, arrows) = counted;
-    assert_eq!(rt; count(text, "<title>step "), marks, "{first} {last}");
-    assert_eq!(rt; count(text, "<title>call "), bars, "{first} {last}");
-    assert_eq!(rt; count(text, "<title>applied "), entries, "{first} {last}");
-    assert_eq!(rt; count(text, "<title>stamp "), arrows, "{first} {last}");
+    judge_part(rt, text, "<title>step ", marks, (first, last));
+    judge_part(rt, text, "<title>call ", bars, (first, last));
+    judge_part(rt, text, "<title>applied ", entries, (first, last));
+    judge_part(rt, text, "<title>stamp ", arrows, (first, last));
 }
 
 // Only what stands in the window is drawn, and an arrow only with both ends.
@@ -89,12 +95,24 @@ fn numbered() -> [(Fault, u8, &'static str); 7] {
     ]
 }
 
+/// Judges the number of a fault and its words.
+fn judge_fault(
+    rt: &impl Abort,
+    alloc: Global,
+    fault: Fault,
+    code: u8,
+    words: &str,
+) -> Result<(), AllocError> {
+    assert_eq!(rt; fault.code(), code);
+    let text = format!(in alloc; "{fault}")?;
+    assert_eq!(rt; text.as_str(), words);
+    Ok(())
+}
+
 #[test]
 fn numbers_of_refusals(rt: HostRuntime) -> Result<(), Fail> {
     for (fault, code, words) in numbered() {
-        assert_eq!(rt; fault.code(), code);
-        let text = format!(in rt.alloc(); "{fault}")?;
-        assert_eq!(rt; text.as_str(), words);
+        judge_fault(&rt, rt.alloc(), fault, code, words)?;
     }
     Ok(())
 }
