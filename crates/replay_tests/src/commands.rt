@@ -28,6 +28,12 @@ fn executed<R: Threads + Wait + Sync>(
     Ok((verdict, writer.into_inner()))
 }
 
+/// Judges how a command has ended, and what it has written.
+fn judge_end(rt: &impl Abort, name: &str, given: (Verdict, &[u8]), expected: (Verdict, &[u8])) {
+    assert_eq!(rt; given.0, expected.0, "{name}");
+    assert_eq!(rt; given.1, expected.1, "{name}");
+}
+
 /// Judges how the command ends, and what it writes.
 fn judge<R: Threads + Wait + Sync + Abort>(
     rt: &R,
@@ -38,8 +44,7 @@ fn judge<R: Threads + Wait + Sync + Abort>(
 ) -> Result<(), Fault> {
     let (name, plan, expected) = row;
     let (verdict, written) = executed(rt, alloc, verb, plan)?;
-    assert_eq!(rt; verdict, end, "{name}");
-    assert_eq!(rt; written.as_slice(), expected, "{name}");
+    judge_end(rt, name, (verdict, &written), (end, expected));
     Ok(())
 }
 

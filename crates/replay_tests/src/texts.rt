@@ -8,6 +8,7 @@ mod scans;
 mod writers;
 
 use std::alloc::{AllocError, Global};
+use std::process::Abort;
 
 /// The front of a text, a part so many times, and the end.
 pub(crate) fn repeated(
@@ -23,4 +24,9 @@ pub(crate) fn repeated(
     }
     text.extend_from_slice(end)?;
     Ok(text)
+}
+
+/// Judges that the text is the expected one.
+pub(crate) fn judge_text(rt: &impl Abort, text: &[u8], expected: &[u8]) {
+    assert_eq!(rt; text, expected);
 }

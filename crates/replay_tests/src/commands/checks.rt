@@ -16,57 +16,59 @@ fn verdicts(alloc: Global, outcome: &Outcome) -> Result<(bool, bool), AllocError
     Ok((plain, checker.check(&outcome.calls)))
 }
 
-/// The values with the first one turned. None where there is no value.
-fn turned_values(alloc: Global, values: &[u64]) -> Result<Option<Sequence<u64>>, AllocError> {
+/// The scan's answer with its first value turned. None where there is no value.
+fn turned_scan(
+    alloc: Global,
+    values: &[u64],
+    collects: u32,
+    borrowed: Option<u64>,
+) -> Result<Option<Answer>, AllocError> {
     let mut values = Vec::from_slice(alloc, values)?;
     if values.is_empty() {
         return Ok(None);
     }
     values[0] ^= 1;
-    Ok(Some(Sequence::from(values)))
+    Ok(Some(Answer::Scanned {
+        values: Sequence::from(values),
+        collects,
+        borrowed,
+    }))
 }
 
-/// The call's answer with its first number turned. None where it has no number that has to be as it is.
-fn turned(alloc: Global, calls: &[Called], index: usize) -> Result<Option<Answer>, AllocError> {
-    let Some(
-        Called {
-            finish: Some(finish),
-            ..
-        },
-    ) = calls.get(index)
-    else {
-        return Ok(None);
-    };
-    Ok(match &finish.answer {
-        Answer::Applied { stamp } => Some(Answer::Applied { stamp: *stamp ^ 1 }),
-        Answer::Lost { by } => Some(Answer::Lost { by: *by ^ 1 }),
-        Answer::Changed { by } => Some(Answer::Changed { by: *by ^ 1 }),
-        Answer::Read { value, stamp } => Some(Answer::Read {
+/// The answer with its first number turned. None where it has no number that has to be as it is.
+fn turned(alloc: Global, answer: &Answer) -> Result<Option<Answer>, AllocError> {
+    let other = match answer {
+        Answer::Applied { stamp } => Answer::Applied { stamp: *stamp ^ 1 },
+        Answer::Lost { by } => Answer::Lost { by: *by ^ 1 },
+        Answer::Changed { by } => Answer::Changed { by: *by ^ 1 },
+        Answer::Read { value, stamp } => Answer::Read {
             value: *value ^ 1,
             stamp: *stamp,
-        }),
+        },
         Answer::Scanned {
             values,
             collects,
             borrowed,
-        } => {
-            let other = turned_values(alloc, values.as_slice())?;
-            other.map(|values| Answer::Scanned {
-                values,
-                collects: *collects,
-                borrowed: *borrowed,
-            })
-        }
-        Answer::Refused { .. } => None,
-    })
+        } => return turned_scan(alloc, values.as_slice(), *collects, *borrowed),
+        Answer::Refused { .. } => return Ok(None),
+    };
+    Ok(Some(other))
 }
 
-/// Puts the answer in place of the call's own, which it gives.
-fn put_answer(calls: &mut [Called], index: usize, answer: Answer) -> Option<Answer> {
-    let called = calls.get_mut(index)?;
-    match &mut called.finish {
+/// The call's answer, where it is finished.
+fn answer_of(calls: &[Called], index: usize) -> Option<&Answer> {
+    match &calls.get(index)?.finish {
         None => None,
-        Some(finish) => Some(mem::replace(&mut finish.answer, answer)),
+        Some(finish) => Some(&finish.answer),
+    }
+}
+
+/// Exchanges the call's answer with the other one.
+fn swap_answer(calls: &mut [Called], index: usize, other: &mut Answer) {
+    if let Some(called) = calls.get_mut(index) {
+        if let Some(finish) = &mut called.finish {
+            mem::swap(&mut finish.answer, other);
+        }
     }
 }
 
@@ -131,17 +133,36 @@ fn put_entry(history: &mut [Applied], place: usize, entry: Applied) {
     }
 }
 
+/// Judges that what comes of the plan passes both.
+fn judge_lawful(rt: &impl Abort, alloc: Global, name: &str, plan: &[u8]) -> Result<(), Fail> {
+    let outcome = replayed(alloc, plan)?;
+    let answers = verdicts(alloc, &outcome)?;
+    assert_eq!(rt; answers, (true, true), "{name}");
+    Ok(())
+}
+
 #[test]
 fn worked_rows_pass_both(rt: HostRuntime) -> Result<(), Fail> {
     for (name, plan, _) in rows() {
-        let outcome = replayed(rt.alloc(), plan)?;
-        let answers = verdicts(rt.alloc(), &outcome)?;
-        assert_eq!(rt; answers, (true, true), "{name}");
+        judge_lawful(&rt, rt.alloc(), name, plan)?;
     }
     Ok(())
 }
 
-/// Judges the outcome with the answer in place of the call's own, which it puts back.
+/// What both answer with the answer in place of the call's own. The call's own is put back.
+fn verdicts_with_answer(
+    alloc: Global,
+    outcome: &mut Outcome,
+    index: usize,
+    mut other: Answer,
+) -> Result<(bool, bool), AllocError> {
+    swap_answer(&mut outcome.calls, index, &mut other);
+    let answers = verdicts(alloc, outcome);
+    swap_answer(&mut outcome.calls, index, &mut other);
+    answers
+}
+
+/// Judges the outcome with the answer in place of the call's own.
 fn judge_answer(
     rt: &impl Abort,
     alloc: Global,
@@ -150,13 +171,21 @@ fn judge_answer(
     index: usize,
     other: Answer,
 ) -> Result<(), AllocError> {
-    let own = put_answer(&mut outcome.calls, index, other);
-    let answers = verdicts(alloc, outcome);
-    if let Some(own) = own {
-        put_answer(&mut outcome.calls, index, own);
-    }
-    assert_eq!(rt; answers?, (false, false), "{name} {index}");
+    let answers = verdicts_with_answer(alloc, outcome, index, other)?;
+    assert_eq!(rt; answers, (false, false), "{name} {index}");
     Ok(())
+}
+
+/// The call's answer with its first number turned, where there is such an answer.
+fn turned_answer(
+    alloc: Global,
+    calls: &[Called],
+    index: usize,
+) -> Result<Option<Answer>, AllocError> {
+    match answer_of(calls, index) {
+        None => Ok(None),
+        Some(answer) => turned(alloc, answer),
+    }
 }
 
 /// Judges the outcome with each of its answers turned, and says how many have a number to turn.
@@ -168,7 +197,7 @@ fn judge_answers(
 ) -> Result<u32, AllocError> {
     let mut tried = 0u32;
     for index in 0..outcome.calls.len() {
-        let other = turned(alloc, &outcome.calls, index)?;
+        let other = turned_answer(alloc, &outcome.calls, index)?;
         if let Some(other) = other {
             judge_answer(rt, alloc, name, outcome, index, other)?;
             tried = tried.saturating_add(1);
@@ -177,20 +206,43 @@ fn judge_answers(
     Ok(tried)
 }
 
+/// Judges what comes of the plan with each of its answers turned, and says how many have a number to turn.
+fn judge_plan_answers(
+    rt: &impl Abort,
+    alloc: Global,
+    name: &str,
+    plan: &[u8],
+) -> Result<u32, Fail> {
+    let mut outcome = replayed(alloc, plan)?;
+    Ok(judge_answers(rt, alloc, name, &mut outcome)?)
+}
+
 // An answer with its first number turned isn't right. The count is that of the answers in the rows' texts.
 #[test]
 fn turned_answers_pass_neither(rt: HostRuntime) -> Result<(), Fail> {
     let mut tried = 0u32;
     for (name, plan, _) in rows() {
-        let mut outcome = replayed(rt.alloc(), plan)?;
-        let turned = judge_answers(&rt, rt.alloc(), name, &mut outcome)?;
+        let turned = judge_plan_answers(&rt, rt.alloc(), name, plan)?;
         tried = tried.saturating_add(turned);
     }
     assert_eq!(rt; tried, 56);
     Ok(())
 }
 
-/// Judges the outcome with the note one place further on, and puts the call's own back.
+/// What both answer with the note one place further on. The call's own is put back.
+fn verdicts_with_note(
+    alloc: Global,
+    outcome: &mut Outcome,
+    index: usize,
+    own: Note,
+) -> Result<(bool, bool), AllocError> {
+    put_note(&mut outcome.calls, index, further(own));
+    let answers = verdicts(alloc, outcome);
+    put_note(&mut outcome.calls, index, own);
+    answers
+}
+
+/// Judges the outcome with the note one place further on.
 fn judge_note(
     rt: &impl Abort,
     alloc: Global,
@@ -199,14 +251,12 @@ fn judge_note(
     index: usize,
     own: Note,
 ) -> Result<(), AllocError> {
-    put_note(&mut outcome.calls, index, further(own));
-    let answers = verdicts(alloc, outcome)?;
+    let answers = verdicts_with_note(alloc, outcome, index, own)?;
     if let Note::Saw(_) = own {
         assert_eq!(rt; answers.0, answers.1, "{name} {index}");
     } else {
         assert_eq!(rt; answers, (false, false), "{name} {index}");
     }
-    put_note(&mut outcome.calls, index, own);
     Ok(())
 }
 
@@ -230,16 +280,36 @@ fn judge_notes(
     Ok(tried)
 }
 
+/// Judges what comes of the plan with each of its notes turned, and says how many are of updates.
+fn judge_plan_notes(rt: &impl Abort, alloc: Global, name: &str, plan: &[u8]) -> Result<u32, Fail> {
+    let mut outcome = replayed(alloc, plan)?;
+    Ok(judge_notes(rt, alloc, name, &mut outcome)?)
+}
+
 // No other entry has an update's stamp, so its answer is wrong one place further on. A read or a scan may be right there.
 #[test]
 fn turned_notes_pass_neither_or_both(rt: HostRuntime) -> Result<(), Fail> {
     let mut tried = 0u32;
     for (name, plan, _) in rows() {
-        let mut outcome = replayed(rt.alloc(), plan)?;
-        let turned = judge_notes(&rt, rt.alloc(), name, &mut outcome)?;
+        let turned = judge_plan_notes(&rt, rt.alloc(), name, plan)?;
         tried = tried.saturating_add(turned);
     }
     assert_eq!(rt; tried, 38);
+    Ok(())
+}
+
+/// Judges the outcome with the entry in place of its own.
+fn judge_other_entry(
+    rt: &impl Abort,
+    alloc: Global,
+    name: &str,
+    outcome: &mut Outcome,
+    place: usize,
+    other: Applied,
+) -> Result<(), AllocError> {
+    put_entry(&mut outcome.history, place, other);
+    let answers = verdicts(alloc, outcome)?;
+    assert_eq!(rt; answers, (false, false), "{name} {place}");
     Ok(())
 }
 
@@ -253,9 +323,7 @@ fn judge_entry(
     own: Applied,
 ) -> Result<(), AllocError> {
     for other in turned_entries(own) {
-        put_entry(&mut outcome.history, place, other);
-        let answers = verdicts(alloc, outcome)?;
-        assert_eq!(rt; answers, (false, false), "{name} {place}");
+        judge_other_entry(rt, alloc, name, outcome, place, other)?;
     }
     put_entry(&mut outcome.history, place, own);
     Ok(())
@@ -308,14 +376,25 @@ fn judge_last_entry(
     Ok(())
 }
 
+/// Judges what comes of the plan with its history turned, and says how many entries it has.
+fn judge_plan_entries(
+    rt: &impl Abort,
+    alloc: Global,
+    name: &str,
+    plan: &[u8],
+) -> Result<u32, Fail> {
+    let mut outcome = replayed(alloc, plan)?;
+    let turned = judge_entries(rt, alloc, name, &mut outcome)?;
+    judge_last_entry(rt, alloc, name, &mut outcome)?;
+    Ok(turned)
+}
+
 // Each entry is claimed by a call as it is, so no number of it may be another, and none may be left out or doubled.
 #[test]
 fn turned_histories_pass_neither(rt: HostRuntime) -> Result<(), Fail> {
     let mut tried = 0u32;
     for (name, plan, _) in rows() {
-        let mut outcome = replayed(rt.alloc(), plan)?;
-        let turned = judge_entries(&rt, rt.alloc(), name, &mut outcome)?;
-        judge_last_entry(&rt, rt.alloc(), name, &mut outcome)?;
+        let turned = judge_plan_entries(&rt, rt.alloc(), name, plan)?;
         tried = tried.saturating_add(turned);
     }
     assert_eq!(rt; tried, 36);

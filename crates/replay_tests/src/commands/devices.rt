@@ -76,16 +76,16 @@ fn filled_to(alloc: Global, room: usize, takes_none: bool) -> Device<Filling>
     })
 }
 
-/// Why a replay is refused whose reader fails behind that part of a plan, and what it has written.
+/// Why a replay is refused whose reader fails behind that part of a plan, and how much it has written.
 fn replayed_part<R: Threads + Wait + Sync>(
     rt: &R,
     alloc: Global,
     part: &[u8],
-) -> (Option<Fault>, Vec<u8>) {
+) -> (Option<Fault>, usize) {
     let mut reader = Device::new(Bytewise::failing(part));
     let mut writer = Device::new(Vec::new(alloc));
     let given = execute(rt, alloc, Verb::Replay, &mut reader, &mut writer);
-    (given.err(), writer.into_inner())
+    (given.err(), writer.into_inner().len())
 }
 
 #[test]
@@ -93,7 +93,7 @@ fn failing_reader(rt: HostRuntime) -> Result<(), Fail> {
     let (_, plan, _) = whole_scan();
     for count in 0..=plan.len() {
         let (fault, written) = replayed_part(&rt, rt.alloc(), &plan[..count]);
-        assert!(rt; written.is_empty());
+        assert_eq!(rt; written, 0);
         let fault = fault.ok_or("a refusal")?;
         assert_eq!(rt; fault.code(), 11, "after {count} bytes");
         assert_eq!(rt; fault.at(), None);
@@ -101,18 +101,55 @@ fn failing_reader(rt: HostRuntime) -> Result<(), Fail> {
     Ok(())
 }
 
+/// What a replay writes that reads its plan byte by byte.
+fn replayed_bytewise<R: Threads + Wait + Sync>(
+    rt: &R,
+    alloc: Global,
+    plan: &[u8],
+) -> Result<Vec<u8>, Fault> {
+    let mut reader = Device::new(Bytewise {
+        text: plan,
+        fails: false,
+    });
+    let mut writer = Device::new(Vec::new(alloc));
+    execute(rt, alloc, Verb::Replay, &mut reader, &mut writer)?;
+    Ok(writer.into_inner())
+}
+
+/// Judges what such a replay writes.
+fn judge_bytewise<R: Threads + Wait + Sync + Abort>(
+    rt: &R,
+    alloc: Global,
+    row: Row,
+) -> Result<(), Fault> {
+    let (name, plan, expected) = row;
+    let written = replayed_bytewise(rt, alloc, plan)?;
+    assert_eq!(rt; written.as_slice(), expected, "{name}");
+    Ok(())
+}
+
 #[test]
 fn one_byte_a_read(rt: HostRuntime) -> Result<(), Fail> {
-    for (name, plan, expected) in rows() {
-        let mut reader = Device::new(Bytewise {
-            text: plan,
-            fails: false,
-        });
-        let mut writer = Device::new(Vec::new(rt.alloc()));
-        execute(&rt, rt.alloc(), Verb::Replay, &mut reader, &mut writer)?;
-        assert_eq!(rt; writer.into_inner().as_slice(), expected, "{name}");
+    for row in rows() {
+        judge_bytewise(&rt, rt.alloc(), row)?;
     }
     Ok(())
+}
+
+/// The number of the fault of a command whose writer has room for so many bytes, and what the writer has taken.
+fn filled<R: Threads + Wait + Sync>(
+    rt: &R,
+    alloc: Global,
+    verb: Verb,
+    plan: &[u8],
+    room: usize,
+    takes_none: bool,
+) -> (Option<u8>, Vec<u8>) {
+    let mut reader = Device::new(plan);
+    let mut writer = filled_to(alloc, room, takes_none);
+    let given = execute(rt, alloc, verb, &mut reader, &mut writer);
+    let code = given.err().map(|fault| fault.code());
+    (code, writer.into_inner().taken)
 }
 
 /// Judges a command whose writer has room for so many bytes of the text, which is less than all of it.
@@ -125,12 +162,8 @@ fn judge_writer<R: Threads + Wait + Sync + Abort>(
     takes_none: bool,
 ) {
     let (name, plan, expected) = row;
-    let mut reader = Device::new(plan);
-    let mut writer = filled_to(alloc, room, takes_none);
-    let given = execute(rt, alloc, verb, &mut reader, &mut writer);
-    let code = given.err().map(|fault| fault.code());
+    let (code, taken) = filled(rt, alloc, verb, plan, room, takes_none);
     assert_eq!(rt; code, Some(12), "{name} after {room} bytes");
-    let taken = writer.into_inner().taken;
     assert_eq!(rt; Some(taken.as_slice()), expected.get(..room));
 }
 

@@ -4,7 +4,11 @@
 use super::outcome_of;
 use crate::texts::repeated;
 use partial_replay::Cause;
+use std::alloc::Global;
+use std::process::Abort;
+use std::sync::Wait;
 use std::test::Fail;
+use std::thread::Threads;
 
 // The table comes as a result, so that no proof of a test knows its texts.
 
@@ -69,16 +73,32 @@ fn plan_refusals(rt: HostRuntime) -> Result<(), Fail> {
     Ok(())
 }
 
+/// What comes of a plan that begins so and has so many components, and no calls.
+fn outcome_without_calls<R: Threads + Wait + Sync>(
+    rt: &R,
+    alloc: Global,
+    sizes: &[u8],
+    components: u32,
+) -> Result<Vec<u8>, Fail> {
+    let plan = repeated(alloc, sizes, b" 0", components, b"\nport\nsteps\n")?;
+    Ok(outcome_of(rt, alloc, &plan)?)
+}
+
+/// Judges what comes of that plan.
+fn judge_components<R: Threads + Wait + Sync + Abort>(
+    rt: &R,
+    alloc: Global,
+    sizes: &[u8],
+    components: u32,
+) -> Result<(), Fail> {
+    let expected = repeated(alloc, b"values", b" 0", components, b"\ntotal 0\n")?;
+    let written = outcome_without_calls(rt, alloc, sizes, components)?;
+    assert!(rt; written.as_slice() == expected.as_slice());
+    Ok(())
+}
+
 #[test]
 fn many_components(rt: HostRuntime) -> Result<(), Fail> {
-    for (sizes, components) in [
-        (b"sizes 1024 1 0 3072\ninitial".as_slice(), 1024),
-        (b"sizes 1025 1 0 3075\ninitial", 1025),
-    ] {
-        let plan = repeated(rt.alloc(), sizes, b" 0", components, b"\nport\nsteps\n")?;
-        let expected = repeated(rt.alloc(), b"values", b" 0", components, b"\ntotal 0\n")?;
-        let written = outcome_of(&rt, rt.alloc(), &plan)?;
-        assert!(rt; written.as_slice() == expected.as_slice());
-    }
-    Ok(())
+    judge_components(&rt, rt.alloc(), b"sizes 1024 1 0 3072\ninitial", 1024)?;
+    judge_components(&rt, rt.alloc(), b"sizes 1025 1 0 3075\ninitial", 1025)
 }

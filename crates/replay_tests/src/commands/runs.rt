@@ -1,13 +1,18 @@
 //! Plans that are run: ports side by side, each in a thread of its own.
 
+ghost use Rattle.std.specs.Prelude.{◌≡◌, false};
+
 use super::devices::Bytewise;
 use super::judge;
 use super::rows::Row;
-use crate::texts::repeated;
-use partial_cmd::{Fault, Gate, NoGate, Verb, Verdict, execute, execute_next, run_workers};
+use crate::texts::{judge_text, repeated};
+use partial_cmd::{
+    Fault, Gate, NoGate, RunReport, Verb, Verdict, execute, execute_next, run_workers,
+};
 use partial_model::Answer;
 use partial_replay::{Device, Plan, PlanError};
 use std::alloc::Global;
+use std::io::Read;
 use std::process::Abort;
 use std::sync::Wait;
 use std::sync::atomic::{AtomicU64, Ordering};
@@ -107,17 +112,27 @@ fn judge_reader(rt: &impl Abort, answers: &[Answer]) {
     }
 }
 
-#[test]
-fn sixty_four_readers(rt: HostRuntime) -> Result<(), Fail> {
+/// A plan of 64 ports that read once.
+fn plan_of_readers(alloc: Global) -> Result<Plan, Fail> {
     let front = b"sizes 2 4 8 64\ninitial 10 20\n";
-    let text = repeated(rt.alloc(), front, b"port read 0\n", 64, b"steps\n")?;
-    let plan = read(rt.alloc(), &text)?;
-    let report = run_workers(&rt, rt.alloc(), &plan, &NoGate)?;
+    let text = repeated(alloc, front, b"port read 0\n", 64, b"steps\n")?;
+    Ok(read(alloc, &text)?)
+}
+
+/// Judges the report of that plan.
+fn judge_readers(rt: &impl Abort, report: &RunReport) {
     assert_eq!(rt; report.answers.len(), 64);
     for answers in &report.answers {
-        judge_reader(&rt, answers);
+        judge_reader(rt, answers);
     }
     assert_eq!(rt; report.values.as_slice(), [10, 20].as_slice());
+}
+
+#[test]
+fn sixty_four_readers(rt: HostRuntime) -> Result<(), Fail> {
+    let plan = plan_of_readers(rt.alloc())?;
+    let report = run_workers(&rt, rt.alloc(), &plan, &NoGate)?;
+    judge_readers(&rt, &report);
     Ok(())
 }
 
@@ -186,12 +201,23 @@ fn two_readers() -> &'static [u8] {
     b"sizes 2 4 8 64\ninitial 10 20\nport read 0\nport read 0\nsteps\n"
 }
 
+/// Runs the plan with this text, each call between its two gates.
+fn run_gated<R: Threads + Wait + Sync, G: Gate>(
+    rt: &R,
+    alloc: Global,
+    text: &[u8],
+    gate: &G,
+) -> Result<(), Fail> {
+    let plan = read(alloc, text)?;
+    run_workers(rt, alloc, &plan, gate)?;
+    Ok(())
+}
+
 // A port that waits at its gate for the other is met there: the two run at the same time.
 #[test]
 fn side_by_side(rt: HostRuntime) -> Result<(), Fail> {
-    let plan = Plan::read(rt.alloc(), &mut Device::new(two_readers()))?;
     let flags = Flags::new();
-    run_workers(&rt, rt.alloc(), &plan, &flags)?;
+    run_gated(&rt, rt.alloc(), two_readers(), &flags)?;
     for port in 0..2 {
         assert_eq!(rt; flags.before[port].load(Ordering::SeqCst), 1, "port {port}");
         assert_eq!(rt; flags.seen[port].load(Ordering::SeqCst), 1, "port {port}");
@@ -229,12 +255,11 @@ impl Gate for Counting {
 #[test]
 fn gates_in_order(rt: HostRuntime) -> Result<(), Fail> {
     let (_, text, _) = slots_spent();
-    let plan = Plan::read(rt.alloc(), &mut Device::new(text))?;
     let gate = Counting {
         passed: AtomicU64::new(0),
         out_of_turn: AtomicU64::new(0),
     };
-    run_workers(&rt, rt.alloc(), &plan, &gate)?;
+    run_gated(&rt, rt.alloc(), text, &gate)?;
     assert_eq!(rt; gate.passed.load(Ordering::SeqCst), 8);
     assert_eq!(rt; gate.out_of_turn.load(Ordering::SeqCst), 0);
     Ok(())
@@ -282,7 +307,7 @@ fn executed_both<R: Threads + Wait + Sync>(
 fn a_run_goes_on(rt: HostRuntime) -> Result<(), Fail> {
     let (plan, next, expected) = two_plans();
     let written = executed_both(&rt, rt.alloc(), plan, next)?;
-    assert_eq!(rt; written.as_slice(), expected);
+    judge_text(&rt, &written, expected);
     Ok(())
 }
 
@@ -306,8 +331,24 @@ fn stamps_start_anew(rt: HostRuntime) -> Result<(), Fail> {
     let (plan, _, _) = two_plans();
     let (next, expected) = stale_stamp();
     let written = executed_both(&rt, rt.alloc(), plan, next)?;
-    assert_eq!(rt; written.as_slice(), expected);
+    judge_text(&rt, &written, expected);
     Ok(())
+}
+
+/// The number of the refusal of two plans, and how much is written.
+fn refusal_of_both<R: Threads + Wait + Sync, First: Read, Second: Read>(
+    rt: &R,
+    alloc: Global,
+    first: &mut Device<First>,
+    second: &mut Device<Second>,
+) -> (Option<u8>, usize)
+    requires first { first.old.failed ≡ false }
+    requires second { second.old.failed ≡ false }
+{
+    let mut writer = Device::new(Vec::new(alloc));
+    let given = execute_next(rt, alloc, first, second, &mut writer);
+    let code = given.err().map(|fault| fault.code());
+    (code, writer.into_inner().len())
 }
 
 // The first plan's refusal comes first, then the second's, then that of too few components.
@@ -324,9 +365,10 @@ fn refusals_of_two_plans(rt: HostRuntime) -> Result<(), Fail> {
         (b"sizes 0 4 8 64\n", next, 1),
     ];
     for (first, second, code) in cases {
-        let given = executed_both(&rt, rt.alloc(), first, second);
-        let fault = given.err().ok_or("a refusal")?;
-        assert_eq!(rt; fault.code(), code);
+        let mut first = Device::new(first);
+        let mut second = Device::new(second);
+        let (given, _) = refusal_of_both(&rt, rt.alloc(), &mut first, &mut second);
+        assert_eq!(rt; given, Some(code));
     }
     Ok(())
 }
@@ -340,11 +382,10 @@ fn judge_first_reader<R: Threads + Wait + Sync + Abort>(
 ) {
     let mut first = Device::new(Bytewise::failing(part));
     let mut second = Device::new(next);
-    let mut writer = Device::new(Vec::new(alloc));
-    let given = execute_next(rt, alloc, &mut first, &mut second, &mut writer);
-    assert_eq!(rt; given.err().map(|fault| fault.code()), Some(11));
+    let (code, written) = refusal_of_both(rt, alloc, &mut first, &mut second);
+    assert_eq!(rt; code, Some(11));
     assert_eq!(rt; second.into_inner(), next);
-    assert!(rt; writer.into_inner().is_empty());
+    assert_eq!(rt; written, 0);
 }
 
 /// Judges two plans of which the second one's reader fails behind its part.
@@ -356,10 +397,9 @@ fn judge_second_reader<R: Threads + Wait + Sync + Abort>(
 ) {
     let mut first = Device::new(plan);
     let mut second = Device::new(Bytewise::failing(part));
-    let mut writer = Device::new(Vec::new(alloc));
-    let given = execute_next(rt, alloc, &mut first, &mut second, &mut writer);
-    assert_eq!(rt; given.err().map(|fault| fault.code()), Some(11));
-    assert!(rt; writer.into_inner().is_empty());
+    let (code, written) = refusal_of_both(rt, alloc, &mut first, &mut second);
+    assert_eq!(rt; code, Some(11));
+    assert_eq!(rt; written, 0);
 }
 
 // Where the first plan's reader fails the second plan isn't read, and nothing is written.
@@ -384,11 +424,10 @@ fn judge_refused<R: Threads + Wait + Sync + Abort>(
 ) {
     let mut first = Device::new(plan);
     let mut second = Device::new(Bytewise::failing(part));
-    let mut writer = Device::new(Vec::new(alloc));
-    let given = execute_next(rt, alloc, &mut first, &mut second, &mut writer);
-    assert_eq!(rt; given.err().map(|fault| fault.code()), Some(code));
+    let (given, written) = refusal_of_both(rt, alloc, &mut first, &mut second);
+    assert_eq!(rt; given, Some(code));
     assert!(rt; !second.failed());
-    assert!(rt; writer.into_inner().is_empty());
+    assert_eq!(rt; written, 0);
 }
 
 // When the first plan is refused the second one isn't read, though its reader would fail.

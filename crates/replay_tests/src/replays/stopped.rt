@@ -1,6 +1,7 @@
 //! A port that stops forever after any of its steps, and another one that no stop holds up.
 
 use super::{outcome_text, replayed};
+use crate::texts::judge_text;
 use partial_model::{Answer, Called, Finish, Note, check_outcome};
 use partial_replay::Outcome;
 use std::alloc::{AllocError, Global};
@@ -52,6 +53,14 @@ struct Stops<'a> {
     behind: &'a str,
 }
 
+/// So many turns of a port, as they stand in front of others.
+fn own_turns(alloc: Global, port: u32, turns: u32) -> Result<String, AllocError> {
+    if turns == 0 {
+        return Ok(String::new(alloc));
+    }
+    format!(in alloc; "{port}*{turns} ")
+}
+
 /// The text of the plan in which the port stops after so many turns.
 fn plan_of(alloc: Global, stops: &Stops<'_>, turns: u32) -> Result<String, AllocError> {
     let Stops {
@@ -60,16 +69,34 @@ fn plan_of(alloc: Global, stops: &Stops<'_>, turns: u32) -> Result<String, Alloc
         port,
         behind,
     } = stops;
-    if turns == 0 {
-        return format!(in alloc; "sizes 2 4 8 64\ninitial 10 20\n{ports}steps {before}{behind}\n");
-    }
-    format!(in alloc;
-        "sizes 2 4 8 64\ninitial 10 20\n{ports}steps {before}{port}*{turns} {behind}\n"
-    )
+    let own = own_turns(alloc, *port, turns)?;
+    format!(in alloc; "sizes 2 4 8 64\ninitial 10 20\n{ports}steps {before}{own}{behind}\n")
 }
 
-/// Whether the port stands so after as many turns, and the update of the port behind it was applied in so many
-/// steps, with that stamp and place.
+/// What comes of that plan.
+fn stopped(alloc: Global, stops: &Stops<'_>, turns: u32) -> Result<Outcome, Fail> {
+    let text = plan_of(alloc, stops, turns)?;
+    replayed(alloc, text.as_bytes())
+}
+
+/// Judges whether the port stands so after as many turns, and whether the update of the port behind it was applied in
+/// so many steps, with that stamp and place.
+fn judge_outcome(
+    rt: &impl Abort,
+    outcome: &Outcome,
+    port: u32,
+    turns: u32,
+    stands: Standing,
+    update: (u64, u64, usize),
+) {
+    let calls = outcome.calls.as_slice();
+    let given = applied(calls, port.saturating_add(1));
+    assert_eq!(rt; given, Some(update), "{turns} turns");
+    assert_eq!(rt; standing_of(calls, port), stands, "{turns} turns");
+    assert!(rt; is_lawful(outcome), "{turns} turns");
+}
+
+/// Judges so the outcome of the plan in which the port stops after as many turns.
 fn judge(
     rt: &impl Abort,
     alloc: Global,
@@ -78,13 +105,8 @@ fn judge(
     stands: Standing,
     update: (u64, u64, usize),
 ) -> Result<(), Fail> {
-    let text = plan_of(alloc, stops, turns)?;
-    let outcome = replayed(alloc, text.as_bytes())?;
-    let calls = outcome.calls.as_slice();
-    let given = applied(calls, stops.port.saturating_add(1));
-    assert_eq!(rt; given, Some(update), "{turns} turns");
-    assert_eq!(rt; standing_of(calls, stops.port), stands, "{turns} turns");
-    assert!(rt; is_lawful(&outcome), "{turns} turns");
+    let outcome = stopped(alloc, stops, turns)?;
+    judge_outcome(rt, &outcome, stops.port, turns, stands, update);
     Ok(())
 }
 
@@ -125,8 +147,8 @@ total 27
 // A scan that stops behind its last step is as any other that no update met.
 #[test]
 fn scanner_stopped_behind_its_scan(rt: HostRuntime) -> Result<(), Fail> {
-    let written = outcome_text(rt.alloc(), scan_then_update())?;
-    assert_eq!(rt; written.as_slice(), their_outcome());
+    let text = outcome_text(rt.alloc(), scan_then_update())?;
+    judge_text(&rt, &text, their_outcome());
     Ok(())
 }
 

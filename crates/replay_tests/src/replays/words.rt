@@ -1,7 +1,9 @@
 //! The words that replays leave behind, and the steps that they make.
 
 use super::replayed;
+use partial_replay::Event;
 use partial_words::Step;
+use std::process::Abort;
 use std::test::Fail;
 
 // Plans in which an update publishes a list, the head of the lists behind each, and their words: the list that is
@@ -42,13 +44,18 @@ steps rest
     ]
 }
 
+/// Judges the head of the lists, and their words.
+fn judge_lists(rt: &impl Abort, words: &[u64], head: u64, lists: &[u64]) {
+    assert_eq!(rt; words.get(3), Some(&head));
+    let found = words.get(10..lists.len().saturating_add(10));
+    assert_eq!(rt; found, Some(lists), "head {head}");
+}
+
 #[test]
 fn published_lists(rt: HostRuntime) -> Result<(), Fail> {
     for (plan, head, lists) in publishing() {
         let outcome = replayed(rt.alloc(), plan)?;
-        assert_eq!(rt; outcome.words.get(3), Some(&head));
-        let found = outcome.words.get(10..lists.len().saturating_add(10));
-        assert_eq!(rt; found, Some(lists), "head {head}");
+        judge_lists(&rt, &outcome.words, head, lists);
     }
     Ok(())
 }
@@ -64,13 +71,17 @@ steps 0*5 1*6 3*25 1*1 2*11 0*4 3*23 2*2 3*20 2*7 1*6
 "
 }
 
-// The record at 48 shares the view that belongs to the record at 42, and takes 3 words of the pool.
+/// Judges that the record at 48 shares the view that belongs to the record at 42, and takes 3 words of the pool.
+fn judge_sharing(rt: &impl Abort, words: &[u64]) {
+    assert_eq!(rt; words.get(44), Some(&45));
+    assert_eq!(rt; words.get(48..51), Some([28, 7, 45].as_slice()));
+    assert_eq!(rt; words.get(4), Some(&51));
+}
+
 #[test]
 fn shared_view(rt: HostRuntime) -> Result<(), Fail> {
     let outcome = replayed(rt.alloc(), sharing())?;
-    assert_eq!(rt; outcome.words.get(44), Some(&45));
-    assert_eq!(rt; outcome.words.get(48..51), Some([28, 7, 45].as_slice()));
-    assert_eq!(rt; outcome.words.get(4), Some(&51));
+    judge_sharing(&rt, &outcome.words);
     Ok(())
 }
 
@@ -97,14 +108,19 @@ fn its_steps() -> [(Step, u64); 13] {
     ]
 }
 
+/// Judges the steps of that scan.
+fn judge_steps(rt: &impl Abort, trace: &[Event]) {
+    assert_eq!(rt; trace.len(), 13);
+    for (event, (step, answer)) in trace.iter().zip(its_steps()) {
+        assert_eq!(rt; event.step, step);
+        assert_eq!(rt; event.answer, answer);
+    }
+}
+
 // A scan that nobody overtakes.
 #[test]
 fn steps_of_a_scan(rt: HostRuntime) -> Result<(), Fail> {
     let outcome = replayed(rt.alloc(), one_scan())?;
-    assert_eq!(rt; outcome.trace.len(), 13);
-    for (event, (step, answer)) in outcome.trace.iter().zip(its_steps()) {
-        assert_eq!(rt; event.step, step);
-        assert_eq!(rt; event.answer, answer);
-    }
+    judge_steps(&rt, &outcome.trace);
     Ok(())
 }

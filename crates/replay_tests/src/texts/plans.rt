@@ -21,23 +21,36 @@ pub(super) fn line(line: u32, cause: Cause) -> PlanError {
     PlanError::Line { line, cause }
 }
 
-/// The refusal of the plan above with one line in place of another.
+/// The plan with this text, when it is one.
+pub(super) fn plan_of(alloc: Global, text: &[u8]) -> Result<Plan, &'static str> {
+    read(alloc, text).ok().ok_or("the text is a plan")
+}
+
+fn push_line(text: &mut Vec<u8>, line: &[u8]) -> Result<(), AllocError> {
+    text.extend_from_slice(line)?;
+    text.push(b'\n')?;
+    Ok(())
+}
+
+/// The four lines of the plan above with one in place of another.
+fn with_line(alloc: Global, number: usize, other: &[u8]) -> Result<Vec<u8>, AllocError> {
+    let mut text = Vec::new(alloc);
+    for (place, line) in whole().split(|byte| *byte == b'\n').enumerate() {
+        if place < 4 {
+            let line = if place + 1 == number { other } else { line };
+            push_line(&mut text, line)?;
+        }
+    }
+    Ok(text)
+}
+
+/// The refusal of that plan.
 pub(super) fn refusal(
     alloc: Global,
     number: usize,
     other: &[u8],
-) -> Result<Option<PlanError>, Fail> {
-    let mut text = Vec::new(alloc);
-    for (place, line) in whole().split(|byte| *byte == b'\n').enumerate() {
-        if place + 1 == number {
-            text.extend_from_slice(other)?;
-        } else if place < 4 {
-            text.extend_from_slice(line)?;
-        }
-        if place < 4 {
-            text.push(b'\n')?;
-        }
-    }
+) -> Result<Option<PlanError>, AllocError> {
+    let text = with_line(alloc, number, other)?;
     Ok(read(alloc, &text).err())
 }
 
@@ -94,21 +107,24 @@ fn judge_calls(rt: &impl Abort, plan: &Plan) {
 
 #[test]
 fn a_plan_is_read(rt: HostRuntime) -> Result<(), Fail> {
-    let plan = read(rt.alloc(), greatest())
-        .ok()
-        .ok_or("the text is a plan")?;
+    let plan = plan_of(rt.alloc(), greatest())?;
     judge_sizes(&rt, plan.sizes());
     judge_steps(&rt, &plan);
     judge_calls(&rt, &plan);
     Ok(())
 }
 
+/// Judges that the plan has no steps.
+fn judge_no_steps(rt: &impl Abort, plan: &Plan) {
+    assert!(rt; plan.steps().is_empty());
+    assert!(rt; !plan.rest());
+}
+
 #[test]
 fn steps_without_rest(rt: HostRuntime) -> Result<(), Fail> {
     let text = b"sizes 1 1 0 3\ninitial 5\nport\nsteps\n";
-    let plan = read(rt.alloc(), text).ok().ok_or("the text is a plan")?;
-    assert!(rt; plan.steps().is_empty());
-    assert!(rt; !plan.rest());
+    let plan = plan_of(rt.alloc(), text)?;
+    judge_no_steps(&rt, &plan);
     Ok(())
 }
 
@@ -174,7 +190,7 @@ fn judge_refusal(
     number: u32,
     other: &[u8],
     expected: PlanError,
-) -> Result<(), Fail> {
+) -> Result<(), AllocError> {
     let given = refusal(alloc, number as usize, other)?;
     assert_eq!(rt; given, Some(expected), "line {number} {other:?}");
     Ok(())
@@ -188,7 +204,19 @@ fn plan_refusals(rt: HostRuntime) -> Result<(), Fail> {
     for (number, other, cause) in refused_lines() {
         judge_refusal(&rt, rt.alloc(), number, other, line(number, cause))?;
     }
-    judge_refusal(&rt, rt.alloc(), 3, b"steps rest", PlanError::Ports)
+    judge_refusal(&rt, rt.alloc(), 3, b"steps rest", PlanError::Ports)?;
+    Ok(())
+}
+
+pub(super) fn is_plan(alloc: Global, text: &[u8]) -> bool {
+    read(alloc, text).is_ok()
+}
+
+/// Judges that a plan ends too early, in the line with that number.
+pub(super) fn judge_front(rt: &impl Abort, alloc: Global, front: &[u8], number: u32) {
+    let given = read(alloc, front).err();
+    let length = front.len();
+    assert_eq!(rt; given, Some(line(number, Cause::End)), "{length} bytes");
 }
 
 #[test]
@@ -201,19 +229,22 @@ fn plan_fronts(rt: HostRuntime) -> Result<(), Fail> {
             29..53 => 3,
             _ => 4,
         };
-        let given = read(rt.alloc(), &plan[..length]).err();
-        assert_eq!(rt; given, Some(line(expected, Cause::End)), "{length} bytes");
+        judge_front(&rt, rt.alloc(), &plan[..length], expected);
     }
-    assert!(rt; read(rt.alloc(), plan).is_ok());
+    assert!(rt; is_plan(rt.alloc(), plan));
     Ok(())
+}
+
+/// The refusal of the plan above with more behind it.
+fn refusal_of_more(alloc: Global, more: &[u8]) -> Result<Option<PlanError>, AllocError> {
+    let text = repeated(alloc, whole(), more, 1, b"")?;
+    Ok(read(alloc, &text).err())
 }
 
 #[test]
 fn something_behind(rt: HostRuntime) -> Result<(), Fail> {
     for more in [b"port\n".as_slice(), b"port", b"\n", b" "] {
-        let mut text = Vec::from_slice(rt.alloc(), whole())?;
-        text.extend_from_slice(more)?;
-        let given = read(rt.alloc(), &text).err();
+        let given = refusal_of_more(rt.alloc(), more)?;
         assert_eq!(rt; given, Some(line(5, Cause::Extra)), "{more:?}");
     }
     Ok(())
@@ -237,11 +268,16 @@ fn too_many_ports(rt: HostRuntime) -> Result<(), Fail> {
     Ok(())
 }
 
+/// A plan with the most components there may be.
+fn plan_of_most(alloc: Global) -> Result<Plan, Fail> {
+    let front = b"sizes 65536 1 0 196608\ninitial";
+    let text = repeated(alloc, front, b" 0", 65_536, b"\nport\nsteps\n")?;
+    Ok(plan_of(alloc, &text)?)
+}
+
 #[test]
 fn many_components(rt: HostRuntime) -> Result<(), Fail> {
-    let front = b"sizes 65536 1 0 196608\ninitial";
-    let text = repeated(rt.alloc(), front, b" 0", 65_536, b"\nport\nsteps\n")?;
-    let plan = read(rt.alloc(), &text).ok().ok_or("the text is a plan")?;
+    let plan = plan_of_most(rt.alloc())?;
     assert_eq!(rt; plan.initial().len(), 65_536);
     Ok(())
 }
@@ -278,12 +314,24 @@ fn numbered() -> [(PlanError, u8, &'static str); 14] {
     ]
 }
 
+/// Judges the number of the refusal and its text.
+fn judge_number(
+    rt: &impl Abort,
+    alloc: Global,
+    error: PlanError,
+    code: u8,
+    text: &str,
+) -> Result<(), AllocError> {
+    assert_eq!(rt; error.code(), code);
+    let printed = format!(in alloc; "{error}")?;
+    assert_eq!(rt; printed.as_str(), text);
+    Ok(())
+}
+
 #[test]
 fn refusals_have_numbers(rt: HostRuntime) -> Result<(), Fail> {
     for (error, code, text) in numbered() {
-        assert_eq!(rt; error.code(), code);
-        let printed = format!(in rt.alloc(); "{error}")?;
-        assert_eq!(rt; printed.as_str(), text);
+        judge_number(&rt, rt.alloc(), error, code, text)?;
     }
     assert_eq!(rt; line(3, Cause::Word).at(), Some((3, Cause::Word)));
     assert_eq!(rt; PlanError::Ports.at(), None);

@@ -1,5 +1,6 @@
 //! The text of a report or of two, and writers that stop within it.
 
+use super::judge_text;
 use super::writers::{Sink, judge_stop};
 use partial_model::{Answer, Refused, Sequence};
 use partial_text::{Device, OutcomeError, RunReport, write_report, write_reports};
@@ -94,21 +95,21 @@ fn full_text(alloc: Global, report: &RunReport) -> Result<Vec<u8>, Fail> {
 }
 
 /// Judges the text of the report.
-fn judge_text(
+fn judge_report(
     rt: &impl Abort,
     alloc: Global,
     report: &RunReport,
     expected: &[u8],
 ) -> Result<(), Fail> {
     let text = full_text(alloc, report)?;
-    assert_eq!(rt; text.as_slice(), expected);
+    judge_text(rt, &text, expected);
     Ok(())
 }
 
 #[test]
 fn report_is_written(rt: HostRuntime) -> Result<(), Fail> {
     let report = write_then_read(rt.alloc())?;
-    judge_text(&rt, rt.alloc(), &report, row())
+    judge_report(&rt, rt.alloc(), &report, row())
 }
 
 fn text_of_each_answer() -> &'static [u8] {
@@ -129,7 +130,7 @@ values 6 18446744073709551615
 #[test]
 fn each_answer_is_reported(rt: HostRuntime) -> Result<(), Fail> {
     let report = each_answer(rt.alloc())?;
-    judge_text(&rt, rt.alloc(), &report, text_of_each_answer())
+    judge_report(&rt, rt.alloc(), &report, text_of_each_answer())
 }
 
 #[test]
@@ -140,36 +141,62 @@ fn empty_scan_is_reported(rt: HostRuntime) -> Result<(), Fail> {
         values: vec![in alloc; 10, 20]?,
     };
     let expected = b"call 0 0 scanned collects 0 borrowed -\nvalues 10 20\n";
-    judge_text(&rt, alloc, &report, expected)
+    judge_report(&rt, alloc, &report, expected)
+}
+
+/// Judges the text of a report in which no port has an answer.
+fn judge_no_calls(rt: &impl Abort, alloc: Global, answers: Vec<Vec<Answer>>) -> Result<(), Fail> {
+    let report = RunReport {
+        answers,
+        values: vec![in alloc; 10, 0]?,
+    };
+    judge_report(rt, alloc, &report, b"values 10 0\n")
+}
+
+#[test]
+fn no_port_is_reported(rt: HostRuntime) -> Result<(), Fail> {
+    judge_no_calls(&rt, rt.alloc(), Vec::new(rt.alloc()))
 }
 
 #[test]
 fn no_call_is_reported(rt: HostRuntime) -> Result<(), Fail> {
     let alloc = rt.alloc();
-    let without_ports = Vec::new(alloc);
-    let without_calls = vec![in alloc; Vec::new(alloc), Vec::new(alloc)]?;
-    for answers in [without_ports, without_calls] {
-        let report = RunReport {
-            answers,
-            values: vec![in alloc; 10, 0]?,
-        };
-        judge_text(&rt, alloc, &report, b"values 10 0\n")?;
+    let answers = vec![in alloc; Vec::new(alloc), Vec::new(alloc)]?;
+    judge_no_calls(&rt, alloc, answers)
+}
+
+/// Judges writers that stop within the report's text.
+fn judge_stops(rt: &impl Abort, alloc: Global, report: &RunReport) {
+    let row = row();
+    for room in [0, 10, row.len().saturating_sub(1)] {
+        for (step, takes_none) in [(1, false), (7, true), (1000, false)] {
+            let mut device = Device::new(Sink::new(alloc, step, room, takes_none));
+            let given = write_report(alloc, report, &mut device);
+            judge_stop(rt, given, device, row, room);
+        }
     }
-    Ok(())
 }
 
 #[test]
 fn each_stop_of_a_report(rt: HostRuntime) -> Result<(), Fail> {
     let report = write_then_read(rt.alloc())?;
-    let row = row();
-    for room in [0, 10, row.len().saturating_sub(1)] {
-        for (step, takes_none) in [(1, false), (7, true), (1000, false)] {
-            let mut device = Device::new(Sink::new(rt.alloc(), step, room, takes_none));
-            let given = write_report(rt.alloc(), &report, &mut device);
-            judge_stop(&rt, given, device, row, room);
-        }
-    }
+    judge_stops(&rt, rt.alloc(), &report);
     assert_eq!(rt; OutcomeError::Write.code(), 12);
+    Ok(())
+}
+
+/// Judges the texts of two reports.
+fn judge_reports(
+    rt: &impl Abort,
+    alloc: Global,
+    first: &RunReport,
+    second: &RunReport,
+) -> Result<(), OutcomeError> {
+    let mut device = Device::new(Vec::new(alloc));
+    write_reports(alloc, first, second, &mut device)?;
+    assert!(rt; !device.failed());
+    let text = device.into_inner();
+    judge_text(rt, &text, rows());
     Ok(())
 }
 
@@ -177,26 +204,27 @@ fn each_stop_of_a_report(rt: HostRuntime) -> Result<(), Fail> {
 fn two_reports_are_written(rt: HostRuntime) -> Result<(), Fail> {
     let first = write_then_read(rt.alloc())?;
     let second = changed_then_applied(rt.alloc())?;
-    let mut device = Device::new(Vec::new(rt.alloc()));
-    write_reports(rt.alloc(), &first, &second, &mut device)?;
-    assert!(rt; !device.failed());
-    let text = device.into_inner();
-    assert_eq!(rt; text.as_slice(), rows());
+    judge_reports(&rt, rt.alloc(), &first, &second)?;
     Ok(())
+}
+
+/// Judges writers that stop within the texts of two reports.
+fn judge_stops_of_two(rt: &impl Abort, alloc: Global, first: &RunReport, second: &RunReport) {
+    let one = row().len();
+    let rows = rows();
+    for room in [0, 10, one, one + 10, rows.len().saturating_sub(1)] {
+        for (step, takes_none) in [(1, false), (7, true), (1000, false)] {
+            let mut device = Device::new(Sink::new(alloc, step, room, takes_none));
+            let given = write_reports(alloc, first, second, &mut device);
+            judge_stop(rt, given, device, rows, room);
+        }
+    }
 }
 
 #[test]
 fn each_stop_of_two_reports(rt: HostRuntime) -> Result<(), Fail> {
     let first = write_then_read(rt.alloc())?;
     let second = changed_then_applied(rt.alloc())?;
-    let one = row().len();
-    let rows = rows();
-    for room in [0, 10, one, one + 10, rows.len().saturating_sub(1)] {
-        for (step, takes_none) in [(1, false), (7, true), (1000, false)] {
-            let mut device = Device::new(Sink::new(rt.alloc(), step, room, takes_none));
-            let given = write_reports(rt.alloc(), &first, &second, &mut device);
-            judge_stop(&rt, given, device, rows, room);
-        }
-    }
+    judge_stops_of_two(&rt, rt.alloc(), &first, &second);
     Ok(())
 }

@@ -1,10 +1,11 @@
 //! Which texts are plans with scans, and the first fault of those that are not.
 
-use super::plans::{line, read, refusal};
+use super::plans::{is_plan, judge_front, line, plan_of, read, refusal};
+use super::repeated;
 use itoa::Buffer;
 use partial_model::Call;
 use partial_text::{Cause, Plan, PlanError};
-use std::alloc::Global;
+use std::alloc::{AllocError, Global};
 use std::process::Abort;
 use std::test::Fail;
 
@@ -57,37 +58,49 @@ fn judge_scans(rt: &impl Abort, plan: &Plan) {
 }
 
 /// Judges how many calls each port of that plan makes.
-fn judge_ports(rt: &impl Abort, plan: &Plan) -> Result<(), Fail> {
+fn judge_ports(rt: &impl Abort, plan: &Plan) {
     assert_eq!(rt; plan.ports().len(), 3);
-    for (port, calls) in [1, 1, 5].into_iter().enumerate() {
-        let port = plan.ports().get(port).ok_or("the port is there")?;
+    for (port, calls) in plan.ports().iter().zip([1, 1, 5]) {
         assert_eq!(rt; port.len(), calls);
     }
-    Ok(())
 }
 
 #[test]
 fn scans_are_read(rt: HostRuntime) -> Result<(), Fail> {
-    let plan = read(rt.alloc(), seven_calls())
-        .ok()
-        .ok_or("the text is a plan")?;
+    let plan = plan_of(rt.alloc(), seven_calls())?;
     judge_scans(&rt, &plan);
-    judge_ports(&rt, &plan)
+    judge_ports(&rt, &plan);
+    Ok(())
 }
 
-/// A plan of so many components, whose one port scans each of them, with `more` behind the last one.
-fn scan_of_all(alloc: Global, components: u32, more: &[u8]) -> Result<Vec<u8>, Fail> {
-    let mut text = Vec::from_slice(alloc, b"sizes ")?;
-    text.extend_from_slice(Buffer::new().format(components).as_bytes())?;
-    text.extend_from_slice(b" 1 0 4194304\ninitial")?;
-    for _ in 0..components {
-        text.extend_from_slice(b" 0")?;
-    }
+/// Puts a number behind the text.
+fn push_number(text: &mut Vec<u8>, number: u32) -> Result<(), AllocError> {
+    text.extend_from_slice(Buffer::new().format(number).as_bytes())
+}
+
+/// Puts a scan of so many components behind the text.
+fn push_scan_of_all(text: &mut Vec<u8>, components: u32) -> Result<(), AllocError> {
     text.extend_from_slice(b"\nport scan")?;
     for component in 0..components {
         text.push(b' ')?;
-        text.extend_from_slice(Buffer::new().format(component).as_bytes())?;
+        push_number(text, component)?;
     }
+    Ok(())
+}
+
+/// The front of a plan of so many components, up to their values.
+fn front_of_all(alloc: Global, components: u32) -> Result<Vec<u8>, AllocError> {
+    let mut text = Vec::from_slice(alloc, b"sizes ")?;
+    push_number(&mut text, components)?;
+    text.extend_from_slice(b" 1 0 4194304\ninitial")?;
+    Ok(text)
+}
+
+/// A plan of so many components, whose one port scans each of them, with `more` behind the last one.
+fn scan_of_all(alloc: Global, components: u32, more: &[u8]) -> Result<Vec<u8>, AllocError> {
+    let front = front_of_all(alloc, components)?;
+    let mut text = repeated(alloc, &front, b" 0", components, b"")?;
+    push_scan_of_all(&mut text, components)?;
     text.extend_from_slice(more)?;
     text.extend_from_slice(b"\nsteps\n")?;
     Ok(text)
@@ -101,19 +114,38 @@ fn judge_positions(rt: &impl Abort, found: &[u32], components: u32) {
     }
 }
 
+/// The plan whose one port scans each of so many components.
+fn plan_of_all(alloc: Global, components: u32) -> Result<Plan, Fail> {
+    let text = scan_of_all(alloc, components, b"")?;
+    Ok(plan_of(alloc, &text)?)
+}
+
 /// Judges that the scan of each of so many components is read.
 fn judge_scan_of_all(rt: &impl Abort, alloc: Global, components: u32) -> Result<(), Fail> {
-    let text = scan_of_all(alloc, components, b"")?;
-    let plan = read(alloc, &text).ok().ok_or("the text is a plan")?;
+    let plan = plan_of_all(alloc, components)?;
     let found = positions(&plan, 0, 0).ok_or("the call is a scan")?;
     judge_positions(rt, found, components);
     Ok(())
 }
 
-/// Judges that this scan is refused with more behind it.
-fn judge_more(rt: &impl Abort, alloc: Global, components: u32, more: &[u8]) -> Result<(), Fail> {
+/// Why this scan is refused with more behind it.
+fn refusal_of_more(
+    alloc: Global,
+    components: u32,
+    more: &[u8],
+) -> Result<Option<PlanError>, AllocError> {
     let text = scan_of_all(alloc, components, more)?;
-    let given = read(alloc, &text).err();
+    Ok(read(alloc, &text).err())
+}
+
+/// Judges that this scan is refused with more behind it.
+fn judge_more(
+    rt: &impl Abort,
+    alloc: Global,
+    components: u32,
+    more: &[u8],
+) -> Result<(), AllocError> {
+    let given = refusal_of_more(alloc, components, more)?;
     assert_eq!(rt; given, Some(line(3, Cause::Count)), "{more:?}");
     Ok(())
 }
@@ -176,9 +208,8 @@ fn scan_fronts(rt: HostRuntime) -> Result<(), Fail> {
             29..43 => 3,
             _ => 4,
         };
-        let given = read(rt.alloc(), &plan[..length]).err();
-        assert_eq!(rt; given, Some(line(expected, Cause::End)), "{length} bytes");
+        judge_front(&rt, rt.alloc(), &plan[..length], expected);
     }
-    assert!(rt; read(rt.alloc(), plan).is_ok());
+    assert!(rt; is_plan(rt.alloc(), plan));
     Ok(())
 }

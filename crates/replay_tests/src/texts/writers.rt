@@ -1,5 +1,6 @@
 //! The text of an outcome, and writers that take little, nothing or fail.
 
+use super::judge_text;
 use partial_model::{Answer, Applied, Call, Called, Finish, Note, Opening, Refused, Sequence};
 use partial_text::{Device, Outcome, OutcomeError, write_outcome};
 use std::alloc::{AllocError, Global};
@@ -96,73 +97,91 @@ fn opening(alloc: Global) -> Result<Opening, AllocError> {
     })
 }
 
-fn write_then_read(alloc: Global) -> Result<Outcome, AllocError> {
+/// The outcome of these calls.
+fn outcome_of(
+    alloc: Global,
+    history: Vec<Applied>,
+    calls: Vec<Called>,
+    steps: u64,
+) -> Result<Outcome, AllocError> {
+    Ok(Outcome {
+        opening: opening(alloc)?,
+        history,
+        calls,
+        words: Vec::new(alloc),
+        trace: Vec::new(alloc),
+        steps,
+    })
+}
+
+fn calls_of_write_then_read(alloc: Global) -> Result<Vec<Called>, AllocError> {
     let applied = Answer::Applied { stamp: 24 };
     let seen = Answer::Read {
         value: 7,
         stamp: 24,
     };
-    Ok(Outcome {
-        opening: opening(alloc)?,
-        history: vec![in alloc;
-            Applied {
-                port: 0,
-                component: 0,
-                value: 7,
-                stamp: 24,
-            },
-        ]?,
-        calls: vec![in alloc;
-            called(0, 0, 0, 8, finished(1, applied, Some(Note::Wrote(0)))),
-            called(0, 1, 1, 2, finished(1, seen, Some(Note::Saw(1)))),
-        ]?,
-        words: Vec::new(alloc),
-        trace: Vec::new(alloc),
-        steps: 10,
+    Ok(vec![in alloc;
+        called(0, 0, 0, 8, finished(1, applied, Some(Note::Wrote(0)))),
+        called(0, 1, 1, 2, finished(1, seen, Some(Note::Saw(1)))),
+    ]?)
+}
+
+fn write_then_read(alloc: Global) -> Result<Outcome, AllocError> {
+    let history = vec![in alloc;
+        Applied {
+            port: 0,
+            component: 0,
+            value: 7,
+            stamp: 24,
+        },
+    ]?;
+    let calls = calls_of_write_then_read(alloc)?;
+    outcome_of(alloc, history, calls, 10)
+}
+
+fn scanned(
+    alloc: Global,
+    values: &[u64],
+    collects: u32,
+    borrowed: Option<u64>,
+) -> Result<Answer, AllocError> {
+    Ok(Answer::Scanned {
+        values: Sequence::from(Vec::from_slice(alloc, values)?),
+        collects,
+        borrowed,
     })
+}
+
+/// Adds the calls of a port: a lost update and each form of scan.
+fn push_scans(alloc: Global, calls: &mut Vec<Called>) -> Result<(), AllocError> {
+    let lost = Answer::Lost { by: 27 };
+    calls.push(called(0, 0, 0, 8, finished(1, lost, Some(Note::Lost(0)))))?;
+    let whole = scanned(alloc, &[10, 10, 20], 2, None)?;
+    calls.push(called(0, 1, 0, 17, finished(0, whole, Some(Note::Saw(0)))))?;
+    let borrowed = scanned(alloc, &[5], 3, Some(32))?;
+    calls.push(called(0, 2, 0, 13, finished(2, borrowed, Some(Note::Saw(1)))))?;
+    let nothing = scanned(alloc, &[], 0, None)?;
+    calls.push(called(0, 3, 0, 0, finished(0, nothing, Some(Note::Saw(0)))))?;
+    Ok(())
+}
+
+/// Adds the calls of two more ports: refused ones, one that changed nothing, and one that isn't finished.
+fn push_others(calls: &mut Vec<Called>) -> Result<(), AllocError> {
+    let refused = |cause: Refused| finished(1, Answer::Refused { cause }, None);
+    calls.push(called(1, 0, 1, 0, refused(Refused::Component)))?;
+    calls.push(called(1, 1, 1, 4, refused(Refused::SlotsSpent)))?;
+    calls.push(called(1, 2, 1, 4, refused(Refused::PoolSpent)))?;
+    let changed = Answer::Changed { by: 24 };
+    calls.push(called(1, 3, 1, 1, finished(1, changed, Some(Note::Saw(1)))))?;
+    calls.push(called(2, 0, 0, 4, None))?;
+    Ok(())
 }
 
 /// Calls with each form of answer.
 fn each_answer(alloc: Global) -> Result<Vec<Called>, AllocError> {
-    let scanned = Answer::Scanned {
-        values: Sequence::from(vec![in alloc; 10, 10, 20]?),
-        collects: 2,
-        borrowed: None,
-    };
-    let borrowed = Answer::Scanned {
-        values: Sequence::from(vec![in alloc; 5]?),
-        collects: 3,
-        borrowed: Some(32),
-    };
-    let nothing = Answer::Scanned {
-        values: Sequence::from(Vec::new(alloc)),
-        collects: 0,
-        borrowed: None,
-    };
-    let refused = |cause: Refused| finished(1, Answer::Refused { cause }, None);
-    let calls = vec![in alloc;
-        called(
-            0,
-            0,
-            0,
-            8,
-            finished(1, Answer::Lost { by: 27 }, Some(Note::Lost(0)))
-        ),
-        called(0, 1, 0, 17, finished(0, scanned, Some(Note::Saw(0)))),
-        called(0, 2, 0, 13, finished(2, borrowed, Some(Note::Saw(1)))),
-        called(0, 3, 0, 0, finished(0, nothing, Some(Note::Saw(0)))),
-        called(1, 0, 1, 0, refused(Refused::Component)),
-        called(1, 1, 1, 4, refused(Refused::SlotsSpent)),
-        called(1, 2, 1, 4, refused(Refused::PoolSpent)),
-        called(
-            1,
-            3,
-            1,
-            1,
-            finished(1, Answer::Changed { by: 24 }, Some(Note::Saw(1)))
-        ),
-        called(2, 0, 0, 4, None),
-    ]?;
+    let mut calls = Vec::new(alloc);
+    push_scans(alloc, &mut calls)?;
+    push_others(&mut calls)?;
     Ok(calls)
 }
 
@@ -173,21 +192,21 @@ fn full_text(alloc: Global, outcome: &Outcome) -> Result<Vec<u8>, Fail> {
 }
 
 /// Judges the text of the outcome.
-fn judge_text(
+fn judge_outcome(
     rt: &impl Abort,
     alloc: Global,
     outcome: &Outcome,
     expected: &[u8],
 ) -> Result<(), Fail> {
     let text = full_text(alloc, outcome)?;
-    assert_eq!(rt; text.as_slice(), expected);
+    judge_text(rt, &text, expected);
     Ok(())
 }
 
 #[test]
 fn outcome_is_written(rt: HostRuntime) -> Result<(), Fail> {
     let outcome = write_then_read(rt.alloc())?;
-    judge_text(&rt, rt.alloc(), &outcome, row())
+    judge_outcome(&rt, rt.alloc(), &outcome, row())
 }
 
 fn text_of_each_answer() -> &'static [u8] {
@@ -207,15 +226,20 @@ total 51
 
 #[test]
 fn each_answer_is_written(rt: HostRuntime) -> Result<(), Fail> {
-    let outcome = Outcome {
-        opening: opening(rt.alloc())?,
-        history: Vec::new(rt.alloc()),
-        calls: each_answer(rt.alloc())?,
-        words: Vec::new(rt.alloc()),
-        trace: Vec::new(rt.alloc()),
-        steps: 51,
-    };
-    judge_text(&rt, rt.alloc(), &outcome, text_of_each_answer())
+    let calls = each_answer(rt.alloc())?;
+    let outcome = outcome_of(rt.alloc(), Vec::new(rt.alloc()), calls, 51)?;
+    judge_outcome(&rt, rt.alloc(), &outcome, text_of_each_answer())
+}
+
+/// Adds the calls of a scan and of the two updates that overtook it.
+fn push_overtaken(alloc: Global, calls: &mut Vec<Called>) -> Result<(), AllocError> {
+    let borrowed = scanned(alloc, &[5], 3, Some(32))?;
+    calls.push(called(0, 0, 0, 13, finished(2, borrowed, Some(Note::Saw(1)))))?;
+    let first = Answer::Applied { stamp: 26 };
+    calls.push(called(1, 0, 0, 17, finished(1, first, Some(Note::Wrote(0)))))?;
+    let second = Answer::Applied { stamp: 32 };
+    calls.push(called(1, 1, 1, 17, finished(2, second, Some(Note::Wrote(1)))))?;
+    Ok(())
 }
 
 /// A scan that two updates overtook twice, so that its value is the borrowed one.
@@ -226,25 +250,10 @@ pub(super) fn borrowed_scan(alloc: Global) -> Result<Outcome, AllocError> {
         value,
         stamp,
     };
-    let scanned = Answer::Scanned {
-        values: Sequence::from(vec![in alloc; 5]?),
-        collects: 3,
-        borrowed: Some(32),
-    };
-    let first = Answer::Applied { stamp: 26 };
-    let second = Answer::Applied { stamp: 32 };
-    Ok(Outcome {
-        opening: opening(alloc)?,
-        history: vec![in alloc; applied(5, 26), applied(6, 32)]?,
-        calls: vec![in alloc;
-            called(0, 0, 0, 13, finished(2, scanned, Some(Note::Saw(1)))),
-            called(1, 0, 0, 17, finished(1, first, Some(Note::Wrote(0)))),
-            called(1, 1, 1, 17, finished(2, second, Some(Note::Wrote(1)))),
-        ]?,
-        words: Vec::new(alloc),
-        trace: Vec::new(alloc),
-        steps: 47,
-    })
+    let history = vec![in alloc; applied(5, 26), applied(6, 32)]?;
+    let mut calls = Vec::new(alloc);
+    push_overtaken(alloc, &mut calls)?;
+    outcome_of(alloc, history, calls, 47)
 }
 
 fn text_of_borrowed_scan() -> &'static [u8] {
@@ -261,7 +270,22 @@ total 47
 #[test]
 fn scans_are_written(rt: HostRuntime) -> Result<(), Fail> {
     let outcome = borrowed_scan(rt.alloc())?;
-    judge_text(&rt, rt.alloc(), &outcome, text_of_borrowed_scan())
+    judge_outcome(&rt, rt.alloc(), &outcome, text_of_borrowed_scan())
+}
+
+/// An outcome with that one call.
+fn outcome_of_scan(alloc: Global, scanned: Answer) -> Result<Outcome, AllocError> {
+    let call = called(0, 0, 0, 9, finished(0, scanned, Some(Note::Saw(0))));
+    let calls = vec![in alloc; call]?;
+    let values = Sequence::from(vec![in alloc; 1]?);
+    Ok(Outcome {
+        opening: Opening { values, first: 6 },
+        history: Vec::new(alloc),
+        calls,
+        words: Vec::new(alloc),
+        trace: Vec::new(alloc),
+        steps: 9,
+    })
 }
 
 /// The line of one scan in the text of an outcome with no other call.
@@ -271,22 +295,8 @@ fn scan_line(
     collects: u32,
     borrowed: Option<u64>,
 ) -> Result<Vec<u8>, Fail> {
-    let scanned = Answer::Scanned {
-        values: Sequence::from(Vec::from_slice(alloc, values)?),
-        collects,
-        borrowed,
-    };
-    let outcome = Outcome {
-        opening: Opening {
-            values: Sequence::from(vec![in alloc; 1]?),
-            first: 6,
-        },
-        history: Vec::new(alloc),
-        calls: vec![in alloc; called(0, 0, 0, 9, finished(0, scanned, Some(Note::Saw(0))))]?,
-        words: Vec::new(alloc),
-        trace: Vec::new(alloc),
-        steps: 9,
-    };
+    let scanned = scanned(alloc, values, collects, borrowed)?;
+    let outcome = outcome_of_scan(alloc, scanned)?;
     full_text(alloc, &outcome)
 }
 
@@ -328,34 +338,43 @@ fn each_scan_is_written(rt: HostRuntime) -> Result<(), Fail> {
     for (values, collects, borrowed, told) in scans() {
         let expected = text_of_scan(rt.alloc(), told)?;
         let text = scan_line(rt.alloc(), values, collects, borrowed)?;
-        assert_eq!(rt; text.as_slice(), expected.as_slice());
+        judge_text(&rt, &text, &expected);
     }
     Ok(())
+}
+
+/// Judges writers that stop, each behind another part of the outcome's text.
+fn judge_stops(rt: &impl Abort, alloc: Global, outcome: &Outcome, row: &[u8]) {
+    for room in 0..row.len() {
+        for (step, takes_none) in [(1, false), (7, true), (1000, false)] {
+            let mut device = Device::new(Sink::new(alloc, step, room, takes_none));
+            let given = write_outcome(alloc, outcome, &mut device);
+            judge_stop(rt, given, device, row, room);
+        }
+    }
 }
 
 #[test]
 fn each_stop(rt: HostRuntime) -> Result<(), Fail> {
     let outcome = write_then_read(rt.alloc())?;
-    let row = row();
-    for room in 0..row.len() {
-        for (step, takes_none) in [(1, false), (7, true), (1000, false)] {
-            let mut device = Device::new(Sink::new(rt.alloc(), step, room, takes_none));
-            let given = write_outcome(rt.alloc(), &outcome, &mut device);
-            judge_stop(&rt, given, device, row, room);
-        }
-    }
+    judge_stops(&rt, rt.alloc(), &outcome, row());
     Ok(())
+}
+
+/// Judges a writer that takes at most so many bytes a write.
+fn judge_short(rt: &impl Abort, alloc: Global, outcome: &Outcome, step: usize) {
+    let mut device = Device::new(Sink::new(alloc, step, 1000, false));
+    assert_eq!(rt; write_outcome(alloc, outcome, &mut device), Ok(()));
+    assert!(rt; !device.failed());
+    let sink = device.into_inner();
+    judge_text(rt, &sink.taken, row());
 }
 
 #[test]
 fn short_writes(rt: HostRuntime) -> Result<(), Fail> {
     let outcome = write_then_read(rt.alloc())?;
-    let row = row();
-    for step in 1..row.len() + 2 {
-        let mut device = Device::new(Sink::new(rt.alloc(), step, 1000, false));
-        assert_eq!(rt; write_outcome(rt.alloc(), &outcome, &mut device), Ok(()));
-        assert!(rt; !device.failed());
-        assert_eq!(rt; device.into_inner().taken.as_slice(), row);
+    for step in 1..row().len() + 2 {
+        judge_short(&rt, rt.alloc(), &outcome, step);
     }
     Ok(())
 }
