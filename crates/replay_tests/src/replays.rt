@@ -5,7 +5,7 @@ mod stopped;
 mod words;
 
 use crate::texts::judge_text;
-use partial_replay::{Device, Outcome, OutcomeError, Plan, replay, write_outcome};
+use partial_replay::{Device, Outcome, Plan, replay, write_outcome};
 use std::alloc::Global;
 use std::test::Fail;
 
@@ -15,17 +15,12 @@ pub(crate) fn replayed(alloc: Global, text: &[u8]) -> Result<Outcome, Fail> {
     Ok(replay(alloc, &plan)?)
 }
 
-/// The text of the outcome.
-fn written(alloc: Global, outcome: &Outcome) -> Result<Vec<u8>, OutcomeError> {
-    let mut writer = Device::new(Vec::new(alloc));
-    write_outcome(alloc, outcome, &mut writer)?;
-    Ok(writer.into_inner())
-}
-
 /// The text of the outcome of the plan with this text.
 fn outcome_text(alloc: Global, text: &[u8]) -> Result<Vec<u8>, Fail> {
     let outcome = replayed(alloc, text)?;
-    Ok(written(alloc, &outcome)?)
+    let mut writer = Device::new(Vec::new(alloc));
+    write_outcome(alloc, &outcome, &mut writer)?;
+    Ok(writer.into_inner())
 }
 
 // Texts and tables are results of functions, whose contents no proof of a test has to know.

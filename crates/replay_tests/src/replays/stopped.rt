@@ -79,6 +79,20 @@ fn stopped(alloc: Global, stops: &Stops<'_>, turns: u32) -> Result<Outcome, Fail
     replayed(alloc, text.as_bytes())
 }
 
+fn judge_update(
+    rt: &impl Abort,
+    calls: &[Called],
+    port: u32,
+    turns: u32,
+    update: (u64, u64, usize),
+) {
+    assert_eq!(rt; applied(calls, port), Some(update), "{turns} turns");
+}
+
+fn judge_standing(rt: &impl Abort, calls: &[Called], port: u32, turns: u32, stands: Standing) {
+    assert_eq!(rt; standing_of(calls, port), stands, "{turns} turns");
+}
+
 /// Judges whether the port stands so after as many turns, and whether the update of the port behind it was applied in
 /// so many steps, with that stamp and place.
 fn judge_outcome(
@@ -89,10 +103,8 @@ fn judge_outcome(
     stands: Standing,
     update: (u64, u64, usize),
 ) {
-    let calls = outcome.calls.as_slice();
-    let given = applied(calls, port.saturating_add(1));
-    assert_eq!(rt; given, Some(update), "{turns} turns");
-    assert_eq!(rt; standing_of(calls, port), stands, "{turns} turns");
+    judge_update(rt, &outcome.calls, port.saturating_add(1), turns, update);
+    judge_standing(rt, &outcome.calls, port, turns, stands);
     assert!(rt; is_lawful(outcome), "{turns} turns");
 }
 
