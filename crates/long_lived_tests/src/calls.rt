@@ -3,7 +3,7 @@
 ghost use Rattle.std.specs.Prelude.{◌≤◌};
 ghost use Rattle.partial_long_lived.specs.Ports.{IsOf};
 
-use crate::memories::{SPENT, one, pair, with_two};
+use crate::memories::{SPENT, one, pair};
 use partial_long_lived::{LongLived, Options, Port, Refused, Updated};
 use std::process::Abort;
 use std::test::Fail;
@@ -38,8 +38,9 @@ fn reads_initial(rt: &impl Abort, memory: &LongLived, first: &mut Port, last: &m
 #[test]
 fn initial_reads(rt: HostRuntime) -> Result<(), Fail> {
     let values = [10, u64::MAX, 30];
-    let (memory, ports) = LongLived::open(rt.alloc(), &values, 2, Options::default())?;
-    let (memory, mut first, mut last) = with_two(memory, ports)?;
+    let (memory, mut ports) = LongLived::open(rt.alloc(), &values, 2, Options::default())?;
+    let mut last = ports.pop().ok_or("a last port")?;
+    let mut first = ports.pop().ok_or("a first port")?;
     reads_initial(&rt, &memory, &mut first, &mut last);
     drop((memory, first, last));
     Ok(())

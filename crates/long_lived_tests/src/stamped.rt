@@ -25,21 +25,6 @@ fn sets(rt: &impl Abort, memory: &LongLived, port: &mut Port, value: u64) -> u64
     stamp
 }
 
-// A read of a component tells that value and stamp.
-fn read_tells(
-    rt: &impl Abort,
-    memory: &LongLived,
-    port: &mut Port,
-    component: u32,
-    value: u64,
-    stamp: u64,
-)
-    requires { IsOf memory.now port.old }
-    ensures { IsOf memory.now port.new }
-{
-    assert_eq!(rt; memory.read(port, component), Ok((value, stamp)));
-}
-
 // A scan of both components tells these values and stamps, component 1 first, and so do reads.
 fn tells(rt: &impl Abort, memory: &LongLived, port: &mut Port, values: [u64; 2], stamps: [u64; 2])
     requires own { IsOf memory.now port.old }
@@ -50,9 +35,10 @@ fn tells(rt: &impl Abort, memory: &LongLived, port: &mut Port, values: [u64; 2],
     let mut told = [0u64; 2];
     let scanned = memory.scan_stamped(port, &[1, 0], &mut into, &mut told);
     assert_eq!(rt; scanned, Ok(AGREED));
-    assert_eq!(rt; (into, told), (values, stamps));
-    read_tells(rt, memory, port, 1, values[0], stamps[0]);
-    read_tells(rt, memory, port, 0, values[1], stamps[1]);
+    assert_eq!(rt; into, values);
+    assert_eq!(rt; told, stamps);
+    assert_eq!(rt; memory.read(port, 1), Ok((values[0], stamps[0])));
+    assert_eq!(rt; memory.read(port, 0), Ok((values[1], stamps[1])));
 }
 
 // The stamp that component 1 begins with.

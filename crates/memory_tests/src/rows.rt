@@ -6,7 +6,7 @@ ghost use Rattle.partial_memory.specs.Ports.{IsOf};
 
 use super::calls::{COLLECTED_TWICE, applies, reads, scans, updates_if};
 use super::memories::{add, pair, single};
-use partial_memory::{Closed, Memory, OpenError, Port, Scanned, UpdatedIf};
+use partial_memory::{Closed, Memory, OpenError, Port, Scanned, Updated, UpdatedIf};
 use partial_model::Refused;
 use partial_words::{Link, Sizes};
 use std::alloc::{AllocError, Global};
@@ -19,10 +19,14 @@ fn calls(rt: &impl Abort, memory: &Memory, first: &mut Port, second: &mut Port)
     ensures { IsOf memory.now first.new × IsOf memory.now second.new }
 {
     assert_eq!(rt; (first.number(), second.number()), (0, 1));
-    applies(rt, memory, first, 1, 8, 24);
-    scans(rt, memory, second, [0, 1], [10, 8]);
+    let updated = memory.update(first, 1, 8);
+    assert_eq!(rt; updated, Ok(Updated::Applied { stamp: 24 }));
+    let mut into = [0u64; 2];
+    let scanned = memory.scan(second, &[0, 1], &mut into);
+    assert_eq!(rt; scanned, Ok(COLLECTED_TWICE));
+    assert_eq!(rt; into, [10, 8]);
     memory.meet(first, second);
-    reads(rt, memory, second, 1, 8, 24);
+    assert_eq!(rt; memory.read(second, 1), Ok((8, 24)));
     assert_eq!(rt; memory.read(second, 2), Err(Refused::Component));
 }
 

@@ -1,32 +1,8 @@
 //! The examples of the document on the pipeline.
 
-use partial_pipeline::{
-    NoWatch, NoWork, Options, Pipeline, PipelineReport, Watch, Work, run_pipeline,
-};
-use std::process::Abort;
+use partial_pipeline::{NoWatch, NoWork, Options, Pipeline, Watch, Work, run_pipeline};
 use std::sync::atomic::{AtomicU64, Ordering};
 use std::test::Fail;
-
-// A scan has four counts, none of which is greater than the one before it.
-fn has_four_counts(rt: &impl Abort, scan: &[u64]) {
-    assert!(rt; scan.len() == 4);
-    assert!(rt;
-        scan.iter()
-            .zip(scan.iter().skip(1))
-            .all(|(before, own)| own <= before)
-    );
-}
-
-// Each scan is ordered, and at the end each count is 5,000.
-fn has_four_stages(rt: &impl Abort, report: &PipelineReport) {
-    for scan in report.scans.iter().chain(report.last.iter()) {
-        has_four_counts(rt, scan);
-    }
-    assert_eq!(rt;
-        report.counts.as_slice(),
-        [5_000, 5_000, 5_000, 5_000].as_slice()
-    );
-}
 
 #[test]
 fn four_stages(rt: HostRuntime) -> Result<(), Fail> {
@@ -37,8 +13,18 @@ fn four_stages(rt: HostRuntime) -> Result<(), Fail> {
         options: Options::default(),
     };
     let report = run_pipeline(&rt, rt.alloc(), pipeline, &NoWork, &mut NoWatch)?;
-    has_four_stages(&rt, &report);
-    drop(report);
+    for scan in report.scans.iter().chain(report.last.iter()) {
+        assert!(rt; scan.len() == 4);
+        assert!(rt;
+            scan.iter()
+                .zip(scan.iter().skip(1))
+                .all(|(before, own)| own <= before)
+        );
+    }
+    assert_eq!(rt;
+        report.counts.as_slice(),
+        [5_000, 5_000, 5_000, 5_000].as_slice()
+    );
     Ok(())
 }
 
@@ -84,7 +70,7 @@ fn work_and_watch(rt: HostRuntime) -> Result<(), Fail> {
         looks: 1_000,
         options: Options::default(),
     };
-    drop(run_pipeline(&rt, rt.alloc(), pipeline, &total, &mut lag)?);
+    run_pipeline(&rt, rt.alloc(), pipeline, &total, &mut lag)?;
     assert_eq!(rt; total.sum.load(Ordering::SeqCst), 5_050);
     assert!(rt; lag.most <= 100);
     Ok(())
