@@ -6,15 +6,15 @@ prints it, below its crate; `file: PATH` a file of the crate; and then `old: TEX
 old text stands exactly once in that file as it is. Where what a function promises is carried by what it has to show to
 a function that it calls, as that a step is the due one, a line `by: GOAL` names the open goal that refuses it.
 
-Much of a check's time passes before its first proof, so a crate's edits are tried together, in rounds of so many in
-each of which no function is turned twice. Each edit is judged by itself: of its function the check has to say that it did not
-prove a goal of meaning, which is one of what the function ensures, of its type's invariant or of a loop's, or the one
-that the edit names, or that a loop has no measure, since each call has to end. Nothing else refuses an edit: no open
-goal of an overflow, a bound, a cast or of what a called function requires, no proof that names what the edit took
-away, and no run out of steps. Where a written answer of a goal of meaning doesn't fit the turned function, that alone
-is no refusal either: the check is made again without the answers that are refused and those that name one, and a goal
-of meaning that is none of the latter has to stay open then. A check that ends without a verdict, or not in time,
-refuses nothing.
+Much of a check's time passes before its first proof, so a crate's edits are tried together, in rounds of at most
+ROUND, in each of which no function is turned twice. Each edit is judged by itself: of its function the check has to
+say that it did not prove a goal of meaning, which is one of what the function ensures, of its type's invariant or of
+a loop's, or the one that the edit names, or that a loop has no measure, since each call has to end. Nothing else
+refuses an edit: no open goal of an overflow, a bound, a cast or of what a called function requires, no proof that
+names what the edit took away, and no run out of steps. Where a written answer of a goal of meaning doesn't fit the
+turned function, that alone is no refusal either: the check is made again without the answers that are refused and
+those that name one, and a goal of meaning that is none of the latter has to stay open then. A check that ends without
+a verdict, or not in time, refuses nothing.
 
 That a function calls one that isn't proved is said apart, and counts for nothing; where its goals weren't tried for
 that reason, its edit waits for a later round. No function may have an open goal that none of the round's edits turns.
