@@ -1,27 +1,27 @@
 #!/usr/bin/env python3
 """Turns the functions of the crates by the edits of crates/NAME/edits/, and sees that the prover refuses each.
 
-An edit is a file of lines: `refused: PATH` names each function whose contract has to refuse it, as the prover
-prints it, below its crate; `file: PATH` a file of the crate; and then `old: TEXT` and `new: TEXT` in turn, where the
-old text stands exactly once in that file as it is. Where what a function promises is carried by what it has to show to
-a function that it calls, as that a step is the due one, a line `by: GOAL` names the open goal that refuses it.
+An edit is a file of lines: `refused: PATH` names a function whose contract has to refuse it, as the prover prints it,
+below its crate, and `by: GOAL` behind it the goal of that function which is open then; `file: PATH` a file of the
+crate; and then `old: TEXT` and `new: TEXT` in turn, where the old text stands exactly once in that file as it is. A
+function may refuse an edit by a goal of meaning, which is one of what it ensures, of its type's invariant or of a
+loop's, or, where what it promises is carried by what it has to show to a function that it calls, by one of what that
+requires; or by `measure`, where a loop has none any more, since each call has to end. Nothing else refuses an edit: no
+goal of an overflow, a bound, a cast or an index, no proof that names what the edit took away, and no run out of steps.
+
+Each edit is judged by itself: its goal has to stay open, whatever is tried at it. Tried are the answer that is written
+for the goal, if there is one, and a search by the calls that the prover makes where there is none: by the first ones, or
+by all where only all prove it as its function is. Both stand in the file of answers of the turned function, with
+nothing else, and what is said of each tells whether it fits. One of which nothing is said proves the goal, and so does
+one that isn't read at all: neither refuses. A goal without a written answer that these calls don't prove as its
+function is, is left to the prover's own search in the turned one. A check that ends without a verdict, or not in time,
+refuses nothing.
 
 Much of a check's time passes before its first proof, so a crate's edits are tried together, in rounds of at most
-ROUND, in each of which no function is turned twice. Each edit is judged by itself: of its function the check has to
-say that it did not prove a goal of meaning, which is one of what the function ensures, of its type's invariant or of
-a loop's, or the one that the edit names, or that a loop has no measure, since each call has to end. Nothing else
-refuses an edit: no open goal of an overflow, a bound, a cast or of what a called function requires, no proof that
-names what the edit took away, and no run out of steps. Where a written answer of a goal of meaning doesn't fit the
-turned function, that alone is no refusal either: the check is made again without the answers that are refused and
-those that name one, and a goal of meaning that is none of the latter has to stay open then. A check that ends without
-a verdict, or not in time, refuses nothing.
-
-That a function calls one that isn't proved is said apart, and counts for nothing; where its goals weren't tried for
-that reason, its edit waits for a later round. No function may have an open goal that none of the round's edits turns.
-A round checks the functions alone that its edits turn, with those that they call, and its second check those alone
-whose answers it goes without: that the crate is proved as it is, is not seen here. The first round begins with what
-checks of the crate kept, here or in another copy of the repository on this machine, and a later one with what the
-earlier ones have proved; no edit is judged by that, since what it turns is checked.
+ROUND, in each of which no function is turned twice. A round checks the functions alone that its edits turn, with those
+that they call, and hardly anything is searched for but what the edits name. No written answer of another function may be
+refused. What a round has checked is not checked again in a later one. That the crate is proved as it is, is not seen
+here.
 
 With words, it takes the crates with these names alone; with --jobs N, so many crates side by side, and so many jobs in
 all where fewer crates are left. What isn't proved yet of the crates below is proved first. The last line is
@@ -55,39 +55,58 @@ PAUSE = 1
 SETTLED = 5
 # Goals of meaning: what a function ensures, the invariant of a type, and that of a loop.
 MEANING = re.compile(r'(returns|invariant_of)(-|$)|loop(-\S+)?-(init|preserved)(-|$)')
-# Goals that an edit may name: what a called function requires, but for those of an index and of what can't be.
-BY = re.compile(r'(?<!index)(?<!unreachable)(?<!unwrap)(?<!expect)-requires(-|$)')
-# What the prover says of an answer that names what an edit took away.
+# What a called function requires, but for the goals of an index and of what can't be.
+REQUIRED = re.compile(r'(?<!index)(?<!unreachable)(?<!unwrap)(?<!expect)-requires(-|$)')
+MEASURE = 'measure'
+# By the first line of a crate the prover searches for what no answer proves, and by the second it doesn't; by the line
+# above a function it does again. And what such a line stands above.
+SEARCHED, UNSEARCHED, SEARCHED_AGAIN = '#![tactic(auto)]\n', '#![tactic(none)]\n', '#[tactic(auto)]\n'
+FUNCTION = re.compile(r'^ *(?:pub(?:\([a-z]+\))? )?(?:const )?(?:unsafe )?(?:extern "C" )?fn ', re.M)
+# The calls that the prover makes first at a goal without an answer, and those with which it goes on; and where their
+# lists of lemmas come from.
+FIRST = ('search (given.tests, given.rules)', 'grind (given.arith, sets.common_steps) steps 2000000')
+LATER = ('grind (given.arith, sets.elements) steps 2000000', 'grind (given.arith, sets.moves) steps 2000000',
+         'search (sets.pieces, given.arith)')
+LISTS = 'use Rattle.std.proofs.Common as given\nuse Rattle.std.proofs.lemmas.Grind as sets\n'
+# The head of an answer, and of a definition beside the answers.
+HEAD = re.compile(r'^(?:abbrev )?(?:pub )?(\S+) : (.*)$', re.M)
+# What the prover says of an answer that names what an edit took away, and of a call that has no end.
 LACKING = re.compile(r'has no field|is not in scope|has no `|was not admitted|is no name')
-# What it says besides of answers that cite one which it has refused.
-CITING = re.compile(r'\d+ declarations? that depends? on')
 SPENT = re.compile(r'r[ua]n out of|could not tell')
+# What it says of an answer that it refuses, or of a file of answers: the function's folder, the name, and why.
+REFUSED = re.compile(r'^\./proofs/(\S+)/(?:Answers|Invariants|Proof)\.antt\S*: error: (?:`([^`]+)`: )?'
+                     r'(.*(?:\n  .*)*)', re.M)
 
 
 @dataclass
 class Edit:
-    """A named change of a crate's files, and the functions that it turns, whose contracts have to refuse it."""
+    """A named change of a crate's files, and the functions that it turns, each with the goal that has to refuse it."""
 
     name: str
-    refused: list[str]
+    refused: dict[str, str]
     changes: list[tuple[str, str, str]]
-    by: str | None = None
 
 
 class BadEdit(Exception):
     """An edit that can't be read, or that doesn't fit the crate."""
 
 
+def may_refuse(goal):
+    """Whether a function may refuse an edit by this goal."""
+    return goal == MEASURE or MEANING.match(goal) is not None or REQUIRED.search(goal) is not None
+
+
 def read_edit(path):
-    refused, file, old, changes, by = [], None, None, [], None
+    refused, function, file, old, changes = {}, None, None, None, []
     for line in path.read_text(encoding='utf-8').splitlines():
         word, _, text = line.partition(':')
         text = text.removeprefix(' ')
-        if word == 'refused':
-            refused.append(text)
-        elif word == 'by' and BY.search(text):
-            by = text
-        elif word == 'file':
+        if word == 'refused' and function is None:
+            function = text
+        elif word == 'by' and function is not None and may_refuse(text):
+            refused[function] = text
+            function = None
+        elif word == 'file' and function is None:
             file = text
         elif word == 'old' and old is None:
             old = text
@@ -96,9 +115,9 @@ def read_edit(path):
             old = None
         else:
             raise BadEdit(f'its line is none of an edit: {line}')
-    if not refused or not changes or old is not None:
-        raise BadEdit('it names no function, changes nothing, or ends behind an old text')
-    return Edit(path.stem, refused, changes, by)
+    if not refused or function is not None or not changes or old is not None:
+        raise BadEdit('it names no function with its goal, changes nothing, or ends behind an old text')
+    return Edit(path.stem, refused, changes)
 
 
 def edits_of(crate):
@@ -137,7 +156,7 @@ def first_round(edits, crate):
         if len(members) == ROUND:
             break
         places = list(places_of(edit, crate))
-        if all(set(edit.refused).isdisjoint(it.refused) for it in members) and not overlap(places, turned):
+        if all(edit.refused.keys().isdisjoint(it.refused) for it in members) and not overlap(places, turned):
             members.append(edit)
             turned += places
     return members, turned
@@ -250,11 +269,6 @@ def made_at(library):
         return None
 
 
-def asked_of(functions):
-    """The words by which a check is of these functions alone, and of those that they call."""
-    return [word for it in functions for word in ('--only', it)]
-
-
 def run(command, room, limit):
     """The exit status of a command and what it says; there is no status where it has to be stopped at the limit."""
     with subprocess.Popen(command, cwd=room, stdin=subprocess.DEVNULL, stdout=subprocess.PIPE,
@@ -267,9 +281,10 @@ def run(command, room, limit):
             return None, started.communicate()[0]
 
 
-def check(room, name, places, command, without):
-    """The status of a check of the crate in this folder, with these places of it turned and without the answers of
-    these goals of functions, and what the check says."""
+def check(room, name, places, asked, command):
+    """The status of a check of the crate in this folder, with these places of it turned, in which of these functions
+    these goals are asked for alone, each by these searches, and what the check says. A goal without one is left to the
+    prover's own search."""
     for part in PARTS:
         shutil.rmtree(room / part, ignore_errors=True)
         if (TOP / 'crates' / name / part).is_dir():
@@ -277,13 +292,23 @@ def check(room, name, places, command, without):
     for file, begin, end, new in sorted(places, reverse=True):
         text = (room / file).read_text(encoding='utf-8')
         (room / file).write_text(text[:begin] + new + text[end:], encoding='utf-8')
-    for function, goals in without.items():
-        text = answers_of(room, function)
-        if text:
-            for goal in [*goals, *citing(text, goals)]:
-                text = without_answer(text, goal)
-            answers_at(room, function).write_text(without_idle_branches(text), encoding='utf-8')
-    return run(command, room, LIMIT)
+    root = room / 'src/lib.rt'
+    root.write_text(root.read_text(encoding='utf-8').replace(SEARCHED, UNSEARCHED), encoding='utf-8')
+    for function, goals in asked.items():
+        if all(goals.values()):
+            path = answers_at(room, function)
+            path.parent.mkdir(parents=True, exist_ok=True)
+            path.write_text(asking(answers_of(room, function), name, function, goals), encoding='utf-8')
+    return run([*command, '--allow-holes', *[word for it in asked for word in ('--only', it)]], room, LIMIT)
+
+
+def searched_again(edit, crate):
+    """The place above the function in which the edit's first one stands, with the line by which the prover searches
+    there. A function with such a line of its own has none."""
+    file, begin, _, _ = next(places_of(edit, crate))
+    text = (crate / file).read_text(encoding='utf-8')
+    above = [it.start() for it in FUNCTION.finditer(text, 0, begin)][-1:]
+    return [(file, it, it, SEARCHED_AGAIN) for it in above if '#[tactic(' not in text[:it].rpartition('\n\n')[2]]
 
 
 def answers_at(crate, function):
@@ -297,23 +322,71 @@ def answers_of(crate, function):
     return path.read_text(encoding='utf-8') if path.exists() else ''
 
 
-def citing(text, goals):
-    """The other names of a file of answers whose terms name one of these goals, or a name that does."""
-    heads = [*re.finditer(r'^(?:pub )?(\S+) : ', text, re.M)]
-    ends = [it.start() for it in heads[1:]] + [len(text)]
-    terms = {it[1]: text[it.end():end] for it, end in zip(heads, ends)}
-    found, more = set(), set(goals)
-    while more:
-        named = re.compile('|'.join(rf'(?<![\w-]){re.escape(it)}(?![\w-])' for it in more))
-        found |= more
-        more = {it for it, term in terms.items() if it not in found and named.search(term)}
-    return sorted(found - set(goals))
+@dataclass
+class Part:
+    """A definition of a file of answers: the line of its head, its name and type, and the text behind the head."""
+
+    head: str
+    name: str
+    type_of: str
+    behind: str
+
+    def names(self, name):
+        return re.search(rf'(?<![\w-]){re.escape(name)}(?![\w-])', self.behind) is not None
 
 
-def without_answer(text, goal):
-    """A file of answers without the one of this goal: its type, and the lines of it."""
-    name, more = re.escape(goal), r'(?:[ \t)].*\n|\n(?=[ \t]))*'
-    return re.sub(rf'^(?:pub )?{name} : .*\n{more}(?:{name}(?: .*)?\n{more})*', '', text + '\n', flags=re.M)
+def parts_of(text):
+    """What stands above the first definition of a file of answers, and the definitions."""
+    heads = [*HEAD.finditer(text)]
+    ends = [it.start() for it in heads] + [len(text)]
+    return text[:ends[0]], [Part(it[0], it[1], it[2], text[it.end():end]) for it, end in zip(heads, ends[1:])]
+
+
+def is_written(text, goal):
+    """Whether these answers have one of the goal."""
+    return any(it.name == goal for it in parts_of(text)[1])
+
+
+def as_written(goal):
+    """The name by which the answer is tried that is written for a goal."""
+    return f'{goal}-as-written'
+
+
+def at_first(goal):
+    """The name by which the calls alone are tried that the prover makes first."""
+    return f'{goal}-at-first'
+
+
+def tries(text, goal):
+    """The names of what is tried at a goal: the answer that is written for it, if there is one, and the search."""
+    return [as_written(goal), goal] if is_written(text, goal) else [goal]
+
+
+def asking(text, crate, function, goals):
+    """A function's answers, of which those are left that are tried at these goals, and for each of these the searches
+    by these names: what the answers name is a hole."""
+    top, parts = parts_of(text)
+    of_goals = f'use Rattle.{crate}.proofs.{function.replace("::", ".")}.Goals as goal\n'
+    left = [it for it in parts if it.name in goals or not it.type_of.startswith('goal.')]
+    binders = 'g c' if any(re.search(rf'^{re.escape(it.name)} g c', it.behind, re.M) for it in parts) else 'c'
+    found = [LISTS, top if of_goals in top else top + of_goals, '\n']
+    for it in parts:
+        if it.name in goals:
+            renamed = re.sub(rf'^{re.escape(it.name)}(?= )', as_written(it.name), it.behind, flags=re.M)
+            found.append(f'{as_written(it.name)} : {it.type_of}{renamed}')
+        elif not it.type_of.startswith('goal.'):
+            found.append(it.head + it.behind)
+        elif any(other.names(it.name) for other in left):
+            found.append(f'pub {it.name} : {it.type_of}\n{it.name} = ?\n\n')
+    for goal, searches in goals.items():
+        for it, calls in searches.items() if goal != MEASURE else ():
+            found.append(f'{"pub " if it == goal else ""}{it} : goal.{goal}\n{it} {binders} = {first_of(calls)}\n')
+    return without_idle_branches(''.join(found))
+
+
+def first_of(calls):
+    """What tries these calls one by one."""
+    return 'first_of (\n' + ''.join(f'    {it},\n' for it in calls) + ')\n'
 
 
 def without_idle_branches(text):
@@ -326,38 +399,33 @@ def without_idle_branches(text):
     return re.sub(r'^(use \S+\.Goals)\.\{(.*)\}\n', import_of, text, flags=re.M)
 
 
-def is_of_meaning(goal, by):
-    """Whether an open goal refuses an edit that names this one."""
-    return goal == by or MEANING.match(goal) is not None
-
-
 @dataclass
 class Told:
-    """What a check says of one function: its goals that the search did not prove, those whose written answers do not
-    fit, those whose answers are refused for whatever reason, and what tells nothing of its contract."""
+    """What a check says of one function: what does not fit, and why; what the prover's own search did not prove; and
+    what else tells nothing of its contract."""
 
+    misfits: dict[str, str] = field(default_factory=dict)
     unproved: list[str] = field(default_factory=list)
-    misfits: list[str] = field(default_factory=list)
-    broken: list[str] = field(default_factory=list)
     beside: list[str] = field(default_factory=list)
     has_no_measure: bool = False
 
-    def is_refused(self, by):
-        return self.has_no_measure or any(is_of_meaning(goal, by) for goal in self.unproved)
-
-    def doubted(self, by):
-        """The goals of meaning whose answers do not fit, each once."""
-        return list(dict.fromkeys(goal for goal in self.misfits if is_of_meaning(goal, by)))
-
-    def why_not(self):
-        """Why the contract of the function has not refused an edit."""
-        others = [*self.unproved, *self.misfits]
-        lines = [f'open, and no goal of meaning: {", ".join(others)}'] if others else []
-        return lines + self.beside or ['it has no open goal']
+    def why_not(self, goal, tried):
+        """Why the goal does not refuse an edit, where this is tried at it or else the prover's own search, or nothing
+        where it does."""
+        if goal == MEASURE:
+            return [] if self.has_no_measure else ['its loops have their measures', *self.beside]
+        if not tried:
+            return [] if goal in self.unproved else ["the prover's own search leaves others: "
+                                                     f'{", ".join(self.unproved) or "none"}', *self.beside]
+        proved = [f'its goal is proved, or is none: {it}' for it in tried if it not in self.misfits]
+        lacking = [f'an answer names what is gone: {self.misfits[it]}' for it in tried
+                   if LACKING.search(self.misfits.get(it, ''))]
+        spent = [f'a run out of steps: {self.misfits[it]}' for it in tried if SPENT.search(self.misfits.get(it, ''))]
+        return proved[:1] + lacking[:1] + spent[:1] + self.beside
 
 
 def told_by(name, said):
-    """What a check of the crate says of each function of which it says more than that it calls what isn't proved."""
+    """What a check of the crate says of each function of which it says more than that it isn't proved."""
     told = {}
     for function, line in re.findall(rf'^fn {name}::(\S+): (.*)$', said, re.M):
         # Paths hold dots and slashes, and goals neither; what comes behind the semicolon is of other functions.
@@ -367,73 +435,65 @@ def told_by(name, said):
             told.setdefault(function, Told()).beside.append(f'no verdict: {line}')
         if 'expected a measure' in line:
             told.setdefault(function, Told()).has_no_measure = True
-    for folder, goal, why in re.findall(r'^\./proofs/(\S+)/(?:Answers|Invariants|Proof)\.antt\S*: error: (?:`([^`]+)`: )?'
-                                        r'(.*(?:\n  .*)*)', said, re.M):
+    for folder, goal, why in REFUSED.findall(said):
         one = told.setdefault(folder.replace('/', '::'), Told())
-        first = why.splitlines()[0]
-        one.broken += [goal] if goal else []
-        if LACKING.search(why):
-            one.beside.append(f'an answer names what is gone: {goal}: {first}')
-        elif SPENT.search(why):
-            one.beside.append(f'a run out of steps: {goal}: {first}')
-        elif goal:
-            one.misfits.append(goal)
-        elif not CITING.match(why):
-            one.beside.append(f'a fault of a proof file: {first}')
+        if goal:
+            one.misfits[goal] = why
+        else:
+            one.beside.append(f'a fault of a proof file: {why.splitlines()[0]}')
     return told
 
 
-def wait(functions, name, said):
-    """Whether the check has not tried the goals of some of these functions, since one that they call isn't proved."""
-    return any(f'`search` has not tried the goals of `{name}::{it}`' in said for it in functions)
+def without_verdict(status, said):
+    """How a check ended that has no verdict, or nothing where it has one."""
+    if status in (0, 1):
+        return None
+    ended = f'with status {status}' if status is not None else f'not within {LIMIT} s'
+    return f'the check ended {ended}' + ''.join(f'\n    {line}' for line in said.splitlines()[-3:])
 
 
-def with_more(told, name, members, again):
-    """What is told of the members' functions, with the goals of meaning that stay open without the answers that do
-    not fit, by this second check, and how many functions are refused by these."""
-    doubts = {function: it.by for it in members for function in it.refused
-              if function in told and not told[function].is_refused(it.by) and told[function].doubted(it.by)}
-    if not doubts:
-        return 0
-    # The search is asked only where no answer of the function is refused any more, so those that name such an answer go
-    # too, and tell nothing. Where an answer for all clauses at once is taken away, the goals of single clauses are open.
-    broken = {function: list(dict.fromkeys(told[function].broken)) for function in doubts}
-    status, said = again(broken)
-    later = told_by(name, said) if status == 1 else {}
-    more = set()
-    for function, by in doubts.items():
-        beside = citing(answers_of(TOP / 'crates' / name, function), broken[function])
-        still = [goal for goal in later.get(function, Told()).unproved if is_of_meaning(goal, by) and goal not in beside]
-        if still:
-            told[function].unproved += still
-            more.add(function)
-        else:
-            told[function].beside += [f'its answer does not fit, and without it no goal of meaning is open: {goal}'
-                                      for goal in told[function].doubted(by)]
-    return len(more)
+def as_they_are(name, edits, status, said):
+    """By what a check of the functions says that the edits turn, as these are: how their goals without a written answer
+    are searched for, by function and goal. They are searched for by the first calls where these prove them, by all
+    where they do, and else by the prover's own search, which has found more. And what is wrong with the check."""
+    why = without_verdict(status, said)
+    if why:
+        return {}, [(None, f'{name}: as it is, {why}')]
+    told, searches = told_by(name, said), {}
+    for function, goal in [it for edit in edits for it in unwritten(name, edit)]:
+        misfits = told.get(function, Told()).misfits
+        by_all = {goal: (*FIRST, *LATER)} if goal not in misfits else {}
+        searches[function, goal] = {goal: FIRST} if at_first(goal) not in misfits else by_all
+    return searches, []
 
 
-def try_round(name, members, status, said, again):
-    """The members of a round that were tried, what is wrong by what their check said, each fault with the name of its
-    edit or None, and how many functions a second check refused, without answers that do not fit."""
-    if status not in (0, 1):
-        ended = f'with status {status}' if status is not None else f'not within {LIMIT} s'
-        last = ''.join(f'\n    {line}' for line in said.splitlines()[-3:])
-        return members, [(it.name, f'{name}/{it.name}.edit: the check ended {ended}{last}') for it in members], 0
+def unwritten(name, edit):
+    """The functions of an edit whose goals have no written answer, with these goals."""
+    return [(function, goal) for function, goal in edit.refused.items()
+            if goal != MEASURE and not is_written(answers_of(TOP / 'crates' / name, function), goal)]
+
+
+def try_round(name, members, status, said, asked):
+    """What is wrong with the members of a round by what their check said, in which so was asked, each fault with the
+    name of its edit or None."""
+    why = without_verdict(status, said)
+    if why:
+        return [(it.name, f'{name}/{it.name}.edit: {why}') for it in members]
     told, faults = told_by(name, said), []
-    more = with_more(told, name, members, again)
-    not_refused = {it.name: [function for function in it.refused
-                             if not told.get(function, Told()).is_refused(it.by)] for it in members}
-    tried = [it for it in members if not wait(not_refused[it.name], name, said)] or members
-    for edit in tried:
-        for function in not_refused[edit.name]:
-            why = told.get(function, Told()).why_not()
-            faults.append((edit.name, '\n    '.join([f'{name}/{edit.name}.edit: {function} is not refused', *why[:6]])))
-    for other in sorted(set(told) - {function for it in members for function in it.refused}):
-        turned = ', '.join(it.name for it in members)
-        faults.append((None, f'{name}: {other} has open goals, and none of these edits turns it: {turned}\n    '
-                       + '\n    '.join(told[other].why_not()[:3])))
-    return tried, faults, more
+    for edit in members:
+        for function, goal in edit.refused.items():
+            tried = tries(answers_of(TOP / 'crates' / name, function), goal) if asked[function][goal] else []
+            lines = told.pop(function, Told()).why_not(goal, tried)
+            if lines:
+                faults.append((edit.name, '\n    '.join([
+                    f'{name}/{edit.name}.edit: {function} is not refused', *lines[:6]])))
+    turned = ', '.join(it.name for it in members)
+    for other, one in sorted(told.items()):
+        lines = [*one.beside, *[f'{goal}: {why.splitlines()[0]}' for goal, why in one.misfits.items()]]
+        if lines:
+            faults.append((None, f'{name}: {other} has faults, and none of these edits turns it: {turned}\n    '
+                           + '\n    '.join(lines[:3])))
+    return faults
 
 
 def counted(edits, faults):
@@ -443,31 +503,33 @@ def counted(edits, faults):
 
 
 def try_crate(name, crates, libraries, jobs_now):
-    """Tries a crate's edits over these libraries, with as many jobs in each round as there are then: the edits, how
-    many functions were refused without an answer that did not fit, and what is wrong."""
+    """Tries a crate's edits over these libraries, with as many jobs in each check as there are then: the edits, and
+    what is wrong."""
     crate = TOP / 'crates' / name
-    (edits, faults), more = edits_of(crate), 0
-    left = edits
-    kept = crate / 'out' / 'incremental'
+    edits, faults = edits_of(crate)
     with tempfile.TemporaryDirectory(prefix='edits-') as room:
-        shutil.copytree(kept, f'{room}/kept') if kept.is_dir() else os.mkdir(f'{room}/kept')
+        os.mkdir(f'{room}/kept')
+
+        def check_of(places, asked):
+            command = [*libraries.priority(), *command_of(name, crates, libraries.folder, jobs_now())]
+            return check(Path(room), name, places, asked, command)
+
+        asked, searches = {}, {}
+        for function, goal in [it for edit in edits for it in unwritten(name, edit)]:
+            asked.setdefault(function, {})[goal] = {goal: (*FIRST, *LATER), at_first(goal): FIRST}
+        if asked:
+            searches, wrong = as_they_are(name, edits, *check_of([], asked))
+            faults += wrong
+        left = edits
         while left:
             members, places = first_round(left, crate)
-            command = [*libraries.priority(), *command_of(name, crates, libraries.folder, jobs_now())]
-
-            def check_of(functions, without):
-                return check(Path(room), name, places, [*command, *asked_of(functions)], without)
-
-            def again(without):
-                """The second check, of the functions alone whose answers it goes without."""
-                return check_of(without, without)
-
-            turned = [it for edit in members for it in edit.refused]
-            tried, wrong, others = try_round(name, members, *check_of(turned, {}), again)
-            faults += wrong
-            more += others
-            left = [it for it in left if it not in tried]
-    return edits, more, faults
+            asked = {function: {goal: searches.get((function, goal), {goal: FIRST})}
+                     for it in members for function, goal in it.refused.items()}
+            own = [it for it in members if not all(asked[function][goal] for function, goal in it.refused.items())]
+            lines = [line for it in own for line in searched_again(it, crate)]
+            faults += try_round(name, members, *check_of([*places, *lines], asked), asked)
+            left = [it for it in left if it not in members]
+    return edits, faults
 
 
 def in_turns(names, jobs, is_ready, is_beside, call):
@@ -516,9 +578,8 @@ def try_crates(chosen, crates, jobs, libraries):
             print(f'{name}: a crate below is not proved', flush=True)
             failed += 1
             continue
-        edits, more, faults = tried[name]
-        print(f'{name}: {len(edits)} edits; {more} functions were refused without an answer that did not fit',
-              *[text for _, text in faults], sep='\n', flush=True)
+        edits, faults = tried[name]
+        print(f'{name}: {len(edits)} edits', *[text for _, text in faults], sep='\n', flush=True)
         well, ill = counted(edits, faults)
         passed, failed = passed + well, failed + ill
     return passed, failed

@@ -14,156 +14,236 @@ from pathlib import Path
 sys.path.insert(0, str(Path(__file__).resolve().parent))
 import edits  # noqa: E402
 
-EXPECTED = 'no proof: expected answers in ./proofs/a/f/Answers.antt; '
-REFUSED = {
-    'a goal of what the function ensures':
-        f'fn low::a::f: {EXPECTED}`search` did not prove `returns`',
-    'a goal of one clause, behind a call that is not proved':
-        f'fn low::a::f: {EXPECTED}`search` did not prove `returns-clause-count`; '
-        'it calls `low::a::g`, which is not proved',
-    "a goal of a type's invariant beside an overflow":
-        f'fn low::a::f: {EXPECTED}`search` did not prove `overflow_add-result`, `invariant_of-self`',
-    "a goal of a loop's invariant":
-        f'fn low::a::f: {EXPECTED}`search` did not prove `loop-index-preserved`',
-    'a loop without a measure':
-        'fn low::a::f: no proof: expected a measure in ./proofs/a/f/Invariants.antt; '
-        'it calls `low::a::g`, which is not proved',
-}
+# What is said of a try that doesn't fit, of one that finds nothing, and behind all of the function.
 MISFIT = '''\
 ./proofs/a/f/Answers.antt:6:124: error: `{goal}`: as printed, the two types first differ where one has `0` (expected)
   and the other has `A = Rattle.low.specs.A.Pair` (found)
   computed as far as they go, the two types differ only where one has `c.g.result` (expected) and the other has `1`
-fn low::a::f: not proved
 '''
-# What is said of each of these, in which the reason stands.
+NOT_FOUND = '''\
+./proofs/a/f/Answers.antt:19:11: error: `{goal}`: `search`: no proof of `Rattle.low.specs.A.IsLeast c.args.k` was found.
+  Every way was tried: a deeper search would find nothing either
+'''
+STOPPED = '''\
+./proofs/a/f/Answers.antt:16:12: error: `{goal}`: `grind` stopped at its own limit of case splits, so the goal may hold
+'''
+NOT_PROVED = 'fn low::a::f: not proved; it stands on `Rattle.low.proofs.a.f.Answers.returns`, which antt refuses\n'
+NO_MEASURE = '''\
+fn low::a::f: no proof: expected a measure in ./proofs/a/f/Invariants.antt; it calls `low::a::g`, which is not proved
+'''
+GOALS = {
+    'a goal of what the function ensures': 'returns',
+    'a goal of one clause': 'returns-in-true-clause-count',
+    "a goal of a type's invariant": 'invariant_of-self',
+    "a goal of a loop's invariant": 'loop-index-preserved',
+    'what a called function requires': 'make-requires-2-clause-due',
+}
+NO_GOALS = ('overflow_add-result', 'overflow_cast-stages', 'index-requires', 'unwrap-requires', 'loop-at-smaller')
+# What is said of one try in place of what is said of it where it doesn't fit, and the reason that is told.
 NOT_REFUSED = {
-    'nothing': ('fn low::a::f: proved', 'it has no open goal'),
-    'an overflow': (f'fn low::a::f: {EXPECTED}`search` did not prove `overflow_add-result`', 'overflow_add-result'),
-    'a cast': (f'fn low::a::f: {EXPECTED}`search` did not prove `overflow_cast-stages`', 'overflow_cast-stages'),
-    'a bound': (f'fn low::a::f: {EXPECTED}`search` did not prove `index-requires`', 'index-requires'),
-    'a measure that does not fall':
-        (f'fn low::a::f: {EXPECTED}`search` did not prove `loop-at-smaller`', 'loop-at-smaller'),
-    'what a called function requires':
-        (f'fn low::a::f: {EXPECTED}`search` did not prove `make-requires-clause-due`', 'make-requires-clause-due'),
-    'a goal of another function': (f'fn low::a::g: {EXPECTED}`search` did not prove `returns`', 'it has no open goal'),
-    'a call that is not proved':
-        ('fn low::a::f: no proof: it calls `low::a::returns`, which is not proved', 'it has no open goal'),
-    'an answer that does not fit, of no goal of meaning': (MISFIT.format(goal='make-requires-clause-due'), 'make-requires'),
+    'a try of which nothing is said': ('', 'its goal is proved, or is none: returns'),
     'an answer that names a field that is gone': (
         './proofs/a/f/Answers.antt:10:26: error: `returns`: record `Rattle.low.proofs.a.f.Lts.After-g` (nearest: .self)\n'
-        '  has no field `self`. A record further in has one: write `.before.self` in place of `.self`\n'
-        'fn low::a::f: not proved', 'an answer names what is gone'),
-    'an answer of a goal that is gone': (
-        './proofs/a/f/Answers.antt:4:20: error: `returns-then`: `goal.returns-then`: module `Rattle.low.proofs.a.f.Goals` '
-        'has no `returns-then`\n  that can be named from here\nfn low::a::f: not proved', 'an answer names what is gone'),
-    'a goal that is no name': (
-        './proofs/a/f/Answers.antt:4:20: error: `returns-then`: `goal.returns-then` is no name\n'
-        'fn low::a::f: not proved', 'an answer names what is gone'),
-    'a run out of steps': (
-        './proofs/a/f/Answers.antt:4:20: error: `returns`: antt ran out of the steps that it may take\n'
-        'fn low::a::f: could not tell', 'a run out of steps'),
-    'a function of which the check could not tell': ('fn low::a::f: could not tell', 'no verdict'),
-    'a fault of an invariant': (
-        './proofs/a/f/Invariants.antt:4:20: error: `x` is not in scope\nfn low::a::f: not proved',
+        '  has no field `self`. A record further in has one: write `.before.self` in place of `.self`\n',
         'an answer names what is gone'),
+    'an answer of a goal that is gone': (
+        './proofs/a/f/Answers.antt:4:20: error: `returns`: `goal.returns`: module `Rattle.low.proofs.a.f.Goals` '
+        'has no `returns`\n  that can be named from here\n', 'an answer names what is gone'),
+    'a goal that is no name': (
+        './proofs/a/f/Answers.antt:4:20: error: `returns`: `goal.returns` is no name\n', 'an answer names what is gone'),
+    'a run out of steps': (
+        './proofs/a/f/Answers.antt:4:20: error: `returns`: antt ran out of the steps that it may take\n',
+        'a run out of steps'),
+    'a fault of a file of answers': (
+        NOT_FOUND.format(goal='returns') + './proofs/a/f/Answers.antt:4:20: error: a `use` line stands at the top\n',
+        'a fault of a proof file'),
+    'a fault of an invariant': (
+        NOT_FOUND.format(goal='returns') + './proofs/a/f/Invariants.antt:4:20: error: `x` is not in scope\n',
+        'a fault of a proof file'),
+    'a function of which the check could not tell': (
+        NOT_FOUND.format(goal='returns') + 'fn low::a::f: could not tell\n', 'no verdict'),
 }
-OPEN = f'fn low::a::f: {EXPECTED}`search` did not prove `returns-clause-at`'
-ANSWERS = '''use Rattle.low.proofs.a.f.Goals as goal
+
+
+def edit(goal='returns'):
+    return edits.Edit('turned', {'a::f': goal}, [('src/lib.rt', 'old', 'new')])
+
+
+def said_of(goal):
+    """What a check says where the search does not prove the goal."""
+    return NOT_FOUND.format(goal=goal) + NOT_PROVED
+
+
+def asked_for(*functions, goal='returns', by_own=False):
+    """What is asked of these functions: the goal by the first calls, or by the prover's own search."""
+    return {it: {goal: {} if by_own else {goal: edits.FIRST}} for it in functions}
+
+
+def faults(said, status=1, goal='returns', by_own=False):
+    """What is wrong with the one edit of a round, by what its check says."""
+    asked = asked_for('a::f', goal=goal, by_own=by_own)
+    return [text for _, text in edits.try_round('low', [edit(goal)], status, said, asked)]
+
+
+# Answers of two clauses, of which the second stands by a definition beside them.
+ANSWERS = '''\
+use Rattle.low.proofs.a.f.Goals.{in-Ok, in-Err}
+use Rattle.low.proofs.a.f.Goals as goal
 
 -- The first.
 pub returns-clause-at : goal.returns-clause-at
-returns-clause-at g c = first g c
-    c.requires
-
-    c.more
-
-pub returns-clause-at-2 : goal.returns-clause-at-2
-returns-clause-at-2 c = second c
-'''
-
-
-def edit(by=None):
-    return edits.Edit('turned', ['a::f'], [('src/lib.rt', 'old', 'new')], by)
-
-
-def faults(said, status=1, again=(1, ''), by=None):
-    """What is wrong with the one edit of a round, by what its check says, and a second check."""
-    _, wrong, _ = edits.try_round('low', [edit(by)], status, said, lambda without: again)
-    return [text for _, text in wrong]
-
-
-# Answers of which one names `low`, another one that, and a last one a longer name.
-CITING = '''\
-pub low : goal.low
-low c = c.is
-
-mid : goal.mid
-mid c = first (low c)
-
-pub high : goal.high
-high c =
-    second
-    (mid c)
-
-pub other : goal.other
-other c = lower c below-low
-'''
-
-
-# Two answers, of which the first is closed at the margin, and what imports their branches.
-CLOSED = '''\
-pub low : goal.low
-low c = elim c.branch (
+returns-clause-at g c = elim c.branch (
     in-Err
 )
 
-pub high : goal.high
-high c = in-Ok
+    c.more
+
+abbrev first : Bool → Bool
+first true = false
+first false = true
+
+pub returns-clause-at-2 : goal.returns-clause-at-2
+returns-clause-at-2 g c = first in-Ok
 '''
-BRANCHES = '''\
-use Rattle.low.proofs.a.f.Goals.{in-Ok, in-Err}
+ASKED = '''\
+use Rattle.std.proofs.Common as given
+use Rattle.std.proofs.lemmas.Grind as sets
+use Rattle.low.proofs.a.f.Goals.{in-Ok}
 use Rattle.low.proofs.a.f.Goals as goal
+
+-- The first.
+
+abbrev first : Bool → Bool
+first true = false
+first false = true
+
+returns-clause-at-2-as-written : goal.returns-clause-at-2
+returns-clause-at-2-as-written g c = first in-Ok
+pub returns-clause-at-2 : goal.returns-clause-at-2
+returns-clause-at-2 g c = first_of (
+    search (given.tests, given.rules),
+    grind (given.arith, sets.common_steps) steps 2000000,
+)
+
 '''
 
 
 def cases():
     """Each case: its name, and whether it holds."""
-    for name, said in REFUSED.items():
-        yield f'{name} refuses', faults(said) == []
-    for name, (said, reason) in NOT_REFUSED.items():
-        wrong = '\n'.join(faults(said))
+    for name, goal in GOALS.items():
+        yield f'{name} refuses', faults(said_of(goal), goal=goal) == []
+    yield 'a loop without a measure refuses', faults(NO_MEASURE, goal='measure') == []
+    yield 'a loop with its measure does not refuse', 'its loops have their measures' in '\n'.join(
+        faults('fn low::a::f: no holes', goal='measure'))
+    first = NOT_FOUND.format(goal='returns')
+    yield 'a search that stopped at a limit refuses', faults(STOPPED.format(goal='returns') + NOT_PROVED) == []
+    for name, (instead, reason) in NOT_REFUSED.items():
+        wrong = '\n'.join(faults(instead + NOT_PROVED))
         yield f'{name} does not refuse', 'low/turned.edit: a::f is not refused' in wrong and reason in wrong
-    by = 'make-requires-clause-due'
-    yield 'the goal that an edit names refuses it', faults(
-        f'fn low::a::f: {EXPECTED}`search` did not prove `{by}`', by=by) == []
-    misfit = MISFIT.format(goal='returns-clause-at')
-    yield 'an answer that does not fit, whose goal is open without it, refuses', faults(misfit, again=(1, OPEN)) == []
-    yield 'an answer that does not fit, without which a clause that had no answer is open, refuses', faults(
-        misfit, again=(1, f'fn low::a::f: {EXPECTED}`search` did not prove `returns-then`')) == []
-    for why, again in (('is proved', (0, 'fn low::a::f: proved')), ('has no verdict', (3, OPEN)),
-                       ('comes not in time', (None, OPEN)),
-                       ('leaves an overflow open', (1, f'fn low::a::f: {EXPECTED}`search` did not prove `overflow_add`'))):
-        yield (f'an answer that does not fit does not refuse where the check without it {why}',
-               'without it no goal of meaning is open' in '\n'.join(faults(misfit, again=again)))
+    own = 'fn low::a::f: no proof: expected answers; `search` did not prove `overflow_add`, `returns`; it calls `low::a::g`'
+    yield "a goal that the prover's own search leaves refuses", faults(own, by_own=True) == []
+    for said in (own.replace(', `returns`', ''), 'fn low::a::f: no holes', first + NOT_PROVED):
+        yield f'and none that it does not leave: {said[:60]}', "the prover's own search leaves others" in '\n'.join(
+            faults(said, by_own=True))
     for status in (2, 3, -9, None):
-        wrong = '\n'.join(faults(REFUSED['a goal of what the function ensures'], status))
+        wrong = '\n'.join(faults(first + NOT_PROVED, status))
         yield f'a check that ends with {status} refuses nothing', 'low/turned.edit: the check ended' in wrong
     yield 'what such a check said last is told', 'no such library' in '\n'.join(faults('no such library', 2))
-    yield 'an open goal that no edit turns is a fault', any(
-        'low: a::g has open goals' in it for it in faults(f'{OPEN}\nfn low::a::g: {EXPECTED}`search` did not prove `returns`'))
-    left = edits.without_answer(ANSWERS, 'returns-clause-at')
-    yield 'an answer that names another one is found, and one that names that', edits.citing(CITING, ['low']) == ['high', 'mid']
-    yield 'an answer is taken away whole', 'first g' not in left and 'c.more' not in left and 'second c' in left
-    left = edits.without_answer(CLOSED, 'low')
-    yield 'an answer is taken away whole that is closed at the margin', left.strip() == 'pub high : goal.high\nhigh c = in-Ok'
-    yield 'branches that no answer names are not imported', edits.without_idle_branches(
-        f'{BRANCHES}{left}') == f'use Rattle.low.proofs.a.f.Goals.{{in-Ok}}\nuse Rattle.low.proofs.a.f.Goals as goal\n{left}'
-    yield 'an import of branches goes with the last answer that names one', edits.without_idle_branches(
-        f'{BRANCHES}high c = c.is\n') == 'use Rattle.low.proofs.a.f.Goals as goal\nhigh c = c.is\n'
+    misfit = MISFIT.format(goal='returns').replace('/a/f/', '/a/g/')
+    yield 'an answer that does not fit, of a function that no edit turns, is a fault', any(
+        'low: a::g has faults' in it for it in faults(f'{first}{NOT_PROVED}{misfit}'))
+    yield 'a goal of such a function that nothing is tried at is none', faults(
+        f'{first}{NOT_PROVED}fn low::a::g: no proof: expected answers; `#[tactic(none)]` leaves `returns`') == []
+    yield from of_asking()
     yield from of_counts()
     yield from of_runs()
     yield from of_turns()
     yield from of_libraries()
+
+
+def of_asking():
+    """The cases of a file of answers in which goals are asked for."""
+    def first(goal):
+        return {goal: {goal: edits.FIRST}}
+
+    asked = edits.asking(ANSWERS, 'low', 'a::f', first('returns-clause-at-2'))
+    yield 'the answer that is written is tried by another name, and the search by the goal\'s', asked == ASKED
+    asked = edits.asking(ANSWERS, 'low', 'a::f', first('returns-clause-at'))
+    yield 'an answer of several lines is tried whole', (
+        'returns-clause-at-as-written : goal.returns-clause-at\nreturns-clause-at-as-written g c = elim c.branch (\n'
+        '    in-Err\n)\n\n    c.more\n' in asked)
+    yield 'the others go, and what they alone name is not imported', asked.count('returns-clause-at-2') == 0 and (
+        'in-Ok' not in asked and 'Goals.{in-Err}\n' in asked)
+    asked = edits.asking(ANSWERS.replace('first in-Ok', 'first (returns-clause-at in-Ok)'), 'low', 'a::f', first('returns-clause-at-2'))
+    yield 'an answer that another one names is a hole', (
+        'pub returns-clause-at : goal.returns-clause-at\nreturns-clause-at = ?\n' in asked)
+    asked = edits.asking('', 'low', 'a::f', {**first('returns'), 'invariant_of-self': {
+        'invariant_of-self': (*edits.FIRST, *edits.LATER), 'invariant_of-self-at-first': edits.FIRST}})
+    yield 'goals are asked for where the function has no file of answers, each by its searches', (
+        'use Rattle.low.proofs.a.f.Goals as goal\n' in asked and 'pub returns : goal.returns\nreturns c = first_of (' in asked
+        and 'pub invariant_of-self : goal.invariant_of-self\ninvariant_of-self c = first_of (' in asked
+        and '\ninvariant_of-self-at-first : goal.invariant_of-self\ninvariant_of-self-at-first c = first_of (' in asked
+        and asked.count('sets.elements') == 1)
+    yield 'a measure is no goal', 'measure' not in edits.asking(ANSWERS, 'low', 'a::f', first('measure'))
+    with tempfile.TemporaryDirectory() as room:
+        top, edits.TOP = edits.TOP, Path(room)
+        path = Path(room) / 'crates/low/proofs/a/f/Answers.antt'
+        path.parent.mkdir(parents=True)
+        path.write_text(ANSWERS, encoding='utf-8')
+        goal = 'returns-clause-at'
+        search, misfit = NOT_FOUND.format(goal=goal), MISFIT.format(goal=f'{goal}-as-written')
+        yield 'an answer that does not fit refuses, where the search finds nothing', faults(search + misfit, goal=goal) == []
+        for what, said in ((f'{goal}-as-written', search), (goal, misfit)):
+            yield f'a goal that is proved by {what} does not refuse', f'its goal is proved, or is none: {what}' in '\n'.join(
+                faults(said + NOT_PROVED, goal=goal))
+        yield 'a goal is asked for as it is where no answer of it is written', edits.unwritten(
+            'low', edit('returns')) == [('a::f', 'returns')]
+        for it in (goal, 'measure'):
+            yield f'and {it} is not', edits.unwritten('low', edit(it)) == []
+        edits.TOP = top
+    late, none = NOT_FOUND.format(goal='returns-at-first'), NOT_FOUND.format(goal='returns')
+    for what, said, search in (('the first calls prove, by these', '', {'returns': edits.FIRST}),
+                               ('the later ones prove, by all', late, {'returns': (*edits.FIRST, *edits.LATER)}),
+                               ("they do not prove, by the prover's own search", late + none, {})):
+        yield f'a goal is searched for that as it is {what}', edits.as_they_are('low', [edit()], 1, said) == (
+            {('a::f', 'returns'): search}, [])
+    for status in (2, 3, None):
+        yield f'a check of what is as it is that ends with {status} is a fault', len(
+            edits.as_they_are('low', [edit()], status, '')[1]) == 1
+    yield from of_lines()
+
+
+# Three functions, of which the last one has a line of its own.
+CODE = '''\
+// The first.
+#[inline(always)]
+pub(crate) fn f() -> u64 {
+    1
+}
+
+impl A {
+    pub fn g(&self) -> u64 {
+        2
+    }
+}
+
+#[tactic(auto, unfolding(crate::specs::A::a))]
+fn h() -> u64 {
+    3
+}
+'''
+
+
+def of_lines():
+    """The cases of the line by which the prover searches in one function."""
+    with tempfile.TemporaryDirectory() as room:
+        crate = Path(room)
+        (crate / 'src').mkdir()
+        (crate / 'src/lib.rt').write_text(CODE, encoding='utf-8')
+        for old, above in (('1', 'pub(crate) fn f'), ('2', '    pub fn g'), ('3', None), ('// The first', None)):
+            turned = edits.Edit('turned', {'a::f': 'returns'}, [('src/lib.rt', old, 'new')])
+            at = [] if above is None else [('src/lib.rt', CODE.index(above), CODE.index(above), '#[tactic(auto)]\n')]
+            yield f'it stands above {above} for {old}', edits.searched_again(turned, crate) == at
 
 
 def of_turns():
@@ -246,11 +326,11 @@ def of_libraries():
 
 def of_counts():
     """The cases of what is counted: each edit once, and each fault of no edit."""
-    both = edits.Edit('both', ['a::f', 'a::g'], [('src/lib.rt', 'old', 'new')])
-    said = f'{OPEN}\nfn low::a::h: {EXPECTED}`search` did not prove `returns`'
-    _, wrong, _ = edits.try_round('low', [edit()], 1, said, lambda without: (1, ''))
-    yield 'an edit passes beside an open goal that no edit turns, which fails', edits.counted([edit()], wrong) == (1, 1)
-    _, wrong, _ = edits.try_round('low', [both], 0, 'fn low::a::f: proved', lambda without: (0, ''))
+    both = edits.Edit('both', {'a::f': 'returns', 'a::g': 'returns'}, [('src/lib.rt', 'old', 'new')])
+    misfit = MISFIT.format(goal='returns').replace('/a/f/', '/a/h/')
+    wrong = edits.try_round('low', [edit()], 1, said_of('returns') + misfit, asked_for('a::f'))
+    yield 'an edit passes beside a fault of a function that no edit turns, which fails', edits.counted([edit()], wrong) == (1, 1)
+    wrong = edits.try_round('low', [both], 0, 'fn low::a::f: no holes', asked_for('a::f', 'a::g'))
     yield 'an edit that two functions let through fails once', len(wrong) == 2 and edits.counted([both], wrong) == (0, 1)
     with tempfile.TemporaryDirectory() as room:
         crate = Path(room) / 'low'
@@ -260,7 +340,7 @@ def of_counts():
         for name, text in (('fit', 'old: old\nnew: new'), ('double', 'old: twice\nnew: once'),
                            ('gone', 'old: gone\nnew: there'), ('idle', 'old: old\nnew: old'), ('cut', 'old: old'),
                            ('half', 'old: old\nnew: new\nold: twice')):
-            (crate / f'edits/{name}.edit').write_text(f'refused: a::f\nfile: src/lib.rt\n{text}\n', encoding='utf-8')
+            (crate / f'edits/{name}.edit').write_text(f'refused: a::f\nby: returns\nfile: src/lib.rt\n{text}\n', encoding='utf-8')
         (crate / 'edits/unread.edit').write_text('nothing of an edit\n', encoding='utf-8')
         read, bad = edits.edits_of(crate)
         yield 'an edit that fits is read beside bad ones', [it.name for it in read] == ['fit']
@@ -270,19 +350,30 @@ def of_counts():
 
 
 def of_runs():
-    """The cases of commands that are run."""
+    """The cases of commands that are run, and of edits that are read."""
     with tempfile.TemporaryDirectory() as room:
         yield 'the status of a command is seen', edits.run(['sh', '-c', 'echo said; exit 3'], room, 60) == (3, 'said\n')
         yield 'a command is stopped at its limit', edits.run(['sh', '-c', 'echo said; sleep 60'], room, 5) == (None, 'said\n')
         path = Path(room) / 'named.edit'
-        for by, well in (('make-requires-clause-due', True), ('returns', False), ('index-requires', False),
-                         ('overflow_add-result', False)):
-            path.write_text(f'refused: a::f\nby: {by}\nfile: src/lib.rt\nold: a\nnew: b\n', encoding='utf-8')
+        change = 'file: src/lib.rt\nold: a\nnew: b\n'
+
+        def read(above):
+            """The functions of an edit with these lines above its change and their goals, or nothing where it is bad."""
+            path.write_text(above + change, encoding='utf-8')
             try:
-                read = edits.read_edit(path).by == by
+                return edits.read_edit(path).refused
             except edits.BadEdit:
-                read = False
-            yield f'an edit {"may" if well else "may not"} name {by}', read == well
+                return None
+
+        for goal in (*GOALS.values(), 'measure'):
+            yield f'an edit may name {goal}', read(f'refused: a::f\nby: {goal}\n') == {'a::f': goal}
+        for goal in NO_GOALS:
+            yield f'an edit may not name {goal}', read(f'refused: a::f\nby: {goal}\n') is None
+        yield 'an edit names a goal of each function', read('refused: a::f\nby: returns\nrefused: a::g\nby: measure\n') == {
+            'a::f': 'returns', 'a::g': 'measure'}
+        yield 'a function without a goal is bad', read('refused: a::f\n') is None
+        yield 'so is one before another one', read('refused: a::f\nrefused: a::g\nby: returns\n') is None
+        yield 'so is a goal without a function', read('by: returns\n') is None
 
 
 def main():
