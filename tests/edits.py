@@ -10,8 +10,8 @@ requires; or by `measure`, where a loop has none any more, since each call has t
 goal of an overflow, a bound, a cast or an index, no proof that names what the edit took away, and no run out of steps.
 
 Each edit is judged by itself: its goal has to stay open, whatever is tried at it. Tried are the answer that is written
-for the goal, if there is one, and a search by the calls that the prover makes where there is none: by the first ones, or
-by all where only all prove it as its function is. Both stand in the file of answers of the turned function, with
+for the goal, if there is one, and a search by the calls that the prover makes where there is none: by the first ones,
+or by all where only all prove it as its function is. Both stand in the file of answers of the turned function, with
 nothing else, and what is said of each tells whether it fits. One of which nothing is said proves the goal, and so does
 one that isn't read at all: neither refuses. A goal without a written answer that these calls don't prove as its
 function is, is left to the prover's own search in the turned one. A check that ends without a verdict, or not in time,
@@ -19,8 +19,8 @@ refuses nothing.
 
 Much of a check's time passes before its first proof, so a crate's edits are tried together, in rounds of at most
 ROUND, in each of which no function is turned twice. A round checks the functions alone that its edits turn, with those
-that they call, and hardly anything is searched for but what the edits name. No written answer of another function may be
-refused. What a round has checked is not checked again in a later one. That the crate is proved as it is, is not seen
+that they call, and hardly anything is searched for but what the edits name. No written answer of another function may
+be refused. What a round has checked is not checked again in a later one. That the crate is proved as it is, is not seen
 here.
 
 With words, it takes the crates with these names alone; with --jobs N, so many crates side by side, and so many jobs in
@@ -332,6 +332,7 @@ class Part:
     behind: str
 
     def names(self, name):
+        """Whether the text behind the head names this."""
         return re.search(rf'(?<![\w-]){re.escape(name)}(?![\w-])', self.behind) is not None
 
 
