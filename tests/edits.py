@@ -10,18 +10,19 @@ requires; or by `measure`, where a loop has none any more, since each call has t
 goal of an overflow, a bound, a cast or an index, no proof that names what the edit took away, and no run out of steps.
 
 Each edit is judged by itself: its goal has to stay open, whatever is tried at it. Tried are the answer that is written
-for the goal, if there is one, and a search by the calls that the prover makes where there is none: by the first ones,
-or by all where only all prove it as its function is. Both stand in the file of answers of the turned function, with
-nothing else, and what is said of each tells whether it fits. One of which nothing is said proves the goal, and so does
-one that isn't read at all: neither refuses. A goal without a written answer that these calls don't prove as its
-function is, is left to the prover's own search in the turned one. A check that ends without a verdict, or not in time,
-refuses nothing.
+for the goal, if there is one, and a search by the calls that the prover makes first where there is none. Both stand in
+the file of answers of the turned function, with nothing else, and what is said of each tells whether it fits. One of
+which nothing is said proves the goal, and so does one that isn't read at all: neither refuses. A check that ends without
+a verdict, or not in time, refuses nothing.
+
+A goal at which no written answer is tried may be open for what the search lacks alone. It isn't where values are found
+that break it. Elsewhere the same is tried in the function as it is, and where it doesn't prove the goal there, the edit
+is tried once more, by the prover's own search in the turned function.
 
 Much of a check's time passes before its first proof, so a crate's edits are tried together, in rounds of at most
-ROUND, in each of which no function is turned twice. A round checks the functions alone that its edits turn, with those
-that they call, and hardly anything is searched for but what the edits name. No written answer of another function may
-be refused. What a round has checked is not checked again in a later one. That the crate is proved as it is, is not seen
-here.
+ROUND, in each of which no function is turned twice. The bodies of functions that a round doesn't turn stand empty in it,
+since a function is known to its callers by its contract. What a round has checked is not checked again in a later one.
+That the crate is proved as it is, is not seen here.
 
 With words, it takes the crates with these names alone; with --jobs N, so many crates side by side, and so many jobs in
 all where fewer crates are left. What isn't proved yet of the crates below is proved first. The last line is
@@ -41,9 +42,14 @@ from concurrent import futures
 from dataclasses import dataclass, field
 from pathlib import Path
 
+sys.path.insert(0, str(Path(__file__).resolve().parent))
+from bodies import EMPTY, NEVER, NEVER_GOALS, functions_in, may_be_empty  # noqa: E402
+
 TOP = Path(__file__).resolve().parent.parent
 KIT = Path(shutil.which('rt')).resolve().parent.parent
 PARTS = ('src', 'specs', 'proofs')
+# The files below proofs/ that belong to one function.
+OF_FUNCTION = ('Answers.antt', 'Invariants.antt', 'Proof.antt')
 # Seconds for one check, which may have to prove a whole crate.
 LIMIT = 3600
 # So many edits at most in a round: the next one takes the jobs that are free by then.
@@ -58,21 +64,20 @@ MEANING = re.compile(r'(returns|invariant_of)(-|$)|loop(-\S+)?-(init|preserved)(
 # What a called function requires, but for the goals of an index and of what can't be.
 REQUIRED = re.compile(r'(?<!index)(?<!unreachable)(?<!unwrap)(?<!expect)-requires(-|$)')
 MEASURE = 'measure'
-# By the first line of a crate the prover searches for what no answer proves, and by the second it doesn't; by the line
-# above a function it does again. And what such a line stands above.
-SEARCHED, UNSEARCHED, SEARCHED_AGAIN = '#![tactic(auto)]\n', '#![tactic(none)]\n', '#[tactic(auto)]\n'
-FUNCTION = re.compile(r'^ *(?:pub(?:\([a-z]+\))? )?(?:const )?(?:unsafe )?(?:extern "C" )?fn ', re.M)
-# The calls that the prover makes first at a goal without an answer, and those with which it goes on; and where their
-# lists of lemmas come from.
+# By this line above a function the prover doesn't search for what no answer proves of it.
+UNSEARCHED = '#[tactic(none)]\n'
+# The calls that the prover makes first at a goal without an answer, and where their lists of lemmas come from.
 FIRST = ('search (given.tests, given.rules)', 'grind (given.arith, sets.common_steps) steps 2000000')
-LATER = ('grind (given.arith, sets.elements) steps 2000000', 'grind (given.arith, sets.moves) steps 2000000',
-         'search (sets.pieces, given.arith)')
+# What is no call: a function with a refused answer isn't offered a file for its other goals, which costs seconds.
+VAIN = ('no_such_call',)
 LISTS = 'use Rattle.std.proofs.Common as given\nuse Rattle.std.proofs.lemmas.Grind as sets\n'
 # The head of an answer, and of a definition beside the answers.
 HEAD = re.compile(r'^(?:abbrev )?(?:pub )?(\S+) : (.*)$', re.M)
 # What the prover says of an answer that names what an edit took away, and of a call that has no end.
 LACKING = re.compile(r'has no field|is not in scope|has no `|was not admitted|is no name')
 SPENT = re.compile(r'r[ua]n out of|could not tell')
+# What it says of a goal that is false: it has found values for what the goal names.
+BROKEN = re.compile(r'the goal does not follow\.\s+The hypotheses hold, and the goal fails')
 # What it says of an answer that it refuses, or of a file of answers: the function's folder, the name, and why.
 REFUSED = re.compile(r'^\./proofs/(\S+)/(?:Answers|Invariants|Proof)\.antt\S*: error: (?:`([^`]+)`: )?'
                      r'(.*(?:\n  .*)*)', re.M)
@@ -283,32 +288,40 @@ def run(command, room, limit):
 
 def check(room, name, places, asked, command):
     """The status of a check of the crate in this folder, with these places of it turned, in which of these functions
-    these goals are asked for alone, each by these searches, and what the check says. A goal without one is left to the
-    prover's own search."""
+    these goals are asked for alone, each by these searches, and what the check says. A function with a goal that has no
+    searches is left to the prover. The bodies of all others that aren't turned stand empty."""
     for part in PARTS:
         shutil.rmtree(room / part, ignore_errors=True)
         if (TOP / 'crates' / name / part).is_dir():
             shutil.copytree(TOP / 'crates' / name / part, room / part)
-    for file, begin, end, new in sorted(places, reverse=True):
+    searched = [it for it in asked if all(asked[it].values())]
+    for file, begin, end, new in sorted([*places, *emptied(room, places, asked, searched)], reverse=True):
         text = (room / file).read_text(encoding='utf-8')
         (room / file).write_text(text[:begin] + new + text[end:], encoding='utf-8')
     root = room / 'src/lib.rt'
-    root.write_text(root.read_text(encoding='utf-8').replace(SEARCHED, UNSEARCHED), encoding='utf-8')
-    for function, goals in asked.items():
-        if all(goals.values()):
-            path = answers_at(room, function)
-            path.parent.mkdir(parents=True, exist_ok=True)
-            path.write_text(asking(answers_of(room, function), name, function, goals), encoding='utf-8')
+    root.write_text(root.read_text(encoding='utf-8') + NEVER, encoding='utf-8')
+    answers = {it: asking(answers_of(room, it), name, it, asked[it]) for it in searched}
+    answers['never'] = asking('', name, 'never', {it: {it: ()} for it in NEVER_GOALS})
+    for function, text in answers.items():
+        path = answers_at(room, function)
+        path.parent.mkdir(parents=True, exist_ok=True)
+        path.write_text(text, encoding='utf-8')
     return run([*command, '--allow-holes', *[word for it in asked for word in ('--only', it)]], room, LIMIT)
 
 
-def searched_again(edit, crate):
-    """The place above the function in which the edit's first one stands, with the line by which the prover searches
-    there. A function with such a line of its own has none."""
-    file, begin, _, _ = next(places_of(edit, crate))
-    text = (crate / file).read_text(encoding='utf-8')
-    above = [it.start() for it in FUNCTION.finditer(text, 0, begin)][-1:]
-    return [(file, it, it, SEARCHED_AGAIN) for it in above if '#[tactic(' not in text[:it].rpartition('\n\n')[2]]
+def emptied(crate, places, asked, searched):
+    """What is changed in a copy of a crate in which these places are turned and these functions are asked of, as places
+    with their new text: other bodies are empty, and the prover doesn't search in those with searches of their own. The
+    files of answers and invariants of the empty ones go."""
+    functions, paths = [*functions_in(crate)], [it.split('::') for it in asked]
+    empty = [it for it in functions if may_be_empty(it, paths, places)]
+    for path in [it for it in (crate / 'proofs').glob('**/*.antt') if it.name in OF_FUNCTION]:
+        names = list(path.parent.relative_to(crate / 'proofs').parts)
+        if any(it.is_at(names) for it in empty):
+            path.unlink()
+    unsearched = [it for it in functions if not it.has_tactic and any(it.is_at(path.split('::')) for path in searched)]
+    return [(it.file, it.begin, it.end, EMPTY) for it in empty] + [
+        (it.file, it.head, it.head, UNSEARCHED) for it in unsearched]
 
 
 def answers_at(crate, function):
@@ -353,9 +366,9 @@ def as_written(goal):
     return f'{goal}-as-written'
 
 
-def at_first(goal):
-    """The name by which the calls alone are tried that the prover makes first."""
-    return f'{goal}-at-first'
+def in_vain(goal):
+    """The name by which what is no call is tried."""
+    return f'{goal}-in-vain'
 
 
 def tries(text, goal):
@@ -386,7 +399,9 @@ def asking(text, crate, function, goals):
 
 
 def first_of(calls):
-    """What tries these calls one by one."""
+    """What tries these calls one by one, or a hole where there is none."""
+    if len(calls) < 2:
+        return f'{calls[0] if calls else "?"}\n'
     return 'first_of (\n' + ''.join(f'    {it},\n' for it in calls) + ')\n'
 
 
@@ -409,6 +424,10 @@ class Told:
     unproved: list[str] = field(default_factory=list)
     beside: list[str] = field(default_factory=list)
     has_no_measure: bool = False
+
+    def is_broken(self, goal):
+        """Whether values are found of which all holds that is known there, and not the goal."""
+        return BROKEN.search(self.misfits.get(goal, '')) is not None
 
     def why_not(self, goal, tried):
         """Why the goal does not refuse an edit, where this is tried at it or else the prover's own search, or nothing
@@ -453,19 +472,29 @@ def without_verdict(status, said):
     return f'the check ended {ended}' + ''.join(f'\n    {line}' for line in said.splitlines()[-3:])
 
 
-def as_they_are(name, edits, status, said):
-    """By what a check of the functions says that the edits turn, as these are: how their goals without a written answer
-    are searched for, by function and goal. They are searched for by the first calls where these prove them, by all
-    where they do, and else by the prover's own search, which has found more. And what is wrong with the check."""
+def in_doubt(name, members, said):
+    """The members of a round whose goals no written answer is tried at and no values break, by what their check said:
+    it may be that such a goal is open because the search lacks something, which the right body needs too. Each comes
+    with its functions and their goals of that kind."""
+    told, found = told_by(name, said), []
+    for edit in members:
+        goals = [(function, goal) for function, goal in unwritten(name, edit)
+                 if not told.get(function, Told()).is_broken(goal)]
+        if goals:
+            found.append((edit, goals))
+    return found
+
+
+def unproved_as_they_are(name, goals, status, said):
+    """Which of these goals, each of a function, the search doesn't prove in the function as it is, by what a check says
+    of the functions as they are; and what is wrong with the check, in which what is no call must not prove a goal."""
     why = without_verdict(status, said)
     if why:
-        return {}, [(None, f'{name}: as it is, {why}')]
-    told, searches = told_by(name, said), {}
-    for function, goal in [it for edit in edits for it in unwritten(name, edit)]:
-        misfits = told.get(function, Told()).misfits
-        by_all = {goal: (*FIRST, *LATER)} if goal not in misfits else {}
-        searches[function, goal] = {goal: FIRST} if at_first(goal) not in misfits else by_all
-    return searches, []
+        return [], [(None, f'{name}: as it is, {why}')]
+    misfits = {function: one.misfits for function, one in told_by(name, said).items()}
+    return [(function, goal) for function, goal in goals if goal in misfits.get(function, {})], [
+        (None, f'{name}: {function} is not tried as it is') for function, goal in goals
+        if in_vain(goal) not in misfits.get(function, {})]
 
 
 def unwritten(name, edit):
@@ -503,34 +532,48 @@ def counted(edits, faults):
     return sum(it.name not in faulty for it in edits), len(faulty) + sum(name is None for name, _ in faults)
 
 
+class Crate:
+    """A crate whose edits are tried, in a folder of its own, and how it is checked, with as many jobs as there are."""
+
+    def __init__(self, name, crates, libraries, jobs_now, room):
+        self.name, self.room, self.folder = name, Path(room), TOP / 'crates' / name
+        self.command = lambda: [*libraries.priority(), *command_of(name, crates, libraries.folder, jobs_now())]
+
+    def check(self, places, asked):
+        """The status of a check with these places turned, in which so is asked, and what it says."""
+        return check(self.room, self.name, places, asked, self.command())
+
+    def try_edits(self, edits, by_prover=()):
+        """Tries these edits in rounds, in which these goals, each of a function, are left to the prover: what is wrong,
+        and which edits are in doubt."""
+        left, faults, doubts = edits, [], []
+        while left:
+            members, places = first_round(left, self.folder)
+            asked = {function: {goal: {} if (function, goal) in by_prover else {goal: FIRST}}
+                     for it in members for function, goal in it.refused.items()}
+            status, said = self.check(places, asked)
+            faults += try_round(self.name, members, status, said, asked)
+            doubts += in_doubt(self.name, members, said)
+            left = [it for it in left if it not in members]
+        return faults, doubts
+
+    def try_again(self, doubts):
+        """Tries the edits in doubt once more of which a goal isn't proved in the function as it is: what is wrong."""
+        goals, asked = [it for _, goals in doubts for it in goals], {}
+        for function, goal in goals:
+            asked.setdefault(function, {})[goal] = {goal: FIRST, in_vain(goal): VAIN}
+        unproved, faults = unproved_as_they_are(self.name, goals, *self.check([], asked)) if goals else ([], [])
+        return faults + self.try_edits([it for it, goals in doubts if set(goals) & set(unproved)], unproved)[0]
+
+
 def try_crate(name, crates, libraries, jobs_now):
-    """Tries a crate's edits over these libraries, with as many jobs in each check as there are then: the edits, and
-    what is wrong."""
-    crate = TOP / 'crates' / name
-    edits, faults = edits_of(crate)
+    """Tries a crate's edits over these libraries: the edits, and what is wrong."""
+    edits, faults = edits_of(TOP / 'crates' / name)
     with tempfile.TemporaryDirectory(prefix='edits-') as room:
         os.mkdir(f'{room}/kept')
-
-        def check_of(places, asked):
-            command = [*libraries.priority(), *command_of(name, crates, libraries.folder, jobs_now())]
-            return check(Path(room), name, places, asked, command)
-
-        asked, searches = {}, {}
-        for function, goal in [it for edit in edits for it in unwritten(name, edit)]:
-            asked.setdefault(function, {})[goal] = {goal: (*FIRST, *LATER), at_first(goal): FIRST}
-        if asked:
-            searches, wrong = as_they_are(name, edits, *check_of([], asked))
-            faults += wrong
-        left = edits
-        while left:
-            members, places = first_round(left, crate)
-            asked = {function: {goal: searches.get((function, goal), {goal: FIRST})}
-                     for it in members for function, goal in it.refused.items()}
-            own = [it for it in members if not all(asked[function][goal] for function, goal in it.refused.items())]
-            lines = [line for it in own for line in searched_again(it, crate)]
-            faults += try_round(name, members, *check_of([*places, *lines], asked), asked)
-            left = [it for it in left if it not in members]
-    return edits, faults
+        crate = Crate(name, crates, libraries, jobs_now, room)
+        wrong, doubts = crate.try_edits(edits)
+        return edits, faults + wrong + crate.try_again(doubts)
 
 
 def in_turns(names, jobs, is_ready, is_beside, call):

@@ -13,6 +13,7 @@ from pathlib import Path
 
 sys.path.insert(0, str(Path(__file__).resolve().parent))
 import edits  # noqa: E402
+from bodies import Function, functions_of  # noqa: E402
 
 # What is said of a try that doesn't fit, of one that finds nothing, and behind all of the function.
 MISFIT = '''\
@@ -27,6 +28,17 @@ NOT_FOUND = '''\
 STOPPED = '''\
 ./proofs/a/f/Answers.antt:16:12: error: `{goal}`: `grind` stopped at its own limit of case splits, so the goal may hold
 '''
+# What is said where values break the goal: by the search that is one of numbers, and by the other one that asked it.
+BROKEN = '''\
+./proofs/a/f/Answers.antt:16:12: error: `returns`: `grind`: the goal does not follow. The hypotheses hold, and the goal fails at
+  `c.args.k` = `1`. The part of the goal that is false there is `given.leb 2 c.args.k`
+'''
+FOUND_BROKEN = '''\
+./proofs/a/f/Answers.antt:16:12: error: `returns`: `search`: no proof of `given.leb 2 c.args.k` was found. `grind` was asked too,
+  since the list holds `arith`. In its own words: `grind`: the goal does not follow.
+  The hypotheses hold, and the goal fails at `c.args.k` = `1`
+'''
+VAIN = './proofs/a/f/Answers.antt:21:21: error: `returns-in-vain`: `no_such_call` is not in scope\n'
 NOT_PROVED = 'fn low::a::f: not proved; it stands on `Rattle.low.proofs.a.f.Answers.returns`, which antt refuses\n'
 NO_MEASURE = '''\
 fn low::a::f: no proof: expected a measure in ./proofs/a/f/Invariants.antt; it calls `low::a::g`, which is not proved
@@ -177,13 +189,10 @@ def of_asking():
     asked = edits.asking(ANSWERS.replace('first in-Ok', 'first (returns-clause-at in-Ok)'), 'low', 'a::f', first('returns-clause-at-2'))
     yield 'an answer that another one names is a hole', (
         'pub returns-clause-at : goal.returns-clause-at\nreturns-clause-at = ?\n' in asked)
-    asked = edits.asking('', 'low', 'a::f', {**first('returns'), 'invariant_of-self': {
-        'invariant_of-self': (*edits.FIRST, *edits.LATER), 'invariant_of-self-at-first': edits.FIRST}})
-    yield 'goals are asked for where the function has no file of answers, each by its searches', (
+    asked = edits.asking('', 'low', 'a::f', {**first('returns'), **first('invariant_of-self')})
+    yield 'goals are asked for where the function has no file of answers', (
         'use Rattle.low.proofs.a.f.Goals as goal\n' in asked and 'pub returns : goal.returns\nreturns c = first_of (' in asked
-        and 'pub invariant_of-self : goal.invariant_of-self\ninvariant_of-self c = first_of (' in asked
-        and '\ninvariant_of-self-at-first : goal.invariant_of-self\ninvariant_of-self-at-first c = first_of (' in asked
-        and asked.count('sets.elements') == 1)
+        and 'pub invariant_of-self : goal.invariant_of-self\ninvariant_of-self c = first_of (' in asked)
     yield 'a measure is no goal', 'measure' not in edits.asking(ANSWERS, 'low', 'a::f', first('measure'))
     with tempfile.TemporaryDirectory() as room:
         top, edits.TOP = edits.TOP, Path(room)
@@ -201,19 +210,31 @@ def of_asking():
         for it in (goal, 'measure'):
             yield f'and {it} is not', edits.unwritten('low', edit(it)) == []
         edits.TOP = top
-    late, none = NOT_FOUND.format(goal='returns-at-first'), NOT_FOUND.format(goal='returns')
-    for what, said, search in (('the first calls prove, by these', '', {'returns': edits.FIRST}),
-                               ('the later ones prove, by all', late, {'returns': (*edits.FIRST, *edits.LATER)}),
-                               ("they do not prove, by the prover's own search", late + none, {})):
-        yield f'a goal is searched for that as it is {what}', edits.as_they_are('low', [edit()], 1, said) == (
-            {('a::f', 'returns'): search}, [])
+    yield 'what is no call is asked for by its name, and a goal without a call is a hole', (
+        '\nreturns-in-vain c = no_such_call\n' in edits.asking('', 'low', 'a::f', {'returns': {'returns-in-vain': edits.VAIN}})
+        and '\nreturns c = ?\n' in edits.asking('', 'low', 'a::f', {'returns': {'returns': ()}}))
+    yield from of_doubts()
+    yield from of_bodies()
+
+
+def of_doubts():
+    """The cases of goals that may be open for what the search lacks, and of functions as they are."""
+    none = NOT_FOUND.format(goal='returns')
+    for what, said, doubts in (('a search does not find', none, [(edit(), [('a::f', 'returns')])]),
+                               ('values break', BROKEN, []),
+                               ('a search does not find by its own words, and values break', FOUND_BROKEN, [])):
+        yield f'a goal that {what} is {"in" if doubts else "beyond"} doubt', edits.in_doubt('low', [edit()], said) == doubts
+    yield 'a measure is beyond doubt', edits.in_doubt('low', [edit('measure')], NO_MEASURE) == []
+    goals, vain = [('a::f', 'returns')], VAIN
+    for what, said, unproved in (('the search proves', '', []), ('the search does not prove', none, goals)):
+        yield f'a goal that {what} as it is', edits.unproved_as_they_are('low', goals, 1, vain + said) == (unproved, [])
+    yield 'a function of which nothing is said as it is, is a fault', len(edits.unproved_as_they_are('low', goals, 1, '')[1]) == 1
     for status in (2, 3, None):
         yield f'a check of what is as it is that ends with {status} is a fault', len(
-            edits.as_they_are('low', [edit()], status, '')[1]) == 1
-    yield from of_lines()
+            edits.unproved_as_they_are('low', goals, status, vain)[1]) == 1
 
 
-# Three functions, of which the last one has a line of its own.
+# Functions with and without clauses, some without a body, one of a constant, and one with a line of its own.
 CODE = '''\
 // The first.
 #[inline(always)]
@@ -221,29 +242,77 @@ pub(crate) fn f() -> u64 {
     1
 }
 
+pub fn law()
+    ensures { is_law };
+
+pub const fn size() -> usize
+    ensures { result ≡ 8 }
+{
+    8
+}
+
 impl A {
-    pub fn g(&self) -> u64 {
+    pub fn g(&self) -> u64
+        requires { self.now ≡ 2 }
+        ensures {
+            result ≡ 2
+        }
+    {
+        if self.is_all() {
+            return self.all(|it| it.g());
+        }
         2
     }
 }
 
-#[tactic(auto, unfolding(crate::specs::A::a))]
-fn h() -> u64 {
-    3
+impl<T: Drop> Loads for Made<T> {
+    #[tactic(auto, unfolding(crate::specs::A::a))]
+    fn h(&mut self) -> u64 {
+        3
+    }
 }
 '''
+# The same where something is asked of `g` alone.
+EMPTIED = CODE.replace('    1\n', '    crate::never()\n').replace('        3\n', '    crate::never()\n')
 
 
-def of_lines():
-    """The cases of the line by which the prover searches in one function."""
+def of_bodies():
+    """The cases of functions that are found in code, and of which bodies stand empty."""
+    found = [*functions_of('src/a.rt', CODE)]
+    yield 'the functions with bodies are found, with their types', [it.names for it in found] == [
+        ['f'], ['size'], ['A', 'g'], ['Made', 'h']]
+    yield 'each with its body', [CODE[it.begin:it.end].strip()[:10] for it in found] == ['1', '8', 'if self.is', '3']
+    yield 'one is constant, and one has a line of its own', [(it.is_const, it.has_tactic) for it in found] == [
+        (False, False), (True, False), (False, False), (False, True)]
+    f, _, g, h = found
+    for it, path, holds in ((f, 'a::f', True), (f, 'b::f', False), (f, 'a::A::f', False), (f, 'a::fn::f::all', True),
+                            (g, 'a::A::g', True), (g, 'b::A::g', True), (g, 'a::g', False), (g, 'a::A::g_all', False), (g, 'a::fn::A::g::all+FnMut::call_mut', True),
+                            (h, 'a::MadeLoads::h', True), (h, 'a::A::h', False)):
+        yield f'{it.names[-1]} is {"" if holds else "not "}at {path}', it.is_at(path.split('::')) == holds
+    top = Function('src/lib.rt', ['f'], 0, 0, 0, False, False)
+    yield 'a function of the root is at its name', top.is_at(['f']) and not top.is_at(['a', 'f'])
     with tempfile.TemporaryDirectory() as room:
         crate = Path(room)
-        (crate / 'src').mkdir()
-        (crate / 'src/lib.rt').write_text(CODE, encoding='utf-8')
-        for old, above in (('1', 'pub(crate) fn f'), ('2', '    pub fn g'), ('3', None), ('// The first', None)):
-            turned = edits.Edit('turned', {'a::f': 'returns'}, [('src/lib.rt', old, 'new')])
-            at = [] if above is None else [('src/lib.rt', CODE.index(above), CODE.index(above), '#[tactic(auto)]\n')]
-            yield f'it stands above {above} for {old}', edits.searched_again(turned, crate) == at
+        for path, text in (('src/a.rt', CODE), *[(f'proofs/a/{it}', '') for it in (
+                'f/Answers.antt', 'A/g/Answers.antt', 'fn/A/g/all/Answers.antt', 'MadeLoads/h/Invariants.antt', 'Lemmas.antt')]):
+            (crate / path).parent.mkdir(parents=True, exist_ok=True)
+            (crate / path).write_text(text, encoding='utf-8')
+
+        def text_of(places, asked, searched):
+            """The code with what is changed in it, where these places are turned and these functions are asked of."""
+            text = CODE
+            for _, begin, end, new in sorted(edits.emptied(crate, places, asked, searched), reverse=True):
+                text = text[:begin] + new + text[end:]
+            return text
+
+        yield 'the others stand empty', text_of([], {'a::A::g': {}}, []) == EMPTIED
+        yield 'their answers and invariants go', sorted(str(it.relative_to(crate)) for it in crate.glob('proofs/**/*.antt')) == [
+            'proofs/a/A/g/Answers.antt', 'proofs/a/Lemmas.antt', 'proofs/a/fn/A/g/all/Answers.antt']
+        yield 'nothing is searched for where so is asked', text_of([], ['a::A::g'], ['a::A::g']) == EMPTIED.replace(
+            '    pub fn g', '#[tactic(none)]\n    pub fn g')
+        at = CODE.index('1\n')
+        yield 'a turned function is not empty', '    1\n' in text_of([('src/a.rt', at, at + 1, '2')], ['a::A::g'], [])
+        yield 'one with a line of its own keeps that', text_of([], ['a::MadeLoads::h'], ['a::MadeLoads::h']).count('#[tactic(') == 1
 
 
 def of_turns():
