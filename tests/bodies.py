@@ -9,7 +9,7 @@ from dataclasses import dataclass
 
 # The head of a function, and that of an impl or a trait around it. (The body of a constant one is run by the compiler.)
 HEAD = re.compile(r'^( *)(?:pub(?:\([a-z]+\))? )?(const )?(?:unsafe )?(?:extern "C" )?fn (\w+)', re.M)
-AROUND = re.compile(r'^ *(?:unsafe )?(?:impl(?:<.*>)? (?:.* for )?|(?:pub(?:\([a-z]+\))? )?trait )(\w+)')
+AROUND = re.compile(r'^ *(?:unsafe )?(?:impl(?:<.*>)? (?:.* for )?|(?:pub(?:\([a-z]+\))? )?trait )(\w+)', re.M)
 EMPTY = '    crate::never()\n'
 NEVER = '\nfn never() -> ! {\n    unreachable!()\n}\n'
 NEVER_GOALS = ('unreachable-requires', 'unreachable-unreachable')
@@ -42,18 +42,16 @@ class Function:
 
 def functions_of(file, text):
     """The functions of a formatted file whose body has lines: its braces end the head or stand alone, below it."""
-    heads = [*HEAD.finditer(text)]
+    heads, arounds = [*HEAD.finditer(text)], [*AROUND.finditer(text)]
     for number, head in enumerate(heads):
         stop = next((it.start() for it in heads[number + 1:] if len(it[1]) <= len(head[1])), len(text))
         own = re.compile(rf'^{head[1]}{{\n', re.M).search(text, head.end(), stop)
         begin = own or re.compile(r' \{\n').search(text, head.end(), stop)
         end = re.compile(rf'^{head[1]}}}$', re.M).search(text, head.end(), stop)
         if begin and end and begin.end() <= end.start():
-            above = text[:head.start()]
-            around = [it[1] for line in above.splitlines() if len(line) - len(line.lstrip()) < len(head[1])
-                      for it in [AROUND.match(line)] if it][-1:] if head[1] else []
+            around = [it[1] for it in arounds if it.start() < head.start()][-1:] if head[1] else []
             yield Function(file, [*around, head[3]], head.start(), begin.end(), end.start(), head[2] is not None,
-                           '#[tactic(' in above.rpartition('\n\n')[2])
+                           '#[tactic(' in text[:head.start()].rpartition('\n\n')[2])
 
 
 def functions_in(crate):

@@ -487,14 +487,21 @@ def in_doubt(name, members, said):
 
 def unproved_as_they_are(name, goals, status, said):
     """Which of these goals, each of a function, the search doesn't prove in the function as it is, by what a check says
-    of the functions as they are; and what is wrong with the check, in which what is no call must not prove a goal."""
+    of the functions as they are; and what is wrong with the check, in which what is no call must not prove a goal, and
+    no values may break one, since each is true there."""
     why = without_verdict(status, said)
     if why:
         return [], [(None, f'{name}: as it is, {why}')]
-    misfits = {function: one.misfits for function, one in told_by(name, said).items()}
-    return [(function, goal) for function, goal in goals if goal in misfits.get(function, {})], [
-        (None, f'{name}: {function} is not tried as it is') for function, goal in goals
-        if in_vain(goal) not in misfits.get(function, {})]
+    told, unproved, faults = told_by(name, said), [], []
+    for function, goal in goals:
+        one = told.get(function, Told())
+        if goal in one.misfits:
+            unproved.append((function, goal))
+        if in_vain(goal) not in one.misfits:
+            faults.append((None, f'{name}: {function} is not tried as it is'))
+        if one.is_broken(goal):
+            faults.append((None, f'{name}: {function} as it is has values that are said to break {goal}'))
+    return unproved, faults
 
 
 def unwritten(name, edit):
@@ -537,11 +544,12 @@ class Crate:
 
     def __init__(self, name, crates, libraries, jobs_now, room):
         self.name, self.room, self.folder = name, Path(room), TOP / 'crates' / name
-        self.command = lambda: [*libraries.priority(), *command_of(name, crates, libraries.folder, jobs_now())]
+        self.crates, self.libraries, self.jobs_now = crates, libraries, jobs_now
 
     def check(self, places, asked):
         """The status of a check with these places turned, in which so is asked, and what it says."""
-        return check(self.room, self.name, places, asked, self.command())
+        command = command_of(self.name, self.crates, self.libraries.folder, self.jobs_now())
+        return check(self.room, self.name, places, asked, [*self.libraries.priority(), *command])
 
     def try_edits(self, edits, by_prover=()):
         """Tries these edits in rounds, in which these goals, each of a function, are left to the prover: what is wrong,

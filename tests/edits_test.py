@@ -229,6 +229,8 @@ def of_doubts():
     for what, said, unproved in (('the search proves', '', []), ('the search does not prove', none, goals)):
         yield f'a goal that {what} as it is', edits.unproved_as_they_are('low', goals, 1, vain + said) == (unproved, [])
     yield 'a function of which nothing is said as it is, is a fault', len(edits.unproved_as_they_are('low', goals, 1, '')[1]) == 1
+    yield 'so is one that values are said to break, since its goal is true', len(
+        edits.unproved_as_they_are('low', goals, 1, vain + BROKEN)[1]) == 1
     for status in (2, 3, None):
         yield f'a check of what is as it is that ends with {status} is a fault', len(
             edits.unproved_as_they_are('low', goals, status, vain)[1]) == 1
