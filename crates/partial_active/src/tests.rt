@@ -265,6 +265,43 @@ fn lost_exchange_of_the_list_head(rt: HostRuntime) -> Result<(), Fail> {
     Ok(())
 }
 
+// Makes a getSet that notes slot 0, and gets two of the three words for its list: it marks its port.
+fn get_too_few(
+    rt: &impl Abort,
+    alloc: Global,
+    words: &mut [u64],
+    sizes: Sizes,
+    found: &mut Found,
+) -> Result<(), AllocError>
+    requires { AreFoundFor sizes found.old }
+    ensures { OnOk result (AreFoundFor sizes found.new) }
+{
+    let mut get = GetSet::new(sizes, false);
+    let steps = drive(rt, alloc, words, &mut get, found)?;
+    assert_eq!(rt; steps.len(), 4);
+    assert_loads(rt, &steps[..3], &[3, 2, 6]);
+    assert_eq!(rt; steps[3], Step::Add(5, 3));
+    assert!(rt; get.lists_spent());
+    Ok(())
+}
+
+// Makes a getSet of a marked port that notes slot 0, and claims nothing.
+fn get_marked(
+    rt: &impl Abort,
+    alloc: Global,
+    words: &mut [u64],
+    sizes: Sizes,
+    found: &mut Found,
+) -> Result<(), AllocError>
+    requires { AreFoundFor sizes found.old }
+{
+    let mut get = GetSet::new(sizes, true);
+    let steps = drive(rt, alloc, words, &mut get, found)?;
+    assert_loads(rt, &steps, &[3, 2, 6]);
+    assert!(rt; get.lists_spent());
+    Ok(())
+}
+
 // There are two list words, and a list of slot 0 takes three: the port is marked. A getSet of a marked port
 // claims nothing.
 #[test]
@@ -272,16 +309,54 @@ fn too_few_list_words(rt: HostRuntime) -> Result<(), Fail> {
     let sizes = Sizes::new(2, 4, 2, 64)?;
     let mut words = words_with(&rt, rt.alloc(), sizes, &[(2, 1), (5, 10), (6, 1)])?;
     let mut found = Found::new(rt.alloc(), sizes)?;
+    get_too_few(&rt, rt.alloc(), &mut words, sizes, &mut found)?;
+    get_marked(&rt, rt.alloc(), &mut words, sizes, &mut found)?;
+    Ok(())
+}
+
+// Makes a getSet that publishes two intervals: slots 0 to 1, and slot 3.
+fn publish_intervals(
+    rt: &impl Abort,
+    alloc: Global,
+    words: &mut [u64],
+    sizes: Sizes,
+    found: &mut Found,
+) -> Result<(), AllocError>
+    requires { AreFoundFor sizes found.old }
+    ensures { OnOk result (AreFoundFor sizes found.new) }
+{
+    let steps = drive_new(rt, alloc, words, sizes, found)?;
+    assert_eq!(rt; steps.len(), 15);
+    assert_eq!(rt;
+        &steps[8..],
+        [
+            Step::Add(5, 5),
+            Step::Store(13, 2),
+            Step::Store(14, 0),
+            Step::Store(15, 1),
+            Step::Store(16, 3),
+            Step::Store(17, 3),
+            Step::Exchange(3, 10, 13),
+        ]
+        .as_slice()
+    );
+    Ok(())
+}
+
+// Makes a getSet that gets too few list words, and marks its port.
+fn spend_lists(
+    rt: &impl Abort,
+    alloc: Global,
+    words: &mut [u64],
+    sizes: Sizes,
+    found: &mut Found,
+) -> Result<(), AllocError>
+    requires { AreFoundFor sizes found.old }
+{
     let mut get = GetSet::new(sizes, false);
-    let steps = drive(&rt, rt.alloc(), &mut words, &mut get, &mut found)?;
-    assert_eq!(rt; steps.len(), 4);
-    assert_loads(&rt, &steps[..3], &[3, 2, 6]);
-    assert_eq!(rt; steps[3], Step::Add(5, 3));
+    let steps = drive(rt, alloc, words, &mut get, found)?;
+    assert_eq!(rt; steps.last().copied(), Some(Step::Add(5, 3)));
     assert!(rt; get.lists_spent());
-    let mut marked = GetSet::new(sizes, get.lists_spent());
-    let more = drive(&rt, rt.alloc(), &mut words, &mut marked, &mut found)?;
-    assert_loads(&rt, &more, &[3, 2, 6]);
-    assert!(rt; marked.lists_spent());
     Ok(())
 }
 
@@ -297,24 +372,9 @@ fn lists_spent(rt: HostRuntime) -> Result<(), Fail> {
         &[(2, 4), (3, 10), (5, 13), (6, 1), (7, 1), (9, 1), (10, 1)],
     )?;
     let mut found = Found::new(rt.alloc(), sizes)?;
-    let mut get = GetSet::new(sizes, false);
-    let steps = drive(&rt, rt.alloc(), &mut words, &mut get, &mut found)?;
-    let stores = [
-        Step::Add(5, 5),
-        Step::Store(13, 2),
-        Step::Store(14, 0),
-        Step::Store(15, 1),
-        Step::Store(16, 3),
-        Step::Store(17, 3),
-        Step::Exchange(3, 10, 13),
-    ];
-    assert_eq!(rt; steps.len(), 15);
-    assert_eq!(rt; &steps[8..], stores.as_slice());
+    publish_intervals(&rt, rt.alloc(), &mut words, sizes, &mut found)?;
     words_mark_slot(&rt, &mut words);
-    let mut again = GetSet::new(sizes, false);
-    let more = drive(&rt, rt.alloc(), &mut words, &mut again, &mut found)?;
-    assert_eq!(rt; more.last().copied(), Some(Step::Add(5, 3)));
-    assert!(rt; again.lists_spent());
+    spend_lists(&rt, rt.alloc(), &mut words, sizes, &mut found)?;
     Ok(())
 }
 

@@ -117,16 +117,31 @@ fn scan(
     Ok(scan_into(rt, alloc, &mut rows, sizes, indices, shares, changes)?)
 }
 
+// The scan has to have loaded these words and no others, and to have come to so many collects, to the view of that
+// record, if to one, and to these values.
+fn assert_scanned(
+    rt: &impl Abort,
+    scanned: &Scanned,
+    loads: &[u32],
+    collects: u32,
+    borrowed: Option<u64>,
+    values: [u64; 2],
+) {
+    assert_eq!(rt; scanned.steps.len(), loads.len());
+    for (step, word) in scanned.steps.iter().zip(loads) {
+        assert_eq!(rt; *step, Step::Load(*word));
+    }
+    assert_eq!(rt; scanned.collects, collects);
+    assert_eq!(rt; scanned.borrowed, borrowed);
+    assert_eq!(rt; scanned.values, values);
+}
+
 // The first two collects are equal: the second is the last.
 #[test]
 fn equal_collects(rt: HostRuntime) -> Result<(), Fail> {
     let scanned = scan(&rt, rt.alloc(), &[0, 1], false, &[])?;
-    let loads = [0, 1, 0, 1, 19, 22].map(|word| Step::Load(word));
-    assert_eq!(rt; scanned.steps.as_slice(), loads.as_slice());
-    assert_eq!(rt; scanned.collects, 2);
-    assert_eq!(rt; scanned.borrowed, None);
     assert_eq!(rt; scanned.view, 0);
-    assert_eq!(rt; scanned.values, [5, 7]);
+    assert_scanned(&rt, &scanned, &[0, 1, 0, 1, 19, 22], 2, None, [5, 7]);
     Ok(())
 }
 
@@ -135,11 +150,7 @@ fn equal_collects(rt: HostRuntime) -> Result<(), Fail> {
 fn component_changed_once(rt: HostRuntime) -> Result<(), Fail> {
     let changes = [(2, 25, 9), (2, 0, 24)];
     let scanned = scan(&rt, rt.alloc(), &[0, 1], false, &changes)?;
-    let loads = [0, 1, 0, 1, 0, 1, 25, 22].map(|word| Step::Load(word));
-    assert_eq!(rt; scanned.steps.as_slice(), loads.as_slice());
-    assert_eq!(rt; scanned.collects, 3);
-    assert_eq!(rt; scanned.borrowed, None);
-    assert_eq!(rt; scanned.values, [9, 7]);
+    assert_scanned(&rt, &scanned, &[0, 1, 0, 1, 0, 1, 25, 22], 3, None, [9, 7]);
     Ok(())
 }
 
@@ -149,11 +160,14 @@ fn component_changed_once(rt: HostRuntime) -> Result<(), Fail> {
 fn each_component_changed_once(rt: HostRuntime) -> Result<(), Fail> {
     let changes = [(2, 25, 9), (2, 0, 24), (4, 28, 8), (4, 1, 27)];
     let scanned = scan(&rt, rt.alloc(), &[0, 1], false, &changes)?;
-    let loads = [0, 1, 0, 1, 0, 1, 0, 1, 25, 28].map(|word| Step::Load(word));
-    assert_eq!(rt; scanned.steps.as_slice(), loads.as_slice());
-    assert_eq!(rt; scanned.collects, 4);
-    assert_eq!(rt; scanned.borrowed, None);
-    assert_eq!(rt; scanned.values, [9, 8]);
+    assert_scanned(
+        &rt,
+        &scanned,
+        &[0, 1, 0, 1, 0, 1, 0, 1, 25, 28],
+        4,
+        None,
+        [9, 8],
+    );
     Ok(())
 }
 
@@ -171,12 +185,15 @@ fn borrowed_view(rt: HostRuntime) -> Result<(), Fail> {
         (4, 34, 12),
     ];
     let scanned = scan(&rt, rt.alloc(), &[0, 1], false, &changes)?;
-    let loads = [0, 1, 0, 1, 0, 29, 30, 31, 32, 33, 34].map(|word| Step::Load(word));
-    assert_eq!(rt; scanned.steps.as_slice(), loads.as_slice());
-    assert_eq!(rt; scanned.collects, 3);
-    assert_eq!(rt; scanned.borrowed, Some(27));
     assert_eq!(rt; scanned.view, 30);
-    assert_eq!(rt; scanned.values, [12, 13]);
+    assert_scanned(
+        &rt,
+        &scanned,
+        &[0, 1, 0, 1, 0, 29, 30, 31, 32, 33, 34],
+        3,
+        Some(27),
+        [12, 13],
+    );
     Ok(())
 }
 
@@ -193,11 +210,14 @@ fn most_steps_of_one_position(rt: HostRuntime) -> Result<(), Fail> {
         (2, 34, 13),
     ];
     let scanned = scan(&rt, rt.alloc(), &[1], false, &changes)?;
-    let loads = [1, 1, 1, 29, 30, 31, 32, 33, 34].map(|word| Step::Load(word));
-    assert_eq!(rt; scanned.steps.as_slice(), loads.as_slice());
-    assert_eq!(rt; scanned.collects, 3);
-    assert_eq!(rt; scanned.borrowed, Some(27));
-    assert_eq!(rt; scanned.values, [12, 13]);
+    assert_scanned(
+        &rt,
+        &scanned,
+        &[1, 1, 1, 29, 30, 31, 32, 33, 34],
+        3,
+        Some(27),
+        [12, 13],
+    );
     Ok(())
 }
 
@@ -215,12 +235,15 @@ fn third_record_in_the_last_collect(rt: HostRuntime) -> Result<(), Fail> {
         (6, 35, 6),
     ];
     let scanned = scan(&rt, rt.alloc(), &[0, 1], false, &changes)?;
-    let loads = [0, 1, 0, 1, 0, 1, 0, 1, 32, 33, 34, 35].map(|word| Step::Load(word));
-    assert_eq!(rt; scanned.steps.as_slice(), loads.as_slice());
-    assert_eq!(rt; scanned.collects, 4);
-    assert_eq!(rt; scanned.borrowed, Some(30));
     assert_eq!(rt; scanned.view, 33);
-    assert_eq!(rt; scanned.values, [0, 6]);
+    assert_scanned(
+        &rt,
+        &scanned,
+        &[0, 1, 0, 1, 0, 1, 0, 1, 32, 33, 34, 35],
+        4,
+        Some(30),
+        [0, 6],
+    );
     Ok(())
 }
 
@@ -229,11 +252,8 @@ fn third_record_in_the_last_collect(rt: HostRuntime) -> Result<(), Fail> {
 fn shared_view(rt: HostRuntime) -> Result<(), Fail> {
     let changes = [(1, 0, 24), (2, 0, 27), (2, 29, 30), (2, 30, 1), (2, 32, 12)];
     let scanned = scan(&rt, rt.alloc(), &[0], true, &changes)?;
-    let loads = [0, 0, 0, 29].map(|word| Step::Load(word));
-    assert_eq!(rt; scanned.steps.as_slice(), loads.as_slice());
-    assert_eq!(rt; scanned.borrowed, Some(27));
     assert_eq!(rt; scanned.view, 30);
-    assert_eq!(rt; scanned.values, [0, 0]);
+    assert_scanned(&rt, &scanned, &[0, 0, 0, 29], 3, Some(27), [0, 0]);
     Ok(())
 }
 
@@ -241,10 +261,7 @@ fn shared_view(rt: HostRuntime) -> Result<(), Fail> {
 #[test]
 fn shares_nothing_without_a_third_record(rt: HostRuntime) -> Result<(), Fail> {
     let scanned = scan(&rt, rt.alloc(), &[1], true, &[])?;
-    let loads = [1, 1, 22].map(|word| Step::Load(word));
-    assert_eq!(rt; scanned.steps.as_slice(), loads.as_slice());
-    assert_eq!(rt; scanned.borrowed, None);
-    assert_eq!(rt; scanned.values, [0, 7]);
+    assert_scanned(&rt, &scanned, &[1, 1, 22], 2, None, [0, 7]);
     Ok(())
 }
 
@@ -253,12 +270,8 @@ fn shares_nothing_without_a_third_record(rt: HostRuntime) -> Result<(), Fail> {
 fn borrowed_empty_view(rt: HostRuntime) -> Result<(), Fail> {
     let changes = [(1, 0, 24), (2, 0, 27)];
     let scanned = scan(&rt, rt.alloc(), &[0], false, &changes)?;
-    let loads = [0, 0, 0, 29].map(|word| Step::Load(word));
-    assert_eq!(rt; scanned.steps.as_slice(), loads.as_slice());
-    assert_eq!(rt; scanned.collects, 3);
-    assert_eq!(rt; scanned.borrowed, Some(27));
     assert_eq!(rt; scanned.view, 0);
-    assert_eq!(rt; scanned.values, [0, 0]);
+    assert_scanned(&rt, &scanned, &[0, 0, 0, 29], 3, Some(27), [0, 0]);
     Ok(())
 }
 
@@ -268,10 +281,7 @@ fn borrowed_empty_view(rt: HostRuntime) -> Result<(), Fail> {
 fn repeated_position(rt: HostRuntime) -> Result<(), Fail> {
     let changes = [(1, 25, 9), (1, 1, 24)];
     let scanned = scan(&rt, rt.alloc(), &[1, 1], false, &changes)?;
-    let loads = [1, 1, 1, 1, 1, 1, 25, 25].map(|word| Step::Load(word));
-    assert_eq!(rt; scanned.steps.as_slice(), loads.as_slice());
-    assert_eq!(rt; scanned.collects, 3);
-    assert_eq!(rt; scanned.values, [0, 9]);
+    assert_scanned(&rt, &scanned, &[1, 1, 1, 1, 1, 1, 25, 25], 3, None, [0, 9]);
     Ok(())
 }
 
@@ -280,10 +290,7 @@ fn repeated_position(rt: HostRuntime) -> Result<(), Fail> {
 fn value_set_back(rt: HostRuntime) -> Result<(), Fail> {
     let changes = [(1, 25, 5), (1, 0, 24)];
     let scanned = scan(&rt, rt.alloc(), &[0], false, &changes)?;
-    let loads = [0, 0, 0, 25].map(|word| Step::Load(word));
-    assert_eq!(rt; scanned.steps.as_slice(), loads.as_slice());
-    assert_eq!(rt; scanned.collects, 3);
-    assert_eq!(rt; scanned.values, [5, 0]);
+    assert_scanned(&rt, &scanned, &[0, 0, 0, 25], 3, None, [5, 0]);
     Ok(())
 }
 
@@ -298,10 +305,6 @@ fn buffers_used_again(rt: HostRuntime) -> Result<(), Fail> {
     assert_eq!(rt; first.borrowed, Some(27));
     let once = [(1, 25, 9), (1, 0, 24)];
     let second = scan_into(&rt, rt.alloc(), &mut rows, sizes, &[0], true, &once)?;
-    let loads = [0, 0, 0, 25].map(|word| Step::Load(word));
-    assert_eq!(rt; second.steps.as_slice(), loads.as_slice());
-    assert_eq!(rt; second.collects, 3);
-    assert_eq!(rt; second.borrowed, None);
-    assert_eq!(rt; second.values, [9, 0]);
+    assert_scanned(&rt, &second, &[0, 0, 0, 25], 3, None, [9, 0]);
     Ok(())
 }
