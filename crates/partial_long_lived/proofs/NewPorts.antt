@@ -1,22 +1,31 @@
 -- A memory as it opens, and its ports.
-use Rattle.partial_long_lived.proofs.{Common.{AllByRecursion, ℕ, zero, suc, ◌≡◌, ◌+◌, ◌-◌, ◌<◌, ◌++◌, false, List, [], ◌∷◌, length, refl, sym, ap, subst, ◌∙◌, arith, append_assoc, Me, TableId, Opening, Layout, pool_base, CoreState, fresh, IsBetween, ports_come_between, Plan, base, whole, OpensAll, About, Shape, Stand, SeatedPort, first_port, newcomer, newcomers, one_of, further_ports, plan_of, IsShapeOf, shape_plan, IsOf, PortView, new_ports, port_view, IsResting, IsSeatKnown, port_at, OpensShape}, Opens.newcomer_known}
+use Rattle.partial_long_lived.proofs.{Common.{AllByRecursion, ℕ, zero, suc, ◌≡◌, ◌+◌, ◌-◌, ◌<◌, ◌++◌, false, List, [], ◌∷◌, length, refl, sym, ap, subst, ◌∙◌, arith, append_assoc, Me, TableId, Opening, Layout, pool_base, CoreState, fresh, IsBetween, ports_come_between, base, whole, OpensAll, About, Shape, Stand, SeatedPort, first_port, newcomer, newcomers, one_of, further_ports, plan_of, IsShapeOf, shape_plan, IsOf, PortView, new_ports, port_view, IsResting, IsSeatKnown, port_at, OpensShape}, Opens.newcomer_known}
+use Rattle.partial_long_lived.specs.Inner.Opening.{IsLaidOut}
 
--- the opening words are those of what the memory is opened with
-pub opens_as : (s : Shape) (a : About) (values : List ℕ) (words : List ℕ) → OpensShape s values words → IsShapeOf s a →
-    a.opening.values ≡ values → a.opening.first ≡ pool_base s.sizes → OpensAll (plan_of a) words
-opens_as s a values words w shape is first =
-    let same : a.opening ≡ record { values = values; first = pool_base s.sizes } =
-    ap (λ (v : List ℕ). record { values = v; first = a.opening.first }) is ∙ ap (λ (f : ℕ). record { values = values; first = f }) first in
-    subst (λ (e : Plan). OpensAll e words) (sym (shape ∙ ap (shape_plan s) same)) w
+-- the opening words are those of an opening with the same values and the same stamp
+pub opens_as : (s : Shape) (o : Opening) (values : List ℕ) (words : List ℕ) → OpensShape s values words → o ≡ record { values = values; first = pool_base s.sizes } → OpensAll (shape_plan s o) words
+opens_as s o values words w same = subst (λ (p : Opening). OpensAll (shape_plan s p) words) (sym same) w
+
+-- openings with the same values and the same stamp are one
+pub same_opening : (o p : Opening) → o.values ≡ p.values → o.first ≡ p.first → o ≡ p
+same_opening o p values first = ap (λ (w : List ℕ). record { values = w; first = o.first }) values ∙ ap (λ (f : ℕ). record { values = p.values; first = f }) first
+
+-- a table with the words of an opening, and with the seat of all its ports, whichever name what it was opened with has
+pub is_opened : (a key : About) (words : List ℕ) (table seat : TableId) (me : Me (Unit {0}) (List SeatedPort)) (n : ℕ) → OpensAll (plan_of a) words → key ≡ a →
+    table.words ≡ length words → table.slots ≡ 0 → seat ≡ table → me ≡ (newcomers a 0 n, []) → IsLaidOut table key n seat me
+is_opened a key words table seat me n opens is count slots fits all = record {
+  words = words;
+  opens = subst (λ (b : About). OpensAll (plan_of b) words) (sym is) opens;
+  count = count;
+  slots = slots;
+  fits = fits;
+  all = all ∙ ap (λ (b : About). (newcomers b 0 n, [])) (sym is);
+}
 
 -- the ports of a new memory belong to it
 pub new_own : (t : TableId) (a : About) (k n : ℕ) → AllByRecursion (IsOf (record { table = t; about = a })) (new_ports t (newcomers a k n))
 new_own t a k zero = tt
 new_own t a k (suc n) = (refl, new_own t a (k + 1) n)
-
--- the shape that was found for those ports is that of the memory
-pub shape_here : (s : Shape) (n : ℕ) (o : Opening) → s.ports ≡ n → IsShapeOf s (record { sizes = s.sizes; opening = o; ports = n; arenas = s.arenas; limit = s.limit })
-shape_here s n o is = ap (λ (k : ℕ). record { sizes = s.sizes; ports = k; arenas = s.arenas; opening = o; limit = s.limit }) (sym is)
 
 next_new : (a : About) (i n : ℕ) → i < n → newcomers a i (n - i) ≡ newcomer a i ∷ newcomers a (i + 1) (n - (i + 1))
 next_new a i n l = let e : n - i ≡ suc (n - (i + 1)) = omega arith in ap (newcomers a i) e

@@ -7,13 +7,14 @@ ghost use Rattle.partial_long_lived.specs.Rule.{newcomers};
 ghost use Rattle.partial_long_lived.specs.Options.{MayNotOpen, MayOpen, layout_for};
 ghost use Rattle.partial_long_lived.specs.Ports.{IsOf, new_ports};
 ghost use Rattle.partial_long_lived.specs.Closing.{Closes};
-ghost use Rattle.partial_long_lived.specs.Inner.Opening.{OpensShape};
+ghost use Rattle.partial_long_lived.specs.Shape.{IsShapeOf};
+ghost use Rattle.partial_long_lived.specs.Inner.Opening.{IsLaidOut, OpensShape, opened};
 
 use crate::closed::last_values;
 use crate::open_error::OpenError;
 use crate::options::{Options, shape};
 use crate::port::Port;
-use crate::rule::{About, Deals, Gathers, Lawful, View};
+use crate::rule::{About, Deals, Gathers, Lawful, Token, View, Words};
 use crate::shape::Shape;
 use crate::stand::Stand;
 use atomic_table::Table;
@@ -74,6 +75,69 @@ fn opening_words(alloc: Global, shape: &Shape, initial: &[u64]) -> Result<Vec<u6
     Ok(words)
 }
 
+// Lays out the table of a memory of that shape with these values. The seat is that of all its ports.
+fn lay_out(
+    alloc: Global,
+    shape: &Shape,
+    initial: &[u64],
+) -> Result<(Table<(), View, About, Lawful, Global>, Token), AllocError>
+    requires { length initial.now ≡ shape.now.sizes.m }
+    ensures about { IfOk result (λ r. r.0.shared.key ≡ opened shape.now initial.now) }
+    ensures opened { IfOk
+        result
+        (λ r. IsLaidOut r.0.shared.table_id r.0.shared.key shape.now.ports r.1.table_id r.1.me) }
+{
+    let words = opening_words(alloc, shape, initial)?;
+    let about = About {
+        sizes: shape.sizes,
+        opening: Opening {
+            values: Sequence::from(Vec::from_slice(alloc, initial)?),
+            first: u64::from(shape.sizes.pool_base()),
+        },
+        ports: shape.ports,
+        arenas: shape.arenas,
+        limit: shape.limit,
+    };
+    Table::of_words(alloc, &words, &about)
+}
+
+// Makes the ports of a new memory in their order, each with a seat of its own.
+fn deal(
+    alloc: Global,
+    shape: &Shape,
+    words: &Words,
+    mut seat: Token,
+) -> Result<Vec<Port>, AllocError>
+    requires shape { IsShapeOf shape.now words.now.key }
+    requires opened { IsLaidOut words.now.table_id words.now.key shape.now.ports seat.table_id seat.me }
+    ensures { IfOk result (λ a. a.items ≡ new_ports words.now.table_id (newcomers words.now.key 0 shape.now.ports)) }
+{
+    let ports = shape.ports;
+    let base = shape.base(0);
+    let mut all = Vec::with_capacity(alloc, ports as usize)?;
+    for number in 0..ports {
+        let core = Core::new(alloc, shape.sizes, number)?;
+        let collected = vec![in alloc; 0; shape.sizes.m() as usize]?;
+        let token = words.split_seat::<Deals>(&mut seat);
+        all.push_reserved(Port {
+            stand: Stand {
+                seat: token,
+                shape: *shape,
+                number,
+                epoch: 0,
+                arena: 0,
+                base,
+                passed: 0,
+            },
+            core,
+            spent: false,
+            collected,
+            apart: [0; 16],
+        });
+    }
+    Ok(all)
+}
+
 impl LongLived {
     /// Opens a memory whose components hold these values, and its ports, numbered from 0 in their order.
     ///
@@ -99,40 +163,8 @@ impl LongLived {
         ensures refused { IfErr result (MayNotOpen (length initial.now) ports options) }
     {
         let shape = shape(initial.len(), ports, options)?;
-        let about = About {
-            sizes: shape.sizes,
-            opening: Opening {
-                values: Sequence::from(Vec::from_slice(alloc, initial)?),
-                first: u64::from(shape.sizes.pool_base()),
-            },
-            ports,
-            arenas: shape.arenas,
-            limit: shape.limit,
-        };
-        let words = opening_words(alloc, &shape, initial)?;
-        let mut all = Vec::with_capacity(alloc, ports as usize)?;
-        let (table, mut seat) = Table::of_words(alloc, &words, &about)?;
-        let base = shape.base(0);
-        for number in 0..ports {
-            let core = Core::new(alloc, shape.sizes, number)?;
-            let collected = vec![in alloc; 0; shape.sizes.m() as usize]?;
-            let token = table.shared.split_seat::<Deals>(&mut seat);
-            all.push_reserved(Port {
-                stand: Stand {
-                    seat: token,
-                    shape,
-                    number,
-                    epoch: 0,
-                    arena: 0,
-                    base,
-                    passed: 0,
-                },
-                core,
-                spent: false,
-                collected,
-                apart: [0; 16],
-            });
-        }
+        let (table, seat) = lay_out(alloc, &shape, initial)?;
+        let all = deal(alloc, &shape, &table.shared, seat)?;
         Ok((LongLived { shape, table }, all))
     }
 

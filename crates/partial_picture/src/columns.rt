@@ -4,7 +4,9 @@ ghost use Rattle.std.specs.Prelude.{◌<◌, ◌≤◌, IfOk, OnOk};
 ghost use Rattle.std.specs.String.{string_len};
 
 use crate::picture::{Bar, Mark, Picture, Pin};
+use crate::window::Span;
 use crate::words::{call_words, entry_words, finish_words, step_words};
+use partial_model::Called;
 use std::alloc::{AllocError, Global};
 
 /// The remarks beside the steps: which call begins or ends there, and which entry is added.
@@ -36,27 +38,43 @@ fn tell(texts: &mut [String], index: usize, words: &str) -> Result<(), AllocErro
     Ok(())
 }
 
+/// Appends words about a call to the remarks at an index.
+fn tell_call(
+    alloc: Global,
+    texts: &mut [String],
+    index: usize,
+    called: &Called,
+    words: &str,
+) -> Result<(), AllocError> {
+    let port = called.port;
+    let number = called.number;
+    let remark = format!(in alloc; "call {port} {number}: {words}")?;
+    tell(texts, index, &remark)
+}
+
+/// The words of a whole call: the call and its end.
+fn whole_words(alloc: Global, called: &Called) -> Result<String, AllocError> {
+    let call = call_words(alloc, &called.call)?;
+    let finish = finish_words(alloc, called)?;
+    format!(in alloc; "{call}: {finish}")
+}
+
 /// Adds the remarks on a call.
 fn tell_bar(alloc: Global, remarks: &mut Remarks, bar: &Bar<'_>) -> Result<(), AllocError> {
-    let port = bar.called.port;
-    let number = bar.called.number;
-    let call = call_words(alloc, &bar.called.call)?;
-    let finish = finish_words(alloc, bar.called)?;
+    let called = bar.called;
+    let Span { first, behind } = bar.marks;
     if bar.marks.is_empty() {
-        let words = format!(in alloc; "call {port} {number}: {call}: {finish}")?;
-        return tell(&mut remarks.between, bar.marks.first, &words);
+        let words = whole_words(alloc, called)?;
+        return tell_call(alloc, &mut remarks.between, first, called, &words);
     }
     if bar.begins {
-        let words = format!(in alloc; "call {port} {number}: {call}")?;
-        tell(&mut remarks.beside, bar.marks.first, &words)?;
+        let words = call_words(alloc, &called.call)?;
+        tell_call(alloc, &mut remarks.beside, first, called, &words)?;
     }
     if bar.ends {
-        let words = format!(in alloc; "call {port} {number}: {finish}")?;
-        tell(
-            &mut remarks.beside,
-            bar.marks.behind.saturating_sub(1),
-            &words,
-        )?;
+        let words = finish_words(alloc, called)?;
+        let last = behind.saturating_sub(1);
+        tell_call(alloc, &mut remarks.beside, last, called, &words)?;
     }
     Ok(())
 }

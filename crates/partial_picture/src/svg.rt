@@ -337,6 +337,34 @@ fn place_of(picture: &Picture<'_>, layout: &Layout, mark: usize) -> (Pixels, Pix
     (layout.middle(mark), layout.line(port))
 }
 
+// Appends the parts of a picture between its head and its legend.
+fn push_parts(
+    alloc: Global,
+    text: &mut String,
+    picture: &Picture<'_>,
+    layout: &Layout,
+    has_words: bool,
+) -> Result<(), AllocError> {
+    push_axis(text, picture, layout)?;
+    push_lanes(alloc, text, picture, layout)?;
+    push_bars(alloc, text, picture, layout)?;
+    if has_words {
+        push_touched(alloc, text, picture, layout)?;
+    }
+    push_pins(alloc, text, picture, layout)?;
+    for arrow in &picture.arrows {
+        let from = place_of(picture, layout, arrow.from);
+        let to = place_of(picture, layout, arrow.to);
+        push_arrow(alloc, text, arrow, from, to)?;
+    }
+    for (index, mark) in picture.marks.iter().enumerate() {
+        let (x, y) = place_of(picture, layout, index);
+        let step = picture.window.first.saturating_add(index);
+        push_mark(alloc, text, mark, step, x, y)?;
+    }
+    Ok(())
+}
+
 /// Draws a picture in SVG. With `has_words` it also shows the words that each step touches.
 ///
 /// # Errors
@@ -348,23 +376,7 @@ pub fn drawing(alloc: Global, picture: &Picture<'_>, has_words: bool) -> Result<
     let layout = Layout::of(alloc, picture, rows)?;
     let mut text = String::new(alloc);
     push_front(&mut text, &layout)?;
-    push_axis(&mut text, picture, &layout)?;
-    push_lanes(alloc, &mut text, picture, &layout)?;
-    push_bars(alloc, &mut text, picture, &layout)?;
-    if has_words {
-        push_touched(alloc, &mut text, picture, &layout)?;
-    }
-    push_pins(alloc, &mut text, picture, &layout)?;
-    for arrow in &picture.arrows {
-        let from = place_of(picture, &layout, arrow.from);
-        let to = place_of(picture, &layout, arrow.to);
-        push_arrow(alloc, &mut text, arrow, from, to)?;
-    }
-    for (index, mark) in picture.marks.iter().enumerate() {
-        let (x, y) = place_of(picture, &layout, index);
-        let step = picture.window.first.saturating_add(index);
-        push_mark(alloc, &mut text, mark, step, x, y)?;
-    }
+    push_parts(alloc, &mut text, picture, &layout, has_words)?;
     push_legend(&mut text, layout.legend)?;
     text.push_str("</svg>\n")?;
     Ok(text)

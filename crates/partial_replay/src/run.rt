@@ -1,10 +1,10 @@
 //! A replay under way: the words, the ports that work on them, and what has happened so far.
 
-ghost use Rattle.std.specs.Prelude.{◌≡◌, ◌<◌, ◌≤◌, ◌^◌, length, slice_index, IfOk, OnOk, MatchBool, Some, None, []};
+ghost use Rattle.std.specs.Prelude.{◌≡◌, ◌<◌, ◌≤◌, ◌^◌, ◌++◌, length, slice_get, slice_index, IfOk, OnOk, MatchBool, IsSome, Some, None, []};
 ghost use Rattle.std.specs.Bool.{OnTrue};
 ghost use Rattle.partial_words.specs.Layout.{IsLayout};
 ghost use Rattle.partial_words.specs.Chain.{AreOpeningWords};
-ghost use Rattle.partial_replay.specs.Inner.RunState.{AreFreshPorts, AreListed, calls_in};
+ghost use Rattle.partial_replay.specs.Inner.RunState.{AreFreshPorts, AreListed, calls_in, left_over};
 
 use crate::memory::Memory;
 use crate::port::{Port, unfinished};
@@ -264,6 +264,28 @@ fn fresh_ports(
     Ok(ports)
 }
 
+// Moves the calls that a port has begun behind these: the finished ones, and then the one that is left
+// unfinished.
+fn move_calls(
+    alloc: Global,
+    calls: &mut Vec<Called>,
+    port: &mut Port,
+    plan: &[Call],
+) -> Result<(), AllocError>
+    requires short { length plan.now < 2 ^ 32 }
+    requires within { IsSome port.old.under_way → length port.old.finished.items < length plan.now }
+    ensures { OnOk result (calls.new.items ≡ (calls.old.items ++ port.old.finished.items) ++
+        left_over port.old (slice_get plan.now (length port.old.finished.items)) port.old.under_way) }
+{
+    let done = port.finished.len();
+    calls.append(&mut port.finished)?;
+    if let Some(way) = port.under_way {
+        let call = unfinished(alloc, port.number, done as u32, &plan[done], way)?;
+        calls.push(call)?;
+    }
+    Ok(())
+}
+
 // The calls that the ports have begun, by port and then by number.
 fn calls_of(
     alloc: Global,
@@ -274,19 +296,8 @@ fn calls_of(
     ensures { IfOk result (λ calls. calls.items ≡ calls_in plans.now ports.items) }
 {
     let mut calls = Vec::new(alloc);
-    for (port, plan) in ports.into_iter().zip(plans) {
-        let Port {
-            number,
-            mut finished,
-            under_way,
-            ..
-        } = port;
-        let done = finished.len();
-        calls.append(&mut finished)?;
-        if let Some(way) = under_way {
-            let call = &plan.as_slice()[done];
-            calls.push(unfinished(alloc, number, done as u32, call, way)?)?;
-        }
+    for (mut port, plan) in ports.into_iter().zip(plans) {
+        move_calls(alloc, &mut calls, &mut port, plan.as_slice())?;
     }
     Ok(calls)
 }

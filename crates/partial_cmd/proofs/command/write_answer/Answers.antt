@@ -1,3 +1,4 @@
+use Rattle.std.proofs.Common.{rules, tests}
 use Rattle.partial_cmd.proofs.Asked.{asked_check, asked_replay, asked_run}
 use Rattle.partial_cmd.proofs.command.write_answer.Goals as goal
 
@@ -24,3 +25,6 @@ returns-in_err-write_report-in-Run-clause-part g c _ =
 
 pub returns-clause-ok : goal.returns-clause-ok
 returns-clause-ok g c = (_, asked_run _ _ c.in_ok-report-in-Run.report c.in-Run.is c.in_ok-report-in-Run.ensures, c.in_ok-write_report-in-Run.ensures.ok)
+
+pub returns-then-check-clause-verdict : goal.returns-then-check-clause-verdict
+returns-then-check-clause-verdict g c = search (tests, rules)

@@ -1,3 +1,4 @@
+use Rattle.std.proofs.Common.{rules, tests}
 use Rattle.partial_cmd.proofs.Common.{refl}
 use Rattle.partial_cmd.proofs.next.execute_next.Goals as goal
 
@@ -34,3 +35,9 @@ returns-clause-written g c = (
   ),
   c.in_ok-write_reports.ensures.ok,
 )
+
+pub returns-in_err-first-clause-plans : goal.returns-in_err-first-clause-plans
+returns-in_err-first-clause-plans g c = search (tests, rules)
+
+pub returns-in_err-next-clause-read_fault : goal.returns-in_err-next-clause-read_fault
+returns-in_err-next-clause-read_fault g c = search (tests, rules)

@@ -1,3 +1,4 @@
+use Rattle.std.proofs.Common.{rules, tests}
 use Rattle.partial_door.proofs.Common.{◌∙◌, refl, sym, ap, subst, inl, inr, IsUnready, Held}
 use Rattle.partial_door.proofs.long_memories.ready.Goals as goal
 
@@ -12,3 +13,6 @@ returns-in-Err-Shared-clause-err c =
     let own = c.in-LongMemory.open in
     let kept = subst (IsUnready own) c.in-Err-Shared.field-0-is c.in-Err-Shared.ensures.err in
     (ap Held.LongMemory kept.0 ∙ sym c.in-LongMemory.is, inr (inr (inr (own, c.in-LongMemory.is, refl, kept.1))))
+
+pub returns-then-closing-room-clause-err : goal.returns-then-closing-room-clause-err
+returns-then-closing-room-clause-err c = search (tests, rules)

@@ -1,3 +1,4 @@
+use Rattle.std.proofs.Common.{tests}
 use Rattle.partial_door.proofs.Common.{rules, ◌∙◌, refl, sym, ap, subst, inl, inr, IsMemoryKept, Held}
 use Rattle.partial_door.proofs.memories.closed.Goals as goal
 
@@ -15,3 +16,6 @@ returns-in-Err-Shared-clause-err c =
 
 pub returns-in-Err-Lost-clause-err : goal.returns-in-Err-Lost-clause-err
 returns-in-Err-Lost-clause-err c = (c.in-Memory.open, search rules, search rules)
+
+pub returns-in-Ok-clause-ok : goal.returns-in-Ok-clause-ok
+returns-in-Ok-clause-ok c = let h0 = c.in-Ok.ensures in search (tests, rules)

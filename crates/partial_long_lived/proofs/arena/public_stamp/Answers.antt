@@ -1,3 +1,4 @@
+use Rattle.std.proofs.Common.{rules, tests}
 use Rattle.partial_long_lived.proofs.Common.{◌≡◌, ◌+◌, ◌*◌, Bool, if◌then◌else◌, length, sym, ap, ◌∙◌, arith, first_free, Plan, carried_behind, public_stamp, not_below, port_at}
 use Rattle.partial_long_lived.proofs.arena.public_stamp.Goals as goal
 
@@ -13,3 +14,6 @@ returns-else-at-stand-clause-stamp c =
     let is : c.args.stand.now.epoch * 8388608 + c.args.at ≡ public_stamp (length before) c.args.at = omega (arith, epoch, same) in
     is ∙ sym (ap (λ (t : Bool). if t then carried_behind c.args.words.now.key.opening before c.args.component else public_stamp (length before) c.args.at)
     (not_below c.args.at (first_free c.args.words.now.key.sizes) (omega (arith, sizes, first, above))))
+
+pub returns-then-at-stand-clause-stamp : goal.returns-then-at-stand-clause-stamp
+returns-then-at-stand-clause-stamp c = search (tests, rules)

@@ -1,3 +1,4 @@
+use Rattle.std.proofs.Common.{rules, tests}
 use Rattle.partial_long_lived.proofs.{Common.{true, ◌<◌, arith, Reads}, Standing.{component_there, see_asked}}
 use Rattle.partial_long_lived.proofs.arena.read_first.Goals as goal
 
@@ -7,3 +8,6 @@ load-requires c =
     let is = c.from.ensures in
     let inside : c.from.result < c.args.words.now.key.sizes.m = (let low = c.requires.inside in omega (arith, is, low)) in
     (h.fits, component_there _ _ _ h _ inside, see_asked _ _ _ h c.requires.idle.stands true Reads _ inside (λ no. absurd no) _ _)
+
+pub returns-clause-sees : goal.returns-clause-sees
+returns-clause-sees c = search (tests, rules)

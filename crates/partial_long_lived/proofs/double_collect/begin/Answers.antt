@@ -1,3 +1,4 @@
+use Rattle.std.proofs.Common.{rules, tests}
 use Rattle.partial_long_lived.proofs.{Common.refl, Collects.glanced_itself, DoubleCollect.{begun_collect, fresh_looked, fresh_unsealed, look_same, look_stayed}}
 use Rattle.partial_long_lived.proofs.double_collect.begin.Goals as goal
 
@@ -22,3 +23,6 @@ returns-else-look-clause-stayed c =
     let g = c.glance_first-found.ensures in
     let l = c.look.ensures in
     look_stayed _ _ _ _ _ r.held r.idle g.kept _ _ g.sees l.kept _ l.looked c.if-look.false
+
+pub returns-else-look-clause-begun : goal.returns-else-look-clause-begun
+returns-else-look-clause-begun c = search (tests, rules)

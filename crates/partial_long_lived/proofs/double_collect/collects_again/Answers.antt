@@ -1,3 +1,4 @@
+use Rattle.std.proofs.Common.{rules, tests}
 use Rattle.partial_long_lived.proofs.{Common.arith, Collects.{collects_same, glanced_by, glanced_idle, glanced_itself, glanced_on, glanced_seen}}
 use Rattle.partial_long_lived.proofs.double_collect.collects_again.Goals as goal
 
@@ -17,3 +18,6 @@ loop-k-preserved c =
       idle = glanced_idle _ _ w.idle step;
       collected = collects_same _ _ _ _ _ _ _ g.kept g.sees c.if-glance-kept.false (glanced_seen _ _ w.glanced) w.collected;
     }
+
+pub returns-clause-collected : goal.returns-clause-collected
+returns-clause-collected c = search (tests, rules)

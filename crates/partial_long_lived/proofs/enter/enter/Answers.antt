@@ -1,3 +1,4 @@
+use Rattle.std.proofs.Common.{rules, tests}
 use Rattle.partial_long_lived.proofs.{Common.◌∙◌, Entry.{arrive_asked, load_asked, mark_asked}, Standing.{port_word, some_word}}
 use Rattle.partial_long_lived.proofs.enter.enter.Goals as goal
 
@@ -13,3 +14,6 @@ pub compare_exchange-found-requires : goal.compare_exchange-found-requires
 compare_exchange-found-requires c =
     let h = c.requires.held in
     (c.load-current.ensures.0 ∙ c.store.ensures.0 ∙ h.fits, port_word _ _ _ h, arrive_asked _ _ _ h _ 0 c.store.ensures.2 _ _ c.load-current.ensures.2 _ _ _ c.packed-mark.ensures)
+
+pub returns-clause-held : goal.returns-clause-held
+returns-clause-held c = search (tests, rules)

@@ -1,3 +1,4 @@
+use Rattle.std.proofs.Common.{rules, tests}
 use Rattle.partial_long_lived.proofs.{Common.{◌<◌, false, arith, port_at, Finds}, Standing.{component_there, see_asked}}
 use Rattle.partial_long_lived.proofs.find.find.Goals as goal
 
@@ -10,3 +11,6 @@ load-requires c =
     let inside : c.from.result < c.args.words.now.key.sizes.m = omega (arith, is, low) in
     let passed : c.from.result < (port_at c.args.stand.now).port.passed = omega (arith, is, low, sealed) in
     (h.fits, component_there _ _ _ h _ inside, see_asked _ _ _ h c.requires.stands false Finds _ inside (λ yes. passed) _ _)
+
+pub returns-clause-loaded : goal.returns-clause-loaded
+returns-clause-loaded c = search (tests, rules)

@@ -1,3 +1,4 @@
+use Rattle.std.proofs.Common.{rules, tests}
 use Rattle.partial_long_lived.proofs.{Common.{Some, refl, ap, ◌∙◌, Store, Exchange, Add}, Straight.{add_asked, add_told, exchange_asked, exchange_told, going_on, leads_there, step_there, store_asked, store_told}}
 use Rattle.partial_long_lived.proofs.lines.make.Goals as goal
 
@@ -60,3 +61,6 @@ returns-in-Add-clause-leads c =
     let due = c.requires.due ∙ ap Some c.in-Add.is in
     let told = rw c.from-in-Add.ensures at c.fetch_add.ensures.2 in
     leads_there _ _ _ w (Add _ _) due _ c.fetch_add.ensures.0 told.0 told.1 _ (add_told _ _ _ w c.requires.quiet _ _ due _ _ told.2) refl refl refl refl refl refl
+
+pub returns-in-Add-clause-machine : goal.returns-in-Add-clause-machine
+returns-in-Add-clause-machine c = search (tests, rules)

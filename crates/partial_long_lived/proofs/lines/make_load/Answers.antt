@@ -1,3 +1,4 @@
+use Rattle.std.proofs.Common.{rules, tests}
 use Rattle.partial_long_lived.proofs.{Common.{refl, arith, Load}, Straight.{going_on, leads_there, load_asked, load_told, small_word, step_there}}
 use Rattle.partial_long_lived.proofs.lines.make_load.Goals as goal
 
@@ -32,3 +33,6 @@ returns-else-word-from-clause-leads c =
     let w = c.requires.going in
     let told = c.load-found.ensures.2 in
     leads_there _ _ _ w (Load c.args.word) c.requires.due _ c.load-found.ensures.0 told.0 told.1 _ (load_told _ _ _ w c.args.word c.requires.due c.load-found.result _ told.2) refl refl refl refl refl refl
+
+pub returns-then-word-from-clause-machine : goal.returns-then-word-from-clause-machine
+returns-then-word-from-clause-machine c = search (tests, rules)

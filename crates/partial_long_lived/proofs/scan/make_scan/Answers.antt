@@ -1,3 +1,4 @@
+use Rattle.std.proofs.Common.{rules, tests}
 use Rattle.partial_long_lived.proofs.Scans.{scan_begins, scan_named, scan_rests}
 use Rattle.partial_long_lived.proofs.scan.make_scan.Goals as goal
 
@@ -14,3 +15,6 @@ returns-clause-rests c =
     let end = c.announce.ensures in
     let begins = scan_begins _ _ _ c.args.core.now c.args.which.now r.held r.idle r.rests r.spare r.asked r.some in
     scan_rests _ _ _ _ _ r.held r.idle c.args.core.now c.args.which.now begins _ c.begin_scan-at.ensures.begun end.leads _ _ end.replies _ r.rests end.rests
+
+pub returns-clause-spent : goal.returns-clause-spent
+returns-clause-spent c = search (tests, rules)

@@ -1,3 +1,4 @@
+use Rattle.std.proofs.Common.{rules, tests}
 use Rattle.partial_long_lived.proofs.{Common.{◌+◌, ap, ◌∙◌, arith}, Asked.{pass_asked, seal_asked}, Standing.component_there}
 use Rattle.partial_long_lived.proofs.seal.pass.Goals as goal
 
@@ -18,3 +19,6 @@ fetch_add-requires c =
       component_there _ _ _ h c.from.result (omega (arith, is, low)),
       seal_asked _ _ _ h c.requires.may.stands low _ _ step.2 c.if-found-lt-SEAL.true _ _ _ (ap (λ n. c.args.stand.now.base + n) is),
     )
+
+pub returns-clause-held : goal.returns-clause-held
+returns-clause-held c = search (tests, rules)

@@ -1,3 +1,4 @@
+use Rattle.std.proofs.Common.{rules, tests}
 use Rattle.partial_long_lived.proofs.{Common.{◌+◌, refl, sym, ap, ◌∙◌, Plan}, Staying.{same_itself, same_then, stays_same, stays_then}}
 use Rattle.partial_long_lived.proofs.seal.seal.Goals as goal
 
@@ -23,3 +24,6 @@ loop-preserved c =
       at = ap (λ n. n + 1) w.at ∙ sym p.passed;
       all = w.all;
     }
+
+pub returns-clause-sealed : goal.returns-clause-sealed
+returns-clause-sealed c = search (tests, rules)

@@ -1,3 +1,4 @@
+use Rattle.std.proofs.Common.{rules, tests}
 use Rattle.partial_long_lived.proofs.{Common.{ap, arith, length, sym, take_all, ◌∙◌, Applied, List, opening_of, port_at}, Conditional.{ended_behind, nothing_behind}}
 use Rattle.partial_model.specs.History.{stamp_of}
 use Rattle.partial_long_lived.proofs.update_if.round.Goals as goal
@@ -20,3 +21,6 @@ returns-clause-ended c =
     let outcome = c.public_outcome-updated.ensures in
     ended_behind c.args.first c.args.stand.now c.compare.new.stand c.attempt-attempted.new.stand c.compare.ensures.looked found.0 c.args.asked c.in-Same.at c.in-Some.exchanged found.1
     (rw (sym c.exchanged.ensures ∙ c.in-Some.is) at c.attempt-attempted.ensures.attempted) c.public_outcome-updated.new.stand outcome.kept outcome.same c.public_outcome-updated.result outcome.public
+
+pub returns-in-Other-clause-spare : goal.returns-in-Other-clause-spare
+returns-in-Other-clause-spare c = search (tests, rules)

@@ -1,3 +1,4 @@
+use Rattle.std.proofs.Common.{rules, tests}
 use Rattle.partial_memory.proofs.{Common.Load, Straight.{next_asked, next_going, next_leads}}
 use Rattle.partial_memory.proofs.lines.make_load.Goals as goal
 
@@ -11,3 +12,6 @@ returns-clause-going c = next_going _ _ _ _ c.requires.going (Load _) c.requires
 
 pub returns-clause-leads : goal.returns-clause-leads
 returns-clause-leads c = next_leads _ c.requires.going.under (Load _) c.requires.due _ _ c.load.ensures.2.1
+
+pub returns-clause-machine : goal.returns-clause-machine
+returns-clause-machine c = search (tests, rules)

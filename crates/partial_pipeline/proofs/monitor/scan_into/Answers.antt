@@ -1,3 +1,4 @@
+use Rattle.std.proofs.Common.{tests}
 use Rattle.partial_pipeline.proofs.{Common.{rules, ◌≡◌, ◌<◌, ◌∙◌, List, ℕ, length, sym, subst, arith, Sees}, Stages.{sees_scan, sees_then}}
 use Rattle.partial_model.proofs.ListLemmas.{written_whole}
 use Rattle.partial_pipeline.proofs.monitor.scan_into.Goals as goal
@@ -16,3 +17,6 @@ returns-in-Ok-clause-some c =
     let each : length into ≡ length stages = long ∙ at.room ∙ sym c.requires.stages.count in
     let sees = sees_then p x q stages into at.goes (sees_scan x q stages into c.in-Ok._scanned some each c.in-Ok.ensures.answered) in
     subst (λ (l : List ℕ). Sees p stages l q) (sym (written_whole room.len into room.items long (search rules))) sees
+
+pub returns-in-Ok-clause-none : goal.returns-in-Ok-clause-none
+returns-in-Ok-clause-none c = search (tests, rules)

@@ -1,3 +1,4 @@
+use Rattle.std.proofs.Common.{tests}
 use Rattle.partial_pipeline.proofs.{Common.{rules, ℕ, ◌≡◌, List, replicate, slice_index, sym, subst, IsOpened}, Rooms.zeros}
 use Rattle.partial_pipeline.proofs.run.run_pipeline.Goals as goal
 
@@ -16,3 +17,6 @@ run_on-requires g c =
       ports = search rules;
     } in
     (search rules, (search rules, opened))
+
+pub returns-in_err-zeros-clause-err : goal.returns-in_err-zeros-clause-err
+returns-in_err-zeros-clause-err g c = search (tests, rules)

@@ -1,3 +1,4 @@
+use Rattle.std.proofs.Common.{rules, tests}
 use Rattle.partial_replay.proofs.{Common.{ℕ, List, slice_get, sym, ◌∙◌, ap, subst, Applied, HasRecord}, Places.place_within}
 use Rattle.partial_replay.proofs.note.note_of.Goals as goal
 
@@ -11,3 +12,9 @@ prefix_of-requires c = place_within c.as_slice-history.result.now c.args.began _
 
 pub prefix_of-requires-in-Changed : goal.prefix_of-requires-in-Changed
 prefix_of-requires-in-Changed c = place_within c.as_slice-history.result.now c.args.began _ c.place_of-found-in-Changed.result c.place_of-found-in-Changed.ensures
+
+pub returns-in-Lost-clause-note : goal.returns-in-Lost-clause-note
+returns-in-Lost-clause-note c = search (tests, rules)
+
+pub returns-in-Scan-clause-note : goal.returns-in-Scan-clause-note
+returns-in-Scan-clause-note c = search (tests, rules)

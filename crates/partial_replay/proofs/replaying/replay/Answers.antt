@@ -1,4 +1,5 @@
-use Rattle.partial_replay.proofs.{Common.{ℕ, ◌≡◌, ◌++◌, ◌∙◌, Bool, false, if◌then◌else◌, List, [], length, slice_index_or, Option, Some, None, map, take, ap, subst, sym, arith, ◌<◌, range_with_len, take_all, false≢true, Call, Run, TellsOutcome, ArePlans, StopAtSteps, TurnsMade, IsReplayOf, AllByRecursion-get, IsTurnEntry, Layout, ports_of, so_many, to_its_end, turns_of, HasReplayed}, Plans.are_plans, PortLaws.get_is, Replays.replay_told, RunTurns.next_turns, TurnLaws.{next_steps, all_steps, next_end, ending_next}}
+use Rattle.partial_replay.proofs.{Common.{ℕ, ◌≡◌, ◌++◌, ◌∙◌, Bool, false, if◌then◌else◌, List, [], length, slice_index_or, Option, Some, None, map, take, ap, subst, sym, arith, ◌<◌, ◌≤◌, IsLayout, range_with_len, take_all, false≢true, Call, Run, TellsOutcome, ArePlans, StopAtSteps, TurnsMade, IsReplayOf, AllByRecursion-get, IsTurnEntry, Layout, ports_of, so_many, to_its_end, turns_of, HasReplayed}, Plans.are_plans, PortLaws.get_is, Replays.replay_told, RunTurns.next_turns, TurnLaws.{next_steps, all_steps, next_end, ending_next}}
+use Rattle.partial_replay.specs.Inner.RunState.{IsReplay}
 use Rattle.partial_replay.proofs.replaying.replay.Goals.{then-rest+else-loop-p-then-rest-test, else-rest}
 use Rattle.partial_replay.proofs.replaying.replay.Goals as goal
 
@@ -7,6 +8,31 @@ pub open-requires-clause-plans : goal.open-requires-clause-plans
 open-requires-clause-plans c =
     let p = c.args.plan.now in
     subst (λ (z : Layout). ArePlans z.m c.ports-plans.result.now) (sym c.sizes.ensures.value) (subst (ArePlans p.sizes.m) (sym c.ports-plans.ensures.value) (are_plans p c.ports-plans.ensures.lawful))
+
+pub open-requires-clause-sizes : goal.open-requires-clause-sizes
+open-requires-clause-sizes c = subst IsLayout (sym c.sizes.ensures.value) c.ports-plans.ensures.lawful.sizes
+
+pub open-requires-clause-values : goal.open-requires-clause-values
+open-requires-clause-values c = ap length c.initial.ensures.value ∙ c.ports-plans.ensures.lawful.initial ∙ ap (λ (z : Layout). z.m) (sym c.sizes.ensures.value)
+
+pub open-requires-clause-ports : goal.open-requires-clause-ports
+open-requires-clause-ports c = subst (λ (l : List (List Call)). length l ≤ 64) (sym c.ports-plans.ensures.value) c.ports-plans.ensures.lawful.few_ports
+
+pub turns-requires-clause-between : goal.turns-requires-clause-between
+turns-requires-clause-between c = c.loop-p.invariant.replayed.between
+
+pub to_the_end-requires-clause-between : goal.to_the_end-requires-clause-between
+to_the_end-requires-clause-between c = c.loop-p-then-rest.invariant.between
+
+pub to_the_end-requires-clause-port : goal.to_the_end-requires-clause-port
+to_the_end-requires-clause-port c = c.loop-p-then-rest-test.true
+
+pub into_outcome-requires : goal.into_outcome-requires
+into_outcome-requires c =
+    elim c.if-rest.branch [
+      | then-rest+else-loop-p-then-rest-test w ↦ subst (IsReplay c.ports-plans.result.now) (sym w.run-is) w.loop-p-then-rest.invariant.between.replay
+      | else-rest w ↦ subst (IsReplay c.ports-plans.result.now) (sym w.run-is) c.loop-p.invariant.replayed.between.replay
+    ]
 
 pub returns : goal.returns
 returns c =

@@ -1,14 +1,14 @@
-use Rattle.partial_replay.proofs.{Common.{◌≡◌, ◌++◌, List, [], ◌∷◌, length, slice_index_or, slice_get, sym, ◌∙◌, ap, arith, append-nil, length_push, take_all, is_some, Call, Called, unfinished_call, calls_in, Global, Vec, PortAt}, Opens.{pair_at, listed_at_place, length-zip, none_in, calls_more, over_is, none_over}, PortLaws.call_at_place}
+use Rattle.partial_replay.proofs.{Common.{◌≡◌, ◌<◌, ◌^◌, ◌++◌, List, [], ◌∷◌, length, slice_get, sym, subst, refl, ◌∙◌, ap, arith, length_push, take_all, Call, Called, calls_in, left_over, IsSome, PortAt}, Opens.{pair_at, listed_at_place, length-zip, none_in, calls_more}}
 use Rattle.std.proofs.lemmas.Iterator.{YieldsList-from_slice, YieldsList-from_zip}
 use Rattle.std.proofs.lemmas.Iterator.{Adapters.YieldsList-from_vec, Consumers.{YieldsList-turn, YieldsList-end}}
-use Rattle.partial_replay.proofs.run.calls_of.Goals.{After-append, in-Some-under_way+in_ok-unfinished+in_ok-push, in_default}
+use Rattle.partial_replay.proofs.run.calls_of.Goals.{After-as_slice}
 use Rattle.partial_replay.proofs.run.calls_of.Goals as goal
 
 pub loop-port-init : goal.loop-port-init
 loop-port-init c = c.new-calls.ensures.items ∙ sym (none_in c.args.plans.now)
 
 -- the port that the loop is at, and its calls
-here : (c : After-append) → PortAt c.args.plans.now c.args.ports.items (length c.loop-port.yielded) c.in-Some.plan.now c.in-Some.port
+here : (c : After-as_slice) → PortAt c.args.plans.now c.args.ports.items (length c.loop-port.yielded) c.in-Some.plan.now c.in-Some.port
 here c =
     let plans = c.args.plans.now in
     let ports = c.args.ports.items in
@@ -19,52 +19,27 @@ here c =
     pair_at ports plans (length c.loop-port.yielded) c.in-Some.port c.in-Some.plan.now
     (YieldsList-turn road c.loop-port.yielded c.loop-port.port-iterator c.loop-port.yielded_by c.next.result c.next.new.self (c.in-Some.port, c.in-Some.plan) c.in-Some.is c.next.ensures.steps)
 
-pub bounds-as_slice-done : goal.bounds-as_slice-done
-bounds-as_slice-done c =
-    let port = c.in-Some.port in
-    let plan = c.in-Some.plan.now in
-    let at = here (goal.at.bounds-as_slice-done c).After-append in
-    let within = (listed_at_place c.args.plans.now c.args.ports.items (length c.loop-port.yielded) c.requires at).1 (ap is_some c.in-Some-under_way.is) in
-    let same : length c.as_slice.result.now ≡ length plan = ap length c.as_slice.ensures in
-    omega (arith, within, same, port.finished.ok.0, c.len-done.ensures)
+pub move_calls-requires-clause-short : goal.move_calls-requires-clause-short
+move_calls-requires-clause-short c =
+    let listed = listed_at_place c.args.plans.now c.args.ports.items (length c.loop-port.yielded) c.requires (here (goal.at.move_calls-requires-clause-short c).After-as_slice) in
+    subst (λ (l : List Call). length l < 2 ^ 32) (sym c.as_slice.ensures) listed.0
 
-pub overflow_cast-done : goal.overflow_cast-done
-overflow_cast-done c =
+pub move_calls-requires-clause-within : goal.move_calls-requires-clause-within
+move_calls-requires-clause-within c =
     let port = c.in-Some.port in
-    let plan = c.in-Some.plan.now in
-    let at = here (goal.at.overflow_cast-done c).After-append in
-    let listed = listed_at_place c.args.plans.now c.args.ports.items (length c.loop-port.yielded) c.requires at in
-    let within = listed.1 (ap is_some c.in-Some-under_way.is) in
-    let short = listed.0 in
-    omega (arith, within, short, port.finished.ok.0, c.len-done.ensures)
+    let listed = listed_at_place c.args.plans.now c.args.ports.items (length c.loop-port.yielded) c.requires (here (goal.at.move_calls-requires-clause-within c).After-as_slice) in
+    subst (λ (l : List Call). IsSome port.under_way → length port.finished.items < length l) (sym c.as_slice.ensures) listed.1
 
 pub loop-port-preserved : goal.loop-port-preserved
 loop-port-preserved c =
     let port = c.in-Some.port in
-    let plan = c.in-Some.plan.now in
-    let at = here (goal.at.loop-port-preserved c).After-append in
-    let long = length_push c.loop-port.yielded (port, c.in-Some.plan) in
     let k = length (c.loop-port.yielded ++ (port, c.in-Some.plan) ∷ []) in
-    let now = c.match-under_way.calls.items in
-    elim c.match-under_way.branch [
-      | in-Some-under_way+in_ok-unfinished+in_ok-push w ↦
-          let call : Call = w.index-as_slice-done.result in
-          let ended : Called = w.in_ok-unfinished.field-0 in
-          let within = (listed_at_place c.args.plans.now c.args.ports.items (length c.loop-port.yielded) c.requires at).1 (ap is_some w.in-Some-under_way.is) in
-          let same : c.len-done.result ≡ length port.finished.items = omega (arith, port.finished.ok.0, c.len-done.ensures) in
-          let get = call_at_place plan port.finished.items c.len-done.result call same (omega (arith, same, within))
-          (w.index-as_slice-done.is ∙ ap (λ (l : List Call). slice_index_or l c.len-done.result call) w.as_slice.ensures) in
-          let over = over_is port plan w.in-Some-under_way.way call ended w.in-Some-under_way.is get
-          (w.in_ok-unfinished.ensures ∙ ap (λ i. unfinished_call port.number i call w.in-Some-under_way.way) same) in
-          let is : now ≡ (c.loop-port.calls.items ++ port.finished.items) ++ ended ∷ [] = ap (λ (v : Vec Called Global). v.items) w.calls-is ∙ w.in_ok-push.ensures.items ∙
-          ap (λ (l : List Called). l ++ ended ∷ []) c.in_ok-append.ensures.items in
-          calls_more k (ended ∷ []) c.loop-port.calls.items now long at c.loop-port.invariant over is
-      | in_default w ↦
-          let over = none_over port (slice_get plan (length port.finished.items)) w.in_default.is in
-          let is : now ≡ (c.loop-port.calls.items ++ port.finished.items) ++ [] = ap (λ (v : Vec Called Global). v.items) w.calls-is ∙ c.in_ok-append.ensures.items ∙
-          sym (append-nil (c.loop-port.calls.items ++ port.finished.items)) in
-          calls_more k [] c.loop-port.calls.items now long at c.loop-port.invariant over is
-    ]
+    let over : List Called = left_over port (slice_get c.in-Some.plan.now (length port.finished.items)) port.under_way in
+    let front : List Called = c.loop-port.calls.items ++ port.finished.items in
+    let is : c.move_calls.new.calls.items ≡ front ++ over = c.in_ok-move_calls.ensures
+    ∙ ap (λ (l : List Call). front ++ left_over port (slice_get l (length port.finished.items)) port.under_way) c.as_slice.ensures in
+    calls_more k over c.loop-port.calls.items c.move_calls.new.calls.items (length_push c.loop-port.yielded (port, c.in-Some.plan))
+    (here (goal.at.loop-port-preserved c).After-as_slice) c.loop-port.invariant refl is
 
 pub returns : goal.returns
 returns c =

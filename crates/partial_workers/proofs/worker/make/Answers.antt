@@ -1,3 +1,4 @@
+use Rattle.std.proofs.Common.{tests}
 use Rattle.partial_workers.proofs.{Common.{rules, ◌≡◌, ◌∙◌, length, inl, Call}, Made.{refused_at, scanned_at}}
 use Rattle.partial_model.proofs.ListLemmas.{written_whole}
 use Rattle.partial_workers.proofs.worker.make.Goals as goal
@@ -21,3 +22,6 @@ returns-in-Read-clause-made c = refused_at _ _ _ _ _ _ c.requires.own c.in-Read.
 
 pub returns-clause-made : goal.returns-clause-made
 returns-clause-made c = refused_at _ _ _ _ _ _ c.requires.own c.in-UpdateIf.is c.in-Err-update_if.ensures.refused
+
+pub returns-in-Ok-Lost-clause-made : goal.returns-in-Ok-Lost-clause-made
+returns-in-Ok-Lost-clause-made c = search (tests, rules)

@@ -1,3 +1,4 @@
+use Rattle.std.proofs.Common.{rules, tests}
 use Rattle.partial_active.proofs.{Walk.next_room, Answered.walk_noted}
 use Rattle.partial_active.proofs.get_set.GetSet.after_slot.Goals as goal
 
@@ -8,3 +9,6 @@ pub come_to-requires-in-1-clause-walking : goal.come_to-requires-in-1-clause-wal
 come_to-requires-in-1-clause-walking c =
     let at_slot = rw (← c.self.view_is) at c.requires.at_slot in
     rw c.note.ensures (walk_noted _ c.args.slot c.self.invariant.0 at_slot)
+
+pub returns-in-1 : goal.returns-in-1
+returns-in-1 c = search (tests, rules)

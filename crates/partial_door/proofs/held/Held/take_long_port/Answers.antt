@@ -1,3 +1,4 @@
+use Rattle.std.proofs.Common.{tests}
 use Rattle.partial_door.proofs.{Common.{rules, refl, sym, inl, inr}, Opened.last_of}
 use Rattle.partial_long_lived.specs.Ports.{IsOf}
 use Rattle.partial_door.proofs.held.Held.take_long_port.Goals as goal
@@ -27,3 +28,6 @@ returns-in_default-boxed-clause-err c = (sym c.in-LongMemory.is, inr (inr (c.in-
 
 pub returns-in_default-try_clone-clause-err : goal.returns-in_default-try_clone-clause-err
 returns-in_default-try_clone-clause-err c = (sym c.in-LongMemory.is, inr (inr (c.in-LongMemory.open, c.in-LongMemory.is, search rules, refl)))
+
+pub invariant_of-own-clause-size : goal.invariant_of-own-clause-size
+invariant_of-own-clause-size c = search (tests, rules)

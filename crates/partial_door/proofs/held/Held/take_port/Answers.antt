@@ -1,3 +1,4 @@
+use Rattle.std.proofs.Common.{tests}
 use Rattle.partial_door.proofs.{Common.{rules, refl, sym, inl, inr, IsOf}, Opened.last_of}
 use Rattle.partial_door.proofs.held.Held.take_port.Goals as goal
 
@@ -26,3 +27,6 @@ returns-in_default-boxed-clause-err c = (sym c.in-Memory.is, inr (inr (c.in-Memo
 
 pub returns-in_default-try_clone-clause-err : goal.returns-in_default-try_clone-clause-err
 returns-in_default-try_clone-clause-err c = (sym c.in-Memory.is, inr (inr (c.in-Memory.open, c.in-Memory.is, search rules, refl)))
+
+pub invariant_of-own-clause-size : goal.invariant_of-own-clause-size
+invariant_of-own-clause-size c = search (tests, rules)

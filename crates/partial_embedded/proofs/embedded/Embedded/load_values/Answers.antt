@@ -1,3 +1,4 @@
+use Rattle.std.proofs.Common.{rules, tests}
 use Rattle.partial_embedded.proofs.{Common.{◌≡◌, sym, ap, ◌∙◌, ViewPair, advance_view, advance_view_at, buffers, view_goes_at, subst, arith}, Loaded.{loaded}}
 use Rattle.partial_embedded.proofs.embedded.Embedded.load_values.Goals as goal
 
@@ -39,3 +40,6 @@ value_word-word-requires g c =
     let known = subst (view_goes_at c.args.indices.now here) c.in-Some.ensures.due c.loop-position.invariant.together.stage in
     let plain = known.1 c.in-Some.position known.0 in
     omega (arith, plain, c.valuing.ensures.sizes)
+
+pub load-requires-clause-due : goal.load-requires-clause-due
+load-requires-clause-due g c = search (tests, rules)

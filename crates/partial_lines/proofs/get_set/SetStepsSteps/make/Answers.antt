@@ -1,3 +1,4 @@
+use Rattle.std.proofs.Common.{rules, tests}
 use Rattle.partial_lines.proofs.{Common.{ℕ, ◌≡◌, refl, sym, subst, Result, Ok, Err, IfOk, IfErr, CoreState, advance, IsQuiet, GetsOn, HasReachedSet, gets_itself}, Parts.{set_follows, set_goes, set_now}}
 use Rattle.partial_lines.proofs.get_set.SetStepsSteps.make.Goals as goal
 
@@ -38,3 +39,6 @@ make-requires-clause-quiet g c =
     let s : CoreState = g.M.Makes.machine c.args.self.now.lines.now in
     let at = c.requires.goes.1 in
     subst (λ (t : CoreState). IsQuiet t.stage) (sym (set_now s s at.change at.old _ at.made c.requires.due)) tt
+
+pub returns-clause-possible : goal.returns-clause-possible
+returns-clause-possible g c = search (tests, rules)

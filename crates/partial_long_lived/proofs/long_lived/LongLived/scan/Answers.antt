@@ -1,3 +1,4 @@
+use Rattle.std.proofs.Common.{tests}
 use Rattle.partial_long_lived.proofs.{Common.{rules, ◌≡◌, ◌<◌, length, refl, sym, ◌∙◌, subst, IfOk, IfErr, AllByRecursion, IsRefused, Scans, port_view, port_at, Call}, Answering.{are_below, borrowed_fits, not_below, scan_answered, scan_refused}}
 use Rattle.partial_long_lived.proofs.long_lived.LongLived.scan.Goals.{in-Ok, in-Err}
 use Rattle.partial_long_lived.proofs.long_lived.LongLived.scan.Goals as goal
@@ -42,3 +43,6 @@ returns-clause-refused c =
           subst (λ r. IfErr r (λ cause. IsRefused c.args.me.now (Call.Scan c.args.which.now) cause (port_view new.seat.table_id (port_at new)))) (sym w.result-is)
           (scan_refused _ c.me.inside.stand new _ c.me.view_is own held c.args.which.now below _ not)
     ]
+
+pub scan_from-scanned-requires-clause-rests : goal.scan_from-scanned-requires-clause-rests
+scan_from-scanned-requires-clause-rests c = search (tests, rules)

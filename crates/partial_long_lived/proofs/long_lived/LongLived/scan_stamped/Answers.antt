@@ -1,3 +1,4 @@
+use Rattle.std.proofs.Common.{tests}
 use Rattle.partial_long_lived.proofs.{Common.{rules, ◌≡◌, ◌<◌, length, refl, sym, ◌∙◌, subst, is_some, true, IfOk, IfErr, AllByRecursion, IsRefused, port_view, port_at, ScansStamped, Call}, Answering.{are_below, borrowed_fits, borrowed_public, not_below, scan_refused, stamped_answered}}
 use Rattle.partial_long_lived.proofs.long_lived.LongLived.scan_stamped.Goals.{in-Ok, in-Err}
 use Rattle.partial_long_lived.proofs.long_lived.LongLived.scan_stamped.Goals as goal
@@ -53,3 +54,6 @@ returns-clause-refused c =
           subst (λ r. IfErr r (λ cause. IsRefused c.args.me.now (Call.Scan c.args.which.now) cause (port_view new.seat.table_id (port_at new)))) (sym w.result-is)
           (scan_refused _ c.me.inside.stand new _ c.me.view_is own held c.args.which.now below _ not)
     ]
+
+pub scan_stamped-scanned-requires-clause-rests : goal.scan_stamped-scanned-requires-clause-rests
+scan_stamped-scanned-requires-clause-rests c = search (tests, rules)

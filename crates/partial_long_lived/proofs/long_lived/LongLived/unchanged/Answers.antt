@@ -1,3 +1,4 @@
+use Rattle.std.proofs.Common.{rules, tests}
 use Rattle.partial_long_lived.proofs.{Common.{sym, ◌∙◌}, StillStanding.{differ_seen, still_seen}}
 use Rattle.partial_long_lived.proofs.long_lived.LongLived.unchanged.Goals as goal
 
@@ -20,3 +21,6 @@ pub returns-else-me-epoch-clause-differ : goal.returns-else-me-epoch-clause-diff
 returns-else-me-epoch-clause-differ c = λ is.
     let u = c.unchanged-answer.ensures in
     differ_seen _ c.me.inside.stand c.unchanged-answer.new.stand _ c.me.view_is (c.requires.own ∙ sym c.self.view_is) u.held u.settled _ _ (u.another is)
+
+pub invariant_of-me-else-me-epoch : goal.invariant_of-me-else-me-epoch
+invariant_of-me-else-me-epoch c = search (tests, rules)

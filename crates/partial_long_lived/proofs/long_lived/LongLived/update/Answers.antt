@@ -1,3 +1,4 @@
+use Rattle.std.proofs.Common.{tests}
 use Rattle.partial_long_lived.proofs.{Common.{rules, ◌<◌, sym, ◌∙◌, subst, IfOk, IfErr, IsRefused, Updates, port_view, port_at, Call}, Updates.{update_answered, update_fits, update_refused}}
 use Rattle.partial_long_lived.proofs.long_lived.LongLived.update.Goals.{in-Ok, in-Err}
 use Rattle.partial_long_lived.proofs.long_lived.LongLived.update.Goals as goal
@@ -33,3 +34,6 @@ returns-clause-refused c =
           subst (λ r. IfErr r (λ cause. IsRefused c.args.me.now (Call.Update c.args.component c.args.value) cause (port_view new.seat.table_id (port_at new)))) (sym w.result-is)
           (update_refused _ c.me.inside.stand new _ c.me.view_is own held c.args.component c.args.value _ not.0 not.1 inside)
     ]
+
+pub update-ended-requires-clause-rests : goal.update-ended-requires-clause-rests
+update-ended-requires-clause-rests c = search (tests, rules)

@@ -1,3 +1,4 @@
+use Rattle.std.proofs.Common.{rules, tests}
 use Rattle.partial_machine.proofs.{Common.{vec_capacity, sym, ◌∙◌, ap, subst, CoreState, IsMachine, IsPossibleAt}, Sound.fewer_on}
 use Rattle.partial_machine.specs.declared.stage.Stage.TheVariants.{GettingSet, Viewing, Joining, Scanning}
 use Rattle.partial_machine.proofs.machine.Core.answer.Goals as goal
@@ -27,3 +28,6 @@ returns-in-Scanning-clause-falls c =
     let machine = subst (λ (s : CoreState). IsMachine s (vec_capacity c.self.inside.asked)) c.self.view_is c.self.invariant in
     let stage = sym (ap (λ (s : CoreState). s.stage) c.self.view_is) ∙ c.in-Scanning.is in
     fewer_on c.args.self.now c.after_collect.new.self _ c.args.answer Scanning machine stage (subst (λ t. IsPossibleAt c.args.self.now t c.args.answer) stage c.requires) c.after_collect.ensures
+
+pub returns-in-ReadBegun-clause-state : goal.returns-in-ReadBegun-clause-state
+returns-in-ReadBegun-clause-state c = search (tests, rules)

@@ -1,3 +1,4 @@
+use Rattle.std.proofs.Common.{rules, tests}
 use Rattle.partial_machine.proofs.Common.{arith, no_index}
 use Rattle.partial_machine.proofs.machine.Core.new.Goals as goal
 
@@ -17,3 +18,6 @@ invariant_of-result c =
       };
       enough = omega (arith, c.in_ok-with_capacity.ensures.capacity, c.m-room.ensures.value);
     }
+
+pub returns : goal.returns
+returns c = search (tests, rules)

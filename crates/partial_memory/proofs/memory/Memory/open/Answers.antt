@@ -1,3 +1,4 @@
+use Rattle.std.proofs.Common.{tests}
 use Rattle.partial_memory.proofs.{Common.{rules, [], ◌∷◌, ◌≡◌, ap, sym, ◌∙◌, subst, List, ℕ, length, AreOpeningWords, Me, TableId, IsLayout, About, SeatedPort, one_in, port_view}, Opens.{opens, rests_new, deals_next, made_next}, Views.deals}
 use Rattle.partial_memory.proofs.memory.Memory.open.Goals as goal
 
@@ -37,3 +38,6 @@ loop-number-preserved c =
       many = search rules;
       room = search rules;
     }
+
+pub returns-clause-ports : goal.returns-clause-ports
+returns-clause-ports c = search (tests, rules)

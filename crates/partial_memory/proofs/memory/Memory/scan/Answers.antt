@@ -1,3 +1,5 @@
+use Rattle.std.proofs.Common.{arith}
+use Rattle.std.proofs.lemmas.Grind.{common_steps}
 use Rattle.partial_memory.proofs.{Common.{rules, ◌≡◌, ◌≤◌, refl, sym, ap, ◌∙◌, subst, length, Some, inl, err_from_is_err_and, Layout, PortView, refusal, one_in, Call}, Resting.{asked_begins, refusal_here, rests, scan_begins, same_memory}, Replies.{scan_ended, scan_answered, at_once, err_err}}
 use Rattle.partial_memory.proofs.memory.Memory.scan.Goals as goal
 
@@ -81,3 +83,6 @@ returns-in_err-may_scan-clause-led_to_refusal c =
     ap (λ (p : PortView). refusal p (Call.Scan c.args.which.now)) (sym c.me.view_is) ∙ refused in
     let p = err_from_is_err_and c.from_residual.result c.from_residual.ensures.1 in
     err_err _ _ _ p.1 (at_once _ _ _ _ (seen ∙ ap Some (sym p.2)))
+
+pub returns-then-is_empty-clause-answered : goal.returns-then-is_empty-clause-answered
+returns-then-is_empty-clause-answered c = grind (arith, common_steps) steps 2000000

@@ -1,3 +1,4 @@
+use Rattle.std.proofs.Common.{rules, tests}
 use Rattle.partial_model.proofs.{Common.{ℕ, ◌≡◌, ◌+◌, ◌≤◌, ◌==◌, if◌then◌else◌, true, length, drop, sym, ap, ◌∙◌, subst, arith, eq-eqb, ne_eqb, call_is_legal, notes_are_legal}, WalkLaws.{notes_more, seen_within}}
 use Rattle.partial_model.proofs.checker.notes.notes_are_legal.Goals as goal
 use Rattle.partial_model.proofs.checker.notes.notes_are_legal.Goals.{then-call-port, else-call-port}
@@ -23,3 +24,6 @@ loop-call-preserved c =
           c.loop-call.invariant.rest;
       within = subst (λ (n : ℕ). n ≤ length c.args.history.now) (sym c.seen_behind-seen.ensures) (seen_within c.args.opening.now c.args.history.now before c.call-item.result legal within);
     }
+
+pub loop-call-init : goal.loop-call-init
+loop-call-init c = search (tests, rules)

@@ -1,3 +1,4 @@
+use Rattle.std.proofs.Common.{rules, tests}
 use Rattle.partial_pipeline.proofs.{Common.{ℕ, ◌≡◌, ◌∙◌, refl, sym, ap, subst, Some, MemoryView, IsStageDone, IsWorking, StageEnd, Finished, Stopped, Stage}, Stages.is_done}
 use Rattle.partial_pipeline.proofs.stage.Stage.run.Goals as goal
 use Rattle.partial_pipeline.proofs.stage.Stage.run.Goals.{else-loop-turn-test, then-loop-turn-test+in-Some}
@@ -26,3 +27,6 @@ returns g c =
           (w.turn.ensures.working, w.turn.ensures.number ∙ at.number, w.turn.ensures.items ∙ at.items, λ is. w.turn.ensures.finished (w.in-Some.is ∙ ap Some is)))
     ] in
     subst (λ i. IsStageDone m i k (record { port = x.port; end = end })) ends.2 (is_done m x k (record { port = x.port; end = end }) ends.0 c.number.ensures.knows ends.1 refl ends.3)
+
+pub loop-turn-init : goal.loop-turn-init
+loop-turn-init g c = search (tests, rules)

@@ -1,0 +1,35 @@
+use Rattle.partial_long_lived.proofs.{Common.{rules, ◌≡◌, ◌<◌, ℕ, refl, ap, sym, ◌∙◌, subst, List, Me, TableId, base, Plan, SeatedPort, one_of, port_view}, NewPorts.{deals_next, made_next, rests_new}, Meets.deals}
+use Rattle.partial_long_lived.proofs.long_lived.deal.Goals as goal
+
+pub split_seat-token-requires : goal.split_seat-token-requires
+split_seat-token-requires c = (c.loop-number.invariant.table, search rules, deals _ _ _)
+
+pub invariant_of-push_reserved : goal.invariant_of-push_reserved
+invariant_of-push_reserved c =
+    let inv = c.loop-number.invariant in
+    let shape = c.requires.shape in
+    let opened = c.requires.opened in
+    let low = subst (λ (n : ℕ). c.loop-number.number < n) (sym (ap (λ (e : Plan). e.ports) shape)) c.loop-number-test.true in
+    let first = c.base-base.ensures ∙ ap (λ e. base e 0) (sym shape) in
+    let count = ap (λ (t : TableId). t.words) (c.split_seat-token.ensures.3 ∙ inv.table) ∙ opened.count in (
+      rests_new _ _ _ c.loop-number-test.true _ inv.parts _ opened.opens low _ _ _ count c.split_seat-token.ensures.4 shape refl refl refl first refl c.in_ok-core.ensures
+          (ap (λ (e : Plan). e.sizes) shape),
+      search rules,
+    )
+
+pub loop-number-preserved : goal.loop-number-preserved
+loop-number-preserved c =
+    let split = c.split_seat-token.ensures in
+    let inv = c.loop-number.invariant in
+    let left = deals_next _ _ _ c.loop-number-test.true _ inv.parts _ _ split.2 inv.none in
+    let place = ap (λ (m : Me (Unit {0}) (List SeatedPort)). m.0) split.4 in
+    let here : c.split_seat-token.result.table_id ≡ c.args.words.now.table_id = split.3 ∙ inv.table in
+    let seen = ap (λ (t : TableId). port_view t (one_of c.split_seat-token.result.me.0)) here in
+    record {
+      table = split.0 ∙ inv.table;
+      parts = left.0;
+      none = left.1;
+      made = made_next _ _ _ c.loop-number-test.true _ inv.parts _ _ _ _ _ _ _ _ inv.made c.push_reserved.ensures.items place seen split.2;
+      many = search rules;
+      room = search rules;
+    }

@@ -1,0 +1,5 @@
+use Rattle.std.proofs.Common.{rules, tests}
+use Rattle.partial_machine.proofs.machine.Core.answer_for.Goals as goal
+
+pub returns : goal.returns
+returns c = search (tests, rules)
