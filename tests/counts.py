@@ -2,9 +2,9 @@
 """Compares the figures in the documents with what is counted.
 
 A figure stands between <!--=NAME--> and <!--=-->. NAME is `tests`, the functions of the crates marked as tests; `edits`,
-the wrong bodies that contracts have to refuse; `edits.CRATE` and `must_fail.CRATE`, those of a crate in each folder;
-`plans`, the files plans/*.plan; or `believed`, what tests/believed.py finds of the calls of the running memory. The rows
-of README.md's table of speed are those of docs/benches.md. With --write the figures are written anew. The last line is
+the wrong bodies and definitions that the prover has to refuse; `edits.CRATE`, those of a crate; `plans`, the files
+plans/*.plan; or `believed`, what tests/believed.py finds of the calls of the running memory. The rows of README.md's
+table of speed are those of docs/benches.md. With --write the figures are written anew. The last line is
 'N passed, M failed', one for each figure and row.
 """
 import re
@@ -24,8 +24,8 @@ def tests():
                for path in (TOP / 'crates').glob('*/src/**/*.rt'))
 
 
-def edits(crate='*', folders=('edits', 'must-fail')):
-    return sum(len(list((TOP / 'crates').glob(f'{crate}/{folder}/*.edit'))) for folder in folders)
+def edits(crate='*'):
+    return len(list((TOP / 'crates').glob(f'{crate}/edits/*.edit')))
 
 
 def figure(name):
@@ -35,9 +35,8 @@ def figure(name):
         return None
     counted = {'tests': tests, 'edits': edits, 'believed': believed.most,
                'plans': lambda: len(list((TOP / 'plans').glob('*.plan')))}
-    by_crate = {'edits': 'edits', 'must_fail': 'must-fail'}
     if crate:
-        return str(edits(crate, [by_crate[kind]])) if kind in by_crate else None
+        return str(edits(crate)) if kind == 'edits' else None
     return str(counted[kind]()) if kind in counted else None
 
 

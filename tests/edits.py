@@ -1,7 +1,10 @@
 #!/usr/bin/env python3
-"""Turns the functions of the crates by the edits of crates/NAME/edits/, and sees that the prover refuses each.
+"""Turns the functions and definitions of the crates by the edits of crates/NAME/edits/, and sees that each is refused.
 
-An edit is a file of lines: `refused: PATH` names a function whose contract has to refuse it, as the prover prints it,
+An edit of a definition is tried over a copy of what that reaches, as tests/definitions.py says. It is a file as those of
+code are, but for its first line, `refused: LAW`, which names a law without a goal.
+
+An edit of code is a file of lines: `refused: PATH` names a function whose contract has to refuse it, as the prover prints it,
 below its crate, and `by: GOAL` behind it the goal of that function which is open then; `file: PATH` a file of the
 crate; and then `old: TEXT` and `new: TEXT` in turn, where the old text stands exactly once in that file as it is. A
 function may refuse an edit by a goal of meaning, which is one of what it ensures, of its type's invariant or of a
@@ -10,14 +13,14 @@ requires; or by `measure`, where a loop has none any more, since each call has t
 goal of an overflow, a bound, a cast or an index, no proof that names what the edit took away, and no run out of steps.
 
 Each edit is judged by itself: its goal has to stay open, whatever is tried at it. Tried are the answer that is written
-for the goal, if there is one, and a search by the calls that the prover makes first where there is none. Both stand in
-the file of answers of the turned function, with nothing else, and what is said of each tells whether it fits. One of
-which nothing is said proves the goal, and so does one that isn't read at all: neither refuses. A check that ends without
-a verdict, or not in time, refuses nothing.
+for the goal, and the calls that the prover makes first at a goal without an answer. Both stand in the file of answers of
+the turned function, with nothing else, and what is said of each tells whether it fits. One of which nothing is said
+proves the goal, and so does one that isn't read at all: neither refuses. A check that ends without a verdict, or not in
+time, refuses nothing.
 
-A goal at which no written answer is tried may be open for what the search lacks alone. It isn't where values are found
-that break it. Elsewhere the same is tried in the function as it is, and where it doesn't prove the goal there, the edit
-is tried once more, by the prover's own search in the turned function.
+A goal could be open for what these calls lack alone. It isn't where an answer is written for it, which proves it in the
+function as it is, nor where values are found that break it. A goal without either is tried once more, by the prover's
+own search in the turned function, which costs more.
 
 Much of a check's time passes before its first proof, so a crate's edits are tried together, in rounds of at most
 ROUND, in each of which no function is turned twice. The bodies of functions that a round doesn't turn stand empty in it,
@@ -43,6 +46,7 @@ from dataclasses import dataclass, field
 from pathlib import Path
 
 sys.path.insert(0, str(Path(__file__).resolve().parent))
+import definitions  # noqa: E402
 from bodies import EMPTY, NEVER, NEVER_GOALS, functions_in, may_be_empty  # noqa: E402
 
 TOP = Path(__file__).resolve().parent.parent
@@ -68,8 +72,6 @@ MEASURE = 'measure'
 UNSEARCHED = '#[tactic(none)]\n'
 # The calls that the prover makes first at a goal without an answer, and where their lists of lemmas come from.
 FIRST = ('search (given.tests, given.rules)', 'grind (given.arith, sets.common_steps) steps 2000000')
-# What is no call: a function with a refused answer isn't offered a file for its other goals, which costs seconds.
-VAIN = ('no_such_call',)
 LISTS = 'use Rattle.std.proofs.Common as given\nuse Rattle.std.proofs.lemmas.Grind as sets\n'
 # The head of an answer, and of a definition beside the answers.
 HEAD = re.compile(r'^(?:abbrev )?(?:pub )?(\S+) : (.*)$', re.M)
@@ -85,11 +87,16 @@ REFUSED = re.compile(r'^\./proofs/(\S+)/(?:Answers|Invariants|Proof)\.antt\S*: e
 
 @dataclass
 class Edit:
-    """A named change of a crate's files, and the functions that it turns, each with the goal that has to refuse it."""
+    """A named change of a crate's files, and the functions that it turns, each with the goal that has to refuse it: or the
+    law, without a goal, where it changes a definition."""
 
     name: str
-    refused: dict[str, str]
+    refused: dict[str, str | None]
     changes: list[tuple[str, str, str]]
+
+    def is_of_definition(self):
+        """Whether it changes a definition, of one file, and a law has to refuse it."""
+        return [*self.refused.values()] == [None]
 
 
 class BadEdit(Exception):
@@ -111,7 +118,10 @@ def read_edit(path):
         elif word == 'by' and function is not None and may_refuse(text):
             refused[function] = text
             function = None
-        elif word == 'file' and function is None:
+        elif word == 'file' and function is not None and not refused and text.startswith(definitions.SPECS):
+            refused[function] = None
+            file, function = text, None
+        elif word == 'file' and function is None and None not in refused.values():
             file = text
         elif word == 'old' and old is None:
             old = text
@@ -287,21 +297,21 @@ def run(command, room, limit):
 
 
 def check(room, name, places, asked, command):
-    """The status of a check of the crate in this folder, with these places of it turned, in which of these functions
-    these goals are asked for alone, each by these searches, and what the check says. A function with a goal that has no
-    searches is left to the prover. The bodies of all others that aren't turned stand empty."""
+    """The status of a check of the crate in this folder, with these places of it turned, and what it says. Of these
+    functions these goals are asked for alone, or all where none is named: those are left to the prover's own search. The
+    bodies of all others that aren't turned stand empty."""
     for part in PARTS:
         shutil.rmtree(room / part, ignore_errors=True)
         if (TOP / 'crates' / name / part).is_dir():
             shutil.copytree(TOP / 'crates' / name / part, room / part)
-    searched = [it for it in asked if all(asked[it].values())]
+    searched = [it for it in asked if asked[it]]
     for file, begin, end, new in sorted([*places, *emptied(room, places, asked, searched)], reverse=True):
         text = (room / file).read_text(encoding='utf-8')
         (room / file).write_text(text[:begin] + new + text[end:], encoding='utf-8')
     root = room / 'src/lib.rt'
     root.write_text(root.read_text(encoding='utf-8') + NEVER, encoding='utf-8')
     answers = {it: asking(answers_of(room, it), name, it, asked[it]) for it in searched}
-    answers['never'] = asking('', name, 'never', {it: {it: ()} for it in NEVER_GOALS})
+    answers['never'] = asking('', name, 'never', NEVER_GOALS, ())
     for function, text in answers.items():
         path = answers_at(room, function)
         path.parent.mkdir(parents=True, exist_ok=True)
@@ -311,7 +321,7 @@ def check(room, name, places, asked, command):
 
 def emptied(crate, places, asked, searched):
     """What is changed in a copy of a crate in which these places are turned and these functions are asked of, as places
-    with their new text: other bodies are empty, and the prover doesn't search in those with searches of their own. The
+    with their new text: other bodies are empty, and the prover doesn't search in those of which goals are asked. The
     files of answers and invariants of the empty ones go."""
     functions, paths = [*functions_in(crate)], [it.split('::') for it in asked]
     empty = [it for it in functions if may_be_empty(it, paths, places)]
@@ -366,19 +376,14 @@ def as_written(goal):
     return f'{goal}-as-written'
 
 
-def in_vain(goal):
-    """The name by which what is no call is tried."""
-    return f'{goal}-in-vain'
-
-
 def tries(text, goal):
-    """The names of what is tried at a goal: the answer that is written for it, if there is one, and the search."""
+    """The names of what is tried at a goal: the answer that is written for it, if there is one, and the calls."""
     return [as_written(goal), goal] if is_written(text, goal) else [goal]
 
 
-def asking(text, crate, function, goals):
-    """A function's answers, of which those are left that are tried at these goals, and for each of these the searches
-    by these names: what the answers name is a hole."""
+def asking(text, crate, function, goals, calls=FIRST):
+    """A function's answers, of which those are left that are tried at these goals, and for each of these the calls by its
+    name: what the answers name is a hole."""
     top, parts = parts_of(text)
     of_goals = f'use Rattle.{crate}.proofs.{function.replace("::", ".")}.Goals as goal\n'
     left = [it for it in parts if it.name in goals or not it.type_of.startswith('goal.')]
@@ -392,10 +397,17 @@ def asking(text, crate, function, goals):
             found.append(it.head + it.behind)
         elif any(other.names(it.name) for other in left):
             found.append(f'pub {it.name} : {it.type_of}\n{it.name} = ?\n\n')
-    for goal, searches in goals.items():
-        for it, calls in searches.items() if goal != MEASURE else ():
-            found.append(f'{"pub " if it == goal else ""}{it} : goal.{goal}\n{it} {binders} = {first_of(calls)}\n')
+    for goal in goals:
+        if goal != MEASURE:
+            written = next((it.behind for it in parts if it.name == goal), '')
+            further = [it for it in calls if not written.rstrip().endswith(f' = {of_lists(it)}')]
+            found.append(f'pub {goal} : goal.{goal}\n{goal} {binders} = {first_of(further)}\n')
     return without_idle_branches(''.join(found))
+
+
+def of_lists(call):
+    """A call as a file of answers has it that imports the lists of lemmas."""
+    return re.sub(r'(given|sets)\.', '', call)
 
 
 def first_of(calls):
@@ -472,65 +484,35 @@ def without_verdict(status, said):
     return f'the check ended {ended}' + ''.join(f'\n    {line}' for line in said.splitlines()[-3:])
 
 
-def in_doubt(name, members, said):
-    """The members of a round whose goals no written answer is tried at and no values break, by what their check said:
-    it may be that such a goal is open because the search lacks something, which the right body needs too. Each comes
-    with its functions and their goals of that kind."""
-    told, found = told_by(name, said), []
-    for edit in members:
-        goals = [(function, goal) for function, goal in unwritten(name, edit)
-                 if not told.get(function, Told()).is_broken(goal)]
-        if goals:
-            found.append((edit, goals))
-    return found
+def in_doubt(name, edit, told):
+    """Whether an edit may be refused for what the search lacks alone, by what its check says of each function: no answer
+    is written for a goal of it, and no values break that."""
+    return any(goal != MEASURE and not told.get(function, Told()).is_broken(goal)
+               and not is_written(answers_of(TOP / 'crates' / name, function), goal) for function, goal in edit.refused.items())
 
 
-def unproved_as_they_are(name, goals, status, said):
-    """Which of these goals, each of a function, the search doesn't prove in the function as it is, by what a check says
-    of the functions as they are; and what is wrong with the check, in which what is no call must not prove a goal, and
-    no values may break one, since each is true there."""
+def try_round(name, members, status, said, by_prover=False):
+    """What is wrong with the members of a round by what their check said, each fault with the name of its edit or None:
+    a check by what is tried at each goal, or by the prover's own search. And which of them, refused so, are in doubt."""
     why = without_verdict(status, said)
     if why:
-        return [], [(None, f'{name}: as it is, {why}')]
-    told, unproved, faults = told_by(name, said), [], []
-    for function, goal in goals:
-        one = told.get(function, Told())
-        if goal in one.misfits:
-            unproved.append((function, goal))
-        if in_vain(goal) not in one.misfits:
-            faults.append((None, f'{name}: {function} is not tried as it is'))
-        if one.is_broken(goal):
-            faults.append((None, f'{name}: {function} as it is has values that are said to break {goal}'))
-    return unproved, faults
-
-
-def unwritten(name, edit):
-    """The functions of an edit whose goals have no written answer, with these goals."""
-    return [(function, goal) for function, goal in edit.refused.items()
-            if goal != MEASURE and not is_written(answers_of(TOP / 'crates' / name, function), goal)]
-
-
-def try_round(name, members, status, said, asked):
-    """What is wrong with the members of a round by what their check said, in which so was asked, each fault with the
-    name of its edit or None."""
-    why = without_verdict(status, said)
-    if why:
-        return [(it.name, f'{name}/{it.name}.edit: {why}') for it in members]
+        return [(it.name, f'{name}/{it.name}.edit: {why}') for it in members], []
     told, faults = told_by(name, said), []
     for edit in members:
         for function, goal in edit.refused.items():
-            tried = tries(answers_of(TOP / 'crates' / name, function), goal) if asked[function][goal] else []
-            lines = told.pop(function, Told()).why_not(goal, tried)
+            tried = [] if by_prover else tries(answers_of(TOP / 'crates' / name, function), goal)
+            lines = told.get(function, Told()).why_not(goal, tried)
             if lines:
                 faults.append((edit.name, '\n    '.join([
                     f'{name}/{edit.name}.edit: {function} is not refused', *lines[:6]])))
-    turned = ', '.join(it.name for it in members)
+    turned = [function for it in members for function in it.refused]
     for other, one in sorted(told.items()):
         lines = [*one.beside, *[f'{goal}: {why.splitlines()[0]}' for goal, why in one.misfits.items()]]
-        if lines:
-            faults.append((None, f'{name}: {other} has faults, and none of these edits turns it: {turned}\n    '
-                           + '\n    '.join(lines[:3])))
-    return faults
+        if lines and other not in turned:
+            faults.append((None, f'{name}: {other} has faults, and none of these edits turns it: '
+                                 f'{", ".join(it.name for it in members)}\n    ' + '\n    '.join(lines[:3])))
+    faulty = {it for it, _ in faults}
+    return faults, [it for it in members if not by_prover and it.name not in faulty and in_doubt(name, it, told)]
 
 
 def counted(edits, faults):
@@ -546,32 +528,32 @@ class Crate:
         self.name, self.room, self.folder = name, Path(room), TOP / 'crates' / name
         self.crates, self.libraries, self.jobs_now = crates, libraries, jobs_now
 
+    def try_definitions(self, edits):
+        """Tries these edits of definitions: what is wrong."""
+        def check_laws(modules):
+            """How a check of the laws of these modules ended in the folder, where it has no verdict, and what it says."""
+            command = command_of(self.name, self.crates, self.libraries.folder, self.jobs_now())
+            only = [word for it in modules for word in ('--only', it)]
+            status, said = run([*self.libraries.priority(), *command, *only], self.room, LIMIT)
+            return without_verdict(status, said), said
+
+        return definitions.try_edits(self.folder, self.room, edits, check_laws)
+
     def check(self, places, asked):
         """The status of a check with these places turned, in which so is asked, and what it says."""
         command = command_of(self.name, self.crates, self.libraries.folder, self.jobs_now())
         return check(self.room, self.name, places, asked, [*self.libraries.priority(), *command])
 
-    def try_edits(self, edits, by_prover=()):
-        """Tries these edits in rounds, in which these goals, each of a function, are left to the prover: what is wrong,
-        and which edits are in doubt."""
+    def try_edits(self, edits, by_prover=False):
+        """Tries these edits in rounds: what is wrong. Those in doubt are tried once more, by the prover's own search."""
         left, faults, doubts = edits, [], []
         while left:
             members, places = first_round(left, self.folder)
-            asked = {function: {goal: {} if (function, goal) in by_prover else {goal: FIRST}}
-                     for it in members for function, goal in it.refused.items()}
-            status, said = self.check(places, asked)
-            faults += try_round(self.name, members, status, said, asked)
-            doubts += in_doubt(self.name, members, said)
+            asked = {function: [] if by_prover else [goal] for it in members for function, goal in it.refused.items()}
+            wrong, doubtful = try_round(self.name, members, *self.check(places, asked), by_prover)
+            faults, doubts = faults + wrong, doubts + doubtful
             left = [it for it in left if it not in members]
-        return faults, doubts
-
-    def try_again(self, doubts):
-        """Tries the edits in doubt once more of which a goal isn't proved in the function as it is: what is wrong."""
-        goals, asked = [it for _, goals in doubts for it in goals], {}
-        for function, goal in goals:
-            asked.setdefault(function, {})[goal] = {goal: FIRST, in_vain(goal): VAIN}
-        unproved, faults = unproved_as_they_are(self.name, goals, *self.check([], asked)) if goals else ([], [])
-        return faults + self.try_edits([it for it, goals in doubts if set(goals) & set(unproved)], unproved)[0]
+        return faults + (self.try_edits(doubts, by_prover=True) if doubts else [])
 
 
 def try_crate(name, crates, libraries, jobs_now):
@@ -580,8 +562,8 @@ def try_crate(name, crates, libraries, jobs_now):
     with tempfile.TemporaryDirectory(prefix='edits-') as room:
         os.mkdir(f'{room}/kept')
         crate = Crate(name, crates, libraries, jobs_now, room)
-        wrong, doubts = crate.try_edits(edits)
-        return edits, faults + wrong + crate.try_again(doubts)
+        faults += crate.try_definitions([it for it in edits if it.is_of_definition()])
+        return edits, faults + crate.try_edits([it for it in edits if not it.is_of_definition()])
 
 
 def in_turns(names, jobs, is_ready, is_beside, call):

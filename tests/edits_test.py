@@ -38,7 +38,6 @@ FOUND_BROKEN = '''\
   since the list holds `arith`. In its own words: `grind`: the goal does not follow.
   The hypotheses hold, and the goal fails at `c.args.k` = `1`
 '''
-VAIN = './proofs/a/f/Answers.antt:21:21: error: `returns-in-vain`: `no_such_call` is not in scope\n'
 NOT_PROVED = 'fn low::a::f: not proved; it stands on `Rattle.low.proofs.a.f.Answers.returns`, which antt refuses\n'
 NO_MEASURE = '''\
 fn low::a::f: no proof: expected a measure in ./proofs/a/f/Invariants.antt; it calls `low::a::g`, which is not proved
@@ -82,19 +81,22 @@ def edit(goal='returns'):
 
 
 def said_of(goal):
-    """What a check says where the search does not prove the goal."""
-    return NOT_FOUND.format(goal=goal) + NOT_PROVED
+    """What a check says where neither the written answer nor the calls prove the goal."""
+    return MISFIT.format(goal=f'{goal}-as-written') + NOT_FOUND.format(goal=goal) + NOT_PROVED
 
 
-def asked_for(*functions, goal='returns', by_own=False):
-    """What is asked of these functions: the goal by the first calls, or by the prover's own search."""
-    return {it: {goal: {} if by_own else {goal: edits.FIRST}} for it in functions}
+def judged(said, status=1, goal='returns', written=True, by_prover=False):
+    """What is wrong with the one edit of a round, and whether it is in doubt, by what its check says, where an answer of
+    its goal is written or not."""
+    read, edits.answers_of = edits.answers_of, lambda crate, function: written * f'pub {goal} : goal.{goal}\n{goal} c = c.it\n'
+    found, doubts = edits.try_round('low', [edit(goal)], status, said, by_prover)
+    edits.answers_of = read
+    return [text for _, text in found], doubts == [edit(goal)]
 
 
-def faults(said, status=1, goal='returns', by_own=False):
-    """What is wrong with the one edit of a round, by what its check says."""
-    asked = asked_for('a::f', goal=goal, by_own=by_own)
-    return [text for _, text in edits.try_round('low', [edit(goal)], status, said, asked)]
+def faults(*words, **others):
+    """What is wrong with the one edit of a round."""
+    return judged(*words, **others)[0]
 
 
 # Answers of two clauses, of which the second stands by a definition beside them.
@@ -147,25 +149,35 @@ def cases():
     yield 'a loop without a measure refuses', faults(NO_MEASURE, goal='measure') == []
     yield 'a loop with its measure does not refuse', 'its loops have their measures' in '\n'.join(
         faults('fn low::a::f: no holes', goal='measure'))
-    first = NOT_FOUND.format(goal='returns')
-    yield 'a search that stopped at a limit refuses', faults(STOPPED.format(goal='returns') + NOT_PROVED) == []
+    misfit, none = MISFIT.format(goal='returns-as-written'), NOT_FOUND.format(goal='returns')
+    yield 'a search that stopped at a limit refuses', faults(misfit + STOPPED.format(goal='returns') + NOT_PROVED) == []
     for name, (instead, reason) in NOT_REFUSED.items():
-        wrong = '\n'.join(faults(instead + NOT_PROVED))
+        wrong = '\n'.join(faults(misfit + instead + NOT_PROVED))
         yield f'{name} does not refuse', 'low/turned.edit: a::f is not refused' in wrong and reason in wrong
+    for what, said in ((f'returns-as-written', none), ('returns', misfit)):
+        yield f'a goal that is proved by {what} does not refuse', f'its goal is proved, or is none: {what}' in '\n'.join(
+            faults(said + NOT_PROVED))
+    yield 'a goal that is open though an answer is written for it is beyond doubt', judged(said_of('returns')) == ([], False)
+    for said in (BROKEN, FOUND_BROKEN):
+        yield f'so is one without that values break: {said[50:80]}', judged(said + NOT_PROVED, written=False) == ([], False)
+    for said in (none, STOPPED.format(goal='returns')):
+        yield f'and one that the search leaves open alone is not: {said[50:80]}', judged(said + NOT_PROVED, written=False) == ([], True)
+    yield 'one that is not refused is in no doubt', judged(NOT_PROVED, written=False)[1] is False
+    yield 'a measure is beyond doubt', judged(NO_MEASURE, goal='measure', written=False) == ([], False)
     own = 'fn low::a::f: no proof: expected answers; `search` did not prove `overflow_add`, `returns`; it calls `low::a::g`'
-    yield "a goal that the prover's own search leaves refuses", faults(own, by_own=True) == []
-    for said in (own.replace(', `returns`', ''), 'fn low::a::f: no holes', first + NOT_PROVED):
+    yield "a goal that the prover's own search leaves refuses", judged(own, by_prover=True) == ([], False)
+    for said in (own.replace(', `returns`', ''), 'fn low::a::f: no holes', none + NOT_PROVED):
         yield f'and none that it does not leave: {said[:60]}', "the prover's own search leaves others" in '\n'.join(
-            faults(said, by_own=True))
+            faults(said, by_prover=True))
     for status in (2, 3, -9, None):
-        wrong = '\n'.join(faults(first + NOT_PROVED, status))
+        wrong = '\n'.join(faults(said_of('returns'), status))
         yield f'a check that ends with {status} refuses nothing', 'low/turned.edit: the check ended' in wrong
     yield 'what such a check said last is told', 'no such library' in '\n'.join(faults('no such library', 2))
-    misfit = MISFIT.format(goal='returns').replace('/a/f/', '/a/g/')
+    other = MISFIT.format(goal='returns').replace('/a/f/', '/a/g/')
     yield 'an answer that does not fit, of a function that no edit turns, is a fault', any(
-        'low: a::g has faults' in it for it in faults(f'{first}{NOT_PROVED}{misfit}'))
+        'low: a::g has faults' in it for it in faults(said_of('returns') + other))
     yield 'a goal of such a function that nothing is tried at is none', faults(
-        f'{first}{NOT_PROVED}fn low::a::g: no proof: expected answers; `#[tactic(none)]` leaves `returns`') == []
+        said_of('returns') + 'fn low::a::g: no proof: expected answers; `#[tactic(none)]` leaves `returns`') == []
     yield from of_asking()
     yield from of_counts()
     yield from of_runs()
@@ -175,65 +187,29 @@ def cases():
 
 def of_asking():
     """The cases of a file of answers in which goals are asked for."""
-    def first(goal):
-        return {goal: {goal: edits.FIRST}}
-
-    asked = edits.asking(ANSWERS, 'low', 'a::f', first('returns-clause-at-2'))
+    asked = edits.asking(ANSWERS, 'low', 'a::f', ['returns-clause-at-2'])
     yield 'the answer that is written is tried by another name, and the search by the goal\'s', asked == ASKED
-    asked = edits.asking(ANSWERS, 'low', 'a::f', first('returns-clause-at'))
+    asked = edits.asking(ANSWERS, 'low', 'a::f', ['returns-clause-at'])
     yield 'an answer of several lines is tried whole', (
         'returns-clause-at-as-written : goal.returns-clause-at\nreturns-clause-at-as-written g c = elim c.branch (\n'
         '    in-Err\n)\n\n    c.more\n' in asked)
     yield 'the others go, and what they alone name is not imported', asked.count('returns-clause-at-2') == 0 and (
         'in-Ok' not in asked and 'Goals.{in-Err}\n' in asked)
-    asked = edits.asking(ANSWERS.replace('first in-Ok', 'first (returns-clause-at in-Ok)'), 'low', 'a::f', first('returns-clause-at-2'))
+    asked = edits.asking(ANSWERS.replace('first in-Ok', 'first (returns-clause-at in-Ok)'), 'low', 'a::f', ['returns-clause-at-2'])
     yield 'an answer that another one names is a hole', (
         'pub returns-clause-at : goal.returns-clause-at\nreturns-clause-at = ?\n' in asked)
-    asked = edits.asking('', 'low', 'a::f', {**first('returns'), **first('invariant_of-self')})
+    asked = edits.asking('', 'low', 'a::f', ['returns', 'invariant_of-self'])
     yield 'goals are asked for where the function has no file of answers', (
         'use Rattle.low.proofs.a.f.Goals as goal\n' in asked and 'pub returns : goal.returns\nreturns c = first_of (' in asked
         and 'pub invariant_of-self : goal.invariant_of-self\ninvariant_of-self c = first_of (' in asked)
-    yield 'a measure is no goal', 'measure' not in edits.asking(ANSWERS, 'low', 'a::f', first('measure'))
-    with tempfile.TemporaryDirectory() as room:
-        top, edits.TOP = edits.TOP, Path(room)
-        path = Path(room) / 'crates/low/proofs/a/f/Answers.antt'
-        path.parent.mkdir(parents=True)
-        path.write_text(ANSWERS, encoding='utf-8')
-        goal = 'returns-clause-at'
-        search, misfit = NOT_FOUND.format(goal=goal), MISFIT.format(goal=f'{goal}-as-written')
-        yield 'an answer that does not fit refuses, where the search finds nothing', faults(search + misfit, goal=goal) == []
-        for what, said in ((f'{goal}-as-written', search), (goal, misfit)):
-            yield f'a goal that is proved by {what} does not refuse', f'its goal is proved, or is none: {what}' in '\n'.join(
-                faults(said + NOT_PROVED, goal=goal))
-        yield 'a goal is asked for as it is where no answer of it is written', edits.unwritten(
-            'low', edit('returns')) == [('a::f', 'returns')]
-        for it in (goal, 'measure'):
-            yield f'and {it} is not', edits.unwritten('low', edit(it)) == []
-        edits.TOP = top
-    yield 'what is no call is asked for by its name, and a goal without a call is a hole', (
-        '\nreturns-in-vain c = no_such_call\n' in edits.asking('', 'low', 'a::f', {'returns': {'returns-in-vain': edits.VAIN}})
-        and '\nreturns c = ?\n' in edits.asking('', 'low', 'a::f', {'returns': {'returns': ()}}))
-    yield from of_doubts()
+    yield 'a measure is no goal', 'measure' not in edits.asking(ANSWERS, 'low', 'a::f', ['measure'])
+    by_search = 'use Rattle.std.proofs.Common.{rules, tests}\n\npub returns : goal.returns\nreturns c = search (tests, rules)\n'
+    asked = edits.asking(by_search, 'low', 'a::f', ['returns'])
+    yield 'a call that is the written answer is tried once', asked.count('search (') == 1 and (
+        '\nreturns-as-written c = search (tests, rules)\n' in asked
+        and '\nreturns c = grind (given.arith, sets.common_steps) steps 2000000\n' in asked)
+    yield 'a goal without a call is a hole', '\nreturns c = ?\n' in edits.asking('', 'low', 'a::f', ['returns'], ())
     yield from of_bodies()
-
-
-def of_doubts():
-    """The cases of goals that may be open for what the search lacks, and of functions as they are."""
-    none = NOT_FOUND.format(goal='returns')
-    for what, said, doubts in (('a search does not find', none, [(edit(), [('a::f', 'returns')])]),
-                               ('values break', BROKEN, []),
-                               ('a search does not find by its own words, and values break', FOUND_BROKEN, [])):
-        yield f'a goal that {what} is {"in" if doubts else "beyond"} doubt', edits.in_doubt('low', [edit()], said) == doubts
-    yield 'a measure is beyond doubt', edits.in_doubt('low', [edit('measure')], NO_MEASURE) == []
-    goals, vain = [('a::f', 'returns')], VAIN
-    for what, said, unproved in (('the search proves', '', []), ('the search does not prove', none, goals)):
-        yield f'a goal that {what} as it is', edits.unproved_as_they_are('low', goals, 1, vain + said) == (unproved, [])
-    yield 'a function of which nothing is said as it is, is a fault', len(edits.unproved_as_they_are('low', goals, 1, '')[1]) == 1
-    yield 'so is one that values are said to break, since its goal is true', len(
-        edits.unproved_as_they_are('low', goals, 1, vain + BROKEN)[1]) == 1
-    for status in (2, 3, None):
-        yield f'a check of what is as it is that ends with {status} is a fault', len(
-            edits.unproved_as_they_are('low', goals, status, vain)[1]) == 1
 
 
 # Functions with and without clauses, some without a body, one of a constant, and one with a line of its own.
@@ -307,10 +283,10 @@ def of_bodies():
                 text = text[:begin] + new + text[end:]
             return text
 
-        yield 'the others stand empty', text_of([], {'a::A::g': {}}, []) == EMPTIED
+        yield 'the others stand empty', text_of([], ['a::A::g'], []) == EMPTIED
         yield 'their answers and invariants go', sorted(str(it.relative_to(crate)) for it in crate.glob('proofs/**/*.antt')) == [
             'proofs/a/A/g/Answers.antt', 'proofs/a/Lemmas.antt', 'proofs/a/fn/A/g/all/Answers.antt']
-        yield 'nothing is searched for where so is asked', text_of([], ['a::A::g'], ['a::A::g']) == EMPTIED.replace(
+        yield 'nothing is searched for where goals are asked', text_of([], ['a::A::g'], ['a::A::g']) == EMPTIED.replace(
             '    pub fn g', '#[tactic(none)]\n    pub fn g')
         at = CODE.index('1\n')
         yield 'a turned function is not empty', '    1\n' in text_of([('src/a.rt', at, at + 1, '2')], ['a::A::g'], [])
@@ -399,9 +375,9 @@ def of_counts():
     """The cases of what is counted: each edit once, and each fault of no edit."""
     both = edits.Edit('both', {'a::f': 'returns', 'a::g': 'returns'}, [('src/lib.rt', 'old', 'new')])
     misfit = MISFIT.format(goal='returns').replace('/a/f/', '/a/h/')
-    wrong = edits.try_round('low', [edit()], 1, said_of('returns') + misfit, asked_for('a::f'))
+    wrong, _ = edits.try_round('low', [edit()], 1, BROKEN + NOT_PROVED + misfit)
     yield 'an edit passes beside a fault of a function that no edit turns, which fails', edits.counted([edit()], wrong) == (1, 1)
-    wrong = edits.try_round('low', [both], 0, 'fn low::a::f: no holes', asked_for('a::f', 'a::g'))
+    wrong, _ = edits.try_round('low', [both], 0, 'fn low::a::f: no holes')
     yield 'an edit that two functions let through fails once', len(wrong) == 2 and edits.counted([both], wrong) == (0, 1)
     with tempfile.TemporaryDirectory() as room:
         crate = Path(room) / 'low'
