@@ -27,7 +27,7 @@ GHOST = re.compile(r'^ghost use (.*);$', re.M)
 CODE = re.compile(r'^pub mod (\w+);\n', re.M)
 # So many edits at most in a round: what a check holds in memory grows with them.
 ROUND = 40
-# What a definition stands in, and the parts of a crate that are copied.
+# What a definition stands in, and the parts of a crate.
 SPECS = 'specs/'
 PARTS = ('src', 'specs', 'proofs')
 # The copies of edits, and those without a change.
@@ -205,6 +205,8 @@ def try_round(modules, room, edits, check):
 def try_edits(crate, room, edits, check):
     """Tries edits of definitions of the crate in one folder in rounds, in another folder: what is wrong, each with the name
     of its edit. The check gives of these modules of that crate why there is no verdict, or nothing, and what is said."""
+    if not edits:
+        return []
     modules = Modules(crate)
     edits = sorted(edits, key=lambda it: (it.changes[0][0], [*it.refused]))
     return [fault for begin in range(0, len(edits), ROUND)

@@ -1,16 +1,16 @@
 #!/usr/bin/env python3
 """Turns the functions and definitions of the crates by the edits of crates/NAME/edits/, and sees that each is refused.
 
-An edit of a definition is tried over a copy of what that reaches, as tests/definitions.py says. It is a file as those of
-code are, but for its first line, `refused: LAW`, which names a law without a goal.
-
-An edit of code is a file of lines: `refused: PATH` names a function whose contract has to refuse it, as the prover prints it,
-below its crate, and `by: GOAL` behind it the goal of that function which is open then; `file: PATH` a file of the
-crate; and then `old: TEXT` and `new: TEXT` in turn, where the old text stands exactly once in that file as it is. A
+An edit of code is a file of lines: `refused: PATH` names a function whose contract has to refuse it, as the prover
+prints it, below its crate, and `by: GOAL` behind it the goal of that function which is open then; `file: PATH` a file of
+the crate; and then `old: TEXT` and `new: TEXT` in turn, where the old text stands exactly once in that file as it is. A
 function may refuse an edit by a goal of meaning, which is one of what it ensures, of its type's invariant or of a
 loop's, or, where what it promises is carried by what it has to show to a function that it calls, by one of what that
 requires; or by `measure`, where a loop has none any more, since each call has to end. Nothing else refuses an edit: no
 goal of an overflow, a bound, a cast or an index, no proof that names what the edit took away, and no run out of steps.
+
+An edit of a definition has a line `refused: LAW` alone, without a goal, and then the same lines. It is tried over a copy
+of what the definition reaches, as tests/definitions.py says. What follows is of edits of code.
 
 Each edit is judged by itself: its goal has to stay open, whatever is tried at it. Tried are the answer that is written
 for the goal, and the calls that the prover makes first at a goal without an answer. Both stand in the file of answers of
@@ -48,10 +48,10 @@ from pathlib import Path
 sys.path.insert(0, str(Path(__file__).resolve().parent))
 import definitions  # noqa: E402
 from bodies import EMPTY, NEVER, NEVER_GOALS, functions_in, may_be_empty  # noqa: E402
+from definitions import PARTS, SPENT  # noqa: E402
 
 TOP = Path(__file__).resolve().parent.parent
 KIT = Path(shutil.which('rt')).resolve().parent.parent
-PARTS = ('src', 'specs', 'proofs')
 # The files below proofs/ that belong to one function.
 OF_FUNCTION = ('Answers.antt', 'Invariants.antt', 'Proof.antt')
 # Seconds for one check, which may have to prove a whole crate.
@@ -75,9 +75,8 @@ FIRST = ('search (given.tests, given.rules)', 'grind (given.arith, sets.common_s
 LISTS = 'use Rattle.std.proofs.Common as given\nuse Rattle.std.proofs.lemmas.Grind as sets\n'
 # The head of an answer, and of a definition beside the answers.
 HEAD = re.compile(r'^(?:abbrev )?(?:pub )?(\S+) : (.*)$', re.M)
-# What the prover says of an answer that names what an edit took away, and of a call that has no end.
+# What the prover says of an answer that names what an edit took away.
 LACKING = re.compile(r'has no field|is not in scope|has no `|was not admitted|is no name')
-SPENT = re.compile(r'r[ua]n out of|could not tell')
 # What it says of a goal that is false: it has found values for what the goal names.
 BROKEN = re.compile(r'the goal does not follow\.\s+The hypotheses hold, and the goal fails')
 # What it says of an answer that it refuses, or of a file of answers: the function's folder, the name, and why.
