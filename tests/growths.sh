@@ -69,8 +69,8 @@ if ! "${CC:-cc}" -O2 -shared -fPIC -o "$room/refuse.so" "$top/tests/refuse.c"; t
 fi
 
 refuse_all machine_tests 'intervals::.*'
-refuse_all partial_active '.*'
-refuse_all partial_embedded '.*'
+refuse_all machine_tests 'active_set::.*'
+refuse_all machine_tests 'embedded::.*'
 refuse_all machine_tests 'machine::.*'
 refuse_all replay_tests 'places::.*'
 refuse_all replay_tests 'texts::growths::.*'

@@ -1,6 +1,6 @@
 //! The buffers of a getSet.
 
-ghost use Rattle.std.specs.Prelude.{◌≡◌, ◌+◌, ◌/◌, ◌<◌, ◌≤◌, ◌++◌, ◌∷◌, [], length, IfOk, nat_lt, slice_index, slice_index_or, IsTrue};
+ghost use Rattle.std.specs.Prelude.{◌≡◌, ◌+◌, ◌/◌, ◌<◌, ◌≤◌, ◌↔◌, ◌++◌, ◌∷◌, [], length, IfOk, nat_lt, slice_index, slice_index_or, IsTrue};
 ghost use Rattle.partial_intervals.specs.Intervals.{GoesOn, IsNormal, lowest, highest};
 ghost use Rattle.partial_words.specs.VacatedList.{list_block};
 ghost use Rattle.partial_active.specs.IndexSet.{with_index};
@@ -146,13 +146,10 @@ impl Found {
     {
         list_block_word(&self.next, k)
     }
-}
 
-#[cfg(test)]
-impl Found {
     // Whether the list that was read ends below the number, or has no interval.
     pub(crate) fn read_ends_below(&self, n: u64) -> bool
-        ensures { IsTrue result → EndsBelow self.now.read n }
+        ensures { IsTrue result ↔ EndsBelow self.now.read n }
     {
         let count = self.read.len();
         count == 0 || u64::from(self.read.get(count - 1).1) < n

@@ -9,7 +9,9 @@ mod loops;
 mod plain;
 
 use crate::found::Found;
-use partial_words::{Sizes, Step, indices_word, intervals_word, list_size, next_word};
+use partial_words::{
+    Sizes, Step, announcement_size, indices_word, intervals_word, list_size, next_word,
+};
 use std::marker::Model;
 
 /// The stage of a getSet: the step that is due, and what it needs. `at` is the number of the word.
@@ -428,14 +430,15 @@ impl GetSet {
     }
 }
 
-#[cfg(test)]
 impl GetSet {
-    ghost use Rattle.partial_active.specs.GetSetAnswers.{IsPossibleInSet};
+    ghost use Rattle.partial_words.specs.Layout.{greatest_list};
+    ghost use Rattle.partial_active.specs.GetSetAnswers.{SetGoesTogether, IsPossibleInSet};
 
-    // Whether the number is a possible answer of the step that is due. It asks for a little more than is
-    // needed.
-    pub(crate) fn may_answer(&self, found: &Found, x: u64) -> bool
-        ensures { IsTrue result → IsPossibleInSet (self.now, found.now) x }
+    /// Whether the number is a possible answer of the step that is due, as [`GetSet::answer`] wants it: one that the
+    /// words of a memory give.
+    pub fn may_answer(&self, found: &Found, x: u64) -> bool
+        requires { SetGoesTogether (self.now, found.now) }
+        ensures { IsTrue result ↔ IsPossibleInSet (self.now, found.now) x }
     {
         match self.stage {
             Stage::Head => x == 0 || self.is_list_word(x),
@@ -454,15 +457,22 @@ impl GetSet {
             Stage::Slot { .. } => x <= 1 || self.is_pool_word(x),
             Stage::Len { at, .. } => {
                 x <= u64::from(self.sizes.m())
-                    && u64::from(at) + partial_words::announcement_size(x)
-                        <= u64::from(self.sizes.pool_end())
+                    && u64::from(at) + announcement_size(x) <= u64::from(self.sizes.pool_end())
             }
             Stage::Index { .. } => x < u64::from(self.sizes.m()),
             Stage::Claim { .. } => {
-                u64::from(self.sizes.list_base()) <= x && x <= u64::from(self.sizes.list_end()) + 64
+                u64::from(self.sizes.list_base()) <= x
+                    && x <= u64::from(self.sizes.list_end()) + 64 * self.greatest_list()
             }
-            _ => true,
+            Stage::Write { .. } | Stage::Publish { .. } | Stage::Done => true,
         }
+    }
+
+    // How many words a list takes at most.
+    fn greatest_list(&self) -> u64
+        ensures { result ≡ greatest_list self.now.sizes }
+    {
+        u64::from(self.sizes.slots()) + 2
     }
 
     // Whether the number is that of a list word.

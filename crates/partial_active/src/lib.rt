@@ -16,6 +16,3 @@ pub use get_set::GetSet;
 pub use join::Join;
 pub use leave::Leave;
 pub use steps::Steps;
-
-#[cfg(test)]
-mod tests;

@@ -8,7 +8,9 @@ mod collects;
 mod loops;
 
 use crate::rows::Rows;
-use partial_words::{Sizes, Step, next_word, pairs_word, value_word, view_word};
+use partial_words::{
+    Sizes, Step, next_word, pairs_word, plain_record_size, value_word, view_size, view_word,
+};
 use std::marker::Model;
 
 /// The stage of an embedded scan: the load that is due, and what it needs. `at` is the number of the word.
@@ -257,30 +259,25 @@ impl Embedded {
     }
 }
 
-#[cfg(test)]
 impl Embedded {
     ghost use Rattle.std.specs.Prelude.{IsTrue, ◌↔◌, ◌≤◌};
     ghost use Rattle.partial_words.specs.Layout.{pool_base, pool_end};
     ghost use Rattle.partial_embedded.specs.Embedded.{IsPossibleInViewAt};
 
-    // Whether the number is a possible answer of the step that is due.
-    pub(crate) fn may_answer(&self, x: u64) -> bool
-        ensures { IsTrue result → IsPossibleInViewAt self.now.sizes self.now.stage x }
+    /// Whether the number is a possible answer of the step that is due, as [`Embedded::answer`] wants it: one that the
+    /// words of a memory give.
+    pub fn may_answer(&self, x: u64) -> bool
+        ensures { IsTrue result ↔ IsPossibleInViewAt self.now.sizes self.now.stage x }
     {
+        let end = u64::from(self.sizes.pool_end());
         match self.stage {
-            Stage::Collect { .. } => {
-                self.is_pool_word(x)
-                    && x + partial_words::plain_record_size() <= u64::from(self.sizes.pool_end())
-            }
+            Stage::Collect { .. } => self.is_pool_word(x) && plain_record_size() <= end - x,
             Stage::View { .. } => x == 0 || self.is_pool_word(x),
             Stage::Len { at } => {
-                self.is_pool_word(at)
-                    && x <= u64::from(self.sizes.m())
-                    && at + partial_words::view_size(x) <= u64::from(self.sizes.pool_end())
+                x <= u64::from(self.sizes.m()) && at <= end && view_size(x) <= end - at
             }
             Stage::Index { .. } => x < u64::from(self.sizes.m()),
-            Stage::PairValue { .. } => true,
-            Stage::Value { .. } => true,
+            Stage::PairValue { .. } | Stage::Value { .. } => true,
             Stage::Done => false,
         }
     }

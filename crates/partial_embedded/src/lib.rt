@@ -12,6 +12,3 @@ pub mod rows;
 pub use embedded::Embedded;
 pub use loads::Loads;
 pub use rows::Rows;
-
-#[cfg(test)]
-mod tests;

@@ -1,5 +1,6 @@
-use Rattle.partial_embedded.proofs.Common.{◌≡◌, ViewGoesTogether, view_left}
-use Rattle.partial_embedded.proofs.tests.drive.Given as goal
+use Rattle.std.specs.Prelude.{◌≡◌}
+use Rattle.partial_embedded.specs.Embedded.{ViewGoesTogether, view_left}
+use Rattle.machine_tests.proofs.embedded.drive.Given as goal
 
 -- the machine, its positions and its buffers go together
 abbrev pub invariant-loop-step : goal.invariant-loop-step

@@ -1,5 +1,6 @@
-use Rattle.partial_active.proofs.Common.{◌≡◌, SetGoesTogether}
-use Rattle.partial_active.proofs.tests.drive_for.Given as goal
+use Rattle.std.specs.Prelude.{◌≡◌}
+use Rattle.partial_active.specs.GetSetAnswers.{SetGoesTogether}
+use Rattle.machine_tests.proofs.active_set.drive_for.Given as goal
 
 -- the machine and its buffers go together
 abbrev pub invariant-loop : goal.invariant-loop

@@ -3,7 +3,7 @@
 ghost use Rattle.std.specs.Prelude.{◌≡◌, OnOk, IsTrue};
 ghost use Rattle.partial_embedded.specs.Embedded.{ArePositions, ViewGoesTogether, AreRowsFor};
 
-use crate::{Embedded, Rows};
+use partial_embedded::{Embedded, Rows};
 use partial_words::{Sizes, Step};
 use std::alloc::{AllocError, Global};
 use std::process::Abort;

@@ -4,7 +4,7 @@ ghost use Rattle.std.specs.Prelude.{OnOk};
 ghost use Rattle.partial_active.specs.Found.{AreFoundFor};
 ghost use Rattle.partial_active.specs.GetSetAnswers.{SetGoesTogether};
 
-use crate::{Found, GetSet, Join, Leave};
+use partial_active::{Found, GetSet, Join, Leave};
 use partial_words::{Sizes, Step};
 use std::alloc::{AllocError, Global};
 use std::process::Abort;
