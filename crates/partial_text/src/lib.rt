@@ -5,6 +5,7 @@ mod calls;
 mod device;
 mod fault;
 mod fields;
+mod gathered;
 mod law;
 mod lines;
 mod number;

@@ -1,58 +1,78 @@
-//! The text of an outcome.
+//! The text of an outcome, told to a writer.
 
-ghost use Rattle.std.specs.Prelude.{◌≡◌, ◌++◌, ◌∷◌, [], List, ℕ, decimal, codes, OnOk, IfOk};
+ghost use Rattle.std.specs.Prelude.{◌≡◌, ◌++◌, IfOk};
 ghost use Rattle.std.specs.List.{flat_map};
 ghost use Rattle.partial_text.specs.PlanText.{number_field};
 ghost use Rattle.partial_text.specs.OutcomeText.{entry_line, entry_lines, optional_field, told_place, answer_front, place_field, answer_back, answer_text, finish_text, ended_of, call_line, values_of, values_line, total_line, outcome_text};
+ghost use Rattle.partial_text.specs.Telling.{Tells, telling};
 
+use crate::device::Device;
+use crate::gathered::Gathered;
 use crate::outcome::Outcome;
 use itoa::Buffer;
 use partial_model::{Answer, Applied, Called, Finish, Note, Opening};
 use std::alloc::{AllocError, Global};
+use std::io::Write;
 
-/// Writes a space and the number.
-pub(crate) fn push_number(text: &mut Vec<u8>, number: u64) -> Result<(), AllocError>
-    ensures { OnOk result (text.new.items ≡ text.old.items ++ number_field number) }
+/// Tells a space and the number.
+#[tactic(auto, using(crate::proofs::Telling::tells_then, crate::proofs::Telling::tells_more))]
+pub(crate) fn tell_number<W: Write>(text: &mut Gathered, out: &mut Device<W>, number: u64)
+    ensures { Tells (telling W.contents text.old out.old) (number_field number)
+        (telling W.contents text.new out.new) }
 {
-    text.push(b' ')?;
-    text.extend_from_slice(Buffer::new().format(number).as_bytes())
+    text.tell(out, b" ");
+    text.tell(out, Buffer::new().format(number).as_bytes());
 }
 
-/// Writes each number with a space before it.
-fn push_numbers(text: &mut Vec<u8>, numbers: &[u64]) -> Result<(), AllocError>
-    ensures { OnOk result (text.new.items ≡ text.old.items ++ flat_map number_field numbers.now) }
+/// Tells each number with a space before it.
+#[tactic(auto, using(crate::proofs::Telling::tells_then, crate::proofs::Telling::tells_more))]
+fn tell_numbers<W: Write>(text: &mut Gathered, out: &mut Device<W>, numbers: &[u64])
+    ensures { Tells (telling W.contents text.old out.old) (flat_map number_field numbers.now)
+        (telling W.contents text.new out.new) }
 {
     for number in numbers {
-        push_number(text, *number)?;
+        tell_number(text, out, *number);
     }
-    Ok(())
 }
 
-/// Writes a space and the number, or a dash when there is none.
-fn push_optional(text: &mut Vec<u8>, number: Option<u64>) -> Result<(), AllocError>
-    ensures { OnOk result (text.new.items ≡ text.old.items ++ optional_field number) }
+/// Tells a space and the number, or a dash when there is none.
+#[tactic(auto, using(crate::proofs::Telling::tells_then, crate::proofs::Telling::tells_more))]
+fn tell_optional<W: Write>(text: &mut Gathered, out: &mut Device<W>, number: Option<u64>)
+    ensures { Tells (telling W.contents text.old out.old) (optional_field number)
+        (telling W.contents text.new out.new) }
 {
     match number {
-        None => text.extend_from_slice(b" -"),
-        Some(number) => push_number(text, number),
+        None => text.tell(out, b" -"),
+        Some(number) => tell_number(text, out, number),
     }
 }
 
-fn push_entry(text: &mut Vec<u8>, place: usize, entry: &Applied) -> Result<(), AllocError>
-    ensures { OnOk result (text.new.items ≡ text.old.items ++ entry_line place entry.now) }
+/// Tells the word, a space and the number.
+#[tactic(auto, using(crate::proofs::Telling::tells_then, crate::proofs::Telling::tells_more))]
+pub(crate) fn tell_field<W: Write>(
+    text: &mut Gathered,
+    out: &mut Device<W>,
+    word: &[u8],
+    number: u64,
+)
+    ensures { Tells (telling W.contents text.old out.old) (word.now ++ number_field number)
+        (telling W.contents text.new out.new) }
 {
-    text.extend_from_slice(b"applied")?;
-    push_number(text, place as u64)?;
-    text.extend_from_slice(b" port")?;
-    push_number(text, u64::from(entry.port))?;
-    text.extend_from_slice(b" component")?;
-    push_number(text, u64::from(entry.component))?;
-    text.extend_from_slice(b" value")?;
-    push_number(text, entry.value)?;
-    text.extend_from_slice(b" stamp")?;
-    push_number(text, entry.stamp)?;
-    text.push(b'\n')?;
-    Ok(())
+    text.tell(out, word);
+    tell_number(text, out, number);
+}
+
+#[tactic(auto, using(crate::proofs::Telling::tells_then, crate::proofs::Telling::tells_more))]
+fn tell_entry<W: Write>(text: &mut Gathered, out: &mut Device<W>, place: usize, entry: &Applied)
+    ensures { Tells (telling W.contents text.old out.old) (entry_line place entry.now)
+        (telling W.contents text.new out.new) }
+{
+    tell_field(text, out, b"applied", place as u64);
+    tell_field(text, out, b" port", u64::from(entry.port));
+    tell_field(text, out, b" component", u64::from(entry.component));
+    tell_field(text, out, b" value", entry.value);
+    tell_field(text, out, b" stamp", entry.stamp);
+    text.tell(out, b"\n");
 }
 
 fn place(note: Option<Note>) -> usize
@@ -66,48 +86,48 @@ fn place(note: Option<Note>) -> usize
     }
 }
 
-/// Writes the word, a space and the number.
-fn push_field(text: &mut Vec<u8>, word: &[u8], number: u64) -> Result<(), AllocError>
-    ensures { OnOk result (text.new.items ≡ text.old.items ++ word.now ++ number_field number) }
-{
-    text.extend_from_slice(word)?;
-    push_number(text, number)
-}
-
-/// Writes an answer up to its place or prefix.
-pub(crate) fn push_answer_front(text: &mut Vec<u8>, answer: &Answer) -> Result<(), AllocError>
-    ensures { OnOk result (text.new.items ≡ text.old.items ++ answer_front answer.now) }
+/// Tells an answer up to its place or prefix.
+#[tactic(auto, using(crate::proofs::Telling::tells_then, crate::proofs::Telling::tells_more))]
+pub(crate) fn tell_answer_front<W: Write>(text: &mut Gathered, out: &mut Device<W>, answer: &Answer)
+    ensures { Tells (telling W.contents text.old out.old) (answer_front answer.now)
+        (telling W.contents text.new out.new) }
 {
     match answer {
-        Answer::Applied { stamp } => push_field(text, b" applied", *stamp),
-        Answer::Lost { by } => push_field(text, b" lost", *by),
+        Answer::Applied { stamp } => tell_field(text, out, b" applied", *stamp),
+        Answer::Lost { by } => tell_field(text, out, b" lost", *by),
         Answer::Scanned { values, .. } => {
-            text.extend_from_slice(b" scanned")?;
-            push_numbers(text, values.as_slice())
+            text.tell(out, b" scanned");
+            tell_numbers(text, out, values.as_slice());
         }
         Answer::Read { value, stamp } => {
-            push_field(text, b" read", *value)?;
-            push_number(text, *stamp)
+            tell_field(text, out, b" read", *value);
+            tell_number(text, out, *stamp);
         }
-        Answer::Refused { cause } => push_field(text, b" refused", u64::from(cause.code())),
-        Answer::Changed { by } => push_field(text, b" changed", *by),
+        Answer::Refused { cause } => tell_field(text, out, b" refused", u64::from(cause.code())),
+        Answer::Changed { by } => tell_field(text, out, b" changed", *by),
     }
 }
 
-/// Writes the place or the prefix of an answer.
-fn push_place(text: &mut Vec<u8>, answer: &Answer, place: usize) -> Result<(), AllocError>
-    ensures { OnOk result (text.new.items ≡ text.old.items ++ place_field answer.now place) }
+/// Tells the place or the prefix of an answer.
+#[tactic(auto, using(crate::proofs::Telling::tells_then, crate::proofs::Telling::tells_more))]
+fn tell_place<W: Write>(text: &mut Gathered, out: &mut Device<W>, answer: &Answer, place: usize)
+    ensures { Tells (telling W.contents text.old out.old) (place_field answer.now place)
+        (telling W.contents text.new out.new) }
 {
     match answer {
-        Answer::Applied { .. } | Answer::Lost { .. } => push_field(text, b" place", place as u64),
-        Answer::Refused { .. } => Ok(()),
-        _ => push_field(text, b" prefix", place as u64),
+        Answer::Applied { .. } | Answer::Lost { .. } => {
+            tell_field(text, out, b" place", place as u64);
+        }
+        Answer::Refused { .. } => {}
+        _ => tell_field(text, out, b" prefix", place as u64),
     }
 }
 
-/// Writes what follows the prefix of a scan. Writes nothing of other answers.
-pub(crate) fn push_answer_back(text: &mut Vec<u8>, answer: &Answer) -> Result<(), AllocError>
-    ensures { OnOk result (text.new.items ≡ text.old.items ++ answer_back answer.now) }
+/// Tells what follows the prefix of a scan, and nothing of other answers.
+#[tactic(auto, using(crate::proofs::Telling::tells_then, crate::proofs::Telling::tells_more))]
+pub(crate) fn tell_answer_back<W: Write>(text: &mut Gathered, out: &mut Device<W>, answer: &Answer)
+    ensures { Tells (telling W.contents text.old out.old) (answer_back answer.now)
+        (telling W.contents text.new out.new) }
 {
     if let Answer::Scanned {
         collects,
@@ -115,27 +135,30 @@ pub(crate) fn push_answer_back(text: &mut Vec<u8>, answer: &Answer) -> Result<()
         ..
     } = answer
     {
-        push_field(text, b" collects", u64::from(*collects))?;
-        text.extend_from_slice(b" borrowed")?;
-        push_optional(text, *borrowed)?;
+        tell_field(text, out, b" collects", u64::from(*collects));
+        text.tell(out, b" borrowed");
+        tell_optional(text, out, *borrowed);
     }
-    Ok(())
 }
 
-fn push_answer(text: &mut Vec<u8>, answer: &Answer, place: usize) -> Result<(), AllocError>
-    ensures { OnOk result (text.new.items ≡ text.old.items ++ answer_text answer.now place) }
+#[tactic(auto, using(crate::proofs::Telling::tells_then, crate::proofs::Telling::tells_more))]
+fn tell_answer<W: Write>(text: &mut Gathered, out: &mut Device<W>, answer: &Answer, place: usize)
+    ensures { Tells (telling W.contents text.old out.old) (answer_text answer.now place)
+        (telling W.contents text.new out.new) }
 {
-    push_answer_front(text, answer)?;
-    push_place(text, answer, place)?;
-    push_answer_back(text, answer)
+    tell_answer_front(text, out, answer);
+    tell_place(text, out, answer, place);
+    tell_answer_back(text, out, answer);
 }
 
-fn push_finish(text: &mut Vec<u8>, finish: &Option<Finish>) -> Result<(), AllocError>
-    ensures { OnOk result (text.new.items ≡ text.old.items ++ finish_text finish.now) }
+#[tactic(auto, using(crate::proofs::Telling::tells_then, crate::proofs::Telling::tells_more))]
+fn tell_finish<W: Write>(text: &mut Gathered, out: &mut Device<W>, finish: &Option<Finish>)
+    ensures { Tells (telling W.contents text.old out.old) (finish_text finish.now)
+        (telling W.contents text.new out.new) }
 {
     match finish {
-        None => text.extend_from_slice(b" unfinished"),
-        Some(finish) => push_answer(text, &finish.answer, place(finish.note)),
+        None => text.tell(out, b" unfinished"),
+        Some(finish) => tell_answer(text, out, &finish.answer, place(finish.note)),
     }
 }
 
@@ -148,40 +171,42 @@ fn ended(finish: &Option<Finish>) -> Option<u64>
     }
 }
 
-fn push_call(text: &mut Vec<u8>, called: &Called) -> Result<(), AllocError>
-    ensures { OnOk result (text.new.items ≡ text.old.items ++ call_line called.now) }
+#[tactic(auto, using(crate::proofs::Telling::tells_then, crate::proofs::Telling::tells_more))]
+fn tell_call<W: Write>(text: &mut Gathered, out: &mut Device<W>, called: &Called)
+    ensures { Tells (telling W.contents text.old out.old) (call_line called.now)
+        (telling W.contents text.new out.new) }
 {
-    text.extend_from_slice(b"call")?;
-    push_number(text, u64::from(called.port))?;
-    push_number(text, u64::from(called.number))?;
-    push_finish(text, &called.finish)?;
-    push_field(text, b" steps", called.steps)?;
-    push_field(text, b" span", called.began as u64)?;
-    push_optional(text, ended(&called.finish))?;
-    text.push(b'\n')?;
-    Ok(())
+    tell_field(text, out, b"call", u64::from(called.port));
+    tell_number(text, out, u64::from(called.number));
+    tell_finish(text, out, &called.finish);
+    tell_field(text, out, b" steps", called.steps);
+    tell_field(text, out, b" span", called.began as u64);
+    tell_optional(text, out, ended(&called.finish));
+    text.tell(out, b"\n");
 }
 
-fn push_entries(text: &mut Vec<u8>, history: &[Applied]) -> Result<(), AllocError>
-    ensures { OnOk result (text.new.items ≡ text.old.items ++ entry_lines 0 history.now) }
+#[tactic(auto, using(crate::proofs::Telling::tells_then, crate::proofs::Telling::tells_more))]
+fn tell_entries<W: Write>(text: &mut Gathered, out: &mut Device<W>, history: &[Applied])
+    ensures { Tells (telling W.contents text.old out.old) (entry_lines 0 history.now)
+        (telling W.contents text.new out.new) }
 {
     for (place, entry) in history.iter().enumerate() {
-        push_entry(text, place, entry)?;
+        tell_entry(text, out, place, entry);
     }
-    Ok(())
 }
 
-fn push_calls(text: &mut Vec<u8>, calls: &[Called]) -> Result<(), AllocError>
-    ensures { OnOk result (text.new.items ≡ text.old.items ++ flat_map call_line calls.now) }
+#[tactic(auto, using(crate::proofs::Telling::tells_then, crate::proofs::Telling::tells_more))]
+fn tell_calls<W: Write>(text: &mut Gathered, out: &mut Device<W>, calls: &[Called])
+    ensures { Tells (telling W.contents text.old out.old) (flat_map call_line calls.now)
+        (telling W.contents text.new out.new) }
 {
     for called in calls {
-        push_call(text, called)?;
+        tell_call(text, out, called);
     }
-    Ok(())
 }
 
 /// The values of the components after the history.
-fn final_values(
+pub(crate) fn final_values(
     alloc: Global,
     opening: &Opening,
     history: &[Applied],
@@ -197,34 +222,41 @@ fn final_values(
     Ok(values)
 }
 
-/// Writes the line of the values.
-pub(crate) fn push_values(text: &mut Vec<u8>, values: &[u64]) -> Result<(), AllocError>
-    ensures { OnOk result (text.new.items ≡ text.old.items ++ values_line values.now) }
+/// Tells the line of the values.
+#[tactic(auto, using(crate::proofs::Telling::tells_then, crate::proofs::Telling::tells_more))]
+pub(crate) fn tell_values<W: Write>(text: &mut Gathered, out: &mut Device<W>, values: &[u64])
+    ensures { Tells (telling W.contents text.old out.old) (values_line values.now)
+        (telling W.contents text.new out.new) }
 {
-    text.extend_from_slice(b"values")?;
-    push_numbers(text, values)?;
-    text.push(b'\n')?;
-    Ok(())
+    text.tell(out, b"values");
+    tell_numbers(text, out, values);
+    text.tell(out, b"\n");
 }
 
-fn push_total(text: &mut Vec<u8>, steps: u64) -> Result<(), AllocError>
-    ensures { OnOk result (text.new.items ≡ text.old.items ++ total_line steps) }
+#[tactic(auto, using(crate::proofs::Telling::tells_then, crate::proofs::Telling::tells_more))]
+fn tell_total<W: Write>(text: &mut Gathered, out: &mut Device<W>, steps: u64)
+    ensures { Tells (telling W.contents text.old out.old) (total_line steps)
+        (telling W.contents text.new out.new) }
 {
-    push_field(text, b"total", steps)?;
-    text.push(b'\n')?;
-    Ok(())
+    tell_field(text, out, b"total", steps);
+    text.tell(out, b"\n");
 }
 
-/// The text of an outcome.
-pub(crate) fn text_of(alloc: Global, outcome: &Outcome) -> Result<Vec<u8>, AllocError>
-    ensures { IfOk result (λ v. v.items ≡ outcome_text outcome.now.opening
-        outcome.now.history.items outcome.now.calls.items outcome.now.steps) }
+/// Tells the text of an outcome. `values` are those of the components after its history.
+#[tactic(auto, using(crate::proofs::Telling::tells_then, crate::proofs::Telling::tells_more))]
+pub(crate) fn tell_outcome<W: Write>(
+    text: &mut Gathered,
+    out: &mut Device<W>,
+    outcome: &Outcome,
+    values: &[u64],
+)
+    requires { values.now ≡ values_of outcome.now.opening outcome.now.history.items }
+    ensures { Tells (telling W.contents text.old out.old)
+        (outcome_text outcome.now.opening outcome.now.history.items outcome.now.calls.items outcome.now.steps)
+        (telling W.contents text.new out.new) }
 {
-    let mut text = Vec::new(alloc);
-    push_entries(&mut text, &outcome.history)?;
-    push_calls(&mut text, &outcome.calls)?;
-    let values = final_values(alloc, &outcome.opening, &outcome.history)?;
-    push_values(&mut text, &values)?;
-    push_total(&mut text, outcome.steps)?;
-    Ok(text)
+    tell_entries(text, out, &outcome.history);
+    tell_calls(text, out, &outcome.calls);
+    tell_values(text, out, values);
+    tell_total(text, out, outcome.steps);
 }

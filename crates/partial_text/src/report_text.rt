@@ -1,56 +1,64 @@
-//! The text of a report.
+//! The text of a report, told to a writer.
 
-ghost use Rattle.std.specs.Prelude.{◌≡◌, ◌++◌, OnOk};
 ghost use Rattle.partial_text.specs.ReportText.{answer_line, answer_lines, port_lines, report_text};
+ghost use Rattle.partial_text.specs.Telling.{Tells, telling};
 
-use crate::outcome_text::{push_answer_back, push_answer_front, push_number, push_values};
+use crate::device::Device;
+use crate::gathered::Gathered;
+use crate::outcome_text::{
+    tell_answer_back, tell_answer_front, tell_field, tell_number, tell_values,
+};
 use crate::report::RunReport;
 use partial_model::Answer;
-use std::alloc::AllocError;
+use std::io::Write;
 
-/// Writes the line of an answered call.
-fn push_answer_line(
-    text: &mut Vec<u8>,
+/// Tells the line of an answered call.
+#[tactic(auto, using(crate::proofs::Telling::tells_then, crate::proofs::Telling::tells_more))]
+fn tell_answer_line<W: Write>(
+    text: &mut Gathered,
+    out: &mut Device<W>,
     port: usize,
     number: usize,
     answer: &Answer,
-) -> Result<(), AllocError>
-    ensures { OnOk result (text.new.items ≡ text.old.items ++ answer_line port number answer.now) }
+)
+    ensures { Tells (telling W.contents text.old out.old) (answer_line port number answer.now)
+        (telling W.contents text.new out.new) }
 {
-    text.extend_from_slice(b"call")?;
-    push_number(text, port as u64)?;
-    push_number(text, number as u64)?;
-    push_answer_front(text, answer)?;
-    push_answer_back(text, answer)?;
-    text.push(b'\n')?;
-    Ok(())
+    tell_field(text, out, b"call", port as u64);
+    tell_number(text, out, number as u64);
+    tell_answer_front(text, out, answer);
+    tell_answer_back(text, out, answer);
+    text.tell(out, b"\n");
 }
 
-/// Writes the lines of a port.
-fn push_answers(text: &mut Vec<u8>, port: usize, answers: &[Answer]) -> Result<(), AllocError>
-    ensures { OnOk result (text.new.items ≡ text.old.items ++ answer_lines port 0 answers.now) }
+/// Tells the lines of a port.
+#[tactic(auto, using(crate::proofs::Telling::tells_then, crate::proofs::Telling::tells_more))]
+fn tell_answers<W: Write>(text: &mut Gathered, out: &mut Device<W>, port: usize, answers: &[Answer])
+    ensures { Tells (telling W.contents text.old out.old) (answer_lines port 0 answers.now)
+        (telling W.contents text.new out.new) }
 {
     for (number, answer) in answers.iter().enumerate() {
-        push_answer_line(text, port, number, answer)?;
+        tell_answer_line(text, out, port, number, answer);
     }
-    Ok(())
 }
 
-/// Writes the lines of the ports.
-fn push_ports(text: &mut Vec<u8>, ports: &[Vec<Answer>]) -> Result<(), AllocError>
-    ensures { OnOk result (text.new.items ≡ text.old.items ++ port_lines 0 ports.now) }
+/// Tells the lines of the ports.
+#[tactic(auto, using(crate::proofs::Telling::tells_then, crate::proofs::Telling::tells_more))]
+fn tell_ports<W: Write>(text: &mut Gathered, out: &mut Device<W>, ports: &[Vec<Answer>])
+    ensures { Tells (telling W.contents text.old out.old) (port_lines 0 ports.now)
+        (telling W.contents text.new out.new) }
 {
     for (port, answers) in ports.iter().enumerate() {
-        push_answers(text, port, answers)?;
+        tell_answers(text, out, port, answers);
     }
-    Ok(())
 }
 
-/// Appends the text of a report.
-pub(crate) fn push_report(text: &mut Vec<u8>, report: &RunReport) -> Result<(), AllocError>
-    ensures { OnOk result (text.new.items
-        ≡ text.old.items ++ report_text report.now.answers.items report.now.values.items) }
+/// Tells the text of a report.
+#[tactic(auto, using(crate::proofs::Telling::tells_then, crate::proofs::Telling::tells_more))]
+pub(crate) fn tell_report<W: Write>(text: &mut Gathered, out: &mut Device<W>, report: &RunReport)
+    ensures { Tells (telling W.contents text.old out.old) (report_text report.now.answers.items report.now.values.items)
+        (telling W.contents text.new out.new) }
 {
-    push_ports(text, &report.answers)?;
-    push_values(text, &report.values)
+    tell_ports(text, out, &report.answers);
+    tell_values(text, out, &report.values);
 }

@@ -7,10 +7,11 @@ ghost use Rattle.std.specs.Io.KnownBytes.{Appends};
 
 use crate::device::Device;
 use crate::fault::OutcomeError;
+use crate::gathered::Gathered;
 use crate::outcome::Outcome;
-use crate::outcome_text::text_of;
+use crate::outcome_text::{final_values, tell_outcome};
 use crate::report::RunReport;
-use crate::report_text::push_report;
+use crate::report_text::tell_report;
 use std::alloc::Global;
 use std::io::Write;
 
@@ -61,8 +62,10 @@ pub fn write_outcome<W: Write>(
     ensures fault { IsErrOf result OutcomeError.Write ↔ (writer.new.failed ≡ true) }
     ensures memory { IsErrOf result OutcomeError.Memory → writer.new ≡ writer.old }
 {
-    let text = text_of(alloc, outcome)?;
-    write_text(&text, writer)
+    let values = final_values(alloc, &outcome.opening, &outcome.history)?;
+    let mut text = Gathered::new(alloc)?;
+    tell_outcome(&mut text, writer, outcome, &values);
+    text.end(writer)
 }
 
 /// Writes the text of a report: the answers of each port's calls, and the values of the components at the
@@ -86,9 +89,9 @@ pub fn write_report<W: Write>(
     ensures fault { IsErrOf result OutcomeError.Write ↔ (writer.new.failed ≡ true) }
     ensures memory { IsErrOf result OutcomeError.Memory → writer.new ≡ writer.old }
 {
-    let mut text = Vec::new(alloc);
-    push_report(&mut text, report)?;
-    write_text(&text, writer)
+    let mut text = Gathered::new(alloc)?;
+    tell_report(&mut text, writer, report);
+    text.end(writer)
 }
 
 /// Writes the texts of both reports, the first one first.
@@ -114,8 +117,8 @@ pub fn write_reports<W: Write>(
     ensures fault { IsErrOf result OutcomeError.Write ↔ (writer.new.failed ≡ true) }
     ensures memory { IsErrOf result OutcomeError.Memory → writer.new ≡ writer.old }
 {
-    let mut text = Vec::new(alloc);
-    push_report(&mut text, first)?;
-    push_report(&mut text, second)?;
-    write_text(&text, writer)
+    let mut text = Gathered::new(alloc)?;
+    tell_report(&mut text, writer, first);
+    tell_report(&mut text, writer, second);
+    text.end(writer)
 }

@@ -1,0 +1,24 @@
+-- How a text is told to a writer, piece by piece.
+use Rattle.std.specs.Prelude.{ℕ, ◌≡◌, List, ◌++◌, Bool, Option, take, MatchBool}
+use Rattle.std.specs.Io.KnownBytes.{Appends}
+use Rattle.partial_text.specs.DeviceView.{DeviceView}
+
+-- what is gathered and not yet written, the bytes that were written, if they are known, and whether a write has failed
+pub record Telling : Type 0 where
+  pub gathered : List ℕ
+  pub written : Option (List ℕ)
+  pub failed : Bool
+
+-- the telling of a text to this writer, of which these bytes are gathered
+abbrev pub telling : {W : Type 0} → (W → Option (List ℕ)) → List ℕ → DeviceView W → Telling
+telling contents gathered writer = record { gathered = gathered; written = contents writer.inner; failed = writer.failed }
+
+-- the text was told behind these bytes: all of it is written but what is gathered, or a write has failed behind a part of it
+abbrev pub IsTold : Option (List ℕ) → List ℕ → Telling → Type 0
+IsTold before text t = MatchBool t.failed
+    ((n : ℕ) × Appends before t.written (take n text))
+    ((part : List ℕ) × Appends before t.written part × (text ≡ part ++ t.gathered))
+
+-- these bytes are told, behind whatever text was told before
+pub record Tells (old : Telling) (bytes : List ℕ) (new : Telling) : Type 0 where
+  pub behind : (before : Option (List ℕ)) (text : List ℕ) → IsTold before text old → IsTold before (text ++ bytes) new
