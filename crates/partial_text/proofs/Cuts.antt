@@ -1,5 +1,6 @@
 -- How the pieces of a text come one after the other.
-use Rattle.partial_text.proofs.Common.{◌≡◌, ℕ, ◌+◌, ◌<◌, ◌≤◌, Bool, true, false, if◌then◌else◌, nat_eq, ◌==◌, List, [], ◌∷◌, ◌++◌, length, slice_index, take, drop, refl, sym, ap, ◌∙◌, append_assoc, arith, append-nil, at_drop_more, at_drop_all, take_more, take_all, until, from, onto_first, pieces, pieces_behind, is_nil, is_end, eqb-suc-zero}
+use Rattle.memchr.specs.Find.{NoneBefore, Nowhere, Passes, is_byte}
+use Rattle.partial_text.proofs.Common.{◌≡◌, ℕ, ◌+◌, ◌<◌, ◌≤◌, Bool, true, false, if◌then◌else◌, nat_eq, ◌==◌, List, [], ◌∷◌, ◌++◌, length, slice_index, take, drop, refl, sym, ap, ◌∙◌, append_assoc, arith, append-nil, at_drop_more, at_drop_all, take_more, take_all, until, from, onto_first, pieces, pieces_behind, is_nil, is_end, eqb-suc-zero, eq-eqb, ne_eqb, add-one, zero, suc}
 
 cut_step : (b : Bool) (c x : ℕ) (xs : List ℕ) → pieces c xs ≡ until c xs ∷ pieces_behind c (from c xs)
     → (if b then [] ∷ pieces c xs else onto_first x (pieces c xs)) ≡ (if b then [] else x ∷ until c xs) ∷ pieces_behind c (if b then x ∷ xs else from c xs)
@@ -54,6 +55,27 @@ pieces_end c xs i le front rest =
     let f : until c xs ≡ xs = front ∙ rw (at_drop_all (until c) xs i le) (append-nil (take i xs) ∙ take_all i xs le) in
     let r : from c xs ≡ [] = rest ∙ at_drop_all (from c) xs i le in
     pieces-cut c xs ∙ rw (f, r) refl
+
+-- how far a search has gone without a separator
+past : (c : ℕ) (xs : List ℕ) (i : ℕ) → i ≤ length xs → Nowhere (Passes (is_byte c) xs) 0 i → (until c xs ≡ take i xs ++ until c (drop i xs)) × (from c xs ≡ from c (drop i xs))
+past c xs zero le none = (refl, refl)
+past c xs (suc i) le none =
+    let so_far = past c xs i (omega arith) (λ k low high. none k low (omega arith)) in
+    let not_c : nat_eq (slice_index xs i) c ≡ false = ne_eqb _ _ (λ same. none i (omega arith) (omega arith) (eq-eqb _ _ same)) in
+    rw (← add-one i) (until_more c xs i (omega arith) not_c so_far.0, from_more c xs i (omega arith) not_c so_far.1)
+
+-- the place that a search for the separator finds
+pub cut_at : (c : ℕ) (xs : List ℕ) (i : ℕ) → NoneBefore (Passes (is_byte c) xs) 0 (length xs) i × Passes (is_byte c) xs i → (until c xs ≡ take i xs) × (from c xs ≡ drop i xs)
+cut_at c xs i (first, is_c) =
+    let so_far = past c xs i (omega arith) first.before in
+    (so_far.0 ∙ ap (λ (t : List ℕ). take i xs ++ t) (until_here c xs i first.high is_c) ∙ append-nil (take i xs), so_far.1 ∙ from_here c xs i first.high is_c)
+
+-- a search for the separator finds none
+pub cut_nowhere : (c : ℕ) (xs : List ℕ) → Nowhere (Passes (is_byte c) xs) 0 (length xs) → (until c xs ≡ xs) × (from c xs ≡ [])
+cut_nowhere c xs none =
+    let so_far = past c xs (length xs) (omega arith) none in
+    let nothing : drop (length xs) xs ≡ [] = at_drop_all (λ (t : List ℕ). t) xs (length xs) (omega arith) in
+    rw (so_far.0, so_far.1, nothing) (append-nil (take (length xs) xs) ∙ take_all (length xs) xs (omega arith), refl)
 
 some_length : {A : Type 0} (x : A) (xs : List A) → nat_eq (length (x ∷ xs)) 0 ≡ false
 some_length x xs = eqb-suc-zero (length xs)

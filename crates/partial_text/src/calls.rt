@@ -11,6 +11,7 @@ use crate::fields::{
     value_field,
 };
 use crate::pieces::split_before;
+use memchr::memchr;
 use partial_model::{Call, Sequence};
 use std::alloc::Global;
 
@@ -98,15 +99,18 @@ fn is_cut(text: &[u8]) -> bool
 }
 
 /// Splits the text before the first semicolon that a space follows.
-#[tactic(auto, using(crate::proofs::CallCuts::texts_cut))]
+#[tactic(auto, using(crate::proofs::CallCuts::with_front_nil))]
 fn split_call(text: &[u8]) -> (&[u8], &[u8])
     ensures shorter { length result.1.now ≤ length text.now }
     ensures split { call_texts text.now ≡ result.0.now ∷ call_texts_behind result.1.now }
 {
-    for index in 0..text.len() {
-        if is_cut(&text[index..]) {
-            return text.split_at(index);
+    let mut from = 0;
+    while let Some(ahead) = memchr(b';', &text[from..]) {
+        let semicolon = from + ahead;
+        if is_cut(&text[semicolon..]) {
+            return text.split_at(semicolon);
         }
+        from = semicolon + 1;
     }
     (text, &[])
 }

@@ -10,7 +10,7 @@ ghost use Rattle.partial_text.specs.Seen.{seen_tail};
 use crate::calls::port_calls;
 use crate::fault::{Cause, PlanError};
 use crate::fields::{fault, four_fields, index_field, value_fields};
-use crate::pieces::{count, split_before};
+use crate::pieces::{count, split_at_first, split_before};
 use crate::turns::entries;
 use partial_model::{Call, Sequence};
 use partial_words::Sizes;
@@ -22,7 +22,7 @@ pub(crate) fn line_of(line: u32, text: &[u8]) -> Result<(&[u8], &[u8]), PlanErro
     ensures value { Gives (λ x. (x.0.now, pieces 10 x.1.now)) result (line_at line (pieces 10 text.now)) }
     ensures shorter { IfOk result (λ x. length x.1.now < length text.now) }
 {
-    let (front, newline) = split_before(text, b'\n');
+    let (front, newline) = split_at_first(text, b'\n');
     match newline {
         [] => Err(fault(line, Cause::End)),
         [_, behind @ ..] => Ok((front, behind)),

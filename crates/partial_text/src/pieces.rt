@@ -3,7 +3,10 @@
 ghost use Rattle.std.specs.Prelude.{◌≡◌, ◌≤◌, ◌+◌, ◌∷◌, length};
 ghost use Rattle.partial_text.specs.Pieces.{until, from, pieces, pieces_behind};
 
-/// Splits the bytes before the first separator.
+use memchr::memchr;
+
+/// Splits the bytes before the first separator, by a loop over the bytes: the word or field before a space is
+/// a few bytes long, and for so few a call of `memchr` spares no time.
 pub(crate) fn split_before(bytes: &[u8], separator: u8) -> (&[u8], &[u8])
     ensures front { result.0.now ≡ until separator bytes.now }
     ensures rest { result.1.now ≡ from separator bytes.now }
@@ -17,6 +20,20 @@ pub(crate) fn split_before(bytes: &[u8], separator: u8) -> (&[u8], &[u8])
         }
     }
     (bytes, &[])
+}
+
+/// Splits the bytes before the first separator, as `split_before` does, where that may be far away.
+pub(crate) fn split_at_first(bytes: &[u8], separator: u8) -> (&[u8], &[u8])
+    ensures front { result.0.now ≡ until separator bytes.now }
+    ensures rest { result.1.now ≡ from separator bytes.now }
+    ensures shorter { length result.1.now ≤ length bytes.now }
+    ensures split { pieces separator bytes.now
+        ≡ result.0.now ∷ pieces_behind separator result.1.now }
+{
+    match memchr(separator, bytes) {
+        Some(index) => bytes.split_at(index),
+        None => (bytes, &[]),
+    }
 }
 
 /// How many separators there are.
