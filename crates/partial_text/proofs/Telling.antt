@@ -4,7 +4,7 @@ use Rattle.std.specs.Prelude.{⊤, ◌↔◌, MatchBool, OnOk, OnErr, IfErr, IsE
 use Rattle.partial_text.specs.declared.fault.OutcomeError.{OutcomeError}
 use Rattle.std.proofs.Math.Seq.{take-append-le, take-append-add}
 use Rattle.partial_text.proofs.Bytes.{Appends_none, Appends_then}
-use Rattle.partial_text.specs.Telling.{Telling, IsTold, Tells}
+use Rattle.partial_text.specs.Inner.Telling.{Telling, IsTold, Tells}
 
 -- a part of a text is one of a longer text
 pub part_of_more : (n : ℕ) (text bytes : List ℕ) → (m : ℕ) × (take n text ≡ take m (text ++ bytes))

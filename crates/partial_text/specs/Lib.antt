@@ -8,4 +8,4 @@ pub mod Seen
 pub mod SeenParts
 pub mod OutcomeText
 pub mod ReportText
-pub mod Telling
+pub mod Inner

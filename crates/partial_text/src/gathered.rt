@@ -1,7 +1,7 @@
 //! The pieces of a text that is told to a writer, gathered to be written together.
 
 ghost use Rattle.std.specs.Prelude.{◌≡◌, ◌<◌, ◌^◌, [], true, false, IfOk, IfErr, OnOk};
-ghost use Rattle.partial_text.specs.Telling.{Tells, telling};
+ghost use Rattle.partial_text.specs.Inner.Telling.{Tells, telling};
 
 use crate::device::Device;
 use crate::fault::OutcomeError;

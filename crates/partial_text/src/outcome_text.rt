@@ -1,10 +1,10 @@
 //! The text of an outcome, told to a writer.
 
-ghost use Rattle.std.specs.Prelude.{◌≡◌, ◌++◌, IfOk};
+ghost use Rattle.std.specs.Prelude.{◌≡◌, ◌++◌, decimal, IfOk};
 ghost use Rattle.std.specs.List.{flat_map};
 ghost use Rattle.partial_text.specs.PlanText.{number_field};
 ghost use Rattle.partial_text.specs.OutcomeText.{entry_line, entry_lines, optional_field, told_place, answer_front, place_field, answer_back, answer_text, finish_text, ended_of, call_line, values_of, values_line, total_line, outcome_text};
-ghost use Rattle.partial_text.specs.Telling.{Tells, telling};
+ghost use Rattle.partial_text.specs.Inner.Telling.{Tells, telling};
 
 use crate::device::Device;
 use crate::gathered::Gathered;
@@ -14,14 +14,28 @@ use partial_model::{Answer, Applied, Called, Finish, Note, Opening};
 use std::alloc::{AllocError, Global};
 use std::io::Write;
 
+/// Tells the word, which ends with a space, and the number.
+#[tactic(auto, using(crate::proofs::Telling::tells_then, crate::proofs::Telling::tells_more))]
+pub(crate) fn tell_field<W: Write>(
+    text: &mut Gathered,
+    out: &mut Device<W>,
+    word: &[u8],
+    number: u64,
+)
+    ensures { Tells (telling W.contents text.old out.old) (word.now ++ decimal number)
+        (telling W.contents text.new out.new) }
+{
+    text.tell(out, word);
+    text.tell(out, Buffer::new().format(number).as_bytes());
+}
+
 /// Tells a space and the number.
 #[tactic(auto, using(crate::proofs::Telling::tells_then, crate::proofs::Telling::tells_more))]
 pub(crate) fn tell_number<W: Write>(text: &mut Gathered, out: &mut Device<W>, number: u64)
     ensures { Tells (telling W.contents text.old out.old) (number_field number)
         (telling W.contents text.new out.new) }
 {
-    text.tell(out, b" ");
-    text.tell(out, Buffer::new().format(number).as_bytes());
+    tell_field(text, out, b" ", number);
 }
 
 /// Tells each number with a space before it.
@@ -47,31 +61,16 @@ fn tell_optional<W: Write>(text: &mut Gathered, out: &mut Device<W>, number: Opt
     }
 }
 
-/// Tells the word, a space and the number.
-#[tactic(auto, using(crate::proofs::Telling::tells_then, crate::proofs::Telling::tells_more))]
-pub(crate) fn tell_field<W: Write>(
-    text: &mut Gathered,
-    out: &mut Device<W>,
-    word: &[u8],
-    number: u64,
-)
-    ensures { Tells (telling W.contents text.old out.old) (word.now ++ number_field number)
-        (telling W.contents text.new out.new) }
-{
-    text.tell(out, word);
-    tell_number(text, out, number);
-}
-
 #[tactic(auto, using(crate::proofs::Telling::tells_then, crate::proofs::Telling::tells_more))]
 fn tell_entry<W: Write>(text: &mut Gathered, out: &mut Device<W>, place: usize, entry: &Applied)
     ensures { Tells (telling W.contents text.old out.old) (entry_line place entry.now)
         (telling W.contents text.new out.new) }
 {
-    tell_field(text, out, b"applied", place as u64);
-    tell_field(text, out, b" port", u64::from(entry.port));
-    tell_field(text, out, b" component", u64::from(entry.component));
-    tell_field(text, out, b" value", entry.value);
-    tell_field(text, out, b" stamp", entry.stamp);
+    tell_field(text, out, b"applied ", place as u64);
+    tell_field(text, out, b" port ", u64::from(entry.port));
+    tell_field(text, out, b" component ", u64::from(entry.component));
+    tell_field(text, out, b" value ", entry.value);
+    tell_field(text, out, b" stamp ", entry.stamp);
     text.tell(out, b"\n");
 }
 
@@ -93,18 +92,18 @@ pub(crate) fn tell_answer_front<W: Write>(text: &mut Gathered, out: &mut Device<
         (telling W.contents text.new out.new) }
 {
     match answer {
-        Answer::Applied { stamp } => tell_field(text, out, b" applied", *stamp),
-        Answer::Lost { by } => tell_field(text, out, b" lost", *by),
+        Answer::Applied { stamp } => tell_field(text, out, b" applied ", *stamp),
+        Answer::Lost { by } => tell_field(text, out, b" lost ", *by),
         Answer::Scanned { values, .. } => {
             text.tell(out, b" scanned");
             tell_numbers(text, out, values.as_slice());
         }
         Answer::Read { value, stamp } => {
-            tell_field(text, out, b" read", *value);
+            tell_field(text, out, b" read ", *value);
             tell_number(text, out, *stamp);
         }
-        Answer::Refused { cause } => tell_field(text, out, b" refused", u64::from(cause.code())),
-        Answer::Changed { by } => tell_field(text, out, b" changed", *by),
+        Answer::Refused { cause } => tell_field(text, out, b" refused ", u64::from(cause.code())),
+        Answer::Changed { by } => tell_field(text, out, b" changed ", *by),
     }
 }
 
@@ -116,10 +115,10 @@ fn tell_place<W: Write>(text: &mut Gathered, out: &mut Device<W>, answer: &Answe
 {
     match answer {
         Answer::Applied { .. } | Answer::Lost { .. } => {
-            tell_field(text, out, b" place", place as u64);
+            tell_field(text, out, b" place ", place as u64);
         }
         Answer::Refused { .. } => {}
-        _ => tell_field(text, out, b" prefix", place as u64),
+        _ => tell_field(text, out, b" prefix ", place as u64),
     }
 }
 
@@ -135,7 +134,7 @@ pub(crate) fn tell_answer_back<W: Write>(text: &mut Gathered, out: &mut Device<W
         ..
     } = answer
     {
-        tell_field(text, out, b" collects", u64::from(*collects));
+        tell_field(text, out, b" collects ", u64::from(*collects));
         text.tell(out, b" borrowed");
         tell_optional(text, out, *borrowed);
     }
@@ -176,11 +175,11 @@ fn tell_call<W: Write>(text: &mut Gathered, out: &mut Device<W>, called: &Called
     ensures { Tells (telling W.contents text.old out.old) (call_line called.now)
         (telling W.contents text.new out.new) }
 {
-    tell_field(text, out, b"call", u64::from(called.port));
+    tell_field(text, out, b"call ", u64::from(called.port));
     tell_number(text, out, u64::from(called.number));
     tell_finish(text, out, &called.finish);
-    tell_field(text, out, b" steps", called.steps);
-    tell_field(text, out, b" span", called.began as u64);
+    tell_field(text, out, b" steps ", called.steps);
+    tell_field(text, out, b" span ", called.began as u64);
     tell_optional(text, out, ended(&called.finish));
     text.tell(out, b"\n");
 }
@@ -238,7 +237,7 @@ fn tell_total<W: Write>(text: &mut Gathered, out: &mut Device<W>, steps: u64)
     ensures { Tells (telling W.contents text.old out.old) (total_line steps)
         (telling W.contents text.new out.new) }
 {
-    tell_field(text, out, b"total", steps);
+    tell_field(text, out, b"total ", steps);
     text.tell(out, b"\n");
 }
 

@@ -1,7 +1,7 @@
 //! The text of a report, told to a writer.
 
 ghost use Rattle.partial_text.specs.ReportText.{answer_line, answer_lines, port_lines, report_text};
-ghost use Rattle.partial_text.specs.Telling.{Tells, telling};
+ghost use Rattle.partial_text.specs.Inner.Telling.{Tells, telling};
 
 use crate::device::Device;
 use crate::gathered::Gathered;
@@ -24,7 +24,7 @@ fn tell_answer_line<W: Write>(
     ensures { Tells (telling W.contents text.old out.old) (answer_line port number answer.now)
         (telling W.contents text.new out.new) }
 {
-    tell_field(text, out, b"call", port as u64);
+    tell_field(text, out, b"call ", port as u64);
     tell_number(text, out, number as u64);
     tell_answer_front(text, out, answer);
     tell_answer_back(text, out, answer);

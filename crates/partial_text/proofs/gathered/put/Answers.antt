@@ -1,6 +1,6 @@
 use Rattle.std.proofs.Common.{rules}
 use Rattle.partial_text.proofs.{Common.{◌≡◌, sym, subst, Bool, [], true, false}, Telling.{tells_put, tells_unwritten}}
-use Rattle.partial_text.specs.Telling.{Tells, telling}
+use Rattle.partial_text.specs.Inner.Telling.{Tells, telling}
 use Rattle.partial_text.proofs.gathered.put.Goals as goal
 
 pub returns-then-not-failed-clause-told : goal.returns-then-not-failed-clause-told

@@ -1,7 +1,7 @@
 use Rattle.std.proofs.Common.{rules}
 use Rattle.std.proofs.lemmas.List.{drop_more}
 use Rattle.partial_text.proofs.{Common.{◌≡◌, ◌<◌, ◌∷◌, ◌+◌, drop, length, sym, ap, subst, ◌∙◌, List, flat_map, call_line}, Telling.tells_then}
-use Rattle.partial_text.specs.Telling.{Tells, telling}
+use Rattle.partial_text.specs.Inner.Telling.{Tells, telling}
 use Rattle.partial_model.specs.declared.call.Called.{Called}
 use Rattle.partial_text.proofs.outcome_text.tell_calls.Goals as goal
 

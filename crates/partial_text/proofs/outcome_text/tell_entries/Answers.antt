@@ -1,7 +1,7 @@
 use Rattle.std.proofs.Common.{rules}
 use Rattle.std.proofs.lemmas.List.{drop_more}
 use Rattle.partial_text.proofs.{Common.{◌≡◌, ◌<◌, ◌∷◌, ◌+◌, drop, length, sym, ap, subst, ◌∙◌, List, entry_lines}, Telling.tells_then}
-use Rattle.partial_text.specs.Telling.{Tells, telling}
+use Rattle.partial_text.specs.Inner.Telling.{Tells, telling}
 use Rattle.partial_model.specs.declared.history.Applied.{Applied}
 use Rattle.partial_text.proofs.outcome_text.tell_entries.Goals as goal
 

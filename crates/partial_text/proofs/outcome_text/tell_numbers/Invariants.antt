@@ -1,5 +1,5 @@
 use Rattle.partial_text.proofs.Common.{drop, flat_map, number_field}
-use Rattle.partial_text.specs.Telling.{Telling, Tells, telling}
+use Rattle.partial_text.specs.Inner.Telling.{Telling, Tells, telling}
 use Rattle.partial_text.proofs.outcome_text.tell_numbers.Given as goal
 
 -- with the rest all is told

@@ -1,5 +1,5 @@
 use Rattle.partial_text.proofs.Common.{drop, port_lines}
-use Rattle.partial_text.specs.Telling.{Telling, Tells, telling}
+use Rattle.partial_text.specs.Inner.Telling.{Telling, Tells, telling}
 use Rattle.partial_text.proofs.report_text.tell_ports.Given as goal
 
 -- with the rest all is told

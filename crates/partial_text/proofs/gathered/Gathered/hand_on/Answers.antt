@@ -1,6 +1,6 @@
 use Rattle.std.proofs.Common.{rules}
 use Rattle.partial_text.proofs.{Common.{◌≡◌, sym, ap, subst, ◌∙◌, Bool, true, List, ℕ, []}, Telling.{tells_handed_on}}
-use Rattle.partial_text.specs.Telling.{Telling, Tells, telling}
+use Rattle.partial_text.specs.Inner.Telling.{Telling, Tells, telling}
 use Rattle.partial_text.proofs.gathered.Gathered.hand_on.Goals as goal
 
 pub returns-clause-told : goal.returns-clause-told

@@ -1,6 +1,6 @@
 use Rattle.std.proofs.Common.{rules}
 use Rattle.partial_text.proofs.{Common.{◌≡◌, sym, subst, List, ℕ, [], ◌++◌}, Telling.{tells_then, tells_gathered}}
-use Rattle.partial_text.specs.Telling.{Tells, telling}
+use Rattle.partial_text.specs.Inner.Telling.{Tells, telling}
 use Rattle.partial_text.proofs.gathered.Gathered.tell.Goals as goal
 
 pub returns-then-is_err : goal.returns-then-is_err
