@@ -1,5 +1,5 @@
 -- The text of a plan is read as the plan.
-use Rattle.partial_text.proofs.{Common.{◌≡◌, ℕ, ◌+◌, ◌^◌, ◌<◌, ◌≤◌, Bool, true, false, if◌then◌else◌, nat_eq, ◌==◌, nat_le, nat_lt, ◌&&◌, List, [], ◌∷◌, ◌++◌, length, map, drop, codes, Result, Ok, Err, refl, sym, ap, subst, ◌∙◌, append_assoc, eq-eqb, arith, decimal, flat_map, AllByRecursion, bytes_eq, ne_eqb, le-leb, lt-ltb, le-ltb, append-nil, length-append, length-map, flat_map-map, bytes_eq-Decides, Call, PlanError, until, from, onto_first, pieces, ◌>>=◌, PlanView, field, number_field, sizes_line, initial_line, call_text, next_call, port_line, entry_text, rest_text, steps_line, ended_line, plan_text, IsCall, IsTurnEntry, IsPlan, Tail, greatest, greatest_index, fields_of, number_at, in_range, is_cut, call_texts, is_nil, is_rest, is_end, tail_at, Layout, IsLayout, initial_words}, CallCuts.cut_more, Steps.{tail_by, tail_step}, NumberLaws.{both_and, HasNo, HasNo-append, HasNo-decimal, IsNoDigit}, PieceLaws.{behind_each, until_joined, pieces_before}, FieldLaws.{number_at_again, numbers_again, behind_numbers, word_again, fields_again, HasNo-numbers, HasNo-fields, space_no_digit, newline_no_digit, star_no_digit, semicolon_no_digit}, CallLaws.behind_cuts, PlanLaws.ended_port}
+use Rattle.partial_text.proofs.{Common.{◌≡◌, ℕ, ◌+◌, ◌^◌, ◌<◌, ◌≤◌, Bool, true, false, if◌then◌else◌, nat_eq, ◌==◌, nat_le, nat_lt, ◌&&◌, List, [], ◌∷◌, ◌++◌, length, map, drop, codes, Result, Ok, Err, refl, sym, ap, subst, ◌∙◌, append_assoc, eq-eqb, arith, decimal, flat_map, AllByRecursion, bytes_eq, ne_eqb, le-leb, lt-ltb, le-ltb, append-nil, length-append, length-map, flat_map-map, bytes_eq-Decides, Call, PlanError, until, from, onto_first, pieces, ◌>>=◌, PlanView, field, number_field, sizes_line, initial_line, call_text, next_call, port_line, entry_text, rest_text, steps_line, ended_line, plan_text, IsCall, IsTurnEntry, IsPlan, Tail, greatest, greatest_index, fields_of, number_at, in_range, call_texts, is_nil, is_rest, is_end, tail_at, Layout, IsLayout, initial_words}, CallCuts.{cut_more, no_semicolon}, Steps.{tail_by, tail_step}, NumberLaws.{both_and, HasNo, HasNo-append, HasNo-decimal, IsNoDigit}, PieceLaws.{behind_each, until_joined, pieces_before}, FieldLaws.{number_at_again, numbers_again, behind_numbers, word_again, fields_again, HasNo-numbers, HasNo-fields, space_no_digit, newline_no_digit, star_no_digit, semicolon_no_digit}, CallLaws.behind_cuts, PlanLaws.ended_port}
 use Rattle.partial_text.specs.declared.fault.Cause.{Cause}
 use Rattle.partial_text.specs.Judging.{sizes_from, sizes_at, initial_at, update_from, scan_from, read_from, update_if_from, call_text_at, calls_at, port_line_at, entry_text_at, entries_at, line_at, more_ports, last_at, lines_judged, judged_plan}
 
@@ -88,13 +88,9 @@ newline_call m x fits =
     HasNo-call 10 m x newline_no_digit refl (refl, (refl, (refl, (refl, (refl, (refl, tt)))))) (refl, (refl, (refl, (refl, tt)))) (refl, (refl, (refl, (refl, tt))))
     (refl, (refl, (refl, (refl, (refl, (refl, (refl, (refl, tt)))))))) fits
 
-not_cut : (x : ℕ) (xs : List ℕ) → nat_eq x 59 ≡ false → is_cut (x ∷ xs) ≡ false
-not_cut x [] h = refl
-not_cut x (y ∷ xs) h = rw h refl
-
 first_text : (t zs : List ℕ) (ts : List (List ℕ)) → HasNo 59 t → call_texts zs ≡ [] ∷ ts → call_texts (t ++ zs) ≡ t ∷ ts
 first_text [] zs ts none h = h
-first_text (x ∷ t) zs ts none h = cut_more x (t ++ zs) (not_cut x (t ++ zs) none.0) ∙ ap (onto_first x) (first_text t zs ts none.1 h)
+first_text (x ∷ t) zs ts none h = cut_more x (t ++ zs) (no_semicolon x (t ++ zs) none.0) ∙ ap (onto_first x) (first_text t zs ts none.1 h)
 
 texts_again : (t : List ℕ) (ts : List (List ℕ)) → HasNo 59 t → AllByRecursion (HasNo 59) ts → call_texts (t ++ behind_cuts ts) ≡ t ∷ ts
 texts_again t [] none nones = first_text t [] [] none refl

@@ -44,7 +44,8 @@ texts_more xs i lt h so_far =
     so_far ∙ ap (with_front (take i xs)) (at_drop_more call_texts xs i 0 lt ∙ cut_more (slice_index xs i) (drop (i + 1) xs) not_cut) ∙ with_front-onto (take i xs) (slice_index xs i)
     (call_texts (drop (i + 1) xs)) ∙ ap (λ (f : List ℕ). with_front f (call_texts (drop (i + 1) xs))) (sym (take_more xs i 0 lt))
 
-no_semicolon : (x : ℕ) (xs : List ℕ) → nat_eq x 59 ≡ false → is_cut (x ∷ xs) ≡ false
+-- no cut begins with another byte than a semicolon
+pub no_semicolon : (x : ℕ) (xs : List ℕ) → nat_eq x 59 ≡ false → is_cut (x ∷ xs) ≡ false
 no_semicolon x [] h = refl
 no_semicolon x (y ∷ xs) h = rw h refl
 

@@ -1,7 +1,7 @@
 //! The pieces of a text that is told to a writer, gathered to be written together.
 
 ghost use Rattle.std.specs.Prelude.{◌≡◌, ◌<◌, ◌^◌, [], true, false, IfOk, IfErr, OnOk};
-ghost use Rattle.partial_text.specs.Inner.Telling.{Tells, telling};
+ghost use Rattle.partial_text.specs.Inner.Telling.{TellsBytes, telling};
 
 use crate::device::Device;
 use crate::fault::OutcomeError;
@@ -30,7 +30,7 @@ impl Model for Gathered {
 
 /// Writes the bytes, unless a write has failed before.
 fn put<W: Write>(bytes: &[u8], writer: &mut Device<W>)
-    ensures told { Tells (telling W.contents [] writer.old) bytes.now (telling W.contents [] writer.new) }
+    ensures told { TellsBytes (telling W.contents [] writer.old) bytes.now (telling W.contents [] writer.new) }
     ensures stopped { writer.old.failed ≡ true → writer.new ≡ writer.old }
 {
     if !writer.failed() {
@@ -48,9 +48,9 @@ impl Gathered {
         })
     }
 
-    /// Tells the bytes: gathers them, and writes what is gathered when there is no room for them.
+    /// TellsBytes the bytes: gathers them, and writes what is gathered when there is no room for them.
     pub(crate) fn tell<W: Write>(&mut self, writer: &mut Device<W>, bytes: &[u8])
-        ensures { Tells (telling W.contents self.old writer.old) bytes.now (telling W.contents self.new writer.new) }
+        ensures { TellsBytes (telling W.contents self.old writer.old) bytes.now (telling W.contents self.new writer.new) }
     {
         self.make_room(writer, bytes.len());
         if self.bytes.extend_from_slice(bytes).is_err() {
@@ -62,7 +62,7 @@ impl Gathered {
     // Writes what is gathered when there is no room for so many bytes more.
     fn make_room<W: Write>(&mut self, writer: &mut Device<W>, count: usize)
         requires { count < 2 ^ 63 }
-        ensures { Tells (telling W.contents self.old writer.old) [] (telling W.contents self.new writer.new) }
+        ensures { TellsBytes (telling W.contents self.old writer.old) [] (telling W.contents self.new writer.new) }
     {
         if self.bytes.len() + count > ROOM {
             self.hand_on(writer);
@@ -71,7 +71,7 @@ impl Gathered {
 
     // Writes what is gathered.
     fn hand_on<W: Write>(&mut self, writer: &mut Device<W>)
-        ensures told { Tells (telling W.contents self.old writer.old) [] (telling W.contents self.new writer.new) }
+        ensures told { TellsBytes (telling W.contents self.old writer.old) [] (telling W.contents self.new writer.new) }
         ensures empty { self.new ≡ [] }
     {
         put(&self.bytes, writer);
@@ -84,7 +84,7 @@ impl Gathered {
     ///
     /// `Write` when one has. A part of the text from its front has been written then.
     pub(crate) fn end<W: Write>(mut self, writer: &mut Device<W>) -> Result<(), OutcomeError>
-        ensures told { Tells (telling W.contents self writer.old) [] (telling W.contents [] writer.new) }
+        ensures told { TellsBytes (telling W.contents self writer.old) [] (telling W.contents [] writer.new) }
         ensures ok { OnOk result (writer.new.failed ≡ false) }
         ensures fault { IfErr result (λ error. (error ≡ OutcomeError.Write) × (writer.new.failed ≡ true)) }
     {

@@ -4,7 +4,7 @@ ghost use Rattle.std.specs.Prelude.{◌≡◌, ◌++◌, decimal, IfOk};
 ghost use Rattle.std.specs.List.{flat_map};
 ghost use Rattle.partial_text.specs.PlanText.{number_field};
 ghost use Rattle.partial_text.specs.OutcomeText.{entry_line, entry_lines, optional_field, told_place, answer_front, place_field, answer_back, answer_text, finish_text, ended_of, call_line, values_of, values_line, total_line, outcome_text};
-ghost use Rattle.partial_text.specs.Inner.Telling.{Tells, telling};
+ghost use Rattle.partial_text.specs.Inner.Telling.{TellsBytes, telling};
 
 use crate::device::Device;
 use crate::gathered::Gathered;
@@ -14,7 +14,7 @@ use partial_model::{Answer, Applied, Called, Finish, Note, Opening};
 use std::alloc::{AllocError, Global};
 use std::io::Write;
 
-/// Tells the word, which ends with a space, and the number.
+/// TellsBytes the word, which ends with a space, and the number.
 #[tactic(auto, using(crate::proofs::Telling::tells_then, crate::proofs::Telling::tells_more))]
 pub(crate) fn tell_field<W: Write>(
     text: &mut Gathered,
@@ -22,26 +22,26 @@ pub(crate) fn tell_field<W: Write>(
     word: &[u8],
     number: u64,
 )
-    ensures { Tells (telling W.contents text.old out.old) (word.now ++ decimal number)
+    ensures { TellsBytes (telling W.contents text.old out.old) (word.now ++ decimal number)
         (telling W.contents text.new out.new) }
 {
     text.tell(out, word);
     text.tell(out, Buffer::new().format(number).as_bytes());
 }
 
-/// Tells a space and the number.
+/// TellsBytes a space and the number.
 #[tactic(auto, using(crate::proofs::Telling::tells_then, crate::proofs::Telling::tells_more))]
 pub(crate) fn tell_number<W: Write>(text: &mut Gathered, out: &mut Device<W>, number: u64)
-    ensures { Tells (telling W.contents text.old out.old) (number_field number)
+    ensures { TellsBytes (telling W.contents text.old out.old) (number_field number)
         (telling W.contents text.new out.new) }
 {
     tell_field(text, out, b" ", number);
 }
 
-/// Tells each number with a space before it.
+/// TellsBytes each number with a space before it.
 #[tactic(auto, using(crate::proofs::Telling::tells_then, crate::proofs::Telling::tells_more))]
 fn tell_numbers<W: Write>(text: &mut Gathered, out: &mut Device<W>, numbers: &[u64])
-    ensures { Tells (telling W.contents text.old out.old) (flat_map number_field numbers.now)
+    ensures { TellsBytes (telling W.contents text.old out.old) (flat_map number_field numbers.now)
         (telling W.contents text.new out.new) }
 {
     for number in numbers {
@@ -49,10 +49,10 @@ fn tell_numbers<W: Write>(text: &mut Gathered, out: &mut Device<W>, numbers: &[u
     }
 }
 
-/// Tells a space and the number, or a dash when there is none.
+/// TellsBytes a space and the number, or a dash when there is none.
 #[tactic(auto, using(crate::proofs::Telling::tells_then, crate::proofs::Telling::tells_more))]
 fn tell_optional<W: Write>(text: &mut Gathered, out: &mut Device<W>, number: Option<u64>)
-    ensures { Tells (telling W.contents text.old out.old) (optional_field number)
+    ensures { TellsBytes (telling W.contents text.old out.old) (optional_field number)
         (telling W.contents text.new out.new) }
 {
     match number {
@@ -63,7 +63,7 @@ fn tell_optional<W: Write>(text: &mut Gathered, out: &mut Device<W>, number: Opt
 
 #[tactic(auto, using(crate::proofs::Telling::tells_then, crate::proofs::Telling::tells_more))]
 fn tell_entry<W: Write>(text: &mut Gathered, out: &mut Device<W>, place: usize, entry: &Applied)
-    ensures { Tells (telling W.contents text.old out.old) (entry_line place entry.now)
+    ensures { TellsBytes (telling W.contents text.old out.old) (entry_line place entry.now)
         (telling W.contents text.new out.new) }
 {
     tell_field(text, out, b"applied ", place as u64);
@@ -85,10 +85,10 @@ fn place(note: Option<Note>) -> usize
     }
 }
 
-/// Tells an answer up to its place or prefix.
+/// TellsBytes an answer up to its place or prefix.
 #[tactic(auto, using(crate::proofs::Telling::tells_then, crate::proofs::Telling::tells_more))]
 pub(crate) fn tell_answer_front<W: Write>(text: &mut Gathered, out: &mut Device<W>, answer: &Answer)
-    ensures { Tells (telling W.contents text.old out.old) (answer_front answer.now)
+    ensures { TellsBytes (telling W.contents text.old out.old) (answer_front answer.now)
         (telling W.contents text.new out.new) }
 {
     match answer {
@@ -107,10 +107,10 @@ pub(crate) fn tell_answer_front<W: Write>(text: &mut Gathered, out: &mut Device<
     }
 }
 
-/// Tells the place or the prefix of an answer.
+/// TellsBytes the place or the prefix of an answer.
 #[tactic(auto, using(crate::proofs::Telling::tells_then, crate::proofs::Telling::tells_more))]
 fn tell_place<W: Write>(text: &mut Gathered, out: &mut Device<W>, answer: &Answer, place: usize)
-    ensures { Tells (telling W.contents text.old out.old) (place_field answer.now place)
+    ensures { TellsBytes (telling W.contents text.old out.old) (place_field answer.now place)
         (telling W.contents text.new out.new) }
 {
     match answer {
@@ -122,10 +122,10 @@ fn tell_place<W: Write>(text: &mut Gathered, out: &mut Device<W>, answer: &Answe
     }
 }
 
-/// Tells what follows the prefix of a scan, and nothing of other answers.
+/// TellsBytes what follows the prefix of a scan, and nothing of other answers.
 #[tactic(auto, using(crate::proofs::Telling::tells_then, crate::proofs::Telling::tells_more))]
 pub(crate) fn tell_answer_back<W: Write>(text: &mut Gathered, out: &mut Device<W>, answer: &Answer)
-    ensures { Tells (telling W.contents text.old out.old) (answer_back answer.now)
+    ensures { TellsBytes (telling W.contents text.old out.old) (answer_back answer.now)
         (telling W.contents text.new out.new) }
 {
     if let Answer::Scanned {
@@ -142,7 +142,7 @@ pub(crate) fn tell_answer_back<W: Write>(text: &mut Gathered, out: &mut Device<W
 
 #[tactic(auto, using(crate::proofs::Telling::tells_then, crate::proofs::Telling::tells_more))]
 fn tell_answer<W: Write>(text: &mut Gathered, out: &mut Device<W>, answer: &Answer, place: usize)
-    ensures { Tells (telling W.contents text.old out.old) (answer_text answer.now place)
+    ensures { TellsBytes (telling W.contents text.old out.old) (answer_text answer.now place)
         (telling W.contents text.new out.new) }
 {
     tell_answer_front(text, out, answer);
@@ -152,7 +152,7 @@ fn tell_answer<W: Write>(text: &mut Gathered, out: &mut Device<W>, answer: &Answ
 
 #[tactic(auto, using(crate::proofs::Telling::tells_then, crate::proofs::Telling::tells_more))]
 fn tell_finish<W: Write>(text: &mut Gathered, out: &mut Device<W>, finish: &Option<Finish>)
-    ensures { Tells (telling W.contents text.old out.old) (finish_text finish.now)
+    ensures { TellsBytes (telling W.contents text.old out.old) (finish_text finish.now)
         (telling W.contents text.new out.new) }
 {
     match finish {
@@ -172,7 +172,7 @@ fn ended(finish: &Option<Finish>) -> Option<u64>
 
 #[tactic(auto, using(crate::proofs::Telling::tells_then, crate::proofs::Telling::tells_more))]
 fn tell_call<W: Write>(text: &mut Gathered, out: &mut Device<W>, called: &Called)
-    ensures { Tells (telling W.contents text.old out.old) (call_line called.now)
+    ensures { TellsBytes (telling W.contents text.old out.old) (call_line called.now)
         (telling W.contents text.new out.new) }
 {
     tell_field(text, out, b"call ", u64::from(called.port));
@@ -186,7 +186,7 @@ fn tell_call<W: Write>(text: &mut Gathered, out: &mut Device<W>, called: &Called
 
 #[tactic(auto, using(crate::proofs::Telling::tells_then, crate::proofs::Telling::tells_more))]
 fn tell_entries<W: Write>(text: &mut Gathered, out: &mut Device<W>, history: &[Applied])
-    ensures { Tells (telling W.contents text.old out.old) (entry_lines 0 history.now)
+    ensures { TellsBytes (telling W.contents text.old out.old) (entry_lines 0 history.now)
         (telling W.contents text.new out.new) }
 {
     for (place, entry) in history.iter().enumerate() {
@@ -196,7 +196,7 @@ fn tell_entries<W: Write>(text: &mut Gathered, out: &mut Device<W>, history: &[A
 
 #[tactic(auto, using(crate::proofs::Telling::tells_then, crate::proofs::Telling::tells_more))]
 fn tell_calls<W: Write>(text: &mut Gathered, out: &mut Device<W>, calls: &[Called])
-    ensures { Tells (telling W.contents text.old out.old) (flat_map call_line calls.now)
+    ensures { TellsBytes (telling W.contents text.old out.old) (flat_map call_line calls.now)
         (telling W.contents text.new out.new) }
 {
     for called in calls {
@@ -221,10 +221,10 @@ pub(crate) fn final_values(
     Ok(values)
 }
 
-/// Tells the line of the values.
+/// TellsBytes the line of the values.
 #[tactic(auto, using(crate::proofs::Telling::tells_then, crate::proofs::Telling::tells_more))]
 pub(crate) fn tell_values<W: Write>(text: &mut Gathered, out: &mut Device<W>, values: &[u64])
-    ensures { Tells (telling W.contents text.old out.old) (values_line values.now)
+    ensures { TellsBytes (telling W.contents text.old out.old) (values_line values.now)
         (telling W.contents text.new out.new) }
 {
     text.tell(out, b"values");
@@ -234,14 +234,14 @@ pub(crate) fn tell_values<W: Write>(text: &mut Gathered, out: &mut Device<W>, va
 
 #[tactic(auto, using(crate::proofs::Telling::tells_then, crate::proofs::Telling::tells_more))]
 fn tell_total<W: Write>(text: &mut Gathered, out: &mut Device<W>, steps: u64)
-    ensures { Tells (telling W.contents text.old out.old) (total_line steps)
+    ensures { TellsBytes (telling W.contents text.old out.old) (total_line steps)
         (telling W.contents text.new out.new) }
 {
     tell_field(text, out, b"total ", steps);
     text.tell(out, b"\n");
 }
 
-/// Tells the text of an outcome. `values` are those of the components after its history.
+/// TellsBytes the text of an outcome. `values` are those of the components after its history.
 #[tactic(auto, using(crate::proofs::Telling::tells_then, crate::proofs::Telling::tells_more))]
 pub(crate) fn tell_outcome<W: Write>(
     text: &mut Gathered,
@@ -250,7 +250,7 @@ pub(crate) fn tell_outcome<W: Write>(
     values: &[u64],
 )
     requires { values.now ≡ values_of outcome.now.opening outcome.now.history.items }
-    ensures { Tells (telling W.contents text.old out.old)
+    ensures { TellsBytes (telling W.contents text.old out.old)
         (outcome_text outcome.now.opening outcome.now.history.items outcome.now.calls.items outcome.now.steps)
         (telling W.contents text.new out.new) }
 {

@@ -1,7 +1,7 @@
 //! The text of a report, told to a writer.
 
 ghost use Rattle.partial_text.specs.ReportText.{answer_line, answer_lines, port_lines, report_text};
-ghost use Rattle.partial_text.specs.Inner.Telling.{Tells, telling};
+ghost use Rattle.partial_text.specs.Inner.Telling.{TellsBytes, telling};
 
 use crate::device::Device;
 use crate::gathered::Gathered;
@@ -12,7 +12,7 @@ use crate::report::RunReport;
 use partial_model::Answer;
 use std::io::Write;
 
-/// Tells the line of an answered call.
+/// TellsBytes the line of an answered call.
 #[tactic(auto, using(crate::proofs::Telling::tells_then, crate::proofs::Telling::tells_more))]
 fn tell_answer_line<W: Write>(
     text: &mut Gathered,
@@ -21,7 +21,7 @@ fn tell_answer_line<W: Write>(
     number: usize,
     answer: &Answer,
 )
-    ensures { Tells (telling W.contents text.old out.old) (answer_line port number answer.now)
+    ensures { TellsBytes (telling W.contents text.old out.old) (answer_line port number answer.now)
         (telling W.contents text.new out.new) }
 {
     tell_field(text, out, b"call ", port as u64);
@@ -31,10 +31,10 @@ fn tell_answer_line<W: Write>(
     text.tell(out, b"\n");
 }
 
-/// Tells the lines of a port.
+/// TellsBytes the lines of a port.
 #[tactic(auto, using(crate::proofs::Telling::tells_then, crate::proofs::Telling::tells_more))]
 fn tell_answers<W: Write>(text: &mut Gathered, out: &mut Device<W>, port: usize, answers: &[Answer])
-    ensures { Tells (telling W.contents text.old out.old) (answer_lines port 0 answers.now)
+    ensures { TellsBytes (telling W.contents text.old out.old) (answer_lines port 0 answers.now)
         (telling W.contents text.new out.new) }
 {
     for (number, answer) in answers.iter().enumerate() {
@@ -42,10 +42,10 @@ fn tell_answers<W: Write>(text: &mut Gathered, out: &mut Device<W>, port: usize,
     }
 }
 
-/// Tells the lines of the ports.
+/// TellsBytes the lines of the ports.
 #[tactic(auto, using(crate::proofs::Telling::tells_then, crate::proofs::Telling::tells_more))]
 fn tell_ports<W: Write>(text: &mut Gathered, out: &mut Device<W>, ports: &[Vec<Answer>])
-    ensures { Tells (telling W.contents text.old out.old) (port_lines 0 ports.now)
+    ensures { TellsBytes (telling W.contents text.old out.old) (port_lines 0 ports.now)
         (telling W.contents text.new out.new) }
 {
     for (port, answers) in ports.iter().enumerate() {
@@ -53,10 +53,10 @@ fn tell_ports<W: Write>(text: &mut Gathered, out: &mut Device<W>, ports: &[Vec<A
     }
 }
 
-/// Tells the text of a report.
+/// TellsBytes the text of a report.
 #[tactic(auto, using(crate::proofs::Telling::tells_then, crate::proofs::Telling::tells_more))]
 pub(crate) fn tell_report<W: Write>(text: &mut Gathered, out: &mut Device<W>, report: &RunReport)
-    ensures { Tells (telling W.contents text.old out.old) (report_text report.now.answers.items report.now.values.items)
+    ensures { TellsBytes (telling W.contents text.old out.old) (report_text report.now.answers.items report.now.values.items)
         (telling W.contents text.new out.new) }
 {
     tell_ports(text, out, &report.answers);

@@ -20,5 +20,5 @@ IsTold before text t = MatchBool t.failed
     ((part : List ℕ) × Appends before t.written part × (text ≡ part ++ t.gathered))
 
 -- these bytes are told, behind whatever text was told before
-pub record Tells (old : Telling) (bytes : List ℕ) (new : Telling) : Type 0 where
+pub record TellsBytes (old : Telling) (bytes : List ℕ) (new : Telling) : Type 0 where
   pub behind : (before : Option (List ℕ)) (text : List ℕ) → IsTold before text old → IsTold before (text ++ bytes) new
