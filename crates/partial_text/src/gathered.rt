@@ -48,9 +48,10 @@ impl Gathered {
         })
     }
 
-    /// TellsBytes the bytes: gathers them, and writes what is gathered when there is no room for them.
+    /// Tells the bytes: gathers them, and writes what is gathered when there is no room for them.
     pub(crate) fn tell<W: Write>(&mut self, writer: &mut Device<W>, bytes: &[u8])
-        ensures { TellsBytes (telling W.contents self.old writer.old) bytes.now (telling W.contents self.new writer.new) }
+        ensures { TellsBytes (telling W.contents self.old writer.old) bytes.now
+            (telling W.contents self.new writer.new) }
     {
         self.make_room(writer, bytes.len());
         if self.bytes.extend_from_slice(bytes).is_err() {

@@ -14,7 +14,7 @@ use partial_model::{Answer, Applied, Called, Finish, Note, Opening};
 use std::alloc::{AllocError, Global};
 use std::io::Write;
 
-/// TellsBytes the word, which ends with a space, and the number.
+/// Tells the word, which ends with a space, and the number.
 #[tactic(auto, using(crate::proofs::Telling::tells_then, crate::proofs::Telling::tells_more))]
 pub(crate) fn tell_field<W: Write>(
     text: &mut Gathered,
@@ -29,7 +29,7 @@ pub(crate) fn tell_field<W: Write>(
     text.tell(out, Buffer::new().format(number).as_bytes());
 }
 
-/// TellsBytes a space and the number.
+/// Tells a space and the number.
 #[tactic(auto, using(crate::proofs::Telling::tells_then, crate::proofs::Telling::tells_more))]
 pub(crate) fn tell_number<W: Write>(text: &mut Gathered, out: &mut Device<W>, number: u64)
     ensures { TellsBytes (telling W.contents text.old out.old) (number_field number)
@@ -38,7 +38,7 @@ pub(crate) fn tell_number<W: Write>(text: &mut Gathered, out: &mut Device<W>, nu
     tell_field(text, out, b" ", number);
 }
 
-/// TellsBytes each number with a space before it.
+/// Tells each number with a space before it.
 #[tactic(auto, using(crate::proofs::Telling::tells_then, crate::proofs::Telling::tells_more))]
 fn tell_numbers<W: Write>(text: &mut Gathered, out: &mut Device<W>, numbers: &[u64])
     ensures { TellsBytes (telling W.contents text.old out.old) (flat_map number_field numbers.now)
@@ -49,7 +49,7 @@ fn tell_numbers<W: Write>(text: &mut Gathered, out: &mut Device<W>, numbers: &[u
     }
 }
 
-/// TellsBytes a space and the number, or a dash when there is none.
+/// Tells a space and the number, or a dash when there is none.
 #[tactic(auto, using(crate::proofs::Telling::tells_then, crate::proofs::Telling::tells_more))]
 fn tell_optional<W: Write>(text: &mut Gathered, out: &mut Device<W>, number: Option<u64>)
     ensures { TellsBytes (telling W.contents text.old out.old) (optional_field number)
@@ -85,7 +85,7 @@ fn place(note: Option<Note>) -> usize
     }
 }
 
-/// TellsBytes an answer up to its place or prefix.
+/// Tells an answer up to its place or prefix.
 #[tactic(auto, using(crate::proofs::Telling::tells_then, crate::proofs::Telling::tells_more))]
 pub(crate) fn tell_answer_front<W: Write>(text: &mut Gathered, out: &mut Device<W>, answer: &Answer)
     ensures { TellsBytes (telling W.contents text.old out.old) (answer_front answer.now)
@@ -107,7 +107,7 @@ pub(crate) fn tell_answer_front<W: Write>(text: &mut Gathered, out: &mut Device<
     }
 }
 
-/// TellsBytes the place or the prefix of an answer.
+/// Tells the place or the prefix of an answer.
 #[tactic(auto, using(crate::proofs::Telling::tells_then, crate::proofs::Telling::tells_more))]
 fn tell_place<W: Write>(text: &mut Gathered, out: &mut Device<W>, answer: &Answer, place: usize)
     ensures { TellsBytes (telling W.contents text.old out.old) (place_field answer.now place)
@@ -122,7 +122,7 @@ fn tell_place<W: Write>(text: &mut Gathered, out: &mut Device<W>, answer: &Answe
     }
 }
 
-/// TellsBytes what follows the prefix of a scan, and nothing of other answers.
+/// Tells what follows the prefix of a scan, and nothing of other answers.
 #[tactic(auto, using(crate::proofs::Telling::tells_then, crate::proofs::Telling::tells_more))]
 pub(crate) fn tell_answer_back<W: Write>(text: &mut Gathered, out: &mut Device<W>, answer: &Answer)
     ensures { TellsBytes (telling W.contents text.old out.old) (answer_back answer.now)
@@ -221,7 +221,7 @@ pub(crate) fn final_values(
     Ok(values)
 }
 
-/// TellsBytes the line of the values.
+/// Tells the line of the values.
 #[tactic(auto, using(crate::proofs::Telling::tells_then, crate::proofs::Telling::tells_more))]
 pub(crate) fn tell_values<W: Write>(text: &mut Gathered, out: &mut Device<W>, values: &[u64])
     ensures { TellsBytes (telling W.contents text.old out.old) (values_line values.now)
@@ -241,7 +241,7 @@ fn tell_total<W: Write>(text: &mut Gathered, out: &mut Device<W>, steps: u64)
     text.tell(out, b"\n");
 }
 
-/// TellsBytes the text of an outcome. `values` are those of the components after its history.
+/// Tells the text of an outcome. `values` are those of the components after its history.
 #[tactic(auto, using(crate::proofs::Telling::tells_then, crate::proofs::Telling::tells_more))]
 pub(crate) fn tell_outcome<W: Write>(
     text: &mut Gathered,

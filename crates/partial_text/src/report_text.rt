@@ -12,7 +12,7 @@ use crate::report::RunReport;
 use partial_model::Answer;
 use std::io::Write;
 
-/// TellsBytes the line of an answered call.
+/// Tells the line of an answered call.
 #[tactic(auto, using(crate::proofs::Telling::tells_then, crate::proofs::Telling::tells_more))]
 fn tell_answer_line<W: Write>(
     text: &mut Gathered,
@@ -31,7 +31,7 @@ fn tell_answer_line<W: Write>(
     text.tell(out, b"\n");
 }
 
-/// TellsBytes the lines of a port.
+/// Tells the lines of a port.
 #[tactic(auto, using(crate::proofs::Telling::tells_then, crate::proofs::Telling::tells_more))]
 fn tell_answers<W: Write>(text: &mut Gathered, out: &mut Device<W>, port: usize, answers: &[Answer])
     ensures { TellsBytes (telling W.contents text.old out.old) (answer_lines port 0 answers.now)
@@ -42,7 +42,7 @@ fn tell_answers<W: Write>(text: &mut Gathered, out: &mut Device<W>, port: usize,
     }
 }
 
-/// TellsBytes the lines of the ports.
+/// Tells the lines of the ports.
 #[tactic(auto, using(crate::proofs::Telling::tells_then, crate::proofs::Telling::tells_more))]
 fn tell_ports<W: Write>(text: &mut Gathered, out: &mut Device<W>, ports: &[Vec<Answer>])
     ensures { TellsBytes (telling W.contents text.old out.old) (port_lines 0 ports.now)
@@ -53,10 +53,11 @@ fn tell_ports<W: Write>(text: &mut Gathered, out: &mut Device<W>, ports: &[Vec<A
     }
 }
 
-/// TellsBytes the text of a report.
+/// Tells the text of a report.
 #[tactic(auto, using(crate::proofs::Telling::tells_then, crate::proofs::Telling::tells_more))]
 pub(crate) fn tell_report<W: Write>(text: &mut Gathered, out: &mut Device<W>, report: &RunReport)
-    ensures { TellsBytes (telling W.contents text.old out.old) (report_text report.now.answers.items report.now.values.items)
+    ensures { TellsBytes (telling W.contents text.old out.old)
+        (report_text report.now.answers.items report.now.values.items)
         (telling W.contents text.new out.new) }
 {
     tell_ports(text, out, &report.answers);
