@@ -49,18 +49,29 @@ impl Gathered {
     }
 
     /// Tells the bytes: gathers them, and writes what is gathered when there is no room for them.
+    #[inline(always)]
     pub(crate) fn tell<W: Write>(&mut self, writer: &mut Device<W>, bytes: &[u8])
         ensures { TellsBytes (telling W.contents self.old writer.old) bytes.now
             (telling W.contents self.new writer.new) }
     {
         self.make_room(writer, bytes.len());
         if self.bytes.extend_from_slice(bytes).is_err() {
-            self.hand_on(writer);
-            put(bytes, writer);
+            self.write_through(writer, bytes);
         }
     }
 
+    // Tells bytes that can't be gathered: writes what is gathered, and then them.
+    #[inline(never)]
+    fn write_through<W: Write>(&mut self, writer: &mut Device<W>, bytes: &[u8])
+        ensures { TellsBytes (telling W.contents self.old writer.old) bytes.now
+            (telling W.contents self.new writer.new) }
+    {
+        self.hand_on(writer);
+        put(bytes, writer);
+    }
+
     // Writes what is gathered when there is no room for so many bytes more.
+    #[inline(always)]
     fn make_room<W: Write>(&mut self, writer: &mut Device<W>, count: usize)
         requires { count < 2 ^ 63 }
         ensures { TellsBytes (telling W.contents self.old writer.old) [] (telling W.contents self.new writer.new) }
@@ -71,6 +82,7 @@ impl Gathered {
     }
 
     // Writes what is gathered.
+    #[inline(never)]
     fn hand_on<W: Write>(&mut self, writer: &mut Device<W>)
         ensures told { TellsBytes (telling W.contents self.old writer.old) [] (telling W.contents self.new writer.new) }
         ensures empty { self.new ≡ [] }

@@ -14,8 +14,17 @@ use partial_model::{Answer, Applied, Called, Finish, Note, Opening};
 use std::alloc::{AllocError, Global};
 use std::io::Write;
 
+/// Tells the digits of the number.
+fn tell_digits<W: Write>(text: &mut Gathered, out: &mut Device<W>, number: u64)
+    ensures { TellsBytes (telling W.contents text.old out.old) (decimal number)
+        (telling W.contents text.new out.new) }
+{
+    text.tell(out, Buffer::new().format(number).as_bytes());
+}
+
 /// Tells the word, which ends with a space, and the number.
 #[tactic(auto, using(crate::proofs::Telling::tells_then, crate::proofs::Telling::tells_more))]
+#[inline(always)]
 pub(crate) fn tell_field<W: Write>(
     text: &mut Gathered,
     out: &mut Device<W>,
@@ -26,7 +35,7 @@ pub(crate) fn tell_field<W: Write>(
         (telling W.contents text.new out.new) }
 {
     text.tell(out, word);
-    text.tell(out, Buffer::new().format(number).as_bytes());
+    tell_digits(text, out, number);
 }
 
 /// Tells a space and the number.

@@ -379,6 +379,55 @@ fn short_writes(rt: HostRuntime) -> Result<(), Fail> {
     Ok(())
 }
 
+/// As many reads as have a text longer than the room in which it is gathered.
+const MANY: usize = 2_000;
+
+/// The outcome of many reads that are alike.
+fn many_reads(alloc: Global) -> Result<Outcome, AllocError> {
+    let mut calls = Vec::with_capacity(alloc, MANY)?;
+    for _ in 0..MANY {
+        let seen = Answer::Read {
+            value: 10,
+            stamp: 18,
+        };
+        calls.push(called(0, 0, 0, 2, finished(0, seen, Some(Note::Saw(0)))))?;
+    }
+    outcome_of(alloc, Vec::new(alloc), calls, 4000)
+}
+
+/// The text of that outcome.
+fn text_of_many_reads(alloc: Global) -> Result<Vec<u8>, AllocError> {
+    let mut text = Vec::new(alloc);
+    for _ in 0..MANY {
+        text.extend_from_slice(b"call 0 0 read 10 18 prefix 0 steps 2 span 0 0\n")?;
+    }
+    text.extend_from_slice(b"values 10 20\ntotal 4000\n")?;
+    Ok(text)
+}
+
+#[test]
+fn long_texts_are_written_in_parts(rt: HostRuntime) -> Result<(), Fail> {
+    let outcome = many_reads(rt.alloc())?;
+    judge_outcome(&rt, rt.alloc(), &outcome, &text_of_many_reads(rt.alloc())?)
+}
+
+/// Judges a writer that takes so many bytes of the text, up to 1,000 a write.
+fn judge_room(rt: &impl Abort, alloc: Global, outcome: &Outcome, text: &[u8], room: usize) {
+    let mut device = Device::new(Sink::new(alloc, 1000, room, false));
+    let given = write_outcome(alloc, outcome, &mut device);
+    judge_stop(rt, given, device, text, room);
+}
+
+#[test]
+fn long_texts_stop_in_any_part(rt: HostRuntime) -> Result<(), Fail> {
+    let outcome = many_reads(rt.alloc())?;
+    let text = text_of_many_reads(rt.alloc())?;
+    for room in [0, 1, 65_000, 65_536, 66_000, text.len().saturating_sub(1)] {
+        judge_room(&rt, rt.alloc(), &outcome, &text, room);
+    }
+    Ok(())
+}
+
 #[test]
 fn write_refusals_have_numbers(rt: HostRuntime) -> Result<(), Fail> {
     for (error, code, text) in [

@@ -1,5 +1,5 @@
 use Rattle.std.proofs.Common.{rules}
-use Rattle.partial_text.proofs.{Common.{◌≡◌, sym, subst, List, ℕ, [], ◌++◌}, Telling.{tells_then, tells_gathered}}
+use Rattle.partial_text.proofs.{Common.{◌≡◌, sym, subst, List, ℕ, ◌++◌}, Telling.{tells_then, tells_gathered}}
 use Rattle.partial_text.specs.Inner.Telling.{TellsBytes, telling}
 use Rattle.partial_text.proofs.gathered.Gathered.tell.Goals as goal
 
@@ -7,14 +7,14 @@ pub returns-then-is_err : goal.returns-then-is_err
 returns-then-is_err g c =
     let contents = g.W.Write.contents in
     let gathered : c.extend_from_slice.new.self.items ≡ c.make_room.new.self = search rules in
-    let handed : TellsBytes (telling contents c.make_room.new.self c.make_room.new.writer) [] (telling contents [] c.hand_on.new.writer) = search rules in
-    let told : TellsBytes (telling contents [] c.hand_on.new.writer) c.args.bytes.now (telling contents c.hand_on.new.self c.put.new.writer) = search rules in
-    tells_then _ _ _ _ _ c.make_room.ensures (tells_then _ _ _ _ _ handed told)
+    let told : TellsBytes (telling contents c.make_room.new.self c.make_room.new.writer) c.args.bytes.now (telling contents c.write_through.new.self c.write_through.new.writer) = search rules in
+    tells_then _ _ _ _ _ c.make_room.ensures told
 
 pub returns-else-is_err : goal.returns-else-is_err
 returns-else-is_err g c =
     let contents = g.W.Write.contents in
     let gathered : c.extend_from_slice.new.self.items ≡ c.make_room.new.self ++ c.args.bytes.now = search rules in
+    let before = c.make_room.new in
     tells_then _ _ _ _ _ c.make_room.ensures
-    (subst (λ (xs : List ℕ). TellsBytes (telling contents c.make_room.new.self c.make_room.new.writer) c.args.bytes.now (telling contents xs c.make_room.new.writer)) (sym gathered)
-    (tells_gathered c.make_room.new.self c.args.bytes.now (contents c.make_room.new.writer.inner) c.make_room.new.writer.failed))
+    (subst (λ (xs : List ℕ). TellsBytes (telling contents before.self before.writer) c.args.bytes.now (telling contents xs before.writer)) (sym gathered)
+    (tells_gathered before.self c.args.bytes.now (contents before.writer.inner) before.writer.failed))
