@@ -23,9 +23,8 @@ tells_then a b c xs ys p q =
 pub tells_more : (a b c : Telling) (xs ys zs : List ℕ) → TellsBytes a xs b → TellsBytes b (ys ++ zs) c → TellsBytes a ((xs ++ ys) ++ zs) c
 tells_more a b c xs ys zs p q = subst (λ (t : List ℕ). TellsBytes a t c) (sym (append_assoc xs ys zs)) (tells_then a b c xs (ys ++ zs) p q)
 
--- nothing is told where nothing changes
-pub tells_nothing : (a : Telling) → TellsBytes a [] a
-tells_nothing a = record { behind = λ before text told. subst (λ (t : List ℕ). IsTold before t a) (sym (append-nil text)) told }
+-- what is told piece by piece
+pub ruleset tellings = (tells_then, tells_more)
 
 told_behind : (before : Option (List ℕ)) (text gathered bytes : List ℕ) (written : Option (List ℕ)) (failed : Bool) →
     IsTold before text (record { gathered = gathered; written = written; failed = failed }) →

@@ -23,7 +23,7 @@ fn tell_digits<W: Write>(text: &mut Gathered, out: &mut Device<W>, number: u64)
 }
 
 /// Tells the word, which ends with a space, and the number.
-#[tactic(auto, using(crate::proofs::Telling::tells_then, crate::proofs::Telling::tells_more))]
+#[tactic(auto, using(crate::proofs::Telling::tellings))]
 #[inline(always)]
 pub(crate) fn tell_field<W: Write>(
     text: &mut Gathered,
@@ -39,7 +39,6 @@ pub(crate) fn tell_field<W: Write>(
 }
 
 /// Tells a space and the number.
-#[tactic(auto, using(crate::proofs::Telling::tells_then, crate::proofs::Telling::tells_more))]
 pub(crate) fn tell_number<W: Write>(text: &mut Gathered, out: &mut Device<W>, number: u64)
     ensures { TellsBytes (telling W.contents text.old out.old) (number_field number)
         (telling W.contents text.new out.new) }
@@ -48,7 +47,6 @@ pub(crate) fn tell_number<W: Write>(text: &mut Gathered, out: &mut Device<W>, nu
 }
 
 /// Tells each number with a space before it.
-#[tactic(auto, using(crate::proofs::Telling::tells_then, crate::proofs::Telling::tells_more))]
 fn tell_numbers<W: Write>(text: &mut Gathered, out: &mut Device<W>, numbers: &[u64])
     ensures { TellsBytes (telling W.contents text.old out.old) (flat_map number_field numbers.now)
         (telling W.contents text.new out.new) }
@@ -59,7 +57,6 @@ fn tell_numbers<W: Write>(text: &mut Gathered, out: &mut Device<W>, numbers: &[u
 }
 
 /// Tells a space and the number, or a dash when there is none.
-#[tactic(auto, using(crate::proofs::Telling::tells_then, crate::proofs::Telling::tells_more))]
 fn tell_optional<W: Write>(text: &mut Gathered, out: &mut Device<W>, number: Option<u64>)
     ensures { TellsBytes (telling W.contents text.old out.old) (optional_field number)
         (telling W.contents text.new out.new) }
@@ -70,7 +67,6 @@ fn tell_optional<W: Write>(text: &mut Gathered, out: &mut Device<W>, number: Opt
     }
 }
 
-#[tactic(auto, using(crate::proofs::Telling::tells_then, crate::proofs::Telling::tells_more))]
 fn tell_entry<W: Write>(text: &mut Gathered, out: &mut Device<W>, place: usize, entry: &Applied)
     ensures { TellsBytes (telling W.contents text.old out.old) (entry_line place entry.now)
         (telling W.contents text.new out.new) }
@@ -95,7 +91,7 @@ fn place(note: Option<Note>) -> usize
 }
 
 /// Tells an answer up to its place or prefix.
-#[tactic(auto, using(crate::proofs::Telling::tells_then, crate::proofs::Telling::tells_more))]
+#[tactic(auto, using(crate::proofs::Telling::tellings))]
 pub(crate) fn tell_answer_front<W: Write>(text: &mut Gathered, out: &mut Device<W>, answer: &Answer)
     ensures { TellsBytes (telling W.contents text.old out.old) (answer_front answer.now)
         (telling W.contents text.new out.new) }
@@ -117,7 +113,6 @@ pub(crate) fn tell_answer_front<W: Write>(text: &mut Gathered, out: &mut Device<
 }
 
 /// Tells the place or the prefix of an answer.
-#[tactic(auto, using(crate::proofs::Telling::tells_then, crate::proofs::Telling::tells_more))]
 fn tell_place<W: Write>(text: &mut Gathered, out: &mut Device<W>, answer: &Answer, place: usize)
     ensures { TellsBytes (telling W.contents text.old out.old) (place_field answer.now place)
         (telling W.contents text.new out.new) }
@@ -132,7 +127,7 @@ fn tell_place<W: Write>(text: &mut Gathered, out: &mut Device<W>, answer: &Answe
 }
 
 /// Tells what follows the prefix of a scan, and nothing of other answers.
-#[tactic(auto, using(crate::proofs::Telling::tells_then, crate::proofs::Telling::tells_more))]
+#[tactic(auto, using(crate::proofs::Telling::tellings))]
 pub(crate) fn tell_answer_back<W: Write>(text: &mut Gathered, out: &mut Device<W>, answer: &Answer)
     ensures { TellsBytes (telling W.contents text.old out.old) (answer_back answer.now)
         (telling W.contents text.new out.new) }
@@ -149,7 +144,7 @@ pub(crate) fn tell_answer_back<W: Write>(text: &mut Gathered, out: &mut Device<W
     }
 }
 
-#[tactic(auto, using(crate::proofs::Telling::tells_then, crate::proofs::Telling::tells_more))]
+#[tactic(auto, using(crate::proofs::Telling::tellings))]
 fn tell_answer<W: Write>(text: &mut Gathered, out: &mut Device<W>, answer: &Answer, place: usize)
     ensures { TellsBytes (telling W.contents text.old out.old) (answer_text answer.now place)
         (telling W.contents text.new out.new) }
@@ -159,7 +154,6 @@ fn tell_answer<W: Write>(text: &mut Gathered, out: &mut Device<W>, answer: &Answ
     tell_answer_back(text, out, answer);
 }
 
-#[tactic(auto, using(crate::proofs::Telling::tells_then, crate::proofs::Telling::tells_more))]
 fn tell_finish<W: Write>(text: &mut Gathered, out: &mut Device<W>, finish: &Option<Finish>)
     ensures { TellsBytes (telling W.contents text.old out.old) (finish_text finish.now)
         (telling W.contents text.new out.new) }
@@ -179,7 +173,6 @@ fn ended(finish: &Option<Finish>) -> Option<u64>
     }
 }
 
-#[tactic(auto, using(crate::proofs::Telling::tells_then, crate::proofs::Telling::tells_more))]
 fn tell_call<W: Write>(text: &mut Gathered, out: &mut Device<W>, called: &Called)
     ensures { TellsBytes (telling W.contents text.old out.old) (call_line called.now)
         (telling W.contents text.new out.new) }
@@ -193,7 +186,6 @@ fn tell_call<W: Write>(text: &mut Gathered, out: &mut Device<W>, called: &Called
     text.tell(out, b"\n");
 }
 
-#[tactic(auto, using(crate::proofs::Telling::tells_then, crate::proofs::Telling::tells_more))]
 fn tell_entries<W: Write>(text: &mut Gathered, out: &mut Device<W>, history: &[Applied])
     ensures { TellsBytes (telling W.contents text.old out.old) (entry_lines 0 history.now)
         (telling W.contents text.new out.new) }
@@ -203,7 +195,6 @@ fn tell_entries<W: Write>(text: &mut Gathered, out: &mut Device<W>, history: &[A
     }
 }
 
-#[tactic(auto, using(crate::proofs::Telling::tells_then, crate::proofs::Telling::tells_more))]
 fn tell_calls<W: Write>(text: &mut Gathered, out: &mut Device<W>, calls: &[Called])
     ensures { TellsBytes (telling W.contents text.old out.old) (flat_map call_line calls.now)
         (telling W.contents text.new out.new) }
@@ -231,7 +222,7 @@ pub(crate) fn final_values(
 }
 
 /// Tells the line of the values.
-#[tactic(auto, using(crate::proofs::Telling::tells_then, crate::proofs::Telling::tells_more))]
+#[tactic(auto, using(crate::proofs::Telling::tellings))]
 pub(crate) fn tell_values<W: Write>(text: &mut Gathered, out: &mut Device<W>, values: &[u64])
     ensures { TellsBytes (telling W.contents text.old out.old) (values_line values.now)
         (telling W.contents text.new out.new) }
@@ -241,7 +232,7 @@ pub(crate) fn tell_values<W: Write>(text: &mut Gathered, out: &mut Device<W>, va
     text.tell(out, b"\n");
 }
 
-#[tactic(auto, using(crate::proofs::Telling::tells_then, crate::proofs::Telling::tells_more))]
+#[tactic(auto, using(crate::proofs::Telling::tellings))]
 fn tell_total<W: Write>(text: &mut Gathered, out: &mut Device<W>, steps: u64)
     ensures { TellsBytes (telling W.contents text.old out.old) (total_line steps)
         (telling W.contents text.new out.new) }
@@ -251,7 +242,7 @@ fn tell_total<W: Write>(text: &mut Gathered, out: &mut Device<W>, steps: u64)
 }
 
 /// Tells the text of an outcome. `values` are those of the components after its history.
-#[tactic(auto, using(crate::proofs::Telling::tells_then, crate::proofs::Telling::tells_more))]
+#[tactic(auto, using(crate::proofs::Telling::tellings))]
 pub(crate) fn tell_outcome<W: Write>(
     text: &mut Gathered,
     out: &mut Device<W>,

@@ -13,7 +13,7 @@ use partial_model::Answer;
 use std::io::Write;
 
 /// Tells the line of an answered call.
-#[tactic(auto, using(crate::proofs::Telling::tells_then, crate::proofs::Telling::tells_more))]
+#[tactic(auto, using(crate::proofs::Telling::tellings))]
 fn tell_answer_line<W: Write>(
     text: &mut Gathered,
     out: &mut Device<W>,
@@ -32,7 +32,6 @@ fn tell_answer_line<W: Write>(
 }
 
 /// Tells the lines of a port.
-#[tactic(auto, using(crate::proofs::Telling::tells_then, crate::proofs::Telling::tells_more))]
 fn tell_answers<W: Write>(text: &mut Gathered, out: &mut Device<W>, port: usize, answers: &[Answer])
     ensures { TellsBytes (telling W.contents text.old out.old) (answer_lines port 0 answers.now)
         (telling W.contents text.new out.new) }
@@ -43,7 +42,6 @@ fn tell_answers<W: Write>(text: &mut Gathered, out: &mut Device<W>, port: usize,
 }
 
 /// Tells the lines of the ports.
-#[tactic(auto, using(crate::proofs::Telling::tells_then, crate::proofs::Telling::tells_more))]
 fn tell_ports<W: Write>(text: &mut Gathered, out: &mut Device<W>, ports: &[Vec<Answer>])
     ensures { TellsBytes (telling W.contents text.old out.old) (port_lines 0 ports.now)
         (telling W.contents text.new out.new) }
@@ -54,7 +52,7 @@ fn tell_ports<W: Write>(text: &mut Gathered, out: &mut Device<W>, ports: &[Vec<A
 }
 
 /// Tells the text of a report.
-#[tactic(auto, using(crate::proofs::Telling::tells_then, crate::proofs::Telling::tells_more))]
+#[tactic(auto, using(crate::proofs::Telling::tellings))]
 pub(crate) fn tell_report<W: Write>(text: &mut Gathered, out: &mut Device<W>, report: &RunReport)
     ensures { TellsBytes (telling W.contents text.old out.old)
         (report_text report.now.answers.items report.now.values.items)
