@@ -431,7 +431,6 @@ impl GetSet {
 }
 
 impl GetSet {
-    ghost use Rattle.partial_words.specs.Layout.{greatest_list};
     ghost use Rattle.partial_active.specs.GetSetAnswers.{SetGoesTogether, IsPossibleInSet};
 
     /// Whether the number is a possible answer of the step that is due, as [`GetSet::answer`] wants it: one that the
@@ -441,7 +440,7 @@ impl GetSet {
         ensures { IsTrue result ↔ IsPossibleInSet (self.now, found.now) x }
     {
         match self.stage {
-            Stage::Head => x == 0 || self.is_list_word(x),
+            Stage::Head => x == 0 || self.sizes.is_list_word(x),
             Stage::ListLen { at } => {
                 x <= u64::from(self.sizes.slots())
                     && u64::from(at) + list_size(x) <= u64::from(self.sizes.list_end())
@@ -454,7 +453,7 @@ impl GetSet {
                 u64::from(lo) <= x && x < u64::from(self.sizes.slots())
             }
             Stage::Counter => found.read_ends_below(x),
-            Stage::Slot { .. } => x <= 1 || self.is_pool_word(x),
+            Stage::Slot { .. } => x <= 1 || self.sizes.is_pool_word(x),
             Stage::Len { at, .. } => {
                 x <= u64::from(self.sizes.m())
                     && u64::from(at) + announcement_size(x) <= u64::from(self.sizes.pool_end())
@@ -462,30 +461,10 @@ impl GetSet {
             Stage::Index { .. } => x < u64::from(self.sizes.m()),
             Stage::Claim { .. } => {
                 u64::from(self.sizes.list_base()) <= x
-                    && x <= u64::from(self.sizes.list_end()) + 64 * self.greatest_list()
+                    && x <= u64::from(self.sizes.list_end())
+                        + 64 * u64::from(self.sizes.greatest_list())
             }
             Stage::Write { .. } | Stage::Publish { .. } | Stage::Done => true,
         }
-    }
-
-    // How many words a list takes at most.
-    fn greatest_list(&self) -> u64
-        ensures { result ≡ greatest_list self.now.sizes }
-    {
-        u64::from(self.sizes.slots()) + 2
-    }
-
-    // Whether the number is that of a list word.
-    fn is_list_word(&self, x: u64) -> bool
-        ensures { IsTrue result ↔ ((list_base self.now.sizes ≤ x) × (x < list_end self.now.sizes)) }
-    {
-        u64::from(self.sizes.list_base()) <= x && x < u64::from(self.sizes.list_end())
-    }
-
-    // Whether the number is that of a pool word.
-    fn is_pool_word(&self, x: u64) -> bool
-        ensures { IsTrue result ↔ ((pool_base self.now.sizes ≤ x) × (x < pool_end self.now.sizes)) }
-    {
-        u64::from(self.sizes.pool_base()) <= x && x < u64::from(self.sizes.pool_end())
     }
 }

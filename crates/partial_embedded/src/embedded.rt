@@ -271,8 +271,8 @@ impl Embedded {
     {
         let end = u64::from(self.sizes.pool_end());
         match self.stage {
-            Stage::Collect { .. } => self.is_pool_word(x) && plain_record_size() <= end - x,
-            Stage::View { .. } => x == 0 || self.is_pool_word(x),
+            Stage::Collect { .. } => self.sizes.is_pool_word(x) && plain_record_size() <= end - x,
+            Stage::View { .. } => x == 0 || self.sizes.is_pool_word(x),
             Stage::Len { at } => {
                 x <= u64::from(self.sizes.m()) && at <= end && view_size(x) <= end - at
             }
@@ -280,13 +280,6 @@ impl Embedded {
             Stage::PairValue { .. } | Stage::Value { .. } => true,
             Stage::Done => false,
         }
-    }
-
-    // Whether the number is that of a pool word.
-    fn is_pool_word(&self, x: u64) -> bool
-        ensures { IsTrue result ↔ ((pool_base self.now.sizes ≤ x) × (x < pool_end self.now.sizes)) }
-    {
-        u64::from(self.sizes.pool_base()) <= x && x < u64::from(self.sizes.pool_end())
     }
 }
 

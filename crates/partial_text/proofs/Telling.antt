@@ -7,7 +7,7 @@ use Rattle.partial_text.proofs.Bytes.{Appends_none, Appends_then}
 use Rattle.partial_text.specs.Inner.Telling.{Telling, IsTold, TellsBytes}
 
 -- a part of a text is one of a longer text
-pub part_of_more : (n : ℕ) (text bytes : List ℕ) → (m : ℕ) × (take n text ≡ take m (text ++ bytes))
+part_of_more : (n : ℕ) (text bytes : List ℕ) → (m : ℕ) × (take n text ≡ take m (text ++ bytes))
 part_of_more n text bytes =
     elim (cases_lt (length text) n) [
       | inl less ↦ (length text, take_all n text (omega arith) ∙ sym (take-append-le (length text) text bytes (omega arith) ∙ take_all (length text) text (omega arith)))
@@ -41,13 +41,10 @@ tells_gathered gathered bytes written failed = record { behind = λ before text 
 -- once a write has failed, bytes are told by writing nothing
 pub tells_unwritten : (bytes : List ℕ) (written : Option (List ℕ)) →
     TellsBytes (record { gathered = []; written = written; failed = true }) bytes (record { gathered = []; written = written; failed = true })
-tells_unwritten bytes written = record {
-  behind = λ before text told.
-      let more = part_of_more told.0 text bytes in (more.0, subst (λ (t : List ℕ). Appends before written t) more.1 told.1);
-}
+tells_unwritten bytes written = record { behind = λ before text told. told_behind before text [] bytes written true told }
 
 -- bytes that are written are told
-pub tells_written : (bytes : List ℕ) (old new : Option (List ℕ)) → Appends old new bytes →
+tells_written : (bytes : List ℕ) (old new : Option (List ℕ)) → Appends old new bytes →
     TellsBytes (record { gathered = []; written = old; failed = false }) bytes (record { gathered = []; written = new; failed = false })
 tells_written bytes old new more = record {
   behind = λ before text told. (
@@ -58,7 +55,7 @@ tells_written bytes old new more = record {
 }
 
 -- bytes are told by a write that fails behind a part of them
-pub tells_part : (bytes : List ℕ) (n : ℕ) (old new : Option (List ℕ)) → Appends old new (take n bytes) →
+tells_part : (bytes : List ℕ) (n : ℕ) (old new : Option (List ℕ)) → Appends old new (take n bytes) →
     TellsBytes (record { gathered = []; written = old; failed = false }) bytes (record { gathered = []; written = new; failed = true })
 tells_part bytes n old new more = record {
   behind = λ before text told.

@@ -1,6 +1,6 @@
 //! The sizes of a memory, and the numbers of its words.
 
-ghost use Rattle.std.specs.Prelude.{◌≡◌, ◌+◌, ◌*◌, ◌<◌, length, IfOk, IfErr};
+ghost use Rattle.std.specs.Prelude.{◌≡◌, ◌+◌, ◌*◌, ◌<◌, ◌≤◌, ◌↔◌, length, IfOk, IfErr, IsTrue};
 ghost use Rattle.partial_words.specs.Layout.{Layout};
 
 use std::marker::Model;
@@ -62,7 +62,7 @@ impl Model for Sizes {
 }
 
 impl Sizes {
-    ghost use Rattle.partial_words.specs.Layout.{IsLayout, component_word, slot_counter, list_head, pool_counter, list_counter, slot_word, list_base, list_end, pool_base, pool_end, total, initial_record, first_free};
+    ghost use Rattle.partial_words.specs.Layout.{IsLayout, component_word, slot_counter, list_head, pool_counter, list_counter, slot_word, list_base, list_end, greatest_list, pool_base, pool_end, total, initial_record, first_free};
     ghost use Rattle.partial_words.specs.Chain.{opening_word};
     ghost use Rattle.partial_words.specs.SizeFault.{IsFirstFault};
 
@@ -185,6 +185,20 @@ impl Sizes {
         self.list_base() + self.lists
     }
 
+    /// Whether the number is that of a list word.
+    pub fn is_list_word(&self, word: u64) -> bool
+        ensures { IsTrue result ↔ ((list_base self.now ≤ word) × (word < list_end self.now)) }
+    {
+        u64::from(self.list_base()) <= word && word < u64::from(self.list_end())
+    }
+
+    /// How many list words a list of vacated slots takes at most.
+    pub fn greatest_list(&self) -> u32
+        ensures { result ≡ greatest_list self.now }
+    {
+        self.slots() + 2
+    }
+
     /// The first pool word.
     pub fn pool_base(&self) -> u32
         ensures { result ≡ pool_base self.now }
@@ -197,6 +211,13 @@ impl Sizes {
         ensures { result ≡ pool_end self.now }
     {
         self.total()
+    }
+
+    /// Whether the number is that of a pool word.
+    pub fn is_pool_word(&self, word: u64) -> bool
+        ensures { IsTrue result ↔ ((pool_base self.now ≤ word) × (word < pool_end self.now)) }
+    {
+        u64::from(self.pool_base()) <= word && word < u64::from(self.pool_end())
     }
 
     /// How many words there are.
