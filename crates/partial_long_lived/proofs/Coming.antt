@@ -1,5 +1,5 @@
 -- A port between the parts of a call: it stands where it stood, or has come to a later epoch.
-use Rattle.partial_long_lived.proofs.Common.{ℕ, ◌≡◌, ◌<◌, ◌≤◌, ◌&&◌, ◌++◌, not, Bool, true, false, if◌then◌else◌, Some, List, [], ◌∷◌, length, refl, sym, ap, subst, ◌∙◌, inl, inr, arith, append-nil, append_assoc, length-append, nat_lt, TableId, Applied, value_of, Noted, fresh, core_of, seal, unsealed, not_below, public_of, About, Stand, Began, SeatedPort, plan_of, seen_in, BeginsWith, SeatGoes, IsHeld, port_at, SeatSees, Wish, noted_by, opening_of, place_seen, stamp_seen, value_seen, Reads, HasCome, HasNotedRead, HasValue, IsIdle, StaysAt, EpochSettled, Call, Answer, Note}
+use Rattle.partial_long_lived.proofs.Common.{ℕ, ◌≡◌, ◌<◌, ◌≤◌, ◌&&◌, ◌++◌, not, Bool, true, false, if◌then◌else◌, Some, List, [], ◌∷◌, length, refl, sym, ap, subst, ◌∙◌, inl, inr, arith, lt-ltb, append-nil, append_assoc, length-append, nat_lt, TableId, Applied, value_of, Noted, fresh, core_of, seal, unsealed, not_below, public_of, About, Stand, Began, SeatedPort, plan_of, seen_in, BeginsWith, SeatGoes, IsHeld, port_at, SeatSees, Wish, noted_by, opening_of, place_seen, stamp_seen, value_seen, Reads, HasCome, HasNotedRead, HasValue, IsIdle, StaysAt, EpochSettled, Call, Answer, Note}
 
 pub begins_on : (h l m : List Applied) → BeginsWith h l → BeginsWith l m → BeginsWith h m
 begins_on h l m a c = (a.0 ++ c.0, c.1 ∙ ap (λ (t : List Applied). t ++ c.0) a.1 ∙ append_assoc h a.0 c.0)
@@ -159,14 +159,26 @@ module _ (table : TableId) (about : About) (s u v : Stand) (h : IsHeld table abo
     (w : SeatSees first Reads j (port_at u) a (port_at v))
     (fresh_now : (port_at v).began.epoch ≤ (port_at u).port.control.here.epoch) (noted : (first && not (nat_lt a seal)) ≡ false) (notes : (port_at u).notes ≡ (port_at s).notes)
     (began : length (seen_in (port_at s).port) ≤ (port_at v).began.length) where
-  pub read_ends : (z t t' : Stand) (found value stamp : ℕ) → z ≡ v → found ≡ a → StaysAt z t → port_at t ≡ port_at z → HasValue z j value → StaysAt t t' → port_at t' ≡ port_at t →
-      stamp ≡ public_of (plan_of about) (port_at t).port.before j (unsealed found) → HasNotedRead s t' j value stamp
-  read_ends z t t' found value stamp is same kept1 same1 is_value kept2 same2 is_stamp =
-      let kept1' = subst (λ (z : Stand). StaysAt z t) is kept1 in
-      let same1' = same1 ∙ ap port_at is in
-      has_read table about s u v t' h come kept first j a w fresh_now noted notes began (kept_on v t t' kept1' kept2) (same2 ∙ same1') value stamp
-      (subst (λ (z : Stand). HasValue z j value) is is_value)
-      (is_stamp ∙ ap (λ (x : SeatedPort). public_of (plan_of about) x.port.before j (unsealed found)) same1' ∙ ap (λ n. public_of (plan_of about) (port_at v).port.before j (unsealed n)) same)
+  pub read_ends : (z t : Stand) (found value stamp : ℕ) → z ≡ v → found ≡ a → StaysAt z t → port_at t ≡ port_at z → HasValue z j value →
+      stamp ≡ public_of (plan_of about) (port_at z).port.before j (unsealed found) → HasNotedRead s t j value stamp
+  read_ends z t found value stamp is same kept_here same_port is_value is_stamp =
+      has_read table about s u v t h come kept first j a w fresh_now noted notes began (subst (λ (y : Stand). StaysAt y t) is kept_here) (same_port ∙ ap port_at is) value stamp
+      (subst (λ (y : Stand). HasValue y j value) is is_value)
+      (is_stamp ∙ ap (λ (y : Stand). public_of (plan_of about) (port_at y).port.before j (unsealed found)) is ∙ ap (λ n. public_of (plan_of about) (port_at v).port.before j (unsealed n)) same)
+
+-- a read whose first load, which led to the stand v, found no seal
+pub first_read : (table : TableId) (about : About) (s v t : Stand) → IsHeld table about s → IsIdle s → IsHeld table about v → StaysAt s v → (j found value stamp : ℕ) →
+    SeatSees true Reads j (port_at s) found (port_at v) → found < seal → StaysAt v t → port_at t ≡ port_at v → HasValue v j value →
+    stamp ≡ public_of (plan_of about) (port_at v).port.before j found → HasNotedRead s t j value stamp
+first_read table about s v t h idle held kept j found value stamp w less on same is_value is_stamp =
+    let began_is = ap (λ (x : SeatedPort). x.began) w.is in
+    let fresh_now : (port_at v).began.epoch ≤ (port_at s).port.control.here.epoch =
+    (let young = w.present less in let epoch = ap (λ (g : Began). g.epoch) began_is in omega (arith, young, epoch)) in
+    let began : length (seen_in (port_at s).port) ≤ (port_at v).began.length =
+    (let few = w.began in let many = ap (λ (g : Began). g.length) began_is in omega (arith, few, many)) in
+    let whole : found ≡ unsealed found = omega (arith, less) in
+    read_ends table about s s v held (come_itself table about s h idle) kept true j found w fresh_now (ap not (lt-ltb found seal less)) refl began v t found value stamp refl refl on same is_value
+    (is_stamp ∙ ap (public_of (plan_of about) (port_at v).port.before j) whole)
 
 -- the first load of a read, which found its component sealed
 module _ (table : TableId) (about : About) (s r u v : Stand) (h : IsHeld table about s) (idle : IsIdle s) (kept : StaysAt s r) (j a : ℕ) (w : SeatSees true Reads j (port_at s) a (port_at r))

@@ -21,17 +21,19 @@ pub const SEAL: u64 = 1 << 56;
 /// Each word of an arena is below this number. A public stamp is an epoch times it, and the reference of a record.
 pub const STAMPS: u64 = 1 << 23;
 
-/// Loads the word of component `component` as the first step of a read.
+/// Loads the word of component `component` as the first step of a read. `base` is where the port's arena begins: a caller
+/// who makes several loads takes it from the port once, since behind an atomic load a compiler takes it from there anew.
 #[inline(always)]
-pub fn read_first(words: &Words, stand: &mut Stand, component: u32) -> u64
+pub fn read_first(words: &Words, stand: &mut Stand, base: u64, component: u32) -> u64
     requires held { IsHeld words.now.table_id words.now.key stand.old }
+    requires base { base ≡ stand.old.base }
     requires idle { IsIdle stand.old }
     requires inside { component < words.now.key.sizes.m }
     ensures held { IsHeld words.now.table_id words.now.key stand.new }
     ensures kept { StaysAt stand.old stand.new }
     ensures sees { SeatSees true Reads component (port_at stand.old) result (port_at stand.new) }
 {
-    let word = stand.base + u64::from(component);
+    let word = base + u64::from(component);
     words.load::<ReadFirst>(&mut stand.seat, word as usize)
 }
 
@@ -61,10 +63,12 @@ pub fn recall(words: &Words, stand: &mut Stand, word: u64) -> u64
     words.load::<Recall>(&mut stand.seat, word as usize)
 }
 
-/// Loads the value of the record at `at`, which the port has loaded as that of component `component`.
+/// Loads the value of the record at `at`, which the port has loaded as that of component `component`. `base` is where the
+/// port's arena begins.
 #[inline(always)]
-pub fn load_value(words: &Words, stand: &mut Stand, component: u32, at: u64) -> u64
+pub fn load_value(words: &Words, stand: &mut Stand, base: u64, component: u32, at: u64) -> u64
     requires held { IsHeld words.now.table_id words.now.key stand.old }
+    requires base { base ≡ stand.old.base }
     requires stands { (port_at stand.old).port.control.entering ≡ Stands }
     requires inside { component < words.now.key.sizes.m }
     requires loaded { HasLoadedRecord stand.old component at }
@@ -73,14 +77,24 @@ pub fn load_value(words: &Words, stand: &mut Stand, component: u32, at: u64) -> 
     ensures same { port_at stand.new ≡ port_at stand.old }
     ensures value { HasValue stand.old component result }
 {
-    let word = stand.base + value_word(at);
+    let word = base + value_word(at);
     recall(words, stand, word)
 }
 
 /// The public stamp of the record of component `component` at `at`: a record of the epoch's own, or the carried stamp.
+/// `base` is where the port's arena begins, and `own` the word of an arena where the records of an epoch's own do.
 #[inline(always)]
-pub fn public_stamp(words: &Words, stand: &mut Stand, component: u32, at: u64) -> u64
+pub fn public_stamp(
+    words: &Words,
+    stand: &mut Stand,
+    base: u64,
+    own: u64,
+    component: u32,
+    at: u64,
+) -> u64
     requires held { IsHeld words.now.table_id words.now.key stand.old }
+    requires base { base ≡ stand.old.base }
+    requires own { own ≡ stand.old.shape.own }
     requires stands { (port_at stand.old).port.control.entering ≡ Stands }
     requires inside { component < words.now.key.sizes.m }
     requires small { at < 8388608 }
@@ -89,8 +103,8 @@ pub fn public_stamp(words: &Words, stand: &mut Stand, component: u32, at: u64) -
     ensures same { port_at stand.new ≡ port_at stand.old }
     ensures stamp { result ≡ public_of (plan_of words.now.key) (port_at stand.old).port.before component at }
 {
-    if at < stand.shape.own {
-        let carried = stand.base + stand.shape.carried + u64::from(component);
+    if at < own {
+        let carried = base + stand.shape.carried + u64::from(component);
         recall(words, stand, carried)
     } else {
         stand.epoch * STAMPS + at

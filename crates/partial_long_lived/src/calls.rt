@@ -248,9 +248,10 @@ impl LongLived {
 fn all_below(indices: &[u32], components: u32) -> bool
     ensures { result ≡ list_all (λ i. nat_lt i components) indices.now }
 {
-    let mut all = true;
     for index in indices {
-        all = all & (*index < components);
+        if *index >= components {
+            return false;
+        }
     }
-    all
+    true
 }

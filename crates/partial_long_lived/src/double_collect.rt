@@ -46,26 +46,31 @@ pub fn double_collect(
     ensures notes { result ≡ false → (port_at stand.new).notes ≡ (port_at stand.old).notes }
     ensures unchanged { result ≡ false → into.new ≡ into.old }
 {
-    let Some(found) = begin(words, stand, which[0]) else {
+    let base = stand.base;
+    let Some(found) = begin(words, stand, base, which[0]) else {
         return false;
     };
     kept[0] = found;
-    collect(words, stand, which, kept);
-    confirm::<Brand>(words, stand, which, kept, into)
+    collect(words, stand, base, which, kept);
+    confirm::<Brand>(words, stand, base, which, kept, into)
 }
 
 // Makes the first step of the scan, the load of its first component word, and returns the word; or `None` when the
-// component is sealed and the port's epoch has ended. Otherwise the epoch was the current one during the call.
-fn begin(words: &Words, stand: &mut Stand, component: u32) -> Option<u64>
+// component is sealed and the port's epoch has ended. Otherwise the epoch was the current one during the call. `base`, here
+// and below, is where the port's arena begins: it is taken from the port once for all loads of a scan, since behind an
+// atomic load a compiler takes it from there anew.
+fn begin(words: &Words, stand: &mut Stand, base: u64, component: u32) -> Option<u64>
     requires held { IsHeld words.now.table_id words.now.key stand.old }
+    requires base { base ≡ stand.old.base }
     requires idle { IsIdle stand.old }
     requires inside { component < words.now.key.sizes.m }
     ensures held { IsHeld words.now.table_id words.now.key stand.new }
     ensures stayed { HasStayed stand.old stand.new }
+    ensures base { stand.new.base ≡ stand.old.base }
     ensures begun { IfSome result (λ found. HasBegunCollect stand.old stand.new component found) }
     ensures notes { (port_at stand.new).notes ≡ (port_at stand.old).notes }
 {
-    let found = glance_first(words, stand, component);
+    let found = glance_first(words, stand, base, component);
     if found < SEAL {
         return Some(found);
     }
@@ -77,35 +82,38 @@ fn begin(words: &Words, stand: &mut Stand, component: u32) -> Option<u64>
 }
 
 // Loads the word of a component as the first step of the scan.
-fn glance_first(words: &Words, stand: &mut Stand, component: u32) -> u64
+fn glance_first(words: &Words, stand: &mut Stand, base: u64, component: u32) -> u64
     requires held { IsHeld words.now.table_id words.now.key stand.old }
+    requires base { base ≡ stand.old.base }
     requires idle { IsIdle stand.old }
     requires inside { component < words.now.key.sizes.m }
     ensures held { IsHeld words.now.table_id words.now.key stand.new }
     ensures kept { StaysAt stand.old stand.new }
     ensures sees { SeatSees true Glances component (port_at stand.old) result (port_at stand.new) }
 {
-    let word = stand.base + u64::from(component);
+    let word = base + u64::from(component);
     words.load::<GlanceFirst>(&mut stand.seat, word as usize)
 }
 
-/// Loads the word of a component.
+/// Loads the word of a component. `base` is where the port's arena begins.
 #[inline(always)]
-pub fn glance(words: &Words, stand: &mut Stand, component: u32) -> u64
+pub fn glance(words: &Words, stand: &mut Stand, base: u64, component: u32) -> u64
     requires held { IsHeld words.now.table_id words.now.key stand.old }
+    requires base { base ≡ stand.old.base }
     requires idle { IsIdle stand.old }
     requires inside { component < words.now.key.sizes.m }
     ensures held { IsHeld words.now.table_id words.now.key stand.new }
     ensures kept { StaysAt stand.old stand.new }
     ensures sees { SeatSees false Glances component (port_at stand.old) result (port_at stand.new) }
 {
-    let word = stand.base + u64::from(component);
+    let word = base + u64::from(component);
     words.load::<Glance>(&mut stand.seat, word as usize)
 }
 
 // Collects the words of all positions but the first one, which is kept already.
-fn collect(words: &Words, stand: &mut Stand, which: &[u32], kept: &mut [u64])
+fn collect(words: &Words, stand: &mut Stand, base: u64, which: &[u32], kept: &mut [u64])
     requires held { IsHeld words.now.table_id words.now.key stand.old }
+    requires base { base ≡ stand.old.base }
     requires idle { IsIdle stand.old }
     requires inside { AreInside words.now.key.sizes which.now }
     requires some { 0 < length which.now }
@@ -118,7 +126,7 @@ fn collect(words: &Words, stand: &mut Stand, which: &[u32], kept: &mut [u64])
         which.now kept.new (length which.now) }
 {
     for k in 1..which.len() {
-        kept[k] = glance(words, stand, which[k]);
+        kept[k] = glance(words, stand, base, which[k]);
     }
 }
 
@@ -127,11 +135,13 @@ fn collect(words: &Words, stand: &mut Stand, which: &[u32], kept: &mut [u64])
 fn confirm<G: Together>(
     words: &Words,
     stand: &mut Stand,
+    base: u64,
     which: &[u32],
     kept: &[u64],
     into: &mut [u64],
 ) -> bool
     requires held { IsHeld words.now.table_id words.now.key stand.old }
+    requires base { base ≡ stand.old.base }
     requires idle { IsIdle stand.old }
     requires inside { AreInside words.now.key.sizes which.now }
     requires some { 0 < length which.now }
@@ -148,18 +158,19 @@ fn confirm<G: Together>(
     ensures notes { result ≡ false → (port_at stand.new).notes ≡ (port_at stand.old).notes }
     ensures unchanged { result ≡ false → into.new ≡ into.old }
 {
-    if !collects_again(words, stand, which, kept) {
+    if !collects_again(words, stand, base, which, kept) {
         return false;
     }
     let last = which.len() - 1;
-    load_values(words, stand, which, kept, into);
-    into[last] = load_noting::<G>(words, stand, kept[last]);
+    load_values(words, stand, base, which, kept, into);
+    into[last] = load_noting::<G>(words, stand, base, kept[last]);
     true
 }
 
 // Collects the words of the positions again, up to the first one that isn't the kept one, and says whether there is none.
-fn collects_again(words: &Words, stand: &mut Stand, which: &[u32], kept: &[u64]) -> bool
+fn collects_again(words: &Words, stand: &mut Stand, base: u64, which: &[u32], kept: &[u64]) -> bool
     requires held { IsHeld words.now.table_id words.now.key stand.old }
+    requires base { base ≡ stand.old.base }
     requires idle { IsIdle stand.old }
     requires inside { AreInside words.now.key.sizes which.now }
     requires room { length which.now ≤ length kept.now }
@@ -169,7 +180,7 @@ fn collects_again(words: &Words, stand: &mut Stand, which: &[u32], kept: &[u64])
         (length (port_at stand.new).port.part.seen) which.now kept.now (length which.now) }
 {
     for k in 0..which.len() {
-        if glance(words, stand, which[k]) != kept[k] {
+        if glance(words, stand, base, which[k]) != kept[k] {
             return false;
         }
     }
@@ -177,8 +188,16 @@ fn collects_again(words: &Words, stand: &mut Stand, which: &[u32], kept: &[u64])
 }
 
 // Loads the values of the records that the kept words name, of all positions but the last one.
-fn load_values(words: &Words, stand: &mut Stand, which: &[u32], kept: &[u64], into: &mut [u64])
+fn load_values(
+    words: &Words,
+    stand: &mut Stand,
+    base: u64,
+    which: &[u32],
+    kept: &[u64],
+    into: &mut [u64],
+)
     requires held { IsHeld words.now.table_id words.now.key stand.old }
+    requires base { base ≡ stand.old.base }
     requires stands { (port_at stand.old).port.control.entering ≡ Stands }
     requires inside { AreInside words.now.key.sizes which.now }
     requires some { 0 < length which.now }
@@ -193,14 +212,15 @@ fn load_values(words: &Words, stand: &mut Stand, which: &[u32], kept: &[u64], in
     ensures lengths { length into.new ≡ length into.old }
 {
     for k in 0..which.len() - 1 {
-        into[k] = load_kept(words, stand, kept[k]);
+        into[k] = load_kept(words, stand, base, kept[k]);
     }
 }
 
 // Loads the value of the record that this component word names.
 #[inline(always)]
-fn load_kept(words: &Words, stand: &mut Stand, word: u64) -> u64
+fn load_kept(words: &Words, stand: &mut Stand, base: u64, word: u64) -> u64
     requires held { IsHeld words.now.table_id words.now.key stand.old }
+    requires base { base ≡ stand.old.base }
     requires stands { (port_at stand.old).port.control.entering ≡ Stands }
     requires within { value_word (unsealed word) < total words.now.key.sizes }
     ensures held { IsHeld words.now.table_id words.now.key stand.new }
@@ -208,13 +228,14 @@ fn load_kept(words: &Words, stand: &mut Stand, word: u64) -> u64
     ensures same { port_at stand.new ≡ port_at stand.old }
     ensures value { (j : ℕ) → j < words.now.key.sizes.m → HadValue (port_at stand.old) j word result }
 {
-    let at = stand.base + value_word(word % SEAL);
+    let at = base + value_word(word % SEAL);
     recall(words, stand, at)
 }
 
 // The same, and by this load the port notes the scan `G`.
-fn load_noting<G: Together>(words: &Words, stand: &mut Stand, word: u64) -> u64
+fn load_noting<G: Together>(words: &Words, stand: &mut Stand, base: u64, word: u64) -> u64
     requires held { IsHeld words.now.table_id words.now.key stand.old }
+    requires base { base ≡ stand.old.base }
     requires stands { (port_at stand.old).port.control.entering ≡ Stands }
     requires within { value_word (unsealed word) < total words.now.key.sizes }
     requires may { MayNoteScan G.which G.entries (port_at stand.old) }
@@ -223,6 +244,6 @@ fn load_noting<G: Together>(words: &Words, stand: &mut Stand, word: u64) -> u64
     ensures value { (j : ℕ) → j < words.now.key.sizes.m → HadValue (port_at stand.old) j word result }
     ensures noted { (i : ℕ) × NotesScan G.which G.entries i (port_at stand.old) result (port_at stand.new) }
 {
-    let at = stand.base + value_word(word % SEAL);
+    let at = base + value_word(word % SEAL);
     words.load::<NoteScan<G>>(&mut stand.seat, at as usize)
 }

@@ -24,7 +24,8 @@ pub fn find_value(words: &Words, stand: &mut Stand, component: u32) -> u64
     ensures found { FoundValue stand.new component result }
 {
     let at = find(words, stand, component);
-    load_value(words, stand, component, at)
+    let base = stand.base;
+    load_value(words, stand, base, component, at)
 }
 
 /// The last public stamp of a component, which is sealed.
@@ -40,7 +41,9 @@ pub fn find_stamp(words: &Words, stand: &mut Stand, component: u32) -> u64
     ensures found { FoundStamp stand.new component result }
 {
     let at = find(words, stand, component);
-    public_stamp(words, stand, component, at)
+    let base = stand.base;
+    let own = stand.shape.own;
+    public_stamp(words, stand, base, own, component, at)
 }
 
 // Loads the word of a component, which is sealed: the reference of its last record.

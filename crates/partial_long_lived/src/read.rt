@@ -1,8 +1,11 @@
 //! Reads.
 
 ghost use Rattle.std.specs.Prelude.{◌≡◌, ◌<◌, IfSome, IfNone};
-ghost use Rattle.partial_long_lived.specs.Inner.Held.{IsHeld};
-ghost use Rattle.partial_long_lived.specs.Inner.Calls.{HasCome, HasNotedRead, IsIdle, EpochSettled, StaysAt};
+ghost use Rattle.partial_epochs.specs.Notes.{public_of};
+ghost use Rattle.partial_epochs.specs.Ports.Entering.{Stands};
+ghost use Rattle.partial_long_lived.specs.Rule.{plan_of};
+ghost use Rattle.partial_long_lived.specs.Inner.Held.{IsHeld, port_at};
+ghost use Rattle.partial_long_lived.specs.Inner.Calls.{HasCome, HasLoadedRecord, HasNotedRead, HasValue, IsIdle, EpochSettled, StaysAt};
 ghost use Rattle.partial_long_lived.specs.Inner.Late.{HasFoundSeal};
 ghost use Rattle.partial_long_lived.specs.Inner.Rests.{RestsAt};
 
@@ -37,13 +40,47 @@ pub fn read_here(words: &Words, stand: &mut Stand, component: u32) -> Option<(u6
     ensures read { IfSome result (λ r. HasNotedRead stand.old stand.new component r.0 r.1) }
     ensures sealed { IfNone result (HasFoundSeal component stand.old stand.new) }
 {
-    let found = read_first(words, stand, component);
+    let base = stand.base;
+    let found = read_first(words, stand, base, component);
+    let own = stand.shape.own;
+    // The word of an initial record has no seal, and is told by one comparison.
+    if found < own {
+        return Some(load_record(words, stand, base, own, component, found));
+    }
     if found >= SEAL {
         return None;
     }
-    let value = load_value(words, stand, component, found);
-    let stamp = public_stamp(words, stand, component, found);
-    Some((value, stamp))
+    Some(load_record(words, stand, base, own, component, found))
+}
+
+// Loads the value of the record at `at`, which the port has loaded as that of component `component`, and returns it with
+// the public stamp. `base` is where the port's arena begins, and `own` the word of an arena where the records of an epoch's
+// own do.
+#[inline(always)]
+fn load_record(
+    words: &Words,
+    stand: &mut Stand,
+    base: u64,
+    own: u64,
+    component: u32,
+    at: u64,
+) -> (u64, u64)
+    requires held { IsHeld words.now.table_id words.now.key stand.old }
+    requires base { base ≡ stand.old.base }
+    requires own { own ≡ stand.old.shape.own }
+    requires stands { (port_at stand.old).port.control.entering ≡ Stands }
+    requires inside { component < words.now.key.sizes.m }
+    requires loaded { HasLoadedRecord stand.old component at }
+    requires small { at < 8388608 }
+    ensures held { IsHeld words.now.table_id words.now.key stand.new }
+    ensures kept { StaysAt stand.old stand.new }
+    ensures same { port_at stand.new ≡ port_at stand.old }
+    ensures value { HasValue stand.old component result.0 }
+    ensures stamp { result.1 ≡ public_of (plan_of words.now.key) (port_at stand.old).port.before component at }
+{
+    let value = load_value(words, stand, base, component, at);
+    let stamp = public_stamp(words, stand, base, own, component, at);
+    (value, stamp)
 }
 
 /// Reads component `component`, which the first load of the read has found sealed, in an epoch that was the current one
@@ -68,9 +105,10 @@ pub fn read_late(
 {
     let epoch = stand.epoch;
     settle(words, stand);
+    let base = stand.base;
     let at = read_again(words, stand, component) % SEAL;
-    let value = load_value(words, stand, component, at);
-    let stamp = public_stamp(words, stand, component, at);
+    let own = stand.shape.own;
+    let (value, stamp) = load_record(words, stand, base, own, component, at);
     if stand.epoch != epoch {
         core.clear_marks();
         *spent = false;

@@ -79,7 +79,9 @@ fn load_stamps(words: &Words, stand: &mut Stand, which: &[u32], kept: &[u64], st
     ensures stamps { ArePublic (port_at stand.old) which.now kept.now stamps.new (length which.now) }
     ensures lengths { length stamps.new ≡ length stamps.old }
 {
+    let base = stand.base;
+    let own = stand.shape.own;
     for k in 0..which.len() {
-        stamps[k] = public_stamp(words, stand, which[k], kept[k] % SEAL);
+        stamps[k] = public_stamp(words, stand, base, own, which[k], kept[k] % SEAL);
     }
 }

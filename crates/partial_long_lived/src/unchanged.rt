@@ -57,6 +57,8 @@ fn stamp_now(words: &Words, stand: &mut Stand, component: u32) -> u64
     ensures glanced { HasGlanced stand.old stand.new }
     ensures stamp { HasStamp (port_at stand.new) component result }
 {
-    let found = glance(words, stand, component);
-    public_stamp(words, stand, component, found % SEAL)
+    let base = stand.base;
+    let own = stand.shape.own;
+    let found = glance(words, stand, base, component);
+    public_stamp(words, stand, base, own, component, found % SEAL)
 }

@@ -142,7 +142,9 @@ fn compare(words: &Words, stand: &mut Stand, asked: Asked, first: bool) -> Compa
         return Compared::Sealed;
     }
     let at = found % SEAL;
-    let stamp = public_stamp(words, stand, asked.component, at);
+    let base = stand.base;
+    let own = stand.shape.own;
+    let stamp = public_stamp(words, stand, base, own, asked.component, at);
     if stamp == asked.expected {
         Compared::Same { at }
     } else {
@@ -192,7 +194,7 @@ fn public_outcome(
             stamp: stand.epoch * STAMPS + stamp,
         },
         Exchanged::Overtaken { by } => UpdatedIf::Changed {
-            by: public_stamp(words, stand, component, by),
+            by: public_stamp(words, stand, stand.base, stand.shape.own, component, by),
         },
     }
 }

@@ -1,8 +1,8 @@
-use Rattle.partial_long_lived.proofs.{Common.{◌<◌, length, refl, arith, length-set}, Collects.{collects_one, glanced_by, glanced_idle, glanced_itself, glanced_on}}
+use Rattle.partial_long_lived.proofs.{Common.{◌<◌, length, refl, sym, ◌∙◌, arith, length-set}, Collects.{collects_one, glanced_by, glanced_idle, glanced_itself, glanced_on}}
 use Rattle.partial_long_lived.proofs.double_collect.collect.Goals as goal
 
 pub loop-k-init : goal.loop-k-init
-loop-k-init c = record { held = c.requires.held; glanced = glanced_itself _ _ _ c.requires.held; idle = c.requires.idle; room = refl; collected = c.requires.first }
+loop-k-init c = record { held = c.requires.held; base = c.requires.base; glanced = glanced_itself _ _ _ c.requires.held; idle = c.requires.idle; room = refl; collected = c.requires.first }
 
 pub loop-k-preserved : goal.loop-k-preserved
 loop-k-preserved c =
@@ -15,6 +15,7 @@ loop-k-preserved c =
     let inside : c.loop-k.k < length c.loop-k.kept = omega (arith, less, room, same) in
     let kept = length-set c.loop-k.kept c.loop-k.k c.glance.result in record {
       held = g.held;
+      base = w.base ∙ sym g.kept.base;
       glanced = glanced_on _ _ _ w.glanced step;
       idle = glanced_idle _ _ w.idle step;
       room = omega (arith, kept, same);

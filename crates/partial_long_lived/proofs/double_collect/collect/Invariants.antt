@@ -4,6 +4,7 @@ use Rattle.partial_long_lived.proofs.double_collect.collect.Given as goal
 abbrev pub invariant-loop-k : goal.invariant-loop-k
 invariant-loop-k l = record {
   held : IsHeld l.words.table_id l.words.key l.stand;
+  base : l.base ≡ l.stand.base;
   glanced : HasGlanced l.fn.stand l.stand;
   idle : IsIdle l.stand;
   room : length l.kept ≡ length l.fn.kept;

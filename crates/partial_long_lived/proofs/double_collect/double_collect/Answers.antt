@@ -1,5 +1,11 @@
-use Rattle.partial_long_lived.proofs.{Collects.{glanced_stayed, stayed_on}, DoubleCollect.settled_on, Scans.has_named}
+use Rattle.partial_long_lived.proofs.{Common.{sym, ◌∙◌}, Collects.{glanced_stayed, stayed_on}, DoubleCollect.settled_on, Scans.has_named}
 use Rattle.partial_long_lived.proofs.double_collect.double_collect.Goals as goal
+
+pub collect-requires-clause-base : goal.collect-requires-clause-base
+collect-requires-clause-base c = sym c.begin.ensures.base
+
+pub confirm-requires-clause-base : goal.confirm-requires-clause-base
+confirm-requires-clause-base c = sym (c.collect.ensures.glanced.kept.base ∙ c.begin.ensures.base)
 
 pub returns-clause-stayed : goal.returns-clause-stayed
 returns-clause-stayed c =

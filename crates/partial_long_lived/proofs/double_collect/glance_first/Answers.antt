@@ -6,4 +6,4 @@ load-requires c =
     let h = c.requires.held in
     let is = c.from.ensures in
     let inside : c.from.result < c.args.words.now.key.sizes.m = (let low = c.requires.inside in omega (arith, is, low)) in
-    (h.fits, component_there _ _ _ h _ inside, see_asked _ _ _ h c.requires.idle.stands true Glances _ inside (λ no. absurd no) _ _)
+    rw c.requires.base (h.fits, component_there _ _ _ h _ inside, see_asked _ _ _ h c.requires.idle.stands true Glances _ inside (λ no. absurd no) _ _)

@@ -6,4 +6,4 @@ load-requires g c =
     let h = c.requires.held in
     let within = c.requires.within in
     let at = c.value_word.ensures in
-    (h.fits, arena_there _ _ _ h _ (omega (arith, within, at)), may_note _ _ _ _ h.one h.own h.known c.requires.stands _ _ c.requires.may _)
+    rw c.requires.base (h.fits, arena_there _ _ _ h _ (omega (arith, within, at)), may_note _ _ _ _ h.one h.own h.known c.requires.stands _ _ c.requires.may _)

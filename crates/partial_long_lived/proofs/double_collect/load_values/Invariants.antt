@@ -4,6 +4,7 @@ use Rattle.partial_long_lived.proofs.double_collect.load_values.Given as goal
 abbrev pub invariant-loop-k : goal.invariant-loop-k
 invariant-loop-k l = record {
   held : IsHeld l.words.table_id l.words.key l.stand;
+  base : l.base ≡ l.stand.base;
   kept : StaysAt l.fn.stand l.stand;
   same : port_at l.stand ≡ port_at l.fn.stand;
   many : length l.into ≡ length l.fn.into;
