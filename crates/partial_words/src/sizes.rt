@@ -196,7 +196,7 @@ impl Sizes {
     pub fn greatest_list(&self) -> u32
         ensures { result ≡ greatest_list self.now }
     {
-        self.slots() + 2
+        2 + self.slots()
     }
 
     /// The first pool word.
