@@ -2,5 +2,6 @@
 
 mod announcement;
 mod list;
+mod plain;
 mod record;
 mod sizes;

@@ -1,9 +1,7 @@
 -- What a verb asks to be written is told by the plan's text.
-use Rattle.partial_cmd.proofs.Common.{ℕ, ◌≡◌, ◌≢◌, List, Ok, refl, sym, ◌∙◌, ap, subst, Opening, Outcome, outcome_text, PlanView, IsPlan, plan_text, judged_again, Verb, VerbWrites, PlansHaveOneAnswer}
-use Rattle.partial_model.specs.declared.call.Called.{Called}
-use Rattle.partial_model.specs.declared.history.Applied.{Applied}
+use Rattle.partial_cmd.proofs.Common.{ℕ, ◌≡◌, ◌≢◌, List, Ok, refl, sym, ◌∙◌, ap, subst, outcome_text, PlanView, IsPlan, plan_text, judged_again, Verb, VerbWrites, PlansHaveOneAnswer}
 use Rattle.partial_text.specs.Judging.{judged_plan}
-use Rattle.partial_replay.specs.OneOutcome.{TellTheSame}
+use Rattle.partial_replay.specs.Replayed.{OutcomeView}
 use Rattle.partial_replay.proofs.Laws.{plans_have_one_outcome}
 
 -- two plans of one text are the same
@@ -12,16 +10,12 @@ same_plan p q a b same =
     let both : Ok p ≡ Ok q = sym (judged_again p a) ∙ ap judged_plan same ∙ judged_again q b in
     cc
 
--- two outcomes of a plan have one text
-same_text : (a b : Outcome) → TellTheSame a b → outcome_text a.opening a.history.items a.calls.items a.steps ≡ outcome_text b.opening b.history.items b.calls.items b.steps
-same_text a b t =
-    ap (λ (o : Opening). outcome_text o a.history.items a.calls.items a.steps) t.opening
-    ∙ ap (λ (h : List Applied). outcome_text b.opening h a.calls.items a.steps) t.history
-    ∙ ap (λ (l : List Called). outcome_text b.opening b.history.items l a.steps) t.calls
-    ∙ ap (outcome_text b.opening b.history.items b.calls.items) t.steps
+-- the text of an outcome
+abbrev text_of : OutcomeView → List ℕ
+text_of o = outcome_text o.opening o.history o.calls o.steps
 
 same_answer : (v : Verb) (p : PlanView) (a b : List ℕ) → v ≢ Verb.Run → VerbWrites v p a → VerbWrites v p b → a ≡ b
-same_answer Verb.Replay p a b other x y = x.2 ∙ same_text (x.0) (y.0) (plans_have_one_outcome p (x.0) (y.0) x.1 y.1) ∙ sym y.2
+same_answer Verb.Replay p a b other x y = x.2 ∙ ap text_of (plans_have_one_outcome p (x.0) (y.0) x.1 y.1) ∙ sym y.2
 same_answer Verb.Check p a b other x y = x.2 ∙ sym y.2
 same_answer Verb.Run p a b other x y = absurd (other refl)
 

@@ -5,12 +5,11 @@ use Rattle.partial_text.specs.declared.fault.Cause.{Cause}
 use Rattle.partial_text.specs.declared.fault.PlanError.{PlanError}
 use Rattle.partial_text.specs.declared.fault.OutcomeError.{OutcomeError}
 use Rattle.partial_text.specs.Fault as text
-use Rattle.partial_text.specs.declared.outcome.Outcome.{Outcome}
 use Rattle.partial_text.specs.PlanText.{PlanView, IsPlan, plan_text}
 use Rattle.partial_text.specs.OutcomeText.{outcome_text}
 use Rattle.partial_text.specs.ReportText.{report_text}
 use Rattle.partial_text.specs.declared.report.RunReport.{RunReport}
-use Rattle.partial_replay.specs.Replayed.{IsReplayOf}
+use Rattle.partial_replay.specs.Replayed.{IsReplayOf, OutcomeView}
 use Rattle.partial_cmd.specs.Reports.{IsReportOf}
 use Rattle.partial_cmd.specs.declared.fault.Fault.{Fault}
 use Rattle.partial_cmd.specs.declared.command.Verb.{Verb}
@@ -67,9 +66,9 @@ pub record IsTextOf (text : Option (List ℕ)) (p : PlanView) : Type 0 where
 -- What a verb asks to be written of a plan: of an outcome of its replay its text or that it is lawful, and of a run its report.
 abbrev pub VerbWrites : Verb → PlanView → List ℕ → Type 0
 VerbWrites Verb.Replay p answer =
-    (outcome : Outcome) × IsReplayOf p outcome
-    × (answer ≡ outcome_text outcome.opening outcome.history.items outcome.calls.items outcome.steps)
-VerbWrites Verb.Check p answer = (outcome : Outcome) × IsReplayOf p outcome × (answer ≡ codes "lawful" ++ 10 ∷ [])
+    (outcome : OutcomeView) × IsReplayOf p outcome
+    × (answer ≡ outcome_text outcome.opening outcome.history outcome.calls outcome.steps)
+VerbWrites Verb.Check p answer = (outcome : OutcomeView) × IsReplayOf p outcome × (answer ≡ codes "lawful" ++ 10 ∷ [])
 VerbWrites Verb.Run p answer =
     (report : RunReport) × IsReportOf p report × (answer ≡ report_text report.answers.items report.values.items)
 

@@ -8,7 +8,7 @@ ghost use Rattle.partial_cmd.specs.Execution.{VerbWrites, IsBehindReading, IsJud
 use crate::fault::Fault;
 use crate::workers::run_workers;
 use partial_model::Checker;
-use partial_replay::{Device, Plan, replay, write_outcome};
+use partial_replay::{Device, Plan, replay_apart, write_outcome};
 use partial_text::{write_report, write_text};
 use partial_workers::NoGate;
 use std::alloc::Global;
@@ -98,12 +98,12 @@ fn write_answer<H: Threads + Wait + Sync, W: Write>(
 {
     match verb {
         Verb::Replay => {
-            let outcome = replay(alloc, plan)?;
+            let (outcome, _) = replay_apart(alloc, plan)?;
             write_outcome(alloc, &outcome, out)?;
             Ok(Verdict::Done)
         }
         Verb::Check => {
-            let outcome = replay(alloc, plan)?;
+            let (outcome, _) = replay_apart(alloc, plan)?;
             let checker = Checker::new(alloc, &outcome.opening, &outcome.history)?;
             if checker.check(&outcome.calls) {
                 write_text(b"lawful\n", out)?;

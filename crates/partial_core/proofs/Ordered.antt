@@ -49,12 +49,6 @@ elsewhere words (Store m v) n other = get_or-set_other words m n v 0 other
 elsewhere words (Exchange m old new) n other = get_or-set_other words m n (if slice_index words m == old then new else slice_index words m) 0 other
 elsewhere words (Add m k) n other = get_or-set_other words m n _ 0 other
 
-pub same_long : (words : List ℕ) (step : Step) → length (words_after words step) ≡ length words
-same_long words (Load m) = refl
-same_long words (Store m v) = length-set words m v
-same_long words (Exchange m old new) = length-set words m (if slice_index words m == old then new else slice_index words m)
-same_long words (Add m k) = length-set words m _
-
 -- a slot that was EMPTY, and one that held a reference, in orderly words
 module _ (z : Layout) (words later : List ℕ) (l : ℕ) (below : l < z.slots) where
   joins : Orderly z later → slot_at z words l ≡ 0 → 1 < slot_at z later l → IsSlotMove z words later l

@@ -1,5 +1,6 @@
 -- The blocks that lawful words publish: none of their words changes behind any step, and so each step is an orderly event.
-use Rattle.partial_core.proofs.{Common.{ℕ, ◌≡◌, ◌+◌, ◌<◌, ◌≤◌, Some, List, [], ◌∷◌, length, inl, inr, sym, subst, ◌∙◌, arith, Ranges, Applied, Opening, Step, Layout, list_base, total, StandsAt, words_after, announcement_block, announcement_size, list_block, list_reads_back, length-pairs, IsAnnouncement, IsVacatedList, Publishes, slot_at, head_at, AtSome, IsOrderlyEvent, IsAnnounced, IsPublishedList, IsHead, Holding, unpublished, LawfulWords, IsSlotAnswer, IsPublished, announcement_claimed, list_claimed, block_published, CoreState, step_of, IsMachineOf, holdings, LeadsOn, StepsAreOrderly, PartAmong, LawfulAmong, all_parts, memory_after}, AllSteps.steps_stay_lawful, Ordered.{slot_now, lawful_is_orderly, same_long, steps_move_slots}}
+use Rattle.partial_core.proofs.{Common.{ℕ, ◌≡◌, ◌+◌, ◌<◌, ◌≤◌, Some, List, [], ◌∷◌, length, inl, inr, sym, subst, ◌∙◌, arith, Ranges, Applied, Opening, Step, Layout, list_base, total, StandsAt, words_after, announcement_block, announcement_size, list_block, list_reads_back, length-pairs, IsAnnouncement, IsVacatedList, Publishes, slot_at, head_at, AtSome, IsOrderlyEvent, IsAnnounced, IsPublishedList, IsHead, Holding, unpublished, LawfulWords, IsSlotAnswer, IsPublished, announcement_claimed, list_claimed, block_published, CoreState, step_of, IsMachineOf, holdings, LeadsOn, StepsAreOrderly, PartAmong, LawfulAmong, all_parts, memory_after}, AllSteps.steps_stay_lawful, Ordered.{slot_now, lawful_is_orderly, steps_move_slots}}
+use Rattle.partial_words.proofs.PlainLemmas.{same_long}
 use Rattle.partial_active.proofs.Indices.{same_named}
 
 -- so many words from that one on are published for ever

@@ -3,6 +3,7 @@ use Rattle.partial_memory.proofs.Common.{ℕ, zero, suc, ◌≡◌, ◌-◌, ◌
 use Rattle.std.specs.Option.{option_map_or}
 use Rattle.partial_model.proofs.HistoryLemmas.{behind_both}
 use Rattle.partial_model.specs.History.{IsHistory, last_from, last_entry, value_of}
+use Rattle.partial_words.proofs.PlainLemmas.{zeros_behind}
 
 -- values to which zeros were added
 pub grown_is_extended : (m n : ℕ) (all old values : List ℕ) → all ≡ take m old ++ replicate (m - n) 0 → old ≡ values → n ≡ length values → length values ≤ m → all ≡ extended_values m values
@@ -24,17 +25,6 @@ none_there m j [] past all = refl
 none_there m j (e ∷ log) past all =
     let other : e.component ≡ j → ⊥ = λ same. absurd (omega (arith, past, all.0, same)) in
     ap (λ (b : Bool). last_from (if b then Some e else None) j log) (ne_eqb e.component j other) ∙ none_there m j log past all.1
-
--- zeros behind a list change no element of it that is asked for, since one that isn't there counts as 0
-zeros : (k j : ℕ) → ◌≡◌ {A = ℕ} (slice_index (replicate k 0) j) 0
-zeros zero j = refl
-zeros (suc k) zero = refl
-zeros (suc k) (suc j) = zeros k j
-
-zeros_behind : (values : List ℕ) (k j : ℕ) → slice_index (values ++ replicate k 0) j ≡ slice_index values j
-zeros_behind [] k j = zeros k j
-zeros_behind (v ∷ values) k zero = refl
-zeros_behind (v ∷ values) k (suc j) = zeros_behind values k j
 
 -- the value of each component when the memory was closed
 closed_value : (values : List ℕ) (o : Opening) (log : List Applied) → IsHistory o log → AreValues o log (length o.values) values → (j : ℕ) → slice_index values j ≡ value_of o log j

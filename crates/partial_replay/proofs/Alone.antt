@@ -215,5 +215,5 @@ first_none (c ∷ cs) w = let bad : c.call ∷ map (λ (d : Called). d.call) cs 
 
 pub one_port_is_alone : OnePortIsAlone
 one_port_is_alone p outcome one w =
-    calls_alone outcome.opening outcome.history.items outcome.calls.items w.legal
-    (λ q some. first_none (calls_by q outcome.calls.items) (subst (λ (l : List Call). AreFirstOf l (calls_by q outcome.calls.items)) (past_get p.ports q [] (omega (arith, one, some))) (w.calls q)))
+    calls_alone outcome.opening outcome.history outcome.calls w.legal
+    (λ q some. first_none (calls_by q outcome.calls) (subst (λ (l : List Call). AreFirstOf l (calls_by q outcome.calls)) (past_get p.ports q [] (omega (arith, one, some))) (w.calls q)))

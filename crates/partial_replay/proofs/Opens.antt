@@ -89,10 +89,10 @@ fresh_turned z ports w q calls port t =
 
 -- a replay opens lawful
 pub opens_run : (plans : List (List Call)) (s : ReplayState) → IsLayout s.sizes → length s.opening.values ≡ s.sizes.m → s.opening.first ≡ pool_base s.sizes →
-    AreOpeningWords s.sizes s.opening.values s.memory.words.items → s.memory.history.items ≡ [] → s.memory.trace.items ≡ [] → length plans ≤ 64 → AreFreshPorts s.sizes (length plans) s.ports →
+    AreOpeningWords s.sizes s.opening.values s.memory.words → s.memory.history.items ≡ [] → s.memory.trace.items ≡ [] → length plans ≤ 64 → AreFreshPorts s.sizes (length plans) s.ports →
     IsRunOf plans s
 opens_run plans s sizes values first opening empty none few fresh =
-    let words = s.memory.words.items in
+    let words = s.memory.words in
     let parts = fresh_parts s.sizes 0 (length plans) in
     record {
       parts = parts;

@@ -439,18 +439,18 @@ answer_idle s (Reply.Changed by) = refl
 
 -- a step that ends its call
 pub step_ended : (calls : List Call) (old now : Memory) (port new : Port) (step : Step) (way : UnderWay) (a : ℕ) (core' core'' : CoreState) (r : Reply) (call : Call) (called : Called) →
-    step_of port.core ≡ Some step → port.under_way ≡ Some way → IsPossible port.core (answer_of old.words.items step) → a ≡ answer_of old.words.items step →
-    now.words.items ≡ words_after old.words.items step → now.trace.items ≡ old.trace.items ++ record { port = port.number; step = step; answer = a } ∷ [] →
-    now.history.items ≡ old.history.items ++ entry_at port.core.sizes.m now.words.items port.number step a → core' ≡ advance port.core a → steps_left core' < steps_left port.core →
+    step_of port.core ≡ Some step → port.under_way ≡ Some way → IsPossible port.core (answer_of old.words step) → a ≡ answer_of old.words step →
+    now.words ≡ words_after old.words step → now.trace.items ≡ old.trace.items ++ record { port = port.number; step = step; answer = a } ∷ [] →
+    now.history.items ≡ old.history.items ++ entry_at port.core.sizes.m now.words port.number step a → core' ≡ advance port.core a → steps_left core' < steps_left port.core →
     reply_of core' ≡ Some r → core'' ≡ at_stage core' Idle → slice_get calls (length port.finished.items) ≡ Some call →
-    IsEndedCall port.number (length port.finished.items) call (one_step_more way) now.words.items now.history.items (answer_for core' r) called → new.number ≡ port.number → new.core ≡ core'' →
+    IsEndedCall port.number (length port.finished.items) call (one_step_more way) now.words now.history.items (answer_for core' r) called → new.number ≡ port.number → new.core ≡ core'' →
     new.under_way ≡ None → new.finished.items ≡ port.finished.items ++ called ∷ [] → StepMade calls old now port new
 step_ended calls old now port new step way a core' core'' r call called due was possible answer words_are trace_is log_is core falls replied taken next ended number machine none finished =
     let moved : core' ≡ core_behind old step port = core ∙ ap (advance port.core) answer in
     let reply' : reply_of (core_behind old step port) ≡ Some r = ap reply_of (sym moved) ∙ replied in
-    let ended' : IsEndedCall port.number (length port.finished.items) call (one_step_more way) now.words.items now.history.items (answer_for (core_behind old step port) r) called =
-    subst (λ (s : CoreState). IsEndedCall port.number (length port.finished.items) call (one_step_more way) now.words.items now.history.items (answer_for s r) called) moved ended in
-    let after : Ends calls now.words.items now.history.items port new way (core_behind old step port) r = record {
+    let ended' : IsEndedCall port.number (length port.finished.items) call (one_step_more way) now.words now.history.items (answer_for (core_behind old step port) r) called =
+    subst (λ (s : CoreState). IsEndedCall port.number (length port.finished.items) call (one_step_more way) now.words now.history.items (answer_for s r) called) moved ended in
+    let after : Ends calls now.words now.history.items port new way (core_behind old step port) r = record {
       machine = machine ∙ taken ∙ ap (λ (s : CoreState). at_stage s Idle) moved;
       none = none;
       call = call;
@@ -467,19 +467,19 @@ step_ended calls old now port new step way a core' core'' r call called due was 
       possible = possible;
       words_are = words_are;
       trace_is = trace_is ∙ ap (λ n. old.trace.items ++ record { port = port.number; step = step; answer = n } ∷ []) answer;
-      log_is = log_is ∙ ap (λ n. old.history.items ++ entry_at port.core.sizes.m now.words.items port.number step n) answer;
+      log_is = log_is ∙ ap (λ n. old.history.items ++ entry_at port.core.sizes.m now.words port.number step n) answer;
       number = number;
       falls = subst (λ (s : CoreState). steps_left s < steps_left port.core) moved falls;
       after = subst (λ (f : Option Reply). MatchOption f (CallGoesOn port new way (core_behind old step port))
-          (Ends calls now.words.items now.history.items port new way (core_behind old step port))) (sym reply') after;
+          (Ends calls now.words now.history.items port new way (core_behind old step port))) (sym reply') after;
     }
 
 -- a step's call goes on, or it ends
 pub step_cases : {calls : List Call} {old now : Memory} {port new : Port} (m : StepMade calls old now port new) (P : Type 0) → (CallGoesOn port new m.way (core_behind old m.step port) → P) →
-    ((r : Reply) → reply_of (core_behind old m.step port) ≡ Some r → Ends calls now.words.items now.history.items port new m.way (core_behind old m.step port) r → P) → P
+    ((r : Reply) → reply_of (core_behind old m.step port) ≡ Some r → Ends calls now.words now.history.items port new m.way (core_behind old m.step port) r → P) → P
 step_cases {calls} {old} {now} {port} {new} m P goes ends = at (reply_of (core_behind old m.step port)) refl m.after
   where
     at : (found : Option Reply) → reply_of (core_behind old m.step port) ≡ found → MatchOption found (CallGoesOn port new m.way (core_behind old m.step port))
-        (Ends calls now.words.items now.history.items port new m.way (core_behind old m.step port)) → P
+        (Ends calls now.words now.history.items port new m.way (core_behind old m.step port)) → P
     at None is g = goes g
     at (Some r) is e = ends r is e

@@ -125,7 +125,7 @@ module _ {z : Layout} {calls : List Call} {p : ℕ} {xs : List Moment} {old now 
             (sym g.way') going;
       }
 
-  ends_made : (r : Reply) → reply_of last ≡ Some r → Ends calls now.words.items now.history.items port new m.way last r → PortMade z (length now.history.items) calls p (xs ++ x ∷ []) new
+  ends_made : (r : Reply) → reply_of last ≡ Some r → Ends calls now.words now.history.items port new m.way last r → PortMade z (length now.history.items) calls p (xs ++ x ∷ []) new
   ends_made r replied e =
       let nil : List Moment = [] in
       let c = ended_call port.number (length port.finished.items) e.call (one_step_more m.way) (length now.history.items) (answer_for last r) e.note in

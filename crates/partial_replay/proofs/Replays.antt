@@ -1,5 +1,5 @@
 -- What a replay has come to is an outcome of its plan.
-use Rattle.partial_replay.proofs.{Common.{ℕ, Bool, true, false, if◌then◌else◌, zero, suc, ◌⊎◌, ◌≡◌, ◌<◌, ◌≤◌, ◌==◌, List, [], ◌∷◌, length, map, take, slice_index_or, Some, slice_get, refl, sym, ◌∙◌, ap, subst, inl, inr, arith, filter_map, sum_by, AllByRecursion, get_or_from_slice_get, Applied, Opening, Call, Called, LegalOutcome, Event, Layout, pool_base, record_value, Leads, Agrees, AreOpeningWords, sum_by-cons, PlanView, CoreState, fresh, AreStepsOf, most_steps, Port, Run, HasLeastPlace, event_entry, moments_from, moments_by, ports_of, events_in, turns_of, turns_by, ports_in, lengths_in, BeginInTurns, calls_by, steps_by, AreFirstOf, AreAllMade, EndInStep, HaveMade, AreFew, IsReplayOf, turn_lengths, AreStarted, IsRunOf, TellsOutcome, calls_in, StopsAtStep, StopAtSteps, IsPortDone, BeganInTurns, lengths_so_far, lawful_ports_fit, place_below, Outcome, ReplayState, PortAt, HasReplayed}, PortSteps.{ending_begun, steps_begun, events_steps, none_moments}, RunLaws.PartAt, RunSteps.{ports_length, part_at}, LegalOutcomes.{begun_by, few_told, least_told, run_legal, listed_at, none_listed, first_begun, all_made}, TurnLaws.{follows_ports, turns_told}, TurnLengths.lengths_same, PortTurns.turns_over, Traces.entries_told}
+use Rattle.partial_replay.proofs.{Common.{ℕ, Bool, true, false, if◌then◌else◌, zero, suc, ◌⊎◌, ◌≡◌, ◌<◌, ◌≤◌, ◌==◌, List, [], ◌∷◌, length, map, take, slice_index_or, Some, slice_get, refl, sym, ◌∙◌, ap, subst, inl, inr, arith, filter_map, sum_by, AllByRecursion, get_or_from_slice_get, Applied, Opening, Call, Called, LegalOutcome, Event, Layout, pool_base, record_value, Leads, Agrees, AreOpeningWords, sum_by-cons, PlanView, CoreState, fresh, AreStepsOf, most_steps, Port, Run, HasLeastPlace, event_entry, moments_from, moments_by, ports_of, events_in, turns_of, turns_by, ports_in, lengths_in, BeginInTurns, calls_by, steps_by, AreFirstOf, AreAllMade, EndInStep, HaveMade, AreFew, IsReplayOf, turn_lengths, AreStarted, IsRunOf, TellsOutcome, calls_in, StopsAtStep, StopAtSteps, IsPortDone, BeganInTurns, lengths_so_far, lawful_ports_fit, place_below, OutcomeView, ReplayState, PortAt, HasReplayed}, PortSteps.{ending_begun, steps_begun, events_steps, none_moments}, RunLaws.PartAt, RunSteps.{ports_length, part_at}, LegalOutcomes.{begun_by, few_told, least_told, run_legal, listed_at, none_listed, first_begun, all_made}, TurnLaws.{follows_ports, turns_told}, TurnLengths.lengths_same, PortTurns.turns_over, Traces.entries_told}
 
 -- a place of a list is in it or behind it
 pub at_place : {A : Type 0} (xs : List A) (i : ℕ) → ((x : A) × (slice_get xs i ≡ Some x)) ⊎ (length xs ≤ i)
@@ -121,7 +121,7 @@ calls_wait z false turns plan cs few first less made =
     made.2 (omega (arith, steps, front, all, less))
 
 -- a run that has come to its end tells an outcome of its plan
-pub replay_told : (p : PlanView) (run : Run) (outcome : Outcome) → HasReplayed p p.ports (turns_of p) run → (p.rest ≡ false → StopAtSteps p.steps run) → TellsOutcome p.ports run outcome →
+pub replay_told : (p : PlanView) (run : Run) (outcome : OutcomeView) → HasReplayed p p.ports (turns_of p) run → (p.rest ≡ false → StopAtSteps p.steps run) → TellsOutcome p.ports run outcome →
     IsReplayOf p outcome
 replay_told p run outcome replayed ends t =
     let w = replayed.between.replay.state in
@@ -130,15 +130,15 @@ replay_told p run outcome replayed ends t =
     let f = replayed.made in
     let z = run.memory.sizes in
     let o = run.opening in
-    let legal : LegalOutcome outcome.opening outcome.history.items outcome.calls.items =
-    subst (λ (h : List Applied). LegalOutcome outcome.opening h outcome.calls.items) (sym t.history)
+    let legal : LegalOutcome outcome.opening outcome.history outcome.calls =
+    subst (λ (h : List Applied). LegalOutcome outcome.opening h outcome.calls) (sym t.history)
     (subst (λ (l : List Called). LegalOutcome outcome.opening run.memory.history.items l) (sym t.calls)
     (subst (λ (v : Opening). LegalOutcome v run.memory.history.items (calls_in p.ports run.ports.items)) (sym t.opening)
     (run_legal w))) in
-    let agrees : Agrees outcome.opening outcome.words.items outcome.history.items =
-    subst (λ (h : List Applied). Agrees outcome.opening outcome.words.items h) (sym t.history)
+    let agrees : Agrees outcome.opening outcome.words outcome.history =
+    subst (λ (h : List Applied). Agrees outcome.opening outcome.words h) (sym t.history)
     (subst (λ (ws : List ℕ). Agrees outcome.opening ws run.memory.history.items) (sym t.words)
-    (subst (λ (v : Opening). Agrees v run.memory.words.items run.memory.history.items) (sym t.opening) w.lawful.memory.agrees)) in
+    (subst (λ (v : Opening). Agrees v run.memory.words run.memory.history.items) (sym t.opening) w.lawful.memory.agrees)) in
     let D = IsPortDone p.ports run.ports.items in
     let calls = calls_in p.ports run.ports.items in
     let ports = ports_of run.memory.trace.items in
@@ -150,45 +150,45 @@ replay_told p run outcome replayed ends t =
     subst (λ n. HaveMade p.rest (turns_by q p.steps) n (slice_index_or p.ports q []) (calls_by q calls)) (sym (steps q))
     (turns_told D p ports q (calls_by q calls) (done_told w q) (past_told w q) (ending q) f) in
     let turns : ports ≡ ports_in (turns_of p) (λ q. steps_by q calls) = follows_ports D (turns_of p) ports (λ q. steps_by q calls) steps f in
-    let entries = entries_told z.m o run.memory.words.items run.memory.trace.items run.memory.history.items w.lawful.memory.history w.lawful.memory.agrees w.entries in
-    let firsts : (q : ℕ) → AreFirstOf (slice_index_or p.ports q []) (calls_by q outcome.calls.items) = λ q. subst (λ (l : List Called). AreFirstOf (slice_index_or p.ports q []) (calls_by q l)) (sym t.calls)
+    let entries = entries_told z.m o run.memory.words run.memory.trace.items run.memory.history.items w.lawful.memory.history w.lawful.memory.agrees w.entries in
+    let firsts : (q : ℕ) → AreFirstOf (slice_index_or p.ports q []) (calls_by q outcome.calls) = λ q. subst (λ (l : List Called). AreFirstOf (slice_index_or p.ports q []) (calls_by q l)) (sym t.calls)
     (calls_told w q) in
-    let all_made : (q : ℕ) → HaveMade p.rest (turns_by q p.steps) (steps_by q outcome.calls.items) (slice_index_or p.ports q []) (calls_by q outcome.calls.items) =
+    let all_made : (q : ℕ) → HaveMade p.rest (turns_by q p.steps) (steps_by q outcome.calls) (slice_index_or p.ports q []) (calls_by q outcome.calls) =
     λ q. subst (λ (l : List Called). HaveMade p.rest (turns_by q p.steps) (steps_by q l) (slice_index_or p.ports q []) (calls_by q l)) (sym t.calls) (made q) in
     let lengths : (q : ℕ) → lengths_so_far q (turns_of p) run ≡ turn_lengths p outcome q = λ q.
     lengths_same q (turns_of p) (λ r. events_in r ports) (λ r. steps_by r calls) 0 (moments_from z.m 0 run.memory.trace.items) (λ r. sym (steps r))
     ∙ ap (λ (l : List Called). lengths_in q (turns_of p) (λ r. steps_by r l) 0 (moments_from z.m 0 run.memory.trace.items)) (sym t.calls)
-    ∙ ap (λ (es : List Event). lengths_in q (turns_of p) (λ r. steps_by r outcome.calls.items) 0 (moments_from z.m 0 es)) (sym t.trace)
-    ∙ ap (λ (y : Layout). lengths_in q (turns_of p) (λ r. steps_by r outcome.calls.items) 0 (moments_from y.m 0 outcome.trace.items)) sizes in
-    let begins : (q : ℕ) → BeginInTurns (turn_lengths p outcome q) 0 (calls_by q outcome.calls.items) = λ q.
+    ∙ ap (λ (es : List Event). lengths_in q (turns_of p) (λ r. steps_by r outcome.calls) 0 (moments_from z.m 0 es)) (sym t.trace)
+    ∙ ap (λ (y : Layout). lengths_in q (turns_of p) (λ r. steps_by r outcome.calls) 0 (moments_from y.m 0 outcome.trace)) sizes in
+    let begins : (q : ℕ) → BeginInTurns (turn_lengths p outcome q) 0 (calls_by q outcome.calls) = λ q.
     subst (λ (l : List Called). BeginInTurns (turn_lengths p outcome q) 0 (calls_by q l)) (sym t.calls)
     (subst (λ (l : List ℕ). BeginInTurns l 0 (calls_by q calls)) (lengths q)
     (begins_told w q (lengths_so_far q (turns_of p) run) (replayed.begun q))) in
-    let few : AreFew p.sizes outcome.calls.items = subst (λ (y : Layout). AreFew y outcome.calls.items) sizes
+    let few : AreFew p.sizes outcome.calls = subst (λ (y : Layout). AreFew y outcome.calls) sizes
     (subst (AreFew z) (sym t.calls) (few_told z w.fit
-    (lawful_ports_fit z o run.memory.words.items w.parts run.memory.history.items w.lawful).sizes)) in
+    (lawful_ports_fit z o run.memory.words w.parts run.memory.history.items w.lawful).sizes)) in
     record {
       values = ap (λ (v : Opening). v.values) t.opening ∙ replayed.values;
       first = ap (λ (v : Opening). v.first) t.opening ∙ w.lawful.memory.stamps ∙ ap pool_base sizes;
       legal = legal;
       agrees = agrees;
-      places = subst (λ (v : Opening). AllByRecursion (HasLeastPlace v outcome.history.items) outcome.calls.items) (sym t.opening)
-          (subst (λ (h : List Applied). AllByRecursion (HasLeastPlace o h) outcome.calls.items) (sym t.history)
+      places = subst (λ (v : Opening). AllByRecursion (HasLeastPlace v outcome.history) outcome.calls) (sym t.opening)
+          (subst (λ (h : List Applied). AllByRecursion (HasLeastPlace o h) outcome.calls) (sym t.history)
           (subst (AllByRecursion (HasLeastPlace o run.memory.history.items)) (sym t.calls) (least_told w.fit)));
       calls = firsts;
       opened = w.opened;
       opens = subst (λ (l : Layout). AreOpeningWords l p.initial w.opened) sizes (subst (λ (l : List ℕ). AreOpeningWords z l w.opened) replayed.values w.opens);
-      leads = subst (λ (es : List Event). Leads w.opened es outcome.words.items) (sym t.trace) (subst (λ (ws : List ℕ). Leads w.opened run.memory.trace.items ws) (sym t.words) w.leads);
+      leads = subst (λ (es : List Event). Leads w.opened es outcome.words) (sym t.trace) (subst (λ (ws : List ℕ). Leads w.opened run.memory.trace.items ws) (sym t.words) w.leads);
       steps = t.steps ∙ ap length (sym t.trace);
-      entries = t.history ∙ entries ∙ ap (λ (l : Layout). filter_map (event_entry l.m (record_value run.memory.words.items)) run.memory.trace.items) sizes ∙
+      entries = t.history ∙ entries ∙ ap (λ (l : Layout). filter_map (event_entry l.m (record_value run.memory.words)) run.memory.trace.items) sizes ∙
           ap (λ (ws : List ℕ). filter_map (event_entry p.sizes.m (record_value ws)) run.memory.trace.items) (sym t.words) ∙
-          ap (filter_map (event_entry p.sizes.m (record_value outcome.words.items))) (sym t.trace);
-      events = λ q. subst (λ (l : Layout). (last : CoreState) × AreStepsOf (fresh l q) (calls_by q outcome.calls.items) (moments_by l.m q outcome.trace.items) last) sizes
-          (subst (λ (es : List Event). (last : CoreState) × AreStepsOf (fresh z q) (calls_by q outcome.calls.items) (moments_by z.m q es) last) (sym t.trace)
+          ap (filter_map (event_entry p.sizes.m (record_value outcome.words))) (sym t.trace);
+      events = λ q. subst (λ (l : Layout). (last : CoreState) × AreStepsOf (fresh l q) (calls_by q outcome.calls) (moments_by l.m q outcome.trace) last) sizes
+          (subst (λ (es : List Event). (last : CoreState) × AreStepsOf (fresh z q) (calls_by q outcome.calls) (moments_by z.m q es) last) (sym t.trace)
           (subst (λ (l : List Called). (last : CoreState) × AreStepsOf (fresh z q) (calls_by q l) (moments_by z.m q run.memory.trace.items) last) (sym t.calls) (events q)));
       turns = ap ports_of t.trace ∙ turns ∙ ap (λ (l : List Called). ports_in (turns_of p) (λ q. steps_by q l)) (sym t.calls);
       begins = begins;
       few = few;
-      waits = λ q less. calls_wait p.sizes p.rest (turns_by q p.steps) (slice_index_or p.ports q []) (calls_by q outcome.calls.items) (few_by p.sizes q outcome.calls.items few) (firsts q) less (all_made q);
+      waits = λ q less. calls_wait p.sizes p.rest (turns_by q p.steps) (slice_index_or p.ports q []) (calls_by q outcome.calls) (few_by p.sizes q outcome.calls few) (firsts q) less (all_made q);
       made = all_made;
     }

@@ -44,7 +44,7 @@ scan_values o h p m (Call.UpdateIf j x v) vs k b n fits is = absurd is
 
 -- the memory of a replay, with a port's part between those of the others
 abbrev pub among : ReplayState → List Part → Part → List Part → PartAmong
-among s before x after = record { words = s.memory.words.items; before = before; part = x; after = after; log = s.memory.history.items }
+among s before x after = record { words = s.memory.words; before = before; part = x; after = after; log = s.memory.history.items }
 
 -- a port of a run, with its part among those of the others, and with another state of it in its place
 pub record PartAt (plans : List (List Call)) (s : ReplayState) (p : ℕ) (calls : List Call) (port : Port) : Type 0 where
@@ -63,7 +63,7 @@ module _ {plans : List (List Call)} {s : ReplayState} {p : ℕ} {calls : List Ca
   open at use {x, fits as w}
 
   abbrev words : List ℕ
-  words = s.memory.words.items
+  words = s.memory.words
 
   abbrev log : List Applied
   log = s.memory.history.items

@@ -84,7 +84,7 @@ part_at {plans} {s} {p} {calls} {port} w here =
       before = at.before;
       x = at.x;
       after = at.after;
-      lawful = subst (λ (l : List Part). Lawful s.sizes s.opening s.memory.words.items l s.memory.history.items) at.is w.lawful;
+      lawful = subst (λ (l : List Part). Lawful s.sizes s.opening s.memory.words l s.memory.history.items) at.is w.lawful;
       fits = at.fits;
       replace = at.replace;
     }
@@ -150,10 +150,10 @@ last_of P (y ∷ ys) x all = last_of P ys x all.1
 
 -- the same of a port's due step
 due_adds : {plans : List (List Call)} {s : ReplayState} {p : ℕ} {calls : List Call} {port : Port} {way : UnderWay} (at : PartAt plans s p calls port) → port.under_way ≡ Some way → (step : Step) →
-    step_of port.core ≡ Some step → StepAdds s.sizes port.core.sizes.m s.memory.words.items step port.number
+    step_of port.core ≡ Some step → StepAdds s.sizes port.core.sizes.m s.memory.words step port.number
 due_adds {s} {port} at was step due =
     let z = s.sizes in
-    let words = s.memory.words.items in
+    let words = s.memory.words in
     let log = s.memory.history.items in
     let l = leads at was step due in
     let own : StepAdds z z.m words step (port_of at.x) = adds z words (port_of at.x) step l.publishes (λ e is.
@@ -191,7 +191,7 @@ pub may_step : {plans : List (List Call)} {s : ReplayState} {p : ℕ} {calls : L
     PortAt plans s.ports p calls port → port.under_way ≡ Some way → MayStep calls s.memory port
 may_step {plans} {s} {p} {calls} {port} {way} w served here is =
     let z = s.sizes in
-    let words = s.memory.words.items in
+    let words = s.memory.words in
     let log = s.memory.history.items in
     let at = part_at w here in
     let u = under_way at.fits is in
@@ -240,7 +240,7 @@ pub step_keeps : {plans : List (List Call)} {s : ReplayState} {now : Memory} {p 
 step_keeps {plans} {s} {now} {p} {calls} {port} {new} same w here started m =
     let z = s.sizes in
     let o = s.opening in
-    let words = s.memory.words.items in
+    let words = s.memory.words in
     let log = s.memory.history.items in
     let at = part_at w here in
     let l = leads at m.was m.step m.due in

@@ -1,5 +1,5 @@
 -- The answered scans of a replay make their steps.
-use Rattle.partial_replay.proofs.{Common.{ℕ, zero, suc, ◌≡◌, ◌<◌, ◌++◌, Bool, if◌then◌else◌, List, [], ◌∷◌, length, map, slice_index_or, Option, Some, None, refl, sym, ◌∙◌, ap, subst, inl, inr, arith, AllByRecursion, option_map, eqb_tells, length-map, Call, Called, Finish, all_take, Layout, IsLayout, Reply, Idle, ScanBegun, Finished, CoreState, at_stage, advance, reply_of, fresh, IsSound, begin_scan, answer_for, begun_of, IsServed, answers_lead_on, due_is_unreplied, rests_are_sound, stays_sound, scans_make_their_steps, PlanView, IsPlan, IsCall, Moment, moments_by, Makes, IsCallRun, HasSteps, AreStepsOf, calls_by, Answer}, PortLaws.{Begins, begins, begun_sizes, once_empty}, StepsOf.{IsCut, steps_cut}, Plans.served}
+use Rattle.partial_replay.proofs.{Common.{ℕ, zero, suc, ◌≡◌, ◌<◌, ◌++◌, Bool, if◌then◌else◌, List, [], ◌∷◌, length, map, slice_index_or, Option, Some, None, refl, sym, ◌∙◌, ap, subst, inl, inr, arith, AllByRecursion, option_map, eqb_tells, length-map, Call, Called, Finish, all_take, Layout, IsLayout, Reply, Idle, ScanBegun, Finished, CoreState, at_stage, advance, reply_of, fresh, IsSound, begin_scan, answer_for, begun_of, IsServed, due_is_unreplied, rests_are_sound, stays_sound, scans_make_their_steps, PlanView, IsPlan, IsCall, Moment, moments_by, Makes, IsCallRun, HasSteps, AreStepsOf, calls_by, Answer}, PortLaws.{Begins, begins, begun_sizes, once_empty}, StepsOf.{IsCut, steps_cut}, Plans.served}
 use Rattle.partial_machine.specs.Steps.{Run, AreOfScan, pairs_loaded}
 use Rattle.partial_machine.proofs.Behind.{run_sizes}
 use Rattle.partial_replay.specs.ScanSteps.{moment_answers, events_in_front, own_events, IsOfItsScan, AnsweredScansMakeTheirSteps}
@@ -134,9 +134,9 @@ plan_served p q w = at p.ports q w.calls
 pub answered_scans_make_their_steps : AnsweredScansMakeTheirSteps
 answered_scans_make_their_steps p outcome plan w q front c behind is =
     let z = p.sizes in
-    let cs = calls_by q outcome.calls.items in
+    let cs = calls_by q outcome.calls in
     let first = fresh z q in
-    let xs = moments_by z.m q outcome.trace.items in
+    let xs = moments_by z.m q outcome.trace in
     let events = w.events q in
     let calls : AllByRecursion (IsServed z.m) (map (λ (d : Called). d.call) cs) = subst (AllByRecursion (IsServed z.m)) (sym (w.calls q))
     (all_take (IsServed z.m) (length cs) (slice_index_or p.ports q []) (plan_served p q plan)) in

@@ -19,14 +19,14 @@ pub entries_push : {calls : List Call} {old now : Memory} {port new : Port} (m :
     StepMade calls old now port new → filter_map (event_entry m (λ _. 0)) now.trace.items ≡ map unvalued now.history.items
 entries_push {old} {now} {port} m is same s =
     let value = event_entry m (λ _. 0) in
-    let a = answer_of old.words.items s.step in
-    let gained = entry_at m now.words.items port.number s.step a in
+    let a = answer_of old.words s.step in
+    let gained = entry_at m now.words port.number s.step a in
     ap (filter_map value) s.trace_is
     ∙ filter_map-append value old.trace.items (event_of old port.number s.step ∷ [])
     ∙ ap (λ (l : List Applied). l ++ cons_option (value (event_of old port.number s.step)) []) same
-    ∙ ap (λ (l : List Applied). map unvalued old.history.items ++ l) (entry_same m now.words.items port.number s.step a)
+    ∙ ap (λ (l : List Applied). map unvalued old.history.items ++ l) (entry_same m now.words port.number s.step a)
     ∙ sym (map-append unvalued old.history.items gained)
-    ∙ ap (map unvalued) (sym (s.log_is ∙ ap (λ n. old.history.items ++ entry_at n now.words.items port.number s.step a) is))
+    ∙ ap (map unvalued) (sym (s.log_is ∙ ap (λ n. old.history.items ++ entry_at n now.words port.number s.step a) is))
 
 -- an entry with the value that its record has
 abbrev valued : (ℕ → ℕ) → Applied → Applied

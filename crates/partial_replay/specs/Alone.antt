@@ -9,8 +9,7 @@ use Rattle.partial_model.specs.declared.call.Note.{Note}
 use Rattle.partial_model.specs.declared.call.Called.{Called}
 use Rattle.partial_model.specs.History.{value_of, stamp_of}
 use Rattle.partial_text.specs.PlanText.{PlanView}
-use Rattle.partial_text.specs.declared.outcome.Outcome.{Outcome}
-use Rattle.partial_replay.specs.Replayed.{IsReplayOf}
+use Rattle.partial_replay.specs.Replayed.{IsReplayOf, OutcomeView}
 
 -- between its begin and its end a call adds its own entry alone, and no update is lost
 abbrev pub AddsAlone : ℕ → ℕ → Option Note → Type 0
@@ -35,5 +34,5 @@ IsAlone o h c = IfSome c.finish (λ f. AddsAlone c.began f.ended f.note × Answe
 
 -- in the replay of a plan with one port each call is alone
 abbrev pub OnePortIsAlone : Type 0
-OnePortIsAlone = (p : PlanView) (outcome : Outcome) → length p.ports ≡ 1 → IsReplayOf p outcome →
-    AllByRecursion (IsAlone outcome.opening outcome.history.items) outcome.calls.items
+OnePortIsAlone = (p : PlanView) (outcome : OutcomeView) → length p.ports ≡ 1 → IsReplayOf p outcome →
+    AllByRecursion (IsAlone outcome.opening outcome.history) outcome.calls

@@ -7,12 +7,11 @@ use Rattle.partial_model.specs.declared.call.Called.{Called}
 use Rattle.partial_machine.specs.Machine.{CoreState, fresh}
 use Rattle.partial_machine.specs.Steps.{AreOfScan, pairs_loaded}
 use Rattle.partial_text.specs.PlanText.{PlanView, IsPlan}
-use Rattle.partial_text.specs.declared.outcome.Outcome.{Outcome}
 use Rattle.partial_replay.specs.Trace.{Moment, moments_by}
 use Rattle.partial_machine.specs.Calls.{begun_of}
 use Rattle.partial_replay.specs.CallSteps.{IsCallRun, AreStepsOf}
 use Rattle.partial_replay.specs.Listed.{calls_by, steps_in}
-use Rattle.partial_replay.specs.Replayed.{IsReplayOf}
+use Rattle.partial_replay.specs.Replayed.{IsReplayOf, OutcomeView}
 
 -- the answers of a call's events
 abbrev pub moment_answers : List Moment → List ℕ
@@ -46,6 +45,6 @@ IsOfItsScan first xs front c = (js vs : List ℕ) (collects : ℕ) (borrowed : O
 
 -- in the replay of a plan each answered scan does, among the calls and the events of its port in the trace
 abbrev pub AnsweredScansMakeTheirSteps : Type 0
-AnsweredScansMakeTheirSteps = (p : PlanView) (outcome : Outcome) → IsPlan p → IsReplayOf p outcome →
-    (q : ℕ) (front : List Called) (c : Called) (behind : List Called) → calls_by q outcome.calls.items ≡ front ++ c ∷ behind →
-    IsOfItsScan (fresh p.sizes q) (moments_by p.sizes.m q outcome.trace.items) front c
+AnsweredScansMakeTheirSteps = (p : PlanView) (outcome : OutcomeView) → IsPlan p → IsReplayOf p outcome →
+    (q : ℕ) (front : List Called) (c : Called) (behind : List Called) → calls_by q outcome.calls ≡ front ++ c ∷ behind →
+    IsOfItsScan (fresh p.sizes q) (moments_by p.sizes.m q outcome.trace) front c

@@ -2,7 +2,7 @@
 
 use crate::wanted::Wanted;
 use partial_model::Applied;
-use partial_words::{Event, Sizes};
+use partial_words::{Event, PlainWords, Sizes};
 
 /// The words that the ports of a replay share, and what has happened to them so far.
 #[derive(Debug, Drop)]
@@ -10,7 +10,7 @@ pub struct Memory {
     /// The sizes of the memory.
     pub sizes: Sizes,
     /// The words, by their number.
-    pub words: Vec<u64>,
+    pub words: PlainWords,
     /// The history so far: the applied updates in order.
     pub history: Vec<Applied>,
     /// The atomic steps so far, in order.

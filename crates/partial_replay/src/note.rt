@@ -34,8 +34,8 @@ fn prefix_of(history: &[Applied], began: usize, found: Option<usize>) -> usize
 /// The note of a call that began when the history had `began` entries, and ended with that answer.
 pub fn note_of(memory: &mut Memory, began: usize, call: &Call, answer: &Answer) -> Option<Note>
     requires ends { MayAnswer memory.old.places call.now answer.now }
-    requires within { AreWithin memory.old.places memory.old.words.items memory.old.history.items }
-    ensures note { IsNoteFrom memory.old.words.items memory.old.history.items began call.now answer.now result }
+    requires within { AreWithin memory.old.places memory.old.words memory.old.history.items }
+    ensures note { IsNoteFrom memory.old.words memory.old.history.items began call.now answer.now result }
     ensures same { memory.new ≡ memory.old }
 {
     let history = memory.history.as_slice();

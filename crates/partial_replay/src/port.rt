@@ -12,7 +12,7 @@ use crate::memory::Memory;
 use crate::note::note_of;
 use partial_core::{Core, Reply};
 use partial_model::{Answer, Applied, Call, Called, Finish, Note};
-use partial_words::{Event, Sizes, Step, value_of};
+use partial_words::{Event, PlainWords, Sizes, Step};
 use std::alloc::{AllocError, Global};
 
 /// A call that has begun and isn't finished. It follows the finished calls of its port.
@@ -96,7 +96,7 @@ fn begin_call(
 }
 
 // The entry that a step adds to the history. Only a won exchange of a component word adds one.
-fn entry_of(sizes: Sizes, words: &[u64], port: u32, step: Step, answer: u64) -> Option<Applied>
+fn entry_of(sizes: Sizes, words: &PlainWords, port: u32, step: Step, answer: u64) -> Option<Applied>
     requires { IsExchangeWithin sizes.m words.now step }
     ensures { option_to_list result ≡ entry_at sizes.m words.now port step answer }
 {
@@ -108,7 +108,7 @@ fn entry_of(sizes: Sizes, words: &[u64], port: u32, step: Step, answer: u64) -> 
             Some(Applied {
                 port,
                 component,
-                value: value_of(words, at as usize),
+                value: words.value_of(at as usize),
                 stamp: at,
             })
         }
@@ -220,10 +220,10 @@ impl Port {
         reply: Reply,
     ) -> Result<Called, AllocError>
         requires ends { MayAnswer memory.old.places call.now (answer_for self.now.core reply) }
-        requires within { AreWithin memory.old.places memory.old.words.items memory.old.history.items }
+        requires within { AreWithin memory.old.places memory.old.words memory.old.history.items }
         requires numbers { length self.now.finished.items < 2 ^ 32 }
         ensures called { IfOk result (IsEndedCall self.now.number (length self.now.finished.items) call.now way
-            memory.old.words.items memory.old.history.items (answer_for self.now.core reply)) }
+            memory.old.words memory.old.history.items (answer_for self.now.core reply)) }
         ensures same { OnOk result (memory.new ≡ memory.old) }
     {
         let port = self.number;

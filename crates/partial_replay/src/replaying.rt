@@ -1,10 +1,11 @@
 //! The replay of a whole plan.
 
 ghost use Rattle.std.specs.Prelude.{IfOk};
-ghost use Rattle.partial_replay.specs.Replayed.{IsReplayOf};
+ghost use Rattle.partial_replay.specs.Replayed.{IsReplayOf, outcome_view, view_with};
 
 use crate::run::Run;
 use partial_text::{Outcome, Plan};
+use partial_words::PlainWords;
 use std::alloc::{AllocError, Global};
 use thiserror::Error;
 
@@ -46,7 +47,21 @@ impl From<AllocError> for ReplayError {
 /// `Memory` when an allocation was refused: there was no room for the words, the trace or the calls. A plan
 /// may ask for more steps than any machine has room to trace. Nothing is left of the replay.
 pub fn replay(alloc: Global, plan: &Plan) -> Result<Outcome, ReplayError>
-    ensures { IfOk result (IsReplayOf plan.now) }
+    ensures { IfOk result (λ outcome. IsReplayOf plan.now (outcome_view outcome)) }
+{
+    let (mut outcome, words) = replay_apart(alloc, plan)?;
+    outcome.words = words.into_vec();
+    Ok(outcome)
+}
+
+/// Replays a plan as [`replay`] does. The outcome that it returns has no words: they stand beside it, and those that no
+/// step has reached aren't stored. For who needs no words: a plan may ask for many more than its calls use.
+///
+/// # Errors
+///
+/// As those of [`replay`].
+pub fn replay_apart(alloc: Global, plan: &Plan) -> Result<(Outcome, PlainWords), ReplayError>
+    ensures { IfOk result (λ told. IsReplayOf plan.now (view_with told.0 told.1)) }
 {
     let plans = plan.ports();
     let mut run = Run::open(alloc, plan.sizes(), plan.initial(), plans)?;

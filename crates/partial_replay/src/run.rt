@@ -4,6 +4,7 @@ ghost use Rattle.std.specs.Prelude.{◌≡◌, ◌<◌, ◌≤◌, ◌^◌, ◌+
 ghost use Rattle.std.specs.Bool.{OnTrue};
 ghost use Rattle.partial_words.specs.Layout.{IsLayout};
 ghost use Rattle.partial_words.specs.Chain.{AreOpeningWords};
+ghost use Rattle.partial_replay.specs.Replayed.{view_with};
 ghost use Rattle.partial_replay.specs.Inner.RunState.{AreFreshPorts, AreListed, calls_in, left_over};
 
 use crate::memory::Memory;
@@ -12,7 +13,7 @@ use crate::wanted::Wanted;
 use partial_core::Core;
 use partial_model::{Call, Called, Opening, Sequence};
 use partial_text::Outcome;
-use partial_words::Sizes;
+use partial_words::{PlainWords, Sizes, Step};
 use std::alloc::{AllocError, Global};
 
 /// The state of a replay.
@@ -27,13 +28,13 @@ pub struct Run {
 }
 
 // The words at opening. After the initial records all of them are 0.
-fn opening_words(alloc: Global, sizes: Sizes, initial: &[u64]) -> Result<Vec<u64>, AllocError>
+fn opening_words(alloc: Global, sizes: Sizes, initial: &[u64]) -> Result<PlainWords, AllocError>
     requires { length initial.now ≡ sizes.m }
-    ensures { IfOk result (λ words. AreOpeningWords sizes initial.now words.items) }
+    ensures { IfOk result (AreOpeningWords sizes initial.now) }
 {
-    let mut words = vec![in alloc; 0; sizes.total() as usize]?;
+    let mut words = PlainWords::zeros(alloc, sizes.total() as usize)?;
     for w in 0..sizes.first_free() {
-        words[w as usize] = sizes.opening_word(initial, w);
+        words.perform(Step::Store(w, sizes.opening_word(initial, w)));
     }
     Ok(words)
 }
@@ -206,7 +207,7 @@ impl Run {
         Ok(())
     }
 
-    /// Turns the replay into its outcome.
+    /// Turns the replay into its outcome, without the words, and the words.
     ///
     /// # Errors
     /// [`AllocError`] when an allocation was refused.
@@ -214,9 +215,9 @@ impl Run {
         self,
         alloc: Global,
         plans: &[Sequence<Call>],
-    ) -> Result<Outcome, AllocError>
+    ) -> Result<(Outcome, PlainWords), AllocError>
         requires { IsReplay plans.now self }
-        ensures { IfOk result (TellsOutcome plans.now self) }
+        ensures { IfOk result (λ told. TellsOutcome plans.now self (view_with told.0 told.1)) }
     {
         let Run {
             opening,
@@ -230,14 +231,15 @@ impl Run {
             ..
         } = memory;
         let steps = trace.len() as u64;
-        Ok(Outcome {
+        let outcome = Outcome {
             opening,
             history,
             calls: calls_of(alloc, ports, plans)?,
-            words,
+            words: Vec::new(alloc),
             trace,
             steps,
-        })
+        };
+        Ok((outcome, words))
     }
 }
 

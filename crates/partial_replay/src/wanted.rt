@@ -11,7 +11,7 @@ ghost use Rattle.partial_words.specs.Record.{prev_of, record_value};
 ghost use Rattle.partial_replay.specs.ScanPlace.{AllHave, AreWantedComponents, AreMarked, AreMarksOf, AreWanted, HasRecord, HasRecords, IsEmpty, IsLeast, IsLeft, ShowsValues, marks_before, values_after, values_now};
 
 use partial_model::Applied;
-use partial_words::{prev_of, value_of};
+use partial_words::PlainWords;
 use std::alloc::{AllocError, Global};
 use std::marker::Model;
 
@@ -60,7 +60,7 @@ impl Marks {
 fn want(
     wanted: &mut [Option<u64>],
     differing: &mut Marks,
-    words: &[u64],
+    words: &PlainWords,
     components: &[u32],
     values: &[u64],
 )
@@ -79,14 +79,14 @@ fn want(
         let component = components[k] as usize;
         let value = values[k];
         wanted[component] = Some(value);
-        let now = value_of(words, words[component] as usize);
+        let now = words.value_of(words.word(component) as usize);
         differing.set(component, value != now);
     }
 }
 
 // Undoes an entry of the history: its component has the value from before it, and is marked if that
 // differs.
-fn take_back(wanted: &[Option<u64>], differing: &mut Marks, words: &[u64], entry: Applied)
+fn take_back(wanted: &[Option<u64>], differing: &mut Marks, words: &PlainWords, entry: Applied)
     requires room { length wanted.now ≡ length differing.old }
     requires record { HasRecord words.now (length wanted.now) entry }
     ensures { differing.new ≡ marks_before (slice_index_or wanted.now entry.component None) differing.old
@@ -94,8 +94,8 @@ fn take_back(wanted: &[Option<u64>], differing: &mut Marks, words: &[u64], entry
 {
     let component = entry.component as usize;
     if let Some(value) = wanted[component] {
-        let before = prev_of(words, entry.stamp as usize);
-        differing.set(component, value != value_of(words, before as usize));
+        let before = words.prev_of(entry.stamp as usize);
+        differing.set(component, value != words.value_of(before as usize));
     }
 }
 
@@ -104,7 +104,7 @@ fn take_back(wanted: &[Option<u64>], differing: &mut Marks, words: &[u64], entry
 fn least_prefix(
     wanted: &[Option<u64>],
     differing: &mut Marks,
-    words: &[u64],
+    words: &PlainWords,
     history: &[Applied],
     began: usize,
 ) -> usize
@@ -190,7 +190,7 @@ impl Wanted {
     pub fn scan_place(
         &mut self,
         history: &[Applied],
-        words: &[u64],
+        words: &PlainWords,
         began: usize,
         components: &[u32],
         values: &[u64],

@@ -3,3 +3,4 @@ pub mod RecordLemmas
 pub mod LayoutLemmas
 pub mod BlockLemmas
 pub mod ChainLemmas
+pub mod PlainLemmas

@@ -5,6 +5,7 @@
 pub mod announcement;
 pub mod law;
 pub mod list;
+pub mod plain;
 pub mod record;
 pub mod sizes;
 pub mod step;
@@ -18,6 +19,7 @@ pub use law::{
     records_lie_within, records_read_back, regions_are_apart,
 };
 pub use list::{interval, intervals_word, list_block_word, list_len, list_size};
+pub use plain::PlainWords;
 pub use record::{
     Link, full_record_size, next_word, own_view, pairs_word, plain_record_size, prev_of, prev_word,
     record_block_word, value_of, value_word, view_len, view_of, view_pair, view_size, view_word,

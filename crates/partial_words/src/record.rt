@@ -16,9 +16,9 @@ pub struct Link {
 
 // The words of a record, by their distance from its reference: the reference of the record before it, its
 // value, the reference of its view, and the beginning of a view of its own.
-const PREV: usize = 0;
+pub(crate) const PREV: usize = 0;
 
-const VALUE: usize = 1;
+pub(crate) const VALUE: usize = 1;
 
 const VIEW: usize = 2;
 

@@ -10,15 +10,15 @@ ghost use Rattle.partial_machine.specs.Possible.{MayPerform};
 use super::{Core, behind_set};
 use crate::stage::{Change, Stage};
 use partial_embedded::Embedded;
-use partial_words::Step;
+use partial_words::{PlainWords, Step};
 
 impl Core {
-    /// Makes the step that is due on plain words, as [`Step::perform`] does, and takes its answer.
+    /// Makes the step that is due on plain words, as [`PlainWords::perform`] does, and takes its answer.
     /// Returns both. The result is that of [`Core::step`] and [`Core::answer`]. The getSet, which
     /// may have to load every slot, makes its own steps, so that each of them costs a driver over
     /// plain words no more than a load.
     #[inline(always)]
-    pub fn perform(&mut self, words: &mut [u64]) -> (Step, u64)
+    pub fn perform(&mut self, words: &mut PlainWords) -> (Step, u64)
         requires { MayPerform self.old words.old }
         ensures due { step_of self.old ≡ Some result.0 }
         ensures answer { result.1 ≡ answer_of words.old result.0 }
@@ -30,7 +30,7 @@ impl Core {
             Stage::GettingSet { change, old } => self.perform_set(change, old, words),
             _ => {
                 let step = self.step().unwrap();
-                let answer = step.perform(words);
+                let answer = words.perform(step);
                 self.answer(answer);
                 (step, answer)
             }
@@ -39,7 +39,7 @@ impl Core {
 
     // The getSet of an update makes its step on the words, and goes on as after an answer.
     #[inline(always)]
-    fn perform_set(&mut self, change: Change, old: u64, words: &mut [u64]) -> (Step, u64)
+    fn perform_set(&mut self, change: Change, old: u64, words: &mut PlainWords) -> (Step, u64)
         requires stage { self.old.stage ≡ GettingSet change old }
         requires may { MayPerform self.old words.old }
         ensures due { step_of self.old ≡ Some result.0 }

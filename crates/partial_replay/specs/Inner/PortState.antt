@@ -128,11 +128,11 @@ pub record Ends (calls : List Call) (words : List ℕ) (log : List Applied) (por
 
 -- the event of a step of port p
 abbrev pub event_of : Memory → ℕ → Step → Event
-event_of memory p step = record { port = p; step = step; answer = answer_of memory.words.items step }
+event_of memory p step = record { port = p; step = step; answer = answer_of memory.words step }
 
 -- the machine behind a step
 abbrev pub core_behind : Memory → Step → Port → CoreState
-core_behind memory step port = advance port.core (answer_of memory.words.items step)
+core_behind memory step port = advance port.core (answer_of memory.words step)
 
 -- a step of a port: what became of the memory and the port
 pub record StepMade (calls : List Call) (old now : Memory) (port new : Port) : Type 0 where
@@ -140,15 +140,15 @@ pub record StepMade (calls : List Call) (old now : Memory) (port new : Port) : T
   pub way : UnderWay
   pub due : step_of port.core ≡ Some step
   pub was : port.under_way ≡ Some way
-  pub possible : IsPossible port.core (answer_of old.words.items step)
-  pub words_are : now.words.items ≡ words_after old.words.items step
+  pub possible : IsPossible port.core (answer_of old.words step)
+  pub words_are : now.words ≡ words_after old.words step
   pub trace_is : now.trace.items ≡ old.trace.items ++ event_of old port.number step ∷ []
   pub log_is : now.history.items ≡
-      old.history.items ++ entry_at port.core.sizes.m now.words.items port.number step (answer_of old.words.items step)
+      old.history.items ++ entry_at port.core.sizes.m now.words port.number step (answer_of old.words step)
   pub number : new.number ≡ port.number
   pub falls : steps_left (core_behind old step port) < steps_left port.core
   pub after : MatchOption (reply_of (core_behind old step port)) (CallGoesOn port new way (core_behind old step port))
-      (Ends calls now.words.items now.history.items port new way (core_behind old step port))
+      (Ends calls now.words now.history.items port new way (core_behind old step port))
 
 -- a record to be exchanged lies in the words
 abbrev pub IsExchangeWithin : ℕ → List ℕ → Step → Type 0
@@ -178,15 +178,15 @@ pub record MayStep (calls : List Call) (memory : Memory) (port : Port) : Type 0 
   pub call : Call
   pub due : step_of port.core ≡ Some step
   pub was : port.under_way ≡ Some way
-  pub within : word_of step < length memory.words.items
-  pub possible : IsPossible port.core (answer_of memory.words.items step)
-  pub exchange : IsExchangeWithin port.core.sizes.m memory.words.items step
+  pub within : word_of step < length memory.words
+  pub possible : IsPossible port.core (answer_of memory.words step)
+  pub exchange : IsExchangeWithin port.core.sizes.m memory.words step
   pub steps : way.steps + 1 < 2 ^ 64
   pub next : slice_get calls (length port.finished.items) ≡ Some call
   pub ends : IfSome (reply_of (core_behind memory step port))
       (λ r. MayAnswer port.core.sizes.m call (answer_for (core_behind memory step port) r))
-  pub places : AreWithin port.core.sizes.m (words_after memory.words.items step) (memory.history.items ++
-      entry_at port.core.sizes.m (words_after memory.words.items step) port.number step (answer_of memory.words.items step))
+  pub places : AreWithin port.core.sizes.m (words_after memory.words step) (memory.history.items ++
+      entry_at port.core.sizes.m (words_after memory.words step) port.number step (answer_of memory.words step))
 
 -- a call that was finished as it was begun
 abbrev pub call_at_once : ℕ → ℕ → Call → ℕ → Answer → Option Note → Called

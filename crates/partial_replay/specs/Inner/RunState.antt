@@ -17,7 +17,7 @@ use Rattle.partial_replay.specs.declared.memory.Memory.{Memory}
 use Rattle.partial_replay.specs.declared.port.Port.{Port}
 use Rattle.partial_replay.specs.declared.port.UnderWay.{UnderWay}
 use Rattle.partial_replay.specs.declared.run.Run.{Run}
-use Rattle.partial_text.specs.declared.outcome.Outcome.{Outcome}
+use Rattle.partial_replay.specs.Replayed.{OutcomeView}
 use Rattle.partial_replay.specs.Trace.{event_entry, moments_by}
 use Rattle.partial_replay.specs.Inner.PortState.{PortFits, PortMade, unfinished_call}
 use Rattle.partial_machine.specs.Calls.{IsServed}
@@ -71,9 +71,9 @@ pub record IsRunOf (plans : List (List Call)) (s : ReplayState) : Type 0 where
   pub parts : List Part
   pub opened : List ℕ
   pub opens : AreOpeningWords s.sizes s.opening.values opened
-  pub lawful : Lawful s.sizes s.opening s.memory.words.items parts s.memory.history.items
+  pub lawful : Lawful s.sizes s.opening s.memory.words parts s.memory.history.items
   pub fit : PortsFit s.opening s.memory.history.items 0 plans parts s.ports
-  pub leads : Leads opened s.memory.trace.items s.memory.words.items
+  pub leads : Leads opened s.memory.trace.items s.memory.words
   -- the won exchanges of component words in the trace are the history, but for the values
   pub entries : filter_map (event_entry s.sizes.m (λ _. 0)) s.memory.trace.items ≡ map unvalued s.memory.history.items
   -- each port's events are the steps of its calls
@@ -159,10 +159,10 @@ AreListed (calls ∷ plans) (port ∷ ports) = (length calls < 2 ^ 32) ×
 AreListed _ _ = ⊥
 
 -- what a replay has come to in the end
-pub record TellsOutcome (plans : List (List Call)) (run : Run) (outcome : Outcome) : Type 0 where
+pub record TellsOutcome (plans : List (List Call)) (run : Run) (outcome : OutcomeView) : Type 0 where
   pub opening : outcome.opening ≡ run.opening
-  pub history : outcome.history.items ≡ run.memory.history.items
-  pub calls : outcome.calls.items ≡ calls_in plans run.ports.items
-  pub words : outcome.words.items ≡ run.memory.words.items
-  pub trace : outcome.trace.items ≡ run.memory.trace.items
+  pub history : outcome.history ≡ run.memory.history.items
+  pub calls : outcome.calls ≡ calls_in plans run.ports.items
+  pub words : outcome.words ≡ run.memory.words
+  pub trace : outcome.trace ≡ run.memory.trace.items
   pub steps : outcome.steps ≡ length run.memory.trace.items

@@ -1,7 +1,8 @@
 //! The words that replays leave behind, and the steps that they make.
 
-use super::replayed;
-use partial_replay::Event;
+use super::{replayed, their_outcome, two_updates};
+use crate::texts::judge_text;
+use partial_replay::{Device, Event, Plan, replay_apart, write_outcome};
 use partial_words::Step;
 use std::process::Abort;
 use std::test::Fail;
@@ -82,6 +83,21 @@ fn judge_sharing(rt: &impl Abort, words: &[u64]) {
 fn shared_view(rt: HostRuntime) -> Result<(), Fail> {
     let outcome = replayed(rt.alloc(), sharing())?;
     judge_sharing(&rt, &outcome.words);
+    Ok(())
+}
+
+// The outcome of a replay that leaves its words apart tells the same text, and has none of them.
+#[test]
+fn words_apart(rt: HostRuntime) -> Result<(), Fail> {
+    let plan = Plan::read(rt.alloc(), &mut Device::new(two_updates()))?;
+    let (outcome, _) = replay_apart(rt.alloc(), &plan)?;
+    assert_eq!(&rt; outcome.words.len(), 0);
+    let mut writer = Device::new(Vec::new(rt.alloc()));
+    write_outcome(rt.alloc(), &outcome, &mut writer)?;
+    judge_text(&rt, &writer.into_inner(), their_outcome());
+    let plan = Plan::read(rt.alloc(), &mut Device::new(sharing()))?;
+    let (_, words) = replay_apart(rt.alloc(), &plan)?;
+    judge_sharing(&rt, &words.into_vec());
     Ok(())
 }
 

@@ -1,11 +1,10 @@
 use Rattle.std.proofs.Common.{rules, tests}
-use Rattle.partial_replay.proofs.{Common.{ℕ, List, slice_get, sym, ◌∙◌, ap, subst, Applied, HasRecord}, Places.place_within}
+use Rattle.partial_replay.proofs.{Common.{List, slice_get, sym, ◌∙◌, ap, Applied}, Places.place_within}
 use Rattle.partial_replay.proofs.note.note_of.Goals as goal
 
 pub scan_place-requires-clause-entries : goal.scan_place-requires-clause-entries
 scan_place-requires-clause-entries c k e stands =
-    subst (λ (ws : List ℕ). HasRecord ws c.args.memory.now.places e) (sym c.deref.ensures.value)
-    (c.requires.within.entries k e (ap (λ (l : List Applied). slice_get l k) (sym c.as_slice-history.ensures.value) ∙ stands))
+    c.requires.within.entries k e (ap (λ (l : List Applied). slice_get l k) (sym c.as_slice-history.ensures.value) ∙ stands)
 
 pub prefix_of-requires : goal.prefix_of-requires
 prefix_of-requires c = place_within c.as_slice-history.result.now c.args.began _ c.place_of-found.result c.place_of-found.ensures

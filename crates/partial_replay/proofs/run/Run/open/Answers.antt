@@ -4,7 +4,7 @@ use Rattle.partial_replay.proofs.run.Run.open.Goals as goal
 pub returns-clause-between : goal.returns-clause-between
 returns-clause-between c =
     let values : c.from.result ≡ c.args.initial.now = c.from.ensures ∙ c.in_ok-from_slice.ensures.items in
-    let words = c.in_ok-opening_words.field-0.items in
+    let words = c.in_ok-opening_words.field-0 in
     record {
       replay = record {
         state = opens_run c.args.plans.now _ c.requires.sizes (ap length values ∙ c.requires.values) (c.from-first.ensures ∙ c.pool_base.ensures)

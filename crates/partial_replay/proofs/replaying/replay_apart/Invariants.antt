@@ -1,5 +1,5 @@
 use Rattle.partial_replay.proofs.Common.{◌++◌, map, take, range_with_len, so_many, to_its_end, StopAtSteps, HasReplayed}
-use Rattle.partial_replay.proofs.replaying.replay.Given as goal
+use Rattle.partial_replay.proofs.replaying.replay_apart.Given as goal
 
 -- the replay is of the plan's sizes and values, and has made the turns so far
 abbrev pub invariant-loop-p : goal.invariant-loop-p

@@ -1,7 +1,7 @@
-use Rattle.partial_replay.proofs.{Common.{ℕ, ◌≡◌, ◌++◌, ◌∙◌, Bool, false, if◌then◌else◌, List, [], length, slice_index_or, Option, Some, None, map, take, ap, subst, sym, arith, ◌<◌, ◌≤◌, IsLayout, range_with_len, take_all, false≢true, Call, Run, TellsOutcome, ArePlans, StopAtSteps, TurnsMade, IsReplayOf, AllByRecursion-get, IsTurnEntry, Layout, ports_of, so_many, to_its_end, turns_of, HasReplayed}, Plans.are_plans, PortLaws.get_is, Replays.replay_told, RunTurns.next_turns, TurnLaws.{next_steps, all_steps, next_end, ending_next}}
+use Rattle.partial_replay.proofs.{Common.{ℕ, ◌≡◌, ◌++◌, ◌∙◌, Bool, false, if◌then◌else◌, List, [], length, slice_index_or, Option, Some, None, map, take, ap, subst, sym, arith, ◌<◌, ◌≤◌, IsLayout, range_with_len, take_all, false≢true, Call, Run, TellsOutcome, ArePlans, StopAtSteps, TurnsMade, IsReplayOf, AllByRecursion-get, IsTurnEntry, Layout, ports_of, so_many, to_its_end, turns_of, HasReplayed, view_with}, Plans.are_plans, PortLaws.get_is, Replays.replay_told, RunTurns.next_turns, TurnLaws.{next_steps, all_steps, next_end, ending_next}}
 use Rattle.partial_replay.specs.Inner.RunState.{IsReplay}
-use Rattle.partial_replay.proofs.replaying.replay.Goals.{then-rest+else-loop-p-then-rest-test, else-rest}
-use Rattle.partial_replay.proofs.replaying.replay.Goals as goal
+use Rattle.partial_replay.proofs.replaying.replay_apart.Goals.{then-rest+else-loop-p-then-rest-test, else-rest}
+use Rattle.partial_replay.proofs.replaying.replay_apart.Goals as goal
 
 -- the plan's calls are ones that the machines of such a run serve
 pub open-requires-clause-plans : goal.open-requires-clause-plans
@@ -38,9 +38,10 @@ pub returns : goal.returns
 returns c =
     let p = c.args.plan.now in
     let plans = c.ports-plans.result.now in
-    let outcome = c.in_ok-into_outcome.field-0 in
+    let told = c.in_ok-into_outcome.field-0 in
+    let outcome = view_with told.0 told.1 in
     let is = c.ports-plans.ensures.value in
-    let told : (run : Run) → c.if-rest.run ≡ run → HasReplayed p plans (turns_of p) run → (p.rest ≡ false → StopAtSteps p.steps run) → IsReplayOf p outcome = λ run same w ends.
+    let ends_told : (run : Run) → c.if-rest.run ≡ run → HasReplayed p plans (turns_of p) run → (p.rest ≡ false → StopAtSteps p.steps run) → IsReplayOf p outcome = λ run same w ends.
     replay_told p run outcome (subst (λ (l : List (List Call)). HasReplayed p l (turns_of p) run) is w) ends
     (subst (λ (l : List (List Call)). TellsOutcome l run outcome) is (subst (λ (v : Run). TellsOutcome plans v outcome) same c.in_ok-into_outcome.ensures)) in
     let steps : length c.steps-p-items.result.now ≡ length p.steps = ap length c.steps-p-items.ensures.value in
@@ -51,14 +52,14 @@ returns c =
           let turns : map so_many p.steps ++ map to_its_end (range_with_len 0 w.loop-p-then-rest.p) ≡ turns_of p =
           ap (λ n. map so_many p.steps ++ map to_its_end (range_with_len 0 n)) all ∙ ap (λ (b : Bool). map so_many p.steps ++ (if b then map to_its_end (range_with_len 0 (length p.ports)) else []))
           w.if-rest.ensures.value in
-          told w.loop-p-then-rest.run w.run-is (subst (λ (es : List (ℕ × Option ℕ)). HasReplayed p plans es w.loop-p-then-rest.run) turns w.loop-p-then-rest.invariant)
+          ends_told w.loop-p-then-rest.run w.run-is (subst (λ (es : List (ℕ × Option ℕ)). HasReplayed p plans es w.loop-p-then-rest.run) turns w.loop-p-then-rest.invariant)
           (λ no. absurd (false≢true (sym no ∙ sym w.if-rest.ensures.value)))
       | else-rest w ↦
           let i = c.loop-p.invariant in
           let turns : map so_many (take c.loop-p.p-index p.steps) ≡ turns_of p = front
           ∙ ap (λ (b : Bool). map so_many p.steps ++ (if b then map to_its_end (range_with_len 0 (length p.ports)) else []))
           w.if-rest.ensures.value in
-          told c.loop-p.run w.run-is (subst (λ (es : List (ℕ × Option ℕ)). HasReplayed p plans es c.loop-p.run) turns i.replayed)
+          ends_told c.loop-p.run w.run-is (subst (λ (es : List (ℕ × Option ℕ)). HasReplayed p plans es c.loop-p.run) turns i.replayed)
           (λ no. subst (λ (l : List (ℕ × ℕ)). StopAtSteps l c.loop-p.run) (take_all c.loop-p.p-index p.steps (omega (arith, c.loop-p-test.false, steps))) i.ending)
     ]
 
