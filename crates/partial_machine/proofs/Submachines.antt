@@ -5,6 +5,8 @@ use Rattle.partial_active.specs.GetSet as finding
 use Rattle.partial_active.specs.GetSetAnswers as finding_answers
 use Rattle.partial_embedded.specs.Embedded as viewing
 use Rattle.partial_machine.specs.declared.stage.Stage.TheVariants.{GettingSet, Viewing, ClaimingRecord, Scanning, Leaving}
+use Rattle.std.specs.Prelude.{slice_index}
+use Rattle.partial_words.specs.declared.step.Step.TheVariants.{Load}
 use Rattle.partial_machine.specs.Machine.{CoreState, getting, scanning, with_getting, with_scanning, after_getting, after_scanning, advance, advance_at, step_at, step_of}
 
 -- where a step is due the machine goes on, and else it has come to the next stage
@@ -28,6 +30,14 @@ possible_at s u words step x stage may due is = subst (λ t. IsPossibleAt s t x)
 pub performs_fewer : (s q : CoreState) (room : ℕ) (words : List ℕ) (step : Step) (x : ℕ) → IsMachine s room → MayPerform s words → step_of s ≡ Some step → x ≡ answer_of words step → q ≡ advance s x →
     steps_left q < steps_left s
 performs_fewer s q room words step x w may due answer is = fewer_on s q room x s.stage w refl (possible_from s words step x may due answer) is
+
+-- the load of a slot leaves fewer steps
+pub set_fewer : (t s q : CoreState) (room : ℕ) (words : List ℕ) (w x : ℕ) (c : Change) (old : ℕ) → t ≡ s → IsMachine t room → MayPerform s words → t.stage ≡ GettingSet c old →
+    finding.set_step_due t.get_set ≡ Some (Load w) → x ≡ slice_index words w → q ≡ advance_at t (GettingSet c old) x → steps_left q < steps_left s
+set_fewer t s q room words w x c old same machine may stage due is led =
+    subst (λ (r : CoreState). steps_left q < steps_left r) same
+    (performs_fewer t q room words (Load w) x machine (subst (λ (r : CoreState). MayPerform r words) (sym same) may) (ap (step_at t) stage ∙ due) is
+    (led ∙ sym (ap (λ (u : Stage). advance_at t u x) stage)))
 
 module _ (s : CoreState) (room x : ℕ) (w : IsMachine s room) where
   pub got_more_is : (c : Change) (old : ℕ) (p : finding.SetPair) → p ≡ finding.advance_set (getting s) x → is_some (finding.set_step_due p.0) ≡ true →

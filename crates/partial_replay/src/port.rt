@@ -171,7 +171,39 @@ impl Port {
     ///
     /// # Errors
     /// [`AllocError`] when an allocation was refused. Nothing is known of the replay then.
+    #[inline(always)]
     pub fn make_step(
+        &mut self,
+        alloc: Global,
+        calls: &[Call],
+        memory: &mut Memory,
+    ) -> Result<(), AllocError>
+        requires may { MayStep calls.now memory.old self.old }
+        requires sizes { memory.old.sizes.m ≡ self.old.core.sizes.m }
+        requires room { memory.old.places ≡ self.old.core.sizes.m }
+        requires numbers { length calls.now < 2 ^ 32 }
+        ensures made { OnOk result (StepMade calls.now memory.old memory.new self.old self.new) }
+        ensures same { OnOk result ((memory.new.sizes ≡ memory.old.sizes) × (memory.new.places ≡ memory.old.places)) }
+    {
+        let Some((word, answer)) = self.core.load_slot(&memory.words) else {
+            return self.make_other_step(alloc, calls, memory);
+        };
+        memory.trace.push(Event {
+            port: self.number,
+            step: Step::Load(word),
+            answer,
+        })?;
+        let way = self.under_way.unwrap();
+        self.under_way = Some(UnderWay {
+            began: way.began,
+            steps: way.steps + 1,
+        });
+        Ok(())
+    }
+
+    // Makes the due step, whatever it is.
+    #[inline(never)]
+    fn make_other_step(
         &mut self,
         alloc: Global,
         calls: &[Call],
@@ -211,6 +243,7 @@ impl Port {
     }
 
     // The call under way, which ended with that reply.
+    #[inline(never)]
     fn ended(
         &self,
         alloc: Global,

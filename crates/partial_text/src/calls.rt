@@ -7,8 +7,7 @@ ghost use Rattle.partial_text.specs.Judging.{update_from, scan_from, read_from, 
 
 use crate::fault::{Cause, PlanError};
 use crate::fields::{
-    fault, has_more_fields, index_field, index_fields, one_field, three_fields, two_fields,
-    value_field,
+    fault, field_count, index_field, index_fields, one_field, three_fields, two_fields, value_field,
 };
 use crate::pieces::split_before;
 use memchr::memchr;
@@ -32,10 +31,11 @@ fn update(line: u32, fields: &[u8]) -> Result<Call, PlanError>
 fn scan(alloc: Global, m: u32, line: u32, fields: &[u8]) -> Result<Call, PlanError>
     ensures { Gives (λ call. call) result (scan_from m line (pieces_behind 32 fields.now)) }
 {
-    if has_more_fields(fields, m) {
+    let positions = field_count(fields);
+    if positions > m as usize {
         return Err(fault(line, Cause::Count));
     }
-    let components = index_fields(alloc, line, fields)?;
+    let components = index_fields(alloc, line, positions, fields)?;
     Ok(Call::Scan {
         components: Sequence::from(components),
     })

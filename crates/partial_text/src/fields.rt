@@ -1,6 +1,6 @@
 //! The fields of a line or a call, which are separated by one space.
 
-ghost use Rattle.std.specs.Prelude.{◌≡◌, ◌∷◌, [], length, nat_lt, MatchOption};
+ghost use Rattle.std.specs.Prelude.{◌≡◌, ◌∷◌, [], length, MatchOption};
 ghost use Rattle.std.specs.Option.{option_map};
 ghost use Rattle.partial_text.specs.Pieces.{pieces_behind};
 ghost use Rattle.partial_text.specs.Fault.{Gives};
@@ -70,13 +70,13 @@ pub(crate) fn four_fields(fields: &[u8]) -> Option<(&[u8], &[u8], &[u8], &[u8])>
     Some((first, second, third, fourth))
 }
 
-/// Whether there are more than `most` fields, each with a space before it.
-pub(crate) fn has_more_fields(fields: &[u8], most: u32) -> bool
-    ensures { result ≡ nat_lt most (length (pieces_behind 32 fields.now)) }
+/// How many fields there are, each with a space before it.
+pub(crate) fn field_count(fields: &[u8]) -> usize
+    ensures { result ≡ length (pieces_behind 32 fields.now) }
 {
     match fields {
-        [] => false,
-        [_, text @ ..] => count(text, b' ') >= most as usize,
+        [] => 0,
+        [_, text @ ..] => count(text, b' ') + 1,
     }
 }
 
@@ -116,13 +116,18 @@ pub(crate) fn value_fields(alloc: Global, line: u32, fields: &[u8]) -> Result<Ve
     Ok(values)
 }
 
-/// Reads the fields as numbers of 32 bits.
+/// Reads the fields, `count` of them, as numbers of 32 bits. The room is taken for so many.
 #[tactic(auto, unfolding(crate::specs::Judging::numbers_at))]
-pub(crate) fn index_fields(alloc: Global, line: u32, fields: &[u8]) -> Result<Vec<u32>, PlanError>
+pub(crate) fn index_fields(
+    alloc: Global,
+    line: u32,
+    count: usize,
+    fields: &[u8],
+) -> Result<Vec<u32>, PlanError>
     ensures { Gives (λ v. v.items) result
         (numbers_at line greatest_index [] (pieces_behind 32 fields.now)) }
 {
-    let mut indices = Vec::new(alloc);
+    let mut indices = Vec::with_capacity(alloc, count)?;
     let mut rest = fields;
     while let [_, text @ ..] = rest {
         let (field, behind) = split_before(text, b' ');

@@ -38,7 +38,8 @@ pub(crate) fn split_at_first(bytes: &[u8], separator: u8) -> (&[u8], &[u8])
 
 /// How many separators there are.
 pub(crate) fn count(bytes: &[u8], separator: u8) -> usize
-    ensures { result + 1 ≡ length (pieces separator bytes.now) }
+    ensures value { result + 1 ≡ length (pieces separator bytes.now) }
+    ensures bound { result ≤ length bytes.now }
 {
     let mut found = 0;
     for byte in bytes {

@@ -1,36 +1,31 @@
-//! A getSet on plain words.
+//! The loads of slots of a getSet on plain words.
 
-ghost use Rattle.std.specs.Prelude.{◌≡◌, Some};
-ghost use Rattle.partial_words.specs.Step.{answer_of, words_after};
+ghost use Rattle.std.specs.Prelude.{◌≡◌, MatchOption, Some, slice_index};
+ghost use Rattle.partial_words.specs.declared.step.Step.TheVariants.{Load};
 ghost use Rattle.partial_active.specs.GetSet.{advance_set, set_step_due};
 ghost use Rattle.partial_active.specs.GetSetAnswers.{SetGoesTogether, SetMayPerform};
 
 use super::{GetSet, Stage};
 use crate::found::Found;
-use partial_words::{PlainWords, Step};
+use partial_words::PlainWords;
 
 impl GetSet {
-    /// Makes the step that is due on plain words, as [`PlainWords::perform`] does, and takes its answer with the
-    /// buffers of this getSet. Returns the step and its answer. It does the same as [`GetSet::step`] and
-    /// [`GetSet::answer`]; the loads of slots, nearly all steps of a long getSet, have lines of their own.
+    /// Makes the step that is due when it is the load of a slot, and takes its answer with the buffers of this getSet.
+    /// Returns the word and the answer then. These loads are nearly all steps of a long getSet.
     #[inline(always)]
-    pub fn perform(&mut self, found: &mut Found, words: &mut PlainWords) -> (Step, u64)
+    pub fn load_slot(&mut self, found: &mut Found, words: &PlainWords) -> Option<(u32, u64)>
         requires together { SetGoesTogether (self.old, found.old) }
-        requires may { SetMayPerform (self.old, found.old) words.old }
-        ensures due { set_step_due self.old ≡ Some result.0 }
-        ensures answer { result.1 ≡ answer_of words.old result.0 }
-        ensures words { words.new ≡ words_after words.old result.0 }
-        ensures state { (self.new, found.new) ≡ advance_set (self.old, found.old) result.1 }
+        requires may { SetMayPerform (self.old, found.old) words.now }
+        ensures { MatchOption result ((self.new ≡ self.old) × (found.new ≡ found.old))
+            (λ made. (set_step_due self.old ≡ Some (Load made.0)) × (made.1 ≡ slice_index words.now made.0) ×
+            ((self.new, found.new) ≡ advance_set (self.old, found.old) made.1)) }
     {
-        if let Stage::Slot { slot } = self.stage {
-            let step = Step::Load(self.sizes.slot_word(slot));
-            let answer = words.perform(step);
-            self.after_slot(found, slot, answer);
-            return (step, answer);
-        }
-        let step = self.step().unwrap();
-        let answer = words.perform(step);
-        self.answer(found, answer);
-        (step, answer)
+        let Stage::Slot { slot } = self.stage else {
+            return None;
+        };
+        let word = self.sizes.slot_word(slot);
+        let answer = words.word(word as usize);
+        self.after_slot(found, slot, answer);
+        Some((word, answer))
     }
 }

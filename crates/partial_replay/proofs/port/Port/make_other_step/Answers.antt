@@ -1,6 +1,6 @@
 use Rattle.partial_replay.proofs.{Common.{◌≡◌, ◌<◌, ◌++◌, ◌∷◌, [], ℕ, List, length, Option, Some, None, MatchOption, slice_get, sym, ◌∙◌, ap, subst, arith, refl, option_to_list, append-nil, Applied, Call, answer_of, words_after, answer_for, CoreState, at_stage, reply_of, advance, steps_left, IsPossible, Reply, Step, Idle, Answer, Port, UnderWay, entry_at, one_step_more, core_behind, AreWithin, IsEndedCall, CallGoesOn, Ends, place_below, Memory, some_same}, PortLaws.{answer_idle, step_ended, call_at_place}}
-use Rattle.partial_replay.proofs.port.Port.make_step.Goals as goal
-use Rattle.partial_replay.proofs.port.Port.make_step.Goals.{After-take, in-Some+in_ok-push-2, in_default}
+use Rattle.partial_replay.proofs.port.Port.make_other_step.Goals as goal
+use Rattle.partial_replay.proofs.port.Port.make_other_step.Goals.{After-take, in-Some+in_ok-push-2, in_default}
 
 -- the words behind the step
 words_are : (c : After-take) → c.match-entry_of.memory.words ≡ c.perform-step.new.words
