@@ -32,6 +32,16 @@ impl Model for PlainWords {
     ghost invariant = { λ w. (length w.stored.items ≤ w.count) × (w.count ≤ vec_capacity w.stored) };
 }
 
+impl From<Vec<u64>> for PlainWords {
+    ghost from_gives = { λ list words. words ≡ list.items };
+
+    /// The words of a list.
+    fn from(stored: Vec<u64>) -> Self {
+        let count = stored.len();
+        PlainWords { stored, count }
+    }
+}
+
 // Stores zeros until so many words are stored.
 #[inline(never)]
 fn store_up_to(stored: &mut Vec<u64>, count: usize)
