@@ -6,6 +6,7 @@ ghost use Rattle.std.specs.List.{AllByRecursion};
 use partial_model::Applied;
 use partial_replay::{PlainWords, Wanted};
 use std::alloc::{AllocError, Global};
+use std::process::Abort;
 use std::test::Fail;
 
 // The place of a scan in a history of four entries over two components: 7 for component 0, 30 for
@@ -43,7 +44,8 @@ fn place(
 
 /// Judges that the scan has that place.
 fn judge_place(
-    rt: &HostRuntime,
+    rt: &impl Abort,
+    alloc: Global,
     room: &mut Wanted,
     began: usize,
     components: &[u32],
@@ -55,7 +57,7 @@ fn judge_place(
     requires values { length values.now ≡ length components.now }
     ensures { room.new ≡ 2 }
 {
-    let found = place(rt.alloc(), room, began, components, values)?;
+    let found = place(alloc, room, began, components, values)?;
     assert_eq!(rt; found, expected);
     Ok(())
 }
@@ -63,34 +65,34 @@ fn judge_place(
 #[test]
 fn least_places(rt: HostRuntime) -> Result<(), Fail> {
     let mut room = Wanted::new(rt.alloc(), 2)?;
-    judge_place(&rt, &mut room, 0, &[0, 1], &[7, 30], 2)?;
-    judge_place(&rt, &mut room, 3, &[1, 0], &[30, 7], 4)?;
-    judge_place(&rt, &mut room, 4, &[0, 1], &[7, 30], 4)?;
-    judge_place(&rt, &mut room, 1, &[1], &[20], 1)?;
+    judge_place(&rt, rt.alloc(), &mut room, 0, &[0, 1], &[7, 30], 2)?;
+    judge_place(&rt, rt.alloc(), &mut room, 3, &[1, 0], &[30, 7], 4)?;
+    judge_place(&rt, rt.alloc(), &mut room, 4, &[0, 1], &[7, 30], 4)?;
+    judge_place(&rt, rt.alloc(), &mut room, 1, &[1], &[20], 1)?;
     Ok(())
 }
 
 #[test]
 fn value_set_back(rt: HostRuntime) -> Result<(), Fail> {
     let mut room = Wanted::new(rt.alloc(), 2)?;
-    judge_place(&rt, &mut room, 0, &[0], &[10], 0)?;
-    judge_place(&rt, &mut room, 1, &[0], &[10], 3)?;
-    judge_place(&rt, &mut room, 0, &[0, 1], &[10, 30], 3)?;
+    judge_place(&rt, rt.alloc(), &mut room, 0, &[0], &[10], 0)?;
+    judge_place(&rt, rt.alloc(), &mut room, 1, &[0], &[10], 3)?;
+    judge_place(&rt, rt.alloc(), &mut room, 0, &[0, 1], &[10, 30], 3)?;
     Ok(())
 }
 
 #[test]
 fn repeated_positions(rt: HostRuntime) -> Result<(), Fail> {
     let mut room = Wanted::new(rt.alloc(), 2)?;
-    judge_place(&rt, &mut room, 0, &[0, 0, 1], &[7, 7, 20], 1)?;
-    judge_place(&rt, &mut room, 1, &[0, 1, 0], &[10, 30, 10], 3)?;
+    judge_place(&rt, rt.alloc(), &mut room, 0, &[0, 0, 1], &[7, 7, 20], 1)?;
+    judge_place(&rt, rt.alloc(), &mut room, 1, &[0, 1, 0], &[10, 30, 10], 3)?;
     Ok(())
 }
 
 #[test]
 fn no_positions(rt: HostRuntime) -> Result<(), Fail> {
     let mut room = Wanted::new(rt.alloc(), 2)?;
-    judge_place(&rt, &mut room, 0, &[], &[], 0)?;
-    judge_place(&rt, &mut room, 2, &[], &[], 2)?;
+    judge_place(&rt, rt.alloc(), &mut room, 0, &[], &[], 0)?;
+    judge_place(&rt, rt.alloc(), &mut room, 2, &[], &[], 2)?;
     Ok(())
 }
