@@ -1,7 +1,8 @@
 //! The loads of slots of a getSet on plain words.
 
-ghost use Rattle.std.specs.Prelude.{◌≡◌, MatchOption, Some, slice_index};
+ghost use Rattle.std.specs.Prelude.{ℕ, ◌≡◌, IsSome, MatchOption, Some, slice_index};
 ghost use Rattle.partial_words.specs.declared.step.Step.TheVariants.{Load};
+ghost use Rattle.partial_active.specs.declared.get_set.Stage.TheVariants.{Slot};
 ghost use Rattle.partial_active.specs.GetSet.{advance_set, set_step_due};
 ghost use Rattle.partial_active.specs.GetSetAnswers.{SetGoesTogether, SetMayPerform};
 
@@ -16,7 +17,8 @@ impl GetSet {
     pub fn load_slot(&mut self, found: &mut Found, words: &PlainWords) -> Option<(u32, u64)>
         requires together { SetGoesTogether (self.old, found.old) }
         requires may { SetMayPerform (self.old, found.old) words.now }
-        ensures { MatchOption result ((self.new ≡ self.old) × (found.new ≡ found.old))
+        ensures some { (slot : ℕ) → self.old.stage ≡ Slot slot → IsSome result }
+        ensures made { MatchOption result ((self.new ≡ self.old) × (found.new ≡ found.old))
             (λ made. (set_step_due self.old ≡ Some (Load made.0)) × (made.1 ≡ slice_index words.now made.0) ×
             ((self.new, found.new) ≡ advance_set (self.old, found.old) made.1)) }
     {

@@ -1,8 +1,11 @@
 //! The state machine of a port on plain words.
 
-ghost use Rattle.std.specs.Prelude.{◌≡◌, ◌<◌, MatchOption, None, Some, slice_index};
+ghost use Rattle.std.specs.Prelude.{ℕ, ◌≡◌, ◌<◌, IsSome, MatchOption, None, Some, slice_index};
 ghost use Rattle.partial_words.specs.Step.{answer_of, words_after};
 ghost use Rattle.partial_words.specs.declared.step.Step.TheVariants.{Load};
+ghost use Rattle.partial_active.specs.declared.get_set.Stage.TheVariants.{Slot};
+ghost use Rattle.partial_machine.specs.declared.stage.Change.{Change};
+ghost use Rattle.partial_machine.specs.declared.stage.Stage.TheVariants.{GettingSet};
 ghost use Rattle.partial_machine.specs.Bounds.{steps_left};
 ghost use Rattle.partial_machine.specs.Machine.{advance, reply_of, step_of};
 ghost use Rattle.partial_machine.specs.Possible.{MayPerform};
@@ -35,6 +38,8 @@ impl Core {
     #[inline(always)]
     pub fn load_slot(&mut self, words: &PlainWords) -> Option<(u32, u64)>
         requires { MayPerform self.old words.now }
+        ensures some { (change : Change) (old slot : ℕ) → self.old.stage ≡ GettingSet change old →
+            self.old.get_set.stage ≡ Slot slot → IsSome result }
         ensures due { MatchOption result (self.new ≡ self.old) (λ made. step_of self.old ≡ Some (Load made.0)) }
         ensures answer { MatchOption result (self.new ≡ self.old) (λ made. made.1 ≡ slice_index words.now made.0) }
         ensures state { MatchOption result (self.new ≡ self.old) (λ made. self.new ≡ advance self.old made.1) }
