@@ -8,7 +8,7 @@ ghost use Rattle.partial_cmd.specs.Execution.{VerbWrites, IsBehindReading, IsJud
 use crate::fault::Fault;
 use crate::workers::run_workers;
 use partial_model::Checker;
-use partial_replay::{Device, Plan, replay_apart, write_outcome};
+use partial_replay::{Device, Plan, in_one_list, replay_apart, write_replayed};
 use partial_text::{write_report, write_text};
 use partial_workers::NoGate;
 use std::alloc::Global;
@@ -98,14 +98,15 @@ fn write_answer<H: Threads + Wait + Sync, W: Write>(
 {
     match verb {
         Verb::Replay => {
-            let (outcome, _) = replay_apart(alloc, plan)?;
-            write_outcome(alloc, &outcome, out)?;
+            let replayed = replay_apart(alloc, plan)?;
+            write_replayed(alloc, &replayed, out)?;
             Ok(Verdict::Done)
         }
         Verb::Check => {
-            let (outcome, _) = replay_apart(alloc, plan)?;
-            let checker = Checker::new(alloc, &outcome.opening, &outcome.history)?;
-            if checker.check(&outcome.calls) {
+            let replayed = replay_apart(alloc, plan)?;
+            let calls = in_one_list(alloc, replayed.calls)?;
+            let checker = Checker::new(alloc, &replayed.opening, &replayed.history)?;
+            if checker.check(&calls) {
                 write_text(b"lawful\n", out)?;
                 Ok(Verdict::Lawful)
             } else {

@@ -12,6 +12,8 @@ use Rattle.partial_model.specs.declared.history.Opening.{Opening}
 use Rattle.partial_model.specs.declared.call.Called.{Called}
 use Rattle.partial_words.specs.declared.step.Event.{Event}
 use Rattle.partial_text.specs.declared.outcome.Outcome.{Outcome}
+use Rattle.partial_text.specs.declared.replayed.Replayed.{Replayed}
+use Rattle.partial_text.specs.Replayed.{calls_in_order}
 use Rattle.std.specs.List.{AllByRecursion}
 use Rattle.partial_replay.specs.Place.{HasLeastPlace}
 use Rattle.partial_replay.specs.Trace.{event_entry, moments_by, ports_of, moments_from}
@@ -29,20 +31,27 @@ pub record OutcomeView : Type 0 where
   pub trace : List Event
   pub steps : ℕ
 
--- what an outcome tells but for its words, and these words
-abbrev pub view_with : Outcome → List ℕ → OutcomeView
-view_with outcome words = record {
+-- what an outcome tells
+abbrev pub outcome_view : Outcome → OutcomeView
+outcome_view outcome = record {
   opening = outcome.opening;
   history = outcome.history.items;
   calls = outcome.calls.items;
-  words = words;
+  words = outcome.words.items;
   trace = outcome.trace.items;
   steps = outcome.steps;
 }
 
--- what an outcome tells
-abbrev pub outcome_view : Outcome → OutcomeView
-outcome_view outcome = view_with outcome outcome.words.items
+-- what a replay has made, told as its outcome tells it
+abbrev pub replayed_view : Replayed → OutcomeView
+replayed_view replayed = record {
+  opening = replayed.opening;
+  history = replayed.history.items;
+  calls = calls_in_order replayed.calls.items;
+  words = replayed.words;
+  trace = replayed.trace.items;
+  steps = replayed.steps;
+}
 
 -- how long the history is at each turn of port q in the plan's turns
 abbrev pub turn_lengths : PlanView → OutcomeView → ℕ → List ℕ

@@ -11,7 +11,10 @@ mod run;
 mod wanted;
 
 pub use law::{answered_scans_make_their_steps, one_port_is_alone, plans_have_one_outcome};
-pub use partial_text::{Cause, Device, Outcome, OutcomeError, Plan, PlanError, write_outcome};
+pub use partial_text::{
+    Cause, Device, Outcome, OutcomeError, Plan, PlanError, Replayed, in_one_list, write_outcome,
+    write_replayed,
+};
 pub use partial_words::{Event, PlainWords};
 pub use replaying::{ReplayError, replay, replay_apart};
 pub use wanted::Wanted;

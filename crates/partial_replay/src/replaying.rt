@@ -1,11 +1,10 @@
 //! The replay of a whole plan.
 
 ghost use Rattle.std.specs.Prelude.{IfOk};
-ghost use Rattle.partial_replay.specs.Replayed.{IsReplayOf, outcome_view, view_with};
+ghost use Rattle.partial_replay.specs.Replayed.{IsReplayOf, outcome_view, replayed_view};
 
 use crate::run::Run;
-use partial_text::{Outcome, Plan};
-use partial_words::PlainWords;
+use partial_text::{Outcome, Plan, Replayed, in_one_list};
 use std::alloc::{AllocError, Global};
 use thiserror::Error;
 
@@ -49,19 +48,25 @@ impl From<AllocError> for ReplayError {
 pub fn replay(alloc: Global, plan: &Plan) -> Result<Outcome, ReplayError>
     ensures { IfOk result (λ outcome. IsReplayOf plan.now (outcome_view outcome)) }
 {
-    let (mut outcome, words) = replay_apart(alloc, plan)?;
-    outcome.words = words.into_vec();
-    Ok(outcome)
+    let replayed = replay_apart(alloc, plan)?;
+    Ok(Outcome {
+        opening: replayed.opening,
+        history: replayed.history,
+        calls: in_one_list(alloc, replayed.calls)?,
+        words: replayed.words.into_vec(),
+        trace: replayed.trace,
+        steps: replayed.steps,
+    })
 }
 
-/// Replays a plan as [`replay`] does. The outcome that it returns has no words: they stand beside it, and those that no
-/// step has reached aren't stored. For who needs no words: a plan may ask for many more than its calls use.
+/// Replays a plan as [`replay`] does, and returns what it has made as it was held: each port's calls in a list of their
+/// own, and no word stored that no step has reached. For who needs neither all calls in one list nor all words.
 ///
 /// # Errors
 ///
 /// As those of [`replay`].
-pub fn replay_apart(alloc: Global, plan: &Plan) -> Result<(Outcome, PlainWords), ReplayError>
-    ensures { IfOk result (λ told. IsReplayOf plan.now (view_with told.0 told.1)) }
+pub fn replay_apart(alloc: Global, plan: &Plan) -> Result<Replayed, ReplayError>
+    ensures { IfOk result (λ replayed. IsReplayOf plan.now (replayed_view replayed)) }
 {
     let plans = plan.ports();
     let mut run = Run::open(alloc, plan.sizes(), plan.initial(), plans)?;
@@ -73,5 +78,5 @@ pub fn replay_apart(alloc: Global, plan: &Plan) -> Result<(Outcome, PlainWords),
             run.to_the_end(alloc, p, plans)?;
         }
     }
-    Ok(run.into_outcome(alloc, plans)?)
+    Ok(run.into_replayed(alloc, plans)?)
 }

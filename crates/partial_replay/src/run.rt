@@ -4,7 +4,8 @@ ghost use Rattle.std.specs.Prelude.{◌≡◌, ◌<◌, ◌≤◌, ◌^◌, ◌+
 ghost use Rattle.std.specs.Bool.{OnTrue};
 ghost use Rattle.partial_words.specs.Layout.{IsLayout};
 ghost use Rattle.partial_words.specs.Chain.{AreOpeningWords};
-ghost use Rattle.partial_replay.specs.Replayed.{view_with};
+ghost use Rattle.partial_text.specs.Replayed.{calls_in_order};
+ghost use Rattle.partial_replay.specs.Replayed.{replayed_view};
 ghost use Rattle.partial_replay.specs.Inner.RunState.{AreFreshPorts, AreListed, calls_in, left_over};
 
 use crate::memory::Memory;
@@ -12,7 +13,7 @@ use crate::port::{Port, unfinished};
 use crate::wanted::Wanted;
 use partial_core::Core;
 use partial_model::{Call, Called, Opening, Sequence};
-use partial_text::Outcome;
+use partial_text::Replayed;
 use partial_words::{PlainWords, Sizes, Step};
 use std::alloc::{AllocError, Global};
 
@@ -207,17 +208,17 @@ impl Run {
         Ok(())
     }
 
-    /// Turns the replay into its outcome, without the words, and the words.
+    /// Returns what the replay has made.
     ///
     /// # Errors
     /// [`AllocError`] when an allocation was refused.
-    pub fn into_outcome(
+    pub fn into_replayed(
         self,
         alloc: Global,
         plans: &[Sequence<Call>],
-    ) -> Result<(Outcome, PlainWords), AllocError>
+    ) -> Result<Replayed, AllocError>
         requires { IsReplay plans.now self }
-        ensures { IfOk result (λ told. TellsOutcome plans.now self (view_with told.0 told.1)) }
+        ensures { IfOk result (λ replayed. TellsOutcome plans.now self (replayed_view replayed)) }
     {
         let Run {
             opening,
@@ -231,15 +232,14 @@ impl Run {
             ..
         } = memory;
         let steps = trace.len() as u64;
-        let outcome = Outcome {
+        Ok(Replayed {
             opening,
             history,
             calls: calls_of(alloc, ports, plans)?,
-            words: Vec::new(alloc),
+            words,
             trace,
             steps,
-        };
-        Ok((outcome, words))
+        })
     }
 }
 
@@ -266,40 +266,39 @@ fn fresh_ports(
     Ok(ports)
 }
 
-// Moves the calls that a port has begun behind these: the finished ones, and then the one that is left
-// unfinished.
-fn move_calls(
-    alloc: Global,
-    calls: &mut Vec<Called>,
-    port: &mut Port,
-    plan: &[Call],
-) -> Result<(), AllocError>
+// The calls that a port has begun: the finished ones, and then the one that is left unfinished.
+fn calls_of_port(alloc: Global, port: Port, plan: &[Call]) -> Result<Vec<Called>, AllocError>
     requires short { length plan.now < 2 ^ 32 }
-    requires within { IsSome port.old.under_way → length port.old.finished.items < length plan.now }
-    ensures { OnOk result (calls.new.items ≡ (calls.old.items ++ port.old.finished.items) ++
-        left_over port.old (slice_get plan.now (length port.old.finished.items)) port.old.under_way) }
+    requires within { IsSome port.under_way → length port.finished.items < length plan.now }
+    ensures { IfOk result (λ calls. calls.items ≡ port.finished.items ++
+        left_over port (slice_get plan.now (length port.finished.items)) port.under_way) }
 {
-    let done = port.finished.len();
-    calls.append(&mut port.finished)?;
-    if let Some(way) = port.under_way {
-        let call = unfinished(alloc, port.number, done as u32, &plan[done], way)?;
-        calls.push(call)?;
+    let Port {
+        number,
+        mut finished,
+        under_way,
+        ..
+    } = port;
+    if let Some(way) = under_way {
+        let done = finished.len();
+        let call = unfinished(alloc, number, done as u32, &plan[done], way)?;
+        finished.push(call)?;
     }
-    Ok(())
+    Ok(finished)
 }
 
-// The calls that the ports have begun, by port and then by number.
+// The calls that each port has begun, by port.
 fn calls_of(
     alloc: Global,
     ports: Vec<Port>,
     plans: &[Sequence<Call>],
-) -> Result<Vec<Called>, AllocError>
+) -> Result<Vec<Vec<Called>>, AllocError>
     requires { AreListed plans.now ports.items }
-    ensures { IfOk result (λ calls. calls.items ≡ calls_in plans.now ports.items) }
+    ensures { IfOk result (λ calls. calls_in_order calls.items ≡ calls_in plans.now ports.items) }
 {
-    let mut calls = Vec::new(alloc);
-    for (mut port, plan) in ports.into_iter().zip(plans) {
-        move_calls(alloc, &mut calls, &mut port, plan.as_slice())?;
+    let mut calls = Vec::with_capacity(alloc, ports.len())?;
+    for (port, plan) in ports.into_iter().zip(plans) {
+        calls.push(calls_of_port(alloc, port, plan.as_slice())?)?;
     }
     Ok(calls)
 }

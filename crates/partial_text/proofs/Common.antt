@@ -9,4 +9,4 @@ pub use Rattle.std.proofs.lemmas.Slice.Eq.{bytes_eq-Decides}
 pub use Rattle.partial_model.specs.declared.call.Call.{Call}
 pub use Rattle.partial_words.specs.Layout.{IsLayout, Layout, initial_words}
 pub use Rattle.partial_text.specs.declared.fault.PlanError.{PlanError}
-pub use Rattle.partial_text.specs.{Fault.{◌>>=◌, Fails, Gives, IsReaderFault}, Judging.{Tail, greatest, greatest_index, fields_of, number_at, in_range, sizes_at, initial_at, call_text_at, calls_at, is_cut, call_texts, port_line_at, is_nil, is_rest, entries_at, line_at, more_ports, is_end, last_at, tail_at, judged_plan, call_texts_behind, exactly_one, exactly_two, exactly_three, numbers_at, exactly_four}, Number.{number_of, with_digit, number_from}, OutcomeText.{values_of, call_line, entry_lines}, Pieces.{until, from, onto_first, pieces, pieces_behind}, PlanText.{PlanView, field, number_field, sizes_line, initial_line, call_text, next_call, port_line, entry_text, rest_text, steps_line, ended_line, plan_text, IsCall, IsTurnEntry, IsPlan, PlansHaveFewCalls}, ReportText.{answer_lines, port_lines}}
+pub use Rattle.partial_text.specs.{Fault.{◌>>=◌, Fails, Gives, IsReaderFault}, Judging.{Tail, greatest, greatest_index, fields_of, number_at, in_range, sizes_at, initial_at, call_text_at, calls_at, is_cut, call_texts, port_line_at, is_nil, is_rest, entries_at, line_at, more_ports, is_end, last_at, tail_at, judged_plan, call_texts_behind, exactly_one, exactly_two, exactly_three, numbers_at, exactly_four}, Number.{number_of, with_digit, number_from}, OutcomeText.{values_of, call_line, entry_lines}, Pieces.{until, from, onto_first, pieces, pieces_behind}, PlanText.{PlanView, field, number_field, sizes_line, initial_line, call_text, next_call, port_line, entry_text, rest_text, steps_line, ended_line, plan_text, IsCall, IsTurnEntry, IsPlan, PlansHaveFewCalls}, ReportText.{answer_lines, port_lines}, Replayed.calls_in_order}

@@ -7,5 +7,6 @@ pub mod DeviceView
 pub mod Seen
 pub mod SeenParts
 pub mod OutcomeText
+pub mod Replayed
 pub mod ReportText
 pub mod Inner

@@ -4,11 +4,13 @@ ghost use Rattle.std.specs.Prelude.{◌≡◌, ◌++◌, decimal, IfOk};
 ghost use Rattle.std.specs.List.{flat_map};
 ghost use Rattle.partial_text.specs.PlanText.{number_field};
 ghost use Rattle.partial_text.specs.OutcomeText.{entry_line, entry_lines, optional_field, told_place, answer_front, place_field, answer_back, answer_text, finish_text, ended_of, call_line, values_of, values_line, total_line, outcome_text};
+ghost use Rattle.partial_text.specs.Replayed.{calls_in_order};
 ghost use Rattle.partial_text.specs.Inner.Telling.{TellsBytes, telling};
 
 use crate::device::Device;
 use crate::gathered::Gathered;
 use crate::outcome::Outcome;
+use crate::replayed::Replayed;
 use itoa::Buffer;
 use partial_model::{Answer, Applied, Called, Finish, Note, Opening};
 use std::alloc::{AllocError, Global};
@@ -204,6 +206,16 @@ fn tell_calls<W: Write>(text: &mut Gathered, out: &mut Device<W>, calls: &[Calle
     }
 }
 
+/// Tells the lines of the calls, one port's behind the other's.
+fn tell_calls_of_ports<W: Write>(text: &mut Gathered, out: &mut Device<W>, ports: &[Vec<Called>])
+    ensures { TellsBytes (telling W.contents text.old out.old) (flat_map call_line (calls_in_order ports.now))
+        (telling W.contents text.new out.new) }
+{
+    for calls in ports {
+        tell_calls(text, out, calls);
+    }
+}
+
 /// The values of the components after the history.
 pub(crate) fn final_values(
     alloc: Global,
@@ -258,4 +270,24 @@ pub(crate) fn tell_outcome<W: Write>(
     tell_calls(text, out, &outcome.calls);
     tell_values(text, out, values);
     tell_total(text, out, outcome.steps);
+}
+
+/// Tells the text of what a replay has made. `values` are those of the components after its history.
+#[tactic(auto, using(crate::proofs::Telling::tellings))]
+pub(crate) fn tell_replayed<W: Write>(
+    text: &mut Gathered,
+    out: &mut Device<W>,
+    replayed: &Replayed,
+    values: &[u64],
+)
+    requires { values.now ≡ values_of replayed.now.opening replayed.now.history.items }
+    ensures { TellsBytes (telling W.contents text.old out.old)
+        (outcome_text replayed.now.opening replayed.now.history.items
+        (calls_in_order replayed.now.calls.items) replayed.now.steps)
+        (telling W.contents text.new out.new) }
+{
+    tell_entries(text, out, &replayed.history);
+    tell_calls_of_ports(text, out, &replayed.calls);
+    tell_values(text, out, values);
+    tell_total(text, out, replayed.steps);
 }

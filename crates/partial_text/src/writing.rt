@@ -2,6 +2,7 @@
 
 ghost use Rattle.std.specs.Prelude.{◌≡◌, ◌≤◌, ◌↔◌, ℕ, ◌++◌, true, false, length, take, OnOk, OnErr, IfOk, IsErrOf};
 ghost use Rattle.partial_text.specs.OutcomeText.{outcome_text};
+ghost use Rattle.partial_text.specs.Replayed.{calls_in_order};
 ghost use Rattle.partial_text.specs.ReportText.{report_text};
 ghost use Rattle.std.specs.Io.KnownBytes.{Appends};
 
@@ -9,7 +10,8 @@ use crate::device::Device;
 use crate::fault::OutcomeError;
 use crate::gathered::Gathered;
 use crate::outcome::Outcome;
-use crate::outcome_text::{final_values, tell_outcome};
+use crate::outcome_text::{final_values, tell_outcome, tell_replayed};
+use crate::replayed::Replayed;
 use crate::report::RunReport;
 use crate::report_text::tell_report;
 use std::alloc::Global;
@@ -65,6 +67,33 @@ pub fn write_outcome<W: Write>(
     let values = final_values(alloc, &outcome.opening, &outcome.history)?;
     let mut text = Gathered::new(alloc)?;
     tell_outcome(&mut text, writer, outcome, &values);
+    text.end(writer)
+}
+
+/// Writes the text of what a replay has made: that of its outcome, as [`write_outcome`] writes it.
+///
+/// # Errors
+///
+/// As those of [`write_outcome`].
+pub fn write_replayed<W: Write>(
+    alloc: Global,
+    replayed: &Replayed,
+    writer: &mut Device<W>,
+) -> Result<(), OutcomeError>
+    requires { writer.old.failed ≡ false }
+    ensures ok { OnOk result (Appends (W.contents writer.old.inner) (W.contents writer.new.inner)
+        (outcome_text replayed.now.opening replayed.now.history.items
+        (calls_in_order replayed.now.calls.items) replayed.now.steps)) }
+    ensures part { OnErr result ((n : ℕ)
+        × Appends (W.contents writer.old.inner) (W.contents writer.new.inner)
+        (take n (outcome_text replayed.now.opening replayed.now.history.items
+        (calls_in_order replayed.now.calls.items) replayed.now.steps))) }
+    ensures fault { IsErrOf result OutcomeError.Write ↔ (writer.new.failed ≡ true) }
+    ensures memory { IsErrOf result OutcomeError.Memory → writer.new ≡ writer.old }
+{
+    let values = final_values(alloc, &replayed.opening, &replayed.history)?;
+    let mut text = Gathered::new(alloc)?;
+    tell_replayed(&mut text, writer, replayed, &values);
     text.end(writer)
 }
 

@@ -1,5 +1,5 @@
-//! Tests of replays, of the place of a scan in a history, of texts, and of the commands of the program, from text to
-//! text: plans whose outcomes were worked out by hand, plans that are refused, and devices that fail.
+//! Tests of replays, of the place of a scan in a history, and of the commands of the program, from text to text: plans
+//! whose outcomes were worked out by hand, plans that are refused, and devices that fail.
 #![tactic(auto)]
 
 #[cfg(test)]

@@ -5,8 +5,9 @@ mod stopped;
 mod words;
 
 use crate::texts::judge_text;
-use partial_replay::{Device, Outcome, Plan, replay, write_outcome};
+use partial_replay::{Device, Outcome, Plan, replay, replay_apart, write_outcome, write_replayed};
 use std::alloc::Global;
+use std::process::Abort;
 use std::test::Fail;
 
 /// What comes of the plan with this text.
@@ -15,12 +16,16 @@ pub(crate) fn replayed(alloc: Global, text: &[u8]) -> Result<Outcome, Fail> {
     Ok(replay(alloc, &plan)?)
 }
 
-/// The text of the outcome of the plan with this text.
-fn outcome_text(alloc: Global, text: &[u8]) -> Result<Vec<u8>, Fail> {
-    let outcome = replayed(alloc, text)?;
+/// Judges the text of the outcome of the plan with this text, and that of what its replay has made.
+fn judge_replay(rt: &impl Abort, alloc: Global, text: &[u8], expected: &[u8]) -> Result<(), Fail> {
+    let plan = Plan::read(alloc, &mut Device::new(text))?;
     let mut writer = Device::new(Vec::new(alloc));
-    write_outcome(alloc, &outcome, &mut writer)?;
-    Ok(writer.into_inner())
+    write_outcome(alloc, &replay(alloc, &plan)?, &mut writer)?;
+    judge_text(rt, &writer.into_inner(), expected);
+    let mut writer = Device::new(Vec::new(alloc));
+    write_replayed(alloc, &replay_apart(alloc, &plan)?, &mut writer)?;
+    judge_text(rt, &writer.into_inner(), expected);
+    Ok(())
 }
 
 // Texts and tables are results of functions, whose contents no proof of a test has to know.
@@ -40,7 +45,5 @@ total 16
 
 #[test]
 fn lost_exchange(rt: HostRuntime) -> Result<(), Fail> {
-    let text = outcome_text(rt.alloc(), two_updates())?;
-    judge_text(&rt, &text, their_outcome());
-    Ok(())
+    judge_replay(&rt, rt.alloc(), two_updates(), their_outcome())
 }

@@ -1,11 +1,4 @@
-//! The texts of plans, outcomes and reports, and devices that fail.
-
-mod growths;
-mod plans;
-mod readers;
-mod reports;
-mod scans;
-mod writers;
+//! Texts that are made of parts, and judged.
 
 use std::alloc::{AllocError, Global};
 use std::process::Abort;

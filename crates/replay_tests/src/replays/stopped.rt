@@ -1,7 +1,6 @@
 //! A port that stops forever after any of its steps, and another one that no stop holds up.
 
-use super::{outcome_text, replayed};
-use crate::texts::judge_text;
+use super::{judge_replay, replayed};
 use partial_model::{Answer, Called, Finish, Note, check_outcome};
 use partial_replay::Outcome;
 use std::alloc::{AllocError, Global};
@@ -159,9 +158,7 @@ total 27
 // A scan that stops behind its last step is as any other that no update met.
 #[test]
 fn scanner_stopped_behind_its_scan(rt: HostRuntime) -> Result<(), Fail> {
-    let text = outcome_text(rt.alloc(), scan_then_update())?;
-    judge_text(&rt, &text, their_outcome());
-    Ok(())
+    judge_replay(&rt, rt.alloc(), scan_then_update(), their_outcome())
 }
 
 #[test]

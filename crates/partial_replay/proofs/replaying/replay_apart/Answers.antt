@@ -1,4 +1,4 @@
-use Rattle.partial_replay.proofs.{Common.{ℕ, ◌≡◌, ◌++◌, ◌∙◌, Bool, false, if◌then◌else◌, List, [], length, slice_index_or, Option, Some, None, map, take, ap, subst, sym, arith, ◌<◌, ◌≤◌, IsLayout, range_with_len, take_all, false≢true, Call, Run, TellsOutcome, ArePlans, StopAtSteps, TurnsMade, IsReplayOf, AllByRecursion-get, IsTurnEntry, Layout, ports_of, so_many, to_its_end, turns_of, HasReplayed, view_with}, Plans.are_plans, PortLaws.get_is, Replays.replay_told, RunTurns.next_turns, TurnLaws.{next_steps, all_steps, next_end, ending_next}}
+use Rattle.partial_replay.proofs.{Common.{ℕ, ◌≡◌, ◌++◌, ◌∙◌, Bool, false, if◌then◌else◌, List, [], length, slice_index_or, Option, Some, None, map, take, ap, subst, sym, arith, ◌<◌, ◌≤◌, IsLayout, range_with_len, take_all, false≢true, Call, Run, TellsOutcome, ArePlans, StopAtSteps, TurnsMade, IsReplayOf, AllByRecursion-get, IsTurnEntry, Layout, ports_of, so_many, to_its_end, turns_of, HasReplayed, replayed_view}, Plans.are_plans, PortLaws.get_is, Replays.replay_told, RunTurns.next_turns, TurnLaws.{next_steps, all_steps, next_end, ending_next}}
 use Rattle.partial_replay.specs.Inner.RunState.{IsReplay}
 use Rattle.partial_replay.proofs.replaying.replay_apart.Goals.{then-rest+else-loop-p-then-rest-test, else-rest}
 use Rattle.partial_replay.proofs.replaying.replay_apart.Goals as goal
@@ -27,8 +27,8 @@ to_the_end-requires-clause-between c = c.loop-p-then-rest.invariant.between
 pub to_the_end-requires-clause-port : goal.to_the_end-requires-clause-port
 to_the_end-requires-clause-port c = c.loop-p-then-rest-test.true
 
-pub into_outcome-requires : goal.into_outcome-requires
-into_outcome-requires c =
+pub into_replayed-requires : goal.into_replayed-requires
+into_replayed-requires c =
     elim c.if-rest.branch [
       | then-rest+else-loop-p-then-rest-test w ↦ subst (IsReplay c.ports-plans.result.now) (sym w.run-is) w.loop-p-then-rest.invariant.between.replay
       | else-rest w ↦ subst (IsReplay c.ports-plans.result.now) (sym w.run-is) c.loop-p.invariant.replayed.between.replay
@@ -38,12 +38,11 @@ pub returns : goal.returns
 returns c =
     let p = c.args.plan.now in
     let plans = c.ports-plans.result.now in
-    let told = c.in_ok-into_outcome.field-0 in
-    let outcome = view_with told.0 told.1 in
+    let outcome = replayed_view c.in_ok-into_replayed.field-0 in
     let is = c.ports-plans.ensures.value in
     let ends_told : (run : Run) → c.if-rest.run ≡ run → HasReplayed p plans (turns_of p) run → (p.rest ≡ false → StopAtSteps p.steps run) → IsReplayOf p outcome = λ run same w ends.
     replay_told p run outcome (subst (λ (l : List (List Call)). HasReplayed p l (turns_of p) run) is w) ends
-    (subst (λ (l : List (List Call)). TellsOutcome l run outcome) is (subst (λ (v : Run). TellsOutcome plans v outcome) same c.in_ok-into_outcome.ensures)) in
+    (subst (λ (l : List (List Call)). TellsOutcome l run outcome) is (subst (λ (v : Run). TellsOutcome plans v outcome) same c.in_ok-into_replayed.ensures)) in
     let steps : length c.steps-p-items.result.now ≡ length p.steps = ap length c.steps-p-items.ensures.value in
     let front = all_steps p.steps c.loop-p.p-index (omega (arith, c.loop-p-test.false, steps)) in
     elim c.if-rest.branch [

@@ -1,6 +1,6 @@
 //! Readers that return little at a time, fail, or never end.
 
-use super::repeated;
+use crate::texts::repeated;
 use partial_text::{Cause, Device, Plan, PlanError};
 use std::alloc::Global;
 use std::io;

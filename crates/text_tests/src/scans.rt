@@ -1,7 +1,7 @@
 //! Which texts are plans with scans, and the first fault of those that are not.
 
-use super::plans::{is_plan, judge_front, line, plan_of, read, refusal};
-use super::repeated;
+use crate::plans::{is_plan, judge_front, line, plan_of, read, refusal};
+use crate::texts::repeated;
 use itoa::Buffer;
 use partial_model::Call;
 use partial_text::{Cause, Plan, PlanError};

@@ -1,7 +1,7 @@
 //! The text of a report or of two, and writers that stop within it.
 
-use super::judge_text;
-use super::writers::{Sink, judge_stop};
+use crate::texts::judge_text;
+use crate::writers::{Sink, judge_stop};
 use partial_model::{Answer, Refused, Sequence};
 use partial_text::{Device, OutcomeError, RunReport, write_report, write_reports};
 use std::alloc::{AllocError, Global};
@@ -79,7 +79,7 @@ fn last_answers(alloc: Global) -> Result<Vec<Answer>, AllocError> {
 }
 
 /// Calls of three ports with each form of answer, the second port with none.
-pub(super) fn each_answer(alloc: Global) -> Result<RunReport, AllocError> {
+pub(crate) fn each_answer(alloc: Global) -> Result<RunReport, AllocError> {
     let first = first_answers(alloc)?;
     let last = last_answers(alloc)?;
     Ok(RunReport {

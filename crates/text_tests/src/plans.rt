@@ -1,6 +1,6 @@
 //! Which texts are plans, and the first fault of those that are not.
 
-use super::repeated;
+use crate::texts::repeated;
 use partial_model::Call;
 use partial_text::{Cause, Device, Plan, PlanError};
 use partial_words::{SizeError, Sizes};
@@ -13,16 +13,16 @@ fn whole() -> &'static [u8] {
     b"sizes 2 4 8 64\ninitial 10 20\nport update 0 7; read 0\nsteps rest\n"
 }
 
-pub(super) fn read(alloc: Global, text: &[u8]) -> Result<Plan, PlanError> {
+pub(crate) fn read(alloc: Global, text: &[u8]) -> Result<Plan, PlanError> {
     Plan::read(alloc, &mut Device::new(text))
 }
 
-pub(super) fn line(line: u32, cause: Cause) -> PlanError {
+pub(crate) fn line(line: u32, cause: Cause) -> PlanError {
     PlanError::Line { line, cause }
 }
 
 /// The plan with this text, when it is one.
-pub(super) fn plan_of(alloc: Global, text: &[u8]) -> Result<Plan, &'static str> {
+pub(crate) fn plan_of(alloc: Global, text: &[u8]) -> Result<Plan, &'static str> {
     read(alloc, text).ok().ok_or("the text is a plan")
 }
 
@@ -45,7 +45,7 @@ fn with_line(alloc: Global, number: usize, other: &[u8]) -> Result<Vec<u8>, Allo
 }
 
 /// The refusal of that plan.
-pub(super) fn refusal(
+pub(crate) fn refusal(
     alloc: Global,
     number: usize,
     other: &[u8],
@@ -208,12 +208,12 @@ fn plan_refusals(rt: HostRuntime) -> Result<(), Fail> {
     Ok(())
 }
 
-pub(super) fn is_plan(alloc: Global, text: &[u8]) -> bool {
+pub(crate) fn is_plan(alloc: Global, text: &[u8]) -> bool {
     read(alloc, text).is_ok()
 }
 
 /// Judges that a plan ends too early, in the line with that number.
-pub(super) fn judge_front(rt: &impl Abort, alloc: Global, front: &[u8], number: u32) {
+pub(crate) fn judge_front(rt: &impl Abort, alloc: Global, front: &[u8], number: u32) {
     let given = read(alloc, front).err();
     let length = front.len();
     assert_eq!(rt; given, Some(line(number, Cause::End)), "{length} bytes");

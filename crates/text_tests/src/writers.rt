@@ -1,8 +1,9 @@
 //! The text of an outcome, and writers that take little, nothing or fail.
 
-use super::judge_text;
+use crate::texts::judge_text;
 use partial_model::{Answer, Applied, Call, Called, Finish, Note, Opening, Refused, Sequence};
-use partial_text::{Device, Outcome, OutcomeError, write_outcome};
+use partial_text::{Device, Outcome, OutcomeError, Replayed, in_one_list, write_outcome, write_replayed};
+use partial_words::PlainWords;
 use std::alloc::{AllocError, Global};
 use std::io;
 use std::io::Write;
@@ -11,7 +12,7 @@ use std::test::Fail;
 
 /// Takes at most so many bytes a write, and fails or takes none when it is full.
 #[derive(Drop)]
-pub(super) struct Sink {
+pub(crate) struct Sink {
     taken: Vec<u8>,
     step: usize,
     room: usize,
@@ -20,7 +21,7 @@ pub(super) struct Sink {
 
 impl Sink {
     /// Has taken nothing yet.
-    pub(super) fn new(alloc: Global, step: usize, room: usize, takes_none: bool) -> Sink {
+    pub(crate) fn new(alloc: Global, step: usize, room: usize, takes_none: bool) -> Sink {
         Sink {
             taken: Vec::new(alloc),
             step,
@@ -47,7 +48,7 @@ impl Write for Sink {
 }
 
 /// Judges that the sink has failed when it had taken as much of the text as it has room for.
-pub(super) fn judge_stop(
+pub(crate) fn judge_stop(
     rt: &impl Abort,
     given: Result<(), OutcomeError>,
     device: Device<Sink>,
@@ -209,6 +210,31 @@ fn outcome_is_written(rt: HostRuntime) -> Result<(), Fail> {
     judge_outcome(&rt, rt.alloc(), &outcome, row())
 }
 
+/// A replay with these calls of its ports, and nothing else.
+pub(crate) fn replay_of(
+    alloc: Global,
+    ports: Vec<Vec<Called>>,
+    steps: u64,
+) -> Result<Replayed, AllocError> {
+    Ok(Replayed {
+        opening: opening(alloc)?,
+        history: Vec::new(alloc),
+        calls: ports,
+        words: PlainWords::from(Vec::new(alloc)),
+        trace: Vec::new(alloc),
+        steps,
+    })
+}
+
+/// Each form of answer, in the calls of two ports that have a port without calls between them.
+pub(crate) fn each_answer_by_port(alloc: Global) -> Result<Vec<Vec<Called>>, AllocError> {
+    let mut first = Vec::new(alloc);
+    push_scans(alloc, &mut first)?;
+    let mut others = Vec::new(alloc);
+    push_others(&mut others)?;
+    Ok(vec![in alloc; first, Vec::new(alloc), others]?)
+}
+
 fn text_of_each_answer() -> &'static [u8] {
     b"call 0 0 lost 27 place 0 steps 8 span 0 1
 call 0 1 scanned 10 10 20 prefix 0 collects 2 borrowed - steps 17 span 0 0
@@ -231,6 +257,22 @@ fn each_answer_is_written(rt: HostRuntime) -> Result<(), Fail> {
     judge_outcome(&rt, rt.alloc(), &outcome, text_of_each_answer())
 }
 
+#[test]
+fn each_answer_of_a_replay_is_written(rt: HostRuntime) -> Result<(), Fail> {
+    let replayed = replay_of(rt.alloc(), each_answer_by_port(rt.alloc())?, 51)?;
+    let mut device = Device::new(Vec::new(rt.alloc()));
+    write_replayed(rt.alloc(), &replayed, &mut device)?;
+    judge_text(&rt, &device.into_inner(), text_of_each_answer());
+    Ok(())
+}
+
+#[test]
+fn calls_of_ports_are_put_in_one_list(rt: HostRuntime) -> Result<(), Fail> {
+    let calls = in_one_list(rt.alloc(), each_answer_by_port(rt.alloc())?)?;
+    let outcome = outcome_of(rt.alloc(), Vec::new(rt.alloc()), calls, 51)?;
+    judge_outcome(&rt, rt.alloc(), &outcome, text_of_each_answer())
+}
+
 /// Adds the calls of a scan and of the two updates that overtook it.
 fn push_overtaken(alloc: Global, calls: &mut Vec<Called>) -> Result<(), AllocError> {
     let borrowed = scanned(alloc, &[5], 3, Some(32))?;
@@ -243,7 +285,7 @@ fn push_overtaken(alloc: Global, calls: &mut Vec<Called>) -> Result<(), AllocErr
 }
 
 /// A scan that two updates overtook twice, so that its value is the borrowed one.
-pub(super) fn borrowed_scan(alloc: Global) -> Result<Outcome, AllocError> {
+pub(crate) fn borrowed_scan(alloc: Global) -> Result<Outcome, AllocError> {
     let applied = |value: u64, stamp: u64| Applied {
         port: 1,
         component: 0,
@@ -358,6 +400,22 @@ fn judge_stops(rt: &impl Abort, alloc: Global, outcome: &Outcome, row: &[u8]) {
 fn each_stop(rt: HostRuntime) -> Result<(), Fail> {
     let outcome = write_then_read(rt.alloc())?;
     judge_stops(&rt, rt.alloc(), &outcome, row());
+    Ok(())
+}
+
+/// Judges writers of what a replay has made, each of which stops behind another part of its text.
+fn judge_replay_stops(rt: &impl Abort, alloc: Global, replayed: &Replayed, text: &[u8]) {
+    for room in 0..text.len() {
+        let mut device = Device::new(Sink::new(alloc, 7, room, false));
+        let given = write_replayed(alloc, replayed, &mut device);
+        judge_stop(rt, given, device, text, room);
+    }
+}
+
+#[test]
+fn each_stop_of_a_replay(rt: HostRuntime) -> Result<(), Fail> {
+    let replayed = replay_of(rt.alloc(), each_answer_by_port(rt.alloc())?, 51)?;
+    judge_replay_stops(&rt, rt.alloc(), &replayed, text_of_each_answer());
     Ok(())
 }
 

@@ -1,9 +1,12 @@
 //! Allocations that are refused, one after another. The script that runs these tests says which.
 
-use super::plans::read;
-use super::reports::each_answer;
-use super::writers::borrowed_scan;
-use partial_text::{Device, OutcomeError, PlanError, write_outcome, write_report, write_reports};
+use crate::plans::read;
+use crate::reports::each_answer;
+use crate::writers::{borrowed_scan, each_answer_by_port, replay_of};
+use partial_text::{
+    Device, OutcomeError, PlanError, in_one_list, write_outcome, write_replayed, write_report,
+    write_reports,
+};
 use std::alloc::AllocError;
 use std::io;
 use std::io::Write;
@@ -78,6 +81,23 @@ fn a_refused_growth_writes_nothing(rt: HostRuntime) -> Result<(), Fail> {
     let mut device = Device::new(Counter { taken: 0 });
     let given = write_outcome(rt.alloc(), &outcome, &mut device);
     judge(&rt, given, device)
+}
+
+// The same with what a replay has made.
+#[test]
+fn a_refused_growth_writes_no_replay(rt: HostRuntime) -> Result<(), Fail> {
+    let replayed = replay_of(rt.alloc(), each_answer_by_port(rt.alloc())?, 51)?;
+    let mut device = Device::new(Counter { taken: 0 });
+    let given = write_replayed(rt.alloc(), &replayed, &mut device);
+    judge(&rt, given, device)
+}
+
+// When an allocation is refused, there is no list of all calls, and the test ends with that refusal.
+#[test]
+fn a_refused_growth_lists_no_calls(rt: HostRuntime) -> Result<(), Fail> {
+    let ports = each_answer_by_port(rt.alloc())?;
+    assert_eq!(rt; in_one_list(rt.alloc(), ports)?.len(), 9);
+    Ok(())
 }
 
 // The same with a report.

@@ -1,5 +1,5 @@
 use Rattle.partial_replay.proofs.{Common.{refl, arith}, Opens.run_listed}
-use Rattle.partial_replay.proofs.run.Run.into_outcome.Goals as goal
+use Rattle.partial_replay.proofs.run.Run.into_replayed.Goals as goal
 
 pub calls_of-requires : goal.calls_of-requires
 calls_of-requires c = run_listed c.args.self.memory.sizes.m c.requires.state.fit c.requires.served
