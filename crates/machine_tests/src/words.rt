@@ -5,3 +5,4 @@ mod list;
 mod plain;
 mod record;
 mod sizes;
+mod trace;

@@ -53,7 +53,7 @@ fresh_at z p (suc i) (u ∷ ports) port w t =
     (f.0 ∙ ap (fresh z) next, f.1, f.2)
 
 -- fresh ports have made no call
-fresh_made : (plans : List (List Call)) (s : ReplayState) → s.memory.trace.items ≡ [] → FreshFrom s.sizes 0 s.ports → ArePortsMade plans s
+fresh_made : (plans : List (List Call)) (s : ReplayState) → s.memory.trace ≡ [] → FreshFrom s.sizes 0 s.ports → ArePortsMade plans s
 fresh_made plans s none w q calls port at =
     let f = fresh_at s.sizes 0 q s.ports port w at.is in
     let here : 0 + q ≡ q = omega arith in
@@ -89,7 +89,7 @@ fresh_turned z ports w q calls port t =
 
 -- a replay opens lawful
 pub opens_run : (plans : List (List Call)) (s : ReplayState) → IsLayout s.sizes → length s.opening.values ≡ s.sizes.m → s.opening.first ≡ pool_base s.sizes →
-    AreOpeningWords s.sizes s.opening.values s.memory.words → s.memory.history.items ≡ [] → s.memory.trace.items ≡ [] → length plans ≤ 64 → AreFreshPorts s.sizes (length plans) s.ports →
+    AreOpeningWords s.sizes s.opening.values s.memory.words → s.memory.history.items ≡ [] → s.memory.trace ≡ [] → length plans ≤ 64 → AreFreshPorts s.sizes (length plans) s.ports →
     IsRunOf plans s
 opens_run plans s sizes values first opening empty none few fresh =
     let words = s.memory.words in

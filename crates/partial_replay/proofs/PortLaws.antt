@@ -440,7 +440,7 @@ answer_idle s (Reply.Changed by) = refl
 -- a step that ends its call
 pub step_ended : (calls : List Call) (old now : Memory) (port new : Port) (step : Step) (way : UnderWay) (a : ℕ) (core' core'' : CoreState) (r : Reply) (call : Call) (called : Called) →
     step_of port.core ≡ Some step → port.under_way ≡ Some way → IsPossible port.core (answer_of old.words step) → a ≡ answer_of old.words step →
-    now.words ≡ words_after old.words step → now.trace.items ≡ old.trace.items ++ record { port = port.number; step = step; answer = a } ∷ [] →
+    now.words ≡ words_after old.words step → now.trace ≡ old.trace ++ record { port = port.number; step = step; answer = a } ∷ [] →
     now.history.items ≡ old.history.items ++ entry_at port.core.sizes.m now.words port.number step a → core' ≡ advance port.core a → steps_left core' < steps_left port.core →
     reply_of core' ≡ Some r → core'' ≡ at_stage core' Idle → slice_get calls (length port.finished.items) ≡ Some call →
     IsEndedCall port.number (length port.finished.items) call (one_step_more way) now.words now.history.items (answer_for core' r) called → new.number ≡ port.number → new.core ≡ core'' →
@@ -466,7 +466,7 @@ step_ended calls old now port new step way a core' core'' r call called due was 
       was = was;
       possible = possible;
       words_are = words_are;
-      trace_is = trace_is ∙ ap (λ n. old.trace.items ++ record { port = port.number; step = step; answer = n } ∷ []) answer;
+      trace_is = trace_is ∙ ap (λ n. old.trace ++ record { port = port.number; step = step; answer = n } ∷ []) answer;
       log_is = log_is ∙ ap (λ n. old.history.items ++ entry_at port.core.sizes.m now.words port.number step n) answer;
       number = number;
       falls = subst (λ (s : CoreState). steps_left s < steps_left port.core) moved falls;

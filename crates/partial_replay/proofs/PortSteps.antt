@@ -211,16 +211,16 @@ by_push m q n k trace e before behind =
 
 -- a step of port i, and a call that begins there
 pub ports_step : {plans : List (List Call)} (s : ReplayState) {now : Memory} {i : ℕ} {calls : List Call} {port new : Port} → ArePortsMade plans s →
-    length s.memory.history.items ≡ long_by s.sizes.m 0 s.memory.trace.items → length now.history.items ≡ long_by s.sizes.m 0 now.trace.items → AreStartedBut i s.ports →
+    length s.memory.history.items ≡ long_by s.sizes.m 0 s.memory.trace → length now.history.items ≡ long_by s.sizes.m 0 now.trace → AreStartedBut i s.ports →
     PortAt plans s.ports i calls port → port.number ≡ i → StepMade calls s.memory now port new → ArePortsMade plans (record s { memory = now; ports = slice_set s.ports i new })
 ports_step s {now} {calls} {port} {new} made before behind started at number m q =
     let n = length now.history.items in
     let x = moment_of s.memory now port.number m.step in
-    let front = moments_by s.sizes.m q s.memory.trace.items in
-    let push : (b : Bool) → (port.number == q) ≡ b → front ++ (if b then x ∷ [] else []) ≡ moments_by s.sizes.m q now.trace.items = λ b is.
-    sym (ap (moments_by s.sizes.m q) m.trace_is ∙ by_push s.sizes.m q (length s.memory.history.items) n s.memory.trace.items x.event before (behind ∙ ap (long_by s.sizes.m 0) m.trace_is)
+    let front = moments_by s.sizes.m q s.memory.trace in
+    let push : (b : Bool) → (port.number == q) ≡ b → front ++ (if b then x ∷ [] else []) ≡ moments_by s.sizes.m q now.trace = λ b is.
+    sym (ap (moments_by s.sizes.m q) m.trace_is ∙ by_push s.sizes.m q (length s.memory.history.items) n s.memory.trace x.event before (behind ∙ ap (long_by s.sizes.m 0) m.trace_is)
     ∙ ap (λ (c : Bool). front ++ (if c then x ∷ [] else [])) is) in
-    at_set new at q (λ ds u. PortMade s.sizes n ds q (moments_by s.sizes.m q now.trace.items) u)
+    at_set new at q (λ ds u. PortMade s.sizes n ds q (moments_by s.sizes.m q now.trace) u)
     (λ same here. subst (λ (xs : List Moment). PortMade s.sizes n calls q xs new) (push true (same_eqb port.number q (number ∙ sym same))) (step_made m (made q calls port here)))
     (λ other ds u here. subst (λ (xs : List Moment). PortMade s.sizes n ds q xs u) (sym (append-nil front) ∙ push false (ne_eqb port.number q (λ h. other (sym h ∙ number))))
     (other_made n (λ v way. started q u v other here.is way) (made q ds u here)))
@@ -228,7 +228,7 @@ ports_step s {now} {calls} {port} {new} made before behind started at number m q
 pub ports_begin : {plans : List (List Call)} (s : ReplayState) {i : ℕ} {calls : List Call} {port new : Port} → ArePortsMade plans s → PortAt plans s.ports i calls port →
     KeepsMade calls (length s.memory.history.items) port new → ArePortsMade plans (record s { ports = slice_set s.ports i new })
 ports_begin s {calls} {port} {new} made at keeps q =
-    let xs = moments_by s.sizes.m q s.memory.trace.items in
+    let xs = moments_by s.sizes.m q s.memory.trace in
     at_set new at q (λ ds u. PortMade s.sizes (length s.memory.history.items) ds q xs u)
     (λ same here. keeps s.sizes q xs (made q calls port here)) (λ other. made q)
 

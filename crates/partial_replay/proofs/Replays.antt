@@ -70,10 +70,10 @@ module _ {plans : List (List Call)} {s : ReplayState} (w : IsRunOf plans s) wher
   past_told q past = each_lists AreAllMade q (λ l. let below = place_below plans q l.calls l.at.plan in absurd (omega (arith, below, past))) (λ _. (refl, tt))
 
   -- each port's events are the steps of the calls that it lists
-  pub events_told : AreStarted s.ports → (q : ℕ) → (last : CoreState) × AreStepsOf (fresh s.sizes q) (calls_by q listed) (moments_by s.sizes.m q s.memory.trace.items) last
-  events_told started q = each_lists (λ _ cs. (last : CoreState) × AreStepsOf (fresh s.sizes q) cs (moments_by s.sizes.m q s.memory.trace.items) last) q
+  pub events_told : AreStarted s.ports → (q : ℕ) → (last : CoreState) × AreStepsOf (fresh s.sizes q) (calls_by q listed) (moments_by s.sizes.m q s.memory.trace) last
+  events_told started q = each_lists (λ _ cs. (last : CoreState) × AreStepsOf (fresh s.sizes q) cs (moments_by s.sizes.m q s.memory.trace) last) q
       (λ l. steps_begun l.part.fits (w.made q l.calls l.port l.at) (λ v way. started q l.port v l.at.is way))
-      (λ past. (fresh s.sizes q, (none_moments s.sizes.m q (length plans) s.memory.trace.items past w.senders, refl)))
+      (λ past. (fresh s.sizes q, (none_moments s.sizes.m q (length plans) s.memory.trace past w.senders, refl)))
 
   -- each call that a port lists has begun in the turn behind the steps of those in front of it
   pub begins_told : (q : ℕ) (ls : List ℕ) → BeganInTurns 0 plans q ls s.ports → BeginInTurns ls 0 (calls_by q listed)
@@ -141,23 +141,23 @@ replay_told p run outcome replayed ends t =
     (subst (λ (v : Opening). Agrees v run.memory.words run.memory.history.items) (sym t.opening) w.lawful.memory.agrees)) in
     let D = IsPortDone p.ports run.ports.items in
     let calls = calls_in p.ports run.ports.items in
-    let ports = ports_of run.memory.trace.items in
+    let ports = ports_of run.memory.trace in
     let events = events_told w started in
-    let steps : (q : ℕ) → steps_by q calls ≡ events_in q ports = λ q. events_steps (fresh z q) (events q).0 z.m q run.memory.trace.items (calls_by q calls) (events q).1 in
+    let steps : (q : ℕ) → steps_by q calls ≡ events_in q ports = λ q. events_steps (fresh z q) (events q).0 z.m q run.memory.trace (calls_by q calls) (events q).1 in
     let ending : (q : ℕ) → p.rest ≡ false → events_in q ports ≡ turns_by q p.steps → EndInStep (calls_by q calls) = λ q no same.
     ending_told w started q (ends no q same) in
     let made : (q : ℕ) → HaveMade p.rest (turns_by q p.steps) (steps_by q calls) (slice_index_or p.ports q []) (calls_by q calls) = λ q.
     subst (λ n. HaveMade p.rest (turns_by q p.steps) n (slice_index_or p.ports q []) (calls_by q calls)) (sym (steps q))
     (turns_told D p ports q (calls_by q calls) (done_told w q) (past_told w q) (ending q) f) in
     let turns : ports ≡ ports_in (turns_of p) (λ q. steps_by q calls) = follows_ports D (turns_of p) ports (λ q. steps_by q calls) steps f in
-    let entries = entries_told z.m o run.memory.words run.memory.trace.items run.memory.history.items w.lawful.memory.history w.lawful.memory.agrees w.entries in
+    let entries = entries_told z.m o run.memory.words run.memory.trace run.memory.history.items w.lawful.memory.history w.lawful.memory.agrees w.entries in
     let firsts : (q : ℕ) → AreFirstOf (slice_index_or p.ports q []) (calls_by q outcome.calls) = λ q. subst (λ (l : List Called). AreFirstOf (slice_index_or p.ports q []) (calls_by q l)) (sym t.calls)
     (calls_told w q) in
     let all_made : (q : ℕ) → HaveMade p.rest (turns_by q p.steps) (steps_by q outcome.calls) (slice_index_or p.ports q []) (calls_by q outcome.calls) =
     λ q. subst (λ (l : List Called). HaveMade p.rest (turns_by q p.steps) (steps_by q l) (slice_index_or p.ports q []) (calls_by q l)) (sym t.calls) (made q) in
     let lengths : (q : ℕ) → lengths_so_far q (turns_of p) run ≡ turn_lengths p outcome q = λ q.
-    lengths_same q (turns_of p) (λ r. events_in r ports) (λ r. steps_by r calls) 0 (moments_from z.m 0 run.memory.trace.items) (λ r. sym (steps r))
-    ∙ ap (λ (l : List Called). lengths_in q (turns_of p) (λ r. steps_by r l) 0 (moments_from z.m 0 run.memory.trace.items)) (sym t.calls)
+    lengths_same q (turns_of p) (λ r. events_in r ports) (λ r. steps_by r calls) 0 (moments_from z.m 0 run.memory.trace) (λ r. sym (steps r))
+    ∙ ap (λ (l : List Called). lengths_in q (turns_of p) (λ r. steps_by r l) 0 (moments_from z.m 0 run.memory.trace)) (sym t.calls)
     ∙ ap (λ (es : List Event). lengths_in q (turns_of p) (λ r. steps_by r outcome.calls) 0 (moments_from z.m 0 es)) (sym t.trace)
     ∙ ap (λ (y : Layout). lengths_in q (turns_of p) (λ r. steps_by r outcome.calls) 0 (moments_from y.m 0 outcome.trace)) sizes in
     let begins : (q : ℕ) → BeginInTurns (turn_lengths p outcome q) 0 (calls_by q outcome.calls) = λ q.
@@ -178,14 +178,14 @@ replay_told p run outcome replayed ends t =
       calls = firsts;
       opened = w.opened;
       opens = subst (λ (l : Layout). AreOpeningWords l p.initial w.opened) sizes (subst (λ (l : List ℕ). AreOpeningWords z l w.opened) replayed.values w.opens);
-      leads = subst (λ (es : List Event). Leads w.opened es outcome.words) (sym t.trace) (subst (λ (ws : List ℕ). Leads w.opened run.memory.trace.items ws) (sym t.words) w.leads);
+      leads = subst (λ (es : List Event). Leads w.opened es outcome.words) (sym t.trace) (subst (λ (ws : List ℕ). Leads w.opened run.memory.trace ws) (sym t.words) w.leads);
       steps = t.steps ∙ ap length (sym t.trace);
-      entries = t.history ∙ entries ∙ ap (λ (l : Layout). filter_map (event_entry l.m (record_value run.memory.words)) run.memory.trace.items) sizes ∙
-          ap (λ (ws : List ℕ). filter_map (event_entry p.sizes.m (record_value ws)) run.memory.trace.items) (sym t.words) ∙
+      entries = t.history ∙ entries ∙ ap (λ (l : Layout). filter_map (event_entry l.m (record_value run.memory.words)) run.memory.trace) sizes ∙
+          ap (λ (ws : List ℕ). filter_map (event_entry p.sizes.m (record_value ws)) run.memory.trace) (sym t.words) ∙
           ap (filter_map (event_entry p.sizes.m (record_value outcome.words))) (sym t.trace);
       events = λ q. subst (λ (l : Layout). (last : CoreState) × AreStepsOf (fresh l q) (calls_by q outcome.calls) (moments_by l.m q outcome.trace) last) sizes
           (subst (λ (es : List Event). (last : CoreState) × AreStepsOf (fresh z q) (calls_by q outcome.calls) (moments_by z.m q es) last) (sym t.trace)
-          (subst (λ (l : List Called). (last : CoreState) × AreStepsOf (fresh z q) (calls_by q l) (moments_by z.m q run.memory.trace.items) last) (sym t.calls) (events q)));
+          (subst (λ (l : List Called). (last : CoreState) × AreStepsOf (fresh z q) (calls_by q l) (moments_by z.m q run.memory.trace) last) (sym t.calls) (events q)));
       turns = ap ports_of t.trace ∙ turns ∙ ap (λ (l : List Called). ports_in (turns_of p) (λ q. steps_by q l)) (sym t.calls);
       begins = begins;
       few = few;

@@ -263,13 +263,13 @@ step_keeps {plans} {s} {now} {p} {calls} {port} {new} same w here started m =
           (subst (λ (k : List Applied). Lawful z o (words_after words m.step) parts k) (sym log_is) l.lawful);
       fit = subst (λ (k : List Applied). PortsFit o k 0 plans parts (slice_set s.ports p new)) (sym log_is)
           (at.replace gained l.y new (step_fits at m.was m.step m.due new (reply_of core) refl m.number m.falls after));
-      leads = subst (λ (ws : List ℕ). Leads w.opened now.trace.items ws) (sym m.words_are)
-          (subst (λ (es : List Event). Leads w.opened es (words_after words m.step)) (sym m.trace_is) (leads_push w.opened words s.memory.trace.items event w.leads l.answers));
+      leads = subst (λ (ws : List ℕ). Leads w.opened now.trace ws) (sym m.words_are)
+          (subst (λ (es : List Event). Leads w.opened es (words_after words m.step)) (sym m.trace_is) (leads_push w.opened words s.memory.trace event w.leads l.answers));
       entries = entries;
       senders = subst (AllByRecursion (λ (e : Event). e.port < length plans)) (sym m.trace_is)
-          (AllByRecursion-push (λ (e : Event). e.port < length plans) s.memory.trace.items event w.senders
+          (AllByRecursion-push (λ (e : Event). e.port < length plans) s.memory.trace event w.senders
           (let below = place_below plans p calls here.plan in omega (arith, below, at.fits.number)));
-      made = ports_step s w.made (log_long z.m s.memory.trace.items log w.entries) (log_long z.m now.trace.items now.history.items entries) started here at.fits.number m;
+      made = ports_step s w.made (log_long z.m s.memory.trace log w.entries) (log_long z.m now.trace now.history.items entries) started here at.fits.number m;
     })
 
 -- the steps that the port has left

@@ -6,12 +6,12 @@ long_behind : (plans : List (List Call)) (p n : ℕ) (old new : Run) → IsRunOf
     length new.memory.history.items ≡ last_behind (length old.memory.history.items) (moments_behind old g.events)
 long_behind plans p n old new w v same g =
     let m = old.memory.sizes.m in
-    let front = moments_from m 0 old.memory.trace.items in
-    let before : length old.memory.history.items ≡ last_behind 0 front = log_long m old.memory.trace.items old.memory.history.items w.entries in
-    log_long new.memory.sizes.m new.memory.trace.items new.memory.history.items v.entries
-    ∙ ap (λ (z : Layout). last_behind 0 (moments_from z.m 0 new.memory.trace.items)) same.sizes
+    let front = moments_from m 0 old.memory.trace in
+    let before : length old.memory.history.items ≡ last_behind 0 front = log_long m old.memory.trace old.memory.history.items w.entries in
+    log_long new.memory.sizes.m new.memory.trace new.memory.history.items v.entries
+    ∙ ap (λ (z : Layout). last_behind 0 (moments_from z.m 0 new.memory.trace)) same.sizes
     ∙ ap (λ (es : List Event). last_behind 0 (moments_from m 0 es)) g.trace
-    ∙ ap (last_behind 0) (moments-append m 0 old.memory.trace.items g.events)
+    ∙ ap (last_behind 0) (moments-append m 0 old.memory.trace g.events)
     ∙ behind-append 0 front (moments_from m (last_behind 0 front) g.events)
     ∙ ap (λ k. last_behind k (moments_from m k g.events)) (sym before)
 
@@ -67,7 +67,7 @@ steps_at {calls} {port} new at less m q lengths others own = at_set new at q (λ
 pub turn_done : (plans : List (List Call)) (p : ℕ) (old new : Run) → ChangesPortsOnly old new → BeginsIn plans p (length old.memory.history.items) old.ports.items new.ports.items →
     StayDone plans old new → IsPortDone plans new.ports.items p → StayStoppedBut p old new → TurnMade plans p old false new
 turn_done plans p old new same begins kept done ending = record {
-  made = record { events = []; trace = ap (λ (r : Memory). r.trace.items) same.memory ∙ sym (append-nil old.memory.trace.items); ports = refl };
+  made = record { events = []; trace = ap (λ (r : Memory). r.trace) same.memory ∙ sym (append-nil old.memory.trace); ports = refl };
   begun = λ q front w calls port at. elim (eqb_tells q p) [
     | inl is ↦
         let here = turns_idle calls 1 (front ++ length old.memory.history.items ∷ []) [] port (done_at done at is.1) ((begins q front w).1 is.1 calls port at) in
@@ -89,7 +89,7 @@ pub turn_stepped : (plans : List (List Call)) (p : ℕ) (old mid new : Run) → 
 turn_stepped plans p old mid new same begins kept ready made steps kept' but with' =
     let n = length old.memory.history.items in
     record {
-      made = record { events = made.events; trace = made.trace ∙ ap (λ (r : Memory). r.trace.items ++ made.events) same.memory; ports = made.ports };
+      made = record { events = made.events; trace = made.trace ∙ ap (λ (r : Memory). r.trace ++ made.events) same.memory; ports = made.ports };
       begun = λ q front w. steps q (front ++ own_turns q p (n ∷ []))
           (λ other. begun_same plans q 0 front (front ++ own_turns q p (n ∷ [])) mid.ports.items (sym (ap (λ (l : List ℕ). front ++ l) (own_other q p (n ∷ []) other) ∙ append-nil front))
           ((begins q front w).0 other))
@@ -101,7 +101,7 @@ turn_stepped plans p old mid new same begins kept ready made steps kept' but wit
 
 pub no_steps : (plans : List (List Call)) (p : ℕ) (run : Run) → StepsMade plans p 0 run run
 no_steps plans p run = record {
-  made = record { events = []; trace = sym (append-nil run.memory.trace.items); ports = refl };
+  made = record { events = []; trace = sym (append-nil run.memory.trace); ports = refl };
   begun = λ q front w. begun_same plans q 0 front (front ++ own_turns q p []) run.ports.items (sym (ap (λ (l : List ℕ). front ++ l) (none (p == q)) ∙ append-nil front)) w;
   none = λ d. refl;
   kept = λ q d. d;
@@ -182,7 +182,7 @@ turns_end plans p n turns old mid new w v same s ending t fewer =
       steps = n;
       made = record {
         events = (s.made).events;
-        trace = (t.made).trace ∙ ap (λ (l : List Event). mid.memory.trace.items ++ l) none ∙ append-nil mid.memory.trace.items ∙ (s.made).trace;
+        trace = (t.made).trace ∙ ap (λ (l : List Event). mid.memory.trace ++ l) none ∙ append-nil mid.memory.trace ∙ (s.made).trace;
         ports = (s.made).ports;
       };
       begun = subst (λ (l : List ℕ). GoesOnIn plans p l old new) whole
@@ -198,19 +198,19 @@ begun_next : (plans : List (List Call)) (es : List (ℕ × Option ℕ)) (p : ℕ
     HaveBegun plans es old → TurnsMade plans p k old new → HaveBegun plans (es ++ (p, k) ∷ []) new
 begun_next plans es p k old new w same f begun t q =
     let m = old.memory.sizes.m in
-    let xs = moments_from m 0 old.memory.trace.items in
+    let xs = moments_from m 0 old.memory.trace in
     let own = moments_behind old (t.made).events in
     let D = IsPortDone plans old.ports.items in
     let E = IsPortDone plans new.ports.items in
-    let before : length old.memory.history.items ≡ last_behind 0 xs = log_long m old.memory.trace.items old.memory.history.items w.entries in
-    let front_ports : ports_at xs ≡ ports_of old.memory.trace.items = ports_moments m 0 old.memory.trace.items in
+    let before : length old.memory.history.items ≡ last_behind 0 xs = log_long m old.memory.trace old.memory.history.items w.entries in
+    let front_ports : ports_at xs ≡ ports_of old.memory.trace = ports_moments m 0 old.memory.trace in
     let own_ports : ports_at own ≡ replicate t.steps p = ports_moments m (length old.memory.history.items) (t.made).events ∙ (t.made).ports in
-    let moments : moments_from new.memory.sizes.m 0 new.memory.trace.items ≡ xs ++ own =
-    ap (λ (z : Layout). moments_from z.m 0 new.memory.trace.items) same.sizes ∙ ap (moments_from m 0) (t.made).trace ∙ moments-append m 0 old.memory.trace.items
+    let moments : moments_from new.memory.sizes.m 0 new.memory.trace ≡ xs ++ own =
+    ap (λ (z : Layout). moments_from z.m 0 new.memory.trace) same.sizes ∙ ap (moments_from m 0) (t.made).trace ∙ moments-append m 0 old.memory.trace
     (t.made).events ∙ ap (λ n. xs ++ moments_from m n (t.made).events) (sym before) in
-    let all_ports : ports_at (xs ++ own) ≡ ports_of new.memory.trace.items = ap ports_at (sym moments) ∙ ports_moments new.memory.sizes.m 0 new.memory.trace.items in
-    let left : ℕ → ℕ = λ r. events_in r (ports_of old.memory.trace.items) in
-    let left' : ℕ → ℕ = λ r. events_in r (ports_of new.memory.trace.items) in
+    let all_ports : ports_at (xs ++ own) ≡ ports_of new.memory.trace = ap ports_at (sym moments) ∙ ports_moments new.memory.sizes.m 0 new.memory.trace in
+    let left : ℕ → ℕ = λ r. events_in r (ports_of old.memory.trace) in
+    let left' : ℕ → ℕ = λ r. events_in r (ports_of new.memory.trace) in
     let pushed : lengths_in q (es ++ (p, k) ∷ []) left' 0 (xs ++ own) ≡ lengths_in q es left 0 xs ++ own_turns q p (lengths_of k (last_behind 0 xs) own) =
     lengths_push D E es xs own 0 p t.steps k q left left' (λ r. ap (events_in r) (sym front_ports)) (λ r. ap (events_in r) (sym all_ports)) own_ports t.none (last_turns E p t.steps k t.all)
     (subst (MakeTurns D es) (sym front_ports) f) in

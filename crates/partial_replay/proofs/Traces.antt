@@ -15,14 +15,14 @@ entry_same m words p (Store w v) a = refl
 entry_same m words p (Add w k) a = refl
 entry_same m words p (Exchange w old new) a = entry_won p w old new (record_value words new) (nat_lt w m) (a == old)
 
-pub entries_push : {calls : List Call} {old now : Memory} {port new : Port} (m : ℕ) → port.core.sizes.m ≡ m → filter_map (event_entry m (λ _. 0)) old.trace.items ≡ map unvalued old.history.items →
-    StepMade calls old now port new → filter_map (event_entry m (λ _. 0)) now.trace.items ≡ map unvalued now.history.items
+pub entries_push : {calls : List Call} {old now : Memory} {port new : Port} (m : ℕ) → port.core.sizes.m ≡ m → filter_map (event_entry m (λ _. 0)) old.trace ≡ map unvalued old.history.items →
+    StepMade calls old now port new → filter_map (event_entry m (λ _. 0)) now.trace ≡ map unvalued now.history.items
 entries_push {old} {now} {port} m is same s =
     let value = event_entry m (λ _. 0) in
     let a = answer_of old.words s.step in
     let gained = entry_at m now.words port.number s.step a in
     ap (filter_map value) s.trace_is
-    ∙ filter_map-append value old.trace.items (event_of old port.number s.step ∷ [])
+    ∙ filter_map-append value old.trace (event_of old port.number s.step ∷ [])
     ∙ ap (λ (l : List Applied). l ++ cons_option (value (event_of old port.number s.step)) []) same
     ∙ ap (λ (l : List Applied). map unvalued old.history.items ++ l) (entry_same m now.words port.number s.step a)
     ∙ sym (map-append unvalued old.history.items gained)

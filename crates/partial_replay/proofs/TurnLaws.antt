@@ -28,14 +28,14 @@ by_step {old} {port} number m = record { events = event_of old.memory port.numbe
 abbrev pub by_more : (p n k : ℕ) (old mid new : Run) → GoesOnBy n p old mid → GoesOnBy k p mid new → GoesOnBy (n + k) p old new
 by_more p n k old mid new a b = record {
   events = a.events ++ b.events;
-  trace = b.trace ∙ ap (λ (l : List Event). l ++ b.events) a.trace ∙ append_assoc old.memory.trace.items a.events b.events;
+  trace = b.trace ∙ ap (λ (l : List Event). l ++ b.events) a.trace ∙ append_assoc old.memory.trace a.events b.events;
   ports = map-append (λ (e : Event). e.port) a.events b.events ∙ ap (λ (l : List ℕ). l ++ ports_of b.events) a.ports ∙ ap (λ (l : List ℕ). replicate n p ++ l) b.ports ∙
       replicate-append-replicate n k p;
 }
 
 -- the ports of a trace that goes on
-pub ports_more : (n p : ℕ) (old new : Run) → GoesOnBy n p old new → ports_of new.memory.trace.items ≡ ports_of old.memory.trace.items ++ replicate n p
-ports_more n p old new g = ap ports_of g.trace ∙ map-append (λ (e : Event). e.port) old.memory.trace.items g.events ∙ ap (λ (l : List ℕ). ports_of old.memory.trace.items ++ l) g.ports
+pub ports_more : (n p : ℕ) (old new : Run) → GoesOnBy n p old new → ports_of new.memory.trace ≡ ports_of old.memory.trace ++ replicate n p
+ports_more n p old new g = ap ports_of g.trace ∙ map-append (λ (e : Event). e.port) old.memory.trace g.events ∙ ap (λ (l : List ℕ). ports_of old.memory.trace ++ l) g.ports
 
 -- one entry more
 pub own_events : (n p : ℕ) → filter (λ r. r == p) (replicate n p) ≡ replicate n p
@@ -75,7 +75,7 @@ pub followed : (plans : List (List Call)) (es : List (ℕ × Option ℕ)) (p : �
     HasMadeTurns plans es old → TurnsMade plans p k old new → HasMadeTurns plans (es ++ (p, k) ∷ []) new
 followed plans es p k old new f t =
     subst (MakeTurns (IsPortDone plans new.ports.items) (es ++ (p, k) ∷ [])) (sym (ports_more t.steps p old new t.made))
-    (follows_push (IsPortDone plans old.ports.items) (IsPortDone plans new.ports.items) es (ports_of old.memory.trace.items) p t.steps k t.kept t.none
+    (follows_push (IsPortDone plans old.ports.items) (IsPortDone plans new.ports.items) es (ports_of old.memory.trace) p t.steps k t.kept t.none
     (last_turns (IsPortDone plans new.ports.items) p t.steps k t.all) f)
 
 -- one more entry, of the plan's
@@ -203,9 +203,9 @@ ending_next plans steps i old new below f ends t q same =
     let e = slice_index_or steps i (0, 0) in
     let p = e.0 in
     let n = t.steps in
-    let ports = ports_of old.memory.trace.items in
+    let ports = ports_of old.memory.trace in
     let turns = turns_push q i steps e (get_is steps i (0, 0) below) in
-    let events : events_in q (ports_of new.memory.trace.items) ≡ events_in q ports + events_in q (replicate n p) = ap (events_in q) (ports_more n p old new t.made) ∙ events_push q n p ports in
+    let events : events_in q (ports_of new.memory.trace) ≡ events_in q ports + events_in q (replicate n p) = ap (events_in q) (ports_more n p old new t.made) ∙ events_push q n p ports in
     let within = (within_turns (IsPortDone plans old.ports.items) q (take i steps) ports f).within in
     let few = t.all.0 in
     elim (eqb_tells p q) [

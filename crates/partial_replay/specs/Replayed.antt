@@ -49,7 +49,7 @@ replayed_view replayed = record {
   history = replayed.history.items;
   calls = calls_in_order replayed.calls.items;
   words = replayed.words;
-  trace = replayed.trace.items;
+  trace = replayed.trace;
   steps = replayed.steps;
 }
 

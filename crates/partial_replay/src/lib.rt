@@ -15,6 +15,6 @@ pub use partial_text::{
     Cause, Device, Outcome, OutcomeError, Plan, PlanError, Replayed, in_one_list, write_outcome,
     write_replayed,
 };
-pub use partial_words::{Event, PlainWords};
+pub use partial_words::{Event, PlainWords, Trace};
 pub use replaying::{ReplayError, replay, replay_apart};
 pub use wanted::Wanted;

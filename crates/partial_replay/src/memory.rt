@@ -2,7 +2,7 @@
 
 use crate::wanted::Wanted;
 use partial_model::Applied;
-use partial_words::{Event, PlainWords, Sizes};
+use partial_words::{PlainWords, Sizes, Trace};
 
 /// The words that the ports of a replay share, and what has happened to them so far.
 #[derive(Debug, Drop)]
@@ -14,7 +14,7 @@ pub struct Memory {
     /// The history so far: the applied updates in order.
     pub history: Vec<Applied>,
     /// The atomic steps so far, in order.
-    pub trace: Vec<Event>,
+    pub trace: Trace,
     /// Scratch room for the search for the places of scans.
     pub places: Wanted,
 }

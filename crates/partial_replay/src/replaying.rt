@@ -54,7 +54,7 @@ pub fn replay(alloc: Global, plan: &Plan) -> Result<Outcome, ReplayError>
         history: replayed.history,
         calls: in_one_list(alloc, replayed.calls)?,
         words: replayed.words.into_vec(),
-        trace: replayed.trace,
+        trace: replayed.trace.into_vec(alloc)?,
         steps: replayed.steps,
     })
 }

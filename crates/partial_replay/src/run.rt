@@ -14,7 +14,7 @@ use crate::wanted::Wanted;
 use partial_core::Core;
 use partial_model::{Call, Called, Opening, Sequence};
 use partial_text::Replayed;
-use partial_words::{PlainWords, Sizes, Step};
+use partial_words::{PlainWords, Sizes, Step, Trace};
 use std::alloc::{AllocError, Global};
 
 /// The state of a replay.
@@ -60,7 +60,7 @@ impl Run {
         requires plans { ArePlans sizes.m plans.now }
         ensures between { IfOk result (IsBetweenTurns plans.now) }
         ensures opening { IfOk result (λ run. (run.memory.sizes ≡ sizes) × (run.opening.values ≡ initial.now)) }
-        ensures trace { IfOk result (λ run. run.memory.trace.items ≡ []) }
+        ensures trace { IfOk result (λ run. run.memory.trace ≡ []) }
         ensures begun { IfOk result (HaveBegun plans.now []) }
         ensures ending { IfOk result (StopAtSteps []) }
     {
@@ -74,7 +74,7 @@ impl Run {
                 sizes,
                 words: opening_words(alloc, sizes, initial)?,
                 history: Vec::new(alloc),
-                trace: Vec::new(alloc),
+                trace: Trace::new(alloc),
                 places: Wanted::new(alloc, sizes.m() as usize)?,
             },
             ports: fresh_ports(alloc, sizes, plans)?,

@@ -4,11 +4,12 @@ ghost use Rattle.std.specs.Prelude.{◌≡◌, IfOk};
 ghost use Rattle.partial_text.specs.Replayed.{calls_in_order};
 
 use partial_model::{Applied, Called, Opening};
-use partial_words::{Event, PlainWords};
+use partial_words::{PlainWords, Trace};
 use std::alloc::{AllocError, Global};
 
-/// What a replay has made, as it holds it: the calls of each port in a list of their own, and words of which the zeros
-/// that no step has reached aren't stored. An [`Outcome`](crate::Outcome) has all calls in one list, and all words.
+/// What a replay has made, as it holds it: the calls of each port in a list of their own, words of which the zeros that no
+/// step has reached aren't stored, and a trace in which loads take little room. An [`Outcome`](crate::Outcome) has all
+/// calls in one list, all words, and each step as an [`Event`](partial_words::Event).
 #[derive(Debug, Drop)]
 pub struct Replayed {
     /// The initial values of the components, and the stamp of component 0 at opening.
@@ -20,7 +21,7 @@ pub struct Replayed {
     /// The words at the end.
     pub words: PlainWords,
     /// Each atomic step that was made, in order.
-    pub trace: Vec<Event>,
+    pub trace: Trace,
     /// How many atomic steps were made.
     pub steps: u64,
 }

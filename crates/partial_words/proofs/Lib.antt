@@ -4,3 +4,4 @@ pub mod LayoutLemmas
 pub mod BlockLemmas
 pub mod ChainLemmas
 pub mod PlainLemmas
+pub mod TraceLemmas

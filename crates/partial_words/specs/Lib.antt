@@ -5,3 +5,4 @@ pub mod Record
 pub mod Chain
 pub mod Announcement
 pub mod VacatedList
+pub mod Kept

@@ -9,6 +9,7 @@ pub mod plain;
 pub mod record;
 pub mod sizes;
 pub mod step;
+pub mod trace;
 
 pub use announcement::{
     announced, announced_len, announcement_block_word, announcement_size, indices_word,
@@ -26,3 +27,4 @@ pub use record::{
 };
 pub use sizes::{SizeError, Sizes};
 pub use step::{Event, Step};
+pub use trace::Trace;

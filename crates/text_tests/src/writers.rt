@@ -2,8 +2,10 @@
 
 use crate::texts::judge_text;
 use partial_model::{Answer, Applied, Call, Called, Finish, Note, Opening, Refused, Sequence};
-use partial_text::{Device, Outcome, OutcomeError, Replayed, in_one_list, write_outcome, write_replayed};
-use partial_words::PlainWords;
+use partial_text::{
+    Device, Outcome, OutcomeError, Replayed, in_one_list, write_outcome, write_replayed,
+};
+use partial_words::{PlainWords, Trace};
 use std::alloc::{AllocError, Global};
 use std::io;
 use std::io::Write;
@@ -221,7 +223,7 @@ pub(crate) fn replay_of(
         history: Vec::new(alloc),
         calls: ports,
         words: PlainWords::from(Vec::new(alloc)),
-        trace: Vec::new(alloc),
+        trace: Trace::new(alloc),
         steps,
     })
 }

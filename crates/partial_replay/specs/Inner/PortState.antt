@@ -142,7 +142,7 @@ pub record StepMade (calls : List Call) (old now : Memory) (port new : Port) : T
   pub was : port.under_way ≡ Some way
   pub possible : IsPossible port.core (answer_of old.words step)
   pub words_are : now.words ≡ words_after old.words step
-  pub trace_is : now.trace.items ≡ old.trace.items ++ event_of old port.number step ∷ []
+  pub trace_is : now.trace ≡ old.trace ++ event_of old port.number step ∷ []
   pub log_is : now.history.items ≡
       old.history.items ++ entry_at port.core.sizes.m now.words port.number step (answer_of old.words step)
   pub number : new.number ≡ port.number

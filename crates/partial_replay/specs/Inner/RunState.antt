@@ -51,7 +51,7 @@ ArePlans m plans = AllByRecursion (λ calls. (length calls < 2 ^ 32) × AllByRec
 -- each port's events are the steps of its calls
 abbrev pub ArePortsMade : List (List Call) → ReplayState → Type 0
 ArePortsMade plans s = (q : ℕ) (calls : List Call) (port : Port) → PortAt plans s.ports q calls port →
-    PortMade s.sizes (length s.memory.history.items) calls q (moments_by s.sizes.m q s.memory.trace.items) port
+    PortMade s.sizes (length s.memory.history.items) calls q (moments_by s.sizes.m q s.memory.trace) port
 
 -- the call under way of a port has made a step
 abbrev pub AreStarted : List Port → Type 0
@@ -73,11 +73,11 @@ pub record IsRunOf (plans : List (List Call)) (s : ReplayState) : Type 0 where
   pub opens : AreOpeningWords s.sizes s.opening.values opened
   pub lawful : Lawful s.sizes s.opening s.memory.words parts s.memory.history.items
   pub fit : PortsFit s.opening s.memory.history.items 0 plans parts s.ports
-  pub leads : Leads opened s.memory.trace.items s.memory.words
+  pub leads : Leads opened s.memory.trace s.memory.words
   -- the won exchanges of component words in the trace are the history, but for the values
-  pub entries : filter_map (event_entry s.sizes.m (λ _. 0)) s.memory.trace.items ≡ map unvalued s.memory.history.items
+  pub entries : filter_map (event_entry s.sizes.m (λ _. 0)) s.memory.trace ≡ map unvalued s.memory.history.items
   -- each port's events are the steps of its calls
-  pub senders : AllByRecursion (λ e. e.port < length plans) s.memory.trace.items
+  pub senders : AllByRecursion (λ e. e.port < length plans) s.memory.trace
   pub made : ArePortsMade plans s
 
 -- there is room to find the place of a scan
@@ -164,5 +164,5 @@ pub record TellsOutcome (plans : List (List Call)) (run : Run) (outcome : Outcom
   pub history : outcome.history ≡ run.memory.history.items
   pub calls : outcome.calls ≡ calls_in plans run.ports.items
   pub words : outcome.words ≡ run.memory.words
-  pub trace : outcome.trace ≡ run.memory.trace.items
-  pub steps : outcome.steps ≡ length run.memory.trace.items
+  pub trace : outcome.trace ≡ run.memory.trace
+  pub steps : outcome.steps ≡ length run.memory.trace

@@ -42,7 +42,7 @@ StayStoppedWith p old new = (q : ℕ) → (q ≢ p → StopsAtStep old.ports.ite
 -- the trace goes on with n events of port p
 pub record GoesOnBy (n p : ℕ) (old new : Run) : Type 0 where
   pub events : List Event
-  pub trace : new.memory.trace.items ≡ old.memory.trace.items ++ events
+  pub trace : new.memory.trace ≡ old.memory.trace ++ events
   pub ports : ports_of events ≡ replicate n p
 
 -- port q has begun its calls in turns in which the history was so long
@@ -112,16 +112,16 @@ MakeTurns D (e ∷ es) ports = (n : ℕ) × (behind : List ℕ) × (ports ≡ re
 
 -- where a port has made a step in each of its turns so far, it has begun no call since its last step
 abbrev pub StopAtSteps : List (ℕ × ℕ) → Run → Type 0
-StopAtSteps steps run = (q : ℕ) → events_in q (ports_of run.memory.trace.items) ≡ turns_by q steps → StopsAtStep run.ports.items q
+StopAtSteps steps run = (q : ℕ) → events_in q (ports_of run.memory.trace) ≡ turns_by q steps → StopsAtStep run.ports.items q
 
 -- the replay has made these turns
 abbrev pub HasMadeTurns : List (List Call) → List (ℕ × Option ℕ) → Run → Type 0
-HasMadeTurns plans turns run = MakeTurns (IsPortDone plans run.ports.items) turns (ports_of run.memory.trace.items)
+HasMadeTurns plans turns run = MakeTurns (IsPortDone plans run.ports.items) turns (ports_of run.memory.trace)
 
 -- how long the history was at each of port q's turns so far, where the replay has made these
 abbrev pub lengths_so_far : ℕ → List (ℕ × Option ℕ) → Run → List ℕ
 lengths_so_far q turns run =
-    lengths_in q turns (λ r. events_in r (ports_of run.memory.trace.items)) 0 (moments_from run.memory.sizes.m 0 run.memory.trace.items)
+    lengths_in q turns (λ r. events_in r (ports_of run.memory.trace)) 0 (moments_from run.memory.sizes.m 0 run.memory.trace)
 
 -- each port has begun its calls in its turns
 abbrev pub HaveBegun : List (List Call) → List (ℕ × Option ℕ) → Run → Type 0

@@ -42,11 +42,11 @@ loop-port-preserved c =
     let over : List Called = left_over port (slice_get c.in-Some.plan.now (length port.finished.items)) port.under_way in
     let so_far : List Called = calls_in_order before in
     let joined : calls_in_order (before ++ own ∷ []) ≡ so_far ++ own.items =
-        flat_map-append (λ (l : Vec Called Global). l.items) before (own ∷ []) ∙ ap (λ (l : List Called). so_far ++ l) (append-nil own.items) in
+    flat_map-append (λ (l : Vec Called Global). l.items) before (own ∷ []) ∙ ap (λ (l : List Called). so_far ++ l) (append-nil own.items) in
     let ended : own.items ≡ port.finished.items ++ over = c.in_ok-calls_of_port.ensures
-        ∙ ap (λ (l : List Call). port.finished.items ++ left_over port (slice_get l (length port.finished.items)) port.under_way) c.as_slice.ensures in
+    ∙ ap (λ (l : List Call). port.finished.items ++ left_over port (slice_get l (length port.finished.items)) port.under_way) c.as_slice.ensures in
     let is : calls_in_order c.push.new.self.items ≡ (so_far ++ port.finished.items) ++ over =
-        ap calls_in_order c.in_ok-push.ensures.items ∙ joined ∙ ap (λ (l : List Called). so_far ++ l) ended ∙ sym (append_assoc so_far port.finished.items over) in
+    ap calls_in_order c.in_ok-push.ensures.items ∙ joined ∙ ap (λ (l : List Called). so_far ++ l) ended ∙ sym (append_assoc so_far port.finished.items over) in
     calls_more k over so_far (calls_in_order c.push.new.self.items) (length_push c.loop-port.yielded (port, c.in-Some.plan))
     (here (goal.at.loop-port-preserved c).After-as_slice) c.loop-port.invariant refl is
 

@@ -1,4 +1,4 @@
-use Rattle.partial_replay.proofs.{Common.{◌≡◌, ◌++◌, List, [], ◌∷◌, length, slice_get, sym, ◌∙◌, ap, arith, append-nil, is_some, Call, Called, unfinished_call}, Opens.{over_is, none_over}, PortLaws.call_at_place}
+use Rattle.partial_replay.proofs.{Common.{◌≡◌, ◌++◌, List, length, slice_get, sym, ◌∙◌, ap, arith, append-nil, is_some, Call, Called, unfinished_call}, Opens.{over_is, none_over}, PortLaws.call_at_place}
 use Rattle.std.specs.declared.alloc.Global.{Global}
 use Rattle.std.specs.declared.vec.Vec.{Vec}
 use Rattle.partial_replay.proofs.run.calls_of_port.Goals.{in-Some+in_ok-call+in_ok-push, in_default}

@@ -5,7 +5,7 @@ use Rattle.std.proofs.lemmas.List.{map-id}
 use Rattle.std.specs.declared.alloc.Global.{Global}
 use Rattle.std.specs.declared.vec.Vec.{Vec}
 use Rattle.partial_model.specs.declared.call.Called.{Called}
-use Rattle.partial_text.proofs.Common.{◌≡◌, ◌++◌, ◌∷◌, [], List, sym, ap, ◌∙◌, append-nil, arith, calls_in_order}
+use Rattle.partial_text.proofs.Common.{◌++◌, ◌∷◌, [], List, sym, ap, ◌∙◌, append-nil, arith, calls_in_order}
 use Rattle.partial_text.proofs.replayed.in_one_list.Goals as goal
 
 pub loop-calls-preserved : goal.loop-calls-preserved

@@ -11,12 +11,12 @@ words_are c =
     ]
 
 -- the trace behind the step
-trace_is : (c : After-take) → c.match-entry_of.memory.trace.items ≡ c.args.memory.now.trace.items ++
+trace_is : (c : After-take) → c.match-entry_of.memory.trace ≡ c.args.memory.now.trace ++
     record { port = c.args.self.now.number; step = c.perform-step.result.0; answer = c.perform-step.result.1 } ∷ []
 trace_is c =
     elim c.match-entry_of.branch [
-      | in-Some+in_ok-push-2 w ↦ ap (λ (v : Memory). v.trace.items) w.memory-is ∙ c.in_ok-push.ensures.items
-      | in_default w ↦ ap (λ (v : Memory). v.trace.items) w.memory-is ∙ c.in_ok-push.ensures.items
+      | in-Some+in_ok-push-2 w ↦ ap (λ (v : Memory). v.trace) w.memory-is ∙ c.in_ok-push.ensures.pushed
+      | in_default w ↦ ap (λ (v : Memory). v.trace) w.memory-is ∙ c.in_ok-push.ensures.pushed
     ]
 
 -- the history behind the step
@@ -77,7 +77,7 @@ returns-in-None-clause-made c =
       was = c.unwrap-way.ensures;
       possible = subst (λ (s : Step). IsPossible port.core (answer_of memory.words s)) (due_is d) c.requires.may.possible;
       words_are = words_are d ∙ made_words d;
-      trace_is = trace_is d ∙ ap (λ a. memory.trace.items ++ record { port = port.number; step = step; answer = a } ∷ []) (answer_is d);
+      trace_is = trace_is d ∙ ap (λ a. memory.trace ++ record { port = port.number; step = step; answer = a } ∷ []) (answer_is d);
       log_is = log_is d ∙ ap (λ (ws : List ℕ). memory.history.items ++ entry_at port.core.sizes.m ws port.number step c.perform-step.result.1) (sym (words_are d))
           ∙ ap (λ a. memory.history.items ++ entry_at port.core.sizes.m mid.words port.number step a) (answer_is d);
       number = refl;
@@ -134,7 +134,7 @@ returns-in_ok-push-in-Some-take-clause-made c =
     (ap (λ (s : CoreState). answer_for s c.in-Some-take.reply) taken ∙ answer_idle c.perform-step.new.self c.in-Some-take.reply) ended) in
     step_ended calls memory new port _ c.perform-step.result.0 c.unwrap-way.result
     c.perform-step.result.1 c.perform-step.new.self c.take.new.self c.in-Some-take.reply call c.in_ok-called-in-Some-take.called
-    c.perform-step.ensures.due c.unwrap-way.ensures possible (answer_is d) (new_words ∙ made_words d) (ap (λ (v : Memory). v.trace.items) same ∙ trace_is d)
+    c.perform-step.ensures.due c.unwrap-way.ensures possible (answer_is d) (new_words ∙ made_words d) (ap (λ (v : Memory). v.trace) same ∙ trace_is d)
     (ap (λ (v : Memory). v.history.items) same ∙ log_is d ∙ ap (λ (ws : List ℕ). memory.history.items ++
     entry_at port.core.sizes.m ws port.number c.perform-step.result.0 c.perform-step.result.1) (sym new_words))
     c.perform-step.ensures.state c.perform-step.ensures.falls (sym c.in-Some-take.ensures.reply) taken next ended_is refl refl refl c.in_ok-push-in-Some-take.ensures.items

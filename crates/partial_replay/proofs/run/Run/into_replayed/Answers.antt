@@ -1,4 +1,4 @@
-use Rattle.partial_replay.proofs.{Common.{refl, arith}, Opens.run_listed}
+use Rattle.partial_replay.proofs.{Common.{refl}, Opens.run_listed}
 use Rattle.partial_replay.proofs.run.Run.into_replayed.Goals as goal
 
 pub calls_of-requires : goal.calls_of-requires
@@ -12,5 +12,5 @@ returns c =
       calls = c.in_ok-calls_of.ensures;
       words = refl;
       trace = refl;
-      steps = omega (arith, c.len-steps.ensures, c.args.self.memory.trace.ok.0);
+      steps = c.len-steps.ensures;
     }

@@ -8,7 +8,7 @@ returns-clause-between c =
     record {
       replay = record {
         state = opens_run c.args.plans.now _ c.requires.sizes (ap length values ∙ c.requires.values) (c.from-first.ensures ∙ c.pool_base.ensures)
-            (subst (λ (l : List ℕ). AreOpeningWords c.args.sizes l words) (sym values) c.in_ok-opening_words.ensures) c.new.ensures.items c.new-2.ensures.items c.requires.ports
+            (subst (λ (l : List ℕ). AreOpeningWords c.args.sizes l words) (sym values) c.in_ok-opening_words.ensures) c.new.ensures.items c.new-2.ensures c.requires.ports
             c.in_ok-fresh_ports.ensures;
         room = c.in_ok-new.ensures ∙ c.m.ensures.value;
         served = c.requires.plans;
