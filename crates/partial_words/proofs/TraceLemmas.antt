@@ -5,10 +5,10 @@ use Rattle.partial_words.proofs.Common.{◌≡◌, ◌+◌, ◌++◌, List, [], 
 use Rattle.partial_words.specs.declared.step.Event.{Event}
 use Rattle.partial_words.specs.declared.step.Step.TheVariants.{Load, Store}
 use Rattle.partial_words.specs.declared.trace.Kept.{Kept}
-use Rattle.partial_words.specs.Kept.{event_kept, events_of, others_in}
+use Rattle.partial_words.specs.Kept.{event_kept, kept_events, others_in}
 
 -- there are as many events as steps are kept
-pub as_many : (kept : List Kept) (others : List Event) → others_in kept ≡ length others → length (events_of kept others) ≡ length kept
+pub as_many : (kept : List Kept) (others : List Event) → others_in kept ≡ length others → length (kept_events kept others) ≡ length kept
 as_many [] others f = refl
 as_many (Kept.Load p w a ∷ kept) others f = let more = as_many kept others f in omega (arith, more)
 as_many (Kept.Store p w v ∷ kept) others f = let more = as_many kept others f in omega (arith, more)
@@ -16,14 +16,14 @@ as_many (Kept.Other ∷ kept) [] f = absurd (omega (arith, f))
 as_many (Kept.Other ∷ kept) (e ∷ others) f = let more = as_many kept others (omega (arith, f)) in omega (arith, more)
 
 -- the events of one step that is kept as it is
-event_alone : (k : Kept) (e : Event) (others : List Event) → event_kept k ≡ Some e → events_of (k ∷ []) others ≡ e ∷ []
+event_alone : (k : Kept) (e : Event) (others : List Event) → event_kept k ≡ Some e → kept_events (k ∷ []) others ≡ e ∷ []
 event_alone (Kept.Load p w a) e others is = ap (λ d. d ∷ []) (some_same is)
 event_alone (Kept.Store p w v) e others is = ap (λ d. d ∷ []) (some_same is)
 event_alone Kept.Other e others is = let bad : None ≡ Some e = is in cc
 
 -- a step is kept behind the others
 pub step_kept : (kept : List Kept) (others : List Event) (k : Kept) (e : Event) → event_kept k ≡ Some e → others_in kept ≡ length others →
-    events_of (kept ++ k ∷ []) others ≡ events_of kept others ++ e ∷ []
+    kept_events (kept ++ k ∷ []) others ≡ kept_events kept others ++ e ∷ []
 step_kept [] others k e is f = event_alone k e others is
 step_kept (Kept.Load q v b ∷ kept) others k e is f = ap (λ es. record { port = q; step = Load v; answer = b } ∷ es) (step_kept kept others k e is f)
 step_kept (Kept.Store q v b ∷ kept) others k e is f = ap (λ es. record { port = q; step = Store v b; answer = 0 } ∷ es) (step_kept kept others k e is f)
@@ -32,7 +32,7 @@ step_kept (Kept.Other ∷ kept) (o ∷ others) k e is f = ap (λ es. o ∷ es) (
 
 -- any other step is kept behind them
 pub other_kept : (kept : List Kept) (others : List Event) (e : Event) → others_in kept ≡ length others →
-    events_of (kept ++ Kept.Other ∷ []) (others ++ e ∷ []) ≡ events_of kept others ++ e ∷ []
+    kept_events (kept ++ Kept.Other ∷ []) (others ++ e ∷ []) ≡ kept_events kept others ++ e ∷ []
 other_kept [] [] e f = refl
 other_kept [] (o ∷ others) e f = absurd (omega (arith, f))
 other_kept (Kept.Load q v b ∷ kept) others e f = ap (λ es. record { port = q; step = Load v; answer = b } ∷ es) (other_kept kept others e f)

@@ -11,12 +11,12 @@ event_kept (Kept.Store port word value) = Some (record { port = port; step = Sto
 event_kept Kept.Other = None
 
 -- the events in order
-abbrev pub events_of : List Kept → List Event → List Event
-events_of [] others = []
-events_of (Kept.Load port word answer ∷ kept) others = record { port = port; step = Load word; answer = answer } ∷ events_of kept others
-events_of (Kept.Store port word value ∷ kept) others = record { port = port; step = Store word value; answer = 0 } ∷ events_of kept others
-events_of (Kept.Other ∷ kept) [] = []
-events_of (Kept.Other ∷ kept) (e ∷ others) = e ∷ events_of kept others
+abbrev pub kept_events : List Kept → List Event → List Event
+kept_events [] others = []
+kept_events (Kept.Load port word answer ∷ kept) others = record { port = port; step = Load word; answer = answer } ∷ kept_events kept others
+kept_events (Kept.Store port word value ∷ kept) others = record { port = port; step = Store word value; answer = 0 } ∷ kept_events kept others
+kept_events (Kept.Other ∷ kept) [] = []
+kept_events (Kept.Other ∷ kept) (e ∷ others) = e ∷ kept_events kept others
 
 -- how many of the steps are others
 abbrev pub others_in : List Kept → ℕ

@@ -27,11 +27,11 @@ pub struct Trace {
 impl Model for Trace {
     ghost use Rattle.std.specs.Prelude.{List, ◌≡◌, length};
     ghost use Rattle.partial_words.specs.declared.step.Event.{Event};
-    ghost use Rattle.partial_words.specs.Kept.{events_of, others_in};
+    ghost use Rattle.partial_words.specs.Kept.{kept_events, others_in};
 
     ghost Value = { List Event };
 
-    ghost view = { λ t. events_of t.kept.items t.others.items };
+    ghost view = { λ t. kept_events t.kept.items t.others.items };
 
     ghost invariant = { λ t. others_in t.kept.items ≡ length t.others.items };
 }

@@ -3,7 +3,7 @@ use Rattle.std.proofs.lemmas.List.{length_push}
 use Rattle.partial_words.proofs.Common.{◌≡◌, ◌++◌, ◌∷◌, [], List, arith, ap, length, ◌∙◌}
 use Rattle.partial_words.specs.declared.step.Event.{Event}
 use Rattle.partial_words.specs.declared.trace.Kept.{Kept}
-use Rattle.partial_words.specs.Kept.{events_of, others_in}
+use Rattle.partial_words.specs.Kept.{kept_events, others_in}
 use Rattle.partial_words.proofs.TraceLemmas.{other_kept, others_behind_other}
 use Rattle.partial_words.proofs.trace.Trace.push_other.Goals as goal
 
@@ -23,4 +23,4 @@ returns-clause-pushed c =
     let others : List Event = c.self.inside.others.items in
     let event : Event = c.args.event in
     let is : c.push_reserved.new.self.items ≡ kept ++ Kept.Other ∷ [] = c.push_reserved.ensures.items ∙ ap (λ (l : List Kept). l ++ Kept.Other ∷ []) c.in_ok-reserve.ensures.items in
-    ap₂ events_of is c.in_ok-push.ensures.items ∙ other_kept kept others event c.self.invariant ∙ ap (λ (l : List Event). l ++ event ∷ []) c.self.view_is
+    ap₂ kept_events is c.in_ok-push.ensures.items ∙ other_kept kept others event c.self.invariant ∙ ap (λ (l : List Event). l ++ event ∷ []) c.self.view_is
