@@ -9,6 +9,7 @@ ghost use Rattle.partial_long_lived.specs.Ports.{seen_in};
 ghost use Rattle.partial_long_lived.specs.Inner.Held.{IsHeld, port_at};
 ghost use Rattle.partial_long_lived.specs.Inner.Calls.{IsIdle, StaysAt};
 ghost use Rattle.partial_long_lived.specs.Inner.DoubleCollect.{AreCollected, AreInside, HadValue, HadValues, HasBegunCollect, HasGlanced, HasStayed, MayNoteScan, NotesScan};
+ghost use Rattle.partial_long_lived.specs.Inner.Scans.{HasNotedScan};
 ghost use Rattle.partial_long_lived.specs.Inner.Stamped.{MadeNamed, ScannedNamed};
 ghost use Rattle.partial_long_lived.specs.Inner.Loads.{SeatSees};
 ghost use Rattle.partial_long_lived.specs.Inner.Loads.Wish.{Glances};
@@ -53,6 +54,34 @@ pub fn double_collect(
     kept[0] = found;
     collect(words, stand, base, which, kept);
     confirm::<Brand>(words, stand, base, which, kept, into)
+}
+
+/// The same where nobody asks for the words. For four positions it is made with arrays: a compiler unrolls these loops, and
+/// keeps words and positions in registers.
+#[inline(always)]
+pub fn scan_at_once(
+    words: &Words,
+    stand: &mut Stand,
+    which: &[u32],
+    kept: &mut [u64],
+    into: &mut [u64],
+) -> bool
+    requires held { IsHeld words.now.table_id words.now.key stand.old }
+    requires idle { IsIdle stand.old }
+    requires inside { AreInside words.now.key.sizes which.now }
+    requires some { 0 < length which.now }
+    requires room { length which.now ≤ length kept.old }
+    requires lengths { length into.old ≡ length which.now }
+    ensures held { IsHeld words.now.table_id words.now.key stand.new }
+    ensures stayed { HasStayed stand.old stand.new }
+    ensures scanned { result ≡ true → HasNotedScan stand.old stand.new which.now into.new 2 None }
+    ensures notes { result ≡ false → (port_at stand.new).notes ≡ (port_at stand.old).notes }
+    ensures unchanged { result ≡ false → into.new ≡ into.old }
+{
+    match <[u32; 4]>::try_from(which) {
+        Ok(four) => double_collect(words, stand, &four, &mut [0; 4], into),
+        Err(_) => double_collect(words, stand, which, kept, into),
+    }
 }
 
 // Makes the first step of the scan, the load of its first component word, and returns the word; or `None` when the

@@ -18,7 +18,7 @@ ghost use Rattle.partial_long_lived.specs.Inner.Under.{IsGoing, ComesTo, MayBegi
 
 use crate::arena::STAMPS;
 use crate::change::change;
-use crate::double_collect::double_collect;
+use crate::double_collect::scan_at_once;
 use crate::enter::{enter, look_first};
 use crate::error::Refused;
 use crate::lines::ArenaLines;
@@ -74,7 +74,7 @@ pub fn scan_from(
     ensures refused { IfErr result (NotScanned stand.old stand.new) }
     ensures unchanged { IfErr result (λ _. into.new ≡ into.old) }
 {
-    if double_collect(words, stand, which, kept, into) {
+    if scan_at_once(words, stand, which, kept, into) {
         return Ok(Scanned {
             collects: 2,
             borrowed: None,
