@@ -9,4 +9,4 @@ pub use Rattle.partial_machine.specs.declared.stage.{Change.Change, Stage.Stage}
 pub use Rattle.partial_machine.specs.declared.stage.Stage.TheVariants.{ScanBegun, StoringAnnouncement, GettingSet, Viewing, ClaimingRecord, Scanning, Leaving, Idle, StoringRecord, Exchanging}
 pub use Rattle.partial_machine.specs.{Lines.{scan_begun, scan_step, set_begun, set_step, with_set, scan_asked}, Machine.{CoreState, advance, advance_at, at_stage, begin_joining, pool_refused, step_of, getting, scanning, step_at, with_getting, with_scanning, record_size, record_words, view_at}, Sound.{IsSound, is_sound_at, AreComponentIndices}}
 pub use Rattle.partial_core.specs.Part.{IsMarkedLike}
-pub use Rattle.partial_lines.specs.{Lines.{announcing_scan, GetsOn, IsScanStage, IsViewing, behind_scan, positions_at, set_kept, set_made, writing_stage, IsQuiet, HasReachedSet, gets_itself}, Replies.RestsLike}
+pub use Rattle.partial_lines.specs.{Lines.{announcing_scan, GetsOn, IsScanStage, IsViewDue, IsViewing, behind_scan, positions_at, set_kept, set_made, writing_stage, IsQuiet, HasReachedSet, gets_itself}, Replies.RestsLike}

@@ -6,7 +6,8 @@ use Rattle.partial_words.specs.declared.step.Step.{Step}
 use Rattle.partial_words.specs.Announcement.{announcement_size}
 use Rattle.partial_machine.specs.declared.stage.Change.{Change}
 use Rattle.partial_machine.specs.declared.stage.Stage.{Stage}
-use Rattle.partial_machine.specs.declared.stage.Stage.TheVariants.{GettingSet, Viewing, ClaimingRecord, StoringRecord, Exchanging, StoringAnnouncement, Scanning, Leaving}
+use Rattle.partial_machine.specs.declared.stage.Stage.TheVariants.{Idle, GettingSet, Viewing, ClaimingRecord, StoringRecord, Exchanging, StoringAnnouncement, Scanning, Leaving}
+use Rattle.partial_lines.specs.declared.update.PutBegun.{PutBegun}
 use Rattle.partial_machine.specs.Lines.{scan_begun, scan_step, set_step}
 use Rattle.partial_machine.specs.Machine.{CoreState, after_getting, at_stage, begin_joining, getting, record_size, scanning, with_getting, with_scanning}
 
@@ -14,6 +15,17 @@ use Rattle.partial_machine.specs.Machine.{CoreState, after_getting, at_stage, be
 abbrev pub IsQuiet : Stage → Type 0
 IsQuiet (Exchanging c old at) = ⊥
 IsQuiet _ = ⊤
+
+-- whether and where the record of an update was written, unless its embedded scan is due
+abbrev pub written_in : PutBegun → Option (Option ℕ)
+written_in (PutBegun.Written at) = Some (Some at)
+written_in PutBegun.Refused = Some None
+written_in PutBegun.Found = None
+
+-- The embedded scan of that update is due: its machine goes on from the one that the port keeps, with what the getSet has found.
+pub record IsViewDue (machine core : CoreState) (c : Change) (old : ℕ) : Type 0 where
+  pub idle : core.stage ≡ Idle
+  pub viewing : machine ≡ at_stage (scan_begun core true) (Viewing c old)
 
 -- where an update is that has stored so many words of its record
 abbrev pub writing_stage : CoreState → Change → ℕ → ℕ → ℕ → Stage

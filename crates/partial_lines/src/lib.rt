@@ -15,6 +15,6 @@ pub use embedded::ScanLoads;
 pub use exchange::Exchanged;
 pub use get_set::SetSteps;
 pub use makes::Makes;
-pub use update::put;
+pub use update::{PutBegun, begin_put, put, put_found};
 pub use whole_read::read;
 pub use whole_scan::{Scanned, scan};

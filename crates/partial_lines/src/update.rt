@@ -10,7 +10,7 @@ ghost use Rattle.partial_machine.specs.Lines.{set_begun};
 ghost use Rattle.partial_machine.specs.Machine.{at_stage, pool_refused, record_size, reply_of};
 ghost use Rattle.partial_machine.specs.Sound.{IsSound};
 ghost use Rattle.partial_core.specs.Part.{IsMarkedLike};
-ghost use Rattle.partial_lines.specs.Lines.{set_made, writing_stage};
+ghost use Rattle.partial_lines.specs.Lines.{IsViewDue, set_made, writing_stage, written_in};
 ghost use Rattle.partial_lines.specs.Replies.{RestsLike};
 
 use crate::embedded::scan_found;
@@ -18,6 +18,33 @@ use crate::get_set::SetSteps;
 use crate::makes::Makes;
 use partial_core::{Change, Core};
 use partial_words::{Step, plain_record_size, prev_word, value_word, view_word};
+
+/// What an update has come to by its getSet, and by the claim and the stores that follow where it finds no announced index.
+#[derive(Clone, Copy)]
+pub enum PutBegun {
+    /// It has found none, and its record lies at this reference, without a view. The exchange of its component is due.
+    Written { at: u64 },
+    /// It has found none, and the claim of its record went past the end of the pool: it is refused, and the port marked.
+    Refused,
+    /// It has found some: its embedded scan is due.
+    Found,
+}
+
+impl PutBegun {
+    ghost use Rattle.std.specs.Prelude.{◌≡◌, Some};
+    ghost use Rattle.partial_lines.specs.Lines.{written_in};
+
+    // Where the record was written, or that its claim was refused.
+    #[inline(always)]
+    fn of(written: Option<u64>) -> PutBegun
+        ensures { written_in result ≡ Some written }
+    {
+        match written {
+            Some(at) => PutBegun::Written { at },
+            None => PutBegun::Refused,
+        }
+    }
+}
 
 /// Makes an update that has loaded `old` as its component's record, from its getSet up to the exchange of the
 /// component, and returns the reference of its record. The exchange of `old` for it is due then, and the caller
@@ -44,14 +71,70 @@ pub fn put<M: Makes>(
         IfNone put (reply_of (M.machine lines.new) ≡ Some (reply.Refused refused.PoolSpent))) }
     ensures rests { OnOk result (RestsLike (M.machine lines.new) core.new) }
 {
+    match begin_put(lines, core, change, old)? {
+        PutBegun::Written { at } => Ok(Some(at)),
+        PutBegun::Refused => Ok(None),
+        PutBegun::Found => put_found(lines, core, change, old),
+    }
+}
+
+/// The same, up to the embedded scan where one is due: [`put_found`] goes on from there. A caller can make that a function of
+/// its own, so that an update that finds no announced index needs no room for what another one keeps.
+///
+/// # Errors
+/// [`Makes::Break`] when `lines` break the call off.
+#[inline(always)]
+pub fn begin_put<M: Makes>(
+    lines: &mut M,
+    core: &mut Core,
+    change: Change,
+    old: u64,
+) -> Result<PutBegun, M::Break>
+    requires goes { M.goes lines.old }
+    requires idle { core.old.stage ≡ Idle }
+    requires sound { IsSound core.old }
+    requires machine { M.machine lines.old ≡ set_made (set_begun core.old) change old }
+    ensures goes { M.goes lines.new }
+    ensures leads { M.leads lines.old lines.new }
+    ensures due { IfOk result (λ put. IfSome (written_in put) (λ written.
+        IfSome written (λ at. (M.machine lines.new).stage ≡ Exchanging change old at))) }
+    ensures refused { IfOk result (λ put. IfSome (written_in put) (λ written.
+        IfNone written (reply_of (M.machine lines.new) ≡ Some (reply.Refused refused.PoolSpent)))) }
+    ensures rests { IfOk result (λ put. IfSome (written_in put) (λ _. RestsLike (M.machine lines.new) core.new)) }
+    ensures found { IfOk result (λ put. IfNone (written_in put) (IsViewDue (M.machine lines.new) core.new change old)) }
+{
     let mut steps = SetSteps { lines };
     let set = core.make_set(&mut steps)?;
     let SetSteps { lines } = steps;
     if core.found_none() {
         core.keep_list_mark(&set);
-        return write_plain(lines, core, change, old);
+        let written = write_plain(lines, core, change, old)?;
+        return Ok(PutBegun::of(written));
     }
     core.keep_set(set);
+    Ok(PutBegun::Found)
+}
+
+/// Makes an update whose embedded scan is due, up to the exchange of its component, as [`put`] does.
+///
+/// # Errors
+/// [`Makes::Break`] when `lines` break the call off.
+#[inline(always)]
+pub fn put_found<M: Makes>(
+    lines: &mut M,
+    core: &mut Core,
+    change: Change,
+    old: u64,
+) -> Result<Option<u64>, M::Break>
+    requires goes { M.goes lines.old }
+    requires due { IsViewDue (M.machine lines.old) core.old change old }
+    ensures goes { M.goes lines.new }
+    ensures leads { M.leads lines.old lines.new }
+    ensures due { IfOk result (λ put. IfSome put (λ at. (M.machine lines.new).stage ≡ Exchanging change old at)) }
+    ensures refused { IfOk result (λ put.
+        IfNone put (reply_of (M.machine lines.new) ≡ Some (reply.Refused refused.PoolSpent))) }
+    ensures rests { OnOk result (RestsLike (M.machine lines.new) core.new) }
+{
     scan_found(lines, core)?;
     write_record(lines, core, change, old)
 }

@@ -102,7 +102,7 @@ impl LongLived {
         if let Some((value, stamp)) = read_here(words, &mut me.stand, component) {
             return Ok((value, stamp));
         }
-        let late = read_late(words, &mut me.stand, &mut me.core, &mut me.spent, component);
+        let late = read_late(words, component, &mut me.stand, &mut me.core, &mut me.spent);
         Ok(late)
     }
 
@@ -244,8 +244,23 @@ impl LongLived {
     }
 }
 
-// Checks whether each index is below the number of components.
+// Checks whether each index is below the number of components. It takes four at once: a compiler unrolls the loop over them.
 fn all_below(indices: &[u32], components: u32) -> bool
+    ensures { result ≡ list_all (λ i. nat_lt i components) indices.now }
+{
+    let mut rest = indices;
+    while let Some((four, others)) = rest.split_first_chunk::<4>() {
+        if !are_below(four, components) {
+            return false;
+        }
+        rest = others;
+    }
+    are_below(rest, components)
+}
+
+// Checks whether each of these indices is below that number.
+#[inline(always)]
+fn are_below(indices: &[u32], components: u32) -> bool
     ensures { result ≡ list_all (λ i. nat_lt i components) indices.now }
 {
     for index in indices {

@@ -1,6 +1,6 @@
 //! Scans by a double collect: two equal collects of the components, and no announcement.
 
-ghost use Rattle.std.specs.Prelude.{ℕ, ◌≡◌, ◌-◌, ◌<◌, ◌≤◌, true, false, length, slice_index, IfSome, None};
+ghost use Rattle.std.specs.Prelude.{ℕ, ◌≡◌, ◌+◌, ◌-◌, ◌<◌, ◌≤◌, true, false, length, slice_index, IfSome, None};
 ghost use Rattle.partial_words.specs.Layout.{total};
 ghost use Rattle.partial_words.specs.Record.{value_word};
 ghost use Rattle.partial_epochs.specs.Layout.{unsealed};
@@ -21,6 +21,9 @@ use crate::rule::Words;
 use crate::stand::Stand;
 use partial_words::value_word;
 use std::marker::Brand;
+
+// How many positions a loop takes at once: a compiler unrolls the loop over these.
+const AT_ONCE: usize = 4;
 
 /// Tries to scan these positions by a double collect, and says whether it has. `into` has their values then, and `kept`
 /// the words that both collects have found.
@@ -88,6 +91,7 @@ pub fn scan_at_once(
 // component is sealed and the port's epoch has ended. Otherwise the epoch was the current one during the call. `base`, here
 // and below, is where the port's arena begins: it is taken from the port once for all loads of a scan, since behind an
 // atomic load a compiler takes it from there anew.
+#[inline(always)]
 fn begin(words: &Words, stand: &mut Stand, base: u64, component: u32) -> Option<u64>
     requires held { IsHeld words.now.table_id words.now.key stand.old }
     requires base { base ≡ stand.old.base }
@@ -111,6 +115,7 @@ fn begin(words: &Words, stand: &mut Stand, base: u64, component: u32) -> Option<
 }
 
 // Loads the word of a component as the first step of the scan.
+#[inline(always)]
 fn glance_first(words: &Words, stand: &mut Stand, base: u64, component: u32) -> u64
     requires held { IsHeld words.now.table_id words.now.key stand.old }
     requires base { base ≡ stand.old.base }
@@ -140,6 +145,7 @@ pub fn glance(words: &Words, stand: &mut Stand, base: u64, component: u32) -> u6
 }
 
 // Collects the words of all positions but the first one, which is kept already.
+#[inline(always)]
 fn collect(words: &Words, stand: &mut Stand, base: u64, which: &[u32], kept: &mut [u64])
     requires held { IsHeld words.now.table_id words.now.key stand.old }
     requires base { base ≡ stand.old.base }
@@ -154,13 +160,47 @@ fn collect(words: &Words, stand: &mut Stand, base: u64, which: &[u32], kept: &mu
     ensures collected { AreCollected (port_at stand.new) 0 (length (port_at stand.new).port.part.seen)
         which.now kept.new (length which.now) }
 {
-    for k in 1..which.len() {
-        kept[k] = glance(words, stand, base, which[k]);
+    let mut k = 1;
+    while which.len() - k >= AT_ONCE {
+        collect_some(words, stand, base, which, kept, k, AT_ONCE);
+        k += AT_ONCE;
+    }
+    collect_some(words, stand, base, which, kept, k, which.len() - k);
+}
+
+// Collects the words of so many positions from `from` on.
+#[inline(always)]
+fn collect_some(
+    words: &Words,
+    stand: &mut Stand,
+    base: u64,
+    which: &[u32],
+    kept: &mut [u64],
+    from: usize,
+    many: usize,
+)
+    requires held { IsHeld words.now.table_id words.now.key stand.old }
+    requires base { base ≡ stand.old.base }
+    requires idle { IsIdle stand.old }
+    requires inside { AreInside words.now.key.sizes which.now }
+    requires within { from + many ≤ length which.now }
+    requires room { length which.now ≤ length kept.old }
+    requires before { AreCollected (port_at stand.old) 0 (length (port_at stand.old).port.part.seen)
+        which.now kept.old from }
+    ensures held { IsHeld words.now.table_id words.now.key stand.new }
+    ensures glanced { HasGlanced stand.old stand.new }
+    ensures collected { AreCollected (port_at stand.new) 0 (length (port_at stand.new).port.part.seen)
+        which.now kept.new (from + many) }
+    ensures room { length kept.new ≡ length kept.old }
+{
+    for k in 0..many {
+        kept[from + k] = glance(words, stand, base, which[from + k]);
     }
 }
 
 // Notes the scan when a second collect finds the words that are kept, and puts the values of their records into `into`.
 // `G` is what it notes: these components, behind all that the port has seen as the second collect begins.
+#[inline(always)]
 fn confirm<G: Together>(
     words: &Words,
     stand: &mut Stand,
@@ -196,7 +236,8 @@ fn confirm<G: Together>(
     true
 }
 
-// Collects the words of the positions again, up to the first one that isn't the kept one, and says whether there is none.
+// Collects the words of the positions again, and says whether they are the kept ones. It may end at one that isn't.
+#[inline(always)]
 fn collects_again(words: &Words, stand: &mut Stand, base: u64, which: &[u32], kept: &[u64]) -> bool
     requires held { IsHeld words.now.table_id words.now.key stand.old }
     requires base { base ≡ stand.old.base }
@@ -208,8 +249,43 @@ fn collects_again(words: &Words, stand: &mut Stand, base: u64, which: &[u32], ke
     ensures collected { result ≡ true → AreCollected (port_at stand.new) (length (port_at stand.old).port.part.seen)
         (length (port_at stand.new).port.part.seen) which.now kept.now (length which.now) }
 {
-    for k in 0..which.len() {
-        if glance(words, stand, base, which[k]) != kept[k] {
+    let mut k = 0;
+    while which.len() - k >= AT_ONCE {
+        if !collects_some_again(words, stand, base, which, kept, k, AT_ONCE) {
+            return false;
+        }
+        k += AT_ONCE;
+    }
+    collects_some_again(words, stand, base, which, kept, k, which.len() - k)
+}
+
+// Collects the words of so many positions from `from` on again, up to the first one that isn't the kept one, and says
+// whether there is none.
+#[inline(always)]
+fn collects_some_again(
+    words: &Words,
+    stand: &mut Stand,
+    base: u64,
+    which: &[u32],
+    kept: &[u64],
+    from: usize,
+    many: usize,
+) -> bool
+    requires held { IsHeld words.now.table_id words.now.key stand.old }
+    requires base { base ≡ stand.old.base }
+    requires idle { IsIdle stand.old }
+    requires inside { AreInside words.now.key.sizes which.now }
+    requires within { from + many ≤ length which.now }
+    requires room { length which.now ≤ length kept.now }
+    ensures held { IsHeld words.now.table_id words.now.key stand.new }
+    ensures glanced { HasGlanced stand.old stand.new }
+    ensures collected { result ≡ true → (low : ℕ) → low ≤ length (port_at stand.old).port.part.seen →
+        AreCollected (port_at stand.old) low (length (port_at stand.old).port.part.seen) which.now kept.now from →
+        AreCollected (port_at stand.new) low (length (port_at stand.new).port.part.seen)
+        which.now kept.now (from + many) }
+{
+    for k in 0..many {
+        if glance(words, stand, base, which[from + k]) != kept[from + k] {
             return false;
         }
     }
@@ -217,6 +293,7 @@ fn collects_again(words: &Words, stand: &mut Stand, base: u64, which: &[u32], ke
 }
 
 // Loads the values of the records that the kept words name, of all positions but the last one.
+#[inline(always)]
 fn load_values(
     words: &Words,
     stand: &mut Stand,
@@ -240,8 +317,45 @@ fn load_values(
     ensures values { HadValues (port_at stand.old) which.now kept.now into.new (length which.now - 1) }
     ensures lengths { length into.new ≡ length into.old }
 {
-    for k in 0..which.len() - 1 {
-        into[k] = load_kept(words, stand, base, kept[k]);
+    let last = which.len() - 1;
+    let mut k = 0;
+    while last - k >= AT_ONCE {
+        load_some(words, stand, base, which, kept, into, k, AT_ONCE);
+        k += AT_ONCE;
+    }
+    load_some(words, stand, base, which, kept, into, k, last - k);
+}
+
+// Loads the values of so many positions from `from` on.
+#[inline(always)]
+fn load_some(
+    words: &Words,
+    stand: &mut Stand,
+    base: u64,
+    which: &[u32],
+    kept: &[u64],
+    into: &mut [u64],
+    from: usize,
+    many: usize,
+)
+    requires held { IsHeld words.now.table_id words.now.key stand.old }
+    requires base { base ≡ stand.old.base }
+    requires stands { (port_at stand.old).port.control.entering ≡ Stands }
+    requires inside { AreInside words.now.key.sizes which.now }
+    requires some { from + many ≤ length which.now }
+    requires room { length which.now ≤ length kept.now }
+    requires lengths { length into.old ≡ length which.now }
+    requires within { (k : ℕ) → k < length which.now →
+        value_word (unsealed (slice_index kept.now k)) < total words.now.key.sizes }
+    requires before { HadValues (port_at stand.old) which.now kept.now into.old from }
+    ensures held { IsHeld words.now.table_id words.now.key stand.new }
+    ensures kept { StaysAt stand.old stand.new }
+    ensures same { port_at stand.new ≡ port_at stand.old }
+    ensures values { HadValues (port_at stand.old) which.now kept.now into.new (from + many) }
+    ensures lengths { length into.new ≡ length into.old }
+{
+    for k in 0..many {
+        into[from + k] = load_kept(words, stand, base, kept[from + k]);
     }
 }
 
@@ -262,6 +376,7 @@ fn load_kept(words: &Words, stand: &mut Stand, base: u64, word: u64) -> u64
 }
 
 // The same, and by this load the port notes the scan `G`.
+#[inline(always)]
 fn load_noting<G: Together>(words: &Words, stand: &mut Stand, base: u64, word: u64) -> u64
     requires held { IsHeld words.now.table_id words.now.key stand.old }
     requires base { base ≡ stand.old.base }

@@ -4,6 +4,7 @@
 
 mod answers;
 mod arena;
+mod attempt;
 mod calls;
 mod change;
 mod change_plays;
@@ -11,6 +12,7 @@ mod claim;
 mod clear;
 mod closed;
 mod double_collect;
+mod ended;
 mod enter;
 mod error;
 mod fill;

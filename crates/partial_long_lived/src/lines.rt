@@ -15,17 +15,30 @@ use crate::stand::Stand;
 use partial_lines::Makes;
 use partial_words::Step;
 use std::convert::Infallible;
+use std::marker::PhantomData;
 
-/// The steps of the call of a port, made in its arena. No call is broken off.
+/// The steps of the call of a port, made in its arena. No call is broken off. `C` is the kind of call: the code that makes
+/// a call's steps is one of its own for each kind, and a compiler puts code in line that is called once.
 #[derive(Drop)]
-pub struct ArenaLines<'a> {
+pub struct ArenaLines<'a, C> {
     /// The words that all threads share.
     pub words: &'a Words,
     /// The seat of the port.
     pub stand: &'a mut Stand,
+    /// The kind of call.
+    pub kind: PhantomData<C>,
 }
 
-impl<'a> Makes for ArenaLines<'a> {
+/// The kind of a scan.
+pub struct Scan;
+
+/// The kind of an update's first attempt.
+pub struct First;
+
+/// The kind of a further attempt of an update, and of a conditional one.
+pub struct Further;
+
+impl<'a, C> Makes for ArenaLines<'a, C> {
     type Break = Infallible;
 
     ghost goes = { λ l. IsGoing l.words.now.table_id l.words.now.key l.stand.now };

@@ -87,13 +87,14 @@ fn load_record(
 /// during the read: its value and its public stamp. Clears the marks of the port's machine when it comes to a later epoch.
 ///
 /// It isn't put in line, so that a read that finds no seal pays nothing for it.
+#[cold]
 #[inline(never)]
 pub fn read_late(
     words: &Words,
+    component: u32,
     stand: &mut Stand,
     core: &mut Core,
     spent: &mut bool,
-    component: u32,
 ) -> (u64, u64)
     requires held { IsHeld words.now.table_id words.now.key stand.old }
     requires rests { RestsAt stand.old core.old spent.old }

@@ -21,14 +21,14 @@ use crate::change::change;
 use crate::double_collect::scan_at_once;
 use crate::enter::{enter, look_first};
 use crate::error::Refused;
-use crate::lines::ArenaLines;
+use crate::lines::{ArenaLines, Scan};
 use crate::machine_plays::{BeginScan, Moment};
 use crate::rule::Words;
 use crate::stand::Stand;
 use partial_core::Core;
 use partial_lines::Scanned;
 use partial_words::announcement_size;
-use std::marker::Brand;
+use std::marker::{Brand, PhantomData};
 
 // Enters the current epoch if the port's epoch has ended, as the first steps of a call. The port's machine is a new
 // one then.
@@ -206,7 +206,11 @@ fn announce(
     ensures rests { RestsLike (machine_at stand.new) core.new }
     ensures copied { into.new ≡ map (slice_index core.new.rows.values) which.now }
 {
-    let mut lines = ArenaLines { words, stand };
+    let mut lines = ArenaLines::<Scan> {
+        words,
+        stand,
+        kind: PhantomData,
+    };
     let Ok(Ok(scanned)) = partial_lines::scan(&mut lines, core, which, at, into) else {
         unreachable!()
     };

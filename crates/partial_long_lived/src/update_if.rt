@@ -11,11 +11,12 @@ ghost use Rattle.partial_long_lived.specs.Inner.Updates.{CameBy, IsLate, IsOwnMa
 
 use crate::answers::UpdatedIf;
 use crate::arena::{SEAL, STAMPS, public_stamp};
+use crate::attempt::attempt;
 use crate::error::Refused;
 use crate::plays::{SeeAgain, SeeFirst, Wishes};
 use crate::rule::Words;
 use crate::stand::Stand;
-use crate::update::{MOST_CHANGES, attempt, renew};
+use crate::update::{MOST_CHANGES, renew};
 use partial_core::Core;
 use partial_lines::Exchanged;
 use std::marker::Brand;

@@ -1,5 +1,5 @@
 -- Parts of an update.
-use Rattle.std.specs.Prelude.{ℕ, ◌≡◌, ◌+◌, ◌<◌, ◌≤◌, ◌++◌, Bool, false, [], ◌∷◌, length, take, Option, None, Some, IfSome}
+use Rattle.std.specs.Prelude.{ℕ, ◌≡◌, ◌+◌, ◌<◌, ◌≤◌, ◌++◌, Bool, false, [], ◌∷◌, length, take, Option, None, Some, IfSome, Result, Ok, Err}
 use Rattle.partial_model.specs.declared.call.Call.{Call}
 use Rattle.partial_model.specs.declared.call.Answer.{Answer}
 use Rattle.partial_model.specs.declared.call.Note.{Note}
@@ -16,10 +16,11 @@ use Rattle.partial_epochs.specs.History.{public_stamp, stamp_limit}
 use Rattle.partial_epochs.specs.Notes.{public_of}
 use Rattle.partial_long_lived.specs.declared.answers.Updated as answers
 use Rattle.partial_long_lived.specs.declared.answers.Updated.{Updated}
+use Rattle.partial_long_lived.specs.declared.ended.Ended.{Ended}
 use Rattle.partial_long_lived.specs.declared.error.Refused.{Refused}
 use Rattle.partial_long_lived.specs.declared.error.Refused.TheVariants.{Overtaken as IsOvertaken}
 use Rattle.partial_long_lived.specs.declared.stand.Stand.{Stand}
-use Rattle.partial_long_lived.specs.declared.update.Attempted.{Attempted}
+use Rattle.partial_long_lived.specs.declared.attempt.Attempted.{Attempted}
 use Rattle.partial_long_lived.specs.Rule.{SeatedPort, plan_of}
 use Rattle.partial_long_lived.specs.Ports.{seen_in}
 use Rattle.partial_long_lived.specs.Inner.Moves.{BeganBy}
@@ -45,6 +46,15 @@ abbrev pub exchanged_in : Attempted → Option Exchanged
 exchanged_in (Attempted.Applied stamp) = Some (Applied stamp)
 exchanged_in (Attempted.Overtaken by) = Some (Overtaken by)
 exchanged_in Attempted.Sealed = None
+
+-- how an update ended, or why it was refused
+abbrev pub ended_as : Ended → Result Exchanged Refused
+ended_as (Ended.Applied stamp) = Ok (Applied stamp)
+ended_as (Ended.Overtaken by) = Ok (Overtaken by)
+ended_as Ended.NoComponent = Err Refused.Component
+ended_as Ended.TooLate = Err Refused.Overtaken
+ended_as Ended.NoArena = Err Refused.NoArena
+ended_as Ended.EpochsSpent = Err Refused.EpochsSpent
 
 -- what a port notes of an update in that epoch that ended so, with an entry at that place
 abbrev pub noted_change : ℕ → Change → Exchanged → ℕ → Noted

@@ -1,23 +1,18 @@
-use Rattle.partial_long_lived.proofs.{Common.{◌<◌, length, refl, sym, ◌∙◌, arith, length-set}, Collects.{collects_one, glanced_by, glanced_idle, glanced_itself, glanced_on}}
+use Rattle.partial_long_lived.proofs.{Common.{◌≤◌, length, refl, arith}, Collects.{glanced_itself, glanced_on}}
 use Rattle.partial_long_lived.proofs.double_collect.collect.Goals as goal
 
 pub loop-k-init : goal.loop-k-init
-loop-k-init c = record { held = c.requires.held; base = c.requires.base; glanced = glanced_itself _ _ _ c.requires.held; idle = c.requires.idle; room = refl; collected = c.requires.first }
-
-pub loop-k-preserved : goal.loop-k-preserved
-loop-k-preserved c =
-    let w = c.loop-k.invariant in
-    let g = c.glance.ensures in
-    let step = glanced_by _ _ _ _ g.kept g.sees in
-    let less = c.loop-k-test.true in
-    let room = c.requires.room in
-    let same = w.room in
-    let inside : c.loop-k.k < length c.loop-k.kept = omega (arith, less, room, same) in
-    let kept = length-set c.loop-k.kept c.loop-k.k c.glance.result in record {
-      held = g.held;
-      base = w.base ∙ sym g.kept.base;
-      glanced = glanced_on _ _ _ w.glanced step;
-      idle = glanced_idle _ _ w.idle step;
-      room = omega (arith, kept, same);
-      collected = collects_one _ _ _ _ _ _ inside g.kept g.sees w.collected;
+loop-k-init c =
+    let some = c.requires.some in
+    let within : 1 ≤ length c.args.which.now = omega (arith, some) in record {
+      held = c.requires.held;
+      base = c.requires.base;
+      glanced = glanced_itself _ _ _ c.requires.held;
+      idle = c.requires.idle;
+      within = within;
+      room = refl;
+      collected = c.requires.first;
     }
+
+pub returns-clause-glanced : goal.returns-clause-glanced
+returns-clause-glanced c = glanced_on _ _ _ c.loop-k.invariant.glanced c.collect_some-2.ensures.glanced

@@ -1,24 +1,18 @@
-use Rattle.std.proofs.Common.{rules, tests}
-use Rattle.partial_long_lived.proofs.{Common.{sym, ◌∙◌, arith}, Collects.{collects_same, glanced_by, glanced_idle, glanced_itself, glanced_on, glanced_seen}}
+use Rattle.partial_long_lived.proofs.{Common.arith, Collects.{glanced_itself, glanced_on}}
 use Rattle.partial_long_lived.proofs.double_collect.collects_again.Goals as goal
 
 pub loop-k-init : goal.loop-k-init
-loop-k-init c = record { held = c.requires.held; base = c.requires.base; glanced = glanced_itself _ _ _ c.requires.held; idle = c.requires.idle; collected = λ k low. absurd (omega (arith, low)) }
+loop-k-init c = record {
+  held = c.requires.held;
+  base = c.requires.base;
+  glanced = glanced_itself _ _ _ c.requires.held;
+  idle = c.requires.idle;
+  within = omega arith;
+  collected = λ k low. absurd (omega (arith, low));
+}
 
-pub returns-then-glance-kept-clause-glanced : goal.returns-then-glance-kept-clause-glanced
-returns-then-glance-kept-clause-glanced c = glanced_on _ _ _ c.loop-k.invariant.glanced (glanced_by _ _ _ _ c.glance.ensures.kept c.glance.ensures.sees)
+pub returns-then-not-collects_some_again-clause-glanced : goal.returns-then-not-collects_some_again-clause-glanced
+returns-then-not-collects_some_again-clause-glanced c = glanced_on _ _ _ c.loop-k.invariant.glanced c.collects_some_again.ensures.glanced
 
-pub loop-k-preserved : goal.loop-k-preserved
-loop-k-preserved c =
-    let w = c.loop-k.invariant in
-    let g = c.glance.ensures in
-    let step = glanced_by _ _ _ _ g.kept g.sees in record {
-      held = g.held;
-      base = w.base ∙ sym g.kept.base;
-      glanced = glanced_on _ _ _ w.glanced step;
-      idle = glanced_idle _ _ w.idle step;
-      collected = collects_same _ _ _ _ _ _ _ g.kept g.sees c.if-glance-kept.false (glanced_seen _ _ w.glanced) w.collected;
-    }
-
-pub returns-clause-collected : goal.returns-clause-collected
-returns-clause-collected c = search (tests, rules)
+pub returns-clause-glanced : goal.returns-clause-glanced
+returns-clause-glanced c = glanced_on _ _ _ c.loop-k.invariant.glanced c.collects_some_again-2.ensures.glanced

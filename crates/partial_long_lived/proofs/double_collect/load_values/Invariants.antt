@@ -1,4 +1,4 @@
-use Rattle.partial_long_lived.proofs.Common.{◌≡◌, length, IsHeld, port_at, StaysAt, HadValues}
+use Rattle.partial_long_lived.proofs.Common.{◌≡◌, ◌≤◌, ◌-◌, length, IsHeld, port_at, StaysAt, HadValues}
 use Rattle.partial_long_lived.proofs.double_collect.load_values.Given as goal
 
 abbrev pub invariant-loop-k : goal.invariant-loop-k
@@ -7,6 +7,10 @@ invariant-loop-k l = record {
   base : l.base ≡ l.stand.base;
   kept : StaysAt l.fn.stand l.stand;
   same : port_at l.stand ≡ port_at l.fn.stand;
+  within : l.k ≤ l.last;
   many : length l.into ≡ length l.fn.into;
   values : HadValues (port_at l.fn.stand) l.which l.kept l.into l.k;
 }
+
+abbrev pub decreases-loop-k : goal.decreases-loop-k
+decreases-loop-k l = l.last - l.k

@@ -1,21 +1,21 @@
 use Rattle.partial_long_lived.proofs.{Common.{rules, ◌≡◌, ◌+◌, false, nat_lt, IfSome, arith, inl, inr, refl, subst, sym, MayCall, MissesSeal, port_at, UpdateAttempted, asked_change}, Attempts.{attempt_between, attempt_ends, attempt_going, attempt_rests, attempt_spares, first_between, first_ends, first_spares, met_seal, update_begins}}
-use Rattle.partial_long_lived.proofs.update.attempt.Goals.{else-found-ge-SEAL-via-then-found-ge-SEAL+else-found-old, else-found-ge-SEAL-via-else-found-ge-SEAL}
-use Rattle.partial_long_lived.proofs.update.attempt.Goals as goal
+use Rattle.partial_long_lived.proofs.attempt.attempt_as.Goals.{else-found-ge-SEAL-via-then-found-ge-SEAL+else-found-old, else-found-ge-SEAL-via-else-found-ge-SEAL}
+use Rattle.partial_long_lived.proofs.attempt.attempt_as.Goals as goal
 
 pub begin-old-requires-clause-begins : goal.begin-old-requires-clause-begins
-begin-old-requires-clause-begins c =
+begin-old-requires-clause-begins g c =
     let r = c.requires in
     update_begins _ _ _ c.args.core.now (asked_change c.args.component c.args.expected c.args.value) r.held r.idle r.may.rests r.may.over r.inside r.expects
 
 pub write-at-requires-clause-going : goal.write-at-requires-clause-going
-write-at-requires-clause-going c =
+write-at-requires-clause-going g c =
     let r = c.requires in
     let begins = update_begins _ _ _ c.args.core.now (asked_change c.args.component c.args.expected c.args.value) r.held r.idle r.may.rests r.may.over r.inside r.expects in
     let low = c.if-old-ge-SEAL.false in
     attempt_going _ _ _ r.held r.idle c.args.core.now (asked_change c.args.component c.args.expected c.args.value) begins c.args.first _ c.begin-old.ensures.held c.begin-old.ensures.kept _ c.begin-old.ensures.begun (omega (arith, low))
 
 pub returns-then-found-old-clause-sealed : goal.returns-then-found-old-clause-sealed
-returns-then-found-old-clause-sealed c =
+returns-then-found-old-clause-sealed g c =
     let r = c.requires in
     let begins = update_begins _ _ _ c.args.core.now (asked_change c.args.component c.args.expected c.args.value) r.held r.idle r.may.rests r.may.over r.inside r.expects in
     let low = c.if-old-ge-SEAL.false in
@@ -25,7 +25,7 @@ returns-then-found-old-clause-sealed c =
     _ c.write-at.ensures.leads c.write-at.result c.exchange-found.result (search rules) _ c.exchange-found.ensures.kept c.exchange-found.ensures.exchanged (omega (arith, high)) same
 
 pub returns-then-found-old-clause-rests : goal.returns-then-found-old-clause-rests
-returns-then-found-old-clause-rests c =
+returns-then-found-old-clause-rests g c =
     let r = c.requires in
     let begins = update_begins _ _ _ c.args.core.now (asked_change c.args.component c.args.expected c.args.value) r.held r.idle r.may.rests r.may.over r.inside r.expects in
     let low = c.if-old-ge-SEAL.false in
@@ -33,7 +33,7 @@ returns-then-found-old-clause-rests c =
     _ c.write-at.ensures.leads c.write-at.result c.exchange-found.result (search rules) _ c.exchange-found.ensures.kept _ r.may.rests c.write-at.ensures.rests
 
 pub returns-clause-rests : goal.returns-clause-rests
-returns-clause-rests c =
+returns-clause-rests g c =
     let r = c.requires in
     let begins = update_begins _ _ _ c.args.core.now (asked_change c.args.component c.args.expected c.args.value) r.held r.idle r.may.rests r.may.over r.inside r.expects in
     let low = c.if-old-ge-SEAL.false in
@@ -41,7 +41,7 @@ returns-clause-rests c =
     _ c.write-at.ensures.leads c.write-at.result c.exchange-found.result (search rules) _ c.exchange-found.ensures.kept _ r.may.rests c.write-at.ensures.rests
 
 pub returns-clause-attempted : goal.returns-clause-attempted
-returns-clause-attempted c =
+returns-clause-attempted g c =
     let r = c.requires in
     let begins = update_begins _ _ _ c.args.core.now (asked_change c.args.component c.args.expected c.args.value) r.held r.idle r.may.rests r.may.over r.inside r.expects in
     let low = c.if-old-ge-SEAL.false in
@@ -54,7 +54,7 @@ returns-clause-attempted c =
     _ c.write-at.ensures.leads c.write-at.result c.exchange-found.result (search rules) _ c.exchange-found.ensures.kept c.exchange-found.ensures.exchanged misses _ c.of.ensures)
 
 pub returns-clause-spare : goal.returns-clause-spare
-returns-clause-spare c =
+returns-clause-spare g c =
     let r = c.requires in
     let begins = update_begins _ _ _ c.args.core.now (asked_change c.args.component c.args.expected c.args.value) r.held r.idle r.may.rests r.may.over r.inside r.expects in
     let low = c.if-old-ge-SEAL.false in
@@ -71,7 +71,7 @@ returns-clause-spare c =
     })
 
 pub returns-then-expected-old-clause-attempted : goal.returns-then-expected-old-clause-attempted
-returns-then-expected-old-clause-attempted c =
+returns-then-expected-old-clause-attempted g c =
     let r = c.requires in
     let begins = update_begins _ _ _ c.args.core.now (asked_change c.args.component c.args.expected c.args.value) r.held r.idle r.may.rests r.may.over r.inside r.expects in
     let low = c.if-old-ge-SEAL.false in
@@ -79,7 +79,7 @@ returns-then-expected-old-clause-attempted c =
     c.in-Some.expected c.in-Some.is c.if-expected-old.true
 
 pub returns-then-expected-old-clause-spare : goal.returns-then-expected-old-clause-spare
-returns-then-expected-old-clause-spare c =
+returns-then-expected-old-clause-spare g c =
     let r = c.requires in
     let begins = update_begins _ _ _ c.args.core.now (asked_change c.args.component c.args.expected c.args.value) r.held r.idle r.may.rests r.may.over r.inside r.expects in
     let low = c.if-old-ge-SEAL.false in

@@ -1,5 +1,5 @@
 use Rattle.partial_long_lived.proofs.{Common.{◌<◌, arith}, Standing.component_there, Updating.{exchange_asked, exchanged_at}}
-use Rattle.partial_long_lived.proofs.update.exchange.Goals as goal
+use Rattle.partial_long_lived.proofs.attempt.exchange.Goals as goal
 
 pub compare_exchange-requires : goal.compare_exchange-requires
 compare_exchange-requires c =

@@ -1,5 +1,5 @@
 use Rattle.partial_long_lived.proofs.{Common.{true, false, ◌<◌, ap, arith, subst, sym, CoreState, one_of, port_at, SeatBegins}, Standing.component_there, Updating.{begin_asked, begun_at}}
-use Rattle.partial_long_lived.proofs.update.begin.Goals as goal
+use Rattle.partial_long_lived.proofs.attempt.begin.Goals as goal
 
 pub load-requires : goal.load-requires
 load-requires g c =
