@@ -7,12 +7,13 @@ ghost use Rattle.partial_long_lived.specs.Calls.{Differ, IsRefused, Meets, Reads
 ghost use Rattle.partial_long_lived.specs.Ports.{IsOf};
 
 use crate::answers::{Updated, UpdatedIf};
+use crate::double_collect::scan_at_once;
 use crate::error::Refused;
 use crate::long_lived::LongLived;
 use crate::meet::{meet, take_out};
 use crate::port::Port;
 use crate::read::{read_here, read_late};
-use crate::scan::{public_borrowed, scan_from};
+use crate::scan::{public_borrowed, scan_announced};
 use crate::stamped::scan_stamped;
 use crate::unchanged::unchanged;
 use crate::update::update;
@@ -140,8 +141,14 @@ impl LongLived {
         let kept = me.collected.as_mut_slice();
         let core = &mut me.core;
         let spent = &mut me.spent;
-        let scanned = scan_from(words, stand, core, spent, which, kept, into);
-        match scanned {
+        if scan_at_once(words, stand, which, kept, into) {
+            return Ok(Scanned {
+                collects: 2,
+                borrowed: None,
+            });
+        }
+        let announced = scan_announced(words, stand, core, spent, which, into);
+        match announced {
             Ok(Scanned { collects, borrowed }) => Ok(Scanned {
                 collects,
                 borrowed: public_borrowed(me.stand.epoch, borrowed),
@@ -244,10 +251,14 @@ impl LongLived {
     }
 }
 
-// Checks whether each index is below the number of components. It takes four at once: a compiler unrolls the loop over them.
+// Checks whether each index is below the number of components. It takes four at once, and just four with no loop around: a
+// compiler unrolls the loop over them.
 fn all_below(indices: &[u32], components: u32) -> bool
     ensures { result ≡ list_all (λ i. nat_lt i components) indices.now }
 {
+    if let Ok(four) = <[u32; 4]>::try_from(indices) {
+        return are_below(&four, components);
+    }
     let mut rest = indices;
     while let Some((four, others)) = rest.split_first_chunk::<4>() {
         if !are_below(four, components) {

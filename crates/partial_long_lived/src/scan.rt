@@ -12,13 +12,12 @@ ghost use Rattle.partial_epochs.specs.History.{public_stamp};
 ghost use Rattle.partial_long_lived.specs.Inner.Held.{IsHeld, port_at};
 ghost use Rattle.partial_long_lived.specs.Inner.Calls.{IsIdle};
 ghost use Rattle.partial_long_lived.specs.Inner.Rests.{NotScanned, RestsAt};
-ghost use Rattle.partial_long_lived.specs.Inner.Scans.{HasNotedScan, RestsUnmarked, ScanBegun, SettledFirst};
+ghost use Rattle.partial_long_lived.specs.Inner.Scans.{RestsUnmarked, ScanBegun, SettledFirst};
 ghost use Rattle.partial_long_lived.specs.Inner.Stamped.{MadeNamed, ScannedNamed};
 ghost use Rattle.partial_long_lived.specs.Inner.Under.{IsGoing, ComesTo, MayBegin, machine_at};
 
 use crate::arena::STAMPS;
 use crate::change::change;
-use crate::double_collect::scan_at_once;
 use crate::enter::{enter, look_first};
 use crate::error::Refused;
 use crate::lines::{ArenaLines, Scan};
@@ -46,41 +45,6 @@ fn settle_first(words: &Words, stand: &mut Stand, core: &mut Core)
         enter(words, stand);
         core.clear_marks();
     }
-}
-
-/// Makes a whole scan: by a double collect, or otherwise by one that is announced. `spent` says whether the port is spent
-/// in its epoch, before and afterwards. Returns how the scan was made. `kept` is where a double collect keeps words.
-///
-/// # Errors
-/// As those of [`change`]: the port stands where it stood, spent, and `into` is unchanged.
-pub fn scan_from(
-    words: &Words,
-    stand: &mut Stand,
-    core: &mut Core,
-    spent: &mut bool,
-    which: &[u32],
-    kept: &mut [u64],
-    into: &mut [u64],
-) -> Result<Scanned, Refused>
-    requires held { IsHeld words.now.table_id words.now.key stand.old }
-    requires rests { RestsAt stand.old core.old spent.old }
-    requires asked { AreComponentIndices core.old.sizes which.now }
-    requires some { 0 < length which.now }
-    requires room { length which.now ≤ length kept.old }
-    requires lengths { length into.old ≡ length which.now }
-    ensures held { IsHeld words.now.table_id words.now.key stand.new }
-    ensures rests { RestsAt stand.new core.new spent.new }
-    ensures scanned { IfOk result (λ q. HasNotedScan stand.old stand.new which.now into.new q.collects q.borrowed) }
-    ensures refused { IfErr result (NotScanned stand.old stand.new) }
-    ensures unchanged { IfErr result (λ _. into.new ≡ into.old) }
-{
-    if scan_at_once(words, stand, which, kept, into) {
-        return Ok(Scanned {
-            collects: 2,
-            borrowed: None,
-        });
-    }
-    scan_announced(words, stand, core, spent, which, into)
 }
 
 /// Makes a scan that is announced. Unless it took a view, `core` has the words that it collected last. A port that is spent

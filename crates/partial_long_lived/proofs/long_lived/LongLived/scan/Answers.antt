@@ -1,5 +1,5 @@
 use Rattle.std.proofs.Common.{tests}
-use Rattle.partial_long_lived.proofs.{Common.{rules, ◌≡◌, ◌<◌, length, refl, sym, ◌∙◌, subst, IfOk, IfErr, AllByRecursion, IsRefused, Scans, port_view, port_at, Call}, Answering.{are_below, borrowed_fits, not_below, scan_answered, scan_refused}}
+use Rattle.partial_long_lived.proofs.{Common.{rules, ◌≡◌, ◌<◌, length, refl, sym, ◌∙◌, subst, IfOk, IfErr, AllByRecursion, IsRefused, Scans, port_view, port_at, Call, None}, Answering.{are_below, borrowed_fits, not_below, scan_answered, scan_refused}, DoubleCollect.{come_err, come_ok}}
 use Rattle.partial_long_lived.proofs.long_lived.LongLived.scan.Goals.{in-Ok, in-Err}
 use Rattle.partial_long_lived.proofs.long_lived.LongLived.scan.Goals as goal
 
@@ -9,8 +9,20 @@ returns-then-not-all_below-clause-refused c =
     let none = not_below _ c.args.which.now _ c.all_below.ensures c.if-not-all_below.true in
     ((λ all. none (subst (λ n. AllByRecursion (λ j. j < n) c.args.which.now) (sym same) all)), refl)
 
+pub returns-then-scan_at_once-clause-answered : goal.returns-then-scan_at_once-clause-answered
+returns-then-scan_at_once-clause-answered c =
+    let own = c.requires.own ∙ sym c.self.view_is in
+    let same : c.m.result ≡ c.self.inside.table.shared.key.sizes.m = search rules in
+    let below = subst (λ n. AllByRecursion (λ j. j < n) c.args.which.now) same (are_below _ c.args.which.now _ c.all_below.ensures c.if-not-all_below.false) in
+    let some : 0 < length c.args.which.now = search rules fits 5000 in
+    scan_answered _ c.me.inside.stand c.scan_at_once.new.stand _ c.me.view_is own c.scan_at_once.ensures.held c.args.which.now below
+    c.scan_at_once.new.into _ None None (c.scan_at_once.ensures.scanned c.if-scan_at_once.true) refl some
+
 pub public_borrowed-requires : goal.public_borrowed-requires
-public_borrowed-requires c = record { fits = borrowed_fits _ _ _ _ _ _ (rw c.in-Ok.is at c.scan_from-scanned.ensures.scanned) }
+public_borrowed-requires c =
+    let d = c.scan_at_once.ensures in
+    let told = come_ok _ _ _ d.stayed.come (d.notes c.if-scan_at_once.false) _ _ _ _ c.scan_announced-announced.ensures.scanned in
+    record { fits = borrowed_fits _ _ _ _ _ _ (rw c.in-Ok.is at told) }
 
 pub returns-clause-answered : goal.returns-clause-answered
 returns-clause-answered c =
@@ -18,15 +30,17 @@ returns-clause-answered c =
     let same : c.m.result ≡ c.self.inside.table.shared.key.sizes.m = search rules in
     let below = subst (λ n. AllByRecursion (λ j. j < n) c.args.which.now) same (are_below _ c.args.which.now _ c.all_below.ensures c.if-not-all_below.false) in
     let some : 0 < length c.args.which.now = search rules fits 5000 in
-    let new = c.scan_from-scanned.new.stand in
-    let held = c.scan_from-scanned.ensures.held in
-    elim c.match-scanned.branch [
+    let d = c.scan_at_once.ensures in
+    let new = c.scan_announced-announced.new.stand in
+    let held = c.scan_announced-announced.ensures.held in
+    let told = come_ok _ _ _ d.stayed.come (d.notes c.if-scan_at_once.false) _ _ _ _ c.scan_announced-announced.ensures.scanned in
+    elim c.match-announced.branch [
       | in-Ok w ↦
-          let scanned = rw w.in-Ok.is at c.scan_from-scanned.ensures.scanned in
-          subst (λ r. IfOk r (λ q. Scans c.args.me.now c.args.which.now c.scan_from-scanned.new.into q (port_view new.seat.table_id (port_at new)))) (sym w.result-is)
+          let scanned = rw w.in-Ok.is at told in
+          subst (λ r. IfOk r (λ q. Scans c.args.me.now c.args.which.now c.scan_announced-announced.new.into q (port_view new.seat.table_id (port_at new)))) (sym w.result-is)
           (scan_answered _ c.me.inside.stand new _ c.me.view_is own held c.args.which.now below
-          c.scan_from-scanned.new.into _ _ _ scanned w.public_borrowed.ensures some)
-      | in-Err w ↦ subst (λ r. IfOk r (λ q. Scans c.args.me.now c.args.which.now c.scan_from-scanned.new.into q (port_view new.seat.table_id (port_at new)))) (sym w.result-is) tt
+          c.scan_announced-announced.new.into _ _ _ scanned w.public_borrowed.ensures some)
+      | in-Err w ↦ subst (λ r. IfOk r (λ q. Scans c.args.me.now c.args.which.now c.scan_announced-announced.new.into q (port_view new.seat.table_id (port_at new)))) (sym w.result-is) tt
     ]
 
 pub returns-clause-refused : goal.returns-clause-refused
@@ -34,15 +48,17 @@ returns-clause-refused c =
     let own = c.requires.own ∙ sym c.self.view_is in
     let same : c.m.result ≡ c.self.inside.table.shared.key.sizes.m = search rules in
     let below = subst (λ n. AllByRecursion (λ j. j < n) c.args.which.now) same (are_below _ c.args.which.now _ c.all_below.ensures c.if-not-all_below.false) in
-    let new = c.scan_from-scanned.new.stand in
-    let held = c.scan_from-scanned.ensures.held in
-    elim c.match-scanned.branch [
+    let d = c.scan_at_once.ensures in
+    let new = c.scan_announced-announced.new.stand in
+    let held = c.scan_announced-announced.ensures.held in
+    let told = come_err _ _ _ d.stayed.come (d.notes c.if-scan_at_once.false) _ c.scan_announced-announced.ensures.refused in
+    elim c.match-announced.branch [
       | in-Ok w ↦ subst (λ r. IfErr r (λ cause. IsRefused c.args.me.now (Call.Scan c.args.which.now) cause (port_view new.seat.table_id (port_at new)))) (sym w.result-is) tt
       | in-Err w ↦
-          let not = rw w.in-Err.is at c.scan_from-scanned.ensures.refused in
+          let not = rw w.in-Err.is at told in
           subst (λ r. IfErr r (λ cause. IsRefused c.args.me.now (Call.Scan c.args.which.now) cause (port_view new.seat.table_id (port_at new)))) (sym w.result-is)
           (scan_refused _ c.me.inside.stand new _ c.me.view_is own held c.args.which.now below _ not)
     ]
 
-pub scan_from-scanned-requires-clause-rests : goal.scan_from-scanned-requires-clause-rests
-scan_from-scanned-requires-clause-rests c = search (tests, rules)
+pub scan_announced-announced-requires-clause-rests : goal.scan_announced-announced-requires-clause-rests
+scan_announced-announced-requires-clause-rests c = search (tests, rules)
