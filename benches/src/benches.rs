@@ -17,6 +17,9 @@ const PARTS_OF_SCANS: u32 = 60;
 const MANY_PARTS: u32 = 100_000;
 // The pool of a memory has room for the views that the updates store.
 const PARTS_OF_BOTH: u32 = 20;
+// Of a row of one thread, in each repetition, and of a row of several.
+const ROUNDS_ALONE: usize = 20;
+const ROUNDS: usize = 5;
 const OPENINGS: usize = 3;
 const MONITORS: usize = 3;
 const WRITERS: usize = 3;
@@ -29,25 +32,40 @@ pub struct Bench {
     pub endings: &'static [&'static str],
     /// Whether the opening is compared by its time and not by its speed.
     pub is_time: bool,
+    /// How often it is measured in each repetition.
+    pub rounds: usize,
+    /// What a cell is of all its measurements.
+    pub cell: fn(Vec<f64>) -> f64,
     pub run: fn(&str) -> Sample,
 }
 
+/// A row of several threads.
 const fn speed(name: &'static str, run: fn(&str) -> Sample) -> Bench {
-    Bench { name, endings: &[""], is_time: false, run }
+    Bench { name, endings: &[""], is_time: false, rounds: ROUNDS, cell: median, run }
+}
+
+/// A row of one thread, which tells what a call takes where nothing else slows the processor.
+const fn alone(name: &'static str, run: fn(&str) -> Sample) -> Bench {
+    Bench { rounds: ROUNDS_ALONE, cell: least, ..speed(name, run) }
+}
+
+/// The same, where each measurement takes long.
+const fn alone_and_long(name: &'static str, run: fn(&str) -> Sample) -> Bench {
+    Bench { rounds: 1, ..alone(name, run) }
 }
 
 pub const BENCHES: [Bench; 18] = [
-    speed("read, 1 thread", |name| timed(name, 1, PARTS, rest, read)),
+    alone("read, 1 thread", |name| timed(name, 1, PARTS, rest, read)),
     speed("read, 4 threads", |name| timed(name, 4, PARTS, rest, read)),
-    speed("update, 1 thread, nobody scans", |name| timed(name, 1, PARTS, rest, update)),
-    speed("update, 1 thread, 100 million of them", many),
+    alone("update, 1 thread, nobody scans", |name| timed(name, 1, PARTS, rest, update)),
+    alone_and_long("update, 1 thread, 100 million of them", many),
     speed("update, 4 threads, nobody scans", |name| timed(name, 4, PARTS, rest, update)),
-    speed("update, 1 thread, after scans", |name| timed(name, 1, PARTS, scan_often, update)),
-    speed("update, 1 thread, after scans, no list words left", without_lists),
-    speed("add one, 1 thread, nobody scans", |name| timed(name, 1, PARTS, rest, add_one)),
-    speed("scan of 4, 1 thread", |name| timed(name, 1, PARTS_OF_SCANS, rest, scan::<4>)),
-    speed("scan of 16, 1 thread", |name| timed(name, 1, PARTS_OF_SCANS, rest, scan::<16>)),
-    speed("9 reads to an update, 1 thread", |name| timed(name, 1, PARTS, rest, mostly_reads)),
+    alone("update, 1 thread, after scans", |name| timed(name, 1, PARTS, scan_often, update)),
+    alone_and_long("update, 1 thread, after scans, no list words left", without_lists),
+    alone("add one, 1 thread, nobody scans", |name| timed(name, 1, PARTS, rest, add_one)),
+    alone("scan of 4, 1 thread", |name| timed(name, 1, PARTS_OF_SCANS, rest, scan::<4>)),
+    alone("scan of 16, 1 thread", |name| timed(name, 1, PARTS_OF_SCANS, rest, scan::<16>)),
+    alone("9 reads to an update, 1 thread", |name| timed(name, 1, PARTS, rest, mostly_reads)),
     speed("9 reads to an update, 4 threads", |name| timed(name, 4, PARTS, rest, mostly_reads)),
     speed("a scan of 8 to 9 updates, 4 threads", |name| timed(name, 4, PARTS_OF_BOTH, rest, some_scans)),
     speed("update of 3 writers beside scans of 8", writers),
@@ -55,26 +73,13 @@ pub const BENCHES: [Bench; 18] = [
         name: "scan of 8 beside 3 writers",
         endings: &[": half take at most", ": 99 % take at most", ": 99.9 % take at most", ": the slowest takes"],
         is_time: true,
+        rounds: 1,
+        cell: median,
         run: monitor,
     },
-    Bench {
-        name: "an update that changes the epoch",
-        endings: &[""],
-        is_time: true,
-        run: changes,
-    },
-    Bench {
-        name: "opening the greatest memory, in milliseconds",
-        endings: &[""],
-        is_time: true,
-        run: opening,
-    },
-    Bench {
-        name: "closing and reopening it, in milliseconds",
-        endings: &[""],
-        is_time: true,
-        run: reopening,
-    },
+    Bench { is_time: true, ..alone("an update that changes the epoch", changes) },
+    Bench { is_time: true, ..alone_and_long("opening the greatest memory, in milliseconds", opening) },
+    Bench { is_time: true, ..alone_and_long("closing and reopening it, in milliseconds", reopening) },
 ];
 
 type Work = fn(&mut dyn Face, u32, u32);
@@ -177,7 +182,7 @@ fn may_scan<const R: usize>(face: &mut dyn Face, thread: u32, call: u32) -> bool
     let which: [u32; R] = std::array::from_fn(|k| (thread + call + k as u32) % M as u32);
     let mut into = [0; R];
     let made = face.scan(&which, &mut into);
-    black_box(into);
+    black_box(&into);
     made
 }
 
@@ -311,6 +316,11 @@ fn reopening(name: &str) -> Sample {
         opened = parts.time(reopen, |_| true);
     }
     Sample::of(&[parts], &[], |times| vec![median(times) / 1_000_000.0])
+}
+
+/// The least of some values.
+fn least(values: Vec<f64>) -> f64 {
+    values.into_iter().fold(f64::INFINITY, f64::min)
 }
 
 /// The median of some values.

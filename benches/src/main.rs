@@ -1,5 +1,5 @@
-//! Times the proved memory beside other objects, and writes Markdown tables. Each cell is the median of the
-//! repetitions, all of one run, in which the objects take turns.
+//! Times the proved memory beside other objects, and writes Markdown tables. Each cell is of the repetitions of one run, in
+//! which the objects take turns: the least where one thread is at work, and otherwise the median.
 
 mod answers;
 mod benches;
@@ -20,7 +20,7 @@ fn main() {
     let mut results = Results::new();
     for repetition in 0..REPETITIONS {
         for (row, bench) in BENCHES.iter().enumerate() {
-            for turn in 0..NAMES.len() {
+            for turn in 0..bench.rounds * NAMES.len() {
                 let object = (turn + repetition) % NAMES.len();
                 results.add(row, object, (bench.run)(NAMES[object]));
             }

@@ -35,7 +35,7 @@ impl Results {
         println!("|---|{}", "---|".repeat(NAMES.len()));
         for (bench, samples) in BENCHES.iter().zip(&self.0) {
             for (at, title) in titles(bench) {
-                let cells: Vec<String> = samples.iter().map(|samples| cell(samples, at)).collect();
+                let cells: Vec<String> = samples.iter().map(|samples| cell(bench, samples, at)).collect();
                 println!("| {title} | {} |", cells.join(" | "));
             }
         }
@@ -90,12 +90,12 @@ fn value(sample: &Sample, at: usize) -> Option<f64> {
     sample.values.get(at).copied()
 }
 
-fn cell(samples: &[Sample], at: usize) -> String {
+fn cell(bench: &Bench, samples: &[Sample], at: usize) -> String {
     let values: Vec<f64> = samples.iter().filter_map(|sample| value(sample, at)).collect();
     if values.is_empty() {
         return "-".to_string();
     }
-    match median(values) {
+    match (bench.cell)(values) {
         small if small < 100.0 => format!("{small:.1}"),
         large => format!("{large:.0}"),
     }
@@ -117,16 +117,22 @@ fn ratio(above: &[Sample], below: &[Sample], at: usize) -> String {
 mod tests {
     use super::*;
 
+    fn bench(name: &str) -> &'static Bench {
+        BENCHES.iter().find(|bench| bench.name == name).expect("it is a row")
+    }
+
     fn samples(values: &[&[f64]]) -> Vec<Sample> {
         let sample = |values: &&[f64]| Sample { values: values.to_vec(), kept: values.len(), left_out: 1 };
         values.iter().map(sample).collect()
     }
 
     #[test]
-    fn cells_are_medians_of_what_is_there() {
-        assert_eq!(cell(&samples(&[&[4.0], &[], &[1.25], &[3.0]]), 0), "3.0");
-        assert_eq!(cell(&samples(&[&[1.0, 123.6]]), 1), "124");
-        assert_eq!(cell(&samples(&[&[], &[]]), 0), "-");
+    fn cells_are_of_what_is_there() {
+        let (of_threads, of_one) = (bench("read, 4 threads"), bench("read, 1 thread"));
+        let all = samples(&[&[4.0], &[], &[1.5], &[3.0]]);
+        assert_eq!((cell(of_threads, &all, 0), cell(of_one, &all, 0)), ("3.0".to_string(), "1.5".to_string()));
+        assert_eq!(cell(of_threads, &samples(&[&[1.0, 123.6]]), 1), "124");
+        assert_eq!(cell(of_one, &samples(&[&[], &[]]), 0), "-");
     }
 
     #[test]
