@@ -25,6 +25,7 @@ rows() {
     row "update, $1" "$2" update
     row "read, $1" "$2" read
     row "scan of 4, $1" "$2" scan
+    row "scan of 16, $1" "$2" scan_of_16
 }
 bindings/library.sh >"$made/log" 2>&1 || { cat "$made/log"; exit 1; }
 build() {

@@ -1,7 +1,7 @@
 //! A number of calls by one port, for a tool that counts instructions: updates of a single opening (`proved`) or of the
-//! same algorithm in plain Rust (`plain`); or updates, reads or scans of 4 components of the memory that never wears out
-//! (`update`, `read`, `scan`), or of a single opening (`opening_read`, `opening_scan`). Its words are one of these and the
-//! number of calls; an opening has room for 1,000,000 updates and 65,536 scans.
+//! same algorithm in plain Rust (`plain`); or updates, reads or scans of 4 or 16 components of the memory that never wears
+//! out (`update`, `read`, `scan`, `scan_of_16`), or of a single opening (`opening_read`, `opening_scan`). Its words are one
+//! of these and the number of calls; an opening has room for 1,000,000 updates and 65,536 scans.
 
 #[allow(dead_code)]
 #[path = "../src/answers.rs"]
@@ -12,6 +12,7 @@ mod raw;
 
 use partial_door::opening::{self, Sizes};
 use partial_door::Memory;
+use std::array;
 use std::env::args;
 use std::error::Error;
 use std::hint::black_box;
@@ -54,6 +55,10 @@ fn main() -> Result<(), Box<dyn Error + Send + Sync>> {
         "scan" => {
             let mut port = Memory::new(&INITIAL)?.port()?;
             make(calls, |_, _| port.scan_array(ALL))?;
+        }
+        "scan_of_16" => {
+            let mut port = Memory::new(&[0; 16])?.port()?;
+            make(calls, |_, _| port.scan_array(array::from_fn::<u32, 16, _>(|k| k as u32)))?;
         }
         "plain" => {
             let mut port = raw::open(&INITIAL, Sizes::default(), 1).remove(0);
