@@ -1,6 +1,7 @@
 //! The steps of a call on plain words, beside the machine of its port.
 
-ghost use Rattle.std.specs.Prelude.{◌≡◌, ◌<◌, ⊤, length, IfOk, Some};
+ghost use Rattle.std.specs.Prelude.{◌≡◌, ◌<◌, ⊤, length, IfErr, IfOk, Some};
+ghost use Rattle.partial_words.specs.declared.step.Step.TheVariants.{Load};
 ghost use Rattle.partial_words.specs.Chain.{AreOpeningWords};
 ghost use Rattle.partial_words.specs.Layout.{IsLayout};
 ghost use Rattle.partial_machine.specs.Machine.{advance, fresh, step_of};
@@ -60,11 +61,12 @@ impl Makes for Plain {
         Ok(self.follow(step))
     }
 
+    fn load_component(&mut self, component: u64) -> Result<u64, BrokenOff> {
+        self.load_due(component)
+    }
+
     fn load(&mut self, word: u64) -> Result<u64, BrokenOff> {
-        self.allow()?;
-        let due = self.beside.step().unwrap();
-        self.compare(due == Step::Load(due.word()) && u64::from(due.word()) == word);
-        Ok(self.follow(due))
+        self.load_due(word)
     }
 
     ghost sound = { λ _ w. w.sound };
@@ -165,6 +167,21 @@ impl Plain {
         let answer = self.answered(step);
         self.others(20);
         answer
+    }
+
+    // Makes the load that is due, if the call is allowed one more step.
+    fn load_due(&mut self, word: u64) -> Result<u64, BrokenOff>
+        requires going { IsPlain self.old.words.items self.old.beside self.old.left self.old.right }
+        requires due { step_of self.old.beside ≡ Some (Load word) }
+        ensures going { IsPlain self.new.words.items self.new.beside self.new.left self.new.right }
+        ensures possible { IfOk result (λ answer. IsPossible self.old.beside answer) }
+        ensures machine { IfOk result (λ answer. self.new.beside ≡ advance self.old.beside answer) }
+        ensures stays { IfErr result (λ _. self.new.beside ≡ self.old.beside) }
+    {
+        self.allow()?;
+        let due = self.beside.step().unwrap();
+        self.compare(due == Step::Load(due.word()) && u64::from(due.word()) == word);
+        Ok(self.follow(due))
     }
 
     // Lets the call make one more step, if it is allowed.

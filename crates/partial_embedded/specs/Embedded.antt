@@ -39,6 +39,11 @@ pub record AreRowsFor (s : Layout) (r : RowsState) : Type 0 where
   pub changed : length r.changed ≡ s.m
   pub values : length r.values ≡ s.m
 
+-- at this stage the collects are over: no component word is loaded any more
+abbrev pub IsPastCollects : Stage → Type 0
+IsPastCollects (Collect k) = ⊥
+IsPastCollects _ = ⊤
+
 -- an embedded scan that has made no step
 abbrev pub fresh_view : Layout → Bool → EmbeddedState
 fresh_view s shares = record { sizes = s; shares = shares; collects = 1; moved = false; borrowed = None; view = 0; stage = Collect 0 }

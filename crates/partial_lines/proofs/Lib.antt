@@ -1,5 +1,6 @@
 mod Common
 mod Writing
+mod Loading
 mod Parts
 mod Announcing
 mod Resting

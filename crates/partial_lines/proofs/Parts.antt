@@ -70,7 +70,7 @@ pub set_ended : (core : CoreState) (c : Change) (old : ℕ) (x y : CoreState) (p
 set_ended core c old x y p begun on at over =
     on c old (set_begun core) begun ∙ ap (λ (q : finding.SetPair). set_made (with_getting core q) c old) at ∙ set_over (with_getting core p) c old over
 
-none_some : {A : Type 0} {x : A} → None ≡ Some x → ⊥
+pub none_some : {A : Type 0} {x : A} → None ≡ Some x → ⊥
 none_some {A} e = false≢true (ap is_some e)
 
 -- a step of the embedded scan is due, so that it is the machine's

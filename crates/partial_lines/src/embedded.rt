@@ -32,6 +32,11 @@ impl<'a, M: Makes> Loads for ScanLoads<'a, M> {
         ScansOn (M.machine l.lines.now) (M.machine k.lines.now) };
 
     #[inline(always)]
+    fn load_component(&mut self, word: u64) -> Result<u64, M::Break> {
+        self.lines.load_component(word)
+    }
+
+    #[inline(always)]
     fn load(&mut self, word: u64) -> Result<u64, M::Break> {
         self.lines.load(word)
     }

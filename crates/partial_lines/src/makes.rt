@@ -1,6 +1,6 @@
 //! Whoever makes the steps of a call.
 
-ghost use Rattle.std.specs.Prelude.{◌≡◌, Some, IfErr, IfOk};
+ghost use Rattle.std.specs.Prelude.{◌≡◌, ◌<◌, ◌≤◌, Some, IfErr, IfOk};
 ghost use Rattle.partial_words.specs.declared.step.Step.TheVariants.{Load};
 ghost use Rattle.partial_machine.specs.Machine.{CoreState, advance, step_of};
 ghost use Rattle.partial_machine.specs.Possible.{IsPossible};
@@ -38,14 +38,29 @@ pub trait Makes {
         ensures stays { IfErr result (λ _. machine self.new ≡ machine self.old) }
         ensures leads { leads self.old self.new };
 
-    /// Makes a load that is due, and returns its answer. It takes the word as a `u64`, so a caller that has one
-    /// need not cut it to the `u32` of a [`Step`].
+    /// Makes the load of a component's word, which is due, and returns its answer. It takes the number as a `u64`, as
+    /// [`Makes::load`] does, so a caller that has one need not cut it to the `u32` of a [`Step`].
+    ///
+    /// # Errors
+    /// As those of [`Makes::make`].
+    fn load_component(&mut self, component: u64) -> Result<u64, Self::Break>
+        requires goes { goes self.old }
+        requires due { step_of (machine self.old) ≡ Some (Load component) }
+        requires component { component < (machine self.old).sizes.m }
+        ensures goes { goes self.new }
+        ensures possible { IfOk result (λ answer. IsPossible (machine self.old) answer) }
+        ensures machine { IfOk result (λ answer. machine self.new ≡ advance (machine self.old) answer) }
+        ensures stays { IfErr result (λ _. machine self.new ≡ machine self.old) }
+        ensures leads { leads self.old self.new };
+
+    /// Makes a load that is due of a word that is no component's, and returns its answer.
     ///
     /// # Errors
     /// As those of [`Makes::make`].
     fn load(&mut self, word: u64) -> Result<u64, Self::Break>
         requires goes { goes self.old }
         requires due { step_of (machine self.old) ≡ Some (Load word) }
+        requires behind { (machine self.old).sizes.m ≤ word }
         ensures goes { goes self.new }
         ensures possible { IfOk result (λ answer. IsPossible (machine self.old) answer) }
         ensures machine { IfOk result (λ answer. machine self.new ≡ advance (machine self.old) answer) }

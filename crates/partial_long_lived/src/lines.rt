@@ -1,6 +1,6 @@
 //! The steps of a call of a port's machine, made in the arena where the port stands.
 
-ghost use Rattle.std.specs.Prelude.{◌≡◌, ◌<◌, Some};
+ghost use Rattle.std.specs.Prelude.{◌≡◌, IfSome, Some, nat_lt};
 ghost use Rattle.std.proofs.Common.{refl, ◌∙◌};
 ghost use Rattle.partial_words.specs.declared.step.Step.TheVariants.{Load};
 ghost use Rattle.partial_machine.specs.Machine.{advance, step_of};
@@ -11,6 +11,7 @@ ghost use Rattle.partial_long_lived.specs.Inner.Under.{IsGoing, ComesTo, leads_i
 use crate::arena::SEAL;
 use crate::machine_plays::{AddOn, ExchangeOn, LoadOn, StoreOn};
 use crate::rule::Words;
+use crate::shape::Shape;
 use crate::stand::Stand;
 use partial_lines::Makes;
 use partial_words::Step;
@@ -29,8 +30,11 @@ pub struct ArenaLines<'a, C> {
     pub kind: PhantomData<C>,
 }
 
-/// The kind of a scan.
+/// The kind of a scan of a port that is not spent.
 pub struct Scan;
+
+/// The kind of a scan behind a change of epoch.
+pub struct LateScan;
 
 /// The kind of an update's first attempt.
 pub struct First;
@@ -54,8 +58,13 @@ impl<'a, C> Makes for ArenaLines<'a, C> {
     }
 
     #[inline(always)]
+    fn load_component(&mut self, component: u64) -> Result<u64, Infallible> {
+        Ok(make_load(self.words, self.stand, component, Some(true)))
+    }
+
+    #[inline(always)]
     fn load(&mut self, word: u64) -> Result<u64, Infallible> {
-        Ok(make_load(self.words, self.stand, word))
+        Ok(make_load(self.words, self.stand, word, Some(false)))
     }
 
     ghost sound = { λ l w. let m = w.under.3 in m.made.sound };
@@ -80,7 +89,7 @@ pub fn make(words: &Words, stand: &mut Stand, step: Step) -> u64
     ensures possible { IsPossible (machine_at stand.old) result }
 {
     match step {
-        Step::Load(word) => make_load(words, stand, u64::from(word)),
+        Step::Load(word) => make_load(words, stand, u64::from(word), None),
         Step::Store(word, value) => {
             let at = stand.base + u64::from(word);
             words.store::<StoreOn>(&mut stand.seat, at as usize, value);
@@ -97,11 +106,13 @@ pub fn make(words: &Words, stand: &mut Stand, step: Step) -> u64
     }
 }
 
-/// Makes a load that is due, and returns its answer: a component word without its seals.
+/// Makes a load that is due, and returns its answer: a component word without its seals. `component` says whether it is one,
+/// where the caller knows that.
 #[inline(always)]
-pub fn make_load(words: &Words, stand: &mut Stand, word: u64) -> u64
+pub fn make_load(words: &Words, stand: &mut Stand, word: u64, component: Option<bool>) -> u64
     requires going { IsGoing words.now.table_id words.now.key stand.old }
     requires due { step_of (machine_at stand.old) ≡ Some (Load word) }
+    requires component { IfSome component (λ known. known ≡ nat_lt word stand.old.shape.sizes.m) }
     ensures going { IsGoing words.now.table_id words.now.key stand.new }
     ensures leads { ComesTo stand.old stand.new }
     ensures machine { machine_at stand.new ≡ advance (machine_at stand.old) result }
@@ -109,9 +120,22 @@ pub fn make_load(words: &Words, stand: &mut Stand, word: u64) -> u64
 {
     let at = stand.base + word;
     let found = words.load::<LoadOn>(&mut stand.seat, at as usize);
-    if word < u64::from(stand.shape.sizes.m()) {
+    if is_component(&stand.shape, word, component) {
         found % SEAL
     } else {
         found
+    }
+}
+
+// Whether a word of an arena is a component's. It is asked for behind the load, when the caller doesn't know it: a number
+// that is found in memory before needs a register meanwhile.
+#[inline(always)]
+fn is_component(shape: &Shape, word: u64, known: Option<bool>) -> bool
+    requires { IfSome known (λ known. known ≡ nat_lt word shape.now.sizes.m) }
+    ensures { result ≡ nat_lt word shape.now.sizes.m }
+{
+    match known {
+        Some(known) => known,
+        None => word < u64::from(shape.sizes.m()),
     }
 }

@@ -1,6 +1,6 @@
 //! Scans.
 
-ghost use Rattle.std.specs.Prelude.{◌≡◌, ◌<◌, ◌≤◌, false, length, map, slice_index, IfErr, IfOk, IfSome, Ok, Some};
+ghost use Rattle.std.specs.Prelude.{◌≡◌, ◌<◌, ◌≤◌, true, false, length, map, slice_index, IfErr, IfOk, IfSome, Ok, Some};
 ghost use Rattle.std.specs.Option.{option_map};
 ghost use Rattle.partial_machine.specs.declared.stage.Stage.TheVariants.{Idle};
 ghost use Rattle.partial_machine.specs.Lines.{scan_asked};
@@ -20,7 +20,7 @@ use crate::arena::STAMPS;
 use crate::change::change;
 use crate::enter::{enter, look_first};
 use crate::error::Refused;
-use crate::lines::{ArenaLines, Scan};
+use crate::lines::{ArenaLines, LateScan, Scan};
 use crate::machine_plays::{BeginScan, Moment};
 use crate::rule::Words;
 use crate::stand::Stand;
@@ -72,12 +72,40 @@ pub fn scan_announced(
     ensures refused { IfErr result (NotScanned stand.old stand.new) }
     ensures unchanged { IfErr result (λ _. into.new ≡ into.old) }
 {
-    if !*spent {
-        return Ok(scan(words, stand, core, spent, which, into));
+    if *spent {
+        return scan_spent(words, stand, core, spent, which, into);
     }
+    Ok(scan(words, stand, core, spent, which, into))
+}
+
+// The same for a port that is spent in its epoch. It isn't put in line, so that a scan in the port's epoch pays nothing for
+// it.
+#[cold]
+#[inline(never)]
+fn scan_spent(
+    words: &Words,
+    stand: &mut Stand,
+    core: &mut Core,
+    spent: &mut bool,
+    which: &[u32],
+    into: &mut [u64],
+) -> Result<Scanned, Refused>
+    requires held { IsHeld words.now.table_id words.now.key stand.old }
+    requires rests { RestsAt stand.old core.old spent.old }
+    requires over { spent.old ≡ true }
+    requires asked { AreComponentIndices core.old.sizes which.now }
+    requires some { 0 < length which.now }
+    requires lengths { length into.old ≡ length which.now }
+    ensures held { IsHeld words.now.table_id words.now.key stand.new }
+    ensures rests { RestsAt stand.new core.new spent.new }
+    ensures scanned { IfOk result (λ q. ScannedNamed stand.old stand.new which.now into.new
+        q.collects q.borrowed core.new.rows.last) }
+    ensures refused { IfErr result (NotScanned stand.old stand.new) }
+    ensures unchanged { IfErr result (λ _. into.new ≡ into.old) }
+{
     change(words, stand, true)?;
     core.clear_marks();
-    Ok(make_scan(words, stand, core, spent, which, into))
+    Ok(make_scan::<LateScan>(words, stand, core, spent, which, into))
 }
 
 /// The public stamp of a record of that epoch whose view a scan has taken.
@@ -115,11 +143,12 @@ fn scan(
     ensures spent { (port_at stand.new).port.over ≡ spent.new }
 {
     settle_first(words, stand, core);
-    make_scan(words, stand, core, spent, which, into)
+    make_scan::<Scan>(words, stand, core, spent, which, into)
 }
 
-// Makes the scan where the port stands, in an epoch that was the current one during the call.
-fn make_scan(
+// Makes the scan where the port stands, in an epoch that was the current one during the call. `C` is the kind of call.
+#[inline(always)]
+fn make_scan<C>(
     words: &Words,
     stand: &mut Stand,
     core: &mut Core,
@@ -143,12 +172,12 @@ fn make_scan(
 {
     let at = begin_scan::<Brand>(words, stand, core, which);
     *spent = at + announcement_size(which.len() as u64) > stand.shape.limit;
-    announce(words, stand, core, which, at, into)
+    announce::<C>(words, stand, core, which, at, into)
 }
 
 // Makes a scan behind its first step, the claim of its announcement, which was answered with `at`.
 #[inline(always)]
-fn announce(
+fn announce<C>(
     words: &Words,
     stand: &mut Stand,
     core: &mut Core,
@@ -170,7 +199,7 @@ fn announce(
     ensures rests { RestsLike (machine_at stand.new) core.new }
     ensures copied { into.new ≡ map (slice_index core.new.rows.values) which.now }
 {
-    let mut lines = ArenaLines::<Scan> {
+    let mut lines = ArenaLines::<C> {
         words,
         stand,
         kind: PhantomData,

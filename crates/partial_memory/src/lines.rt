@@ -43,6 +43,11 @@ impl<'a> Makes for SeatLines<'a> {
     }
 
     #[inline(always)]
+    fn load_component(&mut self, component: u64) -> Result<u64, Infallible> {
+        Ok(make_load(self.words, &mut self.seat, component))
+    }
+
+    #[inline(always)]
     fn load(&mut self, word: u64) -> Result<u64, Infallible> {
         Ok(make_load(self.words, &mut self.seat, word))
     }

@@ -2,7 +2,7 @@
 
 ghost use Rattle.std.specs.Prelude.{◌≡◌, ◌≢◌, ℕ, IfOk, IfSome, IfNone, OnOk};
 ghost use Rattle.partial_words.specs.Layout.{IsLayout};
-ghost use Rattle.partial_embedded.specs.Embedded.{ViewGoesTogether, AreRowsFor, buffers};
+ghost use Rattle.partial_embedded.specs.Embedded.{ViewGoesTogether, AreRowsFor, IsPastCollects, buffers};
 ghost use Rattle.partial_embedded.specs.declared.embedded.Stage.TheVariants.{Collect, Value, Done};
 
 use super::{Embedded, Stage};
@@ -92,7 +92,7 @@ impl Embedded {
     {
         while let Some(position) = self.collecting_first() {
             let word = self.sizes.component_word(indices[position]);
-            let stamp = loads.load(u64::from(word))?;
+            let stamp = loads.load_component(u64::from(word))?;
             self.after_first_load(last, changed, indices.len(), position, stamp);
         }
         Ok(())
@@ -119,10 +119,11 @@ impl Embedded {
         ensures positions { L.positions loads.new ≡ indices.now }
         ensures follows { L.follows loads.old loads.new }
         ensures sizes { self.new.sizes ≡ self.old.sizes }
+        ensures over { OnOk result (IsPastCollects self.new.stage) }
     {
         while let Some(position) = self.collecting() {
             let word = self.sizes.component_word(indices[position]);
-            let found = loads.load(u64::from(word))?;
+            let found = loads.load_component(u64::from(word))?;
             self.after_later_load(last, changed, indices.len(), position, found);
         }
         Ok(())
@@ -143,12 +144,14 @@ impl Embedded {
         requires together { ViewGoesTogether indices.now (self.old, buffers last.now changed.now values.old) }
         requires scan { L.scan loads.old ≡ (self.old, buffers last.now changed.now values.old) }
         requires positions { L.positions loads.old ≡ indices.now }
+        requires over { IsPastCollects self.old.stage }
         ensures goes { L.goes loads.new }
         ensures together { ViewGoesTogether indices.now (self.new, buffers last.now changed.now values.new) }
         ensures scan { L.scan loads.new ≡ (self.new, buffers last.now changed.now values.new) }
         ensures positions { L.positions loads.new ≡ indices.now }
         ensures follows { L.follows loads.old loads.new }
         ensures sizes { self.new.sizes ≡ self.old.sizes }
+        ensures over { IsPastCollects self.new.stage }
     {
         while let Some(position) = self.valuing() {
             let word = value_word(last[position]);
@@ -172,6 +175,7 @@ impl Embedded {
         requires together { ViewGoesTogether indices.now (self.old, buffers last.old changed.old values.old) }
         requires scan { L.scan loads.old ≡ (self.old, buffers last.old changed.old values.old) }
         requires positions { L.positions loads.old ≡ indices.now }
+        requires over { IsPastCollects self.old.stage }
         ensures goes { L.goes loads.new }
         ensures scan { L.scan loads.new ≡ (self.new, buffers last.new changed.new values.new) }
         ensures follows { L.follows loads.old loads.new }
@@ -202,7 +206,7 @@ impl Embedded {
     #[inline(always)]
     fn collecting(&self) -> Option<usize>
         ensures due { IfSome result (λ k. self.now.stage ≡ Collect k) }
-        ensures over { IfNone result ((k : ℕ) → self.now.stage ≢ Collect k) }
+        ensures over { IfNone result (IsPastCollects self.now.stage) }
     {
         match self.stage {
             Stage::Collect { position } => Some(position),

@@ -10,29 +10,29 @@ load-found-requires c =
     let w = c.requires.going in
     (w.held.fits, step_there _ _ _ w (Load c.args.word) c.requires.due, load_asked _ _ _ w c.args.word c.requires.due _ _)
 
-pub returns-then-word-from-clause-going : goal.returns-then-word-from-clause-going
-returns-then-word-from-clause-going c =
+pub returns-then-is_component-clause-going : goal.returns-then-is_component-clause-going
+returns-then-is_component-clause-going c =
     let w = c.requires.going in
     let told = c.load-found.ensures.2 in
     going_on _ _ _ w (Load c.args.word) c.requires.due _ c.load-found.ensures.0 told.0 told.1 _ (load_told _ _ _ w c.args.word c.requires.due c.load-found.result _ told.2) refl refl refl refl refl refl
 
-pub returns-then-word-from-clause-leads : goal.returns-then-word-from-clause-leads
-returns-then-word-from-clause-leads c =
+pub returns-then-is_component-clause-leads : goal.returns-then-is_component-clause-leads
+returns-then-is_component-clause-leads c =
     let w = c.requires.going in
     let told = c.load-found.ensures.2 in
     leads_there _ _ _ w (Load c.args.word) c.requires.due _ c.load-found.ensures.0 told.0 told.1 _ (load_told _ _ _ w c.args.word c.requires.due c.load-found.result _ told.2) refl refl refl refl refl refl
 
-pub returns-else-word-from-clause-going : goal.returns-else-word-from-clause-going
-returns-else-word-from-clause-going c =
+pub returns-else-is_component-clause-going : goal.returns-else-is_component-clause-going
+returns-else-is_component-clause-going c =
     let w = c.requires.going in
     let told = c.load-found.ensures.2 in
     going_on _ _ _ w (Load c.args.word) c.requires.due _ c.load-found.ensures.0 told.0 told.1 _ (load_told _ _ _ w c.args.word c.requires.due c.load-found.result _ told.2) refl refl refl refl refl refl
 
-pub returns-else-word-from-clause-leads : goal.returns-else-word-from-clause-leads
-returns-else-word-from-clause-leads c =
+pub returns-else-is_component-clause-leads : goal.returns-else-is_component-clause-leads
+returns-else-is_component-clause-leads c =
     let w = c.requires.going in
     let told = c.load-found.ensures.2 in
     leads_there _ _ _ w (Load c.args.word) c.requires.due _ c.load-found.ensures.0 told.0 told.1 _ (load_told _ _ _ w c.args.word c.requires.due c.load-found.result _ told.2) refl refl refl refl refl refl
 
-pub returns-then-word-from-clause-machine : goal.returns-then-word-from-clause-machine
-returns-then-word-from-clause-machine c = search (tests, rules)
+pub returns-then-is_component-clause-machine : goal.returns-then-is_component-clause-machine
+returns-then-is_component-clause-machine c = search (tests, rules)

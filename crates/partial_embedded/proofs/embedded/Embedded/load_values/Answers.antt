@@ -1,5 +1,5 @@
 use Rattle.std.proofs.Common.{rules, tests}
-use Rattle.partial_embedded.proofs.{Common.{◌≡◌, sym, ap, ◌∙◌, ViewPair, advance_view, advance_view_at, buffers, view_goes_at, subst, arith}, Loaded.{loaded}}
+use Rattle.partial_embedded.proofs.{Common.{◌≡◌, sym, ap, ◌∙◌, ViewPair, advance_view, advance_view_at, buffers, view_goes_at, subst, refl, arith, IsPastCollects}, Loaded.{loaded}, Past.{stay_past}}
 use Rattle.partial_embedded.proofs.embedded.Embedded.load_values.Goals as goal
 
 pub loop-position-preserved : goal.loop-position-preserved
@@ -20,6 +20,7 @@ loop-position-preserved g c =
       positions = c.in_ok-value.ensures.positions ∙ c.loop-position.invariant.positions;
       follows = g.met.L.Loads.follows_on _ _ _ c.loop-position.invariant.follows c.in_ok-value.ensures.follows;
       sizes = w.sizes;
+      past = subst (λ (q : ViewPair). IsPastCollects q.0.stage) (sym is) (stay_past c.args.indices.now here c.loop-position.self.stage x refl c.loop-position.invariant.past);
     }
 
 pub loop-position-smaller : goal.loop-position-smaller
@@ -43,3 +44,13 @@ value_word-word-requires g c =
 
 pub load-requires-clause-due : goal.load-requires-clause-due
 load-requires-clause-due g c = search (tests, rules)
+
+pub load-requires-clause-behind : goal.load-requires-clause-behind
+load-requires-clause-behind g c =
+    let here : ViewPair = (c.loop-position.self, buffers c.args.last.now c.args.changed.now c.loop-position.values) in
+    let known = subst (view_goes_at c.args.indices.now here) c.in-Some.ensures.due c.loop-position.invariant.together.stage in
+    let plain = known.1 c.in-Some.position known.0 in
+    let is = c.value_word-word.ensures in
+    let at : g.L.Loads.scan c.loop-position.loads ≡ here = c.loop-position.invariant.scan in
+    let sizes = ap (λ (q : ViewPair). q.0.sizes.m) at in
+    omega (arith, plain, is, sizes)

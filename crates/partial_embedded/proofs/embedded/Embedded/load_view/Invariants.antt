@@ -1,7 +1,7 @@
-use Rattle.partial_embedded.proofs.Common.{◌≡◌, ViewPair, ViewGoesTogether, buffers, view_left}
+use Rattle.partial_embedded.proofs.Common.{◌≡◌, ViewPair, ViewGoesTogether, IsPastCollects, buffers, view_left}
 use Rattle.partial_embedded.proofs.embedded.Embedded.load_view.Given as goal
 
--- the loads are at this scan and its buffers, and they have made no others
+-- the loads are at this scan and its buffers, they have made no others, and the collects are over
 abbrev pub invariant-loop-word : goal.invariant-loop-word
 invariant-loop-word g l =
     let loads = g.L.Loads in
@@ -13,6 +13,7 @@ invariant-loop-word g l =
       positions : loads.positions l.loads ≡ l.indices;
       follows : loads.follows l.fn.loads l.loads;
       sizes : l.self.sizes ≡ l.fn.self.sizes;
+      past : IsPastCollects l.self.stage;
     }
 
 abbrev pub decreases-loop-word : goal.decreases-loop-word

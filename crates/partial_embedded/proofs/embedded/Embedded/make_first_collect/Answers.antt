@@ -9,7 +9,7 @@ loop-position-preserved g c =
     let x = c.in_ok-stamp.stamp in
     let is : next ≡ advance_view c.args.indices.now here x =
     c.after_first_load.ensures c.args.values.now ∙ sym (ap (λ t. advance_view_at c.args.indices.now here t x) c.in-Some.ensures.due) in
-    let w = loaded loads.scan loads.positions c.args.self.now.sizes c.args.indices.now here next x c.loop-position.loads c.load.new.self
+    let w = loaded loads.scan loads.positions c.args.self.now.sizes c.args.indices.now here next x c.loop-position.loads c.load_component.new.self
     c.loop-position.invariant.together c.loop-position.invariant.sizes c.loop-position.invariant.scan c.loop-position.invariant.positions
     c.in_ok-stamp.ensures.possible c.in_ok-stamp.ensures.scan is in
     record {
@@ -29,6 +29,6 @@ loop-position-smaller g c =
     let x = c.in_ok-stamp.stamp in
     let is : next ≡ advance_view c.args.indices.now here x =
     c.after_first_load.ensures c.args.values.now ∙ sym (ap (λ t. advance_view_at c.args.indices.now here t x) c.in-Some.ensures.due) in
-    (loaded loads.scan loads.positions c.args.self.now.sizes c.args.indices.now here next x c.loop-position.loads c.load.new.self
+    (loaded loads.scan loads.positions c.args.self.now.sizes c.args.indices.now here next x c.loop-position.loads c.load_component.new.self
     c.loop-position.invariant.together c.loop-position.invariant.sizes c.loop-position.invariant.scan c.loop-position.invariant.positions
     c.in_ok-stamp.ensures.possible c.in_ok-stamp.ensures.scan is).fewer
