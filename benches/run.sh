@@ -29,11 +29,12 @@ build() (
         exit 1
     }
 )
-# measure NAME: runs the program of this name, and writes its tables and what they were measured on.
+# measure NAME: runs the program of this name, and writes its tables and what they were measured on. Each memory is a block
+# of the system, as the first one of a program is, also where one was closed before.
 measure() {
     load_before=$(load)
     stolen_before=$(stolen)
-    "$made/$1/release/partial-benches"
+    MALLOC_MMAP_THRESHOLD_=131072 "$made/$1/release/partial-benches"
     part=$(echo "$stolen_before $(stolen)" | awk '{ printf "%.1f", 100 * ($3 - $1) / ($4 - $2) }')
     printf '\nMeasured on %s processors (%s), with a load of %s when it began and %s by the end. ' "$(nproc)" \
         "$(sed -n 's/^model name[^:]*: //p' /proc/cpuinfo | head -n 1)" "$load_before" "$(load)"

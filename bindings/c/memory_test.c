@@ -141,6 +141,24 @@ static void test_refused_openings(void)
     partial_memory_free(&memory);
 }
 
+/* One component and 2 ports: 32768 pool words, of which an update claims 3, and the greatest record 6. */
+static void test_usual_pool(void)
+{
+    const uint64_t initial[1] = {10};
+    partial_memory memory = PARTIAL_EMPTY;
+    partial_port port = PARTIAL_EMPTY;
+    partial_update_answer set = {0, 0};
+    int fine = partial_memory_new(initial, 1, 2, &memory) == 0 && partial_memory_take_port(&memory, &port) == 0;
+    uint64_t applied = 0;
+    while (fine && partial_port_update(&port, 0, applied, &set) == 0 && set.applied == 1 && set.stamp >> 23 == 0) {
+        applied++;
+    }
+    check(set.stamp >> 23 == 1, "the epoch changes when the pool is used up");
+    check(applied == 32768 / 3, "an arena has 16384 pool words for each of two ports");
+    partial_port_free(&port);
+    partial_memory_free(&memory);
+}
+
 static void test_refused_calls(void)
 {
     const uint64_t initial[2] = {1, 2};
@@ -382,6 +400,7 @@ int main(void)
     test_example();
     test_one_port();
     test_refused_openings();
+    test_usual_pool();
     test_refused_calls();
     test_other_kind();
     test_close();

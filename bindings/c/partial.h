@@ -110,7 +110,8 @@ enum {
 typedef struct partial_arena {
     uint32_t list_words; /* for the lists of vacated slots: at most 65536 */
     uint32_t pool_words; /* claimed before the epoch changes: at most 131072, less 4 for
-                            each port and 2 for each port and component */
+                            each port and 2 for each port and component; 0 for as many
+                            as suit the number of ports (below) */
 } partial_arena;
 
 /* The sizes of an opening, apart from the number of its components. */
@@ -224,11 +225,15 @@ static inline uint32_t partial_memory_new_with(const uint64_t *initial, size_t c
                                    components, ports, arena, memory);
 }
 
-/* The same, with arenas of 1024 list words and 16384 pool words. */
+/*
+ * The same, with arenas of 1024 list words, and of 16384 pool words for each port. But
+ * these are no more than 262144 divided by the number of ports, and no more than there is
+ * room for; and always 16384 at least.
+ */
 static inline uint32_t partial_memory_new(const uint64_t *initial, size_t components,
                                           uint32_t ports, partial_memory *memory)
 {
-    const partial_arena arena = {1024, 16384};
+    const partial_arena arena = {1024, 0};
     return partial_memory_new_with(initial, components, ports, &arena, memory);
 }
 

@@ -5,7 +5,8 @@ use crate::raw;
 use crate::OpenError;
 
 /// How many ports a memory has, and how large its arenas are. There are two arenas for each port. An arena of `m`
-/// components and `p` ports has `5 m + 5 + list_words + 1.5 (pool_words + (4 + 2 m) p)` words of 8 bytes, rounded down.
+/// components and `p` ports has `5 m + 4 + list_words + 1.5 (pool_words + (4 + 2 m) p)` words of 8 bytes, rounded up to a
+/// multiple of 16; with the greatest pools only to a whole number.
 ///
 /// ```
 /// use partial_door::Memory;
@@ -21,13 +22,13 @@ pub struct Builder {
 }
 
 impl Default for Builder {
-    /// 64 ports, 1,024 list words and 16,384 pool words.
+    /// 64 ports, 1,024 list words, and as many pool words as suit the number of ports.
     fn default() -> Builder {
         Builder {
             ports: 64,
             arena: raw::Arena {
                 list_words: 1024,
-                pool_words: 16_384,
+                pool_words: 0,
             },
         }
     }
@@ -64,6 +65,9 @@ impl Builder {
     /// How many pool words of an arena are claimed before the epoch changes. An update claims 3 of them, or 4 and 2
     /// more for each component of a view that it stores; a scan claims 1, and 1 more for each position. The words
     /// and the room of `4 + 2 m` words for each port, for `m` components, are at most 131,072 together.
+    ///
+    /// 0 stands for the number that a memory has by default: 16,384 for each port, but no more than 262,144 divided by
+    /// the number of ports, and no more than there is room for; and always 16,384 at least.
     ///
     /// ```
     /// use partial_door::{Memory, OpenError};

@@ -65,6 +65,21 @@ fn a_memory_is_refused_with_the_first_cause() {
     assert!(Memory::new(&[0; 894]).is_ok());
     assert!(Memory::builder().ports(1).open(&[0; 57_342]).is_ok());
     assert_eq!(Memory::builder().ports(1).open(&[0; 57_343]).err(), Some(OpenError::PoolWords));
+    assert!(Memory::builder().ports(4).open(&[0; 14_334]).is_ok());
+    assert_eq!(Memory::builder().ports(4).open(&[0; 14_335]).err(), Some(OpenError::PoolWords));
+}
+
+#[test]
+fn a_memory_has_pool_words_for_each_of_four_ports() {
+    let memory = Memory::builder().ports(4).open(&[0]).expect("a memory is made");
+    let mut port = memory.port().expect("a port is free");
+    let mut applied = 0;
+    while port.read(0).expect("it is there").stamp.epoch() == 0 {
+        assert!(matches!(set(&mut port, 0, applied), Updated::Applied { .. }));
+        applied += 1;
+    }
+    // An update claims 3 words, and the one that has changed the epoch isn't of the first one.
+    assert_eq!(applied - 1, 65_536 / 3);
 }
 
 #[test]

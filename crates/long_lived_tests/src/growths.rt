@@ -10,7 +10,10 @@ use std::alloc::{AllocError, Global};
 use std::process::Abort;
 use std::test::Fail;
 
-const SMALL: Options = Options { lists: 2, pool: 8 };
+const SMALL: Options = Options {
+    lists: 2,
+    pool: Some(8),
+};
 
 // How many ports a memory has that opens with two.
 fn opened_ports(alloc: Global) -> Result<usize, OpenError> {

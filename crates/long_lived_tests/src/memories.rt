@@ -9,7 +9,10 @@ use std::alloc::Global;
 use std::test::Fail;
 
 /// A pool of one word: each call that claims words makes its port spent, so that the next one changes the epoch.
-pub(super) const SPENT: Options = Options { lists: 2, pool: 1 };
+pub(super) const SPENT: Options = Options {
+    lists: 2,
+    pool: Some(1),
+};
 
 /// Takes the last one of some ports of a memory.
 pub(super) fn taken(memory: &LongLived, ports: &mut Vec<Port>) -> Result<Port, Fail>

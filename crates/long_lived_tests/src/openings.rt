@@ -4,7 +4,7 @@ ghost use Rattle.std.specs.List.{AllByRecursion};
 ghost use Rattle.partial_long_lived.specs.Ports.{IsOf};
 
 use crate::memories::{taken, with_last};
-use partial_long_lived::{LongLived, OpenError, Options, Port};
+use partial_long_lived::{LongLived, OpenError, Options, Port, Updated};
 use std::alloc::Global;
 use std::process::Abort;
 use std::test::Fail;
@@ -92,14 +92,14 @@ fn refused_openings(rt: HostRuntime) -> Result<(), Fail> {
     let alloc = rt.alloc();
     let most = Options {
         lists: 65_536,
-        pool: 131_066,
+        pool: Some(131_066),
     };
     let lists = Options {
         lists: 65_537,
-        pool: 131_067,
+        pool: Some(131_067),
     };
     let pool = Options {
-        pool: 131_067,
+        pool: Some(131_067),
         ..most
     };
     refused(&rt, alloc, &[], 0, lists, OpenError::Ports);
@@ -108,6 +108,51 @@ fn refused_openings(rt: HostRuntime) -> Result<(), Fail> {
     refused(&rt, alloc, &[1], 1, lists, OpenError::Lists);
     refused(&rt, alloc, &[1], 1, pool, OpenError::Pool);
     assert_eq!(rt; opened_ports(alloc, most)?, 1);
+    Ok(())
+}
+
+// Sets component 0 until an update is applied in another epoch than the first. Returns how many updates that one had.
+fn updates_of_first_epoch(rt: &impl Abort, memory: &LongLived, port: &mut Port) -> u64
+    requires { IsOf memory.now port.old }
+    ensures { IsOf memory.now port.new }
+{
+    for count in 0..30_000 {
+        let Ok(Updated::Applied { stamp }) = memory.update(port, 0, count) else {
+            panic!(rt; "not applied");
+        };
+        if stamp >= 1 << 23 {
+            return count;
+        }
+    }
+    panic!(rt; "the epoch isn't changed");
+}
+
+// A memory of one component that is opened for so many ports claims so many pool words in an epoch. An update claims three,
+// and spends its port where fewer than six are left then, which the greatest record has.
+fn claims(rt: &impl Abort, alloc: Global, ports: u32, words: u64) -> Result<(), Fail> {
+    let (memory, all) = LongLived::open(alloc, &[10], ports, Options::default())?;
+    let (memory, mut port) = with_last(memory, all)?;
+    assert_eq!(rt; updates_of_first_epoch(rt, &memory, &mut port), words / 3);
+    drop((memory, port));
+    Ok(())
+}
+
+// Where the options leave the pool open, an arena has 16,384 words for each port, until all arenas have 524,288 together.
+#[test]
+fn usual_pools(rt: HostRuntime) -> Result<(), Fail> {
+    let pools = [
+        (1, 16_384),
+        (2, 32_768),
+        (3, 49_152),
+        (4, 65_536),
+        (5, 52_428),
+        (8, 32_768),
+        (16, 16_384),
+        (64, 16_384),
+    ];
+    for (ports, words) in &pools {
+        claims(&rt, rt.alloc(), *ports, *words)?;
+    }
     Ok(())
 }
 

@@ -11,7 +11,7 @@ ghost use Rattle.partial_door.specs.LongExports.{AtLongHandle, ClosesLongAt, Giv
 use crate::answers::{ArenaSizes, ReadAnswer, ScanAnswer, UpdateAnswer};
 use crate::codes::{FINE, HOLDS_NONE, HOLDS_ONE};
 use crate::handle::Handle;
-use crate::long_memories::open_long;
+use crate::long_memories::{open_long, options_for};
 use std::alloc::Global;
 
 /// Sets a component.
@@ -189,7 +189,7 @@ pub extern "C" fn partial_door_memory_new(
         memory.put(held);
         return HOLDS_ONE;
     }
-    match open_long(alloc, number, initial, ports, arena) {
+    match open_long(alloc, number, initial, ports, options_for(arena)) {
         Ok(held) => {
             memory.put(held);
             FINE

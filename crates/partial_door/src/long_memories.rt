@@ -45,6 +45,19 @@ fn at_home(
     boxed(alloc, Held::LongMemory(open))
 }
 
+/// The options with these sizes of an arena.
+pub fn options_for(arena: &ArenaSizes) -> Options
+    ensures { result ≡ options_of arena.now }
+{
+    Options {
+        lists: arena.lists,
+        pool: match arena.pool {
+            0 => None,
+            words => Some(words),
+        },
+    }
+}
+
 /// Opens a long-lived memory that holds all its ports.
 ///
 /// # Errors
@@ -55,15 +68,11 @@ pub fn open_long(
     number: u64,
     initial: &[u64],
     ports: u32,
-    arena: &ArenaSizes,
+    options: Options,
 ) -> Result<Box<Held>, u32>
-    ensures ok { IfOk result (λ b. HoldsNew number initial.now ports (options_of arena.now) b.value) }
-    ensures err { IfErr result (λ code. MayNotBeNew initial.now ports (options_of arena.now) code) }
+    ensures ok { IfOk result (λ b. HoldsNew number initial.now ports options b.value) }
+    ensures err { IfErr result (λ code. MayNotBeNew initial.now ports options code) }
 {
-    let options = Options {
-        lists: arena.lists,
-        pool: arena.pool,
-    };
     match LongLived::open(alloc, initial, ports, options) {
         Ok(opened) => at_home(alloc, number, initial.len(), ports, opened),
         Err(fault) => Err(u32::from(fault.code())),

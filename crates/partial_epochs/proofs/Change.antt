@@ -1,5 +1,5 @@
 -- What a step in the arena of an epoch leaves of all the others.
-use Rattle.partial_epochs.proofs.{Common.{ℕ, ◌≡◌, ◌≢◌, ◌+◌, ◌<◌, ◌≤◌, ◌==◌, ◌⊎◌, ◌++◌, true, false, Option, Some, None, IfSome, List, [], ◌∷◌, length, refl, sym, ap, subst, ◌∙◌, inl, inr, arith, slice_index, option_map, append-nil, eqb_tells, Applied, some_same, total, put, IsToBeSet, Plan, IsSealed, packed, current_word, base, control_words, arena_words, component_words, carried_words, set_word, Control, OwnedArena, Port, Epoch, LawfulControl, IsOwner, Beside, IsArena, IsFinished, IsNewPart, IsSetting, IsStanding, LawfulEpochs, controls, next_epoch_word, numbers, place_now, Stands, HasClearRecords, HasClearSlots, slot_counter, slot_word}, ClearRecords.records_same, Lists.{at_of, put_all, put_other, put_same}, Places.{arena_same, carried_same, components_same, control_same, other_arena, packed_arena, set_place}, Present.{standing, numbered}}
+use Rattle.partial_epochs.proofs.{Common.{ℕ, ◌≡◌, ◌≢◌, ◌+◌, ◌<◌, ◌≤◌, ◌==◌, ◌⊎◌, ◌++◌, true, false, Option, Some, None, IfSome, List, [], ◌∷◌, length, refl, sym, ap, subst, ◌∙◌, inl, inr, arith, slice_index, option_map, append-nil, eqb_tells, Applied, some_same, total, put, IsToBeSet, Plan, IsSealed, packed, current_word, base, control_words, control_size, arena_words, component_words, carried_words, set_word, Control, OwnedArena, Port, Epoch, LawfulControl, IsOwner, Beside, IsArena, IsFinished, IsNewPart, IsSetting, IsStanding, LawfulEpochs, controls, next_epoch_word, numbers, place_now, Stands, HasClearRecords, HasClearSlots, slot_counter, slot_word}, ClearRecords.records_same, Lists.{at_of, put_all, put_other, put_same}, Places.{arena_same, carried_same, components_same, control_same, other_arena, packed_arena, set_place}, Present.{standing, numbered}}
 
 -- The port k, which stands in an epoch that the arena x holds, comes to be p', and the epoch r'. The words of the inner memory in x
 -- alone have changed, and the history grows only where a component isn't sealed.
@@ -175,7 +175,7 @@ module _ (e : Plan) (words : List ℕ) (ports : ℕ → Port) (b : Beside) (k : 
     settled q o inside is t some at j low free =
         let owner : IsOwner e (control_words e words) (controls ports) (place_now b) (numbers b) q o =
         subst (λ (t : Option OwnedArena). IfSome t (IsOwner e (control_words e words) (controls ports) (place_now b) (numbers b) q)) is (w.control.owners q inside) in
-        let now : slice_index words current_word ≡ packed (place_now b) = sym (at_of (slice_index words) 0 (1 + e.ports + e.arenas) 0 (omega arith)) ∙ w.control.current in
+        let now : slice_index words current_word ≡ packed (place_now b) = sym (at_of (slice_index words) 0 (control_size e) 0 (omega arith)) ∙ w.control.current in
         let same = packed_arena e (place_now b) (ports q).control.here w.plan.arenas w.control.place.arena (w.control.places q inside).arena (sym now ∙ at) in
         let st = w.standing q inside owner.stands in
         let all = t.sealed some in

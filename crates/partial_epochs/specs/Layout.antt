@@ -62,9 +62,13 @@ at_word k = 1 + k
 abbrev pub own_word : Plan → ℕ → ℕ
 own_word e x = 1 + e.ports + x
 
--- how many control words there are
+-- how many words are spare behind the control words, so that the pool counter of the first arena is two words before a number of 16 words
+abbrev pub spare_words : Plan → ℕ
+spare_words e = 15 - (4 + e.ports + e.arenas + e.sizes.m) % 16
+
+-- how many words there are before the arenas: the control words, and the spare ones
 abbrev pub control_size : Plan → ℕ
-control_size e = 1 + e.ports + e.arenas
+control_size e = 1 + e.ports + e.arenas + spare_words e
 
 -- how many words an arena has: those of one memory, and a carried stamp for each component
 abbrev pub span : Plan → ℕ

@@ -21,7 +21,7 @@ pub use Rattle.partial_machine.specs.{Behind.{refuses_pool, refuses_slots, IsBeh
 pub use Rattle.partial_machine.proofs.Laws.{answers_lead_on, due_is_unreplied, due_words_are_there}
 pub use Rattle.partial_core.specs.{Part.{IsBetween, IsMarkedLike, core_of, Part, first_at, KeptAnswer}, Steps.{AreNotesOf, IsNoteOf, IsPlacedAt, begun_with, since_with, Tells, moved_part, CollectsStamps}}
 pub use Rattle.partial_core.proofs.{Added.not_below, Laws.{lawful_records_are_within, ports_come_between, first_steps_make_calls, further_steps_make_calls}}
-pub use Rattle.partial_epochs.specs.{Control.{IsPlaceWord, MayPut, IsOld}, Entering.{arrived_port, having_passed}, Epochs.{Beside, LawfulEpochs, place_now, IsEpochPlan, IsStanding, numbers, controls, next_epoch_word, HasClearRecords}, History.{public_stamp, history_of, public_entry, public_log, stamp_limit, opening_behind, carried_after, carried_behind}, Layout.{Place, Plan, arena_limit, at_word, base, entering_mark, marked, own_word, packed, seal, set_offset, set_word, unsealed, current_word, IsPlace, component_words, control_words, arena_words, IsSealed, plain, placed_step, whole, span, IsToBeSet}, Lists.{put, list_of}, MachineSteps.{HaveSlots, MachineLeads, MeetsSeal, ends_over, MayClaim}, Notes.{LawfulMemory, public_noted, one_history, having_seen, public_of, EpochReached, noting, ExpectedOne, IsEpochHistory}, Opening.{OpensAll, first_beside, first_ports}, Owning.{at_next_port, having_given, having_loaded, just_taken, owning_port, having_looked}, Ports.{Port, OwnedArena, Control, Entering, Epoch}, Publishing.{next_place, IsWholeArena, having_published, next_beside, having_set, vacated, resting_arena}, Sealing.{passing_port, IsBesideAs}, Time.KeepsTime}
+pub use Rattle.partial_epochs.specs.{Control.{IsPlaceWord, MayPut, IsOld}, Entering.{arrived_port, having_passed}, Epochs.{Beside, LawfulEpochs, place_now, IsEpochPlan, IsStanding, numbers, controls, next_epoch_word, HasClearRecords}, History.{public_stamp, history_of, public_entry, public_log, stamp_limit, opening_behind, carried_after, carried_behind}, Layout.{Place, Plan, arena_limit, at_word, base, entering_mark, marked, own_word, packed, seal, set_offset, set_word, unsealed, current_word, IsPlace, component_words, control_size, control_words, arena_words, IsSealed, plain, placed_step, whole, span, IsToBeSet}, Lists.{put, list_of}, MachineSteps.{HaveSlots, MachineLeads, MeetsSeal, ends_over, MayClaim}, Notes.{LawfulMemory, public_noted, one_history, having_seen, public_of, EpochReached, noting, ExpectedOne, IsEpochHistory}, Opening.{OpensAll, first_beside, first_ports}, Owning.{at_next_port, having_given, having_loaded, just_taken, owning_port, having_looked}, Ports.{Port, OwnedArena, Control, Entering, Epoch}, Publishing.{next_place, IsWholeArena, having_published, next_beside, having_set, vacated, resting_arena}, Sealing.{passing_port, IsBesideAs}, Time.KeepsTime}
 pub use Rattle.partial_epochs.specs.Ports.Entering.{Stands, Marks, Loaded}
 pub use Rattle.partial_epochs.proofs.{Continue.{epochs_continue, history_took, many, last_all}, Entering.{current_is, not_marked}, Laws.{gives_stay_lawful, loaded_marks_keep_time, marks_are_loaded, others_are_elsewhere, puts_keep_time, puts_stay_lawful, sealed_passes_stay_lawful, seals_stay_lawful, takes_stay_lawful, asides_keep_time, entries_keep_time, entries_load, looks_are_true, looks_keep_time, marks_keep_time, marks_stay_lawful, owners_look, owners_look_away, arrivals_keep_notes, arrivals_keep_time, arrivals_stay_lawful, components_name_records, epochs_are_histories, glances_stay_lawful, seen_records_stay, sights_stay_lawful, unsealed_is_present, machines_are_never_refused, notes_stay_lawful, steps_keep_places, machine_steps_stay_lawful, memories_open_lawful, openings_keep_time, publishes_keep_notes, publishes_keep_time, publishes_stay_lawful, sets_stay_lawful, clear_slots_count_as_set}, Lists.{put_other, put_same, at_of, put_all}, NotesStay.{legal_notes_seen, one_or_none, places_both}, OneHistory.{epochs_fit_one_history, history_grows, held_history, present_history, public_stamps_are_unique}, Places.{below_whole, set_place, packed_arena, bases_up, offset_behind, offset_front, slot_offset, slot_set}, Present.same_place, Public.{stamp_public, initial_low, value_public}, Seats.{history_longer, among, known}, Sights.{asides_stay_lawful, ends}}
 pub use Rattle.partial_lines.specs.declared.exchange.Exchanged.{Exchanged}

@@ -1,5 +1,6 @@
 -- The sizes of a memory for its options, and why there are none.
-use Rattle.std.specs.Prelude.{ℕ, ◌≡◌, ◌+◌, ◌*◌, ◌/◌, ◌<◌, ◌≤◌, ◌⊎◌}
+use Rattle.std.specs.Prelude.{ℕ, ◌≡◌, ◌+◌, ◌-◌, ◌*◌, ◌/◌, ◌%◌, ◌<◌, ◌≤◌, ◌⊎◌, min, max}
+use Rattle.std.specs.Option.{option_map_or}
 use Rattle.partial_words.specs.Layout.{Layout, first_free}
 use Rattle.partial_words.specs.Record.{full_record_size, plain_record_size}
 use Rattle.partial_long_lived.specs.declared.open_error.OpenError.{OpenError}
@@ -11,21 +12,54 @@ use Rattle.partial_long_lived.specs.declared.shape.Shape.{Shape}
 abbrev pub most_lists : ℕ
 most_lists = 65536
 
+-- the most slots
+abbrev pub most_slots : ℕ
+most_slots = 65536
+
 -- the most pool words behind the initial records
 abbrev pub most_words : ℕ
 most_words = 131072
 
--- how many words the pool has behind the initial records: those of the options, and room for the greatest record of each port
-abbrev pub pool_words_behind : ℕ → ℕ → Options → ℕ
-pool_words_behind count ports o = o.pool + full_record_size count * ports
+-- how many pool words an arena has for each port where the options leave that open, and the fewest that it has then
+abbrev pub pool_of_port : ℕ
+pool_of_port = 16384
 
--- the sizes of an arena: so many pool words, and a slot for each two of them
+-- how many pool words half the arenas have together then, at most, unless each has the fewest; there are as many as ports
+abbrev pub pool_of_all : ℕ
+pool_of_all = 262144
+
+-- how many pool words are claimed in an epoch then
+abbrev pub usual_pool : ℕ → ℕ → ℕ
+usual_pool count ports =
+    max (min (min (pool_of_port * ports) (pool_of_all / ports)) (most_words - full_record_size count * ports)) pool_of_port
+
+-- how many pool words are claimed in an epoch
+abbrev pub claimed_pool : ℕ → ℕ → Options → ℕ
+claimed_pool count ports o = option_map_or (λ words. words) o.pool (usual_pool count ports)
+
+-- how many words the pool has behind the initial records: those that are claimed, and room for the greatest record of each port
+abbrev pub pool_words_behind : ℕ → ℕ → Options → ℕ
+pool_words_behind count ports o = claimed_pool count ports o + full_record_size count * ports
+
+-- the fewest slots that an arena has: one for each two words of its pool
+abbrev pub least_slots : ℕ → ℕ → Options → ℕ
+least_slots count ports o = (pool_words_behind count ports o + 1) / 2
+
+-- how many words the pool has
+abbrev pub pool_words : ℕ → ℕ → Options → ℕ
+pool_words count ports o = plain_record_size * count + pool_words_behind count ports o
+
+-- how many slots there are beside those, so that an arena has a multiple of 16 words
+abbrev pub spare_slots : ℕ → ℕ → Options → ℕ
+spare_slots count ports o = 15 - (2 * count + 3 + least_slots count ports o + o.lists + pool_words count ports o) % 16
+
+-- the sizes of an arena
 abbrev pub layout_for : ℕ → ℕ → Options → Layout
 layout_for count ports o = record {
   m = count;
-  slots = (pool_words_behind count ports o + 1) / 2;
+  slots = min most_slots (least_slots count ports o + spare_slots count ports o);
   lists = o.lists;
-  pool = plain_record_size * count + pool_words_behind count ports o;
+  pool = pool_words count ports o;
 }
 
 -- the shape of a memory with so many components, n ports, and these options
@@ -33,7 +67,7 @@ pub record IsShapeFor (count n : ℕ) (o : Options) (s : Shape) : Type 0 where
   pub sizes : s.sizes ≡ layout_for count n o
   pub ports : s.ports ≡ n
   pub arenas : s.arenas ≡ 2 * n
-  pub limit : s.limit ≡ first_free s.sizes + o.pool
+  pub limit : s.limit ≡ first_free s.sizes + claimed_pool count n o
 
 -- the number of ports is in its range
 abbrev pub ArePorts : ℕ → Type 0

@@ -73,7 +73,8 @@ fn open_next(words: &Words, stand: &mut Stand) -> Result<(), Refused>
     seal(words, stand);
     match claim(words, stand) {
         Claimed::Clean(arena) => {
-            fill(words, stand, arena);
+            let first = stand.shape.base(arena);
+            fill(words, stand, arena, first);
             publish(words, stand, arena);
             give(words, stand, arena);
             Ok(())

@@ -1,8 +1,10 @@
 //! How the owner of an arena sets its words to those with which the next epoch begins.
 
 ghost use Rattle.std.specs.Prelude.{◌≡◌, ◌+◌, ◌<◌, ◌≤◌, []};
+ghost use Rattle.partial_epochs.specs.Layout.{base};
 ghost use Rattle.partial_words.specs.Layout.{first_free, list_base};
 ghost use Rattle.partial_words.specs.Chain.{opening_word};
+ghost use Rattle.partial_long_lived.specs.Rule.{plan_of};
 ghost use Rattle.partial_long_lived.specs.Inner.Held.{IsHeld, port_at};
 ghost use Rattle.partial_long_lived.specs.Inner.Changing.{HasPassed, IsRight, Stays, HasSetWords, behind_values};
 
@@ -12,32 +14,35 @@ use crate::rule::Words;
 use crate::stand::Stand;
 use partial_words::{Sizes, value_word};
 
-/// Sets all words of the arena.
-pub fn fill(words: &Words, stand: &mut Stand, arena: u32)
+/// Sets all words of the arena, which begins at `first`: a caller takes that from the shape once, since behind an atomic store
+/// a compiler takes it from there anew.
+pub fn fill(words: &Words, stand: &mut Stand, arena: u32, first: u64)
     requires held { IsHeld words.now.table_id words.now.key stand.old }
     requires works { HasSetWords stand.old arena words.now.key.ports 0 }
     requires inside { arena < words.now.key.arenas }
+    requires first { first ≡ base (plan_of words.now.key) arena }
     requires sealed { words.now.key.sizes.m ≤ (port_at stand.old).port.passed }
     ensures held { IsHeld words.now.table_id words.now.key stand.new }
     ensures stays { Stays stand.old stand.new }
     ensures works { HasSetWords stand.new arena words.now.key.ports
         (first_free words.now.key.sizes + words.now.key.sizes.m) }
 {
-    fill_slots(words, stand, arena);
-    fill_front(words, stand, arena);
+    fill_slots(words, stand, arena, first);
+    fill_front(words, stand, arena, first);
     for component in 0..stand.shape.sizes.m() {
-        fill_record(words, stand, arena, component);
+        fill_record(words, stand, arena, first, component);
     }
     for component in 0..stand.shape.sizes.m() {
-        fill_stamp(words, stand, arena, component);
+        fill_stamp(words, stand, arena, first, component);
     }
 }
 
 // Sets the slots to 0, from the last one down, but for those that weren't claimed in the epoch that the arena held.
-fn fill_slots(words: &Words, stand: &mut Stand, arena: u32)
+fn fill_slots(words: &Words, stand: &mut Stand, arena: u32, first: u64)
     requires held { IsHeld words.now.table_id words.now.key stand.old }
     requires works { HasSetWords stand.old arena words.now.key.ports 0 }
     requires inside { arena < words.now.key.arenas }
+    requires first { first ≡ base (plan_of words.now.key) arena }
     requires sealed { words.now.key.sizes.m ≤ (port_at stand.old).port.passed }
     ensures held { IsHeld words.now.table_id words.now.key stand.new }
     ensures stays { Stays stand.old stand.new }
@@ -46,7 +51,7 @@ fn fill_slots(words: &Words, stand: &mut Stand, arena: u32)
 {
     let clear = find_clear(words, stand, arena);
     for number in clear..stand.shape.sizes.slots() {
-        set_word(words, stand, arena, number, 0);
+        set_word(words, stand, arena, first, number, 0);
     }
 }
 
@@ -74,10 +79,11 @@ fn find_clear(words: &Words, stand: &mut Stand, arena: u32) -> u32
 
 // Sets the words before the slots, from the last one down: counters and components. An opening asks nothing of list
 // words, and the first word of an initial record is 0 in any arena.
-fn fill_front(words: &Words, stand: &mut Stand, arena: u32)
+fn fill_front(words: &Words, stand: &mut Stand, arena: u32, first: u64)
     requires held { IsHeld words.now.table_id words.now.key stand.old }
     requires works { HasSetWords stand.old arena words.now.key.ports words.now.key.sizes.slots }
     requires inside { arena < words.now.key.arenas }
+    requires first { first ≡ base (plan_of words.now.key) arena }
     requires sealed { words.now.key.sizes.m ≤ (port_at stand.old).port.passed }
     ensures held { IsHeld words.now.table_id words.now.key stand.new }
     ensures stays { Stays stand.old stand.new }
@@ -88,9 +94,9 @@ fn fill_front(words: &Words, stand: &mut Stand, arena: u32)
     let last = sizes.list_base() - 1;
     for number in sizes.slots()..last {
         let value = front_word(&sizes, last - number);
-        set_word(words, stand, arena, number, value);
+        set_word(words, stand, arena, first, number, value);
     }
-    set_lists(words, stand, arena, last, front_word(&sizes, 0));
+    set_lists(words, stand, arena, first, last, front_word(&sizes, 0));
 }
 
 // The word before the list words with which each epoch begins.
@@ -110,10 +116,11 @@ fn front_word(sizes: &Sizes, word: u32) -> u64
 }
 
 // Sets the value in the initial record of a component. The other words of that record are 0 in any arena.
-fn fill_record(words: &Words, stand: &mut Stand, arena: u32, component: u32)
+fn fill_record(words: &Words, stand: &mut Stand, arena: u32, first: u64, component: u32)
     requires held { IsHeld words.now.table_id words.now.key stand.old }
     requires works { HasSetWords stand.old arena words.now.key.ports (behind_values words.now.key.sizes component) }
     requires inside { arena < words.now.key.arenas }
+    requires first { first ≡ base (plan_of words.now.key) arena }
     requires within { component < words.now.key.sizes.m }
     requires sealed { words.now.key.sizes.m ≤ (port_at stand.old).port.passed }
     ensures held { IsHeld words.now.table_id words.now.key stand.new }
@@ -124,15 +131,18 @@ fn fill_record(words: &Words, stand: &mut Stand, arena: u32, component: u32)
 {
     let value = find_value(words, stand, component);
     let record = u64::from(stand.shape.sizes.initial_record(component));
-    let at = stand.shape.set_word(arena, value_word(record) as u32) as usize;
+    let at = stand
+        .shape
+        .set_word(first, arena, value_word(record) as u32) as usize;
     words.store::<SetValue>(&mut stand.seat, at, value);
 }
 
 // Sets the stamp that a component carries into the next epoch.
-fn fill_stamp(words: &Words, stand: &mut Stand, arena: u32, component: u32)
+fn fill_stamp(words: &Words, stand: &mut Stand, arena: u32, first: u64, component: u32)
     requires held { IsHeld words.now.table_id words.now.key stand.old }
     requires works { HasSetWords stand.old arena words.now.key.ports (first_free words.now.key.sizes + component) }
     requires inside { arena < words.now.key.arenas }
+    requires first { first ≡ base (plan_of words.now.key) arena }
     requires within { component < words.now.key.sizes.m }
     requires sealed { words.now.key.sizes.m ≤ (port_at stand.old).port.passed }
     ensures held { IsHeld words.now.table_id words.now.key stand.new }
@@ -142,15 +152,16 @@ fn fill_stamp(words: &Words, stand: &mut Stand, arena: u32, component: u32)
 {
     let stamp = find_stamp(words, stand, component);
     let word = stand.shape.sizes.first_free() + component;
-    set_word(words, stand, arena, word, stamp);
+    set_word(words, stand, arena, first, word, stamp);
 }
 
 // Sets the next word of the arena, which is the one with that number in the order in which they are set.
 #[inline(always)]
-fn set_word(words: &Words, stand: &mut Stand, arena: u32, number: u32, value: u64)
+fn set_word(words: &Words, stand: &mut Stand, arena: u32, first: u64, number: u32, value: u64)
     requires held { IsHeld words.now.table_id words.now.key stand.old }
     requires works { HasSetWords stand.old arena words.now.key.ports number }
     requires inside { arena < words.now.key.arenas }
+    requires first { first ≡ base (plan_of words.now.key) arena }
     requires sealed { words.now.key.sizes.m ≤ (port_at stand.old).port.passed }
     requires right { IsRight (port_at stand.old) value number }
     ensures held { IsHeld words.now.table_id words.now.key stand.new }
@@ -158,15 +169,16 @@ fn set_word(words: &Words, stand: &mut Stand, arena: u32, number: u32, value: u6
     ensures passed { HasPassed stand.old stand.new }
     ensures works { HasSetWords stand.new arena words.now.key.ports (number + 1) }
 {
-    let at = stand.shape.set_word(arena, number) as usize;
+    let at = stand.shape.set_word(first, arena, number) as usize;
     words.store::<SetWord>(&mut stand.seat, at, value);
 }
 
 // Sets the last of the words before the list words. Those before the first value count as set then.
-fn set_lists(words: &Words, stand: &mut Stand, arena: u32, number: u32, value: u64)
+fn set_lists(words: &Words, stand: &mut Stand, arena: u32, first: u64, number: u32, value: u64)
     requires held { IsHeld words.now.table_id words.now.key stand.old }
     requires works { HasSetWords stand.old arena words.now.key.ports number }
     requires inside { arena < words.now.key.arenas }
+    requires first { first ≡ base (plan_of words.now.key) arena }
     requires sealed { words.now.key.sizes.m ≤ (port_at stand.old).port.passed }
     requires last { number + 1 ≡ list_base words.now.key.sizes }
     requires right { value ≡ opening_word words.now.key.sizes [] 0 }
@@ -175,6 +187,6 @@ fn set_lists(words: &Words, stand: &mut Stand, arena: u32, number: u32, value: u
     ensures passed { HasPassed stand.old stand.new }
     ensures works { HasSetWords stand.new arena words.now.key.ports (behind_values words.now.key.sizes 0) }
 {
-    let at = stand.shape.set_word(arena, number) as usize;
+    let at = stand.shape.set_word(first, arena, number) as usize;
     words.store::<SetLists>(&mut stand.seat, at, value);
 }

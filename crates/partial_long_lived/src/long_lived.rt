@@ -4,7 +4,7 @@ ghost use Rattle.std.specs.Prelude.{◌≡◌, ◌+◌, ◌*◌, ◌∷◌, leng
 ghost use Rattle.std.specs.List.{AllByRecursion};
 ghost use Rattle.partial_words.specs.Layout.{first_free, pool_base};
 ghost use Rattle.partial_long_lived.specs.Rule.{newcomers};
-ghost use Rattle.partial_long_lived.specs.Options.{MayNotOpen, MayOpen, layout_for};
+ghost use Rattle.partial_long_lived.specs.Options.{MayNotOpen, MayOpen, claimed_pool, layout_for};
 ghost use Rattle.partial_long_lived.specs.Ports.{IsOf, new_ports};
 ghost use Rattle.partial_long_lived.specs.Closing.{Closes};
 ghost use Rattle.partial_long_lived.specs.Shape.{IsShapeOf};
@@ -154,7 +154,8 @@ impl LongLived {
     ) -> Result<(LongLived, Vec<Port>), OpenError>
         ensures fits { IfOk result (λ _. MayOpen (length initial.now) ports options) }
         ensures sizes { IfOk result (λ r. r.0.about.sizes ≡ layout_for (length initial.now) ports options) }
-        ensures limit { IfOk result (λ r. r.0.about.limit ≡ first_free r.0.about.sizes + options.pool) }
+        ensures limit { IfOk result (λ r. r.0.about.limit ≡ first_free r.0.about.sizes +
+            claimed_pool (length initial.now) ports options) }
         ensures about { IfOk result (λ r. (r.0.about.ports ≡ ports) × (r.0.about.arenas ≡ 2 * ports)) }
         ensures values { IfOk result (λ r. r.0.about.opening.values ≡ initial.now) }
         ensures first { IfOk result (λ r. r.0.about.opening.first ≡ pool_base r.0.about.sizes) }

@@ -1,14 +1,25 @@
 //! How much an arena of a long-lived memory holds.
 
-ghost use Rattle.std.specs.Prelude.{◌≡◌, IfOk, IfErr};
-ghost use Rattle.partial_long_lived.specs.Options.{IsShapeFor, IsShapeError, MayOpen};
+ghost use Rattle.std.specs.Prelude.{◌≡◌, ◌+◌, ◌%◌, ◌<◌, ◌≤◌, IfOk, IfErr};
+ghost use Rattle.partial_words.specs.Layout.{total};
+ghost use Rattle.partial_long_lived.specs.Options.{IsShapeFor, IsShapeError, MayOpen, claimed_pool, most_slots};
 
 use crate::open_error::OpenError;
 use crate::shape::Shape;
 use partial_words::{Sizes, full_record_size, plain_record_size};
 
+/// The most slots.
+const MOST_SLOTS: u32 = 65_536;
+
 /// The most pool words behind the initial records: there is a slot for each two of them.
 const MOST_WORDS: u64 = 131_072;
+
+/// How many pool words an arena has for each port where the options leave that open, and the fewest that it has then.
+const POOL_OF_PORT: u64 = 16_384;
+
+/// How many pool words half the arenas have together then, at most, unless each has the fewest. There are as many as
+/// ports.
+const POOL_OF_ALL: u64 = 262_144;
 
 /// How much an arena holds. A greater pool makes changes of epoch rarer, and takes more memory: there are two arenas
 /// for each port.
@@ -19,19 +30,22 @@ pub struct Options {
     /// How many pool words of an arena are claimed before its ports change the epoch. An update claims 3 of them, or
     /// 4 and 2 more for each component of a view that it stores; a scan claims 1, and 1 more for each position. The pool
     /// has, beside these, the initial records and room for the greatest record of each port.
-    pub pool: u32,
+    ///
+    /// `None` is 16,384 for each port, but no more than 262,144 divided by the number of ports, and no more than an
+    /// arena has room for; and always 16,384 at least.
+    pub pool: Option<u32>,
 }
 
 impl Default for Options {
-    ghost use Rattle.std.specs.Prelude.{◌≡◌};
+    ghost use Rattle.std.specs.Prelude.{◌≡◌, None};
 
-    ghost is_default = { λ o. (o.lists ≡ 1024) × (o.pool ≡ 16384) };
+    ghost is_default = { λ o. (o.lists ≡ 1024) × (o.pool ≡ None) };
 
-    /// 1,024 list words and 16,384 pool words.
+    /// 1,024 list words, and as many pool words as suit the number of ports.
     fn default() -> Options {
         Options {
             lists: 1_024,
-            pool: 16_384,
+            pool: None,
         }
     }
 }
@@ -47,6 +61,7 @@ pub fn shape(count: usize, ports: u32, options: Options) -> Result<Shape, OpenEr
     ensures ok { IfOk result (IsShapeFor count ports options) }
     ensures fits { IfOk result (λ _. MayOpen count ports options) }
     ensures err { IfErr result (IsShapeError count ports options) }
+    ensures span { IfOk result (λ s. s.sizes.slots < most_slots → (total s.sizes + s.sizes.m) % 16 ≡ 0) }
 {
     if ports < 1 || ports > 64 {
         return Err(OpenError::Ports);
@@ -59,14 +74,17 @@ pub fn shape(count: usize, ports: u32, options: Options) -> Result<Shape, OpenEr
     }
     let m = count as u32;
     let room = full_record_size(u64::from(m)) * u64::from(ports);
-    let behind = u64::from(options.pool) + room;
+    let pool = pool_of(options, u64::from(m), u64::from(ports));
+    let behind = pool + room;
     if behind > MOST_WORDS {
         return Err(OpenError::Pool);
     }
     let behind = behind as u32;
+    let pool_words = plain_record_size() as u32 * m + behind;
     let slots = (behind + 1) / 2;
-    let initial = plain_record_size() as u32 * m;
-    let Ok(sizes) = Sizes::new(m, slots, options.lists, initial + behind) else {
+    let spare = 15 - (2 * m + 3 + slots + options.lists + pool_words) % 16;
+    let slots = MOST_SLOTS.min(slots + spare);
+    let Ok(sizes) = Sizes::new(m, slots, options.lists, pool_words) else {
         unreachable!()
     };
     let own = u64::from(sizes.first_free());
@@ -74,8 +92,24 @@ pub fn shape(count: usize, ports: u32, options: Options) -> Result<Shape, OpenEr
         sizes,
         ports,
         arenas: 2 * ports,
-        limit: own + u64::from(options.pool),
+        limit: own + pool,
         own,
         carried: u64::from(sizes.total()),
     })
+}
+
+// How many pool words of an arena of `m` components are claimed in an epoch.
+fn pool_of(options: Options, m: u64, ports: u64) -> u64
+    requires components { m ≤ 65536 }
+    requires ports { (1 ≤ ports) × (ports ≤ 64) }
+    ensures { result ≡ claimed_pool m ports options }
+{
+    match options.pool {
+        Some(words) => u64::from(words),
+        None => {
+            let room = full_record_size(m) * ports;
+            let words = (POOL_OF_PORT * ports).min(POOL_OF_ALL / ports);
+            words.min(MOST_WORDS.saturating_sub(room)).max(POOL_OF_PORT)
+        }
+    }
 }

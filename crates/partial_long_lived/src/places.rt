@@ -1,29 +1,46 @@
 //! The numbers of the words of a long-lived memory.
 
-ghost use Rattle.std.specs.Prelude.{◌≡◌, ◌+◌, ◌<◌};
-ghost use Rattle.partial_epochs.specs.Layout.{base, own_word, set_word, whole};
-ghost use Rattle.partial_words.specs.Layout.{first_free};
+ghost use Rattle.std.specs.Prelude.{◌≡◌, ◌+◌, ◌%◌, ◌<◌};
+ghost use Rattle.partial_epochs.specs.Layout.{base, control_size, own_word, set_word, span, whole};
+ghost use Rattle.partial_words.specs.Layout.{first_free, pool_counter};
 ghost use Rattle.partial_long_lived.specs.Shape.{bare, shape_plan};
 
 use crate::shape::Shape;
 
 impl Shape {
+    // The word where the arenas begin. Some are spare before it, so that the pool counter of the first arena lies two words
+    // before a multiple of 16.
+    #[inline(always)]
+    fn first(&self) -> u64
+        ensures first { result ≡ control_size (shape_plan self.now bare) }
+        ensures counter { (result + pool_counter self.now.sizes + 2) % 16 ≡ 0 }
+    {
+        let control = 1 + u64::from(self.ports) + u64::from(self.arenas);
+        control + 15 - (control + 3 + u64::from(self.sizes.m())) % 16
+    }
+
+    // How many words an arena has.
+    #[inline(always)]
+    fn span(&self) -> u64
+        ensures { result ≡ span (shape_plan self.now bare) }
+    {
+        u64::from(self.sizes.total()) + u64::from(self.sizes.m())
+    }
+
     /// The first word of arena `x`.
     #[inline(always)]
     pub fn base(&self, x: u32) -> u64
         requires { x < self.now.arenas }
         ensures { result ≡ base (shape_plan self.now bare) x }
     {
-        let span = u64::from(self.sizes.total()) + u64::from(self.sizes.m());
-        1 + u64::from(self.ports) + u64::from(self.arenas) + u64::from(x) * span
+        self.first() + u64::from(x) * self.span()
     }
 
     /// How many words there are.
     pub fn whole(&self) -> u64
         ensures { result ≡ whole (shape_plan self.now bare) }
     {
-        let span = u64::from(self.sizes.total()) + u64::from(self.sizes.m());
-        1 + u64::from(self.ports) + u64::from(self.arenas) + u64::from(self.arenas) * span
+        self.first() + u64::from(self.arenas) * self.span()
     }
 
     /// The owner word of arena `x`.
@@ -35,10 +52,11 @@ impl Shape {
         1 + u64::from(self.ports) + u64::from(x)
     }
 
-    /// The word that the owner of arena `x` sets as number `i`: those before the list words first, from the last one
-    /// down, then the initial records and the carried stamps.
+    /// The word that the owner of arena `x`, which begins at `first`, sets as number `i`: those before the list words first,
+    /// from the last one down, then the initial records and the carried stamps.
     #[inline(always)]
-    pub fn set_word(&self, x: u32, i: u32) -> u64
+    pub fn set_word(&self, first: u64, x: u32, i: u32) -> u64
+        requires first { first ≡ base (shape_plan self.now bare) x }
         requires inside { x < self.now.arenas }
         requires word { i < first_free self.now.sizes + self.now.sizes.m }
         ensures { result ≡ set_word (shape_plan self.now bare) x i }
@@ -46,11 +64,11 @@ impl Shape {
         let first_free = self.sizes.first_free();
         let front = self.sizes.list_base();
         if i < front {
-            self.base(x) + u64::from(front - (i + 1))
+            first + u64::from(front - (i + 1))
         } else if i < first_free {
-            self.base(x) + u64::from(i)
+            first + u64::from(i)
         } else {
-            self.base(x) + u64::from(self.sizes.total()) + u64::from(i - first_free)
+            first + self.carried + u64::from(i - first_free)
         }
     }
 }

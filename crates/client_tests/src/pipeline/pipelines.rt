@@ -110,7 +110,10 @@ fn stages_reach_all_items_over_many_epochs(rt: HostRuntime) -> Result<(), Fail> 
             stages,
             items,
             looks: 200,
-            options: Options { lists: 0, pool: 0 },
+            options: Options {
+                lists: 0,
+                pool: Some(0),
+            },
         };
         let report = run_pipeline(&rt, rt.alloc(), smallest, &work, &mut NoWatch)?;
         judge_whole(&rt, &report, stages as usize, items);
@@ -158,7 +161,7 @@ fn options_are_refused(rt: HostRuntime) -> Result<(), Fail> {
     // With 2 stages and 3 ports the pool has 24 words more than the options ask for.
     pipeline.options = Options {
         lists: 0,
-        pool: 131_049,
+        pool: Some(131_049),
     };
     assert_eq!(rt;
         ran(&rt, rt.alloc(), pipeline).err(),

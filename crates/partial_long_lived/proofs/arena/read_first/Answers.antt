@@ -1,5 +1,5 @@
-use Rattle.std.proofs.Common.{rules, tests}
-use Rattle.partial_long_lived.proofs.{Common.{true, ◌<◌, arith, Reads}, Standing.{component_there, see_asked}}
+use Rattle.std.proofs.Common.{subst}
+use Rattle.partial_long_lived.proofs.{Common.{ℕ, ◌≡◌, ◌+◌, true, ◌<◌, arith, sees, Reads}, Standing.{component_there, see_asked, seen_at}}
 use Rattle.partial_long_lived.proofs.arena.read_first.Goals as goal
 
 pub load-requires : goal.load-requires
@@ -10,4 +10,9 @@ load-requires c =
     rw c.requires.base (h.fits, component_there _ _ _ h _ inside, see_asked _ _ _ h c.requires.idle.stands true Reads _ inside (λ no. absurd no) _ _)
 
 pub returns-clause-sees : goal.returns-clause-sees
-returns-clause-sees c = search (tests, rules)
+returns-clause-sees c =
+    let own = c.requires.base in
+    let is = c.from.ensures in
+    let at : c.args.base + c.from.result ≡ c.args.stand.now.base + c.args.component = omega (arith, own, is) in
+    seen_at _ _ _ c.requires.held true Reads c.args.component c.load.result c.load.new.seat.me
+    (subst (λ (i : ℕ). sees true Reads i c.args.stand.now.seat.me c.load.result c.load.new.seat.me) at c.load.ensures.2)

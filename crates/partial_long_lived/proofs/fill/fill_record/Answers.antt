@@ -1,4 +1,4 @@
-use Rattle.partial_long_lived.proofs.{Common.{ap, ◌≡◌, ◌∙◌, arith, initial_record, set_word, value_word, About, Layout, Plan, refl, sym, bare, shape_plan}, Asked.{set_there, set_value_asked}, Working.{set_kept, set_value_works}}
+use Rattle.partial_long_lived.proofs.{Common.{ap, ◌≡◌, ◌∙◌, arith, base, initial_record, set_word, value_word, About, Layout, Plan, refl, sym, bare, shape_plan}, Asked.{set_there, set_value_asked}, Working.{set_kept, set_value_works}}
 use Rattle.partial_long_lived.proofs.fill.fill_record.Goals as goal
 
 pub store-requires : goal.store-requires
@@ -22,3 +22,6 @@ returns-clause-works c =
     let f = c.find_value-value.ensures in
     set_value_works c.find_value-value.new.stand _ c.args.arena _ _ c.find_value-value.result (set_kept _ _ _ _ _ f.control c.requires.works) c.args.words.now.key.sizes
     (ap (λ (a : About). a.sizes) f.held.own) c.args.component c.requires.within refl c.store.ensures.2.2
+
+pub set_word-at-requires-clause-first : goal.set_word-at-requires-clause-first
+set_word-at-requires-clause-first c = c.requires.first ∙ ap (λ (e : Plan). base e c.args.arena) c.find_value-value.ensures.held.shape

@@ -1,4 +1,4 @@
-use Rattle.partial_long_lived.proofs.{Common.{◌<◌, ◌+◌, ap, arith, first_free, About}, Asked.{set_lists_asked, set_there}, Working.set_lists_works}
+use Rattle.partial_long_lived.proofs.{Common.{◌<◌, ◌+◌, ◌∙◌, ap, arith, base, first_free, About, Plan}, Asked.{set_lists_asked, set_there}, Working.set_lists_works}
 use Rattle.partial_long_lived.proofs.fill.set_lists.Goals as goal
 
 pub store-requires : goal.store-requires
@@ -15,3 +15,6 @@ store-requires c =
 pub returns-clause-works : goal.returns-clause-works
 returns-clause-works c =
     set_lists_works c.args.stand.now _ c.args.arena _ c.args.number c.args.value c.requires.works c.args.words.now.key.sizes (ap (λ (a : About). a.sizes) c.requires.held.own) c.store.ensures.2.2
+
+pub set_word-at-requires-clause-first : goal.set_word-at-requires-clause-first
+set_word-at-requires-clause-first c = c.requires.first ∙ ap (λ (e : Plan). base e c.args.arena) c.requires.held.shape

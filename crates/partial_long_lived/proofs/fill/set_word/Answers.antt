@@ -1,4 +1,4 @@
-use Rattle.partial_long_lived.proofs.{Common.port_at, Asked.{set_asked, set_there}, Working.{right_low, set_works}}
+use Rattle.partial_long_lived.proofs.{Common.{ap, ◌∙◌, base, Plan, port_at}, Asked.{set_asked, set_there}, Working.{right_low, set_works}}
 use Rattle.partial_long_lived.proofs.fill.set_word.Goals as goal
 
 pub store-requires : goal.store-requires
@@ -12,3 +12,6 @@ store-requires c =
 
 pub returns-clause-works : goal.returns-clause-works
 returns-clause-works c = set_works c.args.stand.now _ c.args.arena _ c.args.number c.args.value c.requires.works c.store.ensures.2.2
+
+pub set_word-at-requires-clause-first : goal.set_word-at-requires-clause-first
+set_word-at-requires-clause-first c = c.requires.first ∙ ap (λ (e : Plan). base e c.args.arena) c.requires.held.shape

@@ -1,4 +1,4 @@
-use Rattle.partial_long_lived.proofs.{Common.{◌≡◌, ◌<◌, ◌≤◌, sym, ap, subst, ◌∙◌, Layout, Plan, lt-ltb}, Straight.sound_there}
+use Rattle.partial_long_lived.proofs.{Common.{◌<◌, sym, ap, subst, ◌∙◌, Layout, Plan, lt-ltb}, Straight.sound_there}
 use Rattle.partial_long_lived.proofs.lines.ArenaLinesMakes.load_component.Goals as goal
 
 pub make_load-requires-clause-component : goal.make_load-requires-clause-component

@@ -1,4 +1,5 @@
-use Rattle.partial_long_lived.proofs.{Common.{ℕ, refl, sym, ap, ◌+◌, ◌∙◌, subst, AllByRecursion, About, first_free, pool_base, newcomers, new_ports, IsShapeOf, IsOf}, NewPorts.new_own}
+use Rattle.partial_long_lived.specs.Options.{claimed_pool}
+use Rattle.partial_long_lived.proofs.{Common.{ℕ, length, refl, sym, ap, ◌+◌, ◌∙◌, subst, AllByRecursion, About, first_free, pool_base, newcomers, new_ports, IsShapeOf, IsOf}, NewPorts.new_own}
 use Rattle.partial_long_lived.proofs.long_lived.LongLived.open.Goals as goal
 
 pub deal-requires-clause-shape : goal.deal-requires-clause-shape
@@ -10,7 +11,7 @@ returns-clause-sizes c = ap (λ (a : About). a.sizes) c.in_ok-table.ensures.abou
 pub returns-clause-limit : goal.returns-clause-limit
 returns-clause-limit c =
     let is = c.in_ok-table.ensures.about in
-    ap (λ (a : About). a.limit) is ∙ c.in_ok-shape.ensures.ok.limit ∙ ap (λ (a : About). first_free a.sizes + c.args.options.pool) (sym is)
+    ap (λ (a : About). a.limit) is ∙ c.in_ok-shape.ensures.ok.limit ∙ ap (λ (a : About). first_free a.sizes + claimed_pool (length c.args.initial.now) c.args.ports c.args.options) (sym is)
 
 pub returns-clause-about : goal.returns-clause-about
 returns-clause-about c =
