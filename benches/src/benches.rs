@@ -20,6 +20,8 @@ const PARTS_OF_BOTH: u32 = 20;
 // Of a row of one thread, in each repetition, and of a row of several.
 const ROUNDS_ALONE: usize = 20;
 const ROUNDS: usize = 5;
+// Of 100 million updates.
+const ROUNDS_OF_MANY: usize = 3;
 const OPENINGS: usize = 3;
 const MONITORS: usize = 3;
 const WRITERS: usize = 3;
@@ -58,7 +60,7 @@ pub const BENCHES: [Bench; 18] = [
     alone("read, 1 thread", |name| timed(name, 1, PARTS, rest, read)),
     speed("read, 4 threads", |name| timed(name, 4, PARTS, rest, read)),
     alone("update, 1 thread, nobody scans", |name| timed(name, 1, PARTS, rest, update)),
-    alone_and_long("update, 1 thread, 100 million of them", many),
+    Bench { rounds: ROUNDS_OF_MANY, ..alone("update, 1 thread, 100 million of them", many) },
     speed("update, 4 threads, nobody scans", |name| timed(name, 4, PARTS, rest, update)),
     alone("update, 1 thread, after scans", |name| timed(name, 1, PARTS, scan_often, update)),
     alone_and_long("update, 1 thread, after scans, no list words left", without_lists),
@@ -285,9 +287,9 @@ fn changes(name: &str) -> Sample {
     let mut epoch = update(0);
     let mut parts = Parts::new();
     for call in 1..PARTS * CALLS {
-        parts.time(|| update(call), |&now| std::mem::replace(&mut epoch, now) != now);
+        parts.find(|| update(call), |&now| std::mem::replace(&mut epoch, now) != now);
     }
-    Sample::of(&[parts.that_count()], &[], |times| vec![median(times)])
+    Sample::of(&[parts], &[], |times| vec![median(times)])
 }
 
 // Milliseconds of an opening, which is a part.

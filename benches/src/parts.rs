@@ -96,10 +96,17 @@ impl Parts {
         answer
     }
 
-    /// Those that count alone, where the others were timed to find them.
-    pub fn that_count(mut self) -> Parts {
-        self.made.retain(|part| part.counts);
-        self
+    /// Times a part, and keeps it only where `counts` is true of what it gave. Whether the thread had to give its
+    /// processor away is asked only then, by system calls, and told of all that it did since it was asked before.
+    pub fn find<T>(&mut self, part: impl FnOnce() -> T, counts: impl FnOnce(&T) -> bool) -> T {
+        let from = Instant::now();
+        let answer = part();
+        let to = Instant::now();
+        if counts(&answer) {
+            let waited = self.watch.has_waited();
+            self.made.push(Part { from, to, waited, counts: true });
+        }
+        answer
     }
 }
 
@@ -160,11 +167,17 @@ mod tests {
         let made = parts(front, &[(0, 10, false, true), (20, 50, true, true), (60, 100, false, false)]);
         let sample = Sample::of(&[made], &[], |times| times);
         assert_eq!((sample.values, sample.kept, sample.left_out), (vec![10.0], 1, 2));
-        let made = parts(front, &[(0, 10, false, true), (60, 100, false, false)]).that_count();
-        let sample = Sample::of(&[made], &[], |times| times);
-        assert_eq!((sample.values, sample.kept, sample.left_out), (vec![10.0], 1, 0));
         let none = Sample::of(&[parts(front, &[(0, 10, true, true)])], &[], |times| vec![times[0]]);
         assert_eq!((none.values, none.kept, none.left_out), (Vec::new(), 0, 1));
+    }
+
+    #[test]
+    fn parts_that_count_are_found_among_others() {
+        let mut made = Parts { watch: Watch { delays: None, status: None, delay: None, switches: None }, made: Vec::new() };
+        let answers = [1, 2, 3, 4].map(|answer| made.find(|| answer, |&answer| answer % 2 == 0));
+        assert_eq!(answers, [1, 2, 3, 4]);
+        let sample = Sample::of(&[made], &[], |times| vec![times.len() as f64]);
+        assert_eq!((sample.values, sample.kept, sample.left_out), (vec![2.0], 2, 0));
     }
 
     #[test]

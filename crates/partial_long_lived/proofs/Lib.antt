@@ -31,6 +31,7 @@ pub mod Meetings
 pub mod Meets
 pub mod NewPorts
 pub mod Opens
+pub mod PoolCounters
 pub mod Publishes
 pub mod RecordStamps
 pub mod Resting

@@ -49,17 +49,18 @@ fn fill_slots(words: &Words, stand: &mut Stand, arena: u32, first: u64)
     ensures passed { HasPassed stand.old stand.new }
     ensures works { HasSetWords stand.new arena words.now.key.ports words.now.key.sizes.slots }
 {
-    let clear = find_clear(words, stand, arena);
+    let clear = find_clear(words, stand, arena, first);
     for number in clear..stand.shape.sizes.slots() {
         set_word(words, stand, arena, first, number, 0);
     }
 }
 
 // Loads the slot counter of the arena. Returns how many of its slots are 0, and count as set then.
-fn find_clear(words: &Words, stand: &mut Stand, arena: u32) -> u32
+fn find_clear(words: &Words, stand: &mut Stand, arena: u32, first: u64) -> u32
     requires held { IsHeld words.now.table_id words.now.key stand.old }
     requires works { HasSetWords stand.old arena words.now.key.ports 0 }
     requires inside { arena < words.now.key.arenas }
+    requires first { first ≡ base (plan_of words.now.key) arena }
     requires sealed { words.now.key.sizes.m ≤ (port_at stand.old).port.passed }
     ensures held { IsHeld words.now.table_id words.now.key stand.new }
     ensures stays { Stays stand.old stand.new }
@@ -68,7 +69,7 @@ fn find_clear(words: &Words, stand: &mut Stand, arena: u32) -> u32
     ensures most { result ≤ words.now.key.sizes.slots }
 {
     let slots = stand.shape.sizes.slots();
-    let at = stand.shape.base(arena) + u64::from(stand.shape.sizes.slot_counter());
+    let at = first + u64::from(stand.shape.sizes.slot_counter());
     let claimed = words.load::<FindClear>(&mut stand.seat, at as usize);
     if claimed < u64::from(slots) {
         slots - claimed as u32

@@ -1,7 +1,8 @@
-//! Laws about the ports of a memory. The functions have no code: their contracts hold of the definitions by which those
+//! Laws about the ports of a memory and its words. The functions have no code: their contracts hold of the definitions by which those
 //! of the calls are stated.
 
 ghost use Rattle.partial_long_lived.specs.AllPorts.{ClosedWithAllPorts, OpenedPortsAreAll};
+ghost use Rattle.partial_long_lived.specs.PoolCounters.{PoolCountersLieApart};
 
 /// The ports with which a memory opens are all of its ports: one for each number.
 pub fn opened_ports_are_all()
@@ -13,4 +14,10 @@ pub fn opened_ports_are_all()
 /// notes of exactly one port; and the values are those after it.
 pub fn closed_with_all_ports()
     ensures { ClosedWithAllPorts }
+{}
+
+/// The pool counter of each arena lies two words before a multiple of 16, counted from the first word of the table, unless
+/// an arena has 65,536 slots.
+pub fn pool_counters_lie_apart()
+    ensures { PoolCountersLieApart }
 {}

@@ -1,8 +1,7 @@
 //! How much an arena of a long-lived memory holds.
 
-ghost use Rattle.std.specs.Prelude.{◌≡◌, ◌+◌, ◌%◌, ◌<◌, ◌≤◌, IfOk, IfErr};
-ghost use Rattle.partial_words.specs.Layout.{total};
-ghost use Rattle.partial_long_lived.specs.Options.{IsShapeFor, IsShapeError, MayOpen, claimed_pool, most_slots};
+ghost use Rattle.std.specs.Prelude.{◌≡◌, ◌≤◌, IfOk, IfErr};
+ghost use Rattle.partial_long_lived.specs.Options.{IsShapeFor, IsShapeError, MayOpen, claimed_pool};
 
 use crate::open_error::OpenError;
 use crate::shape::Shape;
@@ -61,7 +60,6 @@ pub fn shape(count: usize, ports: u32, options: Options) -> Result<Shape, OpenEr
     ensures ok { IfOk result (IsShapeFor count ports options) }
     ensures fits { IfOk result (λ _. MayOpen count ports options) }
     ensures err { IfErr result (IsShapeError count ports options) }
-    ensures span { IfOk result (λ s. s.sizes.slots < most_slots → (total s.sizes + s.sizes.m) % 16 ≡ 0) }
 {
     if ports < 1 || ports > 64 {
         return Err(OpenError::Ports);

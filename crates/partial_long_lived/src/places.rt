@@ -1,8 +1,8 @@
 //! The numbers of the words of a long-lived memory.
 
-ghost use Rattle.std.specs.Prelude.{◌≡◌, ◌+◌, ◌%◌, ◌<◌};
+ghost use Rattle.std.specs.Prelude.{◌≡◌, ◌+◌, ◌<◌};
 ghost use Rattle.partial_epochs.specs.Layout.{base, control_size, own_word, set_word, span, whole};
-ghost use Rattle.partial_words.specs.Layout.{first_free, pool_counter};
+ghost use Rattle.partial_words.specs.Layout.{first_free};
 ghost use Rattle.partial_long_lived.specs.Shape.{bare, shape_plan};
 
 use crate::shape::Shape;
@@ -12,8 +12,7 @@ impl Shape {
     // before a multiple of 16.
     #[inline(always)]
     fn first(&self) -> u64
-        ensures first { result ≡ control_size (shape_plan self.now bare) }
-        ensures counter { (result + pool_counter self.now.sizes + 2) % 16 ≡ 0 }
+        ensures { result ≡ control_size (shape_plan self.now bare) }
     {
         let control = 1 + u64::from(self.ports) + u64::from(self.arenas);
         control + 15 - (control + 3 + u64::from(self.sizes.m())) % 16

@@ -4,11 +4,12 @@ use Rattle.partial_long_lived.proofs.fill.find_clear.Goals as goal
 pub load-claimed-requires : goal.load-claimed-requires
 load-claimed-requires c =
     let h = c.requires.held in
-    let first = c.base.ensures in
+    let first = c.requires.first in
+    let shape = ap (λ (e : Plan). base e c.args.arena) h.shape in
     let counter = c.slot_counter.ensures in
     let widened = c.from.ensures in
-    let at : c.base.result + c.from.result ≡ base (shape_plan c.args.stand.now.shape bare) c.args.arena + slot_counter c.args.stand.now.shape.sizes =
-    omega (arith, first, counter, widened) in (
+    let at : c.args.first + c.from.result ≡ base (shape_plan c.args.stand.now.shape bare) c.args.arena + slot_counter c.args.stand.now.shape.sizes =
+    omega (arith, first, shape, counter, widened) in (
       h.fits,
       clear_there _ _ _ h c.args.arena _ c.requires.inside at,
       find_clear_asked _ _ _ h c.args.arena c.requires.works c.requires.sealed _ _ _ at,
