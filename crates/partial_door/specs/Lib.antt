@@ -6,5 +6,6 @@ pub mod LongCalls
 pub mod LongExports
 pub mod LongMemories
 pub mod Memories
+pub mod Misuses
 pub mod Inner
 pub mod Lending

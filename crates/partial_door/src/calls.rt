@@ -5,7 +5,7 @@ ghost use Rattle.std.specs.Prelude.{◌≡◌};
 ghost use Rattle.partial_door.specs.Calls.{AtPort, ReadEnds, ScanEnds, StateEnds, UpdateEnds, UpdateIfEnds};
 
 use crate::answers::{PortState, ReadAnswer, ScanAnswer, UpdateAnswer, port_state, scan_answer};
-use crate::codes::{FINE, HOLDS_NONE, LENGTH};
+use crate::codes::{FINE, Misuse, code_of};
 use crate::held::Held;
 use partial_memory::{Updated, UpdatedIf};
 
@@ -31,9 +31,9 @@ impl Held {
                     };
                     FINE
                 }
-                Err(cause) => u32::from(cause.code()),
+                Err(cause) => code_of(cause),
             },
-            _ => HOLDS_NONE,
+            _ => Misuse::HoldsNone.code(),
         }
     }
 
@@ -67,10 +67,10 @@ impl Held {
                         };
                         FINE
                     }
-                    Err(cause) => u32::from(cause.code()),
+                    Err(cause) => code_of(cause),
                 }
             }
-            _ => HOLDS_NONE,
+            _ => Misuse::HoldsNone.code(),
         }
     }
 
@@ -87,9 +87,9 @@ impl Held {
                     *answer = ReadAnswer { value, stamp };
                     FINE
                 }
-                Err(cause) => u32::from(cause.code()),
+                Err(cause) => code_of(cause),
             },
-            _ => HOLDS_NONE,
+            _ => Misuse::HoldsNone.code(),
         }
     }
 
@@ -105,20 +105,20 @@ impl Held {
         match self {
             Held::Port(own) => {
                 if which.len() != into.len() {
-                    return LENGTH;
+                    return Misuse::Length.code();
                 }
                 if which.len() > own.components as usize {
-                    return LENGTH;
+                    return Misuse::Length.code();
                 }
                 match own.memory.scan(&mut own.port, which, into) {
                     Ok(scanned) => {
                         *answer = scan_answer(scanned);
                         FINE
                     }
-                    Err(cause) => u32::from(cause.code()),
+                    Err(cause) => code_of(cause),
                 }
             }
-            _ => HOLDS_NONE,
+            _ => Misuse::HoldsNone.code(),
         }
     }
 
@@ -133,7 +133,7 @@ impl Held {
                 *answer = port_state(&own.port);
                 FINE
             }
-            _ => HOLDS_NONE,
+            _ => Misuse::HoldsNone.code(),
         }
     }
 }

@@ -1,5 +1,16 @@
 //! The numbers that the calls return: 0 for an answer, otherwise the number of the refusal. Calls refused
 //! by the memory return the numbers of its own errors.
+//!
+//! The number of a port's call that is refused comes from a cold function that isn't put in line. So a compiler keeps
+//! what is done for a refusal out of the way of a call that is answered.
+
+ghost use Rattle.std.specs.Prelude.{◌≡◌};
+ghost use Rattle.partial_model.specs.Refusals.{refused_code};
+ghost use Rattle.partial_long_lived.specs.Refusals.{refusal_code};
+ghost use Rattle.partial_door.specs.Misuses.{misuse_code};
+
+use partial_long_lived::Refused as LongRefused;
+use partial_model::Refused;
 
 /// The call was answered.
 pub const FINE: u32 = 0;
@@ -20,3 +31,44 @@ pub const NOT_ALL_HOME: u32 = 22;
 /// All ports were returned, and a reference of the memory is in use. A port that is returned gives up its
 /// reference, so a caller who makes one call after the other on a handle doesn't get this number.
 pub const SHARED: u32 = 24;
+
+/// Why a call of a port is refused before its memory is asked.
+#[derive(Clone, Copy, Debug, PartialEq, Eq)]
+pub enum Misuse {
+    /// The handle doesn't hold what the call needs.
+    HoldsNone,
+    /// Two lengths differ, or exceed the number of components.
+    Length,
+}
+
+impl Misuse {
+    /// The number of the refusal: 17 for `HoldsNone`, 19 for `Length`.
+    #[cold]
+    #[inline(never)]
+    pub fn code(self) -> u32
+        ensures { result ≡ misuse_code self }
+    {
+        match self {
+            Misuse::HoldsNone => HOLDS_NONE,
+            Misuse::Length => LENGTH,
+        }
+    }
+}
+
+/// The number of a refusal by a single opening.
+#[cold]
+#[inline(never)]
+pub fn code_of(refused: Refused) -> u32
+    ensures { result ≡ refused_code refused }
+{
+    u32::from(refused.code())
+}
+
+/// The number of a refusal by a long-lived memory.
+#[cold]
+#[inline(never)]
+pub fn long_code_of(cause: LongRefused) -> u32
+    ensures { result ≡ refusal_code cause }
+{
+    u32::from(cause.code())
+}

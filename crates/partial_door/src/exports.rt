@@ -9,7 +9,7 @@ ghost use Rattle.partial_door.specs.Calls.{ReadEnds, ScanEnds, StateEnds, Update
 ghost use Rattle.partial_door.specs.Exports.{AtHandle, ClosesHandle, CopiesAt, GivesAt, MeetsHandles, OpensAt, ReopensAt, TakesAt};
 
 use crate::answers::{PortState, ReadAnswer, RoomSizes, ScanAnswer, UpdateAnswer};
-use crate::codes::{FINE, HOLDS_NONE, HOLDS_ONE, MEMORY};
+use crate::codes::{FINE, HOLDS_NONE, HOLDS_ONE, MEMORY, Misuse};
 use crate::handle::Handle;
 use crate::memories::{Unclosed, open};
 use std::alloc::Global;
@@ -29,7 +29,7 @@ pub extern "C" fn partial_door_update(
         port.old.held result port.new.held }
 {
     let Some(held) = port.held() else {
-        return HOLDS_NONE;
+        return Misuse::HoldsNone.code();
     };
     held.update(component, value, answer)
 }
@@ -49,7 +49,7 @@ pub extern "C" fn partial_door_update_if(
         port.old.held result port.new.held }
 {
     let Some(held) = port.held() else {
-        return HOLDS_NONE;
+        return Misuse::HoldsNone.code();
     };
     held.update_if(component, expected, value, answer)
 }
@@ -67,7 +67,7 @@ pub extern "C" fn partial_door_read(
         port.old.held result port.new.held }
 {
     let Some(held) = port.held() else {
-        return HOLDS_NONE;
+        return Misuse::HoldsNone.code();
     };
     held.read(component, answer)
 }
@@ -88,7 +88,7 @@ pub extern "C" fn partial_door_scan(
         (ScanEnds which.now into.old into.new answer.old answer.new) port.old.held result port.new.held }
 {
     let Some(held) = port.held() else {
-        return HOLDS_NONE;
+        return Misuse::HoldsNone.code();
     };
     held.scan(which, into, answer)
 }
@@ -101,7 +101,7 @@ pub extern "C" fn partial_door_state(port: &mut Handle, answer: &mut PortState) 
     ensures { AtHandle (answer.new ≡ answer.old) (StateEnds answer.new) port.old.held result port.new.held }
 {
     let Some(held) = port.held() else {
-        return HOLDS_NONE;
+        return Misuse::HoldsNone.code();
     };
     held.state(answer)
 }

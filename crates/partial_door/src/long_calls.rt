@@ -8,7 +8,7 @@ ghost use Rattle.partial_door.specs.LongMemories.{ArePortsApart, MeetsLong};
 use crate::answers::{
     ReadAnswer, ScanAnswer, UpdateAnswer, scan_answer, update_answer, update_if_answer,
 };
-use crate::codes::{FINE, HOLDS_NONE, LENGTH, TWO_MEMORIES};
+use crate::codes::{FINE, Misuse, TWO_MEMORIES, long_code_of};
 use crate::held::Held;
 
 impl Held {
@@ -27,9 +27,9 @@ impl Held {
                     *answer = update_answer(updated);
                     FINE
                 }
-                Err(cause) => u32::from(cause.code()),
+                Err(cause) => long_code_of(cause),
             },
-            _ => HOLDS_NONE,
+            _ => Misuse::HoldsNone.code(),
         }
     }
 
@@ -56,10 +56,10 @@ impl Held {
                         *answer = update_if_answer(updated);
                         FINE
                     }
-                    Err(cause) => u32::from(cause.code()),
+                    Err(cause) => long_code_of(cause),
                 }
             }
-            _ => HOLDS_NONE,
+            _ => Misuse::HoldsNone.code(),
         }
     }
 
@@ -77,9 +77,9 @@ impl Held {
                     *answer = ReadAnswer { value, stamp };
                     FINE
                 }
-                Err(cause) => u32::from(cause.code()),
+                Err(cause) => long_code_of(cause),
             },
-            _ => HOLDS_NONE,
+            _ => Misuse::HoldsNone.code(),
         }
     }
 
@@ -95,20 +95,20 @@ impl Held {
         match self {
             Held::LongPort(own) => {
                 if which.len() != into.len() {
-                    return LENGTH;
+                    return Misuse::Length.code();
                 }
                 if which.len() > own.components {
-                    return LENGTH;
+                    return Misuse::Length.code();
                 }
                 match own.memory.scan(&mut own.port, which, into) {
                     Ok(scanned) => {
                         *answer = scan_answer(scanned);
                         FINE
                     }
-                    Err(cause) => u32::from(cause.code()),
+                    Err(cause) => long_code_of(cause),
                 }
             }
-            _ => HOLDS_NONE,
+            _ => Misuse::HoldsNone.code(),
         }
     }
 
@@ -132,23 +132,23 @@ impl Held {
         match self {
             Held::LongPort(own) => {
                 if which.len() != into.len() {
-                    return LENGTH;
+                    return Misuse::Length.code();
                 }
                 if stamps.len() != which.len() {
-                    return LENGTH;
+                    return Misuse::Length.code();
                 }
                 if which.len() > own.components {
-                    return LENGTH;
+                    return Misuse::Length.code();
                 }
                 match own.memory.scan_stamped(&mut own.port, which, into, stamps) {
                     Ok(stamped) => {
                         *answer = scan_answer(stamped);
                         FINE
                     }
-                    Err(cause) => u32::from(cause.code()),
+                    Err(cause) => long_code_of(cause),
                 }
             }
-            _ => HOLDS_NONE,
+            _ => Misuse::HoldsNone.code(),
         }
     }
 
@@ -162,7 +162,7 @@ impl Held {
         match self {
             Held::LongPort(own) => {
                 if stamps.len() != which.len() {
-                    return LENGTH;
+                    return Misuse::Length.code();
                 }
                 if own.memory.unchanged(&mut own.port, which, stamps) {
                     *answer = 1;
@@ -171,7 +171,7 @@ impl Held {
                 }
                 FINE
             }
-            _ => HOLDS_NONE,
+            _ => Misuse::HoldsNone.code(),
         }
     }
 
@@ -184,10 +184,10 @@ impl Held {
         ensures { MeetsLong self.old other.old result self.new other.new }
     {
         let Held::LongPort(first) = self else {
-            return HOLDS_NONE;
+            return Misuse::HoldsNone.code();
         };
         let Held::LongPort(second) = other else {
-            return HOLDS_NONE;
+            return Misuse::HoldsNone.code();
         };
         if second.number != first.number {
             return TWO_MEMORIES;
@@ -207,7 +207,7 @@ impl Held {
                 *answer = own.port.number();
                 FINE
             }
-            _ => HOLDS_NONE,
+            _ => Misuse::HoldsNone.code(),
         }
     }
 }

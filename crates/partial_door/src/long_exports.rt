@@ -9,7 +9,7 @@ ghost use Rattle.partial_door.specs.LongMemories.{AreLongApart, ArePortsApart, o
 ghost use Rattle.partial_door.specs.LongExports.{AtLongHandle, ClosesLongAt, GivesLongAt, MeetsLongAt, OpensNewAt, TakesLongAt};
 
 use crate::answers::{ArenaSizes, ReadAnswer, ScanAnswer, UpdateAnswer};
-use crate::codes::{FINE, HOLDS_NONE, HOLDS_ONE};
+use crate::codes::{FINE, HOLDS_NONE, HOLDS_ONE, Misuse};
 use crate::handle::Handle;
 use crate::long_memories::{open_long, options_for};
 use std::alloc::Global;
@@ -30,7 +30,7 @@ pub extern "C" fn partial_door_port_update(
         port.old.held result port.new.held }
 {
     let Some(held) = port.held() else {
-        return HOLDS_NONE;
+        return Misuse::HoldsNone.code();
     };
     held.update_long(component, value, answer)
 }
@@ -50,7 +50,7 @@ pub extern "C" fn partial_door_port_update_if(
         (LongUpdateIfEnds component expected value answer.old answer.new) port.old.held result port.new.held }
 {
     let Some(held) = port.held() else {
-        return HOLDS_NONE;
+        return Misuse::HoldsNone.code();
     };
     held.update_if_long(component, expected, value, answer)
 }
@@ -69,7 +69,7 @@ pub extern "C" fn partial_door_port_read(
         port.old.held result port.new.held }
 {
     let Some(held) = port.held() else {
-        return HOLDS_NONE;
+        return Misuse::HoldsNone.code();
     };
     held.read_long(component, answer)
 }
@@ -90,7 +90,7 @@ pub extern "C" fn partial_door_port_scan(
         (LongScanEnds which.now into.old into.new answer.old answer.new) port.old.held result port.new.held }
 {
     let Some(held) = port.held() else {
-        return HOLDS_NONE;
+        return Misuse::HoldsNone.code();
     };
     held.scan_long(which, into, answer)
 }
@@ -114,7 +114,7 @@ pub extern "C" fn partial_door_port_scan_stamped(
         port.old.held result port.new.held }
 {
     let Some(held) = port.held() else {
-        return HOLDS_NONE;
+        return Misuse::HoldsNone.code();
     };
     held.scan_stamped_long(which, into, stamps, answer)
 }
@@ -133,7 +133,7 @@ pub extern "C" fn partial_door_port_unchanged(
         (LongUnchangedEnds which.now stamps.now answer.old answer.new) port.old.held result port.new.held }
 {
     let Some(held) = port.held() else {
-        return HOLDS_NONE;
+        return Misuse::HoldsNone.code();
     };
     held.unchanged_long(which, stamps, answer)
 }
@@ -164,7 +164,7 @@ pub extern "C" fn partial_door_port_number(port: &mut Handle, answer: &mut u32) 
         port.old.held result port.new.held }
 {
     let Some(held) = port.held() else {
-        return HOLDS_NONE;
+        return Misuse::HoldsNone.code();
     };
     held.number_long(answer)
 }

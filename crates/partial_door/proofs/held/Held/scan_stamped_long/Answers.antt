@@ -15,15 +15,15 @@ returns-in-Err c =
 pub returns-then-which-into : goal.returns-then-which-into
 returns-then-which-into c =
     let own = c.in-LongPort.own in
-    inr (own, own, c.in-LongPort.is, search rules, record { number = refl; memory = refl }, inr (refl, refl, refl, inl (refl, inl (inl c.if-which-into.true), refl)))
+    inr (own, own, c.in-LongPort.is, search rules, record { number = refl; memory = refl }, inr (refl, refl, refl, inl (c.code.ensures, inl (inl c.if-which-into.true), refl)))
 
 pub returns-then-stamps-which : goal.returns-then-stamps-which
 returns-then-stamps-which c =
     let own = c.in-LongPort.own in
-    inr (own, own, c.in-LongPort.is, search rules, record { number = refl; memory = refl }, inr (refl, refl, refl, inl (refl, inr c.if-stamps-which.true, refl)))
+    inr (own, own, c.in-LongPort.is, search rules, record { number = refl; memory = refl }, inr (refl, refl, refl, inl (c.code-then-stamps-which.ensures, inr c.if-stamps-which.true, refl)))
 
 pub returns-then-which-own : goal.returns-then-which-own
 returns-then-which-own c =
     let own = c.in-LongPort.own in
     let many = more (λ (v : MemoryView). v.about.sizes.m) _ _ _ _ own.size own.of c.if-which-own.true in
-    inr (own, own, c.in-LongPort.is, search rules, record { number = refl; memory = refl }, inr (refl, refl, refl, inl (refl, inl (inr many), refl)))
+    inr (own, own, c.in-LongPort.is, search rules, record { number = refl; memory = refl }, inr (refl, refl, refl, inl (c.code-then-which-own.ensures, inl (inr many), refl)))
