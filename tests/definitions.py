@@ -4,7 +4,7 @@ A definition of specs/ may have no code behind it. What refuses a wrong one is t
 whose contract is a type of specs/. An edit of a definition names its law. For each edit those modules are copied, under
 names of their own, that depend on the changed file and that the law needs, and of each the declarations that it needs.
 All else is imported from the crate as it is. The law stands over the copy as a function of its own. Many copies stand
-side by side in one check.
+side by side in one check, which asks for nothing else: the crate's code stands there as it is, for the types that it declares.
 
 An edit is refused where its law is not proved, since the prover refuses a declaration of the copied proofs by its
 meaning. A definition that is none refuses nothing, nor does a name or a module that isn't found, a run out of steps, or a
@@ -21,10 +21,8 @@ sys.path.insert(0, str(Path(__file__).resolve().parent))
 from modules import Import, Modules, imports_of  # noqa: E402
 
 # A function without code, with the types that it ensures.
-LAW = re.compile(r'^pub fn (\w+)\(\)\n((?:    ensures .*\n)+)\{\}$', re.M)
+LAW = re.compile(r'^pub fn (\w+)\(\)\n((?:    ensures .*\n(?:        .*\n)*)+)\{\}$', re.M)
 GHOST = re.compile(r'^ghost use (.*);$', re.M)
-# The modules of the code, as its root names them.
-CODE = re.compile(r'^pub mod (\w+);\n', re.M)
 # So many edits at most in a round: what a check holds in memory grows with them.
 ROUND = 40
 # What a definition stands in, and the parts of a crate.
@@ -53,7 +51,14 @@ class Law:
     answers: str
 
     def imports(self):
-        return [*self.types, *imports_of(self.answers)]
+        return [*self.types, *self.imports_of_answers()]
+
+    def imports_of_answers(self):
+        """What its answers import: of a module that they import whole, what they name of it."""
+        found = imports_of(self.answers)
+        return [it for it in found if it.name] + [
+            Import(it.path, name, name, False) for it in found if not it.name
+            for name in dict.fromkeys(re.findall(rf'(?<![\w.]){re.escape(it.here_now())}\.([^\s(){{}},.]+)', self.answers))]
 
 
 class NoLaw(Exception):
@@ -67,8 +72,9 @@ def law_of(crate, path):
     text = file.read_text(encoding='utf-8') if module and file.exists() else ''
     for found in LAW.finditer(text):
         if found[1] == name and answers.exists():
-            named = set(re.findall(r'\w+', found[2]))
-            types = [it for line in GHOST.finditer(text) for it in imports_of(f'use {line[1]}') if it.here in named]
+            named = set(re.findall(r'\w+|[^\w\s]+', found[2]))
+            types = [it for line in GHOST.finditer(text) for it in imports_of(f'use {line[1]}')
+                     if it.here.strip('◌') in named]
             return Law(module, name, found[0], types, answers.read_text(encoding='utf-8'))
     raise NoLaw(f'it names no law: {path}')
 
@@ -151,7 +157,7 @@ def copy_of(edit, modules, mark, changes):
     path, = edit.refused
     law = law_of(modules.crate, path)
     changed = 'specs.' + edit.changes[0][0].removeprefix(SPECS).removesuffix('.antt')
-    kept = modules.copied(changed, imports_of(law.answers)).get(changed, [])
+    kept = modules.copied(changed, law.imports_of_answers()).get(changed, [])
     if not all(any(old in it.text for it in kept) for _, old, _ in edit.changes):
         raise NoLaw(f'the proof of its law does not need what it changes: {path}')
     return Copy(mark, law, changed, changes)
@@ -173,21 +179,16 @@ def copies_of(edits, modules):
     return found, [*right.values()], faults
 
 
-def clear(crate, room):
-    """Copies a crate to this folder without its own code, its laws and their answers."""
+def copy_crate(crate, room):
+    """Copies a crate to this folder, in place of what stood there. Its definitions may name types of its code."""
     for part in PARTS:
         shutil.rmtree(room / part, ignore_errors=True)
         shutil.copytree(crate / part, room / part)
-    root = (room / 'src/lib.rt').read_text(encoding='utf-8')
-    for module in CODE.findall(root):
-        (room / f'src/{module}.rt').unlink()
-        shutil.rmtree(room / 'proofs' / module, ignore_errors=True)
-    write(room / 'src/lib.rt', CODE.sub('', root))
 
 
 def try_round(modules, room, edits, check):
     """Tries these edits together: what is wrong, each with the name of its edit."""
-    clear(modules.crate, room)
+    copy_crate(modules.crate, room)
     found, right, faults = copies_of(edits, modules)
     copies = [*[turned for _, turned, _ in found], *right]
     for it in copies:

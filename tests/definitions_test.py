@@ -14,12 +14,13 @@ import edits  # noqa: E402
 from definitions import Copy, Law, NoLaw, law_of  # noqa: E402
 from modules import Import, Modules, imports_of, parts_of  # noqa: E402
 
-# A crate with two laws. `Far` depends on the file that is changed, but the law `near` doesn't need it.
+# A crate with laws. `Far` depends on the file that is changed, but the law `near` doesn't need it.
 FILES = {
     'src/lib.rt': '#![tactic(auto)]\n\npub mod law;\n\npub use below::{Core};\n',
     'src/law.rt': '''\
 ghost use Rattle.low.specs.Near.{IsNear, AreAll};
 ghost use Rattle.low.specs.Far.{IsFar};
+ghost use Rattle.std.specs.Prelude.{ℕ, ◌≡◌, ◌<◌};
 
 /// All are near.
 pub fn near()
@@ -30,6 +31,13 @@ pub fn near()
 pub fn far()
     ensures one { IsFar }
     ensures all { AreAll }
+{}
+
+/// A clause of two lines.
+pub fn wide()
+    ensures one { AreAll }
+    ensures two { (n : ℕ) → n ≡ 1
+        → IsFar }
 {}
 
 /// A function with code is no law.
@@ -68,6 +76,16 @@ pub returns : goal.returns
 returns c = near
 ''',
     'proofs/law/far/Answers.antt': 'use Rattle.low.proofs.Apart.{apart}\n\npub returns : goal.returns\nreturns c = apart\n',
+    'proofs/law/wide/Answers.antt': '''\
+use Rattle.low.proofs.Far as wide
+use Rattle.low.proofs.law.wide.Goals as goal
+
+pub returns-clause-one : goal.returns-clause-one
+returns-clause-one c = wide.far
+
+pub returns-clause-two : goal.returns-clause-two
+returns-clause-two c n is = (wide.far, wide.apart)
+''',
 }
 # What is said of a copy: of a proof that the change breaks, of what stands behind it, and of the law.
 REFUSED = '''\
@@ -230,6 +248,12 @@ def of_laws(crate):
         'law', 'near', 'pub fn near()\n    ensures { IsNear }\n{}',
         [Import('Rattle.low.specs.Near', 'IsNear', 'IsNear', False)], FILES['proofs/law/near/Answers.antt'])
     yield 'or the types of several clauses', [it.name for it in law_of(crate, 'law::far').types] == ['AreAll', 'IsFar']
+    wide = law_of(crate, 'law::wide')
+    yield 'and of a clause of two lines, with its operators', [it.here for it in wide.types] == ['AreAll', 'IsFar', 'ℕ', '◌≡◌'] and (
+        wide.text.endswith('n ≡ 1\n        → IsFar }\n{}'))
+    yield 'of a module that its answers import whole those are needed that they name', [
+        (it.path, it.name) for it in wide.imports_of_answers() if not it.path.endswith('.Goals')] == [
+        ('Rattle.low.proofs.Far', 'far'), ('Rattle.low.proofs.Far', 'apart')]
     for path in ('law::code', 'law::nowhere', 'other::near', 'near', '::near'):
         try:
             yield f'there is no law {path}', law_of(crate, path) is None
@@ -239,10 +263,10 @@ def of_laws(crate):
 
 def of_copies(crate, room):
     """The cases of copies that are written."""
-    definitions.clear(crate, room)
-    yield 'the code of the crate is not copied, nor the answers of its laws', not (room / 'src/law.rt').exists() and (
-        not (room / 'proofs/law').exists() and (room / 'src/lib.rt').read_text() == '#![tactic(auto)]\n\n\npub use below::{Core};\n')
-    yield 'its definitions and proofs are', (room / 'specs/Far.antt').exists() and (room / 'proofs/Far.antt').exists()
+    definitions.write(room / 'src/wrong_0.rt', 'of a round before')
+    definitions.copy_crate(crate, room)
+    yield 'the crate is copied as it is, with its code', all((room / path).read_text() == text for path, text in FILES.items())
+    yield 'nothing of a round before is left', not (room / 'src/wrong_0.rt').exists()
     modules = Modules(crate)
     Copy('wrong_0', law_of(crate, 'law::near'), 'specs.Base', [('specs/Base.antt', 'base = 1', 'base = 2')]).write(modules, room)
     yield 'the changed file is changed in the copy', (room / 'specs/wrong_0_Base.antt').read_text() == (
