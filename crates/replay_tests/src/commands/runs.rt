@@ -183,7 +183,8 @@ impl Gate for Flags {
     fn before(&self, port: u32, _number: u32) {
         let (own, other) = if port == 0 { (0, 1) } else { (1, 0) };
         self.before[own].fetch_add(1, Ordering::SeqCst);
-        for _ in 0..200_000_000 {
+        // Many seconds, where nobody comes: the other thread may have to wait for a processor.
+        for _ in 0..20_000_000_000u64 {
             if self.before[other].load(Ordering::SeqCst) > 0 {
                 self.seen[own].store(1, Ordering::SeqCst);
                 break;
