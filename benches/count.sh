@@ -1,7 +1,7 @@
 #!/bin/sh
 # count.sh: counts the instructions of one call of a port alone, with callgrind: of an update of a single opening and of the
 # same algorithm in plain Rust, and of each call of an opening and of a memory that never wears out, with its changes of
-# epoch; over the static library, and over its bitcode. It wants rt, cargo and valgrind.
+# epoch, by indices and by keys; over the static library, and over its bitcode. It wants rt, cargo and valgrind.
 set -eu
 cd "$(dirname "$0")/.."
 . scripts/need.sh && need rt cargo valgrind
@@ -26,6 +26,9 @@ rows() {
     row "read, $1" "$2" read
     row "scan of 4, $1" "$2" scan
     row "scan of 16, $1" "$2" scan_of_16
+    row "update by a key, $1" "$2" set
+    row "read by a key, $1" "$2" get
+    row "scan of 4 by keys, $1" "$2" snapshot
 }
 bindings/library.sh >"$made/log" 2>&1 || { cat "$made/log"; exit 1; }
 build() {

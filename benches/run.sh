@@ -1,6 +1,6 @@
 #!/bin/sh
 # Builds the program over the proved library twice, linked with the library and linked with its bitcode. Tests both,
-# runs them one after the other, and writes docs/benches.md and docs/benches.svg.
+# runs them one after the other, and writes docs/benches.md, docs/benches.svg and benches/tables.md.
 # It wants `rt` on the path, cargo and Python 3. bindings/bitcode.sh proves and builds both libraries.
 set -eu
 cd "$(dirname "$0")/.."
@@ -48,12 +48,23 @@ build library "$PWD/crates/partial_door/out/libpartial_door.a" ""
 build bitcode "$made/libpartial_door.a" "$flags"
 measure library >"$made/library.md"
 measure bitcode >"$made/bitcode.md"
+# The page has the first table alone, and what is said of all of them.
 {
     cat benches/head.md
-    printf '\n## Linked with the library\n\n'
+    printf '\n## The table\n\n'
     printf '![The rows in nanoseconds as bars, on a logarithmic scale](benches.svg)\n\n'
+    sed '/^$/q' "$made/library.md"
+    grep '^Left out' "$made/library.md"
+    echo
+    grep '^Measured on' "$made/library.md"
+} >docs/benches.md
+# The words before the tables stay as they are.
+{
+    sed '/^## /,$d' benches/tables.md
+    printf '## Linked with the library\n\n'
     cat "$made/library.md"
     printf '\n## Linked with its bitcode\n\n'
     cat "$made/bitcode.md"
-} >docs/benches.md
+} >"$made/tables.md"
+mv "$made/tables.md" benches/tables.md
 python3 benches/plot.py <docs/benches.md >docs/benches.svg

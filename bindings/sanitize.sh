@@ -4,9 +4,13 @@
 # kit's clang instruments that, and the system's clang links it with its run-time. The undefined-behaviour sanitizer
 # sees the header's functions and the programs alone, since it works on C. To show that a race would be found, a library
 # whose loads aren't atomic any more has to be reported.
+# A pair of programs shows what an update publishes: an applied one what its thread wrote before, a lost one nothing, so the
+# second program has to be reported.
 # It is no part of the gate. It wants rt, clang with its sanitizers, objcopy and, for the crate for Rust, a nightly cargo.
+# With --unproved it takes the library's text with no proof (bindings/unproved.py), which takes a minute.
 # The last line is 'N passed, M failed'.
 set -u
+[ $# -eq 0 ] || [ "$*" = --unproved ] || { echo "usage: bindings/sanitize.sh [--unproved]" >&2; exit 2; }
 cd "$(dirname "$0")/.." || exit 2
 . scripts/need.sh && need rt clang objcopy
 made=$(mktemp -d) || exit 2
@@ -40,9 +44,9 @@ compile() {
     clang -std=c11 -O1 -g "-fsanitize=$1" -fno-sanitize-recover=undefined -I bindings/c "$2" bindings/c/elsewhere.c "$3" \
         "$kit/c/liblibc_c.a" -pthread -o "$4"
 }
-# Whether the thread sanitizer reports a race of this program.
+# Whether the thread sanitizer reports a race of this program, which is called with these words.
 races() {
-    ! "$1" >"$made/raced" 2>&1 && grep -q 'WARNING: ThreadSanitizer: data race' "$made/raced"
+    ! "$@" >"$made/raced" 2>&1 && grep -q 'WARNING: ThreadSanitizer: data race' "$made/raced"
 }
 # rust SANITIZER LIBRARY: the tests of the crate for Rust over an instrumented library.
 rust() {
@@ -52,9 +56,13 @@ rust() {
             CARGO_TARGET_DIR=$made/target cargo +nightly test --offline --quiet --tests --target x86_64-unknown-linux-gnu)
 }
 
-item "the library is built as bitcode" bindings/bitcode.sh "$made/bitcode/libpartial_door.a"
-(cd "$made/bitcode" && "$kit/toolchain/bin/llvm-ar" x libpartial_door.a && cp partial_door.o partial_door.bc) &&
-    "$kit/toolchain/bin/clang" -S -emit-llvm "$made/bitcode/partial_door.bc" -o "$made/door.ll" || failed=$((failed + 1))
+if [ "$*" = --unproved ]; then
+    item "the library's text is made with no proof" bindings/unproved.py "$made/door.ll"
+else
+    item "the library is built as bitcode" bindings/bitcode.sh "$made/bitcode/libpartial_door.a"
+    (cd "$made/bitcode" && "$kit/toolchain/bin/llvm-ar" x libpartial_door.a && cp partial_door.o partial_door.bc) &&
+        "$kit/toolchain/bin/clang" -S -emit-llvm "$made/bitcode/partial_door.bc" -o "$made/door.ll" || failed=$((failed + 1))
+fi
 for sanitizer in address thread; do
     with=$sanitizer
     [ "$sanitizer" = thread ] || with=$sanitizer,undefined
@@ -67,6 +75,10 @@ for sanitizer in address thread; do
         item "$source ($with)" "$program" 100000
     done
 done
+item "what an update publishes: its program is compiled" compile thread bindings/c/ordering.c "$made/door_thread.o" \
+    "$made/ordering"
+item "an applied update publishes what its thread wrote before" "$made/ordering" applied
+item "a lost update publishes nothing: a race is reported" races "$made/ordering" lost
 sed 's/load atomic \(i64, .*\) seq_cst,/load \1,/; s/store atomic \(i64 .*\) seq_cst,/store \1,/' "$made/door.ll" \
     >"$made/plain.ll"
 item "a library without atomic loads is instrumented" instrument thread "$made/plain.ll" "$made/plain.o"

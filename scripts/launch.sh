@@ -7,43 +7,56 @@ set -u
 top=$(cd "$(dirname "${BASH_SOURCE[0]}")/.." && pwd) || exit 2
 . "$top/scripts/fresh.sh" || exit 2
 . "$top/scripts/need.sh" || exit 2
+. "$top/scripts/door.sh" || exit 2
+. "$top/scripts/unproved.sh" || exit 2
 name=$1
-out=$top/crates/$name/out
+proved=$top/crates/$name/out/$name
 shift
 
-# words_in ROOM: words with which the program runs until it is told to end, or for a second or so.
-words_in() {
-    case $name in
-        partial) echo check "$1/plan" ;;
-        picture) echo "$1/plan" ;;
-        pipeline) echo --items 200000 ;;
-    esac
+# own_folder: where the unproved program is kept: beside the proved one, or, when the user can't write there, in a folder
+# of the user's that has the number of this clone's path.
+own_folder() {
+    local folder=$top/crates/$name/out
+    if ! { mkdir -p "$folder" && [ -w "$folder" ]; } 2>/dev/null; then
+        folder=${XDG_CACHE_HOME:-${HOME:-/tmp}/.cache}/yuthgaren/$(cksum <<<"$top" | cut -d ' ' -f 1)
+        if ! { mkdir -p "$folder" && [ -w "$folder" ]; } 2>/dev/null; then
+            echo "$name: neither $top nor $folder can be written: let XDG_CACHE_HOME name a folder that can" >&2
+            return 1
+        fi
+    fi
+    echo "$folder"
 }
 
-# Builds the program with no proof and keeps it. `rt try` removes what it has built as soon as the program has ended. So
-# the program waits for a plan, which comes through a pipe, or works for a while, and is linked meanwhile.
-build_unproved() (
-    room=$(mktemp -d) || exit 1
-    trap 'rm -rf "$room"' EXIT
-    # Sources that change from here on are newer than what is kept.
-    touch "$room/start" && mkfifo "$room/plan" && mkdir -p "$out" || exit 1
-    (cd "$top/crates/$name" && TMPDIR=$room rt try -- $(words_in "$room") </dev/null) >"$room/said" 2>&1 &
-    building=$!
-    # The plan ends a while after the program has opened it.
-    (exec 3>"$room/plan" && sleep 0.3) &
-    plan=$!
-    while kill -0 "$building" 2>/dev/null; do
-        built=$(find "$room" -type f -name program -perm -u+x -print -quit)
-        [ -z "$built" ] || ln -f "$built" "$room/linked" 2>/dev/null
-        sleep 0.05
+# show_seconds: says on a terminal, each second, for how long the build goes on.
+show_seconds() {
+    local seconds
+    [ -t 2 ] || return
+    for ((seconds = 1; ; seconds++)); do
+        sleep 1
+        printf '\rbuilding: %d s ' "$seconds" >&2
     done
-    # Without a program nobody has opened the plan.
-    kill "$plan" 2>/dev/null
-    if ! { cp "$room/linked" "$room/kept" && touch -r "$room/start" "$room/kept" &&
-        mv "$room/kept" "$out/${name}_unproved"; } 2>/dev/null; then
+}
+
+# build_into FOLDER: builds the program with no proof and keeps it there. The words of the build are shown if it fails.
+build_into() (
+    place=$(rt doc 2>&1) || { echo "$place" >&2; exit 1; }
+    kit=$(dirname "$place")
+    room=$(mktemp -d) || exit 1
+    # Sources that change from here on are newer than what is kept.
+    touch "$room/start" || exit 1
+    show_seconds &
+    shown=$!
+    trap 'kill "$shown" 2>/dev/null; rm -rf "$room"' EXIT
+    trap 'exit 130' INT TERM HUP
+    build_unproved "$name" kept "$room" >"$room/said" 2>&1
+    status=$?
+    kill "$shown" 2>/dev/null && wait "$shown" 2>/dev/null
+    [ ! -t 2 ] || printf '\r%20s\r' '' >&2
+    if [ "$status" -ne 0 ]; then
         cat "$room/said" >&2
         exit 1
     fi
+    touch -r "$room/start" "$room/kept" && cp -p "$room/kept" "$1/$name.new" && mv "$1/$name.new" "$1/${name}_unproved"
 )
 
 # bound_memory MIB: bounds what the program may take, unless the caller has set a lower bound. A replay keeps each step
@@ -61,14 +74,24 @@ bound_memory() {
     fi
 }
 
-if is_fresh "$out/$name"; then
-    # Threads take room for addresses that they don't use, so what runs in threads isn't bounded.
-    case $name-${1:-} in
-        partial-run | pipeline-*) ;;
-        *) bound_memory "${REPLAY_MEMORY:-4096}" ;;
-    esac
-    exec "$out/$name" "$@"
+program=$proved
+if ! is_fresh "$proved"; then
+    echo "This run is of the sources, with no proof: no proved program is there." >&2
+    folder=$(own_folder) || exit 2
+    program=$folder/${name}_unproved
+    if ! is_fresh "$program"; then
+        need rt
+        echo "It is built first, which takes a minute or two." >&2
+        build_into "$folder" || exit 2
+    fi
 fi
-echo "This run is of the sources, with no proof: no proved program is there." >&2
-is_fresh "$out/${name}_unproved" || { need rt && build_unproved; } || exit 2
-exec "$out/${name}_unproved" "$@"
+# A program can't ask a terminal for its size, so its environment names it.
+if [ "$name" = pipeline ] && [ -t 1 ]; then
+    { size=$(stty size <&3 2>/dev/null) && export LINES=${size% *} COLUMNS=${size#* }; } 3>&1
+fi
+# Threads take room for addresses that they don't use, so what runs in threads isn't bounded.
+case $name-${1:-} in
+    partial-run | pipeline-*) ;;
+    *) bound_memory "${REPLAY_MEMORY:-4096}" ;;
+esac
+exec -a "$name" "$program" "$@"

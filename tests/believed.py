@@ -3,8 +3,8 @@
 
 A contract cites definitions of specs/, and these cite others. Followed from the clauses of a function on, each
 definition that is reached counts with its lines, but for comments, imports and blank ones. What a function's words
-stand for is what the imports of its file say. The tables of docs/proof/trust.md are made of that, and the number of
-lines that README.md gives is the greatest of its calls of the running memory. With --write the tables are written
+mean is what the imports of its file say. The tables of docs/proof/trust.md are made of that, and the two numbers of
+lines that README.md gives are the greatest of the calls of a single opening and of the long-lived memory. With --write the tables are written
 anew; with FILE FUNCTION [CLAUSE..] it lists what the clauses of one function reach. The last line is
 'N passed, M failed', one for each row.
 """
@@ -32,8 +32,9 @@ LONG_LIVED = [
     ('partial_long_lived/src/long_lived.rt', ['open', 'close']),
     ('partial_long_lived/src/calls.rt', ['update', 'update_if', 'read', 'scan', 'scan_stamped', 'unchanged', 'meet']),
 ]
-RUNNING = [*CALLS[:2], ('partial_memory/src/port.rt', ['pool_spent', 'slots_spent']), ('partial_memory/src/law.rt', None)]
-TOGETHER = RUNNING + [
+OPENING = [*CALLS[:2], ('partial_memory/src/port.rt', ['pool_spent', 'slots_spent']), ('partial_memory/src/law.rt', None)]
+LONG = [*LONG_LIVED, ('partial_long_lived/src/law.rt', None)]
+TOGETHER = OPENING + LONG + [
     CALLS[2], *CALLS[4:], ('partial_cmd/src/workers.rt', ['run_workers']),
     ('partial_text/src/writing.rt', ['write_outcome', 'write_report', 'write_reports']),
     ('partial_replay/src/law.rt', None), ('partial_text/src/law.rt', None), ('partial_cmd/src/law.rt', None),
@@ -179,9 +180,9 @@ def call_table(known):
 
 
 def crate_table(known):
-    running = reached(known, set().union(*(roots(*each) for each in RUNNING)))
-    together = reached(known, set().union(*(roots(*each) for each in TOGETHER)))
-    text, columns = '| Crate | All | Running memory | Together |\n|---|---|---|---|\n', (set(known), running, together)
+    columns = [set(known)]
+    columns += [reached(known, set().union(*(roots(*each) for each in part))) for part in (OPENING, LONG, TOGETHER)]
+    text = '| Crate | All | Single opening | Long-lived memory | Together |\n|---|---|---|---|---|\n'
     named = (TOP / 'crates.txt').read_text(encoding='utf-8').splitlines()
     crates = [line.partition(':')[0].split()[0] for line in named if line and not line.startswith('#')]
     for crate in crates:
@@ -195,6 +196,13 @@ def most():
     """The greatest number of lines that a call of an open memory asks a reader to believe for its answer."""
     known = definitions()
     return max(lines(known, reached(known, roots(MEMORY, [name], LED))) for name in CALLS[0][1] if 'open' not in name)
+
+
+def most_long_lived():
+    """The same of a call of an open long-lived memory."""
+    known = definitions()
+    return max(lines(known, reached(known, roots(file, [name], LED))) for file, names in LONG_LIVED for name in names
+               if name != 'open')
 
 
 def main(words):

@@ -9,18 +9,20 @@ trap 'rm -rf "$room"' EXIT
 well=0
 ill=0
 
-# The gate of one part, which is run at once, or started and waited for: what it shows last is its counts.
+# The gate of one part, which is run at once, by a name, or started and waited for: what it shows last is its counts.
 cat >"$room/gate" <<END
 #!/usr/bin/env bash
 set -u
 . "$top/tests/count.sh" || exit 1
-if [ "\$1" = started ]; then
-    sleep 0.1 &
-    start bash -c "\$2"
-    count_started
-else
-    count bash -c "\$2"
-fi
+case \$1 in
+    started)
+        sleep 0.1 &
+        start bash -c "\$2"
+        count_started
+        ;;
+    named) count_as part bash -c "\$2" ;;
+    *) count bash -c "\$2" ;;
+esac
 echo "\$passed and \$failed"
 END
 chmod +x "$room/gate"
@@ -28,7 +30,7 @@ chmod +x "$room/gate"
 # counts NAME PASSED FAILED PART: the gate of this part, a script, counts so many, however it is run.
 counts() {
     local way said
-    for way in 'at once' started; do
+    for way in 'at once' named started; do
         said=$("$room/gate" "$way" "$4" 2>&1)
         if [ "$(tail -n 1 <<<"$said")" = "$2 and $3" ]; then
             well=$((well + 1))
@@ -53,6 +55,16 @@ counts "a part whose count isn't its last line" 0 1 'echo "5 passed, 0 failed"; 
 counts "a part whose last line is more than a count" 0 1 'echo "some 5 passed, 0 failed"'
 counts "a part that isn't there" 0 1 "exec $room/missing"
 counts "a count with zeros before it" 8 0 'echo "08 passed, 00 failed"'
+
+# A part with a name shows what it said where it failed, and nothing where it did not.
+said=$("$room/gate" named 'echo why; echo "5 passed, 0 failed"; exit 3')
+quiet=$("$room/gate" named 'echo why; echo "5 passed, 0 failed"')
+if grep -qx why <<<"$said" && grep -qx 'failed: part' <<<"$said" && [ "$quiet" = '5 and 0' ]; then
+    well=$((well + 1))
+else
+    ill=$((ill + 1))
+    printf 'failed: what a part with a name shows\n%s\n%s\n' "$said" "$quiet"
+fi
 
 # Two parts side by side are both counted, the first one though it ends last.
 said=$(bash -c '. "$1"; start bash -c "sleep 0.2; echo 2 passed, 1 failed"; start bash -c "echo 3 passed, 0 failed"

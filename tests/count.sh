@@ -30,6 +30,17 @@ count() {
     rm -f "$said"
 }
 
+# count_as NAME COMMAND..: runs a part, adds what it counts, and shows the end of what it says where something failed.
+count_as() {
+    local name=$1 status=0 before=$failed said
+    said=$(mktemp) || exit 1
+    shift
+    "$@" >"$said" 2>&1 || status=$?
+    add_counts "$name" "$status" "$said"
+    [ "$failed" -eq "$before" ] || { echo "failed: $name"; tail -n 20 "$said"; }
+    rm -f "$said"
+}
+
 # start COMMAND..: starts a part beside the others. What it says goes to a file of its own.
 started=()
 start() {

@@ -1,11 +1,14 @@
 #!/usr/bin/env python3
 """Compares the figures in the documents with what is counted.
 
-A figure stands between <!--=NAME--> and <!--=-->. NAME is `tests`, the functions of the crates marked as tests; `edits`,
-the wrong bodies and definitions that the prover has to refuse; `edits.CRATE`, those of a crate; `plans`, the files
-plans/*.plan; or `believed`, what tests/believed.py finds of the calls of the running memory. The rows of README.md's
-table of speed are those of docs/benches.md. With --write the figures are written anew. The last line is
-'N passed, M failed', one for each figure and row.
+A figure is between <!--=NAME--> and <!--=-->. NAME is `tests`, the functions of the crates marked as tests; `edits`,
+the edits that the prover has to refuse, and `edits.CRATE`, those of a crate; `wrong`, the wrong bodies and definitions
+in them, one for each function or law that has to refuse it; `plans`, the files plans/*.plan; `believed`, what
+tests/believed.py finds of the calls of a single opening, or `believed.long_lived` of those of the long-lived memory;
+`components.N`, the most components of a long-lived memory with N ports, and `pool.N` the pool words of its arenas, both
+with the usual pool; or `version`, that of the crate for Rust. The rows of README.md's table of speed are those of
+docs/benches.md, README.md has at most 150 lines, and CONTRIBUTING.md and the page on architecture name each crate. With
+--write the figures are written anew. The last line is 'N passed, M failed', one for each figure, row and name.
 """
 import re
 import sys
@@ -14,6 +17,7 @@ from pathlib import Path
 sys.dont_write_bytecode = True
 import believed
 import links
+import version
 
 TOP = Path(__file__).resolve().parent.parent
 FIGURE = re.compile(r'(<!--=([\w.]+)-->)([^<]*)(<!--=-->)')
@@ -24,20 +28,41 @@ def tests():
                for path in (TOP / 'crates').glob('*/src/**/*.rt'))
 
 
-def edits(crate='*'):
-    return len(list((TOP / 'crates').glob(f'{crate}/edits/*.edit')))
+def edits(crate='*', word='edit'):
+    return sum(len(re.findall(rf'^{word}: ', path.read_text(encoding='utf-8'), re.M))
+               for path in (TOP / 'crates').glob(f'{crate}/edits.txt'))
+
+
+def option(name):
+    """A limit on the arenas of a long-lived memory."""
+    text = (TOP / 'crates' / 'partial_long_lived' / 'specs' / 'Options.antt').read_text(encoding='utf-8')
+    return int(re.search(rf'^{name} = (\d+)$', text, re.M)[1])
+
+
+def components(ports):
+    """The most components with so many ports: each has room for a greatest record, 4 + 2 m words, beside the pool."""
+    return ((option('most_words') - option('pool_of_port')) // ports - 4) // 2
+
+
+def pool(ports):
+    """The usual pool of an arena with few components (`usual_pool`)."""
+    most = min(option('pool_of_port') * ports, option('pool_of_all') // ports)
+    return max(most, option('pool_of_port'))
 
 
 def figure(name):
     """The figure of this name, or None where there is none of it."""
-    kind, _, crate = name.partition('.')
-    if crate and not (TOP / 'crates' / crate).is_dir():
-        return None
-    counted = {'tests': tests, 'edits': edits, 'believed': believed.most,
-               'plans': lambda: len(list((TOP / 'plans').glob('*.plan')))}
-    if crate:
-        return str(edits(crate)) if kind == 'edits' else None
-    return str(counted[kind]()) if kind in counted else None
+    kind, _, part = name.partition('.')
+    plain = {'tests': tests, 'edits': edits, 'wrong': lambda: edits(word='refused'), 'believed': believed.most,
+             'version': lambda: version.version(*version.CRATE), 'plans': lambda: len(list((TOP / 'plans').glob('*.plan')))}
+    sized = {'components': components, 'pool': pool}
+    if name == 'believed.long_lived':
+        return str(believed.most_long_lived())
+    if kind in sized and part.isdigit():
+        return f'{sized[kind](int(part)):,}'
+    if kind == 'edits' and (TOP / 'crates' / part).is_dir() and part:
+        return str(edits(part))
+    return str(plain[name]()) if name in plain else None
 
 
 def figures(page, write):
@@ -83,8 +108,25 @@ def speeds():
             f'README.md: the row "{row[0]}" is not that of docs/benches.md' for row in told[2:]]
 
 
+def length():
+    """What is said of the length of README.md."""
+    lines = len((TOP / 'README.md').read_text(encoding='utf-8').splitlines())
+    return None if lines <= 150 else f'README.md has {lines} lines, and at most 150 are wanted'
+
+
+def named():
+    """What is said of each crate: CONTRIBUTING.md's part on a new call names it, and the page on architecture."""
+    lines = (TOP / 'crates.txt').read_text(encoding='utf-8').splitlines()
+    page = (TOP / 'CONTRIBUTING.md').read_text(encoding='utf-8')
+    parts = {'CONTRIBUTING.md, "Add a call"': page.partition('\n## Add a call\n')[2].partition('\n## ')[0],
+             'docs/proof/architecture.md': (TOP / 'docs' / 'proof' / 'architecture.md').read_text(encoding='utf-8')}
+    for crate in [line.partition(':')[0].split()[0] for line in lines if line and not line.startswith('#')]:
+        for name, text in parts.items():
+            yield None if f'`{crate}`' in text else f'{name} does not name {crate}'
+
+
 def main(words):
-    found = speeds()
+    found = speeds() + [length()] + list(named())
     for page in links.kept('*.md'):
         found += figures(page, words == ['--write'])
     faults = [fault for fault in found if fault]

@@ -8,8 +8,10 @@ side by side in one check, which asks for nothing else: the crate's code stands 
 
 An edit is refused where its law is not proved, since the prover refuses a declaration of the copied proofs by its
 meaning. A definition that is none refuses nothing, nor does a name or a module that isn't found, a run out of steps, or a
-check without a verdict. Beside the copies of each file that edits change, and of each law that they name then, stands
-the same copy without a change. It has to be proved, else the copying is wrong and each of these edits fails.
+check without a verdict. Nor does one that the prover's own search shows to be equal to the one before it, by a comparison
+that stands beside the copies (tests/comparisons.py). Beside the copies of each file that edits change, and of each law
+that they name then, stands the same copy without a change. It has to be proved, else the copying is wrong and each of
+these edits fails.
 """
 import re
 import shutil
@@ -18,6 +20,7 @@ from dataclasses import dataclass
 from pathlib import Path
 
 sys.path.insert(0, str(Path(__file__).resolve().parent))
+from comparisons import EQUAL, Comparisons  # noqa: E402
 from modules import Import, Modules, imports_of  # noqa: E402
 
 # A function without code, with the types that it ensures.
@@ -37,7 +40,7 @@ BEHIND = re.compile(r'\d+ declarations? that depends? on ')
 # An error of meaning is one of a declaration, which it names, and tells of no name that is missing; nor has it no end.
 OF_MEANING = re.compile(r'`[^`]+`: ')
 LACKING = re.compile(r'is not in scope|has no field|has no `|is no name')
-SPENT = re.compile(r'r[ua]n out of|could not tell')
+SPENT = re.compile(r'r[ua]n out of|could not tell|stopped at the step limit')
 
 
 @dataclass
@@ -112,6 +115,11 @@ class Copy:
             text = text.replace(old, new)
         return text
 
+    def comparisons(self, modules):
+        """The comparisons of what is changed with what was there."""
+        return Comparisons(self.mark.replace(WRONG, EQUAL), self.changed, [
+            self.turned(it.text) for it in modules.parts[self.changed] if self.turned(it.text) != it.text])
+
     def answers_at(self):
         return f'proofs/{self.mark}/{self.law.name}/Answers.antt'
 
@@ -171,7 +179,7 @@ def copies_of(edits, modules):
         try:
             turned = copy_of(edit, modules, f'{WRONG}_{number}', edit.changes)
         except NoLaw as why:
-            faults.append((edit.name, f'{modules.crate.name}/{edit.name}.edit: bad edit: {why}'))
+            faults.append((edit.name, f'{modules.crate.name}/{edit.name}: bad edit: {why}'))
             continue
         pair = turned.changed, turned.law.module, turned.law.name
         same = right.setdefault(pair, Copy(f'{RIGHT}_{number}', turned.law, turned.changed, []))
@@ -191,15 +199,19 @@ def try_round(modules, room, edits, check):
     copy_crate(modules.crate, room)
     found, right, faults = copies_of(edits, modules)
     copies = [*[turned for _, turned, _ in found], *right]
-    for it in copies:
+    compared = [it for it in (turned.comparisons(modules) for _, turned, _ in found) if it.are_possible()]
+    for it in [*copies, *compared]:
         it.write(modules, room)
     name = modules.crate.name
-    why, said = check([it.mark for it in copies]) if copies else (None, '')
+    why, said = check([it.mark for it in [*copies, *compared]]) if copies else (None, '')
+    equal = {it.mark for it in compared if it.are_equal(name, said)}
     for edit, turned, same in found:
         lines = [why] if why else [*turned.why_not(name, said), *same.why_wrong(name, said)]
+        if turned.comparisons(modules).mark in equal:
+            lines.append('the definition is equal to the one before')
         if lines:
             law, = edit.refused
-            faults.append((edit.name, '\n    '.join([f'{name}/{edit.name}.edit: {law} does not refuse it', *lines])))
+            faults.append((edit.name, '\n    '.join([f'{name}/{edit.name}: {law} does not refuse it', *lines])))
     return faults
 
 

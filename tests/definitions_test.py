@@ -11,6 +11,7 @@ from pathlib import Path
 sys.path.insert(0, str(Path(__file__).resolve().parent))
 import definitions  # noqa: E402
 import edits  # noqa: E402
+from comparisons import Comparisons, comparison_of  # noqa: E402
 from definitions import Copy, Law, NoLaw, law_of  # noqa: E402
 from modules import Import, Modules, imports_of, parts_of  # noqa: E402
 
@@ -87,6 +88,18 @@ pub returns-clause-two : goal.returns-clause-two
 returns-clause-two c n is = (wide.far, wide.apart)
 ''',
 }
+# A declaration, and what is asked of it beside the one before: of a function, of a type with several arrows in its heads, of
+# one with parameters of each kind, and of a record; and those of which nothing is asked.
+COMPARED = {
+    'base : ℕ\nbase = 1\n': '(base) ≡ (before.base)',
+    '-- why\nabbrev pub f : ℕ → (List (ℕ → ℕ)) → ℕ\nf a l = a\n': '(x0 : ℕ) (x1 : (List (ℕ → ℕ))) → (f x0 x1) ≡ (before.f x0 x1)',
+    'abbrev pub Is : (a b : ℕ) {c : ℕ} (p : ℕ → Type 0) →\n    ℕ → Type 0\nIs a b p d = p a\n': (
+        '(a b : ℕ) {c : ℕ} (p : ℕ → Type 0) (x1 : ℕ) → (Is a b p x1 → before.Is a b p x1) × (before.Is a b p x1 → Is a b p x1)'),
+    'pub record Pair (a : ℕ)\n    (b c : ℕ) : Type 0 where\n  pub first : a ≡ b\n': (
+        '(a : ℕ)\n    (b c : ℕ) → (Pair a b c → before.Pair a b c) × (before.Pair a b c → Pair a b c)'),
+    'pub data Kind : Type 0 where\n  One : Kind\n': None,
+    'module _ (e : ℕ) where\n  f : ℕ\n  f = e\n': None,
+}
 # What is said of a copy: of a proof that the change breaks, of what stands behind it, and of the law.
 REFUSED = '''\
 ./proofs/wrong_0_Near.antt:246:48: error: `new`: `omega`: the goal does not follow from what it read. All of that holds,
@@ -139,8 +152,12 @@ def cases():
         yield from of_laws(crate)
         yield from of_copies(crate, Path(room) / 'copy')
         yield from of_rounds(crate, Path(room) / 'copy')
-        yield from of_edits(Path(room))
+        yield from of_edits()
     yield from of_judging()
+    for text, statement in COMPARED.items():
+        compared = comparison_of(text)
+        yield f'what is asked of {text.splitlines()[-2]}', (compared and ' '.join(compared.statement().split())) == (
+            statement and ' '.join(statement.split()))
 
 
 def of_imports():
@@ -286,6 +303,21 @@ def of_copies(crate, room):
         'pub returns : goal.returns\nreturns c = near\n')
 
 
+    text = '-- one of the types\nabbrev pub IsFar : Type 0\nIsFar = far.base ≡ 1 × (Pair One ≡ Pair One)\n'
+    Comparisons('equal_0', 'specs.Far', [text]).write(modules, room)
+    yield 'a changed definition stands beside the one before, and imports what else the file declares', (
+        room / 'specs/equal_0_Far.antt').read_text() == (
+        'use Rattle.low.specs.Base as far\nuse Rattle.std.specs.Prelude.{◌≡◌}\nuse Rattle.low.specs.Far.Kind.{One}\n'
+        'use Rattle.low.specs.Far.{Pair}\n'
+        f'use Rattle.low.specs.Far as before\n\n{text}\nabbrev pub AreEqual0 : Type 0\n'
+        'AreEqual0 = (IsFar → before.IsFar) × (before.IsFar → IsFar)\n')
+    yield 'a function without code is asked', (room / 'src/equal_0.rt').read_text() == (
+        'ghost use Rattle.low.specs.equal_0_Far.{AreEqual0};\n\npub fn is_equal_0()\n    ensures { AreEqual0 }\n{}\n')
+    Comparisons('equal_1', 'specs.Base', ['unfoldable pub base : ℕ\nbase = 2\n']).write(modules, room)
+    yield 'what has to be unfolded by its name is', (room / 'src/equal_1.rt').read_text().splitlines()[2] == (
+        '#[tactic(auto, unfolding(crate::specs::equal_1_Base::base, crate::specs::Base::base))]')
+
+
 def edit(name, law, file='specs/Base.antt'):
     return edits.Edit(name, {law: None}, [(file, 'base = 1', 'base = 2')])
 
@@ -303,19 +335,25 @@ def of_rounds(crate, room):
 
     one, two = edit('one', 'law::near'), edit('two', 'law::near')
     refused = REFUSED + BEHIND + NOT_PROVED
-    yield 'an edit is refused beside its copy without a change', tried([one], refused + PROVED) == [] and asked == ['wrong_0', 'right_0']
+    yield 'an edit is refused beside its copy without a change', tried([one], refused + PROVED) == [] and asked == ['wrong_0', 'right_0', 'equal_0']
     yield 'edits of one file and one law share that', tried(
-        [one, two], (refused + refused.replace('wrong_0', 'wrong_1')) + PROVED) == [] and asked == ['wrong_0', 'wrong_1', 'right_0']
+        [one, two], (refused + refused.replace('wrong_0', 'wrong_1')) + PROVED) == [] and asked == ['wrong_0', 'wrong_1', 'right_0', 'equal_0', 'equal_1']
     yield 'each is judged by itself', [name for name, _ in tried([one, two], refused + PROVED)] == ['two']
     wrong = tried([one, two], refused + refused.replace('wrong_0', 'wrong_1') + PROVED.replace('proved', 'not proved'))
     yield 'where the copy without a change is not proved, each of them fails', [name for name, _ in wrong] == ['one', 'two'] and all(
         'without the change the law is not proved' in text for _, text in wrong)
+    equal = 'fn low::equal_0::is_equal_0: proved\n'
+    wrong = tried([one, two], refused + refused.replace('wrong_0', 'wrong_1') + PROVED + equal)
+    yield 'an edit that the search shows to be equal to what was there is not refused', [name for name, _ in wrong] == ['one'] and (
+        'the definition is equal to the one before' in wrong[0][1])
+    for said in (equal.replace('proved', 'not proved'), equal.replace('proved', 'no proof: expected answers'), ''):
+        yield f'and one that it does not show so is: {said}', tried([one], refused + PROVED + said) == []
     wrong = tried([one], refused + PROVED, 'the check ended with status 3')
     yield 'a check without a verdict refuses nothing', [name for name, _ in wrong] == ['one'] and 'ended with status 3' in wrong[0][1]
     for it in (edit('bad', 'law::none'), edit('bad', 'law::far', 'specs/Near.antt')):
         wrong = tried([it, one], refused + PROVED)
         yield f'an edit of a law that is none, or does not need the file, is bad: {[*it.refused]}', [
-            (name, 'low/bad.edit: bad edit: ' in text) for name, text in wrong] == [('bad', True)]
+            (name, 'low/bad: bad edit: ' in text) for name, text in wrong] == [('bad', True)]
     yield 'nothing is checked where no edit is left', tried([edit('bad', 'law::none')], '')[0][0] == 'bad'
 
 
@@ -338,16 +376,15 @@ def of_judging():
         yield f'and wrong where it is not: {said[:60]}', same.why_wrong('low', said) != []
 
 
-def of_edits(room):
+def of_edits():
     """The cases of edits of definitions that are read."""
     change = 'old: a\nnew: b\n'
 
     def read(text):
         """The functions of an edit with this text and their goals, and whether it is one of a definition, or nothing where it
         is bad."""
-        definitions.write(room / 'named.edit', text)
         try:
-            found = edits.read_edit(room / 'named.edit')
+            found = edits.read_edit('named', text.splitlines())
             return found.refused, found.is_of_definition()
         except edits.BadEdit:
             return None

@@ -1,10 +1,11 @@
 #!/usr/bin/env python3
-"""Turns the functions and definitions of the crates by the edits of crates/NAME/edits/, and sees that each is refused.
+"""Turns the functions and definitions of the crates by the edits of crates/NAME/edits.txt, and sees that each is refused.
 
-An edit of code is a file of lines: `refused: PATH` names a function whose contract has to refuse it, as the prover
-prints it, below its crate, and `by: GOAL` behind it the goal of that function which is open then; `file: PATH` a file of
-the crate; and then `old: TEXT` and `new: TEXT` in turn, where the old text stands exactly once in that file as it is. A
-function may refuse an edit by a goal of meaning, which is one of what it ensures, of its type's invariant or of a
+An edit begins with a line `edit: NAME` and ends at the next one. One of code has lines: `refused: PATH` names a function
+whose contract has to refuse it, as the prover prints it, below its crate, and `by: GOAL` behind it the goal of that
+function which is open then; `file: PATH` a file of the crate; and then `old: TEXT` and `new: TEXT` in turn, where the old
+text stands exactly once in that file as it is. Such lines may follow for further functions: each of them has to refuse the
+edit. A function may refuse it by a goal of meaning, which is one of what it ensures, of its type's invariant or of a
 loop's, or, where what it promises is carried by what it has to show to a function that it calls, by one of what that
 requires; or by `measure`, where a loop has none any more, since each call has to end. Nothing else refuses an edit: no
 goal of an overflow, a bound, a cast or an index, no proof that names what the edit took away, and no run out of steps.
@@ -15,15 +16,18 @@ of what the definition reaches, as tests/definitions.py says. What follows is of
 Each edit is judged by itself: its goal has to stay open, whatever is tried at it. Tried are the answer that is written
 for the goal, and the calls that the prover makes first at a goal without an answer. Both stand in the file of answers of
 the turned function, with nothing else, and what is said of each tells whether it fits. One of which nothing is said
-proves the goal, and so does one that isn't read at all: neither refuses. A check that ends without a verdict, or not in
-time, refuses nothing.
+proves the goal, and so does one that isn't read at all: neither refuses. A check that ends without a verdict, or that is
+stopped since it took too much time of a processor, refuses nothing.
 
-A goal could be open for what these calls lack alone. It isn't where an answer is written for it, which proves it in the
-function as it is, nor where values are found that break it. A goal without either is tried once more, by the prover's
-own search in the turned function, which costs more.
+A goal could be open for what these calls lack alone, or since the answer that is written for it knows one form of the
+body. It isn't where values are found that break it. Any other goal is tried once more, by the prover's own search in
+the turned function: without its written answer, and with holes in place of the others. (In the crates of LEFT that
+isn't done yet where an answer is written.) So an equal body is not refused where values break nothing and the search
+proves the goal. Where the search proves it of no body, not even of the right one, an equal body of another form can't
+be told from a wrong one: such an edit is for its readers to judge.
 
-Much of a check's time passes before its first proof, so a crate's edits are tried together, in rounds of at most
-ROUND, in each of which no function is turned twice. The bodies of functions that a round doesn't turn stand empty in it,
+Much of a check's time passes before its first proof, so a crate's edits are tried together, in rounds of at most ROUND
+functions, in each of which no function is turned twice. The bodies of functions that a round doesn't turn stand empty in it,
 since a function is known to its callers by its contract. What a round has checked is not checked again in a later one.
 That the crate is proved as it is, is not seen here.
 
@@ -33,6 +37,7 @@ all where fewer crates are left. What isn't proved yet of the crates below is pr
 fault that is not one of an edit.
 """
 import argparse
+import contextlib
 import os
 import re
 import shutil
@@ -42,7 +47,7 @@ import sys
 import tempfile
 import time
 from concurrent import futures
-from dataclasses import dataclass, field
+from dataclasses import dataclass, field, replace
 from pathlib import Path
 
 sys.path.insert(0, str(Path(__file__).resolve().parent))
@@ -51,13 +56,21 @@ from bodies import EMPTY, NEVER, NEVER_GOALS, functions_in, may_be_empty  # noqa
 from definitions import PARTS, SPENT  # noqa: E402
 
 TOP = Path(__file__).resolve().parent.parent
+# The crates whose edits weren't all tried yet by the prover's own search where an answer is written for the goal.
+LEFT = {'partial_cmd', 'partial_door', 'partial_lines', 'partial_long_lived', 'partial_machine', 'partial_memory',
+        'partial_picture', 'partial_pipeline', 'partial_replay', 'partial_text', 'partial_workers'}
+# The file of a crate with its edits.
+EDITS = 'edits.txt'
 KIT = Path(shutil.which('rt')).resolve().parent.parent
 # The files below proofs/ that belong to one function.
 OF_FUNCTION = ('Answers.antt', 'Invariants.antt', 'Proof.antt')
-# Seconds for one check, which may have to prove a whole crate.
+# Seconds of a processor for each process of a check, which may have to prove a whole crate.
 LIMIT = 3600
-# So many edits at most in a round: the next one takes the jobs that are free by then.
-ROUND = 32
+# What is asked of an edit in turn: what is tried at its goal; the prover's own search, with holes in place of the other
+# answers; and that search without any, where the turned function lacks a goal of them.
+TRIES, SEARCH, BARE = range(3)
+# So many functions at most are asked in a round, or one edit: the next one takes the jobs that are free by then.
+ROUND = 48
 # So many crates at once while a command proves them, and seconds until it is seen again what it has proved. A library
 # is whole once nothing was written to it for so many seconds.
 BESIDE = 2
@@ -92,6 +105,12 @@ class Edit:
     name: str
     refused: dict[str, str | None]
     changes: list[tuple[str, str, str]]
+    # The functions of which more is asked, where it isn't asked of all.
+    doubtful: frozenset[str] | None = None
+
+    def asked(self):
+        """The functions that are asked, each with its goal."""
+        return {it: goal for it, goal in self.refused.items() if self.doubtful is None or it in self.doubtful}
 
     def is_of_definition(self):
         """Whether it changes a definition, of one file, and a law has to refuse it."""
@@ -107,9 +126,10 @@ def may_refuse(goal):
     return goal == MEASURE or MEANING.match(goal) is not None or REQUIRED.search(goal) is not None
 
 
-def read_edit(path):
+def read_edit(name, lines):
+    """The edit of this name with these lines, or a BadEdit that says what is wrong with it."""
     refused, function, file, old, changes = {}, None, None, None, []
-    for line in path.read_text(encoding='utf-8').splitlines():
+    for line in lines:
         word, _, text = line.partition(':')
         text = text.removeprefix(' ')
         if word == 'refused' and function is None:
@@ -131,19 +151,34 @@ def read_edit(path):
             raise BadEdit(f'its line is none of an edit: {line}')
     if not refused or function is not None or not changes or old is not None:
         raise BadEdit('it names no function with its goal, changes nothing, or ends behind an old text')
-    return Edit(path.stem, refused, changes)
+    return Edit(name, refused, changes)
+
+
+def lines_of(text):
+    """The name of each edit of a text, and its lines. What stands above the first one has no name."""
+    found = [('', [])]
+    for line in text.splitlines():
+        word, _, name = line.partition(': ')
+        if word == 'edit':
+            found.append((name, []))
+        elif line:
+            found[-1][1].append(line)
+    return found[1:] if not found[0][1] else found
 
 
 def edits_of(crate):
-    """The edits of the crate in this folder, and for each file that is none its name and why."""
-    edits, bad = [], []
-    for path in sorted((crate / 'edits').glob('*')):
+    """The edits of the crate in this folder, and for each text that is none its name and why."""
+    edits, bad, names = [], [], set()
+    for name, lines in lines_of((crate / EDITS).read_text(encoding='utf-8')):
         try:
-            edit = read_edit(path)
+            if not name or name in names:
+                raise BadEdit('it has no name of its own')
+            names.add(name)
+            edit = read_edit(name, lines)
             list(places_of(edit, crate))
             edits.append(edit)
         except BadEdit as why:
-            bad.append((path.stem, f'{crate.name}/{path.name}: bad edit: {why}'))
+            bad.append((name, f'{crate.name}/{name}: bad edit: {why}'))
     return edits, bad
 
 
@@ -167,7 +202,7 @@ def first_round(edits, crate):
     """Of these edits the first ones that can be tried together, no two of which turn one function, and their places."""
     members, turned = [], []
     for edit in edits:
-        if len(members) == ROUND:
+        if members and sum(len(it.asked()) for it in [*members, edit]) > ROUND:
             break
         places = list(places_of(edit, crate))
         if all(edit.refused.keys().isdisjoint(it.refused) for it in members) and not overlap(places, turned):
@@ -284,38 +319,46 @@ def made_at(library):
 
 
 def run(command, room, limit):
-    """The exit status of a command and what it says; there is no status where it has to be stopped at the limit."""
-    with subprocess.Popen(command, cwd=room, stdin=subprocess.DEVNULL, stdout=subprocess.PIPE,
-                          stderr=subprocess.STDOUT, text=True, errors='replace', process_group=0) as started:
-        try:
-            said, _ = started.communicate(timeout=limit)
-            return started.returncode, said
-        except subprocess.TimeoutExpired:
-            os.killpg(started.pid, signal.SIGKILL)
-            return None, started.communicate()[0]
+    """The exit status of a command and what it says. Each of its processes has so many seconds of a processor, however
+    long that takes by the clock, and is killed then. None is left once the command has ended."""
+    with tempfile.TemporaryFile('w+', encoding='utf-8', errors='replace') as said:
+        with subprocess.Popen(['sh', '-c', 'ulimit -t "$0" && exec "$@"', str(limit), *command], cwd=room,
+                              stdin=subprocess.DEVNULL, stdout=said, stderr=subprocess.STDOUT, process_group=0) as started:
+            status = started.wait()
+            with contextlib.suppress(ProcessLookupError):
+                os.killpg(started.pid, signal.SIGKILL)
+        said.seek(0)
+        return status, said.read()
 
 
-def check(room, name, places, asked, command):
+def check(room, name, places, asked, command, way):
     """The status of a check of the crate in this folder, with these places of it turned, and what it says. Of these
-    functions these goals are asked for alone, or all where none is named: those are left to the prover's own search. The
-    bodies of all others that aren't turned stand empty."""
+    functions these goals are asked for, in this way. The bodies of all others that aren't turned stand empty."""
     for part in PARTS:
         shutil.rmtree(room / part, ignore_errors=True)
         if (TOP / 'crates' / name / part).is_dir():
             shutil.copytree(TOP / 'crates' / name / part, room / part)
-    searched = [it for it in asked if asked[it]]
-    for file, begin, end, new in sorted([*places, *emptied(room, places, asked, searched)], reverse=True):
+    for file, begin, end, new in sorted([*places, *emptied(room, places, asked, [*asked] if way == TRIES else [])], reverse=True):
         text = (room / file).read_text(encoding='utf-8')
         (room / file).write_text(text[:begin] + new + text[end:], encoding='utf-8')
     root = room / 'src/lib.rt'
     root.write_text(root.read_text(encoding='utf-8') + NEVER, encoding='utf-8')
-    answers = {it: asking(answers_of(room, it), name, it, asked[it]) for it in searched}
+    answers = {it: answers_for(answers_of(room, it), name, it, goals, way) for it, goals in asked.items()}
     answers['never'] = asking('', name, 'never', NEVER_GOALS, ())
     for function, text in answers.items():
         path = answers_at(room, function)
         path.parent.mkdir(parents=True, exist_ok=True)
         path.write_text(text, encoding='utf-8')
     return run([*command, '--allow-holes', *[word for it in asked for word in ('--only', it)]], room, LIMIT)
+
+
+def answers_for(text, crate, function, goals, way):
+    """A function's answers, as they are asked for these goals in this way."""
+    if way == TRIES:
+        return asking(text, crate, function, goals)
+    holes = [it for it in parts_of(text)[1] if way == SEARCH and it.type_of.startswith('goal.') and it.name not in goals]
+    return (goals_of(crate, function) if holes else '') + ''.join(
+        f'\npub {it.name} : {it.type_of}\n{it.name} = ?\n' for it in holes)
 
 
 def emptied(crate, places, asked, searched):
@@ -380,11 +423,16 @@ def tries(text, goal):
     return [as_written(goal), goal] if is_written(text, goal) else [goal]
 
 
+def goals_of(crate, function):
+    """The line by which a function's answers name its goals."""
+    return f'use Rattle.{crate}.proofs.{function.replace("::", ".")}.Goals as goal\n'
+
+
 def asking(text, crate, function, goals, calls=FIRST):
     """A function's answers, of which those are left that are tried at these goals, and for each of these the calls by its
     name: what the answers name is a hole."""
     top, parts = parts_of(text)
-    of_goals = f'use Rattle.{crate}.proofs.{function.replace("::", ".")}.Goals as goal\n'
+    of_goals = goals_of(crate, function)
     left = [it for it in parts if it.name in goals or not it.type_of.startswith('goal.')]
     binders = 'g c' if any(re.search(rf'^{re.escape(it.name)} g c', it.behind, re.M) for it in parts) else 'c'
     found = [LISTS, top if of_goals in top else top + of_goals, '\n']
@@ -440,14 +488,18 @@ class Told:
         """Whether values are found of which all holds that is known there, and not the goal."""
         return BROKEN.search(self.misfits.get(goal, '')) is not None
 
+    def lacks_an_answer(self):
+        """Whether an answer names what isn't there, as a goal that the turned function doesn't have."""
+        return any(LACKING.search(it) for it in self.misfits.values())
+
     def why_not(self, goal, tried):
         """Why the goal does not refuse an edit, where this is tried at it or else the prover's own search, or nothing
         where it does."""
         if goal == MEASURE:
             return [] if self.has_no_measure else ['its loops have their measures', *self.beside]
         if not tried:
-            return [] if goal in self.unproved else ["the prover's own search leaves others: "
-                                                     f'{", ".join(self.unproved) or "none"}', *self.beside]
+            others = f"the prover's own search leaves others: {', '.join(self.unproved) or 'none'}"
+            return [*([] if goal in self.unproved else [others]), *self.beside]
         proved = [f'its goal is proved, or is none: {it}' for it in tried if it not in self.misfits]
         lacking = [f'an answer names what is gone: {self.misfits[it]}' for it in tried
                    if LACKING.search(self.misfits.get(it, ''))]
@@ -479,31 +531,39 @@ def without_verdict(status, said):
     """How a check ended that has no verdict, or nothing where it has one."""
     if status in (0, 1):
         return None
-    ended = f'with status {status}' if status is not None else f'not within {LIMIT} s'
-    return f'the check ended {ended}' + ''.join(f'\n    {line}' for line in said.splitlines()[-3:])
+    bound = f', which has {LIMIT} s of a processor' if status == -signal.SIGKILL else ''
+    return f'the check{bound} ended with status {status}' + ''.join(f'\n    {line}' for line in said.splitlines()[-3:])
 
 
-def in_doubt(name, edit, told):
-    """Whether an edit may be refused for what the search lacks alone, by what its check says of each function: no answer
-    is written for a goal of it, and no values break that."""
-    return any(goal != MEASURE and not told.get(function, Told()).is_broken(goal)
-               and not is_written(answers_of(TOP / 'crates' / name, function), goal) for function, goal in edit.refused.items())
+def is_left(name, function, goal):
+    """Whether the prover's own search isn't asked for this goal, since an answer is written for it and the crate is left."""
+    return name in LEFT and is_written(answers_of(TOP / 'crates' / name, function), goal)
 
 
-def try_round(name, members, status, said, by_prover=False):
-    """What is wrong with the members of a round by what their check said, each fault with the name of its edit or None:
-    a check by what is tried at each goal, or by the prover's own search. And which of them, refused so, are in doubt."""
+def in_doubt(name, edit, told, way):
+    """The functions of an edit of which more has to be asked, by what its check says of each: one that refuses the edit,
+    where no values break its goal; or one that lacks a goal which has a hole."""
+    if way == TRIES:
+        return frozenset(it for it, goal in edit.refused.items() if goal != MEASURE
+                         and not told.get(it, Told()).is_broken(goal) and not is_left(name, it, goal))
+    return frozenset(it for it in edit.asked() if way == SEARCH and told.get(it, Told()).lacks_an_answer())
+
+
+def try_round(name, members, status, said, way=TRIES):
+    """What is wrong with the members of a round by what their check said, which asked in this way, each fault with the
+    name of its edit or None; and the members that are in doubt. At first those are asked once more that are refused."""
     why = without_verdict(status, said)
     if why:
-        return [(it.name, f'{name}/{it.name}.edit: {why}') for it in members], []
+        return [(it.name, f'{name}/{it.name}: {why}') for it in members], []
     told, faults = told_by(name, said), []
-    for edit in members:
-        for function, goal in edit.refused.items():
-            tried = [] if by_prover else tries(answers_of(TOP / 'crates' / name, function), goal)
+    doubts = [replace(it, doubtful=in_doubt(name, it, told, way)) for it in members]
+    for edit, doubt in zip(members, doubts):
+        for function, goal in edit.asked().items():
+            tried = tries(answers_of(TOP / 'crates' / name, function), goal) if way == TRIES else []
             lines = told.get(function, Told()).why_not(goal, tried)
-            if lines:
+            if lines and (way == TRIES or function not in doubt.doubtful):
                 faults.append((edit.name, '\n    '.join([
-                    f'{name}/{edit.name}.edit: {function} is not refused', *lines[:6]])))
+                    f'{name}/{edit.name}: {function} is not refused', *lines[:6]])))
     turned = [function for it in members for function in it.refused]
     for other, one in sorted(told.items()):
         lines = [*one.beside, *[f'{goal}: {why.splitlines()[0]}' for goal, why in one.misfits.items()]]
@@ -511,7 +571,7 @@ def try_round(name, members, status, said, by_prover=False):
             faults.append((None, f'{name}: {other} has faults, and none of these edits turns it: '
                                  f'{", ".join(it.name for it in members)}\n    ' + '\n    '.join(lines[:3])))
     faulty = {it for it, _ in faults}
-    return faults, [it for it in members if not by_prover and it.name not in faulty and in_doubt(name, it, told)]
+    return faults, [it for it in doubts if it.doubtful and it.name not in faulty]
 
 
 def counted(edits, faults):
@@ -538,21 +598,21 @@ class Crate:
 
         return definitions.try_edits(self.folder, self.room, edits, check_laws)
 
-    def check(self, places, asked):
-        """The status of a check with these places turned, in which so is asked, and what it says."""
+    def check(self, places, asked, way):
+        """The status of a check with these places turned, in which so is asked in this way, and what it says."""
         command = command_of(self.name, self.crates, self.libraries.folder, self.jobs_now())
-        return check(self.room, self.name, places, asked, [*self.libraries.priority(), *command])
+        return check(self.room, self.name, places, asked, [*self.libraries.priority(), *command], way)
 
-    def try_edits(self, edits, by_prover=False):
-        """Tries these edits in rounds: what is wrong. Those in doubt are tried once more, by the prover's own search."""
+    def try_edits(self, edits, way=TRIES):
+        """Tries these edits in rounds: what is wrong. Of those in doubt more is asked."""
         left, faults, doubts = edits, [], []
         while left:
             members, places = first_round(left, self.folder)
-            asked = {function: [] if by_prover else [goal] for it in members for function, goal in it.refused.items()}
-            wrong, doubtful = try_round(self.name, members, *self.check(places, asked), by_prover)
+            asked = {function: [goal] for it in members for function, goal in it.asked().items()}
+            wrong, doubtful = try_round(self.name, members, *self.check(places, asked, way), way)
             faults, doubts = faults + wrong, doubts + doubtful
             left = [it for it in left if it not in members]
-        return faults + (self.try_edits(doubts, by_prover=True) if doubts else [])
+        return faults + (self.try_edits(doubts, way + 1) if doubts else [])
 
 
 def try_crate(name, crates, libraries, jobs_now):
@@ -626,7 +686,7 @@ def main():
     given = words.parse_args()
     crates = crates_of(TOP)
     chosen = [it for it in crates
-              if (TOP / 'crates' / it / 'edits').is_dir() and (not given.names or it in given.names)]
+              if (TOP / 'crates' / it / EDITS).is_file() and (not given.names or it in given.names)]
     if given.beside is None and not all(is_built(it) for name in chosen for it in below(name, crates)):
         subprocess.run(['rt', 'all', 'check'], cwd=TOP, stdin=subprocess.DEVNULL, stdout=subprocess.DEVNULL, check=True)
     with tempfile.TemporaryDirectory(prefix='proved-') as proved:

@@ -5,6 +5,7 @@ The texts are those of the prover, of checks of this repository's crates with a 
 The last line is 'N passed, M failed'.
 """
 import os
+import signal
 import sys
 import tempfile
 import threading
@@ -85,13 +86,13 @@ def said_of(goal):
     return MISFIT.format(goal=f'{goal}-as-written') + NOT_FOUND.format(goal=goal) + NOT_PROVED
 
 
-def judged(said, status=1, goal='returns', written=True, by_prover=False):
+def judged(said, status=1, goal='returns', written=True, way=edits.TRIES):
     """What is wrong with the one edit of a round, and whether it is in doubt, by what its check says, where an answer of
     its goal is written or not."""
     read, edits.answers_of = edits.answers_of, lambda crate, function: written * f'pub {goal} : goal.{goal}\n{goal} c = c.it\n'
-    found, doubts = edits.try_round('low', [edit(goal)], status, said, by_prover)
+    found, doubts = edits.try_round('low', [edit(goal)], status, said, way)
     edits.answers_of = read
-    return [text for _, text in found], doubts == [edit(goal)]
+    return [text for _, text in found], [it.asked() for it in doubts] == [{'a::f': goal}]
 
 
 def faults(*words, **others):
@@ -153,25 +154,36 @@ def cases():
     yield 'a search that stopped at a limit refuses', faults(misfit + STOPPED.format(goal='returns') + NOT_PROVED) == []
     for name, (instead, reason) in NOT_REFUSED.items():
         wrong = '\n'.join(faults(misfit + instead + NOT_PROVED))
-        yield f'{name} does not refuse', 'low/turned.edit: a::f is not refused' in wrong and reason in wrong
+        yield f'{name} does not refuse', 'low/turned: a::f is not refused' in wrong and reason in wrong
     for what, said in ((f'returns-as-written', none), ('returns', misfit)):
         yield f'a goal that is proved by {what} does not refuse', f'its goal is proved, or is none: {what}' in '\n'.join(
             faults(said + NOT_PROVED))
-    yield 'a goal that is open though an answer is written for it is beyond doubt', judged(said_of('returns')) == ([], False)
-    for said in (BROKEN, FOUND_BROKEN):
-        yield f'so is one without that values break: {said[50:80]}', judged(said + NOT_PROVED, written=False) == ([], False)
-    for said in (none, STOPPED.format(goal='returns')):
-        yield f'and one that the search leaves open alone is not: {said[50:80]}', judged(said + NOT_PROVED, written=False) == ([], True)
+    for written in (True, False):
+        has = 'an answer is' if written else 'none is'
+        for said in (BROKEN, FOUND_BROKEN):
+            yield f'a goal that values break is beyond doubt where {has} written: {said[50:80]}', judged(
+                misfit + said + NOT_PROVED, written=written) == ([], False)
+        for said in (none, STOPPED.format(goal='returns')):
+            yield f'and one that the calls leave open alone is not: {has}, {said[50:80]}', judged(
+                misfit + said + NOT_PROVED, written=written) == ([], True)
     yield 'one that is not refused is in no doubt', judged(NOT_PROVED, written=False)[1] is False
     yield 'a measure is beyond doubt', judged(NO_MEASURE, goal='measure', written=False) == ([], False)
     own = 'fn low::a::f: no proof: expected answers; `search` did not prove `overflow_add`, `returns`; it calls `low::a::g`'
-    yield "a goal that the prover's own search leaves refuses", judged(own, by_prover=True) == ([], False)
+    yield "a goal that the prover's own search leaves refuses", judged(own, way=edits.SEARCH) == ([], False)
     for said in (own.replace(', `returns`', ''), 'fn low::a::f: no holes', none + NOT_PROVED):
         yield f'and none that it does not leave: {said[:60]}', "the prover's own search leaves others" in '\n'.join(
-            faults(said, by_prover=True))
-    for status in (2, 3, -9, None):
+            faults(said, way=edits.SEARCH))
+    yield 'nor one that it leaves without a verdict', 'no verdict' in '\n'.join(
+        faults(own + '; antt ran out of the steps that it may take', way=edits.SEARCH))
+    gone = './proofs/a/f/Answers.antt:4:20: error: `other`: `goal.other`: module `Rattle.low.proofs.a.f.Goals` has no `other`\n'
+    yield 'where a hole is one of no goal, the search is asked without any', judged(
+        gone + NOT_PROVED, way=edits.SEARCH) == ([], True)
+    yield 'and once', judged(gone + NOT_PROVED, way=edits.BARE)[1] is False and judged(own, way=edits.BARE) == ([], False)
+    for status in (2, 3, -9):
         wrong = '\n'.join(faults(said_of('returns'), status))
-        yield f'a check that ends with {status} refuses nothing', 'low/turned.edit: the check ended' in wrong
+        yield f'a check that ends with {status} refuses nothing', f'low/turned: the check' in wrong and (
+            f'ended with status {status}' in wrong)
+    yield 'one that is killed says what its bound is', 's of a processor' in '\n'.join(faults('', -9))
     yield 'what such a check said last is told', 'no such library' in '\n'.join(faults('no such library', 2))
     other = MISFIT.format(goal='returns').replace('/a/f/', '/a/g/')
     yield 'an answer that does not fit, of a function that no edit turns, is a fault', any(
@@ -209,6 +221,10 @@ def of_asking():
         '\nreturns-as-written c = search (tests, rules)\n' in asked
         and '\nreturns c = grind (given.arith, sets.common_steps) steps 2000000\n' in asked)
     yield 'a goal without a call is a hole', '\nreturns c = ?\n' in edits.asking('', 'low', 'a::f', ['returns'], ())
+    bare = edits.answers_for(ANSWERS, 'low', 'a::f', ['returns-clause-at-2'], edits.SEARCH)
+    yield 'for the prover\'s own search the other answers are holes, and the asked one is none', bare == (
+        'use Rattle.low.proofs.a.f.Goals as goal\n\npub returns-clause-at : goal.returns-clause-at\nreturns-clause-at = ?\n')
+    yield 'or there are none', edits.answers_for(ANSWERS, 'low', 'a::f', ['returns-clause-at-2'], edits.BARE) == ''
     yield from of_bodies()
 
 
@@ -381,34 +397,55 @@ def of_counts():
     yield 'an edit that two functions let through fails once', len(wrong) == 2 and edits.counted([both], wrong) == (0, 1)
     with tempfile.TemporaryDirectory() as room:
         crate = Path(room) / 'low'
-        for folder in ('src', 'edits'):
-            (crate / folder).mkdir(parents=True)
+        (crate / 'src').mkdir(parents=True)
         (crate / 'src/lib.rt').write_text('old twice twice\n', encoding='utf-8')
-        for name, text in (('fit', 'old: old\nnew: new'), ('double', 'old: twice\nnew: once'),
-                           ('gone', 'old: gone\nnew: there'), ('idle', 'old: old\nnew: old'), ('cut', 'old: old'),
-                           ('half', 'old: old\nnew: new\nold: twice')):
-            (crate / f'edits/{name}.edit').write_text(f'refused: a::f\nby: returns\nfile: src/lib.rt\n{text}\n', encoding='utf-8')
-        (crate / 'edits/unread.edit').write_text('nothing of an edit\n', encoding='utf-8')
-        read, bad = edits.edits_of(crate)
-        yield 'an edit that fits is read beside bad ones', [it.name for it in read] == ['fit']
-        yield 'each bad edit is named', [name for name, _ in bad] == ['cut', 'double', 'gone', 'half', 'idle', 'unread'] and all(
-            text.startswith(f'low/{name}.edit: bad edit: ') for name, text in bad)
-        yield 'bad edits fail, and take nothing from one that passes', edits.counted(read, bad) == (1, 6)
+        text = ''.join(f'edit: {name}\nrefused: a::f\nby: returns\nfile: src/lib.rt\n{change}\n\n' for name, change in (
+            ('fit', 'old: old\nnew: new'), ('double', 'old: twice\nnew: once'), ('gone', 'old: gone\nnew: there'),
+            ('idle', 'old: old\nnew: old'), ('cut', 'old: old'), ('half', 'old: old\nnew: new\nold: twice')))
+
+        def read(text):
+            """The names of the edits in a file with this text, and of those that are none."""
+            (crate / 'edits.txt').write_text(text, encoding='utf-8')
+            found, bad = edits.edits_of(crate)
+            return [it.name for it in found], [name for name, why in bad if why.startswith(f'low/{name}: bad edit: ')]
+
+        first, second = edits.Edit('one', {'a::f': 'returns'}, []), edits.Edit('two', {f'a::g{k}': 'returns' for k in range(edits.ROUND)}, [])
+        yield 'a round has so many functions at most', edits.first_round([first, second], crate)[0] == [first]
+        yield 'or one edit', edits.first_round([second, first], crate)[0] == [second]
+        again = edits.replace(second, doubtful=frozenset(['a::g0']))
+        yield 'of which those count that are asked', edits.first_round([first, again], crate)[0] == [first, again]
+        names = ['double', 'gone', 'idle', 'cut', 'half', 'unread']
+        yield 'an edit that fits is read beside bad ones, each of which is named', read(
+            f'{text}edit: unread\nnothing of an edit\n') == (['fit'], names)
+        yield 'a file of no edit has none', read('') == ([], [])
+        fit = text[:text.index('edit: double')]
+        yield 'lines above the first name are none of an edit', read(f'refused: a::f\n{fit}') == (['fit'], [''])
+        yield 'a name is that of one edit', read(fit + fit) == (['fit'], ['fit'])
+        yield 'an edit has a name', read(fit.replace('edit: fit', 'edit: ')) == ([], [''])
+        (crate / 'edits.txt').write_text(f'{text}edit: unread\nnothing of an edit\n', encoding='utf-8')
+        found, bad = edits.edits_of(crate)
+        yield 'bad edits fail, and take nothing from one that passes', edits.counted(found, bad) == (1, 6)
 
 
 def of_runs():
     """The cases of commands that are run, and of edits that are read."""
     with tempfile.TemporaryDirectory() as room:
         yield 'the status of a command is seen', edits.run(['sh', '-c', 'echo said; exit 3'], room, 60) == (3, 'said\n')
-        yield 'a command is stopped at its limit', edits.run(['sh', '-c', 'echo said; sleep 60'], room, 5) == (None, 'said\n')
-        path = Path(room) / 'named.edit'
+        busy = 'echo said; while :; do :; done'
+        yield 'a command is stopped when it has taken so much time of a processor', edits.run(
+            ['sh', '-c', busy], room, 1) == (-signal.SIGKILL, 'said\n')
+        yield 'so is one that it has started', edits.run(
+            ['sh', '-c', f'sh -c "{busy}"; echo ended with $?'], room, 1)[1].endswith('ended with 137\n')
+        yield 'and not when so much time has passed', edits.run(['sh', '-c', 'sleep 2.5; echo said'], room, 1) == (0, 'said\n')
+        before = time.monotonic()
+        yield 'what it has started ends with it', edits.run(['sh', '-c', 'sleep 60 & echo said'], room, 60) == (0, 'said\n') and (
+            time.monotonic() - before < 30)
         change = 'file: src/lib.rt\nold: a\nnew: b\n'
 
         def read(above):
             """The functions of an edit with these lines above its change and their goals, or nothing where it is bad."""
-            path.write_text(above + change, encoding='utf-8')
             try:
-                return edits.read_edit(path).refused
+                return edits.read_edit('named', (above + change).splitlines()).refused
             except edits.BadEdit:
                 return None
 

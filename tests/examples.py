@@ -2,9 +2,9 @@
 """Compares each example in Rust and in C of README.md and docs/ with the test that runs it.
 
 A block begins with the line ```rust or ```c, and the line before names the test's file, which is one of a crate or of
-the bindings: <!-- runs in FILE -->. The lines of the block stand in that file one behind the other, all moved to the
-right by as much, or behind the marks of a comment that is tested as an example. The last line that is printed is
-'N passed, M failed'.
+the bindings: <!-- runs in FILE -->. The lines of the block are in that file one after the other, all moved to the
+right by as much, or after the marks of a comment that is tested as an example. The programs of docs/start.md are run
+by tests/start.py. The last line that is printed is 'N passed, M failed'.
 """
 import re
 import sys
@@ -12,6 +12,8 @@ from pathlib import Path
 
 TOP = Path(__file__).resolve().parent.parent
 NAMED = re.compile(r'<!-- runs in ((?:crates|bindings)/\S+\.(?:rt|rs|c)) -->')
+# The programs of this page are run as they are.
+START, STARTED = TOP / 'docs' / 'start.md', '<!-- run by tests/start.py -->'
 # What says that a file is one of tests, by its ending.
 TESTS = {'.rt': '#[test]', '.rs': '//! ```', '.c': 'int main('}
 
@@ -37,8 +39,10 @@ def stands_in(block, lines):
     return False
 
 
-def fault(before, block):
+def fault(document, before, block):
     """What is wrong with a block, if anything is."""
+    if before == STARTED:
+        return None if document == START else f'tests/start.py runs no program of {document.name}'
     named = NAMED.fullmatch(before)
     if not named:
         return 'no line before it says where it runs'
@@ -57,7 +61,7 @@ def main():
     passed = failed = 0
     for document in [TOP / 'README.md', *sorted((TOP / 'docs').rglob('*.md'))]:
         for number, before, block in examples(document):
-            wrong = fault(before, block)
+            wrong = fault(document, before, block)
             if wrong is None:
                 passed += 1
             else:

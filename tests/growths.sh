@@ -47,7 +47,7 @@ refuse_all() {
         return
     fi
     names=$("$tests" --list | sed -n 's/: test$//p' | grep -xE "$2")
-    for ((growth = 1; came > 0 && growth <= 256; growth++)); do
+    for ((growth = 1; came > 0 && growth <= 1024; growth++)); do
         came=0
         well=1
         for name in $names; do

@@ -8,7 +8,8 @@ where the calls can stand in a row: each call that ended before another began be
 value behind the update that set it and before the next one. That is so where these orders have no circle.
 
 The status is 0 and the last line has the counts where there is such a row, 1 with a line saying why where there is
-none, and 2 where a line can't be read.
+none, and 2 where a line can't be read, or where no call began while another was under way: such a history shows
+nothing of threads at work side by side.
 """
 import sys
 from typing import NamedTuple
@@ -122,13 +123,16 @@ def main(text):
     try:
         calls = [call_of(line, count) for count, line in enumerate(text.splitlines(), 1)]
         judge(calls)
+        beside = overlapping(calls)
+        if not beside:
+            raise Unreadable(f'none of {len(calls)} calls began beside another one')
     except Unreadable as fault:
         print(f'unreadable: {fault}', file=sys.stderr)
         return 2
     except Unlawful as fault:
         print(f'unlawful: {fault}')
         return 1
-    print(f'{len(calls)} calls, {overlapping(calls)} of them beside others, are linearizable')
+    print(f'{len(calls)} calls, {beside} of them beside others, are linearizable')
     return 0
 
 

@@ -2,6 +2,8 @@
 """Tests the judge of calls with times: histories worked out by hand, and random tiny ones against a judge that tries
 every row. The last line is 'N passed, M failed'. A number as its one word seeds the random tests.
 """
+import contextlib
+import io
 import itertools
 import random
 import sys
@@ -36,6 +38,17 @@ BY_HAND = [
 
 UNREADABLE = ['call 0 1 2 update 0', 'call 0 1 2 stop 0 1', 'calls 0 1 2 read 0 1', 'call 0 2 1 read 0 1',
               'call 0 1 2 scan 0', 'call 0 1 2 read 0 x']
+
+# Whole texts, with the status that the judge ends with: lawful, unlawful, unreadable, and those that show nothing.
+TEXTS = [
+    ('call 0 1 3 update 0 1\ncall 1 2 4 read 0 0\n', 0),
+    ('call 0 1 3 update 0 1\ncall 1 3 4 read 0 1\n', 0),
+    ('call 0 1 9 update 0 1\ncall 1 2 4 read 0 2\n', 1),
+    ('call 0 1 3 update 0 1\nstop\n', 2),
+    ('', 2),
+    ('call 0 1 3 update 0 1\n', 2),
+    ('call 0 1 3 update 0 1\ncall 1 4 5 read 0 1\ncall 0 6 7 read 0 1\n', 2),
+]
 
 
 def calls_of(text):
@@ -101,6 +114,10 @@ def main(words):
             faults.append(line)
         except Unreadable:
             pass
+    for text, status in TEXTS:
+        with contextlib.redirect_stdout(io.StringIO()), contextlib.redirect_stderr(io.StringIO()):
+            if judge_times.main(text) != status:
+                faults.append(f'{text!r} does not end with {status}')
     for _ in range(tried):
         text = random_history(source)
         calls = calls_of(text)
@@ -112,7 +129,7 @@ def main(words):
         faults.append(f'{lawful} of {tried} random histories are linearizable')
     for fault in faults:
         print(f'failed: {fault}')
-    count = len(BY_HAND) + len(UNREADABLE) + tried + 1
+    count = len(BY_HAND) + len(UNREADABLE) + len(TEXTS) + tried + 1
     print(f'{count - len(faults)} passed, {len(faults)} failed')
     return 0 if not faults else 1
 

@@ -1,7 +1,7 @@
 #!/usr/bin/env python3
-"""Compares the table of laws in docs/guarantees.md with the comments of the laws in crates/NAME/src/law.rt.
+"""Compares the table of laws in docs/reference/laws.md with the comments of the laws in crates/NAME/src/law.rt.
 
-The table stands between the lines <!-- laws --> and <!-- end -->: a part for each crate, in the order of crates.txt,
+The table is between the lines <!-- laws --> and <!-- end -->: a part for each crate, in the order of crates.txt,
 and a row for each law, with its comment. Each law has a comment and a contract, and each crate that has laws is in
 crates.txt. With --write the table is written anew. The last line is 'N passed, M failed', one for each law.
 """
@@ -10,7 +10,7 @@ import sys
 from pathlib import Path
 
 TOP = Path(__file__).resolve().parent.parent
-PAGE = TOP / 'docs' / 'guarantees.md'
+PAGE = TOP / 'docs' / 'reference' / 'laws.md'
 TABLE = re.compile(r'(<!-- laws -->\n).*?(<!-- end -->\n)', re.S)
 LAW = re.compile(r'((?:^///[^\n]*\n)*)^pub fn (\w+)\(\)\n((?:.*\n)*?)\{\}$', re.M)
 
@@ -53,12 +53,12 @@ def main(words):
     text, count, faults = table()
     page = PAGE.read_text(encoding='utf-8')
     if len(TABLE.findall(page)) != 1:
-        faults.append('docs/guarantees.md has no one place for the table of laws')
+        faults.append('docs/reference/laws.md has no one place for the table of laws')
     fresh = TABLE.sub(lambda found: found[1] + text + found[2], page)
     if words == ['--write']:
         PAGE.write_text(fresh, encoding='utf-8')
     elif fresh != page:
-        faults.append('the table of laws in docs/guarantees.md is not that of the comments: tests/laws.py --write')
+        faults.append('the table of laws in docs/reference/laws.md is not that of the comments: tests/laws.py --write')
     if count == 0:
         faults.append('there is no law')
     print('\n'.join(faults + [f'{max(count - len(faults), 0)} passed, {len(faults)} failed']))

@@ -38,6 +38,7 @@ PATTERNS = {
 # The places in which a number means something else: the file, what stands there, and why.
 STAMPS = 'stands below partial_words, and speaks of stamps: the initial ones are three apart'
 BOUND = "a bound of steps, as the call's law says it"
+FOUND = 'three passes of the arenas, one for each port, and that each of them was found busy'
 ALLOWED = [
     ('partial_model/specs/History.antt', ['o.first + 3 * j'], STAMPS),
     ('partial_model/specs/Inner/Checks.antt', ['(s - o.first) % 3', '(s - o.first) / 3'], STAMPS),
@@ -51,8 +52,15 @@ ALLOWED = [
     ('partial_active/proofs/Answered.antt', ['(s.m + 2)', '+ s.m + 2', '+ p.0.sizes.m + 2'], BOUND),
     ('partial_active/proofs/Walk.antt', ['(s.m + 2)'], BOUND),
     ('partial_replay/proofs/RunSteps.antt', ['z.m + 3', 'z.m + 2'], BOUND),
-    ('partial_epochs/specs/Bounds.antt', ['1 + 2 * e.sizes.m'], 'a look, and two steps for each component'),
-    ('partial_epochs/specs/Changing.antt', ['last_loads e = 3 * e.sizes.m'], 'three loads of each component'),
+    ('partial_long_lived/specs/Bounds.antt', ['3 * r + 1'], BOUND),
+    ('partial_long_lived/specs/Inner/Changing.antt', ['(3 * (port_at t).about.ports)'], FOUND),
+    ('partial_long_lived/proofs/Contention.antt', ['(3 * (port_at v).about.ports)'], FOUND),
+    ('partial_long_lived/proofs/clear/clear/Invariants.antt', ['1 + 3 * l.port'], BOUND),
+    ('partial_long_lived/proofs/fill/fill/Invariants.antt', ['3 * l.component', '3 * l.words.key.sizes.m'], BOUND),
+    ('partial_long_lived/proofs/unchanged/unchanged/Invariants.antt', ['4 + 2 * l.k'], BOUND),
+    ('partial_long_lived/src/calls.rt', ['4 + 2 * length which.now'], BOUND),
+    ('partial_long_lived/src/double_collect.rt', ['3 * length which.now + 1'], BOUND),
+    ('partial_long_lived/src/unchanged.rt', ['4 + 2 * length which.now'], BOUND),
     ('partial_picture/src/words.rt', ['word - m - 4'], 'the number of a slot, by its word'),
     ('partial_picture/specs/Words.antt', ['w - s.m - 4'], 'the number of a slot, by its word'),
     ('partial_pipeline/specs/Stages.antt', ['m.about.sizes.m + 1'], 'a port for each component, and one more'),

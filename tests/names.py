@@ -16,9 +16,9 @@ TOP = Path(__file__).resolve().parent.parent
 MEMORIES = ('partial_long_lived', 'partial_memory')
 # What a client reads in the contracts of both memories; then what their rules and their seats have in common.
 SHARED = set('''
-Answered AreAllPorts AreByOpened ClosedWithAllPorts Closes ClosesWithAll Goes IsInOnePort IsOf IsPortIn IsPortOf
-IsRefused Knows MayNotOpen Meets MemoryView OpenedPortsAreAll PortView Reads Scans Updates UpdatesIf new_ports open_code
-port_view
+Answered AreAllPorts AreByOpened ClosedWithAllPorts Closes ClosesLawfully ClosesWithAll Goes IsInOnePort IsOf IsPortIn
+IsPortOf IsRefused Knows MayNotOpen Meets MemoryView OpenedPortsAreAll PortView Reads Scans Updates UpdatesIf new_ports
+open_code port_view
 
 CallMade ComesTo IsGoing IsOne IsResting IsRuleKept IsUnderWay SeatedPort first_port flatten further_ports
 asked_change goes_on leads_itself leads_on makes newcomer newcomers nobody one_of

@@ -132,9 +132,6 @@ count "$top/tests/runs.py" "$program"
 # Random plans of one port: what is run is what is replayed.
 count "$top/tests/alone.py" "$program"
 
-# Long work is shown on a terminal, and nowhere else.
-count "$top/tests/terminal.py" "$program"
-
 # 64 ports where there is no room for 64 threads: nothing is written, once the started ones have ended.
 {
     printf 'sizes 2 64 64 4096\ninitial 10 20\n'
@@ -269,17 +266,29 @@ case_of missing_file 1 replay "$room/missing"
 case_of unreadable_file 1 replay "$room"
 
 # Words that the program doesn't take, or that ask for help.
-expect "$head$tail" "" $'partial: usage\n'
-case_of no_word 2
-case_of unknown_verb 2 repeat
-case_of too_many_words 2 replay one two
-case_of unknown_option 2 replay --fast
-case_of help 2 --help
-case_of help_of_replay 2 replay --help
-case_of too_many_words_to_check 2 check one two
-case_of too_many_words_to_run 2 run one two three
-case_of help_of_run 2 run --help
-case_of help_as_word 2 help
+blames "no word" "requires a subcommand"
+blames "an unknown verb" "'repeat'" repeat
+blames "too many words" "'two'" replay one two
+blames "an unknown option" "'--fast'" replay --fast
+blames "too many words to check" "'two'" check one two
+blames "too many words to run" "'three'" run one two three
+blames "two plans of standard input" "partial: one of two plans alone can be standard input" run - -
+blames "a name that isn't UTF-8" "partial: the words are not text" replay $'\xff'
+helps "the help" replay check run "partial replay plans/lost_exchange.plan" \
+    "partial check plans/lost_exchange.plan" "partial run - <plans/lost_exchange.plan"
+
+# A `-` is standard input.
+expect "$head$tail" $'call 0 0 read 10 18 prefix 0 steps 2 span 0 0\nvalues 10 20\ntotal 2\n' ""
+case_of dash_replayed 0 replay -
+expect "$head$tail" $'lawful\n' ""
+case_of dash_checked 0 check -
+expect "$head$tail" $'call 0 0 read 10 18\nvalues 10 20\n' ""
+case_of dash_run 0 run -
+expect "$head"$'port update 0 7; read 0\nsteps\n' $'call 0 0 applied 24\ncall 0 1 read 7 24\nvalues 7 20\ncall 0 0 read 7 19\ncall 0 1 read 0 25\nvalues 7 20 0\n' ""
+case_of dash_goes_on 0 run - "$room/second.plan"
+expect "$head" "" $'partial: refused 10: -: line 3: end\n'
+case_of dash_refused_with_next 1 run - "$room/second.plan"
+case_of dash_refused_as_next 1 run "$room/first.plan" -
 
 # A writer that fails.
 # write_fault NAME STATUS: the program must have come to this status, with the line of a write fault.
@@ -354,6 +363,9 @@ shows "pipeline: two stages" 2 3000 --looks 300
 shows "pipeline: eight stages" 8 2000
 shows "pipeline: 63 stages" 63 50 --looks 100
 shows "pipeline: many epochs" 2 100000 --looks 50
+
+# Long work is shown on a terminal, and nowhere else, and the pipeline keeps to the terminal's size.
+count "$top/tests/terminal.py" "$partial" "$program"
 program=$partial
 
 # The program `picture`: PICTURE may name a built one.
@@ -429,6 +441,13 @@ holds "picture: a window of 2,000 steps" test "$(shapes 'class="mark ')" -eq 200
 expect "" $'  step  port 0   port 1\n  2000           load 0: 18  call 1 0: read 0\n' ""
 case_of "picture: a window as text" 0 --window 2000 2000 --text "$room/long.plan"
 
+# The bar of a call with steps outside the window is torn on that side. Port 0 has steps 0 to 6 and 15, port 1 7 to 14.
+for torn in "0 15 0" "0 6 1" "3 6 2" "7 14 2" "7 15 1" "8 15 2" "3 10 3"; do
+    read -r first last sides <<<"$torn"
+    "$program" "$top/plans/lost_exchange.plan" --window "$first" "$last" >"$room/drawn"
+    holds "picture: torn sides from $first to $last" test "$(shapes '<path class="cut"')" -eq "$sides"
+done
+
 # Faults are those of `partial`.
 expect "$head" "" $'picture: refused 10: line 3: end\n'
 case_of "picture: no plan" 1
@@ -491,8 +510,36 @@ paths() {
 }
 
 unproved=$'This run is of the sources, with no proof: no proved program is there.\n'
-expect "" $'lawful\n' "$unproved"
+builds=$unproved$'It is built first, which takes a minute or two.\n'
+expect "" $'lawful\n' "$builds"
 case_of "unproved: the first run builds" 0 check ../lost.plan
+ln -s "$copy/partial" "$copy/elsewhere/linked"
+program=$copy/elsewhere/linked
+expect "" $'lawful\n' "$unproved"
+case_of "unproved: through a link" 0 check ../lost.plan
+program=$copy/partial
+# It has no sanitizer, whose addresses no bound would leave room for.
+if (failed=0 && ulimit -v 100000 && case_of "unproved: in 100 MB" 0 check ../lost.plan && [ "$failed" -eq 0 ]); then
+    passed=$((passed + 1))
+else
+    failed=$((failed + 1))
+fi
+# In a clone that can't be written it is built into a folder of the user's. A file in place of the folder can't be
+# written even by root.
+mv "$copy/crates/partial/out" "$room/kept-out"
+: >"$copy/crates/partial/out"
+kept=$room/home/yuthgaren/$(cksum <<<"$copy" | cut -d ' ' -f 1)
+mkdir -p "$kept"
+cp -p "$room/kept-out/partial_unproved" "$kept/"
+expect "" $'lawful\n' "$unproved"
+XDG_CACHE_HOME=$room/home case_of "unproved: in a folder of the user's" 0 check ../lost.plan
+: >"$room/file"
+expect "" "" "$unproved"
+echo "partial: neither $copy nor $room/file/yuthgaren/${kept##*/} can be written: let XDG_CACHE_HOME name a folder that can" \
+    >>"$room/err"
+XDG_CACHE_HOME=$room/file case_of "unproved: in no folder" 2 check ../lost.plan
+rm "$copy/crates/partial/out"
+mv "$room/kept-out" "$copy/crates/partial/out"
 
 # From here on whatever calls rt fails.
 printf '#!/bin/sh\necho built\nexit 1\n' >"$room/bin/rt"
@@ -500,7 +547,7 @@ chmod +x "$room/bin/rt"
 PATH=$room/bin:$PATH
 paths "unproved, built before" "$unproved"
 touch "$copy/crates/partial_cmd/src/lib.rt"
-expect "" "" "$unproved"$'built\n'
+expect "" "" "$builds"$'built\n'
 case_of "unproved: a newer source is built" 2 replay ../lost.plan
 mkdir -p "$copy/crates/partial/out" "$copy/crates/picture/out"
 cp "$built" "$copy/crates/partial/out/partial"

@@ -10,7 +10,9 @@ that goes; `file:`, `old:` and `new:` are those of an edit (tests/edits.py), but
 is a fact and no form.
 
 A twin is refused when the turned crate is proved, the check of the crate above ends with 1, and what it refuses there
-is that file or what depends on it. The last line is 'N passed, M failed', where each twin counts once.
+is a declaration of that file, by its meaning (tests/definitions.py), and nothing of another file but what depends on
+one that it refuses. A name that isn't found refuses nothing, nor does a text that can't be read, or a run out of steps.
+The last line is 'N passed, M failed', where each twin counts once.
 """
 import re
 import shutil
@@ -20,10 +22,13 @@ from dataclasses import dataclass, field
 from pathlib import Path
 
 import edits
+from definitions import BEHIND, LACKING, OF_MEANING, SPENT
 from edits import PARTS, TOP
 
-# What the prover says of a name that a twin took away.
-GONE = re.compile(r'has no field|is not in scope|has no `|is no name')
+# An error in a file, as the prover says it: the file, and why.
+ERROR = re.compile(r'^\./(\S+?\.(?:antt|rt)):\d+:\d+: error: (.*(?:\n  .*)*)', re.M)
+# What it says of a function of which it has no verdict.
+NO_VERDICT = re.compile(rf'^fn (\S+: .*(?:{SPENT.pattern}).*)$', re.M)
 
 
 @dataclass
@@ -93,13 +98,20 @@ def why_not(twin, status, said):
     """Why what a check of the crate above says does not refuse a twin, or None."""
     if status != 1:
         return f'the check of {twin.above} ended with {status}' + ''.join(f'\n    {it}' for it in said.splitlines()[-3:])
-    refused = dict(re.findall(r'^\./(\S+?\.(?:antt|rt)):\d+:\d+: error: (.*(?:\n  .*)*)', said, re.M))
-    lacking = [it.splitlines()[0] for it in refused.values() if GONE.search(it)]
-    if lacking:
-        return f'a proof of {twin.above} names what is gone: {lacking[0]}'
-    if twin.file not in refused:
-        return f'{twin.file} of {twin.above} is not refused, but {", ".join(sorted(refused)) or "no file"}'
-    return None
+    errors = [(file, why) for file, why in ERROR.findall(said) if not BEHIND.match(why)]
+    files = sorted({file for file, _ in errors})
+    if twin.file not in files:
+        return f'{twin.file} of {twin.above} is not refused, but {", ".join(files) or "no file"}'
+    for file, why in errors:
+        first = f'{file}: {why.splitlines()[0]}'
+        if file != twin.file:
+            return f'the twin does not name what is refused too: {first}'
+        if LACKING.search(why) or not OF_MEANING.match(why):
+            return f'a proof names what is gone, or is none: {first}'
+        if SPENT.search(why):
+            return f'a run out of steps: {first}'
+    spent = NO_VERDICT.search(said)
+    return f'no verdict: {spent[1]}' if spent else None
 
 
 def try_twin(name, path, crates):

@@ -17,6 +17,20 @@ LACKING_A_FACT = '''\
 '''
 LACKING_A_NAME = './proofs/Scans.antt:28:44: error: module `Rattle.low.proofs` has no `Traces` that can be named from here\n'
 ELSEWHERE = './proofs/Other.antt:3:1: error: `other`: expected type `a ≡ true`, but this has type `b ≡ true`\n'
+# What is said in place of the lacking fact, and the reason that is told.
+NOT_REFUSED = {
+    'a proof that lacks a name': (LACKING_A_NAME, 'names what is gone, or is none'),
+    'a field that is gone': (
+        './proofs/Scans.antt:23:73: error: `third`: record `Pair` has no field `sinc` — the fields\n'
+        '  that can be named here are `at`, `since`\n', 'names what is gone, or is none'),
+    'a text that cannot be read': ('./proofs/Scans.antt:18:8: error: `abbrev` is written once\n', 'names what is gone, or is none'),
+    'a run out of steps': (
+        './proofs/Scans.antt:4:20: error: `third`: antt ran out of the steps that it may take\n', 'a run out of steps'),
+    'another file': (ELSEWHERE, 'is not refused, but proofs/Other.antt'),
+    'code that is refused': (
+        './src/a.rt:3:1: error: expected `;`\n', 'is not refused, but src/a.rt'),
+    'no error': ('fn high::f: not proved\n', 'no file'),
+}
 LINES = 'refused: high proofs/Scans.antt\nfile: a\nold: one\\ntwo\nnew: \nabove: b\nold: x\nnew: y\nremove: c\n'
 # Texts that are no twin: of no crate above, of no change, with a line of another word.
 BAD = ('file: a\nold: one\nnew: two\n', 'refused: high proofs/Scans.antt\n', LINES + 'other: text\n')
@@ -26,11 +40,14 @@ def cases():
     """The name of each case, and whether it holds."""
     twin = twins.Twin('turned', 'high', 'proofs/Scans.antt')
     yield 'a proof that lacks a fact refuses', twins.why_not(twin, 1, LACKING_A_FACT) is None
-    for status in (0, 2, -9, None):
+    for status in (0, 2, -9):
         yield f'a check that ends with {status} refuses nothing', 'ended' in (twins.why_not(twin, status, LACKING_A_FACT) or '')
-    yield 'a proof that lacks a name refuses nothing', 'names what is gone' in (twins.why_not(twin, 1, LACKING_A_NAME) or '')
-    yield 'another file refuses nothing', 'is not refused, but proofs/Other.antt' in (twins.why_not(twin, 1, ELSEWHERE) or '')
-    yield 'no error refuses nothing', 'no file' in (twins.why_not(twin, 1, 'fn high::f: not proved\n') or '')
+    for what, (said, reason) in NOT_REFUSED.items():
+        yield f'{what} refuses nothing', reason in (twins.why_not(twin, 1, said) or '')
+        beside = twins.why_not(twin, 1, LACKING_A_FACT + said)
+        yield f'nor beside a proof that lacks a fact, if it is an error: {what}', (beside is None) == (what == 'no error')
+    yield 'nor does a proof that lacks a fact where a function has no verdict', 'no verdict: high::f' in (
+        twins.why_not(twin, 1, LACKING_A_FACT + 'fn high::f: could not tell\n') or '')
     with tempfile.TemporaryDirectory() as there:
         path = Path(there) / 'named.twin'
         path.write_text(LINES, encoding='utf-8')

@@ -1,7 +1,7 @@
 //! A number of calls by one port, for a tool that counts instructions: updates of a single opening (`proved`) or of the
 //! same algorithm in plain Rust (`plain`); or updates, reads or scans of 4 or 16 components of the memory that never wears
-//! out (`update`, `read`, `scan`, `scan_of_16`), or of a single opening (`opening_read`, `opening_scan`). Its words are one
-//! of these and the number of calls; an opening has room for 1,000,000 updates and 65,536 scans.
+//! out (`update`, `read`, `scan`, `scan_of_16`), or the first three by keys (`set`, `get`, `snapshot`), or of a single opening
+//! (`opening_read`, `opening_scan`). Its words are one of these and the number of calls; an opening has room for 1,000,000 updates and 65,536 scans.
 
 #[allow(dead_code)]
 #[path = "../src/answers.rs"]
@@ -11,7 +11,7 @@ mod answers;
 mod raw;
 
 use partial_door::opening::{self, Sizes};
-use partial_door::Memory;
+use partial_door::{Key, Layout, Memory, Port};
 use std::array;
 use std::env::args;
 use std::error::Error;
@@ -29,7 +29,16 @@ fn make<T, E>(calls: u64, mut call: impl FnMut(u32, u64) -> Result<T, E>) -> Res
     Ok(())
 }
 
-fn main() -> Result<(), Box<dyn Error + Send + Sync>> {
+type Fault = Box<dyn Error + Send + Sync>;
+
+/// A port, and the keys of its four components.
+fn typed() -> Result<(Port, [Key<u64>; INITIAL.len()]), Fault> {
+    let mut layout = Layout::new();
+    let keys = INITIAL.map(|value| layout.add(value));
+    Ok((layout.open()?.port()?, keys))
+}
+
+fn main() -> Result<(), Fault> {
     let (kind, calls) = (args().nth(1).unwrap_or_default(), args().nth(2).unwrap_or_default().parse()?);
     match kind.as_str() {
         "proved" => {
@@ -55,6 +64,18 @@ fn main() -> Result<(), Box<dyn Error + Send + Sync>> {
         "scan" => {
             let mut port = Memory::new(&INITIAL)?.port()?;
             make(calls, |_, _| port.scan_array(ALL))?;
+        }
+        "set" => {
+            let (mut port, keys) = typed()?;
+            make(calls, |component, value| port.set(keys[component as usize], value))?;
+        }
+        "get" => {
+            let (mut port, keys) = typed()?;
+            make(calls, |component, _| port.get_stamped(keys[component as usize]))?;
+        }
+        "snapshot" => {
+            let (mut port, keys) = typed()?;
+            make(calls, |_, _| port.snapshot(keys))?;
         }
         "scan_of_16" => {
             let mut port = Memory::new(&[0; 16])?.port()?;

@@ -66,7 +66,7 @@ fn main() -> Result<(), Box<dyn Error + Send + Sync>> {
             black_box(port.scan_array(positions(call)).expect("each is a component"));
         });
         let read = least(|call| {
-            black_box(port.read(call % M).expect("it is a component"));
+            let _ = black_box(port.read(call % M).expect("it is a component"));
         });
         let lock = least(|call| {
             black_box(locked(&list, positions(call)));

@@ -56,16 +56,19 @@ const fn alone_and_long(name: &'static str, run: fn(&str) -> Sample) -> Bench {
     Bench { rounds: 1, ..alone(name, run) }
 }
 
-pub const BENCHES: [Bench; 18] = [
+pub const BENCHES: [Bench; 21] = [
     alone("read, 1 thread", |name| timed(name, 1, PARTS, rest, read)),
+    alone("read by a key, 1 thread", |name| by_keys(name, PARTS, read)),
     speed("read, 4 threads", |name| timed(name, 4, PARTS, rest, read)),
     alone("update, 1 thread, nobody scans", |name| timed(name, 1, PARTS, rest, update)),
+    alone("update by a key, 1 thread, nobody scans", |name| by_keys(name, PARTS, update)),
     Bench { rounds: ROUNDS_OF_MANY, ..alone("update, 1 thread, 100 million of them", many) },
     speed("update, 4 threads, nobody scans", |name| timed(name, 4, PARTS, rest, update)),
     alone("update, 1 thread, after scans", |name| timed(name, 1, PARTS, scan_often, update)),
     alone_and_long("update, 1 thread, after scans, no list words left", without_lists),
     alone("add one, 1 thread, nobody scans", |name| timed(name, 1, PARTS, rest, add_one)),
     alone("scan of 4, 1 thread", |name| timed(name, 1, PARTS_OF_SCANS, rest, scan::<4>)),
+    alone("scan of 4 by keys, 1 thread", |name| by_keys(name, PARTS_OF_SCANS, scan::<4>)),
     alone("scan of 16, 1 thread", |name| timed(name, 1, PARTS_OF_SCANS, rest, scan::<16>)),
     alone("9 reads to an update, 1 thread", |name| timed(name, 1, PARTS, rest, mostly_reads)),
     speed("9 reads to an update, 4 threads", |name| timed(name, 4, PARTS, rest, mostly_reads)),
@@ -143,6 +146,14 @@ fn many(name: &str) -> Sample {
         return Sample::none();
     }
     timed(name, 1, MANY_PARTS, rest, update)
+}
+
+// Calls of the memory that never wears out by keys.
+fn by_keys(name: &str, parts: u32, work: Work) -> Sample {
+    if name != "memory" {
+        return Sample::none();
+    }
+    timed("memory by keys", 1, parts, rest, work)
 }
 
 // An update in an opening that has no room for a list of the slots that scans have left: each update walks over them.

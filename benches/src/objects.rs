@@ -3,7 +3,7 @@
 use crate::called::Called;
 use crate::{raw, versions};
 use partial_door::opening::{self, Sizes};
-use partial_door::{Memory, Port};
+use partial_door::{Key, Layout, Memory, Port};
 use std::sync::atomic::{AtomicU64, Ordering::SeqCst};
 use std::sync::{Arc, Mutex, RwLock};
 
@@ -61,6 +61,34 @@ macro_rules! face_of {
 face_of!(Port);
 face_of!(opening::Port);
 face_of!(raw::Port);
+
+/// A port of the memory that never wears out, called by keys.
+struct Keyed(Port, Vec<Key<u64>>);
+
+impl Keyed {
+    fn key(&self, component: u32) -> Key<u64> {
+        self.1[component as usize]
+    }
+}
+
+impl Face for Keyed {
+    fn update(&mut self, component: u32, value: u64) -> bool {
+        self.0.set(self.key(component), value).is_ok()
+    }
+    fn add_one(&mut self, component: u32) -> bool {
+        let key = self.key(component);
+        let seen = self.0.get_stamped(key).expect("the component is there");
+        self.0.set_if(key, seen.stamp, seen.value + 1).is_ok()
+    }
+    fn read(&mut self, component: u32) -> u64 {
+        self.0.get(self.key(component)).expect("the component is there")
+    }
+    fn scan(&mut self, which: &[u32], into: &mut [u64]) -> bool {
+        let &[a, b, c, d] = which else { panic!("the row scans 4 components") };
+        let made = self.0.snapshot([a, b, c, d].map(|component| self.key(component)));
+        made.map(|values| into.copy_from_slice(&values)).is_ok()
+    }
+}
 
 #[derive(Clone)]
 pub struct Locked(Arc<Mutex<Vec<u64>>>);
@@ -260,6 +288,13 @@ pub fn faces_of(name: &str, m: usize, threads: usize, sizes: Sizes) -> Faces {
         "memory" => {
             let memory = Memory::builder().ports(threads as u32).open(&zeros).expect("it opens");
             (None, (0..threads).map(|_| boxed(memory.port().expect("a port is free"))).collect())
+        }
+        "memory by keys" => {
+            let mut layout = Layout::new();
+            let keys: Vec<_> = zeros.iter().map(|&zero| layout.add(zero)).collect();
+            let memory = layout.open_with(Memory::builder().ports(threads as u32)).expect("it opens");
+            let port = || memory.port().expect("a port is free");
+            (None, (0..threads).map(|_| boxed(Keyed(port(), keys.clone()))).collect())
         }
         "opening" => {
             let (memory, ports) = opening::open(&zeros, sizes, threads as u32).expect("it opens");

@@ -141,7 +141,7 @@ static void test_refused_openings(void)
     partial_memory_free(&memory);
 }
 
-/* One component and 2 ports: 32768 pool words, of which an update claims 3, and the greatest record 6. */
+/* One component and 2 ports: 32768 pool words, of which an update claims 3. The last one ends after them. */
 static void test_usual_pool(void)
 {
     const uint64_t initial[1] = {10};
@@ -154,7 +154,7 @@ static void test_usual_pool(void)
         applied++;
     }
     check(set.stamp >> 23 == 1, "the epoch changes when the pool is used up");
-    check(applied == 32768 / 3, "an arena has 16384 pool words for each of two ports");
+    check(applied == 32768 / 3 + 1, "an arena has 16384 pool words for each of two ports");
     partial_port_free(&port);
     partial_memory_free(&memory);
 }
@@ -395,9 +395,58 @@ static void test_threads(void)
     check(values[0] == TURNS && values[1] == TURNS && values[2] == TURNS, "its values are the last ones set");
 }
 
+/* Each number has a text of its own, and 25 and 26 alone are refusals for the moment. */
+static void test_texts(void)
+{
+    const uint32_t numbers[] = {0, 1, 2, 3, 4, 5, 6, 7, 8, 9, 13, 17, 18, 19, 20, 21, 22, 23, 24, 25, 26, 27, 30, 31};
+    const size_t count = sizeof numbers / sizeof *numbers;
+    int alike = 0;
+    int transient = 0;
+    for (size_t k = 0; k < count; k++) {
+        const char *text = partial_text(numbers[k]);
+        for (size_t j = 0; j < k; j++) {
+            alike += strcmp(text, partial_text(numbers[j])) == 0;
+        }
+        alike += strcmp(text, partial_text(10)) == 0;
+        transient += partial_is_transient(numbers[k]);
+        check((strstr(text, "try again") != NULL) == partial_is_transient(numbers[k]), "a text says when to try again");
+    }
+    check(alike == 0, "each number has a text of its own");
+    check(strcmp(partial_text(10), partial_text(UINT32_MAX)) == 0, "no other number has one");
+    check(transient == 2 && partial_is_transient(25) && partial_is_transient(26), "two refusals are for the moment");
+}
+
+/* The header's two versions are one, and the library's too. */
+static void test_version(void)
+{
+    unsigned major = 0;
+    unsigned minor = 0;
+    unsigned patch = 0;
+    check(sscanf(PARTIAL_VERSION, "%u.%u.%u", &major, &minor, &patch) == 3, "the version has three parts");
+    check(major * 1000000 + minor * 1000 + patch == PARTIAL_VERSION_NUMBER, "its number is that of its text");
+    check(partial_door_version() == PARTIAL_VERSION_NUMBER, "the library has the version of the header");
+}
+
+/* A port can't meet itself. */
+static void test_same(void)
+{
+    const uint64_t initial[1] = {7};
+    partial_memory memory = PARTIAL_EMPTY;
+    partial_port port = PARTIAL_EMPTY;
+    partial_read_answer read = {0, 0};
+    check(made(initial, 1, &tiny, &memory, &port, 1), "a memory with one port is made");
+    check(partial_port_meet(&port, &port) == PARTIAL_SAME, "a port doesn't meet itself");
+    check(partial_port_read(&port, 0, &read) == 0 && read.value == 7, "and is as it was");
+    partial_port_free(&port);
+    partial_memory_free(&memory);
+}
+
 int main(void)
 {
     test_example();
+    test_texts();
+    test_version();
+    test_same();
     test_one_port();
     test_refused_openings();
     test_usual_pool();

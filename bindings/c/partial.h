@@ -19,11 +19,11 @@
  *
  * A program that uses this header also trusts:
  * - itself to follow the rules for pointers and handles below: the calls refuse
- *   null pointers and check nothing else of them, and when a rule is broken the
- *   behaviour is undefined;
- * - the functions of this header, which refuse null pointers and call the proved
- *   ones, named `partial_door_`, and the declarations of these here, with their
- *   parameters and the layout of the structs;
+ *   null pointers and two handles that are one, and check nothing else of them, and
+ *   when a rule is broken the behaviour is undefined;
+ * - the functions of this header, which refuse those and call the proved ones, named
+ *   `partial_door_`, and the declarations of these here, with their parameters and the
+ *   layout of the structs;
  * - the number that this header gives each memory and each opening, by a counter that all
  *   files of a program share. A shared object that hides its symbols has a counter of its
  *   own: there, ports are used with memories that were made there;
@@ -48,19 +48,26 @@
  * Numbers of refusals
  * -------------------
  * Each function returns 0 when the call was answered, and otherwise the number of
- * the first refusal that holds.
+ * the first refusal that holds. `partial_text` returns what a number says. After 25 and 26
+ * the same call may be answered when it is made again (`partial_is_transient`); a program
+ * bounds how often it does so.
  */
 #ifndef PARTIAL_H
 #define PARTIAL_H
 
-/* The version of this header and of the library. */
+/* The version of this header, as a text and as a number: 1000000 for a major version, 1000
+ * for a minor one, and 1 for a patch. A library of another one opens no memory here. */
 #define PARTIAL_VERSION "0.1.0"
+#define PARTIAL_VERSION_NUMBER 1000u
 
 #include <stddef.h>
 #include <stdint.h>
 
 #ifdef __cplusplus
 extern "C" {
+#define PARTIAL_HANDLE(pointer) reinterpret_cast<partial_handle *>(pointer)
+#else
+#define PARTIAL_HANDLE(pointer) ((partial_handle *)(pointer))
 #endif
 
 /* A handle: it is empty, or holds an open memory, a port of one, or a closed memory. */
@@ -79,7 +86,11 @@ typedef struct partial_port {
 } partial_port;
 
 /* An empty handle, of any of the three types. All three have one layout. */
-#define PARTIAL_EMPTY { 0 }
+#if defined(__cplusplus) && __cplusplus >= 201103L
+#define PARTIAL_EMPTY { nullptr }
+#else
+#define PARTIAL_EMPTY { NULL }
+#endif
 
 enum {
     PARTIAL_FINE = 0,
@@ -103,8 +114,49 @@ enum {
     PARTIAL_SHARED = 24,       /* all were, and a reference of the memory is in use */
     PARTIAL_OVERTAKEN = 25,    /* the epoch was changed 16 times during the update */
     PARTIAL_NO_ARENA = 26,     /* each arena is in use, so the epoch can't be changed */
-    PARTIAL_EPOCHS_SPENT = 27  /* the epoch is the last one that a word can name */
+    PARTIAL_EPOCHS_SPENT = 27, /* the epoch is the last one that a word can name */
+    PARTIAL_SAME = 30,         /* two pointers are to one handle */
+    PARTIAL_OTHER_VERSION = 31 /* the library is of another version than this header */
 };
+
+/* What a number says, as a text without a full stop. */
+static inline const char *partial_text(uint32_t code)
+{
+    switch (code) {
+    case PARTIAL_FINE: return "the call was answered";
+    case PARTIAL_COMPONENTS: return "components out of range";
+    case PARTIAL_SLOTS: return "slots out of range";
+    case PARTIAL_LIST_WORDS: return "list words out of range";
+    case PARTIAL_POOL_WORDS: return "pool words out of range";
+    case PARTIAL_PORT_COUNT: return "ports out of range";
+    case PARTIAL_MEMORY: return "out of memory";
+    case PARTIAL_COMPONENT: return "an index isn't below the number of components";
+    case PARTIAL_SLOTS_SPENT: return "the slots are used up for this port";
+    case PARTIAL_POOL_SPENT: return "the pool is used up for this port";
+    case PARTIAL_TOO_SMALL: return "fewer components than before";
+    case PARTIAL_HOLDS_NONE: return "a handle doesn't hold what the call needs";
+    case PARTIAL_HOLDS_ONE: return "the handle holds something already";
+    case PARTIAL_LENGTH: return "two lengths differ, or one is too large";
+    case PARTIAL_TWO_MEMORIES: return "the handles are of two memories";
+    case PARTIAL_NONE_HOME: return "the memory holds no port";
+    case PARTIAL_NOT_ALL_HOME: return "not all ports were returned";
+    case PARTIAL_NULL: return "a pointer is null";
+    case PARTIAL_SHARED: return "another handle still references the memory";
+    case PARTIAL_OVERTAKEN: return "overtaken by changes of epoch: try again";
+    case PARTIAL_NO_ARENA: return "no arena is free: try again when other threads have gone on";
+    case PARTIAL_EPOCHS_SPENT: return "epochs used up";
+    case PARTIAL_SAME: return "two pointers are to one handle";
+    case PARTIAL_OTHER_VERSION: return "the library is of another version than the header";
+    default: return "no number of this library";
+    }
+}
+
+/* Whether the same call may be answered when it is made again: 1 for 25 and 26, otherwise
+ * 0. */
+static inline int partial_is_transient(uint32_t code)
+{
+    return code == PARTIAL_OVERTAKEN || code == PARTIAL_NO_ARENA;
+}
 
 /* The sizes of an arena of a `partial_memory`, which has two arenas for each port. */
 typedef struct partial_arena {
@@ -193,8 +245,10 @@ uint32_t partial_door_port_unchanged(partial_port *port, const uint32_t *which,
                                      size_t count, uint32_t *answer);
 uint32_t partial_door_port_meet(partial_port *first, partial_port *second);
 uint32_t partial_door_port_number(partial_port *port, uint32_t *answer);
+uint32_t partial_door_version(void);
 
 /* How many memories and openings were made in this program: the number of the last one. */
+extern uint64_t partial_memories_made;
 __attribute__((weak)) uint64_t partial_memories_made = 0;
 
 /* The number of a new one. */
@@ -208,8 +262,8 @@ static inline uint64_t partial_next_number(void)
  * for each value in `initial`, and holds `ports` ports, 1 to 64. `arena` says how large
  * its arenas are.
  *
- * 23: a pointer is null. 18: the handle holds something. 5: there are not 1 to 64 ports.
- * 1: there are not 1 to 65536 values. 3: there are more than 65536 list words. 4: the pool
+ * 23: a pointer is null. 31: the library is of another version than this header. 18: the
+ * handle holds something. 5: there are not 1 to 64 ports. 1: there are not 1 to 65536 values. 3: there are more than 65536 list words. 4: the pool
  * words, with 4 for each port and 2 for each port and component, are more than 131072. 6:
  * an allocation was refused. The handle is as it was.
  */
@@ -220,6 +274,9 @@ static inline uint32_t partial_memory_new_with(const uint64_t *initial, size_t c
     const uint64_t none = 0;
     if ((!initial && components) || !arena || !memory) {
         return PARTIAL_NULL;
+    }
+    if (partial_door_version() != PARTIAL_VERSION_NUMBER) {
+        return PARTIAL_OTHER_VERSION;
     }
     return partial_door_memory_new(partial_next_number(), initial ? initial : &none,
                                    components, ports, arena, memory);
@@ -299,7 +356,7 @@ static inline uint32_t partial_memory_free(partial_memory *memory)
     if (!memory) {
         return PARTIAL_NULL;
     }
-    return partial_door_free((partial_handle *)memory);
+    return partial_door_free(PARTIAL_HANDLE(memory));
 }
 
 /*
@@ -308,6 +365,9 @@ static inline uint32_t partial_memory_free(partial_memory *memory)
  * When it was applied, it is the last entry of the history that the port has observed
  * afterwards, and no other update has its stamp. Otherwise another update, with the
  * stamp in `answer`, took effect during the call and overwrote it.
+ *
+ * An applied update publishes what its thread wrote before: a thread that reads its value,
+ * or a later one of this component, sees that. A lost one publishes nothing.
  *
  * 23: a pointer is null. 17: the handle holds no port. 7: `component` isn't below the
  * number of components. 25: the epoch was changed 16 times during the call. 26, 27: the
@@ -434,13 +494,16 @@ static inline uint32_t partial_port_unchanged(partial_port *port,
  * observed before. When the one has read a component before, and the other reads it
  * afterwards, the second value isn't an earlier one than the first.
  *
- * 23: a pointer is null. 17: a handle holds no port. 20: the ports are of two memories.
- * Both are as they were.
+ * 23: a pointer is null. 30: both handles are one. 17: a handle holds no port. 20: the
+ * ports are of two memories. Both are as they were.
  */
 static inline uint32_t partial_port_meet(partial_port *first, partial_port *second)
 {
     if (!first || !second) {
         return PARTIAL_NULL;
+    }
+    if (first == second) {
+        return PARTIAL_SAME;
     }
     return partial_door_port_meet(first, second);
 }
@@ -467,7 +530,7 @@ static inline uint32_t partial_port_free(partial_port *port)
     if (!port) {
         return PARTIAL_NULL;
     }
-    return partial_door_free((partial_handle *)port);
+    return partial_door_free(PARTIAL_HANDLE(port));
 }
 
 /* ---- Single openings ---- */
@@ -476,8 +539,8 @@ static inline uint32_t partial_port_free(partial_port *port)
  * Opens a memory into the handle `memory`. It has a component for each value in
  * `initial`, and holds `ports` ports.
  *
- * 23: a pointer is null. 18: the handle holds something. 1 to 4: the first size that
- * is out of its range. 5: there are not 1 to 64 ports. 6: an allocation was refused. The
+ * 23: a pointer is null. 31: the library is of another version than this header. 18: the
+ * handle holds something. 1 to 4: the first size that is out of its range. 5: there are not 1 to 64 ports. 6: an allocation was refused. The
  * handle is as it was.
  */
 static inline uint32_t partial_open(const uint64_t *initial, size_t components,
@@ -487,6 +550,9 @@ static inline uint32_t partial_open(const uint64_t *initial, size_t components,
     const uint64_t none = 0;
     if ((!initial && components) || !sizes || !memory) {
         return PARTIAL_NULL;
+    }
+    if (partial_door_version() != PARTIAL_VERSION_NUMBER) {
+        return PARTIAL_OTHER_VERSION;
     }
     return partial_door_open(partial_next_number(), initial ? initial : &none, components,
                              sizes, ports, memory);
@@ -498,8 +564,8 @@ static inline uint32_t partial_open(const uint64_t *initial, size_t components,
  * have begin at 0. Stamps start anew. The closed memory stays, and can be reopened
  * again. `ports` as for `partial_open`.
  *
- * 23: a pointer is null. 18: `memory` holds something. 17: `closed` holds no closed
- * memory. 1 to 4: the first size that is out of its range. 5: there are not 1 to 64
+ * 23: a pointer is null. 30: both handles are one. 31: the library is of another version
+ * than this header. 18: `memory` holds something. 17: `closed` holds no closed memory. 1 to 4: the first size that is out of its range. 5: there are not 1 to 64
  * ports. 13: the closed memory has more components. 6: an allocation was refused. Both
  * handles are as they were.
  */
@@ -510,6 +576,12 @@ static inline uint32_t partial_reopen(partial_handle *closed, uint32_t component
     if (!closed || !sizes || !memory) {
         return PARTIAL_NULL;
     }
+    if (closed == memory) {
+        return PARTIAL_SAME;
+    }
+    if (partial_door_version() != PARTIAL_VERSION_NUMBER) {
+        return PARTIAL_OTHER_VERSION;
+    }
     return partial_door_reopen(partial_next_number(), closed, components, sizes, ports,
                                memory);
 }
@@ -518,8 +590,8 @@ static inline uint32_t partial_reopen(partial_handle *closed, uint32_t component
  * Takes the last port that a memory holds out of it, into an empty handle. A new memory
  * holds its ports in the order of their numbers, which are counted from 0.
  *
- * 23: a pointer is null. 18: `port` holds something. 17: `memory` holds no open
- * memory. 21: the memory holds no port. 6: an allocation was refused. Both handles are as
+ * 23: a pointer is null. 30: both handles are one. 18: `port` holds something. 17:
+ * `memory` holds no open memory. 21: the memory holds no port. 6: an allocation was refused. Both handles are as
  * they were.
  */
 static inline uint32_t partial_take_port(partial_handle *memory, partial_handle *port)
@@ -527,20 +599,26 @@ static inline uint32_t partial_take_port(partial_handle *memory, partial_handle 
     if (!memory || !port) {
         return PARTIAL_NULL;
     }
+    if (memory == port) {
+        return PARTIAL_SAME;
+    }
     return partial_door_take_port(memory, port);
 }
 
 /*
  * Returns a port to its memory. Its handle is empty afterwards.
  *
- * 23: a pointer is null. 17: `memory` holds no open memory, or `port` no port. 20: the
- * port is of another memory. 6: an allocation was refused. Both handles are as they
- * were.
+ * 23: a pointer is null. 30: both handles are one. 17: `memory` holds no open memory, or
+ * `port` no port. 20: the port is of another memory. 6: an allocation was refused. Both
+ * handles are as they were.
  */
 static inline uint32_t partial_give_port(partial_handle *memory, partial_handle *port)
 {
     if (!memory || !port) {
         return PARTIAL_NULL;
+    }
+    if (memory == port) {
+        return PARTIAL_SAME;
     }
     return partial_door_give_port(memory, port);
 }
@@ -637,13 +715,16 @@ static inline uint32_t partial_state(partial_handle *port, partial_port_state *a
  * Merges what two ports of one memory have observed. When the two then read one
  * component one after the other, the second value isn't an earlier one than the first.
  *
- * 23: a pointer is null. 17: a handle holds no port. 20: the ports are of two memories.
- * Both are as they were.
+ * 23: a pointer is null. 30: both handles are one. 17: a handle holds no port. 20: the
+ * ports are of two memories. Both are as they were.
  */
 static inline uint32_t partial_meet(partial_handle *first, partial_handle *second)
 {
     if (!first || !second) {
         return PARTIAL_NULL;
+    }
+    if (first == second) {
+        return PARTIAL_SAME;
     }
     return partial_door_meet(first, second);
 }

@@ -279,6 +279,11 @@ static void test_null(void)
     check(partial_open(initial, 1, &ample, 1, NULL) == PARTIAL_NULL, "a null handle opens nothing");
     check(partial_open(NULL, 0, &ample, 1, &memory) == PARTIAL_COMPONENTS, "no values may be at null");
     check(opened(initial, 1, &ample, &memory, &port, 1), "a memory opens after null pointers");
+    check(partial_meet(&port, &port) == PARTIAL_SAME, "a port doesn't meet itself");
+    check(partial_take_port(&memory, &memory) == PARTIAL_SAME, "a memory takes no port into its own handle");
+    check(partial_give_port(&memory, &memory) == PARTIAL_SAME, "nor is it given to itself");
+    check(partial_reopen(&memory, 1, &ample, 1, &memory) == PARTIAL_SAME, "nor reopened there");
+    check(partial_state(&port, &state) == 0 && state.number == 0, "and the port is as it was");
     check(partial_reopen(NULL, 1, &ample, 1, &spare) == PARTIAL_NULL, "null isn't reopened");
     check(partial_reopen(&memory, 1, NULL, 1, &spare) == PARTIAL_NULL, "nor with null sizes");
     check(partial_reopen(&memory, 1, &ample, 1, NULL) == PARTIAL_NULL, "nor into null");

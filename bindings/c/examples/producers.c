@@ -8,12 +8,13 @@
 #include <partial.h>
 
 #include <pthread.h>
+#include <sched.h>
 #include <stdatomic.h>
 #include <stdint.h>
 #include <stdio.h>
 #include <stdlib.h>
 
-enum { PRODUCERS = 4, DEPTH = 16 };
+enum { PRODUCERS = 4, DEPTH = 16, TRIES = 64 };
 
 /* How many producers still make updates. */
 static atomic_uint producing;
@@ -27,6 +28,17 @@ typedef struct work {
     uint64_t ties;
 } work;
 
+/* Whether a call is to be made again: it was refused for the moment, and fewer than TRIES
+ * times so far. Other threads go on meanwhile. */
+static int again(uint32_t refusal, int *tries)
+{
+    if (!partial_is_transient(refusal) || ++*tries == TRIES) {
+        return 0;
+    }
+    sched_yield();
+    return 1;
+}
+
 /* Fills a queue of DEPTH entries and empties it, by turns, and publishes each length. */
 static void *produce(void *given)
 {
@@ -35,7 +47,10 @@ static void *produce(void *given)
         uint64_t at = turn % (2 * DEPTH);
         uint64_t length = at < DEPTH ? at : 2 * DEPTH - at;
         partial_update_answer answer;
-        own->refusal = partial_port_update(&own->port, own->number, length, &answer);
+        int tries = 0;
+        do {
+            own->refusal = partial_port_update(&own->port, own->number, length, &answer);
+        } while (again(own->refusal, &tries));
     }
     atomic_fetch_sub(&producing, 1);
     return NULL;
@@ -50,7 +65,10 @@ static void *watch(void *given)
         const uint32_t which[2] = {first, (first + 1) % PRODUCERS};
         uint64_t lengths[2];
         partial_scan_answer answer;
-        own->refusal = partial_port_scan(&own->port, which, 2, lengths, 2, &answer);
+        int tries = 0;
+        do {
+            own->refusal = partial_port_scan(&own->port, which, 2, lengths, 2, &answer);
+        } while (again(own->refusal, &tries));
         if (own->refusal == 0 && (lengths[0] > DEPTH || lengths[1] > DEPTH)) {
             own->refusal = UINT32_MAX;
         }
@@ -98,7 +116,7 @@ int main(int count, char **words)
     refusal = refusal != 0 ? refusal : partial_memory_close(&memory, lengths, PRODUCERS);
     partial_memory_free(&memory);
     if (refusal != 0) {
-        printf("refused: %u\n", (unsigned)refusal);
+        printf("refused: %s (%u)\n", refusal == UINT32_MAX ? "a thread or a sum" : partial_text(refusal), (unsigned)refusal);
         return 1;
     }
     printf("%llu updates beside %llu scans; two neighbours were of one length in %llu\n",

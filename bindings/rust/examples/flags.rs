@@ -3,7 +3,7 @@
 //!
 //! A word says how often flags are flipped; without one they are flipped ten million times.
 
-use partial_door::{Memory, Port, Refused, UpdatedIf};
+use partial_door::{Memory, Port, Refused};
 use std::error::Error;
 use std::thread;
 
@@ -27,10 +27,10 @@ fn flip(mut port: Port, thread: u32, flips: u64) -> Result<[u64; WORDS as usize]
 /// that the scan saw, by its stamp; otherwise the two are scanned again.
 fn set_first_clear(port: &mut Port, words: [u32; 2]) -> Result<Option<u64>, Refused> {
     loop {
-        let (flags, Some(stamps)) = port.scan_stamped(words)? else { continue };
+        let (flags, Some(stamps)) = port.retry(|port| port.scan_stamped(words))? else { continue };
         let Some(k) = flags.iter().position(|&word| word != u64::MAX) else { return Ok(None) };
         let flag = flags[k].trailing_ones();
-        if let UpdatedIf::Applied { .. } = port.update_if(words[k], stamps[k], flags[k] | 1 << flag)? {
+        if port.retry(|port| port.update_if(words[k], stamps[k], flags[k] | 1 << flag))?.is_applied() {
             return Ok(Some(64 * u64::from(words[k]) + u64::from(flag)));
         }
     }

@@ -13,6 +13,13 @@ const WRITERS: u32 = 4;
 const UNITS: u64 = 1000;
 const UPDATES: u64 = 10_000_000;
 
+/// Sets an account of this writer. An update that is refused for the moment is made again.
+fn set(port: &mut Port, account: u32, units: u64) -> Result<(), Refused> {
+    let updated = port.retry(|port| port.update(account, units))?;
+    assert!(updated.is_applied(), "no other writer updates the account");
+    Ok(())
+}
+
 /// Moves units from one account of this writer to the other and back: out of one first, and then into the other.
 fn move_units(mut port: Port, writer: u32, moves: u64) -> Result<(), Refused> {
     let accounts = [2 * writer, 2 * writer + 1];
@@ -20,20 +27,19 @@ fn move_units(mut port: Port, writer: u32, moves: u64) -> Result<(), Refused> {
     for turn in 0..moves {
         let from = (turn / UNITS % 2) as usize;
         held[from] -= 1;
-        port.update(accounts[from], held[from])?;
+        set(&mut port, accounts[from], held[from])?;
         held[1 - from] += 1;
-        port.update(accounts[1 - from], held[1 - from])?;
+        set(&mut port, accounts[1 - from], held[1 - from])?;
     }
     Ok(())
 }
 
 /// Scans all accounts until the writers are done. Returns how often, and in how many scans a unit was on its way.
 fn monitor(mut port: Port, writing: &AtomicU32) -> Result<(u64, u64), Refused> {
-    let all: Vec<u32> = (0..2 * WRITERS).collect();
-    let mut values = vec![0; all.len()];
+    let mut values = vec![0; 2 * WRITERS as usize];
     let (mut scans, mut moving) = (0, 0);
     while writing.load(Ordering::Acquire) > 0 {
-        port.scan(&all, &mut values)?;
+        port.retry(|port| port.scan_all(&mut values))?;
         for pair in values.chunks(2) {
             let sum = pair[0] + pair[1];
             assert!(sum == UNITS || sum == UNITS - 1, "{pair:?} aren't the accounts of one moment");

@@ -135,10 +135,7 @@ impl Thread {
 
     /// Sets a component of this thread.
     fn set(&mut self, component: u32, value: u64) {
-        let answer = self.call(
-            |port| port.update(component, value),
-            |_| format!("update {component} {value}"),
-        );
+        let answer = self.call(|port| port.update(component, value), |_| format!("update {component} {value}"));
         self.counts.updates += 1;
         match answer {
             Some(Updated::Applied { stamp }) => {

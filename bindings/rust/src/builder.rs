@@ -1,7 +1,8 @@
 //! How a memory is made.
 
-use crate::memory::Memory;
+use crate::memory::{next_number, Memory};
 use crate::raw;
+use crate::sizes;
 use crate::OpenError;
 
 /// How many ports a memory has, and how large its arenas are. There are two arenas for each port. An arena of `m`
@@ -15,6 +16,7 @@ use crate::OpenError;
 /// assert_eq!(memory.port()?.read(2)?.value, 3);
 /// # Ok::<(), Box<dyn std::error::Error + Send + Sync>>(())
 /// ```
+#[must_use]
 #[derive(Clone, Copy, Debug, PartialEq, Eq)]
 pub struct Builder {
     ports: u32,
@@ -24,13 +26,7 @@ pub struct Builder {
 impl Default for Builder {
     /// 64 ports, 1,024 list words, and as many pool words as suit the number of ports.
     fn default() -> Builder {
-        Builder {
-            ports: 64,
-            arena: raw::Arena {
-                list_words: 1024,
-                pool_words: 0,
-            },
-        }
+        Builder { ports: 64, arena: raw::Arena { list_words: 1024, pool_words: 0 } }
     }
 }
 
@@ -66,8 +62,8 @@ impl Builder {
     /// more for each component of a view that it stores; a scan claims 1, and 1 more for each position. The words
     /// and the room of `4 + 2 m` words for each port, for `m` components, are at most 131,072 together.
     ///
-    /// 0 stands for the number that a memory has by default: 16,384 for each port, but no more than 262,144 divided by
-    /// the number of ports, and no more than there is room for; and always 16,384 at least.
+    /// 0 is the number that a memory has by default: 16,384 for each port, but no more than 262,144 divided by the number
+    /// of ports, or 16 for each component if that is more; no more than there is room for, and always 16,384 at least.
     ///
     /// ```
     /// use partial_door::{Memory, OpenError};
@@ -81,13 +77,33 @@ impl Builder {
         self
     }
 
+    /// How many components a memory with so many ports and such arenas may have: with more, or when this is 0, it isn't
+    /// made.
+    ///
+    /// ```
+    /// use partial_door::Memory;
+    ///
+    /// assert_eq!(Memory::builder().max_components(), 894);
+    /// assert_eq!(Memory::builder().ports(1).max_components(), 57_342);
+    /// assert_eq!(Memory::builder().ports(65).max_components(), 0);
+    /// ```
+    #[must_use]
+    pub fn max_components(&self) -> usize {
+        sizes::max_components(self.ports, self.arena)
+    }
+
     /// Makes a memory whose components hold these values.
     ///
     /// # Errors
     /// The first that holds: [`OpenError::Ports`] when there are not 1 to 64 ports; [`OpenError::Components`] when
     /// there are not 1 to 65,536 values; [`OpenError::ListWords`] or [`OpenError::PoolWords`] when an arena would
-    /// have too many of them; [`OpenError::Memory`] when an allocation was refused. Nothing is left of the attempt.
+    /// have too many of them; [`OpenError::OutOfMemory`] when an allocation was refused. Nothing is left of the attempt.
     pub fn open(self, initial: &[u64]) -> Result<Memory, OpenError> {
-        Memory::open(initial, self.ports, &self.arena)
+        self.open_as(next_number(), initial)
+    }
+
+    /// Makes the memory of this number, which no other memory has.
+    pub(crate) fn open_as(self, number: u64, initial: &[u64]) -> Result<Memory, OpenError> {
+        Memory::open(number, initial, self.ports, &self.arena)
     }
 }

@@ -17,7 +17,9 @@ pub enum OpenError {
     /// The pool words of an arena, with the room for each port, are more than 131,072.
     PoolWords,
     /// An allocation was refused.
-    Memory,
+    OutOfMemory,
+    /// The library is of another version than this crate.
+    OtherVersion,
 }
 
 /// Why a port was not given out.
@@ -29,10 +31,21 @@ pub enum PortError {
     /// A clone of the memory was closed, or is about to be: its close was refused for want of memory.
     Closed,
     /// An allocation was refused.
-    Memory,
+    OutOfMemory,
 }
 
-/// Why an update, a read or a scan was refused. It applied nothing.
+/// Why a call of a port was refused. It applied nothing.
+///
+/// ```
+/// use partial_door::{Memory, Refused};
+///
+/// let mut port = Memory::new(&[5])?.port()?;
+/// let refused = port.read(1).unwrap_err();
+/// assert_eq!((refused, refused.is_transient()), (Refused::Component, false));
+/// assert!(Refused::Overtaken.is_transient());
+/// assert_eq!(Refused::Overtaken.to_string(), "overtaken by changes of epoch: try again");
+/// # Ok::<(), Box<dyn std::error::Error + Send + Sync>>(())
+/// ```
 #[derive(Clone, Copy, Debug, PartialEq, Eq)]
 #[non_exhaustive]
 pub enum Refused {
@@ -40,14 +53,19 @@ pub enum Refused {
     Component,
     /// The two lengths differ, or there are more positions than components.
     Length,
-    /// The epoch was changed 16 times during the update.
+    /// The epoch was changed 16 times during the update. The same call may be answered when it is made again.
     Overtaken,
-    /// The epoch has to be changed, and each arena is in use.
+    /// The epoch has to be changed, and each arena is in use. The same call may be answered when it is made again, after
+    /// other threads have gone on.
     NoArena,
     /// The epoch has to be changed, and the current one is the last one that a word can name.
     EpochsSpent,
-    /// The expected stamp is one of another memory.
+    /// A stamp is one of another memory.
     Stamp,
+    /// A key is one of another memory.
+    Key,
+    /// An allocation was refused. Only the calls that say so take memory.
+    OutOfMemory,
 }
 
 /// Why a memory was not closed.
@@ -60,7 +78,7 @@ pub enum CloseError {
     Closed,
     /// An allocation was refused. The contents are as they were, and the memory may be closed later. It may give out
     /// no port anymore.
-    Memory(Memory),
+    OutOfMemory(Memory),
 }
 
 impl OpenError {
@@ -70,19 +88,21 @@ impl OpenError {
             3 => OpenError::ListWords,
             4 => OpenError::PoolWords,
             5 => OpenError::Ports,
-            _ => OpenError::Memory,
+            _ => OpenError::OutOfMemory,
         }
     }
 
     /// The number of the refusal: 5 for `Ports`, 1 for `Components`, 3 for `ListWords`, 4 for `PoolWords`, 6 for
-    /// `Memory`.
+    /// `OutOfMemory`, 31 for `OtherVersion`.
+    #[must_use]
     pub fn code(self) -> u32 {
         match self {
             OpenError::Ports => 5,
             OpenError::Components => 1,
             OpenError::ListWords => 3,
             OpenError::PoolWords => 4,
-            OpenError::Memory => 6,
+            OpenError::OutOfMemory => 6,
+            OpenError::OtherVersion => 31,
         }
     }
 }
@@ -92,16 +112,17 @@ impl PortError {
         match code {
             17 => PortError::Closed,
             21 => PortError::NoneFree,
-            _ => PortError::Memory,
+            _ => PortError::OutOfMemory,
         }
     }
 
-    /// The number of the refusal: 21 for `NoneFree`, 17 for `Closed`, 6 for `Memory`.
+    /// The number of the refusal: 21 for `NoneFree`, 17 for `Closed`, 6 for `OutOfMemory`.
+    #[must_use]
     pub fn code(self) -> u32 {
         match self {
             PortError::NoneFree => 21,
             PortError::Closed => 17,
-            PortError::Memory => 6,
+            PortError::OutOfMemory => 6,
         }
     }
 }
@@ -119,8 +140,17 @@ impl Refused {
         }
     }
 
+    /// Whether the same call may be answered when it is made again: for `Overtaken` and `NoArena`. [`Port::retry`] does so.
+    ///
+    /// [`Port::retry`]: crate::Port::retry
+    #[must_use]
+    pub fn is_transient(self) -> bool {
+        matches!(self, Refused::Overtaken | Refused::NoArena)
+    }
+
     /// The number of the refusal: 7 for `Component`, 19 for `Length`, 25 for `Overtaken`, 26 for `NoArena`, 27 for
-    /// `EpochsSpent`, and 28 for `Stamp`, which this crate finds and not the library.
+    /// `EpochsSpent`; and 28 for `Stamp`, 29 for `Key` and 6 for `OutOfMemory`, which this crate finds and not the library.
+    #[must_use]
     pub fn code(self) -> u32 {
         match self {
             Refused::Component => 7,
@@ -129,6 +159,8 @@ impl Refused {
             Refused::NoArena => 26,
             Refused::EpochsSpent => 27,
             Refused::Stamp => 28,
+            Refused::Key => 29,
+            Refused::OutOfMemory => 6,
         }
     }
 }
@@ -138,16 +170,17 @@ impl CloseError {
         match code {
             17 => CloseError::Closed,
             22 | 24 => CloseError::InUse(memory),
-            _ => CloseError::Memory(memory),
+            _ => CloseError::OutOfMemory(memory),
         }
     }
 
-    /// The number of the refusal: 22 for `InUse`, 17 for `Closed`, 6 for `Memory`.
+    /// The number of the refusal: 22 for `InUse`, 17 for `Closed`, 6 for `OutOfMemory`.
+    #[must_use]
     pub fn code(&self) -> u32 {
         match self {
             CloseError::InUse(_) => 22,
             CloseError::Closed => 17,
-            CloseError::Memory(_) => 6,
+            CloseError::OutOfMemory(_) => 6,
         }
     }
 }
@@ -159,7 +192,8 @@ impl fmt::Display for OpenError {
             OpenError::Components => "components out of range",
             OpenError::ListWords => "list words out of range",
             OpenError::PoolWords => "pool words out of range",
-            OpenError::Memory => "out of memory",
+            OpenError::OutOfMemory => "out of memory",
+            OpenError::OtherVersion => "the library is of another version than the crate",
         })
     }
 }
@@ -169,7 +203,7 @@ impl fmt::Display for PortError {
         f.write_str(match self {
             PortError::NoneFree => "all ports are in use",
             PortError::Closed => "the memory is closed",
-            PortError::Memory => "out of memory",
+            PortError::OutOfMemory => "out of memory",
         })
     }
 }
@@ -179,10 +213,12 @@ impl fmt::Display for Refused {
         f.write_str(match self {
             Refused::Component => "an index isn't below the number of components",
             Refused::Length => "two lengths differ, or one is too large",
-            Refused::Overtaken => "overtaken by changes of epoch",
-            Refused::NoArena => "no arena is free",
+            Refused::Overtaken => "overtaken by changes of epoch: try again",
+            Refused::NoArena => "no arena is free: try again when other threads have gone on",
             Refused::EpochsSpent => "epochs used up",
-            Refused::Stamp => "the expected stamp is one of another memory",
+            Refused::Stamp => "a stamp is one of another memory",
+            Refused::Key => "a key is one of another memory",
+            Refused::OutOfMemory => "out of memory",
         })
     }
 }
@@ -192,7 +228,7 @@ impl fmt::Display for CloseError {
         f.write_str(match self {
             CloseError::InUse(_) => "a port is in use",
             CloseError::Closed => "the memory is closed",
-            CloseError::Memory(_) => "out of memory",
+            CloseError::OutOfMemory(_) => "out of memory",
         })
     }
 }

@@ -1,34 +1,50 @@
 //! Memories that never wear out.
 
+use crate::counted::Counted;
 use crate::port::Port;
 use crate::raw::{self, Handle};
-use crate::{Builder, CloseError, OpenError, PortError};
+use crate::{is_of_this_version, Builder, CloseError, OpenError, PortError, ENGINE};
 use std::fmt;
 use std::sync::atomic::{AtomicU64, Ordering};
-use std::sync::{Arc, Mutex, MutexGuard, PoisonError};
+use std::sync::{Mutex, MutexGuard, PoisonError};
 
 // The number of the next memory. Each memory has a number of its own.
 static MEMORIES: AtomicU64 = AtomicU64::new(0);
 
+/// A number that no other memory has.
+pub(crate) fn next_number() -> u64 {
+    MEMORIES.fetch_add(1, Ordering::Relaxed)
+}
+
+/// The library's memory, which holds the ports that are free, and how many they are. It is empty once it is closed.
+struct Home {
+    memory: Handle,
+    free: u32,
+}
+
 /// What a memory's clones and ports share.
 pub(crate) struct Shared {
-    // The library's memory, which holds the ports that are free. It is empty once the memory is closed.
-    home: Mutex<Handle>,
-    /// The number of the memory, which its stamps carry.
+    home: Mutex<Home>,
+    /// The number of the memory, which its stamps and keys carry.
     pub(crate) number: u64,
-    components: u32,
+    /// The index of each component, in their order.
+    pub(crate) all: Vec<u32>,
+    bytes: usize,
 }
 
 impl Shared {
     // Nobody panics while it is locked, so a poisoned lock guards a whole handle too.
-    fn home(&self) -> MutexGuard<'_, Handle> {
+    fn home(&self) -> MutexGuard<'_, Home> {
         self.home.lock().unwrap_or_else(PoisonError::into_inner)
     }
 
     /// Takes a port in. The library has room for it, so an allocation isn't refused; otherwise the port is freed.
     pub(crate) fn take_in(&self, port: &mut Handle) {
+        let mut home = self.home();
         // SAFETY: both handles are borrowed for the call, and the numbers of two memories differ.
-        unsafe { raw::partial_door_memory_give_port(&mut *self.home(), port) };
+        if unsafe { raw::partial_door_memory_give_port(&mut home.memory, port) } == 0 {
+            home.free += 1;
+        }
     }
 }
 
@@ -37,7 +53,7 @@ impl Shared {
 /// A thread calls it by a [`Port`]. The memory is freed when its clones and all its ports are dropped.
 #[derive(Clone)]
 pub struct Memory {
-    shared: Arc<Shared>,
+    shared: Counted<Shared>,
 }
 
 impl Memory {
@@ -53,7 +69,7 @@ impl Memory {
     ///
     /// # Errors
     /// As those of [`Builder::open`]. There is room for 894 components with 64 ports; a [`Builder`] with fewer ports
-    /// allows more.
+    /// allows more ([`Builder::max_components`]).
     pub fn new(initial: &[u64]) -> Result<Memory, OpenError> {
         Builder::default().open(initial)
     }
@@ -71,23 +87,25 @@ impl Memory {
         Builder::default()
     }
 
-    pub(crate) fn open(initial: &[u64], ports: u32, arena: &raw::Arena) -> Result<Memory, OpenError> {
-        let number = MEMORIES.fetch_add(1, Ordering::Relaxed);
-        let mut handle = Handle::empty();
-        // SAFETY: the values, the sizes and the empty handle are borrowed for the call, and the number is new.
-        let code = unsafe {
-            raw::partial_door_memory_new(number, initial.as_ptr(), initial.len(), ports, arena, &mut handle)
-        };
-        match code {
-            0 => Ok(Memory {
-                shared: Arc::new(Shared {
-                    home: Mutex::new(handle),
-                    number,
-                    components: initial.len() as u32,
-                }),
-            }),
-            code => Err(OpenError::of(code)),
+    pub(crate) fn open(number: u64, initial: &[u64], ports: u32, arena: &raw::Arena) -> Result<Memory, OpenError> {
+        if !is_of_this_version() {
+            return Err(OpenError::OtherVersion);
         }
+        let mut memory = Handle::empty();
+        // SAFETY: the values, the sizes and the empty handle are borrowed for the call, and the number is new.
+        match unsafe {
+            raw::partial_door_memory_new(number, initial.as_ptr(), initial.len(), ports, arena, &mut memory)
+        } {
+            0 => {}
+            code => return Err(OpenError::of(code)),
+        }
+        let mut all = Vec::new();
+        all.try_reserve_exact(initial.len()).map_err(|_| OpenError::OutOfMemory)?;
+        // The library opens no memory of more components than a `u32` can count.
+        all.extend(0..initial.len() as u32);
+        let bytes = raw::bytes(initial.len(), ports, arena);
+        let shared = Shared { home: Mutex::new(Home { memory, free: ports }), number, all, bytes };
+        Ok(Memory { shared: Counted::new(shared).ok_or(OpenError::OutOfMemory)? })
     }
 
     /// A port of the memory that is free. It comes back when it is dropped, also by a thread that panics.
@@ -100,7 +118,7 @@ impl Memory {
     /// let memory = Memory::builder().ports(1).open(&[1])?;
     /// let mut port = memory.port()?;
     /// let failed = std::thread::spawn(move || {
-    ///     port.update(0, 7).expect("component 0 is there");
+    ///     let _ = port.update(0, 7).expect("component 0 is there");
     ///     panic!("the port is dropped");
     /// });
     /// assert!(failed.join().is_err());
@@ -110,14 +128,50 @@ impl Memory {
     ///
     /// # Errors
     /// [`PortError::NoneFree`] when all ports are in use, [`PortError::Closed`] when a clone of the memory was closed,
-    /// and [`PortError::Memory`] when an allocation was refused.
+    /// and [`PortError::OutOfMemory`] when an allocation was refused.
     pub fn port(&self) -> Result<Port, PortError> {
-        let mut handle = Handle::empty();
+        let mut port = Handle::empty();
+        let mut home = self.shared.home();
         // SAFETY: both handles are borrowed for the call.
-        match unsafe { raw::partial_door_memory_take_port(&mut *self.shared.home(), &mut handle) } {
-            0 => Ok(Port::new(handle, &self.shared)),
-            code => Err(PortError::of(code)),
+        match unsafe { raw::partial_door_memory_take_port(&mut home.memory, &mut port) } {
+            0 => home.free -= 1,
+            code => return Err(PortError::of(code)),
         }
+        drop(home);
+        Ok(Port::new(port, self.shared.clone()))
+    }
+
+    /// How many ports are free: so many more can be taken, if no other thread takes one. It takes the lock of
+    /// [`Memory::port`]. A memory that is closed, or whose close was refused for want of memory, has none.
+    ///
+    /// ```
+    /// use partial_door::Memory;
+    ///
+    /// let memory = Memory::builder().ports(3).open(&[1])?;
+    /// let port = memory.port()?;
+    /// assert_eq!(memory.free_ports(), 2);
+    /// drop(port);
+    /// assert_eq!(memory.free_ports(), 3);
+    /// # Ok::<(), Box<dyn std::error::Error + Send + Sync>>(())
+    /// ```
+    #[must_use]
+    pub fn free_ports(&self) -> u32 {
+        self.shared.home().free
+    }
+
+    /// How many bytes the words take that all threads share: nearly all are those of the arenas. The buffers of each port
+    /// and the 4 bytes that this crate has for each component aren't counted.
+    ///
+    /// ```
+    /// use partial_door::Memory;
+    ///
+    /// let (few, many) = (Memory::builder().open(&[0; 3])?, Memory::builder().open(&[0; 300])?);
+    /// assert!(few.bytes() < many.bytes());
+    /// # Ok::<(), partial_door::OpenError>(())
+    /// ```
+    #[must_use]
+    pub fn bytes(&self) -> usize {
+        self.shared.bytes
     }
 
     /// The number of components.
@@ -127,8 +181,9 @@ impl Memory {
     /// # Ok::<(), partial_door::OpenError>(())
     /// ```
     #[allow(clippy::len_without_is_empty)]
+    #[must_use]
     pub fn len(&self) -> usize {
-        self.shared.components as usize
+        self.shared.all.len()
     }
 
     /// Closes the memory when all its ports are free, and returns the value of each component, by its index. They are
@@ -139,7 +194,7 @@ impl Memory {
     ///
     /// let memory = Memory::new(&[1, 2])?;
     /// let mut port = memory.port()?;
-    /// port.update(0, 7)?;
+    /// assert!(port.update(0, 7)?.is_applied());
     /// let Err(CloseError::InUse(memory)) = memory.close() else { panic!("a port is in use") };
     /// drop(port);
     /// assert_eq!(memory.close()?, [7, 2]);
@@ -148,18 +203,22 @@ impl Memory {
     ///
     /// # Errors
     /// [`CloseError::InUse`] when a port is in use, [`CloseError::Closed`] when a clone of the memory was closed, and
-    /// [`CloseError::Memory`] when an allocation was refused. The first and the last have the memory, whose contents
+    /// [`CloseError::OutOfMemory`] when an allocation was refused. The first and the last have the memory, whose contents
     /// are as they were.
     pub fn close(self) -> Result<Vec<u64>, CloseError> {
         let mut values = Vec::new();
         if values.try_reserve_exact(self.len()).is_err() {
-            return Err(CloseError::Memory(self));
+            return Err(CloseError::OutOfMemory(self));
         }
         values.resize(self.len(), 0);
+        let mut home = self.shared.home();
         // SAFETY: the handle and the values are borrowed for the call.
-        let code = unsafe {
-            raw::partial_door_memory_close(&mut *self.shared.home(), values.as_mut_ptr(), values.len())
-        };
+        let code = unsafe { raw::partial_door_memory_close(&mut home.memory, values.as_mut_ptr(), values.len()) };
+        // A memory whose close is refused for want of memory (6) keeps its ports until it's closed.
+        if matches!(code, 0 | 6) {
+            home.free = 0;
+        }
+        drop(home);
         match code {
             0 => Ok(values),
             code => Err(CloseError::of(code, self)),
@@ -171,7 +230,8 @@ impl fmt::Debug for Memory {
     fn fmt(&self, f: &mut fmt::Formatter<'_>) -> fmt::Result {
         f.debug_struct("Memory")
             .field("number", &self.shared.number)
-            .field("components", &self.shared.components)
+            .field("components", &self.len())
+            .field("engine", &ENGINE)
             .finish()
     }
 }

@@ -11,8 +11,8 @@
 //! let (memory, mut ports) = open(&[10, 20, 30], sizes, 2)?;
 //! let mut second = ports.pop().expect("two ports");
 //! let mut first = ports.pop().expect("two ports");
-//! first.update(0, 11)?;
-//! second.update(2, 33)?;
+//! assert!(first.update(0, 11)?.is_applied());
+//! assert!(second.update(2, 33)?.is_applied());
 //! assert_eq!(first.scan_array([2, 0])?, [33, 11]);
 //! assert_eq!(memory.close(vec![first, second])?.values(), [11, 20, 33]);
 //! # Ok::<(), Box<dyn std::error::Error + Send + Sync>>(())
@@ -27,7 +27,7 @@ mod error;
 mod memory;
 mod port;
 
-pub use answers::{Scanned, Sizes, Stamp, Updated, UpdatedIf, Value};
+pub use answers::{Change, Scanned, Sizes, Stamp, Updated, UpdatedIf, Value};
 pub use error::{CloseError, OpenError, Refused, TwoMemories};
 pub use memory::{open, Closed, Memory};
 pub use port::Port;

@@ -1,13 +1,28 @@
 //! Ports: the tokens by which threads call a memory.
 
 use crate::answers::loaded;
+use crate::counted::Counted;
 use crate::memory::Shared;
 use crate::raw::{self, Handle};
-use crate::{Refused, Scanned, Stamp, TwoMemories, Updated, UpdatedIf, Value};
+use crate::typed::with_room;
+use crate::{Change, Refused, Scanned, Stamp, TwoMemories, Updated, UpdatedIf, Value};
 use std::fmt;
-use std::sync::Arc;
+use std::thread;
+
+/// How often [`Port::retry`], [`Port::modify`] and [`Port::change`] make a call in all that is refused for the moment.
+pub const TRIES: u32 = 64;
 
 /// A port of a memory: a caller's token. One thread at a time uses it; it may move to another thread.
+///
+/// ```compile_fail,E0499
+/// let memory = partial_door::Memory::new(&[5])?;
+/// let mut port = memory.port()?;
+/// std::thread::scope(|scope| {
+///     scope.spawn(|| port.update(0, 6));
+///     scope.spawn(|| port.update(0, 7)); // another thread uses the port
+/// });
+/// # Ok::<(), Box<dyn std::error::Error + Send + Sync>>(())
+/// ```
 ///
 /// A port that is dropped is free again: [`Memory::port`](crate::Memory::port) gives it out. One that is forgotten
 /// (`std::mem::forget`) stays in use, and its memory can't be closed.
@@ -15,22 +30,23 @@ pub struct Port {
     handle: Handle,
     number: u32,
     memory: u64,
-    shared: Arc<Shared>,
+    shared: Counted<Shared>,
 }
 
 impl Port {
     /// The port of this handle, which the library has filled.
-    pub(crate) fn new(mut handle: Handle, shared: &Arc<Shared>) -> Port {
+    pub(crate) fn new(mut handle: Handle, shared: Counted<Shared>) -> Port {
         let mut number = 0;
         // SAFETY: the handle and the place for the answer are borrowed for the call.
         let code = unsafe { raw::partial_door_port_number(&mut handle, &mut number) };
         assert_eq!(code, 0, "a port's handle holds a port");
-        Port {
-            handle,
-            number,
-            memory: shared.number,
-            shared: Arc::clone(shared),
-        }
+        Port { handle, number, memory: shared.number, shared }
+    }
+
+    /// The number of the memory.
+    #[inline]
+    pub(crate) fn memory(&self) -> u64 {
+        self.memory
     }
 
     /// Sets component `component` to `value`. An applied update is the last entry of the history that the
@@ -48,7 +64,8 @@ impl Port {
     /// # Errors
     /// [`Refused::Component`] when `component` isn't below the number of components. [`Refused::Overtaken`] when
     /// the epoch was changed 16 times during the call; [`Refused::NoArena`] and [`Refused::EpochsSpent`] when the
-    /// epoch has to be changed and can't be. Nothing was applied.
+    /// epoch has to be changed and can't be. Nothing was applied. [`Port::retry`] makes the call again after the first two
+    /// of these three.
     #[inline]
     pub fn update(&mut self, component: u32, value: u64) -> Result<Updated, Refused> {
         let mut answer = raw::UpdateAnswer::default();
@@ -62,6 +79,9 @@ impl Port {
 
     /// Sets component `component` to `value` if it has the stamp `expected`. Otherwise the component had another
     /// stamp, which the answer names, at a moment of the call. No stamp of a memory ever comes back.
+    ///
+    /// The answer has no value beside the other stamp: the library has loaded none, and to load it would cost each such
+    /// call. [`Port::modify`] is for updates that depend on the present value.
     ///
     /// ```
     /// use partial_door::{Memory, UpdatedIf};
@@ -84,9 +104,8 @@ impl Port {
         }
         let mut answer = raw::UpdateAnswer::default();
         // SAFETY: the handle and the place for the answer are borrowed for the call.
-        let code = unsafe {
-            raw::partial_door_port_update_if(&mut self.handle, component, expected.word, value, &mut answer)
-        };
+        let code =
+            unsafe { raw::partial_door_port_update_if(&mut self.handle, component, expected.word, value, &mut answer) };
         match code {
             0 if answer.applied == 1 => Ok(UpdatedIf::Applied { stamp: self.stamp(answer.stamp) }),
             0 => Ok(UpdatedIf::Changed { by: self.stamp(answer.stamp) }),
@@ -94,18 +113,49 @@ impl Port {
         }
     }
 
-    /// Sets component `component` to what the closure makes of its value, and tries again with the new value when
-    /// another update came between. `None` from the closure ends it: nothing is applied. Returns the stamp of the
-    /// update and the value that it set, or `None`.
+    /// Makes a call of this port, and makes it again as long as it's refused for the moment
+    /// ([`is_transient`](Refused::is_transient)): up to 64 times in all ([`TRIES`]). Between two calls the thread lets others
+    /// go on. A last refusal is returned.
     ///
-    /// Each try is wait-free; how many there are depends on the other ports.
+    /// With the usual sizes of a memory such refusals are very rare, and 64 of them in a row rarer still. Each call is
+    /// wait-free, so this is too.
     ///
     /// ```
     /// use partial_door::Memory;
     ///
     /// let mut port = Memory::new(&[5])?.port()?;
-    /// let set = port.modify(0, |value| value.checked_add(1))?.expect("it has room");
-    /// assert_eq!((set.value, port.read(0)?), (6, set));
+    /// assert!(port.retry(|port| port.update(0, 6))?.is_applied());
+    /// assert_eq!(port.retry(|port| port.scan_array([0]))?, [6]);
+    /// # Ok::<(), Box<dyn std::error::Error + Send + Sync>>(())
+    /// ```
+    ///
+    /// # Errors
+    /// Those of the call.
+    #[inline]
+    pub fn retry<T>(&mut self, mut call: impl FnMut(&mut Port) -> Result<T, Refused>) -> Result<T, Refused> {
+        for _ in 1..TRIES {
+            match call(self) {
+                Err(refused) if refused.is_transient() => thread::yield_now(),
+                answer => return answer,
+            }
+        }
+        call(self)
+    }
+
+    /// Sets component `component` to what the closure makes of its value, and tries again with the new value when
+    /// another update came between. `None` from the closure ends it: nothing is applied. Returns the value before and the
+    /// one after, each with its stamp, or `None`.
+    ///
+    /// Each try is wait-free; how many there are depends on the other ports. A try that is refused for the moment is made
+    /// again as [`Port::retry`] does.
+    ///
+    /// ```
+    /// use partial_door::Memory;
+    ///
+    /// let mut port = Memory::new(&[5])?.port()?;
+    /// let change = port.modify(0, |value| value.checked_add(1))?.expect("it has room");
+    /// assert_eq!((change.before.value, change.after.value), (5, 6));
+    /// assert_eq!(port.read(0)?, change.after);
     /// assert_eq!(port.modify(0, |_| None)?, None);
     /// # Ok::<(), Box<dyn std::error::Error + Send + Sync>>(())
     /// ```
@@ -116,14 +166,25 @@ impl Port {
         &mut self,
         component: u32,
         mut change: impl FnMut(u64) -> Option<u64>,
-    ) -> Result<Option<Value>, Refused> {
+    ) -> Result<Option<Change>, Refused> {
+        let mut tries = 0;
         loop {
-            let seen = self.read(component)?;
-            let Some(value) = change(seen.value) else {
+            let before = self.read(component)?;
+            let Some(value) = change(before.value) else {
                 return Ok(None);
             };
-            if let UpdatedIf::Applied { stamp } = self.update_if(component, seen.stamp, value)? {
-                return Ok(Some(Value { value, stamp }));
+            match self.update_if(component, before.stamp, value) {
+                Ok(UpdatedIf::Applied { stamp }) => {
+                    return Ok(Some(Change { before, after: Value { value, stamp } }));
+                }
+                Ok(UpdatedIf::Changed { .. }) => {}
+                Err(refused) => {
+                    tries += 1;
+                    if tries == TRIES || !refused.is_transient() {
+                        return Err(refused);
+                    }
+                    thread::yield_now();
+                }
             }
         }
     }
@@ -146,10 +207,7 @@ impl Port {
         let mut answer = raw::ReadAnswer::default();
         // SAFETY: the handle and the place for the answer are borrowed for the call.
         match unsafe { raw::partial_door_port_read(&mut self.handle, component, &mut answer) } {
-            0 => Ok(Value {
-                value: answer.value,
-                stamp: self.stamp(answer.stamp),
-            }),
+            0 => Ok(Value { value: answer.value, stamp: self.stamp(answer.stamp) }),
             code => Err(Refused::of(code)),
         }
     }
@@ -173,25 +231,28 @@ impl Port {
     /// [`Refused::EpochsSpent`] when the epoch has to be changed and can't be. `into` is as it was.
     #[inline]
     pub fn scan(&mut self, which: &[u32], into: &mut [u64]) -> Result<Scanned, Refused> {
-        let mut answer = raw::ScanAnswer::default();
-        // SAFETY: the handle, both slices and the place for the answer are borrowed for the call.
-        let code = unsafe {
-            raw::partial_door_port_scan(
-                &mut self.handle,
-                which.as_ptr(),
-                which.len(),
-                into.as_mut_ptr(),
-                into.len(),
-                &mut answer,
-            )
-        };
-        match code {
-            0 => Ok(Scanned {
-                collects: answer.collects,
-                borrowed: (answer.borrowed == 1).then(|| self.stamp(answer.stamp)),
-            }),
-            code => Err(Refused::of(code)),
-        }
+        let answer = scan_by(&mut self.handle, which, into)?;
+        Ok(self.scanned(&answer))
+    }
+
+    /// Scans all components, by their indices: `into` has their values as they stood together at one moment of the call.
+    ///
+    /// ```
+    /// use partial_door::Memory;
+    ///
+    /// let memory = Memory::new(&[5, 8, 9])?;
+    /// let mut values = vec![0; memory.len()];
+    /// memory.port()?.scan_all(&mut values)?;
+    /// assert_eq!(values, [5, 8, 9]);
+    /// # Ok::<(), Box<dyn std::error::Error + Send + Sync>>(())
+    /// ```
+    ///
+    /// # Errors
+    /// [`Refused::Length`] when `into` isn't as long as there are components. Otherwise as those of [`Port::scan`].
+    #[inline]
+    pub fn scan_all(&mut self, into: &mut [u64]) -> Result<Scanned, Refused> {
+        let answer = scan_by(&mut self.handle, &self.shared.all, into)?;
+        Ok(self.scanned(&answer))
     }
 
     /// Scans these components, in this order and with repeats. Returns their values as they stood together at one
@@ -234,17 +295,14 @@ impl Port {
     /// As those of [`Port::scan`].
     #[inline]
     #[allow(clippy::type_complexity)]
-    pub fn scan_stamped<const N: usize>(
-        &mut self,
-        which: [u32; N],
-    ) -> Result<([u64; N], Option<[Stamp; N]>), Refused> {
+    pub fn scan_stamped<const N: usize>(&mut self, which: [u32; N]) -> Result<([u64; N], Option<[Stamp; N]>), Refused> {
         let (mut into, mut words) = ([0; N], [0; N]);
-        let told = self.scan_words(&which, &mut into, &mut words)?;
-        Ok((loaded(&into), told.then(|| loaded(&words).map(|word| self.stamp(word)))))
+        let has_stamps = self.scan_words(&which, &mut into, &mut words)?;
+        Ok((loaded(&into), has_stamps.then(|| loaded(&words).map(|word| self.stamp(word)))))
     }
 
     /// Scans the components of a slice as [`Port::scan_stamped`] does: `into` has their values, and the list their stamps.
-    /// It is `None` when the scan was helped. The list is allocated.
+    /// It is `None` when the scan was helped. The list takes memory.
     ///
     /// ```
     /// use partial_door::Memory;
@@ -258,11 +316,15 @@ impl Port {
     /// ```
     ///
     /// # Errors
-    /// As those of [`Port::scan`]. `into` is as it was.
+    /// [`Refused::OutOfMemory`] when an allocation was refused. Otherwise as those of [`Port::scan`]. `into` is as it was.
     pub fn scan_stamped_slice(&mut self, which: &[u32], into: &mut [u64]) -> Result<Option<Vec<Stamp>>, Refused> {
-        let mut words = vec![0; which.len()];
-        let told = self.scan_words(which, into, &mut words)?;
-        Ok(told.then(|| words.into_iter().map(|word| self.stamp(word)).collect()))
+        let mut stamps = Vec::new();
+        stamps.try_reserve_exact(which.len()).map_err(|_| Refused::OutOfMemory)?;
+        with_room(which.len(), |words: &mut [u64]| {
+            let has_stamps = self.scan_words(which, into, words)?;
+            stamps.extend(words.iter().map(|word| self.stamp(*word)));
+            Ok(has_stamps.then_some(stamps))
+        })
     }
 
     /// Scans these components, and says whether `words` has their stamps: unless the scan was helped.
@@ -288,10 +350,13 @@ impl Port {
         }
     }
 
-    /// Says whether each of these components still has the value that this port has read, by its stamp. If so, all of
-    /// them had these values together at one moment of the call. `false` says that a component isn't there, or had
-    /// another stamp at a moment of the call. A stamp that this port hasn't read itself was the component's own at some
-    /// moment of the call, perhaps not together with the others.
+    /// Says whether each of these components still has its stamp. If so, and this port has observed the stamps before, all
+    /// of them had these values together at one moment of the call. `false` says that a component isn't there, or had
+    /// another stamp at a moment of the call.
+    ///
+    /// A port has observed the stamps that it has read or scanned ([`Port::scan_stamped`] too), those of its own applied
+    /// updates, and what a port that it has met had observed. Any other stamp was the component's own at some moment of the
+    /// call, perhaps not together with the others.
     ///
     /// ```
     /// use partial_door::Memory;
@@ -299,7 +364,7 @@ impl Port {
     /// let mut port = Memory::new(&[5, 8])?.port()?;
     /// let seen = [(0, port.read(0)?.stamp), (1, port.read(1)?.stamp)];
     /// assert!(port.unchanged(seen)?);
-    /// port.update(1, 8)?;
+    /// assert!(port.update(1, 8)?.is_applied());
     /// assert!(!port.unchanged(seen)?);
     /// # Ok::<(), Box<dyn std::error::Error + Send + Sync>>(())
     /// ```
@@ -310,12 +375,58 @@ impl Port {
         if seen.iter().any(|(_, stamp)| stamp.memory != self.memory) {
             return Err(Refused::Stamp);
         }
-        let (which, stamps) = (seen.map(|(component, _)| component), seen.map(|(_, stamp)| stamp.word));
+        self.have_stamps(&seen.map(|(component, _)| component), &seen.map(|(_, stamp)| stamp.word))
+    }
+
+    /// The same of two slices, the components and the stamp of each. Up to 64 stamps are copied on the stack, and more take
+    /// memory.
+    ///
+    /// ```
+    /// use partial_door::Memory;
+    ///
+    /// let mut port = Memory::new(&[5, 8, 9])?.port()?;
+    /// let (which, mut values) = (vec![2, 0], vec![0; 2]);
+    /// let stamps = port.scan_stamped_slice(&which, &mut values)?.ok_or("no other port updates it")?;
+    /// assert!(port.unchanged_slice(&which, &stamps)?);
+    /// assert!(port.update(1, 8)?.is_applied() && port.unchanged_slice(&which, &stamps)?);
+    /// assert!(port.update(0, 5)?.is_applied() && !port.unchanged_slice(&which, &stamps)?);
+    /// # Ok::<(), Box<dyn std::error::Error + Send + Sync>>(())
+    /// ```
+    ///
+    /// # Errors
+    /// [`Refused::Length`] when the two lengths differ, [`Refused::Stamp`] when a stamp is one of another memory, and
+    /// [`Refused::OutOfMemory`] when an allocation was refused. No step was made.
+    pub fn unchanged_slice(&mut self, which: &[u32], stamps: &[Stamp]) -> Result<bool, Refused> {
+        if which.len() != stamps.len() {
+            return Err(Refused::Length);
+        }
+        with_room(stamps.len(), |words: &mut [u64]| {
+            for (word, stamp) in words.iter_mut().zip(stamps) {
+                if stamp.memory != self.memory {
+                    return Err(Refused::Stamp);
+                }
+                *word = stamp.word;
+            }
+            self.have_stamps(which, words)
+        })
+    }
+
+    /// Whether each of these components has the stamp of this word.
+    #[inline]
+    fn have_stamps(&mut self, which: &[u32], words: &[u64]) -> Result<bool, Refused> {
         let mut answer = 0;
-        // SAFETY: the handle, both arrays and the place for the answer are borrowed for the call.
-        match unsafe {
-            raw::partial_door_port_unchanged(&mut self.handle, which.as_ptr(), N, stamps.as_ptr(), N, &mut answer)
-        } {
+        // SAFETY: the handle, both slices and the place for the answer are borrowed for the call.
+        let code = unsafe {
+            raw::partial_door_port_unchanged(
+                &mut self.handle,
+                which.as_ptr(),
+                which.len(),
+                words.as_ptr(),
+                words.len(),
+                &mut answer,
+            )
+        };
+        match code {
             0 => Ok(answer == 1),
             code => Err(Refused::of(code)),
         }
@@ -329,7 +440,7 @@ impl Port {
     ///
     /// let memory = Memory::new(&[5])?;
     /// let (mut first, mut second) = (memory.port()?, memory.port()?);
-    /// first.update(0, 6)?;
+    /// assert!(first.update(0, 6)?.is_applied());
     /// first.meet(&mut second)?;
     /// assert_eq!(second.read(0)?.value, 6);
     /// # Ok::<(), Box<dyn std::error::Error + Send + Sync>>(())
@@ -356,15 +467,31 @@ impl Port {
     /// assert!(first.number() < 2 && second.number() < 2);
     /// # Ok::<(), Box<dyn std::error::Error + Send + Sync>>(())
     /// ```
+    #[must_use]
     pub fn number(&self) -> u32 {
         self.number
     }
 
     fn stamp(&self, word: u64) -> Stamp {
-        Stamp {
-            memory: self.memory,
-            word,
-        }
+        Stamp { memory: self.memory, word }
+    }
+
+    fn scanned(&self, answer: &raw::ScanAnswer) -> Scanned {
+        Scanned { collects: answer.collects, borrowed: (answer.borrowed == 1).then(|| self.stamp(answer.stamp)) }
+    }
+}
+
+/// Scans by the port of this handle.
+#[inline]
+fn scan_by(port: &mut Handle, which: &[u32], into: &mut [u64]) -> Result<raw::ScanAnswer, Refused> {
+    let mut answer = raw::ScanAnswer::default();
+    // SAFETY: the handle, both slices and the place for the answer are borrowed for the call.
+    let code = unsafe {
+        raw::partial_door_port_scan(port, which.as_ptr(), which.len(), into.as_mut_ptr(), into.len(), &mut answer)
+    };
+    match code {
+        0 => Ok(answer),
+        code => Err(Refused::of(code)),
     }
 }
 

@@ -1,6 +1,8 @@
 //! The proved functions of the static library, as `bindings/c/partial.h` declares them. That header
 //! says what each number means.
 
+pub(crate) use crate::parts::{Arena, PortState, ReadAnswer, ScanAnswer, Sizes, UpdateAnswer};
+
 /// A handle: one pointer that only the library reads and writes. Zero bits are an empty handle.
 #[repr(C)]
 pub struct Handle {
@@ -9,9 +11,7 @@ pub struct Handle {
 
 impl Handle {
     pub const fn empty() -> Handle {
-        Handle {
-            held: core::ptr::null_mut(),
-        }
+        Handle { held: core::ptr::null_mut() }
     }
 
     pub fn is_empty(&self) -> bool {
@@ -32,50 +32,7 @@ impl Drop for Handle {
     }
 }
 
-#[repr(C)]
-pub struct Sizes {
-    pub slots: u32,
-    pub list_words: u32,
-    pub pool_words: u32,
-}
-
-#[repr(C)]
-#[derive(Default)]
-pub struct UpdateAnswer {
-    pub stamp: u64,
-    pub applied: u32,
-}
-
-#[repr(C)]
-#[derive(Default)]
-pub struct ReadAnswer {
-    pub value: u64,
-    pub stamp: u64,
-}
-
-#[repr(C)]
-#[derive(Default)]
-pub struct ScanAnswer {
-    pub stamp: u64,
-    pub collects: u32,
-    pub borrowed: u32,
-}
-
-#[repr(C)]
-#[derive(Default)]
-pub struct PortState {
-    pub number: u32,
-    pub pool_spent: u32,
-    pub slots_spent: u32,
-}
-
-/// The sizes of an arena of a long-lived memory.
-#[repr(C)]
-#[derive(Clone, Copy, Debug, PartialEq, Eq)]
-pub struct Arena {
-    pub list_words: u32,
-    pub pool_words: u32,
-}
+pub(crate) use crate::sizes::bytes;
 
 unsafe extern "C" {
     pub fn partial_door_memory_new(
@@ -89,12 +46,7 @@ unsafe extern "C" {
     pub fn partial_door_memory_take_port(memory: *mut Handle, port: *mut Handle) -> u32;
     pub fn partial_door_memory_give_port(memory: *mut Handle, port: *mut Handle) -> u32;
     pub fn partial_door_memory_close(memory: *mut Handle, into: *mut u64, room: usize) -> u32;
-    pub fn partial_door_port_update(
-        port: *mut Handle,
-        component: u32,
-        value: u64,
-        answer: *mut UpdateAnswer,
-    ) -> u32;
+    pub fn partial_door_port_update(port: *mut Handle, component: u32, value: u64, answer: *mut UpdateAnswer) -> u32;
     pub fn partial_door_port_update_if(
         port: *mut Handle,
         component: u32,
@@ -149,12 +101,7 @@ unsafe extern "C" {
     ) -> u32;
     pub fn partial_door_take_port(memory: *mut Handle, port: *mut Handle) -> u32;
     pub fn partial_door_give_port(memory: *mut Handle, port: *mut Handle) -> u32;
-    pub fn partial_door_update(
-        port: *mut Handle,
-        component: u32,
-        value: u64,
-        answer: *mut UpdateAnswer,
-    ) -> u32;
+    pub fn partial_door_update(port: *mut Handle, component: u32, value: u64, answer: *mut UpdateAnswer) -> u32;
     pub fn partial_door_update_if(
         port: *mut Handle,
         component: u32,
@@ -176,4 +123,5 @@ unsafe extern "C" {
     pub fn partial_door_close(memory: *mut Handle) -> u32;
     pub fn partial_door_values(closed: *mut Handle, into: *mut u64, room: usize) -> u32;
     pub fn partial_door_free(handle: *mut Handle) -> u32;
+    pub fn partial_door_version() -> u32;
 }

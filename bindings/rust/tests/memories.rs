@@ -1,6 +1,8 @@
 //! Memories that never wear out: their ports in threads of their own, and what is refused.
 
-use partial_door::{CloseError, Memory, OpenError, Port, PortError, Refused, Stamp, TwoMemories, Updated, UpdatedIf};
+use partial_door::{
+    CloseError, Engine, Memory, OpenError, Port, PortError, Refused, Stamp, TwoMemories, Updated, UpdatedIf, ENGINE,
+};
 use std::collections::HashSet;
 use std::error::Error;
 
@@ -11,12 +13,7 @@ fn tiny(initial: &[u64], ports: u32) -> Memory {
 
 /// Sets a component, and tries again when the epoch was changed too often meanwhile.
 fn set(port: &mut Port, component: u32, value: u64) -> Updated {
-    loop {
-        match port.update(component, value) {
-            Err(Refused::Overtaken) => {}
-            answer => return answer.expect("it isn't refused"),
-        }
-    }
+    port.retry(|port| port.update(component, value)).expect("it isn't refused so often")
 }
 
 #[test]
@@ -78,8 +75,8 @@ fn a_memory_has_pool_words_for_each_of_four_ports() {
         assert!(matches!(set(&mut port, 0, applied), Updated::Applied { .. }));
         applied += 1;
     }
-    // An update claims 3 words, and the one that has changed the epoch isn't of the first one.
-    assert_eq!(applied - 1, 65_536 / 3);
+    // An update claims 3 words, the last one of an epoch past the pool; the one that changed the epoch is of the next one.
+    assert_eq!(applied - 1, 65_536 / 3 + 1);
 }
 
 #[test]
@@ -110,7 +107,7 @@ fn a_port_comes_back_from_a_thread_that_panics() {
     let memory = tiny(&[1], 1);
     let mut port = memory.port().expect("a port is free");
     let failed = std::thread::spawn(move || {
-        port.update(0, 8).expect("it isn't refused");
+        assert!(port.update(0, 8).expect("it isn't refused").is_applied());
         panic!("its port is dropped");
     });
     assert!(failed.join().is_err());
@@ -123,7 +120,7 @@ fn a_clone_is_the_same_memory() {
     let memory = tiny(&[1, 2], 2);
     let other = memory.clone();
     let mut port = memory.port().expect("a port is free");
-    port.update(1, 5).expect("it isn't refused");
+    assert!(port.update(1, 5).expect("it isn't refused").is_applied());
     let mut second = other.port().expect("the other port is free");
     assert_eq!(second.read(1).expect("it is there").value, 5);
     let Err(CloseError::InUse(memory)) = memory.close() else { panic!("two ports are in use") };
@@ -139,7 +136,7 @@ fn a_clone_is_the_same_memory() {
 #[test]
 fn a_port_outlives_its_memory() {
     let mut port = tiny(&[1], 1).port().expect("a port is free");
-    port.update(0, 9).expect("it isn't refused");
+    assert!(port.update(0, 9).expect("it isn't refused").is_applied());
     assert_eq!(port.read(0).expect("it is there").value, 9);
 }
 
@@ -165,7 +162,7 @@ fn a_stamped_scan_agrees_with_reads_over_many_epochs() {
     let memory = tiny(&[1, 2, 3], 2);
     let (mut first, mut second) = (memory.port().expect("a port"), memory.port().expect("a port"));
     for turn in 0..300 {
-        first.update(0, turn).expect("it isn't refused");
+        assert!(first.update(0, turn).expect("it isn't refused").is_applied());
         let (values, stamps) = second.scan_stamped([1, 0, 1]).expect("they are there");
         let reads = [1, 0, 1].map(|component| second.read(component).expect("it is there"));
         assert_eq!(values, reads.map(|read| read.value));
@@ -190,14 +187,14 @@ fn a_stamped_scan_beside_writers_gives_each_value_its_stamp() {
             let mut port = memory.port().expect("a port is free");
             scope.spawn(move || {
                 for value in 1..=3000 {
-                    set(&mut port, component, value);
+                    assert!(set(&mut port, component, value).is_applied());
                 }
             });
         }
         let mut port = memory.port().expect("a port is free");
         let mut last: [Option<(u64, Stamp)>; 3] = [None; 3];
         for _ in 0..3000 {
-            let (values, stamps) = port.scan_stamped([0, 1, 2]).expect("it isn't refused");
+            let (values, stamps) = port.retry(|port| port.scan_stamped([0, 1, 2])).expect("it isn't refused so often");
             let Some(stamps) = stamps else { continue };
             for (k, stamp) in stamps.into_iter().enumerate() {
                 if let Some((value, seen)) = last[k] {
@@ -231,7 +228,7 @@ fn ports_of_one_memory_meet_and_no_others() {
     let (mut first, mut second) = (one.port().expect("a port"), one.port().expect("a port"));
     let mut stranger = other.port().expect("a port");
     for value in 0..100 {
-        first.update(0, value).expect("it isn't refused");
+        assert!(first.update(0, value).expect("it isn't refused").is_applied());
     }
     assert_eq!(second.meet(&mut first), Ok(()));
     let seen = second.read(0).expect("it is there");
@@ -249,7 +246,9 @@ fn no_conditional_increment_is_lost_over_many_epochs() {
             let mut port = memory.port().expect("a port is free");
             scope.spawn(move || {
                 for turn in 0..2000 {
-                    while matches!(port.modify(turn % 2, |value| Some(value + 1)), Err(Refused::Overtaken)) {}
+                    let change = port.modify(turn % 2, |value| Some(value + 1)).expect("it isn't refused so often");
+                    let change = change.expect("the closure gives a value");
+                    assert_eq!(change.after.value, change.before.value + 1);
                 }
             });
         }
@@ -275,14 +274,29 @@ fn errors_and_tokens_may_go_to_other_threads() {
 
 #[test]
 fn errors_have_the_numbers_of_the_library() {
-    let opened = [OpenError::Components, OpenError::ListWords, OpenError::PoolWords, OpenError::Ports, OpenError::Memory];
+    let opened =
+        [OpenError::Components, OpenError::ListWords, OpenError::PoolWords, OpenError::Ports, OpenError::OutOfMemory];
     assert_eq!(opened.map(OpenError::code), [1, 3, 4, 5, 6]);
-    assert_eq!([PortError::Memory, PortError::Closed, PortError::NoneFree].map(PortError::code), [6, 17, 21]);
-    let refused =
-        [Refused::Component, Refused::Length, Refused::Overtaken, Refused::NoArena, Refused::EpochsSpent, Refused::Stamp];
+    assert_eq!(OpenError::OtherVersion.code(), 31);
+    assert_eq!([PortError::OutOfMemory, PortError::Closed, PortError::NoneFree].map(PortError::code), [6, 17, 21]);
+    let refused = [
+        Refused::Component,
+        Refused::Length,
+        Refused::Overtaken,
+        Refused::NoArena,
+        Refused::EpochsSpent,
+        Refused::Stamp,
+    ];
     assert_eq!(refused.map(Refused::code), [7, 19, 25, 26, 27, 28]);
     let memory = tiny(&[1], 1);
     let _port = memory.port().expect("a port is free");
     let error = memory.close().expect_err("a port is in use");
     assert_eq!((error.code(), error.to_string().as_str()), (22, "a port is in use"));
+}
+
+#[test]
+fn a_memory_says_what_answers_its_calls() {
+    let text = format!("{:?}", tiny(&[1, 2], 1));
+    assert!(text.contains("components: 2") && text.contains(&format!("engine: {ENGINE:?}")), "{text}");
+    assert_eq!(matches!(ENGINE, Engine::Plain), cfg!(feature = "plain"));
 }

@@ -4,11 +4,7 @@ use partial_door::opening::{open, CloseError, Closed, Memory, OpenError, Port, R
 use partial_door::opening::{TwoMemories, Updated};
 use std::error::Error;
 
-const SIZES: Sizes = Sizes {
-    slots: 65_536,
-    list_words: 65_536,
-    pool_words: 4_194_304,
-};
+const SIZES: Sizes = Sizes { slots: 65_536, list_words: 65_536, pool_words: 4_194_304 };
 
 #[test]
 fn each_writer_of_its_own_component_is_applied() {
@@ -29,11 +25,7 @@ fn each_writer_of_its_own_component_is_applied() {
 
 #[test]
 fn a_port_is_refused_with_its_cause() {
-    let small = Sizes {
-        slots: 1,
-        list_words: 0,
-        pool_words: 5,
-    };
+    let small = Sizes { slots: 1, list_words: 0, pool_words: 5 };
     assert_eq!(open(&[1, 2], small, 1).err(), Some(OpenError::PoolWords));
     assert_eq!(open(&[1], SIZES, 65).err(), Some(OpenError::Ports));
     let (_memory, mut ports) = open(&[1, 2], SIZES, 1).expect("a memory opens");
@@ -63,7 +55,7 @@ fn ports_of_two_memories_stay_apart() {
 fn a_closed_memory_opens_again() {
     let (memory, mut ports) = open(&[1, 2], SIZES, 2).expect("a memory opens");
     assert_eq!(ports.iter_mut().map(|port| port.number()).collect::<Vec<_>>(), [0, 1]);
-    ports[1].update(0, 5).expect("there is room");
+    assert!(ports[1].update(0, 5).expect("there is room").is_applied());
     let mut closed = memory.close(ports).expect("all ports are there");
     assert_eq!(closed.reopen(1, SIZES, 1).err(), Some(OpenError::TooSmall));
     assert_eq!(closed.reopen(2, SIZES, 0).err(), Some(OpenError::Ports));
@@ -76,10 +68,7 @@ fn a_closed_memory_opens_again() {
 
 #[test]
 fn a_port_is_marked_for_its_slots() {
-    let few = Sizes {
-        slots: 1,
-        ..SIZES
-    };
+    let few = Sizes { slots: 1, ..SIZES };
     let (_memory, mut ports) = open(&[1], few, 1).expect("a memory opens");
     let mut into = [0];
     ports[0].scan(&[0], &mut into).expect("there is one slot");
@@ -109,11 +98,11 @@ fn a_stamp_of_another_opening_is_refused() {
         panic!("no other port updates it");
     };
     let (_other, mut others) = open(&[1], SIZES, 1).expect("another opens");
-    others[0].update(0, 2).expect("there is room");
+    assert!(others[0].update(0, 2).expect("there is room").is_applied());
     assert_eq!(others[0].update_if(0, stamp, 3), Err(Refused::Stamp));
     let mut closed = memory.close(ports).expect("all ports are there");
     let (_again, mut ports) = closed.reopen(1, SIZES, 1).expect("it opens again");
-    ports[0].update(0, 2).expect("there is room");
+    assert!(ports[0].update(0, 2).expect("there is room").is_applied());
     assert_eq!(ports[0].update_if(0, stamp, 3), Err(Refused::Stamp));
     assert_eq!(ports[0].read(0).expect("it is there").value, 2);
 }
@@ -125,7 +114,7 @@ fn dropped_ports_come_back_and_need_not_be_given() {
         let mut port = ports.remove(1);
         scope
             .spawn(move || {
-                port.update(1, 8).expect("there is room");
+                assert!(port.update(1, 8).expect("there is room").is_applied());
                 panic!("its port is dropped");
             })
             .join()

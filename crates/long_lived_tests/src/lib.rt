@@ -12,4 +12,6 @@ mod memories;
 #[cfg(test)]
 mod openings;
 #[cfg(test)]
+mod overtaken;
+#[cfg(test)]
 mod stamped;

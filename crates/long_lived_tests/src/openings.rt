@@ -1,6 +1,7 @@
 //! How a memory opens, and what is left of it when it closes.
 
 ghost use Rattle.std.specs.List.{AllByRecursion};
+ghost use Rattle.std.specs.Prelude.{◌<◌, length};
 ghost use Rattle.partial_long_lived.specs.Ports.{IsOf};
 
 use crate::memories::{taken, with_last};
@@ -127,12 +128,23 @@ fn updates_of_first_epoch(rt: &impl Abort, memory: &LongLived, port: &mut Port) 
     panic!(rt; "the epoch isn't changed");
 }
 
-// A memory of one component that is opened for so many ports claims so many pool words in an epoch. An update claims three,
-// and spends its port where fewer than six are left then, which the greatest record has.
-fn claims(rt: &impl Abort, alloc: Global, ports: u32, words: u64) -> Result<(), Fail> {
-    let (memory, all) = LongLived::open(alloc, &[10], ports, Options::default())?;
+// A memory of these components that is opened for so many ports claims so many pool words in an epoch. An update claims
+// three, and spends its port when its claim ends after the last of these words.
+fn claims(
+    rt: &impl Abort,
+    alloc: Global,
+    values: &[u64],
+    ports: u32,
+    words: u64,
+) -> Result<(), Fail>
+    requires { 0 < length values.now }
+{
+    let (memory, all) = LongLived::open(alloc, values, ports, Options::default())?;
     let (memory, mut port) = with_last(memory, all)?;
-    assert_eq!(rt; updates_of_first_epoch(rt, &memory, &mut port), words / 3);
+    assert_eq!(rt;
+        updates_of_first_epoch(rt, &memory, &mut port),
+        words / 3 + 1
+    );
     drop((memory, port));
     Ok(())
 }
@@ -151,8 +163,18 @@ fn usual_pools(rt: HostRuntime) -> Result<(), Fail> {
         (64, 16_384),
     ];
     for (ports, words) in &pools {
-        claims(&rt, rt.alloc(), *ports, *words)?;
+        claims(&rt, rt.alloc(), &[10], *ports, *words)?;
     }
+    Ok(())
+}
+
+// With more than 1,024 components it has 16 words for each of them, when the arena has room for so many.
+#[test]
+fn pools_for_many_components(rt: HostRuntime) -> Result<(), Fail> {
+    let alloc = rt.alloc();
+    let values = vec![in alloc; 0; 2_000]?;
+    claims(&rt, alloc, &values, 1, 32_000)?;
+    drop(values);
     Ok(())
 }
 

@@ -276,8 +276,30 @@ fn conditional_updates_count(rt: HostRuntime) -> Result<(), Fail> {
     Ok(())
 }
 
-/// Some calls were refused for the pool, and some for the slots.
-fn spend_both(rt: &impl Abort, all: &[Told]) {
+/// Of each turn of this worker the conditional update, the update and the scan were answered or refused, each refusal
+/// was one for the pool or for the slots, and its port has the marks of the causes that came.
+fn judge_refusals(rt: &impl Abort, told: &Told, turns: usize) {
+    let pool = told.refusals(Refused::PoolSpent);
+    let slots = told.refusals(Refused::SlotsSpent);
+    assert_eq!(rt; told.refused.len(), pool.saturating_add(slots));
+    assert_eq!(rt; told.pool_spent, pool > 0);
+    assert_eq!(rt; told.slots_spent, slots > 0);
+    assert!(rt; told.scans.len().saturating_add(slots) <= turns);
+    let updates = told.applied.len().saturating_add(told.counted.len());
+    let answered = updates
+        .saturating_add(told.named.len())
+        .saturating_add(told.scans.len());
+    assert_eq!(rt;
+        answered.saturating_add(told.refused.len()),
+        turns.saturating_mul(3)
+    );
+}
+
+/// Some calls were refused for the pool, some for the slots, and none for another cause.
+fn spend_both(rt: &impl Abort, all: &[Told], turns: usize) {
+    for told in all {
+        judge_refusals(rt, told, turns);
+    }
     assert!(rt; refused_in_all(all, Refused::PoolSpent) > 0);
     assert!(rt; refused_in_all(all, Refused::SlotsSpent) > 0);
 }
@@ -287,7 +309,7 @@ fn spend_both(rt: &impl Abort, all: &[Told]) {
 fn eight_ports(rt: HostRuntime) -> Result<(), Fail> {
     let sizes = Sizes::new(2, 64, 64, 4096)?;
     let (closed, all) = worked(&rt, rt.alloc(), sizes, 8, &[(Job::Mix, 200)])?;
-    spend_both(&rt, &all);
+    spend_both(&rt, &all, 200);
     judge_count(&rt, &closed);
     drop((closed, all));
     Ok(())

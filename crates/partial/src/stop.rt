@@ -11,31 +11,36 @@ use std::{fmt, io};
 #[derive(Debug, Drop)]
 pub enum Stop {
     /// The program doesn't take these arguments, or they ask for help.
-    Usage,
+    Words(Error),
+    /// Both plans would come from standard input.
+    BothInput,
+    /// The arguments aren't text.
+    NotText,
     /// The request was refused.
     Refused(Fault),
-    /// The request was refused for a fault of the plan in the file with this name.
-    RefusedFile(String, Fault),
+    /// The request was refused for a fault of the plan with this name.
+    RefusedPlan(String, Fault),
 }
 
 impl Stop {
     /// The exit status.
     pub fn status(&self) -> u8 {
         match self {
-            Stop::Usage => 2,
-            Stop::Refused(_) | Stop::RefusedFile(..) => 1,
+            Stop::Words(error) => error.exit_code() as u8,
+            Stop::BothInput | Stop::NotText => 2,
+            Stop::Refused(_) | Stop::RefusedPlan(..) => 1,
         }
     }
 
-    /// A refusal of two plans, that names the file of the one at fault when it is a fault of a plan.
-    pub fn of_file(alloc: Global, path: &str, fault: Fault) -> Stop {
+    /// A refusal of two plans, that names the one at fault when it is a fault of a plan.
+    pub fn of_plan(alloc: Global, name: &str, fault: Fault) -> Stop {
         let names = match fault {
             Fault::Plan(PlanError::Memory) => false,
             Fault::Plan(_) | Fault::TooSmall => true,
             _ => false,
         };
-        match format!(in alloc; "{path}") {
-            Ok(name) if names => Stop::RefusedFile(name, fault),
+        match format!(in alloc; "{name}") {
+            Ok(name) if names => Stop::RefusedPlan(name, fault),
             _ => Stop::Refused(fault),
         }
     }
@@ -44,10 +49,12 @@ impl Stop {
 impl fmt::Display for Stop {
     fn fmt<W: fmt::Write>(&self, f: &mut fmt::Formatter<W>) -> fmt::Result {
         match self {
-            Stop::Usage => write!(f, "usage"),
+            Stop::Words(error) => write!(f, "{error}"),
+            Stop::BothInput => write!(f, "one of two plans alone can be standard input"),
+            Stop::NotText => write!(f, "the words are not text"),
             Stop::Refused(fault) => write!(f, "refused {}: {fault}", fault.code()),
-            Stop::RefusedFile(path, fault) => {
-                write!(f, "refused {}: {path}: {fault}", fault.code())
+            Stop::RefusedPlan(name, fault) => {
+                write!(f, "refused {}: {name}: {fault}", fault.code())
             }
         }
     }
@@ -70,7 +77,7 @@ impl From<io::Error> for Stop {
     fn from(error: io::Error) -> Stop {
         match error.kind() {
             io::ErrorKind::OutOfMemory => Stop::Refused(Fault::Plan(PlanError::Memory)),
-            _ => Stop::Usage,
+            _ => Stop::NotText,
         }
     }
 }
@@ -79,7 +86,7 @@ impl From<Error> for Stop {
     fn from(error: Error) -> Stop {
         match error.kind() {
             ErrorKind::OutOfMemory => Stop::Refused(Fault::Plan(PlanError::Memory)),
-            _ => Stop::Usage,
+            _ => Stop::Words(error),
         }
     }
 }

@@ -1,4 +1,4 @@
--- What a verb asks to be written is told by the plan's text.
+-- The plan's text determines what a verb asks to be written.
 use Rattle.partial_cmd.proofs.Common.{ℕ, ◌≡◌, ◌≢◌, List, Ok, refl, sym, ◌∙◌, ap, subst, outcome_text, PlanView, IsPlan, plan_text, judged_again, Verb, VerbWrites, PlansHaveOneAnswer}
 use Rattle.partial_text.specs.Judging.{judged_plan}
 use Rattle.partial_replay.specs.Replayed.{OutcomeView}

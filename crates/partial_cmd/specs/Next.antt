@@ -18,7 +18,7 @@ use Rattle.partial_cmd.specs.Reports.{IsReportFrom, IsReportOf, run_opening}
 abbrev pub next_opening : PlanView → List ℕ → Opening
 next_opening p values = record { values = extended_values p.sizes.m values; first = pool_base p.sizes }
 
--- The reports of both plans. Whatever the second run applies, a component has the value that it would have behind both histories over
+-- The reports of both plans. Whatever the second run applies, a component has the value that it would have after both histories over
 -- the first plan's values, with zeros for added components.
 pub record AreReports (p next : PlanView) (first second : RunReport) : Type 0 where
   pub enough : p.sizes.m ≤ next.sizes.m

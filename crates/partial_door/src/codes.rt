@@ -32,6 +32,9 @@ pub const NOT_ALL_HOME: u32 = 22;
 /// reference, so a caller who makes one call after the other on a handle doesn't get this number.
 pub const SHARED: u32 = 24;
 
+/// The version of the functions for C: 1,000,000 for a major version, 1,000 for a minor one, and 1 for a patch.
+pub const VERSION: u32 = 1_000;
+
 /// Why a call of a port is refused before its memory is asked.
 #[derive(Clone, Copy, Debug, PartialEq, Eq)]
 pub enum Misuse {

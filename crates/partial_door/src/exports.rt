@@ -9,7 +9,7 @@ ghost use Rattle.partial_door.specs.Calls.{ReadEnds, ScanEnds, StateEnds, Update
 ghost use Rattle.partial_door.specs.Exports.{AtHandle, ClosesHandle, CopiesAt, GivesAt, MeetsHandles, OpensAt, ReopensAt, TakesAt};
 
 use crate::answers::{PortState, ReadAnswer, RoomSizes, ScanAnswer, UpdateAnswer};
-use crate::codes::{FINE, HOLDS_NONE, HOLDS_ONE, MEMORY, Misuse};
+use crate::codes::{FINE, HOLDS_NONE, HOLDS_ONE, MEMORY, Misuse, VERSION};
 use crate::handle::Handle;
 use crate::memories::{Unclosed, open};
 use std::alloc::Global;
@@ -293,4 +293,12 @@ pub extern "C" fn partial_door_free(alloc: Global, handle: &mut Handle) -> u32
 {
     drop(handle.take(alloc));
     FINE
+}
+
+/// Returns the version of these functions. A header of another version may declare other ones.
+#[unsafe(no_mangle)]
+pub extern "C" fn partial_door_version() -> u32
+    ensures { result ≡ 1000 }
+{
+    VERSION
 }

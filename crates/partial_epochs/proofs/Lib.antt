@@ -35,8 +35,3 @@ pub mod Collects
 pub mod Time
 pub mod EveryStep
 pub mod Refused
-pub mod Left
-pub mod CallBounds
-pub mod CallEnds
-pub mod CallRefusals
-pub mod NoArena

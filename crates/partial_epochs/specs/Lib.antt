@@ -15,8 +15,4 @@ pub mod Collects
 pub mod Notes
 pub mod Time
 pub mod EveryStep
-pub mod Changing
-pub mod Calls
-pub mod Bounds
-pub mod Refusals
 pub mod Variants

@@ -11,9 +11,6 @@ ghost use Rattle.partial_epochs.specs.Opening.{OpensOverLawful, EpochsOpenLawful
 ghost use Rattle.partial_epochs.specs.Notes.{EpochsFitOneHistory, NotesStayLawful, SightsStayLawful, GlancesStayLawful, AsidesStayLawful, ArrivalsKeepNotes, PublishesKeepNotes, PublicStampsAreUnique};
 ghost use Rattle.partial_epochs.specs.Time.{OpeningsKeepTime, MarksKeepTime, EntriesKeepTime, ArrivalsKeepTime, LooksKeepTime, LoadedMarksKeepTime, PutsKeepTime, PublishesKeepTime, AsidesKeepTime, StepsKeepPlaces};
 ghost use Rattle.partial_epochs.specs.EveryStep.{EveryStepStaysLawful, MemoriesOpenLawful};
-ghost use Rattle.partial_epochs.specs.Calls.{CallsStayLawful};
-ghost use Rattle.partial_epochs.specs.Bounds.{ReadsMakeEight, UpdatesAreBounded, ConditionalUpdatesAreBounded, ScansAreBounded, ChangesAreBounded};
-ghost use Rattle.partial_epochs.specs.Refusals.{RefusedCallsApplyNothing, ComponentsAreMissing, OvertakenCallsMovedOn, ChangesAreRefused, NoArenaIsFree};
 ghost use Rattle.partial_epochs.specs.Reads.{ReadsTellAllEpochs, LastWordsAreFinal, ComponentsNameRecords, SeenRecordsStay};
 ghost use Rattle.partial_epochs.specs.Collects.{CollectsStandTogether, EpochsAreHistories};
 
@@ -295,67 +292,4 @@ pub fn memories_open_lawful()
 /// again, all other ports and their notes are as they were, and a memory that kept time keeps it.
 pub fn every_step_stays_lawful()
     ensures { EveryStepStaysLawful }
-{}
-
-/// Each step that a call may make leads to a lawful memory, in which the port has come to a later epoch exactly by the
-/// third step of entering, and the one history has gained an entry at most when the machine of an update comes to be
-/// applied.
-pub fn calls_stay_lawful()
-    ensures { CallsStayLawful }
-{}
-
-/// A read makes at most 8 steps, whatever other ports do.
-pub fn reads_make_eight()
-    ensures { ReadsMakeEight }
-{}
-
-/// An update that may change the epoch B times makes at most B times the steps of an update of one memory and of a
-/// change of epoch.
-pub fn updates_are_bounded()
-    ensures { UpdatesAreBounded }
-{}
-
-/// A conditional update makes at most two steps more in each epoch, and six more in the first one.
-pub fn conditional_updates_are_bounded()
-    ensures { ConditionalUpdatesAreBounded }
-{}
-
-/// A scan makes at most twice the steps of a scan of one memory, and four more. If its port has made a claim past the
-/// limit, or its machine has met a seal, it makes at most those of a change of epoch and of one scan.
-pub fn scans_are_bounded()
-    ensures { ScansAreBounded }
-{}
-
-/// A change of epoch makes at most so many steps, by the sizes, the ports and the arenas: a look, two steps for each
-/// component, three passes over the arenas for each port, and the steps that open the next epoch and enter it.
-pub fn changes_are_bounded()
-    ensures { ChangesAreBounded }
-{}
-
-/// No step of a call that is refused adds an entry to the one history.
-pub fn refused_calls_apply_nothing()
-    ensures { RefusedCallsApplyNothing }
-{}
-
-/// A call is refused for a component exactly when it names one that is not there, and then before its first step.
-pub fn components_are_missing()
-    ensures { ComponentsAreMissing }
-{}
-
-/// Only an update is refused as overtaken, and then its port has come to a later epoch as often as the update may
-/// change the epoch.
-pub fn overtaken_calls_moved_on()
-    ensures { OvertakenCallsMovedOn }
-{}
-
-/// A change of epoch is refused for want of an arena exactly when the look behind its last pass finds the port's epoch
-/// the current one, and for want of epochs exactly when its first look finds the last epoch that a word can name.
-pub fn changes_are_refused()
-    ensures { ChangesAreRefused }
-{}
-
-/// A change of epoch that is refused for want of an arena has found each arena taken, in each of three passes for each
-/// port, but for the arena where its port stands.
-pub fn no_arena_is_free()
-    ensures { NoArenaIsFree }
 {}

@@ -101,6 +101,8 @@ pub fn begin_put<M: Makes>(
     ensures refused { IfOk result (λ put. IfSome (written_in put) (λ written.
         IfNone written (reply_of (M.machine lines.new) ≡ Some (reply.Refused refused.PoolSpent)))) }
     ensures rests { IfOk result (λ put. IfSome (written_in put) (λ _. RestsLike (M.machine lines.new) core.new)) }
+    ensures size { IfOk result (λ put. IfSome (written_in put) (λ written.
+        IfSome written (λ _. record_size (M.machine lines.new) ≡ plain_record_size))) }
     ensures found { IfOk result (λ put. IfNone (written_in put) (IsViewDue (M.machine lines.new) core.new change old)) }
 {
     let mut steps = SetSteps { lines };
@@ -134,6 +136,7 @@ pub fn put_found<M: Makes>(
     ensures refused { IfOk result (λ put.
         IfNone put (reply_of (M.machine lines.new) ≡ Some (reply.Refused refused.PoolSpent))) }
     ensures rests { OnOk result (RestsLike (M.machine lines.new) core.new) }
+    ensures size { IfOk result (λ put. IfSome put (λ _. record_size (M.machine lines.new) ≡ record_size core.new)) }
 {
     scan_found(lines, core)?;
     write_record(lines, core, change, old)
@@ -160,6 +163,7 @@ fn write_plain<M: Makes>(
         M.machine lines.new ≡ at_stage (M.machine lines.old) (Exchanging change old at))) }
     ensures refused { IfOk result (λ put.
         IfNone put (M.machine lines.new ≡ pool_refused (M.machine lines.old))) }
+    ensures size { IfOk result (λ put. IfSome put (λ _. record_size (M.machine lines.new) ≡ plain_record_size)) }
     ensures like { OnOk result (IsMarkedLike (M.machine lines.new) core.new) }
     ensures core { core.new ≡ record core.old { pool_spent = core.new.pool_spent } }
 {

@@ -1,32 +1,50 @@
 -- A call of a port: how it begins at the seat that was taken out, and what it leaves once the seat is put back.
-use Rattle.partial_long_lived.proofs.{Common.{ℕ, zero, suc, None, append-nil, ◌≡◌, ◌<◌, ◌≤◌, ◌++◌, ◌∷◌, [], Option, Some, IfSome, Bool, true, false, true≢false, List, length, ap, ◌+◌, take, refl, sym, subst, ◌∙◌, inl, inr, arith, nat_lt, slice_index, AllByRecursion, list_all, option_map, take-append_seam, TableId, Applied, IsEntryFor, IsLegal, LegalNotes, Noted, seen_by, AllByRecursion-get, LegalNotes-last, Layout, CoreState, fresh, AreComponentIndices, IsSound, is_sound_at, IsMarkedLike, core_of, is_at_rest, public_stamp, Refused, Component, Overtaken, NoArena, EpochsSpent, About, Stand, Began, SeatedPort, IsOf, MemoryView, PortView, port_view, seen_in, SeatGoes, IsHeld, epoch_at, port_at, HasCome, HasNotedRead, IsIdle, EpochChanged, NotChanged, HasNotedScan, RestsUnmarked, ScanMade, noted_scan, NotScanned, RestsAt, MadeNamed, ScannedNamed, ScannedStamped, Contains, is_some, Call, Answer, Note}, Coming.goes_on}
+use Rattle.partial_long_lived.proofs.{Common.{ℕ, zero, suc, None, append-nil, ◌≡◌, ◌<◌, ◌≤◌, ◌++◌, ◌∷◌, [], Option, Some, IfSome, Bool, true, false, true≢false, List, length, ap, ◌+◌, take, refl, sym, subst, ◌∙◌, inl, inr, arith, nat_lt, slice_index, AllByRecursion, list_all, option_map, take-append_seam, TableId, Applied, IsEntryFor, IsLegal, LegalNotes, Noted, seen_by, AllByRecursion-get, LegalNotes-last, Layout, CoreState, fresh, AreComponentIndices, IsSound, is_sound_at, IsMarkedLike, core_of, is_at_rest, public_stamp, Refused, Component, Overtaken, NoArena, EpochsSpent, About, Stand, Began, SeatedPort, IsOf, MemoryView, PortView, port_view, seen_in, SeatGoes, IsHeld, epoch_at, port_at, HasCome, HasNotedRead, IsIdle, EpochChanged, NotChanged, HasNotedScan, RestsUnmarked, ScanMade, noted_scan, NotScanned, RestsAt, MadeNamed, ScannedNamed, ScannedStamped, Contains, is_some, Call, Answer, Note, IsCause}, Coming.goes_on}
 use Rattle.partial_model.proofs.Decisions.{Decides-list_all, Decides-nat_lt}
 use Rattle.partial_active.specs.GetSet.{fresh_set as unmarked}
 use Rattle.partial_long_lived.specs.Calls as calls
 
 -- the port of a seat in a call, as callers saw it before
-pub view_before : (m : MemoryView) (t : Stand) (p : PortView) → port_view t.seat.table_id (port_at t) ≡ p → IsOf m p → port_view m.table (port_at t) ≡ p
+pub view_before : (m : MemoryView) (t : Stand) (p : PortView) → port_view t.seat.table_id t.seat.steps (port_at t) ≡ p → IsOf m p → port_view m.table t.seat.steps (port_at t) ≡ p
 view_before m t p view own =
     let table : t.seat.table_id ≡ m.table = ap (λ (q : PortView). q.memory.table) view ∙ ap (λ (v : MemoryView). v.table) own in
-    ap (λ (i : TableId). port_view i (port_at t)) (sym table) ∙ view
+    ap (λ (i : TableId). port_view i t.seat.steps (port_at t)) (sym table) ∙ view
 
 -- and as they see it behind the call
-pub view_behind : (m : MemoryView) (t : Stand) → IsHeld m.table m.about t → port_view m.table (port_at t) ≡ port_view t.seat.table_id (port_at t)
-view_behind m t h = ap (λ (i : TableId). port_view i (port_at t)) (sym h.fits)
+pub view_behind : (m : MemoryView) (t : Stand) → IsHeld m.table m.about t → port_view m.table t.seat.steps (port_at t) ≡ port_view t.seat.table_id t.seat.steps (port_at t)
+view_behind m t h = ap (λ (i : TableId). port_view i t.seat.steps (port_at t)) (sym h.fits)
+
+-- how many steps a call has made, as callers see it
+pub few_seen : (t u : Stand) (p : PortView) (n : ℕ) → port_view t.seat.table_id t.seat.steps (port_at t) ≡ p → u.seat.steps ≤ t.seat.steps + n → u.seat.steps ≤ p.steps + n
+few_seen t u p n view few = subst (λ (q : PortView). u.seat.steps ≤ q.steps + n) view few
+
+-- the same where the bound is one of what the memory was opened with
+pub few_about : (f : About → ℕ) (t u : Stand) (p : PortView) (m n : MemoryView) → port_view t.seat.table_id t.seat.steps (port_at t) ≡ p → m ≡ n → u.seat.steps ≤ t.seat.steps + f m.about →
+    u.seat.steps ≤ p.steps + f n.about
+few_about f t u p m n view is few = subst (λ (x : MemoryView). u.seat.steps ≤ p.steps + f x.about) is (few_seen t u p (f m.about) view few)
 
 -- what callers see of the steps of a call
-pub goes_seen : (table : TableId) (x y : SeatedPort) (new : List Noted) → SeatGoes x y → y.notes ≡ x.notes ++ new → calls.Goes (port_view table x) (port_view table y) new
+pub goes_seen : {m n : ℕ} (table : TableId) (x y : SeatedPort) (new : List Noted) → SeatGoes x y → y.notes ≡ x.notes ++ new → calls.Goes (port_view table m x) (port_view table n y) new
 goes_seen table x y new g notes = record {
   memory = ap (λ (a : About). record { table = table; about = a }) g.about;
   number = g.number;
+  epoch = g.epoch;
+  contention = g.contention;
   seen = sym (take-append_seam (seen_in x.port) g.seen.0) ∙ ap (λ (l : List Applied). take (length (seen_in x.port)) l) (sym g.seen.1);
   notes = notes;
   knows = g.known.knows;
 }
 
+-- why a change of epoch was refused, as callers see it
+pub cause_seen : (table : TableId) (m n : ℕ) (s t : Stand) (cause : Refused) → epoch_at t ≡ t.epoch → IsCause s t cause → calls.CantEnd (port_view table m (port_at s)) cause (port_view table n (port_at t))
+cause_seen table m n s t Component is why = absurd why
+cause_seen table m n s t Overtaken is why = absurd why
+cause_seen table m n s t NoArena is why = (let low = why.0 in omega (arith, low, is), why.1, why.2)
+cause_seen table m n s t EpochsSpent is why = ap (λ (n : ℕ). n + 1) is ∙ why
+
 -- a read, as callers see it
 pub has_read_seen : (table : TableId) (s t : Stand) (j value stamp : ℕ) → HasNotedRead s t j value stamp → j < (port_at s).about.sizes.m →
-    calls.Reads (port_view table (port_at s)) j value stamp (port_view table (port_at t))
+    calls.Reads (port_view table s.seat.steps (port_at s)) j value stamp (port_view table t.seat.steps (port_at t))
 has_read_seen table s t j value stamp w inside =
     let first = w.first in
     let behind = w.behind in (
@@ -34,18 +52,19 @@ has_read_seen table s t j value stamp w inside =
       record {
         inside = (inside, tt);
         goes = goes_seen table (port_at s) (port_at t) _ w.come.goes w.notes;
-        behind = omega (arith, first, behind);
+        first = first;
+        behind = behind;
         within = omega arith;
       },
     )
 
 -- what holds of the port as its call begins and as it ends is what callers see
-module _ (m : MemoryView) (t u : Stand) (p : PortView) (view : port_view t.seat.table_id (port_at t) ≡ p) (own : IsOf m p) (held : IsHeld m.table m.about u) where
-  pub callers_see : (P : PortView → PortView → Type 0) → P (port_view m.table (port_at t)) (port_view m.table (port_at u)) → P p (port_view u.seat.table_id (port_at u))
-  callers_see P is = subst (λ (a : PortView). P a (port_view u.seat.table_id (port_at u))) (view_before m t p view own)
-      (subst (λ (a : PortView). P (port_view m.table (port_at t)) a) (view_behind m u held) is)
+module _ (m : MemoryView) (t u : Stand) (p : PortView) (view : port_view t.seat.table_id t.seat.steps (port_at t) ≡ p) (own : IsOf m p) (held : IsHeld m.table m.about u) where
+  pub callers_see : (P : PortView → PortView → Type 0) → P (port_view m.table t.seat.steps (port_at t)) (port_view m.table u.seat.steps (port_at u)) → P p (port_view u.seat.table_id u.seat.steps (port_at u))
+  callers_see P is = subst (λ (a : PortView). P a (port_view u.seat.table_id u.seat.steps (port_at u))) (view_before m t p view own)
+      (subst (λ (a : PortView). P (port_view m.table t.seat.steps (port_at t)) a) (view_behind m u held) is)
 
-  pub read_seen : (j value stamp : ℕ) → HasNotedRead t u j value stamp → j < m.about.sizes.m → calls.Reads p j value stamp (port_view u.seat.table_id (port_at u))
+  pub read_seen : (j value stamp : ℕ) → HasNotedRead t u j value stamp → j < m.about.sizes.m → calls.Reads p j value stamp (port_view u.seat.table_id u.seat.steps (port_at u))
   read_seen j value stamp w inside =
       let about : (port_at t).about ≡ m.about = sym w.come.goes.about ∙ held.own in
       callers_see (λ (a b : PortView). calls.Reads a j value stamp b) (has_read_seen m.table t u j value stamp w (subst (λ (a : About). j < a.sizes.m) (sym about) inside))
@@ -242,7 +261,7 @@ module _ (s t : Stand) (which values : List ℕ) (collects : ℕ) (borrowed : Op
 -- a scan, as callers see it
 pub has_scanned_seen : (table : TableId) (s t : Stand) (which values : List ℕ) (collects : ℕ) (borrowed public : Option ℕ) → HasNotedScan s t which values collects borrowed →
     public ≡ option_map (public_stamp t.epoch) borrowed → 0 < length which → AllByRecursion (λ j. j < (port_at s).about.sizes.m) which →
-    calls.Scans (port_view table (port_at s)) which values (record { collects = collects; borrowed = public }) (port_view table (port_at t))
+    calls.Scans (port_view table s.seat.steps (port_at s)) which values (record { collects = collects; borrowed = public }) (port_view table t.seat.steps (port_at t))
 has_scanned_seen table s t [] values collects borrowed public w is some inside = absurd (omega (arith, some))
 has_scanned_seen table s t (j ∷ js) values collects borrowed public w is some inside =
     let first = w.first in
@@ -252,7 +271,8 @@ has_scanned_seen table s t (j ∷ js) values collects borrowed public w is some 
         inside = inside;
         goes = goes_seen table (port_at s) (port_at t) _ w.goes (w.notes ∙ ap (λ (b : Option ℕ). (port_at s).notes
             ++ record { call = Call.Scan (j ∷ js); answer = Answer.Scanned values collects b; note = Some (Note.Saw w.place) } ∷ []) (sym is));
-        behind = omega (arith, first, behind);
+        first = first;
+        behind = behind;
         within = w.within;
       },
     )
@@ -261,7 +281,7 @@ has_scanned_seen table s t (j ∷ js) values collects borrowed public w is some 
 pub has_stamped_seen : (table : TableId) (s t : Stand) (which values : List ℕ) (collects : ℕ) (borrowed public : Option ℕ) (stamps : List ℕ) →
     ScannedStamped s t which values collects borrowed stamps → public ≡ option_map (public_stamp t.epoch) borrowed → 0 < length which →
     AllByRecursion (λ j. j < (port_at s).about.sizes.m) which →
-    calls.ScansStamped (port_view table (port_at s)) which values stamps (record { collects = collects; borrowed = public }) (port_view table (port_at t))
+    calls.ScansStamped (port_view table s.seat.steps (port_at s)) which values stamps (record { collects = collects; borrowed = public }) (port_view table t.seat.steps (port_at t))
 unfolding has_scanned_seen
 has_stamped_seen table s t [] values collects borrowed public stamps w is some inside = absurd (omega (arith, some))
 has_stamped_seen table s t (j ∷ js) values collects borrowed public stamps w is some inside =
@@ -279,32 +299,32 @@ borrowed_public epoch (Some at) public is = ap is_some is
 
 -- a scan that was refused, as callers see it
 pub not_scanned_seen : (table : TableId) (s t : Stand) (which : List ℕ) (cause : Refused) → (epoch_at t ≡ t.epoch) → NotScanned s t cause → AllByRecursion (λ j. j < (port_at s).about.sizes.m) which →
-    calls.IsRefused (port_view table (port_at s)) (Call.Scan which) cause (port_view table (port_at t))
+    calls.IsRefused (port_view table s.seat.steps (port_at s)) (Call.Scan which) cause (port_view table t.seat.steps (port_at t))
 not_scanned_seen table s t which Component is w inside = absurd w.why
 not_scanned_seen table s t which Overtaken is w inside = absurd w.why
-not_scanned_seen table s t which NoArena is w inside = (inside, goes_seen table (port_at s) (port_at t) [] w.goes (w.notes ∙ sym (append-nil (port_at s).notes)), w.why.1)
-not_scanned_seen table s t which EpochsSpent is w inside = (inside, goes_seen table (port_at s) (port_at t) [] w.goes (w.notes ∙ sym (append-nil (port_at s).notes)), ap (λ (n : ℕ). n + 1) is ∙ w.why)
+not_scanned_seen table s t which NoArena is w inside = (inside, goes_seen table (port_at s) (port_at t) [] w.goes (w.notes ∙ sym (append-nil (port_at s).notes)), cause_seen table s.seat.steps t.seat.steps s t NoArena is w.why)
+not_scanned_seen table s t which EpochsSpent is w inside = (inside, goes_seen table (port_at s) (port_at t) [] w.goes (w.notes ∙ sym (append-nil (port_at s).notes)), cause_seen table s.seat.steps t.seat.steps s t EpochsSpent is w.why)
 
 -- the same, as callers see the port
-module _ (m : MemoryView) (t u : Stand) (p : PortView) (view : port_view t.seat.table_id (port_at t) ≡ p) (own : IsOf m p) (held : IsHeld m.table m.about u) (which : List ℕ) (below : AllByRecursion (λ j. j < m.about.sizes.m) which) where
+module _ (m : MemoryView) (t u : Stand) (p : PortView) (view : port_view t.seat.table_id t.seat.steps (port_at t) ≡ p) (own : IsOf m p) (held : IsHeld m.table m.about u) (which : List ℕ) (below : AllByRecursion (λ j. j < m.about.sizes.m) which) where
   below_there : (port_at u).about ≡ (port_at t).about → AllByRecursion (λ j. j < (port_at t).about.sizes.m) which
   below_there same = subst (λ (a : About). AllByRecursion (λ j. j < a.sizes.m) which) (sym (sym same ∙ held.own)) below
 
   pub scan_answered : (values : List ℕ) (collects : ℕ) (borrowed public : Option ℕ) → HasNotedScan t u which values collects borrowed →
       public ≡ option_map (public_stamp u.epoch) borrowed → 0 < length which →
-      calls.Scans p which values (record { collects = collects; borrowed = public }) (port_view u.seat.table_id (port_at u))
+      calls.Scans p which values (record { collects = collects; borrowed = public }) (port_view u.seat.table_id u.seat.steps (port_at u))
   scan_answered values collects borrowed public w is some =
       callers_see m t u p view own held (λ (a b : PortView). calls.Scans a which values (record { collects = collects; borrowed = public }) b)
       (has_scanned_seen m.table t u which values collects borrowed public w is some (below_there w.goes.about))
 
-  pub scan_refused : (cause : Refused) → NotScanned t u cause → calls.IsRefused p (Call.Scan which) cause (port_view u.seat.table_id (port_at u))
+  pub scan_refused : (cause : Refused) → NotScanned t u cause → calls.IsRefused p (Call.Scan which) cause (port_view u.seat.table_id u.seat.steps (port_at u))
   scan_refused cause w =
       callers_see m t u p view own held (λ (a b : PortView). calls.IsRefused a (Call.Scan which) cause b)
       (not_scanned_seen m.table t u which cause (sym held.epoch) w (below_there w.goes.about))
 
   pub stamped_answered : (values : List ℕ) (collects : ℕ) (borrowed public : Option ℕ) (stamps : List ℕ) → ScannedStamped t u which values collects borrowed stamps →
       public ≡ option_map (public_stamp u.epoch) borrowed → 0 < length which →
-      calls.ScansStamped p which values stamps (record { collects = collects; borrowed = public }) (port_view u.seat.table_id (port_at u))
+      calls.ScansStamped p which values stamps (record { collects = collects; borrowed = public }) (port_view u.seat.table_id u.seat.steps (port_at u))
   stamped_answered values collects borrowed public stamps w is some =
       callers_see m t u p view own held (λ (a b : PortView). calls.ScansStamped a which values stamps (record { collects = collects; borrowed = public }) b)
       (has_stamped_seen m.table t u which values collects borrowed public stamps w is some (below_there w.scanned.goes.about))

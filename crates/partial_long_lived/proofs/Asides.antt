@@ -1,5 +1,5 @@
 -- Steps that change neither histories nor what their port has seen or noted.
-use Rattle.partial_long_lived.proofs.{Common.{ℕ, ◌≡◌, ◌≢◌, ◌≤◌, ◌++◌, Option, Some, None, IfSome, List, [], ◌∷◌, length, refl, sym, ap, subst, ◌∙◌, arith, append-nil, Applied, LegalNotes, Noted, Part, put, history_of, Port, Beside, LawfulEpochs, place_now, KeepsTime, LawfulMemory, put_other, put_same, About, Began, Found, BeganInTime, IsFinal, IsLast, IsSeat, IsSeen, IsSince, SeatedPort, plan_of, seen_in, IsSeatKnown, becomes, asides_stay_lawful}, Kept.{HasGrown, Moved, final_grows, none_grown, not_grown, seen_grows}}
+use Rattle.partial_long_lived.proofs.{Common.{ℕ, ◌≡◌, ◌≢◌, ◌≤◌, ◌++◌, Option, Some, None, IfSome, List, [], ◌∷◌, length, refl, sym, ap, subst, ◌∙◌, arith, append-nil, Applied, LegalNotes, Noted, Part, put, history_of, Port, Beside, LawfulEpochs, place_now, KeepsTime, LawfulMemory, put_other, put_same, About, Began, Found, BeganInTime, IsFinal, IsLast, IsSeat, IsSeen, IsSince, SeatedPort, plan_of, seen_in, IsSeatKnown, becomes, asides_stay_lawful, Place}, Kept.{HasGrown, Moved, final_grows, none_grown, not_grown, seen_grows}, Contention.contends_same}
 
 -- a change of a port that leaves its place, its part and the epochs behind it, and passes no fewer components
 pub record IsQuiet (g : Port → Port) : Type 0 where
@@ -49,6 +49,8 @@ aside a words words' ports notes b c since since' x w s known g q n marked began
       lawful = moved;
       others = λ i ne. (put_other k (g p) ports i ne, refl, since_others i ne);
       number = refl;
+      epoch = (let same = ap (λ (d : Place). d.epoch) (q.here x.port) in omega (arith, same));
+      contention = contends_same x.contention;
       seat = record {
         about = s.about;
         number = s.number;

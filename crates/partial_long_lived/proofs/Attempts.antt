@@ -1,5 +1,5 @@
 -- An attempt of an update in the epoch where a port stands.
-use Rattle.partial_long_lived.proofs.{Common.{Opening, ℕ, ◌≡◌, ◌≢◌, ◌+◌, ◌<◌, ◌≤◌, ◌==◌, ◌++◌, Bool, true, false, if◌then◌else◌, Option, None, Some, Ok, List, [], ◌∷◌, length, map, refl, sym, ap, subst, ◌∙◌, inl, inr, arith, option_map_or, nat_lt, is_some, lt-ltb, eqb_tells, length-map, TableId, Applied, Call, Answer, Note, stamp_of, Noted, place_of, Load, Exchange, IsLayout, Layout, greatest_record, pool_end, Change, Reply, Stage, Exchanging, Finished, UpdateBegun, CoreState, advance_at, at_stage, begin_getting, lists_spent, overtaken_reply, reply_of, step_at, step_of, answer_for, call_of, update_call, IsRecord, IsSound, is_sound_at, Part, AreNotesOf, IsNoteOf, IsPlacedAt, Exchanged, RestsLike, update_reply, Plan, seal, unsealed, history_of, public_entry, public_log, stamp_limit, public_noted, Control, About, Shape, Stand, Began, SeatedPort, plan_of, seen_in, SeatGoes, BeganBy, IsHeld, port_at, IsIdle, StaysAt, opening_of, SeatMakes, MissesSeal, unsealed_answer, RestsUnmarked, CallMade, record_claim, IsGoing, ComesTo, MayBegin, machine_at, UpdateAttempted, ExchangeDue, ExpectsOne, IsEntryOf, IsOwnMachine, NotesNothing, PortStayed, noted_where, word_from, ◌||◌, IfSome, take, length-append, IsPossibleAt, SeatBegins}, Coming.goes_on, Under.{first_made, next_made, notes_same}}
+use Rattle.partial_long_lived.proofs.{Common.{Opening, ℕ, ◌≡◌, ◌≢◌, ◌+◌, ◌<◌, ◌≤◌, ◌==◌, ◌++◌, Bool, true, false, if◌then◌else◌, Option, None, Some, Ok, List, [], ◌∷◌, length, map, refl, sym, ap, subst, ◌∙◌, inl, inr, arith, option_map_or, nat_lt, is_some, lt-ltb, eqb_tells, length-map, TableId, Applied, Call, Answer, Note, stamp_of, Noted, place_of, Load, Exchange, IsLayout, Layout, pool_end, Change, Reply, Stage, Exchanging, Finished, UpdateBegun, CoreState, advance_at, answers_lead_on, at_stage, begin_getting, left_at, record_size, most_of_update, steps_left, lists_spent, overtaken_reply, reply_of, step_at, step_of, answer_for, call_of, update_call, IsRecord, IsSound, is_sound_at, Part, AreNotesOf, IsNoteOf, IsPlacedAt, Exchanged, RestsLike, update_reply, Plan, seal, unsealed, history_of, public_entry, public_log, stamp_limit, public_noted, Control, About, Shape, Stand, Began, SeatedPort, plan_of, seen_in, SeatGoes, BeganBy, IsHeld, port_at, IsIdle, StaysAt, opening_of, SeatMakes, MissesSeal, unsealed_answer, RestsUnmarked, CallMade, record_claim, IsGoing, ComesTo, MayBegin, machine_at, UpdateAttempted, ExchangeDue, ExpectsOne, IsEntryOf, IsOwnMachine, NotesNothing, PortStayed, noted_where, word_from, ◌||◌, IfSome, take, length-append, IsPossibleAt, SeatBegins, FoundSealed}, Coming.goes_on, Under.{first_made, next_made, notes_same}}
 use Rattle.std.proofs.Math.Bool.{or-false}
 use Rattle.partial_lines.specs.declared.exchange.Exchanged.TheVariants.{Applied as IsApplied, Overtaken}
 
@@ -118,6 +118,14 @@ module _ (table : TableId) (about : About) (s : Stand) (h : IsHeld table about s
   made : CallMade b (port_at s) (machine_at u) (port_at u)
   made = subst (λ (c : CoreState). CallMade b (port_at s) c (port_at u)) makes.0.told.machine.is
       (first_made b (port_at s) begins first (Load d.component) refl old (port_at u) kept.goes makes.0)
+
+  -- behind its first step the machine has fewer steps left than an update may make
+  steps_behind : steps_left (machine_at u) + 1 ≤ most_of_update about.sizes
+  steps_behind =
+      let fewer = (answers_lead_on b old begins.layout begins.sound makes.0.told.possible).fewer in
+      let machine = ap steps_left makes.0.told.machine.is in
+      let left : steps_left b ≡ most_of_update b.sizes = omega arith in
+      subst (λ (z : Layout). steps_left (machine_at u) + 1 ≤ most_of_update z) (begins.sizes ∙ ap (λ (a : About). a.sizes) h.own) (omega (arith, fewer, machine, left))
 
   pub attempt_going : IsGoing table about u
   attempt_going = record { held = held; under = (b, port_at s, begins, made) }
@@ -254,6 +262,14 @@ module _ (table : TableId) (about : About) (s : Stand) (h : IsHeld table about s
 
   -- its steps up to the exchange of the component led to the stand v, and the exchange to the stand t
   module _ (v : Stand) (leads : ComesTo u v) (at found : ℕ) (stage : (machine_at v).stage ≡ Exchanging d old at) (t : Stand) (kept_last : StaysAt v t) where
+    -- all in all it has made no more steps than an update
+    pub attempt_steps : u.seat.steps ≤ s.seat.steps + 1 → t.seat.steps ≤ v.seat.steps + 1 → t.seat.steps ≤ s.seat.steps + most_of_update about.sizes
+    attempt_steps one last =
+        let later = leads.steps in
+        let few = steps_behind in
+        let left : steps_left (machine_at v) ≡ 1 = ap (left_at (machine_at v)) stage in
+        omega (arith, one, last, later, few, left)
+
     over_call : CallMade b (port_at s) (machine_at v) (port_at v)
     over_call = leads.call b (port_at s) begins made
 
@@ -278,10 +294,20 @@ module _ (table : TableId) (about : About) (s : Stand) (h : IsHeld table about s
     pub met_seal : ExchangeDue v d old at found t → seal ≤ found → unsealed found ≡ old → NotesNothing first s t
     met_seal exchanged sealed same = elim exchanged [
       | inl met ↦ (let is = met.2 in record {
-        stayed = stayed_as t (kept_all (subst (SeatGoes (port_at s)) (sym is) over_call.goes)) (ap (λ (x : SeatedPort). x.began) is ∙ began_then)
+        stayed = stayed_as t (kept_all (goes_on (port_at s) (port_at v) (port_at t) over_call.goes kept_last.goes)) (ap (λ (x : SeatedPort). x.began) is ∙ began_then)
             (ap (λ (x : SeatedPort). x.port.control) is ∙ over_call.control);
         notes = ap (λ (x : SeatedPort). x.notes) is ∙ notes_same b (port_at s) begins (machine_at v) (port_at v) over_call (Exchange d.component old at) due;
       })
+      | inr missed ↦ absurd (elim missed.0 [
+        | inl low ↦ omega (arith, low, sealed)
+        | inr other ↦ other same
+      ])
+    ]
+
+    -- that is one seal more
+    pub met_again : ExchangeDue v d old at found t → seal ≤ found → unsealed found ≡ old → FoundSealed s t
+    met_again exchanged sealed same = elim exchanged [
+      | inl met ↦ (let one = ap (λ (x : SeatedPort). x.contention.seals) met.2 in let more = over_call.goes.contention.seals in omega (arith, one, more))
       | inr missed ↦ absurd (elim missed.0 [
         | inl low ↦ omega (arith, low, sealed)
         | inr other ↦ other same
@@ -355,15 +381,12 @@ module _ (table : TableId) (about : About) (s : Stand) (h : IsHeld table about s
             sound = end.sound;
           })
 
-      -- the port isn't spent where its record lies well below the limit
-      pub attempt_spares : (limit size : ℕ) → limit ≡ t.shape.limit → size ≡ greatest_record (port_at s).about.sizes → nat_lt limit (at + size) ≡ false → (port_at t).port.over ≡ false
-      attempt_spares limit size limit_is size_is room =
+      -- the port is over exactly where its record's claim ends past the limit
+      pub attempt_over : (limit end : ℕ) → limit ≡ t.shape.limit → end ≡ at + record_size (machine_at v) → nat_lt limit end ≡ (port_at t).port.over
+      attempt_over limit end limit_is end_is =
           let same : (port_at s).about.limit ≡ limit = ap (λ (a : About). a.limit) h.own ∙ ap (λ (e : Plan). e.limit) h.shape ∙ sym (ap (λ (z : Shape). z.limit) (kept_all call_end.goes).shape) ∙ sym limit_is in
           let kept_over : (port_at t).port.over ≡ (port_at v).port.over = ap (λ (z : SeatedPort). z.port.over) makes_last.is ∙ or-false (port_at v).port.over in
-          kept_over ∙ (elim (over_call.claimed at (ap record_claim stage)) [
-            | inl none ↦ none
-            | inr past ↦ (let low : limit < at + size = omega (arith, past, same, size_is) in let bad : true ≡ false = sym (lt-ltb limit (at + size) low) ∙ room in cc)
-          ])
+          sym (kept_over ∙ over_call.claimed at (ap record_claim stage) ∙ ap (λ n. nat_lt n (at + record_size (machine_at v))) same ∙ ap (nat_lt limit) (sym end_is))
 
     -- the machine that is kept is the port's
     pub attempt_rests : (last : CoreState) → RestsUnmarked (port_at s) core → RestsLike (machine_at v) last → IsOwnMachine (port_at t) last

@@ -7,7 +7,7 @@ module _ (first : Bool) (s t u v : Stand) (b : Bool) (kept : StaysAt s t) (looke
 
   -- a port that has come to that place
   abbrev come : About → ℕ → List Noted → Began → SeatedPort
-  come a k notes n = record { about = a; number = k; port = arrived_port (plan_of a) k place entered.before; notes = notes; began = n; found = None }
+  come a k notes n = record { about = a; number = k; port = arrived_port (plan_of a) k place entered.before; notes = notes; began = n; found = None; contention = (port_at u).contention }
 
   about_is : (port_at u).about ≡ (port_at s).about
   about_is = stays.goes.about ∙ kept.goes.about
@@ -29,6 +29,7 @@ module _ (first : Bool) (s t u v : Stand) (b : Bool) (kept : StaysAt s t) (looke
     n = looked.looks.0;
     began = looked.looks.1;
     before = entered.before;
+    contention = (port_at u).contention;
     is = entered.is ∙ ap (λ a. come a (port_at u).number (port_at u).notes (port_at u).began) about_is ∙ ap (λ k. come (port_at s).about k (port_at u).notes (port_at u).began) number_is
         ∙ ap (λ l. come (port_at s).about (port_at s).number l (port_at u).began) notes_are ∙ ap (come (port_at s).about (port_at s).number (port_at s).notes) began_is;
     later = subst (λ (d : Place). d.epoch < v.epoch) (stays.here ∙ looked_keeps first s t b looked (λ (p : Port). p.control.here) (λ o. refl) refl) entered.later;

@@ -1,5 +1,5 @@
 -- The steps of a change of epoch are allowed.
-use Rattle.partial_long_lived.proofs.{Common.{ℕ, control_size, ◌≡◌, ◌≢◌, ◌+◌, ◌-◌, ◌%◌, ◌^◌, ◌<◌, ◌≤◌, ◌==◌, ◌⊎◌, Bool, true, false, if◌then◌else◌, Option, Some, None, List, slice_index, slice_set, refl, sym, ap, subst, ◌∙◌, inl, inr, arith, nat_lt, cases_lt, lt-ltb, eqb_tells, get_or-set_other, some_same, either, Me, Allows, put, IsPlace, Place, Plan, at_word, base, component_words, control_words, entering_mark, marked, own_word, packed, seal, Control, Entering, OwnedArena, Port, Stands, Marks, Loaded, IsPlaceWord, MayPut, Beside, LawfulEpochs, place_now, KeepsTime, passing_port, at_next_port, having_given, having_loaded, just_taken, owning_port, gives_stay_lawful, loaded_marks_keep_time, marks_are_loaded, others_are_elsewhere, puts_keep_time, puts_stay_lawful, sealed_passes_stay_lawful, seals_stay_lawful, takes_stay_lawful, at_of, not_below, About, Began, IsRuleKept, IsSince, SeatedPort, one_of, plan_of, IsSeatKnown, IsOne, tells, SeatGives, LoadsPort, PassesSealed, PutsPort, Seals, Takes, elsewhere, passed_at, port_loaded, port_put, taken_at, unpacked}, Asides.IsQuiet, Control.{Quietly, lawful_itself, load_same, quietly, time_aside, unpacked_is}}
+use Rattle.partial_long_lived.proofs.{Common.{ℕ, control_size, ◌≡◌, ◌≢◌, ◌+◌, ◌-◌, ◌%◌, ◌^◌, ◌<◌, ◌≤◌, ◌==◌, ◌⊎◌, Bool, true, false, if◌then◌else◌, Option, Some, None, List, slice_index, slice_set, refl, sym, ap, subst, ◌∙◌, inl, inr, arith, nat_lt, cases_lt, lt-ltb, eqb_tells, get_or-set_other, some_same, either, Me, Allows, put, IsPlace, Place, Plan, at_word, base, component_words, control_words, entering_mark, marked, own_word, packed, seal, Control, Entering, OwnedArena, Port, Stands, Marks, Loaded, IsPlaceWord, MayPut, Beside, LawfulEpochs, place_now, KeepsTime, passing_port, at_next_port, having_given, having_loaded, just_taken, owning_port, gives_stay_lawful, loaded_marks_keep_time, marks_are_loaded, others_are_elsewhere, puts_keep_time, puts_stay_lawful, sealed_passes_stay_lawful, seals_stay_lawful, takes_stay_lawful, at_of, not_below, About, Began, IsRuleKept, IsSince, SeatedPort, one_of, plan_of, IsSeatKnown, IsOne, tells, SeatGives, LoadsPort, PassesSealed, PutsPort, contention_loading, contention_putting, contention_taking, Seals, Takes, elsewhere, passed_at, port_loaded, port_put, taken_at, unpacked}, Asides.IsQuiet, Control.{Quietly, lawful_itself, load_same, quietly, quietly_contending, time_aside, unpacked_is}, Contention.{loading_more, putting_more, taking_more}}
 
 -- an exchange as a table makes it
 pub either_cond : (c : Bool) (x y : ℕ) → (if c then x else y) ≡ either c x y
@@ -194,7 +194,8 @@ module _ {S : Type 0} (a : About) (slots id : ℕ) (me : Me S (List SeatedPort))
   -- the exchange of the owner word of arena i
   pub may_take : (i : ℕ) → x.port.control.entering ≡ Stands → x.port.control.owned ≡ None → i < a.arenas → x.port.control.here.arena ≢ i →
       Allows (IsRuleKept a) slots id me (own_word e i) (λ n. either (n == 0) (x.number + 1) n) (tells (Takes i) me)
-  may_take i stands none inside apart = quietly a slots id me one own known (own_word e i) (λ n. either (n == 0) (x.number + 1) n) (taken_at i) (Takes i) (taken_quiet i)
+  may_take i stands none inside apart = quietly_contending a slots id me one own known (own_word e i) (λ n. either (n == 0) (x.number + 1) n) (taken_at i) (contention_taking i) (Takes i) (taken_quiet i)
+      (taking_more i)
       (λ words ports notes b since w time below is old come.
       let k : ℕ = x.number in
       let n : ℕ = slice_index words (own_word e i) in
@@ -233,7 +234,8 @@ module _ {S : Type 0} (a : About) (slots id : ℕ) (me : Me S (List SeatedPort))
   -- the load of the next port's word
   pub may_load_port : (o : OwnedArena) → x.port.control.owned ≡ Some o → o.looked ≡ true → o.set ≡ 0 → o.clean < a.ports →
       Allows (IsRuleKept a) slots id me (at_word o.clean) (λ n. n) (tells (LoadsPort o) me)
-  may_load_port o owned looked none more = quietly a slots id me one own known (at_word o.clean) (λ n. n) (λ n p. owning_port p (port_loaded n o)) (LoadsPort o) (λ n. owned_quiet (λ p. port_loaded n o))
+  may_load_port o owned looked none more = quietly_contending a slots id me one own known (at_word o.clean) (λ n. n) (λ n p. owning_port p (port_loaded n o)) (λ n m. contention_loading n o m) (LoadsPort o)
+      (λ n. owned_quiet (λ p. port_loaded n o)) (λ n m. loading_more n o m)
       (λ words ports notes b since w time below is old come.
       let k : ℕ = x.number in
       let n : ℕ = slice_index words (at_word o.clean) in
@@ -270,9 +272,10 @@ module _ {S : Type 0} (a : About) (slots id : ℕ) (me : Me S (List SeatedPort))
   -- the exchange of its mark
   pub may_put : (o : OwnedArena) (m : Place) → x.port.control.owned ≡ Some o → o.looked ≡ true → o.set ≡ 0 → o.clean < a.ports → o.mark ≡ Some m → o.again ≡ true →
       Allows (IsRuleKept a) slots id me (at_word o.clean) (λ n. either (n == marked m) (packed x.port.control.here) n) (tells (PutsPort o m) me)
-  may_put o m owned looked none more mark again = quietly a slots id me one own known (at_word o.clean) (λ n. either (n == marked m) (packed x.port.control.here) n) (λ n p. owning_port p (port_put m n o))
+  may_put o m owned looked none more mark again = quietly_contending a slots id me one own known (at_word o.clean) (λ n. either (n == marked m) (packed x.port.control.here) n)
+      (λ n p. owning_port p (port_put m n o)) (λ n w. contention_putting m n o w)
       (PutsPort o m)
-      (λ n. owned_quiet (λ p. port_put m n o))
+      (λ n. owned_quiet (λ p. port_put m n o)) (λ n w. putting_more m n o w)
       (λ words ports notes b since w time below is old come.
       let k : ℕ = x.number in
       let i : ℕ = at_word o.clean in

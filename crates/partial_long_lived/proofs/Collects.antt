@@ -1,5 +1,5 @@
 -- The loads of a collect: what they leave of a port, and what they tell it.
-use Rattle.partial_long_lived.proofs.{Common.{ℕ, ◌≡◌, ◌+◌, ◌<◌, ◌≤◌, ◌++◌, Bool, false, List, [], length, take, slice_set, refl, sym, ap, subst, ◌∙◌, inl, inr, arith, append-nil, length-append, slice_index, eqb_tells, get_or-set_other, get_or-set_same, take-append-le, take_all, TableId, Applied, stamp_of, Noted, total, core_of, having_seen, About, Stand, Began, SeatedPort, BeginsWith, IsHeld, port_at, HasCome, IsIdle, StaysAt, SeatSees, opening_of, Glances, AreCollected, HasGlanced, HasStayed, WasThere}, Coming.{begins_on, come_on, kept_on}, Staying.goes_same}
+use Rattle.partial_long_lived.proofs.{Common.{ℕ, ◌≡◌, ◌+◌, ◌<◌, ◌≤◌, ◌++◌, Bool, false, List, [], length, take, slice_set, refl, sym, ap, subst, ◌∙◌, inl, inr, arith, append-nil, length-append, slice_index, eqb_tells, get_or-set_other, get_or-set_same, take-append-le, take_all, TableId, Applied, stamp_of, Noted, total, core_of, having_seen, About, Stand, Began, SeatedPort, BeginsWith, IsHeld, port_at, HasCome, IsIdle, StaysAt, SeatSees, opening_of, Glances, AreCollected, HasGlanced, HasStayed, WasThere}, Coming.{begins_on, come_on, goes_same, kept_on}}
 
 kept_same : (table : TableId) (about : About) (s : Stand) → IsHeld table about s → StaysAt s s
 kept_same table about s h = record { shape = refl; number = refl; epoch = refl; arena = refl; base = refl; passed = refl; goes = goes_same (port_at s) h.known }

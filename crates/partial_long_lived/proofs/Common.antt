@@ -7,7 +7,7 @@ pub use Rattle.std.proofs.lemmas.Bool.Decides.{eqb_tells}
 pub use lib.{ListN.get_elem?, Seq.set-get_or}
 pub use mathlib.Core.Option.{some, some-injective, some-ne-none}
 pub use prog.Atomic.{either}
-pub use Rattle.atomic_table.specs.{Seated.TableId, Table.{Me, Allows, State, keeps, Joins, Splits, opening}}
+pub use Rattle.partial_table.specs.Table.{TableId, Me, Allows, State, keeps, Joins, Splits, opening}
 pub use Rattle.partial_model.specs.declared.call.{Answer.Answer, Call.Call, Note.Note}
 pub use Rattle.partial_model.specs.declared.history.{Applied.Applied, Opening.Opening}
 pub use Rattle.partial_model.specs.{History.{stamp_of, IsHistory, value_of, HaveDistinctStamps, initial_stamp, last_entry}, Notes.{LegalNotes, IsEntryFor, IsLegal, Noted, seen_by, place_of, Fits, IsTrueOf, AreCollects, seen_after}, Outcome.{places_written, EachOnce, places_by, wrote}}
@@ -17,7 +17,7 @@ pub use Rattle.partial_words.specs.declared.step.Step.TheVariants.{Load, Exchang
 pub use Rattle.partial_words.specs.{Announcement.announcement_size, Chain.{opening_word, initial_record_word}, Layout.{Layout, first_free, list_base, pool_base, IsLayout, greatest_record, pool_end, list_counter, list_head, pool_counter, slot_counter, slot_word, total, initial_record, initial_words}, Record.{value_word, plain_record_size, view_word, prev_word}, Step.{answer_of, word_of, words_after}}
 pub use Rattle.partial_machine.specs.declared.stage.{Change.Change, Reply.Reply, Stage.Stage}
 pub use Rattle.partial_machine.specs.declared.stage.Stage.TheVariants.{Exchanging, Finished, UpdateBegun, Idle, ReadBegun, LoadingValue, GettingSet, Viewing, ClaimingRecord, StoringRecord, ScanBegun, StoringAnnouncement, Joining, Scanning, Leaving}
-pub use Rattle.partial_machine.specs.{Behind.{refuses_pool, refuses_slots, IsBehind}, Calls.{is_at_rest, answer_for, call_of, update_call, is_begun}, Lines.scan_asked, Machine.{CoreState, fresh, advance_at, at_stage, begin_getting, lists_spent, overtaken_reply, reply_of, step_at, step_of, advance, after_joining, begin_joining, expects, fits_pool, getting, pool_refused, record_size, with_getting, scanned_values, reply_at}, Possible.IsPossibleAt, Sound.{AreComponentIndices, IsSound, is_sound_at, IsRecord}}
+pub use Rattle.partial_machine.specs.{Bounds.{left_at, most_of_update, steps_left}, Behind.{refuses_pool, refuses_slots, IsBehind}, Calls.{is_at_rest, answer_for, call_of, update_call, is_begun}, Lines.scan_asked, Machine.{CoreState, fresh, advance_at, at_stage, begin_getting, lists_spent, overtaken_reply, reply_of, step_at, step_of, advance, after_joining, begin_joining, expects, fits_pool, getting, pool_refused, record_size, with_getting, scanned_values, reply_at}, Possible.IsPossibleAt, Sound.{AreComponentIndices, IsSound, is_sound_at, IsRecord}}
 pub use Rattle.partial_machine.proofs.Laws.{answers_lead_on, due_is_unreplied, due_words_are_there}
 pub use Rattle.partial_core.specs.{Part.{IsBetween, IsMarkedLike, core_of, Part, first_at, KeptAnswer}, Steps.{AreNotesOf, IsNoteOf, IsPlacedAt, begun_with, since_with, Tells, moved_part, CollectsStamps}}
 pub use Rattle.partial_core.proofs.{Added.not_below, Laws.{lawful_records_are_within, ports_come_between, first_steps_make_calls, further_steps_make_calls}}
@@ -34,6 +34,6 @@ pub use Rattle.partial_long_lived.specs.declared.rule.About.{About}
 pub use Rattle.partial_long_lived.specs.declared.shape.Shape.{Shape}
 pub use Rattle.partial_long_lived.specs.declared.stand.Stand.{Stand}
 pub use Rattle.partial_long_lived.specs.declared.update_if.Asked.{Asked}
-pub use Rattle.partial_long_lived.specs.{Calls.{Differ, HasStampThen, StillStand, IsRefused, Scans, Updates, ScansStamped}, Closing.{Closes, IsPortOf}, Ports.{IsOf, MemoryView, PortView, new_ports, port_view, seen_in, AreByOpened, Knows}, Resting.IsResting, Rule.{newcomers, Began, SeatedPort, Found, BeganInTime, IsFinal, IsLast, IsSeat, IsSeen, IsSince, plan_of, IsRuleKept, one_of, seats_of, first_port, flatten, further_ports, newcomer}, Shape.{bare, shape_plan, IsShapeOf}}
-pub use Rattle.partial_long_lived.specs.Inner.{Calls.{HasCome, HasNotedRead, IsIdle, StaysAt, EpochEntered, LookFound, HasValue, EpochSettled, MayEnter}, Changing.{EpochChanged, NotChanged, IsCarriedStamp, IsRight, IsFixedWord, MayPutPort, OfOwned, Owns, PutsBy, SetsLists, SetsNext, TakesBy, HasSetWords, Stays, HasTaken, HoldsMark, IsPast, Remains, IsCause, HasSamePart, HasLoadedPort, HasPassed, SetsValue, behind_value, behind_values, FoundValue, HasControl}, Conditional.{EndedIf, HasCompared, HasLooked, IsExpected, IsPlaceOf, noted_if, outcome_of, HasUpdatedIf}, DoubleCollect.{AreCollected, HasGlanced, HasStayed, WasThere, AreInside, HadValue, HadValues, HasBegunCollect, MayNoteScan, NotesScan, noted_together, notes_scan}, Held.{IsHeld, epoch_at, port_at}, Last.{HaveLast, ReadsLast, value_now, arena_now, component_now}, Loads.{opening_of, SeatSees, Wish, noted_by, place_seen, stamp_seen, value_seen, Recalls, found_by, component_at, sees}, Machine.{SeatMakes, MissesSeal, unsealed_answer, LeavesComponents, IsApart, MayMake, change_of, over_by, told_of, makes, word_at, goes_on, Exchanges, begins, exchanges, SeatBegins}, Meeting.{Observes, HasMet, observes}, Moves.{becomes, FindsClear, SeatGives, LoadsPort, PassesSealed, SeatPublishes, PutsPort, Seals, Sets, Takes, passed_at, unpacked, BeganBy, elsewhere, port_loaded, port_put, taken_at, LoadsCurrent, SeatLooks, StoresMark, having_found, loads, looked_at, marks, SeatArrives, place_found}, Opening.OpensShape, Rests.{NotScanned, RestsAt}, Scans.{HasNotedScan, RestsUnmarked, ScanMade, noted_scan, SettledFirst}, Stamped.{ScannedNamed, ArePublic, MadeNamed, NameStamps, ScannedStamped}, Steps.{SeatGoes, IsSeatKnown, IsOne, tells, BeginsWith, HasStampsInWords, HasRecordStamps}, Unchanged.{stamp_at, HadStamps, HadAnother, HadStamp, HasStamp}, Under.{CallMade, record_claim, IsGoing, ComesTo, MayBegin, machine_at, before_claim}, Updates.{UpdateAttempted, ExchangeDue, ExpectsOne, IsEntryOf, IsOwnMachine, NotesNothing, PortStayed, noted_where, word_from, MayCall, CameBy, IsLate, UpdateEnded, noted_change, public_update, stamp_from, asked_change, ended_as}}
+pub use Rattle.partial_long_lived.specs.{Bounds.{arena_steps, claim_steps, fill_steps, most_of_change, most_of_scan, most_of_scans, pass_steps, round_if_steps, round_steps}, Calls.{Differ, HasStampThen, StillStand, StoodTogether, IsRefused, Scans, Updates, ScansStamped}, Closing.{Closes, ClosesLawfully, IsPortOf}, Ports.{HasLawfulState, IsOf, MemoryView, PortView, new_ports, port_view, seen_in, AreByOpened, Knows}, Resting.IsResting, Rule.{newcomers, Began, Contention, ContendsMore, times_in, SeatedPort, Found, BeganInTime, IsFinal, IsLast, IsSeat, IsSeen, IsSince, plan_of, IsRuleKept, one_of, seats_of, first_port, flatten, further_ports, newcomer}, Shape.{bare, shape_plan, IsShapeOf}}
+pub use Rattle.partial_long_lived.specs.Inner.{Calls.{HasCome, HasNotedRead, IsIdle, StaysAt, EpochEntered, LookFound, HasValue, EpochSettled, MayEnter}, Changing.{EpochChanged, NotChanged, IsCarriedStamp, IsRight, IsFixedWord, MayPutPort, OfOwned, Owns, PutsBy, SetsLists, SetsNext, TakesBy, HasSetWords, Stays, HasTaken, HoldsMark, IsPast, Remains, IsCause, HasSamePart, HasLoadedPort, HasPassed, SetsValue, behind_value, behind_values, FoundValue, HasControl, FoundBusyAt, FoundBusyBy, FoundAllBusy, IsBusy}, Conditional.{EndedIf, HasCompared, HasLooked, IsExpected, IsPlaceOf, noted_if, outcome_of, HasUpdatedIf}, DoubleCollect.{AreCollected, HasGlanced, HasStayed, WasThere, AreInside, HadValue, HadValues, HasBegunCollect, MayNoteScan, NotesScan, noted_together, notes_scan}, Held.{IsHeld, epoch_at, port_at}, Last.{HaveLast, ReadsLast, value_now, arena_now, component_now}, Loads.{opening_of, SeatSees, Wish, noted_by, place_seen, stamp_seen, value_seen, Recalls, found_by, contention_by, component_at, sees}, Machine.{SeatMakes, MissesSeal, unsealed_answer, LeavesComponents, IsApart, MayMake, change_of, over_by, told_of, makes, word_at, goes_on, Exchanges, begins, exchanges, SeatBegins}, Meeting.{AreComparable, Observes, HasMet, observes}, Moves.{becomes, finding_busy, finding_seal, contention_taking, contention_there, contention_loading, contention_putting, FindsClear, SeatGives, LoadsPort, PassesSealed, SeatPublishes, PutsPort, Seals, Sets, Takes, passed_at, unpacked, BeganBy, elsewhere, port_loaded, port_put, taken_at, LoadsCurrent, SeatLooks, StoresMark, having_found, loads, looked_at, marks, SeatArrives, place_found}, Opening.OpensShape, Rests.{NotScanned, RestsAt}, Scans.{HasNotedScan, RestsUnmarked, ScanMade, noted_scan, SettledFirst}, Stamped.{ScannedNamed, ArePublic, MadeNamed, NameStamps, ScannedStamped}, Steps.{SeatGoes, IsSeatKnown, IsOne, tells, BeginsWith, HasStampsInWords, HasRecordStamps}, Unchanged.{stamp_at, HadStamps, HadAnother, HadStamp, HasStamp}, Under.{CallMade, record_claim, IsGoing, ComesTo, MayBegin, machine_at, before_claim}, Updates.{UpdateAttempted, ExchangeDue, ExpectsOne, IsEntryOf, IsOwnMachine, NotesNothing, PortStayed, noted_where, word_from, MayCall, CameBy, IsLate, FoundSealed, UpdateEnded, noted_change, public_update, stamp_from, asked_change, ended_as}}
 pub use Rattle.partial_long_lived.specs.Inner.Loads.Wish.{Glances, Reads, Expects, Finds}

@@ -1,5 +1,5 @@
 -- A conditional update of a port: the comparison, and how it ends in the port's epoch.
-use Rattle.partial_long_lived.proofs.{Common.{ℕ, ◌≡◌, ◌<◌, ◌≤◌, ◌==◌, ◌&&◌, ◌++◌, Bool, true, false, not, if◌then◌else◌, Some, List, [], ◌∷◌, length, refl, sym, ap, subst, ◌∙◌, inl, inr, arith, append-nil, nat_lt, cases_lt, TableId, Applied, Noted, stamp_of, total, Change, is_at_rest, CoreState, IsMarkedLike, core_of, Exchanged, public_stamp, seal, unsealed, public_of, not_below, About, UpdatedIf, Asked, Stand, Began, SeatedPort, plan_of, seen_in, IsIdle, StaysAt, EndedIf, HasCompared, HasLooked, IsExpected, IsPlaceOf, noted_if, outcome_of, IsHeld, port_at, SeatSees, noted_by, opening_of, place_seen, stamp_seen, Expects, BeganBy, UpdateAttempted, ExpectsOne, IsEntryOf, IsOwnMachine, MayCall, NotesNothing, PortStayed, noted_where, take, value_word, Call, Answer, Note}, Coming.kept_on}
+use Rattle.partial_long_lived.proofs.{Common.{ℕ, ◌≡◌, ◌<◌, ◌≤◌, ◌==◌, ◌&&◌, ◌++◌, Bool, true, false, not, if◌then◌else◌, Some, List, [], ◌∷◌, length, refl, sym, ap, subst, ◌∙◌, inl, inr, arith, append-nil, nat_lt, cases_lt, TableId, Applied, Noted, stamp_of, total, Change, is_at_rest, CoreState, IsMarkedLike, core_of, Exchanged, public_stamp, seal, unsealed, public_of, not_below, About, UpdatedIf, Asked, Stand, Began, SeatedPort, plan_of, seen_in, IsIdle, StaysAt, EndedIf, HasCompared, HasLooked, IsExpected, IsPlaceOf, noted_if, outcome_of, IsHeld, port_at, SeatSees, noted_by, opening_of, place_seen, stamp_seen, Expects, BeganBy, UpdateAttempted, ExpectsOne, IsEntryOf, IsOwnMachine, MayCall, NotesNothing, PortStayed, noted_where, take, value_word, Call, Answer, Note, contention_by, FoundSealed, ◌+◌}, Coming.kept_on}
 use Rattle.partial_lines.specs.declared.exchange.Exchanged.TheVariants.{Applied as IsApplied, Overtaken}
 use Rattle.partial_long_lived.specs.declared.update_if.Compared.TheVariants.{Sealed, Same, Other}
 
@@ -27,6 +27,7 @@ module _ (table : TableId) (about : About) (s u t : Stand) (h : IsHeld table abo
     began = w.n;
     notes = x.notes ++ (if first && not (nat_lt a seal) then [] else noted_by (Expects asked.expected asked.value) x w.log j);
     found = x.found;
+    contention = contention_by (Expects asked.expected asked.value) a x.contention;
   }
   is = same ∙ w.is
 
@@ -43,6 +44,13 @@ module _ (table : TableId) (about : About) (s u t : Stand) (h : IsHeld table abo
     machine = ap (λ (y : SeatedPort). core_of y.port.part) is;
     over = ap (λ (y : SeatedPort). y.port.over) is;
   }
+
+  -- a component that is sealed is one seal more
+  pub looked_sealed : seal ≤ a → FoundSealed s t
+  looked_sealed sealed =
+      let more = ap (λ (y : SeatedPort). y.contention.seals) is
+      ∙ ap (λ b. (if b then x.contention else record x.contention { seals = x.contention.seals + 1 }).seals) (not_below a seal sealed) in
+      omega (arith, more)
 
   notes_are : (port_at t).notes ≡ x.notes ++ (if first && not (nat_lt a seal) then [] else noted_by (Expects asked.expected asked.value) x w.log j)
   notes_are = ap (λ (y : SeatedPort). y.notes) is

@@ -1,5 +1,5 @@
 -- The steps of a change of epoch and of entering one are allowed.
-use Rattle.partial_long_lived.proofs.{Common.{ℕ, ◌≡◌, ◌≢◌, ◌<◌, ◌≤◌, ◌==◌, ◌⊎◌, Bool, true, false, if◌then◌else◌, Option, Some, None, IfSome, List, length, slice_index, slice_set, refl, sym, ap, subst, ◌∙◌, inl, inr, arith, eqb_tells, set-get_or, Me, Allows, Applied, Noted, put, IsPlace, Place, Plan, arena_limit, at_word, current_word, marked, packed, Entering, OwnedArena, Port, Stands, Marks, Beside, LawfulEpochs, place_now, having_passed, having_looked, LawfulMemory, put_all, put_same, put_other, option_map_or, MayPut, KeepsTime, asides_keep_time, entries_keep_time, entries_load, looks_are_true, looks_keep_time, marks_keep_time, marks_stay_lawful, owners_look, owners_look_away, About, Began, IsRuleKept, IsSince, SeatedPort, one_of, plan_of, IsSeatKnown, IsOne, tells, LoadsCurrent, SeatLooks, StoresMark, becomes, having_found, loads, looked_at, marks, unpacked, same_place}, Asides.{IsQuiet, aside}, Kept.{allowed, begun_grows, none_grown}, Begins.{began_by, here_is, seen_few}}
+use Rattle.partial_long_lived.proofs.{Common.{ℕ, ◌≡◌, ◌≢◌, ◌<◌, ◌≤◌, ◌==◌, ◌⊎◌, Bool, true, false, if◌then◌else◌, Option, Some, None, IfSome, List, length, slice_index, slice_set, refl, sym, ap, subst, ◌∙◌, inl, inr, arith, eqb_tells, set-get_or, Me, Allows, Applied, Noted, put, IsPlace, Place, Plan, arena_limit, at_word, current_word, marked, packed, Entering, OwnedArena, Port, Stands, Marks, Beside, LawfulEpochs, place_now, having_passed, having_looked, LawfulMemory, put_all, put_same, put_other, option_map_or, MayPut, KeepsTime, asides_keep_time, entries_keep_time, entries_load, looks_are_true, looks_keep_time, marks_keep_time, marks_stay_lawful, owners_look, owners_look_away, About, Began, IsRuleKept, IsSince, SeatedPort, one_of, plan_of, IsSeatKnown, IsOne, tells, LoadsCurrent, SeatLooks, StoresMark, becomes, having_found, loads, looked_at, marks, unpacked, same_place, Contention, ContendsMore}, Asides.{IsQuiet, aside}, Contention.contends_same, Kept.{allowed, begun_grows, moved_contending, none_grown}, Begins.{began_by, here_is, seen_few}}
 
 -- a load leaves the words as they are
 pub load_same : (words : List ℕ) (i : ℕ) → words ≡ slice_set words i (slice_index words i)
@@ -158,18 +158,29 @@ module _ {S : Type 0} (a : About) (slots id : ℕ) (me : Me S (List SeatedPort))
       x.number < a.ports → x.port ≡ ports x.number → IsSince x.began (ports x.number).control.entering (since x.number) → x.began.epoch ≤ length b.before →
       Quietly a (f words) ports b since x.number x.began (g words (ports x.number))
 
+  -- one by which it may meet others
+  pub quietly_contending : (i : ℕ) (f : ℕ → ℕ) (g : ℕ → Port → Port) (h : ℕ → Contention → Contention) (R : SeatedPort → ℕ → SeatedPort → Type 0) → ((n : ℕ) → IsQuiet (g n)) →
+      ((n : ℕ) (m : Contention) → ContendsMore m (h n m)) → Leads (λ words. slice_set words i (f (slice_index words i))) (λ words. g (slice_index words i)) →
+      ((words : List ℕ) (ports : ℕ → Port) (b : Beside) → LawfulEpochs (plan_of a) words ports b → x.number < a.ports → x.port ≡ ports x.number →
+      R x (slice_index words i) (record (becomes x x.began (g (slice_index words i) x.port)) { contention = h (slice_index words i) x.contention })) →
+      Allows (IsRuleKept a) slots id me i f (tells R me)
+  quietly_contending i f g h R quiet more leads says = allowed a slots id me i f R one own (λ words ports notes b since w time s small.
+      let n : ℕ = slice_index words i in
+      let to = leads words ports notes b since w time s.number s.port (subst (λ (p : Port). IsSince x.began p.control.entering (since x.number)) s.port s.entering) (s.began).come in
+      let began = begun_grows b to.beside x.began (let same = ap (λ (l : List (List Applied)). length l) to.before in omega (arith, same)) (none_grown b to.beside to.log to.before) s.began in
+      let m = aside a words (slice_set words i (f n)) ports notes b to.beside since to.since' x w s known (g n) (quiet n) x.began
+      (subst (λ (p : Port). IsSince x.began (g n p).control.entering (to.since' x.number)) (sym s.port) to.entering) began to.time to.others to.log to.before to.lawful
+      (λ (y : SeatedPort). y ≡ becomes x x.began (g n x.port)) refl in
+      moved_contending m (h n x.contention) (more n x.contention)
+      (subst (λ (y : SeatedPort). R x n (record y { contention = h n x.contention })) (sym m.says) (says words ports b w.epochs s.number s.port)))
+
+  -- one by which it meets nobody
   pub quietly : (i : ℕ) (f : ℕ → ℕ) (g : ℕ → Port → Port) (R : SeatedPort → ℕ → SeatedPort → Type 0) → ((n : ℕ) → IsQuiet (g n)) →
       Leads (λ words. slice_set words i (f (slice_index words i))) (λ words. g (slice_index words i)) →
       ((words : List ℕ) (ports : ℕ → Port) (b : Beside) → LawfulEpochs (plan_of a) words ports b → x.number < a.ports → x.port ≡ ports x.number →
       R x (slice_index words i) (becomes x x.began (g (slice_index words i) x.port))) →
       Allows (IsRuleKept a) slots id me i f (tells R me)
-  quietly i f g R quiet leads says = allowed a slots id me i f R one own (λ words ports notes b since w time s small.
-      let n : ℕ = slice_index words i in
-      let to = leads words ports notes b since w time s.number s.port (subst (λ (p : Port). IsSince x.began p.control.entering (since x.number)) s.port s.entering) (s.began).come in
-      let began = begun_grows b to.beside x.began (let same = ap (λ (l : List (List Applied)). length l) to.before in omega (arith, same)) (none_grown b to.beside to.log to.before) s.began in
-      aside a words (slice_set words i (f n)) ports notes b to.beside since to.since' x w s known (g n) (quiet n) x.began
-      (subst (λ (p : Port). IsSince x.began (g n p).control.entering (to.since' x.number)) (sym s.port) to.entering) began to.time to.others to.log to.before to.lawful (R x n)
-      (says words ports b w.epochs s.number s.port))
+  quietly i f g R quiet leads says = quietly_contending i f g (λ n m. m) R quiet (λ n m. contends_same m) leads says
 
   -- the first step of entering
   pub may_mark : x.port.control.entering ≡ Stands → x.port.control.past ≡ true → x.port.control.owned ≡ None →

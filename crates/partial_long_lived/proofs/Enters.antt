@@ -1,5 +1,5 @@
 -- The exchange of the entering mark is allowed.
-use Rattle.partial_long_lived.proofs.{Common.{ℕ, ◌≡◌, ◌<◌, ◌≤◌, ◌==◌, ◌++◌, if◌then◌else◌, None, List, [], ◌∷◌, length, slice_index, slice_set, refl, sym, ap, subst, ◌∙◌, inl, inr, arith, append-nil, append_assoc, eqb_tells, either, Me, Allows, Applied, LegalNotes, Noted, put, IsPlace, Place, Plan, at_word, marked, packed, history_of, public_log, Entering, Port, Loaded, arrived_port, Beside, LawfulEpochs, place_now, KeepsTime, LawfulMemory, EpochReached, not_marked, arrivals_keep_notes, arrivals_keep_time, arrivals_stay_lawful, put_other, put_same, history_grows, history_longer, About, IsRuleKept, IsSeat, IsSeen, IsSince, SeatedPort, one_of, plan_of, seen_in, BeginsWith, IsSeatKnown, IsOne, tells, SeatArrives, place_found, unpacked, ends}, Seen.legal_begins, Kept.{Moved, allowed, none_grown, not_grown}, Control.unpacked_is, Changes.either_cond}
+use Rattle.partial_long_lived.proofs.{Common.{ℕ, ◌≡◌, ◌<◌, ◌≤◌, ◌==◌, ◌++◌, if◌then◌else◌, None, List, [], ◌∷◌, length, slice_index, slice_set, refl, sym, ap, subst, ◌∙◌, inl, inr, arith, append-nil, append_assoc, eqb_tells, either, Me, Allows, Applied, LegalNotes, Noted, put, IsPlace, Place, Plan, at_word, marked, packed, history_of, public_log, Entering, Port, Loaded, arrived_port, Beside, LawfulEpochs, place_now, KeepsTime, LawfulMemory, EpochReached, not_marked, arrivals_keep_notes, arrivals_keep_time, arrivals_stay_lawful, put_other, put_same, history_grows, history_longer, About, IsRuleKept, IsSeat, IsSeen, IsSince, SeatedPort, one_of, plan_of, seen_in, BeginsWith, IsSeatKnown, IsOne, tells, SeatArrives, place_found, unpacked, ends}, Seen.legal_begins, Kept.{Moved, allowed, none_grown, not_grown}, Control.unpacked_is, Changes.either_cond, Contention.contends_same}
 use Rattle.partial_epochs.specs.Entering as law
 
 -- the place to which the port comes is the one that its word tells
@@ -76,6 +76,8 @@ arrival a words ports notes b since x w time s known c loaded v word =
       time = subst (λ v. KeepsTime e (slice_set words (at_word k) v) (put k p ports) (place_now b) since) word in_time.1;
       others = λ q ne. (put_other k p ports q ne, refl, refl);
       number = refl;
+      epoch = omega (arith, later);
+      contention = contends_same x.contention;
       seat = record {
         about = own;
         number = s.number;

@@ -1,5 +1,5 @@
 -- A step of one seat keeps the rule.
-use Rattle.partial_long_lived.proofs.{Common.{ℕ, ◌≡◌, ◌≢◌, ◌+◌, ◌<◌, ◌≤◌, ◌==◌, ◌++◌, if◌then◌else◌, Option, Some, None, IfSome, List, [], ◌∷◌, length, slice_index, slice_set, refl, sym, ap, subst, ◌∙◌, arith, append-nil, length-append, AllByRecursion, some, get_elem?, Me, Allows, keeps, Applied, LegalNotes, Noted, all_at, all_join, all_before, all_after, all_weaker, Port, Beside, IsEpochPlan, place_now, KeepsTime, history_longer, LawfulMemory, option_map_or, behind_both, IsPlace, carried_after, carried_behind, history_of, opening_behind, public_log, public_stamp, value_of, About, Began, Found, BeganInTime, IsFinal, IsRuleKept, IsSeat, IsSeen, IsSince, SeatedPort, one_of, plan_of, seats_of, Knows, seen_in, BeginsWith, SeatGoes, IsSeatKnown, IsOne, tells, HasRecordStamps}, Seen.{fits_of, knows_of, own_of, seen_begins}, Views.{around, others_all, seat_own, seats_both}}
+use Rattle.partial_long_lived.proofs.{Common.{ℕ, ◌≡◌, ◌≢◌, ◌+◌, ◌<◌, ◌≤◌, ◌==◌, ◌++◌, if◌then◌else◌, Option, Some, None, IfSome, List, [], ◌∷◌, length, slice_index, slice_set, refl, sym, ap, subst, ◌∙◌, arith, append-nil, length-append, AllByRecursion, some, get_elem?, Me, Allows, keeps, Applied, LegalNotes, Noted, all_at, all_join, all_before, all_after, all_weaker, Port, Beside, IsEpochPlan, place_now, KeepsTime, history_longer, LawfulMemory, option_map_or, behind_both, IsPlace, carried_after, carried_behind, history_of, opening_behind, public_log, public_stamp, value_of, About, Began, Found, BeganInTime, IsFinal, IsRuleKept, IsSeat, IsSeen, IsSince, SeatedPort, one_of, plan_of, seats_of, Knows, seen_in, BeginsWith, SeatGoes, IsSeatKnown, IsOne, tells, HasRecordStamps, Contention, ContendsMore}, Seen.{fits_of, knows_of, own_of, seen_begins}, Views.{around, others_all, seat_own, seats_both}}
 use Rattle.partial_epochs.proofs.Last.{none_here, stays}
 
 -- The histories of all epochs have grown: that of the epoch behind these has at most gained entries, for components of which that is so.
@@ -98,6 +98,8 @@ pub record Moved (a : About) (words' : List ℕ) (ports : ℕ → Port) (notes :
   pub time : KeepsTime (plan_of a) words' ports' (place_now beside) since'
   pub others : (q : ℕ) → q ≢ x.number → (ports' q ≡ ports q) × (notes' q ≡ notes q) × (since' q ≡ since q)
   pub number : y.number ≡ x.number
+  pub epoch : x.port.control.here.epoch ≤ y.port.control.here.epoch
+  pub contention : ContendsMore x.contention y.contention
   pub seat : IsSeat a ports' notes' beside since' y
   pub grown : (q : ℕ) → q < a.ports → q ≢ x.number → HasGrown (ports q) b beside
   pub all_grown : HaveGrown b beside
@@ -120,6 +122,8 @@ moved_says m says = record {
   time = m.time;
   others = m.others;
   number = m.number;
+  epoch = m.epoch;
+  contention = m.contention;
   seat = m.seat;
   grown = m.grown;
   all_grown = m.all_grown;
@@ -133,6 +137,31 @@ moved_says m says = record {
 pub moved_as : {a : About} {words' : List ℕ} {ports : ℕ → Port} {notes : ℕ → List Noted} {b : Beside} {since : ℕ → ℕ} {x : SeatedPort} {P R : SeatedPort → Type 0} → ((y : SeatedPort) → P y → R y) →
     Moved a words' ports notes b since x P → Moved a words' ports notes b since x R
 moved_as f m = moved_says m (f m.y m.says)
+
+-- and of a port that has met more
+pub moved_contending : {a : About} {words' : List ℕ} {ports : ℕ → Port} {notes : ℕ → List Noted} {b : Beside} {since : ℕ → ℕ} {x : SeatedPort} {P R : SeatedPort → Type 0} →
+    (m : Moved a words' ports notes b since x P) → (t : Contention) → ContendsMore x.contention t → R (record m.y { contention = t }) → Moved a words' ports notes b since x R
+moved_contending m t more says = record {
+  y = record m.y { contention = t };
+  ports' = m.ports';
+  notes' = m.notes';
+  beside = m.beside;
+  since' = m.since';
+  lawful = m.lawful;
+  time = m.time;
+  others = m.others;
+  number = m.number;
+  epoch = m.epoch;
+  contention = more;
+  seat = let s = m.seat in record { about = s.about; number = s.number; port = s.port; noted = s.noted; seen = s.seen; began = s.began; entering = s.entering; found = s.found };
+  grown = m.grown;
+  all_grown = m.all_grown;
+  later = m.later;
+  reached = m.reached;
+  seen = m.seen;
+  legal = m.legal;
+  says = says;
+}
 
 module _ {S : Type 0} (a : About) (me : Me S (List SeatedPort)) (one : IsOne me) (words' : List ℕ) (ports : ℕ → Port) (notes : ℕ → List Noted) (b : Beside) (since : ℕ → ℕ) (P : SeatedPort → Type 0)
     (m : Moved a words' ports notes b since (one_of me.0) P) where
@@ -196,7 +225,7 @@ module _ {S : Type 0} (a : About) (me : Me S (List SeatedPort)) (one : IsOne me)
       }
 
   pub goes_then : x.about ≡ a → SeatGoes x m.y
-  goes_then own = record { about = (m.seat).about ∙ sym own; number = m.number; seen = m.seen; known = known_then }
+  goes_then own = record { about = (m.seat).about ∙ sym own; number = m.number; epoch = m.epoch; contention = m.contention; seen = m.seen; known = known_then }
 
 -- a step is allowed where it leads on from each lawful memory
 pub allowed : {S : Type 0} (a : About) (slots id : ℕ) (me : Me S (List SeatedPort)) (i : ℕ) (f : ℕ → ℕ) (R : SeatedPort → ℕ → SeatedPort → Type 0) → IsOne me → (one_of me.0).about ≡ a →

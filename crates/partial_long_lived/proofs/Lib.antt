@@ -14,6 +14,7 @@ pub mod Coming
 pub mod Conditional
 pub mod ConditionalRounds
 pub mod Control
+pub mod Counts
 pub mod Current
 pub mod DoubleCollect
 pub mod Enters
@@ -29,6 +30,7 @@ pub mod Making
 pub mod Meeting
 pub mod Meetings
 pub mod Meets
+pub mod Contention
 pub mod NewPorts
 pub mod Opens
 pub mod PoolCounters

@@ -1,5 +1,5 @@
 -- Loads of component words are allowed, and what they tell.
-use Rattle.partial_long_lived.proofs.{Common.{ℕ, ◌≡◌, ◌≢◌, ◌+◌, ◌<◌, ◌≤◌, ◌==◌, ◌⊎◌, ◌&&◌, ◌++◌, not, Bool, true, false, if◌then◌else◌, Option, Some, None, IfSome, List, [], ◌∷◌, length, map, take, slice_index, slice_set, refl, sym, ap, subst, ◌∙◌, inl, inr, arith, append-nil, append_assoc, length-append, ⊤, nat_lt, AllByRecursion, eqb_tells, length-map, take-append-le, take_all, Applied, Opening, Note, stamp_of, value_of, Fits, IsTrueOf, LegalNotes, Noted, place_of, seen_by, AreCollects, LegalNotes-push, first_free, put, MayPut, Place, Plan, base, component_words, seal, unsealed, carried_after, carried_behind, history_of, opening_behind, public_entry, public_log, Port, Stands, Beside, IsStanding, place_now, LawfulMemory, having_seen, noting, public_of, IsBesideAs, KeepsTime, asides_keep_time, components_name_records, epochs_are_histories, glances_stay_lawful, seen_records_stay, sights_stay_lawful, unsealed_is_present, history_took, at_of, put_all, put_other, put_same, held_history, history_grows, among, history_longer, About, Began, Found, BeganInTime, IsFinal, IsSeat, SeatedPort, plan_of, seen_in, BeginsWith, IsSeatKnown, Recalls, SeatSees, Wish, found_by, noted_by, place_seen, stamp_seen, MayNoteScan, NotesScan, noted_together, Expects, Finds, Glances, Reads, epochs_continue, stamp_public, value_public, Call, Answer}, Begins.{began_by, seen_few}, Control.{load_same, stands_since}, Kept.{Moved, begun_grows, final_grows, none_grown, not_grown}, Lists.{cut, same_before}, Seen.legal_begins}
+use Rattle.partial_long_lived.proofs.{Common.{ℕ, ◌≡◌, ◌≢◌, ◌+◌, ◌<◌, ◌≤◌, ◌==◌, ◌⊎◌, ◌&&◌, ◌++◌, not, Bool, true, false, if◌then◌else◌, Option, Some, None, IfSome, List, [], ◌∷◌, length, map, take, slice_index, slice_set, refl, sym, ap, subst, ◌∙◌, inl, inr, arith, append-nil, append_assoc, length-append, ⊤, nat_lt, AllByRecursion, eqb_tells, length-map, take-append-le, take_all, Applied, Opening, Note, stamp_of, value_of, Fits, IsTrueOf, LegalNotes, Noted, place_of, seen_by, AreCollects, LegalNotes-push, first_free, put, MayPut, Place, Plan, base, component_words, seal, unsealed, carried_after, carried_behind, history_of, opening_behind, public_entry, public_log, Port, Stands, Beside, IsStanding, place_now, LawfulMemory, having_seen, noting, public_of, IsBesideAs, KeepsTime, asides_keep_time, components_name_records, epochs_are_histories, glances_stay_lawful, seen_records_stay, sights_stay_lawful, unsealed_is_present, history_took, at_of, put_all, put_other, put_same, held_history, history_grows, among, history_longer, About, Began, Found, BeganInTime, IsFinal, IsSeat, SeatedPort, plan_of, seen_in, BeginsWith, IsSeatKnown, Recalls, SeatSees, Wish, found_by, noted_by, place_seen, stamp_seen, MayNoteScan, NotesScan, noted_together, Expects, Finds, Glances, Reads, epochs_continue, stamp_public, value_public, Call, Answer, Contention, ContendsMore, contention_by}, Begins.{began_by, seen_few}, Control.{load_same, stands_since}, Kept.{Moved, begun_grows, final_grows, none_grown, not_grown}, Lists.{cut, same_before}, Seen.legal_begins, Contention.{by_more, contends_same}}
 use Rattle.partial_epochs.proofs.Last.{is_raw, within as arena_within}
 
 -- the port wants what the next epoch begins with
@@ -30,18 +30,18 @@ two_collects [] some = absurd (omega (arith, some))
 two_collects (j ∷ js) some = (omega arith, omega arith, λ none. let bad : false ≡ true = none in cc)
 
 -- the seat of a port of which all is known
-abbrev pub seat_at : About → (ℕ → Port) → (ℕ → List Noted) → ℕ → Began → Option Found → SeatedPort
-seat_at a ports notes k g f = record { about = a; number = k; port = ports k; notes = notes k; began = g; found = f }
+abbrev pub seat_at : About → (ℕ → Port) → (ℕ → List Noted) → ℕ → Began → Option Found → Contention → SeatedPort
+seat_at a ports notes k g f u = record { about = a; number = k; port = ports k; notes = notes k; began = g; found = f; contention = u }
 
 pub seat_is : (a : About) (ports : ℕ → Port) (notes : ℕ → List Noted) (b : Beside) (since : ℕ → ℕ) (x : SeatedPort) → IsSeat a ports notes b since x →
-    x ≡ seat_at a ports notes x.number x.began x.found
+    x ≡ seat_at a ports notes x.number x.began x.found x.contention
 seat_is a ports notes b since x s =
-    ap (λ (z : About). record { about = z; number = x.number; port = x.port; notes = x.notes; began = x.began; found = x.found }) s.about
-    ∙ ap (λ (p : Port). record { about = a; number = x.number; port = p; notes = x.notes; began = x.began; found = x.found }) s.port
-    ∙ ap (λ (l : List Noted). record { about = a; number = x.number; port = ports x.number; notes = l; began = x.began; found = x.found }) s.noted
+    ap (λ (z : About). record { about = z; number = x.number; port = x.port; notes = x.notes; began = x.began; found = x.found; contention = x.contention }) s.about
+    ∙ ap (λ (p : Port). record { about = a; number = x.number; port = p; notes = x.notes; began = x.began; found = x.found; contention = x.contention }) s.port
+    ∙ ap (λ (l : List Noted). record { about = a; number = x.number; port = ports x.number; notes = l; began = x.began; found = x.found; contention = x.contention }) s.noted
 
 module _ (a : About) (words : List ℕ) (ports : ℕ → Port) (notes : ℕ → List Noted) (b : Beside) (since : ℕ → ℕ) (w : LawfulMemory (plan_of a) words ports b notes)
-    (time : KeepsTime (plan_of a) words ports (place_now b) since) (k : ℕ) (below : k < a.ports) (g : Began) (f : Option Found) (stands : (ports k).control.entering ≡ Stands) where
+    (time : KeepsTime (plan_of a) words ports (place_now b) since) (k : ℕ) (below : k < a.ports) (g : Began) (f : Option Found) (u : Contention) (stands : (ports k).control.entering ≡ Stands) where
   abbrev e : Plan
   e = plan_of a
 
@@ -49,7 +49,7 @@ module _ (a : About) (words : List ℕ) (ports : ℕ → Port) (notes : ℕ → 
   p = ports k
 
   abbrev X : SeatedPort
-  X = seat_at a ports notes k g f
+  X = seat_at a ports notes k g f u
 
   pub standing : IsStanding b k (ports k)
   standing = w.epochs.standing k below stands
@@ -181,16 +181,16 @@ module _ (a : About) (words : List ℕ) (ports : ℕ → Port) (notes : ℕ → 
 
     -- what a load of word i leads to, by which the port sees all of its epoch
     moved_to : (i : ℕ) (n : Began) → BeganInTime b n → (added : List Noted) → Seen added → LegalNotes a.opening (seen_in p') k 0 (notes k ++ added) → (found : Option Found) →
-        ((c : Beside) → c.log ≡ b.log → c.before ≡ b.before → IfSome found (IsFinal e c p')) → (P : SeatedPort → Type 0) →
-        P (record { about = a; number = k; port = p'; notes = notes k ++ added; began = n; found = found }) → Moved a (slice_set words i (slice_index words i)) ports notes b since X P
-    moved_to i n has added to legal found final P says =
+        ((c : Beside) → c.log ≡ b.log → c.before ≡ b.before → IfSome found (IsFinal e c p')) → (contention : Contention) → ContendsMore u contention → (P : SeatedPort → Type 0) →
+        P (record { about = a; number = k; port = p'; notes = notes k ++ added; began = n; found = found; contention = contention }) → Moved a (slice_set words i (slice_index words i)) ports notes b since X P
+    moved_to i n has added to legal found final contention more P says =
         let same_log = to.same.log in
         let same_before_is = to.same.before in
         let grown = not_grown p' b to.beside same_log same_before_is in
         let lawful' : LawfulMemory e (slice_set words i (slice_index words i)) (put k p' ports) to.beside to.notes' =
         subst (λ (l : List ℕ). LawfulMemory e l (put k p' ports) to.beside to.notes') (load_same words i) to.lawful in
         record {
-          y = record { about = a; number = k; port = p'; notes = notes k ++ added; began = n; found = found };
+          y = record { about = a; number = k; port = p'; notes = notes k ++ added; began = n; found = found; contention = contention };
           ports' = put k p' ports;
           notes' = to.notes';
           beside = to.beside;
@@ -206,6 +206,8 @@ module _ (a : About) (words : List ℕ) (ports : ℕ → Port) (notes : ℕ → 
               }) time);
           others = λ q ne. (put_other k p' ports q ne, to.others q ne, refl);
           number = refl;
+          epoch = omega arith;
+          contention = more;
           seat = record {
             about = refl;
             number = below;
@@ -229,10 +231,10 @@ module _ (a : About) (words : List ℕ) (ports : ℕ → Port) (notes : ℕ → 
         }
 
     -- a load of word i by which the port sees all of its epoch, in a call that began then
-    pub moved_glance : (i : ℕ) (n : Began) → BeganInTime b n → (P : SeatedPort → Type 0) → P (record { about = a; number = k; port = p'; notes = notes k ++ []; began = n; found = f }) →
+    pub moved_glance : (i : ℕ) (n : Began) → BeganInTime b n → (P : SeatedPort → Type 0) → P (record { about = a; number = k; port = p'; notes = notes k ++ []; began = n; found = f; contention = u }) →
         Moved a (slice_set words i (slice_index words i)) ports notes b since X P
     moved_glance i n has P says = moved_to i n has [] sees_nothing (subst (λ (l : List Noted). LegalNotes a.opening (seen_in p') k 0 l) (sym (append-nil (notes k))) legal_then) f
-        (λ c same before. final_grows a p' b c (not_grown p' b c same before) f (final_seen f s.found)) P says
+        (λ c same before. final_grows a p' b c (not_grown p' b c same before) f (final_seen f s.found)) u (contends_same u) P says
 
     -- a load of word i by which the port notes a scan by a double collect
     module _ (js : List ℕ) (m : ℕ) (may : MayNoteScan js m X) where
@@ -274,7 +276,7 @@ module _ (a : About) (words : List ℕ) (ports : ℕ → Port) (notes : ℕ → 
       moved_note i =
           let histories = epochs_are_histories e words ports b k w.epochs below stands standing in
           moved_to i g s.began (scan ∷ []) (sees_note m few_seen may.behind scan scan_true) (legal_note m may.behind scan scan_true) f
-          (λ c same before. final_grows a p' b c (not_grown p' b c same before) f (final_seen f s.found)) (NotesScan js m i X (slice_index words i))
+          (λ c same before. final_grows a p' b c (not_grown p' b c same before) f (final_seen f s.found)) u (contends_same u) (NotesScan js m i X (slice_index words i))
           (record { recalls = recalled i; log = log; begins = seen_rest; is = refl; history = histories.0; values = histories.1; stamps = λ j inside. ap (λ (l : List Applied). public_of e (ports k).before j (stamp_of o l j)) taken_seen ∙ stamp_public e w.epochs.plan (ports k).before log above m j inside })
 
     -- what a load of the component's word leads to
@@ -316,12 +318,12 @@ module _ (a : About) (words : List ℕ) (ports : ℕ → Port) (notes : ℕ → 
           Moved a (slice_set words i n) ports notes b since X (SeatSees first wish j X n)
       moved_by added to legal is =
           let d = began_by first X b (seen_few a words ports notes b since X w s) s.began in
-          moved_to i d.0 d.2 added to legal (found_by wish X log j) (found_final wish finds) (SeatSees first wish j X n) (record {
+          moved_to i d.0 d.2 added to legal (found_by wish X log j) (found_final wish finds) (contention_by wish n u) (by_more wish n u) (SeatSees first wish j X n) (record {
             n = d.0;
             began = d.1;
             log = log;
             begins = seen_rest;
-            is = ap (λ (l : List Noted). record { about = a; number = k; port = p'; notes = notes k ++ l; began = d.0; found = found_by wish X log j }) is;
+            is = ap (λ (l : List Noted). record { about = a; number = k; port = p'; notes = notes k ++ l; began = d.0; found = found_by wish X log j; contention = contention_by wish n u }) is;
             stamp = names;
             within = let is_here = is_raw e words ports b k j w.epochs below stands inside standing in let low = arena_within e words ports b k j w.epochs below stands inside standing in omega (arith, is_here, low);
             public = public_is j inside;

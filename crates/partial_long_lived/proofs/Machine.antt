@@ -1,5 +1,5 @@
 -- The steps of a port's machine are allowed.
-use Rattle.partial_long_lived.proofs.{Common.{ℕ, ◌≡◌, ◌≢◌, ◌+◌, ◌<◌, ◌≤◌, ◌||◌, ◌++◌, Bool, true, false, if◌then◌else◌, Option, Some, None, IfSome, List, [], ◌∷◌, length, map, take, drop, slice_index, slice_set, refl, sym, ap, subst, ◌∙◌, inl, inr, arith, append-nil, append_assoc, length-append, AllByRecursion, length-map, take-append-drop, take-append-le, set-get_or, Applied, Call, Answer, stamp_of, LegalNotes, Noted, seen_by, Step, Load, Store, Exchange, Add, answer_of, word_of, words_after, CoreState, advance, reply_of, answer_for, call_of, is_begun, Part, core_of, begun_with, since_with, put, IsSealed, Place, Plan, arena_words, base, component_words, plain, placed_step, history_of, opening_behind, public_entry, public_log, among, history_longer, known, Control, Entering, Epoch, Port, Stands, Marks, Loaded, IsOld, MayPut, option_map, present_history, all_back, Beside, IsStanding, LawfulEpochs, numbers, place_now, HaveSlots, MachineLeads, MeetsSeal, ends_over, ExpectedOne, LawfulMemory, EpochReached, noting, public_noted, KeepsTime, asides_keep_time, machines_are_never_refused, notes_stay_lawful, steps_keep_places, put_all, put_other, put_same, About, Began, Found, IsFinal, IsLast, IsSeat, SeatedPort, plan_of, seen_in, BeginsWith, IsSeatKnown, IsApart, SeatMakes, MayMake, unsealed_answer, change_of, over_by, told_of, legal_notes_seen, one_or_none}, Begins.{began_by, seen_few}, Control.stands_since, Kept.{Grows, HasGrown, HaveGrown, Moved, begun_grows, final_grows, moved_says}, Lists.same_before, Seen.legal_begins, Loads.{begun_place, seat_at}}
+use Rattle.partial_long_lived.proofs.{Common.{ℕ, ◌≡◌, ◌≢◌, ◌+◌, ◌<◌, ◌≤◌, ◌||◌, ◌++◌, Bool, true, false, if◌then◌else◌, Option, Some, None, IfSome, List, [], ◌∷◌, length, map, take, drop, slice_index, slice_set, refl, sym, ap, subst, ◌∙◌, inl, inr, arith, append-nil, append_assoc, length-append, AllByRecursion, length-map, take-append-drop, take-append-le, set-get_or, Applied, Call, Answer, stamp_of, LegalNotes, Noted, seen_by, Step, Load, Store, Exchange, Add, answer_of, word_of, words_after, CoreState, advance, reply_of, answer_for, call_of, is_begun, Part, core_of, begun_with, since_with, put, IsSealed, Place, Plan, arena_words, base, component_words, plain, placed_step, history_of, opening_behind, public_entry, public_log, among, history_longer, known, Control, Entering, Epoch, Port, Stands, Marks, Loaded, IsOld, MayPut, option_map, present_history, all_back, Beside, IsStanding, LawfulEpochs, numbers, place_now, HaveSlots, MachineLeads, MeetsSeal, ends_over, ExpectedOne, LawfulMemory, EpochReached, noting, public_noted, KeepsTime, asides_keep_time, machines_are_never_refused, notes_stay_lawful, steps_keep_places, put_all, put_other, put_same, About, Began, Found, IsFinal, IsLast, IsSeat, SeatedPort, plan_of, seen_in, BeginsWith, IsSeatKnown, IsApart, SeatMakes, MayMake, unsealed_answer, change_of, over_by, told_of, legal_notes_seen, one_or_none, Contention}, Begins.{began_by, seen_few}, Control.stands_since, Kept.{Grows, HasGrown, HaveGrown, Moved, begun_grows, final_grows, moved_says}, Lists.same_before, Seen.legal_begins, Loads.{begun_place, seat_at}, Contention.contends_same}
 
 -- a step does the same to plain words as to those of a table
 pub words_then : (words : List ℕ) (e : Plan) (x : ℕ) (s : Step) → words_after words (placed_step e x s) ≡ slice_set words (base e x + word_of s) (change_of s (slice_index words (base e x + word_of s)))
@@ -105,14 +105,14 @@ module _ (e : Plan) (words : List ℕ) (ports : ℕ → Port) (b : Beside) (w : 
   all_grown before later log few is = grown_by (λ j. ⊥) before (λ same j no. absurd no) later log is
 
 module _ (a : About) (words : List ℕ) (ports : ℕ → Port) (notes : ℕ → List Noted) (b : Beside) (since : ℕ → ℕ) (w : LawfulMemory (plan_of a) words ports b notes)
-    (time : KeepsTime (plan_of a) words ports (place_now b) since) (k : ℕ) (below : k < a.ports) (g : Began) (f : Option Found) (s : IsSeat a ports notes b since (seat_at a ports notes k g f))
-    (of_port : IsSeatKnown (seat_at a ports notes k g f)) (slots : HaveSlots (plan_of a)) (first : Bool) (c : CoreState) (step : Step) (may : MayMake (seat_at a ports notes k g f) c step)
+    (time : KeepsTime (plan_of a) words ports (place_now b) since) (k : ℕ) (below : k < a.ports) (g : Began) (f : Option Found) (u : Contention) (s : IsSeat a ports notes b since (seat_at a ports notes k g f u))
+    (of_port : IsSeatKnown (seat_at a ports notes k g f u)) (slots : HaveSlots (plan_of a)) (first : Bool) (c : CoreState) (step : Step) (may : MayMake (seat_at a ports notes k g f u) c step)
     (lead : MachineLeads (plan_of a) words ports b k c step) where
   abbrev e : Plan
   e = plan_of a
 
   abbrev X : SeatedPort
-  X = seat_at a ports notes k g f
+  X = seat_at a ports notes k g f u
 
   abbrev i : ℕ
   i = base e (ports k).control.here.arena + word_of step
@@ -261,7 +261,7 @@ module _ (a : About) (words : List ℕ) (ports : ℕ → Port) (notes : ℕ → 
       let all = length-append lead.standing.epoch.log lead.entries in
       omega (arith, was, both, same, all) in
       record {
-        y = record { about = a; number = k; port = lead.port; notes = notes k ++ added; began = d.0; found = f };
+        y = record { about = a; number = k; port = lead.port; notes = notes k ++ added; began = d.0; found = f; contention = u };
         ports' = put k lead.port ports;
         notes' = noting k added notes;
         beside = lead.beside;
@@ -277,6 +277,8 @@ module _ (a : About) (words : List ℕ) (ports : ℕ → Port) (notes : ℕ → 
             }) time);
         others = λ q ne. (put_other k lead.port ports q ne, put_other k (notes k ++ added) notes q ne, refl);
         number = refl;
+        epoch = (let same = ap (λ (t : Control). t.here.epoch) lead.control in omega (arith, same));
+        contention = contends_same u;
         seat = record {
           about = refl;
           number = below;
@@ -297,13 +299,13 @@ module _ (a : About) (words : List ℕ) (ports : ℕ → Port) (notes : ℕ → 
         reached = (there.later, there.log, there.is);
         seen = begins_then;
         legal = legal_then;
-        says = subst (λ t. SeatMakes first c step X t (record { about = a; number = k; port = lead.port; notes = notes k ++ added; began = d.0; found = f })) (sym answer_is) (record {
+        says = subst (λ t. SeatMakes first c step X t (record { about = a; number = k; port = lead.port; notes = notes k ++ added; began = d.0; found = f; contention = u })) (sym answer_is) (record {
           n = d.0;
           began = d.1;
           log = lead.standing.epoch.log;
           entries = lead.entries;
           told = lead.tells;
-          is = ap (λ (p : Port). record { about = a; number = k; port = p; notes = notes k ++ added; began = d.0; found = f }) port_is;
+          is = ap (λ (p : Port). record { about = a; number = k; port = p; notes = notes k ++ added; began = d.0; found = f; contention = u }) port_is;
           shown = shown_then;
           unrefused = λ cause is. machines_are_never_refused e words ports b k c step below stands slots lead cause is;
           time = young;

@@ -1,5 +1,5 @@
 -- The steps of the machine of a seat's port are allowed.
-use Rattle.partial_long_lived.proofs.{Common.{ℕ, ◌≡◌, ◌+◌, ◌<◌, Bool, false, if◌then◌else◌, List, slice_index, slice_set, refl, sym, ap, subst, ◌∙◌, inl, inr, arith, ◌⊎◌, set-get_or, Me, Allows, Step, Load, Exchange, word_of, CoreState, IsSealed, Place, Plan, base, component_words, HaveSlots, MachineLeads, MeetsSeal, machine_steps_stay_lawful, unsealed_is_present, at_of, eqb_tells, About, IsRuleKept, IsSeat, SeatedPort, one_of, plan_of, IsSeatKnown, IsOne, tells, seal, unsealed, cases_lt, lt-ltb, Glances, Exchanges, IsApart, SeatMakes, MayMake, MissesSeal, unsealed_answer, change_of, makes}, Sights.nothing_moved, Kept.{Moved, allowed, moved_as, moved_says}, Loads.{moved_see, seat_at, seat_is}, Machine.{moved_come, moved_make, never_met, words_then}}
+use Rattle.partial_long_lived.proofs.{Common.{ℕ, ◌≡◌, ◌+◌, ◌<◌, Bool, false, if◌then◌else◌, List, slice_index, slice_set, refl, sym, ap, subst, ◌∙◌, inl, inr, arith, ◌⊎◌, set-get_or, Me, Allows, Step, Load, Exchange, word_of, CoreState, IsSealed, Place, Plan, base, component_words, HaveSlots, MachineLeads, MeetsSeal, machine_steps_stay_lawful, unsealed_is_present, at_of, eqb_tells, About, IsRuleKept, IsSeat, SeatedPort, one_of, plan_of, IsSeatKnown, IsOne, tells, seal, unsealed, cases_lt, lt-ltb, Glances, Exchanges, IsApart, SeatMakes, MayMake, MissesSeal, unsealed_answer, change_of, finding_seal, makes}, Sights.nothing_moved, Contention.{contends_on, sealed_more}, Kept.{Moved, allowed, moved_as, moved_contending, moved_says}, Loads.{moved_see, seat_at, seat_is}, Machine.{moved_come, moved_make, never_met, words_then}}
 use Rattle.partial_long_lived.specs.Inner.Machine.{SeatBegins as BeginsUpdate}
 
 -- a word is the record old, sealed, or it isn't
@@ -33,7 +33,7 @@ module _ {S : Type 0} (a : About) (slots id : ℕ) (me : Me S (List SeatedPort))
       one own
       (λ words ports notes b since w time s small.
       let k : ℕ = x.number in
-      let X : SeatedPort = seat_at a ports notes k x.began x.found in
+      let X : SeatedPort = seat_at a ports notes k x.began x.found x.contention in
       let same = seat_is a ports notes b since x s in
       let P : SeatedPort → Type 0 = λ z. Moved a (slice_set words (base e z.port.control.here.arena + word_of step) (change_of step (slice_index words (base e z.port.control.here.arena + word_of step)))) ports notes b since z
       (λ y. SeatMakes first c step z (unsealed_answer (plan_of z.about) step (slice_index words (base e z.port.control.here.arena + word_of step))) y) in
@@ -42,14 +42,14 @@ module _ {S : Type 0} (a : About) (slots id : ℕ) (me : Me S (List SeatedPort))
         | inl met ↦ absurd (never_met e (component_words e words (ports k).control.here.arena) step apart met.0)
         | inr lead ↦ lead
       ]) in
-      subst P (sym same) (moved_make a words ports notes b since w time k s.number x.began x.found (subst (IsSeat a ports notes b since) same s) (subst IsSeatKnown same known) room first c step may' lead))
+      subst P (sym same) (moved_make a words ports notes b since w time k s.number x.began x.found x.contention (subst (IsSeat a ports notes b since) same s) (subst IsSeatKnown same known) room first c step may' lead))
 
   -- the exchange of its component
   pub may_exchange : (j old new : ℕ) → j < a.sizes.m → step ≡ Exchange j old new → Allows (IsRuleKept a) slots id me (base e x.port.control.here.arena + word_of step) (change_of step) (tells (Exchanges c old step) me)
   may_exchange j old new inside is = allowed a slots id me (base e x.port.control.here.arena + word_of step) (change_of step) (Exchanges c old step) one own
       (λ words ports notes b since w time s small.
       let k : ℕ = x.number in
-      let X : SeatedPort = seat_at a ports notes k x.began x.found in
+      let X : SeatedPort = seat_at a ports notes k x.began x.found x.contention in
       let same = seat_is a ports notes b since x s in
       let i : ℕ = base e (ports k).control.here.arena + word_of step in
       let n : ℕ = slice_index words i in
@@ -59,16 +59,20 @@ module _ {S : Type 0} (a : About) (slots id : ℕ) (me : Me S (List SeatedPort))
       let of_port = subst IsSeatKnown same known in
       let seat = subst (IsSeat a ports notes b since) same s in
       subst P (sym same) (elim (seal_cases old n) [
-        | inl met ↦ nothing_moved a words (slice_set words i (change_of step n)) ports notes b since w time X seat refl of_port may'.stands (ap (slice_set words i) (stays_sealed step j old new n is met.0 met.1) ∙ set-get_or words i 0)
-            (Exchanges c old step X n) (inl (met.0, met.1, refl))
+        | inl met ↦
+            let m = nothing_moved a words (slice_set words i (change_of step n)) ports notes b since w time X seat refl of_port may'.stands (ap (slice_set words i) (stays_sealed step j old new n is met.0 met.1) ∙ set-get_or words i 0)
+            (λ (y : SeatedPort). y ≡ X) refl in
+            moved_contending m (finding_seal X).contention (sealed_more X.contention) (inl (met.0, met.1, ap (λ (y : SeatedPort). record y { contention = (finding_seal X).contention }) m.says))
         | inr misses ↦ (elim (machine_steps_stay_lawful e words ports b k c step w.epochs s.number may'.stands may'.machine may'.due may'.claim) [
           | inl met ↦
               let is_met = subst (λ (t : Step). MeetsSeal e (component_words e words (ports k).control.here.arena) t) is met.0 in
               let at : slice_index (component_words e words (ports k).control.here.arena) j ≡ n =
               at_of (λ i. slice_index words (base e (ports k).control.here.arena + i)) 0 a.sizes.m j inside ∙ ap (λ i. slice_index words (base e (ports k).control.here.arena + i)) (omega arith) ∙ ap (λ (t : Step). slice_index words (base e (ports k).control.here.arena + word_of t)) (sym is) in
-              nothing_moved a words (slice_set words i (change_of step n)) ports notes b since w time X seat refl of_port may'.stands (sym (words_then words e (ports k).control.here.arena step) ∙ met.1) (Exchanges c old step X n)
-              (inl (subst IsSealed at is_met.1, ap unsealed (sym at) ∙ is_met.2, refl))
-          | inr lead ↦ moved_as (λ y m. inr (misses, m)) (moved_make a words ports notes b since w time k s.number x.began x.found seat of_port room false c step may' lead)
+              let m = nothing_moved a words (slice_set words i (change_of step n)) ports notes b since w time X seat refl of_port may'.stands (sym (words_then words e (ports k).control.here.arena step) ∙ met.1)
+              (λ (y : SeatedPort). y ≡ X) refl in
+              moved_contending m (finding_seal X).contention (sealed_more X.contention)
+              (inl (subst IsSealed at is_met.1, ap unsealed (sym at) ∙ is_met.2, ap (λ (y : SeatedPort). record y { contention = (finding_seal X).contention }) m.says))
+          | inr lead ↦ moved_as (λ y m. inr (misses, m)) (moved_make a words ports notes b since w time k s.number x.began x.found x.contention seat of_port room false c step may' lead)
         ])
       ]))
 
@@ -77,7 +81,7 @@ module _ {S : Type 0} (a : About) (slots id : ℕ) (me : Me S (List SeatedPort))
   may_begin first j inside is = allowed a slots id me (base e x.port.control.here.arena + j) (λ n. n) (BeginsUpdate first c j) one own
       (λ words ports notes b since w time s small.
       let k : ℕ = x.number in
-      let X : SeatedPort = seat_at a ports notes k x.began x.found in
+      let X : SeatedPort = seat_at a ports notes k x.began x.found x.contention in
       let same = seat_is a ports notes b since x s in
       let i : ℕ = base e (ports k).control.here.arena + j in
       let n : ℕ = slice_index words i in
@@ -93,11 +97,12 @@ module _ {S : Type 0} (a : About) (slots id : ℕ) (me : Me S (List SeatedPort))
               | inr lead ↦ lead
             ]) in
             let plain_is : unsealed_answer e (Load j) n ≡ n = ap (λ (t : Bool). if t then unsealed n else n) (lt-ltb j a.sizes.m inside) ∙ omega (arith, less) in
-            let m = moved_come a words ports notes b since w time k s.number x.began x.found seat of_port room first c (Load j) may' lead in
+            let m = moved_come a words ports notes b since w time k s.number x.began x.found x.contention seat of_port room first c (Load j) may' lead in
             let at : slice_index (component_words e words (ports k).control.here.arena) j ≡ n = at_of (λ i. slice_index words (base e (ports k).control.here.arena + i)) 0 a.sizes.m j inside ∙ ap (λ i. slice_index words (base e (ports k).control.here.arena + i)) (omega arith) in
             let here = ap (λ (d : Place). d.epoch) (unsealed_is_present e words ports b k j w.epochs s.number may'.stands inside (λ sealed. omega (arith, at, less, sealed))).here in
             let come = m.says.1 in
             moved_says m (inr (less, subst (λ t. SeatMakes first c (Load j) X t m.y) plain_is m.says.0, omega (arith, come, here)))
-        | inr from ↦ moved_as (λ y m. inl (from, m))
-            (moved_see a words ports notes b since w time k s.number x.began x.found may'.stands seat of_port j inside first Glances (λ no. absurd no))
+        | inr from ↦
+            let m = moved_see a words ports notes b since w time k s.number x.began x.found x.contention may'.stands seat of_port j inside first Glances (λ no. absurd no) in
+            moved_contending m (finding_seal m.y).contention (contends_on X.contention m.y.contention (finding_seal m.y).contention m.contention (sealed_more m.y.contention)) (inl (m.y, from, m.says, refl))
       ]))

@@ -1,5 +1,5 @@
 -- The step by which one port of a seat of two sees all of its epoch.
-use Rattle.partial_long_lived.proofs.{Common.{ℕ, ◌≡◌, ◌<◌, ◌≤◌, ◌++◌, List, [], ◌∷◌, length, slice_index, slice_set, refl, sym, ap, subst, ◌∙◌, arith, Option, append-nil, append_assoc, length-append, AllByRecursion, Me, Allows, keeps, Applied, Noted, all_at, all_after, history_of, public_log, Port, Stands, Beside, place_now, LawfulMemory, having_seen, one_history, KeepsTime, history_grows, history_longer, About, Began, Found, BeganInTime, IsRuleKept, IsSeat, SeatedPort, one_of, plan_of, seats_of, seen_in, BeginsWith, IsSeatKnown, IsOne, Observes, observes}, Begins.{now, now_has_begun, seen_few}, Kept.{Moved, goes_then, once_then, seats_then}, Loads.{begun_place, moved_glance, seat_at, seat_is, standing, where_is}, Seen.seen_begins, Views.around}
+use Rattle.partial_long_lived.proofs.{Common.{ℕ, ◌≡◌, ◌<◌, ◌≤◌, ◌++◌, List, [], ◌∷◌, length, slice_index, slice_set, refl, sym, ap, subst, ◌∙◌, arith, Option, append-nil, append_assoc, length-append, AllByRecursion, Me, Allows, keeps, Applied, Noted, all_at, all_after, history_of, public_log, Port, Stands, Beside, place_now, LawfulMemory, having_seen, one_history, KeepsTime, history_grows, history_longer, About, Began, Found, BeganInTime, IsRuleKept, IsSeat, SeatedPort, one_of, plan_of, seats_of, seen_in, BeginsWith, IsSeatKnown, IsOne, Observes, observes, Contention, Knows, LegalNotes}, Begins.{now, now_has_begun, seen_few}, Kept.{Moved, goes_then, once_then, seats_then}, Loads.{begun_place, moved_glance, seat_at, seat_is, standing, where_is}, Seen.seen_begins, Views.around, Seen.{knows_of, legal_begins}}
 
 -- of two beginnings of a history the longer one begins with the other
 begins_within : (h l m : List Applied) → BeginsWith h m → BeginsWith l m → length h ≤ length l → BeginsWith h l
@@ -96,21 +96,25 @@ seen_before a words ports notes b since w x s y t early = by y.port.before refl
 
 -- a port that stands sees all of its epoch, beside another one
 observed : (a : About) (words : List ℕ) (ports : ℕ → Port) (notes : ℕ → List Noted) (b : Beside) (since : ℕ → ℕ) (w : LawfulMemory (plan_of a) words ports b notes) →
-    KeepsTime (plan_of a) words ports (place_now b) since → (k : ℕ) → k < a.ports → (g : Began) → (f : Option Found) → (ports k).control.entering ≡ Stands →
-    IsSeat a ports notes b since (seat_at a ports notes k g f) → IsSeatKnown (seat_at a ports notes k g f) → (y : SeatedPort) → IsSeat a ports notes b since y → (i : ℕ) →
-    Moved a (slice_set words i (slice_index words i)) ports notes b since (seat_at a ports notes k g f) (Observes (seat_at a ports notes k g f) y)
-observed a words ports notes b since w time k below g f stands s known y t i =
-    let x : SeatedPort = seat_at a ports notes k g f in
-    let there = standing a words ports notes b since w time k below g f stands in
+    KeepsTime (plan_of a) words ports (place_now b) since → (k : ℕ) → k < a.ports → (g : Began) → (f : Option Found) → (u : Contention) → (ports k).control.entering ≡ Stands →
+    IsSeat a ports notes b since (seat_at a ports notes k g f u) → IsSeatKnown (seat_at a ports notes k g f u) → (y : SeatedPort) → IsSeat a ports notes b since y → IsSeatKnown y → (i : ℕ) →
+    Moved a (slice_set words i (slice_index words i)) ports notes b since (seat_at a ports notes k g f u) (Observes (seat_at a ports notes k g f u) y)
+observed a words ports notes b since w time k below g f u stands s known y t other i =
+    let x : SeatedPort = seat_at a ports notes k g f u in
+    let there = standing a words ports notes b since w time k below g f u stands in
     let log : List Applied = there.epoch.log in
-    let at = where_is a words ports notes b since w time k below g f stands in
+    let at = where_is a words ports notes b since w time k below g f u stands in
     let z : SeatedPort = record x { port = having_seen (ports k) log; began = now b; notes = notes k ++ [] } in
     let epoch = (w.noted.reached k below).epoch in
     let long = come_there a words ports notes b since w y t in
     let own = epoch_is a words ports notes b since w y t in
     let few = seen_few a words ports notes b since x w s in
     let all_of_x : BeginsWith (history_of (log ∷ (ports k).before)) (one_history b) = (let grows = history_grows at.0 (log ∷ (ports k).before) in (grows.0, ap history_of at.1 ∙ grows.1)) in
-    moved_glance a words ports notes b since w time k below g f stands s known i (now b) (now_has_begun b) (Observes x y) (record {
+    let knows_beside : (h : List Applied) → BeginsWith h (one_history b) → BeginsWith (seen_in y.port) h → Knows y.about y.number h y.notes = λ h all begins.
+    subst (λ (d : About). Knows d y.number h y.notes) (sym t.about) (subst (Knows a y.number h) (sym t.noted)
+    (knows_of a words ports b notes w y.number t.number h all (legal_begins a.opening (seen_in y.port) h y.number 0 (notes y.number) begins
+    (subst (LegalNotes a.opening (seen_in y.port) y.number 0) t.noted (subst (λ (d : About). LegalNotes d.opening (seen_in y.port) y.number 0 y.notes) t.about other.knows.legal))))) in
+    moved_glance a words ports notes b since w time k below g f u stands s known i (now b) (now_has_begun b) (Observes x y) (record {
       n = now b;
       log = log;
       is = ap (λ (l : List Noted). record x { port = having_seen (ports k) log; began = now b; notes = l }) (append-nil (notes k));
@@ -120,13 +124,16 @@ observed a words ports notes b since w time k below g f stands s known y t i =
           (seen_there a words ports notes b since w y t at.0 (ports k).before log at.1 (omega (arith, late, epoch)));
       before = λ early. begins_within (seen_in x.port) (seen_in y.port) (one_history b) (begins_all a words ports notes b since w x s) (begins_all a words ports notes b since w y t)
           (seen_before a words ports notes b since w x s y t early);
+      known = λ begins. knows_beside (history_of (log ∷ (ports k).before)) all_of_x begins;
+      known_before = λ begins. knows_of a words ports b notes w k below (seen_in y.port) (begins_all a words ports notes b since w y t)
+          (legal_begins a.opening (seen_in x.port) (seen_in y.port) k 0 (notes k) begins known.knows.legal);
     })
 
 -- the step is allowed to a seat of two ports, of which the first one stands
-pub may_observe : {S : Type 0} (a : About) (slots id : ℕ) (me : Me S (List SeatedPort)) (x y : SeatedPort) (i : ℕ) → me ≡ (x ∷ y ∷ [], []) → x.about ≡ a → IsSeatKnown x →
+pub may_observe : {S : Type 0} (a : About) (slots id : ℕ) (me : Me S (List SeatedPort)) (x y : SeatedPort) (i : ℕ) → me ≡ (x ∷ y ∷ [], []) → x.about ≡ a → IsSeatKnown x → IsSeatKnown y →
     x.port.control.entering ≡ Stands →
     Allows (IsRuleKept a) slots id me i (λ n. n) (observes me)
-may_observe {S} a slots id me x y i is own known stands = subst (λ (m : Me S (List SeatedPort)). Allows {S = S} (IsRuleKept a) slots id m i (λ n. n) (observes m)) (sym is) here
+may_observe {S} a slots id me x y i is own known other stands = subst (λ (m : Me S (List SeatedPort)). Allows {S = S} (IsRuleKept a) slots id m i (λ n. n) (observes m)) (sym is) here
   where
     pair : Me S (List SeatedPort)
     pair = (x ∷ y ∷ [], [])
@@ -143,7 +150,7 @@ may_observe {S} a slots id me x y i is own known stands = subst (λ (m : Me S (L
         let same = seat_is a kept.ports kept.notes kept.beside kept.since x s in
         let stands' = ap (λ (p : Port). p.control.entering) (sym s.port) ∙ stands in
         let m = subst (λ (z : SeatedPort). Moved a (slice_set table.words i (slice_index table.words i)) kept.ports kept.notes kept.beside kept.since z (Observes z y)) (sym same)
-        (observed a table.words kept.ports kept.notes kept.beside kept.since kept.lawful kept.time x.number s.number x.began x.found stands' (subst P same s) (subst IsSeatKnown same known) y t i) in (
+        (observed a table.words kept.ports kept.notes kept.beside kept.since kept.lawful kept.time x.number s.number x.began x.found x.contention stands' (subst P same s) (subst IsSeatKnown same known) y t other i) in (
           m.y ∷ y ∷ [],
           keeps,
           tt,

@@ -1,5 +1,5 @@
 -- How a meeting of two ports leaves each of them.
-use Rattle.partial_long_lived.proofs.{Common.{◌≡◌, ◌<◌, ◌≤◌, List, [], ◌∷◌, length, take, inl, sym, ap, subst, ◌∙◌, arith, append-nil, take-append_seam, Me, TableId, Applied, core_of, About, Stand, Began, SeatedPort, first_port, one_of, IsOf, MemoryView, PortView, port_view, seen_in, HasCome, IsIdle, StaysAt, EpochSettled, IsHeld, port_at, BeginsWith, IsOne, HasMet, Observes}, Answering.{callers_see, goes_seen, view_before, view_behind}, Coming.{begins_on, come_on}}
+use Rattle.partial_long_lived.proofs.{Common.{◌≡◌, ◌<◌, ◌≤◌, List, [], ◌∷◌, length, take, inl, sym, ap, subst, ◌∙◌, arith, append-nil, take-append_seam, Me, TableId, Applied, core_of, About, Stand, Began, SeatedPort, first_port, one_of, IsOf, MemoryView, PortView, port_view, seen_in, HasCome, IsIdle, StaysAt, EpochSettled, IsHeld, port_at, BeginsWith, IsOne, HasMet, Observes, Knows, inr, ◌⊎◌, AreComparable}, Answering.{callers_see, goes_seen, view_before, view_behind}, Coming.{begins_on, come_on}}
 use Rattle.partial_long_lived.specs.Calls as calls
 
 -- a port that has seen all of its epoch stands where it stood
@@ -36,19 +36,29 @@ module _ (table : TableId) (about : About) (s o u p : Stand) (h : IsHeld table a
     epochs : (port_at s).port.control.here.epoch ≡ (port_at o).port.control.here.epoch
     epochs = sym h.epoch ∙ one ∙ g.epoch
 
+    all_now : BeginsWith (seen_in (port_at o).port) (seen_in (port_at u).port)
+    all_now = w.all (let e = epochs in omega (arith, e))
+
     pub together_first : HasMet s o q
     together_first = record {
       come = come_on s u q come (beside_come u q come.idle kept_first same_first);
       notes = ap (λ (z : SeatedPort). z.notes) same_first ∙ ap (λ (z : SeatedPort). z.notes) w.is;
-      all = subst (λ (z : SeatedPort). BeginsWith (seen_in (port_at o).port) (seen_in z.port)) (sym same_first) (w.all (let e = epochs in omega (arith, e)));
+      all = subst (λ (z : SeatedPort). BeginsWith (seen_in (port_at o).port) (seen_in z.port)) (sym same_first) all_now;
+      knows = subst (λ (z : SeatedPort). Knows (port_at o).about (port_at o).number (seen_in z.port) (port_at o).notes) (sym same_first) (w.known all_now);
     }
+
+    all_then : BeginsWith (seen_in (port_at u).port) (seen_in (port_at v).port)
+    all_then = w'.all (let e = epochs in let here = ap (λ (z : SeatedPort). z.port.control.here.epoch) w.is in let there = ap (λ (z : SeatedPort). z.port.control.here.epoch) same in omega (arith, e, here, there))
+
+    pub together_one : AreComparable q v
+    together_one = inl (subst (λ (z : SeatedPort). BeginsWith (seen_in z.port) (seen_in (port_at v).port)) (sym same_first) all_then)
 
     pub together_second : HasMet o s v
     together_second = record {
       come = come_on o p v come_other (observed_come p v (port_at u) come_other.idle kept_last w');
       notes = ap (λ (z : SeatedPort). z.notes) w'.is ∙ ap (λ (z : SeatedPort). z.notes) same;
-      all = begins_on (seen_in (port_at s).port) (seen_in (port_at u).port) (seen_in (port_at v).port) kept.goes.seen
-          (w'.all (let e = epochs in let here = ap (λ (z : SeatedPort). z.port.control.here.epoch) w.is in let there = ap (λ (z : SeatedPort). z.port.control.here.epoch) same in omega (arith, e, here, there)));
+      all = begins_on (seen_in (port_at s).port) (seen_in (port_at u).port) (seen_in (port_at v).port) kept.goes.seen all_then;
+      knows = subst (λ (z : SeatedPort). Knows z.about z.number (seen_in (port_at v).port) z.notes) w.is (w'.known all_then);
     }
 
   -- out of an earlier epoch the port comes to the current one, and looks again
@@ -68,27 +78,34 @@ module _ (table : TableId) (about : About) (s o u p : Stand) (h : IsHeld table a
       come = come_on s u t come (come_on u r t settled.come (observed_come r t (port_at p) settled.come.idle kept_last w'));
       notes = ap (λ (z : SeatedPort). z.notes) w'.is ∙ settled.notes ∙ ap (λ (z : SeatedPort). z.notes) w.is;
       all = subst (λ (z : SeatedPort). BeginsWith (seen_in z.port) (seen_in (port_at t).port)) same (w'.all come_late);
+      knows = subst (λ (z : SeatedPort). Knows z.about z.number (seen_in (port_at t).port) z.notes) same (w'.known (w'.all come_late));
     }
+
+    pub apart_one : AreComparable t q
+    apart_one = inr (subst (λ (z : SeatedPort). BeginsWith (seen_in z.port) (seen_in (port_at t).port)) (sym same_beside) (w'.all come_late))
+
+    all_before : BeginsWith (seen_in (port_at s).port) (seen_in (port_at o).port)
+    all_before = w.before (let here = h.epoch in let there = g.epoch in omega (arith, early, here, there))
 
     pub apart_second : HasMet o s q
     apart_second = record {
       come = come_on o p q come_other (beside_come p q come_other.idle kept_beside same_beside);
       notes = ap (λ (z : SeatedPort). z.notes) (same_beside ∙ same);
-      all = subst (λ (z : SeatedPort). BeginsWith (seen_in (port_at s).port) (seen_in z.port)) (sym (same_beside ∙ same))
-          (w.before (let here = h.epoch in let there = g.epoch in omega (arith, early, here, there)));
+      all = subst (λ (z : SeatedPort). BeginsWith (seen_in (port_at s).port) (seen_in z.port)) (sym (same_beside ∙ same)) all_before;
+      knows = subst (λ (z : SeatedPort). Knows (port_at s).about (port_at s).number (seen_in z.port) (port_at s).notes) (sym (same_beside ∙ same)) (w.known_before all_before);
     }
 
 -- what a port has seen that had seen no less than another one, as callers see both
-pub all_seen : (m : MemoryView) (t : Stand) (p : PortView) → port_view t.seat.table_id (port_at t) ≡ p → IsOf m p → (u : Stand) → IsHeld m.table m.about u →
-    BeginsWith (seen_in (port_at t).port) (seen_in (port_at u).port) → p.seen ≡ take (length p.seen) (port_view u.seat.table_id (port_at u)).seen
+pub all_seen : (m : MemoryView) (t : Stand) (p : PortView) → port_view t.seat.table_id t.seat.steps (port_at t) ≡ p → IsOf m p → (u : Stand) → IsHeld m.table m.about u →
+    BeginsWith (seen_in (port_at t).port) (seen_in (port_at u).port) → p.seen ≡ take (length p.seen) (port_view u.seat.table_id u.seat.steps (port_at u)).seen
 all_seen m t p view own u held all =
-    subst (λ (a : PortView). a.seen ≡ take (length a.seen) (port_view u.seat.table_id (port_at u)).seen) (view_before m t p view own)
+    subst (λ (a : PortView). a.seen ≡ take (length a.seen) (port_view u.seat.table_id u.seat.steps (port_at u)).seen) (view_before m t p view own)
     (subst (λ (b : PortView). seen_in (port_at t).port ≡ take (length (seen_in (port_at t).port)) b.seen) (view_behind m u held)
     (sym (take-append_seam (seen_in (port_at t).port) all.0) ∙ ap (λ (l : List Applied). take (length (seen_in (port_at t).port)) l) (sym all.1)))
 
 -- a port that has met another one, as callers see it
-pub goes_met : (m : MemoryView) (t o u : Stand) (p : PortView) → port_view t.seat.table_id (port_at t) ≡ p → IsOf m p → IsHeld m.table m.about u → HasMet t o u →
-    calls.Goes p (port_view u.seat.table_id (port_at u)) []
+pub goes_met : (m : MemoryView) (t o u : Stand) (p : PortView) → port_view t.seat.table_id t.seat.steps (port_at t) ≡ p → IsOf m p → IsHeld m.table m.about u → HasMet t o u →
+    calls.Goes p (port_view u.seat.table_id u.seat.steps (port_at u)) []
 goes_met m t o u p view own held w =
     callers_see m t u p view own held (λ (a b : PortView). calls.Goes a b []) (goes_seen m.table (port_at t) (port_at u) [] w.come.goes (w.notes ∙ sym (append-nil (port_at t).notes)))
 
@@ -109,4 +126,20 @@ met_out s t o p u idle kept same beside w = record {
   come = come_on s t u (beside_come s t idle kept same) w.come;
   notes = w.notes ∙ ap (λ (z : SeatedPort). z.notes) same;
   all = subst (λ (z : SeatedPort). BeginsWith (seen_in z.port) (seen_in (port_at u).port)) beside w.all;
+  knows = subst (λ (z : SeatedPort). Knows z.about z.number (seen_in (port_at u).port) z.notes) beside w.knows;
 }
+
+-- a history that begins another one, as callers see both
+begins_seen : (h l : List Applied) → BeginsWith h l → h ≡ take (length h) l
+begins_seen h l begins = sym (take-append_seam h begins.0) ∙ ap (λ (t : List Applied). take (length h) t) (sym begins.1)
+
+-- two histories of which the one begins the other, as callers see both
+pub comparable_seen : (s t : Stand) → AreComparable s t → (seen_in (port_at s).port ≡ take (length (seen_in (port_at s).port)) (seen_in (port_at t).port))
+    ⊎ (seen_in (port_at t).port ≡ take (length (seen_in (port_at t).port)) (seen_in (port_at s).port))
+comparable_seen s t (inl begins) = inl (begins_seen (seen_in (port_at s).port) (seen_in (port_at t).port) begins)
+comparable_seen s t (inr begins) = inr (begins_seen (seen_in (port_at t).port) (seen_in (port_at s).port) begins)
+
+-- in any order
+pub swapped : {A B : Type 0} → A ⊎ B → B ⊎ A
+swapped (inl first) = inr first
+swapped (inr second) = inl second

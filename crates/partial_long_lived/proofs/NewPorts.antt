@@ -79,9 +79,9 @@ module _ (a : About) (i n : ℕ) (inside : i < n) (v : List SeatedPort) (left : 
   deals_next {S} me at is none = (ap (λ (m : Me S (List SeatedPort)). m.0) is ∙ ap further_ports (left ∙ next_new a i n inside), ap (λ (m : Me S (List SeatedPort)). m.1) is ∙ none)
 
   pub made_next : {S : Type 0} (t : TableId) (all old new : List PortView) (p : PortView) (u : List SeatedPort) (me : Me S (List SeatedPort)) (at : List (ℕ × S)) →
-      all ≡ old ++ new_ports t v → new ≡ old ++ p ∷ [] → u ≡ first_port v → p ≡ port_view t (one_of u) → me ≡ (further_ports v, at) → all ≡ new ++ new_ports t me.0
+      all ≡ old ++ new_ports t v → new ≡ old ++ p ∷ [] → u ≡ first_port v → p ≡ port_view t 1 (one_of u) → me ≡ (further_ports v, at) → all ≡ new ++ new_ports t me.0
   made_next {S} t all old new p u me at made is here port less =
-      let one : p ≡ port_view t (newcomer a i) = port ∙ ap (λ (w : List SeatedPort). port_view t (one_of w)) (here ∙ newcomer_next) in
+      let one : p ≡ port_view t 1 (newcomer a i) = port ∙ ap (λ (w : List SeatedPort). port_view t 1 (one_of w)) (here ∙ newcomer_next) in
       let rest : new_ports t me.0 ≡ new_ports t (newcomers a (i + 1) (n - (i + 1))) =
       ap (λ (m : Me S (List SeatedPort)). new_ports t m.0) less ∙ ap (λ (w : List SeatedPort). new_ports t (further_ports w)) (left ∙ next_new a i n inside) in
       let this : new_ports t v ≡ p ∷ new_ports t me.0 =

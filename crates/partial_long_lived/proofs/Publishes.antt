@@ -1,5 +1,5 @@
 -- The exchange of the current word is allowed.
-use Rattle.partial_long_lived.proofs.{Common.{ℕ, ◌≡◌, ◌<◌, ◌≤◌, ◌==◌, ◌++◌, if◌then◌else◌, List, [], ◌∷◌, length, slice_index, slice_set, refl, sym, ap, subst, ◌∙◌, inl, inr, arith, append-nil, length-append, either, Me, Allows, Applied, LegalNotes, Noted, put, Plan, current_word, packed, OwnedArena, Port, Beside, LawfulEpochs, place_now, KeepsTime, IsWholeArena, having_published, next_beside, next_place, LawfulMemory, publishes_keep_notes, publishes_keep_time, publishes_stay_lawful, put_other, put_same, About, IsRuleKept, IsSeat, SeatedPort, one_of, plan_of, seen_in, IsSeatKnown, IsOne, tells, SeatPublishes, becomes}, Kept.{Grows, HasGrown, HaveGrown, Moved, allowed, begun_grows, final_grows, seen_grows}, Asides.{IsQuiet, aside, final_same}, Changes.either_cond}
+use Rattle.partial_long_lived.proofs.{Common.{ℕ, ◌≡◌, ◌<◌, ◌≤◌, ◌==◌, ◌++◌, if◌then◌else◌, List, [], ◌∷◌, length, slice_index, slice_set, refl, sym, ap, subst, ◌∙◌, inl, inr, arith, append-nil, length-append, either, Me, Allows, Applied, LegalNotes, Noted, put, Plan, current_word, packed, OwnedArena, Port, Beside, LawfulEpochs, place_now, KeepsTime, IsWholeArena, having_published, next_beside, next_place, LawfulMemory, publishes_keep_notes, publishes_keep_time, publishes_stay_lawful, put_other, put_same, About, IsRuleKept, IsSeat, SeatedPort, one_of, plan_of, seen_in, IsSeatKnown, IsOne, tells, SeatPublishes, becomes}, Kept.{Grows, HasGrown, HaveGrown, Moved, allowed, begun_grows, final_grows, seen_grows}, Asides.{IsQuiet, aside, final_same}, Changes.either_cond, Contention.contends_same}
 
 -- once the next epoch is open, the epochs that had come have the histories that they had
 next_grows : (P : ℕ → Type 0) (e : Plan) (b : Beside) (y : ℕ) (before later : List (List Applied)) (log : List Applied) → length before ≤ length b.before →
@@ -49,6 +49,8 @@ won a words words' ports notes b since x w s known o thereafter time P says =
       time = time;
       others = λ i ne. (put_other k p ports i ne, refl, refl);
       number = refl;
+      epoch = omega arith;
+      contention = contends_same x.contention;
       seat = record {
         about = own;
         number = s.number;

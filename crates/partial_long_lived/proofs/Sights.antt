@@ -1,5 +1,5 @@
 -- The loads of a call are allowed.
-use Rattle.partial_long_lived.proofs.{Common.{ℕ, ◌≡◌, ◌+◌, ◌<◌, ◌++◌, Bool, List, [], ◌∷◌, slice_index, slice_set, refl, sym, ap, subst, ◌∙◌, arith, append-nil, Me, Allows, LegalNotes, Noted, Plan, base, Port, Stands, Beside, place_now, LawfulMemory, KeepsTime, About, IsRuleKept, IsSeat, SeatedPort, one_of, plan_of, seen_in, IsSeatKnown, IsOne, tells, Recalls, SeatSees, Wish, MayNoteScan, NotesScan, notes_scan}, Control.load_same, Kept.{Moved, allowed, none_grown, not_grown}, Loads.{IsFinding, moved_note, moved_see, recalled, seat_is, standing, where_is}}
+use Rattle.partial_long_lived.proofs.{Common.{ℕ, ◌≡◌, ◌+◌, ◌<◌, ◌++◌, Bool, List, [], ◌∷◌, slice_index, slice_set, refl, sym, ap, subst, ◌∙◌, arith, append-nil, Me, Allows, LegalNotes, Noted, Plan, base, Port, Stands, Beside, place_now, LawfulMemory, KeepsTime, About, IsRuleKept, IsSeat, SeatedPort, one_of, plan_of, seen_in, IsSeatKnown, IsOne, tells, Recalls, SeatSees, Wish, MayNoteScan, NotesScan, notes_scan}, Control.load_same, Kept.{Moved, allowed, none_grown, not_grown}, Loads.{IsFinding, moved_note, moved_see, recalled, seat_is, standing, where_is}, Contention.contends_same}
 
 -- nothing has changed
 pub nothing_moved : (a : About) (words words' : List ℕ) (ports : ℕ → Port) (notes : ℕ → List Noted) (b : Beside) (since : ℕ → ℕ) (w : LawfulMemory (plan_of a) words ports b notes) →
@@ -8,8 +8,8 @@ pub nothing_moved : (a : About) (words words' : List ℕ) (ports : ℕ → Port)
     (P : SeatedPort → Type 0) → P x → Moved a words' ports notes b since x P
 nothing_moved a words words' ports notes b since w time x s own known stands same P says =
     let k : ℕ = x.number in
-    let there = standing a words ports notes b since w time k s.number x.began x.found stands in
-    let at = where_is a words ports notes b since w time k s.number x.began x.found stands in
+    let there = standing a words ports notes b since w time k s.number x.began x.found x.contention stands in
+    let at = where_is a words ports notes b since w time k s.number x.began x.found x.contention stands in
     record {
       y = x;
       ports' = ports;
@@ -20,6 +20,8 @@ nothing_moved a words words' ports notes b since w time x s own known stands sam
       time = subst (λ (l : List ℕ). KeepsTime (plan_of a) l ports (place_now b) since) (sym same) time;
       others = λ q ne. (refl, refl, refl);
       number = refl;
+      epoch = omega arith;
+      contention = contends_same x.contention;
       seat = s;
       grown = λ q low ne. not_grown (ports q) b b refl refl;
       all_grown = none_grown b b refl refl;
@@ -44,7 +46,7 @@ module _ {S : Type 0} (a : About) (slots id : ℕ) (me : Me S (List SeatedPort))
       let same = seat_is a ports notes b since x s in
       let P : SeatedPort → Type 0 = λ z. Moved a (slice_set words (base e z.port.control.here.arena + j) (slice_index words (base e z.port.control.here.arena + j))) ports notes b since z
       (SeatSees first wish j z (slice_index words (base e z.port.control.here.arena + j))) in
-      subst P (sym same) (moved_see a words ports notes b since w time x.number s.number x.began x.found (ap (λ (p : Port). p.control.entering) (sym s.port) ∙ stands)
+      subst P (sym same) (moved_see a words ports notes b since w time x.number s.number x.began x.found x.contention (ap (λ (p : Port). p.control.entering) (sym s.port) ∙ stands)
       (subst (IsSeat a ports notes b since) same s) (subst IsSeatKnown same known) j inside first wish (λ is. subst (λ (p : Port). j < p.passed) s.port (finds is))))
 
   -- a load of a word that is final
@@ -55,12 +57,12 @@ module _ {S : Type 0} (a : About) (slots id : ℕ) (me : Me S (List SeatedPort))
       let same = seat_is a ports notes b since x s in
       let stands' = ap (λ (p : Port). p.control.entering) (sym s.port) ∙ stands in
       nothing_moved a words (slice_set words i n) ports notes b since w time x s own known stands' (sym (load_same words i)) (Recalls i x n)
-      (subst (λ (z : SeatedPort). Recalls i z n z) (sym same) (recalled a words ports notes b since w time k s.number x.began x.found stands' i)))
+      (subst (λ (z : SeatedPort). Recalls i z n z) (sym same) (recalled a words ports notes b since w time k s.number x.began x.found x.contention stands' i)))
 
   -- so is one by which the port notes a scan by a double collect
   pub may_note : (js : List ℕ) (m : ℕ) → MayNoteScan js m x → (i : ℕ) → Allows (IsRuleKept a) slots id me i (λ n. n) (notes_scan js m i me)
   may_note js m may i = allowed a slots id me i (λ n. n) (NotesScan js m i) one own (λ words ports notes b since w time s small.
       let same = seat_is a ports notes b since x s in
       let P : SeatedPort → Type 0 = λ z. Moved a (slice_set words i (slice_index words i)) ports notes b since z (NotesScan js m i z (slice_index words i)) in
-      subst P (sym same) (moved_note a words ports notes b since w time x.number s.number x.began x.found (ap (λ (p : Port). p.control.entering) (sym s.port) ∙ stands)
+      subst P (sym same) (moved_note a words ports notes b since w time x.number s.number x.began x.found x.contention (ap (λ (p : Port). p.control.entering) (sym s.port) ∙ stands)
       (subst (IsSeat a ports notes b since) same s) (subst IsSeatKnown same known) js m (subst (MayNoteScan js m) same may) i))

@@ -1,8 +1,5 @@
 -- A port stays where it stands, from part to part of a call.
-use Rattle.partial_long_lived.proofs.{Common.{[], refl, sym, ◌∙◌, append-nil, TableId, About, Stand, SeatedPort, seen_in, SeatGoes, IsSeatKnown, IsHeld, port_at, HasSamePart, Remains, Stays}, Coming.goes_on}
-
-pub goes_same : (x : SeatedPort) → IsSeatKnown x → SeatGoes x x
-goes_same x known = record { about = refl; number = refl; seen = ([], sym (append-nil (seen_in x.port))); known = known }
+use Rattle.partial_long_lived.proofs.{Common.{[], refl, sym, ◌∙◌, append-nil, TableId, About, Stand, SeatedPort, seen_in, SeatGoes, IsSeatKnown, IsHeld, port_at, HasSamePart, Remains, Stays}, Coming.{goes_on, goes_same}}
 
 pub stays_same : (table : TableId) (about : About) (s : Stand) → IsHeld table about s → Stays s s
 stays_same table about s h = record {

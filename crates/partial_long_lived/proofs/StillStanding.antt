@@ -1,5 +1,5 @@
 -- Components that still have the stamps that they had.
-use Rattle.partial_long_lived.proofs.{Common.{ℕ, ◌≡◌, ◌+◌, ◌<◌, ◌≤◌, List, [], ◌∷◌, length, take, sym, ap, subst, ◌∙◌, inl, inr, arith, append-nil, slice_index, eqb_tells, take-append-le, TableId, Applied, stamp_of, stamps_never_return, About, Stand, SeatedPort, IsOf, MemoryView, PortView, port_view, seen_in, Differ, HasStampThen, StillStand, SeatGoes, IsHeld, port_at, SettledFirst, HasGlanced, HadAnother, HadStamp, HadStamps, HasStamp, stamp_at}, Answering.{callers_see, goes_seen}, Coming.seen_more}
+use Rattle.partial_long_lived.proofs.{Common.{ℕ, ◌≡◌, ◌+◌, ◌<◌, ◌≤◌, List, [], ◌∷◌, length, take, sym, ap, subst, ◌∙◌, inl, inr, arith, append-nil, slice_index, eqb_tells, take-append-le, TableId, Applied, stamp_of, stamps_never_return, About, Stand, SeatedPort, IsOf, MemoryView, PortView, port_view, seen_in, Differ, HasStampThen, StillStand, SeatGoes, IsHeld, port_at, SettledFirst, HasGlanced, HadAnother, HadStamp, HadStamps, HasStamp, stamp_at, StoodTogether}, Answering.{callers_see, goes_seen}, Coming.seen_more}
 
 -- what the port had seen begins what it has seen then
 taken_more : (x y : SeatedPort) → SeatGoes x y → (n : ℕ) → n ≤ length (seen_in x.port) → take n (seen_in y.port) ≡ take n (seen_in x.port)
@@ -46,7 +46,7 @@ module _ (table : TableId) (s t : Stand) (settled : SettledFirst s t) where
 
   -- A component that had this stamp in what the port had seen before the call, and has it at a moment of the call, has it between.
   stood : (n j v : ℕ) → length (seen_in x.port) ≤ n → (h : HadStamp y j v) → n ≤ h.moment → (i : ℕ) → i ≤ length (seen_in x.port) →
-      HasStampThen (port_view table x) i j v → HasStampThen (port_view table y) n j v
+      HasStampThen (port_view table s.seat.steps x) i j v → HasStampThen (port_view table t.seat.steps y) n j v
   stood n j v behind h early i few was =
       let values = goes.known.plan.values in
       let inside = h.inside in
@@ -55,45 +55,46 @@ module _ (table : TableId) (s t : Stand) (settled : SettledFirst s t) where
       let then = stamps_never_return y.about.opening (seen_in y.port) j i h.moment n goes.known.knows.history (omega (arith, values, inside)) (omega (arith, few, behind)) early (before ∙ h.is) in
       then.0 ∙ before
 
-  still_at : (js ss : List ℕ) → HadStamps y js ss (length js) → (n : ℕ) → length (seen_in x.port) ≤ n → n ≤ length (seen_in y.port) →
+  still_at : (js ss : List ℕ) → HadStamps y js ss (length js) → (n : ℕ) → y.began.length ≤ n → n ≤ length (seen_in y.port) →
       ((k v : ℕ) → k < length js → (h : HadStamp y (slice_index js k) v) → n ≤ h.moment) →
-      StillStand (port_view table x) (port_view table y) js ss
+      StoodTogether (port_view table s.seat.steps x) (port_view table t.seat.steps y) js ss
   still_at js ss had n behind within early = record {
     goes = goes_seen table x y [] goes (settled.notes ∙ sym (append-nil x.notes));
+    there = λ k low. subst (λ (a : About). slice_index js k < a.sizes.m) goes.about (had k low).inside;
     place = n;
+    first = settled.first;
     behind = behind;
     within = within;
     each = λ k low. let h = had k low in (h.moment, early k (slice_index ss k) low h, h.to, sym h.is);
-    together = λ k low i few was. stood n (slice_index js k) (slice_index ss k) behind (had k low) (early k (slice_index ss k) low (had k low)) i few was;
+    together = λ k low i few was. stood n (slice_index js k) (slice_index ss k) (let first = settled.first in omega (arith, first, behind)) (had k low) (early k (slice_index ss k) low (had k low)) i few was;
   }
 
-  pub still : (js ss : List ℕ) → HadStamps y js ss (length js) → StillStand (port_view table x) (port_view table y) js ss
-  still [] ss had = still_at [] ss had (length (seen_in x.port)) (omega arith) (seen_more x y goes) (λ k v low h. absurd (omega (arith, low)))
+  pub still : (js ss : List ℕ) → HadStamps y js ss (length js) → StillStand (port_view table s.seat.steps x) (port_view table t.seat.steps y) js ss
+  still [] ss had = goes_seen table x y [] goes (settled.notes ∙ sym (append-nil x.notes))
   still (j ∷ js) ss had =
       let first = had 0 (omega arith) in
       let from = first.from in
       let to = first.to in
-      still_at (j ∷ js) ss had y.began.length settled.first (omega (arith, from, to)) (λ k v low h. h.from)
+      still_at (j ∷ js) ss had y.began.length (omega arith) (omega (arith, from, to)) (λ k v low h. h.from)
 
-  pub differ : (js ss : List ℕ) → HadAnother y js ss → Differ (port_view table x) (port_view table y) js ss
+  pub differ : (js ss : List ℕ) → HadAnother y js ss → Differ (port_view table s.seat.steps x) (port_view table t.seat.steps y) js ss
   differ js ss w = record {
     goes = goes_seen table x y [] goes (settled.notes ∙ sym (append-nil x.notes));
+    first = settled.first;
     position = w.position;
     inside = w.inside;
     why = elim w.why [
       | inl missing ↦ inl (subst (λ (a : About). a.sizes.m ≤ slice_index js w.position) goes.about missing)
       | inr other ↦
           let h = other.1 in
-          let from = h.from in
-          let first = settled.first in
-          inr (h.moment, omega (arith, from, first), h.to, λ same. other.2 (h.is ∙ same))
+          inr (h.moment, h.from, h.to, λ same. other.2 (h.is ∙ same))
     ];
   }
 
 -- the same, as callers see the port
-module _ (m : MemoryView) (t u : Stand) (p : PortView) (view : port_view t.seat.table_id (port_at t) ≡ p) (own : IsOf m p) (held : IsHeld m.table m.about u) (settled : SettledFirst t u) (js ss : List ℕ) where
-  pub still_seen : HadStamps (port_at u) js ss (length js) → StillStand p (port_view u.seat.table_id (port_at u)) js ss
+module _ (m : MemoryView) (t u : Stand) (p : PortView) (view : port_view t.seat.table_id t.seat.steps (port_at t) ≡ p) (own : IsOf m p) (held : IsHeld m.table m.about u) (settled : SettledFirst t u) (js ss : List ℕ) where
+  pub still_seen : HadStamps (port_at u) js ss (length js) → StillStand p (port_view u.seat.table_id u.seat.steps (port_at u)) js ss
   still_seen had = callers_see m t u p view own held (λ (a b : PortView). StillStand a b js ss) (still m.table t u settled js ss had)
 
-  pub differ_seen : HadAnother (port_at u) js ss → Differ p (port_view u.seat.table_id (port_at u)) js ss
+  pub differ_seen : HadAnother (port_at u) js ss → Differ p (port_view u.seat.table_id u.seat.steps (port_at u)) js ss
   differ_seen had = callers_see m t u p view own held (λ (a b : PortView). Differ a b js ss) (differ m.table t u settled js ss had)

@@ -1,5 +1,5 @@
 -- A call under way: each step of its machine is allowed, and leads the call on.
-use Rattle.partial_long_lived.proofs.{Common.{ℕ, ◌≡◌, ◌+◌, ◌-◌, ◌<◌, ◌≤◌, ◌==◌, ◌%◌, ◌^◌, Bool, true, false, if◌then◌else◌, Some, refl, sym, ap, subst, ◌∙◌, arith, nat_lt, either, Allows, TableId, Step, Load, Store, Exchange, Add, total, word_of, CoreState, advance, step_of, IsSound, base, plain, unsealed, IsEpochPlan, not_below, About, Stand, IsRuleKept, SeatedPort, plan_of, SeatGoes, IsOne, port_at, component_at, IsApart, LeavesComponents, SeatMakes, MayMake, unsealed_answer, change_of, goes_on, makes, word_at, CallMade, IsGoing, ComesTo, MayBegin, before_claim, machine_at, IsQuiet}, Claims.inner_word, Making.may_make, Changes.either_cond, Standing.{arena_there, base_small, held_then, room_of}, Under.{next_made, next_over, next_may, next_within}}
+use Rattle.partial_long_lived.proofs.{Common.{ℕ, ◌≡◌, ◌+◌, ◌-◌, ◌<◌, ◌≤◌, ◌==◌, ◌%◌, ◌^◌, Bool, true, false, if◌then◌else◌, Some, refl, sym, ap, subst, ◌∙◌, arith, nat_lt, either, Allows, TableId, Step, Load, Store, Exchange, Add, total, word_of, CoreState, advance, step_of, IsSound, steps_left, answers_lead_on, IsLayout, base, plain, unsealed, IsEpochPlan, not_below, About, Stand, IsRuleKept, SeatedPort, plan_of, SeatGoes, IsOne, port_at, component_at, IsApart, LeavesComponents, SeatMakes, MayMake, unsealed_answer, change_of, goes_on, makes, word_at, CallMade, IsGoing, ComesTo, MayBegin, before_claim, machine_at, IsQuiet}, Claims.inner_word, Making.may_make, Changes.either_cond, Standing.{arena_there, base_small, held_then, room_of}, Under.{next_made, next_over, next_may, next_within}}
 
 -- a word behind the component words is another
 apart_of : (a : About) (s : Step) → LeavesComponents a.sizes s → IsApart a.sizes s
@@ -66,8 +66,15 @@ module _ (table : TableId) (about : About) (s : Stand) (w : IsGoing table about 
       under = (w.under.0, w.under.1, w.under.2, call_on w.under.0 w.under.1 w.under.2 had);
     }
 
-    pub leads_there : ComesTo s t
-    leads_there = record {
+    -- the machine has fewer steps left
+    fewer : steps_left (machine_at t) < steps_left (machine_at s)
+    fewer =
+        let begins = w.under.2 in
+        let layout : IsLayout (machine_at s).sizes = subst IsLayout (begins.sizes ∙ sym had.made.sizes) begins.layout in
+        subst (λ (c : CoreState). steps_left c < steps_left (machine_at s)) (sym machine_is) (answers_lead_on (machine_at s) a layout had.made.sound m.told.possible).fewer
+
+    pub leads_there : t.seat.steps ≡ s.seat.steps + 1 → ComesTo s t
+    leads_there one_more = record {
       shape = shape;
       number = number;
       epoch = epoch;
@@ -79,6 +86,7 @@ module _ (table : TableId) (about : About) (s : Stand) (w : IsGoing table about 
       over = λ behind.
           let next = next_over w.under.0 w.under.1 w.under.2 (machine_at s) (port_at s) had step due a (port_at t) goes m behind in
           (ap (λ (d : CoreState). before_claim d.stage) machine_is ∙ next.0, next.1);
+      steps = let less = fewer in omega (arith, one_more, less);
     }
 
 -- the steps of each kind, as the table makes them

@@ -1,7 +1,7 @@
 -- The steps of a call of a port's machine, one after the other.
-use Rattle.partial_long_lived.proofs.{Common.{ℕ, ◌≡◌, ◌≢◌, ◌+◌, ◌<◌, ◌≤◌, ◌==◌, ◌⊎◌, ◌&&◌, ◌||◌, ◌++◌, Bool, true, false, if◌then◌else◌, Option, Some, None, List, [], ◌∷◌, length, map, take, refl, sym, ap, subst, ◌∙◌, inl, inr, arith, append-nil, nat_lt, eqb_tells, append_cancel_left, Applied, Opening, stamp_of, Noted, seen_by, Step, Load, Store, Exchange, Add, Layout, IsLayout, greatest_record, pool_counter, total, word_of, Reply, Stage, Idle, ReadBegun, LoadingValue, UpdateBegun, GettingSet, Viewing, ClaimingRecord, StoringRecord, Exchanging, ScanBegun, StoringAnnouncement, Joining, Scanning, Leaving, Finished, some_same, not_below, cases_lt, CoreState, advance, record_size, reply_of, step_at, step_of, call_of, is_begun, IsSound, Part, first_at, AreNotesOf, Tells, begun_with, moved_part, take_within, first_steps_make_calls, further_steps_make_calls, history_of, opening_behind, Control, MayClaim, public_noted, About, Began, SeatedPort, plan_of, SeatGoes, opening_of, SeatMakes, MayMake, over_by, CallMade, MayBegin, before_claim, record_claim, IsBehind, refuses_pool, refuses_slots, due_is_unreplied, due_words_are_there, KeptAnswer, Call}, Claims.{claimed_from, pool_claims, unclaimed_before}, Coming.goes_on}
+use Rattle.partial_long_lived.proofs.{Common.{ℕ, ◌≡◌, ◌≢◌, ◌+◌, ◌<◌, ◌≤◌, ◌==◌, ◌⊎◌, ◌&&◌, ◌||◌, ◌++◌, Bool, true, false, if◌then◌else◌, Option, Some, None, List, [], ◌∷◌, length, map, take, refl, sym, ap, subst, ◌∙◌, inl, inr, arith, append-nil, nat_lt, eqb_tells, append_cancel_left, Applied, Opening, stamp_of, Noted, seen_by, Step, Load, Store, Exchange, Add, Layout, IsLayout, pool_counter, total, word_of, Reply, Change, Stage, Idle, ReadBegun, LoadingValue, UpdateBegun, GettingSet, Viewing, ClaimingRecord, StoringRecord, Exchanging, ScanBegun, StoringAnnouncement, Joining, Scanning, Leaving, Finished, some_same, CoreState, advance, advance_at, at_stage, fits_pool, pool_refused, record_size, reply_of, step_at, step_of, call_of, is_begun, IsSound, Part, first_at, AreNotesOf, Tells, begun_with, moved_part, take_within, first_steps_make_calls, further_steps_make_calls, history_of, opening_behind, Control, MayClaim, public_noted, About, Began, SeatedPort, plan_of, SeatGoes, opening_of, SeatMakes, MayMake, over_by, CallMade, MayBegin, before_claim, record_claim, IsBehind, refuses_pool, refuses_slots, due_is_unreplied, due_words_are_there, KeptAnswer, Call}, Claims.{claimed_from, pool_claims, unclaimed_before}, Coming.goes_on}
+use Rattle.std.proofs.lemmas.Bool.{eq-eqb}
 use Rattle.partial_model.specs.declared.call.Refused.{Refused}
-use Rattle.partial_machine.proofs.Sound.{size_few}
 use Rattle.partial_core.specs.Calls.{Made}
 use Rattle.partial_core.proofs.{Parts.seen_within as no_longer, WholeCalls.first_push}
 
@@ -87,35 +87,73 @@ stays_unmarked c x b none was = (
     no_slots (Some (Reply.Read v s)) none = refl
     no_slots (Some (Reply.Scanned n b)) none = refl
 
--- a claim of a record ends past the limit only where a greatest record would
-claim_step : (a : About) (c : CoreState) (s : Step) (x : ℕ) (over : Bool) → IsSound c → c.sizes ≡ a.sizes → step_of c ≡ Some s → (before_claim c.stage ≡ true → over ≡ false) →
-    ((at : ℕ) → record_claim c.stage ≡ Some at → (over ≡ false) ⊎ (a.limit < at + greatest_record a.sizes)) → (at : ℕ) → record_claim (advance c x).stage ≡ Some at →
-    ((over || over_by (plan_of a) s x) ≡ false) ⊎ (a.limit < at + greatest_record a.sizes)
-claim_step a c s x over sound sizes due spare was at is = elim (claimed_from c x at is) [
+-- an update that has claimed its record keeps its size
+claimed_size : (c : CoreState) (x : ℕ) (t : Stage) (at : ℕ) → record_claim t ≡ Some at → record_size (advance_at c t x) ≡ record_size c
+claimed_size c x Idle at is = cc
+claimed_size c x (ReadBegun j) at is = cc
+claimed_size c x (LoadingValue stamp) at is = cc
+claimed_size c x (UpdateBegun d) at is = cc
+claimed_size c x (GettingSet d old) at is = cc
+claimed_size c x (Viewing d old) at is = cc
+claimed_size c x (ClaimingRecord d old) at is = cc
+claimed_size c x (StoringRecord d old at' k) at is = refl
+claimed_size c x (Exchanging d old at') at is = refl
+claimed_size c x ScanBegun at is = cc
+claimed_size c x (StoringAnnouncement at' k) at is = cc
+claimed_size c x Joining at is = cc
+claimed_size c x Scanning at is = cc
+claimed_size c x Leaving at is = cc
+claimed_size c x (Finished r) at is = cc
+
+-- and so does the claim
+claiming_size : (c : CoreState) (x : ℕ) (d : Change) (old : ℕ) → c.stage ≡ ClaimingRecord d old → record_size (advance c x) ≡ record_size c
+claiming_size c x d old stage = subst (λ (t : Stage). record_size (advance_at c t x) ≡ record_size c) (sym stage) (by (fits_pool c.sizes (record_size c) x))
+  where
+    by : (b : Bool) → record_size (if b then at_stage c (StoringRecord d old x 0) else pool_refused c) ≡ record_size c
+    by true = refl
+    by false = refl
+
+-- a call that has only begun has claimed nothing
+begun_unclaimed : (t : Stage) (at : ℕ) → is_begun t ≡ true → record_claim t ≡ Some at → ⊥
+begun_unclaimed Idle at begun is = cc
+begun_unclaimed (ReadBegun j) at begun is = cc
+begun_unclaimed (LoadingValue stamp) at begun is = cc
+begun_unclaimed (UpdateBegun d) at begun is = cc
+begun_unclaimed (GettingSet d old) at begun is = cc
+begun_unclaimed (Viewing d old) at begun is = cc
+begun_unclaimed (ClaimingRecord d old) at begun is = cc
+begun_unclaimed (StoringRecord d old at' k) at begun is = cc
+begun_unclaimed (Exchanging d old at') at begun is = cc
+begun_unclaimed ScanBegun at begun is = cc
+begun_unclaimed (StoringAnnouncement at' k) at begun is = cc
+begun_unclaimed Joining at begun is = cc
+begun_unclaimed Scanning at begun is = cc
+begun_unclaimed Leaving at begun is = cc
+begun_unclaimed (Finished r) at begun is = cc
+
+-- a port is over exactly where the claim of its record ends past the limit
+claim_step : (a : About) (c : CoreState) (s : Step) (x : ℕ) (over : Bool) → c.sizes ≡ a.sizes → step_of c ≡ Some s → (before_claim c.stage ≡ true → over ≡ false) →
+    ((at : ℕ) → record_claim c.stage ≡ Some at → over ≡ nat_lt a.limit (at + record_size c)) → (at : ℕ) → record_claim (advance c x).stage ≡ Some at →
+    (over || over_by (plan_of a) s x) ≡ nat_lt a.limit (at + record_size (advance c x))
+claim_step a c s x over sizes due spare was at is = elim (claimed_from c x at is) [
   | inl new ↦
       let stage = new.2 in
       let step : Add (pool_counter c.sizes) (record_size c) ≡ s = some_same (sym (ap (step_at c) stage) ∙ due) in
-      let few : record_size c ≤ greatest_record c.sizes = (size_few c sound.indices.few).1 in
-      let m = ap (λ (z : Layout). z.m) sizes in
-      let counter = ap (λ (z : Layout). pool_counter z) sizes in
-      let none = spare (ap before_claim stage) in
+      let size = claiming_size c x new.0 new.1 stage in
       let same = new.3 in
-      subst (λ (t : Step). ((over || over_by (plan_of a) t x) ≡ false) ⊎ (a.limit < at + greatest_record a.sizes)) step
-      (elim (cases_lt a.limit (x + record_size c)) [
-        | inl past ↦ inr (omega (arith, past, few, m, same))
-        | inr room ↦ inl (ap (λ t. t || ((pool_counter c.sizes == pool_counter a.sizes) && nat_lt a.limit (x + record_size c))) none
-            ∙ ap (λ t. (pool_counter c.sizes == pool_counter a.sizes) && t) (not_below a.limit (x + record_size c) room) ∙ and_false (pool_counter c.sizes == pool_counter a.sizes))
-      ])
+      let sum : x + record_size c ≡ at + record_size (advance c x) = omega (arith, size, same) in
+      let counter : (pool_counter c.sizes == pool_counter a.sizes) ≡ true = ap (λ (z : Layout). pool_counter z == pool_counter a.sizes) sizes ∙ eq-eqb (pool_counter a.sizes) (pool_counter a.sizes) refl in
+      subst (λ (t : Step). (over || over_by (plan_of a) t x) ≡ nat_lt a.limit (at + record_size (advance c x))) step
+      (ap (λ t. t || ((pool_counter c.sizes == pool_counter a.sizes) && nat_lt a.limit (x + record_size c))) (spare (ap before_claim stage))
+      ∙ ap (λ t. t && nat_lt a.limit (x + record_size c)) counter ∙ ap (nat_lt a.limit) sum)
   | inr before ↦
-      elim (was at before) [
-        | inl none ↦ inl (ap (λ t. t || over_by (plan_of a) s x) none ∙ no_over a c s x c.stage at before due)
-        | inr past ↦ inr past
-      ]
+      let size : record_size (advance c x) ≡ record_size c = claimed_size c x c.stage at before in
+      ap (λ t. over || t) (no_over a c s x c.stage at before due) ∙ or_none over ∙ was at before ∙ ap (λ n. nat_lt a.limit (at + n)) (sym size)
 ]
   where
-    and_false : (b : Bool) → (b && false) ≡ false
-    and_false true = refl
-    and_false false = refl
+    or_none : (b : Bool) → (b || false) ≡ b
+    or_none true = refl
+    or_none false = refl
 
 -- the first step of a call is allowed
 pub first_may : (b : CoreState) (x : SeatedPort) → MayBegin b x → (s : Step) → step_of b ≡ Some s → MayMake x b s
@@ -148,8 +186,8 @@ module _ (b : CoreState) (x : SeatedPort) (begins : MayBegin b x) (first : Bool)
     passed = ap (λ (z : SeatedPort). z.port.passed) m.is;
     made = first_call;
     spare = λ yet. ap (λ (z : SeatedPort). z.port.over) m.is ∙ ap (λ t. t || over_by (plan_of x.about) s a) begins.spare ∙ spare_step x.about b s a begins.sound begins.sizes due yet;
-    claimed = λ at is. subst (λ o. (o ≡ false) ⊎ (x.about.limit < at + greatest_record x.about.sizes)) (sym (ap (λ (z : SeatedPort). z.port.over) m.is))
-        (claim_step x.about b s a x.port.over begins.sound begins.sizes due (λ _. begins.spare) (λ i is. inl begins.spare) at is);
+    claimed = λ at is. ap (λ (z : SeatedPort). z.port.over) m.is
+        ∙ claim_step x.about b s a x.port.over begins.sizes due (λ _. begins.spare) (λ i is. absurd (begun_unclaimed b.stage i begun_is is)) at is;
     unmarked = stays_unmarked b a m.told.behind m.unrefused begins.unmarked;
     unrefused = m.unrefused;
     notes = ap (λ (z : SeatedPort). z.notes) m.is ∙ ap (λ (l : List Noted). x.notes ++ map (public_noted (plan_of x.about) x.port.before) l)
@@ -244,9 +282,9 @@ module _ (b : CoreState) (x : SeatedPort) (begins : MayBegin b x) (c : CoreState
       made = next_call;
       spare = λ yet. ap (λ (t : SeatedPort). t.port.over) m.is ∙ ap (λ t. t || over_by (plan_of y.about) s a) (had.spare (unclaimed_before c a yet))
           ∙ spare_step y.about c s a had.made.sound sizes_same due yet;
-      claimed = λ at is. subst (λ o. (o ≡ false) ⊎ (x.about.limit < at + greatest_record x.about.sizes)) (sym (ap (λ (t : SeatedPort). t.port.over) m.is))
-          (subst (λ (d : About). ((y.port.over || over_by (plan_of d) s a) ≡ false) ⊎ (x.about.limit < at + greatest_record x.about.sizes)) (sym about_same)
-          (claim_step x.about c s a y.port.over had.made.sound had.made.sizes due had.spare had.claimed at is));
+      claimed = λ at is. ap (λ (t : SeatedPort). t.port.over) m.is
+          ∙ subst (λ (d : About). (y.port.over || over_by (plan_of d) s a) ≡ nat_lt x.about.limit (at + record_size (advance c a))) (sym about_same)
+          (claim_step x.about c s a y.port.over had.made.sizes due had.spare had.claimed at is);
       unmarked = stays_unmarked c a m.told.behind m.unrefused had.unmarked;
       unrefused = m.unrefused;
       notes = ap (λ (t : SeatedPort). t.notes) m.is ∙ ap (λ (l : List Noted). l ++ map (public_noted (plan_of y.about) y.port.before) m.told.new) notes_same

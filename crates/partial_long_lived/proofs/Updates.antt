@@ -1,5 +1,5 @@
 -- An update of a port, as callers see it.
-use Rattle.partial_long_lived.proofs.{Common.{ℕ, ◌≡◌, ◌<◌, Bool, true, false, [], sym, subst, ◌∙◌, arith, append-nil, ap, ◌+◌, TableId, Applied, IsLegal, LegalNotes, seen_by, AllByRecursion-get, LegalNotes-last, Change, CoreState, Exchanged, About, UpdatedIf, Asked, Refused, Component, Overtaken, NoArena, EpochsSpent, Stand, IsOf, MemoryView, PortView, port_view, seen_in, IsHeld, epoch_at, port_at, IsIdle, HasUpdatedIf, RestsAt, CameBy, IsLate, IsOwnMachine, MayCall, UpdateEnded, noted_change, public_update, stamp_from, Call}, Answering.{callers_see, goes_seen, rests_unmarked}}
+use Rattle.partial_long_lived.proofs.{Common.{ℕ, ◌≡◌, ◌<◌, Bool, true, false, [], sym, subst, ◌∙◌, arith, append-nil, ap, ◌+◌, TableId, Applied, IsLegal, LegalNotes, seen_by, AllByRecursion-get, LegalNotes-last, Change, CoreState, Exchanged, About, UpdatedIf, Asked, Refused, Component, Overtaken, NoArena, EpochsSpent, Stand, IsOf, MemoryView, PortView, port_view, seen_in, IsHeld, epoch_at, port_at, IsIdle, HasUpdatedIf, RestsAt, CameBy, IsLate, IsOwnMachine, MayCall, UpdateEnded, noted_change, public_update, stamp_from, Call}, Answering.{callers_see, goes_seen, rests_unmarked, cause_seen}}
 use Rattle.partial_lines.specs.declared.exchange.Exchanged.TheVariants.{Applied as IsApplied, Overtaken as IsOvertaken}
 use Rattle.partial_long_lived.specs.Calls as calls
 
@@ -38,7 +38,7 @@ module _ (s t : Stand) (c : Change) (r : Exchanged) (w : UpdateEnded true c r s 
 
 -- an update that ended, as callers see it
 has_updated_seen : (table : TableId) (s t : Stand) (c : Change) (r : Exchanged) → UpdateEnded true c r s t → c.component < (port_at s).about.sizes.m →
-    calls.Updates (port_view table (port_at s)) c.component c.value (public_update t.epoch r) (port_view table (port_at t))
+    calls.Updates (port_view table s.seat.steps (port_at s)) c.component c.value (public_update t.epoch r) (port_view table t.seat.steps (port_at t))
 has_updated_seen table s t c (IsApplied stamp) w inside =
     let first = w.began in
     let behind = w.behind in
@@ -47,7 +47,8 @@ has_updated_seen table s t c (IsApplied stamp) w inside =
       record {
         inside = (inside, tt);
         goes = goes_seen table (port_at s) (port_at t) _ w.goes w.notes;
-        behind = omega (arith, first, behind);
+        first = first;
+        behind = behind;
         within = omega (arith, within);
       },
       within,
@@ -60,22 +61,23 @@ has_updated_seen table s t c (IsOvertaken by) w inside =
       record {
         inside = (inside, tt);
         goes = goes_seen table (port_at s) (port_at t) _ w.goes w.notes;
-        behind = omega (arith, first, behind);
+        first = first;
+        behind = behind;
         within = omega (arith, within);
       },
     )
 
 -- an update that was refused, as callers see it
-not_updated_seen : (table : TableId) (s t : Stand) (j v : ℕ) (cause : Refused) → (epoch_at t ≡ t.epoch) → IsLate 16 s cause t → CameBy true s t → j < (port_at s).about.sizes.m →
-    calls.IsRefused (port_view table (port_at s)) (Call.Update j v) cause (port_view table (port_at t))
+not_updated_seen : (table : TableId) (s t : Stand) (j v : ℕ) (cause : Refused) → (epoch_at t ≡ t.epoch) → IsLate 16 15 s cause t → CameBy true s t → j < (port_at s).about.sizes.m →
+    calls.IsRefused (port_view table s.seat.steps (port_at s)) (Call.Update j v) cause (port_view table t.seat.steps (port_at t))
 not_updated_seen table s t j v Component is late w inside = absurd late
 not_updated_seen table s t j v Overtaken is late w inside = ((inside, tt), goes_seen table (port_at s) (port_at t) [] w.goes (w.notes ∙ sym (append-nil (port_at s).notes)), late)
-not_updated_seen table s t j v NoArena is late w inside = ((inside, tt), goes_seen table (port_at s) (port_at t) [] w.goes (w.notes ∙ sym (append-nil (port_at s).notes)), late.1)
-not_updated_seen table s t j v EpochsSpent is late w inside = ((inside, tt), goes_seen table (port_at s) (port_at t) [] w.goes (w.notes ∙ sym (append-nil (port_at s).notes)), ap (λ (n : ℕ). n + 1) is ∙ late)
+not_updated_seen table s t j v NoArena is late w inside = ((inside, tt), goes_seen table (port_at s) (port_at t) [] w.goes (w.notes ∙ sym (append-nil (port_at s).notes)), cause_seen table s.seat.steps t.seat.steps s t NoArena is late)
+not_updated_seen table s t j v EpochsSpent is late w inside = ((inside, tt), goes_seen table (port_at s) (port_at t) [] w.goes (w.notes ∙ sym (append-nil (port_at s).notes)), cause_seen table s.seat.steps t.seat.steps s t EpochsSpent is late)
 
 -- a conditional update that ended, as callers see it
 has_updated_if_seen : (table : TableId) (s t : Stand) (a : Asked) (r : UpdatedIf) → HasUpdatedIf a r s t → a.component < (port_at s).about.sizes.m →
-    calls.UpdatesIf (port_view table (port_at s)) a.component a.expected a.value r (port_view table (port_at t))
+    calls.UpdatesIf (port_view table s.seat.steps (port_at s)) a.component a.expected a.value r (port_view table t.seat.steps (port_at t))
 has_updated_if_seen table s t a (UpdatedIf.Applied stamp) w inside =
     let first = w.began in
     let behind = w.behind in
@@ -84,7 +86,8 @@ has_updated_if_seen table s t a (UpdatedIf.Applied stamp) w inside =
       record {
         inside = (inside, tt);
         goes = goes_seen table (port_at s) (port_at t) _ w.goes w.notes;
-        behind = omega (arith, first, behind);
+        first = first;
+        behind = behind;
         within = omega (arith, within);
       },
       within,
@@ -96,41 +99,42 @@ has_updated_if_seen table s t a (UpdatedIf.Changed by) w inside =
       record {
         inside = (inside, tt);
         goes = goes_seen table (port_at s) (port_at t) _ w.goes w.notes;
-        behind = omega (arith, first, behind);
+        first = first;
+        behind = behind;
         within = w.within;
       },
     )
 
 -- one that was refused, as callers see it
-not_updated_if_seen : (table : TableId) (s t : Stand) (j e v : ℕ) (cause : Refused) → (epoch_at t ≡ t.epoch) → IsLate 16 s cause t → CameBy true s t → j < (port_at s).about.sizes.m →
-    calls.IsRefused (port_view table (port_at s)) (Call.UpdateIf j e v) cause (port_view table (port_at t))
+not_updated_if_seen : (table : TableId) (s t : Stand) (j e v : ℕ) (cause : Refused) → (epoch_at t ≡ t.epoch) → IsLate 16 15 s cause t → CameBy true s t → j < (port_at s).about.sizes.m →
+    calls.IsRefused (port_view table s.seat.steps (port_at s)) (Call.UpdateIf j e v) cause (port_view table t.seat.steps (port_at t))
 not_updated_if_seen table s t j e v Component is late w inside = absurd late
 not_updated_if_seen table s t j e v Overtaken is late w inside = ((inside, tt), goes_seen table (port_at s) (port_at t) [] w.goes (w.notes ∙ sym (append-nil (port_at s).notes)), late)
-not_updated_if_seen table s t j e v NoArena is late w inside = ((inside, tt), goes_seen table (port_at s) (port_at t) [] w.goes (w.notes ∙ sym (append-nil (port_at s).notes)), late.1)
-not_updated_if_seen table s t j e v EpochsSpent is late w inside = ((inside, tt), goes_seen table (port_at s) (port_at t) [] w.goes (w.notes ∙ sym (append-nil (port_at s).notes)), ap (λ (n : ℕ). n + 1) is ∙ late)
+not_updated_if_seen table s t j e v NoArena is late w inside = ((inside, tt), goes_seen table (port_at s) (port_at t) [] w.goes (w.notes ∙ sym (append-nil (port_at s).notes)), cause_seen table s.seat.steps t.seat.steps s t NoArena is late)
+not_updated_if_seen table s t j e v EpochsSpent is late w inside = ((inside, tt), goes_seen table (port_at s) (port_at t) [] w.goes (w.notes ∙ sym (append-nil (port_at s).notes)), cause_seen table s.seat.steps t.seat.steps s t EpochsSpent is late)
 
 -- the same, as callers see the port
-module _ (m : MemoryView) (t u : Stand) (p : PortView) (view : port_view t.seat.table_id (port_at t) ≡ p) (own : IsOf m p) (held : IsHeld m.table m.about u) where
+module _ (m : MemoryView) (t u : Stand) (p : PortView) (view : port_view t.seat.table_id t.seat.steps (port_at t) ≡ p) (own : IsOf m p) (held : IsHeld m.table m.about u) where
   pub update_answered : (c : Change) (r : Exchanged) → UpdateEnded true c r t u → c.component < m.about.sizes.m →
-      calls.Updates p c.component c.value (public_update u.epoch r) (port_view u.seat.table_id (port_at u))
+      calls.Updates p c.component c.value (public_update u.epoch r) (port_view u.seat.table_id u.seat.steps (port_at u))
   update_answered c r w inside =
       callers_see m t u p view own held (λ (a b : PortView). calls.Updates a c.component c.value (public_update u.epoch r) b)
       (has_updated_seen m.table t u c r w (subst (λ (a : About). c.component < a.sizes.m) (sym (sym w.goes.about ∙ held.own)) inside))
 
-  pub update_refused : (j v : ℕ) (cause : Refused) → IsLate 16 t cause u → CameBy true t u → j < m.about.sizes.m →
-      calls.IsRefused p (Call.Update j v) cause (port_view u.seat.table_id (port_at u))
+  pub update_refused : (j v : ℕ) (cause : Refused) → IsLate 16 15 t cause u → CameBy true t u → j < m.about.sizes.m →
+      calls.IsRefused p (Call.Update j v) cause (port_view u.seat.table_id u.seat.steps (port_at u))
   update_refused j v cause late w inside =
       callers_see m t u p view own held (λ (a b : PortView). calls.IsRefused a (Call.Update j v) cause b)
       (not_updated_seen m.table t u j v cause (sym held.epoch) late w (subst (λ (a : About). j < a.sizes.m) (sym (sym w.goes.about ∙ held.own)) inside))
 
   pub update_if_answered : (a : Asked) (r : UpdatedIf) → HasUpdatedIf a r t u → a.component < m.about.sizes.m →
-      calls.UpdatesIf p a.component a.expected a.value r (port_view u.seat.table_id (port_at u))
+      calls.UpdatesIf p a.component a.expected a.value r (port_view u.seat.table_id u.seat.steps (port_at u))
   update_if_answered a r w inside =
       callers_see m t u p view own held (λ (x y : PortView). calls.UpdatesIf x a.component a.expected a.value r y)
       (has_updated_if_seen m.table t u a r w (subst (λ (b : About). a.component < b.sizes.m) (sym (sym w.goes.about ∙ held.own)) inside))
 
-  pub update_if_refused : (j e v : ℕ) (cause : Refused) → IsLate 16 t cause u → CameBy true t u → j < m.about.sizes.m →
-      calls.IsRefused p (Call.UpdateIf j e v) cause (port_view u.seat.table_id (port_at u))
+  pub update_if_refused : (j e v : ℕ) (cause : Refused) → IsLate 16 15 t cause u → CameBy true t u → j < m.about.sizes.m →
+      calls.IsRefused p (Call.UpdateIf j e v) cause (port_view u.seat.table_id u.seat.steps (port_at u))
   update_if_refused j e v cause late w inside =
       callers_see m t u p view own held (λ (a b : PortView). calls.IsRefused a (Call.UpdateIf j e v) cause b)
       (not_updated_if_seen m.table t u j e v cause (sym held.epoch) late w (subst (λ (a : About). j < a.sizes.m) (sym (sym w.goes.about ∙ held.own)) inside))

@@ -1,5 +1,5 @@
 -- What each call of a memory leaves of its port.
-use Rattle.std.specs.Prelude.{ℕ, ◌≡◌, ◌+◌, ◌<◌, ◌≤◌, ◌⊎◌, List, [], ◌∷◌, ◌++◌, length, map, take, None, Some, slice_index}
+use Rattle.std.specs.Prelude.{ℕ, ◌≡◌, ◌≢◌, ◌+◌, ◌*◌, ◌<◌, ◌≤◌, ◌⊎◌, List, [], ◌∷◌, ◌++◌, length, map, take, None, Some, slice_index}
 use Rattle.partial_model.specs.declared.call.Call.{Call}
 use Rattle.partial_model.specs.declared.call.Answer.{Answer}
 use Rattle.partial_model.specs.declared.call.Note.{Note}
@@ -12,21 +12,27 @@ use Rattle.partial_long_lived.specs.declared.answers.Updated.TheVariants.{Applie
 use Rattle.partial_long_lived.specs.declared.answers.UpdatedIf.{UpdatedIf}
 use Rattle.partial_long_lived.specs.declared.error.Refused.{Refused}
 use Rattle.partial_long_lived.specs.declared.error.Refused.TheVariants.{Component, EpochsSpent, NoArena, Overtaken}
+use Rattle.partial_long_lived.specs.Rule.{ContendsMore, times_in}
 use Rattle.partial_long_lived.specs.Ports.{Knows, PortView}
 
--- what every call does to its port: the history that it has observed grows, and it has noted these calls more
+-- what every call does to its port: it stands in no earlier epoch, the history that it has observed grows, it has met no less, and it has noted
+-- these calls more
 pub record Goes (p q : PortView) (new : List Noted) : Type 0 where
   pub memory : q.memory ≡ p.memory
   pub number : q.number ≡ p.number
+  pub epoch : p.epoch ≤ q.epoch
+  pub contention : ContendsMore p.contention q.contention
   pub seen : p.seen ≡ take (length p.seen) q.seen
   pub notes : q.notes ≡ p.notes ++ new
   pub knows : Knows q.memory.about q.number q.seen q.notes
 
--- a call that was answered with a note: at a place behind all that the port had seen before the call, within what it has seen now
+-- A call that was answered with a note. It began when the history held all that the port had seen before; its place is not before that, and
+-- within what the port has seen now.
 pub record Answered (p q : PortView) (c : Call) (a : Answer) (n : Note) : Type 0 where
   pub inside : NamesComponents p.memory.about.sizes.m c
   pub goes : Goes p q (record { call = c; answer = a; note = Some n } ∷ [])
-  pub behind : length p.seen ≤ place_of n
+  pub first : length p.seen ≤ q.began
+  pub behind : q.began ≤ place_of n
   pub within : shown_by n ≤ length q.seen
 
 -- a read that ended: the value and the stamp of the component after a prefix of what is seen now
@@ -62,39 +68,56 @@ ScansStamped p (j ∷ js) values stamps s q =
     (n : ℕ) × Answered p q (Call.Scan (j ∷ js)) (Answer.Scanned values s.collects s.borrowed) (Note.Saw n)
     × (s.borrowed ≡ None → stamps ≡ map (λ i. stamp_of q.memory.about.opening (take n q.seen) i) (j ∷ js))
 
--- Each of these components had this stamp at a place of the call. There is one place, behind all that the port had seen before the call, at
--- which those stood together whose stamps the port had seen.
-pub record StillStand (p q : PortView) (js stamps : List ℕ) : Type 0 where
+-- Each of these components is there, and had this stamp at a place of the call. There is one place, not before the call began, at which those
+-- stood together whose stamps the port had seen.
+pub record StoodTogether (p q : PortView) (js stamps : List ℕ) : Type 0 where
   pub goes : Goes p q []
+  pub there : (k : ℕ) → k < length js → slice_index js k < p.memory.about.sizes.m
   pub place : ℕ
-  pub behind : length p.seen ≤ place
+  pub first : length p.seen ≤ q.began
+  pub behind : q.began ≤ place
   pub within : place ≤ length q.seen
   pub each : (k : ℕ) → k < length js → (n : ℕ) × (place ≤ n) × (n ≤ length q.seen) ×
       HasStampThen q n (slice_index js k) (slice_index stamps k)
   pub together : (k : ℕ) → k < length js → (n : ℕ) → n ≤ length p.seen → HasStampThen p n (slice_index js k) (slice_index stamps k) →
       HasStampThen q place (slice_index js k) (slice_index stamps k)
 
+-- so it is of some components; of none nothing is said
+abbrev pub StillStand : PortView → PortView → List ℕ → List ℕ → Type 0
+StillStand p q [] stamps = Goes p q []
+StillStand p q (j ∷ js) stamps = StoodTogether p q (j ∷ js) stamps
+
 -- One of these components is missing, or had another stamp than this at a place of the call.
 pub record Differ (p q : PortView) (js stamps : List ℕ) : Type 0 where
   pub goes : Goes p q []
+  pub first : length p.seen ≤ q.began
   pub position : ℕ
   pub inside : position < length js
   pub why : (p.memory.about.sizes.m ≤ slice_index js position)
-      ⊎ ((n : ℕ) × (length p.seen ≤ n) × (n ≤ length q.seen) × ¬ HasStampThen q n (slice_index js position) (slice_index stamps position))
+      ⊎ ((n : ℕ) × (q.began ≤ n) × (n ≤ length q.seen) × ¬ HasStampThen q n (slice_index js position) (slice_index stamps position))
 
--- Two ports that met: each has noted nothing, and has seen all that either had seen before.
+-- Two ports that met: each has noted nothing, and has seen all that either had seen before. What the one has seen begins what the other one has
+-- seen, and in what each has seen the other one's notes are legal, and its entries are those of its notes.
 pub record Meets (a b c d : PortView) : Type 0 where
   pub first : Goes a c []
   pub second : Goes b d []
   pub first_all : b.seen ≡ take (length b.seen) c.seen
   pub second_all : a.seen ≡ take (length a.seen) d.seen
+  pub first_knows : Knows b.memory.about b.number c.seen b.notes
+  pub second_knows : Knows a.memory.about a.number d.seen a.notes
+  pub one : (c.seen ≡ take (length c.seen) d.seen) ⊎ (d.seen ≡ take (length d.seen) c.seen)
 
--- Why a call that changes the epoch can't end: its port has come to 16 later epochs, it knows all components of its epoch to be sealed and
--- has found no arena free, or its epoch is the last one that a word can name.
+-- from the one view to the other the port has found each arena but its own owned by another port or stood in, so many times
+abbrev pub FoundBusy : ℕ → PortView → PortView → Type 0
+FoundBusy n p q = (x : ℕ) → x < q.memory.about.arenas → x ≢ q.arena → times_in x p.contention.busy + n ≤ times_in x q.contention.busy
+
+-- Why a call that changes the epoch can't end: its port has come to 16 later epochs and has found its component sealed in 15 of them at least (in
+-- its first epoch it may have no room left); it knows all components of its epoch, which isn't the last one, to be sealed, and in three passes
+-- for each port each arena but its own was found in use; or its epoch is the last one that a word can name.
 abbrev pub CantEnd : PortView → Refused → PortView → Type 0
 CantEnd p Component q = ⊥
-CantEnd p Overtaken q = p.epoch + 16 ≤ q.epoch
-CantEnd p NoArena q = q.memory.about.sizes.m ≤ q.sealed
+CantEnd p Overtaken q = (p.epoch + 16 ≤ q.epoch) × (p.contention.seals + 15 ≤ q.contention.seals)
+CantEnd p NoArena q = (q.epoch + 1 < epoch_limit) × (q.memory.about.sizes.m ≤ q.sealed) × FoundBusy (3 * q.memory.about.ports) p q
 CantEnd p EpochsSpent q = q.epoch + 1 ≡ epoch_limit
 
 -- Why a call is refused, and what is left of its port. For a component that isn't there nothing has changed; otherwise nothing is noted,

@@ -4,9 +4,9 @@ use Rattle.std.specs.List.{AllByRecursion}
 use Rattle.partial_model.specs.declared.history.Applied.{Applied}
 use Rattle.partial_model.specs.declared.history.Opening.{Opening}
 use Rattle.partial_model.specs.History.{IsHistory, value_of}
-use Rattle.partial_model.specs.Notes.{LegalNotes}
+use Rattle.partial_model.specs.Notes.{LegalNotes, Noted}
 use Rattle.partial_model.specs.Outcome.{EachOnce}
-use Rattle.partial_long_lived.specs.Ports.{AreByOpened, MemoryView, PortView}
+use Rattle.partial_long_lived.specs.Ports.{AreByOpened, HasLawfulState, MemoryView, PortView}
 
 -- the values of all components after the history
 pub record AreLast (o : Opening) (log : List Applied) (values : List ℕ) : Type 0 where
@@ -28,3 +28,7 @@ pub record Closes (m : MemoryView) (ports : List PortView) (values : List ℕ) :
   pub others : AreByOpened m.about log
   pub each : AllByRecursion (IsPortOf log) ports
   pub last : AreLast m.about.opening log values
+
+-- so it was in a lawful state, with that history
+abbrev pub ClosesLawfully : MemoryView → List PortView → List ℕ → Type 0
+ClosesLawfully m ports values = (w : Closes m ports values) × (notes : ℕ → List Noted) × HasLawfulState m.about w.log notes

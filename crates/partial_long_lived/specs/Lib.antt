@@ -1,4 +1,5 @@
 pub mod AllPorts
+pub mod Bounds
 pub mod Calls
 pub mod Closing
 pub mod Inner

@@ -28,10 +28,14 @@ pool_of_port = 16384
 abbrev pub pool_of_all : ℕ
 pool_of_all = 262144
 
+-- how many pool words an arena has for each component then, at least, where it has room for them
+abbrev pub pool_of_component : ℕ
+pool_of_component = 16
+
 -- how many pool words are claimed in an epoch then
 abbrev pub usual_pool : ℕ → ℕ → ℕ
-usual_pool count ports =
-    max (min (min (pool_of_port * ports) (pool_of_all / ports)) (most_words - full_record_size count * ports)) pool_of_port
+usual_pool count ports = max (min (max (min (pool_of_port * ports) (pool_of_all / ports)) (pool_of_component * count))
+    (most_words - full_record_size count * ports)) pool_of_port
 
 -- how many pool words are claimed in an epoch
 abbrev pub claimed_pool : ℕ → ℕ → Options → ℕ

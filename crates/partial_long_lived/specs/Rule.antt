@@ -1,7 +1,7 @@
 -- The rule of the table: its words and what the ports know are those of a lawful memory over all epochs.
 use Rattle.std.specs.Prelude.{⊤, ℕ, zero, suc, ◌≡◌, ◌+◌, ◌<◌, ◌≤◌, ◌==◌, List, [], ◌∷◌, ◌++◌, length, Option, None, IfSome, if◌then◌else◌}
 use Rattle.std.specs.List.{AllByRecursion}
-use Rattle.atomic_table.specs.Table.{State}
+use Rattle.partial_table.specs.Table.{State}
 use Rattle.partial_model.specs.declared.history.Applied.{Applied}
 use Rattle.partial_model.specs.History.{value_of}
 use Rattle.partial_model.specs.Notes.{Noted}
@@ -27,8 +27,24 @@ pub record Began : Type 0 where
   pub epoch : ℕ
   pub length : ℕ
 
+-- What a port has met in its way: how often it has found a component sealed that it was to update, and the arenas that it has found owned by
+-- another port or stood in, the last one first.
+pub record Contention : Type 0 where
+  pub seals : ℕ
+  pub busy : List ℕ
+
+-- how often that arena is among these
+abbrev pub times_in : ℕ → List ℕ → ℕ
+times_in i [] = 0
+times_in i (x ∷ xs) = (if x == i then 1 else 0) + times_in i xs
+
+-- by a step a port has met no less
+pub record ContendsMore (x y : Contention) : Type 0 where
+  pub seals : x.seals ≤ y.seals
+  pub busy : (i : ℕ) → times_in i x.busy ≤ times_in i y.busy
+
 -- what a seat knows of a port: the memory that it belongs to, its number, what it does, its notes over all epochs, when its last
--- call began, and what it has found
+-- call began, what it has found, and what it has met
 pub record SeatedPort : Type 0 where
   pub about : About
   pub number : ℕ
@@ -36,6 +52,7 @@ pub record SeatedPort : Type 0 where
   pub notes : List Noted
   pub began : Began
   pub found : Option Found
+  pub contention : Contention
 
 -- the sizes and the opening of a memory, as the law of epochs has them
 abbrev pub plan_of : About → Plan
@@ -109,6 +126,7 @@ newcomer about k = record {
   notes = [];
   began = record { epoch = 0; length = 0 };
   found = None;
+  contention = record { seals = 0; busy = [] };
 }
 
 -- n such seats from that number on

@@ -1,6 +1,6 @@
 //! Loads in the arena where a port stands.
 
-ghost use Rattle.std.specs.Prelude.{◌≡◌, ◌<◌, true, false};
+ghost use Rattle.std.specs.Prelude.{◌≡◌, ◌+◌, ◌<◌, ◌≤◌, true, false};
 ghost use Rattle.partial_epochs.specs.Layout.{whole};
 ghost use Rattle.partial_epochs.specs.Notes.{public_of};
 ghost use Rattle.partial_epochs.specs.Ports.Entering.{Stands};
@@ -32,6 +32,7 @@ pub fn read_first(words: &Words, stand: &mut Stand, base: u64, component: u32) -
     ensures held { IsHeld words.now.table_id words.now.key stand.new }
     ensures kept { StaysAt stand.old stand.new }
     ensures sees { SeatSees true Reads component (port_at stand.old) result (port_at stand.new) }
+    ensures steps { stand.new.seat.steps ≤ stand.old.seat.steps + 1 }
 {
     let word = base + u64::from(component);
     words.load::<ReadFirst>(&mut stand.seat, word as usize)
@@ -45,6 +46,7 @@ pub fn read_again(words: &Words, stand: &mut Stand, component: u32) -> u64
     ensures held { IsHeld words.now.table_id words.now.key stand.new }
     ensures kept { StaysAt stand.old stand.new }
     ensures sees { SeatSees false Reads component (port_at stand.old) result (port_at stand.new) }
+    ensures steps { stand.new.seat.steps ≤ stand.old.seat.steps + 1 }
 {
     let word = stand.base + u64::from(component);
     words.load::<ReadAgain>(&mut stand.seat, word as usize)
@@ -59,6 +61,7 @@ pub fn recall(words: &Words, stand: &mut Stand, word: u64) -> u64
     ensures held { IsHeld words.now.table_id words.now.key stand.new }
     ensures kept { StaysAt stand.old stand.new }
     ensures recalls { Recalls word (port_at stand.old) result (port_at stand.new) }
+    ensures steps { stand.new.seat.steps ≤ stand.old.seat.steps + 1 }
 {
     words.load::<Recall>(&mut stand.seat, word as usize)
 }
@@ -76,6 +79,7 @@ pub fn load_value(words: &Words, stand: &mut Stand, base: u64, component: u32, a
     ensures kept { StaysAt stand.old stand.new }
     ensures same { port_at stand.new ≡ port_at stand.old }
     ensures value { HasValue stand.old component result }
+    ensures steps { stand.new.seat.steps ≤ stand.old.seat.steps + 1 }
 {
     let word = base + value_word(at);
     recall(words, stand, word)
@@ -102,6 +106,7 @@ pub fn public_stamp(
     ensures kept { StaysAt stand.old stand.new }
     ensures same { port_at stand.new ≡ port_at stand.old }
     ensures stamp { result ≡ public_of (plan_of words.now.key) (port_at stand.old).port.before component at }
+    ensures steps { stand.new.seat.steps ≤ stand.old.seat.steps + 1 }
 {
     if at < own {
         let carried = base + stand.shape.carried + u64::from(component);

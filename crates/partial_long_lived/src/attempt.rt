@@ -1,9 +1,11 @@
 //! One attempt of an update, in one epoch.
 
-ghost use Rattle.std.specs.Prelude.{◌≡◌, ◌≢◌, ◌<◌, IfSome, IfNone, None, Some, false};
+ghost use Rattle.std.specs.Prelude.{◌≡◌, ◌≢◌, ◌+◌, ◌<◌, ◌≤◌, IfSome, IfNone, None, Some, false};
+ghost use Rattle.partial_machine.specs.Bounds.{most_of_update};
 ghost use Rattle.partial_machine.specs.declared.stage.Stage.TheVariants.{Idle, UpdateBegun, Exchanging};
 ghost use Rattle.partial_machine.specs.Lines.{set_begun};
-ghost use Rattle.partial_machine.specs.Machine.{at_stage};
+ghost use Rattle.partial_machine.specs.Machine.{at_stage, record_size};
+ghost use Rattle.partial_words.specs.Record.{plain_record_size};
 ghost use Rattle.partial_machine.specs.Sound.{IsSound};
 ghost use Rattle.partial_lines.specs.Lines.{IsViewDue, set_made, written_in};
 ghost use Rattle.partial_lines.specs.Replies.{RestsLike};
@@ -11,7 +13,7 @@ ghost use Rattle.partial_long_lived.specs.Inner.Held.{IsHeld, port_at};
 ghost use Rattle.partial_long_lived.specs.Inner.Calls.{IsIdle, StaysAt};
 ghost use Rattle.partial_long_lived.specs.Inner.Machine.{SeatBegins};
 ghost use Rattle.partial_long_lived.specs.Inner.Under.{IsGoing, ComesTo, MayBegin, machine_at};
-ghost use Rattle.partial_long_lived.specs.Inner.Updates.{UpdateAttempted, ExchangeDue, ExpectsOne, IsOwnMachine, MayCall, NotesNothing, asked_change, exchanged_in};
+ghost use Rattle.partial_long_lived.specs.Inner.Updates.{UpdateAttempted, ExchangeDue, ExpectsOne, FoundSealed, IsOwnMachine, MayCall, NotesNothing, asked_change, exchanged_in};
 
 use crate::arena::SEAL;
 use crate::lines::{ArenaLines, Further};
@@ -20,7 +22,7 @@ use crate::rule::Words;
 use crate::stand::Stand;
 use partial_core::{Change, Core};
 use partial_lines::{Exchanged, PutBegun, begin_put, put_found};
-use partial_words::full_record_size;
+use partial_words::plain_record_size;
 use std::marker::{Brand, PhantomData};
 
 /// How an attempt of an update ended.
@@ -87,8 +89,11 @@ pub fn attempt(
     ensures attempted { IfSome (exchanged_in result) (λ r.
         UpdateAttempted first (asked_change component expected value) r stand.old stand.new) }
     ensures sealed { IfNone (exchanged_in result) (NotesNothing first stand.old stand.new) }
+    ensures met { IfNone (exchanged_in result) (FoundSealed stand.old stand.new) }
     ensures rests { IsOwnMachine (port_at stand.new) core.new }
     ensures spare { IfSome (exchanged_in result) (λ _. spent.new ≡ false → MayCall (port_at stand.new) core.new) }
+    ensures over { IfSome (exchanged_in result) (λ _. spent.new ≡ (port_at stand.new).port.over) }
+    ensures steps { stand.new.seat.steps ≤ stand.old.seat.steps + most_of_update words.now.key.sizes }
 {
     attempt_as::<Further>(words, stand, core, component, value, spent, expected, first)
 }
@@ -114,8 +119,11 @@ pub fn attempt_as<C>(
     ensures attempted { IfSome (exchanged_in result) (λ r.
         UpdateAttempted first (asked_change component expected value) r stand.old stand.new) }
     ensures sealed { IfNone (exchanged_in result) (NotesNothing first stand.old stand.new) }
+    ensures met { IfNone (exchanged_in result) (FoundSealed stand.old stand.new) }
     ensures rests { IsOwnMachine (port_at stand.new) core.new }
     ensures spare { IfSome (exchanged_in result) (λ _. spent.new ≡ false → MayCall (port_at stand.new) core.new) }
+    ensures over { IfSome (exchanged_in result) (λ _. spent.new ≡ (port_at stand.new).port.over) }
+    ensures steps { stand.new.seat.steps ≤ stand.old.seat.steps + most_of_update words.now.key.sizes }
 {
     let change = Change {
         component,
@@ -132,14 +140,13 @@ pub fn attempt_as<C>(
             return Attempted::Overtaken { by: old };
         }
     }
-    let at = write::<C>(words, stand, core, change, old);
-    let found = exchange(words, stand, change, old, at);
+    let written = write::<C>(words, stand, core, change, old);
+    let found = exchange(words, stand, change, old, written.at);
     if found >= SEAL && found % SEAL == old {
         return Attempted::Sealed;
     }
-    let greatest = full_record_size(u64::from(stand.shape.sizes.m()));
-    *spent = at + greatest > stand.shape.limit;
-    Attempted::ended(Exchanged::of(old, at, found % SEAL))
+    *spent = written.end > stand.shape.limit;
+    Attempted::ended(Exchanged::of(old, written.at, found % SEAL))
 }
 
 // Makes the first step of an update in the port's epoch, the load of its component word, and returns the word. `G` is the
@@ -159,6 +166,7 @@ fn begin<G: Moment>(
     ensures held { IsHeld words.now.table_id words.now.key stand.new }
     ensures kept { StaysAt stand.old stand.new }
     ensures begun { SeatBegins first G.core change.component (port_at stand.old) result (port_at stand.new) }
+    ensures steps { stand.new.seat.steps ≤ stand.old.seat.steps + 1 }
 {
     let word = stand.base + u64::from(change.component);
     if first {
@@ -168,21 +176,31 @@ fn begin<G: Moment>(
     }
 }
 
+// A record that an update has written, whose exchange is due: its reference, and the word number at which its claim ends.
+#[derive(Clone, Copy)]
+struct Written {
+    at: u64,
+    end: u64,
+}
+
 // Makes an update that has loaded `old` as its component's record up to the exchange of the component, which is due then.
-// Returns the reference of its record.
 #[inline(always)]
-fn write<C>(words: &Words, stand: &mut Stand, core: &mut Core, change: Change, old: u64) -> u64
+fn write<C>(words: &Words, stand: &mut Stand, core: &mut Core, change: Change, old: u64) -> Written
     requires going { IsGoing words.now.table_id words.now.key stand.old }
     requires idle { core.old.stage ≡ Idle }
     requires sound { IsSound core.old }
     requires machine { machine_at stand.old ≡ set_made (set_begun core.old) change old }
     ensures going { IsGoing words.now.table_id words.now.key stand.new }
     ensures leads { ComesTo stand.old stand.new }
-    ensures due { (machine_at stand.new).stage ≡ Exchanging change old result }
+    ensures due { (machine_at stand.new).stage ≡ Exchanging change old result.at }
+    ensures size { result.end ≡ result.at + record_size (machine_at stand.new) }
     ensures rests { RestsLike (machine_at stand.new) core.new }
 {
     match begin_write::<C>(words, stand, core, change, old) {
-        PutBegun::Written { at } => at,
+        PutBegun::Written { at } => Written {
+            at,
+            end: at + plain_record_size(),
+        },
         PutBegun::Found => write_found::<C>(
             words,
             stand,
@@ -215,6 +233,7 @@ fn begin_write<C>(
         IfSome written (λ at. (machine_at stand.new).stage ≡ Exchanging change old at)) }
     ensures fits { written_in result ≢ Some None }
     ensures rests { IfSome (written_in result) (λ _. RestsLike (machine_at stand.new) core.new) }
+    ensures size { IfSome (written_in result) (λ _. record_size (machine_at stand.new) ≡ plain_record_size) }
     ensures found { IfNone (written_in result) (IsViewDue (machine_at stand.new) core.new change old) }
 {
     let mut lines = ArenaLines::<C> {
@@ -237,12 +256,13 @@ fn write_found<C>(
     expected: Option<u64>,
     value: u64,
     old: u64,
-) -> u64
+) -> Written
     requires going { IsGoing words.now.table_id words.now.key stand.old }
     requires due { IsViewDue (machine_at stand.old) core.old (asked_change component expected value) old }
     ensures going { IsGoing words.now.table_id words.now.key stand.new }
     ensures leads { ComesTo stand.old stand.new }
-    ensures due { (machine_at stand.new).stage ≡ Exchanging (asked_change component expected value) old result }
+    ensures due { (machine_at stand.new).stage ≡ Exchanging (asked_change component expected value) old result.at }
+    ensures size { result.end ≡ result.at + record_size (machine_at stand.new) }
     ensures rests { RestsLike (machine_at stand.new) core.new }
 {
     let change = Change {
@@ -258,7 +278,10 @@ fn write_found<C>(
     let Ok(Some(at)) = put_found(&mut lines, core, change, old) else {
         unreachable!()
     };
-    at
+    Written {
+        at,
+        end: at + core.record_size(),
+    }
 }
 
 // Exchanges the component of an update whose record lies at `at`, and returns the word that was found.
@@ -270,6 +293,7 @@ fn exchange(words: &Words, stand: &mut Stand, change: Change, old: u64, at: u64)
     ensures held { IsHeld words.now.table_id words.now.key stand.new }
     ensures kept { StaysAt stand.old stand.new }
     ensures exchanged { ExchangeDue stand.old change old at result stand.new }
+    ensures steps { stand.new.seat.steps ≤ stand.old.seat.steps + 1 }
 {
     let word = stand.base + u64::from(change.component);
     words.compare_exchange::<ExchangeComponent>(&mut stand.seat, word as usize, old, at)

@@ -1,8 +1,9 @@
 //! The calls of a port.
 
-ghost use Rattle.std.specs.Prelude.{◌≡◌, ◌≤◌, true, false, length, nat_lt, is_some, IfOk, IfErr};
+ghost use Rattle.std.specs.Prelude.{◌≡◌, ◌+◌, ◌*◌, ◌≤◌, true, false, length, nat_lt, is_some, IfOk, IfErr};
 ghost use Rattle.std.specs.List.{list_all};
 ghost use Rattle.partial_model.specs.declared.call.Call.TheVariants as call;
+ghost use Rattle.partial_long_lived.specs.Bounds.{most_of_scans, round_if_steps, round_steps};
 ghost use Rattle.partial_long_lived.specs.Calls.{Differ, IsRefused, Meets, Reads, Scans, ScansStamped, StillStand, Updates, UpdatesIf};
 ghost use Rattle.partial_long_lived.specs.Ports.{IsOf};
 
@@ -36,11 +37,12 @@ impl LongLived {
         ensures same { IsOf self.now me.new }
         ensures answered { IfOk result (λ r. Updates me.old component value r me.new) }
         ensures refused { IfErr result (λ cause. IsRefused me.old (call.Update component value) cause me.new) }
+        ensures steps { me.new.steps ≤ me.old.steps + 16 * round_steps self.now.about }
     {
         if component >= self.shape.sizes.m() {
             return Err(Refused::Component);
         }
-        let words = &self.table.shared;
+        let words = &self.table;
         let stand = &mut me.stand;
         let ended = update(words, stand, &mut me.core, component, value, &mut me.spent);
         match ended {
@@ -72,6 +74,7 @@ impl LongLived {
         ensures answered { IfOk result (λ r. UpdatesIf me.old component expected value r me.new) }
         ensures refused { IfErr result (λ cause.
             IsRefused me.old (call.UpdateIf component expected value) cause me.new) }
+        ensures steps { me.new.steps ≤ me.old.steps + 16 * round_if_steps self.now.about }
     {
         if component >= self.shape.sizes.m() {
             return Err(Refused::Component);
@@ -81,7 +84,7 @@ impl LongLived {
             expected,
             value,
         };
-        let words = &self.table.shared;
+        let words = &self.table;
         update_if(words, &mut me.stand, &mut me.core, asked, &mut me.spent)
     }
 
@@ -95,11 +98,12 @@ impl LongLived {
         ensures same { IsOf self.now me.new }
         ensures answered { IfOk result (λ r. Reads me.old component r.0 r.1 me.new) }
         ensures refused { IfErr result (λ cause. IsRefused me.old (call.Read component) cause me.new) }
+        ensures steps { me.new.steps ≤ me.old.steps + 8 }
     {
         if component >= self.shape.sizes.m() {
             return Err(Refused::Component);
         }
-        let words = &self.table.shared;
+        let words = &self.table;
         if let Some((value, stamp)) = read_here(words, &mut me.stand, component) {
             return Ok((value, stamp));
         }
@@ -126,6 +130,7 @@ impl LongLived {
         ensures answered { IfOk result (λ s. Scans me.old which.now into.new s me.new) }
         ensures refused { IfErr result (λ cause. IsRefused me.old (call.Scan which.now) cause me.new) }
         ensures unchanged { IfErr result (λ _. into.new ≡ into.old) }
+        ensures steps { me.new.steps ≤ me.old.steps + most_of_scans self.now.about (length which.now) }
     {
         if which.is_empty() {
             return Ok(Scanned {
@@ -136,7 +141,7 @@ impl LongLived {
         if !all_below(which, self.shape.sizes.m()) {
             return Err(Refused::Component);
         }
-        let words = &self.table.shared;
+        let words = &self.table;
         let stand = &mut me.stand;
         let kept = me.collected.as_mut_slice();
         let core = &mut me.core;
@@ -180,6 +185,7 @@ impl LongLived {
         ensures helped { IfOk result (λ s. is_some s.borrowed ≡ true → stamps.new ≡ stamps.old) }
         ensures refused { IfErr result (λ cause. IsRefused me.old (call.Scan which.now) cause me.new) }
         ensures unchanged { IfErr result (λ _. (into.new ≡ into.old) × (stamps.new ≡ stamps.old)) }
+        ensures steps { me.new.steps ≤ me.old.steps + (length which.now + most_of_scans self.now.about (length which.now)) }
     {
         if which.is_empty() {
             return Ok(Scanned {
@@ -190,7 +196,7 @@ impl LongLived {
         if !all_below(which, self.shape.sizes.m()) {
             return Err(Refused::Component);
         }
-        let words = &self.table.shared;
+        let words = &self.table;
         let stand = &mut me.stand;
         let kept = me.collected.as_mut_slice();
         let core = &mut me.core;
@@ -215,9 +221,10 @@ impl LongLived {
         ensures same { IsOf self.now me.new }
         ensures still { result ≡ true → StillStand me.old me.new which.now stamps.now }
         ensures differ { result ≡ false → Differ me.old me.new which.now stamps.now }
+        ensures steps { me.new.steps ≤ me.old.steps + (4 + 2 * length which.now) }
     {
         let epoch = me.stand.epoch;
-        let answer = unchanged(&self.table.shared, &mut me.stand, which, stamps);
+        let answer = unchanged(&self.table, &mut me.stand, which, stamps);
         if me.stand.epoch != epoch {
             me.core.clear_marks();
             me.spent = false;
@@ -231,8 +238,9 @@ impl LongLived {
         requires { IsOf self.now first.old × IsOf self.now second.old }
         ensures same { IsOf self.now first.new × IsOf self.now second.new }
         ensures met { Meets first.old second.old first.new second.new }
+        ensures steps { first.new.steps + second.new.steps ≤ first.old.steps + second.old.steps + 12 }
     {
-        let words = &self.table.shared;
+        let words = &self.table;
         let one = take_out(words, &mut first.stand);
         let other = take_out(words, &mut second.stand);
         let first_epoch = one.epoch;

@@ -1,6 +1,7 @@
 //! A change of epoch.
 
-ghost use Rattle.std.specs.Prelude.{◌≡◌, ◌+◌, ◌<◌, ◌==◌, IfErr, IfOk, true};
+ghost use Rattle.std.specs.Prelude.{◌≡◌, ◌+◌, ◌*◌, ◌<◌, ◌≤◌, ◌==◌, IfErr, IfOk, true};
+ghost use Rattle.partial_long_lived.specs.Bounds.{claim_steps, fill_steps, most_of_change};
 ghost use Rattle.partial_words.specs.Layout.{first_free};
 ghost use Rattle.partial_long_lived.specs.Inner.Held.{IsHeld, port_at};
 ghost use Rattle.partial_long_lived.specs.Inner.Calls.{IsIdle, StaysAt, LookFound, MayLook};
@@ -30,7 +31,8 @@ pub fn change(words: &Words, stand: &mut Stand, first: bool) -> Result<(), Refus
     ensures held { IsHeld words.now.table_id words.now.key stand.new }
     ensures changed { IfOk result (λ _. EpochChanged first stand.old stand.new) }
     ensures refused { IfErr result (λ _. NotChanged first stand.old stand.new) }
-    ensures cause { IfErr result (IsCause stand.new) }
+    ensures cause { IfErr result (IsCause stand.old stand.new) }
+    ensures steps { stand.new.seat.steps ≤ stand.old.seat.steps + most_of_change words.now.key }
 {
     if !look_as(words, stand, first) {
         enter(words, stand);
@@ -48,6 +50,7 @@ fn look_as(words: &Words, stand: &mut Stand, first: bool) -> bool
     ensures held { IsHeld words.now.table_id words.now.key stand.new }
     ensures kept { StaysAt stand.old stand.new }
     ensures looked { LookFound first stand.old result stand.new }
+    ensures steps { stand.new.seat.steps ≤ stand.old.seat.steps + 1 }
 {
     if first {
         look_first(words, stand)
@@ -65,7 +68,8 @@ fn open_next(words: &Words, stand: &mut Stand) -> Result<(), Refused>
     ensures free { IsIdle stand.new }
     ensures past { IfOk result (λ _. IsPast stand.new) }
     ensures same { IfErr result (λ _. HasSamePart stand.old stand.new) }
-    ensures cause { IfErr result (IsCause stand.new) }
+    ensures cause { IfErr result (IsCause stand.old stand.new) }
+    ensures steps { stand.new.seat.steps ≤ stand.old.seat.steps + (2 * words.now.key.sizes.m + claim_steps words.now.key + fill_steps words.now.key + 2) }
 {
     if stand.epoch + 1 == EPOCHS {
         return Err(Refused::EpochsSpent);
@@ -95,6 +99,7 @@ fn publish(words: &Words, stand: &mut Stand, arena: u32)
     ensures stays { Stays stand.old stand.new }
     ensures owns { Owns stand.new arena }
     ensures past { IsPast stand.new }
+    ensures steps { stand.new.seat.steps ≤ stand.old.seat.steps + 1 }
 {
     let here = stand.packed();
     let next = (stand.epoch + 1) * ARENAS + u64::from(arena);

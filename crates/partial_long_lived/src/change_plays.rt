@@ -1,7 +1,7 @@
 //! What the atomic steps of a change of epoch tell their ports.
 
 use crate::rule::View;
-use atomic_table::Play;
+use partial_table::Play;
 
 /// The load of the word of the next component.
 pub struct Pass;

@@ -1,9 +1,10 @@
 //! How a port comes to own an arena for the next epoch.
 
-ghost use Rattle.std.specs.Prelude.{◌≡◌, ◌≢◌, ◌+◌, ◌*◌, ◌<◌, ◌==◌};
+ghost use Rattle.std.specs.Prelude.{◌≡◌, ◌≢◌, false, ◌+◌, ◌*◌, ◌<◌, ◌≤◌, ◌==◌};
+ghost use Rattle.partial_long_lived.specs.Bounds.{arena_steps, claim_steps, pass_steps};
 ghost use Rattle.partial_long_lived.specs.Inner.Held.{IsHeld, port_at};
 ghost use Rattle.partial_long_lived.specs.Inner.Calls.{IsIdle};
-ghost use Rattle.partial_long_lived.specs.Inner.Changing.{HasClaimed, Owns, Remains, Tried};
+ghost use Rattle.partial_long_lived.specs.Inner.Changing.{FoundBusyAt, FoundBusyBy, HasClaimed, IsBusy, Owns, Remains, Tried};
 
 use crate::change_plays::{Give, Take};
 use crate::clear::clear;
@@ -29,6 +30,8 @@ pub fn claim(words: &Words, stand: &mut Stand) -> Claimed
     ensures held { IsHeld words.now.table_id words.now.key stand.new }
     ensures remains { Remains stand.old stand.new }
     ensures claimed { HasClaimed result stand.new }
+    ensures busy { FoundBusyBy result (3 * words.now.key.ports) stand.old stand.new }
+    ensures steps { stand.new.seat.steps ≤ stand.old.seat.steps + claim_steps words.now.key }
 {
     for _ in 0..3 * stand.shape.ports {
         match claim_one(words, stand) {
@@ -47,6 +50,8 @@ fn claim_one(words: &Words, stand: &mut Stand) -> Claimed
     ensures held { IsHeld words.now.table_id words.now.key stand.new }
     ensures remains { Remains stand.old stand.new }
     ensures claimed { HasClaimed result stand.new }
+    ensures busy { FoundBusyBy result 1 stand.old stand.new }
+    ensures steps { stand.new.seat.steps ≤ stand.old.seat.steps + pass_steps words.now.key }
 {
     for arena in 0..stand.shape.arenas {
         if arena != stand.arena {
@@ -73,6 +78,8 @@ fn try_arena(words: &Words, stand: &mut Stand, arena: u32) -> Claimed
     ensures held { IsHeld words.now.table_id words.now.key stand.new }
     ensures remains { Remains stand.old stand.new }
     ensures claimed { HasClaimed result stand.new }
+    ensures busy { FoundBusyAt result arena stand.old stand.new }
+    ensures steps { stand.new.seat.steps ≤ stand.old.seat.steps + arena_steps words.now.key }
 {
     if !take(words, stand, arena) {
         return Claimed::Taken;
@@ -99,6 +106,8 @@ fn take(words: &Words, stand: &mut Stand, arena: u32) -> bool
     ensures held { IsHeld words.now.table_id words.now.key stand.new }
     ensures remains { Remains stand.old stand.new }
     ensures tried { Tried arena result stand.new }
+    ensures busy { result ≡ false → IsBusy arena stand.old stand.new }
+    ensures steps { stand.new.seat.steps ≤ stand.old.seat.steps + 1 }
 {
     let word = stand.shape.own_word(arena) as usize;
     let owner = 1 + u64::from(stand.number);
@@ -114,6 +123,7 @@ pub fn give(words: &Words, stand: &mut Stand, arena: u32)
     ensures remains { Remains stand.old stand.new }
     ensures free { IsIdle stand.new }
     ensures past { (port_at stand.new).port.control.past ≡ (port_at stand.old).port.control.past }
+    ensures steps { stand.new.seat.steps ≤ stand.old.seat.steps + 1 }
 {
     let word = stand.shape.own_word(arena) as usize;
     words.store::<Give>(&mut stand.seat, word, 0);

@@ -1,8 +1,8 @@
 //! How the owner of an arena sees that no port stands there or comes to it.
 
-ghost use Rattle.std.specs.Prelude.{◌≡◌, ◌+◌, ◌<◌, ◌≤◌};
+ghost use Rattle.std.specs.Prelude.{◌≡◌, ◌+◌, ◌*◌, ◌%◌, ◌<◌, ◌≤◌};
 ghost use Rattle.partial_long_lived.specs.Inner.Held.{IsHeld};
-ghost use Rattle.partial_long_lived.specs.Inner.Changing.{HasCleared, HasLoadedPort, HasTaken, MayPutPort, Remains, HasSetWords};
+ghost use Rattle.partial_long_lived.specs.Inner.Changing.{FoundBusyAt, HasCleared, HasLoadedPort, HasTaken, IsBusy, MayPutPort, Remains, HasSetWords};
 
 use crate::change_plays::{LoadPort, Put};
 use crate::claim::Claimed;
@@ -17,6 +17,8 @@ pub fn clear(words: &Words, stand: &mut Stand, arena: u32) -> Claimed
     ensures held { IsHeld words.now.table_id words.now.key stand.new }
     ensures remains { Remains stand.old stand.new }
     ensures cleared { HasCleared arena words.now.key.ports result stand.new }
+    ensures busy { FoundBusyAt result arena stand.old stand.new }
+    ensures steps { stand.new.seat.steps ≤ stand.old.seat.steps + (1 + 3 * words.now.key.ports) }
 {
     if !look(words, stand) {
         return Claimed::Ended;
@@ -39,6 +41,8 @@ fn clear_port(words: &Words, stand: &mut Stand, arena: u32, port: u32) -> Claime
     ensures held { IsHeld words.now.table_id words.now.key stand.new }
     ensures remains { Remains stand.old stand.new }
     ensures cleared { HasCleared arena (port + 1) result stand.new }
+    ensures busy { FoundBusyAt result arena stand.old stand.new }
+    ensures steps { stand.new.seat.steps ≤ stand.old.seat.steps + 3 }
 {
     let found = load_port(words, stand, arena, port);
     if found < MARK {
@@ -63,6 +67,8 @@ fn load_port(words: &Words, stand: &mut Stand, arena: u32, port: u32) -> u64
     ensures held { IsHeld words.now.table_id words.now.key stand.new }
     ensures remains { Remains stand.old stand.new }
     ensures loaded { HasLoadedPort stand.new arena port result }
+    ensures busy { result < 9223372036854775808 → result % 65536 ≡ arena → IsBusy arena stand.old stand.new }
+    ensures steps { stand.new.seat.steps ≤ stand.old.seat.steps + 1 }
 {
     words.load::<LoadPort>(&mut stand.seat, 1 + port as usize)
 }
@@ -76,6 +82,8 @@ fn put_port(words: &Words, stand: &mut Stand, arena: u32, port: u32, mark: u64) 
     ensures held { IsHeld words.now.table_id words.now.key stand.new }
     ensures remains { Remains stand.old stand.new }
     ensures cleared { HasCleared arena (port + 1) result stand.new }
+    ensures busy { FoundBusyAt result arena stand.old stand.new }
+    ensures steps { stand.new.seat.steps ≤ stand.old.seat.steps + 1 }
 {
     let here = stand.packed();
     let found = words.compare_exchange::<Put>(&mut stand.seat, 1 + port as usize, mark, here);

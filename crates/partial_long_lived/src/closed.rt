@@ -17,7 +17,7 @@ const ARENAS: u64 = 1 << 16;
 const SEAL: u64 = 1 << 56;
 
 /// The words of a table that threads no longer share.
-pub type ClosedWords = atomic_table::Closed<(), Global>;
+pub type ClosedWords = partial_table::Closed<(), Global>;
 
 /// Puts the values of all components into `values`, which is empty and has room for them.
 pub fn last_values(words: &ClosedWords, shape: &Shape, values: &mut Vec<u64>)

@@ -1,6 +1,6 @@
 //! Scans by a double collect: two equal collects of the components, and no announcement.
 
-ghost use Rattle.std.specs.Prelude.{ℕ, ◌≡◌, ◌+◌, ◌-◌, ◌<◌, ◌≤◌, true, false, length, slice_index, IfSome, None};
+ghost use Rattle.std.specs.Prelude.{ℕ, ◌≡◌, ◌+◌, ◌-◌, ◌*◌, ◌<◌, ◌≤◌, true, false, length, slice_index, IfSome, None};
 ghost use Rattle.partial_words.specs.Layout.{total};
 ghost use Rattle.partial_words.specs.Record.{value_word};
 ghost use Rattle.partial_epochs.specs.Layout.{unsealed};
@@ -49,6 +49,7 @@ pub fn double_collect(
     ensures scanned { result ≡ true → ScannedNamed stand.old stand.new which.now into.new 2 None kept.new }
     ensures notes { result ≡ false → (port_at stand.new).notes ≡ (port_at stand.old).notes }
     ensures unchanged { result ≡ false → into.new ≡ into.old }
+    ensures steps { stand.new.seat.steps ≤ stand.old.seat.steps + (3 * length which.now + 1) }
 {
     let base = stand.base;
     let Some(found) = begin(words, stand, base, which[0]) else {
@@ -80,6 +81,7 @@ pub fn scan_at_once(
     ensures scanned { result ≡ true → HasNotedScan stand.old stand.new which.now into.new 2 None }
     ensures notes { result ≡ false → (port_at stand.new).notes ≡ (port_at stand.old).notes }
     ensures unchanged { result ≡ false → into.new ≡ into.old }
+    ensures steps { stand.new.seat.steps ≤ stand.old.seat.steps + (3 * length which.now + 1) }
 {
     match <[u32; 4]>::try_from(which) {
         Ok(four) => double_collect(words, stand, &four, &mut [0; 4], into),
@@ -102,6 +104,7 @@ fn begin(words: &Words, stand: &mut Stand, base: u64, component: u32) -> Option<
     ensures base { stand.new.base ≡ stand.old.base }
     ensures begun { IfSome result (λ found. HasBegunCollect stand.old stand.new component found) }
     ensures notes { (port_at stand.new).notes ≡ (port_at stand.old).notes }
+    ensures steps { stand.new.seat.steps ≤ stand.old.seat.steps + 2 }
 {
     let found = glance_first(words, stand, base, component);
     if found < SEAL {
@@ -124,6 +127,7 @@ fn glance_first(words: &Words, stand: &mut Stand, base: u64, component: u32) -> 
     ensures held { IsHeld words.now.table_id words.now.key stand.new }
     ensures kept { StaysAt stand.old stand.new }
     ensures sees { SeatSees true Glances component (port_at stand.old) result (port_at stand.new) }
+    ensures steps { stand.new.seat.steps ≤ stand.old.seat.steps + 1 }
 {
     let word = base + u64::from(component);
     words.load::<GlanceFirst>(&mut stand.seat, word as usize)
@@ -139,6 +143,7 @@ pub fn glance(words: &Words, stand: &mut Stand, base: u64, component: u32) -> u6
     ensures held { IsHeld words.now.table_id words.now.key stand.new }
     ensures kept { StaysAt stand.old stand.new }
     ensures sees { SeatSees false Glances component (port_at stand.old) result (port_at stand.new) }
+    ensures steps { stand.new.seat.steps ≤ stand.old.seat.steps + 1 }
 {
     let word = base + u64::from(component);
     words.load::<Glance>(&mut stand.seat, word as usize)
@@ -159,6 +164,7 @@ fn collect(words: &Words, stand: &mut Stand, base: u64, which: &[u32], kept: &mu
     ensures glanced { HasGlanced stand.old stand.new }
     ensures collected { AreCollected (port_at stand.new) 0 (length (port_at stand.new).port.part.seen)
         which.now kept.new (length which.now) }
+    ensures steps { stand.new.seat.steps ≤ stand.old.seat.steps + (length which.now - 1) }
 {
     let mut k = 1;
     while which.len() - k >= AT_ONCE {
@@ -192,6 +198,7 @@ fn collect_some(
     ensures collected { AreCollected (port_at stand.new) 0 (length (port_at stand.new).port.part.seen)
         which.now kept.new (from + many) }
     ensures room { length kept.new ≡ length kept.old }
+    ensures steps { stand.new.seat.steps ≤ stand.old.seat.steps + many }
 {
     for k in 0..many {
         kept[from + k] = glance(words, stand, base, which[from + k]);
@@ -226,6 +233,7 @@ fn confirm<G: Together>(
     ensures scanned { result ≡ true → MadeNamed stand.old stand.new which.now into.new 2 None kept.now }
     ensures notes { result ≡ false → (port_at stand.new).notes ≡ (port_at stand.old).notes }
     ensures unchanged { result ≡ false → into.new ≡ into.old }
+    ensures steps { stand.new.seat.steps ≤ stand.old.seat.steps + 2 * length which.now }
 {
     if !collects_again(words, stand, base, which, kept) {
         return false;
@@ -248,6 +256,7 @@ fn collects_again(words: &Words, stand: &mut Stand, base: u64, which: &[u32], ke
     ensures glanced { HasGlanced stand.old stand.new }
     ensures collected { result ≡ true → AreCollected (port_at stand.new) (length (port_at stand.old).port.part.seen)
         (length (port_at stand.new).port.part.seen) which.now kept.now (length which.now) }
+    ensures steps { stand.new.seat.steps ≤ stand.old.seat.steps + length which.now }
 {
     let mut k = 0;
     while which.len() - k >= AT_ONCE {
@@ -283,6 +292,7 @@ fn collects_some_again(
         AreCollected (port_at stand.old) low (length (port_at stand.old).port.part.seen) which.now kept.now from →
         AreCollected (port_at stand.new) low (length (port_at stand.new).port.part.seen)
         which.now kept.now (from + many) }
+    ensures steps { stand.new.seat.steps ≤ stand.old.seat.steps + many }
 {
     for k in 0..many {
         if glance(words, stand, base, which[from + k]) != kept[from + k] {
@@ -316,6 +326,7 @@ fn load_values(
     ensures same { port_at stand.new ≡ port_at stand.old }
     ensures values { HadValues (port_at stand.old) which.now kept.now into.new (length which.now - 1) }
     ensures lengths { length into.new ≡ length into.old }
+    ensures steps { stand.new.seat.steps ≤ stand.old.seat.steps + (length which.now - 1) }
 {
     let last = which.len() - 1;
     let mut k = 0;
@@ -353,6 +364,7 @@ fn load_some(
     ensures same { port_at stand.new ≡ port_at stand.old }
     ensures values { HadValues (port_at stand.old) which.now kept.now into.new (from + many) }
     ensures lengths { length into.new ≡ length into.old }
+    ensures steps { stand.new.seat.steps ≤ stand.old.seat.steps + many }
 {
     for k in 0..many {
         into[from + k] = load_kept(words, stand, base, kept[from + k]);
@@ -370,6 +382,7 @@ fn load_kept(words: &Words, stand: &mut Stand, base: u64, word: u64) -> u64
     ensures kept { StaysAt stand.old stand.new }
     ensures same { port_at stand.new ≡ port_at stand.old }
     ensures value { (j : ℕ) → j < words.now.key.sizes.m → HadValue (port_at stand.old) j word result }
+    ensures steps { stand.new.seat.steps ≤ stand.old.seat.steps + 1 }
 {
     let at = base + value_word(word % SEAL);
     recall(words, stand, at)
@@ -387,6 +400,7 @@ fn load_noting<G: Together>(words: &Words, stand: &mut Stand, base: u64, word: u
     ensures kept { StaysAt stand.old stand.new }
     ensures value { (j : ℕ) → j < words.now.key.sizes.m → HadValue (port_at stand.old) j word result }
     ensures noted { (i : ℕ) × NotesScan G.which G.entries i (port_at stand.old) result (port_at stand.new) }
+    ensures steps { stand.new.seat.steps ≤ stand.old.seat.steps + 1 }
 {
     let at = base + value_word(word % SEAL);
     words.load::<NoteScan<G>>(&mut stand.seat, at as usize)

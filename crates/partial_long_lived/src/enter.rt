@@ -1,6 +1,6 @@
 //! A look at the current epoch, and how a port enters it.
 
-ghost use Rattle.std.specs.Prelude.{◌≡◌, ◌<◌, true, false};
+ghost use Rattle.std.specs.Prelude.{◌≡◌, ◌+◌, ◌<◌, ◌≤◌, true, false};
 ghost use Rattle.partial_epochs.specs.Layout.{packed};
 ghost use Rattle.partial_long_lived.specs.Inner.Held.{IsHeld};
 ghost use Rattle.partial_long_lived.specs.Inner.Calls.{StaysAt, LookFound, MayLook, EpochEntered, MayEnter};
@@ -33,6 +33,7 @@ pub fn look(words: &Words, stand: &mut Stand) -> bool
     ensures held { IsHeld words.now.table_id words.now.key stand.new }
     ensures kept { StaysAt stand.old stand.new }
     ensures looked { LookFound false stand.old result stand.new }
+    ensures steps { stand.new.seat.steps ≤ stand.old.seat.steps + 1 }
 {
     let found = words.load::<Look>(&mut stand.seat, 0);
     found == stand.packed()
@@ -45,6 +46,7 @@ pub fn look_first(words: &Words, stand: &mut Stand) -> bool
     ensures held { IsHeld words.now.table_id words.now.key stand.new }
     ensures kept { StaysAt stand.old stand.new }
     ensures looked { LookFound true stand.old result stand.new }
+    ensures steps { stand.new.seat.steps ≤ stand.old.seat.steps + 1 }
 {
     let found = words.load::<FirstLook>(&mut stand.seat, 0);
     found == stand.packed()
@@ -57,6 +59,7 @@ pub fn enter(words: &Words, stand: &mut Stand)
     requires may { MayEnter stand.old }
     ensures held { IsHeld words.now.table_id words.now.key stand.new }
     ensures entered { EpochEntered stand.old stand.new }
+    ensures steps { stand.new.seat.steps ≤ stand.old.seat.steps + 3 }
 {
     let mark = MARK + stand.packed();
     let at = 1 + stand.number as usize;

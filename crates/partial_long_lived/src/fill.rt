@@ -2,6 +2,7 @@
 
 ghost use Rattle.std.specs.Prelude.{◌≡◌, ◌+◌, ◌<◌, ◌≤◌, []};
 ghost use Rattle.partial_epochs.specs.Layout.{base};
+ghost use Rattle.partial_long_lived.specs.Bounds.{fill_steps};
 ghost use Rattle.partial_words.specs.Layout.{first_free, list_base};
 ghost use Rattle.partial_words.specs.Chain.{opening_word};
 ghost use Rattle.partial_long_lived.specs.Rule.{plan_of};
@@ -26,6 +27,7 @@ pub fn fill(words: &Words, stand: &mut Stand, arena: u32, first: u64)
     ensures stays { Stays stand.old stand.new }
     ensures works { HasSetWords stand.new arena words.now.key.ports
         (first_free words.now.key.sizes + words.now.key.sizes.m) }
+    ensures steps { stand.new.seat.steps ≤ stand.old.seat.steps + fill_steps words.now.key }
 {
     fill_slots(words, stand, arena, first);
     fill_front(words, stand, arena, first);
@@ -48,6 +50,7 @@ fn fill_slots(words: &Words, stand: &mut Stand, arena: u32, first: u64)
     ensures stays { Stays stand.old stand.new }
     ensures passed { HasPassed stand.old stand.new }
     ensures works { HasSetWords stand.new arena words.now.key.ports words.now.key.sizes.slots }
+    ensures steps { stand.new.seat.steps ≤ stand.old.seat.steps + (1 + words.now.key.sizes.slots) }
 {
     let clear = find_clear(words, stand, arena, first);
     for number in clear..stand.shape.sizes.slots() {
@@ -67,6 +70,7 @@ fn find_clear(words: &Words, stand: &mut Stand, arena: u32, first: u64) -> u32
     ensures passed { HasPassed stand.old stand.new }
     ensures works { HasSetWords stand.new arena words.now.key.ports result }
     ensures most { result ≤ words.now.key.sizes.slots }
+    ensures steps { stand.new.seat.steps ≤ stand.old.seat.steps + 1 }
 {
     let slots = stand.shape.sizes.slots();
     let at = first + u64::from(stand.shape.sizes.slot_counter());
@@ -90,6 +94,7 @@ fn fill_front(words: &Words, stand: &mut Stand, arena: u32, first: u64)
     ensures stays { Stays stand.old stand.new }
     ensures passed { HasPassed stand.old stand.new }
     ensures works { HasSetWords stand.new arena words.now.key.ports (behind_values words.now.key.sizes 0) }
+    ensures steps { stand.new.seat.steps + words.now.key.sizes.slots ≤ stand.old.seat.steps + list_base words.now.key.sizes }
 {
     let sizes = stand.shape.sizes;
     let last = sizes.list_base() - 1;
@@ -129,6 +134,7 @@ fn fill_record(words: &Words, stand: &mut Stand, arena: u32, first: u64, compone
     ensures passed { HasPassed stand.old stand.new }
     ensures works { HasSetWords stand.new arena words.now.key.ports
         (behind_values words.now.key.sizes (component + 1)) }
+    ensures steps { stand.new.seat.steps ≤ stand.old.seat.steps + 3 }
 {
     let value = find_value(words, stand, component);
     let record = u64::from(stand.shape.sizes.initial_record(component));
@@ -150,6 +156,7 @@ fn fill_stamp(words: &Words, stand: &mut Stand, arena: u32, first: u64, componen
     ensures stays { Stays stand.old stand.new }
     ensures passed { HasPassed stand.old stand.new }
     ensures works { HasSetWords stand.new arena words.now.key.ports (first_free words.now.key.sizes + component + 1) }
+    ensures steps { stand.new.seat.steps ≤ stand.old.seat.steps + 3 }
 {
     let stamp = find_stamp(words, stand, component);
     let word = stand.shape.sizes.first_free() + component;
@@ -169,6 +176,7 @@ fn set_word(words: &Words, stand: &mut Stand, arena: u32, first: u64, number: u3
     ensures stays { Stays stand.old stand.new }
     ensures passed { HasPassed stand.old stand.new }
     ensures works { HasSetWords stand.new arena words.now.key.ports (number + 1) }
+    ensures steps { stand.new.seat.steps ≤ stand.old.seat.steps + 1 }
 {
     let at = stand.shape.set_word(first, arena, number) as usize;
     words.store::<SetWord>(&mut stand.seat, at, value);
@@ -187,6 +195,7 @@ fn set_lists(words: &Words, stand: &mut Stand, arena: u32, first: u64, number: u
     ensures stays { Stays stand.old stand.new }
     ensures passed { HasPassed stand.old stand.new }
     ensures works { HasSetWords stand.new arena words.now.key.ports (behind_values words.now.key.sizes 0) }
+    ensures steps { stand.new.seat.steps ≤ stand.old.seat.steps + 1 }
 {
     let at = stand.shape.set_word(first, arena, number) as usize;
     words.store::<SetLists>(&mut stand.seat, at, value);

@@ -1,6 +1,6 @@
 //! What the next epoch begins with: the last value and the last stamp of a component.
 
-ghost use Rattle.std.specs.Prelude.{◌≡◌, ◌<◌, ◌≤◌, Some};
+ghost use Rattle.std.specs.Prelude.{◌≡◌, ◌+◌, ◌<◌, ◌≤◌, Some};
 ghost use Rattle.partial_epochs.specs.Ports.Entering.{Stands};
 ghost use Rattle.partial_long_lived.specs.Inner.Held.{IsHeld, port_at};
 ghost use Rattle.partial_long_lived.specs.Inner.Calls.{HasLoadedRecord};
@@ -22,6 +22,7 @@ pub fn find_value(words: &Words, stand: &mut Stand, component: u32) -> u64
     ensures passed { HasPassed stand.old stand.new }
     ensures control { HasControl stand.old stand.new }
     ensures found { FoundValue stand.new component result }
+    ensures steps { stand.new.seat.steps ≤ stand.old.seat.steps + 2 }
 {
     let at = find(words, stand, component);
     let base = stand.base;
@@ -39,6 +40,7 @@ pub fn find_stamp(words: &Words, stand: &mut Stand, component: u32) -> u64
     ensures passed { HasPassed stand.old stand.new }
     ensures control { HasControl stand.old stand.new }
     ensures found { FoundStamp stand.new component result }
+    ensures steps { stand.new.seat.steps ≤ stand.old.seat.steps + 2 }
 {
     let at = find(words, stand, component);
     let base = stand.base;
@@ -58,6 +60,7 @@ fn find(words: &Words, stand: &mut Stand, component: u32) -> u64
     ensures control { HasControl stand.old stand.new }
     ensures found { HasFound stand.new component }
     ensures loaded { HasLoadedRecord stand.new component result }
+    ensures steps { stand.new.seat.steps ≤ stand.old.seat.steps + 1 }
 {
     let word = (stand.base + u64::from(component)) as usize;
     words.load::<Find>(&mut stand.seat, word) % SEAL

@@ -6,7 +6,7 @@ ghost use Rattle.partial_words.specs.Layout.{first_free, pool_base};
 ghost use Rattle.partial_long_lived.specs.Rule.{newcomers};
 ghost use Rattle.partial_long_lived.specs.Options.{MayNotOpen, MayOpen, claimed_pool, layout_for};
 ghost use Rattle.partial_long_lived.specs.Ports.{IsOf, new_ports};
-ghost use Rattle.partial_long_lived.specs.Closing.{Closes};
+ghost use Rattle.partial_long_lived.specs.Closing.{Closes, ClosesLawfully};
 ghost use Rattle.partial_long_lived.specs.Shape.{IsShapeOf};
 ghost use Rattle.partial_long_lived.specs.Inner.Opening.{IsLaidOut, OpensShape, opened};
 
@@ -14,12 +14,12 @@ use crate::closed::last_values;
 use crate::open_error::OpenError;
 use crate::options::{Options, shape};
 use crate::port::Port;
-use crate::rule::{About, Deals, Gathers, Lawful, Token, View, Words};
+use crate::rule::{About, Deals, Gathers, Token, Words};
 use crate::shape::Shape;
 use crate::stand::Stand;
-use atomic_table::Table;
 use partial_core::Core;
 use partial_model::{Opening, Sequence};
+use partial_table::Table;
 use std::alloc::{AllocError, Global};
 use std::marker::Model;
 
@@ -28,7 +28,7 @@ use std::marker::Model;
 #[derive(Drop)]
 pub struct LongLived {
     pub(crate) shape: Shape,
-    pub(crate) table: Table<(), View, About, Lawful, Global>,
+    pub(crate) table: Words,
 }
 
 impl Model for LongLived {
@@ -40,10 +40,10 @@ impl Model for LongLived {
 
     ghost Value = { MemoryView };
 
-    ghost view = { λ m. record { table = m.table.shared.table_id; about = m.table.shared.key } };
+    ghost view = { λ m. record { table = m.table.table_id; about = m.table.key } };
 
-    ghost invariant = { λ m. IsShapeOf m.shape m.table.shared.key ×
-        (m.table.shared.table_id.words ≡ whole (plan_of m.table.shared.key)) × (m.table.shared.table_id.slots ≡ 0) };
+    ghost invariant = { λ m. IsShapeOf m.shape m.table.key ×
+        (m.table.table_id.words ≡ whole (plan_of m.table.key)) × (m.table.table_id.slots ≡ 0) };
 }
 
 /// A memory that was not closed, since an allocation was refused: all that was handed in.
@@ -76,16 +76,13 @@ fn opening_words(alloc: Global, shape: &Shape, initial: &[u64]) -> Result<Vec<u6
 }
 
 // Lays out the table of a memory of that shape with these values. The seat is that of all its ports.
-fn lay_out(
-    alloc: Global,
-    shape: &Shape,
-    initial: &[u64],
-) -> Result<(Table<(), View, About, Lawful, Global>, Token), AllocError>
+fn lay_out(alloc: Global, shape: &Shape, initial: &[u64]) -> Result<(Words, Token), AllocError>
     requires { length initial.now ≡ shape.now.sizes.m }
-    ensures about { IfOk result (λ r. r.0.shared.key ≡ opened shape.now initial.now) }
+    ensures about { IfOk result (λ r. r.0.key ≡ opened shape.now initial.now) }
     ensures opened { IfOk
         result
-        (λ r. IsLaidOut r.0.shared.table_id r.0.shared.key shape.now.ports r.1.table_id r.1.me) }
+        (λ r. IsLaidOut r.0.table_id r.0.key shape.now.ports r.1.table_id r.1.me) }
+    ensures steps { IfOk result (λ r. r.1.steps ≡ 0) }
 {
     let words = opening_words(alloc, shape, initial)?;
     let about = About {
@@ -110,6 +107,7 @@ fn deal(
 ) -> Result<Vec<Port>, AllocError>
     requires shape { IsShapeOf shape.now words.now.key }
     requires opened { IsLaidOut words.now.table_id words.now.key shape.now.ports seat.table_id seat.me }
+    requires steps { seat.steps ≡ 0 }
     ensures { IfOk result (λ a. a.items ≡ new_ports words.now.table_id (newcomers words.now.key 0 shape.now.ports)) }
 {
     let ports = shape.ports;
@@ -165,7 +163,7 @@ impl LongLived {
     {
         let shape = shape(initial.len(), ports, options)?;
         let (table, seat) = lay_out(alloc, &shape, initial)?;
-        let all = deal(alloc, &shape, &table.shared, seat)?;
+        let all = deal(alloc, &shape, &table, seat)?;
         Ok((LongLived { shape, table }, all))
     }
 
@@ -178,6 +176,7 @@ impl LongLived {
         requires port { IsOf self port }
         requires rest { AllByRecursion (IsOf self) rest.items }
         ensures closed { IfOk result (λ values. Closes self (port ∷ rest.items) values.items) }
+        ensures lawful { IfOk result (λ values. ClosesLawfully self (port ∷ rest.items) values.items) }
         ensures refused { IfErr result (λ u. (u.memory ≡ self) × (u.port ≡ port) × (u.rest.items ≡ rest.items)) }
     {
         let Ok(mut values) = Vec::with_capacity(alloc, self.shape.sizes.m() as usize) else {
@@ -190,9 +189,7 @@ impl LongLived {
         let LongLived { shape, table } = self;
         let mut seat = port.into_seat();
         while let Some(port) = rest.pop() {
-            table
-                .shared
-                .join_seat::<Gathers>(&mut seat, port.into_seat());
+            table.join_seat::<Gathers>(&mut seat, port.into_seat());
         }
         let words = table.close_with(seat);
         last_values(&words, &shape, &mut values);

@@ -1,7 +1,7 @@
 //! What the atomic steps of a port's machine tell its port.
 
 use crate::rule::View;
-use atomic_table::Play;
+use partial_table::Play;
 use std::marker::{Brand, PhantomData};
 
 /// A further load of the call of the seat's port.

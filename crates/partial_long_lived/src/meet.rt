@@ -1,11 +1,11 @@
 //! Meetings of two ports.
 
-ghost use Rattle.std.specs.Prelude.{◌≡◌, ◌<◌, ◌≤◌};
+ghost use Rattle.std.specs.Prelude.{◌≡◌, ◌+◌, ◌<◌, ◌≤◌};
 ghost use Rattle.partial_epochs.specs.Ports.Entering.{Stands};
 ghost use Rattle.partial_long_lived.specs.Rule.{one_of};
 ghost use Rattle.partial_long_lived.specs.Inner.Held.{IsHeld, port_at};
 ghost use Rattle.partial_long_lived.specs.Inner.Calls.{IsIdle, StaysAt};
-ghost use Rattle.partial_long_lived.specs.Inner.Meeting.{HasMet, Observes};
+ghost use Rattle.partial_long_lived.specs.Inner.Meeting.{AreComparable, HasMet, Observes};
 ghost use Rattle.partial_long_lived.specs.Inner.Steps.{SeatGoes, IsSeatKnown, IsOne};
 
 use crate::plays::Observe;
@@ -22,6 +22,8 @@ pub fn meet(words: &Words, first: Stand, second: Stand) -> (Stand, Stand)
     ensures first { IsHeld words.now.table_id words.now.key result.0 }
     ensures second { IsHeld words.now.table_id words.now.key result.1 }
     ensures met { HasMet first second result.0 × HasMet second first result.1 }
+    ensures order { AreComparable result.0 result.1 }
+    ensures steps { result.0.seat.steps + result.1.seat.steps ≤ first.seat.steps + second.seat.steps + 10 }
 {
     if first.epoch <= second.epoch {
         return meet_later(words, first, second);
@@ -36,6 +38,7 @@ pub fn take_out(words: &Words, stand: &mut Stand) -> Stand
     ensures held { IsHeld words.now.table_id words.now.key result }
     ensures kept { StaysAt stand.old result }
     ensures same { port_at result ≡ port_at stand.old }
+    ensures steps { result.seat.steps ≤ stand.old.seat.steps + 1 }
 {
     Stand {
         seat: words.split_seat::<Deals>(&mut stand.seat),
@@ -57,6 +60,8 @@ fn meet_later(words: &Words, earlier: Stand, later: Stand) -> (Stand, Stand)
     ensures earlier { IsHeld words.now.table_id words.now.key result.0 }
     ensures later { IsHeld words.now.table_id words.now.key result.1 }
     ensures met { HasMet earlier later result.0 × HasMet later earlier result.1 }
+    ensures order { AreComparable result.0 result.1 }
+    ensures steps { result.0.seat.steps + result.1.seat.steps ≤ earlier.seat.steps + later.seat.steps + 10 }
 {
     let is_one = earlier.epoch == later.epoch;
     let (mut first, second) = observe(words, earlier, later);
@@ -78,6 +83,7 @@ fn observe(words: &Words, first: Stand, other: Stand) -> (Stand, Stand)
     ensures kept { StaysAt first result.0 × StaysAt other result.1 }
     ensures same { port_at result.1 ≡ port_at other }
     ensures observed { Observes (port_at first) (port_at other) (port_at result.0) }
+    ensures steps { result.0.seat.steps + result.1.seat.steps ≤ first.seat.steps + other.seat.steps + 3 }
 {
     let mut one = first;
     let mut two = other;
@@ -93,13 +99,14 @@ fn look_together(words: &Words, first: Token, other: Token) -> (Token, Token)
     requires some { 0 < words.now.table_id.words }
     requires one { IsOne first.me × IsOne other.me }
     requires own { (one_of first.me.0).about ≡ words.now.key }
-    requires known { IsSeatKnown (one_of first.me.0) }
+    requires known { IsSeatKnown (one_of first.me.0) × IsSeatKnown (one_of other.me.0) }
     requires stands { (one_of first.me.0).port.control.entering ≡ Stands }
     ensures tables { (result.0.table_id ≡ words.now.table_id) × (result.1.table_id ≡ words.now.table_id) }
     ensures one { IsOne result.0.me × IsOne result.1.me }
     ensures same { one_of result.1.me.0 ≡ one_of other.me.0 }
     ensures goes { SeatGoes (one_of first.me.0) (one_of result.0.me.0) }
     ensures observed { Observes (one_of first.me.0) (one_of other.me.0) (one_of result.0.me.0) }
+    ensures steps { result.0.steps + result.1.steps ≤ first.steps + other.steps + 3 }
 {
     let mut both = first;
     words.join_seat::<Gathers>(&mut both, other);

@@ -20,6 +20,9 @@ const POOL_OF_PORT: u64 = 16_384;
 /// ports.
 const POOL_OF_ALL: u64 = 262_144;
 
+/// How many pool words an arena has for each component then, at least, where it has room for them.
+const POOL_OF_COMPONENT: u64 = 16;
+
 /// How much an arena holds. A greater pool makes changes of epoch rarer, and takes more memory: there are two arenas
 /// for each port.
 #[derive(Clone, Copy, Debug, PartialEq, Eq)]
@@ -30,8 +33,8 @@ pub struct Options {
     /// 4 and 2 more for each component of a view that it stores; a scan claims 1, and 1 more for each position. The pool
     /// has, beside these, the initial records and room for the greatest record of each port.
     ///
-    /// `None` is 16,384 for each port, but no more than 262,144 divided by the number of ports, and no more than an
-    /// arena has room for; and always 16,384 at least.
+    /// `None` is 16,384 for each port, but no more than 262,144 divided by the number of ports, or 16 for each component
+    /// if that is more; no more than an arena has room for, and always 16,384 at least.
     pub pool: Option<u32>,
 }
 
@@ -40,7 +43,7 @@ impl Default for Options {
 
     ghost is_default = { λ o. (o.lists ≡ 1024) × (o.pool ≡ None) };
 
-    /// 1,024 list words, and as many pool words as suit the number of ports.
+    /// 1,024 list words, and as many pool words as suit the number of ports and of components.
     fn default() -> Options {
         Options {
             lists: 1_024,
@@ -106,7 +109,9 @@ fn pool_of(options: Options, m: u64, ports: u64) -> u64
         Some(words) => u64::from(words),
         None => {
             let room = full_record_size(m) * ports;
-            let words = (POOL_OF_PORT * ports).min(POOL_OF_ALL / ports);
+            let words = (POOL_OF_PORT * ports)
+                .min(POOL_OF_ALL / ports)
+                .max(POOL_OF_COMPONENT * m);
             words.min(MOST_WORDS.saturating_sub(room)).max(POOL_OF_PORT)
         }
     }

@@ -1,7 +1,7 @@
 //! What the atomic steps of calls tell their ports.
 
 use crate::rule::View;
-use atomic_table::Play;
+use partial_table::Play;
 use std::marker::{Brand, PhantomData};
 
 /// A load of the current word.

@@ -33,7 +33,7 @@ impl Model for Port {
 
     ghost Value = { PortView };
 
-    ghost view = { λ p. port_view p.stand.seat.table_id (port_at p.stand) };
+    ghost view = { λ p. port_view p.stand.seat.table_id p.stand.seat.steps (port_at p.stand) };
 
     ghost invariant = { λ p. IsResting p.stand p.core p.spent × (vec_len p.collected ≡ p.stand.shape.sizes.m) };
 }
@@ -52,7 +52,7 @@ impl Port {
     // Takes the seat of a port that makes no further call.
     pub(crate) fn into_seat(self) -> Token
         ensures table { result.table_id ≡ self.memory.table }
-        ensures one { (x : SeatedPort) × (result.me ≡ (x ∷ [], [])) × (port_view self.memory.table x ≡ self) ×
+        ensures one { (x : SeatedPort) × (result.me ≡ (x ∷ [], [])) × (port_view self.memory.table result.steps x ≡ self) ×
             IsSeatKnown x }
     {
         let Port {

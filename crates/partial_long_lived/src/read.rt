@@ -1,6 +1,6 @@
 //! Reads.
 
-ghost use Rattle.std.specs.Prelude.{◌≡◌, ◌<◌, IfSome, IfNone};
+ghost use Rattle.std.specs.Prelude.{◌≡◌, ◌+◌, ◌<◌, ◌≤◌, IfSome, IfNone};
 ghost use Rattle.partial_epochs.specs.Notes.{public_of};
 ghost use Rattle.partial_epochs.specs.Ports.Entering.{Stands};
 ghost use Rattle.partial_long_lived.specs.Rule.{plan_of};
@@ -21,6 +21,7 @@ pub fn settle(words: &Words, stand: &mut Stand)
     requires idle { IsIdle stand.old }
     ensures held { IsHeld words.now.table_id words.now.key stand.new }
     ensures settled { EpochSettled stand.old stand.new }
+    ensures steps { stand.new.seat.steps ≤ stand.old.seat.steps + 4 }
 {
     if !look(words, stand) {
         enter(words, stand);
@@ -39,6 +40,8 @@ pub fn read_here(words: &Words, stand: &mut Stand, component: u32) -> Option<(u6
     ensures come { HasCome stand.old stand.new }
     ensures read { IfSome result (λ r. HasNotedRead stand.old stand.new component r.0 r.1) }
     ensures sealed { IfNone result (HasFoundSeal component stand.old stand.new) }
+    ensures steps { IfSome result (λ _. stand.new.seat.steps ≤ stand.old.seat.steps + 3) }
+    ensures few { IfNone result (stand.new.seat.steps ≤ stand.old.seat.steps + 1) }
 {
     let base = stand.base;
     let found = read_first(words, stand, base, component);
@@ -77,6 +80,7 @@ fn load_record(
     ensures same { port_at stand.new ≡ port_at stand.old }
     ensures value { HasValue stand.old component result.0 }
     ensures stamp { result.1 ≡ public_of (plan_of words.now.key) (port_at stand.old).port.before component at }
+    ensures steps { stand.new.seat.steps ≤ stand.old.seat.steps + 2 }
 {
     let value = load_value(words, stand, base, component, at);
     let stamp = public_stamp(words, stand, base, own, component, at);
@@ -103,6 +107,7 @@ pub fn read_late(
     ensures rests { RestsAt stand.new core.new spent.new }
     ensures read { (s : Stand) → IsHeld words.now.table_id words.now.key s → IsIdle s → StaysAt s stand.old →
         HasFoundSeal component s stand.old → HasNotedRead s stand.new component result.0 result.1 }
+    ensures steps { stand.new.seat.steps ≤ stand.old.seat.steps + 7 }
 {
     let epoch = stand.epoch;
     settle(words, stand);

@@ -1,7 +1,7 @@
 //! The rule of the table, and the ports of its seats.
 
-use atomic_table::{Join, Seat, Shared, Split, TableRule};
 use partial_model::Opening;
+use partial_table::{Join, Seat, Split, Table, TableRule};
 use partial_words::Sizes;
 use std::marker::Model;
 
@@ -47,10 +47,10 @@ impl TableRule<(), View, About> for Lawful {
 }
 
 /// The words of a memory, shared by its threads.
-pub type Words = Shared<(), View, About, Lawful>;
+pub type Words = Table<View, About, Lawful>;
 
 /// A seat of the table. Whoever holds it may make steps for its ports.
-pub type Token = Seat<(), View>;
+pub type Token = Seat<View>;
 
 /// Gives the first port of a seat a seat of its own.
 pub struct Deals;

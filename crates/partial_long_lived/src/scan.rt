@@ -1,6 +1,6 @@
 //! Scans.
 
-ghost use Rattle.std.specs.Prelude.{◌≡◌, ◌<◌, ◌≤◌, true, false, length, map, slice_index, IfErr, IfOk, IfSome, Ok, Some};
+ghost use Rattle.std.specs.Prelude.{◌≡◌, ◌+◌, ◌<◌, ◌≤◌, true, false, length, map, slice_index, IfErr, IfOk, IfSome, Ok, Some};
 ghost use Rattle.std.specs.Option.{option_map};
 ghost use Rattle.partial_machine.specs.declared.stage.Stage.TheVariants.{Idle};
 ghost use Rattle.partial_machine.specs.Lines.{scan_asked};
@@ -9,6 +9,7 @@ ghost use Rattle.partial_machine.specs.Possible.{IsPossible};
 ghost use Rattle.partial_machine.specs.Sound.{AreComponentIndices, IsSound};
 ghost use Rattle.partial_lines.specs.Replies.{RestsLike, scan_reply};
 ghost use Rattle.partial_epochs.specs.History.{public_stamp};
+ghost use Rattle.partial_long_lived.specs.Bounds.{most_of_change, most_of_scan};
 ghost use Rattle.partial_long_lived.specs.Inner.Held.{IsHeld, port_at};
 ghost use Rattle.partial_long_lived.specs.Inner.Calls.{IsIdle};
 ghost use Rattle.partial_long_lived.specs.Inner.Rests.{NotScanned, RestsAt};
@@ -40,6 +41,7 @@ fn settle_first(words: &Words, stand: &mut Stand, core: &mut Core)
     ensures settled { SettledFirst stand.old stand.new }
     ensures rests { RestsUnmarked (port_at stand.new) core.new }
     ensures spare { (port_at stand.new).port.over ≡ false }
+    ensures steps { stand.new.seat.steps ≤ stand.old.seat.steps + 4 }
 {
     if !look_first(words, stand) {
         enter(words, stand);
@@ -71,6 +73,7 @@ pub fn scan_announced(
         q.collects q.borrowed core.new.rows.last) }
     ensures refused { IfErr result (NotScanned stand.old stand.new) }
     ensures unchanged { IfErr result (λ _. into.new ≡ into.old) }
+    ensures steps { stand.new.seat.steps ≤ stand.old.seat.steps + (most_of_change words.now.key + most_of_scan words.now.key.sizes (length which.now)) }
 {
     if *spent {
         return scan_spent(words, stand, core, spent, which, into);
@@ -102,6 +105,7 @@ fn scan_spent(
         q.collects q.borrowed core.new.rows.last) }
     ensures refused { IfErr result (NotScanned stand.old stand.new) }
     ensures unchanged { IfErr result (λ _. into.new ≡ into.old) }
+    ensures steps { stand.new.seat.steps ≤ stand.old.seat.steps + (most_of_change words.now.key + most_of_scan words.now.key.sizes (length which.now)) }
 {
     change(words, stand, true)?;
     core.clear_marks();
@@ -141,6 +145,7 @@ fn scan(
         result.collects result.borrowed core.new.rows.last }
     ensures rests { RestsUnmarked (port_at stand.new) core.new }
     ensures spent { (port_at stand.new).port.over ≡ spent.new }
+    ensures steps { stand.new.seat.steps ≤ stand.old.seat.steps + (4 + most_of_scan words.now.key.sizes (length which.now)) }
 {
     settle_first(words, stand, core);
     make_scan::<Scan>(words, stand, core, spent, which, into)
@@ -169,6 +174,7 @@ fn make_scan<C>(
         result.collects result.borrowed core.new.rows.last }
     ensures rests { RestsUnmarked (port_at stand.new) core.new }
     ensures spent { (port_at stand.new).port.over ≡ spent.new }
+    ensures steps { stand.new.seat.steps ≤ stand.old.seat.steps + most_of_scan words.now.key.sizes (length which.now) }
 {
     let at = begin_scan::<Brand>(words, stand, core, which);
     *spent = at + announcement_size(which.len() as u64) > stand.shape.limit;
@@ -218,6 +224,7 @@ fn begin_scan<G: Moment>(words: &Words, stand: &mut Stand, core: &Core, which: &
     requires begins { MayBegin G.core (port_at stand.old) }
     ensures going { IsGoing words.now.table_id words.now.key stand.new }
     ensures begun { ScanBegun G.core (length which.now) stand.old result stand.new }
+    ensures steps { stand.new.seat.steps ≤ stand.old.seat.steps + 1 }
 {
     let word = stand.base + u64::from(stand.shape.sizes.pool_counter());
     let size = announcement_size(which.len() as u64);

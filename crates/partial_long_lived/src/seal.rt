@@ -1,6 +1,6 @@
 //! How a port seals the components of its epoch.
 
-ghost use Rattle.std.specs.Prelude.{◌≡◌, ◌+◌, ◌<◌, ◌≤◌};
+ghost use Rattle.std.specs.Prelude.{◌≡◌, ◌+◌, ◌*◌, ◌<◌, ◌≤◌};
 ghost use Rattle.partial_epochs.specs.Ports.Entering.{Stands};
 ghost use Rattle.partial_epochs.specs.Sealing.{passing_port};
 ghost use Rattle.partial_long_lived.specs.Inner.Held.{IsHeld, port_at};
@@ -21,6 +21,7 @@ pub fn seal(words: &Words, stand: &mut Stand)
     ensures same { HasSamePart stand.old stand.new }
     ensures free { IsIdle stand.new }
     ensures sealed { words.now.key.sizes.m ≤ (port_at stand.new).port.passed }
+    ensures steps { stand.new.seat.steps ≤ stand.old.seat.steps + 2 * words.now.key.sizes.m }
 {
     let m = stand.shape.sizes.m();
     for _ in stand.passed..m {
@@ -38,6 +39,7 @@ fn pass(words: &Words, stand: &mut Stand)
     ensures same { HasSamePart stand.old stand.new }
     ensures free { IsIdle stand.new }
     ensures passed { stand.new.passed ≡ stand.old.passed + 1 }
+    ensures steps { stand.new.seat.steps ≤ stand.old.seat.steps + 2 }
 {
     let word = (stand.base + u64::from(stand.passed)) as usize;
     let found = words.load::<Pass>(&mut stand.seat, word);

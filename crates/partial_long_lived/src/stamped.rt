@@ -1,10 +1,11 @@
 //! Scans that tell stamps.
 
-ghost use Rattle.std.specs.Prelude.{ℕ, ◌≡◌, ◌<◌, ◌≤◌, true, length, slice_index, is_some, IfErr, IfOk};
+ghost use Rattle.std.specs.Prelude.{ℕ, ◌≡◌, ◌+◌, ◌<◌, ◌≤◌, true, length, slice_index, is_some, IfErr, IfOk};
 ghost use Rattle.partial_machine.specs.Sound.{AreComponentIndices};
 ghost use Rattle.partial_epochs.specs.History.{stamp_limit};
 ghost use Rattle.partial_epochs.specs.Layout.{unsealed};
 ghost use Rattle.partial_epochs.specs.Ports.Entering.{Stands};
+ghost use Rattle.partial_long_lived.specs.Bounds.{most_of_scans};
 ghost use Rattle.partial_long_lived.specs.Inner.Held.{IsHeld, port_at};
 ghost use Rattle.partial_long_lived.specs.Inner.Calls.{StaysAt};
 ghost use Rattle.partial_long_lived.specs.Inner.DoubleCollect.{AreInside};
@@ -50,6 +51,7 @@ pub fn scan_stamped(
     ensures helped { IfOk result (λ q. is_some q.borrowed ≡ true → stamps.new ≡ stamps.old) }
     ensures refused { IfErr result (NotScanned stand.old stand.new) }
     ensures unchanged { IfErr result (λ _. (into.new ≡ into.old) × (stamps.new ≡ stamps.old)) }
+    ensures steps { stand.new.seat.steps ≤ stand.old.seat.steps + (length which.now + most_of_scans words.now.key (length which.now)) }
 {
     if double_collect(words, stand, which, kept, into) {
         load_stamps(words, stand, which, kept, stamps);
@@ -78,6 +80,7 @@ fn load_stamps(words: &Words, stand: &mut Stand, which: &[u32], kept: &[u64], st
     ensures same { port_at stand.new ≡ port_at stand.old }
     ensures stamps { ArePublic (port_at stand.old) which.now kept.now stamps.new (length which.now) }
     ensures lengths { length stamps.new ≡ length stamps.old }
+    ensures steps { stand.new.seat.steps ≤ stand.old.seat.steps + length which.now }
 {
     let base = stand.base;
     let own = stand.shape.own;

@@ -1,6 +1,6 @@
 //! Whether components still have the stamps that they had.
 
-ghost use Rattle.std.specs.Prelude.{◌≡◌, ◌<◌, ◌≤◌, true, false, length};
+ghost use Rattle.std.specs.Prelude.{◌≡◌, ◌+◌, ◌*◌, ◌<◌, ◌≤◌, true, false, length};
 ghost use Rattle.partial_long_lived.specs.Inner.Held.{IsHeld, port_at};
 ghost use Rattle.partial_long_lived.specs.Inner.Calls.{IsIdle};
 ghost use Rattle.partial_long_lived.specs.Inner.DoubleCollect.{HasGlanced};
@@ -22,6 +22,7 @@ pub fn unchanged(words: &Words, stand: &mut Stand, which: &[u32], stamps: &[u64]
     ensures settled { SettledFirst stand.old stand.new }
     ensures had { result ≡ true → HadStamps (port_at stand.new) which.now stamps.now (length which.now) }
     ensures another { result ≡ false → HadAnother (port_at stand.new) which.now stamps.now }
+    ensures steps { stand.new.seat.steps ≤ stand.old.seat.steps + (4 + 2 * length which.now) }
 {
     settle_now(words, stand);
     for k in 0..which.len() {
@@ -41,6 +42,7 @@ fn settle_now(words: &Words, stand: &mut Stand)
     requires idle { IsIdle stand.old }
     ensures held { IsHeld words.now.table_id words.now.key stand.new }
     ensures settled { SettledFirst stand.old stand.new }
+    ensures steps { stand.new.seat.steps ≤ stand.old.seat.steps + 4 }
 {
     if !look_first(words, stand) {
         enter(words, stand);
@@ -56,6 +58,7 @@ fn stamp_now(words: &Words, stand: &mut Stand, component: u32) -> u64
     ensures held { IsHeld words.now.table_id words.now.key stand.new }
     ensures glanced { HasGlanced stand.old stand.new }
     ensures stamp { HasStamp (port_at stand.new) component result }
+    ensures steps { stand.new.seat.steps ≤ stand.old.seat.steps + 2 }
 {
     let base = stand.base;
     let own = stand.shape.own;

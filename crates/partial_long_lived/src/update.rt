@@ -1,6 +1,7 @@
 //! Updates.
 
-ghost use Rattle.std.specs.Prelude.{◌≡◌, ◌<◌, ◌≤◌, IfOk, IfErr, None, true, false};
+ghost use Rattle.std.specs.Prelude.{◌≡◌, ◌+◌, ◌*◌, ◌<◌, ◌≤◌, IfOk, IfErr, None, true, false};
+ghost use Rattle.partial_long_lived.specs.Bounds.{most_of_change, round_steps};
 ghost use Rattle.partial_long_lived.specs.Inner.Held.{IsHeld, epoch_at, port_at};
 ghost use Rattle.partial_long_lived.specs.Inner.Calls.{IsIdle};
 ghost use Rattle.partial_long_lived.specs.Inner.Changing.{IsCause};
@@ -41,7 +42,8 @@ pub fn update(
     ensures held { IsHeld words.now.table_id words.now.key stand.new }
     ensures rests { RestsAt stand.new core.new spent.new }
     ensures updated { IfOk result (λ r. UpdateEnded true (asked_change component None value) r stand.old stand.new) }
-    ensures refused { IfErr result (λ cause. IsLate 16 stand.old cause stand.new × CameBy true stand.old stand.new) }
+    ensures refused { IfErr result (λ cause. IsLate 16 15 stand.old cause stand.new × CameBy true stand.old stand.new) }
+    ensures steps { stand.new.seat.steps ≤ stand.old.seat.steps + 16 * round_steps words.now.key }
 {
     update_apart(words, stand, core, component, value, spent).result()
 }
@@ -65,7 +67,8 @@ fn update_apart(
     ensures updated { IfOk (ended_as result) (λ r.
         UpdateEnded true (asked_change component None value) r stand.old stand.new) }
     ensures refused { IfErr (ended_as result) (λ cause.
-        IsLate 16 stand.old cause stand.new × CameBy true stand.old stand.new) }
+        IsLate 16 15 stand.old cause stand.new × CameBy true stand.old stand.new) }
+    ensures steps { stand.new.seat.steps ≤ stand.old.seat.steps + 16 * round_steps words.now.key }
 {
     if *spent {
         return update_late(words, stand, core, component, value, spent, true);
@@ -101,7 +104,8 @@ fn update_late(
     ensures updated { IfOk (ended_as result) (λ r.
         UpdateEnded first (asked_change component None value) r stand.old stand.new) }
     ensures refused { IfErr (ended_as result) (λ cause.
-        IsLate 16 stand.old cause stand.new × CameBy first stand.old stand.new) }
+        IsLate 16 15 stand.old cause stand.new × CameBy first stand.old stand.new) }
+    ensures steps { stand.new.seat.steps ≤ stand.old.seat.steps + (most_of_change words.now.key + 15 * round_steps words.now.key) }
 {
     if let Err(cause) = renew(words, stand, core, first) {
         *spent = true;
@@ -140,7 +144,8 @@ fn rounds(
     ensures spare { spent.new ≡ false → MayCall (port_at stand.new) core.new }
     ensures updated { IfOk result (λ r. UpdateEnded false (asked_change component None value) r stand.old stand.new) }
     ensures refused { IfErr result (λ cause.
-        IsLate times stand.old cause stand.new × CameBy false stand.old stand.new) }
+        IsLate times times stand.old cause stand.new × CameBy false stand.old stand.new) }
+    ensures steps { stand.new.seat.steps ≤ stand.old.seat.steps + times * round_steps words.now.key }
 {
     for _ in 0..times {
         let attempted = attempt(words, stand, core, component, value, spent, None, false);
@@ -171,7 +176,8 @@ pub fn renew(words: &Words, stand: &mut Stand, core: &mut Core, first: bool) -> 
     ensures came { CameBy first stand.old stand.new }
     ensures later { IfOk result (λ _. epoch_at stand.old < epoch_at stand.new) }
     ensures fresh { IfOk result (λ _. (port_at stand.new).began.epoch ≤ stand.new.epoch) }
-    ensures cause { IfErr result (IsCause stand.new) }
+    ensures cause { IfErr result (IsCause stand.old stand.new) }
+    ensures steps { stand.new.seat.steps ≤ stand.old.seat.steps + most_of_change words.now.key }
 {
     change(words, stand, first)?;
     core.clear_marks();

@@ -1,13 +1,16 @@
 //! Conditional updates.
 
-ghost use Rattle.std.specs.Prelude.{◌≡◌, ◌<◌, ◌≤◌, IfSome, IfNone, IfOk, IfErr, true, false};
+ghost use Rattle.std.specs.Prelude.{◌≡◌, ◌+◌, ◌*◌, ◌<◌, ◌≤◌, IfSome, IfNone, IfOk, IfErr, true, false};
+ghost use Rattle.partial_machine.specs.Bounds.{most_of_update};
+ghost use Rattle.partial_long_lived.specs.Bounds.{round_if_steps};
+ghost use Rattle.partial_long_lived.specs.declared.update_if.Compared.TheVariants.{Sealed};
 ghost use Rattle.partial_long_lived.specs.Inner.Held.{IsHeld, port_at};
 ghost use Rattle.partial_long_lived.specs.Inner.Calls.{IsIdle, StaysAt};
 ghost use Rattle.partial_long_lived.specs.Inner.Conditional.{EndedIf, HasCompared, HasLooked, HasUpdatedIf, outcome_of};
 ghost use Rattle.partial_long_lived.specs.Inner.Loads.{SeatSees};
 ghost use Rattle.partial_long_lived.specs.Inner.Loads.Wish.{Expects};
 ghost use Rattle.partial_long_lived.specs.Inner.Rests.{RestsAt};
-ghost use Rattle.partial_long_lived.specs.Inner.Updates.{CameBy, IsLate, IsOwnMachine, MayCall, NotesNothing, word_from};
+ghost use Rattle.partial_long_lived.specs.Inner.Updates.{CameBy, FoundSealed, IsLate, IsOwnMachine, MayCall, NotesNothing, word_from};
 
 use crate::answers::UpdatedIf;
 use crate::arena::{SEAL, STAMPS, public_stamp};
@@ -59,7 +62,8 @@ pub fn update_if(
     ensures held { IsHeld words.now.table_id words.now.key stand.new }
     ensures rests { RestsAt stand.new core.new spent.new }
     ensures updated { IfOk result (λ r. HasUpdatedIf asked r stand.old stand.new) }
-    ensures refused { IfErr result (λ cause. IsLate 16 stand.old cause stand.new × CameBy true stand.old stand.new) }
+    ensures refused { IfErr result (λ cause. IsLate 16 15 stand.old cause stand.new × CameBy true stand.old stand.new) }
+    ensures steps { stand.new.seat.steps ≤ stand.old.seat.steps + 16 * round_if_steps words.now.key }
 {
     let mut first = true;
     for _ in 0..MOST_CHANGES {
@@ -97,8 +101,10 @@ fn round(
     ensures held { IsHeld words.now.table_id words.now.key stand.new }
     ensures ended { IfSome result (λ r. EndedIf first asked r.0 stand.old stand.new) }
     ensures none { IfNone result (NotesNothing first stand.old stand.new) }
+    ensures met { IfNone result (spent ≡ false → FoundSealed stand.old stand.new) }
     ensures own { IsOwnMachine (port_at stand.new) core.new }
     ensures spare { IfSome result (λ r. r.1 ≡ false → MayCall (port_at stand.new) core.new) }
+    ensures steps { stand.new.seat.steps ≤ stand.old.seat.steps + (3 + most_of_update words.now.key.sizes) }
 {
     let at = match compare(words, stand, asked, first) {
         Compared::Sealed => return None,
@@ -137,6 +143,8 @@ fn compare(words: &Words, stand: &mut Stand, asked: Asked, first: bool) -> Compa
     ensures held { IsHeld words.now.table_id words.now.key stand.new }
     ensures looked { HasLooked first stand.old stand.new }
     ensures found { HasCompared asked stand.old result stand.new }
+    ensures met { result ≡ Sealed → FoundSealed stand.old stand.new }
+    ensures steps { stand.new.seat.steps ≤ stand.old.seat.steps + 2 }
 {
     let found = see::<Brand>(words, stand, asked, first);
     if first && found >= SEAL {
@@ -165,6 +173,7 @@ fn see<G: Wishes>(words: &Words, stand: &mut Stand, asked: Asked, first: bool) -
     ensures kept { StaysAt stand.old stand.new }
     ensures sees { SeatSees first (Expects asked.expected asked.value) asked.component
         (port_at stand.old) result (port_at stand.new) }
+    ensures steps { stand.new.seat.steps ≤ stand.old.seat.steps + 1 }
 {
     let word = stand.base + u64::from(asked.component);
     if first {
@@ -189,6 +198,7 @@ fn public_outcome(
     ensures kept { StaysAt stand.old stand.new }
     ensures same { port_at stand.new ≡ port_at stand.old }
     ensures public { result ≡ outcome_of (port_at stand.old) component exchanged }
+    ensures steps { stand.new.seat.steps ≤ stand.old.seat.steps + 1 }
 {
     match exchanged {
         Exchanged::Applied { stamp } => UpdatedIf::Applied {

@@ -4,7 +4,7 @@ use Rattle.partial_picture.specs.declared.fault.PictureError.{PictureError}
 use Rattle.partial_picture.specs.declared.window.Span.{Span}
 use Rattle.partial_picture.specs.declared.window.Window.{Window}
 
--- the steps from the first one up to the one behind the last, when they are 2,000 at most
+-- the steps from the first one up to the one after the last, when they are 2,000 at most
 abbrev pub few_of : ℕ → ℕ → Result Span PictureError
 few_of first behind = if nat_lt 2000 (behind - first) then Err (PictureError.TooMany (behind - first))
     else Ok (record { first = first; behind = behind })

@@ -1,4 +1,4 @@
--- Where the entries of the history stand.
+-- Where the entries of the history are drawn.
 use Rattle.std.specs.Prelude.{ℕ, ◌-◌, nat_lt, not, ◌&&◌, List, map, filter, Option, Some, None, if◌then◌else◌}
 use Rattle.std.specs.List.{enumerate_from, filter_map, zip}
 use Rattle.partial_model.specs.declared.history.Applied.{Applied}

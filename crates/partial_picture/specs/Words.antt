@@ -3,7 +3,7 @@ use Rattle.std.specs.Prelude.{ℕ, ◌-◌, ◌==◌, nat_lt, List, ◌++◌, co
 use Rattle.partial_words.specs.Layout.{Layout, slot_counter, list_head, pool_counter, list_counter, list_base, list_end}
 use Rattle.partial_words.specs.declared.step.Step.{Step}
 
--- the words and values of an exchange, and what it came to
+-- the words and values of an exchange, and how it ended
 abbrev pub exchange_words : ℕ → ℕ → ℕ → List ℕ → List ℕ
 exchange_words w old new end = codes "exchange " ++ (decimal w ++ (codes " " ++ (decimal old ++ (codes " " ++ (decimal new ++ end)))))
 
@@ -15,7 +15,7 @@ step_words (Step.Exchange w old new) answer = if answer == old then exchange_wor
     else exchange_words w old new (codes ": lost to " ++ decimal answer)
 step_words (Step.Add w n) answer = codes "add " ++ (decimal w ++ (codes " " ++ (decimal n ++ (codes ": " ++ decimal answer))))
 
--- the name of a word behind the counters
+-- the name of a word after the counters
 abbrev pub block_name : Layout → ℕ → List ℕ
 block_name s w = if nat_lt w (list_base s) then codes "slot " ++ decimal (w - s.m - 4) else
     if nat_lt w (list_end s) then codes "list word " ++ decimal w else codes "pool word " ++ decimal w

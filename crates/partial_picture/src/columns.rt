@@ -71,7 +71,7 @@ fn tell_bar(alloc: Global, remarks: &mut Remarks, bar: &Bar<'_>) -> Result<(), A
         let words = call_words(alloc, &called.call)?;
         tell_call(alloc, &mut remarks.beside, first, called, &words)?;
     }
-    if bar.ends {
+    if bar.ends && called.finish.is_some() {
         let words = finish_words(alloc, called)?;
         let last = behind.saturating_sub(1);
         tell_call(alloc, &mut remarks.beside, last, called, &words)?;
@@ -190,7 +190,7 @@ fn push_between(text: &mut String, words: &str) -> Result<(), AllocError>
     push_line(text, words)
 }
 
-/// Writes the lines of the steps, each after the line of the calls without a step that stand before it.
+/// Writes the lines of the steps, each after the line of the calls without a step that come before it.
 fn push_steps(
     alloc: Global,
     text: &mut String,
@@ -211,7 +211,7 @@ fn push_steps(
     Ok(())
 }
 
-/// Draws a picture for terminals. Each step has a line with its number. The step stands in the column of
+/// Draws a picture for terminals. Each step has a line with its number. The step is in the column of
 /// its port, and after it what it begins, adds to the history and ends.
 ///
 /// # Errors

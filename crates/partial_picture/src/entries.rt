@@ -1,4 +1,4 @@
-//! The labels of the history's entries. They stand in tiers above its line, so that labels of near entries
+//! The labels of the history's entries. They are in tiers above its line, so that labels of near entries
 //! can be read whole.
 
 ghost use Rattle.std.specs.Prelude.{◌≡◌, ◌≤◌, All, length, IfOk};
@@ -16,7 +16,7 @@ const WIDTH: u64 = 160;
 /// The height of a tier: two lines of words.
 const TIER: u64 = 28;
 
-/// Where the label of an entry stands.
+/// Where the label of an entry is.
 #[derive(Clone, Copy, Debug, PartialEq, Eq)]
 pub struct Label {
     /// Its tier, counted from 0 from the line of the history upwards.
@@ -26,7 +26,7 @@ pub struct Label {
 }
 
 impl Label {
-    /// How far above the lowest tier the label stands: 28 for each tier.
+    /// How far above the lowest tier the label is: 28 for each tier.
     pub fn raised(&self) -> u64
         ensures { result ≡ product_of 28 self.now.tier }
     {

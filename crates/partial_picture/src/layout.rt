@@ -5,7 +5,7 @@ use crate::picture::{Bar, Picture, Pin};
 use crate::pixels::Pixels;
 use std::alloc::{AllocError, Global};
 
-/// Where the first step begins. The names of the lanes stand left of it.
+/// Where the first step begins. The names of the lanes are left of it.
 const LEFT: Pixels = Pixels(116);
 
 /// The width of a call without a step.
@@ -48,7 +48,7 @@ pub(crate) struct Layout {
     edges: Vec<Pixels>,
     /// The sides of the picture's bars.
     pub(crate) bars: Vec<Sides>,
-    /// Where the words of the picture's entries stand.
+    /// Where the words of the picture's entries are.
     pub(crate) labels: Vec<Label>,
     /// The line of the history.
     pub(crate) history: Pixels,
@@ -71,7 +71,7 @@ fn step_width(marks: usize) -> u64 {
     }
 }
 
-/// How many calls without a step stand before each of so many marks and, last, after all of them.
+/// How many calls without a step come before each of so many marks and, last, after all of them.
 fn calls_between(alloc: Global, marks: usize, bars: &[Bar<'_>]) -> Result<Vec<usize>, AllocError> {
     let mut counts = vec![in alloc; 0usize; marks]?;
     counts.push(0)?;
@@ -173,7 +173,7 @@ impl Layout {
     }
 }
 
-/// Where the words of these entries stand: over the middles of their marks.
+/// Where the words of these entries are: over the middles of their marks.
 fn labels_at(
     alloc: Global,
     pins: &[Pin],
@@ -188,7 +188,7 @@ fn labels_at(
     labels_of(alloc, &places, width)
 }
 
-/// The sides of each bar. Calls without a step stand side by side in the room before their mark.
+/// The sides of each bar. Calls without a step are side by side in the room before their mark.
 fn sides_of(
     alloc: Global,
     bars: &[Bar<'_>],

@@ -19,6 +19,7 @@ text{font:11px ui-monospace,Menlo,Consolas,'DejaVu Sans Mono',monospace;fill:#1c
 .row{stroke:#d5dae0}
 .bar{fill:#eaf0f6;stroke:#7f8b98}
 .unfinished{stroke-dasharray:5 3}
+.cut{fill:none;stroke:#fff;stroke-width:4}
 .mark{stroke:#1c2127}
 .load{fill:#56b4e9}
 .store{fill:#e69f00}
@@ -41,6 +42,7 @@ text{fill:#e4e8ec}
 .lane,.history{stroke:#6c7784}
 .row{stroke:#333b44}
 .bar{fill:#222a33;stroke:#8a96a3}
+.cut{stroke:#14181d}
 .mark{stroke:#e4e8ec}
 .lost{fill:#14181d;stroke:#d55e00}
 .lent{stroke:#56b4e9}
@@ -77,6 +79,9 @@ const REST: &str = "\
 <text class=\"meaning\" x=\"366\" y=\"40\">has lent its view</text>
 <rect class=\"bar unfinished\" x=\"498\" y=\"27\" width=\"26\" height=\"18\" rx=\"5\"/>
 <text class=\"meaning\" x=\"532\" y=\"40\">unfinished call</text>
+<rect class=\"bar\" x=\"498\" y=\"5\" width=\"26\" height=\"18\" rx=\"5\"/>
+<path class=\"cut\" d=\"M524 5l3 3l-6 3l6 3l-6 3l6 3l-3 3\"/>
+<text class=\"meaning\" x=\"532\" y=\"18\">cut by the window</text>
 </g>
 ";
 

@@ -45,11 +45,11 @@ pub struct Mark {
 pub struct Bar<'a> {
     /// The call, as in the outcome.
     pub called: &'a Called,
-    /// Its marks in the window, counted from 0. When it has none, it stands before the mark `first`.
+    /// Its marks in the window, counted from 0. When it has none, it is drawn before the mark `first`.
     pub marks: Span,
-    /// Whether it begins in the window.
+    /// Whether it has no step before the window.
     pub begins: bool,
-    /// Whether it ends in the window.
+    /// Whether it has no step after the window.
     pub ends: bool,
 }
 
@@ -150,7 +150,7 @@ impl<'a> Picture<'a> {
         // One pin for each entry of the history whose exchange is in the window, in order and at its mark.
         ensures pins { IfOk result (λ picture. picture.pins.items
             ≡ pins_at picture.window outcome.now.history.items (won_steps sizes.m outcome.now.trace.items)) }
-        // Bars and arrows stand at marks that exist.
+        // Bars and arrows are at marks that exist.
         ensures bars { IfOk result (λ picture.
             All (BarStandsIn (picture.window.behind - picture.window.first)) picture.bars.items) }
         ensures arrows { IfOk result (λ picture.
@@ -204,7 +204,7 @@ fn marks_of(alloc: Global, events: &[Event]) -> Result<Vec<Mark>, AllocError>
     events.iter().map(|event| Mark::of(*event)).collect(alloc)
 }
 
-/// The bar of a call that has a step in the window or, without any step, stands in it. A window that ends
+/// The bar of a call that has a step in the window or, without any step, is drawn in it. A window that ends
 /// with the replay also has the calls after the last step.
 fn bar_in<'a>(window: Span, steps: usize, made: &Made<'a, '_>) -> Option<Bar<'a>>
     requires { window.first ≤ window.behind }
@@ -222,11 +222,11 @@ fn bar_in<'a>(window: Span, steps: usize, made: &Made<'a, '_>) -> Option<Bar<'a>
             behind: behind.min(window.behind).saturating_sub(window.first),
         },
         begins: window.first <= first,
-        ends: made.called.finish.is_some() && behind <= window.behind,
+        ends: behind <= window.behind,
     })
 }
 
-/// A bar for each call that stands in the window.
+/// A bar for each call that is drawn in the window.
 fn bars_of<'a>(
     alloc: Global,
     window: Span,

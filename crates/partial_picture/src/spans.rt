@@ -72,7 +72,7 @@ impl<'s> Walker<'s> {
         own
     }
 
-    /// Where a call without a step stands: before the port's next step. When there is none, after the
+    /// Where a call without a step is drawn: before the port's next step. When there is none, after the
     /// port's last call and after the entries that the history had when the call began.
     fn between(&self, called: &Called, entries: &[usize]) -> usize {
         if let Some(next) = self.left.first() {
@@ -89,7 +89,7 @@ impl<'s> Walker<'s> {
 #[derive(Clone, Copy)]
 pub(crate) struct Made<'o, 's> {
     pub(crate) called: &'o Called,
-    /// From its first step to its last one. A call without a step stands before the step `first`.
+    /// From its first step to its last one. A call without a step comes before the step `first`.
     pub(crate) span: Span,
     /// The numbers of its steps.
     pub(crate) steps: &'s [usize],

@@ -130,6 +130,14 @@ fn push_lanes(
     Ok(())
 }
 
+/// Writes the torn side of a bar that the window cuts.
+fn push_cut(text: &mut String, x: Pixels, y: Pixels) -> Result<(), AllocError> {
+    writeln!(
+        text,
+        "<path class=\"cut\" d=\"M{x} {y}l3 4l-6 4l6 4l-6 4l6 4l-3 4\"/>"
+    )
+}
+
 /// Writes the bar of a call, and its words as far as there is room.
 fn push_bar(
     alloc: Global,
@@ -156,6 +164,12 @@ fn push_bar(
     let steps = bar.called.steps;
     let title = format!(in alloc; "call {port} {number}: {call}: {finish} steps {steps}")?;
     push_title(text, &title, "rect")?;
+    if !bar.begins {
+        push_cut(text, x, y)?;
+    }
+    if !bar.ends {
+        push_cut(text, sides.right, y)?;
+    }
     push_words(text, "call", x, top + 15, &fitted(alloc, &call, room)?)?;
     push_words(text, "answer", x, top + 29, &fitted(alloc, &finish, room)?)
 }

@@ -1,4 +1,4 @@
-//! Words as they stand in a drawing.
+//! Words as a drawing has them.
 
 ghost use Rattle.std.specs.Prelude.{◌≡◌, ◌≤◌, ◌<◌, ◌/◌, ◌++◌, [], length, IfOk, OnOk, string_bytes};
 ghost use Rattle.partial_picture.specs.Texts.{escaped_letter, Escapes, cut_to};

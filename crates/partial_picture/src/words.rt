@@ -70,7 +70,7 @@ fn place_of(note: Option<Note>) -> usize
 ///
 /// [`AllocError`] when an allocation was refused.
 pub fn finish_words(alloc: Global, called: &Called) -> Result<String, AllocError>
-    // In the text it stands behind a space.
+    // In the text it comes after a space.
     ensures { IfOk result (λ words. 32 ∷ string_bytes words ≡ finish_text called.now.finish) }
 {
     let Some(finish) = &called.finish else {

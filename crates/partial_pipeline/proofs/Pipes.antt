@@ -66,7 +66,7 @@ risen p d (suc k) (x ∷ h) found e kinds w s by =
           subst (λ (f : Option Applied). held d (last_from f p (take k h)) ≤ e.value) (sym one) (risen p d k h found e (λ i y. kinds (suc i) y) r s by)
     ]
 
--- behind all entries a stage's component has the value of its last one
+-- after all entries a stage's component has the value of its last one
 held_last : (d k : ℕ) (h : List Applied) (found : Option Applied) → ((i : ℕ) (x : Applied) → slice_get h i ≡ Some x → x.component ≡ x.port) →
     held d (last_from found k h) ≡ last_value (held d found) (entries_by k h)
 unfolding last_from
@@ -191,7 +191,7 @@ module _ (o : Opening) (h : List Applied) (stages : List (List Noted)) (w : IsPi
       let had : HasRead o h j 0 at.1.worked.from = (0, omega arith, omega arith) in
       noted_at (IsReached o h j) h (j + 1) at.0 i e at.1.once (reached o h (j + 1) j 0 at.1.worked.from 0 at.0 at.1.worked.read at.1.worked.count refl at.1.legal at.1.worked.works had) s port e s
 
-  -- behind all entries each stage's component has what the stage published last
+  -- after all entries each stage's component has what the stage published last
   pub stage_value : (k : ℕ) (ns : List Noted) → IsStageIn o h k ns → value_of o h k ≡ published_count k ns
   stage_value k ns s =
       let first = slice_index o.values k in

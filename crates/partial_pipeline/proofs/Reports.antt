@@ -1,15 +1,15 @@
--- What the closed memory of a pipeline tells of the monitor's scans.
+-- What the closed memory of a pipeline says of the monitor's scans.
 use Rattle.partial_pipeline.proofs.{Common.{ℕ, zero, suc, inl, inr, ◌≡◌, ◌+◌, ◌<◌, ◌≤◌, ◌++◌, List, [], ◌∷◌, length, map, take, slice_index, refl, sym, ◌∙◌, ap, subst, Option, Some, None, slice_get, arith, AllByRecursion, ext_get_or, get_or-map, length-map, take_all, cases_lt, Applied, Opening, Call, Answer, Note, Noted, LegalNotes, IsLegal, seen_after, seen_by, EachOnce, places_written, wrote, AllByRecursion-get, LegalNotes-last, all_where, IsOf, MemoryView, PortView, AreFrom, AreOrdered, HaveEnded, HaveRisen, IsOrderly, IsPipeline, IsStageIn, NeverFall, last_of, EndEach, HasMetMonitor, IsEachStage, GoesOnNoting, Opens, Sees, StagesWatched, StageEnd, Finished, Global, Vec, noted_at, element_at}, Pipes.{counts_never_fall, counts_stay_ordered, stage_value}, Stages.{ends_many, watched_sees}}
 use Rattle.std.specs.Prelude.{IfSome}
 use Rattle.partial_model.specs.History.{value_of}
 use Rattle.partial_long_lived.specs.Closing.{Closes, IsPortOf}
 
--- the counts of n stages behind the first so many entries
+-- the counts of n stages after the first so many entries
 pub record AreCounts (o : Opening) (h : List Applied) (n at : ℕ) (counts : List ℕ) : Type 0 where
   pub many : length counts ≡ n
   pub each : (k : ℕ) → k < n → slice_index counts k ≡ value_of o (take at h) k
 
--- each of these lists has the counts behind some entries, no fewer than the list before it
+-- each of these lists has the counts after some entries, no fewer than the list before it
 abbrev pub Saw : Opening → List Applied → ℕ → ℕ → List (List ℕ) → Type 0
 Saw o h n from [] = Unit {0}
 Saw o h n from (s ∷ ss) = (at : ℕ) × (from ≤ at) × (at ≤ length h) × AreCounts o h n at s × Saw o h n at ss
@@ -64,7 +64,7 @@ scan_counts o h n at stages s all is =
           ap (λ (l : List ℕ). slice_index l k) is ∙ get_or-map (λ j. value_of o (take at h) j) stages k 0 0 within ∙ ap (λ j. value_of o (take at h) j) (all.each k below);
     }
 
--- a scan that was noted saw the counts behind some entries, at least as many as had been seen before
+-- a scan that was noted saw the counts after some entries, at least as many as had been seen before
 scan_saw : (o : Opening) (h : List Applied) (p n seen : ℕ) (stages s : List ℕ) (c : ℕ) (b : Option ℕ) (t : Option Note) → IsEachStage n stages →
     IsLegal o h p seen (record { call = Call.Scan stages; answer = Answer.Scanned s c b; note = t }) → (at : ℕ) × (seen ≤ at) × (at ≤ length h) × AreCounts o h n at s ×
     (seen_after seen t ≡ at) × (wrote t ≡ [])
@@ -105,7 +105,7 @@ same_counts o h n at s t x y =
     let here : i < n = omega (arith, x.many) in
     x.each i here ∙ sym (y.each i here))
 
--- what the last scan tells, where there is one: it was made behind all that the monitor had seen when it had met all stages
+-- what the last scan says, when there is one: it was made after all that the monitor had seen when it had met all stages
 abbrev pub LastSees : PortView → List ℕ → PortView → Option (Vec ℕ Global) → Type 0
 LastSees p stages q None = GoesOnNoting p q []
 LastSees p stages q (Some counts) = Sees p stages counts.items q
@@ -198,7 +198,7 @@ module _ (m : MemoryView) (p q : PortView) (ports : List PortView) (stages : Lis
         below = subst (λ n. AllByRecursion (λ (e : Applied). e.port < n) log) (sym many) (all_where (λ (e : Applied). e.port < m.about.sizes.m) log by_stage);
       }
 
-  -- once all stages have ended, no entry comes behind what the monitor had seen
+  -- once all stages have ended, no entry comes after what the monitor had seen
   ends_within : (at : ℕ) → length p.seen ≤ at → length log ≤ at
   ends_within at seen = elim (cases_lt at (length log)) [
     | inr past ↦ past
@@ -222,7 +222,7 @@ module _ (m : MemoryView) (p q : PortView) (ports : List PortView) (stages : Lis
       let one : IsLegal o log m.about.sizes.m (seen_by 0 p.notes) n = LegalNotes-last o log m.about.sizes.m 0 p.notes n (subst (LegalNotes o log m.about.sizes.m 0) s.goes.notes legal) in
       let got = scan_saw o log m.about.sizes.m m.about.sizes.m (seen_by 0 p.notes) stages counts.items s.collects s.borrowed (Some (Note.Saw s.place)) all one in
       let place : s.place ≡ got.0 = got.4 in
-      let end : got.0 ≡ length log = omega (arith, got.2, ends_within got.0 (omega (arith, place, s.behind))) in
+      let end : got.0 ≡ length log = omega (arith, got.2, ends_within got.0 (omega (arith, place, s.first, s.behind))) in
       same_counts o log m.about.sizes.m (length log) counts.items closed.items (subst (λ i. AreCounts o log m.about.sizes.m i counts.items) end got.3) closed_counts
 
   saw : Saw o log m.about.sizes.m 0 ((ss ++ last_of last) ++ closed.items ∷ [])

@@ -17,7 +17,7 @@ goes_more p q new w = record { memory = w.memory; number = w.number; seen = begi
 stays : (p q : PortView) → q ≡ p → GoesOnNoting p q []
 stays p q is = subst (λ (x : PortView). GoesOnNoting p x []) (sym is) (record { memory = refl; number = refl; seen = omega arith; notes = sym (append-nil p.notes) })
 
--- calls behind some that noted nothing
+-- calls after some that noted nothing
 then_more : (p x q : PortView) (new : List Noted) → GoesOnNoting p x [] → GoesOnNoting x q new → GoesOnNoting p q new
 then_more p x q new w v =
     record {
@@ -203,11 +203,12 @@ sees_scan p q (j ∷ js) counts s some each w =
       collects = s.collects;
       borrowed = s.borrowed;
       goes = goes_more p q _ w.1.goes;
+      first = w.1.first;
       behind = w.1.behind;
       each = each;
     }
 
--- a scan behind some that were refused
+-- a scan after some that were refused
 pub sees_then : (p x q : PortView) (stages counts : List ℕ) → GoesOnNoting p x [] → Sees x stages counts q → Sees p stages counts q
 sees_then p x q stages counts w s =
     record {
@@ -215,7 +216,8 @@ sees_then p x q stages counts w s =
       collects = s.collects;
       borrowed = s.borrowed;
       goes = then_more p x q _ w s.goes;
-      behind = omega (arith, w.seen, s.behind);
+      first = omega (arith, w.seen, s.first);
+      behind = s.behind;
       each = s.each;
     }
 

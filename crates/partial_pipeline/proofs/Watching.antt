@@ -64,7 +64,7 @@ watching_met m x b c d w own meets =
 
 -- ---- the threads
 
--- a thread that was started for a stage has come to its end
+-- a thread that was started for a stage has ended
 pub started_done : (m : MemoryView) (items n : ℕ) (all : List (PromisedHandle Worked Promised)) (h : PromisedHandle Worked Promised) (w : Worked) → AreFrom (IsStageStarted m items) 0 all →
     n < length all → h ≡ slice_index_or all n h → IsStageDone h.promise.memory.value h.promise.items h.promise.stage w → IsStageDone m items n w
 started_done m items n all h w started within is kept =
@@ -83,7 +83,7 @@ joined_more m x ports after b c d items n w had many done same own meets is =
     let new = has_met m (length ports) x.port b c d own knows number (subst (λ i. HasWorked i b.notes) (sym many) worked) meets in
     subst (AreFrom (HasMetMonitor m (length c.seen)) 0) (sym is) (met_more m (length x.port.seen) (length c.seen) ports d (seen_grows x.port b c d meets) had new)
 
--- and the end of that stage stands behind those of the others
+-- and the end of that stage comes after those of the others
 pub ended_more : (m : MemoryView) (x : Monitor) (ports after : List PortView) (ends ended : List StageEnd) (b c d : PortView) (items n : ℕ) (w : Worked) → EndEach items 0 ports ends →
     length ports ≡ n → IsStageDone m items n w → b ≡ w.port → Meets x.port b c d → after ≡ ports ++ d ∷ [] → ended ≡ ends ++ w.end ∷ [] → EndEach items 0 after ended
 ended_more m x ports after ends ended b c d items n w had many done same meets is ends_is =
@@ -111,7 +111,7 @@ new_count : (m : MemoryView) (k n : ℕ) → length (new_ports m.table (newcomer
 new_count m k zero = refl
 new_count m k (suc n) = ap suc (new_count m (k + 1) n)
 
--- the stages' ports, and the monitor's behind them
+-- the stages' ports, and the monitor's after them
 pub opened_stages : (m : MemoryView) (all rest : List PortView) (last : PortView) → IsOpened m all → all ≡ rest ++ last ∷ [] → AreFrom (IsNewStage m) 0 rest × (length rest ≡ m.about.sizes.m) ×
     IsNewStage m m.about.sizes.m last
 opened_stages m all rest last w is =

@@ -106,7 +106,8 @@ StagesWatched stages (n ∷ ns) (counts ∷ more) =
     (c : ℕ) × (b : Option ℕ) × (n.call ≡ Call.Scan stages) × (n.answer ≡ Answer.Scanned counts c b) × StagesWatched stages ns more
 StagesWatched stages _ _ = ⊥
 
--- the port has noted a scan of these stages, which gave these counts, at a place behind all that it had seen before
+-- the port has noted a scan of these stages, which gave these counts, as they stood together at a place of the call: not
+-- before the call began, which was after all that the port had seen
 pub record Sees (p : PortView) (stages counts : List ℕ) (q : PortView) : Type 0 where
   pub place : ℕ
   pub collects : ℕ
@@ -116,7 +117,8 @@ pub record Sees (p : PortView) (stages counts : List ℕ) (q : PortView) : Type 
     answer = Answer.Scanned counts collects borrowed;
     note = Some (Note.Saw place);
   } ∷ [])
-  pub behind : length p.seen ≤ place
+  pub first : length p.seen ≤ q.began
+  pub behind : q.began ≤ place
   pub each : length counts ≡ length stages
 
 -- the monitor between two scans, with room for those to come

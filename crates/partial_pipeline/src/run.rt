@@ -54,7 +54,7 @@ struct Joined {
     ends: Vec<StageEnd>,
 }
 
-// Room for what a run has of each stage: the flag that tells whether it has ended, and then its thread, its port and its
+// Room for what a run has of each stage: the flag that says whether it has ended, and then its thread, its port and its
 // end.
 #[derive(Drop)]
 struct Room {
@@ -64,7 +64,7 @@ struct Room {
     ends: Vec<StageEnd>,
 }
 
-// A flag for each stage that tells whether it has ended. No stage has.
+// A flag for each stage that says whether it has ended. No stage has.
 fn flags(alloc: Global, stages: usize) -> Result<Vec<AtomicBool>, AllocError> {
     let mut ended = Vec::with_capacity(alloc, stages)?;
     for _stage in 0..stages {
@@ -266,7 +266,7 @@ fn run_on<R: Threads + Wait + Sync, W: Work, V: Watch>(
 ///
 /// The memory never wears out. An update that is overtaken by changes of epoch, or finds no free arena, is tried
 /// again, and so is a scan that finds no free arena. Only when the memory's 2^41 epochs are used up a stage's update
-/// is refused, and the stage ends; the stages behind it end when they have worked on what was left. All memory, apart
+/// is refused, and the stage ends; the stages after it end when they have worked on what was left. All memory, apart
 /// from that of closing, is taken before the first thread starts.
 ///
 /// # Errors

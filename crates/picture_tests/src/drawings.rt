@@ -57,7 +57,7 @@ fn judge_count(rt: &impl Abort, text: &str, part: &str, expected: usize) {
     assert_eq!(rt; count(text, part), expected, "{part}");
 }
 
-/// Judges the shapes of the outcome, which the legend has once more.
+/// Judges the shapes of the outcome, which the legend has once more, and bars twice: one cut, one unfinished.
 fn judge_shapes(
     rt: &impl Abort,
     alloc: Global,
@@ -71,7 +71,7 @@ fn judge_shapes(
     let steps = outcome.trace.len();
     judge_count(rt, text, "class=\"touched\"", steps);
     judge_count(rt, text, "class=\"touch\"", steps);
-    judge_count(rt, text, "class=\"bar", outcome.calls.len() + 1);
+    judge_count(rt, text, "class=\"bar", outcome.calls.len() + 2);
     Ok(())
 }
 

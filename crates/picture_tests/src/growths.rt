@@ -8,17 +8,22 @@ use std::io;
 use std::io::Write;
 use std::test::Fail;
 
-/// Looks whether what it is given ends with these bytes, and asks for no memory.
+/// What is written of a picture: how many bytes, a sum over them that knows their order, and whether they end so. It
+/// asks for no memory.
 #[derive(Drop)]
-struct Ending {
+struct Written {
     wanted: &'static [u8],
     count: usize,
+    sum: u64,
     ends: bool,
 }
 
-impl Write for Ending {
+impl Write for Written {
     fn write(&mut self, buf: &[u8]) -> io::Result<usize> {
         self.count = self.count.saturating_add(buf.len());
+        for byte in buf {
+            self.sum = (self.sum ^ u64::from(*byte)).wrapping_mul(0x100_0000_01b3);
+        }
         self.ends = buf.ends_with(self.wanted);
         Ok(buf.len())
     }
@@ -28,13 +33,14 @@ impl Write for Ending {
     }
 }
 
-/// Why the picture of a window isn't drawn, if it isn't, how much of it is written, and whether that ends with these
-/// bytes. The window has two marks, two bars, an entry and an arrow.
-fn drawn(alloc: Global, form: Form, wanted: &'static [u8]) -> (Option<Fault>, usize, bool) {
+/// Why the picture of a window isn't drawn, if it isn't, and what is written of it, which may end with these bytes. The
+/// window has two marks, two bars, an entry and an arrow.
+fn drawn(alloc: Global, form: Form, wanted: &'static [u8]) -> (Option<Fault>, Written) {
     let mut plan = Device::new(borrowed_view_plan());
-    let mut out = Device::new(Ending {
+    let mut out = Device::new(Written {
         wanted,
         count: 0,
+        sum: 0,
         ends: false,
     });
     let window = Window::Steps {
@@ -42,24 +48,27 @@ fn drawn(alloc: Global, form: Form, wanted: &'static [u8]) -> (Option<Fault>, us
         last: 41,
     };
     let given = draw(alloc, form, window, &mut plan, &mut out);
-    let Ending { count, ends, .. } = out.into_inner();
-    (given.err(), count, ends)
+    (given.err(), out.into_inner())
 }
 
-/// Whether that picture ends with these bytes. When an allocation is refused, the fault is 6 and nothing is written,
-/// or a smaller one serves as well: a list that is collected asks for room in advance, and then for what it needs.
-fn ends_with(alloc: Global, form: Form, wanted: &'static [u8]) -> Result<bool, Fail> {
+/// What is written of that picture. When an allocation is refused, the fault is 6 and nothing is written, or a smaller
+/// one serves as well: a list that is collected asks for room in advance, and then for what it needs.
+fn draws(alloc: Global, form: Form, wanted: &'static [u8]) -> Result<Written, Fail> {
     match drawn(alloc, form, wanted) {
-        (None, _, ends) => Ok(ends),
-        (Some(fault), 0, _) if fault.code() == 6 => Err(fault)?,
-        (Some(_), _, _) => Ok(false),
+        (None, picture) => Ok(picture),
+        (Some(fault), Written { count: 0, .. }) if fault.code() == 6 => Err(fault)?,
+        (Some(_), _) => Err(Fail::from("a fault beside what is written")),
     }
 }
 
+// One growth at most is refused, so that one of the two drawings is made without a refusal.
 #[test]
 fn a_refused_growth_draws_nothing(rt: HostRuntime) -> Result<(), Fail> {
     let form = Form::Drawing { has_words: true };
-    assert!(rt; ends_with(rt.alloc(), form, b"</svg>\n")?);
+    let first = draws(rt.alloc(), form, b"</svg>\n")?;
+    let second = draws(rt.alloc(), form, b"</svg>\n")?;
+    assert!(rt; first.ends && second.ends);
+    assert!(rt; first.count == second.count && first.sum == second.sum);
     Ok(())
 }
 
@@ -70,6 +79,7 @@ fn a_refused_growth_writes_no_table(rt: HostRuntime) -> Result<(), Fail> {
 call 1 1: applied 32 place 1
     41  load 0: 32
 ";
-    assert!(rt; ends_with(rt.alloc(), Form::Table, wanted)?);
+    let table = draws(rt.alloc(), Form::Table, wanted)?;
+    assert!(rt; table.ends && table.count == wanted.len());
     Ok(())
 }

@@ -7,7 +7,7 @@ mod stop;
 
 use partial_pipeline::{NoWork, PipelineReport, StageEnd, run_pipeline};
 use request::request_of;
-use screen::Screen;
+use screen::{Screen, Terminal};
 use std::env;
 use std::env::Env;
 use std::io::IsTerminal;
@@ -18,8 +18,7 @@ use std::time::Clock;
 use stop::Stop;
 
 fn main(rt: HostRuntime) -> ExitCode {
-    let has_bars = rt.stdout().is_terminal();
-    match run(&rt, has_bars) {
+    match run(&rt, rt.stdout().is_terminal()) {
         Ok(()) => ExitCode::SUCCESS,
         Err(stop) => {
             let _unwritten = match &stop {
@@ -34,17 +33,18 @@ fn main(rt: HostRuntime) -> ExitCode {
 /// Runs the pipeline that the program's arguments ask for, and writes its counts.
 fn run<R: Env + Clock + Print + AllocGlobal + Threads + Wait + Sync>(
     rt: &R,
-    has_bars: bool,
+    is_terminal: bool,
 ) -> Result<(), Stop> {
     let words: Vec<String> = env::args(rt)?.collect(rt.alloc())?;
     let pipeline = request_of(rt.alloc(), &words)?;
-    let mut screen = Screen::new(rt, has_bars, pipeline.items);
+    let terminal = is_terminal.then(|| Terminal::of(rt));
+    let mut screen = Screen::new(rt, terminal, pipeline.items);
     let report = run_pipeline(rt, rt.alloc(), pipeline, &NoWork, &mut screen)?;
     screen.end(&report.counts)?;
     judge(&report)
 }
 
-/// Judges the end. A stage that didn't reach the last item ended since the memory's epochs were used up, or behind one
+/// Judges the end. A stage that didn't reach the last item ended since the memory's epochs were used up, or after one
 /// that did.
 fn judge(report: &PipelineReport) -> Result<(), Stop> {
     match report.ends.iter().all(|end| *end == StageEnd::Finished) {

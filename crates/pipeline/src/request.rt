@@ -52,7 +52,7 @@ const LOOKS: Stop = Stop::Value {
     takes: "a number from 0 to 65535",
 };
 
-/// The number behind an option, or this one without the option.
+/// The number of an option, or this one without the option.
 fn number_of(matches: &ArgMatches<'_>, name: &str, without: u64) -> Option<u64> {
     match matches.get_str(name) {
         Some(text) => text.parse().ok(),

@@ -20,7 +20,9 @@ pub enum OpenError {
     /// The closed memory has more components than the new one would have.
     TooSmall,
     /// An allocation was refused.
-    Memory,
+    OutOfMemory,
+    /// The library is of another version than this crate.
+    OtherVersion,
 }
 
 /// Why an update, a read or a scan was refused. It applied nothing.
@@ -45,13 +47,13 @@ pub enum Refused {
 #[non_exhaustive]
 pub enum CloseError {
     /// The memory could not be closed with these ports. A port of it is in use elsewhere, one that was
-    /// given is of another memory, or an allocation was refused when one was returned. The memory and
-    /// the ports come back, by their numbers, and nothing of them has changed. When an allocation is
+    /// given is of another memory, or an allocation was refused before the close began or when a port was
+    /// returned. The memory and the ports come back, by their numbers, and nothing of them has changed. When an allocation is
     /// refused as a port is taken out again, the memory keeps that port: it isn't in the list, and the
     /// next close has it.
     NotAll(super::Memory, Vec<super::Port>),
     /// An allocation was refused, and the contents are lost.
-    Memory,
+    OutOfMemory,
 }
 
 /// The two ports are of two memories. Both are as they were.
@@ -67,12 +69,13 @@ impl OpenError {
             4 => OpenError::PoolWords,
             5 => OpenError::Ports,
             13 => OpenError::TooSmall,
-            _ => OpenError::Memory,
+            _ => OpenError::OutOfMemory,
         }
     }
 
-    /// The number of the refusal: 1 to 4 for a size, in their order, 5 for `Ports`, 6 for `Memory`,
-    /// 13 for `TooSmall`.
+    /// The number of the refusal: 1 to 4 for a size, in their order, 5 for `Ports`, 6 for `OutOfMemory`,
+    /// 13 for `TooSmall`, 31 for `OtherVersion`.
+    #[must_use]
     pub fn code(self) -> u32 {
         match self {
             OpenError::Components => 1,
@@ -81,7 +84,8 @@ impl OpenError {
             OpenError::PoolWords => 4,
             OpenError::Ports => 5,
             OpenError::TooSmall => 13,
-            OpenError::Memory => 6,
+            OpenError::OutOfMemory => 6,
+            OpenError::OtherVersion => 31,
         }
     }
 }
@@ -99,6 +103,7 @@ impl Refused {
 
     /// The number of the refusal: 7 for `Component`, 8 for `SlotsSpent`, 9 for `PoolSpent`, 19 for
     /// `Length`, and 28 for `Stamp`, which this crate finds and not the library.
+    #[must_use]
     pub fn code(self) -> u32 {
         match self {
             Refused::Component => 7,
@@ -111,13 +116,14 @@ impl Refused {
 }
 
 impl CloseError {
-    /// The number of the refusal: 22 for `NotAll`, 6 for `Memory`. When the library returns 24, a
+    /// The number of the refusal: 22 for `NotAll`, 6 for `OutOfMemory`. When the library returns 24, a
     /// reference of the memory is in use, `close` reports `NotAll` too; one call after the other on
     /// a memory never leads there.
+    #[must_use]
     pub fn code(&self) -> u32 {
         match self {
             CloseError::NotAll(..) => 22,
-            CloseError::Memory => 6,
+            CloseError::OutOfMemory => 6,
         }
     }
 }
@@ -131,7 +137,8 @@ impl fmt::Display for OpenError {
             OpenError::PoolWords => "pool words out of range",
             OpenError::Ports => "ports out of range",
             OpenError::TooSmall => "fewer components than before",
-            OpenError::Memory => "out of memory",
+            OpenError::OutOfMemory => "out of memory",
+            OpenError::OtherVersion => "the library is of another version than the crate",
         })
     }
 }
@@ -152,7 +159,7 @@ impl fmt::Display for CloseError {
     fn fmt(&self, f: &mut fmt::Formatter<'_>) -> fmt::Result {
         f.write_str(match self {
             CloseError::NotAll(..) => "a port is in use elsewhere, or of another memory",
-            CloseError::Memory => "out of memory",
+            CloseError::OutOfMemory => "out of memory",
         })
     }
 }

@@ -1,30 +1,34 @@
 //! Open memories and closed ones.
 
 use super::port::Port;
-use crate::raw::{self, Handle};
 use super::{CloseError, OpenError, Sizes};
+use crate::counted::Counted;
+use crate::raw::{self, Handle};
+use crate::{is_of_this_version, ENGINE};
 use std::fmt;
+use std::mem;
 use std::sync::atomic::{AtomicU64, Ordering};
-use std::sync::{Arc, Mutex, MutexGuard, PoisonError};
+use std::sync::{Mutex, MutexGuard, PoisonError};
 
 // The number of the next opening. Each opening has a number of its own.
 static OPENINGS: AtomicU64 = AtomicU64::new(0);
 
-/// The ports that were dropped while their memory was open.
-#[derive(Default)]
+/// The ports that were dropped while their memory was open. There is no list once the memory is gone.
 pub(crate) struct Home {
-    dropped: Mutex<Vec<Port>>,
+    dropped: Mutex<Option<Vec<Port>>>,
 }
 
 impl Home {
     // Nobody panics while the list is locked, so a poisoned one is whole too.
-    fn ports(&self) -> MutexGuard<'_, Vec<Port>> {
+    fn ports(&self) -> MutexGuard<'_, Option<Vec<Port>>> {
         self.dropped.lock().unwrap_or_else(PoisonError::into_inner)
     }
 
-    /// Takes a dropped port in.
+    /// Takes a dropped port in. The list has room for all ports of the memory.
     pub(crate) fn take_in(&self, port: Port) {
-        self.ports().push(port);
+        if let Some(ports) = &mut *self.ports() {
+            ports.push(port);
+        }
     }
 }
 
@@ -36,7 +40,7 @@ pub struct Memory {
     opening: u64,
     components: u32,
     ports: u32,
-    home: Arc<Home>,
+    home: Counted<Home>,
 }
 
 /// The values of a closed memory.
@@ -59,20 +63,13 @@ pub struct Closed {
 /// # Errors
 /// The first that holds: [`OpenError::Components`], [`OpenError::Slots`], [`OpenError::ListWords`] or
 /// [`OpenError::PoolWords`] for a size out of its range; [`OpenError::Ports`] when there are not 1 to 64
-/// ports; [`OpenError::Memory`] when an allocation was refused. Nothing is left of the attempt.
+/// ports; [`OpenError::OutOfMemory`] when an allocation was refused. Nothing is left of the attempt.
 pub fn open(initial: &[u64], sizes: Sizes, ports: u32) -> Result<(Memory, Vec<Port>), OpenError> {
-    let mut memory = Memory::new(u32::try_from(initial.len()).map_err(|_| OpenError::Components)?, ports);
+    let mut memory = Memory::new(u32::try_from(initial.len()).map_err(|_| OpenError::Components)?, ports)?;
     // SAFETY: the values, the sizes and the empty handle are borrowed for the call, and the number of
     // the opening is new.
     let code = unsafe {
-        raw::partial_door_open(
-            memory.opening,
-            initial.as_ptr(),
-            initial.len(),
-            &sizes.raw(),
-            ports,
-            &mut memory.handle,
-        )
+        raw::partial_door_open(memory.opening, initial.as_ptr(), initial.len(), &sizes.raw(), ports, &mut memory.handle)
     };
     match code {
         0 => memory.with_ports(),
@@ -82,19 +79,21 @@ pub fn open(initial: &[u64], sizes: Sizes, ports: u32) -> Result<(Memory, Vec<Po
 
 impl Memory {
     // A memory that is to be opened.
-    fn new(components: u32, ports: u32) -> Memory {
-        Memory {
-            handle: Handle::empty(),
-            opening: OPENINGS.fetch_add(1, Ordering::SeqCst),
-            components,
-            ports,
-            home: Arc::default(),
+    fn new(components: u32, ports: u32) -> Result<Memory, OpenError> {
+        if !is_of_this_version() {
+            return Err(OpenError::OtherVersion);
         }
+        let home = Counted::new(Home { dropped: Mutex::new(Some(Vec::new())) }).ok_or(OpenError::OutOfMemory)?;
+        let opening = OPENINGS.fetch_add(1, Ordering::SeqCst);
+        Ok(Memory { handle: Handle::empty(), opening, components, ports, home })
     }
 
     // Takes all ports out of a memory that has just opened.
     fn with_ports(mut self) -> Result<(Memory, Vec<Port>), OpenError> {
-        let mut ports = Vec::with_capacity(self.ports as usize);
+        let (mut ports, mut dropped) = (Vec::new(), Vec::new());
+        ports.try_reserve_exact(self.ports as usize).map_err(|_| OpenError::OutOfMemory)?;
+        dropped.try_reserve_exact(self.ports as usize).map_err(|_| OpenError::OutOfMemory)?;
+        *self.home.ports() = Some(dropped);
         for _ in 0..self.ports {
             ports.push(self.take_port().map_err(OpenError::of)?);
         }
@@ -122,7 +121,7 @@ impl Memory {
     /// assert!(memory.port().is_none());
     /// let failed = std::thread::spawn(move || {
     ///     let mut ports = ports;
-    ///     ports[0].update(0, 7).expect("there is room");
+    ///     let _ = ports[0].update(0, 7).expect("there is room");
     ///     panic!("the port is dropped");
     /// });
     /// assert!(failed.join().is_err());
@@ -130,14 +129,16 @@ impl Memory {
     /// assert_eq!(memory.close(vec![port])?.values(), [7]);
     /// # Ok::<(), Box<dyn std::error::Error + Send + Sync>>(())
     /// ```
+    #[must_use]
     pub fn port(&self) -> Option<Port> {
-        let mut port = self.home.ports().pop()?;
+        let mut port = self.home.ports().as_mut()?.pop()?;
         port.lives_at(&self.home);
         Some(port)
     }
 
     /// The number of components.
     #[allow(clippy::len_without_is_empty)]
+    #[must_use]
     pub fn len(&self) -> usize {
         self.components as usize
     }
@@ -150,7 +151,7 @@ impl Memory {
     ///
     /// let sizes = Sizes { slots: 10, list_words: 0, pool_words: 100 };
     /// let (memory, mut ports) = open(&[1, 2], sizes, 2)?;
-    /// ports[1].update(0, 7)?;
+    /// assert!(ports[1].update(0, 7)?.is_applied());
     /// let other = ports.split_off(1);
     /// let Err(CloseError::NotAll(memory, ports)) = memory.close(ports) else { panic!() };
     /// drop(other);
@@ -160,11 +161,20 @@ impl Memory {
     ///
     /// # Errors
     /// [`CloseError::NotAll`] when a port of the memory is in use elsewhere, or one of another memory was given: it
-    /// has the memory and the ports, by their numbers. [`CloseError::Memory`] when an allocation was refused: the
+    /// has the memory and the ports, by their numbers. [`CloseError::OutOfMemory`] when an allocation was refused: the
     /// contents are lost.
     pub fn close(mut self, mut ports: Vec<Port>) -> Result<Closed, CloseError> {
-        ports.append(&mut self.home.ports());
-        let mut left = Vec::new();
+        let (mut left, mut values) = (Vec::new(), Vec::new());
+        let room = ports.len() + self.ports as usize;
+        if ports.try_reserve_exact(self.ports as usize).is_err()
+            || left.try_reserve_exact(room).is_err()
+            || values.try_reserve_exact(self.len()).is_err()
+        {
+            return Err(CloseError::NotAll(self, ports));
+        }
+        if let Some(dropped) = &mut *self.home.ports() {
+            ports.append(dropped);
+        }
         let mut returned = 0;
         for mut port in ports {
             // SAFETY: both handles are borrowed for the call.
@@ -179,23 +189,33 @@ impl Memory {
             false => 22,
         };
         match code {
-            0 => Ok(Closed::new(std::mem::replace(&mut self.handle, Handle::empty()), self.len())),
+            0 => {
+                values.resize(self.len(), 0);
+                Ok(Closed::new(mem::replace(&mut self.handle, Handle::empty()), values))
+            }
             22 | 24 => {
                 left.extend((0..returned).filter_map(|_| self.take_port().ok()));
                 for port in &mut left {
                     port.lives_at_if(self.opening, &self.home);
                 }
-                left.sort_by_key(Port::number);
+                left.sort_unstable_by_key(Port::number);
                 Err(CloseError::NotAll(self, left))
             }
-            _ => Err(CloseError::Memory),
+            _ => Err(CloseError::OutOfMemory),
         }
     }
 }
 
+impl Drop for Memory {
+    /// Frees the ports that were dropped. The others are freed when they are.
+    fn drop(&mut self) {
+        drop(self.home.ports().take());
+    }
+}
+
 impl Closed {
-    fn new(mut handle: Handle, components: usize) -> Closed {
-        let mut values = vec![0; components];
+    /// Takes the values of a closed memory, of which there are as many as here.
+    fn new(mut handle: Handle, mut values: Vec<u64>) -> Closed {
         // SAFETY: the handle and the values are borrowed for the call.
         let code = unsafe { raw::partial_door_values(&mut handle, values.as_mut_ptr(), values.len()) };
         assert_eq!(code, 0, "a closed memory has as many values as it was opened with");
@@ -211,7 +231,7 @@ impl Closed {
     ///
     /// let sizes = Sizes { slots: 10, list_words: 0, pool_words: 100 };
     /// let (memory, mut ports) = open(&[1, 2], sizes, 1)?;
-    /// ports[0].update(1, 7)?;
+    /// assert!(ports[0].update(1, 7)?.is_applied());
     /// let mut closed = memory.close(ports)?;
     /// let (memory, ports) = closed.reopen(3, sizes, 2)?;
     /// assert_eq!(memory.close(ports)?.values(), [1, 7, 0]);
@@ -219,10 +239,10 @@ impl Closed {
     /// ```
     ///
     /// # Errors
-    /// The first that holds: as those of [`open`], and before [`OpenError::Memory`] [`OpenError::TooSmall`]
+    /// The first that holds: as those of [`open`], and before [`OpenError::OutOfMemory`] [`OpenError::TooSmall`]
     /// when the closed memory has more components. Nothing is left of the attempt.
     pub fn reopen(&mut self, components: u32, sizes: Sizes, ports: u32) -> Result<(Memory, Vec<Port>), OpenError> {
-        let mut memory = Memory::new(components, ports);
+        let mut memory = Memory::new(components, ports)?;
         // SAFETY: both handles and the sizes are borrowed for the call, and the number of the opening is new.
         let code = unsafe {
             raw::partial_door_reopen(
@@ -241,6 +261,7 @@ impl Closed {
     }
 
     /// The value of each component, by its index.
+    #[must_use]
     pub fn values(&self) -> &[u64] {
         &self.values
     }
@@ -252,6 +273,7 @@ impl fmt::Debug for Memory {
             .field("opening", &self.opening)
             .field("components", &self.components)
             .field("ports", &self.ports)
+            .field("engine", &ENGINE)
             .finish()
     }
 }

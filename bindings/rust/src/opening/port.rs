@@ -1,11 +1,11 @@
 //! Ports: the tokens by which threads call a memory.
 
 use super::memory::Home;
+use super::{Change, Refused, Scanned, Stamp, TwoMemories, Updated, UpdatedIf, Value};
 use crate::answers::loaded;
+use crate::counted::Counted;
 use crate::raw::{self, Handle};
-use super::{Refused, Scanned, Stamp, TwoMemories, Updated, UpdatedIf, Value};
 use std::fmt;
-use std::sync::{Arc, Weak};
 
 /// A port of an open memory: a caller's token. One thread at a time uses it; it may move to another thread.
 ///
@@ -18,12 +18,13 @@ pub struct Port {
     number: u32,
     pool_spent: bool,
     slots_spent: bool,
-    home: Weak<Home>,
+    /// Where it goes when it is dropped, unless it is there.
+    home: Option<Counted<Home>>,
 }
 
 impl Port {
     /// The port of this handle, which the library has filled.
-    pub(crate) fn new(mut handle: Handle, opening: u64, components: u32, home: &Arc<Home>) -> Port {
+    pub(crate) fn new(mut handle: Handle, opening: u64, components: u32, home: &Counted<Home>) -> Port {
         let mut state = raw::PortState::default();
         // SAFETY: the handle and the place for the answer are borrowed for the call.
         let code = unsafe { raw::partial_door_state(&mut handle, &mut state) };
@@ -35,7 +36,7 @@ impl Port {
             number: state.number,
             pool_spent: state.pool_spent == 1,
             slots_spent: state.slots_spent == 1,
-            home: Arc::downgrade(home),
+            home: Some(home.clone()),
         }
     }
 
@@ -44,12 +45,12 @@ impl Port {
     }
 
     /// From now on the port comes back to this memory when it is dropped.
-    pub(crate) fn lives_at(&mut self, home: &Arc<Home>) {
-        self.home = Arc::downgrade(home);
+    pub(crate) fn lives_at(&mut self, home: &Counted<Home>) {
+        self.home = Some(home.clone());
     }
 
     /// The same, if this is the memory that the port is of.
-    pub(crate) fn lives_at_if(&mut self, opening: u64, home: &Arc<Home>) {
+    pub(crate) fn lives_at_if(&mut self, opening: u64, home: &Counted<Home>) {
         if self.opening == opening {
             self.lives_at(home);
         }
@@ -106,9 +107,8 @@ impl Port {
         }
         let mut answer = raw::UpdateAnswer::default();
         // SAFETY: the handle and the place for the answer are borrowed for the call.
-        let code = unsafe {
-            raw::partial_door_update_if(&mut self.handle, component, expected.word, value, &mut answer)
-        };
+        let code =
+            unsafe { raw::partial_door_update_if(&mut self.handle, component, expected.word, value, &mut answer) };
         match code {
             0 if answer.applied == 1 => Ok(UpdatedIf::Applied { stamp: self.stamp(answer.stamp) }),
             0 => Ok(UpdatedIf::Changed { by: self.stamp(answer.stamp) }),
@@ -117,8 +117,8 @@ impl Port {
     }
 
     /// Sets component `component` to what the closure makes of its value, and tries again with the new value when
-    /// another update came between. `None` from the closure ends it: nothing is applied. Returns the stamp of the
-    /// update and the value that it set, or `None`.
+    /// another update came between. `None` from the closure ends it: nothing is applied. Returns the value before and the
+    /// one after, each with its stamp, or `None`.
     ///
     /// Each try is wait-free; how many there are depends on the other ports.
     ///
@@ -126,8 +126,9 @@ impl Port {
     /// use partial_door::opening::{open, Sizes};
     ///
     /// let mut port = open(&[5], Sizes::default(), 1)?.1.remove(0);
-    /// let set = port.modify(0, |value| value.checked_add(1))?.expect("it has room");
-    /// assert_eq!((set.value, port.read(0)?), (6, set));
+    /// let change = port.modify(0, |value| value.checked_add(1))?.expect("it has room");
+    /// assert_eq!((change.before.value, change.after.value), (5, 6));
+    /// assert_eq!(port.read(0)?, change.after);
     /// assert_eq!(port.modify(0, |_| None)?, None);
     /// # Ok::<(), Box<dyn std::error::Error + Send + Sync>>(())
     /// ```
@@ -138,14 +139,14 @@ impl Port {
         &mut self,
         component: u32,
         mut change: impl FnMut(u64) -> Option<u64>,
-    ) -> Result<Option<Value>, Refused> {
+    ) -> Result<Option<Change>, Refused> {
         loop {
-            let seen = self.read(component)?;
-            let Some(value) = change(seen.value) else {
+            let before = self.read(component)?;
+            let Some(value) = change(before.value) else {
                 return Ok(None);
             };
-            if let UpdatedIf::Applied { stamp } = self.update_if(component, seen.stamp, value)? {
-                return Ok(Some(Value { value, stamp }));
+            if let UpdatedIf::Applied { stamp } = self.update_if(component, before.stamp, value)? {
+                return Ok(Some(Change { before, after: Value { value, stamp } }));
             }
         }
     }
@@ -168,10 +169,7 @@ impl Port {
         let mut answer = raw::ReadAnswer::default();
         // SAFETY: the handle and the place for the answer are borrowed for the call.
         match unsafe { raw::partial_door_read(&mut self.handle, component, &mut answer) } {
-            0 => Ok(Value {
-                value: answer.value,
-                stamp: self.stamp(answer.stamp),
-            }),
+            0 => Ok(Value { value: answer.value, stamp: self.stamp(answer.stamp) }),
             code => Err(self.refused(code)),
         }
     }
@@ -237,12 +235,14 @@ impl Port {
     }
 
     /// The number of the port: ports are numbered from 0 in the order in which [`open`](super::open) returns them.
+    #[must_use]
     pub fn number(&self) -> u32 {
         self.number
     }
 
     /// The number of components of the memory.
     #[allow(clippy::len_without_is_empty)]
+    #[must_use]
     pub fn len(&self) -> usize {
         self.components as usize
     }
@@ -259,11 +259,13 @@ impl Port {
     /// assert!(port.pool_spent() && !port.slots_spent());
     /// # Ok::<(), Box<dyn std::error::Error + Send + Sync>>(())
     /// ```
+    #[must_use]
     pub fn pool_spent(&self) -> bool {
         self.pool_spent
     }
 
     /// Whether the port is marked for the slots. If so, its scans of some position are refused.
+    #[must_use]
     pub fn slots_spent(&self) -> bool {
         self.slots_spent
     }
@@ -276,7 +278,7 @@ impl Port {
     ///
     /// let (_memory, mut ports) = open(&[5], Sizes::default(), 2)?;
     /// let (first, second) = ports.split_at_mut(1);
-    /// first[0].update(0, 6)?;
+    /// assert!(first[0].update(0, 6)?.is_applied());
     /// first[0].meet(&mut second[0])?;
     /// assert_eq!(second[0].read(0)?.value, 6);
     /// # Ok::<(), Box<dyn std::error::Error + Send + Sync>>(())
@@ -293,10 +295,7 @@ impl Port {
     }
 
     fn stamp(&self, word: u64) -> Stamp {
-        Stamp {
-            opening: self.opening,
-            word,
-        }
+        Stamp { opening: self.opening, word }
     }
 
     // The cause of a refusal, which may have marked the port.
@@ -322,12 +321,10 @@ impl fmt::Debug for Port {
 
 impl Drop for Port {
     fn drop(&mut self) {
-        if let Some(home) = self.home.upgrade().filter(|_| !self.handle.is_empty()) {
-            home.take_in(Port {
-                handle: std::mem::replace(&mut self.handle, Handle::empty()),
-                home: Weak::new(),
-                ..*self
-            });
+        let Some(home) = self.home.take() else { return };
+        if !self.handle.is_empty() {
+            let handle = std::mem::replace(&mut self.handle, Handle::empty());
+            home.take_in(Port { handle, home: None, ..*self });
         }
     }
 }

@@ -1,5 +1,5 @@
 -- What the parts of a change of epoch leave of a port.
-use Rattle.std.specs.Prelude.{ℕ, ◌≡◌, ◌≢◌, ◌+◌, ◌-◌, ◌%◌, ◌<◌, ◌≤◌, ◌⊎◌, nat_lt, if◌then◌else◌, Bool, true, false, IfSome, List, [], Option, None, Some}
+use Rattle.std.specs.Prelude.{⊤, ℕ, ◌≡◌, ◌≢◌, ◌+◌, ◌-◌, ◌*◌, ◌%◌, ◌<◌, ◌≤◌, ◌⊎◌, nat_lt, if◌then◌else◌, Bool, true, false, IfSome, List, [], Option, None, Some}
 use Rattle.partial_model.specs.declared.history.Applied.{Applied}
 use Rattle.partial_words.specs.Layout.{Layout, first_free, initial_record, list_base}
 use Rattle.partial_words.specs.Chain.{opening_word}
@@ -14,7 +14,7 @@ use Rattle.partial_long_lived.specs.declared.claim.Claimed.TheVariants.{Clean, T
 use Rattle.partial_long_lived.specs.declared.error.Refused.{Refused}
 use Rattle.partial_long_lived.specs.declared.error.Refused.TheVariants.{EpochsSpent, NoArena}
 use Rattle.partial_long_lived.specs.declared.stand.Stand.{Stand}
-use Rattle.partial_long_lived.specs.Rule.{Began, Found, SeatedPort, plan_of}
+use Rattle.partial_long_lived.specs.Rule.{Began, Found, Contention, SeatedPort, plan_of, times_in}
 use Rattle.partial_long_lived.specs.Inner.Steps.{SeatGoes}
 use Rattle.partial_long_lived.specs.Inner.Moves.{BeganBy, PutsPort, Sets, Takes, unpacked}
 use Rattle.partial_long_lived.specs.Inner.Calls.{IsIdle}
@@ -148,6 +148,25 @@ HasCleared x n (Clean y) s = (y ≡ x) × HasSetWords s x n 0
 HasCleared x n Taken s = Owns s x
 HasCleared x n Ended s = Owns s x × IsPast s
 
+-- from the one stand to the other the port has found arena x owned by another one or stood in
+abbrev pub IsBusy : ℕ → Stand → Stand → Type 0
+IsBusy x s t = times_in x (port_at s).contention.busy + 1 ≤ times_in x (port_at t).contention.busy
+
+-- so it is of an arena that was found taken
+abbrev pub FoundBusyAt : Claimed → ℕ → Stand → Stand → Type 0
+FoundBusyAt Taken x s t = IsBusy x s t
+FoundBusyAt _ x s t = ⊤
+
+-- from the one stand to the other the port has met another one in each arena but its own, so many times
+abbrev pub FoundAllBusy : ℕ → Stand → Stand → Type 0
+FoundAllBusy n s t = (x : ℕ) → x < (port_at t).about.arenas → x ≢ (port_at t).port.control.here.arena →
+    times_in x (port_at s).contention.busy + n ≤ times_in x (port_at t).contention.busy
+
+-- so it is where all arenas were found taken
+abbrev pub FoundBusyBy : Claimed → ℕ → Stand → Stand → Type 0
+FoundBusyBy Taken n s t = FoundAllBusy n s t
+FoundBusyBy _ n s t = ⊤
+
 -- v is what each opening has in the word that is set as number i, whatever its values are
 pub record IsFixedWord (z : Layout) (v i : ℕ) : Type 0 where
   pub within : i < list_base z
@@ -198,20 +217,22 @@ pub record EpochChanged (first : Bool) (s t : Stand) : Type 0 where
   pub n : Began
   pub began : BeganBy first (port_at s) n
   pub before : List (List Applied)
+  pub contention : Contention
   pub is : port_at t ≡ record (port_at s) {
     port = arrived_port (plan_of (port_at s).about) (port_at s).number (record { epoch = t.epoch; arena = t.arena }) before;
     began = n;
     found = None;
+    contention = contention;
   }
   pub later : (port_at s).port.control.here.epoch < t.epoch
   pub fresh : n.epoch ≤ t.epoch
 
 -- Why a change of epoch is refused: the port's epoch is the last one that a word can name, or it isn't, and each of its components is sealed,
--- but no arena was free.
-abbrev pub IsCause : Stand → Refused → Type 0
-IsCause s EpochsSpent = s.epoch + 1 ≡ epoch_limit
-IsCause s NoArena = (s.epoch + 1 < epoch_limit) × ((port_at s).about.sizes.m ≤ (port_at s).port.passed)
-IsCause s _ = ⊥
+-- but in three passes for each port each arena but the port's own was found owned or stood in.
+abbrev pub IsCause : Stand → Stand → Refused → Type 0
+IsCause s t EpochsSpent = t.epoch + 1 ≡ epoch_limit
+IsCause s t NoArena = (t.epoch + 1 < epoch_limit) × ((port_at t).about.sizes.m ≤ (port_at t).port.passed) × FoundAllBusy (3 * (port_at t).about.ports) s t
+IsCause s t _ = ⊥
 
 -- The change is refused: the port stands where it stood, with the part that it had, and owns no arena.
 pub record NotChanged (first : Bool) (s t : Stand) : Type 0 where

@@ -1,6 +1,6 @@
 -- The seat of a port in a call, with where the port stands.
 use Rattle.std.specs.Prelude.{ℕ, ◌≡◌}
-use Rattle.atomic_table.specs.Seated.{TableId}
+use Rattle.partial_table.specs.Table.{TableId}
 use Rattle.partial_epochs.specs.Layout.{base, whole}
 use Rattle.partial_long_lived.specs.declared.rule.About.{About}
 use Rattle.partial_long_lived.specs.declared.stand.Stand.{Stand}

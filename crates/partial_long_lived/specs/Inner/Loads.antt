@@ -1,6 +1,6 @@
 -- What a load in the arena where a port stands tells it.
 use Rattle.std.specs.Prelude.{ℕ, ◌≡◌, ◌+◌, ◌-◌, ◌<◌, ◌≤◌, ◌==◌, ◌&&◌, ◌++◌, nat_lt, Bool, not, List, [], ◌∷◌, length, take, Option, Some, if◌then◌else◌}
-use Rattle.atomic_table.specs.Table.{Me}
+use Rattle.partial_table.specs.Table.{Me}
 use Rattle.partial_model.specs.declared.history.Applied.{Applied}
 use Rattle.partial_model.specs.declared.history.Opening.{Opening}
 use Rattle.partial_model.specs.declared.call.Call.{Call}
@@ -13,7 +13,7 @@ use Rattle.partial_words.specs.Record.{value_word}
 use Rattle.partial_epochs.specs.Layout.{base, carried_word, seal, unsealed}
 use Rattle.partial_epochs.specs.History.{carried_behind, history_of, opening_behind}
 use Rattle.partial_epochs.specs.Notes.{having_seen, public_of}
-use Rattle.partial_long_lived.specs.Rule.{Began, Found, SeatedPort, one_of, plan_of}
+use Rattle.partial_long_lived.specs.Rule.{Began, Found, Contention, SeatedPort, one_of, plan_of}
 use Rattle.partial_long_lived.specs.Inner.Steps.{BeginsWith, tells}
 use Rattle.partial_long_lived.specs.Inner.Moves.{BeganBy}
 
@@ -63,6 +63,11 @@ abbrev pub found_by : Wish → SeatedPort → List Applied → ℕ → Option Fo
 found_by Finds x log j = Some (record { component = j; value = value_seen x log j; stamp = stamp_seen x log j })
 found_by _ x log j = x.found
 
+-- what the port has met then: a seal on a component that it was to update
+abbrev pub contention_by : Wish → ℕ → Contention → Contention
+contention_by (Expects expected v) a m = if nat_lt a seal then m else record m { seals = m.seals + 1 }
+contention_by _ a m = m
+
 -- A load of the word of component j, by which the port sees its epoch's whole history. The first load of a call answers nothing where the
 -- component is sealed, since the epoch may have passed before the call began.
 pub record SeatSees (first : Bool) (wish : Wish) (j : ℕ) (x : SeatedPort) (a : ℕ) (y : SeatedPort) : Type 0 where
@@ -76,6 +81,7 @@ pub record SeatSees (first : Bool) (wish : Wish) (j : ℕ) (x : SeatedPort) (a :
     began = n;
     notes = x.notes ++ (if first && not (nat_lt a seal) then [] else noted_by wish x log j);
     found = found_by wish x log j;
+    contention = contention_by wish a x.contention;
   }
   -- the word names the component's last record, which lies in the arena
   pub stamp : unsealed a ≡ stamp_of (opening_of x) log j

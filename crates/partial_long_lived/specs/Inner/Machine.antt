@@ -1,6 +1,6 @@
 -- What a step of a port's machine tells the port, made in the arena where the port stands.
 use Rattle.std.specs.Prelude.{⊤, ℕ, ◌≡◌, ◌≢◌, ◌+◌, ◌%◌, ◌^◌, ◌<◌, ◌≤◌, ◌==◌, ◌&&◌, ◌||◌, ◌⊎◌, ◌++◌, nat_lt, Bool, true, false, List, length, map, take, Some, if◌then◌else◌}
-use Rattle.atomic_table.specs.Table.{Me}
+use Rattle.partial_table.specs.Table.{Me}
 use Rattle.partial_model.specs.declared.history.Applied.{Applied}
 use Rattle.partial_model.specs.declared.call.Call.{Call}
 use Rattle.partial_model.specs.declared.call.Refused.{Refused}
@@ -22,7 +22,7 @@ use Rattle.partial_epochs.specs.MachineSteps.{MayClaim}
 use Rattle.partial_epochs.specs.Notes.{public_noted}
 use Rattle.partial_long_lived.specs.Rule.{Began, SeatedPort, one_of, plan_of}
 use Rattle.partial_long_lived.specs.Inner.Steps.{tells}
-use Rattle.partial_long_lived.specs.Inner.Moves.{BeganBy}
+use Rattle.partial_long_lived.specs.Inner.Moves.{BeganBy, finding_seal}
 use Rattle.partial_long_lived.specs.Inner.Loads.{SeatSees, component_at, opening_of}
 use Rattle.partial_long_lived.specs.Inner.Loads.Wish.{Glances}
 
@@ -98,9 +98,9 @@ pub record SeatMakes (first : Bool) (c : CoreState) (s : Step) (x : SeatedPort) 
 abbrev pub MissesSeal : ℕ → ℕ → Type 0
 MissesSeal old a = (a < seal) ⊎ (unsealed a ≢ old)
 
--- the exchange of a component word finds the record that it expects, but sealed, and tells nothing; or it is a step of the machine
+-- the exchange of a component word finds the record that it expects, but sealed, and meets the seal; or it is a step of the machine
 abbrev pub Exchanges : CoreState → ℕ → Step → SeatedPort → ℕ → SeatedPort → Type 0
-Exchanges c old s x a y = (IsSealed a × (unsealed a ≡ old) × (y ≡ x))
+Exchanges c old s x a y = (IsSealed a × (unsealed a ≡ old) × (y ≡ finding_seal x))
     ⊎ (MissesSeal old a × SeatMakes false c s x (unsealed_answer (plan_of x.about) s a) y)
 
 -- the step of a machine, as the seat is told of it
@@ -120,9 +120,9 @@ abbrev pub word_at : {S : Type 0} → Me S (List SeatedPort) → ℕ → ℕ
 word_at me i = component_at (one_of me.0) i
 
 -- The load of component j by which the machine c of an update begins, in an epoch no older than its call, unless the component is sealed: then
--- the port only sees it.
+-- the port sees it, and meets the seal.
 abbrev pub SeatBegins : Bool → CoreState → ℕ → SeatedPort → ℕ → SeatedPort → Type 0
-SeatBegins first c j x a y = (IsSealed a × SeatSees first Glances j x a y)
+SeatBegins first c j x a y = ((z : SeatedPort) × IsSealed a × SeatSees first Glances j x a z × (y ≡ finding_seal z))
     ⊎ ((a < seal) × SeatMakes first c (Load j) x a y × (y.began.epoch ≤ x.port.control.here.epoch))
 
 -- the same of what a seat knows

@@ -1,10 +1,10 @@
 -- What two ports tell each other that meet.
-use Rattle.std.specs.Prelude.{ℕ, ◌≡◌, ◌<◌, ◌≤◌, List, [], ◌∷◌, length}
-use Rattle.atomic_table.specs.Table.{Me}
+use Rattle.std.specs.Prelude.{ℕ, ◌≡◌, ◌<◌, ◌≤◌, ◌⊎◌, List, [], ◌∷◌, length}
+use Rattle.partial_table.specs.Table.{Me}
 use Rattle.partial_model.specs.declared.history.Applied.{Applied}
 use Rattle.partial_epochs.specs.Notes.{having_seen}
 use Rattle.partial_long_lived.specs.Rule.{Began, SeatedPort, one_of, further_ports}
-use Rattle.partial_long_lived.specs.Ports.{seen_in}
+use Rattle.partial_long_lived.specs.Ports.{Knows, seen_in}
 use Rattle.partial_long_lived.specs.declared.stand.Stand.{Stand}
 use Rattle.partial_long_lived.specs.Inner.Calls.{HasCome}
 use Rattle.partial_long_lived.specs.Inner.Held.{port_at}
@@ -22,6 +22,9 @@ pub record Observes (x y z : SeatedPort) : Type 0 where
   pub all : y.port.control.here.epoch ≤ x.port.control.here.epoch → BeginsWith (seen_in y.port) (seen_in z.port)
   -- where it stands in a later one, y has seen all that x had seen
   pub before : x.port.control.here.epoch < y.port.control.here.epoch → BeginsWith (seen_in x.port) (seen_in y.port)
+  -- what the one knows of its own calls it knows in what the other one has seen, where that is no less
+  pub known : BeginsWith (seen_in y.port) (seen_in z.port) → Knows y.about y.number (seen_in z.port) y.notes
+  pub known_before : BeginsWith (seen_in x.port) (seen_in y.port) → Knows x.about x.number (seen_in y.port) x.notes
 
 -- the second port of a view
 abbrev pub second_of : List SeatedPort → SeatedPort
@@ -32,8 +35,14 @@ abbrev pub observes : {S : Type 0} → Me S (List SeatedPort) → ℕ → Me S (
 observes me a me' = (me'.0 ≡ one_of me'.0 ∷ second_of me.0 ∷ []) × (me'.1 ≡ []) × SeatGoes (one_of me.0) (one_of me'.0)
     × Observes (one_of me.0) (second_of me.0) (one_of me'.0)
 
--- A port that has met another one stands where it stood, or in a later epoch, and has noted nothing. It has seen all that the other one had seen.
+-- A port that has met another one stands where it stood, or in a later epoch, and has noted nothing. It has seen all that the other one had seen,
+-- and the other one's notes are legal there, with its entries.
 pub record HasMet (s other t : Stand) : Type 0 where
   pub come : HasCome s t
   pub notes : (port_at t).notes ≡ (port_at s).notes
   pub all : BeginsWith (seen_in (port_at other).port) (seen_in (port_at t).port)
+  pub knows : Knows (port_at other).about (port_at other).number (seen_in (port_at t).port) (port_at other).notes
+
+-- what the one port has seen begins what the other one has seen
+abbrev pub AreComparable : Stand → Stand → Type 0
+AreComparable s t = BeginsWith (seen_in (port_at s).port) (seen_in (port_at t).port) ⊎ BeginsWith (seen_in (port_at t).port) (seen_in (port_at s).port)

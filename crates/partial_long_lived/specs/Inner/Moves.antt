@@ -1,5 +1,5 @@
 -- What the steps of a change of epoch, and of entering one, do to a port, by what they find.
-use Rattle.std.specs.Prelude.{ℕ, ◌≡◌, ◌-◌, ◌/◌, ◌%◌, ◌<◌, ◌≤◌, ◌==◌, nat_lt, Bool, true, false, List, length, None, if◌then◌else◌}
+use Rattle.std.specs.Prelude.{ℕ, ◌≡◌, ◌+◌, ◌-◌, ◌/◌, ◌%◌, ◌<◌, ◌≤◌, ◌==◌, nat_lt, Bool, true, false, List, ◌∷◌, length, None, if◌then◌else◌}
 use Rattle.std.specs.Option.{option_map_or}
 use Rattle.partial_model.specs.declared.history.Applied.{Applied}
 use Rattle.partial_epochs.specs.Layout.{Place, IsPlace, arena_limit, entering_mark, marked, packed, seal}
@@ -9,12 +9,20 @@ use Rattle.partial_epochs.specs.Entering.{arrived_port, having_passed}
 use Rattle.partial_epochs.specs.Sealing.{passing_port}
 use Rattle.partial_epochs.specs.Owning.{at_next_port, having_given, having_loaded, having_looked, just_taken, owning_port}
 use Rattle.partial_epochs.specs.Publishing.{having_published, having_set}
-use Rattle.partial_long_lived.specs.Rule.{Began, SeatedPort, plan_of}
+use Rattle.partial_long_lived.specs.Rule.{Began, Contention, SeatedPort, plan_of}
 use Rattle.partial_long_lived.specs.Ports.{seen_in}
 
 -- the place that a word names
 abbrev pub unpacked : ℕ → Place
 unpacked w = record { epoch = w / arena_limit; arena = w % arena_limit }
+
+-- a port that has found the arena owned by another one, or stood in
+abbrev pub finding_busy : ℕ → Contention → Contention
+finding_busy x m = record m { busy = x ∷ m.busy }
+
+-- a port that has found sealed the component that it was to update
+abbrev pub finding_seal : SeatedPort → SeatedPort
+finding_seal x = record x { contention = record x.contention { seals = x.contention.seals + 1 } }
 
 -- the seat of the port once it is so, in a call that began then
 abbrev pub becomes : SeatedPort → Began → Port → SeatedPort
@@ -81,9 +89,13 @@ Seals x a y = y ≡ becomes x x.began (passing_port x.port)
 abbrev pub taken_at : ℕ → ℕ → Port → Port
 taken_at i a p = if a == 0 then owning_port p (just_taken i) else p
 
+-- what it has met then: another owner, unless the arena was free
+abbrev pub contention_taking : ℕ → ℕ → Contention → Contention
+contention_taking i a m = if a == 0 then m else finding_busy i m
+
 -- that exchange
 abbrev pub Takes : ℕ → SeatedPort → ℕ → SeatedPort → Type 0
-Takes i x a y = y ≡ becomes x x.began (taken_at i a x.port)
+Takes i x a y = y ≡ record (becomes x x.began (taken_at i a x.port)) { contention = contention_taking i a x.contention }
 
 -- the store that gives the arena back
 abbrev pub SeatGives : SeatedPort → ℕ → SeatedPort → Type 0
@@ -97,17 +109,29 @@ elsewhere a o = if (unpacked a).arena == o.arena then o else at_next_port o
 abbrev pub port_loaded : ℕ → OwnedArena → OwnedArena
 port_loaded a o = if nat_lt a entering_mark then elsewhere a o else having_loaded o (unpacked (a - entering_mark))
 
+-- what an owner has met by the unmarked word a of a port: that the port stands in the arena, unless it names another one
+abbrev pub contention_there : ℕ → OwnedArena → Contention → Contention
+contention_there a o m = if (unpacked a).arena == o.arena then finding_busy o.arena m else m
+
+-- the same where the word may be marked
+abbrev pub contention_loading : ℕ → OwnedArena → Contention → Contention
+contention_loading a o m = if nat_lt a entering_mark then contention_there a o m else m
+
 -- that load, by the owner o
 abbrev pub LoadsPort : OwnedArena → SeatedPort → ℕ → SeatedPort → Type 0
-LoadsPort o x a y = y ≡ becomes x x.began (owning_port x.port (port_loaded a o))
+LoadsPort o x a y = y ≡ record (becomes x x.began (owning_port x.port (port_loaded a o))) { contention = contention_loading a o x.contention }
 
 -- an owner that has exchanged the mark m of that port for its own place, and found a
 abbrev pub port_put : Place → ℕ → OwnedArena → OwnedArena
 port_put m a o = if a == marked m then at_next_port o else (if nat_lt a entering_mark then elsewhere a o else o)
 
+-- what it has met then: a port that may come to the arena, unless it was put or is in another one
+abbrev pub contention_putting : Place → ℕ → OwnedArena → Contention → Contention
+contention_putting m a o w = if a == marked m then w else (if nat_lt a entering_mark then contention_there a o w else finding_busy o.arena w)
+
 -- that exchange, by the owner o
 abbrev pub PutsPort : OwnedArena → Place → SeatedPort → ℕ → SeatedPort → Type 0
-PutsPort o m x a y = y ≡ becomes x x.began (owning_port x.port (port_put m a o))
+PutsPort o m x a y = y ≡ record (becomes x x.began (owning_port x.port (port_put m a o))) { contention = contention_putting m a o x.contention }
 
 -- a store by which the words of the owned arena below that number count as set
 abbrev pub Sets : OwnedArena → ℕ → SeatedPort → ℕ → SeatedPort → Type 0

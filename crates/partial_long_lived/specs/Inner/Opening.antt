@@ -1,7 +1,6 @@
 -- The words with which a memory opens, and its first seat.
 use Rattle.std.specs.Prelude.{ℕ, ◌≡◌, List, [], length}
-use Rattle.atomic_table.specs.Seated.{TableId}
-use Rattle.atomic_table.specs.Table.{Me}
+use Rattle.partial_table.specs.Table.{Me, TableId}
 use Rattle.partial_words.specs.Layout.{pool_base}
 use Rattle.partial_epochs.specs.Opening.{OpensAll}
 use Rattle.partial_long_lived.specs.declared.rule.About.{About}

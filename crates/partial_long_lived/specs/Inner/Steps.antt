@@ -1,13 +1,13 @@
 -- What one atomic step of a call tells its port.
 use Rattle.std.specs.Prelude.{ℕ, ◌≡◌, ◌<◌, ◌≤◌, ◌++◌, List, [], ◌∷◌, length}
 use Rattle.std.specs.List.{AllByRecursion}
-use Rattle.atomic_table.specs.Table.{Me}
+use Rattle.partial_table.specs.Table.{Me}
 use Rattle.partial_model.specs.declared.history.Applied.{Applied}
 use Rattle.partial_words.specs.Layout.{Layout, first_free}
 use Rattle.partial_epochs.specs.Layout.{IsPlace}
 use Rattle.partial_epochs.specs.History.{stamp_limit}
 use Rattle.partial_epochs.specs.Epochs.{IsEpochPlan}
-use Rattle.partial_long_lived.specs.Rule.{SeatedPort, one_of, plan_of}
+use Rattle.partial_long_lived.specs.Rule.{ContendsMore, SeatedPort, one_of, plan_of}
 use Rattle.partial_long_lived.specs.Ports.{Knows, seen_in}
 
 -- each public stamp fits a word
@@ -33,10 +33,12 @@ pub record IsSeatKnown (x : SeatedPort) : Type 0 where
 abbrev pub BeginsWith : List Applied → List Applied → Type 0
 BeginsWith h l = (rest : List Applied) × (l ≡ h ++ rest)
 
--- by a step a seat stays that of its port, which has seen no less than before
+-- by a step a seat stays that of its port, which stands in no earlier epoch, and has seen and met no less than before
 pub record SeatGoes (x y : SeatedPort) : Type 0 where
   pub about : y.about ≡ x.about
   pub number : y.number ≡ x.number
+  pub epoch : x.port.control.here.epoch ≤ y.port.control.here.epoch
+  pub contention : ContendsMore x.contention y.contention
   pub seen : BeginsWith (seen_in x.port) (seen_in y.port)
   pub known : IsSeatKnown y
 

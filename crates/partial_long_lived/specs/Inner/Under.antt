@@ -1,14 +1,15 @@
 -- A call of a port's machine under way, in the arena where the port stands.
-use Rattle.std.specs.Prelude.{ℕ, ◌≡◌, ◌≢◌, ◌+◌, ◌<◌, ◌≤◌, ◌⊎◌, ◌++◌, Bool, true, false, Option, length, map, Some, None}
-use Rattle.std.proofs.Common.{refl, ◌∙◌}
-use Rattle.atomic_table.specs.Seated.{TableId}
+use Rattle.std.specs.Prelude.{ℕ, ◌≡◌, ◌≢◌, ◌+◌, ◌<◌, ◌≤◌, ◌++◌, Bool, true, false, Option, nat_lt, length, map, Some, None}
+use Rattle.std.proofs.Common.{refl, ◌∙◌, le_refl, le_trans}
+use Rattle.partial_table.specs.Table.{TableId}
 use Rattle.partial_model.specs.declared.call.Refused.{Refused}
 use Rattle.partial_model.specs.Notes.{seen_by}
-use Rattle.partial_words.specs.Layout.{IsLayout, greatest_record}
+use Rattle.partial_words.specs.Layout.{IsLayout}
 use Rattle.partial_machine.specs.declared.stage.Stage.{Stage}
 use Rattle.partial_machine.specs.declared.stage.Stage.TheVariants.{UpdateBegun, GettingSet, Viewing, ClaimingRecord, StoringRecord, Exchanging, ScanBegun}
 use Rattle.partial_machine.specs.declared.stage.Reply.{Reply}
-use Rattle.partial_machine.specs.Machine.{CoreState, reply_of}
+use Rattle.partial_machine.specs.Bounds.{steps_left}
+use Rattle.partial_machine.specs.Machine.{CoreState, record_size, reply_of}
 use Rattle.partial_machine.specs.Sound.{IsSound}
 use Rattle.partial_core.specs.Part.{HasBegun, core_of, first_at}
 use Rattle.partial_core.specs.Calls.{Made}
@@ -58,8 +59,8 @@ pub record CallMade (b : CoreState) (x : SeatedPort) (c : CoreState) (y : Seated
   pub made : Made x.about.sizes (opening_of x) b x.port.part c y.port.part
   -- it has made no claim past the limit before its claim
   pub spare : before_claim c.stage ≡ true → y.port.over ≡ false
-  -- its claim ends past the limit only where a greatest record would
-  pub claimed : (at : ℕ) → record_claim c.stage ≡ Some at → (y.port.over ≡ false) ⊎ (x.about.limit < at + greatest_record x.about.sizes)
+  -- it is over exactly where its record's claim ends past the limit
+  pub claimed : (at : ℕ) → record_claim c.stage ≡ Some at → y.port.over ≡ nat_lt x.about.limit (at + record_size c)
   -- the machine has no marks
   pub unmarked : (c.pool_spent ≡ false) × (c.slots_spent ≡ false)
   -- it isn't refused
@@ -98,6 +99,8 @@ pub record ComesTo (s t : Stand) : Type 0 where
   -- behind its claim a call makes no other
   pub over : before_claim (machine_at s).stage ≡ false → (before_claim (machine_at t).stage ≡ false)
       × ((port_at t).port.over ≡ (port_at s).port.over)
+  -- each step of it left its machine fewer steps to make
+  pub steps : t.seat.steps + steps_left (machine_at t) ≤ s.seat.steps + steps_left (machine_at s)
 
 -- by no step a call stays where it is
 pub leads_itself : (s : Stand) → ComesTo s s
@@ -111,6 +114,7 @@ leads_itself s = record {
   began = refl;
   call = λ b x begins had. had;
   over = λ behind. (behind, refl);
+  steps = le_refl _;
 }
 
 -- steps follow on steps
@@ -125,4 +129,5 @@ leads_on s t u f g = record {
   began = g.began ∙ f.began;
   call = λ b x begins had. g.call b x begins (f.call b x begins had);
   over = λ behind. let first = f.over behind in let then = g.over first.0 in (then.0, then.1 ∙ first.1);
+  steps = le_trans g.steps f.steps;
 }

@@ -137,10 +137,15 @@ pub record MayCall (x : SeatedPort) (core : CoreState) : Type 0 where
   pub rests : RestsUnmarked x core
   pub over : x.port.over ≡ false
 
--- Why an update is refused behind some steps: its port has come to so many later epochs, or the epoch can't be changed.
-abbrev pub IsLate : ℕ → Stand → Refused → Stand → Type 0
-IsLate times s IsOvertaken t = epoch_at s + times ≤ epoch_at t
-IsLate times s cause t = IsCause t cause
+-- Why an update is refused behind some steps: its port has come to so many later epochs and has met so many seals, or the epoch can't be
+-- changed.
+abbrev pub IsLate : ℕ → ℕ → Stand → Refused → Stand → Type 0
+IsLate times seals s IsOvertaken t = (epoch_at s + times ≤ epoch_at t) × ((port_at s).contention.seals + seals ≤ (port_at t).contention.seals)
+IsLate times seals s cause t = IsCause s t cause
+
+-- the port has met a seal once more
+abbrev pub FoundSealed : Stand → Stand → Type 0
+FoundSealed s t = (port_at s).contention.seals + 1 ≤ (port_at t).contention.seals
 
 -- A part of a call has led the port from the one stand to the other, and the port has noted nothing.
 pub record CameBy (first : Bool) (s t : Stand) : Type 0 where

@@ -227,41 +227,52 @@ fn side_by_side(rt: HostRuntime) -> Result<(), Fail> {
     Ok(())
 }
 
-/// Counts the calls of one port, and whether a gate was passed out of turn.
+/// How often each of two ports has come to its gates, and whether one was passed out of turn.
 #[derive(Drop)]
 struct Counting {
-    passed: AtomicU64,
+    passed: [AtomicU64; 2],
     out_of_turn: AtomicU64,
 }
 
 impl Counting {
+    fn new() -> Counting {
+        Counting {
+            passed: [AtomicU64::new(0), AtomicU64::new(0)],
+            out_of_turn: AtomicU64::new(0),
+        }
+    }
+
     // The calls of a port pass two gates each, in order.
-    fn pass(&self, turn: u64) {
-        if self.passed.fetch_add(1, Ordering::SeqCst) != turn {
+    fn pass(&self, port: u32, turn: u64) {
+        let own = if port == 0 { 0 } else { 1 };
+        let is_there = port < 2;
+        if !is_there || self.passed[own].fetch_add(1, Ordering::SeqCst) != turn {
             self.out_of_turn.store(1, Ordering::SeqCst);
         }
     }
 }
 
 impl Gate for Counting {
-    fn before(&self, _port: u32, number: u32) {
-        self.pass(2 * u64::from(number));
+    fn before(&self, port: u32, number: u32) {
+        self.pass(port, 2 * u64::from(number));
     }
 
-    fn after(&self, _port: u32, number: u32) {
-        self.pass(2 * u64::from(number) + 1);
+    fn after(&self, port: u32, number: u32) {
+        self.pass(port, 2 * u64::from(number) + 1);
     }
 }
 
+fn two_ports() -> &'static [u8] {
+    b"sizes 2 4 8 64\ninitial 10 20\nport read 0; update 0 5; scan 0\nport scan 1; read 0; update 1 7; read 1\nsteps rest\n"
+}
+
+// Each port passes the gates of its own calls, whatever the other one does.
 #[test]
 fn gates_in_order(rt: HostRuntime) -> Result<(), Fail> {
-    let (_, text, _) = slots_spent();
-    let gate = Counting {
-        passed: AtomicU64::new(0),
-        out_of_turn: AtomicU64::new(0),
-    };
-    run_gated(&rt, rt.alloc(), text, &gate)?;
-    assert_eq!(rt; gate.passed.load(Ordering::SeqCst), 8);
+    let gate = Counting::new();
+    run_gated(&rt, rt.alloc(), two_ports(), &gate)?;
+    assert_eq!(rt; gate.passed[0].load(Ordering::SeqCst), 6);
+    assert_eq!(rt; gate.passed[1].load(Ordering::SeqCst), 8);
     assert_eq!(rt; gate.out_of_turn.load(Ordering::SeqCst), 0);
     Ok(())
 }

@@ -16,3 +16,6 @@ returns-clause-sees c =
     let at : c.args.base + c.from.result ≡ c.args.stand.now.base + c.args.component = omega (arith, own, is) in
     seen_at _ _ _ c.requires.held true Reads c.args.component c.load.result c.load.new.seat.me
     (subst (λ (i : ℕ). sees true Reads i c.args.stand.now.seat.me c.load.result c.load.new.seat.me) at c.load.ensures.2)
+
+pub returns-clause-steps : goal.returns-clause-steps
+returns-clause-steps c = let one = c.load.ensures.3 in omega (arith, one)

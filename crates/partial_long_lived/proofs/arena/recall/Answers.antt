@@ -1,4 +1,4 @@
-use Rattle.std.proofs.Common.{rules, tests}
+use Rattle.std.proofs.Common.{arith, rules, tests}
 use Rattle.partial_long_lived.proofs.{Common.{sym, subst, ◌<◌}, Sights.may_recall}
 use Rattle.partial_long_lived.proofs.arena.recall.Goals as goal
 
@@ -9,3 +9,6 @@ load-requires c =
 
 pub returns-clause-recalls : goal.returns-clause-recalls
 returns-clause-recalls c = search (tests, rules)
+
+pub returns-clause-steps : goal.returns-clause-steps
+returns-clause-steps c = let one = c.load.ensures.3 in omega (arith, one)

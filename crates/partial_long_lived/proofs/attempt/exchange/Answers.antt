@@ -10,3 +10,6 @@ compare_exchange-requires c =
 
 pub returns-clause-exchanged : goal.returns-clause-exchanged
 returns-clause-exchanged c = exchanged_at _ _ _ c.requires.going c.args.change c.args.old c.args.at c.requires.due c.requires.inside _ c.from.ensures _ _ c.compare_exchange.ensures.2
+
+pub returns-clause-steps : goal.returns-clause-steps
+returns-clause-steps c = let one = c.compare_exchange.ensures.3 in omega (arith, one)

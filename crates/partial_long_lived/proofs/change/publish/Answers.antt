@@ -1,3 +1,4 @@
+use Rattle.std.proofs.Common.{arith}
 use Rattle.partial_long_lived.proofs.{Common.{◌+◌, ◌*◌, ap}, Asked.publish_asked, Standing.some_word, Working.publish_owns}
 use Rattle.partial_long_lived.proofs.change.publish.Goals as goal
 
@@ -11,3 +12,6 @@ compare_exchange-requires c =
 
 pub returns-clause-owns : goal.returns-clause-owns
 returns-clause-owns c = publish_owns c.args.stand.now _ c.args.arena _ _ c.compare_exchange.result c.requires.works c.compare_exchange.ensures.2.2
+
+pub returns-clause-steps : goal.returns-clause-steps
+returns-clause-steps c = let one = c.compare_exchange.ensures.3 in omega (arith, one)

@@ -1,3 +1,4 @@
+use Rattle.std.proofs.Common.{arith}
 use Rattle.partial_long_lived.proofs.Asked.{give_asked, own_there}
 use Rattle.partial_long_lived.proofs.claim.give.Goals as goal
 
@@ -6,3 +7,6 @@ store-requires c =
     let h = c.requires.held in
     let word = c.own_word-word.ensures in
     (h.fits, own_there _ _ _ h _ _ c.requires.inside word, give_asked _ _ _ h c.args.arena c.requires.owns _ _ _ word)
+
+pub returns-clause-steps : goal.returns-clause-steps
+returns-clause-steps c = let one = c.store.ensures.3 in omega (arith, one)

@@ -1,5 +1,6 @@
-use Rattle.std.proofs.Common.{rules, tests}
-use Rattle.partial_long_lived.proofs.{Common.{◌+◌, ap}, Asked.{own_there, take_asked}}
+use Rattle.std.proofs.Common.{arith, rules, tests, ◌≡◌}
+use Rattle.std.proofs.lemmas.Bool.{eqb-false}
+use Rattle.partial_long_lived.proofs.{Common.{◌+◌, ap, About}, Asked.{own_is, own_there, take_asked}, Working.taken_busy}
 use Rattle.partial_long_lived.proofs.claim.take.Goals as goal
 
 pub compare_exchange-requires : goal.compare_exchange-requires
@@ -10,3 +11,13 @@ compare_exchange-requires c =
 
 pub returns-clause-tried : goal.returns-clause-tried
 returns-clause-tried c = search (tests, rules)
+
+pub returns-clause-steps : goal.returns-clause-steps
+returns-clause-steps c = let one = c.compare_exchange.ensures.3 in omega (arith, one)
+
+pub returns-clause-busy : goal.returns-clause-busy
+returns-clause-busy c =
+    let h = c.requires.held in
+    let at : c.own_word-word.result ≡ 1 + c.args.words.now.key.ports + c.args.arena = own_is _ _ _ h c.args.arena _ c.own_word-word.ensures in
+    let ports = ap (λ (a : About). a.ports) h.own in
+    λ held. taken_busy c.args.stand.now (record c.args.stand.now { seat = c.compare_exchange.new.seat }) c.args.arena c.own_word-word.result c.compare_exchange.result (omega (arith, at, ports)) c.compare_exchange.ensures.2.2 (eqb-false c.compare_exchange.result 0 held)

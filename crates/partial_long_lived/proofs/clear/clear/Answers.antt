@@ -1,4 +1,4 @@
-use Rattle.partial_long_lived.proofs.{Common.{false, refl, just_taken}, Looking.{away_owns, away_past, looked_remains, taken_works}}
+use Rattle.partial_long_lived.proofs.{Common.{false, refl, arith, just_taken}, Looking.{away_owns, away_past, looked_remains, taken_works}}
 use Rattle.partial_long_lived.proofs.clear.clear.Goals as goal
 
 pub returns-then-not-look-clause-cleared : goal.returns-then-not-look-clause-cleared
@@ -16,4 +16,5 @@ loop-port-init c =
       held = look.held;
       remains = looked_remains _ _ _ look.kept look.looked;
       works = taken_works _ _ _ _ c.requires.taken look.looked c.if-not-look.false;
+      steps = let one = look.steps in omega (arith, one);
     }

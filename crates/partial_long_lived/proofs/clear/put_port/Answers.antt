@@ -1,4 +1,4 @@
-use Rattle.partial_long_lived.proofs.{Common.{refl, sym, ◌∙◌}, Asked.{port_there, put_asked}, Working.{put_away, put_won}}
+use Rattle.partial_long_lived.proofs.{Common.{rules, refl, sym, ◌∙◌}, Asked.{port_there, put_asked}, Working.{put_away, put_busy, put_won}}
 use Rattle.partial_long_lived.proofs.clear.put_port.Goals as goal
 
 pub compare_exchange-found-requires : goal.compare_exchange-found-requires
@@ -18,3 +18,8 @@ returns-then-found-from-clause-cleared c =
       put_away c.args.stand.now _ c.args.arena c.args.port c.args.mark found.result c.requires.may c.requires.marked found.ensures.2.2
           c.if-found-lt-MARK.true (λ same. c.if-found-from.true (same ∙ sym c.from.ensures)),
     )
+
+pub returns-clause-busy : goal.returns-clause-busy
+returns-clause-busy c =
+    let found = c.compare_exchange-found in
+    put_busy c.args.stand.now (record c.args.stand.now { seat = c.compare_exchange-found.new.seat }) c.args.arena c.args.port c.args.mark found.result c.requires.may c.requires.marked found.ensures.2.2 c.if-found-mark.false (search rules)

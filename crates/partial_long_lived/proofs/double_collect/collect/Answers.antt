@@ -12,6 +12,7 @@ loop-k-init c =
       within = within;
       room = refl;
       collected = c.requires.first;
+      steps = omega arith;
     }
 
 pub returns-clause-glanced : goal.returns-clause-glanced

@@ -1,4 +1,4 @@
-use Rattle.partial_long_lived.proofs.Common.{◌≡◌, ◌≤◌, ◌-◌, length, IsHeld, port_at, IsIdle, AreCollected, HasGlanced}
+use Rattle.partial_long_lived.proofs.Common.{◌≡◌, ◌+◌, ◌≤◌, ◌-◌, length, IsHeld, port_at, IsIdle, AreCollected, HasGlanced}
 use Rattle.partial_long_lived.proofs.double_collect.collect.Given as goal
 
 abbrev pub invariant-loop-k : goal.invariant-loop-k
@@ -10,6 +10,7 @@ invariant-loop-k l = record {
   within : l.k ≤ length l.which;
   room : length l.kept ≡ length l.fn.kept;
   collected : AreCollected (port_at l.stand) 0 (length (port_at l.stand).port.part.seen) l.which l.kept l.k;
+  steps : l.stand.seat.steps + 1 ≤ l.fn.stand.seat.steps + l.k;
 }
 
 abbrev pub decreases-loop-k : goal.decreases-loop-k

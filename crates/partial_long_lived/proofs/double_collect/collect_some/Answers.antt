@@ -9,6 +9,7 @@ loop-k-init c = record {
   idle = c.requires.idle;
   room = refl;
   collected = λ k less. c.requires.before k (omega (arith, less));
+  steps = omega arith;
 }
 
 pub loop-k-preserved : goal.loop-k-preserved
@@ -28,4 +29,5 @@ loop-k-preserved c =
       idle = glanced_idle _ _ w.idle step;
       room = omega (arith, kept, same);
       collected = λ k low. collects_one _ _ _ _ _ _ inside g.kept g.sees w.collected k (omega (arith, low));
+      steps = let so_far = w.steps in let one = g.steps in omega (arith, so_far, one);
     }

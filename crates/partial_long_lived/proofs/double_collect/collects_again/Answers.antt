@@ -9,6 +9,7 @@ loop-k-init c = record {
   idle = c.requires.idle;
   within = omega arith;
   collected = λ k low. absurd (omega (arith, low));
+  steps = omega arith;
 }
 
 pub returns-then-not-collects_some_again-clause-glanced : goal.returns-then-not-collects_some_again-clause-glanced

@@ -8,6 +8,7 @@ loop-k-init c = record {
   glanced = glanced_itself _ _ _ c.requires.held;
   idle = c.requires.idle;
   collected = λ low few before k less. before k (omega (arith, less));
+  steps = omega arith;
 }
 
 pub returns-then-glance-kept-clause-glanced : goal.returns-then-glance-kept-clause-glanced
@@ -25,4 +26,5 @@ loop-k-preserved c =
       collected = λ low few before k less.
           let more = glanced_seen _ _ w.glanced in
           collects_same _ _ _ _ _ _ _ g.kept g.sees c.if-glance-kept.false (omega (arith, few, more)) (w.collected low few before) k (omega (arith, less));
+      steps = let so_far = w.steps in let one = g.steps in omega (arith, so_far, one);
     }

@@ -10,4 +10,5 @@ invariant-loop-k l = record {
   collected : (low : ℕ) → low ≤ length (port_at l.fn.stand).port.part.seen →
       AreCollected (port_at l.fn.stand) low (length (port_at l.fn.stand).port.part.seen) l.which l.kept l.from →
       AreCollected (port_at l.stand) low (length (port_at l.stand).port.part.seen) l.which l.kept (l.from + l.k);
+  steps : l.stand.seat.steps ≤ l.fn.stand.seat.steps + l.k;
 }

@@ -11,3 +11,6 @@ load-requires c =
 
 pub returns-clause-sees : goal.returns-clause-sees
 returns-clause-sees c = search (tests, rules)
+
+pub returns-clause-steps : goal.returns-clause-steps
+returns-clause-steps c = let one = c.load.ensures.3 in omega (arith, one)

@@ -7,3 +7,6 @@ load-requires c =
     let is = c.from.ensures in
     let inside : c.from.result < c.args.words.now.key.sizes.m = (let low = c.requires.inside in omega (arith, is, low)) in
     rw c.requires.base (h.fits, component_there _ _ _ h _ inside, see_asked _ _ _ h c.requires.idle.stands true Glances _ inside (λ no. absurd no) _ _)
+
+pub returns-clause-steps : goal.returns-clause-steps
+returns-clause-steps c = let one = c.load.ensures.3 in omega (arith, one)

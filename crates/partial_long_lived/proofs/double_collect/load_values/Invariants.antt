@@ -1,4 +1,4 @@
-use Rattle.partial_long_lived.proofs.Common.{◌≡◌, ◌≤◌, ◌-◌, length, IsHeld, port_at, StaysAt, HadValues}
+use Rattle.partial_long_lived.proofs.Common.{◌≡◌, ◌+◌, ◌≤◌, ◌-◌, length, IsHeld, port_at, StaysAt, HadValues}
 use Rattle.partial_long_lived.proofs.double_collect.load_values.Given as goal
 
 abbrev pub invariant-loop-k : goal.invariant-loop-k
@@ -10,6 +10,7 @@ invariant-loop-k l = record {
   within : l.k ≤ l.last;
   many : length l.into ≡ length l.fn.into;
   values : HadValues (port_at l.fn.stand) l.which l.kept l.into l.k;
+  steps : l.stand.seat.steps ≤ l.fn.stand.seat.steps + l.k;
 }
 
 abbrev pub decreases-loop-k : goal.decreases-loop-k

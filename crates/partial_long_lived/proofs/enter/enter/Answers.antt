@@ -1,4 +1,4 @@
-use Rattle.std.proofs.Common.{rules, tests}
+use Rattle.std.proofs.Common.{arith, rules, tests}
 use Rattle.partial_long_lived.proofs.{Common.◌∙◌, Entry.{arrive_asked, load_asked, mark_asked}, Standing.{port_word, some_word}}
 use Rattle.partial_long_lived.proofs.enter.enter.Goals as goal
 
@@ -17,3 +17,6 @@ compare_exchange-found-requires c =
 
 pub returns-clause-held : goal.returns-clause-held
 returns-clause-held c = search (tests, rules)
+
+pub returns-clause-steps : goal.returns-clause-steps
+returns-clause-steps c = let one = c.store.ensures.3 in let two = c.load-current.ensures.3 in let three = c.compare_exchange-found.ensures.3 in omega (arith, one, two, three)

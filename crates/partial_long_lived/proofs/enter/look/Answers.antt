@@ -1,4 +1,4 @@
-use Rattle.std.proofs.Common.{rules, tests}
+use Rattle.std.proofs.Common.{arith, rules, tests}
 use Rattle.partial_long_lived.proofs.{Common.false, Control.may_look, Standing.{some_word, own_look}}
 use Rattle.partial_long_lived.proofs.enter.look.Goals as goal
 
@@ -9,3 +9,6 @@ load-found-requires c =
 
 pub returns-clause-looked : goal.returns-clause-looked
 returns-clause-looked c = search (tests, rules)
+
+pub returns-clause-steps : goal.returns-clause-steps
+returns-clause-steps c = let one = c.load-found.ensures.3 in omega (arith, one)

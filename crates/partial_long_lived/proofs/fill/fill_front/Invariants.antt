@@ -10,4 +10,5 @@ invariant-loop-number l = record {
   works : HasSetWords l.stand l.arena l.words.key.ports l.number;
   from : l.words.key.sizes.slots ≤ l.number;
   last : l.last + 1 ≡ list_base l.words.key.sizes;
+  steps : l.stand.seat.steps + l.words.key.sizes.slots ≤ l.fn.stand.seat.steps + l.number;
 }

@@ -25,3 +25,6 @@ returns-clause-works c =
 
 pub set_word-at-requires-clause-first : goal.set_word-at-requires-clause-first
 set_word-at-requires-clause-first c = c.requires.first ∙ ap (λ (e : Plan). base e c.args.arena) c.find_value-value.ensures.held.shape
+
+pub returns-clause-steps : goal.returns-clause-steps
+returns-clause-steps c = let two = c.find_value-value.ensures.steps in let one = c.store.ensures.3 in omega (arith, two, one)

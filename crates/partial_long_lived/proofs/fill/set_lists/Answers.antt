@@ -18,3 +18,6 @@ returns-clause-works c =
 
 pub set_word-at-requires-clause-first : goal.set_word-at-requires-clause-first
 set_word-at-requires-clause-first c = c.requires.first ∙ ap (λ (e : Plan). base e c.args.arena) c.requires.held.shape
+
+pub returns-clause-steps : goal.returns-clause-steps
+returns-clause-steps c = let one = c.store.ensures.3 in omega (arith, one)

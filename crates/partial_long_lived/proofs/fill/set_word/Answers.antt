@@ -1,3 +1,4 @@
+use Rattle.std.proofs.Common.{arith}
 use Rattle.partial_long_lived.proofs.{Common.{ap, ◌∙◌, base, Plan, port_at}, Asked.{set_asked, set_there}, Working.{right_low, set_works}}
 use Rattle.partial_long_lived.proofs.fill.set_word.Goals as goal
 
@@ -15,3 +16,6 @@ returns-clause-works c = set_works c.args.stand.now _ c.args.arena _ c.args.numb
 
 pub set_word-at-requires-clause-first : goal.set_word-at-requires-clause-first
 set_word-at-requires-clause-first c = c.requires.first ∙ ap (λ (e : Plan). base e c.args.arena) c.requires.held.shape
+
+pub returns-clause-steps : goal.returns-clause-steps
+returns-clause-steps c = let one = c.store.ensures.3 in omega (arith, one)

@@ -14,3 +14,6 @@ load-requires c =
 
 pub returns-clause-loaded : goal.returns-clause-loaded
 returns-clause-loaded c = search (tests, rules)
+
+pub returns-clause-steps : goal.returns-clause-steps
+returns-clause-steps c = let one = c.load.ensures.3 in omega (arith, one)

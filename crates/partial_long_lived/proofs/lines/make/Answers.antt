@@ -20,7 +20,7 @@ returns-in-Store-clause-leads c =
     let w = c.requires.going in
     let due = c.requires.due ∙ ap Some c.in-Store.is in
     let told = rw c.from-in-Store.ensures at c.store.ensures.2 in
-    leads_there _ _ _ w (Store _ _) due _ c.store.ensures.0 told.0 told.1 _ (store_told _ _ _ w _ _ due 0 _ told.2) refl refl refl refl refl refl
+    leads_there _ _ _ w (Store _ _) due _ c.store.ensures.0 told.0 told.1 _ (store_told _ _ _ w _ _ due 0 _ told.2) refl refl refl refl refl refl c.store.ensures.3
 
 pub compare_exchange-requires : goal.compare_exchange-requires
 compare_exchange-requires c =
@@ -40,7 +40,7 @@ returns-in-Exchange-clause-leads c =
     let w = c.requires.going in
     let due = c.requires.due ∙ ap Some c.in-Exchange.is in
     let told = rw c.from-in-Exchange.ensures at c.compare_exchange.ensures.2 in
-    leads_there _ _ _ w (Exchange _ _ _) due _ c.compare_exchange.ensures.0 told.0 told.1 _ (exchange_told _ _ _ w c.requires.quiet _ _ _ due _ _ told.2) refl refl refl refl refl refl
+    leads_there _ _ _ w (Exchange _ _ _) due _ c.compare_exchange.ensures.0 told.0 told.1 _ (exchange_told _ _ _ w c.requires.quiet _ _ _ due _ _ told.2) refl refl refl refl refl refl c.compare_exchange.ensures.3
 
 pub fetch_add-requires : goal.fetch_add-requires
 fetch_add-requires c =
@@ -60,7 +60,7 @@ returns-in-Add-clause-leads c =
     let w = c.requires.going in
     let due = c.requires.due ∙ ap Some c.in-Add.is in
     let told = rw c.from-in-Add.ensures at c.fetch_add.ensures.2 in
-    leads_there _ _ _ w (Add _ _) due _ c.fetch_add.ensures.0 told.0 told.1 _ (add_told _ _ _ w c.requires.quiet _ _ due _ _ told.2) refl refl refl refl refl refl
+    leads_there _ _ _ w (Add _ _) due _ c.fetch_add.ensures.0 told.0 told.1 _ (add_told _ _ _ w c.requires.quiet _ _ due _ _ told.2) refl refl refl refl refl refl c.fetch_add.ensures.3
 
 pub returns-in-Add-clause-machine : goal.returns-in-Add-clause-machine
 returns-in-Add-clause-machine c = search (tests, rules)

@@ -20,7 +20,7 @@ pub returns-then-is_component-clause-leads : goal.returns-then-is_component-clau
 returns-then-is_component-clause-leads c =
     let w = c.requires.going in
     let told = c.load-found.ensures.2 in
-    leads_there _ _ _ w (Load c.args.word) c.requires.due _ c.load-found.ensures.0 told.0 told.1 _ (load_told _ _ _ w c.args.word c.requires.due c.load-found.result _ told.2) refl refl refl refl refl refl
+    leads_there _ _ _ w (Load c.args.word) c.requires.due _ c.load-found.ensures.0 told.0 told.1 _ (load_told _ _ _ w c.args.word c.requires.due c.load-found.result _ told.2) refl refl refl refl refl refl c.load-found.ensures.3
 
 pub returns-else-is_component-clause-going : goal.returns-else-is_component-clause-going
 returns-else-is_component-clause-going c =
@@ -32,7 +32,7 @@ pub returns-else-is_component-clause-leads : goal.returns-else-is_component-clau
 returns-else-is_component-clause-leads c =
     let w = c.requires.going in
     let told = c.load-found.ensures.2 in
-    leads_there _ _ _ w (Load c.args.word) c.requires.due _ c.load-found.ensures.0 told.0 told.1 _ (load_told _ _ _ w c.args.word c.requires.due c.load-found.result _ told.2) refl refl refl refl refl refl
+    leads_there _ _ _ w (Load c.args.word) c.requires.due _ c.load-found.ensures.0 told.0 told.1 _ (load_told _ _ _ w c.args.word c.requires.due c.load-found.result _ told.2) refl refl refl refl refl refl c.load-found.ensures.3
 
 pub returns-then-is_component-clause-machine : goal.returns-then-is_component-clause-machine
 returns-then-is_component-clause-machine c = search (tests, rules)

@@ -1,4 +1,4 @@
-use Rattle.partial_long_lived.proofs.{Common.{rules, ◌≡◌, ◌<◌, ℕ, refl, ap, sym, ◌∙◌, subst, List, Me, TableId, base, Plan, SeatedPort, one_of, port_view}, NewPorts.{deals_next, made_next, rests_new}, Meets.deals}
+use Rattle.partial_long_lived.proofs.{Common.{rules, ◌≡◌, ◌+◌, ◌<◌, ℕ, refl, ap, sym, ◌∙◌, subst, List, Me, TableId, base, Plan, SeatedPort, one_of, port_view}, NewPorts.{deals_next, made_next, rests_new}, Meets.deals}
 use Rattle.partial_long_lived.proofs.long_lived.deal.Goals as goal
 
 pub split_seat-token-requires : goal.split_seat-token-requires
@@ -24,11 +24,12 @@ loop-number-preserved c =
     let left = deals_next _ _ _ c.loop-number-test.true _ inv.parts _ _ split.2 inv.none in
     let place = ap (λ (m : Me (Unit {0}) (List SeatedPort)). m.0) split.4 in
     let here : c.split_seat-token.result.table_id ≡ c.args.words.now.table_id = split.3 ∙ inv.table in
-    let seen = ap (λ (t : TableId). port_view t (one_of c.split_seat-token.result.me.0)) here in
+    let seen = ap (λ (t : TableId). port_view t c.split_seat-token.result.steps (one_of c.split_seat-token.result.me.0)) here ∙ ap (λ (n : ℕ). port_view c.args.words.now.table_id n (one_of c.split_seat-token.result.me.0)) (split.6 ∙ ap (λ (n : ℕ). n + 1) inv.steps) in
     record {
       table = split.0 ∙ inv.table;
       parts = left.0;
       none = left.1;
+      steps = split.5;
       made = made_next _ _ _ c.loop-number-test.true _ inv.parts _ _ _ _ _ _ _ _ inv.made c.push_reserved.ensures.items place seen split.2;
       many = search rules;
       room = search rules;

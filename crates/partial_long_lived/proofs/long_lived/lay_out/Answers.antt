@@ -27,3 +27,6 @@ returns-clause-opened c =
     let s = c.args.shape.now in
     let words = subst (OpensShape s c.args.initial.now) (sym c.deref.ensures.value) c.in_ok-words.ensures in
     IfOk-weaker c.of_words.result _ _ (λ r h. is_opened _ _ _ _ _ _ _ (opens_as s o _ _ words same) h.5 h.0 h.1 h.2 h.4) c.of_words.ensures
+
+pub returns-clause-steps : goal.returns-clause-steps
+returns-clause-steps c = IfOk-weaker c.of_words.result _ _ (λ r h. h.6) c.of_words.ensures

@@ -1,4 +1,4 @@
-use Rattle.partial_long_lived.proofs.{Common.{arith, refl, sym, ap, ◌∙◌, subst, SeatedPort, IsSeatKnown, SeatGoes, port_at}, Meetings.{taken_one, taken_same}, Staying.goes_same, Meets.deals}
+use Rattle.partial_long_lived.proofs.{Common.{arith, refl, sym, ap, ◌∙◌, subst, SeatedPort, IsSeatKnown, SeatGoes, port_at}, Meetings.{taken_one, taken_same}, Coming.goes_same, Meets.deals}
 use Rattle.partial_long_lived.proofs.meet.take_out.Goals as goal
 
 pub split_seat-requires : goal.split_seat-requires
@@ -39,3 +39,6 @@ returns-clause-kept c =
       passed = refl;
       goes = subst (SeatGoes (port_at c.args.stand.now)) same (goes_same (port_at c.args.stand.now) h.known);
     }
+
+pub returns-clause-steps : goal.returns-clause-steps
+returns-clause-steps c = let all = c.split_seat.ensures.6 in omega (arith, all)

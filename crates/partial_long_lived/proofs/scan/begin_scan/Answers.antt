@@ -1,3 +1,4 @@
+use Rattle.std.proofs.Common.{arith}
 use Rattle.partial_long_lived.proofs.{Common.{refl, ◌∙◌}, Scans.{claim_asked, claim_there, scan_begun, scan_going}}
 use Rattle.partial_long_lived.proofs.scan.begin_scan.Goals as goal
 
@@ -25,3 +26,6 @@ returns-clause-begun g c =
     let r = c.requires in
     let many = c.announcement_size-size.ensures in
     scan_begun _ _ _ r.held _ c.args.core.now c.args.which.now r.moment r.begins _ _ at many _ c.fetch_add.ensures.0 told.0 told.1 _ told.2 refl refl refl refl refl refl
+
+pub returns-clause-steps : goal.returns-clause-steps
+returns-clause-steps g c = let one = c.fetch_add.ensures.3 in omega (arith, one)

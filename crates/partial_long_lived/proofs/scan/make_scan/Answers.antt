@@ -1,5 +1,5 @@
 use Rattle.std.proofs.Common.{rules, tests}
-use Rattle.partial_long_lived.proofs.Scans.{scan_begins, scan_named, scan_rests}
+use Rattle.partial_long_lived.proofs.Scans.{scan_begins, scan_named, scan_rests, scan_steps}
 use Rattle.partial_long_lived.proofs.scan.make_scan.Goals as goal
 
 pub returns-clause-scanned : goal.returns-clause-scanned
@@ -18,3 +18,10 @@ returns-clause-rests g c =
 
 pub returns-clause-spent : goal.returns-clause-spent
 returns-clause-spent g c = search (tests, rules)
+
+pub returns-clause-steps : goal.returns-clause-steps
+returns-clause-steps g c =
+    let r = c.requires in
+    let end = c.announce.ensures in
+    let begins = scan_begins _ _ _ c.args.core.now c.args.which.now r.held r.idle r.rests r.spare r.asked r.some in
+    scan_steps _ _ _ _ _ r.held r.idle c.args.core.now c.args.which.now begins _ c.begin_scan-at.ensures.begun end.leads _ _ end.replies c.begin_scan-at.ensures.steps

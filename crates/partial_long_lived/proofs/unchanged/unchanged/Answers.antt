@@ -16,4 +16,5 @@ loop-k-preserved c =
       idle = glanced_idle _ _ w.idle n.glanced;
       settled = settled_on _ _ _ w.settled n.glanced;
       had = had_more _ _ n.glanced _ _ _ _ below n.stamp c.if-stamp_now-stamps.false w.had;
+      steps = let so_far = w.steps in let two = n.steps in omega (arith, so_far, two);
     }

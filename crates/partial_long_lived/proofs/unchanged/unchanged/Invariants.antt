@@ -1,4 +1,4 @@
-use Rattle.partial_long_lived.proofs.Common.{IsHeld, port_at, IsIdle, SettledFirst, HadStamps}
+use Rattle.partial_long_lived.proofs.Common.{◌+◌, ◌*◌, ◌≤◌, IsHeld, port_at, IsIdle, SettledFirst, HadStamps}
 use Rattle.partial_long_lived.proofs.unchanged.unchanged.Given as goal
 
 abbrev pub invariant-loop-k : goal.invariant-loop-k
@@ -7,4 +7,5 @@ invariant-loop-k l = record {
   idle : IsIdle l.stand;
   settled : SettledFirst l.fn.stand l.stand;
   had : HadStamps (port_at l.stand) l.which l.stamps l.k;
+  steps : l.stand.seat.steps ≤ l.fn.stand.seat.steps + (4 + 2 * l.k);
 }

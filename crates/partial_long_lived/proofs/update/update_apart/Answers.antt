@@ -32,15 +32,11 @@ returns-clause-refused c =
     let met : NotesNothing true c.args.stand.now c.attempt_as-attempted.new.stand = search rules in
     let on = rounds_begin _ _ true c.args.stand.now _ r.held r.rests.free (rests_may _ _ c.args.stand.now _ _ r.held r.rests c.if-spent.false) in
     let came = round_met _ _ true true c.args.stand.now c.args.stand.now _ on c.attempt_as-attempted.new.stand met in
-    let before = r.held.epoch in
-    let behind = c.attempt_as-attempted.ensures.held.epoch in
-    let same = met.stayed.kept.epoch in
-    let no_later : epoch_at c.args.stand.now ≤ epoch_at c.attempt_as-attempted.new.stand = omega (arith, before, behind, same) in
     err_as Exchanged Refused (ended_as c.update_late-2.result)
-    (λ cause. IsLate 16 c.attempt_as-attempted.new.stand cause c.update_late-2.new.stand × CameBy false c.attempt_as-attempted.new.stand c.update_late-2.new.stand)
-    (λ cause. IsLate 16 c.args.stand.now cause c.update_late-2.new.stand × CameBy true c.args.stand.now c.update_late-2.new.stand)
+    (λ cause. IsLate 16 15 c.attempt_as-attempted.new.stand cause c.update_late-2.new.stand × CameBy false c.attempt_as-attempted.new.stand c.update_late-2.new.stand)
+    (λ cause. IsLate 16 15 c.args.stand.now cause c.update_late-2.new.stand × CameBy true c.args.stand.now c.update_late-2.new.stand)
     (λ cause w. (
-      late_from 16 c.args.stand.now c.attempt_as-attempted.new.stand c.update_late-2.new.stand cause no_later w.0,
+      late_from 16 15 c.args.stand.now c.attempt_as-attempted.new.stand c.update_late-2.new.stand cause came.goes w.0,
       came_on true c.args.stand.now c.attempt_as-attempted.new.stand c.update_late-2.new.stand came w.1,
     ))
     c.update_late-2.ensures.refused

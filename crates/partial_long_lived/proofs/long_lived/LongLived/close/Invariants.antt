@@ -3,7 +3,7 @@ use Rattle.partial_long_lived.proofs.long_lived.LongLived.close.Given as goal
 
 abbrev pub invariant-loop-port : goal.invariant-loop-port
 invariant-loop-port l = record {
-  table : l.seat.table_id ≡ l.table.shared.table_id;
+  table : l.seat.table_id ≡ l.table.table_id;
   left : AllByRecursion (IsOf l.fn.self) l.rest.items;
   taken : Taken l.fn.self.table l.fn.port l.fn.rest.items l.rest.items l.seat.me.0;
 }

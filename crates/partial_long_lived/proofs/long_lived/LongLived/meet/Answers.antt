@@ -1,11 +1,11 @@
-use Rattle.partial_long_lived.proofs.{Common.{◌≡◌, sym, ap, ◌∙◌, subst, vec_len, MemoryView, PortView, IsResting}, Answering.{rests_anew, rests_here}, Meetings.{all_seen, goes_met, met_out}, Resting.rests_on}
+use Rattle.partial_long_lived.proofs.{Common.{◌≡◌, arith, sym, ap, ◌∙◌, subst, vec_len, MemoryView, PortView, IsResting, Knows, seen_in, port_at}, Answering.{rests_anew, rests_here}, Meetings.{all_seen, comparable_seen, goes_met, met_out}, Resting.rests_on}
 use Rattle.partial_long_lived.proofs.long_lived.LongLived.meet.Goals.{then-one-first_epoch, else-one-first_epoch, then-other-second_epoch, else-other-second_epoch}
 use Rattle.partial_long_lived.specs.declared.port.Port.TheInside.{Inside}
 use Rattle.partial_long_lived.proofs.long_lived.LongLived.meet.Goals as goal
 
 pub invariant_of-first : goal.invariant_of-first
 invariant_of-first c =
-    let m : MemoryView = record { table = c.self.inside.table.shared.table_id; about = c.self.inside.table.shared.key } in
+    let m : MemoryView = record { table = c.self.inside.table.table_id; about = c.self.inside.table.key } in
     let own = ap (λ (q : PortView). q.memory) c.first.view_is ∙ c.requires.0 ∙ sym c.self.view_is in
     let s = c.first.inside.stand in
     let o = c.second.inside.stand in
@@ -24,7 +24,7 @@ invariant_of-first c =
 
 pub invariant_of-second : goal.invariant_of-second
 invariant_of-second c =
-    let m : MemoryView = record { table = c.self.inside.table.shared.table_id; about = c.self.inside.table.shared.key } in
+    let m : MemoryView = record { table = c.self.inside.table.table_id; about = c.self.inside.table.key } in
     let own = ap (λ (q : PortView). q.memory) c.second.view_is ∙ c.requires.1 ∙ sym c.self.view_is in
     let s = c.second.inside.stand in
     let o = c.first.inside.stand in
@@ -43,7 +43,7 @@ invariant_of-second c =
 
 pub returns-clause-met : goal.returns-clause-met
 returns-clause-met c =
-    let m : MemoryView = record { table = c.self.inside.table.shared.table_id; about = c.self.inside.table.shared.key } in
+    let m : MemoryView = record { table = c.self.inside.table.table_id; about = c.self.inside.table.key } in
     let own = c.requires.0 ∙ sym c.self.view_is in
     let own' = c.requires.1 ∙ sym c.self.view_is in
     let s = c.first.inside.stand in
@@ -60,4 +60,16 @@ returns-clause-met c =
       second = goes_met _ o s v _ c.second.view_is own' met.second second;
       first_all = all_seen _ o _ c.second.view_is own' u met.first first.all;
       second_all = all_seen _ s _ c.first.view_is own v met.second second.all;
+      first_knows = subst (λ (q : PortView). Knows q.memory.about q.number (seen_in (port_at u).port) q.notes) c.second.view_is first.knows;
+      second_knows = subst (λ (q : PortView). Knows q.memory.about q.number (seen_in (port_at v).port) q.notes) c.first.view_is second.knows;
+      one = comparable_seen u v met.order;
     }
+
+pub returns-clause-steps : goal.returns-clause-steps
+returns-clause-steps c =
+    let one = c.take_out-one.ensures.steps in
+    let other = c.take_out-other.ensures.steps in
+    let met = c.meet-one.ensures.steps in
+    let first = ap (λ (p : PortView). p.steps) c.first.view_is in
+    let second = ap (λ (p : PortView). p.steps) c.second.view_is in
+    omega (arith, one, other, met, first, second)

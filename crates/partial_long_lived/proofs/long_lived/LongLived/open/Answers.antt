@@ -28,7 +28,7 @@ returns-clause-first c =
     ap (λ (a : About). a.opening.first) is ∙ ap (λ (a : About). pool_base a.sizes) (sym is)
 
 pub returns-clause-ports : goal.returns-clause-ports
-returns-clause-ports c = c.in_ok-all.ensures ∙ ap (λ (n : ℕ). new_ports c.in_ok-table.table.shared.table_id (newcomers c.in_ok-table.table.shared.key 0 n)) c.in_ok-shape.ensures.ok.ports
+returns-clause-ports c = c.in_ok-all.ensures ∙ ap (λ (n : ℕ). new_ports c.in_ok-table.table.table_id (newcomers c.in_ok-table.table.key 0 n)) c.in_ok-shape.ensures.ok.ports
 
 pub returns-clause-own : goal.returns-clause-own
-returns-clause-own c = subst (AllByRecursion (IsOf _)) (sym c.in_ok-all.ensures) (new_own c.in_ok-table.table.shared.table_id c.in_ok-table.table.shared.key 0 _)
+returns-clause-own c = subst (AllByRecursion (IsOf _)) (sym c.in_ok-all.ensures) (new_own c.in_ok-table.table.table_id c.in_ok-table.table.key 0 _)

@@ -1,0 +1,61 @@
+//! The sizes that the library gives a memory that never wears out. It says none of them; these are its formulas
+//! (`crates/partial_long_lived/src/options.rt`), and `tests/sizes.rs` and `tests/bytes.rs` compare them with what it does.
+
+use crate::parts::Arena;
+
+/// The most words of an arena that are claimed or kept for the ports.
+const MOST_WORDS: u64 = 131_072;
+/// The most slots of an arena.
+#[cfg(not(feature = "plain"))]
+const MOST_SLOTS: u64 = 65_536;
+/// How many pool words an arena has for each port where a program leaves that open, and the fewest that it has then.
+const POOL_OF_PORT: u64 = 16_384;
+/// How many pool words half the arenas have together then, at most, unless each has the fewest.
+const POOL_OF_ALL: u64 = 262_144;
+/// How many pool words an arena has for each component then, at least, where it has room for them.
+const POOL_OF_COMPONENT: u64 = 16;
+
+/// The words that an arena keeps for the ports: the greatest record of each.
+fn kept(components: u64, ports: u64) -> u64 {
+    (4 + 2 * components) * ports
+}
+
+/// How many components a memory may have: 0 when it isn't made with any.
+pub(crate) fn max_components(ports: u32, arena: Arena) -> usize {
+    if !(1..=64).contains(&ports) || arena.list_words > 65_536 {
+        return 0;
+    }
+    let pool = match arena.pool_words {
+        0 => POOL_OF_PORT,
+        words => u64::from(words),
+    };
+    let room = MOST_WORDS.saturating_sub(pool) / u64::from(ports);
+    (room.saturating_sub(4) / 2).min(65_536) as usize
+}
+
+/// How many pool words of an arena are claimed before the epoch changes. There is a port at least.
+pub(crate) fn pool_of(components: usize, ports: u32, arena: &Arena) -> u64 {
+    let ports = u64::from(ports);
+    match arena.pool_words {
+        0 => (POOL_OF_PORT * ports)
+            .min(POOL_OF_ALL / ports)
+            .max(POOL_OF_COMPONENT * components as u64)
+            .min(MOST_WORDS.saturating_sub(kept(components as u64, ports)))
+            .max(POOL_OF_PORT),
+        words => u64::from(words),
+    }
+}
+
+/// How many bytes the table of a memory has: the words of the epochs and the ports, and the arenas.
+#[cfg(not(feature = "plain"))]
+pub(crate) fn bytes(components: usize, ports: u32, arena: &Arena) -> usize {
+    let pool = pool_of(components, ports, arena);
+    let (m, ports, lists) = (components as u64, u64::from(ports), u64::from(arena.list_words));
+    let behind = pool + kept(m, ports);
+    let rest = 5 * m + 4 + lists + behind;
+    let slots = behind.div_ceil(2);
+    let slots = (slots + 15 - (rest + slots - 1) % 16).min(MOST_SLOTS);
+    let control = 1 + ports + 2 * ports;
+    let first = control + 15 - (control + 3 + m) % 16;
+    (first + 2 * ports * (rest + slots)) as usize * 8
+}

@@ -1,0 +1,44 @@
+-- How many steps a call makes at most, by what its memory was opened with.
+use Rattle.std.specs.Prelude.{ℕ, ◌+◌, ◌*◌}
+use Rattle.partial_words.specs.Layout.{Layout, list_base}
+use Rattle.partial_embedded.specs.Embedded.{most_view_steps}
+use Rattle.partial_machine.specs.Bounds.{most_of_update}
+use Rattle.partial_long_lived.specs.declared.rule.About.{About}
+
+-- an arena that is tried: the exchange of its owner word, a look, three steps for each port, and the store that gives it back
+abbrev pub arena_steps : About → ℕ
+arena_steps a = 3 * a.ports + 3
+
+-- a pass over the arenas, and the look behind it
+abbrev pub pass_steps : About → ℕ
+pass_steps a = a.arenas * arena_steps a + 1
+
+-- three passes for each port
+abbrev pub claim_steps : About → ℕ
+claim_steps a = 3 * a.ports * pass_steps a
+
+-- the words of the next epoch: the load of the slot counter, the stores before the list words, and of each component the loads of its last
+-- record's value and stamp and their stores
+abbrev pub fill_steps : About → ℕ
+fill_steps a = 1 + list_base a.sizes + 6 * a.sizes.m
+
+-- a change of epoch: a look, two steps to seal each component, the passes, the words, the exchange of the current word, the store that
+-- gives the arena back, and the three steps of entering
+abbrev pub most_of_change : About → ℕ
+most_of_change a = 2 * a.sizes.m + claim_steps a + fill_steps a + 6
+
+-- an announced scan of so many positions: its claim, its announcement, a slot, its embedded scan, and the store that leaves the slot
+abbrev pub most_of_scan : Layout → ℕ → ℕ
+most_of_scan z r = most_view_steps z r + r + 5
+
+-- one round of an update: an attempt and a change of epoch
+abbrev pub round_steps : About → ℕ
+round_steps a = most_of_update a.sizes + most_of_change a
+
+-- one of a conditional update, which loads the word and the stamp before, and perhaps the stamp behind
+abbrev pub round_if_steps : About → ℕ
+round_if_steps a = 3 + round_steps a
+
+-- a scan of so many positions: a double collect, a change of epoch, and an announced scan
+abbrev pub most_of_scans : About → ℕ → ℕ
+most_of_scans a r = 3 * r + 1 + most_of_change a + most_of_scan a.sizes r

@@ -1,0 +1,10 @@
+use mathlib.Core.Option.{none}
+use Rattle.atomic_table.specs.Table.{step}
+use Rattle.partial_table.proofs.Counting.{owed_counted, told_counted}
+use Rattle.partial_table.proofs.table.Table.load.Goals as goal
+
+pub load-requires : goal.load-requires
+load-requires g c = owed_counted g.P.TableRule.holds _ _ _ _ _ _ _ c.self.view_is c.seat.view_is c.args.word (λ n. n) (λ slots me. g.M.Play.then (step slots c.args.word 0 0 none) me) c.requires
+
+pub returns : goal.returns
+returns g c = told_counted g.P.TableRule.holds _ _ _ _ _ _ _ c.self.view_is c.seat.view_is c.args.word (λ n. n) (λ slots me. g.M.Play.then (step slots c.args.word 0 0 none) me) _ _ _ _ c.load.ensures
