@@ -161,14 +161,14 @@ module _ (e : Plan) (words : List ℕ) (ports : ℕ → Port) (b : Beside) (note
       ∙ places_written-append (ports k).part.notes lead.tells.new)
 
   -- a step adds an entry only where its machine has answered
-  pub adds_of : (public_log (length b.before) lead.entries ≡ []) ⊎ MayAdd e words (ports k) (Makes c step)
-  adds_of = by (reply_of (advance c (answer_of (arena_words e words (ports k).control.here.arena) step))) refl lead.tells.noted
+  pub adds_of : (more : Bool) → (public_log (length b.before) lead.entries ≡ []) ⊎ MayAdd e words (ports k) (Makes c step more)
+  adds_of more = by (reply_of (advance c (answer_of (arena_words e words (ports k).control.here.arena) step))) refl lead.tells.noted
     where
       none : places_written lead.tells.new ≡ [] → public_log (length b.before) lead.entries ≡ []
       none is = ap (public_log (length b.before)) (no_places k (length lead.standing.epoch.log) lead.entries lead.own (own_places ∙ is))
 
       by : (t : Option Reply) → reply_of (advance c (answer_of (arena_words e words (ports k).control.here.arena) step)) ≡ t → AreNotesOf (opening_behind e.opening (ports k).before) lead.port.part t lead.tells.new →
-          (public_log (length b.before) lead.entries ≡ []) ⊎ MayAdd e words (ports k) (Makes c step)
+          (public_log (length b.before) lead.entries ≡ []) ⊎ MayAdd e words (ports k) (Makes c step more)
       by None is h = inl (none (ap places_written h))
       by (Some (Reply.Refused cause)) is h = inl (none (ap places_written h.none))
       by (Some (Reply.Applied s)) is h = inr (lead.unmet, ap is_applied is)

@@ -1,8 +1,15 @@
 -- An unsealed word is one of the present epoch.
-use Rattle.partial_epochs.proofs.Common.{ℕ, ◌≡◌, ◌<◌, List, length, sym, ap, subst, ◌∙◌, inl, inr, slice_index, option_map, eqb_tells, some_same, Plan, Place, IsSealed, component_words, Port, Epoch, IsPlaceWord, Beside, place_now, IsStanding, LawfulEpochs, IsPresent, UnsealedIsPresent, Stands}
+use Rattle.partial_epochs.proofs.Common.{ℕ, ◌≡◌, ◌<◌, List, length, sym, ap, subst, ◌∙◌, inl, inr, slice_index, option_map, eqb_tells, some_same, Plan, Place, IsSealed, component_words, Port, Epoch, IsPlaceWord, Beside, place_now, IsStanding, LawfulEpochs, IsPresent, UnsealedIsPresent, Stands, arena_limit, packed, unpacked, ◌≤◌, arith}
 
 pub same_place : (p q : Place) → p.epoch ≡ q.epoch → p.arena ≡ q.arena → p ≡ q
 same_place p q r s = ap (λ (n : ℕ). record p { epoch = n }) r ∙ ap (λ (n : ℕ). record q { arena = n }) s
+
+-- a place is the one that its word names
+pub unpacked_is : {n : ℕ} (c : Place) → n ≤ arena_limit → c.arena < n → unpacked (packed c) ≡ c
+unpacked_is c few low =
+    let epoch : (unpacked (packed c)).epoch ≡ c.epoch = omega (arith, few, low) in
+    let arena : (unpacked (packed c)).arena ≡ c.arena = omega (arith, few, low) in
+    same_place (unpacked (packed c)) c epoch arena
 
 module _ (e : Plan) (words : List ℕ) (ports : ℕ → Port) (b : Beside) (k : ℕ) (w : LawfulEpochs e words ports b) (below : k < e.ports)
     (stands : (ports k).control.entering ≡ Stands) where

@@ -1,5 +1,5 @@
 -- Every step that a port of a long-lived memory makes, and the one law of them.
-use Rattle.std.specs.Prelude.{ℕ, ◌≡◌, ◌≢◌, ◌+◌, ◌<◌, ◌≤◌, ◌⊎◌, ◌++◌, Bool, true, false, List, [], length, slice_index, Option, Some, None}
+use Rattle.std.specs.Prelude.{⊤, ℕ, ◌≡◌, ◌≢◌, ◌+◌, ◌-◌, ◌<◌, ◌≤◌, ◌==◌, ◌⊎◌, ◌++◌, Bool, true, false, List, [], ◌∷◌, length, map, slice_index, Option, Some, None, if◌then◌else◌}
 use Rattle.partial_model.specs.declared.history.Applied.{Applied}
 use Rattle.partial_model.specs.Notes.{Noted}
 use Rattle.partial_words.specs.Layout.{first_free, slot_counter}
@@ -11,20 +11,25 @@ use Rattle.partial_machine.specs.Machine.{CoreState, advance, reply_of, step_of}
 use Rattle.partial_core.specs.Part.{IsMachineOf}
 use Rattle.partial_core.specs.Steps.{since_with}
 use Rattle.partial_epochs.specs.Lists.{put}
-use Rattle.partial_epochs.specs.Layout.{IsPlace, IsSealed, IsToBeSet, Place, Plan, arena_words, at_word, base, component_words, current_word, entering_mark, marked, own_word, packed, placed_step, seal, set_word}
+use Rattle.partial_epochs.specs.Layout.{IsPlace, IsSealed, IsToBeSet, Place, Plan, arena_words, at_word, base, component_words, current_word, entering_mark, marked, own_word, packed, placed_step, seal, set_word, unpacked}
 use Rattle.partial_epochs.specs.Ports.{OwnedArena, Port}
 use Rattle.partial_epochs.specs.Ports.Entering.{Stands, Marks, Loaded}
+use Rattle.partial_epochs.specs.Entering.{Arrives, arrived_port, having_passed}
+use Rattle.partial_epochs.specs.Owning.{having_given, having_loaded, having_looked, having_put, just_taken, owning_port}
+use Rattle.partial_epochs.specs.Sealing.{IsBesideAs, passing_port}
 use Rattle.partial_epochs.specs.Epochs.{Beside, HasClearRecords, IsStanding, next_epoch_word, place_now}
 use Rattle.partial_epochs.specs.MachineSteps.{MachineLeads, MayClaim, MeetsSeal}
-use Rattle.partial_epochs.specs.Publishing.{ClearsSlots, IsWholeArena, next_place}
+use Rattle.partial_epochs.specs.Publishing.{ClearsSlots, IsWholeArena, having_published, having_set, next_beside, next_place}
 use Rattle.partial_epochs.specs.Opening.{OpensAll, first_beside, first_ports}
-use Rattle.partial_epochs.specs.Notes.{IsSight, LawfulMemory, MayNote, one_history}
+use Rattle.partial_epochs.specs.Notes.{IsAside, IsSight, LawfulMemory, MayNote, having_seen, noting, one_history, public_noted}
 use Rattle.partial_epochs.specs.Time.{KeepsTime}
 
 -- what a port may do next
 pub data Move : Type 0 where
-  -- the due step of its machine, in the arena where it stands
-  Makes : CoreState → Step → Move
+  -- nothing: it loads what tells it nothing, or loses an exchange
+  Rests : Move
+  -- the due step of its machine, in the arena where it stands; it notes what its machine then tells it to note, or nothing
+  Makes : CoreState → Step → Bool → Move
   -- a seal on the next component, and the load of one that is sealed
   Seals : Move
   PassesSealed : Move
@@ -48,12 +53,13 @@ pub data Move : Type 0 where
   FindsClear : OwnedArena → ℕ → Move
   -- an owner publishes
   Publishes : OwnedArena → Move
-  -- a port notes what it has seen by a look
-  Notes : Noted → ℕ → Move
+  -- a port looks at its epoch, which has that history by then, and notes nothing, or what it has seen there
+  Sees : List Applied → Move
+  Notes : Noted → ℕ → List Applied → Move
 
 -- the words after the move
 abbrev pub moved_words : Plan → List ℕ → Port → ℕ → Move → List ℕ
-moved_words e words p k (Makes c step) = words_after words (placed_step e p.control.here.arena step)
+moved_words e words p k (Makes c step notes) = words_after words (placed_step e p.control.here.arena step)
 moved_words e words p k Seals = words_after words (Add (base e p.control.here.arena + p.passed) seal)
 moved_words e words p k StoresMark = words_after words (Store (at_word k) (marked p.control.here))
 moved_words e words p k (ExchangesMark c) = words_after words (Exchange (at_word k) (marked p.control.here) (packed c))
@@ -65,12 +71,38 @@ moved_words e words p k (Publishes o) = words_after words
     (Exchange current_word (packed p.control.here) (packed (next_place p.control.here o.arena)))
 moved_words e words p k _ = words
 
+-- the port after a move that isn't a step of its machine, nor the third step of entering
+abbrev pub port_after : List ℕ → Port → Move → Port
+port_after words p Seals = passing_port p
+port_after words p PassesSealed = passing_port p
+port_after words p Looks = if slice_index words current_word == packed p.control.here then p else having_passed p
+port_after words p (LooksAsOwner o) = if slice_index words current_word == packed p.control.here then having_looked p o else having_passed p
+port_after words p StoresMark = record p { control = record p.control { entering = Marks } }
+port_after words p LoadsCurrent = record p { control = record p.control { entering = Loaded (unpacked (slice_index words current_word)) } }
+port_after words p (Takes x) = owning_port p (just_taken x)
+port_after words p (Gives o) = having_given p
+port_after words p (FindsElsewhere o d) = having_put p o
+port_after words p (LoadsMark o) = owning_port p (having_loaded o (unpacked (slice_index words (at_word o.clean) - entering_mark)))
+port_after words p (Puts o a) = having_put p o
+port_after words p (Sets o v next) = having_set p o next
+port_after words p (FindsClear o next) = having_set p o next
+port_after words p (Publishes o) = having_published p o
+port_after words p (Sees log) = having_seen p log
+port_after words p (Notes n i log) = having_seen p log
+port_after words p _ = p
+
+-- what a port notes over all epochs of what its machine has noted
+abbrev pub noted_after : Plan → Port → Bool → List Noted → List Noted
+noted_after e p notes new = if notes then map (public_noted e p.before) new else []
+
 -- what has to hold where a port makes the move: of the words, and of what the port itself knows
 abbrev pub MayMove : Plan → List ℕ → (ℕ → Port) → Beside → (ℕ → List Noted) → ℕ → Move → Type 0
-MayMove e words ports b notes k (Makes c step) =
+MayMove e words ports b notes k Rests = ⊤
+MayMove e words ports b notes k (Makes c step noted) =
     ((ports k).control.entering ≡ Stands) × IsMachineOf c (ports k).part × (step_of c ≡ Some step) × MayClaim e (ports k).over step
-    × ((lead : MachineLeads e words ports b k c step) → (added : List Noted)
-    × MayNote e (ports k) (notes k) (since_with c (ports k).part) lead.port.part.seen lead.tells.new added)
+    × ((lead : MachineLeads e words ports b k c step) →
+    MayNote e (ports k) (notes k) (since_with c (ports k).part) lead.port.part.seen lead.tells.new
+    (noted_after e (ports k) noted lead.tells.new))
 MayMove e words ports b notes k Seals = ((ports k).control.entering ≡ Stands) × ((ports k).passed < e.sizes.m)
 MayMove e words ports b notes k PassesSealed = ((ports k).control.entering ≡ Stands) × ((ports k).passed < e.sizes.m)
     × IsSealed (slice_index (component_words e words (ports k).control.here.arena) (ports k).passed)
@@ -98,8 +130,10 @@ MayMove e words ports b notes k (Sets o v next) = ((ports k).control.owned ≡ S
 MayMove e words ports b notes k (FindsClear o next) = ((ports k).control.owned ≡ Some o) × (o.clean ≡ e.ports) × (o.set < next)
     × (slice_index words (base e o.arena + slot_counter e.sizes) + next ≤ e.sizes.slots) × (e.sizes.m ≤ (ports k).passed)
 MayMove e words ports b notes k (Publishes o) = IsWholeArena e (ports k) o
-MayMove e words ports b notes k (Notes n i) = ((ports k).control.entering ≡ Stands)
-    × ((s : IsStanding b k (ports k)) × IsSight e k (ports k) s.epoch.log (notes k) n i)
+MayMove e words ports b notes k (Sees log) = ((ports k).control.entering ≡ Stands)
+    × ((s : IsStanding b k (ports k)) × (s.epoch.log ≡ log))
+MayMove e words ports b notes k (Notes n i log) = ((ports k).control.entering ≡ Stands)
+    × ((s : IsStanding b k (ports k)) × (s.epoch.log ≡ log) × IsSight e k (ports k) log (notes k) n i)
 
 -- whether the reply is that of an applied update
 abbrev pub is_applied : Option Reply → Bool
@@ -108,37 +142,59 @@ is_applied _ = false
 
 -- the move may add an entry to the one history: it is the step by which the machine of an update comes to be applied, and meets no seal
 abbrev pub MayAdd : Plan → List ℕ → Port → Move → Type 0
-MayAdd e words p (Makes c step) = (¬ MeetsSeal e (component_words e words p.control.here.arena) step)
+MayAdd e words p (Makes c step notes) = (¬ MeetsSeal e (component_words e words p.control.here.arena) step)
     × (is_applied (reply_of (advance c (answer_of (arena_words e words p.control.here.arena) step))) ≡ true)
 MayAdd e words p _ = ⊥
 
 -- where the port is behind the move: by the third step of entering it comes to a later epoch, and by all others it stays where it is
 abbrev pub IsPlacedBy : Move → Place → Place → Type 0
-IsPlacedBy (ExchangesMark c) here then = here.epoch < then.epoch
-IsPlacedBy _ here then = then ≡ here
+IsPlacedBy (ExchangesMark c) here there = here.epoch < there.epoch
+IsPlacedBy _ here there = there ≡ here
 
 -- for each port the number of the epoch that was the current one as it stored its last entering mark, behind the move
 abbrev pub since_behind : Beside → ℕ → Move → (ℕ → ℕ) → ℕ → ℕ
 since_behind b k StoresMark since = put k (length b.before) since
 since_behind b k _ since = since
 
--- what the move leads to: a lawful memory, in which all other ports are as they were
+-- What becomes of the port that makes the move, and of what stands beside the words, and what the port notes.
+abbrev pub Becomes : Plan → List ℕ → (ℕ → Port) → Beside → ℕ → Move → Port → Beside → List Noted → Type 0
+-- the step meets a seal, and tells the machine nothing; or the machine is told what the words give without their seals
+Becomes e words ports b k (Makes c step notes) p there added =
+    (MeetsSeal e (component_words e words (ports k).control.here.arena) step
+    × (moved_words e words (ports k) k (Makes c step notes) ≡ words) × (p ≡ ports k) × (there ≡ b) × (added ≡ []))
+    ⊎ ((lead : MachineLeads e words ports b k c step) × (p ≡ lead.port) × (there ≡ lead.beside)
+    × (added ≡ noted_after e (ports k) notes lead.tells.new))
+-- the port comes to a place that is no older than the epoch that was the current one as it stored its mark, with a new part there
+Becomes e words ports b k (ExchangesMark c) p there added =
+    (a : Arrives e words ports b k c) × (p ≡ arrived_port e k a.place a.before) × (there ≡ b) × (added ≡ [])
+    × ((since : ℕ → ℕ) → KeepsTime e words ports (place_now b) since → since k ≤ a.place.epoch)
+-- the exchange opens the next epoch, where the port's epoch is the current one
+Becomes e words ports b k (Publishes o) p there added = (p ≡ having_published (ports k) o) × (added ≡ [])
+    × (((slice_index words current_word ≡ packed (ports k).control.here) × (there ≡ next_beside e b o.arena))
+    ⊎ ((slice_index words current_word ≢ packed (ports k).control.here) × (there ≡ b)))
+-- the port has seen its whole epoch
+Becomes e words ports b k (Sees log) p there added = (p ≡ having_seen (ports k) log) × IsBesideAs b there × (added ≡ [])
+Becomes e words ports b k (Notes n i log) p there added = (p ≡ having_seen (ports k) log) × IsBesideAs b there × (added ≡ n ∷ [])
+-- all histories are as they were, and so is what the port has seen of its epoch
+Becomes e words ports b k m p there added = (p ≡ port_after words (ports k) m) × IsAside b there (ports k) p × (added ≡ [])
+
+-- what the move leads to: a lawful memory, in which all other ports and their notes are as they were
 pub record MoveLeads (e : Plan) (words words' : List ℕ) (ports : ℕ → Port) (b : Beside) (notes : ℕ → List Noted) (k : ℕ) (m : Move) :
     Type 0 where
-  pub ports_then : ℕ → Port
+  pub port : Port
   pub beside : Beside
-  pub notes_then : ℕ → List Noted
-  pub lawful : LawfulMemory e words' ports_then beside notes_then
-  pub others : (q : ℕ) → q ≢ k → (ports_then q ≡ ports q) × (notes_then q ≡ notes q)
+  pub added : List Noted
+  pub lawful : LawfulMemory e words' (put k port ports) beside (noting k added notes)
+  pub becomes : Becomes e words ports b k m port beside added
   -- where the port is then
-  pub place : IsPlacedBy m (ports k).control.here (ports_then k).control.here
+  pub place : IsPlacedBy m (ports k).control.here port.control.here
   -- what the one history has gained
   pub entries : List Applied
   pub history : one_history beside ≡ one_history b ++ entries
   pub adds : (entries ≡ []) ⊎ MayAdd e words (ports k) m
   -- a memory that kept time keeps it
   pub time : (since : ℕ → ℕ) → KeepsTime e words ports (place_now b) since →
-      KeepsTime e words' ports_then (place_now beside) (since_behind b k m since)
+      KeepsTime e words' (put k port ports) (place_now beside) (since_behind b k m since)
 
 -- every step of every port keeps the memory lawful
 abbrev pub EveryStepStaysLawful : Type 0

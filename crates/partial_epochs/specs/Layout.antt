@@ -41,6 +41,10 @@ entering_mark = 9223372036854775808
 abbrev pub packed : Place → ℕ
 packed p = p.epoch * arena_limit + p.arena
 
+-- the place that a word names
+abbrev pub unpacked : ℕ → Place
+unpacked w = record { epoch = w / arena_limit; arena = w % arena_limit }
+
 -- the word of a place with the entering mark: its port is entering from there
 abbrev pub marked : Place → ℕ
 marked p = entering_mark + packed p

@@ -1,5 +1,5 @@
 -- Steps that change neither histories nor what their port has seen or noted.
-use Rattle.partial_long_lived.proofs.{Common.{ℕ, ◌≡◌, ◌≢◌, ◌≤◌, ◌++◌, Option, Some, None, IfSome, List, [], ◌∷◌, length, refl, sym, ap, subst, ◌∙◌, arith, append-nil, Applied, LegalNotes, Noted, Part, put, history_of, Port, Beside, LawfulEpochs, place_now, KeepsTime, LawfulMemory, put_other, put_same, About, Began, Found, BeganInTime, IsFinal, IsLast, IsSeat, IsSeen, IsSince, SeatedPort, plan_of, seen_in, IsSeatKnown, becomes, asides_stay_lawful, Place}, Kept.{HasGrown, Moved, final_grows, none_grown, not_grown, seen_grows}, Contention.contends_same}
+use Rattle.partial_long_lived.proofs.{Common.{ℕ, ◌≡◌, ◌≢◌, ◌≤◌, ◌++◌, Option, Some, None, IfSome, List, [], ◌∷◌, length, refl, sym, ap, subst, ◌∙◌, arith, append-nil, Applied, LegalNotes, Noted, Part, put, history_of, Port, Beside, place_now, KeepsTime, LawfulMemory, put_other, put_same, About, Began, Found, BeganInTime, IsFinal, IsLast, IsSeat, IsSeen, IsSince, SeatedPort, plan_of, seen_in, IsSeatKnown, becomes, Place}, Kept.{HasGrown, Moved, final_grows, none_grown, not_grown, seen_grows}, Contention.contends_same}
 
 -- a change of a port that leaves its place, its part and the epochs behind it, and passes no fewer components
 pub record IsQuiet (g : Port → Port) : Type 0 where
@@ -28,7 +28,7 @@ seen_quiet g p q = ap (λ (x : Part). history_of (x.seen ∷ (g p).before)) (q.p
 pub aside : (a : About) (words words' : List ℕ) (ports : ℕ → Port) (notes : ℕ → List Noted) (b c : Beside) (since since' : ℕ → ℕ) (x : SeatedPort) → LawfulMemory (plan_of a) words ports b notes →
     IsSeat a ports notes b since x → IsSeatKnown x → (g : Port → Port) → IsQuiet g → (n : Began) → IsSince n (g x.port).control.entering (since' x.number) → BeganInTime c n →
     KeepsTime (plan_of a) words' (put x.number (g (ports x.number)) ports) (place_now c) since' → ((q : ℕ) → q ≢ x.number → since' q ≡ since q) → c.log ≡ b.log → c.before ≡ b.before →
-    LawfulEpochs (plan_of a) words' (put x.number (g (ports x.number)) ports) c → (P : SeatedPort → Type 0) →
+    LawfulMemory (plan_of a) words' (put x.number (g (ports x.number)) ports) c notes → (P : SeatedPort → Type 0) →
     P (becomes x n (g x.port)) → Moved a words' ports notes b since x P
 aside a words words' ports notes b c since since' x w s known g q n marked began time since_others log before then P says =
     let k : ℕ = x.number in
@@ -38,7 +38,6 @@ aside a words words' ports notes b c since since' x w s known g q n marked began
     let still : seen_in (g x.port) ≡ seen_in x.port = seen_quiet g x.port q in
     let grown : HasGrown (g x.port) b c = not_grown (g x.port) b c log before in
     let r = w.noted.reached k s.number in
-    let moved = asides_stay_lawful (plan_of a) words words' ports b c notes k (g p) w s.number (record { log = log; epochs = before; part = q.part p; before = q.before p; here = q.here p }) then in
     record {
       y = becomes x n (g x.port);
       ports' = put k (g p) ports;
@@ -46,7 +45,7 @@ aside a words words' ports notes b c since since' x w s known g q n marked began
       beside = c;
       since' = since';
       time = time;
-      lawful = moved;
+      lawful = then;
       others = λ i ne. (put_other k (g p) ports i ne, refl, since_others i ne);
       number = refl;
       epoch = (let same = ap (λ (d : Place). d.epoch) (q.here x.port) in omega (arith, same));

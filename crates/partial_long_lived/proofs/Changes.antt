@@ -1,5 +1,6 @@
 -- The steps of a change of epoch are allowed.
-use Rattle.partial_long_lived.proofs.{Common.{ℕ, control_size, ◌≡◌, ◌≢◌, ◌+◌, ◌-◌, ◌%◌, ◌^◌, ◌<◌, ◌≤◌, ◌==◌, ◌⊎◌, Bool, true, false, if◌then◌else◌, Option, Some, None, List, slice_index, slice_set, refl, sym, ap, subst, ◌∙◌, inl, inr, arith, nat_lt, cases_lt, lt-ltb, eqb_tells, get_or-set_other, some_same, either, Me, Allows, put, IsPlace, Place, Plan, at_word, base, component_words, control_words, entering_mark, marked, own_word, packed, seal, Control, Entering, OwnedArena, Port, Stands, Marks, Loaded, IsPlaceWord, MayPut, Beside, LawfulEpochs, place_now, KeepsTime, passing_port, at_next_port, having_given, having_loaded, just_taken, owning_port, gives_stay_lawful, loaded_marks_keep_time, marks_are_loaded, others_are_elsewhere, puts_keep_time, puts_stay_lawful, sealed_passes_stay_lawful, seals_stay_lawful, takes_stay_lawful, at_of, not_below, About, Began, IsRuleKept, IsSince, SeatedPort, one_of, plan_of, IsSeatKnown, IsOne, tells, SeatGives, LoadsPort, PassesSealed, PutsPort, contention_loading, contention_putting, contention_taking, Seals, Takes, elsewhere, passed_at, port_loaded, port_put, taken_at, unpacked}, Asides.IsQuiet, Control.{Quietly, lawful_itself, load_same, quietly, quietly_contending, time_aside, unpacked_is}, Contention.{loading_more, putting_more, taking_more}}
+use Rattle.partial_long_lived.proofs.{Common.{ℕ, control_size, ◌≡◌, ◌≢◌, ◌+◌, ◌-◌, ◌%◌, ◌^◌, ◌<◌, ◌≤◌, ◌==◌, ◌⊎◌, Bool, true, false, if◌then◌else◌, Option, Some, None, List, slice_index, slice_set, refl, sym, ap, subst, ◌∙◌, inl, inr, arith, nat_lt, cases_lt, lt-ltb, eqb_tells, either, Me, Allows, IsPlace, Place, Plan, at_word, base, component_words, control_words, entering_mark, marked, own_word, packed, seal, Entering, OwnedArena, Port, Stands, Marks, Loaded, IsPlaceWord, Beside, LawfulEpochs, place_now, KeepsTime, passing_port, at_next_port, having_given, having_loaded, just_taken, owning_port, at_of, not_below, About, Began, IsRuleKept, IsSince, SeatedPort, one_of, plan_of, IsSeatKnown, IsOne, tells, SeatGives, LoadsPort, PassesSealed, PutsPort, contention_loading, contention_putting, contention_taking, Seals, Takes, elsewhere, passed_at, port_loaded, port_put, taken_at, unpacked, MayMove, LawfulMemory, Noted, unpacked_is}, Asides.IsQuiet, Control.{Quietly, load_same, quietly, quietly_contending, by_move, by_rest}, Contention.{loading_more, putting_more, taking_more}}
+use Rattle.partial_epochs.specs.EveryStep.{Move as move}
 
 -- an exchange as a table makes it
 pub either_cond : (c : Bool) (x y : ℕ) → (if c then x else y) ≡ either c x y
@@ -80,67 +81,26 @@ module _ (e : Plan) (words : List ℕ) (ports : ℕ → Port) (b : Beside) (w : 
       by Marks at = entering at
       by (Loaded c) at = entering at
 
--- what a port has found elsewhere
-module _ (e : Plan) (words : List ℕ) (ports : ℕ → Port) (b : Beside) (w : LawfulEpochs e words ports b) (k : ℕ) (below : k < e.ports) (o : OwnedArena) (owned : (ports k).control.owned ≡ Some o)
-    (looked : o.looked ≡ true) (none : o.set ≡ 0) (more : o.clean < e.ports) where
-  pub same_owned : LawfulEpochs e words (put k (owning_port (ports k) o) ports) b
-  same_owned = subst (λ (p : Port). LawfulEpochs e words (put k p ports) b) (sym (owning_same (ports k) o owned)) (lawful_itself e words ports b k w)
+-- what becomes of an owner that finds the next port's word unmarked
+module _ (a : About) (words : List ℕ) (ports : ℕ → Port) (notes : ℕ → List Noted) (b : Beside) (since : ℕ → ℕ) (w : LawfulMemory (plan_of a) words ports b notes)
+    (time : KeepsTime (plan_of a) words ports (place_now b) since) (k : ℕ) (below : k < a.ports) (g : Began) (old : IsSince g (ports k).control.entering (since k)) (o : OwnedArena)
+    (owned : (ports k).control.owned ≡ Some o) (looked : o.looked ≡ true) (none : o.set ≡ 0) (more : o.clean < a.ports) where
+  -- it owns the arena as it did
+  pub owns_still : (words' : List ℕ) → words ≡ words' → Quietly a words' ports notes b since k g (owning_port (ports k) o)
+  owns_still words' same = by_rest a words ports notes b since w time k below g words' same (owning_port (ports k) o) (sym (owning_same (ports k) o owned)) old
 
-  pub elsewhere_lawful : slice_index words (at_word o.clean) < entering_mark → LawfulEpochs e words (put k (owning_port (ports k) (elsewhere (slice_index words (at_word o.clean)) o)) ports) b
-  elsewhere_lawful less =
+  pub finds_elsewhere : (words' : List ℕ) → words ≡ words' → slice_index words (at_word o.clean) < entering_mark →
+      Quietly a words' ports notes b since k g (owning_port (ports k) (elsewhere (slice_index words (at_word o.clean)) o))
+  finds_elsewhere words' same less =
       let n : ℕ = slice_index words (at_word o.clean) in
-      let there = unmarked_place e words ports b w o.clean more less in
-      elim (eqb_tells (unpacked n).arena o.arena) [
-        | inl is ↦ subst (λ (c : Bool). LawfulEpochs e words (put k (owning_port (ports k) (if c then o else at_next_port o)) ports) b) (sym is.0) same_owned
-        | inr ne ↦ subst (λ (c : Bool). LawfulEpochs e words (put k (owning_port (ports k) (if c then o else at_next_port o)) ports) b) (sym ne.0)
-            (others_are_elsewhere e words ports b k o (unpacked n) w below owned looked none more there.1 there.0 ne.1)
-      ]
-
--- a quiet step after which others find the port as it was
-module _ (a : About) (words words' : List ℕ) (ports : ℕ → Port) (b c : Beside) (since : ℕ → ℕ) (time : KeepsTime (plan_of a) words ports (place_now b) since) (log : c.log ≡ b.log)
-    (before : c.before ≡ b.before)
-    (k : ℕ) (n : Began) (old : IsSince n (ports k).control.entering (since k)) (at : (q : ℕ) → q < a.ports → slice_index words' (at_word q) ≡ slice_index words (at_word q)) where
-  pub still : (p : Port) → p.control.here ≡ (ports k).control.here → p.control.entering ≡ (ports k).control.entering → ((j : ℕ) (m : Place) → MayPut p.control j m → MayPut (ports k).control j m) →
-      LawfulEpochs (plan_of a) words' (put k p ports) c → Quietly a words' ports b since k n p
-  still p here entering puts lawful = record {
-    since' = since;
-    beside = c;
-    log = log;
-    before = before;
-    lawful = lawful;
-    time = time_aside a words words' ports b c since time before k p at here entering puts;
-    others = λ q ne. refl;
-    entering = subst (λ (t : Entering). IsSince n t (since k)) (sym entering) old;
-  }
-
--- a load leaves the words of ports as they are, and so does a store behind them
-pub load_at : (words : List ℕ) (i q : ℕ) → slice_index (slice_set words i (slice_index words i)) (at_word q) ≡ slice_index words (at_word q)
-load_at words i q = ap (λ (l : List ℕ). slice_index l (at_word q)) (sym (load_same words i))
-
-pub store_at : (e : Plan) (words : List ℕ) (i v q : ℕ) → q < e.ports → 1 + e.ports ≤ i → slice_index (slice_set words i v) (at_word q) ≡ slice_index words (at_word q)
-store_at e words i v q low from = get_or-set_other words i (at_word q) v 0 (omega (arith, low, from))
-
--- who owns no arena, or has no mark, puts nobody
-none_puts : (c : Control) (R : Type 0) → c.owned ≡ None → (j : ℕ) (m : Place) → MayPut c j m → R
-none_puts c R none j m may = let bad : None ≡ Some may.owned = sym none ∙ may.is in absurd cc
-
-unmarked_puts : (c : Control) (R : Type 0) (o : OwnedArena) → c.owned ≡ Some o → o.mark ≡ None → (j : ℕ) (m : Place) → MayPut c j m → R
-unmarked_puts c R o is none j m may =
-    let same : o ≡ may.owned = some_same (sym is ∙ may.is) in
-    let bad : None ≡ Some m = sym none ∙ ap (λ (t : OwnedArena). t.mark) same ∙ may.mark in
-    absurd cc
-
--- the arena as it was, or its next port
-elsewhere_puts : (p : Port) (o : OwnedArena) (c : Bool) → p.control.owned ≡ Some o → (j : ℕ) (m : Place) → MayPut (owning_port p (if c then o else at_next_port o)).control j m → MayPut p.control j m
-elsewhere_puts p o true is j m may = record {
-  owned = o;
-  is = is;
-  port = ap (λ (t : OwnedArena). t.clean) (some_same may.is) ∙ may.port;
-  mark = ap (λ (t : OwnedArena). t.mark) (some_same may.is)
-      ∙ may.mark;
-  again = ap (λ (t : OwnedArena). t.again) (some_same may.is) ∙ may.again;
-}
-elsewhere_puts p o false is j m may = unmarked_puts (owning_port p (at_next_port o)).control (MayPut p.control j m) (at_next_port o) refl refl j m may
+      let there = unmarked_place (plan_of a) words ports b w.epochs o.clean more less in
+      let P : Bool → Port = λ t. owning_port (ports k) (if t then o else at_next_port o) in
+      (elim (eqb_tells (unpacked n).arena o.arena) [
+        | inl is ↦ subst (λ (t : Bool). Quietly a words' ports notes b since k g (P t)) (sym is.0) (owns_still words' same)
+        | inr ne ↦ subst (λ (t : Bool). Quietly a words' ports notes b since k g (P t)) (sym ne.0)
+            (by_move a words ports notes b since w time k below g (move.FindsElsewhere o (unpacked n)) (owned, looked, none, more, there.1, there.0, ne.1) (λ p c n is. is) (λ q ne. refl) words' same
+            (owning_port (ports k) (at_next_port o)) refl old)
+      ])
 
 module _ {S : Type 0} (a : About) (slots id : ℕ) (me : Me S (List SeatedPort)) (one : IsOne me) (own : (one_of me.0).about ≡ a) (known : IsSeatKnown (one_of me.0)) where
   abbrev x : SeatedPort
@@ -159,19 +119,18 @@ module _ {S : Type 0} (a : About) (slots id : ℕ) (me : Me S (List SeatedPort))
       let n : ℕ = slice_index words i in
       let P : Bool → Port = λ t. (if t then ports k else passing_port (ports k)) in
       (elim (cases_lt n seal) [
-        | inl less ↦ subst (λ (t : Bool). Quietly a (slice_set words i n) ports b since k x.began (P t)) (sym (lt-ltb n seal less))
-            (still a words (slice_set words i n) ports b b since time refl refl k x.began old (λ q low. load_at words i q) (ports k) refl refl (λ j m may. may)
-            (subst (λ (l : List ℕ). LawfulEpochs e l (put k (ports k) ports) b) (load_same words i) (lawful_itself e words ports b k w.epochs)))
+        | inl less ↦ subst (λ (t : Bool). Quietly a (slice_set words i n) ports notes b since k x.began (P t)) (sym (lt-ltb n seal less))
+            (by_rest a words ports notes b since w time k below x.began (slice_set words i n) (load_same words i) (ports k) refl old)
         | inr from ↦
             let here = ap (λ (p : Port). p.control.here.arena) is in
             let passed = ap (λ (p : Port). p.passed) is in
             let at : slice_index (component_words e words (ports k).control.here.arena) (ports k).passed ≡ n =
             at_of (λ j. slice_index words (base e (ports k).control.here.arena + j)) 0 e.sizes.m (ports k).passed (omega (arith, more, passed))
             ∙ ap (λ j. slice_index words (base e (ports k).control.here.arena + j)) (omega (arith, passed)) ∙ ap (λ z. slice_index words (base e z + x.port.passed)) (sym here) in
-            let to = sealed_passes_stay_lawful e words ports b k w.epochs below (ap (λ (p : Port). p.control.entering) (sym is) ∙ stands) (omega (arith, more, passed)) (omega (arith, at, from)) in
-            subst (λ (t : Bool). Quietly a (slice_set words i n) ports b since k x.began (P t)) (sym (not_below n seal from))
-            (still a words (slice_set words i n) ports b to.beside since time to.same.log to.same.before k x.began old (λ q low. load_at words i q) (passing_port (ports k)) refl refl (λ j m may. may)
-            (subst (λ (l : List ℕ). LawfulEpochs e l (put k (passing_port (ports k)) ports) to.beside) (load_same words i) to.lawful))
+            let may : MayMove e words ports b notes k move.PassesSealed =
+            (ap (λ (p : Port). p.control.entering) (sym is) ∙ stands, omega (arith, more, passed), omega (arith, at, from)) in
+            subst (λ (t : Bool). Quietly a (slice_set words i n) ports notes b since k x.began (P t)) (sym (not_below n seal from))
+            (by_move a words ports notes b since w time k below x.began move.PassesSealed may (λ p c n is. is) (λ q ne. refl) (slice_set words i n) (load_same words i) (passing_port (ports k)) refl old)
       ]))
       (λ words ports b w below is. refl)
 
@@ -184,11 +143,9 @@ module _ {S : Type 0} (a : About) (slots id : ℕ) (me : Me S (List SeatedPort))
       let k : ℕ = x.number in
       let i : ℕ = base e x.port.control.here.arena + x.port.passed in
       let passed = ap (λ (p : Port). p.passed) is in
-      let to = seals_stay_lawful e words ports b k w.epochs below (ap (λ (p : Port). p.control.entering) (sym is) ∙ stands) (omega (arith, more, passed)) in
-      still a words (slice_set words i ((slice_index words i + seal) % 2 ^ 64)) ports b to.beside since time to.same.log to.same.before k x.began old
-      (λ q low. store_at e words i ((slice_index words i + seal) % 2 ^ 64) q low (omega arith)) (passing_port (ports k)) refl refl (λ j m may. may)
-      (subst (λ (p : Port). LawfulEpochs e (slice_set words (base e p.control.here.arena + p.passed) ((slice_index words (base e p.control.here.arena + p.passed) + seal) % 2 ^ 64))
-      (put k (passing_port (ports k)) ports) to.beside) (sym is) to.lawful))
+      let may : MayMove e words ports b notes k move.Seals = (ap (λ (p : Port). p.control.entering) (sym is) ∙ stands, omega (arith, more, passed)) in
+      by_move a words ports notes b since w time k below x.began move.Seals may (λ p c n is. is) (λ q ne. refl) (slice_set words i ((slice_index words i + seal) % 2 ^ 64))
+      (ap (λ (p : Port). slice_set words (base e p.control.here.arena + p.passed) ((slice_index words (base e p.control.here.arena + p.passed) + seal) % 2 ^ 64)) (sym is)) (passing_port (ports k)) refl old)
       (λ words ports b w below is. refl)
 
   -- the exchange of the owner word of arena i
@@ -203,19 +160,16 @@ module _ {S : Type 0} (a : About) (slots id : ℕ) (me : Me S (List SeatedPort))
       let P : Bool → Port = λ t. (if t then owning_port (ports k) (just_taken i) else ports k) in
       (elim (eqb_tells n 0) [
         | inl free ↦
-            let to = takes_stay_lawful e words ports b k i w.epochs below (ap (λ (p : Port). p.control.entering) (sym is) ∙ stands) (ap (λ (p : Port). p.control.owned) (sym is) ∙ none) inside
-            (λ same. apart (ap (λ (p : Port). p.control.here.arena) is ∙ same)) free.1 in
-            subst (λ (t : Bool). Quietly a (slice_set words (own_word e i) v) ports b since k x.began (P t)) (sym free.0)
-            (still a words (slice_set words (own_word e i) v) ports b b since time refl refl k x.began old (λ q low. store_at e words (own_word e i) v q low (omega arith))
-            (owning_port (ports k) (just_taken i)) refl refl
-            (λ j m may. unmarked_puts (owning_port (ports k) (just_taken i)).control (MayPut (ports k).control j m) (just_taken i) refl refl j m may)
-            (subst (λ v. LawfulEpochs e (slice_set words (own_word e i) v) (put k (owning_port (ports k) (just_taken i)) ports) b) (either_cond (n == 0) (k + 1) n) to))
+            let may : MayMove e words ports b notes k (move.Takes i) =
+            (ap (λ (p : Port). p.control.entering) (sym is) ∙ stands, ap (λ (p : Port). p.control.owned) (sym is) ∙ none, inside,
+            (λ same. apart (ap (λ (p : Port). p.control.here.arena) is ∙ same)), free.1) in
+            subst (λ (t : Bool). Quietly a (slice_set words (own_word e i) v) ports notes b since k x.began (P t)) (sym free.0)
+            (by_move a words ports notes b since w time k below x.began (move.Takes i) may (λ p c n is. is) (λ q ne. refl) (slice_set words (own_word e i) v)
+            (ap (λ v. slice_set words (own_word e i) v) (either_cond (n == 0) (k + 1) n)) (owning_port (ports k) (just_taken i)) refl old)
         | inr held ↦
-            subst (λ (t : Bool). Quietly a (slice_set words (own_word e i) v) ports b since k x.began (P t)) (sym held.0)
-            (still a words (slice_set words (own_word e i) v) ports b b since time refl refl k x.began old (λ q low. store_at e words (own_word e i) v q low (omega arith)) (ports k) refl refl
-            (λ j m may. may)
-            (subst (λ (t : Bool). LawfulEpochs e (slice_set words (own_word e i) (either t (k + 1) n)) (put k (ports k) ports) b) (sym held.0)
-            (subst (λ (l : List ℕ). LawfulEpochs e l (put k (ports k) ports) b) (load_same words (own_word e i)) (lawful_itself e words ports b k w.epochs))))
+            subst (λ (t : Bool). Quietly a (slice_set words (own_word e i) v) ports notes b since k x.began (P t)) (sym held.0)
+            (by_rest a words ports notes b since w time k below x.began (slice_set words (own_word e i) v)
+            (load_same words (own_word e i) ∙ ap (λ t. slice_set words (own_word e i) (either t (k + 1) n)) (sym held.0)) (ports k) refl old)
       ]))
       (λ words ports b w below is. refl)
 
@@ -225,10 +179,8 @@ module _ {S : Type 0} (a : About) (slots id : ℕ) (me : Me S (List SeatedPort))
       (λ n. record { part = λ p. refl; before = λ p. refl; here = λ p. refl; passed = λ p. omega arith })
       (λ words ports notes b since w time below is old come.
       let k : ℕ = x.number in
-      still a words (slice_set words (own_word e o.arena) 0) ports b b since time refl refl k x.began old (λ q low. store_at e words (own_word e o.arena) 0 q low (omega arith))
-      (having_given (ports k)) refl refl
-      (λ j m may. none_puts (having_given (ports k)).control (MayPut (ports k).control j m) refl j m may)
-      (gives_stay_lawful e words ports b k o w.epochs below (ap (λ (p : Port). p.control.owned) (sym is) ∙ owned)))
+      by_move a words ports notes b since w time k below x.began (move.Gives o) (ap (λ (p : Port). p.control.owned) (sym is) ∙ owned) (λ p c n is. is) (λ q ne. refl)
+      (slice_set words (own_word e o.arena) 0) refl (having_given (ports k)) refl old)
       (λ words ports b w below is. refl)
 
   -- the load of the next port's word
@@ -243,29 +195,11 @@ module _ {S : Type 0} (a : About) (slots id : ℕ) (me : Me S (List SeatedPort))
       let owned' : (ports k).control.owned ≡ Some o = ap (λ (p : Port). p.control.owned) (sym is) ∙ owned in
       let P : Bool → Port = λ t. owning_port (ports k) (if t then elsewhere n o else having_loaded o (unpacked (n - entering_mark))) in
       (elim (cases_lt n entering_mark) [
-        | inl less ↦ subst (λ (t : Bool). Quietly a words' ports b since k x.began (P t)) (sym (lt-ltb n entering_mark less))
-            (still a words words' ports b b since time refl refl k x.began old (λ q low. load_at words (at_word o.clean) q) (owning_port (ports k) (elsewhere n o)) refl refl
-            (λ j m may. elsewhere_puts (ports k) o ((unpacked n).arena == o.arena) owned' j m may)
-            (subst (λ (l : List ℕ). LawfulEpochs e l (put k (owning_port (ports k) (elsewhere n o)) ports) b) (load_same words (at_word o.clean))
-            (elsewhere_lawful e words ports b w.epochs k below o owned' looked none more less)))
-        | inr from ↦
-            let to = marks_are_loaded e words ports b k o w.epochs below owned' more from in
-            let at = to.0 in
-            let d : Place = unpacked (n - entering_mark) in
-            let same : d ≡ (ports o.clean).control.here =
-            ap unpacked (omega (arith, at)) ∙ unpacked_is (ports o.clean).control.here w.epochs.plan.arenas (w.epochs.control.places o.clean more).arena in
-            subst (λ (t : Bool). Quietly a words' ports b since k x.began (P t)) (sym (not_below n entering_mark from)) (record {
-              since' = since;
-              beside = b;
-              log = refl;
-              before = refl;
-              lawful = subst (λ (l : List ℕ). LawfulEpochs e l (put k (owning_port (ports k) (having_loaded o d)) ports) b) (load_same words (at_word o.clean))
-                  (subst (λ (d : Place). LawfulEpochs e words (put k (owning_port (ports k) (having_loaded o d)) ports) b) (sym same) to.1);
-              time = subst (λ (l : List ℕ). KeepsTime e l (put k (owning_port (ports k) (having_loaded o d)) ports) (place_now b) since) (load_same words (at_word o.clean))
-                  (loaded_marks_keep_time e words ports (place_now b) d k o since below time);
-              others = λ q ne. refl;
-              entering = old;
-            })
+        | inl less ↦ subst (λ (t : Bool). Quietly a words' ports notes b since k x.began (P t)) (sym (lt-ltb n entering_mark less))
+            (finds_elsewhere a words ports notes b since w time k below x.began old o owned' looked none more words' (load_same words (at_word o.clean)) less)
+        | inr from ↦ subst (λ (t : Bool). Quietly a words' ports notes b since k x.began (P t)) (sym (not_below n entering_mark from))
+            (by_move a words ports notes b since w time k below x.began (move.LoadsMark o) (owned', more, from) (λ p c n is. is) (λ q ne. refl) words' (load_same words (at_word o.clean))
+            (owning_port (ports k) (having_loaded o (unpacked (n - entering_mark)))) refl old)
       ]))
       (λ words ports b w below is. refl)
 
@@ -286,34 +220,21 @@ module _ {S : Type 0} (a : About) (slots id : ℕ) (me : Me S (List SeatedPort))
       let P : Bool → Port = λ t. owning_port (ports k) (if t then at_next_port o else (if nat_lt n entering_mark then elsewhere n o else o)) in
       (elim (eqb_tells n (marked m)) [
         | inl won ↦
-            let to = puts_stay_lawful e words ports b k o m w.epochs below owned' looked more none mark again won.1 in
-            let in_time = puts_keep_time e words ports b k o m since w.epochs below owned' more mark again won.1 time in
             let word : (if n == marked m then packed (ports k).control.here else n) ≡ v = ap (λ (p : Port). if n == marked m then packed p.control.here else n) (sym is)
             ∙ either_cond (n == marked m) there n in
-            subst (λ (t : Bool). Quietly a (slice_set words i v) ports b since k x.began (P t)) (sym won.0) (record {
-              since' = since;
-              beside = b;
-              log = refl;
-              before = refl;
-              lawful = subst (λ v. LawfulEpochs e (slice_set words i v) (put k (owning_port (ports k) (at_next_port o)) ports) b) word to;
-              time = subst (λ v. KeepsTime e (slice_set words i v) (put k (owning_port (ports k) (at_next_port o)) ports) (place_now b) since) word in_time;
-              others = λ q ne. refl;
-              entering = old;
-            })
+            subst (λ (t : Bool). Quietly a (slice_set words i v) ports notes b since k x.began (P t)) (sym won.0)
+            (by_move a words ports notes b since w time k below x.began (move.Puts o m) (owned', looked, more, none, mark, again, won.1) (λ p c n is. is) (λ q ne. refl) (slice_set words i v)
+            (ap (λ v. slice_set words i v) word) (owning_port (ports k) (at_next_port o)) refl old)
         | inr lost ↦
             let Q : Bool → Port = λ t. owning_port (ports k) (if t then elsewhere n o else o) in
-            let stays : Quietly a (slice_set words i n) ports b since k x.began (Q (nat_lt n entering_mark)) =
+            let same : words ≡ slice_set words i v = load_same words i ∙ ap (λ t. slice_set words i (either t there n)) (sym lost.0) in
+            let stays : Quietly a (slice_set words i v) ports notes b since k x.began (Q (nat_lt n entering_mark)) =
             (elim (cases_lt n entering_mark) [
-              | inl less ↦ subst (λ (t : Bool). Quietly a (slice_set words i n) ports b since k x.began (Q t)) (sym (lt-ltb n entering_mark less))
-                  (still a words (slice_set words i n) ports b b since time refl refl k x.began old (λ q low. load_at words i q) (owning_port (ports k) (elsewhere n o)) refl refl
-                  (λ j d may. elsewhere_puts (ports k) o ((unpacked n).arena == o.arena) owned' j d may)
-                  (subst (λ (l : List ℕ). LawfulEpochs e l (put k (owning_port (ports k) (elsewhere n o)) ports) b) (load_same words i)
-                  (elsewhere_lawful e words ports b w.epochs k below o owned' looked none more less)))
-              | inr from ↦ subst (λ (t : Bool). Quietly a (slice_set words i n) ports b since k x.began (Q t)) (sym (not_below n entering_mark from))
-                  (still a words (slice_set words i n) ports b b since time refl refl k x.began old (λ q low. load_at words i q) (owning_port (ports k) o) refl refl
-                  (λ j d may. elsewhere_puts (ports k) o true owned' j d may)
-                  (subst (λ (l : List ℕ). LawfulEpochs e l (put k (owning_port (ports k) o) ports) b) (load_same words i) (same_owned e words ports b w.epochs k below o owned' looked none more)))
+              | inl less ↦ subst (λ (t : Bool). Quietly a (slice_set words i v) ports notes b since k x.began (Q t)) (sym (lt-ltb n entering_mark less))
+                  (finds_elsewhere a words ports notes b since w time k below x.began old o owned' looked none more (slice_set words i v) same less)
+              | inr from ↦ subst (λ (t : Bool). Quietly a (slice_set words i v) ports notes b since k x.began (Q t)) (sym (not_below n entering_mark from))
+                  (owns_still a words ports notes b since w time k below x.began old o owned' looked none more (slice_set words i v) same)
             ]) in
-            subst (λ (t : Bool). Quietly a (slice_set words i (either t there n)) ports b since k x.began (P t)) (sym lost.0) stays
+            subst (λ (t : Bool). Quietly a (slice_set words i v) ports notes b since k x.began (P t)) (sym lost.0) stays
       ]))
       (λ words ports b w below is. refl)

@@ -1,23 +1,10 @@
 -- The steps of a change of epoch and of entering one are allowed.
-use Rattle.partial_long_lived.proofs.{Common.{ℕ, ◌≡◌, ◌≢◌, ◌<◌, ◌≤◌, ◌==◌, ◌⊎◌, Bool, true, false, if◌then◌else◌, Option, Some, None, IfSome, List, length, slice_index, slice_set, refl, sym, ap, subst, ◌∙◌, inl, inr, arith, eqb_tells, set-get_or, Me, Allows, Applied, Noted, put, IsPlace, Place, Plan, arena_limit, at_word, current_word, marked, packed, Entering, OwnedArena, Port, Stands, Marks, Beside, LawfulEpochs, place_now, having_passed, having_looked, LawfulMemory, put_all, put_same, put_other, option_map_or, MayPut, KeepsTime, asides_keep_time, entries_keep_time, entries_load, looks_are_true, looks_keep_time, marks_keep_time, marks_stay_lawful, owners_look, owners_look_away, About, Began, IsRuleKept, IsSince, SeatedPort, one_of, plan_of, IsSeatKnown, IsOne, tells, LoadsCurrent, SeatLooks, StoresMark, becomes, having_found, loads, looked_at, marks, unpacked, same_place, Contention, ContendsMore}, Asides.{IsQuiet, aside}, Contention.contends_same, Kept.{allowed, begun_grows, moved_contending, none_grown}, Begins.{began_by, here_is, seen_few}}
+use Rattle.partial_long_lived.proofs.{Common.{ℕ, ◌≡◌, ◌≢◌, ◌<◌, ◌≤◌, ◌==◌, ◌⊎◌, Bool, true, false, if◌then◌else◌, Option, Some, None, IfSome, List, length, slice_index, slice_set, refl, sym, ap, subst, ◌∙◌, arith, set-get_or, Me, Allows, Applied, Noted, put, IsPlace, Place, Plan, at_word, current_word, marked, packed, Entering, OwnedArena, Port, Stands, Marks, Beside, LawfulEpochs, place_now, having_passed, having_looked, LawfulMemory, put_all, put_same, put_other, option_map_or, KeepsTime, entries_load, About, Began, IsRuleKept, IsSince, SeatedPort, one_of, plan_of, IsSeatKnown, IsOne, tells, LoadsCurrent, SeatLooks, StoresMark, becomes, loads, looked_at, marks, unpacked, Contention, ContendsMore, [], ◌++◌, append-nil, MayMove, Move, MoveLeads, Becomes, port_after, since_behind, moved_words, every_step_stays_lawful, IsAside, noting, IsSeat, BeganInTime, unpacked_is}, Asides.{IsQuiet, aside}, Contention.contends_same, Kept.{allowed, begun_grows, moved_contending, none_grown, Moved}, Begins.{began_by, here_is, seen_few}}
+use Rattle.partial_epochs.specs.EveryStep.{Move as move}
 
 -- a load leaves the words as they are
 pub load_same : (words : List ℕ) (i : ℕ) → words ≡ slice_set words i (slice_index words i)
 load_same words i = sym (set-get_or words i 0)
-
--- a port that is as it was
-pub put_itself : (k : ℕ) (ports : ℕ → Port) (q : ℕ) → ports q ≡ put k (ports k) ports q
-put_itself k ports q = put_all (λ i (p : Port). ports i ≡ p) k (ports k) ports q (λ _. refl) (λ _. refl)
-
-pub lawful_itself : (e : Plan) (words : List ℕ) (ports : ℕ → Port) (b : Beside) (k : ℕ) → LawfulEpochs e words ports b → LawfulEpochs e words (put k (ports k) ports) b
-lawful_itself e words ports b k w = subst (λ (f : ℕ → Port). LawfulEpochs e words f b) (λ i q. put_itself k ports q i) w
-
--- a place is the one that its word names
-pub unpacked_is : {n : ℕ} (c : Place) → n ≤ arena_limit → c.arena < n → unpacked (packed c) ≡ c
-unpacked_is c few low =
-    let epoch : (unpacked (packed c)).epoch ≡ c.epoch = omega (arith, few, low) in
-    let arena : (unpacked (packed c)).arena ≡ c.arena = omega (arith, few, low) in
-    same_place (unpacked (packed c)) c epoch arena
 
 looked_quiet : (a : ℕ) → IsQuiet (looked_at a)
 looked_quiet a = record {
@@ -54,38 +41,6 @@ looked_quiet a = record {
 abbrev pub MayLook : About → Port → Type 0
 MayLook a p = (p.control.entering ≡ Stands) × IfSome p.control.owned (λ o. (o.mark ≡ None) ⊎ (o.clean < a.ports))
 
-looked_lawful : (a : About) (words : List ℕ) (ports : ℕ → Port) (notes : ℕ → List Noted) (b : Beside) (k : ℕ) → LawfulMemory (plan_of a) words ports b notes → k < a.ports → MayLook a (ports k) →
-    LawfulEpochs (plan_of a) words (put k (looked_at (slice_index words current_word) (ports k)) ports) b
-looked_lawful a words ports notes b k w below may = by (ports k).control.owned refl may.1 (eqb_tells (slice_index words current_word) (packed (ports k).control.here))
-  where
-    e : Plan
-    e = plan_of a
-
-    at : ℕ
-    at = slice_index words current_word
-
-    by : (o : Option OwnedArena) → (ports k).control.owned ≡ o → IfSome o (λ o. (o.mark ≡ None) ⊎ (o.clean < a.ports)) →
-        (((at == packed (ports k).control.here) ≡ true) × (at ≡ packed (ports k).control.here)) ⊎ (((at == packed (ports k).control.here) ≡ false) × (at ≢ packed (ports k).control.here)) →
-        LawfulEpochs (plan_of a) words (put k (looked_at (slice_index words current_word) (ports k)) ports) b
-    by None none tt (inl is) =
-        let same : looked_at at (ports k) ≡ ports k = ap (λ c. if c then having_found (ports k) else having_passed (ports k)) is.0
-        ∙ ap (λ (o : Option OwnedArena). option_map_or (having_looked (ports k)) o (ports k)) none in
-        subst (λ (p : Port). LawfulEpochs (plan_of a) words (put k p ports) b) (sym same) (lawful_itself (plan_of a) words ports b k w.epochs)
-    by None none tt (inr ne) =
-        let same : looked_at at (ports k) ≡ having_passed (ports k) = ap (λ c. if c then having_found (ports k) else having_passed (ports k)) ne.0 in
-        subst (λ (p : Port). LawfulEpochs (plan_of a) words (put k p ports) b) (sym same)
-        (elim (looks_are_true (plan_of a) words ports b k w.epochs below may.0 none) [
-          | inl here ↦ absurd (ne.1 here.0)
-          | inr away ↦ away.1
-        ])
-    by (Some o) is marks (inl here) =
-        let same : looked_at at (ports k) ≡ having_looked (ports k) o = ap (λ c. if c then having_found (ports k) else having_passed (ports k)) here.0
-        ∙ ap (λ (o : Option OwnedArena). option_map_or (having_looked (ports k)) o (ports k)) is in
-        subst (λ (p : Port). LawfulEpochs (plan_of a) words (put k p ports) b) (sym same) (owners_look (plan_of a) words ports b k o w.epochs below is marks here.1).1
-    by (Some o) is marks (inr ne) =
-        let same : looked_at at (ports k) ≡ having_passed (ports k) = ap (λ c. if c then having_found (ports k) else having_passed (ports k)) ne.0 in
-        subst (λ (p : Port). LawfulEpochs (plan_of a) words (put k p ports) b) (sym same) (owners_look_away (plan_of a) words ports b k o w.epochs below is ne.1)
-
 looked_stands : (n : ℕ) (p : Port) → p.control.entering ≡ Stands → (looked_at n p).control.entering ≡ Stands
 looked_stands n p is = by (n == packed p.control.here) p.control.owned
   where
@@ -98,54 +53,98 @@ looked_stands n p is = by (n == packed p.control.here) p.control.owned
 pub stands_since : (g : Began) (t : Entering) (n : ℕ) → t ≡ Stands → IsSince g t n
 stands_since g t n is = subst (λ (t : Entering). IsSince g t n) (sym is) tt
 
--- a port that is as it was in what other ports may see of it keeps time
-module _ (a : About) (words words' : List ℕ) (ports : ℕ → Port) (b c : Beside) (since : ℕ → ℕ) (time : KeepsTime (plan_of a) words ports (place_now b) since) (before : c.before ≡ b.before) (k : ℕ)
-    (p : Port)
-    (at : (q : ℕ) → q < a.ports → slice_index words' (at_word q) ≡ slice_index words (at_word q)) (here : p.control.here ≡ (ports k).control.here)
-    (entering : p.control.entering ≡ (ports k).control.entering)
-    (puts : (j : ℕ) (m : Place) → MayPut p.control j m → MayPut (ports k).control j m) where
-  pub time_aside : KeepsTime (plan_of a) words' (put k p ports) (place_now c) since
-  time_aside = asides_keep_time (plan_of a) words words' ports (put k p ports) (place_now b) (place_now c) since (record {
-    at = at;
-    here = λ q low. put_all (λ i (r : Port). r.control.here ≡ (ports i).control.here) k p ports q (λ _. here) (λ _. refl);
-    entering = λ q low. put_all (λ i (r : Port). r.control.entering ≡ (ports i).control.entering) k p ports q (λ _. entering) (λ _. refl);
-    puts = λ q j m low. put_all (λ i (r : Port). MayPut r.control j m → MayPut (ports i).control j m) k p ports q (λ _. puts j m) (λ _ may. may);
-    later = let same = ap (λ (l : List (List Applied)). length l) before in omega (arith, same);
-  }) time
-
-looked_time : (a : About) (words : List ℕ) (ports : ℕ → Port) (notes : ℕ → List Noted) (b : Beside) (since : ℕ → ℕ) (k : ℕ) → LawfulMemory (plan_of a) words ports b notes →
-    KeepsTime (plan_of a) words ports (place_now b) since → k < a.ports → KeepsTime (plan_of a) words (put k (looked_at (slice_index words current_word) (ports k)) ports) (place_now b) since
-looked_time a words ports notes b since k w time below = by (ports k).control.owned refl (eqb_tells (slice_index words current_word) (packed (ports k).control.here))
-  where
-    at : ℕ
-    at = slice_index words current_word
-
-    same : (p : Port) → p.control.here ≡ (ports k).control.here → p.control.entering ≡ (ports k).control.entering → ((j : ℕ) (m : Place) → MayPut p.control j m → MayPut (ports k).control j m) →
-        looked_at at (ports k) ≡ p → KeepsTime (plan_of a) words (put k (looked_at at (ports k)) ports) (place_now b) since
-    same p here entering puts is = subst (λ (p : Port). KeepsTime (plan_of a) words (put k p ports) (place_now b) since) (sym is)
-        (time_aside a words words ports b b since time refl k p (λ q low. refl) here entering puts)
-
-    by : (o : Option OwnedArena) → (ports k).control.owned ≡ o →
-        (((at == packed (ports k).control.here) ≡ true) × (at ≡ packed (ports k).control.here)) ⊎ (((at == packed (ports k).control.here) ≡ false) × (at ≢ packed (ports k).control.here)) →
-        KeepsTime (plan_of a) words (put k (looked_at (slice_index words current_word) (ports k)) ports) (place_now b) since
-    by None none (inl is) = same (ports k) refl refl (λ j m may. may)
-        (ap (λ c. if c then having_found (ports k) else having_passed (ports k)) is.0 ∙ ap (λ (o : Option OwnedArena). option_map_or (having_looked (ports k)) o (ports k)) none)
-    by (Some o) is (inl here) = subst (λ (p : Port). KeepsTime (plan_of a) words (put k p ports) (place_now b) since)
-        (sym (ap (λ c. if c then having_found (ports k) else having_passed (ports k)) here.0 ∙ ap (λ (o : Option OwnedArena). option_map_or (having_looked (ports k)) o (ports k)) is))
-        (looks_keep_time (plan_of a) words ports b k o since w.epochs below here.1 time)
-    by o is (inr ne) = same (having_passed (ports k)) refl refl (λ j m may. record { owned = may.owned; is = may.is; port = may.port; mark = may.mark; again = may.again })
-        (ap (λ c. if c then having_found (ports k) else having_passed (ports k)) ne.0)
-
 -- what a quiet step of a port leads to
-pub record Quietly (a : About) (words' : List ℕ) (ports : ℕ → Port) (b : Beside) (since : ℕ → ℕ) (k : ℕ) (g : Began) (p : Port) : Type 0 where
+pub record Quietly (a : About) (words' : List ℕ) (ports : ℕ → Port) (notes : ℕ → List Noted) (b : Beside) (since : ℕ → ℕ) (k : ℕ) (g : Began) (p : Port) : Type 0 where
   pub since' : ℕ → ℕ
   pub beside : Beside
   pub log : beside.log ≡ b.log
   pub before : beside.before ≡ b.before
-  pub lawful : LawfulEpochs (plan_of a) words' (put k p ports) beside
+  pub lawful : LawfulMemory (plan_of a) words' (put k p ports) beside notes
   pub time : KeepsTime (plan_of a) words' (put k p ports) (place_now beside) since'
   pub others : (q : ℕ) → q ≢ k → since' q ≡ since q
   pub entering : IsSince g p.control.entering (since' k)
+
+-- what a move of a port leads to, by the one law of all moves
+module _ (a : About) (words : List ℕ) (ports : ℕ → Port) (notes : ℕ → List Noted) (b : Beside) (since : ℕ → ℕ) (w : LawfulMemory (plan_of a) words ports b notes)
+    (time : KeepsTime (plan_of a) words ports (place_now b) since) (k : ℕ) (below : k < a.ports) where
+  abbrev e : Plan
+  e = plan_of a
+
+  -- once it is known what it leads to
+  pub led_to : (m : Move) (l : MoveLeads e words (moved_words e words (ports k) k m) ports b notes k m) (words' : List ℕ) → moved_words e words (ports k) k m ≡ words' → (p : Port) → l.port ≡ p → (c : Beside) →
+      l.beside ≡ c → (added : List Noted) → l.added ≡ added →
+      LawfulMemory e words' (put k p ports) c (noting k added notes) × KeepsTime e words' (put k p ports) (place_now c) (since_behind b k m since)
+  led_to m l words' to p is c beside added noted = (
+    subst (λ (h : List ℕ). LawfulMemory e h (put k p ports) c (noting k added notes)) to
+        (subst (λ (r : Port). LawfulMemory e (moved_words e words (ports k) k m) (put k r ports) c (noting k added notes)) is
+        (subst (λ (d : Beside). LawfulMemory e (moved_words e words (ports k) k m) (put k l.port ports) d (noting k added notes)) beside
+        (subst (λ (n : List Noted). LawfulMemory e (moved_words e words (ports k) k m) (put k l.port ports) l.beside (noting k n notes)) noted l.lawful))),
+    subst (λ (h : List ℕ). KeepsTime e h (put k p ports) (place_now c) (since_behind b k m since)) to
+        (subst (λ (r : Port). KeepsTime e (moved_words e words (ports k) k m) (put k r ports) (place_now c) (since_behind b k m since)) is
+        (subst (λ (d : Beside). KeepsTime e (moved_words e words (ports k) k m) (put k l.port ports) (place_now d) (since_behind b k m since)) beside (l.time since time))),
+  )
+
+  nothing_noted : (q : ℕ) → noting k [] notes q ≡ notes q
+  nothing_noted q = put_all (λ i (l : List Noted). l ≡ notes i) k (notes k ++ []) notes q (λ _. append-nil (notes k)) (λ _. refl)
+
+  -- nothing noted leaves the notes as they were
+  pub unnoted : (words' : List ℕ) (ports' : ℕ → Port) (c : Beside) → LawfulMemory e words' ports' c (noting k [] notes) → LawfulMemory e words' ports' c notes
+  unnoted words' ports' c l = subst (λ (f : ℕ → List Noted). LawfulMemory e words' ports' c f) (λ i q. nothing_noted q i) l
+
+  -- what a move that changes no history leads to, in a call that began then
+  module _ (g : Began) where
+    abbrev IsQuietMove : Move → Type 0
+    IsQuietMove m = (p : Port) (c : Beside) (added : List Noted) → Becomes e words ports b k m p c added → (p ≡ port_after words (ports k) m) × IsAside b c (ports k) p × (added ≡ [])
+
+    -- to these words and that port
+    pub by_move : (m : Move) → MayMove e words ports b notes k m → IsQuietMove m → ((q : ℕ) → q ≢ k → since_behind b k m since q ≡ since q) → (words' : List ℕ) → moved_words e words (ports k) k m ≡ words' →
+        (p : Port) → port_after words (ports k) m ≡ p → IsSince g p.control.entering (since_behind b k m since k) → Quietly a words' ports notes b since k g p
+    by_move m may quiet others words' to p there entering =
+        let l = every_step_stays_lawful e words ports b notes k m w below may in
+        let q = quiet l.port l.beside l.added l.becomes in
+        let led = led_to m l words' to p (q.0 ∙ there) l.beside refl [] q.2 in
+        record {
+          since' = since_behind b k m since;
+          beside = l.beside;
+          log = q.1.log;
+          before = q.1.epochs;
+          lawful = unnoted words' (put k p ports) l.beside led.0;
+          time = led.1;
+          others = others;
+          entering = entering;
+        }
+
+    -- nothing changes
+    pub by_rest : (words' : List ℕ) → words ≡ words' → (p : Port) → ports k ≡ p → IsSince g p.control.entering (since k) → Quietly a words' ports notes b since k g p
+    by_rest words' to p there entering = by_move move.Rests tt (λ p c n is. is) (λ q ne. refl) words' to p there entering
+
+    -- a look
+    pub by_look : MayLook a (ports k) → IsSince g Stands (since k) → Quietly a words ports notes b since k g (looked_at (slice_index words current_word) (ports k))
+    by_look may since_then = by (ports k).control.owned refl may.1
+      where
+        at : ℕ
+        at = slice_index words current_word
+
+        after : Port → Port
+        after p = if at == packed (ports k).control.here then p else having_passed (ports k)
+
+        entering : IsSince g (looked_at at (ports k)).control.entering (since k)
+        entering = subst (λ (t : Entering). IsSince g t (since k)) (sym (looked_stands at (ports k) may.0)) since_then
+
+        by : (o : Option OwnedArena) → (ports k).control.owned ≡ o → IfSome o (λ o. (o.mark ≡ None) ⊎ (o.clean < a.ports)) → Quietly a words ports notes b since k g (looked_at at (ports k))
+        by None none tt = by_move move.Looks (may.0, none) (λ p c n is. is) (λ q ne. refl) words refl (looked_at at (ports k))
+            (ap after (sym (ap (λ (o : Option OwnedArena). option_map_or (having_looked (ports k)) o (ports k)) none))) entering
+        by (Some o) is marks = by_move (move.LooksAsOwner o) (is, marks) (λ p c n is. is) (λ q ne. refl) words refl (looked_at at (ports k))
+            (ap after (sym (ap (λ (o : Option OwnedArena). option_map_or (having_looked (ports k)) o (ports k)) is))) entering
+
+-- such a step of a seat, in a call that began then
+pub moved_quietly : (a : About) (words words' : List ℕ) (ports : ℕ → Port) (notes : ℕ → List Noted) (b : Beside) (since : ℕ → ℕ) (x : SeatedPort) → LawfulMemory (plan_of a) words ports b notes →
+    IsSeat a ports notes b since x → IsSeatKnown x → (g : Port → Port) → IsQuiet g → (n : Began) → BeganInTime b n → Quietly a words' ports notes b since x.number n (g (ports x.number)) →
+    (P : SeatedPort → Type 0) → P (becomes x n (g x.port)) → Moved a words' ports notes b since x P
+moved_quietly a words words' ports notes b since x w s known g quiet n began to P says =
+    let same = ap (λ (l : List (List Applied)). length l) to.before in
+    aside a words words' ports notes b to.beside since to.since' x w s known g quiet n (subst (λ (p : Port). IsSince n (g p).control.entering (to.since' x.number)) (sym s.port) to.entering)
+    (begun_grows b to.beside n (omega (arith, same)) (none_grown b to.beside to.log to.before) began) to.time to.others to.log to.before to.lawful P says
 
 -- a step of a seat that changes no history, where it keeps the lawful state and time
 module _ {S : Type 0} (a : About) (slots id : ℕ) (me : Me S (List SeatedPort)) (one : IsOne me) (own : (one_of me.0).about ≡ a) (known : IsSeatKnown (one_of me.0)) where
@@ -156,7 +155,7 @@ module _ {S : Type 0} (a : About) (slots id : ℕ) (me : Me S (List SeatedPort))
   Leads f g = (words : List ℕ) (ports : ℕ → Port) (notes : ℕ → List Noted) (b : Beside) (since : ℕ → ℕ) → LawfulMemory (plan_of a) words ports b notes →
       KeepsTime (plan_of a) words ports (place_now b) since →
       x.number < a.ports → x.port ≡ ports x.number → IsSince x.began (ports x.number).control.entering (since x.number) → x.began.epoch ≤ length b.before →
-      Quietly a (f words) ports b since x.number x.began (g words (ports x.number))
+      Quietly a (f words) ports notes b since x.number x.began (g words (ports x.number))
 
   -- one by which it may meet others
   pub quietly_contending : (i : ℕ) (f : ℕ → ℕ) (g : ℕ → Port → Port) (h : ℕ → Contention → Contention) (R : SeatedPort → ℕ → SeatedPort → Type 0) → ((n : ℕ) → IsQuiet (g n)) →
@@ -167,9 +166,7 @@ module _ {S : Type 0} (a : About) (slots id : ℕ) (me : Me S (List SeatedPort))
   quietly_contending i f g h R quiet more leads says = allowed a slots id me i f R one own (λ words ports notes b since w time s small.
       let n : ℕ = slice_index words i in
       let to = leads words ports notes b since w time s.number s.port (subst (λ (p : Port). IsSince x.began p.control.entering (since x.number)) s.port s.entering) (s.began).come in
-      let began = begun_grows b to.beside x.began (let same = ap (λ (l : List (List Applied)). length l) to.before in omega (arith, same)) (none_grown b to.beside to.log to.before) s.began in
-      let m = aside a words (slice_set words i (f n)) ports notes b to.beside since to.since' x w s known (g n) (quiet n) x.began
-      (subst (λ (p : Port). IsSince x.began (g n p).control.entering (to.since' x.number)) (sym s.port) to.entering) began to.time to.others to.log to.before to.lawful
+      let m = moved_quietly a words (slice_set words i (f n)) ports notes b since x w s known (g n) (quiet n) x.began s.began to
       (λ (y : SeatedPort). y ≡ becomes x x.began (g n x.port)) refl in
       moved_contending m (h n x.contention) (more n x.contention)
       (subst (λ (y : SeatedPort). R x n (record y { contention = h n x.contention })) (sym m.says) (says words ports b w.epochs s.number s.port)))
@@ -188,48 +185,23 @@ module _ {S : Type 0} (a : About) (slots id : ℕ) (me : Me S (List SeatedPort))
   may_mark stands past none = quietly (at_word x.number) (λ n. marked x.port.control.here) (λ n. marks) StoresMark
       (λ n. record { part = λ p. refl; before = λ p. refl; here = λ p. refl; passed = λ p. omega arith })
       (λ words ports notes b since w time below is entering come.
-      let e : Plan = plan_of a in
       let k : ℕ = x.number in
-      let stands' = ap (λ (p : Port). p.control.entering) (sym is) ∙ stands in
-      let none' = ap (λ (p : Port). p.control.owned) (sym is) ∙ none in
-      let word = ap (λ (p : Port). marked p.control.here) (sym is) in
-      let to = marks_stay_lawful e words ports b k w.epochs below stands' (ap (λ (p : Port). p.control.past) (sym is) ∙ past) none' in
-      let in_time = marks_keep_time e words ports b k since w.epochs below stands' none' time in
-      record {
-        since' = put k (place_now b).epoch since;
-        beside = b;
-        log = refl;
-        before = refl;
-        lawful = subst (λ v. LawfulEpochs e (slice_set words (at_word k) v) (put k (marks (ports k)) ports) b) word to;
-        time = subst (λ v. KeepsTime e (slice_set words (at_word k) v) (put k (marks (ports k)) ports) (place_now b) (put k (place_now b).epoch since)) word in_time;
-        others = λ q ne. put_other k (place_now b).epoch since q ne;
-        entering = subst (λ n. x.began.epoch ≤ n) (sym (put_same k (place_now b).epoch since)) come;
-      })
+      let may : MayMove (plan_of a) words ports b notes k move.StoresMark =
+      (ap (λ (p : Port). p.control.entering) (sym is) ∙ stands, ap (λ (p : Port). p.control.past) (sym is) ∙ past, ap (λ (p : Port). p.control.owned) (sym is) ∙ none) in
+      by_move a words ports notes b since w time k below x.began move.StoresMark may (λ p c n is. is) (λ q ne. put_other k (length b.before) since q ne)
+      (slice_set words (at_word k) (marked x.port.control.here)) (ap (λ (p : Port). slice_set words (at_word k) (marked p.control.here)) (sym is)) (marks (ports k)) refl
+      (subst (λ n. x.began.epoch ≤ n) (sym (put_same k (length b.before) since)) come))
       (λ words ports b w below is. refl)
 
   -- the second
   pub may_load : x.port.control.entering ≡ Marks → Allows (IsRuleKept a) slots id me current_word (λ n. n) (tells LoadsCurrent me)
   may_load marks_it = quietly current_word (λ n. n) (λ n. loads (unpacked n)) LoadsCurrent (λ n. record { part = λ p. refl; before = λ p. refl; here = λ p. refl; passed = λ p. omega arith })
       (λ words ports notes b since w time below is entering come.
-      let e : Plan = plan_of a in
       let k : ℕ = x.number in
       let n : ℕ = slice_index words current_word in
       let marks' = ap (λ (p : Port). p.control.entering) (sym is) ∙ marks_it in
-      let to = entries_load e words ports b k w.epochs below marks' in
-      let place : unpacked n ≡ place_now b = ap unpacked to.0 ∙ unpacked_is (place_now b) w.epochs.plan.arenas w.epochs.control.place.arena in
-      let in_time = entries_keep_time e words ports b k since below time in
-      record {
-        since' = since;
-        beside = b;
-        log = refl;
-        before = refl;
-        lawful = subst (λ (l : List ℕ). LawfulEpochs e l (put k (loads (unpacked n) (ports k)) ports) b) (load_same words current_word)
-            (subst (λ (c : Place). LawfulEpochs e words (put k (loads c (ports k)) ports) b) (sym place) to.1);
-        time = subst (λ (l : List ℕ). KeepsTime e l (put k (loads (unpacked n) (ports k)) ports) (place_now b) since) (load_same words current_word)
-            (subst (λ (c : Place). KeepsTime e words (put k (loads c (ports k)) ports) (place_now b) since) (sym place) in_time);
-        others = λ q ne. refl;
-        entering = subst (λ (t : Entering). IsSince x.began t (since k)) marks' entering;
-      })
+      by_move a words ports notes b since w time k below x.began move.LoadsCurrent marks' (λ p c n is. is) (λ q ne. refl) (slice_set words current_word n) (load_same words current_word)
+      (loads (unpacked n) (ports k)) refl (subst (λ (t : Entering). IsSince x.began t (since k)) marks' entering))
       (λ words ports b w below is.
       let to = entries_load (plan_of a) words ports b x.number w below (ap (λ (p : Port). p.control.entering) (sym is) ∙ marks_it) in
       let place : unpacked (slice_index words current_word) ≡ place_now b = ap unpacked to.0 ∙ unpacked_is (place_now b) w.plan.arenas w.control.place.arena in (
@@ -241,17 +213,12 @@ module _ {S : Type 0} (a : About) (slots id : ℕ) (me : Me S (List SeatedPort))
   -- a look, perhaps as the first step of a call
   pub may_look : (first : Bool) → MayLook a x.port → Allows (IsRuleKept a) slots id me current_word (λ n. n) (tells (SeatLooks first) me)
   may_look first may = allowed a slots id me current_word (λ n. n) (SeatLooks first) one own (λ words ports notes b since w time s small.
-      let e : Plan = plan_of a in
       let k : ℕ = x.number in
       let n : ℕ = slice_index words current_word in
-      let may' = subst (MayLook a) s.port may in
-      let to = looked_lawful a words ports notes b k w s.number may' in
-      let in_time = looked_time a words ports notes b since k w time s.number in
       let g = began_by first x b (seen_few a words ports notes b since x w s) s.began in
-      let stands : (looked_at n x.port).control.entering ≡ Stands = looked_stands n x.port may.0 in
-      aside a words (slice_set words current_word n) ports notes b b since since x w s known (looked_at n) (looked_quiet n) g.0 (stands_since g.0 (looked_at n x.port).control.entering (since k) stands) g.2
-      (subst (λ (l : List ℕ). KeepsTime e l (put k (looked_at n (ports k)) ports) (place_now b) since) (load_same words current_word) in_time) (λ q ne. refl) refl refl
-      (subst (λ (l : List ℕ). LawfulEpochs e l (put k (looked_at n (ports k)) ports) b) (load_same words current_word) to) (SeatLooks first x n) (
+      let to = by_look a words ports notes b since w time k s.number g.0 (subst (MayLook a) s.port may) tt in
+      moved_quietly a words (slice_set words current_word n) ports notes b since x w s known (looked_at n) (looked_quiet n) g.0 g.2
+      (subst (λ (l : List ℕ). Quietly a l ports notes b since k g.0 (looked_at n (ports k))) (load_same words current_word) to) (SeatLooks first x n) (
         g.0,
         g.1,
         refl,

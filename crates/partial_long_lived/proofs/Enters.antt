@@ -1,5 +1,6 @@
 -- The exchange of the entering mark is allowed.
-use Rattle.partial_long_lived.proofs.{Common.{ℕ, ◌≡◌, ◌<◌, ◌≤◌, ◌==◌, ◌++◌, if◌then◌else◌, None, List, [], ◌∷◌, length, slice_index, slice_set, refl, sym, ap, subst, ◌∙◌, inl, inr, arith, append-nil, append_assoc, eqb_tells, either, Me, Allows, Applied, LegalNotes, Noted, put, IsPlace, Place, Plan, at_word, marked, packed, history_of, public_log, Entering, Port, Loaded, arrived_port, Beside, LawfulEpochs, place_now, KeepsTime, LawfulMemory, EpochReached, not_marked, arrivals_keep_notes, arrivals_keep_time, arrivals_stay_lawful, put_other, put_same, history_grows, history_longer, About, IsRuleKept, IsSeat, IsSeen, IsSince, SeatedPort, one_of, plan_of, seen_in, BeginsWith, IsSeatKnown, IsOne, tells, SeatArrives, place_found, unpacked, ends}, Seen.legal_begins, Kept.{Moved, allowed, none_grown, not_grown}, Control.unpacked_is, Changes.either_cond, Contention.contends_same}
+use Rattle.partial_long_lived.proofs.{Common.{ℕ, ◌≡◌, ◌<◌, ◌≤◌, ◌==◌, ◌++◌, if◌then◌else◌, None, List, [], ◌∷◌, length, slice_index, slice_set, refl, sym, ap, subst, ◌∙◌, inl, inr, arith, append-nil, append_assoc, eqb_tells, either, Me, Allows, Applied, LegalNotes, Noted, put, IsPlace, Place, Plan, at_word, marked, packed, history_of, public_log, Entering, Port, Loaded, arrived_port, Beside, LawfulEpochs, place_now, KeepsTime, LawfulMemory, EpochReached, not_marked, put_other, put_same, history_grows, history_longer, About, IsRuleKept, IsSeat, IsSeen, IsSince, SeatedPort, one_of, plan_of, seen_in, BeginsWith, IsSeatKnown, IsOne, tells, SeatArrives, place_found, unpacked, ends, every_step_stays_lawful, unpacked_is}, Seen.legal_begins, Kept.{Moved, allowed, none_grown, not_grown}, Control.{led_to, unnoted}, Changes.either_cond, Contention.contends_same}
+use Rattle.partial_epochs.specs.EveryStep.{Move as move}
 use Rattle.partial_epochs.specs.Entering as law
 
 -- the place to which the port comes is the one that its word tells
@@ -51,11 +52,11 @@ arrival a words ports notes b since x w time s known c loaded v word =
     let n : ℕ = slice_index words (at_word k) in
     let own : x.about ≡ a = s.about in
     let loaded' : (ports k).control.entering ≡ Loaded c = ap (λ (p : Port). p.control.entering) (sym s.port) ∙ loaded in
-    let to : law.Arrives (plan_of a) words ports b k c = arrivals_stay_lawful e words ports b k c w.epochs s.number loaded' in
+    let l = every_step_stays_lawful e words ports b notes k (move.ExchangesMark c) w s.number loaded' in
+    let to : law.Arrives (plan_of a) words ports b k c = l.becomes.0 in
     let p : Port = arrived_port e k to.place to.before in
-    let lawful : LawfulMemory e (slice_set words (at_word k) v) (put k p ports) b notes =
-    subst (λ v. LawfulMemory e (slice_set words (at_word k) v) (put k p ports) b notes) word (arrivals_keep_notes e words ports b notes k c w s.number to) in
-    let in_time = arrivals_keep_time e words ports b k c since w.epochs s.number loaded' time to in
+    let led = led_to a words ports notes b since w time k s.number (move.ExchangesMark c) l (slice_set words (at_word k) v) (ap (λ v. slice_set words (at_word k) v) word) p l.becomes.1 b l.becomes.2 [] l.becomes.3 in
+    let lawful : LawfulMemory e (slice_set words (at_word k) v) (put k p ports) b notes = unnoted a words ports notes b since w time k s.number (slice_set words (at_word k) v) (put k p ports) b led.0 in
     let place : place_found x.port c n ≡ to.place = ap (λ (q : Port). place_found q c n) s.port ∙ arrival_place e words ports b k c w.epochs s.number to in
     let old : EpochReached b x.port = subst (EpochReached b) (sym s.port) (w.noted.reached k s.number) in
     let new : EpochReached b p = subst (EpochReached b) (put_same k p ports) (lawful.noted.reached k s.number) in
@@ -65,7 +66,7 @@ arrival a words ports notes b since x w time s known c loaded v word =
     let seen : BeginsWith (seen_in x.port) (seen_in p) = arrival_seen b x.port p s.seen old new (omega (arith, few, many, later)) refl in
     let knows = known.knows in
     let began : x.began.epoch ≤ since k = subst (λ (t : Entering). IsSince x.began t (since k)) loaded s.entering in
-    let up = in_time.0 in
+    let up = l.becomes.4 since time in
     record {
       y = record x { port = p; found = None };
       ports' = put k p ports;
@@ -73,7 +74,7 @@ arrival a words ports notes b since x w time s known c loaded v word =
       beside = b;
       since' = since;
       lawful = lawful;
-      time = subst (λ v. KeepsTime e (slice_set words (at_word k) v) (put k p ports) (place_now b) since) word in_time.1;
+      time = led.1;
       others = λ q ne. (put_other k p ports q ne, refl, refl);
       number = refl;
       epoch = omega (arith, later);

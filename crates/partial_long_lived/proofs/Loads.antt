@@ -1,5 +1,6 @@
 -- Loads of component words are allowed, and what they tell.
-use Rattle.partial_long_lived.proofs.{Common.{ℕ, ◌≡◌, ◌≢◌, ◌+◌, ◌<◌, ◌≤◌, ◌==◌, ◌⊎◌, ◌&&◌, ◌++◌, not, Bool, true, false, if◌then◌else◌, Option, Some, None, IfSome, List, [], ◌∷◌, length, map, take, slice_index, slice_set, refl, sym, ap, subst, ◌∙◌, inl, inr, arith, append-nil, append_assoc, length-append, ⊤, nat_lt, AllByRecursion, eqb_tells, length-map, take-append-le, take_all, Applied, Opening, Note, stamp_of, value_of, Fits, IsTrueOf, LegalNotes, Noted, place_of, seen_by, AreCollects, LegalNotes-push, first_free, put, MayPut, Place, Plan, base, component_words, seal, unsealed, carried_after, carried_behind, history_of, opening_behind, public_entry, public_log, Port, Stands, Beside, IsStanding, place_now, LawfulMemory, having_seen, noting, public_of, IsBesideAs, KeepsTime, asides_keep_time, components_name_records, epochs_are_histories, glances_stay_lawful, seen_records_stay, sights_stay_lawful, unsealed_is_present, history_took, at_of, put_all, put_other, put_same, held_history, history_grows, among, history_longer, About, Began, Found, BeganInTime, IsFinal, IsSeat, SeatedPort, plan_of, seen_in, BeginsWith, IsSeatKnown, Recalls, SeatSees, Wish, found_by, noted_by, place_seen, stamp_seen, MayNoteScan, NotesScan, noted_together, Expects, Finds, Glances, Reads, epochs_continue, stamp_public, value_public, Call, Answer, Contention, ContendsMore, contention_by}, Begins.{began_by, seen_few}, Control.{load_same, stands_since}, Kept.{Moved, begun_grows, final_grows, none_grown, not_grown}, Lists.{cut, same_before}, Seen.legal_begins, Contention.{by_more, contends_same}}
+use Rattle.partial_long_lived.proofs.{Common.{ℕ, ◌≡◌, ◌≢◌, ◌+◌, ◌<◌, ◌≤◌, ◌==◌, ◌⊎◌, ◌&&◌, ◌++◌, not, Bool, true, false, if◌then◌else◌, Option, Some, None, IfSome, List, [], ◌∷◌, length, map, take, slice_index, slice_set, refl, sym, ap, subst, ◌∙◌, inl, inr, arith, append-nil, append_assoc, length-append, ⊤, nat_lt, AllByRecursion, eqb_tells, length-map, take-append-le, take_all, Applied, Opening, Note, stamp_of, value_of, Fits, IsTrueOf, LegalNotes, Noted, place_of, seen_by, AreCollects, LegalNotes-push, first_free, put, Place, Plan, base, component_words, seal, unsealed, carried_after, carried_behind, history_of, opening_behind, public_entry, public_log, Port, Stands, Beside, IsStanding, place_now, LawfulMemory, having_seen, noting, public_of, IsBesideAs, KeepsTime, components_name_records, epochs_are_histories, seen_records_stay, unsealed_is_present, history_took, at_of, put_other, put_same, held_history, history_grows, among, history_longer, About, Began, Found, BeganInTime, IsFinal, IsSeat, SeatedPort, plan_of, seen_in, BeginsWith, IsSeatKnown, Recalls, SeatSees, Wish, found_by, noted_by, place_seen, stamp_seen, MayNoteScan, NotesScan, noted_together, Expects, Finds, Glances, Reads, epochs_continue, stamp_public, value_public, Call, Answer, Contention, ContendsMore, contention_by, every_step_stays_lawful, IsSight}, Begins.{began_by, seen_few}, Control.{load_same, stands_since, led_to, unnoted}, Kept.{Moved, begun_grows, final_grows, none_grown, not_grown}, Lists.{cut, same_before}, Seen.legal_begins, Contention.{by_more, contends_same}}
+use Rattle.partial_epochs.specs.EveryStep.{Move as move}
 use Rattle.partial_epochs.proofs.Last.{is_raw, within as arena_within}
 
 -- the port wants what the next epoch begins with
@@ -154,6 +155,7 @@ module _ (a : About) (words : List ℕ) (ports : ℕ → Port) (notes : ℕ → 
       pub own : notes' k ≡ notes k ++ added
       pub others : (q : ℕ) → q ≢ k → notes' q ≡ notes q
       pub lawful : LawfulMemory e words (put k p' ports) beside notes'
+      pub in_time : KeepsTime e words (put k p' ports) (place_now beside) since
 
     shown_few : seen_by 0 (notes k) ≤ length (history_of (ports k).before) + length log
     shown_few =
@@ -164,13 +166,32 @@ module _ (a : About) (words : List ℕ) (ports : ℕ → Port) (notes : ℕ → 
 
     sees_nothing : Seen []
     sees_nothing =
-        let to = glances_stay_lawful e words ports b notes k w below stands standing in
-        record { beside = to.beside; same = to.same; notes' = notes; own = sym (append-nil (notes k)); others = λ q ne. refl; lawful = to.lawful }
+        let l = every_step_stays_lawful e words ports b notes k (move.Sees log) w below (stands, (standing, refl)) in
+        let led = led_to a words ports notes b since w time k below (move.Sees log) l words refl p' l.becomes.0 l.beside refl [] l.becomes.2 in
+        record {
+          beside = l.beside;
+          same = l.becomes.1;
+          notes' = notes;
+          own = sym (append-nil (notes k));
+          others = λ q ne. refl;
+          lawful = unnoted a words ports notes b since w time k below words (put k p' ports) l.beside led.0;
+          in_time = led.1;
+        }
 
     sees_note : (i : ℕ) → i ≤ length log → seen_by 0 (notes k) ≤ length (history_of (ports k).before) + i → (n : Noted) → IsTrueAt i n → Seen (n ∷ [])
     sees_note i few behind n is =
-        let to = sights_stay_lawful e words ports b notes k i n w below standing stands (record { noted = is.0; within = few; behind = behind; fits = is.1; is_true = is.2 }) in
-        record { beside = to.beside; same = to.same; notes' = noting k (n ∷ []) notes; own = put_same k (notes k ++ n ∷ []) notes; others = λ q ne. put_other k (notes k ++ n ∷ []) notes q ne; lawful = to.lawful }
+        let sight : IsSight e k (ports k) log (notes k) n i = record { noted = is.0; within = few; behind = behind; fits = is.1; is_true = is.2 } in
+        let l = every_step_stays_lawful e words ports b notes k (move.Notes n i log) w below (stands, (standing, refl, sight)) in
+        let led = led_to a words ports notes b since w time k below (move.Notes n i log) l words refl p' l.becomes.0 l.beside refl (n ∷ []) l.becomes.2 in
+        record {
+          beside = l.beside;
+          same = l.becomes.1;
+          notes' = noting k (n ∷ []) notes;
+          own = put_same k (notes k ++ n ∷ []) notes;
+          others = λ q ne. put_other k (notes k ++ n ∷ []) notes q ne;
+          lawful = led.0;
+          in_time = led.1;
+        }
 
     legal_then : LegalNotes a.opening (seen_in p') k 0 (notes k)
     legal_then = legal_begins a.opening (seen_in (ports k)) (seen_in p') k 0 (notes k) seen_begins_then known.knows.legal
@@ -197,13 +218,7 @@ module _ (a : About) (words : List ℕ) (ports : ℕ → Port) (notes : ℕ → 
           since' = since;
           lawful = lawful';
           time = subst (λ (l : List ℕ). KeepsTime e l (put k p' ports) (place_now to.beside) since) (load_same words i)
-              (asides_keep_time e words words ports (put k p' ports) (place_now b) (place_now to.beside) since (record {
-                at = λ q low. refl;
-                here = λ q low. put_all (λ i (r : Port). r.control.here ≡ (ports i).control.here) k p' ports q (λ _. refl) (λ _. refl);
-                entering = λ q low. put_all (λ i (r : Port). r.control.entering ≡ (ports i).control.entering) k p' ports q (λ _. refl) (λ _. refl);
-                puts = λ q i m low. put_all (λ h (r : Port). MayPut r.control i m → MayPut (ports h).control i m) k p' ports q (λ _ may. may) (λ _ may. may);
-                later = let longer = ap (λ (l : List (List Applied)). length l) same_before_is in omega (arith, longer);
-              }) time);
+              to.in_time;
           others = λ q ne. (put_other k p' ports q ne, to.others q ne, refl);
           number = refl;
           epoch = omega arith;

@@ -1,5 +1,6 @@
 -- The steps of a port's machine are allowed.
-use Rattle.partial_long_lived.proofs.{Common.{ℕ, ◌≡◌, ◌≢◌, ◌+◌, ◌<◌, ◌≤◌, ◌||◌, ◌++◌, Bool, true, false, if◌then◌else◌, Option, Some, None, IfSome, List, [], ◌∷◌, length, map, take, drop, slice_index, slice_set, refl, sym, ap, subst, ◌∙◌, inl, inr, arith, append-nil, append_assoc, length-append, AllByRecursion, length-map, take-append-drop, take-append-le, set-get_or, Applied, Call, Answer, stamp_of, LegalNotes, Noted, seen_by, Step, Load, Store, Exchange, Add, answer_of, word_of, words_after, CoreState, advance, reply_of, answer_for, call_of, is_begun, Part, core_of, begun_with, since_with, put, IsSealed, Place, Plan, arena_words, base, component_words, plain, placed_step, history_of, opening_behind, public_entry, public_log, among, history_longer, known, Control, Entering, Epoch, Port, Stands, Marks, Loaded, IsOld, MayPut, option_map, present_history, all_back, Beside, IsStanding, LawfulEpochs, numbers, place_now, HaveSlots, MachineLeads, MeetsSeal, ends_over, ExpectedOne, LawfulMemory, EpochReached, noting, public_noted, KeepsTime, asides_keep_time, machines_are_never_refused, notes_stay_lawful, steps_keep_places, put_all, put_other, put_same, About, Began, Found, IsFinal, IsLast, IsSeat, SeatedPort, plan_of, seen_in, BeginsWith, IsSeatKnown, IsApart, SeatMakes, MayMake, unsealed_answer, change_of, over_by, told_of, legal_notes_seen, one_or_none, Contention}, Begins.{began_by, seen_few}, Control.stands_since, Kept.{Grows, HasGrown, HaveGrown, Moved, begun_grows, final_grows, moved_says}, Lists.same_before, Seen.legal_begins, Loads.{begun_place, seat_at}, Contention.contends_same}
+use Rattle.partial_long_lived.proofs.{Common.{ℕ, ◌≡◌, ◌≢◌, ◌+◌, ◌<◌, ◌≤◌, ◌||◌, ◌++◌, Bool, true, false, if◌then◌else◌, Option, Some, None, IfSome, List, [], ◌∷◌, length, map, take, drop, slice_index, slice_set, refl, sym, ap, subst, ◌∙◌, inl, inr, arith, append-nil, append_assoc, length-append, AllByRecursion, length-map, take-append-drop, take-append-le, set-get_or, Applied, Call, Answer, stamp_of, LegalNotes, Noted, seen_by, Step, Load, Store, Exchange, Add, answer_of, word_of, words_after, CoreState, advance, reply_of, answer_for, call_of, is_begun, Part, core_of, begun_with, since_with, put, IsSealed, Place, Plan, arena_words, base, component_words, plain, placed_step, history_of, opening_behind, public_entry, public_log, among, history_longer, known, Control, Entering, Epoch, Port, Stands, Marks, Loaded, IsOld, option_map, present_history, all_back, Beside, IsStanding, LawfulEpochs, numbers, place_now, HaveSlots, MachineLeads, MeetsSeal, ends_over, ExpectedOne, LawfulMemory, EpochReached, noting, public_noted, KeepsTime, machines_are_never_refused, put_other, put_same, About, Began, Found, IsFinal, IsLast, IsSeat, SeatedPort, plan_of, seen_in, BeginsWith, IsSeatKnown, IsApart, SeatMakes, MayMake, unsealed_answer, change_of, over_by, told_of, legal_notes_seen, one_or_none, Contention, every_step_stays_lawful, MayNote, ◌⊎◌}, Begins.{began_by, seen_few}, Control.{stands_since, led_to}, Kept.{Grows, HasGrown, HaveGrown, Moved, begun_grows, final_grows, moved_says}, Lists.same_before, Seen.legal_begins, Loads.{begun_place, seat_at}, Contention.contends_same}
+use Rattle.partial_epochs.specs.EveryStep.{Move as move}
 
 -- a step does the same to plain words as to those of a table
 pub words_then : (words : List ℕ) (e : Plan) (x : ℕ) (s : Step) → words_after words (placed_step e x s) ≡ slice_set words (base e x + word_of s) (change_of s (slice_index words (base e x + word_of s)))
@@ -233,15 +234,17 @@ module _ (a : About) (words : List ℕ) (ports : ℕ → Port) (notes : ℕ → 
       subst (λ (l : List Applied). LegalNotes a.opening l k 0 (notes k ++ map (public_noted e (ports k).before) lead.tells.new)) (sym is)
       (legal_notes_seen e words ports b notes k c step w below may.stands lead (map (public_noted e (ports k).before) lead.tells.new) (inr (refl, shown_then, expected)) was shown_then expected)
 
+  -- what the port may note, whatever its machine is told
+  pub may_note_all : MayNote e (ports k) (notes k) (since_with c (ports k).part) lead.port.part.seen lead.tells.new (map (public_noted e (ports k).before) lead.tells.new)
+  may_note_all = inr (refl, shown_then, expected_one lead.tells.new refl)
+
   -- the step that is due leads on
-  pub moved_make : Moved a (slice_set words i (change_of step n)) ports notes b since X (λ y. SeatMakes first c step X (unsealed_answer e step n) y)
-  moved_make =
+  pub moved_make : LawfulMemory e words' ports' lead.beside (noting k (map (public_noted e (ports k).before) lead.tells.new) notes) → KeepsTime e words' ports' (place_now lead.beside) since →
+      Moved a (slice_set words i (change_of step n)) ports notes b since X (λ y. SeatMakes first c step X (unsealed_answer e step n) y)
+  moved_make whole in_time =
       let stands = may.stands in
       let words_is = words_then words e (ports k).control.here.arena step in
-      let expected = expected_one lead.tells.new refl in
       let added : List Noted = map (public_noted e (ports k).before) lead.tells.new in
-      let whole : LawfulMemory e (words_after words (placed_step e (ports k).control.here.arena step)) (put k lead.port ports) lead.beside (noting k added notes) =
-      notes_stay_lawful e words ports b notes k c step w below stands lead added (inr (refl, shown_then, expected)) in
       let lawful' : LawfulMemory e (slice_set words i (change_of step n)) (put k lead.port ports) lead.beside (noting k added notes) =
       subst (λ (l : List ℕ). LawfulMemory e l (put k lead.port ports) lead.beside (noting k added notes)) words_is whole in
       let r = w.noted.reached k below in
@@ -268,13 +271,7 @@ module _ (a : About) (words : List ℕ) (ports : ℕ → Port) (notes : ℕ → 
         since' = since;
         lawful = lawful';
         time = subst (λ (l : List ℕ). KeepsTime e l (put k lead.port ports) (place_now lead.beside) since) words_is
-            (asides_keep_time e words (words_after words (placed_step e (ports k).control.here.arena step)) ports (put k lead.port ports) (place_now b) (place_now lead.beside) since (record {
-              at = λ q low. (steps_keep_places e words q low).arena (ports k).control.here.arena step;
-              here = λ q low. put_all (λ h (r : Port). r.control.here ≡ (ports h).control.here) k lead.port ports q (λ _. ap (λ (t : Control). t.here) lead.control) (λ _. refl);
-              entering = λ q low. put_all (λ h (r : Port). r.control.entering ≡ (ports h).control.entering) k lead.port ports q (λ _. ap (λ (t : Control). t.entering) lead.control) (λ _. refl);
-              puts = λ q j m low. put_all (λ h (r : Port). MayPut r.control j m → MayPut (ports h).control j m) k lead.port ports q (λ _. subst (λ (t : Control). MayPut t j m) lead.control) (λ _ may. may);
-              later = more;
-            }) time);
+            in_time;
         others = λ q ne. (put_other k lead.port ports q ne, put_other k (notes k ++ added) notes q ne, refl);
         number = refl;
         epoch = (let same = ap (λ (t : Control). t.here.epoch) lead.control in omega (arith, same));
@@ -313,6 +310,27 @@ module _ (a : About) (words : List ℕ) (ports : ℕ → Port) (notes : ℕ → 
       }
 
   -- its call began in an epoch that has come
-  pub moved_come : Moved a (slice_set words i (change_of step n)) ports notes b since X (λ y. SeatMakes first c step X (unsealed_answer e step n) y × (y.began.epoch ≤ length b.before))
+  pub moved_come : LawfulMemory e words' ports' lead.beside (noting k (map (public_noted e (ports k).before) lead.tells.new) notes) → KeepsTime e words' ports' (place_now lead.beside) since → Moved a (slice_set words i (change_of step n)) ports notes b since X (λ y. SeatMakes first c step X (unsealed_answer e step n) y × (y.began.epoch ≤ length b.before))
   unfolding moved_make
-  moved_come = moved_says moved_make (moved_make.says, (began_by first X b (seen_few a words ports notes b since X w s) s.began).2.come)
+  moved_come whole in_time = moved_says (moved_make whole in_time) ((moved_make whole in_time).says, (began_by first X b (seen_few a words ports notes b since X w s) s.began).2.come)
+
+-- What a due step of a port's machine leads to, by the one law of all moves: it meets a seal, or the machine is told what the law says.
+pub made_or_met : (a : About) (words : List ℕ) (ports : ℕ → Port) (notes : ℕ → List Noted) (b : Beside) (since : ℕ → ℕ) (w : LawfulMemory (plan_of a) words ports b notes) →
+    KeepsTime (plan_of a) words ports (place_now b) since → (k : ℕ) → k < a.ports → (g : Began) (f : Option Found) (u : Contention) → IsSeat a ports notes b since (seat_at a ports notes k g f u) →
+    IsSeatKnown (seat_at a ports notes k g f u) → HaveSlots (plan_of a) → (c : CoreState) (step : Step) → MayMake (seat_at a ports notes k g f u) c step →
+    (MeetsSeal (plan_of a) (component_words (plan_of a) words (ports k).control.here.arena) step × (words_after words (placed_step (plan_of a) (ports k).control.here.arena step) ≡ words))
+    ⊎ ((lead : MachineLeads (plan_of a) words ports b k c step)
+    × LawfulMemory (plan_of a) (words_after words (placed_step (plan_of a) (ports k).control.here.arena step)) (put k lead.port ports) lead.beside
+    (noting k (map (public_noted (plan_of a) (ports k).before) lead.tells.new) notes)
+    × KeepsTime (plan_of a) (words_after words (placed_step (plan_of a) (ports k).control.here.arena step)) (put k lead.port ports) (place_now lead.beside) since)
+made_or_met a words ports notes b since w time k below g f u s known slots c step may =
+    let e : Plan = plan_of a in
+    let words' : List ℕ = words_after words (placed_step e (ports k).control.here.arena step) in
+    let l = every_step_stays_lawful e words ports b notes k (move.Makes c step true) w below
+    (may.stands, may.machine, may.due, may.claim, λ lead. may_note_all a words ports notes b since w time k below g f u s known slots true c step may lead) in
+    elim l.becomes [
+      | inl met ↦ inl (met.0, met.1)
+      | inr made ↦
+          let led = led_to a words ports notes b since w time k below (move.Makes c step true) l words' refl made.0.port made.1 made.0.beside made.2 (map (public_noted e (ports k).before) made.0.tells.new) made.3 in
+          inr (made.0, led.0, led.1)
+    ]

@@ -1,5 +1,5 @@
 -- The steps of the machine of a seat's port are allowed.
-use Rattle.partial_long_lived.proofs.{Common.{ℕ, ◌≡◌, ◌+◌, ◌<◌, Bool, false, if◌then◌else◌, List, slice_index, slice_set, refl, sym, ap, subst, ◌∙◌, inl, inr, arith, ◌⊎◌, set-get_or, Me, Allows, Step, Load, Exchange, word_of, CoreState, IsSealed, Place, Plan, base, component_words, HaveSlots, MachineLeads, MeetsSeal, machine_steps_stay_lawful, unsealed_is_present, at_of, eqb_tells, About, IsRuleKept, IsSeat, SeatedPort, one_of, plan_of, IsSeatKnown, IsOne, tells, seal, unsealed, cases_lt, lt-ltb, Glances, Exchanges, IsApart, SeatMakes, MayMake, MissesSeal, unsealed_answer, change_of, finding_seal, makes}, Sights.nothing_moved, Contention.{contends_on, sealed_more}, Kept.{Moved, allowed, moved_as, moved_contending, moved_says}, Loads.{moved_see, seat_at, seat_is}, Machine.{moved_come, moved_make, never_met, words_then}}
+use Rattle.partial_long_lived.proofs.{Common.{ℕ, ◌≡◌, ◌+◌, ◌<◌, ◌≤◌, Bool, false, if◌then◌else◌, List, length, slice_index, slice_set, refl, sym, ap, subst, ◌∙◌, inl, inr, arith, ◌⊎◌, set-get_or, Me, Allows, Step, Load, Exchange, word_of, CoreState, IsSealed, Place, Plan, base, component_words, HaveSlots, MeetsSeal, unsealed_is_present, at_of, eqb_tells, About, IsRuleKept, IsSeat, SeatedPort, one_of, plan_of, IsSeatKnown, IsOne, tells, seal, unsealed, cases_lt, lt-ltb, Glances, Exchanges, IsApart, SeatMakes, MayMake, MissesSeal, unsealed_answer, change_of, finding_seal, makes}, Sights.nothing_moved, Contention.{contends_on, sealed_more}, Kept.{Moved, allowed, moved_as, moved_contending, moved_says}, Loads.{moved_see, seat_at, seat_is}, Machine.{moved_come, moved_make, never_met, words_then, made_or_met}}
 use Rattle.partial_long_lived.specs.Inner.Machine.{SeatBegins as BeginsUpdate}
 
 -- a word is the record old, sealed, or it isn't
@@ -38,11 +38,12 @@ module _ {S : Type 0} (a : About) (slots id : ℕ) (me : Me S (List SeatedPort))
       let P : SeatedPort → Type 0 = λ z. Moved a (slice_set words (base e z.port.control.here.arena + word_of step) (change_of step (slice_index words (base e z.port.control.here.arena + word_of step)))) ports notes b since z
       (λ y. SeatMakes first c step z (unsealed_answer (plan_of z.about) step (slice_index words (base e z.port.control.here.arena + word_of step))) y) in
       let may' : MayMake X c step = subst (λ (z : SeatedPort). MayMake z c step) same may in
-      let lead : MachineLeads e words ports b k c step = (elim (machine_steps_stay_lawful e words ports b k c step w.epochs s.number may'.stands may'.machine may'.due may'.claim) [
+      let seat = subst (IsSeat a ports notes b since) same s in
+      let of_port = subst IsSeatKnown same known in
+      subst P (sym same) (elim (made_or_met a words ports notes b since w time k s.number x.began x.found x.contention seat of_port room c step may') [
         | inl met ↦ absurd (never_met e (component_words e words (ports k).control.here.arena) step apart met.0)
-        | inr lead ↦ lead
-      ]) in
-      subst P (sym same) (moved_make a words ports notes b since w time k s.number x.began x.found x.contention (subst (IsSeat a ports notes b since) same s) (subst IsSeatKnown same known) room first c step may' lead))
+        | inr made ↦ moved_make a words ports notes b since w time k s.number x.began x.found x.contention seat of_port room first c step may' made.0 made.1 made.2
+      ]))
 
   -- the exchange of its component
   pub may_exchange : (j old new : ℕ) → j < a.sizes.m → step ≡ Exchange j old new → Allows (IsRuleKept a) slots id me (base e x.port.control.here.arena + word_of step) (change_of step) (tells (Exchanges c old step) me)
@@ -63,7 +64,7 @@ module _ {S : Type 0} (a : About) (slots id : ℕ) (me : Me S (List SeatedPort))
             let m = nothing_moved a words (slice_set words i (change_of step n)) ports notes b since w time X seat refl of_port may'.stands (ap (slice_set words i) (stays_sealed step j old new n is met.0 met.1) ∙ set-get_or words i 0)
             (λ (y : SeatedPort). y ≡ X) refl in
             moved_contending m (finding_seal X).contention (sealed_more X.contention) (inl (met.0, met.1, ap (λ (y : SeatedPort). record y { contention = (finding_seal X).contention }) m.says))
-        | inr misses ↦ (elim (machine_steps_stay_lawful e words ports b k c step w.epochs s.number may'.stands may'.machine may'.due may'.claim) [
+        | inr misses ↦ (elim (made_or_met a words ports notes b since w time k s.number x.began x.found x.contention seat of_port room c step may') [
           | inl met ↦
               let is_met = subst (λ (t : Step). MeetsSeal e (component_words e words (ports k).control.here.arena) t) is met.0 in
               let at : slice_index (component_words e words (ports k).control.here.arena) j ≡ n =
@@ -72,7 +73,7 @@ module _ {S : Type 0} (a : About) (slots id : ℕ) (me : Me S (List SeatedPort))
               (λ (y : SeatedPort). y ≡ X) refl in
               moved_contending m (finding_seal X).contention (sealed_more X.contention)
               (inl (subst IsSealed at is_met.1, ap unsealed (sym at) ∙ is_met.2, ap (λ (y : SeatedPort). record y { contention = (finding_seal X).contention }) m.says))
-          | inr lead ↦ moved_as (λ y m. inr (misses, m)) (moved_make a words ports notes b since w time k s.number x.began x.found x.contention seat of_port room false c step may' lead)
+          | inr made ↦ moved_as (λ y m. inr (misses, m)) (moved_make a words ports notes b since w time k s.number x.began x.found x.contention seat of_port room false c step may' made.0 made.1 made.2)
         ])
       ]))
 
@@ -92,12 +93,12 @@ module _ {S : Type 0} (a : About) (slots id : ℕ) (me : Me S (List SeatedPort))
       let seat = subst (IsSeat a ports notes b since) same s in
       subst P (sym same) (elim (cases_lt n seal) [
         | inl less ↦
-            let lead : MachineLeads e words ports b k c (Load j) = (elim (machine_steps_stay_lawful e words ports b k c (Load j) w.epochs s.number may'.stands may'.machine may'.due may'.claim) [
+            let Q : Type 0 = Moved a (slice_set words i n) ports notes b since X (λ y. SeatMakes first c (Load j) X (unsealed_answer e (Load j) n) y × (y.began.epoch ≤ length b.before)) in
+            let m : Q = (elim (made_or_met a words ports notes b since w time k s.number x.began x.found x.contention seat of_port room c (Load j) may') [
               | inl met ↦ absurd (never_met e (component_words e words (ports k).control.here.arena) (Load j) tt met.0)
-              | inr lead ↦ lead
+              | inr made ↦ moved_come a words ports notes b since w time k s.number x.began x.found x.contention seat of_port room first c (Load j) may' made.0 made.1 made.2
             ]) in
             let plain_is : unsealed_answer e (Load j) n ≡ n = ap (λ (t : Bool). if t then unsealed n else n) (lt-ltb j a.sizes.m inside) ∙ omega (arith, less) in
-            let m = moved_come a words ports notes b since w time k s.number x.began x.found x.contention seat of_port room first c (Load j) may' lead in
             let at : slice_index (component_words e words (ports k).control.here.arena) j ≡ n = at_of (λ i. slice_index words (base e (ports k).control.here.arena + i)) 0 a.sizes.m j inside ∙ ap (λ i. slice_index words (base e (ports k).control.here.arena + i)) (omega arith) in
             let here = ap (λ (d : Place). d.epoch) (unsealed_is_present e words ports b k j w.epochs s.number may'.stands inside (λ sealed. omega (arith, at, less, sealed))).here in
             let come = m.says.1 in

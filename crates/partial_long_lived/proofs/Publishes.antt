@@ -1,5 +1,6 @@
 -- The exchange of the current word is allowed.
-use Rattle.partial_long_lived.proofs.{Common.{ℕ, ◌≡◌, ◌<◌, ◌≤◌, ◌==◌, ◌++◌, if◌then◌else◌, List, [], ◌∷◌, length, slice_index, slice_set, refl, sym, ap, subst, ◌∙◌, inl, inr, arith, append-nil, length-append, either, Me, Allows, Applied, LegalNotes, Noted, put, Plan, current_word, packed, OwnedArena, Port, Beside, LawfulEpochs, place_now, KeepsTime, IsWholeArena, having_published, next_beside, next_place, LawfulMemory, publishes_keep_notes, publishes_keep_time, publishes_stay_lawful, put_other, put_same, About, IsRuleKept, IsSeat, SeatedPort, one_of, plan_of, seen_in, IsSeatKnown, IsOne, tells, SeatPublishes, becomes}, Kept.{Grows, HasGrown, HaveGrown, Moved, allowed, begun_grows, final_grows, seen_grows}, Asides.{IsQuiet, aside, final_same}, Changes.either_cond, Contention.contends_same}
+use Rattle.partial_long_lived.proofs.{Common.{ℕ, ◌≡◌, ◌<◌, ◌≤◌, ◌==◌, ◌++◌, if◌then◌else◌, List, [], ◌∷◌, length, slice_index, slice_set, refl, sym, ap, subst, ◌∙◌, inl, inr, arith, append-nil, length-append, either, Me, Allows, Applied, LegalNotes, Noted, put, Plan, current_word, packed, OwnedArena, Port, Beside, place_now, KeepsTime, IsWholeArena, having_published, next_beside, next_place, LawfulMemory, put_other, put_same, About, IsRuleKept, IsSeat, SeatedPort, one_of, plan_of, seen_in, IsSeatKnown, IsOne, tells, SeatPublishes, becomes, every_step_stays_lawful, IsSince}, Kept.{Grows, HasGrown, HaveGrown, Moved, allowed, begun_grows, final_grows, seen_grows}, Asides.{IsQuiet, final_same}, Changes.either_cond, Contention.contends_same, Control.{led_to, moved_quietly, unnoted}}
+use Rattle.partial_epochs.specs.EveryStep.{Move as move}
 
 -- once the next epoch is open, the epochs that had come have the histories that they had
 next_grows : (P : ℕ → Type 0) (e : Plan) (b : Beside) (y : ℕ) (before later : List (List Applied)) (log : List Applied) → length before ≤ length b.before →
@@ -21,7 +22,7 @@ published_quiet o = record { part = λ p. refl; before = λ p. refl; here = λ p
 
 won : (a : About) (words words' : List ℕ) (ports : ℕ → Port) (notes : ℕ → List Noted) (b : Beside) (since : ℕ → ℕ) (x : SeatedPort) → LawfulMemory (plan_of a) words ports b notes →
     IsSeat a ports notes b since x → IsSeatKnown x → (o : OwnedArena) →
-    LawfulEpochs (plan_of a) words' (put x.number (having_published (ports x.number) o) ports) (next_beside (plan_of a) b o.arena) →
+    LawfulMemory (plan_of a) words' (put x.number (having_published (ports x.number) o) ports) (next_beside (plan_of a) b o.arena) notes →
     KeepsTime (plan_of a) words' (put x.number (having_published (ports x.number) o) ports) (place_now (next_beside (plan_of a) b o.arena)) since → (P : SeatedPort → Type 0) →
     P (becomes x x.began (having_published x.port o)) → Moved a words' ports notes b since x P
 won a words words' ports notes b since x w s known o thereafter time P says =
@@ -32,7 +33,6 @@ won a words words' ports notes b since x w s known o thereafter time P says =
     let c : Beside = next_beside e b o.arena in
     let own : x.about ≡ a = s.about in
     let knows = known.knows in
-    let to = publishes_keep_notes e words words' ports b notes k o w s.number thereafter in
     let come : (i : ℕ) → i < a.ports → length (ports i).before ≤ length b.before =
     λ i low. few b (ports i).before (w.noted.reached i low).later (w.noted.reached i low).log (w.noted.reached i low).is in
     let own_come : length x.port.before ≤ length b.before = subst (λ (r : Port). length r.before ≤ length b.before) (sym s.port) (come k s.number) in
@@ -45,7 +45,7 @@ won a words words' ports notes b since x w s known o thereafter time P says =
       notes' = notes;
       beside = c;
       since' = since;
-      lawful = to.0;
+      lawful = thereafter;
       time = time;
       others = λ i ne. (put_other k p ports i ne, refl, refl);
       number = refl;
@@ -93,13 +93,22 @@ module _ {S : Type 0} (a : About) (slots id : ℕ) (me : Me S (List SeatedPort))
       ap (λ (q : Port). if n == packed q.control.here then packed (next_place q.control.here o.arena) else n) (sym s.port)
       ∙ either_cond (n == packed x.port.control.here) (packed (next_place x.port.control.here o.arena)) n in
       let words' : List ℕ = slice_set words current_word v in
-      (elim (publishes_stay_lawful e words ports b k o w.epochs s.number (subst (λ (q : Port). IsWholeArena e q o) s.port whole)) [
-        | inl opened ↦ won a words words' ports notes b since x w s known o
-            (subst (λ v. LawfulEpochs e (slice_set words current_word v) (put k p ports) (next_beside e b o.arena)) word opened.2)
-            (subst (λ v. KeepsTime e (slice_set words current_word v) (put k p ports) (place_now (next_beside e b o.arena)) since) word
-            (publishes_keep_time e words ports (place_now b) (place_now (next_beside e b o.arena)) k o since s.number (omega arith) time)) (SeatPublishes o x n) refl
-        | inr lost ↦ aside a words words' ports notes b b since since x w s known (λ q. having_published q o) (published_quiet o) x.began s.entering s.began
-            (subst (λ v. KeepsTime e (slice_set words current_word v) (put k p ports) (place_now b) since) word
-            (publishes_keep_time e words ports (place_now b) (place_now b) k o since s.number (omega arith) time)) (λ q ne. refl) refl refl
-            (subst (λ v. LawfulEpochs e (slice_set words current_word v) (put k p ports) b) word lost.1) (SeatPublishes o x n) refl
+      let l = every_step_stays_lawful e words ports b notes k (move.Publishes o) w s.number (subst (λ (q : Port). IsWholeArena e q o) s.port whole) in
+      let to : (c : Beside) → l.beside ≡ c → LawfulMemory e words' (put k p ports) c notes × KeepsTime e words' (put k p ports) (place_now c) since = λ c is.
+      let led = led_to a words ports notes b since w time k s.number (move.Publishes o) l words' (ap (λ v. slice_set words current_word v) word) p l.becomes.0 c is [] l.becomes.1 in
+      (unnoted a words ports notes b since w time k s.number words' (put k p ports) c led.0, led.1) in
+      (elim l.becomes.2 [
+        | inl opened ↦ let led = to (next_beside e b o.arena) opened.1 in won a words words' ports notes b since x w s known o led.0 led.1 (SeatPublishes o x n) refl
+        | inr lost ↦
+            let led = to b lost.1 in
+            moved_quietly a words words' ports notes b since x w s known (λ q. having_published q o) (published_quiet o) x.began s.began (record {
+              since' = since;
+              beside = b;
+              log = refl;
+              before = refl;
+              lawful = led.0;
+              time = led.1;
+              others = λ q ne. refl;
+              entering = subst (λ (q : Port). IsSince x.began q.control.entering (since k)) s.port s.entering;
+            }) (SeatPublishes o x n) refl
       ]))

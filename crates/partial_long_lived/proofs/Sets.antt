@@ -1,5 +1,6 @@
 -- The stores of an owner are allowed.
-use Rattle.partial_long_lived.proofs.{Common.{ℕ, ◌≡◌, ◌≢◌, ◌+◌, ◌-◌, ◌/◌, ◌%◌, ◌<◌, ◌≤◌, ◌==◌, ◌⊎◌, ◌++◌, true, false, if◌then◌else◌, Option, Some, IfSome, List, [], ◌∷◌, length, slice_index, slice_set, refl, sym, ap, subst, ◌∙◌, inl, inr, arith, length-append, nat_lt, lt-ltb, eqb_tells, get_or-set_same, Me, Allows, Applied, Opening, value_of, Noted, some_same, Layout, first_free, initial_record, list_base, list_counter, pool_base, pool_counter, initial_record_word, opening_word, list_of, IsToBeSet, behind_value, behind_values, Place, Plan, control_words, current_word, packed, set_word, carried_behind, opening_behind, OwnedArena, Port, MayPut, Beside, controls, next_epoch_word, numbers, place_now, having_set, vacated, LawfulMemory, many, sets_stay_lawful, at_of, below_whole, not_below, set_place, About, Found, IsFinal, IsRuleKept, IsLast, IsSeat, SeatedPort, one_of, plan_of, IsSeatKnown, IsOne, tells, Sets, FindsClear, becomes, LawfulEpochs, put, cases_lt, clear_slots_count_as_set, offset_behind, offset_front, slot_offset, slot_set, base, set_offset, slot_counter, slot_word, value_word, plain_record_size}, Asides.{IsQuiet, aside}, Begins.here_is, Changes.{load_at, owning_same, still, store_at}, Control.{Quietly, lawful_itself, load_same, quietly, time_aside}, Kept.{allowed, begun_grows, none_grown}}
+use Rattle.partial_long_lived.proofs.{Common.{ℕ, ◌≡◌, ◌≢◌, ◌+◌, ◌-◌, ◌/◌, ◌%◌, ◌<◌, ◌≤◌, ◌==◌, ◌⊎◌, ◌++◌, true, false, if◌then◌else◌, Option, Some, IfSome, List, [], ◌∷◌, length, slice_index, slice_set, refl, sym, ap, subst, ◌∙◌, inl, inr, arith, length-append, nat_lt, lt-ltb, eqb_tells, get_or-set_same, Me, Allows, Applied, Opening, value_of, Noted, Layout, first_free, initial_record, list_base, list_counter, pool_base, pool_counter, initial_record_word, opening_word, list_of, IsToBeSet, behind_value, behind_values, Place, Plan, control_words, current_word, packed, set_word, carried_behind, opening_behind, OwnedArena, Port, Beside, controls, next_epoch_word, numbers, place_now, having_set, LawfulMemory, many, at_of, below_whole, not_below, set_place, About, Found, IsFinal, IsRuleKept, IsLast, IsSeat, SeatedPort, one_of, plan_of, IsSeatKnown, IsOne, tells, Sets, FindsClear, becomes, cases_lt, offset_behind, offset_front, slot_offset, slot_set, base, set_offset, slot_counter, slot_word, value_word, plain_record_size, MayMove, IsSince}, Asides.IsQuiet, Begins.here_is, Changes.owning_same, Control.{load_same, quietly, by_move, by_rest, moved_quietly}, Kept.allowed}
+use Rattle.partial_epochs.specs.EveryStep.{Move as move}
 use Rattle.partial_epochs.proofs.ClearRecords.{records_before, records_kept}
 use Rattle.partial_epochs.proofs.Sets as law
 use Rattle.partial_state.proofs.OpeningLaw.{slots_open}
@@ -150,17 +151,6 @@ before_is a words ports notes b k w below at =
 set_quiet : (o : OwnedArena) (next : ℕ) → IsQuiet (λ p. having_set p o next)
 set_quiet o next = record { part = λ p. refl; before = λ p. refl; here = λ p. refl; passed = λ p. omega arith }
 
-set_puts : (p : Port) (o : OwnedArena) (next : ℕ) → p.control.owned ≡ Some o → (j : ℕ) (m : Place) → MayPut (having_set p o next).control j m → MayPut p.control j m
-set_puts p o next is j m may =
-    let same : record o { set = next } ≡ may.owned = some_same may.is in
-    record {
-      owned = o;
-      is = is;
-      port = ap (λ (t : OwnedArena). t.clean) same ∙ may.port;
-      mark = ap (λ (t : OwnedArena). t.mark) same ∙ may.mark;
-      again = ap (λ (t : OwnedArena). t.again) same ∙ may.again;
-    }
-
 -- what a port has found in its own epoch is the last of all epochs, while that is the current one
 found_last : (a : About) (b : Beside) (x : Port) (t : Option Found) (f : Found) → t ≡ Some f → IfSome t (IsFinal (plan_of a) b x) → x.before ≡ b.before →
     (f.component < a.sizes.m) × IsLast (plan_of a) b.before b.log f
@@ -187,21 +177,22 @@ module _ {S : Type 0} (a : About) (slots id : ℕ) (me : Me S (List SeatedPort))
   may_set o v next owned clean less most passed right zero to_set = allowed a slots id me (set_word e o.arena o.set) (λ n. v) (Sets o next) one own (λ words ports notes b since w time s small.
       let k : ℕ = x.number in
       let i : ℕ = set_word e o.arena o.set in
-      let c : Beside = vacated b o.arena in
       let owned' : (ports k).control.owned ≡ Some o = ap (λ (p : Port). p.control.owned) (sym s.port) ∙ owned in
       let pool = w.epochs.plan.sizes.pool.0 in
-      let place = set_place e o.arena o.set pool (omega (arith, less, most)) in
-      let at = place.2 in
-      let to = sets_stay_lawful e words ports b k o v next w.epochs s.number owned' clean less most (subst (λ (p : Port). a.sizes.m ≤ p.passed) s.port passed)
-      (λ current i from up asked. right words ports notes b since w s current i from up asked)
-      (λ l now set. let both = zero (omega (arith, now)) in let only = both.1 in clears words ports notes b w l owned' s.number now (omega (arith, now, set, only)) both.0)
-      (let mine = law.own e (control_words e words) (controls ports) (place_now b) (numbers b) w.epochs.control k s.number o owned' clean in
-      records_kept e words o.arena o.set v pool to_set (records_before e words ports b w.epochs o.arena mine.arena)) in
-      aside a words (slice_set words i v) ports notes b c since since x w s known (λ p. having_set p o next) (set_quiet o next) x.began s.entering
-      (begun_grows b c x.began (omega arith) (none_grown b c refl refl) s.began)
-      (time_aside a words (slice_set words i v) ports b c since time refl k (having_set (ports k) o next)
-      (λ q low. store_at e words i v q low (omega (arith, at))) refl refl (set_puts (ports k) o next owned'))
-      (λ q ne. refl) refl refl to (Sets o next x (slice_index words i)) refl)
+      let may : MayMove e words ports b notes k (move.Sets o v next) = (
+        owned',
+        clean,
+        less,
+        most,
+        subst (λ (p : Port). a.sizes.m ≤ p.passed) s.port passed,
+        (λ current i from up asked. right words ports notes b since w s current i from up asked),
+        (λ l now set. let both = zero (omega (arith, now)) in let only = both.1 in clears words ports notes b w l owned' s.number now (omega (arith, now, set, only)) both.0),
+        (let mine = law.own e (control_words e words) (controls ports) (place_now b) (numbers b) w.epochs.control k s.number o owned' clean in
+            records_kept e words o.arena o.set v pool to_set (records_before e words ports b w.epochs o.arena mine.arena)),
+      ) in
+      moved_quietly a words (slice_set words i v) ports notes b since x w s known (λ p. having_set p o next) (set_quiet o next) x.began s.began
+      (by_move a words ports notes b since w time k s.number x.began (move.Sets o v next) may (λ p c n is. is) (λ q ne. refl) (slice_set words i v) refl (having_set (ports k) o next) refl
+      (subst (λ (p : Port). IsSince x.began p.control.entering (since k)) s.port s.entering)) (Sets o next x (slice_index words i)) refl)
     where
       clears : (words : List ℕ) (ports : ℕ → Port) (notes : ℕ → List Noted) (b : Beside) → LawfulMemory (plan_of a) words ports b notes → (l : ℕ) → (ports x.number).control.owned ≡ Some o →
           x.number < a.ports → l + o.set < a.sizes.slots → l + o.set + 1 ≡ a.sizes.slots → v ≡ 0 → slice_index (slice_set words (set_word e o.arena o.set) v) (base e o.arena + slot_word a.sizes l) ≡ 0
@@ -292,16 +283,12 @@ module _ {S : Type 0} (a : About) (slots id : ℕ) (me : Me S (List SeatedPort))
       let owned' : (ports k).control.owned ≡ Some o = ap (λ (p : Port). p.control.owned) (sym is) ∙ owned in
       (elim (cases_lt n a.sizes.slots) [
         | inl less ↦
-            let to = clear_slots_count_as_set e words ports b k o next w.epochs below owned' clean (omega (arith, none, less)) (omega (arith, less))
-            (subst (λ (p : Port). a.sizes.m ≤ p.passed) is passed) in
-            still a words (slice_set words i n) ports b (vacated b o.arena) since time refl refl k x.began old (λ q low. load_at words i q) (having_set (ports k) o next) refl refl
-            (set_puts (ports k) o next owned')
-            (subst (λ (l : List ℕ). LawfulEpochs e l (put k (having_set (ports k) o next) ports) (vacated b o.arena)) (load_same words i) to)
+            let may : MayMove e words ports b notes k (move.FindsClear o next) =
+            (owned', clean, omega (arith, none, less), omega (arith, less), subst (λ (p : Port). a.sizes.m ≤ p.passed) is passed) in
+            by_move a words ports notes b since w time k below x.began (move.FindsClear o next) may (λ p c n is. is) (λ q ne. refl) (slice_set words i n) (load_same words i) (having_set (ports k) o next) refl old
         | inr from ↦
             let same : having_set (ports k) o next ≡ ports k =
             ap (λ (m : ℕ). having_set (ports k) o m) (omega (arith, from, none)) ∙ owning_same (ports k) o owned' in
-            subst (λ (p : Port). Quietly a (slice_set words i n) ports b since k x.began p) (sym same)
-            (still a words (slice_set words i n) ports b b since time refl refl k x.began old (λ q low. load_at words i q) (ports k) refl refl (λ j m may. may)
-            (subst (λ (l : List ℕ). LawfulEpochs e l (put k (ports k) ports) b) (load_same words i) (lawful_itself e words ports b k w.epochs)))
+            by_rest a words ports notes b since w time k below x.began (slice_set words i n) (load_same words i) (having_set (ports k) o next) (sym same) old
       ]))
       (λ words ports b w below is. ap (λ (z : About). becomes x x.began (having_set x.port o (z.sizes.slots - slice_index words (base e o.arena + slot_counter a.sizes)))) (sym own))

@@ -1,5 +1,5 @@
 -- The loads of a call are allowed.
-use Rattle.partial_long_lived.proofs.{Common.{ℕ, ◌≡◌, ◌+◌, ◌<◌, ◌++◌, Bool, List, [], ◌∷◌, slice_index, slice_set, refl, sym, ap, subst, ◌∙◌, arith, append-nil, Me, Allows, LegalNotes, Noted, Plan, base, Port, Stands, Beside, place_now, LawfulMemory, KeepsTime, About, IsRuleKept, IsSeat, SeatedPort, one_of, plan_of, seen_in, IsSeatKnown, IsOne, tells, Recalls, SeatSees, Wish, MayNoteScan, NotesScan, notes_scan}, Control.load_same, Kept.{Moved, allowed, none_grown, not_grown}, Loads.{IsFinding, moved_note, moved_see, recalled, seat_is, standing, where_is}, Contention.contends_same}
+use Rattle.partial_long_lived.proofs.{Common.{ℕ, ◌≡◌, ◌+◌, ◌<◌, Bool, List, slice_index, slice_set, refl, sym, ap, subst, ◌∙◌, arith, Me, Allows, Noted, Plan, base, Port, Stands, Beside, place_now, LawfulMemory, KeepsTime, About, IsRuleKept, IsSeat, SeatedPort, one_of, plan_of, IsSeatKnown, IsOne, tells, Recalls, SeatSees, Wish, MayNoteScan, NotesScan, notes_scan, IsSince}, Control.{by_rest, load_same, moved_quietly}, Kept.{Moved, allowed}, Loads.{IsFinding, moved_note, moved_see, recalled, seat_is}}
 
 -- nothing has changed
 pub nothing_moved : (a : About) (words words' : List ℕ) (ports : ℕ → Port) (notes : ℕ → List Noted) (b : Beside) (since : ℕ → ℕ) (w : LawfulMemory (plan_of a) words ports b notes) →
@@ -7,30 +7,9 @@ pub nothing_moved : (a : About) (words words' : List ℕ) (ports : ℕ → Port)
     words' ≡ words →
     (P : SeatedPort → Type 0) → P x → Moved a words' ports notes b since x P
 nothing_moved a words words' ports notes b since w time x s own known stands same P says =
-    let k : ℕ = x.number in
-    let there = standing a words ports notes b since w time k s.number x.began x.found x.contention stands in
-    let at = where_is a words ports notes b since w time k s.number x.began x.found x.contention stands in
-    record {
-      y = x;
-      ports' = ports;
-      notes' = notes;
-      beside = b;
-      since' = since;
-      lawful = subst (λ (l : List ℕ). LawfulMemory (plan_of a) l ports b notes) (sym same) w;
-      time = subst (λ (l : List ℕ). KeepsTime (plan_of a) l ports (place_now b) since) (sym same) time;
-      others = λ q ne. (refl, refl, refl);
-      number = refl;
-      epoch = omega arith;
-      contention = contends_same x.contention;
-      seat = s;
-      grown = λ q low ne. not_grown (ports q) b b refl refl;
-      all_grown = none_grown b b refl refl;
-      later = omega arith;
-      reached = (at.0, there.epoch.log, at.1 ∙ ap (λ (p : Port). at.0 ++ there.epoch.log ∷ p.before) (sym s.port));
-      seen = ([], sym (append-nil (seen_in x.port)));
-      legal = subst (λ (z : About). LegalNotes z.opening (seen_in x.port) k 0 x.notes) own known.knows.legal;
-      says = says;
-    }
+    moved_quietly a words words' ports notes b since x w s known (λ p. p) (record { part = λ p. refl; before = λ p. refl; here = λ p. refl; passed = λ p. omega arith }) x.began s.began
+    (by_rest a words ports notes b since w time x.number s.number x.began words' (sym same) (ports x.number) refl (subst (λ (p : Port). IsSince x.began p.control.entering (since x.number)) s.port s.entering))
+    P says
 
 module _ {S : Type 0} (a : About) (slots id : ℕ) (me : Me S (List SeatedPort)) (one : IsOne me) (own : (one_of me.0).about ≡ a) (known : IsSeatKnown (one_of me.0)) (stands : (one_of me.0).port.control.entering ≡ Stands) where
   abbrev x : SeatedPort

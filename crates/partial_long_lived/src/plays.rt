@@ -51,7 +51,8 @@ pub struct Arrive;
 
 impl Play<(), View> for Arrive {
     ghost use Rattle.partial_long_lived.specs.Inner.Steps.{tells};
-    ghost use Rattle.partial_long_lived.specs.Inner.Moves.{SeatArrives, unpacked};
+    ghost use Rattle.partial_epochs.specs.Layout.{unpacked};
+    ghost use Rattle.partial_long_lived.specs.Inner.Moves.{SeatArrives};
 
     ghost then = { λ s. tells (SeatArrives (unpacked s.second)) };
 }

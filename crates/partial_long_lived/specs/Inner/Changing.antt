@@ -4,7 +4,7 @@ use Rattle.partial_model.specs.declared.history.Applied.{Applied}
 use Rattle.partial_words.specs.Layout.{Layout, first_free, initial_record, list_base}
 use Rattle.partial_words.specs.Chain.{opening_word}
 use Rattle.partial_words.specs.Record.{value_word, plain_record_size}
-use Rattle.partial_epochs.specs.Layout.{arena_limit, entering_mark, epoch_limit, set_offset}
+use Rattle.partial_epochs.specs.Layout.{arena_limit, entering_mark, epoch_limit, set_offset, unpacked}
 use Rattle.partial_epochs.specs.Ports.{OwnedArena}
 use Rattle.partial_epochs.specs.Ports.Entering.{Stands}
 use Rattle.partial_epochs.specs.Entering.{arrived_port}
@@ -16,7 +16,7 @@ use Rattle.partial_long_lived.specs.declared.error.Refused.TheVariants.{EpochsSp
 use Rattle.partial_long_lived.specs.declared.stand.Stand.{Stand}
 use Rattle.partial_long_lived.specs.Rule.{Began, Found, Contention, SeatedPort, plan_of, times_in}
 use Rattle.partial_long_lived.specs.Inner.Steps.{SeatGoes}
-use Rattle.partial_long_lived.specs.Inner.Moves.{BeganBy, PutsPort, Sets, Takes, unpacked}
+use Rattle.partial_long_lived.specs.Inner.Moves.{BeganBy, PutsPort, Sets, Takes}
 use Rattle.partial_long_lived.specs.Inner.Calls.{IsIdle}
 use Rattle.partial_long_lived.specs.Inner.Loads.{stamp_seen, value_seen}
 use Rattle.partial_long_lived.specs.Inner.Held.{port_at}

@@ -1,8 +1,8 @@
 -- What the steps of a change of epoch, and of entering one, do to a port, by what they find.
-use Rattle.std.specs.Prelude.{ℕ, ◌≡◌, ◌+◌, ◌-◌, ◌/◌, ◌%◌, ◌<◌, ◌≤◌, ◌==◌, nat_lt, Bool, true, false, List, ◌∷◌, length, None, if◌then◌else◌}
+use Rattle.std.specs.Prelude.{ℕ, ◌≡◌, ◌+◌, ◌-◌, ◌<◌, ◌≤◌, ◌==◌, nat_lt, Bool, true, false, List, ◌∷◌, length, None, if◌then◌else◌}
 use Rattle.std.specs.Option.{option_map_or}
 use Rattle.partial_model.specs.declared.history.Applied.{Applied}
-use Rattle.partial_epochs.specs.Layout.{Place, IsPlace, arena_limit, entering_mark, marked, packed, seal}
+use Rattle.partial_epochs.specs.Layout.{Place, IsPlace, entering_mark, marked, packed, seal, unpacked}
 use Rattle.partial_epochs.specs.Ports.{OwnedArena, Port}
 use Rattle.partial_epochs.specs.Ports.Entering.{Marks, Loaded}
 use Rattle.partial_epochs.specs.Entering.{arrived_port, having_passed}
@@ -11,10 +11,6 @@ use Rattle.partial_epochs.specs.Owning.{at_next_port, having_given, having_loade
 use Rattle.partial_epochs.specs.Publishing.{having_published, having_set}
 use Rattle.partial_long_lived.specs.Rule.{Began, Contention, SeatedPort, plan_of}
 use Rattle.partial_long_lived.specs.Ports.{seen_in}
-
--- the place that a word names
-abbrev pub unpacked : ℕ → Place
-unpacked w = record { epoch = w / arena_limit; arena = w % arena_limit }
 
 -- a port that has found the arena owned by another one, or stood in
 abbrev pub finding_busy : ℕ → Contention → Contention
