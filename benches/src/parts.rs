@@ -86,6 +86,11 @@ impl Parts {
         Parts { watch: Watch::new(), made: Vec::new() }
     }
 
+    /// The same, where each part counts, also when the thread had to give its processor away.
+    pub fn shared() -> Parts {
+        Parts { watch: Watch { delays: None, status: None, delay: None, switches: None }, made: Vec::new() }
+    }
+
     /// Times a part, which counts only where `counts` is true behind it, of what it gave.
     pub fn time<T>(&mut self, part: impl FnOnce() -> T, counts: impl FnOnce(&T) -> bool) -> T {
         let from = Instant::now();
@@ -107,6 +112,38 @@ impl Parts {
             self.made.push(Part { from, to, waited, counts: true });
         }
         answer
+    }
+}
+
+/// The times of single calls of one thread, in nanoseconds.
+pub struct Times {
+    watch: Watch,
+    kept: Vec<u32>,
+}
+
+// A call that takes less did not give its processor away.
+const SLOW: u32 = 1_000;
+
+impl Times {
+    /// None yet, of the thread that calls this.
+    pub fn new() -> Times {
+        Times { watch: Watch::new(), kept: Vec::new() }
+    }
+
+    /// Times a call. It is left out when the thread had to give its processor away, which is asked of slow calls alone.
+    pub fn time<T>(&mut self, call: impl FnOnce() -> T) -> T {
+        let from = Instant::now();
+        let answer = call();
+        let time = u32::try_from(from.elapsed().as_nanos()).unwrap_or(u32::MAX);
+        if time < SLOW || !self.watch.has_waited() {
+            self.kept.push(time);
+        }
+        answer
+    }
+
+    /// The times that were not left out.
+    pub fn kept(&self) -> &[u32] {
+        &self.kept
     }
 }
 
