@@ -17,7 +17,7 @@ use Rattle.partial_core.specs.Part.{KeptAnswer, core_of, first_at, port_of, IsBe
 use Rattle.partial_core.specs.Steps.{FitsHistory}
 use Rattle.partial_memory.specs.declared.rule.About.{About}
 use Rattle.partial_memory.specs.declared.error.OpenError.{OpenError}
-use Rattle.partial_memory.specs.declared.error.OpenError.TheVariants.{Ports, TooSmall, Memory}
+use Rattle.partial_memory.specs.declared.error.OpenError.TheVariants.{Ports, TooSmall, OutOfMemory}
 use Rattle.partial_memory.specs.Rule.{SeatedPort, IsBadgeOfOne, AreByOpened, one_in}
 
 -- which memory it is, and what it was opened with
@@ -139,14 +139,14 @@ pub record RefusedLate (p q : PortView) (c : Call) (cause : Refused) : Type 0 wh
 abbrev pub IsRefused : PortView → Call → Refused → PortView → Type 0
 IsRefused p c cause q = ((refusal p c ≡ Some cause) × (q ≡ p)) ⊎ RefusedLate p q c cause
 
--- why a memory may not open with that many ports: Ports when there are not 1 to 64, and Memory only when there are; TooSmall never
+-- why a memory may not open with that many ports: Ports when there are not 1 to 64, and OutOfMemory only when there are; TooSmall never
 abbrev pub MayNotOpen : ℕ → OpenError → Type 0
 MayNotOpen ports Ports = (ports ≡ 0) ⊎ (64 < ports)
 MayNotOpen ports TooSmall = ⊥
-MayNotOpen ports Memory = (1 ≤ ports) × (ports ≤ 64)
+MayNotOpen ports OutOfMemory = (1 ≤ ports) × (ports ≤ 64)
 
 -- the numbers of the refusals
 abbrev pub open_code : OpenError → ℕ
 open_code Ports = 5
 open_code TooSmall = 13
-open_code Memory = 6
+open_code OutOfMemory = 6

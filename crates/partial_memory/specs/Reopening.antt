@@ -4,7 +4,7 @@ use Rattle.partial_model.specs.declared.history.Applied.{Applied}
 use Rattle.partial_model.specs.declared.history.Opening.{Opening}
 use Rattle.partial_model.specs.History.{IsHistory, value_of}
 use Rattle.partial_memory.specs.declared.error.OpenError.{OpenError}
-use Rattle.partial_memory.specs.declared.error.OpenError.TheVariants.{Ports, TooSmall, Memory}
+use Rattle.partial_memory.specs.declared.error.OpenError.TheVariants.{Ports, TooSmall, OutOfMemory}
 use Rattle.partial_memory.specs.Closing.{AreValues}
 
 -- the values, and zeros behind them up to m of them
@@ -34,8 +34,8 @@ ClosedMemoriesContinue =
     (values : List ℕ) (m : ℕ) (second : Opening) → second.values ≡ extended_values m values → ContinuesAll values second
 
 -- Why a memory of m components may not open with these numbers of ports and of values of a closed one: Ports when there are not 1 to 64,
--- otherwise TooSmall when there are more values than components, and Memory only when neither is so.
+-- otherwise TooSmall when there are more values than components, and OutOfMemory only when neither is so.
 abbrev pub MayNotReopen : ℕ → ℕ → ℕ → OpenError → Type 0
 MayNotReopen ports count m Ports = (ports ≡ 0) ⊎ (64 < ports)
 MayNotReopen ports count m TooSmall = (1 ≤ ports) × (ports ≤ 64) × (m < count)
-MayNotReopen ports count m Memory = (1 ≤ ports) × (ports ≤ 64) × (count ≤ m)
+MayNotReopen ports count m OutOfMemory = (1 ≤ ports) × (ports ≤ 64) × (count ≤ m)

@@ -81,7 +81,7 @@ impl Memory {
     ///
     /// # Errors
     /// [`OpenError::Ports`] exactly when there are not 1 to 64 ports, and otherwise
-    /// [`OpenError::Memory`] when an allocation was refused. Nothing was made then.
+    /// [`OpenError::OutOfMemory`] when an allocation was refused. Nothing was made then.
     pub fn open(
         alloc: Global,
         sizes: Sizes,
@@ -130,7 +130,7 @@ impl Memory {
     /// # Errors
     /// [`OpenError::Ports`] exactly when there are not 1 to 64 ports; otherwise [`OpenError::TooSmall`]
     /// exactly when the closed memory has more components than `sizes`; otherwise
-    /// [`OpenError::Memory`] when an allocation was refused. Nothing was made then.
+    /// [`OpenError::OutOfMemory`] when an allocation was refused. Nothing was made then.
     pub fn reopen(
         alloc: Global,
         closed: &Closed,
@@ -285,7 +285,7 @@ impl Memory {
     /// after one history, which begins with all that each of these ports had observed.
     ///
     /// # Errors
-    /// [`CloseError::Memory`] when an allocation was refused: the contents are lost, and nothing is
+    /// [`CloseError::OutOfMemory`] when an allocation was refused: the contents are lost, and nothing is
     /// returned.
     pub fn close(self, alloc: Global, port: Port, mut rest: Vec<Port>) -> Result<Closed, CloseError>
         requires port { IsOf self port }

@@ -171,7 +171,7 @@ pub struct Ran {
 ///
 /// # Errors
 ///
-/// [`RunError::Memory`] when an allocation was refused or a worker couldn't be started. It comes once all workers
+/// [`RunError::OutOfMemory`] when an allocation was refused or a worker couldn't be started. It comes once all workers
 /// that were started have ended. The memory with all that was applied to it is gone then.
 pub fn run_on<'c, R: Threads + Wait + Sync, G: Gate>(
     rt: &R,

@@ -79,8 +79,12 @@ fn numbered() -> [(Fault, u8, &'static str); 7] {
     [
         (Fault::Plan(PlanError::Ports), 5, "ports out of range"),
         (Fault::Plan(line), 10, "line 3: word"),
-        (Fault::Replay(ReplayError::Memory), 6, "out of memory"),
-        (Fault::Picture(PictureError::Memory), 6, "out of memory"),
+        (Fault::Replay(ReplayError::OutOfMemory), 6, "out of memory"),
+        (
+            Fault::Picture(PictureError::OutOfMemory),
+            6,
+            "out of memory",
+        ),
         (
             Fault::Picture(PictureError::TooMany { steps: 2001 }),
             15,

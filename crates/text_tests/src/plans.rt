@@ -302,7 +302,7 @@ fn numbered() -> [(PlanError, u8, &'static str); 14] {
             "pool words out of range",
         ),
         (PlanError::Ports, 5, "ports out of range"),
-        (PlanError::Memory, 6, "out of memory"),
+        (PlanError::OutOfMemory, 6, "out of memory"),
         (line(3, Cause::Size), 10, "line 3: size"),
         (line(3, Cause::End), 10, "line 3: end"),
         (line(3, Cause::Word), 10, "line 3: word"),

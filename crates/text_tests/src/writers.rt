@@ -491,7 +491,7 @@ fn long_texts_stop_in_any_part(rt: HostRuntime) -> Result<(), Fail> {
 #[test]
 fn write_refusals_have_numbers(rt: HostRuntime) -> Result<(), Fail> {
     for (error, code, text) in [
-        (OutcomeError::Memory, 6, "out of memory"),
+        (OutcomeError::OutOfMemory, 6, "out of memory"),
         (OutcomeError::Write, 12, "write fault"),
     ] {
         assert_eq!(rt; error.code(), code);
