@@ -81,7 +81,9 @@ pub const BENCHES: [Bench; 25] = [
     alone("add one by a key, 1 thread, nobody scans", |name| by_keys(name, PARTS, add_one)),
     alone("scan of 4, 1 thread", |name| timed(name, 1, PARTS_OF_SCANS, rest, scan::<4>)),
     alone("scan of 4 by keys, 1 thread", |name| by_keys(name, PARTS_OF_SCANS, scan::<4>)),
-    alone_and_large("scan of 4, 1 thread, 16,384 components", |name| of_many(name, PARTS_OF_SCANS, scan_of::<MANY_M, 4>)),
+    alone_and_large("scan of 4, 1 thread, 16,384 components", |name| {
+        of_many(name, PARTS_OF_SCANS, scan_of::<MANY_M, 4>)
+    }),
     alone("scan of 16, 1 thread", |name| timed(name, 1, PARTS_OF_SCANS, rest, scan::<16>)),
     alone("9 reads to an update, 1 thread", |name| timed(name, 1, PARTS, rest, mostly_reads)),
     speed("9 reads to an update, 4 threads", |name| timed(name, 4, PARTS, rest, mostly_reads)),

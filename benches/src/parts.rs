@@ -91,7 +91,7 @@ impl Parts {
         Parts { watch: Watch { delays: None, status: None, delay: None, switches: None }, made: Vec::new() }
     }
 
-    /// Times a part, which counts only where `counts` is true behind it, of what it gave.
+    /// Times a part, which counts only where `counts` is true after it, of what it gave.
     pub fn time<T>(&mut self, part: impl FnOnce() -> T, counts: impl FnOnce(&T) -> bool) -> T {
         let from = Instant::now();
         let answer = part();

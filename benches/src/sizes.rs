@@ -24,7 +24,7 @@ struct Row {
 impl Sizes {
     pub fn new() -> Sizes {
         let row = |components, ports| Row { components, ports, samples: Vec::new() };
-        Sizes(PORTS.iter().flat_map(|&ports| COMPONENTS.iter().map(move |&components| row(components, ports))).collect())
+        Sizes(PORTS.iter().flat_map(|&ports| COMPONENTS.map(|components| row(components, ports))).collect())
     }
 
     /// Measures each size once.
@@ -94,8 +94,8 @@ fn sample(components: usize, ports: u32) -> Option<[f64; 4]> {
     Some([*mean.values.first()?, f64::from(rare), f64::from(times[slowest]), updates])
 }
 
-// What a thread made: its updates in parts and one by one, the epoch of its last update, and how many it had made before
-// it came to that epoch.
+// What a thread made: its updates in parts and one by one, the epoch of its last update, and how many it had made
+// before it came to that epoch.
 struct Made {
     parts: Parts,
     times: Times,

@@ -51,7 +51,7 @@ MayNotOpenWith z ports code =
     ((e : SizeError) × (code ≡ size_code e) × IsFirstFault z e)
     ⊎ ((e : OpenError) × (code ≡ open_code e) × IsLayout z × MayNotOpen ports e)
 
--- what is held is a memory that goes on with these values of a closed one, and zeros behind them
+-- what is held is a memory that goes on with these values of a closed one, and zeros after them
 abbrev pub GoesOnWith : ℕ → List ℕ → Layout → ℕ → Held → Type 0
 GoesOnWith opening values z ports h =
     (m : OpenMemory) × (h ≡ Held.Memory m) × (length values ≤ z.m) × HasOpened opening z (extended_values z.m values) ports m

@@ -17,7 +17,7 @@ use std::alloc::Global;
 /// Sets a component.
 ///
 /// Returns 17 when the handle holds no port of a long-lived memory, 7 when `component` isn't below the number
-/// of components, 25 when the port came to a later epoch 16 times during the call, and 26 or 27 when the epoch
+/// of components, 25 when the port entered a later epoch 16 times during the call, and 26 or 27 when the epoch
 /// has to be changed and can't be.
 #[unsafe(no_mangle)]
 pub extern "C" fn partial_door_port_update(
@@ -96,7 +96,7 @@ pub extern "C" fn partial_door_port_scan(
 }
 
 /// Scans the components `which` into `into`, and their stamps into `stamps`, unless the scan took the view of an
-/// update, which `answer` tells: then `stamps` stays.
+/// update, which `answer` says: then `stamps` stays.
 ///
 /// Returns 17 when the handle holds no port of a long-lived memory, 19 when two of the three lengths differ or
 /// they exceed the number of components, 7 when an index isn't below that number, and 26 or 27 when the epoch has

@@ -16,7 +16,7 @@ most_lists = 65536
 abbrev pub most_slots : ℕ
 most_slots = 65536
 
--- the most pool words behind the initial records
+-- the most pool words after the initial records
 abbrev pub most_words : ℕ
 most_words = 131072
 
@@ -41,7 +41,7 @@ usual_pool count ports = max (min (max (min (pool_of_port * ports) (pool_of_all 
 abbrev pub claimed_pool : ℕ → ℕ → Options → ℕ
 claimed_pool count ports o = option_map_or (λ words. words) o.pool (usual_pool count ports)
 
--- how many words the pool has behind the initial records: those that are claimed, and room for the greatest record of each port
+-- how many words the pool has after the initial records: those that are claimed, and room for the greatest record of each port
 abbrev pub pool_words_behind : ℕ → ℕ → Options → ℕ
 pool_words_behind count ports o = claimed_pool count ports o + full_record_size count * ports
 

@@ -14,7 +14,7 @@ use crate::rule::{Deals, Gathers, Token, Words};
 use crate::stand::Stand;
 
 /// Has two ports meet. Each has seen all that the other had seen before, and has noted nothing. The one that stands in the
-/// earlier epoch comes to the current one.
+/// earlier epoch enters the current one.
 pub fn meet(words: &Words, first: Stand, second: Stand) -> (Stand, Stand)
     requires first { IsHeld words.now.table_id words.now.key first }
     requires second { IsHeld words.now.table_id words.now.key second }

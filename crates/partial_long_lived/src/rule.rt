@@ -20,7 +20,7 @@ pub struct About {
     pub limit: u64,
 }
 
-/// The ports that a seat stands for, mostly one. It is ghost state: no value of it is ever made.
+/// The ports whose seat it is, mostly one. It is ghost state: no value of it is ever made.
 #[derive(Drop)]
 pub struct View {
     none: (),

@@ -25,7 +25,7 @@ pub const MOST_CHANGES: u32 = 16;
 /// and afterwards. Returns how the update ended, with stamps of the epoch where the port stands.
 ///
 /// # Errors
-/// [`Refused::Overtaken`] when the port has come to a later epoch 16 times; [`Refused::NoArena`] and
+/// [`Refused::Overtaken`] when the port has entered a later epoch 16 times; [`Refused::NoArena`] and
 /// [`Refused::EpochsSpent`] when the epoch has to be changed and can't be. Nothing was applied.
 #[inline(always)]
 pub fn update(
@@ -122,7 +122,7 @@ fn update_late(
     ))
 }
 
-// Makes an update of a port that is not spent, and changes the epoch behind each attempt that met a seal, so many times.
+// Makes an update of a port that is not spent, and changes the epoch after each attempt that met a seal, so many times.
 // None of its steps is the first one of the call.
 #[inline(always)]
 fn rounds(

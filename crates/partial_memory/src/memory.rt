@@ -53,7 +53,7 @@ impl Model for Memory {
         (m.table.shared.table_id.words ≡ total m.table.shared.key.sizes) × (m.table.shared.table_id.slots ≡ 0) };
 }
 
-// The words at opening: behind the initial records all of them are 0.
+// The words at opening: after the initial records all of them are 0.
 fn opening_words(alloc: Global, sizes: Sizes, initial: &[u64]) -> Result<Vec<u64>, AllocError>
     requires { length initial.now ≡ sizes.m }
     ensures { IfOk result (λ words. AreOpeningWords sizes initial.now words.items) }

@@ -1,4 +1,4 @@
-//! The rule of the table, and what its steps tell a port.
+//! The rule of the table, and what its steps show a port.
 
 use atomic_table::{Join, Play, Seat, Shared, Split, TableRule};
 use partial_model::Opening;
@@ -16,7 +16,7 @@ pub struct About {
     pub ports: u32,
 }
 
-/// The ports that a seat stands for, mostly one. It is ghost state: no value of it is ever made.
+/// The ports whose seat it is, mostly one. It is ghost state: no value of it is ever made.
 #[derive(Drop)]
 pub struct View {
     none: (),

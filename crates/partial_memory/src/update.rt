@@ -96,7 +96,7 @@ fn make_update(words: &Words, mut seat: Place, core: &mut Core, change: Change) 
     replace(words, seat, core, change, old)
 }
 
-// Makes the steps of an update behind its first one, which has loaded `old`.
+// Makes the steps of an update after its first one, which has loaded `old`.
 #[inline(always)]
 fn replace(words: &Words, seat: Place, core: &mut Core, change: Change, old: u64) -> (Place, Ending)
     requires going { IsGoing words.now.table_id words.now.key seat.table_id seat.me }

@@ -30,7 +30,7 @@ fn judge_part(rt: &impl Abort, text: &str, part: &str, expected: usize, window: 
     assert_eq!(rt; count(text, part), expected, "{first} {last}");
 }
 
-/// Judges what the drawing of a window tells.
+/// Judges what the drawing of a window shows.
 fn judge_window(rt: &impl Abort, text: &str, counted: Counted) {
     let (first, last, marks, bars, entries, arrows) = counted;
     judge_part(rt, text, "<title>step ", marks, (first, last));

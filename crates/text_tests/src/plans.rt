@@ -235,7 +235,7 @@ fn plan_fronts(rt: HostRuntime) -> Result<(), Fail> {
     Ok(())
 }
 
-/// The refusal of the plan above with more behind it.
+/// The refusal of the plan above with more after it.
 fn refusal_of_more(alloc: Global, more: &[u8]) -> Result<Option<PlanError>, AllocError> {
     let text = repeated(alloc, whole(), more, 1, b"")?;
     Ok(read(alloc, &text).err())
