@@ -9,7 +9,7 @@ ghost use Rattle.partial_door.specs.Calls.{ReadEnds, ScanEnds, StateEnds, Update
 ghost use Rattle.partial_door.specs.Exports.{AtHandle, ClosesHandle, CopiesAt, GivesAt, MeetsHandles, OpensAt, ReopensAt, TakesAt};
 
 use crate::answers::{PortState, ReadAnswer, RoomSizes, ScanAnswer, UpdateAnswer};
-use crate::codes::{FINE, HOLDS_NONE, HOLDS_ONE, MEMORY, Misuse, VERSION};
+use crate::codes::{FINE, HOLDS_NONE, HOLDS_ONE, Misuse, OUT_OF_MEMORY, VERSION};
 use crate::handle::Handle;
 use crate::memories::{Unclosed, open};
 use std::alloc::Global;
@@ -265,7 +265,7 @@ pub extern "C" fn partial_door_close(alloc: Global, memory: &mut Handle) -> u32
         Err(Unclosed::Kept(code)) => code,
         Err(Unclosed::Lost) => {
             drop(memory.take(alloc));
-            MEMORY
+            OUT_OF_MEMORY
         }
     }
 }
