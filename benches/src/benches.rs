@@ -51,7 +51,7 @@ const fn speed(name: &'static str, run: fn(&str) -> Sample) -> Bench {
     Bench { name, endings: &[""], is_time: false, rounds: ROUNDS, cell: median, run }
 }
 
-/// A row of one thread, which tells what a call takes where nothing else slows the processor.
+/// A row of one thread, which says what a call takes where nothing else slows the processor.
 const fn alone(name: &'static str, run: fn(&str) -> Sample) -> Bench {
     Bench { rounds: ROUNDS_ALONE, cell: least, ..speed(name, run) }
 }
@@ -368,7 +368,7 @@ fn sharing(name: &str) -> Sample {
     })
 }
 
-// Nanoseconds of an update that comes to another epoch, which is a part.
+// Nanoseconds of an update that changes the epoch, which is a part.
 fn changes(name: &str) -> Sample {
     if name != "memory" {
         return Sample::none();

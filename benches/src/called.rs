@@ -1,6 +1,6 @@
 //! The calls of the plain algorithm behind a boundary as the door has one: each is a function that is never inlined,
-//! which writes its answer where its caller says, and returns a number. So what the boundary takes can be told from
-//! what the proved bodies take.
+//! which writes its answer where its caller says, and returns a number. So what the boundary takes can be distinguished
+//! from what the proved bodies take.
 
 use crate::answers::{Scanned, Updated, UpdatedIf, Value};
 use crate::objects::Face;

@@ -7,7 +7,7 @@ use partial_door::{Key, Layout, Memory, Port};
 use std::sync::atomic::{AtomicU64, Ordering::SeqCst};
 use std::sync::{Arc, Mutex, RwLock};
 
-/// What a thread does to an object. An update and a scan tell whether they were made: a memory's pool or its slots
+/// What a thread does to an object. An update and a scan say whether they were made: a memory's pool or its slots
 /// may be used up.
 pub trait Face: Send {
     fn update(&mut self, component: u32, value: u64) -> bool;

@@ -4,9 +4,9 @@ use std::fs::File;
 use std::os::unix::fs::FileExt;
 use std::time::Instant;
 
-/// Tells whether a thread had to give its processor away: by its involuntary context switches. They are read only
+/// Finds whether a thread had to give its processor away: by its involuntary context switches. They are read only
 /// where the time that it waited for a processor has grown, since that is read faster. A thread that a lock has put
-/// to sleep gave its processor away by itself, so what that costs is told as part of the call.
+/// to sleep gave its processor away by itself, so what that costs is counted as part of the call.
 struct Watch {
     delays: Option<File>,
     status: Option<File>,
@@ -102,7 +102,7 @@ impl Parts {
     }
 
     /// Times a part, and keeps it only where `counts` is true of what it gave. Whether the thread had to give its
-    /// processor away is asked only then, by system calls, and told of all that it did since it was asked before.
+    /// processor away is asked only then, by system calls, and of all that it did since it was asked before.
     pub fn find<T>(&mut self, part: impl FnOnce() -> T, counts: impl FnOnce(&T) -> bool) -> T {
         let from = Instant::now();
         let answer = part();
@@ -147,7 +147,7 @@ impl Times {
     }
 }
 
-/// What a bench of one object came to in one repetition: its values, none where there is no part, and how many
+/// What a bench of one object gave in one repetition: its values, none where there is no part, and how many
 /// parts they are of.
 pub struct Sample {
     pub values: Vec<f64>,

@@ -95,7 +95,7 @@ fn sample(components: usize, ports: u32) -> Option<[f64; 4]> {
 }
 
 // What a thread made: its updates in parts and one by one, the epoch of its last update, and how many it had made
-// before it came to that epoch.
+// before it entered that epoch.
 struct Made {
     parts: Parts,
     times: Times,

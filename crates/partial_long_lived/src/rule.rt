@@ -50,7 +50,7 @@ impl TableRule<(), View, About> for Lawful {
 pub type Words = Table<View, About, Lawful>;
 
 /// A seat of the table. Whoever holds it may make steps for its ports.
-pub type Token = Seat<View>;
+pub type PortSeat = Seat<View>;
 
 /// Gives the first port of a seat a seat of its own.
 pub struct Deals;

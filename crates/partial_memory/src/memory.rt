@@ -21,7 +21,7 @@ use crate::closed::{Closed, closed_of};
 use crate::error::{CloseError, OpenError};
 use crate::port::{Port, take_seat};
 use crate::read::read;
-use crate::rule::{About, Deals, Gathers, Lawful, Looks, Place, View};
+use crate::rule::{About, Deals, Gathers, Lawful, Looks, PortSeat, View};
 use crate::scan::scan;
 use crate::update::{Ending, update};
 use atomic_table::Table;
@@ -294,7 +294,7 @@ impl Memory {
         ensures lawful { IfOk result (λ closed. ClosesLawfully self (port ∷ rest.items) closed) }
     {
         let Memory { sizes, table } = self;
-        let mut seat: Place = port.into_seat();
+        let mut seat: PortSeat = port.into_seat();
         while let Some(port) = rest.pop() {
             table
                 .shared

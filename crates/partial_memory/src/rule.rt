@@ -46,7 +46,7 @@ impl TableRule<(), View, About> for Lawful {
 pub type Words = Shared<(), View, About, Lawful>;
 
 /// A seat of the table. Whoever holds it may make steps for its ports.
-pub type Place = Seat<(), View>;
+pub type PortSeat = Seat<(), View>;
 
 /// The machine whose step is made. Each call picks its own.
 pub trait Moment {

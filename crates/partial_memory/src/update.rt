@@ -13,7 +13,7 @@ ghost use Rattle.partial_memory.specs.Inner.Steps.{Begins, CallMade, CallEnded, 
 
 use crate::lines::{SeatLines, begin_update, make};
 use crate::port::take_seat;
-use crate::rule::{Place, View, Words};
+use crate::rule::{PortSeat, View, Words};
 use atomic_table::Badge;
 use partial_core::{Change, Core};
 use partial_lines::{Exchanged, put};
@@ -80,7 +80,12 @@ pub fn update(
 
 // Makes the update at a seat, and returns the seat with the answer.
 #[inline(always)]
-fn make_update(words: &Words, mut seat: Place, core: &mut Core, change: Change) -> (Place, Ending)
+fn make_update(
+    words: &Words,
+    mut seat: PortSeat,
+    core: &mut Core,
+    change: Change,
+) -> (PortSeat, Ending)
     requires one { IsOne seat.me }
     requires rest { IsAtRest words.now.table_id words.now.key seat.table_id (one_of seat.me.0) core.old }
     requires begins { Begins (at_stage core.old (UpdateBegun change)) (one_of seat.me.0) }
@@ -98,7 +103,13 @@ fn make_update(words: &Words, mut seat: Place, core: &mut Core, change: Change) 
 
 // Makes the steps of an update after its first one, which has loaded `old`.
 #[inline(always)]
-fn replace(words: &Words, seat: Place, core: &mut Core, change: Change, old: u64) -> (Place, Ending)
+fn replace(
+    words: &Words,
+    seat: PortSeat,
+    core: &mut Core,
+    change: Change,
+    old: u64,
+) -> (PortSeat, Ending)
     requires going { IsGoing words.now.table_id words.now.key seat.table_id seat.me }
     requires idle { core.old.stage ≡ Idle }
     requires sound { IsSound core.old }
