@@ -48,8 +48,8 @@ compile() {
 races() {
     ! "$@" >"$made/raced" 2>&1 && grep -q 'WARNING: ThreadSanitizer: data race' "$made/raced"
 }
-# rust SANITIZER LIBRARY: the tests of the crate for Rust over an instrumented library, but for those that forget a memory
-# or a port, and so leak it.
+# rust SANITIZER LIBRARY: the tests of the crate for Rust over an instrumented library, but for those that forget a
+# memory or a port, and so leak it.
 rust() {
     mkdir -p "$made/rust" && rm -f "$made/rust/libpartial_door.a" &&
         "$kit/toolchain/bin/llvm-ar" rcs "$made/rust/libpartial_door.a" "$2" &&

@@ -151,7 +151,7 @@ ClosesAt h k = (m : OpenMemory) × (closed : Closed) × (h ≡ Held.Memory m) ×
 abbrev pub IsAway : OpenMemory → Type 0
 IsAway m = (length m.ports.items ≡ 0) ⊎ (length m.ports.items ≡ m.count → ⊥)
 
--- why a memory stays open: there is none, or a port wasn't returned, or all were and a reference of the memory is in use
+-- why a memory stays open: there is none, or a port wasn't returned, or all were and another handle still references the memory
 abbrev pub MayNotClose : Held → ℕ → Type 0
 MayNotClose h code =
     (HoldsNoMemory h × (code ≡ 17))

@@ -28,7 +28,7 @@ pub const TWO_MEMORIES: u32 = 20;
 pub const NONE_FREE: u32 = 21;
 /// Not all ports were returned to the memory.
 pub const IN_USE: u32 = 22;
-/// All ports were returned, and a reference of the memory is in use. A port that is returned gives up its
+/// All ports were returned, and another handle still references the memory. A port that is returned gives up its
 /// reference, so a caller who makes one call after the other on a handle doesn't get this number.
 pub const SHARED: u32 = 24;
 

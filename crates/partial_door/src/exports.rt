@@ -251,7 +251,7 @@ pub extern "C" fn partial_door_meet(first: &mut Handle, second: &mut Handle) -> 
 /// Closes a memory to which all ports were returned. Its handle holds the closed memory afterwards.
 ///
 /// Returns 17 when the handle holds no open memory, 22 when not all ports were returned, and 24 when all
-/// were and a reference of the memory is in use. Returns 6 when an allocation was refused: then the
+/// were and another handle still references the memory. Returns 6 when an allocation was refused: then the
 /// contents are lost and the handle is empty.
 #[unsafe(no_mangle)]
 pub extern "C" fn partial_door_close(alloc: Global, memory: &mut Handle) -> u32

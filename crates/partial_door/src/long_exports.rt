@@ -260,7 +260,7 @@ pub extern "C" fn partial_door_memory_give_port(
 /// empty afterwards.
 ///
 /// Returns 17 when the handle holds no long-lived memory, 19 when `into` isn't as long as that has components,
-/// 22 when not all ports were returned, and 24 when all were and a reference of the memory is in use. Returns 6
+/// 22 when not all ports were returned, and 24 when all were and another handle still references the memory. Returns 6
 /// when an allocation was refused: then the handle holds the memory with all its ports. It may be closed later,
 /// and its ports are not taken out again.
 #[unsafe(no_mangle)]

@@ -280,7 +280,7 @@ impl Held {
     ///
     /// # Errors
     /// 17 when this isn't a long-lived memory, 19 when `into` isn't as long as it has components, 22 when not
-    /// all ports were returned, and 24 when all were and a reference of the memory is in use: this is as it
+    /// all ports were returned, and 24 when all were and another handle still references the memory: this is as it
     /// was. 6 when an allocation was refused: this is the memory with all its ports, and closes later.
     pub fn close_long(&mut self, alloc: Global, into: &mut [u64]) -> Result<(), u32>
         ensures ok { IfOk result (λ _. ClosesLong self.old into.new) }

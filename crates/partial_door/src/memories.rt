@@ -308,7 +308,7 @@ impl Held {
     ///
     /// # Errors
     /// [`Unclosed::Kept`] with 17 when this isn't an open memory, with 22 when not all ports were returned,
-    /// and with 24 when all were and a reference of the memory is in use. [`Unclosed::Lost`] when an
+    /// and with 24 when all were and another handle still references the memory. [`Unclosed::Lost`] when an
     /// allocation was refused.
     pub fn close(&mut self, alloc: Global) -> Result<(), Unclosed>
         ensures ok { IfOk result (λ _. ClosesAt self.old self.new) }

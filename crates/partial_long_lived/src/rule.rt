@@ -16,7 +16,7 @@ pub struct About {
     pub ports: u32,
     /// How many arenas it has: twice as many.
     pub arenas: u32,
-    /// The word of an arena's pool at which the claim of an update ends, or it is the port's last one in the epoch.
+    /// Pool limit: a claim that ends past this word of the arena is the port's last in the epoch.
     pub limit: u64,
 }
 

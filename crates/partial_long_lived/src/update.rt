@@ -48,8 +48,8 @@ pub fn update(
     update_apart(words, stand, core, component, value, spent).result()
 }
 
-// The same. It is a function of its own in every program, whose parameters and answer stay in registers: so an update keeps
-// little in memory before its first atomic change, which waits until all that was stored has reached the cache.
+// The same. Never inlined: keeps arguments and result in registers. So an update keeps little in memory before its
+// first atomic change, which waits until all that was stored has reached the cache.
 #[inline(never)]
 fn update_apart(
     words: &Words,

@@ -49,8 +49,7 @@ impl Ending {
     }
 }
 
-/// Makes the steps of an update that isn't refused at once. It is a function of its own in every program, whose
-/// parameters and answer stay in registers.
+/// Makes the steps of an update that isn't refused at once. Never inlined: keeps arguments and result in registers.
 #[inline(never)]
 pub fn update(
     core: &mut Core,
