@@ -48,15 +48,15 @@ build library "$PWD/crates/partial_door/out/libpartial_door.a" ""
 build bitcode "$made/libpartial_door.a" "$flags"
 measure library >"$made/library.md"
 measure bitcode >"$made/bitcode.md"
-# The page has the first table alone, and what is said of all of them.
+# The page has the first table and that of sizes, and what is said of all of them.
 {
     cat benches/head.md
     printf '\n## The table\n\n'
     printf '![The rows in nanoseconds as bars, on a logarithmic scale](benches.svg)\n\n'
     sed '/^$/q' "$made/library.md"
     grep '^Left out' "$made/library.md"
-    echo
-    grep '^Measured on' "$made/library.md"
+    printf '\n## Sizes of the memory\n\n'
+    sed -n '/^An update of the long-lived memory/,$p' "$made/library.md"
 } >docs/benches.md
 # The words before the tables stay as they are.
 {

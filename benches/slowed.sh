@@ -1,6 +1,6 @@
 #!/bin/sh
-# slowed.sh [ROUNDS]: times a scan of 4, a read and a mutex's scan of 4 in one thread, in each round beside a loop that tells
-# how fast the processor was. There are 20 rounds where no number is given. It wants rt and cargo.
+# slowed.sh [ROUNDS]: times a scan of 4, a read and a mutex's scan of 4 in one thread, in each round beside a loop that
+# shows how fast the processor was. There are 20 rounds where no number is given. It wants rt and cargo.
 set -eu
 cd "$(dirname "$0")/.."
 . scripts/need.sh && need rt cargo

@@ -10,7 +10,7 @@ import subprocess
 import sys
 
 SECONDS = 60
-# What the outcome of a replay says of a call behind its answer.
+# What the outcome of a replay says of a call after its answer.
 BEHIND = re.compile(r' (place|prefix) \d+| steps \d+ span .*')
 
 

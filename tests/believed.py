@@ -46,7 +46,7 @@ CLAUSE = re.compile(r'\b(?:requires|ensures)(?: (\w+))? \{')
 
 
 class Names:
-    """What the words of a file stand for, as its imports say."""
+    """What the words of a file mean, as its imports say."""
 
     def __init__(self):
         self.names, self.modules = {}, {}
@@ -121,7 +121,7 @@ def contracts(text, function):
 
 
 def clauses(file, function):
-    """The clauses of a function: their names, and what the file's imports say that their words stand for."""
+    """The clauses of a function: their names, and what the file's imports say that their words mean."""
     names, text = Names(), (TOP / 'crates' / file).read_text(encoding='utf-8')
     for line in text.split('\n'):
         names.take(line)

@@ -2,7 +2,7 @@
 
 A function is known to those that call it by its contract alone. So where nothing is asked of it, its body may be one
 that promises nothing and costs nothing, a call of `never`: a function that doesn't return, of which it isn't proved
-that control never comes to its end.
+that control never reaches its end.
 """
 import re
 from dataclasses import dataclass

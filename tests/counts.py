@@ -5,10 +5,11 @@ A figure is between <!--=NAME--> and <!--=-->. NAME is `tests`, the functions of
 the edits that the prover has to refuse, and `edits.CRATE`, those of a crate; `wrong`, the wrong bodies and definitions
 in them, one for each function or law that has to refuse it; `plans`, the files plans/*.plan; `believed`, what
 tests/believed.py finds of the calls of a single opening, or `believed.long_lived` of those of the long-lived memory;
-`components.N`, the most components of a long-lived memory with N ports, and `pool.N` the pool words of its arenas, both
-with the usual pool; or `version`, that of the crate for Rust. The rows of README.md's table of speed are those of
-docs/benches.md, README.md has at most 150 lines, and CONTRIBUTING.md and the page on architecture name each crate. With
---write the figures are written anew. The last line is 'N passed, M failed', one for each figure, row and name.
+`components.N`, the most components of a long-lived memory with N ports, `pool.N` the pool words of its arenas, and
+`megabytes.N` or `megabytes.N.M` what it takes with 8 or M components, all at the usual sizes; or `version`, that of the
+crate for Rust. The rows of README.md's table of speed are those of docs/benches.md, README.md has at most 150 lines,
+and CONTRIBUTING.md and the page on architecture name each crate. With --write the figures are written anew. The last
+line is 'N passed, M failed', one for each figure, row and name.
 """
 import re
 import sys
@@ -21,6 +22,8 @@ import version
 
 TOP = Path(__file__).resolve().parent.parent
 FIGURE = re.compile(r'(<!--=([\w.]+)-->)([^<]*)(<!--=-->)')
+# The list words of an arena, by default (`Options::default`).
+LIST_WORDS = 1_024
 
 
 def tests():
@@ -50,16 +53,27 @@ def pool(ports):
     return max(most, option('pool_of_port'))
 
 
+def megabytes(ports, m=8):
+    """What a memory of few components and the usual sizes takes, in MB: the words of its epochs, ports and arenas."""
+    own = pool(ports) + (4 + 2 * m) * ports
+    rest, slots = 5 * m + 4 + LIST_WORDS + own, (own + 1) // 2
+    slots = min(slots + 15 - (rest + slots - 1) % 16, option('most_slots'))
+    control = 1 + 3 * ports
+    taken = 8 * (control + 15 - (control + 3 + m) % 16 + 2 * ports * (rest + slots)) / 10 ** 6
+    return f'{taken:.1f}' if taken < 10 else f'{taken:.0f}'
+
+
 def figure(name):
     """The figure of this name, or None where there is none of it."""
     kind, _, part = name.partition('.')
     plain = {'tests': tests, 'edits': edits, 'wrong': lambda: edits(word='refused'), 'believed': believed.most,
              'version': lambda: version.version(*version.CRATE), 'plans': lambda: len(list((TOP / 'plans').glob('*.plan')))}
-    sized = {'components': components, 'pool': pool}
+    sized = {'components': lambda ports: f'{components(ports):,}', 'pool': lambda ports: f'{pool(ports):,}',
+             'megabytes': megabytes}
     if name == 'believed.long_lived':
         return str(believed.most_long_lived())
-    if kind in sized and part.isdigit():
-        return f'{sized[kind](int(part)):,}'
+    if kind in sized and re.fullmatch(r'\d+(\.\d+)?', part):
+        return sized[kind](*map(int, part.split('.')))
     if kind == 'edits' and (TOP / 'crates' / part).is_dir() and part:
         return str(edits(part))
     return str(plain[name]()) if name in plain else None

@@ -1,6 +1,6 @@
 """Tries wrong definitions: copies what a changed definition reaches, and sees that a law over the copy is refused.
 
-A definition of specs/ may have no code behind it. What refuses a wrong one is the proof of a law, a function without code
+A definition of specs/ may have no code. What refuses a wrong one is the proof of a law, a function without code
 whose contract is a type of specs/. An edit of a definition names its law. For each edit those modules are copied, under
 names of their own, that depend on the changed file and that the law needs, and of each the declarations that it needs.
 All else is imported from the crate as it is. The law stands over the copy as a function of its own. Many copies stand

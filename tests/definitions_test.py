@@ -100,7 +100,7 @@ COMPARED = {
     'pub data Kind : Type 0 where\n  One : Kind\n': None,
     'module _ (e : ℕ) where\n  f : ℕ\n  f = e\n': None,
 }
-# What is said of a copy: of a proof that the change breaks, of what stands behind it, and of the law.
+# What is said of a copy: of a proof that the change breaks, of what depends on it, and of the law.
 REFUSED = '''\
 ./proofs/wrong_0_Near.antt:246:48: error: `new`: `omega`: the goal does not follow from what it read. All of that holds,
   and the goal fails, at `entry.stamp` = 9, `z.m` = 1
@@ -255,7 +255,7 @@ def of_parts():
         [], ['plain'], ['unfolding_it'], ['deep', 'deeper', 'inside'], ['Held', 'held']]
     yield 'a comment stands above what it belongs to', parts[3].text.startswith('-- a block\nmodule _') and 'block' not in parts[2].text
     yield 'words are those of the text, and not of comments', {'base', 'zero', 'one', 'within'} <= parts[1].words and 'several' not in parts[1].words
-    yield 'a word behind a dot is one by itself', {'g', 'other'} <= parts[3].words
+    yield 'a word after a dot is one by itself', {'g', 'other'} <= parts[3].words
 
 
 def of_laws(crate):

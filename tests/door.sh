@@ -59,8 +59,8 @@ without_library() {
         grep -q '^warning: partial-door.*run bindings/library.sh' "$made/said" &&
         grep -q '^error: could not find native static library.*run bindings/library.sh' "$made/failed"
 }
-# Whether a program that takes the crate from a git repository, where the library isn't built, is told in one line what
-# to run, and isn't once the library is there.
+# Whether a program that takes the crate from a git repository, where the library isn't built, gets one line that says
+# what to run, and none once the library is there.
 as_git_dependency() {
     rm -rf "$made/git" "$made/user" && mkdir -p "$made/git/bindings" "$made/user/src" "$made/cargo" &&
         cp -r bindings/rust bindings/library.sh "$made/git/bindings" && rm -rf "$made/git/bindings/rust/target" &&

@@ -2,7 +2,7 @@
 """Turns the functions and definitions of the crates by the edits of crates/NAME/edits.txt, and sees that each is refused.
 
 An edit begins with a line `edit: NAME` and ends at the next one. One of code has lines: `refused: PATH` names a function
-whose contract has to refuse it, as the prover prints it, below its crate, and `by: GOAL` behind it the goal of that
+whose contract has to refuse it, as the prover prints it, below its crate, and `by: GOAL` after it the goal of that
 function which is open then; `file: PATH` a file of the crate; and then `old: TEXT` and `new: TEXT` in turn, where the old
 text stands exactly once in that file as it is. Such lines may follow for further functions: each of them has to refuse the
 edit. A function may refuse it by a goal of meaning, which is one of what it ensures, of its type's invariant or of a
@@ -150,7 +150,7 @@ def read_edit(name, lines):
         else:
             raise BadEdit(f'its line is none of an edit: {line}')
     if not refused or function is not None or not changes or old is not None:
-        raise BadEdit('it names no function with its goal, changes nothing, or ends behind an old text')
+        raise BadEdit('it names no function with its goal, changes nothing, or ends after an old text')
     return Edit(name, refused, changes)
 
 
@@ -389,7 +389,7 @@ def answers_of(crate, function):
 
 @dataclass
 class Part:
-    """A definition of a file of answers: the line of its head, its name and type, and the text behind the head."""
+    """A definition of a file of answers: the line of its head, its name and type, and the text after the head."""
 
     head: str
     name: str
@@ -397,7 +397,7 @@ class Part:
     behind: str
 
     def names(self, name):
-        """Whether the text behind the head names this."""
+        """Whether the text after the head names this."""
         return re.search(rf'(?<![\w-]){re.escape(name)}(?![\w-])', self.behind) is not None
 
 
@@ -511,7 +511,7 @@ def told_by(name, said):
     """What a check of the crate says of each function of which it says more than that it isn't proved."""
     told = {}
     for function, line in re.findall(rf'^fn {name}::(\S+): (.*)$', said, re.M):
-        # Paths hold dots and slashes, and goals neither; what comes behind the semicolon is of other functions.
+        # Paths hold dots and slashes, and goals neither; what comes after the semicolon is of other functions.
         for goals in re.findall(r'`search` did not prove ([^;]*)', line):
             told.setdefault(function, Told()).unproved += re.findall(r'`([^`]+)`', goals)
         if SPENT.search(line):

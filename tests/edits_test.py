@@ -16,7 +16,7 @@ sys.path.insert(0, str(Path(__file__).resolve().parent))
 import edits  # noqa: E402
 from bodies import Function, functions_of  # noqa: E402
 
-# What is said of a try that doesn't fit, of one that finds nothing, and behind all of the function.
+# What is said of a try that doesn't fit, of one that finds nothing, and after all of the function.
 MISFIT = '''\
 ./proofs/a/f/Answers.antt:6:124: error: `{goal}`: as printed, the two types first differ where one has `0` (expected)
   and the other has `A = Rattle.low.specs.A.Pair` (found)
@@ -382,7 +382,7 @@ def of_libraries():
         yield 'it is copied once', libraries.take('new') and copy == 'two'
         yield 'a command beside is left the processors', libraries.priority() == ['nice']
         ended.touch()
-        yield 'behind the command each library is taken that is there', libraries.has(['old', 'new']) and not libraries.has(['none'])
+        yield 'after the command each library is taken that is there', libraries.has(['old', 'new']) and not libraries.has(['none'])
         yield 'and the processors too', libraries.priority() == [] and not libraries.are_beside()
         edits.TOP = top
 

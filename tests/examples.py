@@ -28,7 +28,7 @@ def examples(document):
 
 
 def stands_in(block, lines):
-    """Whether the block's lines stand one behind the other among these, moved to the right by as much."""
+    """Whether the block's lines stand one after the other among these, moved to the right by as much."""
     for start in range(len(lines) - len(block) + 1):
         if not lines[start].endswith(block[0]):
             continue

@@ -1,6 +1,6 @@
 #!/usr/bin/env bash
 # Refuses each growth that a crate's tests ask for in turn. Where the growth with that number is refused, a
-# test doesn't come to it and passes, or it ends with that refusal and with nothing else. It runs the proved
+# test doesn't reach it and passes, or it ends with that refusal and with nothing else. It runs the proved
 # tests that `rt ci` or `rt test` left, and proves and builds them where they are missing or a source is newer.
 # With words, it takes the crates with these names alone. The last line is 'N passed, M failed', where one run
 # of a crate's tests counts once.
@@ -17,7 +17,7 @@ failed=0
 handed_up=$'^growth refused\nerror: (AllocError|Check|[A-Za-z]+\\(Memory\\))\nthe test failed: its result gives status 1$'
 
 # refuse TESTS NAME GROWTH: runs a test with the growth of that number refused, and judges it. Counts in `came`
-# a test that came to that growth. Where `manages` is set, it may also pass: it then says itself that all was done.
+# a test that reached that growth. Where `manages` is set, it may also pass: it then says itself that all was done.
 refuse() {
     local said status
     said=$(timeout 60 env LD_PRELOAD="$room/refuse.so" REFUSED_GROWTH="$3" "$1" "$2" 2>&1)
@@ -36,7 +36,7 @@ refuse() {
     return 1
 }
 
-# refuse_all CRATE NAMES [manages]: refuses the growths of the tests whose names fit, until no test comes to one. The
+# refuse_all CRATE NAMES [manages]: refuses the growths of the tests whose names fit, until no test reaches one. The
 # third word says that a refused growth may be made up for by a smaller one, as where a list is collected.
 refuse_all() {
     local manages=${3:-}

@@ -254,9 +254,9 @@ def is_lawful(plan, report, history, places):
 #
 # Each applied update is a node, and so is each call that saw something; node 0 is the opening, which
 # writes all components, and the last node is the end, which sees them all. A call that was lost shows
-# one entry, so in its port's order that entry's node stands for it. Some nodes must be before others:
+# one entry, so in its port's order that entry's node is taken for it. Some nodes must be before others:
 # those of a port, in its order; a scan before the entry whose view it borrowed. A node that sees a
-# component has a source, the node that last wrote it: each other writer is before the source or behind
+# component has a source, the node that last wrote it: each other writer is before the source or after
 # the node that sees. Whatever row of the nodes keeps all this is a history with places for the calls.
 
 
@@ -278,7 +278,7 @@ def bit_of(nodes):
 
 
 class State:
-    """What is settled: which nodes are before and behind each, and the sources left for each sight."""
+    """What is settled: which nodes are before and after each, and the sources left for each sight."""
 
     def __init__(self, before, behind, sources):
         self.before, self.behind, self.sources = before, behind, sources
@@ -555,7 +555,7 @@ def find(plan, report):
 
 def search(nodes):
     """The order of the nodes in a row that keeps everything. It is searched over and over, each time by
-    other chances and twice as long, until one is found or the search has come to its end."""
+    other chances and twice as long, until one is found or the search has reached its end."""
     for turn in itertools.count():
         order = search_for(nodes, 8 << turn, random.Random(turn))
         if order is not None:

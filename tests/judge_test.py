@@ -34,7 +34,7 @@ BY_HAND = [
     ('stamps need not rise', 'update 0 7; update 0 8', '0 applied 27|0 applied 24', '8 20', True),
     ('one stamp twice', 'update 0 7; update 1 8', '0 applied 24|0 applied 24', '7 8', False),
     ('the stamp of an opening', 'update 0 7', '0 applied 21', '7 20', False),
-    ('a stamp behind those of the openings', 'update 0 7', '0 applied 22', '7 20', True),
+    ('a stamp after those of the openings', 'update 0 7', '0 applied 22', '7 20', True),
     ('an update too few', 'update 0 7; update 0 8', '0 applied 24', '7 20', False),
     ('an answer too many', 'update 0 7', '0 applied 24|0 applied 27', '7 20', False),
     ('a port too many', 'read 0', '0 read 10 18|1 read 10 18', '10 20', False),
@@ -207,7 +207,7 @@ def may_refuse(m, call, cause):
 
 
 def are_places(plan, history, states, port, calls, answers, places):
-    """Whether the answers of a port are right at these places, each behind all that the port had seen."""
+    """Whether the answers of a port are right at these places, each after all that the port had seen."""
     seen = 0
     for call, answer, place in zip(calls, answers, places):
         if place is None:

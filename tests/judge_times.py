@@ -5,7 +5,7 @@ A line is `call THREAD BEGAN ENDED`, and then `update COMPONENT VALUE`, `read CO
 `COMPONENT:VALUE`. Each component has one writer, which sets it to 1, 2, 3 and so on, from 0. Then the order of the
 updates of a component is known, and so is the update that each value was seen of. The history is linearizable exactly
 where the calls can stand in a row: each call that ended before another began before that other, each call that saw a
-value behind the update that set it and before the next one. That is so where these orders have no circle.
+value after the update that set it and before the next one. That is so where these orders have no circle.
 
 The status is 0 and the last line has the counts where there is such a row, 1 with a line saying why where there is
 none, and 2 where a line can't be read, or where no call began while another was under way: such a history shows
@@ -68,7 +68,7 @@ def orders_of(calls, writers):
     for place in range(len(times) - 1):
         behind[len(calls) + place].append(len(calls) + place + 1)
     for number, call in enumerate(calls):
-        # A call begins behind all that ended before it, and not behind one that ends at the same time.
+        # A call begins after all that ended before it, and not after one that ends at the same time.
         behind[node[call.began]].append(number)
         if node[call.ended] + 1 < len(behind):
             behind[number].append(node[call.ended] + 1)

@@ -16,7 +16,7 @@ from judge_times import Unlawful, Unreadable
 
 BY_HAND = [
     ('no call', '', True),
-    ('a write and a read behind it', '0 1 2 update 0 1|1 3 4 read 0 1', True),
+    ('a write and a read after it', '0 1 2 update 0 1|1 3 4 read 0 1', True),
     ('a read misses a write that has ended', '0 1 2 update 0 1|1 3 4 read 0 0', False),
     ('a read beside a write may miss it', '0 1 3 update 0 1|1 2 4 read 0 0', True),
     ('a read beside a write may see it', '0 1 3 update 0 1|1 2 4 read 0 1', True),

@@ -1,5 +1,5 @@
 #!/usr/bin/env python3
-"""Sees that each name of a definition in specs/ stands for one thing: it is defined in one file of all crates; and that
+"""Sees that each name of a definition in specs/ means one thing: it is defined in one file of all crates; and that
 definitions and proofs use the same word where the kit has two for one function.
 
 The two memories, `partial_memory` and `partial_long_lived`, give some names to what means the same in both, so that

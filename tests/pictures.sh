@@ -1,6 +1,6 @@
 #!/usr/bin/env bash
 # Draws the pictures that stand in docs/pictures/. With --check it changes nothing, and says whether the program draws
-# the same again; that alone tells nothing of what they show, so each is compared with its plan and its outcome too.
+# the same again; that alone says nothing of what they show, so each is compared with its plan and its outcome too.
 # The last line is 'N passed, M failed'. PICTURE may name a built program; else it is ./picture.
 set -u
 

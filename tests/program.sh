@@ -245,7 +245,7 @@ expect "" "" $'partial: refused 10: line 0: size\n'
 head -c 4194305 /dev/zero >"$room/in"
 case_of line_size 1 replay
 
-# A short plan that comes to more steps than there is room to trace: 1,000 updates, each of which walks the
+# A short plan that makes more steps than there is room to trace: 1,000 updates, each of which walks the
 # slots that 20,000 scans have left.
 {
     printf 'sizes 1 65536 0 4194304\ninitial 0\nport scan 0'
@@ -291,7 +291,7 @@ case_of dash_refused_with_next 1 run - "$room/second.plan"
 case_of dash_refused_as_next 1 run "$room/first.plan" -
 
 # A writer that fails.
-# write_fault NAME STATUS: the program must have come to this status, with the line of a write fault.
+# write_fault NAME STATUS: the program must have ended with this status, with the line of a write fault.
 write_fault() {
     if [ "$2" -eq 1 ] && [ "$(cat "$room/given-err")" = "partial: refused 12: write fault" ]; then
         passed=$((passed + 1))
@@ -396,7 +396,8 @@ draws_all() {
         [ "$arrows" -ge $((lost + borrowed)) ] && [ "$arrows" -le $((lost + borrowed + changed)) ]
 }
 
-# Whether a drawing from which one mark, the words of one pin or one bar was taken is told from what its outcome says.
+# Whether a drawing from which one mark, the words of one pin or one bar was taken is distinguished from what its
+# outcome says.
 tells_apart() {
     local told=0 turned
     for turned in '0,/class="mark /s//class="/' '0,/<title>applied 0/s//<title>applied 1/' '0,/class="bar"/s//class=""/'; do

@@ -86,7 +86,7 @@ def judged(job):
 
 
 def late(_signal, _frame):
-    raise TimeoutError('the judge came to no verdict')
+    raise TimeoutError('the judge found no verdict')
 
 
 def main(words):

@@ -21,7 +21,7 @@ has() {
 says_so() {
     bindings/library.sh --unproved 2>"$made/said" && grep -qF "nothing was proved of $library" "$made/said"
 }
-# Whether the symbol by which it is told from the proved library is in the one and not in the other.
+# Whether the symbol by which it differs from the proved library is in the one and not in the other.
 is_marked() {
     grep -q partial_door_unproved "$library" &&
         { [ ! -f crates/partial_door/out/libpartial_door.a ] ||

@@ -2,11 +2,14 @@
 
 use crate::objects::{faces, faces_of, Face, Faces, NO_LISTS, SIZES};
 use crate::parts::{Parts, Sample};
+use crate::processors;
 use partial_door::{opening as openings, Memory, Updated};
 use std::hint::black_box;
 use std::sync::atomic::{AtomicBool, AtomicUsize, Ordering::SeqCst};
+use std::time::{Duration, Instant};
 
 const M: usize = 64;
+const MANY_M: usize = 16_384;
 const GREATEST_M: usize = 65_536;
 // Of a part.
 const CALLS: u32 = 1_000;
@@ -27,6 +30,8 @@ const MONITORS: usize = 3;
 const WRITERS: usize = 3;
 // Of a monitor. The list words of a memory have room for those that its writers publish.
 const SCANS: u32 = 2_000;
+// For which a monitor and its writers share two processors, so that each has its turn many times.
+const SHARED: Duration = Duration::from_millis(150);
 
 /// One row of the table, or one for each ending.
 pub struct Bench {
@@ -46,9 +51,14 @@ const fn speed(name: &'static str, run: fn(&str) -> Sample) -> Bench {
     Bench { name, endings: &[""], is_time: false, rounds: ROUNDS, cell: median, run }
 }
 
-/// A row of one thread, which tells what a call takes where nothing else slows the processor.
+/// A row of one thread, which says what a call takes where nothing else slows the processor.
 const fn alone(name: &'static str, run: fn(&str) -> Sample) -> Bench {
     Bench { rounds: ROUNDS_ALONE, cell: least, ..speed(name, run) }
+}
+
+/// The same, in objects whose opening takes long.
+const fn alone_and_large(name: &'static str, run: fn(&str) -> Sample) -> Bench {
+    Bench { rounds: ROUNDS, ..alone(name, run) }
 }
 
 /// The same, where each measurement takes long.
@@ -56,19 +66,24 @@ const fn alone_and_long(name: &'static str, run: fn(&str) -> Sample) -> Bench {
     Bench { rounds: 1, ..alone(name, run) }
 }
 
-pub const BENCHES: [Bench; 21] = [
+pub const BENCHES: [Bench; 25] = [
     alone("read, 1 thread", |name| timed(name, 1, PARTS, rest, read)),
     alone("read by a key, 1 thread", |name| by_keys(name, PARTS, read)),
     speed("read, 4 threads", |name| timed(name, 4, PARTS, rest, read)),
     alone("update, 1 thread, nobody scans", |name| timed(name, 1, PARTS, rest, update)),
     alone("update by a key, 1 thread, nobody scans", |name| by_keys(name, PARTS, update)),
+    alone_and_large("update, 1 thread, 16,384 components", |name| of_many(name, PARTS, update_of::<MANY_M>)),
     Bench { rounds: ROUNDS_OF_MANY, ..alone("update, 1 thread, 100 million of them", many) },
     speed("update, 4 threads, nobody scans", |name| timed(name, 4, PARTS, rest, update)),
     alone("update, 1 thread, after scans", |name| timed(name, 1, PARTS, scan_often, update)),
     alone_and_long("update, 1 thread, after scans, no list words left", without_lists),
     alone("add one, 1 thread, nobody scans", |name| timed(name, 1, PARTS, rest, add_one)),
+    alone("add one by a key, 1 thread, nobody scans", |name| by_keys(name, PARTS, add_one)),
     alone("scan of 4, 1 thread", |name| timed(name, 1, PARTS_OF_SCANS, rest, scan::<4>)),
     alone("scan of 4 by keys, 1 thread", |name| by_keys(name, PARTS_OF_SCANS, scan::<4>)),
+    alone_and_large("scan of 4, 1 thread, 16,384 components", |name| {
+        of_many(name, PARTS_OF_SCANS, scan_of::<MANY_M, 4>)
+    }),
     alone("scan of 16, 1 thread", |name| timed(name, 1, PARTS_OF_SCANS, rest, scan::<16>)),
     alone("9 reads to an update, 1 thread", |name| timed(name, 1, PARTS, rest, mostly_reads)),
     speed("9 reads to an update, 4 threads", |name| timed(name, 4, PARTS, rest, mostly_reads)),
@@ -81,6 +96,14 @@ pub const BENCHES: [Bench; 21] = [
         rounds: 1,
         cell: median,
         run: monitor,
+    },
+    Bench {
+        name: "3 writers, 1 scanner, 2 processors",
+        endings: &[": mean scan of 8", ": 99 % of scans", ": slowest scan", ": mean update"],
+        is_time: true,
+        rounds: 1,
+        cell: median,
+        run: sharing,
     },
     Bench { is_time: true, ..alone("an update that changes the epoch", changes) },
     Bench { is_time: true, ..alone_and_long("opening the greatest memory, in milliseconds", opening) },
@@ -132,8 +155,8 @@ fn make_calls(face: &mut dyn Face, thread: u32, part: u32, work: Work) {
     }
 }
 
-// Waits until all threads are here, without giving the processor away.
-fn wait_for(ready: &AtomicUsize, threads: usize) {
+/// Waits until all threads are here, without giving the processor away.
+pub fn wait_for(ready: &AtomicUsize, threads: usize) {
     ready.fetch_add(1, SeqCst);
     while ready.load(SeqCst) < threads {
         std::hint::spin_loop();
@@ -154,6 +177,11 @@ fn by_keys(name: &str, parts: u32, work: Work) -> Sample {
         return Sample::none();
     }
     timed("memory by keys", 1, parts, rest, work)
+}
+
+// Calls of one thread in an object of many components.
+fn of_many(name: &str, parts: u32, work: Work) -> Sample {
+    timed_on(faces(name, MANY_M, 1), parts, rest, work)
 }
 
 // An update in an opening that has no room for a list of the slots that scans have left: each update walks over them.
@@ -177,7 +205,12 @@ fn read(face: &mut dyn Face, thread: u32, call: u32) {
 }
 
 fn update(face: &mut dyn Face, thread: u32, call: u32) {
-    let made = face.update((thread + call) % M as u32, u64::from(call));
+    update_of::<M>(face, thread, call);
+}
+
+// An update of an object of N components.
+fn update_of<const N: usize>(face: &mut dyn Face, thread: u32, call: u32) {
+    let made = face.update((thread + call) % N as u32, u64::from(call));
     assert!(made, "the pool is large enough");
 }
 
@@ -187,12 +220,17 @@ fn add_one(face: &mut dyn Face, thread: u32, call: u32) {
 }
 
 fn scan<const R: usize>(face: &mut dyn Face, thread: u32, call: u32) {
-    assert!(may_scan::<R>(face, thread, call), "the pool and the slots are large enough");
+    scan_of::<M, R>(face, thread, call);
+}
+
+// A scan of an object of N components.
+fn scan_of<const N: usize, const R: usize>(face: &mut dyn Face, thread: u32, call: u32) {
+    assert!(may_scan::<N, R>(face, thread, call), "the pool and the slots are large enough");
 }
 
 // Whether the scan was made.
-fn may_scan<const R: usize>(face: &mut dyn Face, thread: u32, call: u32) -> bool {
-    let which: [u32; R] = std::array::from_fn(|k| (thread + call + k as u32) % M as u32);
+fn may_scan<const N: usize, const R: usize>(face: &mut dyn Face, thread: u32, call: u32) -> bool {
+    let which: [u32; R] = std::array::from_fn(|k| (thread + call + k as u32) % N as u32);
     let mut into = [0; R];
     let made = face.scan(&which, &mut into);
     black_box(&into);
@@ -252,7 +290,7 @@ fn scan_beside_writers(name: &str) -> (Parts, Vec<Parts>) {
         wait_for(&writing.ready, WRITERS + 1);
         for call in 0..SCANS {
             let counts = |&made: &bool| made && writing.at_work.load(SeqCst) == WRITERS;
-            if !scans.time(|| may_scan::<8>(&mut *eye, 0, call), counts) {
+            if !scans.time(|| may_scan::<M, 8>(&mut *eye, 0, call), counts) {
                 break;
             }
         }
@@ -285,7 +323,52 @@ fn write(face: &mut dyn Face, thread: u32, writing: &Writing) -> Parts {
     parts
 }
 
-// Nanoseconds of an update that comes to another epoch, which is a part.
+// Nanoseconds of a scan of 8 components: the mean, 99 of 100, the slowest; and of an update of three writers. All four
+// threads share two processors, and the time that they wait for one counts. Objects that wear out have no room for so
+// many updates.
+fn sharing(name: &str) -> Sample {
+    if !matches!(name, "memory" | "mutex" | "rwlock" | "seqlock" | "collects" | "plain") {
+        return Sample::none();
+    }
+    let (_memory, mut all) = faces(name, M, WRITERS + 1);
+    let mut eye = all.pop().expect("a face for each thread");
+    let end = Instant::now() + SHARED;
+    let (scans, updates) = std::thread::scope(|scope| {
+        let scanner = scope.spawn(move || {
+            processors::stay_on(2);
+            let mut scans = Parts::shared();
+            let mut call = 0;
+            while Instant::now() < end {
+                scans.time(|| scan::<8>(&mut *eye, 0, call), |_| true);
+                call += 1;
+            }
+            scans
+        });
+        let writer = |(thread, mut face): (usize, Box<dyn Face>)| {
+            scope.spawn(move || {
+                processors::stay_on(2);
+                let (begin, mut part) = (Instant::now(), 0);
+                while Instant::now() < end {
+                    for call in part * CALLS..(part + 1) * CALLS {
+                        face.update((thread as u32 + call) % M as u32, u64::from(call));
+                    }
+                    part += 1;
+                }
+                begin.elapsed().as_nanos() as f64 / f64::from(part * CALLS)
+            })
+        };
+        let writers: Vec<_> = all.into_iter().enumerate().map(writer).collect();
+        let updates: f64 = writers.into_iter().map(|writer| writer.join().expect("it ends")).sum();
+        (scanner.join().expect("it ends"), updates / WRITERS as f64)
+    });
+    Sample::of(&[scans], &[], |mut times| {
+        times.sort_by(f64::total_cmp);
+        let slowest = times.len() - 1;
+        vec![times.iter().sum::<f64>() / times.len() as f64, times[slowest - slowest / 100], times[slowest], updates]
+    })
+}
+
+// Nanoseconds of an update that changes the epoch, which is a part.
 fn changes(name: &str) -> Sample {
     if name != "memory" {
         return Sample::none();

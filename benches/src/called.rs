@@ -1,6 +1,6 @@
 //! The calls of the plain algorithm behind a boundary as the door has one: each is a function that is never inlined,
-//! which writes its answer where its caller says, and returns a number. So what the boundary takes can be told from
-//! what the proved bodies take.
+//! which writes its answer where its caller says, and returns a number. So what the boundary takes can be distinguished
+//! from what the proved bodies take.
 
 use crate::answers::{Scanned, Updated, UpdatedIf, Value};
 use crate::objects::Face;
@@ -72,7 +72,7 @@ mod tests {
     use crate::raw::open;
     use partial_door::opening::Sizes;
 
-    // Two components: the pool begins at word 10, behind 2 + 4 words and 4 slots, and the first free word is 16.
+    // Two components: the pool begins at word 10, after 2 + 4 words and 4 slots, and the first free word is 16.
     #[test]
     fn calls_answer_into_the_callers_memory() {
         let mut port = Called(open(&[10, 20], Sizes { slots: 4, list_words: 0, pool_words: 30 }, 1).remove(0));

@@ -6,18 +6,21 @@ mod benches;
 mod called;
 mod objects;
 mod parts;
+mod processors;
 mod raw;
+mod sizes;
 mod tables;
 mod versions;
 
 use benches::BENCHES;
 use objects::NAMES;
+use sizes::Sizes;
 use tables::Results;
 
 const REPETITIONS: usize = 7;
 
 fn main() {
-    let mut results = Results::new();
+    let (mut results, mut sizes) = (Results::new(), Sizes::new());
     for repetition in 0..REPETITIONS {
         for (row, bench) in BENCHES.iter().enumerate() {
             for turn in 0..bench.rounds * NAMES.len() {
@@ -25,6 +28,9 @@ fn main() {
                 results.add(row, object, (bench.run)(NAMES[object]));
             }
         }
+        sizes.add();
     }
     results.print();
+    println!();
+    sizes.print();
 }

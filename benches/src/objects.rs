@@ -7,7 +7,7 @@ use partial_door::{Key, Layout, Memory, Port};
 use std::sync::atomic::{AtomicU64, Ordering::SeqCst};
 use std::sync::{Arc, Mutex, RwLock};
 
-/// What a thread does to an object. An update and a scan tell whether they were made: a memory's pool or its slots
+/// What a thread does to an object. An update and a scan say whether they were made: a memory's pool or its slots
 /// may be used up.
 pub trait Face: Send {
     fn update(&mut self, component: u32, value: u64) -> bool;
@@ -85,8 +85,8 @@ impl Face for Keyed {
     }
     fn scan(&mut self, which: &[u32], into: &mut [u64]) -> bool {
         let &[a, b, c, d] = which else { panic!("the row scans 4 components") };
-        let made = self.0.snapshot([a, b, c, d].map(|component| self.key(component)));
-        made.map(|values| into.copy_from_slice(&values)).is_ok()
+        let made = self.0.snapshot((self.key(a), self.key(b), self.key(c), self.key(d)));
+        made.map(|(a, b, c, d)| into.copy_from_slice(&[a, b, c, d])).is_ok()
     }
 }
 

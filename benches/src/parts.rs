@@ -4,9 +4,9 @@ use std::fs::File;
 use std::os::unix::fs::FileExt;
 use std::time::Instant;
 
-/// Tells whether a thread had to give its processor away: by its involuntary context switches. They are read only
+/// Finds whether a thread had to give its processor away: by its involuntary context switches. They are read only
 /// where the time that it waited for a processor has grown, since that is read faster. A thread that a lock has put
-/// to sleep gave its processor away by itself, so what that costs is told as part of the call.
+/// to sleep gave its processor away by itself, so what that costs is counted as part of the call.
 struct Watch {
     delays: Option<File>,
     status: Option<File>,
@@ -86,7 +86,12 @@ impl Parts {
         Parts { watch: Watch::new(), made: Vec::new() }
     }
 
-    /// Times a part, which counts only where `counts` is true behind it, of what it gave.
+    /// The same, where each part counts, also when the thread had to give its processor away.
+    pub fn shared() -> Parts {
+        Parts { watch: Watch { delays: None, status: None, delay: None, switches: None }, made: Vec::new() }
+    }
+
+    /// Times a part, which counts only where `counts` is true after it, of what it gave.
     pub fn time<T>(&mut self, part: impl FnOnce() -> T, counts: impl FnOnce(&T) -> bool) -> T {
         let from = Instant::now();
         let answer = part();
@@ -97,7 +102,7 @@ impl Parts {
     }
 
     /// Times a part, and keeps it only where `counts` is true of what it gave. Whether the thread had to give its
-    /// processor away is asked only then, by system calls, and told of all that it did since it was asked before.
+    /// processor away is asked only then, by system calls, and of all that it did since it was asked before.
     pub fn find<T>(&mut self, part: impl FnOnce() -> T, counts: impl FnOnce(&T) -> bool) -> T {
         let from = Instant::now();
         let answer = part();
@@ -110,7 +115,39 @@ impl Parts {
     }
 }
 
-/// What a bench of one object came to in one repetition: its values, none where there is no part, and how many
+/// The times of single calls of one thread, in nanoseconds.
+pub struct Times {
+    watch: Watch,
+    kept: Vec<u32>,
+}
+
+// A call that takes less did not give its processor away.
+const SLOW: u32 = 1_000;
+
+impl Times {
+    /// None yet, of the thread that calls this.
+    pub fn new() -> Times {
+        Times { watch: Watch::new(), kept: Vec::new() }
+    }
+
+    /// Times a call. It is left out when the thread had to give its processor away, which is asked of slow calls alone.
+    pub fn time<T>(&mut self, call: impl FnOnce() -> T) -> T {
+        let from = Instant::now();
+        let answer = call();
+        let time = u32::try_from(from.elapsed().as_nanos()).unwrap_or(u32::MAX);
+        if time < SLOW || !self.watch.has_waited() {
+            self.kept.push(time);
+        }
+        answer
+    }
+
+    /// The times that were not left out.
+    pub fn kept(&self) -> &[u32] {
+        &self.kept
+    }
+}
+
+/// What a bench of one object gave in one repetition: its values, none where there is no part, and how many
 /// parts they are of.
 pub struct Sample {
     pub values: Vec<f64>,

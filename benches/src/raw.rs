@@ -347,7 +347,7 @@ impl Port {
         Ok(at)
     }
 
-    // The steps of an update behind the load of the record `old`: its own record, and what the exchange found.
+    // The steps of an update after the load of the record `old`: its own record, and what the exchange found.
     #[inline]
     fn replace(&mut self, component: u32, old: u64, value: u64) -> Result<(u64, u64), Refused> {
         self.get_set();

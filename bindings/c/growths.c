@@ -85,7 +85,7 @@ static int open_without(long growth)
     refuse(growth);
     uint32_t code = partial_open(initial, 2, &sizes, 3, &memory);
     refuse(0);
-    check(code == 0 || code == PARTIAL_MEMORY, "an opening is answered or refused for memory", growth);
+    check(code == 0 || code == PARTIAL_OUT_OF_MEMORY, "an opening is answered or refused for memory", growth);
     check((code == 0) == (memory.held != NULL), "a refused opening leaves the handle empty", growth);
     partial_free(&memory);
     return code == 0;
@@ -99,10 +99,10 @@ static int take_without(long growth)
     refuse(growth);
     uint32_t code = partial_take_port(&memory, &port);
     refuse(0);
-    check(code == 0 || code == PARTIAL_MEMORY, "a port is taken or refused for memory", growth);
+    check(code == 0 || code == PARTIAL_OUT_OF_MEMORY, "a port is taken or refused for memory", growth);
     check((code == 0) == (port.held != NULL), "a refused taking leaves the handle empty", growth);
     if (code != 0) {
-        check(partial_take_port(&memory, &port) == 0, "and the port at home", growth);
+        check(partial_take_port(&memory, &port) == 0, "and the port in its memory", growth);
     }
     check(reads(&port, 4), "the port reads", growth);
     partial_free(&port);
@@ -119,10 +119,10 @@ static int give_without(long growth)
     refuse(growth);
     uint32_t code = partial_give_port(&memory, &port);
     refuse(0);
-    check(code == 0 || code == PARTIAL_MEMORY, "a port comes home or is refused for memory", growth);
+    check(code == 0 || code == PARTIAL_OUT_OF_MEMORY, "a port is returned or refused for memory", growth);
     if (code != 0) {
         check(reads(&port, 4), "a refused port is as it was", growth);
-        check(partial_give_port(&memory, &port) == 0, "and comes home then", growth);
+        check(partial_give_port(&memory, &port) == 0, "and is returned then", growth);
     }
     check(partial_close(&memory) == 0, "the memory closes", growth);
     partial_free(&memory);
@@ -136,7 +136,7 @@ static int close_without(long growth)
     refuse(growth);
     uint32_t code = partial_close(&memory);
     refuse(0);
-    check(code == 0 || code == PARTIAL_MEMORY, "a memory closes or is refused for memory", growth);
+    check(code == 0 || code == PARTIAL_OUT_OF_MEMORY, "a memory closes or is refused for memory", growth);
     check((code == 0) == (memory.held != NULL), "a lost memory leaves the handle empty", growth);
     partial_free(&memory);
     return code == 0;
@@ -152,7 +152,7 @@ static int reopen_without(long growth)
     refuse(growth);
     uint32_t code = partial_reopen(&memory, 3, &sizes, 2, &again);
     refuse(0);
-    check(code == 0 || code == PARTIAL_MEMORY, "a memory reopens or is refused for memory", growth);
+    check(code == 0 || code == PARTIAL_OUT_OF_MEMORY, "a memory reopens or is refused for memory", growth);
     check((code == 0) == (again.held != NULL), "a refused reopening leaves the handle empty", growth);
     check(partial_values(&memory, values, 2) == 0 && values[1] == 4, "and the closed memory", growth);
     partial_free(&again);
@@ -170,7 +170,7 @@ static int new_without(long growth)
     refuse(growth);
     uint32_t code = partial_memory_new_with(initial, 2, 3, &arena, &memory);
     refuse(0);
-    check(code == 0 || code == PARTIAL_MEMORY, "a memory is made or refused for memory", growth);
+    check(code == 0 || code == PARTIAL_OUT_OF_MEMORY, "a memory is made or refused for memory", growth);
     check((code == 0) == (memory.held != NULL), "a refused making leaves the handle empty", growth);
     partial_memory_free(&memory);
     return code == 0;
@@ -185,7 +185,7 @@ static int take_long_without(long growth)
     refuse(growth);
     uint32_t code = partial_memory_take_port(&memory, &port);
     refuse(0);
-    check(code == 0 || code == PARTIAL_MEMORY, "a memory's port is taken or refused for memory", growth);
+    check(code == 0 || code == PARTIAL_OUT_OF_MEMORY, "a memory's port is taken or refused for memory", growth);
     check((code == 0) == (port.held != NULL), "a refused taking leaves the handle of the port empty", growth);
     if (code != 0) {
         check(partial_memory_take_port(&memory, &port) == 0, "and the port in the memory", growth);
@@ -206,7 +206,7 @@ static int give_long_without(long growth)
     refuse(growth);
     uint32_t code = partial_memory_give_port(&memory, &port);
     refuse(0);
-    check(code == 0 || code == PARTIAL_MEMORY, "a port is returned or refused for memory", growth);
+    check(code == 0 || code == PARTIAL_OUT_OF_MEMORY, "a port is returned or refused for memory", growth);
     if (code != 0) {
         check(partial_memory_give_port(&memory, &port) == 0, "a refused port is returned then", growth);
     }
@@ -223,7 +223,7 @@ static int close_long_without(long growth)
     refuse(growth);
     uint32_t code = partial_memory_close(&memory, values, 2);
     refuse(0);
-    check(code == 0 || code == PARTIAL_MEMORY, "a memory is closed or refused for memory", growth);
+    check(code == 0 || code == PARTIAL_OUT_OF_MEMORY, "a memory is closed or refused for memory", growth);
     check((code == 0) == (memory.held == NULL), "a refused close loses nothing", growth);
     if (code != 0) {
         check(values[0] == 5 && values[1] == 5, "and leaves the caller's values", growth);
@@ -267,8 +267,8 @@ int main(void)
     each_growth(take_without, "taking a port takes memory");
     each_growth(close_without, "a close takes memory");
     each_growth(reopen_without, "a reopening takes memory");
-    /* The list of ports at home has room for a port that was taken out of it. */
-    check(give_without(1), "a port comes home without a growth", 1);
+    /* The list of returned ports has room for a port that was taken out of it. */
+    check(give_without(1), "a port is returned without a growth", 1);
     each_growth(new_without, "making a memory takes memory");
     each_growth(take_long_without, "taking a memory's port takes memory");
     each_growth(close_long_without, "closing a memory takes memory");

@@ -66,18 +66,18 @@ static void check_stamped_scan(partial_port *port)
     int read = partial_port_read(port, 0, &reads[0]) == 0 && partial_port_read(port, 1, &reads[1]) == 0;
     uint64_t into[3] = {5, 5, 5};
     uint64_t stamps[3] = {6, 6, 6};
-    partial_scan_answer told = {9, 9, 9};
-    check(partial_port_scan_stamped(port, which, 2, into, 2, stamps, 2, &told) == 0, "a scan alone tells stamps");
-    check(told.collects == 2 && told.borrowed == 0 && told.stamp == 0, "by two collects and no view");
+    partial_scan_answer given = {9, 9, 9};
+    check(partial_port_scan_stamped(port, which, 2, into, 2, stamps, 2, &given) == 0, "a scan alone gives stamps");
+    check(given.collects == 2 && given.borrowed == 0 && given.stamp == 0, "by two collects and no view");
     check(into[0] == 22 && into[1] == 10 && into[2] == 5, "its values are in its order");
     check(read && stamps[0] == reads[1].stamp && stamps[1] == reads[0].stamp && stamps[2] == 6, "with the stamps of reads");
     uint32_t same = 9;
     check(partial_port_unchanged(port, which, 2, stamps, 2, &same) == 0 && same == 1, "which the components have still");
     partial_update_answer set = {0, 0};
     check(partial_port_update_if(port, 1, stamps[0], 24, &set) == 0 && set.applied == 1, "and which an update may expect");
-    check(partial_port_scan_stamped(port, which, 2, into, 2, stamps, 2, &told) == 0 && told.borrowed == 0, "another scan tells stamps");
+    check(partial_port_scan_stamped(port, which, 2, into, 2, stamps, 2, &given) == 0 && given.borrowed == 0, "another scan gives stamps");
     check(into[0] == 24 && stamps[0] == set.stamp && stamps[1] == reads[0].stamp, "the update's among them");
-    check(partial_port_scan_stamped(port, NULL, 0, NULL, 0, NULL, 0, &told) == 0 && told.collects == 0, "a scan of no position is one");
+    check(partial_port_scan_stamped(port, NULL, 0, NULL, 0, NULL, 0, &given) == 0 && given.collects == 0, "a scan of no position is one");
 }
 
 static void test_one_port(void)
@@ -99,7 +99,7 @@ static void test_one_port(void)
     partial_update_answer again = {0, 0};
     check(partial_port_update_if(&port, 1, set.stamp, 22, &again) == 0 && again.applied == 1, "the expected stamp is found");
     check(partial_port_update_if(&port, 1, set.stamp, 23, &set) == 0 && set.applied == 0, "another one is not");
-    check(set.stamp == again.stamp, "and it is told");
+    check(set.stamp == again.stamp, "and it is given");
     uint32_t same = 9;
     const uint64_t stamps[2] = {again.stamp, before.stamp};
     check(partial_port_unchanged(&port, (const uint32_t[]){1}, 1, stamps, 1, &same) == 0 && same == 1, "it has its stamp still");
@@ -116,7 +116,7 @@ static void test_one_port(void)
     check_stamped_scan(&port);
     check(partial_port_free(&port) == 0 && port.held == NULL, "a freed handle is empty");
     uint64_t values[2] = {5, 5};
-    check(partial_memory_close(&memory, values, 2) == PARTIAL_NOT_ALL_HOME, "a memory isn't closed without its port");
+    check(partial_memory_close(&memory, values, 2) == PARTIAL_IN_USE, "a memory isn't closed without its port");
     check(values[0] == 5, "and the caller's values are as they were");
     check(partial_memory_free(&memory) == 0 && memory.held == NULL, "a freed memory's handle is empty");
 }
@@ -186,7 +186,7 @@ static void test_refused_calls(void)
     partial_memory memory = PARTIAL_EMPTY;
     partial_port port = PARTIAL_EMPTY;
     check(made(initial, 2, &tiny, &memory, &port, 1), "a memory of two components is made");
-    check(partial_memory_take_port(&memory, &none) == PARTIAL_NONE_HOME, "there is no second port");
+    check(partial_memory_take_port(&memory, &none) == PARTIAL_NONE_FREE, "there is no second port");
     check(partial_memory_take_port(&memory, &port) == PARTIAL_HOLDS_ONE, "a handle in use takes no port");
     check(partial_memory_give_port(&memory, &none) == PARTIAL_HOLDS_NONE, "an empty handle isn't returned");
     check(partial_memory_give_port(&nothing, &port) == PARTIAL_HOLDS_NONE, "nor a port to no memory");
@@ -258,7 +258,7 @@ static void test_close(void)
     check(partial_memory_give_port(&memory, &other) == PARTIAL_TWO_MEMORIES, "a port of another memory isn't taken in");
     check(partial_port_read(&other, 0, &read) == 0 && read.value == 1, "and is as it was");
     check(partial_memory_give_port(&memory, &ports[1]) == 0 && ports[1].held == NULL, "a port is returned");
-    check(partial_memory_close(&memory, values, 2) == PARTIAL_NOT_ALL_HOME, "one of two ports isn't enough");
+    check(partial_memory_close(&memory, values, 2) == PARTIAL_IN_USE, "one of two ports isn't enough");
     check(partial_memory_take_port(&memory, &ports[1]) == 0, "a returned port is taken again");
     check(partial_port_read(&ports[1], 0, &read) == 0 && read.value == 11, "and reads on");
     check(partial_memory_give_port(&memory, &ports[0]) == 0 && partial_memory_give_port(&memory, &ports[1]) == 0, "both are returned");
@@ -302,7 +302,7 @@ static void test_null(void)
     check(partial_port_scan(&port, NULL, 1, into, 1, &scanned) == PARTIAL_NULL, "null has no positions");
     check(partial_port_scan(&port, which, 1, NULL, 1, &scanned) == PARTIAL_NULL, "null has no room");
     check(partial_port_scan(&port, which, 1, into, 1, NULL) == PARTIAL_NULL, "a scan answers not to null");
-    check(partial_port_scan_stamped(NULL, which, 1, into, 1, into_stamps, 1, &scanned) == PARTIAL_NULL, "null tells no stamps");
+    check(partial_port_scan_stamped(NULL, which, 1, into, 1, into_stamps, 1, &scanned) == PARTIAL_NULL, "null gives no stamps");
     check(partial_port_scan_stamped(&port, NULL, 1, into, 1, into_stamps, 1, &scanned) == PARTIAL_NULL, "nor of components at null");
     check(partial_port_scan_stamped(&port, which, 1, NULL, 1, into_stamps, 1, &scanned) == PARTIAL_NULL, "nor with values to null");
     check(partial_port_scan_stamped(&port, which, 1, into, 1, NULL, 1, &scanned) == PARTIAL_NULL, "nor with stamps to null");
@@ -380,16 +380,16 @@ static void test_threads(void)
     }
     check(started == WRITERS + 1, "four threads start");
     int refused = 0;
-    int home = 0;
+    int returned = 0;
     for (int k = 0; k <= WRITERS; k++) {
         pthread_join(threads[k], NULL);
         refused += works[k].refused;
-        home += partial_memory_give_port(&memory, &works[k].port) == 0;
+        returned += partial_memory_give_port(&memory, &works[k].port) == 0;
     }
     check(refused == 0, "each update of its own component is applied, each scan answered");
     check(works[WRITERS].fell == 0, "no value falls from scan to scan");
     check(works[0].stamp >> 23 > 1000, "over more than a thousand epochs");
-    check(home == WRITERS + 1, "the ports are returned behind the threads");
+    check(returned == WRITERS + 1, "the ports are returned after the threads");
     uint64_t values[WRITERS] = {0, 0, 0};
     check(partial_memory_close(&memory, values, WRITERS) == 0, "the memory closes");
     check(values[0] == TURNS && values[1] == TURNS && values[2] == TURNS, "its values are the last ones set");

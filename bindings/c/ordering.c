@@ -38,7 +38,7 @@ static void expect(int holds, const char *what)
     }
 }
 
-/* Waits until both threads have come to this round. */
+/* Waits until both threads have reached this round. */
 static void meet(uint64_t round)
 {
     __atomic_add_fetch(&arrived, 1, __ATOMIC_SEQ_CST);

@@ -99,7 +99,7 @@ enum {
     PARTIAL_LIST_WORDS = 3,    /* there are more than 65536 list words */
     PARTIAL_POOL_WORDS = 4,    /* not 3 pool words a component to 4194304 */
     PARTIAL_PORT_COUNT = 5,    /* there are not 1 to 64 ports */
-    PARTIAL_MEMORY = 6,        /* an allocation was refused */
+    PARTIAL_OUT_OF_MEMORY = 6, /* an allocation was refused */
     PARTIAL_COMPONENT = 7,     /* an index isn't below the number of components */
     PARTIAL_SLOTS_SPENT = 8,   /* the slots are used up for this port */
     PARTIAL_POOL_SPENT = 9,    /* the pool is used up for this port */
@@ -108,10 +108,10 @@ enum {
     PARTIAL_HOLDS_ONE = 18,    /* the handle holds something already */
     PARTIAL_LENGTH = 19,       /* two lengths differ, or one is too large */
     PARTIAL_TWO_MEMORIES = 20, /* the handles are of two memories */
-    PARTIAL_NONE_HOME = 21,    /* the memory holds no port */
-    PARTIAL_NOT_ALL_HOME = 22, /* not all ports were returned */
+    PARTIAL_NONE_FREE = 21,    /* the memory holds no port */
+    PARTIAL_IN_USE = 22,       /* not all ports were returned */
     PARTIAL_NULL = 23,         /* a pointer is null */
-    PARTIAL_SHARED = 24,       /* all were, and a reference of the memory is in use */
+    PARTIAL_SHARED = 24,       /* another handle still references the memory */
     PARTIAL_OVERTAKEN = 25,    /* the epoch was changed 16 times during the update */
     PARTIAL_NO_ARENA = 26,     /* each arena is in use, so the epoch can't be changed */
     PARTIAL_EPOCHS_SPENT = 27, /* the epoch is the last one that a word can name */
@@ -129,7 +129,7 @@ static inline const char *partial_text(uint32_t code)
     case PARTIAL_LIST_WORDS: return "list words out of range";
     case PARTIAL_POOL_WORDS: return "pool words out of range";
     case PARTIAL_PORT_COUNT: return "ports out of range";
-    case PARTIAL_MEMORY: return "out of memory";
+    case PARTIAL_OUT_OF_MEMORY: return "out of memory";
     case PARTIAL_COMPONENT: return "an index isn't below the number of components";
     case PARTIAL_SLOTS_SPENT: return "the slots are used up for this port";
     case PARTIAL_POOL_SPENT: return "the pool is used up for this port";
@@ -138,8 +138,8 @@ static inline const char *partial_text(uint32_t code)
     case PARTIAL_HOLDS_ONE: return "the handle holds something already";
     case PARTIAL_LENGTH: return "two lengths differ, or one is too large";
     case PARTIAL_TWO_MEMORIES: return "the handles are of two memories";
-    case PARTIAL_NONE_HOME: return "the memory holds no port";
-    case PARTIAL_NOT_ALL_HOME: return "not all ports were returned";
+    case PARTIAL_NONE_FREE: return "the memory holds no port";
+    case PARTIAL_IN_USE: return "not all ports were returned";
     case PARTIAL_NULL: return "a pointer is null";
     case PARTIAL_SHARED: return "another handle still references the memory";
     case PARTIAL_OVERTAKEN: return "overtaken by changes of epoch: try again";
@@ -331,9 +331,9 @@ static inline uint32_t partial_memory_give_port(partial_memory *memory, partial_
  * begins with all that each port had observed. The handle is empty afterwards.
  *
  * 23: a pointer is null. 17: the handle holds no memory. 19: `room` isn't the number of
- * components. 22: not all ports were returned. 24: all were, and a reference of the memory
- * is in use; a port that is returned gives up its reference, so a caller who follows the
- * rules above doesn't get it. After these the handle is as it was. 6: an allocation was
+ * components. 22: not all ports were returned. 24: all were, and another handle still
+ * references the memory; a port that is returned gives up its reference, so a caller who
+ * follows the rules above doesn't get it. After these the handle is as it was. 6: an allocation was
  * refused; nothing is lost, the memory may be closed later, and until then it gives out no
  * port. `into` is as it was.
  */
@@ -734,9 +734,9 @@ static inline uint32_t partial_meet(partial_handle *first, partial_handle *secon
  * with the values after one history, which begins with all that each port had observed.
  *
  * 23: the pointer is null. 17: the handle holds no open memory. 22: not all ports were
- * returned. 24: all were, and a reference of the memory is in use; a port that is returned
- * gives up its reference, so a caller who follows the rules above doesn't get it. After
- * these the handle is as it was. 6: an allocation was refused; the contents are lost, and
+ * returned. 24: all were, and another handle still references the memory; a port that is
+ * returned gives up its reference, so a caller who follows the rules above doesn't get it.
+ * After these the handle is as it was. 6: an allocation was refused; the contents are lost, and
  * the handle is empty.
  */
 static inline uint32_t partial_close(partial_handle *memory)

@@ -63,7 +63,7 @@ static void test_one_port(void)
     check(into[0] == 23 && into[1] == 10 && into[2] == 0, "a scan gives the values in its order");
     check(scanned.collects == 2 && scanned.borrowed == 0, "a scan alone makes two collects");
     check(partial_free(&port) == 0 && port.held == NULL, "a freed handle is empty");
-    check(partial_close(&memory) == PARTIAL_NOT_ALL_HOME, "a memory isn't closed without its port");
+    check(partial_close(&memory) == PARTIAL_IN_USE, "a memory isn't closed without its port");
     partial_free(&memory);
 }
 
@@ -127,7 +127,7 @@ static void test_refused_calls(void)
     partial_handle memory = PARTIAL_EMPTY;
     partial_handle port = PARTIAL_EMPTY;
     check(opened(initial, 2, &ample, &memory, &port, 1), "a memory of two components opens");
-    check(partial_take_port(&memory, &none) == PARTIAL_NONE_HOME, "there is no second port");
+    check(partial_take_port(&memory, &none) == PARTIAL_NONE_FREE, "there is no second port");
     check(partial_take_port(&memory, &port) == PARTIAL_HOLDS_ONE, "a handle in use takes no port");
     check(partial_read(&memory, 0, &read) == PARTIAL_HOLDS_NONE, "a memory is no port");
     check(partial_scan(&port, which, 2, into, 1, &scanned) == PARTIAL_LENGTH, "less room than positions is refused");
@@ -175,14 +175,14 @@ static void test_close(void)
     check(partial_update(&ports[0], 0, 11, &set) == 0, "port 0 updates");
     check(partial_update(&ports[1], 1, 22, &set) == 0, "port 1 updates");
 
-    check(partial_give_port(&memory, &other) == PARTIAL_TWO_MEMORIES, "a port of another memory doesn't come home");
+    check(partial_give_port(&memory, &other) == PARTIAL_TWO_MEMORIES, "a port of another memory isn't returned");
     check(partial_read(&other, 0, &read) == 0 && read.value == 1, "and is as it was");
-    check(partial_give_port(&memory, &ports[1]) == 0 && ports[1].held == NULL, "a port comes home");
+    check(partial_give_port(&memory, &ports[1]) == 0 && ports[1].held == NULL, "a port is returned");
     check(partial_give_port(&memory, &ports[1]) == PARTIAL_HOLDS_NONE, "an empty handle doesn't");
-    check(partial_close(&memory) == PARTIAL_NOT_ALL_HOME, "one of two ports isn't enough");
+    check(partial_close(&memory) == PARTIAL_IN_USE, "one of two ports isn't enough");
     check(partial_read(&ports[0], 1, &read) == 0 && read.value == 22, "a refused close loses nothing");
-    check(partial_give_port(&memory, &ports[0]) == 0, "the other port comes home");
-    check(partial_close(&memory) == 0, "all ports are home, and the memory is closed");
+    check(partial_give_port(&memory, &ports[0]) == 0, "the other port is returned");
+    check(partial_close(&memory) == 0, "all ports are returned, and the memory is closed");
     uint64_t values[3] = {5, 5, 5};
     check(partial_values(&memory, values, 3) == PARTIAL_LENGTH && values[0] == 5, "room for three is refused");
     check(partial_values(&memory, values, 2) == 0, "the values are given");
@@ -221,7 +221,7 @@ static void test_reopen(void)
     partial_scan_answer scanned = {0, 0, 0};
     check(partial_take_port(&again, &port) == 0, "it has a port");
     check(partial_scan(&port, which, 3, into, 3, &scanned) == 0, "which scans");
-    check(into[0] == 1 && into[1] == 22 && into[2] == 0, "it goes on with the values, and a zero behind them");
+    check(into[0] == 1 && into[1] == 22 && into[2] == 0, "it goes on with the values, and a zero after them");
     uint64_t values[2] = {0, 0};
     check(partial_values(&memory, values, 2) == 0 && values[1] == 22, "the closed memory stays");
     partial_free(&port);
@@ -289,7 +289,7 @@ static void test_null(void)
     check(partial_reopen(&memory, 1, &ample, 1, NULL) == PARTIAL_NULL, "nor into null");
     check(partial_take_port(NULL, &spare) == PARTIAL_NULL, "null has no port");
     check(partial_take_port(&memory, NULL) == PARTIAL_NULL, "null takes no port");
-    check(partial_give_port(NULL, &port) == PARTIAL_NULL, "a port doesn't come home to null");
+    check(partial_give_port(NULL, &port) == PARTIAL_NULL, "a port isn't returned to null");
     check(partial_give_port(&memory, NULL) == PARTIAL_NULL, "nor null to a memory");
     check(partial_update(NULL, 0, 1, &set) == PARTIAL_NULL, "null isn't updated");
     check(partial_update(&port, 0, 1, NULL) == PARTIAL_NULL, "an update answers not to null");
@@ -379,11 +379,11 @@ static void test_threads(void)
     check(refused == 0, "each update of its own component is applied, each scan answered");
     check(works[WRITERS].fell == 0, "no value falls from scan to scan");
 
-    int home = 0;
+    int returned = 0;
     for (int k = 0; k <= WRITERS; k++) {
-        home += partial_give_port(&memory, &ports[k]) == 0;
+        returned += partial_give_port(&memory, &ports[k]) == 0;
     }
-    check(home == WRITERS + 1, "the ports come home behind the threads");
+    check(returned == WRITERS + 1, "the ports are returned after the threads");
     uint64_t values[WRITERS] = {0, 0, 0};
     check(partial_close(&memory) == 0, "the memory closes");
     check(partial_values(&memory, values, WRITERS) == 0, "its values are given");

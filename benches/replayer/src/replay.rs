@@ -92,7 +92,7 @@ impl Caller<'_> {
     }
 }
 
-/// Makes the turns of a plan, and tells what came of them.
+/// Makes the turns of a plan, and returns what came of them.
 pub fn replay(plan: &Plan) -> Outcome {
     let components = plan.sizes.components;
     let mut memory = Memory::open(plan.sizes, &plan.initial);

@@ -15,7 +15,7 @@ fn scanned<const R: usize>(port: &mut Port, which: [u32; R]) -> ([u64; R], Scann
     (into, scanned)
 }
 
-// Three components: the pool begins at word 19, behind 3 + 4 words, 4 slots and 8 list words, and the first
+// Three components: the pool begins at word 19, after 3 + 4 words, 4 slots and 8 list words, and the first
 // free word is 28.
 #[test]
 fn a_lone_port_reads_what_it_wrote() {

@@ -144,9 +144,9 @@ pub struct Scanned {
     pub borrowed: Option<Stamp>,
 }
 
-/// The numbers that a call has stored here, each loaded by itself. Compilers copy arrays by loads of several numbers, and
-/// such a load waits until all their stores have reached the cache: a processor hands on to it what one store has written,
-/// but not what several have (store forwarding).
+/// The numbers that a call has stored here, each loaded by itself. Compilers copy arrays by loads of several numbers,
+/// and such a load waits until all their stores have reached the cache: a processor forwards to it what one store has
+/// written, but not what several have (store forwarding).
 #[inline]
 pub(crate) fn loaded<const N: usize>(stored: &[u64; N]) -> [u64; N] {
     // SAFETY: what is read is a number of the array.

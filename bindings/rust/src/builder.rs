@@ -6,8 +6,9 @@ use crate::sizes;
 use crate::OpenError;
 
 /// How many ports a memory has, and how large its arenas are. There are two arenas for each port. An arena of `m`
-/// components and `p` ports has `5 m + 4 + list_words + 1.5 (pool_words + (4 + 2 m) p)` words of 8 bytes, rounded up to a
-/// multiple of 16; with the greatest pools only to a whole number.
+/// components and `p` ports has `5 m + 4 + list_words + 1.5 (pool_words + (4 + 2 m) p)` words of 8 bytes, rounded up to
+/// a multiple of 16; with the greatest pools only to a whole number. While a memory opens, its words are there twice:
+/// with 64 ports and 894 components it has 207 MB, and its process had 416 MB at its peak.
 ///
 /// ```
 /// use partial_door::Memory;

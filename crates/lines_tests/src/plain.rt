@@ -28,7 +28,7 @@ pub struct Course {
 }
 
 /// Plain words on which three ports work. The first port's call is made in straight lines, and its machine is
-/// told the answers. The machines of the others make their calls.
+/// given the answers. The machines of the others make their calls.
 #[derive(Drop)]
 pub struct Plain {
     /// The words.
@@ -76,7 +76,7 @@ impl Makes for Plain {
     ghost leads_on = { λ _ _ _ _ _. tt };
 }
 
-// The words at opening. Behind the initial records all of them are 0.
+// The words at opening. After the initial records all of them are 0.
 fn opened_words(alloc: Global, sizes: Sizes, initial: &[u64]) -> Result<Vec<u64>, AllocError>
     requires { length initial.now ≡ sizes.m }
     ensures { IfOk result (λ words. AreOpeningWords sizes initial.now words.items) }

@@ -48,8 +48,9 @@ fn misses(rt: &impl Abort, memory: &LongLived, port: &mut Port, expected: u64, b
     );
 }
 
-// Two ports set component 0 in turn, each where it has the stamp that the other one left. The first port is spent by each
-// of its updates: it is told another stamp in its epoch, and sets in the next one. Component 1 keeps its initial stamp.
+// Two ports set component 0 in turn, each where it has the stamp that the other one left. The first port is spent by
+// each of its updates: it is answered with another stamp in its epoch, and sets in the next one. Component 1 keeps its
+// initial stamp.
 fn sets_in_turn(rt: &impl Abort, memory: &LongLived, first: &mut Port, last: &mut Port)
     requires first { IsOf memory.now first.old }
     requires last { IsOf memory.now last.old }

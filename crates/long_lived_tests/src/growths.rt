@@ -29,7 +29,7 @@ fn a_refused_growth_opens_nothing(rt: HostRuntime) -> Result<(), Fail> {
     match opened_ports(rt.alloc()) {
         Ok(ports) => assert_eq!(rt; ports, 2),
         Err(error) => {
-            assert_eq!(rt; error, OpenError::Memory);
+            assert_eq!(rt; error, OpenError::OutOfMemory);
             Err(AllocError)?;
         }
     }

@@ -194,7 +194,7 @@ fn refusals(rt: HostRuntime) -> Result<(), Fail> {
         (OpenError::Components, 1, "components out of range"),
         (OpenError::Lists, 3, "list words out of range"),
         (OpenError::Pool, 4, "pool words out of range"),
-        (OpenError::Memory, 6, "out of memory"),
+        (OpenError::OutOfMemory, 6, "out of memory"),
     ];
     for (error, code, text) in &all {
         assert_eq!(rt; error.code(), *code);

@@ -1,4 +1,4 @@
-//! Scans that tell stamps, over changes of epoch.
+//! Scans that give stamps, over changes of epoch.
 
 ghost use Rattle.std.specs.Prelude.{◌≤◌};
 ghost use Rattle.partial_long_lived.specs.Ports.{IsOf};
@@ -25,7 +25,7 @@ fn sets(rt: &impl Abort, memory: &LongLived, port: &mut Port, value: u64) -> u64
     stamp
 }
 
-// A scan of both components tells these values and stamps, component 1 first, and so do reads.
+// A scan of both components gives these values and stamps, component 1 first, and so do reads.
 fn tells(rt: &impl Abort, memory: &LongLived, port: &mut Port, values: [u64; 2], stamps: [u64; 2])
     requires own { IsOf memory.now port.old }
     requires both { 2 ≤ memory.now.about.sizes.m }
@@ -75,9 +75,9 @@ fn are_in_two_epochs(rt: &impl Abort, one: u64, two: u64) {
     assert_eq!(rt; two >> 23, 1);
 }
 
-// The first port sets component 0 in two epochs, and scans with stamps in both. The other one, which stands in the first
-// epoch, then announces its scan in the second one, and is told the stamps there. An update may expect a stamp that a scan
-// has told.
+// The first port sets component 0 in two epochs, and scans with stamps in both. The other one, which stands in the
+// first epoch, then announces its scan in the second one, and is given the stamps there. An update may expect a stamp
+// that a scan has given.
 fn tells_stamps(rt: &impl Abort, memory: &LongLived, first: &mut Port, last: &mut Port)
     requires first { IsOf memory.now first.old }
     requires last { IsOf memory.now last.old }
@@ -117,7 +117,7 @@ fn refuses(rt: &impl Abort, memory: &LongLived, port: &mut Port)
     assert_eq!(rt; (into, told), ([5, 5], [6, 6]));
 }
 
-// A scan of no position is told.
+// A scan of no position gives none.
 fn tells_nothing(rt: &impl Abort, memory: &LongLived, port: &mut Port)
     requires { IsOf memory.now port.old }
 {

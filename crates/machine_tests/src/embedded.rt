@@ -117,7 +117,7 @@ fn scan(
     Ok(scan_into(rt, alloc, &mut rows, sizes, indices, shares, changes)?)
 }
 
-// The scan has to have loaded these words and no others, and to have come to so many collects, to the view of that
+// The scan has to have loaded these words and no others, and to have reached so many collects, to the view of that
 // record, if to one, and to these values.
 fn assert_scanned(
     rt: &impl Abort,
@@ -247,7 +247,7 @@ fn third_record_in_the_last_collect(rt: HostRuntime) -> Result<(), Fail> {
     Ok(())
 }
 
-// A scan that shares stops behind the view word, and loads no pair.
+// A scan that shares stops after the view word, and loads no pair.
 #[test]
 fn shared_view(rt: HostRuntime) -> Result<(), Fail> {
     let changes = [(1, 0, 24), (2, 0, 27), (2, 29, 30), (2, 30, 1), (2, 32, 12)];

@@ -53,7 +53,7 @@ fn interval_set(rt: HostRuntime) -> Result<(), Fail> {
     Ok(())
 }
 
-// Intervals that stand behind those of an empty set.
+// Intervals that stand after those of an empty set.
 fn pushes(rt: &impl Abort, set: &mut Intervals)
     requires empty { set.old.list ≡ [] }
     requires room { set.old.capacity ≡ 2 }

@@ -31,7 +31,7 @@ fn part_ports(
     added
 }
 
-// Adds the ports of a worker and what it was told to those of the others.
+// Adds the ports of a worker and what it was answered to those of the others.
 fn part(
     memory: &Memory,
     worker: Worker,
@@ -53,7 +53,7 @@ fn part(
     parted
 }
 
-// The ports of all workers and what they were told, the last worker's first.
+// The ports of all workers and what they were answered, the last worker's first.
 fn parted(
     alloc: Global,
     memory: &Memory,
@@ -78,7 +78,7 @@ fn closed_with(alloc: Global, memory: Memory, mut ports: Vec<Port>) -> Result<Cl
     Ok(memory.close(alloc, first, ports)?)
 }
 
-/// Closes the memory with all its ports. What its workers were told comes back, the last worker's first.
+/// Closes the memory with all its ports. What its workers were answered comes back, the last worker's first.
 pub fn closed(
     alloc: Global,
     memory: Memory,
@@ -127,7 +127,7 @@ fn judge_chain(rt: &impl Abort, component: u32, chain: &[Link], value: Option<&u
 }
 
 /// The chain of a component has what the workers applied, each update once and in its caller's order,
-/// behind the initial record. Its first link has the component's value, which each worker's port has read
+/// after the initial record. Its first link has the component's value, which each worker's port has read
 /// with its stamp when all had ended.
 pub fn judge_chains(rt: &impl Abort, closed: &Closed, all: &[Told]) {
     assert_eq!(rt; (closed.values.len(), closed.chains.len()), (2, 2));

@@ -25,7 +25,7 @@ fn judge(rt: &impl Abort, opened: Result<usize, OpenError>) -> Result<(), AllocE
     match opened {
         Ok(ports) => assert_eq!(rt; ports, 2),
         Err(error) => {
-            assert_eq!(rt; error, OpenError::Memory);
+            assert_eq!(rt; error, OpenError::OutOfMemory);
             Err(AllocError)?;
         }
     }
@@ -59,7 +59,7 @@ fn a_refused_growth_hands_nothing_back(rt: HostRuntime) -> Result<(), Fail> {
     match memory.close(rt.alloc(), port, Vec::new(rt.alloc())) {
         Ok(closed) => assert_eq!(rt; closed.values.as_slice(), [10, 20].as_slice()),
         Err(error) => {
-            assert_eq!(rt; error, CloseError::Memory);
+            assert_eq!(rt; error, CloseError::OutOfMemory);
             Err(AllocError)?;
         }
     }

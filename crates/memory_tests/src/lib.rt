@@ -1,4 +1,4 @@
-//! Tests of the running memory: worked rows in one thread, and runs of many threads that are judged from
+//! Tests of single openings: worked rows in one thread, and runs of many threads that are judged from
 //! outside. They use what the memory offers, so that it is proved without them.
 #![tactic(auto)]
 

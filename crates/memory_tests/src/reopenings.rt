@@ -17,7 +17,7 @@ fn holds_both(rt: &impl Abort, closed: &Closed) {
     assert_eq!(rt; closed.values.as_slice(), [10, 8].as_slice());
 }
 
-// Closes a memory of two components, 10 and 20, behind an update of the second one to 8.
+// Closes a memory of two components, 10 and 20, after an update of the second one to 8.
 fn closed(rt: &impl Abort, alloc: Global) -> Result<Closed, Fail> {
     let sizes = Sizes::new(2, 4, 8, 64)?;
     let (memory, mut first, second) = pair(alloc, sizes, &[10, 20])?;
@@ -61,7 +61,7 @@ fn reads_three(rt: &impl Abort, memory: &Memory, me: &mut Port)
     updates_if(rt, memory, me, 1, 24, 9, changed);
 }
 
-// Reopens the memory that was closed behind an update, with one port.
+// Reopens the memory that was closed after an update, with one port.
 fn reopened_alone(rt: &impl Abort, alloc: Global, sizes: Sizes) -> Result<(Memory, Port), Fail>
     ensures { IfOk result (λ r. IsOf r.0 r.1) }
 {

@@ -158,7 +158,7 @@ fn refuses_updates(rt: &impl Abort, memory: &Memory, me: &mut Port)
     assert_eq!(rt; memory.update_if(me, 2, 18, 1), Err(Refused::Component));
 }
 
-// Calls that are refused for a component that isn't there, and one that is applied behind them.
+// Calls that are refused for a component that isn't there, and one that is applied after them.
 fn refuses_component(rt: &impl Abort, memory: &Memory, me: &mut Port)
     requires { IsOf memory.now me.old × (2 ≤ memory.now.about.sizes.m) }
 {
@@ -221,7 +221,7 @@ fn refused_for_slots(rt: &impl Abort, memory: &Memory, me: &mut Port)
     }
 }
 
-// The one scan for which there is a slot, two that are refused, and an update behind them.
+// The one scan for which there is a slot, two that are refused, and an update after them.
 fn spends_slots(rt: &impl Abort, memory: &Memory, me: &mut Port)
     requires { IsOf memory.now me.old × (1 ≤ memory.now.about.sizes.m) }
 {
@@ -348,7 +348,7 @@ fn has_stamps(rt: &impl Abort, chain: &[Link], stamps: &[u64]) {
     }
 }
 
-// The values and the chains of the closed memory behind these calls.
+// The values and the chains of the closed memory after these calls.
 fn assert_chains(rt: &impl Abort, closed: &Closed) {
     assert_eq!(rt; closed.values.as_slice(), [11, 13].as_slice());
     let stamps = [[36, 33, 24, 18].as_slice(), [42, 30, 21].as_slice()];
@@ -357,7 +357,7 @@ fn assert_chains(rt: &impl Abort, closed: &Closed) {
     }
 }
 
-// Closes the memory behind these calls.
+// Closes the memory after these calls.
 fn closed_behind(rt: &impl Abort, alloc: Global) -> Result<Closed, Fail> {
     let sizes = Sizes::new(2, 4, 8, 64)?;
     let (memory, mut first, second) = pair(alloc, sizes, &[10, 20])?;

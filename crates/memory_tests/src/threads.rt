@@ -46,7 +46,7 @@ fn closed_behind<R: Threads + Sync + Abort>(
     closed(alloc, memory, workers)
 }
 
-/// The same, and what each worker was told is judged, and so are the chains.
+/// The same, and what each worker was answered is judged, and so are the chains.
 fn worked<R: Threads + Sync + Abort>(
     rt: &R,
     alloc: Global,
@@ -235,7 +235,7 @@ fn scan_five_times(rt: &impl Abort, all: &[Told]) {
     assert_eq!(rt; answered, 5);
 }
 
-/// Both components have their initial records. Behind two components, four counters and five slots these take three
+/// Both components have their initial records. After two components, four counters and five slots these take three
 /// words each.
 fn has_initial_records(rt: &impl Abort, closed: &Closed) {
     assert_eq!(rt; closed.values.as_slice(), [0, 0].as_slice());

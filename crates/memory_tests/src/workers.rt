@@ -1,4 +1,4 @@
-//! Workers with ports, each in a thread of its own, and what their calls came to.
+//! Workers with ports, each in a thread of its own, and how their calls ended.
 
 ghost use Rattle.std.specs.Prelude.{◌≡◌, ◌<◌, ◌≤◌, length, All, IfOk, IfSome};
 ghost use Rattle.std.specs.List.{AllByRecursion};
@@ -28,7 +28,7 @@ pub enum Job {
     Meet,
 }
 
-/// What the calls of a worker came to.
+/// How the calls of a worker ended.
 #[derive(Drop)]
 pub struct Told {
     job: Job,

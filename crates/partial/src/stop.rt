@@ -35,7 +35,7 @@ impl Stop {
     /// A refusal of two plans, that names the one at fault when it is a fault of a plan.
     pub fn of_plan(alloc: Global, name: &str, fault: Fault) -> Stop {
         let names = match fault {
-            Fault::Plan(PlanError::Memory) => false,
+            Fault::Plan(PlanError::OutOfMemory) => false,
             Fault::Plan(_) | Fault::TooSmall => true,
             _ => false,
         };
@@ -68,7 +68,7 @@ impl From<Fault> for Stop {
 
 impl From<AllocError> for Stop {
     fn from(_error: AllocError) -> Stop {
-        Stop::Refused(Fault::Plan(PlanError::Memory))
+        Stop::Refused(Fault::Plan(PlanError::OutOfMemory))
     }
 }
 
@@ -76,7 +76,7 @@ impl From<AllocError> for Stop {
 impl From<io::Error> for Stop {
     fn from(error: io::Error) -> Stop {
         match error.kind() {
-            io::ErrorKind::OutOfMemory => Stop::Refused(Fault::Plan(PlanError::Memory)),
+            io::ErrorKind::OutOfMemory => Stop::Refused(Fault::Plan(PlanError::OutOfMemory)),
             _ => Stop::NotText,
         }
     }
@@ -85,7 +85,7 @@ impl From<io::Error> for Stop {
 impl From<Error> for Stop {
     fn from(error: Error) -> Stop {
         match error.kind() {
-            ErrorKind::OutOfMemory => Stop::Refused(Fault::Plan(PlanError::Memory)),
+            ErrorKind::OutOfMemory => Stop::Refused(Fault::Plan(PlanError::OutOfMemory)),
             _ => Stop::Words(error),
         }
     }

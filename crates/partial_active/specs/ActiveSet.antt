@@ -45,7 +45,7 @@ pub record Announcement : Type 0 where
 abbrev pub FindsAnnouncement : Layout → Announcement → SetPair → List ℕ → Type 0
 FindsAnnouncement s a p words = (p.0.stage ≡ Slot a.slot) × IsAnnouncement s words (slot_at s words a.slot) a.named
 
--- the indices with others behind them, each of which is put at the end unless it is there already
+-- the indices with others after them, each of which is put at the end unless it is there already
 abbrev pub with_all : List ℕ → List ℕ → List ℕ
 with_all indices [] = indices
 with_all indices (index ∷ more) = with_all (with_index indices index) more

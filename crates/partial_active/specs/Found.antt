@@ -28,12 +28,12 @@ last_place list = length list - 1
 abbrev pub touches : Ranges → ℕ → Bool
 touches list lo = nat_lt 0 (length list) && (highest list (last_place list) + 1 == lo)
 
--- the list with the numbers from lo to hi behind it: the last interval grows where they touch it
+-- the list with the numbers from lo to hi after it: the last interval grows where they touch it
 abbrev pub extended_list : Ranges → ℕ → ℕ → Ranges
 extended_list list lo hi =
     if touches list lo then slice_set list (last_place list) (lowest list (last_place list), hi) else list ++ (lo, hi) ∷ []
 
--- the numbers from lo to hi lie behind the list
+-- the numbers from lo to hi lie after the list
 pub record LiesBehind (list : Ranges) (lo hi : ℕ) : Type 0 where
   pub closed : lo ≤ hi
   pub bounded : hi < 4294967295

@@ -14,7 +14,7 @@ use Rattle.partial_active.specs.IndexSet.{with_index}
 use Rattle.partial_active.specs.Found.{Buffers, begins_at, extended_list}
 
 -- the sizes, whether the port is marked for lists, and of the walk: the list head as it was loaded,
--- the end of the slots, how many intervals lie behind it, and whether it noted a slot
+-- the end of the slots, how many intervals lie after it, and whether it noted a slot
 pub record GetSetState : Type 0 where
   pub sizes : Layout
   pub lists_spent : Bool
@@ -84,7 +84,7 @@ pass_interval p =
     let next : Ranges = extended_list p.1.next (lowest p.1.read p.0.passed) (highest p.1.read p.0.passed) in
     (record p.0 { passed = p.0.passed + 1 }, record p.1 { next = next })
 
--- the walk comes to a slot, and skips an interval of the list that was read when one begins there
+-- the walk reaches a slot, and skips an interval of the list that was read when one begins there
 abbrev pub come_to : SetPair → ℕ → SetPair
 come_to p slot = if begins_at p.1.read p.0.passed slot then at_slot (pass_interval p) (highest p.1.read p.0.passed + 1) else at_slot p slot
 

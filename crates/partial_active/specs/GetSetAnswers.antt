@@ -78,7 +78,7 @@ pub record IsReading (p : SetPair) (left : ℕ) : Type 0 where
   pub some : 0 < left
   pub room : 2 * (length p.1.read + left) ≤ p.0.sizes.slots + 1
 
--- the walk stands at the slot: what it passed lies below, and the rest of the list read behind
+-- the walk stands at the slot: what it passed lies below, and the rest of the list read lies after it
 pub record IsWalking (p : SetPair) (slot : ℕ) : Type 0 where
   pub list : HasRead p.0.sizes p.1.read
   pub end_within : p.0.end ≤ p.0.sizes.slots

@@ -8,7 +8,7 @@ use Rattle.partial_active.specs.declared.get_set.Stage.TheVariants.{Head, ListLe
 use Rattle.partial_active.specs.IndexSet.{has_index}
 use Rattle.partial_active.specs.GetSet.{SetPair}
 
--- What is told of slots and of blocks: a slot is VACATED; a list stands at a word; a slot refers to an announcement, of these
+-- What is known of slots and of blocks: a slot is VACATED; a list stands at a word; a slot refers to an announcement, of these
 -- indices, at a word; among these indices that were found is each one that a slot announces.
 pub record Facts : Type 1 where
   pub vacated : ℕ → Type 0

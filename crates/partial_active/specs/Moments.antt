@@ -24,7 +24,7 @@ pub record IsOrderlyEvent (s : Layout) (past : List (List ℕ)) (before after : 
   pub slots : (slot : ℕ) → slot < s.slots → IsSlotMove s before after slot
   pub blocks : (at : ℕ) (block : List ℕ) → AtSome (Publishes s at block) past → StandsAt before at block → StandsAt after at block
 
--- each of the events is orderly, behind these moments
+-- each of the events is orderly, after these moments
 abbrev pub AreOrderly : Layout → List (List ℕ) → List ℕ → List Event → Type 0
 AreOrderly s past words [] = Unit {0}
 AreOrderly s past words (e ∷ es) =
@@ -34,7 +34,7 @@ AreOrderly s past words (e ∷ es) =
 abbrev pub IsOrderlyRun : Layout → List ℕ → List Event → Type 0
 IsOrderlyRun s words events = Orderly s words × AreOrderly s [] words events
 
--- the words behind the events
+-- the words after the events
 abbrev pub words_behind : List ℕ → List Event → List ℕ
 words_behind words [] = words
 words_behind words (e ∷ es) = words_behind (words_after words e.step) es

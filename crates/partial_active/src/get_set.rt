@@ -412,7 +412,7 @@ impl GetSet {
         }
     }
 
-    // The walk comes to a slot. It skips an interval of the list that was read when one begins there.
+    // The walk reaches a slot. It skips an interval of the list that was read when one begins there.
     #[inline(always)]
     fn come_to(&mut self, found: &mut Found, slot: u32)
         requires walking { IsWalking (self.old, found.old) slot }

@@ -9,7 +9,7 @@ use partial_words::Step;
 /// The steps of one getSet. Other ports may make steps between them. To contracts it is the getSet with its
 /// buffers, as its answers so far have left them.
 pub trait Steps {
-    /// What is told of a call that is broken off: [`Infallible`](std::convert::Infallible) where none ever is.
+    /// What is said of a call that is broken off: [`Infallible`](std::convert::Infallible) where none ever is.
     type Break: Drop;
 
     /// The call that makes the steps is under way.

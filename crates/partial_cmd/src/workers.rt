@@ -52,7 +52,7 @@ pub fn into_report(ran: Ran) -> RunReport
 ///
 /// # Errors
 ///
-/// [`RunError::Memory`] when an allocation was refused or a worker couldn't be started. It returns when all
+/// [`RunError::OutOfMemory`] when an allocation was refused or a worker couldn't be started. It returns when all
 /// workers that were started have ended, and nothing is left of the run.
 pub fn run_workers<R: Threads + Wait + Sync, G: Gate>(
     rt: &R,

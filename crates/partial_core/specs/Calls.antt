@@ -17,7 +17,7 @@ use Rattle.partial_machine.specs.Steps.{Run, AreOfScan, pairs_loaded}
 use Rattle.partial_core.specs.Part.{Part, port_of, answers_of, first_at, HasBegun, IsLedTo, IsBetween, fresh_part}
 use Rattle.partial_core.specs.Steps.{AreNotesOf, FitsHistory, Tells}
 
--- why a call was refused behind some steps: the last of them was its claim, which went past the end of its region
+-- why a call was refused after some steps: the last of them was its claim, which went past the end of its region
 pub record IsRefusedLast (b : CoreState) (answers : List ℕ) (c : CoreState) (cause : Refused) : Type 0 where
   pub front : List ℕ
   pub last : ℕ

@@ -16,7 +16,7 @@ abbrev pub LawfulIsOrderly : Type 0
 LawfulIsOrderly = (z : Layout) (o : Opening) (words : List ℕ) (parts : List Part) (log : List Applied) →
     Lawful z o words parts log → Orderly z words
 
--- the due step of any port is an orderly event, behind the words that it changes
+-- the due step of any port is an orderly event, after the words that it changes
 abbrev pub StepsAreOrderly : Type 0
 StepsAreOrderly = (z : Layout) (o : Opening) (m : PartAmong) (c : CoreState) (step : Step) →
     LawfulAmong z o m → IsMachineOf c m.part → step_of c ≡ Some step →

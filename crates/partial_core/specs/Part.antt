@@ -35,7 +35,7 @@ pub record PartAmong : Type 0 where
 abbrev pub all_parts : PartAmong → List Part
 all_parts m = m.before ++ m.part ∷ m.after
 
--- the machine behind these answers
+-- the machine after these answers
 abbrev pub led_by : CoreState → List KeptAnswer → CoreState
 led_by s [] = s
 led_by s (k ∷ ks) = led_by (advance s k.answer) ks

@@ -27,7 +27,7 @@ abbrev pub LawfulPortsFit : Type 0
 LawfulPortsFit = (z : Layout) (o : Opening) (words : List ℕ) (parts : List Part) (log : List Applied) →
     Lawful z o words parts log → PortsFitHistory z o parts log
 
--- the words agree with the history, and each record lies within them, behind the component words
+-- the words agree with the history, and each record lies within them, after the component words
 pub record RecordsAreWithin (z : Layout) (o : Opening) (words : List ℕ) (log : List Applied) : Type 0 where
   pub sizes : IsLayout z
   pub values : length o.values ≡ z.m

@@ -112,14 +112,14 @@ pub record FitsHistory (o : Opening) (log : List Applied) (x : Part) : Type 0 wh
   pub shown : seen_by 0 x.notes ≤ length log
   pub once : places_by (port_of x) 0 log ≡ places_written x.notes
 
--- What a step of the machine c tells its port, where its answer is a and the history had been `log` and has gained these
+-- What a step of the machine c shows its port, where its answer is a and the history had been `log` and has gained these
 -- entries: it leads from the part x to the part y.
 pub record Tells (z : Layout) (o : Opening) (log entries : List Applied) (x : Part) (c : CoreState) (a : ℕ) (y : Part) : Type 0 where
   pub new : List Noted
   pub part : y ≡ moved_part c a (log ++ entries) new x
   -- the history begins with all that the port had seen
   pub seen : x.seen ≡ take (length x.seen) log
-  -- the answer was possible, and the machine behind it is the part's
+  -- the answer was possible, and the machine after it is the part's
   pub possible : IsPossible c a
   pub behind : IsBehind c a
   pub machine : IsLedTo (advance c a) y
@@ -131,7 +131,7 @@ pub record Tells (z : Layout) (o : Opening) (log entries : List Applied) (x : Pa
   pub noted : AreNotesOf o y (reply_of (advance c a)) new
   pub fits : FitsHistory o y.seen y
 
--- the memory behind the port's step, with the part that the step leads to
+-- the memory after the port's step, with the part that the step leads to
 abbrev pub memory_after : Layout → PartAmong → Step → Part → PartAmong
 memory_after z m step y =
     record m { words = words_after m.words step; part = y; log = m.log ++ added_by z (port_of m.part) m.words step }

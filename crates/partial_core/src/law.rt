@@ -50,7 +50,7 @@ pub fn lawful_calls_are_bounded()
 {}
 
 /// The first step of a call makes it a call that has made steps: the answers that it keeps lead from its
-/// begin to where it is, and what it notes lies behind all that its port had observed before.
+/// begin to where it is, and what it notes lies after all that its port had observed before.
 pub fn first_steps_make_calls()
     ensures { FirstStepsMakeCalls }
 {}

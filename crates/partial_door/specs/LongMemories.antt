@@ -129,8 +129,8 @@ IsOtherRoom _ room = ⊥
 abbrev pub IsLongAway : LongMemory → Type 0
 IsLongAway m = (length m.ports.items ≡ 0) ⊎ (length m.ports.items ≡ m.count → ⊥)
 
--- why a memory isn't closed, and is as it was: there is none, or the room is another one, or a port wasn't returned, or all were and a
--- reference of the memory is in use
+-- why a memory isn't closed, and is as it was: there is none, or the room is another one, or a port wasn't returned, or all were and
+-- another handle still references the memory
 abbrev pub MayNotCloseLong : Held → ℕ → ℕ → Type 0
 MayNotCloseLong h room code =
     (HoldsNoLong h × (code ≡ 17))

@@ -51,7 +51,7 @@ MayNotOpenWith z ports code =
     ((e : SizeError) × (code ≡ size_code e) × IsFirstFault z e)
     ⊎ ((e : OpenError) × (code ≡ open_code e) × IsLayout z × MayNotOpen ports e)
 
--- what is held is a memory that goes on with these values of a closed one, and zeros behind them
+-- what is held is a memory that goes on with these values of a closed one, and zeros after them
 abbrev pub GoesOnWith : ℕ → List ℕ → Layout → ℕ → Held → Type 0
 GoesOnWith opening values z ports h =
     (m : OpenMemory) × (h ≡ Held.Memory m) × (length values ≤ z.m) × HasOpened opening z (extended_values z.m values) ports m
@@ -151,7 +151,7 @@ ClosesAt h k = (m : OpenMemory) × (closed : Closed) × (h ≡ Held.Memory m) ×
 abbrev pub IsAway : OpenMemory → Type 0
 IsAway m = (length m.ports.items ≡ 0) ⊎ (length m.ports.items ≡ m.count → ⊥)
 
--- why a memory stays open: there is none, or a port wasn't returned, or all were and a reference of the memory is in use
+-- why a memory stays open: there is none, or a port wasn't returned, or all were and another handle still references the memory
 abbrev pub MayNotClose : Held → ℕ → Type 0
 MayNotClose h code =
     (HoldsNoMemory h × (code ≡ 17))

@@ -71,7 +71,7 @@ pub struct ArenaSizes {
     /// How many list words there are, for lists of vacated slots: at most 65,536.
     pub lists: u32,
     /// How many pool words are claimed in an epoch before the memory goes on to the next one: at most 131,072, less 4
-    /// for each port and 2 for each port and component. 0 stands for as many as suit the number of ports.
+    /// for each port and 2 for each port and component. 0 means as many as suit the number of ports.
     pub pool: u32,
 }
 

@@ -15,7 +15,7 @@ use partial_model::Refused;
 /// The call was answered.
 pub const FINE: u32 = 0;
 /// An allocation was refused.
-pub const MEMORY: u32 = 6;
+pub const OUT_OF_MEMORY: u32 = 6;
 /// The handle doesn't hold what the call needs.
 pub const HOLDS_NONE: u32 = 17;
 /// The handle that is to be filled holds something already.
@@ -25,10 +25,10 @@ pub const LENGTH: u32 = 19;
 /// The two handles are of two memories.
 pub const TWO_MEMORIES: u32 = 20;
 /// The memory holds no port.
-pub const NONE_HOME: u32 = 21;
+pub const NONE_FREE: u32 = 21;
 /// Not all ports were returned to the memory.
-pub const NOT_ALL_HOME: u32 = 22;
-/// All ports were returned, and a reference of the memory is in use. A port that is returned gives up its
+pub const IN_USE: u32 = 22;
+/// All ports were returned, and another handle still references the memory. A port that is returned gives up its
 /// reference, so a caller who makes one call after the other on a handle doesn't get this number.
 pub const SHARED: u32 = 24;
 

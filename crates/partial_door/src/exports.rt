@@ -9,7 +9,7 @@ ghost use Rattle.partial_door.specs.Calls.{ReadEnds, ScanEnds, StateEnds, Update
 ghost use Rattle.partial_door.specs.Exports.{AtHandle, ClosesHandle, CopiesAt, GivesAt, MeetsHandles, OpensAt, ReopensAt, TakesAt};
 
 use crate::answers::{PortState, ReadAnswer, RoomSizes, ScanAnswer, UpdateAnswer};
-use crate::codes::{FINE, HOLDS_NONE, HOLDS_ONE, MEMORY, Misuse, VERSION};
+use crate::codes::{FINE, HOLDS_NONE, HOLDS_ONE, Misuse, OUT_OF_MEMORY, VERSION};
 use crate::handle::Handle;
 use crate::memories::{Unclosed, open};
 use std::alloc::Global;
@@ -251,7 +251,7 @@ pub extern "C" fn partial_door_meet(first: &mut Handle, second: &mut Handle) -> 
 /// Closes a memory to which all ports were returned. Its handle holds the closed memory afterwards.
 ///
 /// Returns 17 when the handle holds no open memory, 22 when not all ports were returned, and 24 when all
-/// were and a reference of the memory is in use. Returns 6 when an allocation was refused: then the
+/// were and another handle still references the memory. Returns 6 when an allocation was refused: then the
 /// contents are lost and the handle is empty.
 #[unsafe(no_mangle)]
 pub extern "C" fn partial_door_close(alloc: Global, memory: &mut Handle) -> u32
@@ -265,7 +265,7 @@ pub extern "C" fn partial_door_close(alloc: Global, memory: &mut Handle) -> u32
         Err(Unclosed::Kept(code)) => code,
         Err(Unclosed::Lost) => {
             drop(memory.take(alloc));
-            MEMORY
+            OUT_OF_MEMORY
         }
     }
 }

@@ -15,7 +15,7 @@ use std::sync::Arc;
 /// An open memory, with those of its ports that nobody has taken.
 #[derive(Drop)]
 pub struct OpenMemory {
-    /// The number of the opening, which tells ports of two memories apart.
+    /// The number of the opening, which keeps ports of two memories apart.
     pub opening: u64,
     /// How many components the memory has.
     pub components: u32,
@@ -32,7 +32,7 @@ pub struct OpenMemory {
 /// A port with its own reference of the memory, so that it can be used alone.
 #[derive(Drop)]
 pub struct OwnedPort {
-    /// The number of the opening, which tells ports of two memories apart.
+    /// The number of the opening, which keeps ports of two memories apart.
     pub opening: u64,
     /// How many components the memory has.
     pub components: u32,
@@ -47,7 +47,7 @@ pub struct OwnedPort {
 /// A long-lived memory, with those of its ports that nobody has taken.
 #[derive(Drop)]
 pub struct LongMemory {
-    /// The number of the memory, which tells ports of two memories apart.
+    /// The number of the memory, which keeps ports of two memories apart.
     pub number: u64,
     /// How many components the memory has.
     pub components: usize,
@@ -65,7 +65,7 @@ pub struct LongMemory {
 /// A port of a long-lived memory with its own reference of that, so that it can be used alone.
 #[derive(Drop)]
 pub struct LongPort {
-    /// The number of the memory, which tells ports of two memories apart.
+    /// The number of the memory, which keeps ports of two memories apart.
     pub number: u64,
     /// How many components the memory has.
     pub components: usize,

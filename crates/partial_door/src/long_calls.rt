@@ -15,7 +15,7 @@ impl Held {
     /// Sets a component.
     ///
     /// Returns 17 when this isn't a port of a long-lived memory, 7 when `component` isn't below the number of
-    /// components, 25 when the port came to a later epoch 16 times during the call, and 26 or 27 when the
+    /// components, 25 when the port entered a later epoch 16 times during the call, and 26 or 27 when the
     /// epoch has to be changed and can't be.
     pub fn update_long(&mut self, component: u32, value: u64, answer: &mut UpdateAnswer) -> u32
         ensures { AtLongPort (answer.new ≡ answer.old) (LongUpdateEnds component value answer.old answer.new)
@@ -113,7 +113,7 @@ impl Held {
     }
 
     /// Scans the components `which` into `into`, and their stamps into `stamps`, unless the scan took the view of an
-    /// update, which `answer` tells: then `stamps` stays.
+    /// update, which `answer` says: then `stamps` stays.
     ///
     /// Returns 17 when this isn't a port of a long-lived memory, 19 when two of the three lengths differ or they
     /// exceed the number of components, 7 when an index isn't below that number, and 26 or 27 when the epoch has to

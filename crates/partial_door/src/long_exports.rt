@@ -17,7 +17,7 @@ use std::alloc::Global;
 /// Sets a component.
 ///
 /// Returns 17 when the handle holds no port of a long-lived memory, 7 when `component` isn't below the number
-/// of components, 25 when the port came to a later epoch 16 times during the call, and 26 or 27 when the epoch
+/// of components, 25 when the port entered a later epoch 16 times during the call, and 26 or 27 when the epoch
 /// has to be changed and can't be.
 #[unsafe(no_mangle)]
 pub extern "C" fn partial_door_port_update(
@@ -96,7 +96,7 @@ pub extern "C" fn partial_door_port_scan(
 }
 
 /// Scans the components `which` into `into`, and their stamps into `stamps`, unless the scan took the view of an
-/// update, which `answer` tells: then `stamps` stays.
+/// update, which `answer` says: then `stamps` stays.
 ///
 /// Returns 17 when the handle holds no port of a long-lived memory, 19 when two of the three lengths differ or
 /// they exceed the number of components, 7 when an index isn't below that number, and 26 or 27 when the epoch has
@@ -260,7 +260,7 @@ pub extern "C" fn partial_door_memory_give_port(
 /// empty afterwards.
 ///
 /// Returns 17 when the handle holds no long-lived memory, 19 when `into` isn't as long as that has components,
-/// 22 when not all ports were returned, and 24 when all were and a reference of the memory is in use. Returns 6
+/// 22 when not all ports were returned, and 24 when all were and another handle still references the memory. Returns 6
 /// when an allocation was refused: then the handle holds the memory with all its ports. It may be closed later,
 /// and its ports are not taken out again.
 #[unsafe(no_mangle)]

@@ -9,7 +9,7 @@ ghost use Rattle.partial_door.specs.LongMemories.{AreLongApart, ClosesLong, Give
 ghost use Rattle.partial_door.specs.LongMemories.{MayNotBeNew, MayNotCloseLong, MayNotGiveLong, MayNotTakeLong, StaysLong, TakesLongPort, options_of};
 
 use crate::answers::ArenaSizes;
-use crate::codes::{HOLDS_NONE, LENGTH, MEMORY, NONE_HOME, NOT_ALL_HOME, SHARED, TWO_MEMORIES};
+use crate::codes::{HOLDS_NONE, IN_USE, LENGTH, NONE_FREE, OUT_OF_MEMORY, SHARED, TWO_MEMORIES};
 use crate::held::{Held, LongClosing, LongMemory, LongPort};
 use crate::memories::{boxed, nothing};
 use partial_long_lived::{LongLived, Options, Port, Unclosed};
@@ -33,7 +33,7 @@ fn at_home(
 {
     let (memory, ports) = opened;
     let Ok(memory) = Arc::new(alloc, memory) else {
-        return Err(MEMORY);
+        return Err(OUT_OF_MEMORY);
     };
     let open = LongMemory {
         number,
@@ -104,13 +104,13 @@ impl Held {
             return Err(HOLDS_NONE);
         };
         if open.ports.is_empty() {
-            return Err(NONE_HOME);
+            return Err(NONE_FREE);
         }
         let Ok(mut taken) = boxed(alloc, nothing(alloc)) else {
-            return Err(MEMORY);
+            return Err(OUT_OF_MEMORY);
         };
         let Ok(memory) = Arc::try_clone(&open.memory) else {
-            return Err(MEMORY);
+            return Err(OUT_OF_MEMORY);
         };
         let Some(port) = open.ports.pop() else {
             unreachable!()
@@ -147,7 +147,7 @@ impl Held {
             return Err((TWO_MEMORIES, given));
         }
         if open.ports.reserve(1).is_err() {
-            return Err((MEMORY, given));
+            return Err((OUT_OF_MEMORY, given));
         }
         let own = Box::into_inner(given).into_long_port();
         open.ports.push_reserved(own.port);
@@ -243,7 +243,7 @@ fn ready(held: Held, room: usize) -> Result<LongClosing, (u32, Held)>
             }
             match open.alone() {
                 Ok(closing) => Ok(closing),
-                Err(Unready::Away(open)) => Err((NOT_ALL_HOME, Held::LongMemory(open))),
+                Err(Unready::Away(open)) => Err((IN_USE, Held::LongMemory(open))),
                 Err(Unready::Shared(open)) => Err((SHARED, Held::LongMemory(open))),
             }
         }
@@ -270,7 +270,7 @@ fn closed(found: Held, alloc: Global, into: &mut [u64]) -> (Held, Result<(), u32
     };
     match closing.close(alloc, into) {
         Ok(()) => (nothing(alloc), Ok(())),
-        Err(kept) => (Held::LongClosing(kept), Err(MEMORY)),
+        Err(kept) => (Held::LongClosing(kept), Err(OUT_OF_MEMORY)),
     }
 }
 
@@ -280,7 +280,7 @@ impl Held {
     ///
     /// # Errors
     /// 17 when this isn't a long-lived memory, 19 when `into` isn't as long as it has components, 22 when not
-    /// all ports were returned, and 24 when all were and a reference of the memory is in use: this is as it
+    /// all ports were returned, and 24 when all were and another handle still references the memory: this is as it
     /// was. 6 when an allocation was refused: this is the memory with all its ports, and closes later.
     pub fn close_long(&mut self, alloc: Global, into: &mut [u64]) -> Result<(), u32>
         ensures ok { IfOk result (λ _. ClosesLong self.old into.new) }

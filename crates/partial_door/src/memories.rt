@@ -12,7 +12,7 @@ ghost use Rattle.partial_door.specs.Memories.{MayNotGive, MayNotGoOn, MayNotOpen
 
 use crate::answers::RoomSizes;
 use crate::codes::{
-    FINE, HOLDS_NONE, LENGTH, MEMORY, NONE_HOME, NOT_ALL_HOME, SHARED, TWO_MEMORIES,
+    FINE, HOLDS_NONE, IN_USE, LENGTH, NONE_FREE, OUT_OF_MEMORY, SHARED, TWO_MEMORIES,
 };
 use crate::held::{Held, OpenMemory, OwnedPort};
 use partial_memory::{Closed, Memory, Port};
@@ -45,7 +45,7 @@ pub(crate) fn boxed(alloc: Global, held: Held) -> Result<Box<Held>, u32>
         Ok(held) => Ok(held),
         Err(failed) => {
             drop(failed);
-            Err(MEMORY)
+            Err(OUT_OF_MEMORY)
         }
     }
 }
@@ -65,7 +65,7 @@ fn at_home(
 {
     let (memory, ports) = opened;
     let Ok(memory) = Arc::new(alloc, memory) else {
-        return Err(MEMORY);
+        return Err(OUT_OF_MEMORY);
     };
     let open = OpenMemory {
         opening,
@@ -180,13 +180,13 @@ impl Held {
             return Err(HOLDS_NONE);
         };
         if open.ports.is_empty() {
-            return Err(NONE_HOME);
+            return Err(NONE_FREE);
         }
         let Ok(mut taken) = boxed(alloc, nothing(alloc)) else {
-            return Err(MEMORY);
+            return Err(OUT_OF_MEMORY);
         };
         let Ok(memory) = Arc::try_clone(&open.memory) else {
-            return Err(MEMORY);
+            return Err(OUT_OF_MEMORY);
         };
         let Some(port) = open.ports.pop() else {
             unreachable!()
@@ -223,7 +223,7 @@ impl Held {
             return Err((TWO_MEMORIES, given));
         }
         if open.ports.reserve(1).is_err() {
-            return Err((MEMORY, given));
+            return Err((OUT_OF_MEMORY, given));
         }
         let own = Box::into_inner(given).into_port();
         open.ports.push_reserved(own.port);
@@ -297,7 +297,7 @@ fn closed(found: Held, alloc: Global) -> (Held, Result<(), Unclosed>)
     };
     match open.close(alloc) {
         Ok(closed) => (Held::Closed(closed), Ok(())),
-        Err(Kept::Away(open)) => (Held::Memory(open), Err(Unclosed::Kept(NOT_ALL_HOME))),
+        Err(Kept::Away(open)) => (Held::Memory(open), Err(Unclosed::Kept(IN_USE))),
         Err(Kept::Shared(open)) => (Held::Memory(open), Err(Unclosed::Kept(SHARED))),
         Err(Kept::Lost) => (nothing(alloc), Err(Unclosed::Lost)),
     }
@@ -308,7 +308,7 @@ impl Held {
     ///
     /// # Errors
     /// [`Unclosed::Kept`] with 17 when this isn't an open memory, with 22 when not all ports were returned,
-    /// and with 24 when all were and a reference of the memory is in use. [`Unclosed::Lost`] when an
+    /// and with 24 when all were and another handle still references the memory. [`Unclosed::Lost`] when an
     /// allocation was refused.
     pub fn close(&mut self, alloc: Global) -> Result<(), Unclosed>
         ensures ok { IfOk result (λ _. ClosesAt self.old self.new) }

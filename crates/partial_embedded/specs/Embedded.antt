@@ -94,7 +94,7 @@ after_collect p =
     if is_first p || p.0.moved then (record p.0 { collects = p.0.collects + 1; moved = false; stage = Collect 0 }, p.1)
     else view_at_stage p (Value 0)
 
--- the position behind k, or the end of the collect
+-- the position after k, or the end of the collect
 abbrev pub go_on : ℕ → ViewPair → ℕ → ViewPair
 go_on r p k = if nat_lt (k + 1) r then view_at_stage p (Collect (k + 1)) else after_collect p
 
@@ -143,7 +143,7 @@ count_true (suc r) (b ∷ bs) = (if b then 1 else 0) + count_true r bs
 abbrev pub changes : ℕ → RowsState → ℕ
 changes r rows = count_true r rows.changed
 
--- how many collects there may be behind the one under way: each but the last shows a position's first change
+-- how many collects there may be after the one under way: each but the last shows a position's first change
 abbrev pub future : ℕ → ViewPair → ℕ
 future r p = if is_first p then r + 1 else if p.0.moved then r - changes r p.1 + 1 else r - changes r p.1
 

@@ -60,7 +60,7 @@ pub record ShowsThirdRecord (r : ℕ) (xs : List ℕ) (collects stamp : ℕ) : T
   pub shown : load_in r xs (second + 1) position ≡ stamp
   pub left : length xs ≡ r * (second + 1) + position + 1
 
--- it loads values only behind two equal collects, and borrows only from a third record at one position
+-- it loads values only after two equal collects, and borrows only from a third record at one position
 abbrev pub EndsInEqualCollectsOrAThirdRecord : Type 0
 EndsInEqualCollectsOrAThirdRecord =
     (s : Layout) (shares : Bool) (indices : List ℕ) (rows : RowsState) (xs : List ℕ) (q : ViewPair) → RunsTo s shares indices rows xs q →
@@ -91,7 +91,7 @@ pub record LoadsView (r : ℕ) (xs : List ℕ) (q : ViewPair) (stamp : ℕ) : Ty
   pub third : ShowsThirdRecord r front q.0.collects stamp
   pub borrowed : q.0.borrowed ≡ Some stamp
 
--- A finished scan has borrowed nothing, and then its values are those that it loaded behind two equal collects; or it has
+-- A finished scan has borrowed nothing, and then its values are those that it loaded after two equal collects; or it has
 -- borrowed the view of the record that was the third one at some position.
 pub record EndsWell (indices xs : List ℕ) (q : ViewPair) : Type 0 where
   pub own : q.0.borrowed ≡ None → LoadsValues indices xs q (length indices)

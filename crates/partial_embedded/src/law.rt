@@ -19,7 +19,7 @@ pub fn ends_in_equal_collects_or_a_third_record()
     ensures { EndsInEqualCollectsOrAThirdRecord }
 {}
 
-/// A finished embedded scan either has the values that it loaded behind two equal collects, or has taken
+/// A finished embedded scan either has the values that it loaded after two equal collects, or has taken
 /// the view of the record that was the third one at some position, at which it left its collect at once.
 pub fn finished_scans_end_well()
     ensures { FinishedScansEndWell }

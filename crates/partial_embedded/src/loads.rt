@@ -7,7 +7,7 @@ ghost use Rattle.partial_embedded.specs.Embedded.{ViewPair, IsPossibleInView, ad
 /// The loads of one embedded scan. Other ports may make steps between them. To contracts it is the scan
 /// with its buffers and its positions, as its answers so far have left them.
 pub trait Loads {
-    /// What is told of a call that is broken off: [`Infallible`](std::convert::Infallible) where none ever is.
+    /// What is said of a call that is broken off: [`Infallible`](std::convert::Infallible) where none ever is.
     type Break: Drop;
 
     /// The call that makes the loads is under way.

@@ -59,8 +59,8 @@ impl Rows {
         values[component as usize]
     }
 
-    /// The references that were loaded last, of each position. Behind a finished scan that took no view they are those
-    /// of its last two collects, at as many places as it has positions; what stands behind them says nothing.
+    /// The references that were loaded last, of each position. After a finished scan that took no view they are those
+    /// of its last two collects, at as many places as it has positions; what stands after them says nothing.
     #[inline(always)]
     pub fn last(&self) -> &[u64]
         ensures { result.now ≡ self.now.last }

@@ -14,7 +14,7 @@ abbrev pub collected_stamps : Opening → List Applied → List ℕ → List ℕ
 collected_stamps o h (j ∷ js) (n ∷ ns) = stamp_of o (take n h) j ∷ collected_stamps o h js ns
 collected_stamps o h js ns = []
 
--- the values behind them
+-- the values after them
 abbrev pub collected_values : Opening → List Applied → List ℕ → List ℕ → List ℕ
 collected_values o h (j ∷ js) (n ∷ ns) = value_of o (take n h) j ∷ collected_values o h js ns
 collected_values o h js ns = []

@@ -36,7 +36,7 @@ pub record MayPut (q : Control) (k : ℕ) (a : Place) : Type 0 where
   -- it owns an arena
   pub owned : OwnedArena
   pub is : q.owned ≡ Some owned
-  -- k is the port that it comes to next
+  -- k is the port that it looks at next
   pub port : owned.clean ≡ k
   -- it holds that mark of k
   pub mark : owned.mark ≡ Some a

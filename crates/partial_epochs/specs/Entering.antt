@@ -36,7 +36,7 @@ EntriesLoad = (e : Plan) (words : List ℕ) (ports : ℕ → Port) (b : Beside) 
     (slice_index words current_word ≡ packed (place_now b))
     × LawfulEpochs e words (put k (record (ports k) { control = record (ports k).control { entering = Loaded (place_now b) } }) ports) b
 
--- the port that has come to that place, with a new part there
+-- the port that has entered that place, with a new part there
 abbrev pub arrived_port : Plan → ℕ → Place → List (List Applied) → Port
 arrived_port e k c before = record {
   control = record { here = c; entering = Stands; past = false; owned = None };
@@ -46,7 +46,7 @@ arrived_port e k c before = record {
   before = before;
 }
 
--- The third: the exchange of the mark. The port comes to the place that it has loaded where the exchange is won, and else to the one that
+-- The third: the exchange of the mark. The port enters the place that it has loaded where the exchange is won, and else to the one that
 -- another port has put.
 pub record Arrives (e : Plan) (words : List ℕ) (ports : ℕ → Port) (b : Beside) (k : ℕ) (c : Place) : Type 0 where
   pub place : Place

@@ -21,7 +21,7 @@ use Rattle.partial_epochs.specs.Ports.{OwnedArena, Control, Port, Epoch}
 use Rattle.partial_epochs.specs.Control.{LawfulControl}
 use Rattle.partial_epochs.specs.Ports.Entering.{Stands}
 
--- the sizes of a plan: above each port's greatest claim there is room behind the limit
+-- the sizes of a plan: above each port's greatest claim there is room after the limit
 pub record IsEpochPlan (e : Plan) : Type 0 where
   -- an arena has the sizes of one memory
   pub sizes : IsLayout e.sizes
@@ -33,9 +33,9 @@ pub record IsEpochPlan (e : Plan) : Type 0 where
   -- each component has an opening value, and the initial stamps are the initial records
   pub values : length e.opening.values ≡ e.sizes.m
   pub first : e.opening.first ≡ pool_base e.sizes
-  -- the limit lies behind the initial records
+  -- the limit lies after the initial records
   pub opens : first_free e.sizes ≤ e.limit
-  -- behind the limit there is room for the greatest claim of each port
+  -- after the limit there is room for the greatest claim of each port
   pub limit : e.limit + greatest_record e.sizes * e.ports ≤ pool_end e.sizes
 
 -- What stands beside words and ports (ghost state).
@@ -87,7 +87,7 @@ pub record IsArena (e : Plan) (words components carried : List ℕ) (r : Epoch) 
   pub lawful : one.Lawful e.sizes (opening_behind e.opening r.before) words (list_of r.part 0 e.ports) r.log
   -- part k is that of port k
   pub numbers : (k : ℕ) → k < e.ports → port_of (r.part k) ≡ k
-  -- the carried stamps are the public stamps that the components have behind the epochs before
+  -- the carried stamps are the public stamps that the components have after the epochs before
   pub stamps : (j : ℕ) → j < e.sizes.m → slice_index carried j ≡ carried_behind e.opening r.before j
   -- a component has no more seals than ports have passed it, so that they fit above the reference
   pub few : (j : ℕ) → j < e.sizes.m → seals (slice_index components j) ≤ count (λ k. nat_lt j (r.passed k)) 0 e.ports
@@ -107,7 +107,7 @@ pub record IsStanding (b : Beside) (k : ℕ) (p : Port) : Type 0 where
   -- its arena holds an epoch
   pub epoch : Epoch
   pub is : b.holds p.control.here.arena ≡ Some epoch
-  -- that epoch follows those that the port has behind it
+  -- that epoch follows those that the port has passed
   pub before : epoch.before ≡ p.before
   -- what the epoch has of the port is what the port has
   pub part : epoch.part k ≡ p.part
@@ -120,7 +120,7 @@ pub record IsNewPart (e : Plan) (k : ℕ) (r : Epoch) : Type 0 where
   pub passed : r.passed k ≡ 0
   pub over : r.over k ≡ false
 
--- the words of the next epoch are those of an opening, with the values and the stamps behind all epochs
+-- the words of the next epoch are those of an opening, with the values and the stamps after all epochs
 abbrev pub next_epoch_word : Plan → Beside → ℕ → ℕ
 next_epoch_word e b i =
     if nat_lt i (first_free e.sizes) then opening_word e.sizes (opening_behind e.opening (b.log ∷ b.before)).values (set_offset e.sizes i)

@@ -1,4 +1,4 @@
--- Each epoch has a history of its own; the one history is that of all epochs, one behind the other, with public stamps.
+-- Each epoch has a history of its own; the one history is that of all epochs, one after the other, with public stamps.
 use Rattle.std.specs.Prelude.{ℕ, ◌+◌, ◌*◌, ◌<◌, List, [], ◌∷◌, ◌++◌, length, map, ◌≡◌}
 use Rattle.partial_model.specs.declared.history.Opening.{Opening}
 use Rattle.std.specs.Option.{option_map_or}
@@ -27,11 +27,11 @@ abbrev pub history_of : List (List Applied) → List Applied
 history_of [] = []
 history_of (h ∷ before) = history_of before ++ public_log (length before) h
 
--- with what an epoch opens, behind an epoch that opened so and had that history
+-- with what an epoch opens, after an epoch that opened so and had that history
 abbrev pub opening_after : Opening → List Applied → Opening
 opening_after o h = record { values = list_of (value_of o h) 0 (length o.values); first = o.first }
 
--- with what the epoch behind these opens
+-- with what the epoch after these opens
 abbrev pub opening_behind : Opening → List (List Applied) → Opening
 opening_behind o [] = o
 opening_behind o (h ∷ before) = opening_after (opening_behind o before) h
@@ -40,7 +40,7 @@ opening_behind o (h ∷ before) = opening_after (opening_behind o before) h
 abbrev pub carried_after : ℕ → (ℕ → ℕ) → List Applied → ℕ → ℕ
 carried_after epoch carried h j = option_map_or (λ e. public_stamp epoch e.stamp) (last_entry j h) (carried j)
 
--- the public stamp that component j has behind these epochs
+-- the public stamp that component j has after these epochs
 abbrev pub carried_behind : Opening → List (List Applied) → ℕ → ℕ
 carried_behind o [] = λ j. initial_stamp o j
 carried_behind o (h ∷ before) = carried_after (length before) (carried_behind o before) h

@@ -25,7 +25,7 @@ UnsealedIsPresent = (e : Plan) (words : List ℕ) (ports : ℕ → Port) (b : Be
     k < e.ports → (ports k).control.entering ≡ Stands → j < e.sizes.m →
     ¬ IsSealed (slice_index (component_words e words (ports k).control.here.arena) j) → IsPresent b k (ports k)
 
--- the exchange of a component finds the record that it expects, but sealed: it isn't won, and tells the machine nothing
+-- the exchange of a component finds the record that it expects, but sealed: it isn't won, and shows the machine nothing
 abbrev pub MeetsSeal : Plan → List ℕ → Step → Type 0
 MeetsSeal e components (Exchange w old new) =
     (w < e.sizes.m) × IsSealed (slice_index components w) × (unsealed (slice_index components w) ≡ old)
@@ -42,7 +42,7 @@ MayClaim e over (Add w n) = w ≡ pool_counter e.sizes → over ≡ false
 MayClaim e over _ = ⊤
 
 -- What the due step of a port's machine leads to, made in the arena where the port stands: the machine's answer is the one that the words
--- give without their seals, and the one law of steps tells the port what it tells.
+-- give without their seals, and the one law of steps shows the port what it shows.
 pub record MachineLeads (e : Plan) (words : List ℕ) (ports : ℕ → Port) (b : Beside) (k : ℕ) (c : CoreState) (step : Step) : Type 0 where
   pub standing : IsStanding b k (ports k)
   -- the step meets no seal
@@ -84,7 +84,7 @@ ClaimsHaveRoom = (e : Plan) (words : List ℕ) (ports : ℕ → Port) (b : Besid
     (ports k).control.entering ≡ Stands → (ports k).over ≡ false →
     slice_index (arena_words e words (ports k).control.here.arena) (pool_counter e.sizes) + greatest_record e.sizes ≤ pool_end e.sizes
 
--- the pool behind the initial records has no room for more announcements than there are slots
+-- the pool after the initial records has no room for more announcements than there are slots
 abbrev pub HaveSlots : Plan → Type 0
 HaveSlots e = e.sizes.pool ≤ least_announcement * e.sizes.slots + initial_words e.sizes
 

@@ -28,7 +28,7 @@ use Rattle.partial_epochs.specs.Sealing.{IsBesideAs}
 use Rattle.partial_epochs.specs.Entering.{Arrives, arrived_port}
 use Rattle.partial_epochs.specs.Publishing.{having_published, next_beside}
 
--- the one history: the histories of all epochs, one behind the other, with public stamps
+-- the one history: the histories of all epochs, one after the other, with public stamps
 abbrev pub one_history : Beside → List Applied
 one_history b = history_of (b.log ∷ b.before)
 
@@ -39,7 +39,7 @@ pub record IsEpochHistory (e : Plan) (h : List Applied) : Type 0 where
   pub ports : AllByRecursion (λ a. a.port < e.ports) h
   -- each stamp is of one entry
   pub distinct : HaveDistinctStamps h
-  -- it is that of a record behind the initial ones, and fits below the epoch's number
+  -- it is that of a record after the initial ones, and fits below the epoch's number
   pub above : AllByRecursion (λ a. first_free e.sizes ≤ a.stamp) h
   pub below : AllByRecursion (λ a. a.stamp < stamp_limit) h
 
@@ -75,7 +75,7 @@ pub record LawfulMemory (e : Plan) (words : List ℕ) (ports : ℕ → Port) (b 
   pub epochs : LawfulEpochs e words ports b
   pub noted : LawfulNotes e ports b notes
 
--- the public stamp of the record at s of component j, in the epoch behind these: a record of the epoch's own, or the carried stamp
+-- the public stamp of the record at s of component j, in the epoch after these: a record of the epoch's own, or the carried stamp
 abbrev pub public_of : Plan → List (List Applied) → ℕ → ℕ → ℕ
 public_of e before j s = if nat_lt s (first_free e.sizes) then carried_behind e.opening before j else public_stamp (length before) s
 
@@ -93,7 +93,7 @@ public_answer e before c (Answer.Lost by) = Answer.Lost (public_stamp (length be
 public_answer e before c (Answer.Scanned vs n b) = Answer.Scanned vs n (option_map (public_stamp (length before)) b)
 public_answer e before c a = a
 
--- its place in the one history, behind so many entries of the epochs before
+-- its place in the one history, after so many entries of the epochs before
 abbrev pub public_note : ℕ → Note → Note
 public_note n (Note.Wrote k) = Note.Wrote (n + k)
 public_note n (Note.Lost k) = Note.Lost (n + k)
@@ -121,7 +121,7 @@ MayNote e p notes since seen new added =
     ⊎ ((added ≡ map (public_noted e p.before) new) × (seen_by 0 notes ≤ length (history_of p.before) + since)
     × AllByRecursion (λ n. ExpectedOne (opening_behind e.opening p.before) seen n.call n.answer) new)
 
--- the notes with those of port k behind its own
+-- the notes with those of port k after its own
 abbrev pub noting : ℕ → List Noted → (ℕ → List Noted) → ℕ → List Noted
 noting k added notes = put k (notes k ++ added) notes
 
@@ -149,7 +149,7 @@ AsidesStayLawful = (e : Plan) (words words' : List ℕ) (ports : ℕ → Port) (
     LawfulMemory e words ports b notes → k < e.ports → IsAside b c (ports k) p → LawfulEpochs e words' (put k p ports) c →
     LawfulMemory e words' (put k p ports) c notes
 
--- so does the exchange by which a port comes to a later epoch
+-- so does the exchange by which a port enters a later epoch
 abbrev pub ArrivalsKeepNotes : Type 0
 ArrivalsKeepNotes = (e : Plan) (words : List ℕ) (ports : ℕ → Port) (b : Beside) (notes : ℕ → List Noted) (k : ℕ) (c : Place) →
     LawfulMemory e words ports b notes → k < e.ports → (a : Arrives e words ports b k c) →
@@ -168,8 +168,8 @@ PublishesKeepNotes = (e : Plan) (words words' : List ℕ) (ports : ℕ → Port)
 abbrev pub having_seen : Port → List Applied → Port
 having_seen p log = record p { part = with_seen log p.part }
 
--- What a port may note that has looked at its epoch, with this history, behind i entries of it: an answer that is true there, at a place behind
--- all that its notes show.
+-- What a port may note that has looked at its epoch, with this history, after i entries of it: an answer that is true there, at a place
+-- after all that its notes show.
 pub record IsSight (e : Plan) (k : ℕ) (p : Port) (log : List Applied) (notes : List Noted) (n : Noted) (i : ℕ) : Type 0 where
   pub noted : n.note ≡ Some (Note.Saw (length (history_of p.before) + i))
   pub within : i ≤ length log

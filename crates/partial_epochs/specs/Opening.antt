@@ -12,7 +12,7 @@ use Rattle.partial_epochs.specs.Ports.{Port, Epoch}
 use Rattle.partial_epochs.specs.Epochs.{IsEpochPlan, Beside, HasClearRecords, LawfulEpochs}
 use Rattle.partial_epochs.specs.Entering.{arrived_port}
 
--- the words below the first free one are those of an opening, but for list words; behind it anything may stand
+-- the words below the first free one are those of an opening, but for list words; after it anything may stand
 pub record OpensOver (s : Layout) (o : Opening) (words : List ℕ) : Type 0 where
   pub sizes : IsLayout s
   pub values : length o.values ≡ s.m

@@ -20,7 +20,7 @@ OwnersLook = (e : Plan) (words : List ℕ) (ports : ℕ → Port) (b : Beside) (
     slice_index words current_word ≡ packed (ports k).control.here →
     IsPresent b k (ports k) × LawfulEpochs e words (put k (having_looked (ports k) o) ports) b
 
--- the arena of an owner that is done with the port `clean`, and comes to the next one
+-- the arena of an owner that is done with the port `clean`, and goes to the next one
 abbrev pub at_next_port : OwnedArena → OwnedArena
 at_next_port o = record o { clean = o.clean + 1; mark = None; again = false }
 
@@ -41,7 +41,7 @@ PutsStayLawful = (e : Plan) (words : List ℕ) (ports : ℕ → Port) (b : Besid
 abbrev pub owning_port : Port → OwnedArena → Port
 owning_port p o = record p { control = record p.control { owned = Some o } }
 
--- an arena that a port has just come to own
+-- an arena that a port just got for its own
 abbrev pub just_taken : ℕ → OwnedArena
 just_taken x = record { arena = x; looked = false; clean = 0; mark = None; again = false; set = 0 }
 

@@ -17,14 +17,14 @@ having_set p o next = record p { control = record p.control { owned = Some (reco
 abbrev pub vacated : Beside → ℕ → Beside
 vacated b x = record b { holds = put x None b.holds }
 
--- the slots that come to count as set are 0 in these words
+-- the slots that begin to count as set are 0 in these words
 abbrev pub ClearsSlots : Plan → OwnedArena → ℕ → List ℕ → Type 0
 ClearsSlots e o next words = (l : ℕ) → l + o.set < e.sizes.slots → e.sizes.slots ≤ l + next →
     slice_index words (base e o.arena + slot_word e.sizes l) ≡ 0
 
--- A port that is done with all others, and has found all components of its epoch sealed, sets the next word of its arena. The words from it
--- on that count as set behind the store are those of the next epoch, if its own epoch is the current one yet; and slots that count as set, and
--- what initial records have beside their values, are 0 whichever epoch that is.
+-- A port that is done with all others, and has found all components of its epoch sealed, sets the next word of its arena. The words from
+-- it on that count as set after the store are those of the next epoch, if its own epoch is the current one yet; and slots that count as
+-- set, and what initial records have beside their values, are 0 whichever epoch that is.
 abbrev pub SetsStayLawful : Type 0
 SetsStayLawful = (e : Plan) (words : List ℕ) (ports : ℕ → Port) (b : Beside) (k : ℕ) (o : OwnedArena) (v next : ℕ) →
     LawfulEpochs e words ports b → k < e.ports → (ports k).control.owned ≡ Some o → o.clean ≡ e.ports → o.set < next →

@@ -23,7 +23,7 @@ abbrev pub read_stamp : Plan → List ℕ → Port → ℕ → ℕ → ℕ
 read_stamp e words p j s =
     if nat_lt s (first_free e.sizes) then slice_index words (carried_word e p.control.here.arena j) else public_stamp p.control.here.epoch s
 
--- what a read answers that saw n entries of its epoch is true of the history of all epochs, at the place behind those entries
+-- what a read answers that saw n entries of its epoch is true of the history of all epochs, at the place after those entries
 abbrev pub ReadsTellAllEpochs : Type 0
 ReadsTellAllEpochs = (e : Plan) (words : List ℕ) (ports : ℕ → Port) (b : Beside) (k j n : ℕ) → LawfulEpochs e words ports b → k < e.ports →
     (ports k).control.entering ≡ Stands → j < e.sizes.m → (s : IsStanding b k (ports k)) → n ≤ length s.epoch.log →
@@ -32,7 +32,7 @@ ReadsTellAllEpochs = (e : Plan) (words : List ℕ) (ports : ℕ → Port) (b : B
     (read_stamp e words (ports k) j (stamp_of (opening_behind e.opening (ports k).before) (take n s.epoch.log) j)))
     (Note.Saw (length (history_of (ports k).before) + n))
 
--- what the words of the arena where a port stands tell of component j, of an epoch with this history: its record is the last one, with the
+-- what the words of the arena where a port stands say of component j, of an epoch with this history: its record is the last one, with the
 -- value and the public stamp that the component has in the one history
 pub record TellTheLast (e : Plan) (words : List ℕ) (p : Port) (log : List Applied) (j : ℕ) : Type 0 where
   pub stamp : unsealed (slice_index words (base e p.control.here.arena + j)) ≡ stamp_of (opening_behind e.opening p.before) log j
@@ -41,7 +41,7 @@ pub record TellTheLast (e : Plan) (words : List ℕ) (p : Port) (log : List Appl
   pub public : read_stamp e words p j (unsealed (slice_index words (base e p.control.here.arena + j)))
       ≡ stamp_of e.opening (history_of (log ∷ p.before)) j
 
--- No step of a machine applies anything to a component that is sealed, so what its words tell then stays.
+-- No step of a machine applies anything to a component that is sealed, so what its words say then stays.
 abbrev pub LastWordsAreFinal : Type 0
 LastWordsAreFinal = (e : Plan) (words : List ℕ) (ports : ℕ → Port) (b : Beside) (k j : ℕ) → LawfulEpochs e words ports b → k < e.ports →
     (ports k).control.entering ≡ Stands → j < e.sizes.m → (s : IsStanding b k (ports k)) →
@@ -50,7 +50,7 @@ LastWordsAreFinal = (e : Plan) (words : List ℕ) (ports : ℕ → Port) (b : Be
     IsSealed (slice_index (component_words e words (ports q).control.here.arena) j) → (o : Opening) (log : List Applied) →
     (value_of o (log ++ lead.entries) j ≡ value_of o log j) × (stamp_of o (log ++ lead.entries) j ≡ stamp_of o log j))
 
--- the component word of the arena where a port stands names the record that the component has behind its epoch's history
+-- the component word of the arena where a port stands names the record that the component has after its epoch's history
 pub record NamesRecord (e : Plan) (words : List ℕ) (p : Port) (log : List Applied) (j : ℕ) : Type 0 where
   pub there : base e p.control.here.arena + j < length words
   pub names : unsealed (slice_index words (base e p.control.here.arena + j)) ≡ stamp_of (opening_behind e.opening p.before) log j
@@ -60,11 +60,11 @@ abbrev pub ComponentsNameRecords : Type 0
 ComponentsNameRecords = (e : Plan) (words : List ℕ) (ports : ℕ → Port) (b : Beside) (k j : ℕ) → LawfulEpochs e words ports b → k < e.ports →
     (ports k).control.entering ≡ Stands → j < e.sizes.m → (s : IsStanding b k (ports k)) → NamesRecord e words (ports k) s.epoch.log j
 
--- the stamp of component j behind the first n entries that a port has seen of its epoch
+-- the stamp of component j after the first n entries that a port has seen of its epoch
 abbrev pub seen_stamp : Plan → Port → ℕ → ℕ → ℕ
 seen_stamp e p j n = stamp_of (opening_behind e.opening p.before) (take n p.part.seen) j
 
--- The record of component j behind the first n entries that a port has seen of its epoch, in the words of its arena: it lies behind the
+-- The record of component j after the first n entries that a port has seen of its epoch, in the words of its arena: it lies after the
 -- component words, below the seals and within the arena, and holds the value that the component had there.
 pub record IsSeenRecord (e : Plan) (words : List ℕ) (p : Port) (j n : ℕ) : Type 0 where
   pub some : 0 < seen_stamp e p j n

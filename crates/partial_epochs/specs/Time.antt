@@ -1,4 +1,4 @@
--- Real time: an entering port comes to an epoch that is no older than the one that was the current one as it stored its mark.
+-- Real time: an entering port enters an epoch that is no older than the one that was the current one as it stored its mark.
 use Rattle.std.specs.Prelude.{ℕ, ◌<◌, ◌≤◌, List, slice_index, ◌≡◌, true, Some, None}
 use Rattle.partial_words.specs.Step.{words_after}
 use Rattle.partial_words.specs.declared.step.Step.{Step}
@@ -14,7 +14,7 @@ use Rattle.partial_epochs.specs.Owning.{having_loaded, having_looked, having_put
 use Rattle.partial_epochs.specs.Publishing.{having_published, next_place}
 use Rattle.partial_epochs.specs.Opening.{first_place, first_ports}
 
--- Each port stands in no older epoch, and comes to no older one, than the one that was the current one as it stored its last entering
+-- Each port stands in no older epoch, and enters no older one, than the one that was the current one as it stored its last entering
 -- mark: `since` has the number of that epoch for each port, and `now` is the current place.
 pub record KeepsTime (e : Plan) (words : List ℕ) (ports : ℕ → Port) (now : Place) (since : ℕ → ℕ) : Type 0 where
   -- that epoch is no later than the current one
@@ -47,7 +47,7 @@ EntriesKeepTime = (e : Plan) (words : List ℕ) (ports : ℕ → Port) (b : Besi
     KeepsTime e words (put k (record (ports k) { control = record (ports k).control { entering = Loaded (place_now b) } }) ports)
     (place_now b) since
 
--- it comes to an epoch that is no older than the one that was the current one as it stored its mark
+-- it enters an epoch that is no older than the one that was the current one as it stored its mark
 abbrev pub ArrivalsKeepTime : Type 0
 ArrivalsKeepTime = (e : Plan) (words : List ℕ) (ports : ℕ → Port) (b : Beside) (k : ℕ) (c : Place) (since : ℕ → ℕ) →
     LawfulEpochs e words ports b → k < e.ports → (ports k).control.entering ≡ Loaded c →
@@ -84,7 +84,7 @@ PublishesKeepTime = (e : Plan) (words : List ℕ) (ports : ℕ → Port) (now th
     (Exchange current_word (packed (ports k).control.here) (packed (next_place (ports k).control.here o.arena))))
     (put k (having_published (ports k) o) ports) then since
 
--- A step by which no port changes its place, and none comes to be one that may put another: all other steps.
+-- A step by which no port changes its place, and none becomes one that may put another: all other steps.
 pub record IsBesideTime (e : Plan) (words words' : List ℕ) (ports ports' : ℕ → Port) (now then : Place) : Type 0 where
   pub at : (k : ℕ) → k < e.ports → slice_index words' (at_word k) ≡ slice_index words (at_word k)
   pub here : (k : ℕ) → k < e.ports → (ports' k).control.here ≡ (ports k).control.here

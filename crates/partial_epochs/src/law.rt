@@ -26,7 +26,7 @@ pub fn unsealed_is_present()
 
 /// The due step of a port's machine, made in the arena where the port stands, keeps the memory lawful. This rests on
 /// the law of steps of one memory, unchanged. An exchange that meets a seal over the very record that it expects
-/// changes no word, and the machine is not told of it.
+/// changes no word, and nothing is said of it to the machine.
 pub fn machine_steps_stay_lawful()
     ensures { MachineStepsStayLawful }
 {}
@@ -58,7 +58,7 @@ pub fn sealed_passes_stay_lawful()
     ensures { SealedPassesStayLawful }
 {}
 
-/// A load of the current word tells a port whether its epoch is the current one. If it is not, that epoch has ended for
+/// A load of the current word shows a port whether its epoch is the current one. If it is not, that epoch has ended for
 /// ever, and the port knows so from then on.
 pub fn looks_are_true()
     ensures { LooksAreTrue }
@@ -139,7 +139,7 @@ pub fn publishes_stay_lawful()
 {}
 
 /// An arena that was used before opens lawful again once the words below the first free one are set, whatever stands
-/// behind them.
+/// after them.
 pub fn opens_over()
     ensures { OpensOverLawful }
 {}
@@ -149,12 +149,12 @@ pub fn epochs_continue()
     ensures { EpochsContinue }
 {}
 
-/// What a read answers that saw some entries of its epoch is true of the one history, at the place behind them.
+/// What a read answers that saw some entries of its epoch is true of the one history, at the place after them.
 pub fn reads_tell_all_epochs()
     ensures { ReadsTellAllEpochs }
 {}
 
-/// The histories of all epochs of a lawful memory, one behind the other and with public stamps, are one history over the
+/// The histories of all epochs of a lawful memory, one after the other and with public stamps, are one history over the
 /// first opening. Each port's notes are legal in it, and its entries there are those of its notes, each once and in
 /// their order.
 pub fn epochs_fit_one_history()
@@ -168,13 +168,13 @@ pub fn public_stamps_are_unique()
 
 /// The words of the arena where a port stands name the last record of each component, with the value and the public
 /// stamp that it has in the one history. No step of a machine applies anything to a component that is sealed, so what
-/// a port reads behind its last seal is final.
+/// a port reads after its last seal is final.
 pub fn last_words_are_final()
     ensures { LastWordsAreFinal }
 {}
 
 /// The component word of the arena where a port stands, with its seals taken off, names the record that the component
-/// has behind the history of the port's epoch.
+/// has after the history of the port's epoch.
 pub fn components_name_records()
     ensures { ComponentsNameRecords }
 {}
@@ -204,7 +204,7 @@ pub fn notes_stay_lawful()
     ensures { NotesStayLawful }
 {}
 
-/// A port that has looked at its epoch may note an answer that is true there, at a place behind all that its notes show,
+/// A port that has looked at its epoch may note an answer that is true there, at a place after all that its notes show,
 /// and keeps the memory lawful. So reads, and conditional updates that find another stamp, need no step of a machine.
 pub fn sights_stay_lawful()
     ensures { SightsStayLawful }
@@ -221,7 +221,7 @@ pub fn asides_stay_lawful()
     ensures { AsidesStayLawful }
 {}
 
-/// A port that comes to a later epoch keeps the memory lawful with all notes.
+/// A port that enters a later epoch keeps the memory lawful with all notes.
 pub fn arrivals_keep_notes()
     ensures { ArrivalsKeepNotes }
 {}
@@ -236,7 +236,7 @@ pub fn openings_keep_time()
     ensures { OpeningsKeepTime }
 {}
 
-/// The first step of entering keeps time: from then on the port comes to no older epoch than the one that is the current
+/// The first step of entering keeps time: from then on the port enters no older epoch than the one that is the current
 /// one at that step. No other port may put it yet.
 pub fn marks_keep_time()
     ensures { MarksKeepTime }
@@ -247,7 +247,7 @@ pub fn entries_keep_time()
     ensures { EntriesKeepTime }
 {}
 
-/// The third step of entering keeps time: the port comes to an epoch that is no older than the one that was the current
+/// The third step of entering keeps time: the port enters an epoch that is no older than the one that was the current
 /// one as it stored its mark, whether it loaded that place itself or another port put it there.
 pub fn arrivals_keep_time()
     ensures { ArrivalsKeepTime }
@@ -273,7 +273,7 @@ pub fn publishes_keep_time()
     ensures { PublishesKeepTime }
 {}
 
-/// A step that changes no port's word and place, and by which no port comes to be one that may put another, keeps time.
+/// A step that changes no port's word and place, and by which no port becomes one that may put another, keeps time.
 pub fn asides_keep_time()
     ensures { AsidesKeepTime }
 {}

@@ -47,7 +47,7 @@ pub record HasValues (o : Opening) (log : List Applied) (indices : List ℕ) (lo
   pub to : n ≤ high
   pub values : (i : ℕ) → i < count → slice_index rows.values (slice_index indices i) ≡ value_of o (take n log) (slice_index indices i)
 
--- the latest loads are the stamps of the positions behind that history
+-- the latest loads are the stamps of the positions after that history
 abbrev pub AreStamps : Opening → List Applied → List ℕ → List ℕ → Type 0
 AreStamps o log indices last = (i : ℕ) → i < length indices → slice_index last i ≡ stamp_of o log (slice_index indices i)
 

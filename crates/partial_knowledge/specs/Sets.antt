@@ -30,7 +30,7 @@ FindsIn hs low indices slot = (j : JoinedAnnouncement) → Joins hs slot j → j
 abbrev pub FindsJoined : List Holding → ℕ → List ℕ → Type 0
 FindsJoined hs low indices = (l : ℕ) → FindsIn hs low indices l
 
--- what lawful words tell a getSet, of the ports that joined below `low`
+-- what lawful words show a getSet, of the ports that joined below `low`
 abbrev pub facts_of_words : Layout → List ℕ → List Holding → ℕ → Facts
 facts_of_words z words hs low = record {
   vacated = λ x. (x < z.slots) × (slice_index words (slot_word z x) ≡ 1);

@@ -39,13 +39,13 @@ announcing_scan s at k = if k == announcement_size (length s.asked) then begin_j
 abbrev pub set_made : CoreState → Change → ℕ → CoreState
 set_made s c old = after_getting (at_stage s (GettingSet c old)) c old
 
--- the call has come to the getSet of an update, which is under way or over
+-- the call has reached the getSet of an update, which is under way or over
 pub record HasReachedSet (s : CoreState) : Type 0 where
   pub change : Change
   pub old : ℕ
   pub made : s ≡ set_made s change old
 
--- from s the machine has come to t by steps of its getSet alone
+-- from s the machine has reached t by steps of its getSet alone
 abbrev pub GetsOn : CoreState → CoreState → Type 0
 GetsOn s t = (c : Change) (old : ℕ) (u : CoreState) → s ≡ set_made u c old → t ≡ set_made (with_getting u (getting t)) c old
 
@@ -71,7 +71,7 @@ abbrev pub IsViewing : Stage → Type 0
 IsViewing (Viewing c old) = ⊤
 IsViewing _ = ⊥
 
--- the stage behind that of an embedded scan
+-- the stage after that of an embedded scan
 abbrev pub behind_scan : Stage → Stage
 behind_scan (Viewing c old) = ClaimingRecord c old
 behind_scan Scanning = Leaving
@@ -83,7 +83,7 @@ positions_at s (Viewing c old) = s.found.indices
 positions_at s (ClaimingRecord c old) = s.found.indices
 positions_at s t = s.asked
 
--- the stage makes an embedded scan of which a step is due, or that scan is finished and the stage is the one behind
+-- the stage makes an embedded scan of which a step is due, or that scan is finished and the stage is the one after it
 abbrev pub IsScanStage : CoreState → Stage → Type 0
 IsScanStage s (Viewing c old) = IsSome (scan_step s s.found.indices)
 IsScanStage s (ClaimingRecord c old) = scan_step s s.found.indices ≡ None
@@ -91,7 +91,7 @@ IsScanStage s Scanning = IsSome (scan_step s s.asked)
 IsScanStage s Leaving = scan_step s s.asked ≡ None
 IsScanStage s t = ⊥
 
--- from s the machine has come to t by loads of its embedded scan alone
+-- from s the machine has reached t by loads of its embedded scan alone
 pub record ScansOn (s t : CoreState) : Type 0 where
   pub rest : t ≡ at_stage (with_scanning s (scanning t)) t.stage
   pub stage : behind_scan t.stage ≡ behind_scan s.stage

@@ -16,7 +16,7 @@ impl Exchanged {
     ghost use Rattle.partial_machine.specs.Machine.{overtaken_reply};
     ghost use Rattle.partial_lines.specs.Replies.{update_reply};
 
-    /// Tells how an update ended whose record has the stamp `at`: the exchange of its component wanted to replace
+    /// Says how an update ended whose record has the stamp `at`: the exchange of its component wanted to replace
     /// `old`, and found `found`.
     #[inline(always)]
     pub fn of(old: u64, at: u64, found: u64) -> Exchanged

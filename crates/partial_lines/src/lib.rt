@@ -1,6 +1,6 @@
 //! The calls of a port in straight lines, generic over whoever makes the steps of the port's machine. Their
 //! contracts speak of that machine alone. Whoever makes the steps may break a call off: its machine stays where it is,
-//! and the caller is told.
+//! and the caller learns it.
 #![tactic(auto)]
 
 mod embedded;

@@ -12,7 +12,7 @@ use partial_words::Step;
 /// The steps of one call of a port, which steps of other ports may come between. To contracts it is the machine
 /// of the call, as the answers of its steps have led it.
 pub trait Makes {
-    /// What is told of a call that is broken off: [`Infallible`](std::convert::Infallible) where none ever is.
+    /// What is said of a call that is broken off: [`Infallible`](std::convert::Infallible) where none ever is.
     type Break: Drop;
 
     /// The call is under way.
@@ -21,7 +21,7 @@ pub trait Makes {
     /// The machine of the call, with all answers so far.
     ghost machine: { Self → CoreState };
 
-    /// From the first, the call has come to the second by further steps.
+    /// From the first, the call has reached the second by further steps.
     ghost leads: { Self → Self → Type 0 };
 
     /// Makes the step that is due, which exchanges no component word, and returns its answer.

@@ -19,7 +19,8 @@ use crate::makes::Makes;
 use partial_core::{Change, Core};
 use partial_words::{Step, plain_record_size, prev_word, value_word, view_word};
 
-/// What an update has come to by its getSet, and by the claim and the stores that follow where it finds no announced index.
+/// What an update has done by its getSet, and by the claim and the stores that follow where it finds no announced
+/// index.
 #[derive(Clone, Copy)]
 pub enum PutBegun {
     /// It has found none, and its record lies at this reference, without a view. The exchange of its component is due.

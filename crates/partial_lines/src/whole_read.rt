@@ -1,4 +1,4 @@
-//! A read in straight lines, behind its first step.
+//! A read in straight lines, after its first step.
 
 ghost use Rattle.std.specs.Prelude.{◌≡◌, ◌<◌, ◌^◌, IfOk, OnOk, Some};
 ghost use Rattle.partial_words.specs.Record.{own_view};
@@ -10,7 +10,7 @@ ghost use Rattle.partial_lines.specs.Replies.{RestsLike};
 use crate::makes::Makes;
 use partial_words::value_word;
 
-/// Makes a read behind its first step, the load of its component's word, which was answered with `stamp`. Returns
+/// Makes a read after its first step, the load of its component's word, which was answered with `stamp`. Returns
 /// the value of that record.
 ///
 /// # Errors

@@ -1,4 +1,4 @@
-//! A scan in straight lines, behind its first step. Its embedded scan is made by its own machine, in loops.
+//! A scan in straight lines, after its first step. Its embedded scan is made by its own machine, in loops.
 
 ghost use Rattle.std.specs.Prelude.{ℕ, ◌≡◌, ◌<◌, ◌+◌, ◌^◌, length, map, slice_index, false, Ok, Some, IfSome, IfNone, IfOk, IfErr, OnOk};
 ghost use Rattle.partial_words.specs.Announcement.{announcement_size};
@@ -25,8 +25,8 @@ pub struct Scanned {
     pub borrowed: Option<u64>,
 }
 
-/// Makes a scan of these positions behind its first step, the claim of its announcement, which was answered
-/// with `at`. `into` has the values then. They are copied before the port leaves the active set: code behind a
+/// Makes a scan of these positions after its first step, the claim of its announcement, which was answered
+/// with `at`. `into` has the values then. They are copied before the port leaves the active set: code after a
 /// sequentially consistent store waits for the store.
 ///
 /// # Errors

@@ -9,7 +9,7 @@ use Rattle.partial_long_lived.specs.declared.rule.About.{About}
 abbrev pub arena_steps : About → ℕ
 arena_steps a = 3 * a.ports + 3
 
--- a pass over the arenas, and the look behind it
+-- a pass over the arenas, and the look after it
 abbrev pub pass_steps : About → ℕ
 pass_steps a = a.arenas * arena_steps a + 1
 
@@ -35,7 +35,7 @@ most_of_scan z r = most_view_steps z r + r + 5
 abbrev pub round_steps : About → ℕ
 round_steps a = most_of_update a.sizes + most_of_change a
 
--- one of a conditional update, which loads the word and the stamp before, and perhaps the stamp behind
+-- one of a conditional update, which loads the word and the stamp before, and perhaps the stamp after
 abbrev pub round_if_steps : About → ℕ
 round_if_steps a = 3 + round_steps a
 

@@ -111,9 +111,9 @@ pub record Meets (a b c d : PortView) : Type 0 where
 abbrev pub FoundBusy : ℕ → PortView → PortView → Type 0
 FoundBusy n p q = (x : ℕ) → x < q.memory.about.arenas → x ≢ q.arena → times_in x p.contention.busy + n ≤ times_in x q.contention.busy
 
--- Why a call that changes the epoch can't end: its port has come to 16 later epochs and has found its component sealed in 15 of them at least (in
--- its first epoch it may have no room left); it knows all components of its epoch, which isn't the last one, to be sealed, and in three passes
--- for each port each arena but its own was found in use; or its epoch is the last one that a word can name.
+-- Why a call that changes the epoch can't end: its port has entered 16 later epochs and has found its component sealed in 15 of them at
+-- least (in its first epoch it may have no room left); it knows all components of its epoch, which isn't the last one, to be sealed, and
+-- in three passes for each port each arena but its own was found in use; or its epoch is the last one that a word can name.
 abbrev pub CantEnd : PortView → Refused → PortView → Type 0
 CantEnd p Component q = ⊥
 CantEnd p Overtaken q = (p.epoch + 16 ≤ q.epoch) × (p.contention.seals + 15 ≤ q.contention.seals)

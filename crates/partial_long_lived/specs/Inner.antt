@@ -1,4 +1,4 @@
--- What a step tells its port, for contracts of private functions.
+-- What a step shows its port, for contracts of private functions.
 pub mod Steps
 pub mod Moves
 pub mod Meeting

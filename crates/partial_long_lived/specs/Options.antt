@@ -4,7 +4,7 @@ use Rattle.std.specs.Option.{option_map_or}
 use Rattle.partial_words.specs.Layout.{Layout, first_free}
 use Rattle.partial_words.specs.Record.{full_record_size, plain_record_size}
 use Rattle.partial_long_lived.specs.declared.open_error.OpenError.{OpenError}
-use Rattle.partial_long_lived.specs.declared.open_error.OpenError.TheVariants.{Ports, Components, Lists, Pool, Memory}
+use Rattle.partial_long_lived.specs.declared.open_error.OpenError.TheVariants.{Ports, Components, Lists, Pool, OutOfMemory}
 use Rattle.partial_long_lived.specs.declared.options.Options.{Options}
 use Rattle.partial_long_lived.specs.declared.shape.Shape.{Shape}
 
@@ -16,7 +16,7 @@ most_lists = 65536
 abbrev pub most_slots : ℕ
 most_slots = 65536
 
--- the most pool words behind the initial records
+-- the most pool words after the initial records
 abbrev pub most_words : ℕ
 most_words = 131072
 
@@ -41,7 +41,7 @@ usual_pool count ports = max (min (max (min (pool_of_port * ports) (pool_of_all 
 abbrev pub claimed_pool : ℕ → ℕ → Options → ℕ
 claimed_pool count ports o = option_map_or (λ words. words) o.pool (usual_pool count ports)
 
--- how many words the pool has behind the initial records: those that are claimed, and room for the greatest record of each port
+-- how many words the pool has after the initial records: those that are claimed, and room for the greatest record of each port
 abbrev pub pool_words_behind : ℕ → ℕ → Options → ℕ
 pool_words_behind count ports o = claimed_pool count ports o + full_record_size count * ports
 
@@ -88,7 +88,7 @@ IsShapeError count ports o Components = ArePorts ports × ((count ≡ 0) ⊎ (65
 IsShapeError count ports o Lists = ArePorts ports × IsComponentCount count × (most_lists < o.lists)
 IsShapeError count ports o Pool = ArePorts ports × IsComponentCount count × (o.lists ≤ most_lists) ×
     (most_words < pool_words_behind count ports o)
-IsShapeError count ports o Memory = ⊥
+IsShapeError count ports o OutOfMemory = ⊥
 
 -- there are sizes for so many components and ports, and these options
 abbrev pub MayOpen : ℕ → ℕ → Options → Type 0
@@ -96,7 +96,7 @@ MayOpen count ports o = ArePorts ports × IsComponentCount count × (o.lists ≤
 
 -- why a memory doesn't open with these components, ports and options: there are no such sizes, or memory is refused only where there are
 abbrev pub MayNotOpen : ℕ → ℕ → Options → OpenError → Type 0
-MayNotOpen count ports o Memory = MayOpen count ports o
+MayNotOpen count ports o OutOfMemory = MayOpen count ports o
 MayNotOpen count ports o e = IsShapeError count ports o e
 
 -- the numbers of the refusals
@@ -105,4 +105,4 @@ open_code Ports = 5
 open_code Components = 1
 open_code Lists = 3
 open_code Pool = 4
-open_code Memory = 6
+open_code OutOfMemory = 6

@@ -68,7 +68,7 @@ abbrev pub seats_of : ℕ → List SeatedPort → ℕ
 seats_of k [] = 0
 seats_of k (x ∷ xs) = (if x.number == k then 1 else 0) + seats_of k xs
 
--- the component has that value and that public stamp behind an epoch with this history, and behind the epochs before it
+-- the component has that value and that public stamp after an epoch with this history, and after the epochs before it
 pub record IsLast (e : Plan) (before : List (List Applied)) (log : List Applied) (f : Found) : Type 0 where
   pub value : value_of (opening_behind e.opening before) log f.component ≡ f.value
   pub stamp : carried_after (length before) (carried_behind e.opening before) log f.component ≡ f.stamp
@@ -134,7 +134,7 @@ abbrev pub newcomers : About → ℕ → ℕ → List SeatedPort
 newcomers about k zero = []
 newcomers about k (suc n) = newcomer about k ∷ newcomers about (k + 1) n
 
--- what stands for a seat when a view has none
+-- what is taken for a seat when a view has none
 abbrev pub nobody : SeatedPort
 nobody = newcomer (record {
   sizes = record { m = 1; slots = 1; lists = 0; pool = 3 };

@@ -26,7 +26,7 @@ impl Updated {
     ghost use Rattle.std.specs.Prelude.{◌≡◌, ◌<◌};
     ghost use Rattle.partial_long_lived.specs.Inner.Updates.{public_update, stamp_from};
 
-    /// Tells how an update ended in that epoch.
+    /// Says how an update ended in that epoch.
     pub(crate) fn of(epoch: u64, exchanged: Exchanged) -> Updated
         requires { stamp_from epoch exchanged < 18446744073709551616 }
         ensures { result ≡ public_update epoch exchanged }

@@ -22,7 +22,7 @@ pub const SEAL: u64 = 1 << 56;
 pub const STAMPS: u64 = 1 << 23;
 
 /// Loads the word of component `component` as the first step of a read. `base` is where the port's arena begins: a caller
-/// who makes several loads takes it from the port once, since behind an atomic load a compiler takes it from there anew.
+/// who makes several loads takes it from the port once, since after an atomic load a compiler takes it from there anew.
 #[inline(always)]
 pub fn read_first(words: &Words, stand: &mut Stand, base: u64, component: u32) -> u64
     requires held { IsHeld words.now.table_id words.now.key stand.old }

@@ -68,7 +68,7 @@ impl Attempted {
 /// and says whether the port is spent then; or finds the component sealed. Then nothing was applied, and the port is spent.
 /// `first` says that the first step of the update is the first one of its call.
 ///
-/// It is a function of its own in every program.
+/// Never inlined.
 #[inline(never)]
 pub fn attempt(
     words: &Words,

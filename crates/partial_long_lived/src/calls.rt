@@ -30,8 +30,8 @@ impl LongLived {
     ///
     /// # Errors
     /// [`Refused::Component`] exactly when the index isn't below the number of components: no step was made.
-    /// [`Refused::Overtaken`] when the port has come to a later epoch 16 times during the call; [`Refused::NoArena`] and
-    /// [`Refused::EpochsSpent`] when the epoch has to be changed and can't be. Nothing was applied or noted.
+    /// [`Refused::Overtaken`] when the port has entered a later epoch 16 times during the call; [`Refused::NoArena`]
+    /// and [`Refused::EpochsSpent`] when the epoch has to be changed and can't be. Nothing was applied or noted.
     pub fn update(&self, me: &mut Port, component: u32, value: u64) -> Result<Updated, Refused>
         requires { IsOf self.now me.old }
         ensures same { IsOf self.now me.new }
@@ -51,17 +51,17 @@ impl LongLived {
         }
     }
 
-    /// Sets component `component` to `value` if it has the stamp `expected`, which a read or an update has told. No stamp
-    /// ever comes back, so a component that has its stamp again has had it ever since.
+    /// Sets component `component` to `value` if it has the stamp `expected`, which a read or an update has returned. No
+    /// stamp ever comes back, so a component that has its stamp again has had it ever since.
     ///
     /// An applied update is the last entry of the history that the port has observed afterwards. One that finds another
-    /// stamp tells it, as it stood at a moment of the call. A port that is spent in its epoch changes the epoch when it
+    /// stamp says it, as it stood at a moment of the call. A port that is spent in its epoch changes the epoch when it
     /// finds the expected stamp, and one whose component is sealed changes the epoch and tries again.
     ///
     /// # Errors
     /// [`Refused::Component`] exactly when the index isn't below the number of components: no step was made.
-    /// [`Refused::Overtaken`] when the port has come to a later epoch 16 times during the call; [`Refused::NoArena`] and
-    /// [`Refused::EpochsSpent`] when the epoch has to be changed and can't be. Nothing was applied or noted.
+    /// [`Refused::Overtaken`] when the port has entered a later epoch 16 times during the call; [`Refused::NoArena`]
+    /// and [`Refused::EpochsSpent`] when the epoch has to be changed and can't be. Nothing was applied or noted.
     pub fn update_if(
         &self,
         me: &mut Port,
@@ -162,11 +162,11 @@ impl LongLived {
         }
     }
 
-    /// Scans these components as [`scan`](LongLived::scan) does, and tells their stamps too, unless the scan took the view
-    /// of an update, which has none. `into` has the values and `stamps` the stamps as they stood together at one moment of
-    /// the call. Where `borrowed` names an update, `stamps` is unchanged.
+    /// Scans these components as [`scan`](LongLived::scan) does, and returns their stamps too, unless the scan took the
+    /// view of an update, which has none. `into` has the values and `stamps` the stamps as they stood together at one
+    /// moment of the call. Where `borrowed` names an update, `stamps` is unchanged.
     ///
-    /// It makes the steps of `scan`, and behind them one load for each component that no update of its epoch has set.
+    /// It makes the steps of `scan`, and after them one load for each component that no update of its epoch has set.
     ///
     /// # Errors
     /// As those of [`scan`](LongLived::scan). `into` and `stamps` are unchanged.
@@ -233,7 +233,8 @@ impl LongLived {
     }
 
     /// Has two ports meet: afterwards each has observed all that either had observed before, so their later calls take
-    /// effect behind that. It makes at most 12 atomic steps, those that split and join seats among them, and notes nothing.
+    /// effect after that. It makes at most 12 atomic steps, those that split and join seats among them, and notes
+    /// nothing.
     pub fn meet(&self, first: &mut Port, second: &mut Port)
         requires { IsOf self.now first.old × IsOf self.now second.old }
         ensures same { IsOf self.now first.new × IsOf self.now second.new }

@@ -1,4 +1,4 @@
-//! What the atomic steps of a change of epoch tell their ports.
+//! What the atomic steps of a change of epoch show their ports.
 
 use crate::rule::View;
 use partial_table::Play;

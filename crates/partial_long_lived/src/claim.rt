@@ -1,4 +1,4 @@
-//! How a port comes to own an arena for the next epoch.
+//! How a port gets an arena of its own for the next epoch.
 
 ghost use Rattle.std.specs.Prelude.{◌≡◌, ◌≢◌, false, ◌+◌, ◌*◌, ◌<◌, ◌≤◌, ◌==◌};
 ghost use Rattle.partial_long_lived.specs.Bounds.{arena_steps, claim_steps, pass_steps};
@@ -15,7 +15,7 @@ use crate::stand::Stand;
 /// What a port has found of an arena, or of several.
 #[derive(Clone, Copy, Debug)]
 pub enum Claimed {
-    /// The port owns this arena, and no port stands in it or comes to it.
+    /// The port owns this arena, and no port stands in it or enters it.
     Clean(u32),
     /// A port stands there, or another one owns the arena.
     Taken,
@@ -23,7 +23,7 @@ pub enum Claimed {
     Ended,
 }
 
-/// Makes three passes for each port over the arenas, up to one that comes to be the port's own.
+/// Makes three passes for each port over the arenas, up to one that becomes the port's own.
 pub fn claim(words: &Words, stand: &mut Stand) -> Claimed
     requires held { IsHeld words.now.table_id words.now.key stand.old }
     requires may { IsIdle stand.old }
@@ -43,7 +43,7 @@ pub fn claim(words: &Words, stand: &mut Stand) -> Claimed
     Claimed::Taken
 }
 
-// Makes one pass over the arenas but the port's own one, and looks behind it.
+// Makes one pass over the arenas but the port's own one, and then looks.
 fn claim_one(words: &Words, stand: &mut Stand) -> Claimed
     requires held { IsHeld words.now.table_id words.now.key stand.old }
     requires may { IsIdle stand.old }
@@ -69,7 +69,7 @@ fn claim_one(words: &Words, stand: &mut Stand) -> Claimed
     }
 }
 
-// Takes an arena if no port owns it, and keeps it if no port stands there or comes to it.
+// Takes an arena if no port owns it, and keeps it if no port stands there or enters it.
 fn try_arena(words: &Words, stand: &mut Stand, arena: u32) -> Claimed
     requires held { IsHeld words.now.table_id words.now.key stand.old }
     requires may { IsIdle stand.old }

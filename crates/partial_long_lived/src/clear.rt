@@ -1,4 +1,4 @@
-//! How the owner of an arena sees that no port stands there or comes to it.
+//! How the owner of an arena sees that no port stands there or enters it.
 
 ghost use Rattle.std.specs.Prelude.{◌≡◌, ◌+◌, ◌*◌, ◌%◌, ◌<◌, ◌≤◌};
 ghost use Rattle.partial_long_lived.specs.Inner.Held.{IsHeld};

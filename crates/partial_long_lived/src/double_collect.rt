@@ -91,7 +91,7 @@ pub fn scan_at_once(
 
 // Makes the first step of the scan, the load of its first component word, and returns the word; or `None` when the
 // component is sealed and the port's epoch has ended. Otherwise the epoch was the current one during the call. `base`, here
-// and below, is where the port's arena begins: it is taken from the port once for all loads of a scan, since behind an
+// and below, is where the port's arena begins: it is taken from the port once for all loads of a scan, since after an
 // atomic load a compiler takes it from there anew.
 #[inline(always)]
 fn begin(words: &Words, stand: &mut Stand, base: u64, component: u32) -> Option<u64>
@@ -206,7 +206,7 @@ fn collect_some(
 }
 
 // Notes the scan when a second collect finds the words that are kept, and puts the values of their records into `into`.
-// `G` is what it notes: these components, behind all that the port has seen as the second collect begins.
+// `G` is what it notes: these components, after all that the port has seen as the second collect begins.
 #[inline(always)]
 fn confirm<G: Together>(
     words: &Words,

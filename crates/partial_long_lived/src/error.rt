@@ -10,7 +10,7 @@ pub enum Refused {
     /// An index isn't below the number of components.
     #[error("component out of range")]
     Component,
-    /// The update has come to a later epoch as often as it may, and took effect in none.
+    /// The update has entered a later epoch as often as it may, and took effect in none.
     #[error("overtaken by changes of epoch")]
     Overtaken,
     /// Each arena is in use: three passes over them for each port have found no free one.

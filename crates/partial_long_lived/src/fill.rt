@@ -15,8 +15,8 @@ use crate::rule::Words;
 use crate::stand::Stand;
 use partial_words::{Sizes, value_word};
 
-/// Sets all words of the arena, which begins at `first`: a caller takes that from the shape once, since behind an atomic store
-/// a compiler takes it from there anew.
+/// Sets all words of the arena, which begins at `first`: a caller takes that from the shape once, since after an atomic
+/// store a compiler takes it from there anew.
 pub fn fill(words: &Words, stand: &mut Stand, arena: u32, first: u64)
     requires held { IsHeld words.now.table_id words.now.key stand.old }
     requires works { HasSetWords stand.old arena words.now.key.ports 0 }

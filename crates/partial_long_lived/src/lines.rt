@@ -33,7 +33,7 @@ pub struct ArenaLines<'a, C> {
 /// The kind of a scan of a port that is not spent.
 pub struct Scan;
 
-/// The kind of a scan behind a change of epoch.
+/// The kind of a scan after a change of epoch.
 pub struct LateScan;
 
 /// The kind of an update's first attempt.
@@ -127,8 +127,8 @@ pub fn make_load(words: &Words, stand: &mut Stand, word: u64, component: Option<
     }
 }
 
-// Whether a word of an arena is a component's. It is asked for behind the load, when the caller doesn't know it: a number
-// that is found in memory before needs a register meanwhile.
+// Whether a word of an arena is a component's. It is asked for after the load, when the caller doesn't know it: a
+// number that is found in memory before needs a register meanwhile.
 #[inline(always)]
 fn is_component(shape: &Shape, word: u64, known: Option<bool>) -> bool
     requires { IfSome known (λ known. known ≡ nat_lt word shape.now.sizes.m) }

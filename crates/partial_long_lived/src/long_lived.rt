@@ -14,7 +14,7 @@ use crate::closed::last_values;
 use crate::open_error::OpenError;
 use crate::options::{Options, shape};
 use crate::port::Port;
-use crate::rule::{About, Deals, Gathers, Token, Words};
+use crate::rule::{About, Deals, Gathers, PortSeat, Words};
 use crate::shape::Shape;
 use crate::stand::Stand;
 use partial_core::Core;
@@ -76,7 +76,7 @@ fn opening_words(alloc: Global, shape: &Shape, initial: &[u64]) -> Result<Vec<u6
 }
 
 // Lays out the table of a memory of that shape with these values. The seat is that of all its ports.
-fn lay_out(alloc: Global, shape: &Shape, initial: &[u64]) -> Result<(Words, Token), AllocError>
+fn lay_out(alloc: Global, shape: &Shape, initial: &[u64]) -> Result<(Words, PortSeat), AllocError>
     requires { length initial.now ≡ shape.now.sizes.m }
     ensures about { IfOk result (λ r. r.0.key ≡ opened shape.now initial.now) }
     ensures opened { IfOk
@@ -103,7 +103,7 @@ fn deal(
     alloc: Global,
     shape: &Shape,
     words: &Words,
-    mut seat: Token,
+    mut seat: PortSeat,
 ) -> Result<Vec<Port>, AllocError>
     requires shape { IsShapeOf shape.now words.now.key }
     requires opened { IsLaidOut words.now.table_id words.now.key shape.now.ports seat.table_id seat.me }
@@ -142,8 +142,8 @@ impl LongLived {
     /// # Errors
     /// [`OpenError::Ports`] exactly when there are not 1 to 64 ports; otherwise [`OpenError::Components`] exactly when there
     /// are not 1 to 65,536 values; otherwise [`OpenError::Lists`] exactly when the options ask for more than 65,536 list
-    /// words; otherwise [`OpenError::Pool`] exactly when the pool would have more than 131,072 words behind the initial
-    /// records; otherwise [`OpenError::Memory`] when an allocation was refused. Nothing was made then.
+    /// words; otherwise [`OpenError::Pool`] exactly when the pool would have more than 131,072 words after the initial
+    /// records; otherwise [`OpenError::OutOfMemory`] when an allocation was refused. Nothing was made then.
     pub fn open(
         alloc: Global,
         initial: &[u64],

@@ -1,4 +1,4 @@
-//! What the atomic steps of a port's machine tell its port.
+//! What the atomic steps of a port's machine show its port.
 
 use crate::rule::View;
 use partial_table::Play;

@@ -10,11 +10,11 @@ ghost use Rattle.partial_long_lived.specs.Inner.Steps.{SeatGoes, IsSeatKnown, Is
 
 use crate::plays::Observe;
 use crate::read::settle;
-use crate::rule::{Deals, Gathers, Token, Words};
+use crate::rule::{Deals, Gathers, PortSeat, Words};
 use crate::stand::Stand;
 
 /// Has two ports meet. Each has seen all that the other had seen before, and has noted nothing. The one that stands in the
-/// earlier epoch comes to the current one.
+/// earlier epoch enters the current one.
 pub fn meet(words: &Words, first: Stand, second: Stand) -> (Stand, Stand)
     requires first { IsHeld words.now.table_id words.now.key first }
     requires second { IsHeld words.now.table_id words.now.key second }
@@ -94,7 +94,7 @@ fn observe(words: &Words, first: Stand, other: Stand) -> (Stand, Stand)
 }
 
 // The same by the seats of the two ports.
-fn look_together(words: &Words, first: Token, other: Token) -> (Token, Token)
+fn look_together(words: &Words, first: PortSeat, other: PortSeat) -> (PortSeat, PortSeat)
     requires tables { (first.table_id ≡ words.now.table_id) × (other.table_id ≡ words.now.table_id) }
     requires some { 0 < words.now.table_id.words }
     requires one { IsOne first.me × IsOne other.me }

@@ -17,19 +17,19 @@ pub enum OpenError {
     /// There are more than 65,536 list words.
     #[error("list words out of range")]
     Lists,
-    /// An arena would have more than 131,072 pool words behind the initial records: those of the options, and room for
+    /// An arena would have more than 131,072 pool words after the initial records: those of the options, and room for
     /// the greatest record of each port.
     #[error("pool words out of range")]
     Pool,
     /// An allocation was refused.
     #[error("out of memory")]
-    Memory,
+    OutOfMemory,
 }
 
 impl OpenError {
     ghost use Rattle.partial_long_lived.specs.Options.{open_code};
 
-    /// The number of the refusal: 5 for `Ports`, 1 for `Components`, 3 for `Lists`, 4 for `Pool`, 6 for `Memory`.
+    /// The number of the refusal: 5 for `Ports`, 1 for `Components`, 3 for `Lists`, 4 for `Pool`, 6 for `OutOfMemory`.
     pub fn code(&self) -> u8
         ensures { result ≡ open_code self.now }
     {
@@ -38,17 +38,17 @@ impl OpenError {
             OpenError::Components => 1,
             OpenError::Lists => 3,
             OpenError::Pool => 4,
-            OpenError::Memory => 6,
+            OpenError::OutOfMemory => 6,
         }
     }
 }
 
 impl From<AllocError> for OpenError {
-    ghost use Rattle.partial_long_lived.specs.declared.open_error.OpenError.TheVariants.{Memory};
+    ghost use Rattle.partial_long_lived.specs.declared.open_error.OpenError.TheVariants.{OutOfMemory};
 
-    ghost from_gives = { λ _ e. e ≡ Memory };
+    ghost from_gives = { λ _ e. e ≡ OutOfMemory };
 
     fn from(_error: AllocError) -> OpenError {
-        OpenError::Memory
+        OpenError::OutOfMemory
     }
 }

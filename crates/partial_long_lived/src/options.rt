@@ -10,7 +10,7 @@ use partial_words::{Sizes, full_record_size, plain_record_size};
 /// The most slots.
 const MOST_SLOTS: u32 = 65_536;
 
-/// The most pool words behind the initial records: there is a slot for each two of them.
+/// The most pool words after the initial records: there is a slot for each two of them.
 const MOST_WORDS: u64 = 131_072;
 
 /// How many pool words an arena has for each port where the options leave that open, and the fewest that it has then.
@@ -57,7 +57,7 @@ impl Default for Options {
 /// # Errors
 /// [`OpenError::Ports`] exactly when there are not 1 to 64 ports; otherwise [`OpenError::Components`] exactly when there
 /// are not 1 to 65,536 components; otherwise [`OpenError::Lists`] exactly when the options ask for more than 65,536 list
-/// words; otherwise [`OpenError::Pool`] exactly when the pool would have more than 131,072 words behind the initial
+/// words; otherwise [`OpenError::Pool`] exactly when the pool would have more than 131,072 words after the initial
 /// records.
 pub fn shape(count: usize, ports: u32, options: Options) -> Result<Shape, OpenError>
     ensures ok { IfOk result (IsShapeFor count ports options) }

@@ -5,7 +5,7 @@ ghost use Rattle.partial_long_lived.specs.Rule.{SeatedPort};
 ghost use Rattle.partial_long_lived.specs.Inner.Steps.{IsSeatKnown};
 ghost use Rattle.partial_long_lived.specs.Ports.{Knows, port_view};
 
-use crate::rule::Token;
+use crate::rule::PortSeat;
 use crate::stand::Stand;
 use partial_core::Core;
 use std::marker::Model;
@@ -50,7 +50,7 @@ impl Port {
     }
 
     // Takes the seat of a port that makes no further call.
-    pub(crate) fn into_seat(self) -> Token
+    pub(crate) fn into_seat(self) -> PortSeat
         ensures table { result.table_id ≡ self.memory.table }
         ensures one { (x : SeatedPort) × (result.me ≡ (x ∷ [], [])) × (port_view self.memory.table result.steps x ≡ self) ×
             IsSeatKnown x }

@@ -46,7 +46,7 @@ pub fn read_here(words: &Words, stand: &mut Stand, component: u32) -> Option<(u6
     let base = stand.base;
     let found = read_first(words, stand, base, component);
     let own = stand.shape.own;
-    // The word of an initial record has no seal, and is told by one comparison.
+    // The word of an initial record has no seal, and is found by one comparison.
     if found < own {
         return Some(load_record(words, stand, base, own, component, found));
     }
@@ -88,7 +88,8 @@ fn load_record(
 }
 
 /// Reads component `component`, which the first load of the read has found sealed, in an epoch that was the current one
-/// during the read: its value and its public stamp. Clears the marks of the port's machine when it comes to a later epoch.
+/// during the read: its value and its public stamp. Clears the marks of the port's machine when it enters a later
+/// epoch.
 ///
 /// It isn't put in line, so that a read that finds no seal pays nothing for it.
 #[cold]

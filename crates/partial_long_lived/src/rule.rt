@@ -16,11 +16,11 @@ pub struct About {
     pub ports: u32,
     /// How many arenas it has: twice as many.
     pub arenas: u32,
-    /// The word of an arena's pool at which the claim of an update ends, or it is the port's last one in the epoch.
+    /// Pool limit: a claim that ends past this word of the arena is the port's last in the epoch.
     pub limit: u64,
 }
 
-/// The ports that a seat stands for, mostly one. It is ghost state: no value of it is ever made.
+/// The ports whose seat it is, mostly one. It is ghost state: no value of it is ever made.
 #[derive(Drop)]
 pub struct View {
     none: (),
@@ -50,7 +50,7 @@ impl TableRule<(), View, About> for Lawful {
 pub type Words = Table<View, About, Lawful>;
 
 /// A seat of the table. Whoever holds it may make steps for its ports.
-pub type Token = Seat<View>;
+pub type PortSeat = Seat<View>;
 
 /// Gives the first port of a seat a seat of its own.
 pub struct Deals;

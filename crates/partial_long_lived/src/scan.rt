@@ -181,7 +181,7 @@ fn make_scan<C>(
     announce::<C>(words, stand, core, which, at, into)
 }
 
-// Makes a scan behind its first step, the claim of its announcement, which was answered with `at`.
+// Makes a scan after its first step, the claim of its announcement, which was answered with `at`.
 #[inline(always)]
 fn announce<C>(
     words: &Words,

@@ -15,7 +15,7 @@ pub struct Shape {
     pub arenas: u32,
     /// The word of an arena's pool at which the claim of an update ends, or it is its port's last one in the epoch.
     pub limit: u64,
-    /// The word of an arena behind the initial records, where those of an epoch's own begin.
+    /// The word of an arena after the initial records, where those of an epoch's own begin.
     pub own: u64,
     /// The word of an arena where the carried stamps begin.
     pub carried: u64,

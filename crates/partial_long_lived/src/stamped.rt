@@ -1,4 +1,4 @@
-//! Scans that tell stamps.
+//! Scans that return stamps.
 
 ghost use Rattle.std.specs.Prelude.{ℕ, ◌≡◌, ◌+◌, ◌<◌, ◌≤◌, true, length, slice_index, is_some, IfErr, IfOk};
 ghost use Rattle.partial_machine.specs.Sound.{AreComponentIndices};

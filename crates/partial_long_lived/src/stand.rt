@@ -1,13 +1,13 @@
 //! The seat of a port in a call.
 
-use crate::rule::Token;
+use crate::rule::PortSeat;
 use crate::shape::Shape;
 
 /// The seat of a port, with where the port stands, or from where it enters an epoch.
 #[derive(Drop)]
 pub struct Stand {
     /// The seat of the port.
-    pub seat: Token,
+    pub seat: PortSeat,
     /// The sizes of the memory.
     pub shape: Shape,
     /// The epoch in which it stands.

@@ -13,7 +13,7 @@ use crate::enter::{enter, look_first};
 use crate::rule::Words;
 use crate::stand::Stand;
 
-/// Says whether each of these components has this public stamp. The port comes to the current epoch first.
+/// Says whether each of these components has this public stamp. The port enters the current epoch first.
 pub fn unchanged(words: &Words, stand: &mut Stand, which: &[u32], stamps: &[u64]) -> bool
     requires held { IsHeld words.now.table_id words.now.key stand.old }
     requires idle { IsIdle stand.old }

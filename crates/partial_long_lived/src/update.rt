@@ -25,7 +25,7 @@ pub const MOST_CHANGES: u32 = 16;
 /// and afterwards. Returns how the update ended, with stamps of the epoch where the port stands.
 ///
 /// # Errors
-/// [`Refused::Overtaken`] when the port has come to a later epoch 16 times; [`Refused::NoArena`] and
+/// [`Refused::Overtaken`] when the port has entered a later epoch 16 times; [`Refused::NoArena`] and
 /// [`Refused::EpochsSpent`] when the epoch has to be changed and can't be. Nothing was applied.
 #[inline(always)]
 pub fn update(
@@ -48,8 +48,8 @@ pub fn update(
     update_apart(words, stand, core, component, value, spent).result()
 }
 
-// The same. It is a function of its own in every program, whose parameters and answer stay in registers: so an update keeps
-// little in memory before its first atomic change, which waits until all that was stored has reached the cache.
+// The same. Never inlined: keeps arguments and result in registers. So an update keeps little in memory before its
+// first atomic change, which waits until all that was stored has reached the cache.
 #[inline(never)]
 fn update_apart(
     words: &Words,
@@ -122,7 +122,7 @@ fn update_late(
     ))
 }
 
-// Makes an update of a port that is not spent, and changes the epoch behind each attempt that met a seal, so many times.
+// Makes an update of a port that is not spent, and changes the epoch after each attempt that met a seal, so many times.
 // None of its steps is the first one of the call.
 #[inline(always)]
 fn rounds(

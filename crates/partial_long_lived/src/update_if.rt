@@ -47,7 +47,7 @@ pub enum Compared {
 /// spent port ends it in its epoch.
 ///
 /// # Errors
-/// [`Refused::Overtaken`] when the port has come to a later epoch 16 times; [`Refused::NoArena`] and
+/// [`Refused::Overtaken`] when the port has entered a later epoch 16 times; [`Refused::NoArena`] and
 /// [`Refused::EpochsSpent`] when the epoch has to be changed and can't be. Nothing was applied.
 pub fn update_if(
     words: &Words,

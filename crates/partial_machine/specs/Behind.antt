@@ -1,4 +1,4 @@
--- What is known of a machine behind an answer: where it is, why its call is refused, and its marks.
+-- What is known of a machine after an answer: where it is, why its call is refused, and its marks.
 use Rattle.std.specs.Prelude.{ℕ, ◌≡◌, ◌+◌, ◌<◌, ◌≤◌, ◌||◌, ⊤, Bool, true, false, not, Option, Some, None, is_some}
 use Rattle.partial_model.specs.declared.call.Call.{Call}
 use Rattle.partial_model.specs.declared.call.Refused.{Refused}
@@ -56,7 +56,7 @@ abbrev pub refuses_slots : Option Reply → Bool
 refuses_slots (Some (Reply.Refused Refused.SlotsSpent)) = true
 refuses_slots _ = false
 
--- what is known of the machine behind a possible answer
+-- what is known of the machine after a possible answer
 pub record IsBehind (s : CoreState) (x : ℕ) : Type 0 where
   -- it is sound, with the same sizes, port and positions
   pub sound : IsSound (advance s x)

@@ -22,7 +22,7 @@ most_steps z (Call.Scan js) = viewing.most_view_steps z (length js) + length js 
 most_steps z (Call.Read j) = 2
 most_steps z (Call.UpdateIf j x v) = most_of_update z
 
--- the steps of an update behind its getSet and its embedded scan at most: a claim, the stores, an exchange
+-- the steps of an update after its getSet and its embedded scan at most: a claim, the stores, an exchange
 abbrev pub write_left : Layout → ℕ
 write_left z = greatest_record z + 2
 

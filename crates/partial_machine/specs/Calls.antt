@@ -1,4 +1,4 @@
--- How a call is begun at a machine, why it is refused at once, and the answer that a reply stands for.
+-- How a call is begun at a machine, why it is refused at once, and the answer that a reply means.
 use Rattle.std.specs.Prelude.{ℕ, ◌≤◌, ◌==◌, ⊤, Bool, true, false, List, [], length, Option, Some, None, if◌then◌else◌}
 use Rattle.partial_model.specs.declared.call.Call.{Call}
 use Rattle.partial_model.specs.declared.call.Refused.{Refused}
@@ -79,7 +79,7 @@ call_at s _ = None
 abbrev pub call_of : CoreState → Option Call
 call_of s = call_at s s.stage
 
--- the answer that a reply stands for: a scan's values are read off the machine
+-- the answer that a reply means: a scan's values are read off the machine
 abbrev pub answer_for : CoreState → Reply → Answer
 answer_for s (Reply.Applied stamp) = Answer.Applied stamp
 answer_for s (Reply.Lost by) = Answer.Lost by

@@ -23,7 +23,7 @@ pub record EndsInScan (z : Layout) (shares : Bool) (positions answers : List ℕ
   pub runs : RunsTo z shares positions rows own p
 
 -- While a call makes its embedded scan, its last answers are those of that scan: a scan's is of its own positions, and an update's, which
--- shares a view that it borrows, of those that its getSet found. Right behind it the embedded scan is finished.
+-- shares a view that it borrows, of those that its getSet found. Right after it the embedded scan is finished.
 abbrev pub scans_at : List ℕ → CoreState → Stage → Type 0
 scans_at answers t Scanning = EndsInScan t.sizes false t.asked answers (scanning t)
 scans_at answers t Leaving = EndsInScan t.sizes false t.asked answers (scanning t) × (t.embedded.stage ≡ Done)

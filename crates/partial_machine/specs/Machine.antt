@@ -90,7 +90,7 @@ with_scanning s p = record s { embedded = p.0; rows = p.1 }
 abbrev pub own_pairs : CoreState → List (ℕ × ℕ)
 own_pairs s = option_map_or (λ _. []) s.embedded.borrowed (map (λ j. (j, slice_index s.rows.values j)) s.found.indices)
 
--- The reference of that view for a record at `at`: the borrowed one, none, or the words behind the record.
+-- The reference of that view for a record at `at`: the borrowed one, none, or the words after the record.
 abbrev pub view_at : CoreState → ℕ → ℕ
 view_at s at = option_map_or (λ _. s.embedded.view) s.embedded.borrowed (if length s.found.indices == 0 then 0 else own_view at)
 
@@ -157,7 +157,7 @@ after_getting s c old = option_map_or (λ _. s) (finding.set_step_due s.get_set)
       stage = if length s.found.indices == 0 then ClaimingRecord c old else Viewing c old;
     })
 
--- the embedded scan goes on, or it is finished and the machine comes to the next stage
+-- the embedded scan goes on, or it is finished and the machine reaches the next stage
 abbrev pub after_scanning : CoreState → List ℕ → Stage → CoreState
 after_scanning s indices next = option_map_or (λ _. s) (viewing.view_step_due indices (scanning s)) (at_stage s next)
 

@@ -10,7 +10,7 @@ use Rattle.partial_machine.specs.declared.stage.Stage.TheVariants.{Idle, ReadBeg
 use Rattle.partial_machine.specs.Machine.{CoreState, getting, scanning, step_of}
 use Rattle.partial_machine.specs.Sound.{IsRecord}
 
--- a counter of the pool is at its first word or behind it, and past its end by the claims of 64 ports at most
+-- a counter of the pool is at its first word or after it, and past its end by the claims of 64 ports at most
 abbrev pub IsPoolCount : Layout → ℕ → Type 0
 IsPoolCount z x = (pool_base z ≤ x) × (x ≤ pool_end z + 64 * greatest_record z)
 

@@ -607,7 +607,7 @@ impl Core {
         Ok(Sequence::from(values))
     }
 
-    /// Returns the answer that a reply of this machine stands for. The machine holds the values of
+    /// Returns the answer that a reply of this machine means. The machine holds the values of
     /// a scan until the next call is begun. Fails only when memory is refused.
     pub fn answer_for(&self, alloc: Global, reply: Reply) -> Result<Answer, AllocError>
         ensures { IfOk result (λ answer. answer ≡ answer_for self.now reply) }

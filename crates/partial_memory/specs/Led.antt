@@ -60,7 +60,7 @@ abbrev pub ScansLed : PortView → List ℕ → List ℕ → Scanned → PortVie
 ScansLed p [] values s q = ⊤
 ScansLed p (j ∷ js) values s q = ScanIsLed p (j ∷ js) values s q
 
--- whatever a call came to, it made one claim of pool words at most, and one of a slot
+-- however a call ended, it made one claim of pool words at most, and one of a slot
 abbrev pub LedCallsClaimOnce : Type 0
 LedCallsClaimOnce = (p q : PortView) (c : Call) (r : Reply) → (w : IsLed p q c r) →
     (claims_of pool_counter w.begun (answers_of q.kept) ≤ 1) × (claims_of slot_counter w.begun (answers_of q.kept) ≤ 1)
@@ -75,7 +75,7 @@ pub record ClaimedPastEnd (z : Layout) (answers : List ℕ) (cause : Refused) : 
       (size : ℕ) × (step_of claims ≡ Some (Add (pool_counter z) size)) × (size ≤ greatest_record z) × (pool_end z < last + size)
   pub slots : cause ≡ Refused.SlotsSpent → (step_of claims ≡ Some (Add (slot_counter z) 1)) × (z.slots ≤ last)
 
--- a call that is refused behind some steps claimed past the end of its own memory's pool or slots
+-- a call that is refused after some steps claimed past the end of its own memory's pool or slots
 abbrev pub LateRefusalsArePastEnd : Type 0
 LateRefusalsArePastEnd = (p q : PortView) (c : Call) (cause : Refused) → IsLedToRefusal p q c cause →
     ClaimedPastEnd p.memory.about.sizes (answers_of q.kept) cause

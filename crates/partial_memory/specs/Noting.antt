@@ -22,12 +22,12 @@ pub record NotesMore (p q : PortView) (new : List Noted) : Type 0 where
 abbrev pub NotesCall : PortView → Call → Answer → PortView → Type 0
 NotesCall p c a q = (n : Note) × NotesMore p q (record { call = c; answer = a; note = Some n } ∷ [])
 
--- the answer that is noted of what an update came to
+-- the answer that is noted of how an update ended
 abbrev pub noted_update : Updated → Answer
 noted_update (Applied stamp) = Answer.Applied stamp
 noted_update (Lost by) = Answer.Lost by
 
--- the answer that is noted of what a conditional update came to
+-- the answer that is noted of how a conditional update ended
 abbrev pub noted_update_if : UpdatedIf → Answer
 noted_update_if (UpdatedIf.Applied stamp) = Answer.Applied stamp
 noted_update_if (UpdatedIf.Changed by) = Answer.Changed by

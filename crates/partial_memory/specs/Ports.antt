@@ -17,7 +17,7 @@ use Rattle.partial_core.specs.Part.{KeptAnswer, core_of, first_at, port_of, IsBe
 use Rattle.partial_core.specs.Steps.{FitsHistory}
 use Rattle.partial_memory.specs.declared.rule.About.{About}
 use Rattle.partial_memory.specs.declared.error.OpenError.{OpenError}
-use Rattle.partial_memory.specs.declared.error.OpenError.TheVariants.{Ports, TooSmall, Memory}
+use Rattle.partial_memory.specs.declared.error.OpenError.TheVariants.{Ports, TooSmall, OutOfMemory}
 use Rattle.partial_memory.specs.Rule.{SeatedPort, IsBadgeOfOne, AreByOpened, one_in}
 
 -- which memory it is, and what it was opened with
@@ -94,7 +94,7 @@ pub record CountsSteps (p q : PortView) (c : Call) : Type 0 where
 abbrev pub refusal : PortView → Call → Option Refused
 refusal p c = refusal_at_once p.memory.about.sizes.m p.pool_spent p.slots_spent c
 
--- a call that was answered with a note: behind all that had been seen before the first of its steps, within what is seen now
+-- a call that was answered with a note: after all that had been seen before the first of its steps, within what is seen now
 pub record Answered (p q : PortView) (c : Call) (a : Answer) (n : Note) : Type 0 where
   pub allowed : refusal p c ≡ None
   pub goes : Goes p q (record { call = c; answer = a; note = Some n } ∷ [])
@@ -124,7 +124,7 @@ IsPastEnd z x Refused.PoolSpent = (size : ℕ) × (size ≤ greatest_record z) �
 abbrev pub EndsPastEnd : Layout → List KeptAnswer → Refused → Type 0
 EndsPastEnd z kept cause = (front : List KeptAnswer) × (last : KeptAnswer) × (kept ≡ front ++ last ∷ []) × IsPastEnd z last.answer cause
 
--- A call that was refused behind some steps: by the last of them, its claim, which went past the end of its region. Nothing is noted,
+-- A call that was refused after some steps: by the last of them, its claim, which went past the end of its region. Nothing is noted,
 -- and the port is marked for the region.
 pub record RefusedLate (p q : PortView) (c : Call) (cause : Refused) : Type 0 where
   pub allowed : refusal p c ≡ None
@@ -135,18 +135,18 @@ pub record RefusedLate (p q : PortView) (c : Call) (cause : Refused) : Type 0 wh
   pub pool : q.pool_spent ≡ (is_pool cause || p.pool_spent)
   pub slots : q.slots_spent ≡ (is_slots cause || p.slots_spent)
 
--- a call that was refused: before any step, and then nothing has changed, or behind some
+-- a call that was refused: before any step, and then nothing has changed, or after some
 abbrev pub IsRefused : PortView → Call → Refused → PortView → Type 0
 IsRefused p c cause q = ((refusal p c ≡ Some cause) × (q ≡ p)) ⊎ RefusedLate p q c cause
 
--- why a memory may not open with that many ports: Ports when there are not 1 to 64, and Memory only when there are; TooSmall never
+-- why a memory may not open with that many ports: Ports when there are not 1 to 64, and OutOfMemory only when there are; TooSmall never
 abbrev pub MayNotOpen : ℕ → OpenError → Type 0
 MayNotOpen ports Ports = (ports ≡ 0) ⊎ (64 < ports)
 MayNotOpen ports TooSmall = ⊥
-MayNotOpen ports Memory = (1 ≤ ports) × (ports ≤ 64)
+MayNotOpen ports OutOfMemory = (1 ≤ ports) × (ports ≤ 64)
 
 -- the numbers of the refusals
 abbrev pub open_code : OpenError → ℕ
 open_code Ports = 5
 open_code TooSmall = 13
-open_code Memory = 6
+open_code OutOfMemory = 6

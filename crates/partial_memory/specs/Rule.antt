@@ -51,7 +51,7 @@ abbrev pub newcomers : About → ℕ → ℕ → List SeatedPort
 newcomers about port zero = []
 newcomers about port (suc n) = newcomer about port ∷ newcomers about (port + 1) n
 
--- what stands for a port when a view has none
+-- what is taken for a port when a view has none
 abbrev pub nobody : SeatedPort
 nobody =
     newcomer (record { sizes = record { m = 1; slots = 1; lists = 0; pool = 3 }; opening = record { values = []; first = 0 }; ports = 0 }) 0
@@ -66,7 +66,7 @@ abbrev pub one_in : List (List SeatedPort) → SeatedPort
 one_in [] = nobody
 one_in (v ∷ vs) = one_of v
 
--- the seat stands for one port, and has no slot; the badge is the seat of one port
+-- the seat is that of one port, and has no slot; the badge is the seat of one port
 abbrev pub IsOne : {S : Type 0} → Me S (List SeatedPort) → Type 0
 IsOne me = (me.0 ≡ one_of me.0 ∷ []) × (me.1 ≡ [])
 

@@ -16,31 +16,31 @@ pub enum OpenError {
     TooSmall,
     /// An allocation was refused.
     #[error("out of memory")]
-    Memory,
+    OutOfMemory,
 }
 
 impl OpenError {
     ghost use Rattle.partial_memory.specs.Ports.{open_code};
 
-    /// The number of the refusal: 5 for `Ports`, 13 for `TooSmall`, 6 for `Memory`.
+    /// The number of the refusal: 5 for `Ports`, 13 for `TooSmall`, 6 for `OutOfMemory`.
     pub fn code(&self) -> u8
         ensures { result ≡ open_code self.now }
     {
         match self {
             OpenError::Ports => 5,
             OpenError::TooSmall => 13,
-            OpenError::Memory => 6,
+            OpenError::OutOfMemory => 6,
         }
     }
 }
 
 impl From<AllocError> for OpenError {
-    ghost use Rattle.partial_memory.specs.declared.error.OpenError.TheVariants.{Memory};
+    ghost use Rattle.partial_memory.specs.declared.error.OpenError.TheVariants.{OutOfMemory};
 
-    ghost from_gives = { λ _ e. e ≡ Memory };
+    ghost from_gives = { λ _ e. e ≡ OutOfMemory };
 
     fn from(_error: AllocError) -> OpenError {
-        OpenError::Memory
+        OpenError::OutOfMemory
     }
 }
 
@@ -49,7 +49,7 @@ impl From<AllocError> for OpenError {
 pub enum CloseError {
     /// An allocation was refused.
     #[error("out of memory")]
-    Memory,
+    OutOfMemory,
 }
 
 impl CloseError {
@@ -58,13 +58,13 @@ impl CloseError {
         ensures { result ≡ 6 }
     {
         match self {
-            CloseError::Memory => 6,
+            CloseError::OutOfMemory => 6,
         }
     }
 }
 
 impl From<AllocError> for CloseError {
     fn from(_error: AllocError) -> CloseError {
-        CloseError::Memory
+        CloseError::OutOfMemory
     }
 }

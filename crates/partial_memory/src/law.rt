@@ -30,7 +30,7 @@ pub fn led_calls_claim_once()
     ensures { LedCallsClaimOnce }
 {}
 
-/// A call that is refused behind some steps made its claim in the memory of its port, and the answer put that
+/// A call that is refused after some steps made its claim in the memory of its port, and the answer put that
 /// past the end there: of no more pool words than the greatest record has, or of a slot.
 pub fn late_refusals_are_past_end()
     ensures { LateRefusalsArePastEnd }
@@ -42,9 +42,9 @@ pub fn refusals_at_once_fit()
     ensures { RefusalsAtOnceFit }
 {}
 
-/// A memory that opens with the values of a closed one, and zeros behind them, goes on where its history
+/// A memory that opens with the values of a closed one, and zeros after them, goes on where its history
 /// ended: after each history of its own a component has the value that it has after both histories, one
-/// behind the other, over the first opening, in which an added component is 0.
+/// after the other, over the first opening, in which an added component is 0.
 pub fn closed_memories_continue()
     ensures { ClosedMemoriesContinue }
 {}

@@ -1,5 +1,5 @@
-//! The running memory. Its ports update, read and scan its components from any threads. The components lie
-//! in the words of one table, which change by single atomic steps.
+//! A single opening of a memory for threads. Its ports update, read and scan its components from any threads. The
+//! components lie in the words of one table, which change by single atomic steps.
 #![tactic(auto)]
 
 mod answers;

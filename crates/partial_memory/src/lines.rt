@@ -13,7 +13,7 @@ ghost use Rattle.partial_memory.specs.Inner.Steps.{Begins, CallMade, IsAtRest};
 ghost use Rattle.std.proofs.Common.{refl, ◌∙◌};
 ghost use Rattle.partial_memory.specs.Inner.Lines.{IsGoing, ComesTo, leads_itself, leads_on, machine_of};
 
-use crate::rule::{GoesOn, MachineStep, Moment, Place, PutsOn, Words};
+use crate::rule::{GoesOn, MachineStep, Moment, PortSeat, PutsOn, Words};
 use partial_core::{Change, Core};
 use partial_lines::Makes;
 use partial_words::{Step, announcement_size};
@@ -25,7 +25,7 @@ pub struct SeatLines<'a> {
     /// The words that all threads share.
     pub words: &'a Words,
     /// The seat of the port.
-    pub seat: Place,
+    pub seat: PortSeat,
 }
 
 impl<'a> Makes for SeatLines<'a> {
@@ -65,7 +65,7 @@ impl<'a> Makes for SeatLines<'a> {
 // Makes the first step of a call that begins with the load of its component's word, and returns the answer. `G` is the
 // machine that begins the call.
 #[inline(always)]
-fn begin_load<G: Moment>(words: &Words, seat: &mut Place, core: &Core, component: u32) -> u64
+fn begin_load<G: Moment>(words: &Words, seat: &mut PortSeat, core: &Core, component: u32) -> u64
     requires one { IsOne seat.old.me }
     requires rest { IsAtRest words.now.table_id words.now.key seat.old.table_id (one_of seat.old.me.0) core.now }
     requires component { component < core.now.sizes.m }
@@ -83,7 +83,7 @@ fn begin_load<G: Moment>(words: &Words, seat: &mut Place, core: &Core, component
 /// Makes the first step of a read, the load of its component's word, and returns the answer. `G` is the machine that
 /// begins the read.
 #[inline(always)]
-pub fn begin_read<G: Moment>(words: &Words, seat: &mut Place, core: &Core, component: u32) -> u64
+pub fn begin_read<G: Moment>(words: &Words, seat: &mut PortSeat, core: &Core, component: u32) -> u64
     requires one { IsOne seat.old.me }
     requires rest { IsAtRest words.now.table_id words.now.key seat.old.table_id (one_of seat.old.me.0) core.now }
     requires moment { G.core ≡ at_stage core.now (ReadBegun component) }
@@ -99,7 +99,12 @@ pub fn begin_read<G: Moment>(words: &Words, seat: &mut Place, core: &Core, compo
 /// Makes the first step of an update, the load of its component's word, and returns the answer. `G` is the machine that
 /// begins the update.
 #[inline(always)]
-pub fn begin_update<G: Moment>(words: &Words, seat: &mut Place, core: &Core, change: Change) -> u64
+pub fn begin_update<G: Moment>(
+    words: &Words,
+    seat: &mut PortSeat,
+    core: &Core,
+    change: Change,
+) -> u64
     requires one { IsOne seat.old.me }
     requires rest { IsAtRest words.now.table_id words.now.key seat.old.table_id (one_of seat.old.me.0) core.now }
     requires moment { G.core ≡ at_stage core.now (UpdateBegun change) }
@@ -115,7 +120,7 @@ pub fn begin_update<G: Moment>(words: &Words, seat: &mut Place, core: &Core, cha
 /// Makes the first step of a scan of these positions, the claim of its announcement, and returns the
 /// answer. `G` is the machine that begins the scan.
 #[inline(always)]
-pub fn begin_scan<G: Moment>(words: &Words, seat: &mut Place, core: &Core, which: &[u32]) -> u64
+pub fn begin_scan<G: Moment>(words: &Words, seat: &mut PortSeat, core: &Core, which: &[u32]) -> u64
     requires one { IsOne seat.old.me }
     requires rest { IsAtRest words.now.table_id words.now.key seat.old.table_id (one_of seat.old.me.0) core.now }
     requires moment { G.core ≡ scan_asked core.now which.now }
@@ -132,7 +137,7 @@ pub fn begin_scan<G: Moment>(words: &Words, seat: &mut Place, core: &Core, which
 
 /// Makes the step that is due in the call of the seat's port, and returns its answer.
 #[inline(always)]
-pub fn make(words: &Words, seat: &mut Place, step: Step) -> u64
+pub fn make(words: &Words, seat: &mut PortSeat, step: Step) -> u64
     requires going { IsGoing words.now.table_id words.now.key seat.old.table_id seat.old.me }
     requires due { step_of (machine_of seat.old.me) ≡ Some step }
     ensures going { IsGoing words.now.table_id words.now.key seat.new.table_id seat.new.me }
@@ -156,7 +161,7 @@ pub fn make(words: &Words, seat: &mut Place, step: Step) -> u64
 /// Makes a load that is due, and returns its answer. It takes the word as a `u64`, so a caller that has one
 /// need not cut it to the `u32` of a [`Step`].
 #[inline(always)]
-pub fn make_load(words: &Words, seat: &mut Place, word: u64) -> u64
+pub fn make_load(words: &Words, seat: &mut PortSeat, word: u64) -> u64
     requires going { IsGoing words.now.table_id words.now.key seat.old.table_id seat.old.me }
     requires due { step_of (machine_of seat.old.me) ≡ Some (Load word) }
     ensures going { IsGoing words.now.table_id words.now.key seat.new.table_id seat.new.me }

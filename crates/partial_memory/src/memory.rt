@@ -21,7 +21,7 @@ use crate::closed::{Closed, closed_of};
 use crate::error::{CloseError, OpenError};
 use crate::port::{Port, take_seat};
 use crate::read::read;
-use crate::rule::{About, Deals, Gathers, Lawful, Looks, Place, View};
+use crate::rule::{About, Deals, Gathers, Lawful, Looks, PortSeat, View};
 use crate::scan::scan;
 use crate::update::{Ending, update};
 use atomic_table::Table;
@@ -53,7 +53,7 @@ impl Model for Memory {
         (m.table.shared.table_id.words ≡ total m.table.shared.key.sizes) × (m.table.shared.table_id.slots ≡ 0) };
 }
 
-// The words at opening: behind the initial records all of them are 0.
+// The words at opening: after the initial records all of them are 0.
 fn opening_words(alloc: Global, sizes: Sizes, initial: &[u64]) -> Result<Vec<u64>, AllocError>
     requires { length initial.now ≡ sizes.m }
     ensures { IfOk result (λ words. AreOpeningWords sizes initial.now words.items) }
@@ -81,7 +81,7 @@ impl Memory {
     ///
     /// # Errors
     /// [`OpenError::Ports`] exactly when there are not 1 to 64 ports, and otherwise
-    /// [`OpenError::Memory`] when an allocation was refused. Nothing was made then.
+    /// [`OpenError::OutOfMemory`] when an allocation was refused. Nothing was made then.
     pub fn open(
         alloc: Global,
         sizes: Sizes,
@@ -130,7 +130,7 @@ impl Memory {
     /// # Errors
     /// [`OpenError::Ports`] exactly when there are not 1 to 64 ports; otherwise [`OpenError::TooSmall`]
     /// exactly when the closed memory has more components than `sizes`; otherwise
-    /// [`OpenError::Memory`] when an allocation was refused. Nothing was made then.
+    /// [`OpenError::OutOfMemory`] when an allocation was refused. Nothing was made then.
     pub fn reopen(
         alloc: Global,
         closed: &Closed,
@@ -285,7 +285,7 @@ impl Memory {
     /// after one history, which begins with all that each of these ports had observed.
     ///
     /// # Errors
-    /// [`CloseError::Memory`] when an allocation was refused: the contents are lost, and nothing is
+    /// [`CloseError::OutOfMemory`] when an allocation was refused: the contents are lost, and nothing is
     /// returned.
     pub fn close(self, alloc: Global, port: Port, mut rest: Vec<Port>) -> Result<Closed, CloseError>
         requires port { IsOf self port }
@@ -294,7 +294,7 @@ impl Memory {
         ensures lawful { IfOk result (λ closed. ClosesLawfully self (port ∷ rest.items) closed) }
     {
         let Memory { sizes, table } = self;
-        let mut seat: Place = port.into_seat();
+        let mut seat: PortSeat = port.into_seat();
         while let Some(port) = rest.pop() {
             table
                 .shared

@@ -4,7 +4,7 @@ ghost use Rattle.std.specs.Prelude.{◌≡◌, [], ◌∷◌};
 ghost use Rattle.partial_memory.specs.Rule.{IsBadgeOfOne, SeatedPort, one_in};
 ghost use Rattle.partial_memory.specs.Ports.{Knows, port_view};
 
-use crate::rule::{Place, View};
+use crate::rule::{PortSeat, View};
 use atomic_table::Badge;
 use partial_core::Core;
 use std::marker::Model;
@@ -60,7 +60,7 @@ impl Port {
     }
 
     // Takes the seat of a port that makes no further call.
-    pub(crate) fn into_seat(self) -> Place
+    pub(crate) fn into_seat(self) -> PortSeat
         ensures table { result.table_id ≡ self.memory.table }
         ensures one { (x : SeatedPort) × (result.me ≡ (x ∷ [], [])) × (port_view self.memory.table x ≡ self) }
     {
@@ -76,7 +76,7 @@ impl Port {
 
 /// Takes the seat out of its badge, which is blank until the seat is put back.
 #[inline(always)]
-pub fn take_seat(badge: &mut Badge<View>) -> Place
+pub fn take_seat(badge: &mut Badge<View>) -> PortSeat
     requires { IsBadgeOfOne badge.old.views }
     ensures table { result.table_id ≡ badge.old.table_id }
     ensures one { result.me ≡ (one_in badge.old.views ∷ [], []) }

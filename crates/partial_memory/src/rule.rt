@@ -1,4 +1,4 @@
-//! The rule of the table, and what its steps tell a port.
+//! The rule of the table, and what its steps show a port.
 
 use atomic_table::{Join, Play, Seat, Shared, Split, TableRule};
 use partial_model::Opening;
@@ -16,7 +16,7 @@ pub struct About {
     pub ports: u32,
 }
 
-/// The ports that a seat stands for, mostly one. It is ghost state: no value of it is ever made.
+/// The ports whose seat it is, mostly one. It is ghost state: no value of it is ever made.
 #[derive(Drop)]
 pub struct View {
     none: (),
@@ -46,7 +46,7 @@ impl TableRule<(), View, About> for Lawful {
 pub type Words = Shared<(), View, About, Lawful>;
 
 /// A seat of the table. Whoever holds it may make steps for its ports.
-pub type Place = Seat<(), View>;
+pub type PortSeat = Seat<(), View>;
 
 /// The machine whose step is made. Each call picks its own.
 pub trait Moment {

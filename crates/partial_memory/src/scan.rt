@@ -8,7 +8,7 @@ ghost use Rattle.partial_memory.specs.Inner.Steps.{Begins, IsAtRest, ScanEnded};
 
 use crate::lines::{SeatLines, begin_scan};
 use crate::port::take_seat;
-use crate::rule::{Place, View, Words};
+use crate::rule::{PortSeat, View, Words};
 use atomic_table::Badge;
 use partial_core::Core;
 use partial_lines::Scanned;
@@ -46,11 +46,11 @@ pub fn scan(
 // Makes the scan at a seat, and returns the seat with the answer.
 fn make_scan(
     words: &Words,
-    mut seat: Place,
+    mut seat: PortSeat,
     core: &mut Core,
     which: &[u32],
     into: &mut [u64],
-) -> (Place, Result<Scanned, Refused>)
+) -> (PortSeat, Result<Scanned, Refused>)
     requires one { IsOne seat.me }
     requires rest { IsAtRest words.now.table_id words.now.key seat.table_id (one_of seat.me.0) core.old }
     requires begins { Begins (scan_asked core.old which.now) (one_of seat.me.0) }

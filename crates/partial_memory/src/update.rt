@@ -13,7 +13,7 @@ ghost use Rattle.partial_memory.specs.Inner.Steps.{Begins, CallMade, CallEnded, 
 
 use crate::lines::{SeatLines, begin_update, make};
 use crate::port::take_seat;
-use crate::rule::{Place, View, Words};
+use crate::rule::{PortSeat, View, Words};
 use atomic_table::Badge;
 use partial_core::{Change, Core};
 use partial_lines::{Exchanged, put};
@@ -49,8 +49,7 @@ impl Ending {
     }
 }
 
-/// Makes the steps of an update that isn't refused at once. It is a function of its own in every program, whose
-/// parameters and answer stay in registers.
+/// Makes the steps of an update that isn't refused at once. Never inlined: keeps arguments and result in registers.
 #[inline(never)]
 pub fn update(
     core: &mut Core,
@@ -80,7 +79,12 @@ pub fn update(
 
 // Makes the update at a seat, and returns the seat with the answer.
 #[inline(always)]
-fn make_update(words: &Words, mut seat: Place, core: &mut Core, change: Change) -> (Place, Ending)
+fn make_update(
+    words: &Words,
+    mut seat: PortSeat,
+    core: &mut Core,
+    change: Change,
+) -> (PortSeat, Ending)
     requires one { IsOne seat.me }
     requires rest { IsAtRest words.now.table_id words.now.key seat.table_id (one_of seat.me.0) core.old }
     requires begins { Begins (at_stage core.old (UpdateBegun change)) (one_of seat.me.0) }
@@ -96,9 +100,15 @@ fn make_update(words: &Words, mut seat: Place, core: &mut Core, change: Change) 
     replace(words, seat, core, change, old)
 }
 
-// Makes the steps of an update behind its first one, which has loaded `old`.
+// Makes the steps of an update after its first one, which has loaded `old`.
 #[inline(always)]
-fn replace(words: &Words, seat: Place, core: &mut Core, change: Change, old: u64) -> (Place, Ending)
+fn replace(
+    words: &Words,
+    seat: PortSeat,
+    core: &mut Core,
+    change: Change,
+    old: u64,
+) -> (PortSeat, Ending)
     requires going { IsGoing words.now.table_id words.now.key seat.table_id seat.me }
     requires idle { core.old.stage ≡ Idle }
     requires sound { IsSound core.old }

@@ -30,7 +30,7 @@ abbrev pub EntriesAreNoted : Type 0
 EntriesAreNoted =
     (o : Opening) (h : List Applied) (p : ℕ) (ns : List Noted) → LegalNotes o h p 0 ns → EachOnce h p ns → entries_by p h ≡ applied_by p ns
 
--- The last entry of a history decides what its component holds, and leaves the others as they were; behind none of them each component
+-- The last entry of a history decides what its component holds, and leaves the others as they were; after none of them each component
 -- holds what it was opened with.
 pub record LastEntriesDecide : Type 0 where
   pub value : (o : Opening) (h : List Applied) (e : Applied) (j : ℕ) →

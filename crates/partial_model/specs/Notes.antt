@@ -96,7 +96,7 @@ IsTrueOf o h p (Call.UpdateIf j x v) (Answer.Applied s) (Note.Wrote k) =
 IsTrueOf o h p (Call.UpdateIf j x v) (Answer.Changed t) (Note.Saw n) = (n ≤ length h) × (stamp_of o (take n h) j ≡ t) × (t ≢ x)
 IsTrueOf o h p _ _ _ = ⊥
 
--- the triple fits, and its note is true of the history and lies behind all that was seen before
+-- the triple fits, and its note is true of the history and lies after all that was seen before
 abbrev pub IsLegal : Opening → List Applied → ℕ → ℕ → Noted → Type 0
 IsLegal o h p seen n = Fits (length o.values) n.call n.answer n.note ×
     IfSome n.note (λ note. IsTrueOf o h p n.call n.answer note × (seen ≤ place_of note))

@@ -35,7 +35,7 @@ places_by p k (e ∷ h) = if e.port == p then k ∷ places_by p (k + 1) h else p
 abbrev pub EachOnce : List Applied → ℕ → List Noted → Type 0
 EachOnce h p ns = places_by p 0 h ≡ places_written ns
 
--- The call may stand behind that one: a port's calls are numbered from 0 without gaps, each begins
+-- The call may stand after that one: a port's calls are numbered from 0 without gaps, each begins
 -- once the one before has ended, and the ports rise.
 abbrev pub Follows : Option Called → Called → Type 0
 Follows None c = c.number ≡ 0
@@ -47,7 +47,7 @@ abbrev pub IsInTime : ℕ → Called → Type 0
 IsInTime n c = (c.began ≤ n) × IfSome c.finish (λ f. (c.began ≤ f.ended) × (f.ended ≤ n) ×
     IfSome f.note (λ note. (c.began ≤ place_of note) × (shown_by note ≤ f.ended)))
 
--- the calls behind that one, in a history of n entries
+-- the calls after that one, in a history of n entries
 abbrev pub RealTime : ℕ → Option Called → List Called → Type 0
 RealTime n before [] = ⊤
 RealTime n before (c ∷ cs) = Follows before c × IsInTime n c × RealTime n (Some c) cs

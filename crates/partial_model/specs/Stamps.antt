@@ -21,7 +21,7 @@ pub record Twice : Type 0 where
   pub first : ℕ
   pub second : ℕ
 
--- the loads gave the component's stamp, one before and one behind the first n entries
+-- the loads gave the component's stamp, one before and one after the first n entries
 pub record IsRound (o : Opening) (h : List Applied) (n : ℕ) (l : Twice) : Type 0 where
   pub component : l.component < length o.values
   pub before : l.first ≤ n
@@ -29,7 +29,7 @@ pub record IsRound (o : Opening) (h : List Applied) (n : ℕ) (l : Twice) : Type
   pub first : stamp_of o (take l.first h) l.component ≡ l.stamp
   pub second : stamp_of o (take l.second h) l.component ≡ l.stamp
 
--- two equal collects, one before and one behind a length of the history, gave the stamps that stood together then
+-- two equal collects, one before and one after a length of the history, gave the stamps that stood together then
 abbrev pub EqualCollectsStandTogether : Type 0
 EqualCollectsStandTogether = (o : Opening) (h : List Applied) (n : ℕ) (ls : List Twice) → IsHistory o h →
     AllByRecursion (IsRound o h n) ls → map (λ l. l.stamp) ls ≡ map (λ l. stamp_of o (take n h) l.component) ls

@@ -31,7 +31,7 @@ use std::marker::Model;
 /// call, in the order of its port's calls.
 ///
 /// It takes no memory. It walks the history some times for each port that has calls, and for each value and
-/// stamp that an answer tells a part of it again.
+/// stamp that an answer names a part of it again.
 pub fn check_outcome(opening: &Opening, history: &[Applied], calls: &[Called]) -> bool
     ensures { Decides result (LegalOutcome opening.now history.now calls.now) }
 {
@@ -125,7 +125,7 @@ fn passes(opening: &Opening, history: &[Applied], calls: &[Called]) -> bool
         && passes_behind(opening, &Lookups::walking(history), calls)
 }
 
-// The tests of the clauses behind the first one, which says that the entries are a history.
+// The tests of the clauses after the first one, which says that the entries are a history.
 fn passes_behind(opening: &Opening, history: &Lookups, calls: &[Called]) -> bool
     ensures { is_history opening.now history.now && result ≡ is_legal_outcome opening.now history.now calls.now }
 {

@@ -9,7 +9,7 @@ use Rattle.partial_picture.specs.declared.fault.Fault.{Fault}
 
 -- the number of the refusal of a picture
 abbrev pub picture_code_of : PictureError → ℕ
-picture_code_of PictureError.Memory = 6
+picture_code_of PictureError.OutOfMemory = 6
 picture_code_of (PictureError.TooMany steps) = 15
 picture_code_of (PictureError.Window steps) = 16
 

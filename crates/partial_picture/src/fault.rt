@@ -11,7 +11,7 @@ use thiserror::Error;
 pub enum PictureError {
     /// An allocation was refused.
     #[error("out of memory")]
-    Memory,
+    OutOfMemory,
     /// The window has so many steps, and a picture has at most 2,000.
     #[error("{steps} steps, of which at most 2000 are drawn: give --window A B")]
     TooMany { steps: usize },
@@ -24,12 +24,12 @@ pub enum PictureError {
 impl PictureError {
     ghost use Rattle.partial_picture.specs.Refusal.{picture_code_of};
 
-    /// The number of the refusal: 6 for `Memory`, 15 for `TooMany`, 16 for `Window`.
+    /// The number of the refusal: 6 for `OutOfMemory`, 15 for `TooMany`, 16 for `Window`.
     pub fn code(&self) -> u8
         ensures { result ≡ picture_code_of self.now }
     {
         match self {
-            PictureError::Memory => 6,
+            PictureError::OutOfMemory => 6,
             PictureError::TooMany { .. } => 15,
             PictureError::Window { .. } => 16,
         }
@@ -38,12 +38,12 @@ impl PictureError {
 
 impl From<AllocError> for PictureError {
     ghost use Rattle.std.specs.Prelude.{◌≡◌};
-    ghost use Rattle.partial_picture.specs.declared.fault.PictureError.TheVariants.{Memory};
+    ghost use Rattle.partial_picture.specs.declared.fault.PictureError.TheVariants.{OutOfMemory};
 
-    ghost from_gives = { λ _ e. e ≡ Memory };
+    ghost from_gives = { λ _ e. e ≡ OutOfMemory };
 
     fn from(_error: AllocError) -> PictureError {
-        PictureError::Memory
+        PictureError::OutOfMemory
     }
 }
 
@@ -117,12 +117,12 @@ impl From<PictureError> for Fault {
 impl From<AllocError> for Fault {
     ghost use Rattle.std.specs.Prelude.{◌≡◌};
     ghost use Rattle.partial_picture.specs.declared.fault.Fault.TheVariants.{Picture};
-    ghost use Rattle.partial_picture.specs.declared.fault.PictureError.TheVariants.{Memory};
+    ghost use Rattle.partial_picture.specs.declared.fault.PictureError.TheVariants.{OutOfMemory};
 
-    ghost from_gives = { λ _ e. e ≡ Picture Memory };
+    ghost from_gives = { λ _ e. e ≡ Picture OutOfMemory };
 
     fn from(_error: AllocError) -> Fault {
-        Fault::Picture(PictureError::Memory)
+        Fault::Picture(PictureError::OutOfMemory)
     }
 }
 

@@ -5,7 +5,7 @@ use crate::pixels::Pixels;
 use crate::svg::{push_shape, push_words};
 use std::alloc::AllocError;
 
-/// The colours are those of Okabe and Ito, which colour-blind readers can tell apart. Each goes with a
+/// The colours are those of Okabe and Ito, which colour-blind readers can distinguish. Each goes with a
 /// shape of its own.
 pub(crate) const STYLE: &str = "<style>
 text{font:11px ui-monospace,Menlo,Consolas,'DejaVu Sans Mono',monospace;fill:#1c2127}

@@ -132,7 +132,7 @@ impl<'a> Picture<'a> {
     ///
     /// # Errors
     ///
-    /// `Memory` when an allocation was refused. `Window` and `TooMany` when the window can't be drawn, as
+    /// `OutOfMemory` when an allocation was refused. `Window` and `TooMany` when the window can't be drawn, as
     /// [`Window::drawn`] says.
     pub fn of(
         alloc: Global,
@@ -144,7 +144,7 @@ impl<'a> Picture<'a> {
         // The window is the one that is asked for, and a refusal says what is wrong with it.
         ensures window { MatchResult result
             (λ picture. drawn_of window (length outcome.now.trace.items) ≡ Ok picture.window)
-            (λ e. e ≢ PictureError.Memory → drawn_of window (length outcome.now.trace.items) ≡ Err e) }
+            (λ e. e ≢ PictureError.OutOfMemory → drawn_of window (length outcome.now.trace.items) ≡ Err e) }
         // One mark for each event of the window, in order.
         ensures marks { IfOk result (λ picture. picture.marks.items ≡ marks_in picture.window outcome.now.trace.items) }
         // One pin for each entry of the history whose exchange is in the window, in order and at its mark.

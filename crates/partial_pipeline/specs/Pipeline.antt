@@ -14,7 +14,7 @@ use Rattle.partial_long_lived.specs.declared.open_error.OpenError.{OpenError}
 use Rattle.partial_long_lived.specs.declared.options.Options.{Options}
 use Rattle.partial_long_lived.specs.Options.{most_lists, most_words, pool_words_behind}
 use Rattle.partial_pipeline.specs.declared.error.PipelineError.{PipelineError}
-use Rattle.partial_pipeline.specs.declared.error.PipelineError.TheVariants.{Stages, Lists, Pool, Memory}
+use Rattle.partial_pipeline.specs.declared.error.PipelineError.TheVariants.{Stages, Lists, Pool, OutOfMemory}
 use Rattle.partial_pipeline.specs.declared.report.PipelineReport.{PipelineReport}
 use Rattle.partial_pipeline.specs.declared.stage.StageEnd.TheVariants.{Finished}
 
@@ -64,7 +64,7 @@ abbrev pub MayNotRun : ℕ → Options → PipelineError → Type 0
 MayNotRun stages o Stages = (stages ≡ 0) ⊎ (63 < stages)
 MayNotRun stages o Lists = AreStages stages × (most_lists < o.lists)
 MayNotRun stages o Pool = AreStages stages × (o.lists ≤ most_lists) × (most_words < pool_words_behind stages (stages + 1) o)
-MayNotRun stages o Memory = AreStages stages
+MayNotRun stages o OutOfMemory = AreStages stages
 
 -- what the refusal of a memory is to its pipeline
 abbrev pub error_of : OpenError → PipelineError
@@ -72,14 +72,14 @@ error_of OpenError.Ports = Stages
 error_of OpenError.Components = Stages
 error_of OpenError.Lists = Lists
 error_of OpenError.Pool = Pool
-error_of OpenError.Memory = Memory
+error_of OpenError.OutOfMemory = OutOfMemory
 
 -- the numbers of the refusals
 abbrev pub error_code : PipelineError → ℕ
 error_code Stages = 5
 error_code Lists = 3
 error_code Pool = 4
-error_code Memory = 6
+error_code OutOfMemory = 6
 
 -- What is said of its number holds of each in the list; the first has number k.
 abbrev pub AreFrom : {A : Type 0} → (ℕ → A → Type 0) → ℕ → List A → Type 0

@@ -22,13 +22,13 @@ pub enum PipelineError {
     Pool,
     /// An allocation was refused, or a thread couldn't be started.
     #[error("out of memory")]
-    Memory,
+    OutOfMemory,
 }
 
 impl PipelineError {
     ghost use Rattle.partial_pipeline.specs.Pipeline.{error_code};
 
-    /// The number of the refusal: 5 for `Stages`, 3 for `Lists`, 4 for `Pool`, 6 for `Memory`.
+    /// The number of the refusal: 5 for `Stages`, 3 for `Lists`, 4 for `Pool`, 6 for `OutOfMemory`.
     pub fn code(&self) -> u8
         ensures { result ≡ error_code self.now }
     {
@@ -36,18 +36,18 @@ impl PipelineError {
             PipelineError::Stages => 5,
             PipelineError::Lists => 3,
             PipelineError::Pool => 4,
-            PipelineError::Memory => 6,
+            PipelineError::OutOfMemory => 6,
         }
     }
 }
 
 impl From<AllocError> for PipelineError {
-    ghost use Rattle.partial_pipeline.specs.declared.error.PipelineError.TheVariants.{Memory};
+    ghost use Rattle.partial_pipeline.specs.declared.error.PipelineError.TheVariants.{OutOfMemory};
 
-    ghost from_gives = { λ _ e. e ≡ Memory };
+    ghost from_gives = { λ _ e. e ≡ OutOfMemory };
 
     fn from(_error: AllocError) -> PipelineError {
-        PipelineError::Memory
+        PipelineError::OutOfMemory
     }
 }
 
@@ -62,7 +62,7 @@ impl From<OpenError> for PipelineError {
             OpenError::Ports | OpenError::Components => PipelineError::Stages,
             OpenError::Lists => PipelineError::Lists,
             OpenError::Pool => PipelineError::Pool,
-            OpenError::Memory => PipelineError::Memory,
+            OpenError::OutOfMemory => PipelineError::OutOfMemory,
         }
     }
 }

@@ -273,7 +273,7 @@ fn run_on<R: Threads + Wait + Sync, W: Work, V: Watch>(
 ///
 /// [`PipelineError::Stages`] exactly when there are not 1 to 63 stages. Otherwise [`PipelineError::Lists`] and
 /// [`PipelineError::Pool`] when the options ask for too many list words or pool words, and
-/// [`PipelineError::Memory`] when an allocation was refused or a thread couldn't be started. It returns when all
+/// [`PipelineError::OutOfMemory`] when an allocation was refused or a thread couldn't be started. It returns when all
 /// threads that were started have ended, and nothing is left of the pipeline.
 pub fn run_pipeline<R: Threads + Wait + Sync, W: Work, V: Watch>(
     rt: &R,

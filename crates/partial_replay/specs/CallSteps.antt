@@ -34,7 +34,7 @@ pub record IsFinishedAtOnce (s : CoreState) (c : Called) (t : CoreState) : Type 
   pub rests : t ≡ at_stage (begun_of s c.call) Idle
 
 -- A call with steps: the machine begins it and makes its events. It begins with the history before the
--- first one. When it has ended, its answer is the machine's, and it has ended behind the last one.
+-- first one. When it has ended, its answer is the machine's, and it has ended after the last one.
 pub record HasSteps (s : CoreState) (c : Called) (first : Moment) (more : List Moment) (t : CoreState) : Type 0 where
   pub begins : refusal_of s c.call ≡ None
   pub last : CoreState
@@ -44,7 +44,7 @@ pub record HasSteps (s : CoreState) (c : Called) (first : Moment) (more : List M
   pub ended : IfSome c.finish (λ f. f.ended ≡ last_behind first.behind more)
   pub rests : t ≡ at_stage last Idle
 
--- a call of the machine s with its events, and the machine behind it
+-- a call of the machine s with its events, and the machine after it
 abbrev pub IsCallRun : CoreState → Called → List Moment → CoreState → Type 0
 IsCallRun s c [] t = IsRefusedAtOnce s c t ⊎ IsFinishedAtOnce s c t
 IsCallRun s c (x ∷ xs) t = HasSteps s c x xs t

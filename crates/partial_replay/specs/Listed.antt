@@ -37,7 +37,7 @@ EndInStep (c ∷ []) = 0 < c.steps
 EndInStep (c ∷ d ∷ cs) = EndInStep (d ∷ cs)
 
 -- With the rest all calls are made. Without it so many turns make as many steps, and then no call is begun
--- behind the last step; or they make fewer, and then all calls are made.
+-- after the last step; or they make fewer, and then all calls are made.
 abbrev pub HaveMade : Bool → ℕ → ℕ → List Call → List Called → Type 0
 HaveMade true turns steps plan calls = AreAllMade plan calls
 HaveMade false turns steps plan calls = (steps ≤ turns) × (steps ≡ turns → EndInStep calls) × (steps < turns → AreAllMade plan calls)

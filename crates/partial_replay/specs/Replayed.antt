@@ -22,7 +22,7 @@ use Rattle.partial_machine.specs.Bounds.{most_steps}
 use Rattle.partial_replay.specs.Turns.{turns_of, turns_by, ports_in, lengths_in, BeginInTurns}
 use Rattle.partial_replay.specs.Listed.{calls_by, steps_by, AreFirstOf, AreAllMade, HaveMade, AreFew}
 
--- what an outcome tells: the opening, the history, the calls, the words at the end, the trace, and how many steps it has
+-- what an outcome says: the opening, the history, the calls, the words at the end, the trace, and how many steps it has
 pub record OutcomeView : Type 0 where
   pub opening : Opening
   pub history : List Applied
@@ -31,7 +31,7 @@ pub record OutcomeView : Type 0 where
   pub trace : List Event
   pub steps : ℕ
 
--- what an outcome tells
+-- what an outcome says
 abbrev pub outcome_view : Outcome → OutcomeView
 outcome_view outcome = record {
   opening = outcome.opening;
@@ -42,7 +42,7 @@ outcome_view outcome = record {
   steps = outcome.steps;
 }
 
--- what a replay has made, told as its outcome tells it
+-- what a replay has made, as its outcome says it
 abbrev pub replayed_view : Replayed → OutcomeView
 replayed_view replayed = record {
   opening = replayed.opening;
@@ -81,7 +81,7 @@ pub record IsReplayOf (p : PlanView) (outcome : OutcomeView) : Type 0 where
       (moments_by p.sizes.m q outcome.trace) last
   -- the trace's events are of the plan's turns in order, of each port the first ones, as many as its calls have steps
   pub turns : ports_of outcome.trace ≡ ports_in (turns_of p) (λ q. steps_by q outcome.calls)
-  -- each call begins in the turn of its port that comes behind the steps of the calls in front of it, with the history as it is then
+  -- each call begins in the turn of its port that comes after the steps of the calls in front of it, with the history as it is then
   pub begins : (q : ℕ) → BeginInTurns (turn_lengths p outcome q) 0 (calls_by q outcome.calls)
   -- each port makes a step in each of its turns until all its calls are made, and with the rest all are
   pub made : (q : ℕ) → HaveMade p.rest (turns_by q p.steps) (steps_by q outcome.calls) (slice_index_or p.ports q [])

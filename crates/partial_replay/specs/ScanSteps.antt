@@ -21,11 +21,11 @@ moment_answers own = map (λ x. x.event.answer) own
 abbrev pub events_in_front : List Called → List Moment → List Moment
 events_in_front front xs = take (steps_in front) xs
 
--- the events of a call of a port, behind those of the calls in front of it
+-- the events of a call of a port, after those of the calls in front of it
 abbrev pub own_events : List Called → Called → List Moment → List Moment
 own_events front c xs = take c.steps (drop (steps_in front) xs)
 
--- The call behind those in front of it, of the port that has the machine `first` at opening and these events:
+-- The call after those in front of it, of the port that has the machine `first` at opening and these events:
 -- its own events are the steps of the machine to which the calls in front lead, and they are as many as the
 -- positions and collects ask for, and as the pairs that it loaded when it borrowed a view.
 pub record ScanMakesItsSteps (first : CoreState) (xs : List Moment) (front : List Called) (c : Called) (positions collects : ℕ)

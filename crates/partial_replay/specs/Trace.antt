@@ -29,7 +29,7 @@ ports_of trace = map (λ e. e.port) trace
 abbrev pub events_in : ℕ → List ℕ → ℕ
 events_in q ports = length (filter (λ p. p == q) ports)
 
--- an event, and how long the history was before it and is behind it
+-- an event, and how long the history was before it and is after it
 pub record Moment : Type 0 where
   pub event : Event
   pub before : ℕ
@@ -48,7 +48,7 @@ moments_from m n (e ∷ es) = record { event = e; before = n; behind = n + adds 
 abbrev pub moments_by : ℕ → ℕ → List Event → List Moment
 moments_by m q trace = filter (λ x. x.event.port == q) (moments_from m 0 trace)
 
--- how long the history is behind the last of these moments, or with n entries when there is none
+-- how long the history is after the last of these moments, or with n entries when there is none
 abbrev pub last_behind : ℕ → List Moment → ℕ
 last_behind n [] = n
 last_behind n (x ∷ xs) = last_behind x.behind xs

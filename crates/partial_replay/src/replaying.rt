@@ -13,7 +13,7 @@ use thiserror::Error;
 pub enum ReplayError {
     /// An allocation was refused.
     #[error("out of memory")]
-    Memory,
+    OutOfMemory,
 }
 
 impl ReplayError {
@@ -24,14 +24,14 @@ impl ReplayError {
         ensures { result ≡ 6 }
     {
         match self {
-            ReplayError::Memory => 6,
+            ReplayError::OutOfMemory => 6,
         }
     }
 }
 
 impl From<AllocError> for ReplayError {
     fn from(_error: AllocError) -> ReplayError {
-        ReplayError::Memory
+        ReplayError::OutOfMemory
     }
 }
 
@@ -43,7 +43,7 @@ impl From<AllocError> for ReplayError {
 ///
 /// # Errors
 ///
-/// `Memory` when an allocation was refused: there was no room for the words, the trace or the calls. A plan
+/// `OutOfMemory` when an allocation was refused: there was no room for the words, the trace or the calls. A plan
 /// may ask for more steps than any machine has room to trace. Nothing is left of the replay.
 pub fn replay(alloc: Global, plan: &Plan) -> Result<Outcome, ReplayError>
     ensures { IfOk result (λ outcome. IsReplayOf plan.now (outcome_view outcome)) }

@@ -13,7 +13,7 @@ pub record ClaimedSlot : Type 0 where
   pub slot : ℕ
   pub joined : Option JoinedAnnouncement
 
--- where blocks are claimed: the pool words behind the initial records, or the list words
+-- where blocks are claimed: the pool words after the initial records, or the list words
 pub data Space : Type 0 where
   Pool : Space
   Lists : Space
@@ -23,7 +23,7 @@ abbrev pub space_begin : Layout → Space → ℕ
 space_begin z Pool = first_free z
 space_begin z Lists = list_base z
 
--- the word behind a space
+-- the word after a space
 abbrev pub end_of : Layout → Space → ℕ
 end_of z Pool = pool_end z
 end_of z Lists = list_end z

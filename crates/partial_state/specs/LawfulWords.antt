@@ -54,7 +54,7 @@ pub record IsDue (z : Layout) (o : Opening) (words : List ℕ) (h : Holding) (ot
   pub would : slice_index words d.component ≡ d.old →
       HasFreshView z o words (unpublished others) log (length log) d.at × CoversAll z words others log d.at
 
--- an entry's record lies in the pool, behind the initial records and below the counter
+-- an entry's record lies in the pool, after the initial records and below the counter
 pub record IsEntry (z : Layout) (words : List ℕ) (e : Applied) : Type 0 where
   pub above : first_free z ≤ e.stamp
   pub within : e.stamp + plain_record_size ≤ pool_end z
@@ -85,7 +85,7 @@ pub record LawfulWords (z : Layout) (o : Opening) (words : List ℕ) (hs : List 
   pub agrees : Agrees o words log
   -- the view of each initial record is the empty one
   pub initial : (j : ℕ) → j < z.m → view_of words (initial_record z j) ≡ 0
-  -- each entry's record lies in the pool, behind the initial records and below the counter
+  -- each entry's record lies in the pool, after the initial records and below the counter
   pub entries : AllByRecursion (IsEntry z words) log
   -- each block that isn't published belongs to one port, and lies below its counter
   pub tied : AllByRecursion (IsTied z words) hs

@@ -46,7 +46,7 @@ IsWithin o log n stamp =
     ((j : ℕ) × (j < length o.values) × (stamp ≡ initial_stamp o j))
     ⊎ ((k : ℕ) × (e : Applied) × (k < n) × (slice_get log k ≡ Some e) × (e.stamp ≡ stamp))
 
--- the view of the record at `stamp` is none, stands behind the record itself, or behind the record of an entry
+-- the view of the record at `stamp` is none, stands after the record itself, or after the record of an entry
 abbrev pub IsViewOf : List Applied → ℕ → ℕ → Type 0
 IsViewOf log stamp view =
     (view ≡ 0) ⊎ (view ≡ own_view stamp) ⊎ ((k : ℕ) × (e : Applied) × (slice_get log k ≡ Some e) × (view ≡ own_view e.stamp))

@@ -18,6 +18,6 @@ uncounted s = record { words = s.words; homes = s.homes; views = map plain_view 
 abbrev pub uncounted_me : {S V : Type 0} → Me S (Counted V) → Me S V
 uncounted_me me = (me.0.view, me.1)
 
--- a step tells the seat this, and is counted
+-- a step shows the seat this, and is counted
 abbrev pub counts : {S V : Type 0} → (Me S V → ℕ → Me S V → Type 0) → Me S (Counted V) → ℕ → Me S (Counted V) → Type 0
 counts then me found me' = then (uncounted_me me) found (uncounted_me me') × (me'.0.steps ≡ me.0.steps + 1)

@@ -16,7 +16,7 @@ pub record SeatView (V : Type 0) : Type 0 where
 abbrev pub seat_view : {V : Type 0} → TableId → ℕ → Me (Unit {0}) (Counted V) → SeatView V
 seat_view table id me = record { table_id = table; id = id; me = uncounted_me me; steps = me.0.steps }
 
--- a table: which one it is, and what it was told when it was made
+-- a table: which one it is, and what was said of it when it was made
 pub record TableView (K : Type 0) : Type 0 where
   pub table_id : TableId
   pub key : K

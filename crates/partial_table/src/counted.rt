@@ -22,7 +22,7 @@ impl<V, K, P: TableRule<(), V, K>> TableRule<(), Counted<V>, K> for Counting<P> 
     ghost first = { λ about. counted (P.first about) 0 };
 }
 
-/// A step that tells what `M` does, and is counted.
+/// A step that says what `M` does, and is counted.
 pub struct Counts<M> {
     play: PhantomData<M>,
 }

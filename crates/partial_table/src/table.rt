@@ -10,7 +10,7 @@ use atomic_table::{Closed, TableRule};
 use std::alloc::{AllocError, Global};
 use std::marker::Model;
 
-/// Words that threads share. To contracts it is which table it is, and what it was told when it was made.
+/// Words that threads share. To contracts it is which table it is, and what was said of it when it was made.
 #[derive(Drop)]
 pub struct Table<V, K, P: TableRule<(), V, K>> {
     pub(crate) inner: atomic_table::Table<(), Counted<V>, K, Counting<P>, Global>,

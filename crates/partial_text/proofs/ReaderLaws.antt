@@ -23,7 +23,7 @@ judged_all (Some x) (Some y) text taken end =
 
 -- where the reader did not fail, no memory was left
 pub only_memory : (e : PlanError) (judged_plan : Result PlanView PlanError) → IsReaderFault e → (e ≡ PlanError.Read → ⊥) → Fails e judged_plan
-only_memory PlanError.Memory judged_plan h other = tt
+only_memory PlanError.OutOfMemory judged_plan h other = tt
 only_memory PlanError.Read judged_plan h other = absurd (other refl)
 only_memory (PlanError.Size x) judged_plan h other = absurd h
 only_memory PlanError.Ports judged_plan h other = absurd h

@@ -4,7 +4,7 @@ use Rattle.partial_text.specs.Judging.{line_at, tail_at}
 
 -- a step that fails fails the whole
 pub Fails_first : {A B : Type 0} (e : PlanError) (r : Result A PlanError) (f : A → Result B PlanError) (judged : Result B PlanError) → Fails e r → (r >>= f) ≡ judged → Fails e judged
-Fails_first PlanError.Memory r f judged h e = tt
+Fails_first PlanError.OutOfMemory r f judged h e = tt
 Fails_first PlanError.Read r f judged h e = absurd h
 Fails_first (PlanError.Size x) r f judged h e = sym e ∙ rw h refl
 Fails_first PlanError.Ports r f judged h e = sym e ∙ rw h refl

@@ -80,11 +80,11 @@ tells_handed_on gathered written true new p stopped = record {
 
 -- bytes are told by writing them, whether that succeeds or fails
 pub tells_put : {T : Type 0} (bytes : List ℕ) (old new : Option (List ℕ)) (failed : Bool) (result : Result T OutcomeError) → OnOk result (Appends old new bytes) →
-    OnErr result ((n : ℕ) × Appends old new (take n bytes)) → (IsErrOf result OutcomeError.Write ↔ (failed ≡ true)) → (IsErrOf result OutcomeError.Memory → ⊥) →
+    OnErr result ((n : ℕ) × Appends old new (take n bytes)) → (IsErrOf result OutcomeError.Write ↔ (failed ≡ true)) → (IsErrOf result OutcomeError.OutOfMemory → ⊥) →
     TellsBytes (record { gathered = []; written = old; failed = false }) bytes (record { gathered = []; written = new; failed = failed })
 tells_put bytes old new false (Ok u) whole part fault memory = tells_written bytes old new whole
 tells_put {T} bytes old new true (Ok u) whole part fault memory = absurd (subst (λ (r : Result T OutcomeError). OnErr r ⊥) (fault.1 refl) tt)
-tells_put bytes old new failed (Err OutcomeError.Memory) whole part fault memory = absurd (memory refl)
+tells_put bytes old new failed (Err OutcomeError.OutOfMemory) whole part fault memory = absurd (memory refl)
 tells_put bytes old new failed (Err OutcomeError.Write) whole part fault memory =
     let after : Bool → Telling = λ b. record { gathered = []; written = new; failed = b } in
     subst (λ (b : Bool). TellsBytes (record { gathered = []; written = old; failed = false }) bytes (after b)) (sym (fault.0 refl)) (tells_part bytes part.0 old new part.1)

@@ -9,7 +9,7 @@ use Rattle.partial_text.specs.declared.fault.OutcomeError.{OutcomeError}
 abbrev pub plan_code : PlanError → ℕ
 plan_code (PlanError.Size e) = sizes.size_code e
 plan_code PlanError.Ports = 5
-plan_code PlanError.Memory = 6
+plan_code PlanError.OutOfMemory = 6
 plan_code (PlanError.Line l c) = 10
 plan_code PlanError.Read = 11
 
@@ -20,7 +20,7 @@ line_of _ = None
 
 -- the number of a refusal
 abbrev pub outcome_code_of : OutcomeError → ℕ
-outcome_code_of OutcomeError.Memory = 6
+outcome_code_of OutcomeError.OutOfMemory = 6
 outcome_code_of OutcomeError.Write = 12
 
 -- a step that may be refused, and what is done with what it gives
@@ -31,7 +31,7 @@ abbrev pub ◌>>=◌ : {A B : Type 0} → Result A PlanError → (A → Result B
 
 -- The error is the one that judging gives, unless memory ran out. Judging reads nothing.
 abbrev pub Fails : {Y : Type 0} → PlanError → Result Y PlanError → Type 0
-Fails PlanError.Memory judged = Unit {0}
+Fails PlanError.OutOfMemory judged = Unit {0}
 Fails PlanError.Read judged = ⊥
 Fails (PlanError.Size e) judged = judged ≡ Err (PlanError.Size e)
 Fails PlanError.Ports judged = judged ≡ Err PlanError.Ports
@@ -44,6 +44,6 @@ Gives view (Err e) judged = Fails e judged
 
 -- what reading the bytes alone may answer
 abbrev pub IsReaderFault : PlanError → Type 0
-IsReaderFault PlanError.Memory = Unit {0}
+IsReaderFault PlanError.OutOfMemory = Unit {0}
 IsReaderFault PlanError.Read = Unit {0}
 IsReaderFault _ = ⊥

@@ -22,7 +22,7 @@ greatest = 18446744073709551615
 abbrev pub greatest_index : ℕ
 greatest_index = 4294967295
 
--- the fields behind the first one of a line or a call
+-- the fields after the first one of a line or a call
 abbrev pub fields_of : List ℕ → List (List ℕ)
 fields_of text = pieces_behind 32 (from 32 text)
 
@@ -50,7 +50,7 @@ exactly_four (a ∷ fs) = option_map (λ x. (a, x.0, x.1, x.2)) (exactly_three f
 abbrev pub number_at : ℕ → ℕ → List ℕ → Result ℕ PlanError
 number_at line most field = ok_or (number_of most field) (PlanError.Line line Cause.Number)
 
--- fields that have to be numbers, behind the numbers so far
+-- fields that have to be numbers, after the numbers so far
 unfoldable pub numbers_at : ℕ → ℕ → List ℕ → List (List ℕ) → Result (List ℕ) PlanError
 numbers_at line most found [] = Ok found
 numbers_at line most found (f ∷ fs) = do
@@ -121,7 +121,7 @@ call_text_at m line text =
     (if bytes_eq (until 32 text) (codes "read") then read_from line (fields_of text) else
     (if bytes_eq (until 32 text) (codes "updateif") then update_if_from line (fields_of text) else Err (PlanError.Line line Cause.Word))))
 
--- the calls that texts are, behind the calls so far
+-- the calls that texts are, after the calls so far
 unfoldable pub calls_at : ℕ → ℕ → List Call → List (List ℕ) → Result (List Call) PlanError
 calls_at m line found [] = Ok found
 calls_at m line found (t ∷ ts) = do
@@ -140,13 +140,13 @@ is_cut [] = false
 is_cut (x ∷ []) = false
 is_cut (x ∷ y ∷ xs) = (x == 59) && (y == 32)
 
--- the texts behind a semicolon and a space
+-- the texts after a semicolon and a space
 abbrev pub call_texts_behind : List ℕ → List (List ℕ)
 call_texts_behind [] = []
 call_texts_behind (x ∷ []) = []
 call_texts_behind (x ∷ y ∷ xs) = call_texts xs
 
--- the calls behind the word of a port line: none, or a space and their texts
+-- the calls after the word of a port line: none, or a space and their texts
 unfoldable pub port_line_at : ℕ → ℕ → List ℕ → Result (List Call) PlanError
 port_line_at m line [] = Ok []
 port_line_at m line (x ∷ text) = calls_at m line [] (call_texts text)
@@ -169,7 +169,7 @@ is_nil (f ∷ fs) = false
 abbrev pub is_rest : List ℕ → List (List ℕ) → Bool
 is_rest f fs = is_nil fs && bytes_eq f (codes "rest")
 
--- the turns behind those so far, and whether the rest runs behind them
+-- the turns after those so far, and whether the rest runs after them
 unfoldable pub entries_at : ℕ → ℕ → List (ℕ × ℕ) → List (List ℕ) → Result (List (ℕ × ℕ) × Bool) PlanError
 entries_at line ports found [] = Ok (found, false)
 entries_at line ports found (f ∷ fs) = if is_rest f fs then Ok (found, true) else
@@ -177,18 +177,18 @@ entries_at line ports found (f ∷ fs) = if is_rest f fs then Ok (found, true) e
 
 -- ---- the lines
 
--- the first line, and what stands behind it
+-- the first line, and what stands after it
 unfoldable pub line_at : ℕ → List (List ℕ) → Result (List ℕ × List (List ℕ)) PlanError
 line_at line [] = Err (PlanError.Line line Cause.End)
 line_at line (l ∷ []) = Err (PlanError.Line line Cause.End)
 line_at line (l ∷ k ∷ ls) = Ok (l, k ∷ ls)
 
--- the ports with one more, of which these are the bytes behind the word
+-- the ports with one more, of which these are the bytes after the word
 unfoldable pub more_ports : ℕ → ℕ → List (List Call) → List ℕ → Result (List (List Call)) PlanError
 more_ports m line found calls = if nat_lt (length found) 64 then (port_line_at m line calls >>= λ cs. Ok (found ++ cs ∷ [])) else
     Err PlanError.Ports
 
--- nothing stands behind the last line
+-- nothing stands after the last line
 abbrev pub is_end : List (List ℕ) → Bool
 is_end ([] ∷ []) = true
 is_end _ = false
@@ -200,13 +200,13 @@ last_at line ports l behind =
     (if ports == 0 then Err PlanError.Ports else (entries_at line ports [] (fields_of l) >>= λ steps. if is_end behind then Ok steps else
     Err (PlanError.Line (line + 1) Cause.Extra))) else Err (PlanError.Line line Cause.Word)
 
--- what stands behind the second line
+-- what stands after the second line
 pub record Tail : Type 0 where
   pub ports : List (List Call)
   pub steps : List (ℕ × ℕ)
   pub rest : Bool
 
--- the port lines behind those so far, and the last line, in a plan of m components
+-- the port lines after those so far, and the last line, in a plan of m components
 unfoldable pub tail_at : ℕ → ℕ → List (List Call) → List (List ℕ) → Result Tail PlanError
 tail_at m line found [] = Err (PlanError.Line line Cause.End)
 tail_at m line found (l ∷ []) = Err (PlanError.Line line Cause.End)

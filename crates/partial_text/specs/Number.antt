@@ -6,7 +6,7 @@ use Rattle.std.specs.Char.{is_ascii_digit}
 abbrev pub with_digit : ℕ → ℕ → ℕ → Option ℕ
 with_digit most n c = if is_ascii_digit c && nat_le (n * 10 + (c - 48)) most then Some (n * 10 + (c - 48)) else None
 
--- the number that digits make behind the number so far
+-- the number that digits make after the number so far
 abbrev pub number_from : ℕ → ℕ → List ℕ → Option ℕ
 number_from most n [] = Some n
 number_from most n (c ∷ cs) = option_and_then (λ m. number_from most m cs) (with_digit most n c)

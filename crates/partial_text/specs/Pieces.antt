@@ -22,11 +22,11 @@ abbrev pub pieces : ℕ → List ℕ → List (List ℕ)
 pieces c [] = [] ∷ []
 pieces c (x ∷ xs) = if x == c then [] ∷ pieces c xs else onto_first x (pieces c xs)
 
--- the pieces behind the first byte, which is a separator
+-- the pieces after the first byte, which is a separator
 abbrev pub pieces_behind : ℕ → List ℕ → List (List ℕ)
 pieces_behind c [] = []
 pieces_behind c (x ∷ xs) = pieces c xs
 
--- a piece, and each further one behind a c
+-- a piece, and each further one after a c
 abbrev pub joined_pieces : ℕ → List ℕ → List (List ℕ) → List ℕ
 joined_pieces c p ps = p ++ flat_map (λ q. c ∷ q) ps

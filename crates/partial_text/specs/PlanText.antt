@@ -4,7 +4,7 @@ use Rattle.std.specs.List.{flat_map, AllByRecursion}
 use Rattle.partial_model.specs.declared.call.Call.{Call}
 use Rattle.partial_words.specs.Layout.{Layout, IsLayout}
 
--- a plan: the sizes, the value of each component, the calls of each port, the turns, and whether the rest runs behind them
+-- a plan: the sizes, the value of each component, the calls of each port, the turns, and whether the rest runs after them
 pub record PlanView : Type 0 where
   pub sizes : Layout
   pub initial : List ℕ
@@ -12,11 +12,11 @@ pub record PlanView : Type 0 where
   pub steps : List (ℕ × ℕ)
   pub rest : Bool
 
--- a field behind one space
+-- a field after one space
 abbrev pub field : List ℕ → List ℕ
 field f = 32 ∷ f
 
--- a number behind one space
+-- a number after one space
 abbrev pub number_field : ℕ → List ℕ
 number_field n = 32 ∷ decimal n
 
@@ -35,7 +35,7 @@ call_text (Call.Scan js) = codes "scan" ++ flat_map number_field js
 call_text (Call.Read j) = codes "read" ++ flat_map number_field (j ∷ [])
 call_text (Call.UpdateIf j s v) = codes "updateif" ++ flat_map number_field (j ∷ s ∷ v ∷ [])
 
--- a further call of a port: it stands behind a semicolon and a space
+-- a further call of a port: it stands after a semicolon and a space
 abbrev pub next_call : Call → List ℕ
 next_call c = 59 ∷ 32 ∷ call_text c
 

@@ -43,7 +43,7 @@ pub enum PlanError {
     Ports,
     /// An allocation was refused.
     #[error("out of memory")]
-    Memory,
+    OutOfMemory,
     /// This line, counted from 1, is wrong for this cause.
     #[error("line {line}: {cause}")]
     Line { line: u32, cause: Cause },
@@ -55,7 +55,7 @@ pub enum PlanError {
 impl PlanError {
     ghost use Rattle.partial_text.specs.Fault.{plan_code, line_of};
 
-    /// The number of the refusal: 1 to 4 for a size, 5 for `Ports`, 6 for `Memory`, 10 for `Line`, 11 for
+    /// The number of the refusal: 1 to 4 for a size, 5 for `Ports`, 6 for `OutOfMemory`, 10 for `Line`, 11 for
     /// `Read`.
     pub fn code(&self) -> u8
         ensures { result ≡ plan_code self.now }
@@ -63,7 +63,7 @@ impl PlanError {
         match self {
             PlanError::Size(error) => error.code(),
             PlanError::Ports => 5,
-            PlanError::Memory => 6,
+            PlanError::OutOfMemory => 6,
             PlanError::Line { .. } => 10,
             PlanError::Read => 11,
         }
@@ -82,23 +82,23 @@ impl PlanError {
 
 impl From<AllocError> for PlanError {
     ghost use Rattle.std.specs.Prelude.{◌≡◌};
-    ghost use Rattle.partial_text.specs.declared.fault.PlanError.TheVariants.{Memory};
+    ghost use Rattle.partial_text.specs.declared.fault.PlanError.TheVariants.{OutOfMemory};
 
-    ghost from_gives = { λ _ e. e ≡ Memory };
+    ghost from_gives = { λ _ e. e ≡ OutOfMemory };
 
     fn from(_error: AllocError) -> PlanError {
-        PlanError::Memory
+        PlanError::OutOfMemory
     }
 }
 
 impl<T: Drop> From<AllocFailed<T>> for PlanError {
     ghost use Rattle.std.specs.Prelude.{◌≡◌};
-    ghost use Rattle.partial_text.specs.declared.fault.PlanError.TheVariants.{Memory};
+    ghost use Rattle.partial_text.specs.declared.fault.PlanError.TheVariants.{OutOfMemory};
 
-    ghost from_gives = { λ _ e. e ≡ Memory };
+    ghost from_gives = { λ _ e. e ≡ OutOfMemory };
 
     fn from(_error: AllocFailed<T>) -> PlanError {
-        PlanError::Memory
+        PlanError::OutOfMemory
     }
 }
 
@@ -107,7 +107,7 @@ impl<T: Drop> From<AllocFailed<T>> for PlanError {
 pub enum OutcomeError {
     /// An allocation was refused. Nothing was written.
     #[error("out of memory")]
-    Memory,
+    OutOfMemory,
     /// The writer failed or took 0 bytes. A part of the text from its front was written.
     #[error("write fault")]
     Write,
@@ -116,12 +116,12 @@ pub enum OutcomeError {
 impl OutcomeError {
     ghost use Rattle.partial_text.specs.Fault.{outcome_code_of};
 
-    /// The number of the refusal: 6 for `Memory`, 12 for `Write`.
+    /// The number of the refusal: 6 for `OutOfMemory`, 12 for `Write`.
     pub fn code(&self) -> u8
         ensures { result ≡ outcome_code_of self.now }
     {
         match self {
-            OutcomeError::Memory => 6,
+            OutcomeError::OutOfMemory => 6,
             OutcomeError::Write => 12,
         }
     }
@@ -129,11 +129,11 @@ impl OutcomeError {
 
 impl From<AllocError> for OutcomeError {
     ghost use Rattle.std.specs.Prelude.{◌≡◌};
-    ghost use Rattle.partial_text.specs.declared.fault.OutcomeError.TheVariants.{Memory};
+    ghost use Rattle.partial_text.specs.declared.fault.OutcomeError.TheVariants.{OutOfMemory};
 
-    ghost from_gives = { λ _ e. e ≡ Memory };
+    ghost from_gives = { λ _ e. e ≡ OutOfMemory };
 
     fn from(_error: AllocError) -> OutcomeError {
-        OutcomeError::Memory
+        OutcomeError::OutOfMemory
     }
 }

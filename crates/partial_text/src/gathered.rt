@@ -1,4 +1,4 @@
-//! The pieces of a text that is told to a writer, gathered to be written together.
+//! The pieces of a text that is given to a writer, gathered to be written together.
 
 ghost use Rattle.std.specs.Prelude.{◌≡◌, ◌<◌, ◌^◌, [], true, false, IfOk, IfErr, OnOk};
 ghost use Rattle.partial_text.specs.Inner.Telling.{TellsBytes, telling};
@@ -13,8 +13,8 @@ use std::marker::Model;
 /// How many bytes are gathered before they are written.
 const ROOM: usize = 65_536;
 
-/// What was told of a text and isn't written yet. Its room is taken before the first byte is written, so that a refused
-/// allocation leaves nothing half written. Once a write has failed, nothing more is written.
+/// What was given of a text and isn't written yet. Its room is taken before the first byte is written, so that a
+/// refused allocation leaves nothing half written. Once a write has failed, nothing more is written.
 #[derive(Drop)]
 pub(crate) struct Gathered {
     bytes: Vec<u8>,
@@ -48,7 +48,7 @@ impl Gathered {
         })
     }
 
-    /// Tells the bytes: gathers them, and writes what is gathered when there is no room for them.
+    /// Takes the bytes: gathers them, and writes what is gathered when there is no room for them.
     #[inline(always)]
     pub(crate) fn tell<W: Write>(&mut self, writer: &mut Device<W>, bytes: &[u8])
         ensures { TellsBytes (telling W.contents self.old writer.old) bytes.now
@@ -60,7 +60,7 @@ impl Gathered {
         }
     }
 
-    // Tells bytes that can't be gathered: writes what is gathered, and then them.
+    // Takes bytes that can't be gathered: writes what is gathered, and then them.
     #[inline(never)]
     fn write_through<W: Write>(&mut self, writer: &mut Device<W>, bytes: &[u8])
         ensures { TellsBytes (telling W.contents self.old writer.old) bytes.now

@@ -1,4 +1,4 @@
-//! The text of an outcome, told to a writer.
+//! The text of an outcome, given to a writer.
 
 ghost use Rattle.std.specs.Prelude.{◌≡◌, ◌++◌, decimal, IfOk};
 ghost use Rattle.std.specs.List.{flat_map};
@@ -16,7 +16,7 @@ use partial_model::{Answer, Applied, Called, Finish, Note, Opening};
 use std::alloc::{AllocError, Global};
 use std::io::Write;
 
-/// Tells the digits of the number.
+/// Writes the digits of the number.
 fn tell_digits<W: Write>(text: &mut Gathered, out: &mut Device<W>, number: u64)
     ensures { TellsBytes (telling W.contents text.old out.old) (decimal number)
         (telling W.contents text.new out.new) }
@@ -24,7 +24,7 @@ fn tell_digits<W: Write>(text: &mut Gathered, out: &mut Device<W>, number: u64)
     text.tell(out, Buffer::new().format(number).as_bytes());
 }
 
-/// Tells the word, which ends with a space, and the number.
+/// Writes the word, which ends with a space, and the number.
 #[tactic(auto, using(crate::proofs::Telling::tellings))]
 #[inline(always)]
 pub(crate) fn tell_field<W: Write>(
@@ -40,7 +40,7 @@ pub(crate) fn tell_field<W: Write>(
     tell_digits(text, out, number);
 }
 
-/// Tells a space and the number.
+/// Writes a space and the number.
 pub(crate) fn tell_number<W: Write>(text: &mut Gathered, out: &mut Device<W>, number: u64)
     ensures { TellsBytes (telling W.contents text.old out.old) (number_field number)
         (telling W.contents text.new out.new) }
@@ -48,7 +48,7 @@ pub(crate) fn tell_number<W: Write>(text: &mut Gathered, out: &mut Device<W>, nu
     tell_field(text, out, b" ", number);
 }
 
-/// Tells each number with a space before it.
+/// Writes each number with a space before it.
 fn tell_numbers<W: Write>(text: &mut Gathered, out: &mut Device<W>, numbers: &[u64])
     ensures { TellsBytes (telling W.contents text.old out.old) (flat_map number_field numbers.now)
         (telling W.contents text.new out.new) }
@@ -58,7 +58,7 @@ fn tell_numbers<W: Write>(text: &mut Gathered, out: &mut Device<W>, numbers: &[u
     }
 }
 
-/// Tells a space and the number, or a dash when there is none.
+/// Writes a space and the number, or a dash when there is none.
 fn tell_optional<W: Write>(text: &mut Gathered, out: &mut Device<W>, number: Option<u64>)
     ensures { TellsBytes (telling W.contents text.old out.old) (optional_field number)
         (telling W.contents text.new out.new) }
@@ -92,7 +92,7 @@ fn place(note: Option<Note>) -> usize
     }
 }
 
-/// Tells an answer up to its place or prefix.
+/// Writes an answer up to its place or prefix.
 #[tactic(auto, using(crate::proofs::Telling::tellings))]
 pub(crate) fn tell_answer_front<W: Write>(text: &mut Gathered, out: &mut Device<W>, answer: &Answer)
     ensures { TellsBytes (telling W.contents text.old out.old) (answer_front answer.now)
@@ -114,7 +114,7 @@ pub(crate) fn tell_answer_front<W: Write>(text: &mut Gathered, out: &mut Device<
     }
 }
 
-/// Tells the place or the prefix of an answer.
+/// Writes the place or the prefix of an answer.
 fn tell_place<W: Write>(text: &mut Gathered, out: &mut Device<W>, answer: &Answer, place: usize)
     ensures { TellsBytes (telling W.contents text.old out.old) (place_field answer.now place)
         (telling W.contents text.new out.new) }
@@ -128,7 +128,7 @@ fn tell_place<W: Write>(text: &mut Gathered, out: &mut Device<W>, answer: &Answe
     }
 }
 
-/// Tells what follows the prefix of a scan, and nothing of other answers.
+/// Writes what follows the prefix of a scan, and nothing of other answers.
 #[tactic(auto, using(crate::proofs::Telling::tellings))]
 pub(crate) fn tell_answer_back<W: Write>(text: &mut Gathered, out: &mut Device<W>, answer: &Answer)
     ensures { TellsBytes (telling W.contents text.old out.old) (answer_back answer.now)
@@ -206,7 +206,7 @@ fn tell_calls<W: Write>(text: &mut Gathered, out: &mut Device<W>, calls: &[Calle
     }
 }
 
-/// Tells the lines of the calls, one port's behind the other's.
+/// Writes the lines of the calls, one port's after the other's.
 fn tell_calls_of_ports<W: Write>(text: &mut Gathered, out: &mut Device<W>, ports: &[Vec<Called>])
     ensures { TellsBytes (telling W.contents text.old out.old) (flat_map call_line (calls_in_order ports.now))
         (telling W.contents text.new out.new) }
@@ -233,7 +233,7 @@ pub(crate) fn final_values(
     Ok(values)
 }
 
-/// Tells the line of the values.
+/// Writes the line of the values.
 #[tactic(auto, using(crate::proofs::Telling::tellings))]
 pub(crate) fn tell_values<W: Write>(text: &mut Gathered, out: &mut Device<W>, values: &[u64])
     ensures { TellsBytes (telling W.contents text.old out.old) (values_line values.now)
@@ -253,7 +253,7 @@ fn tell_total<W: Write>(text: &mut Gathered, out: &mut Device<W>, steps: u64)
     text.tell(out, b"\n");
 }
 
-/// Tells the text of an outcome. `values` are those of the components after its history.
+/// Writes the text of an outcome. `values` are those of the components after its history.
 #[tactic(auto, using(crate::proofs::Telling::tellings))]
 pub(crate) fn tell_outcome<W: Write>(
     text: &mut Gathered,
@@ -272,7 +272,7 @@ pub(crate) fn tell_outcome<W: Write>(
     tell_total(text, out, outcome.steps);
 }
 
-/// Tells the text of what a replay has made. `values` are those of the components after its history.
+/// Writes the text of what a replay has made. `values` are those of the components after its history.
 #[tactic(auto, using(crate::proofs::Telling::tellings))]
 pub(crate) fn tell_replayed<W: Write>(
     text: &mut Gathered,

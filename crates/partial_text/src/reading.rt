@@ -80,7 +80,7 @@ impl Plan {
     /// # Errors
     ///
     /// The first fault of the text, when it isn't the text of a plan: a size out of its range, not 1 to 64
-    /// ports, or a line with its cause. `Memory` when an allocation was refused, and `Read` when the reader
+    /// ports, or a line with its cause. `OutOfMemory` when an allocation was refused, and `Read` when the reader
     /// failed. It stops reading when it holds more than 4,194,304 bytes, and asks the reader at most 4,194,306
     /// times.
     pub fn read<R: Read>(alloc: Global, reader: &mut Device<R>) -> Result<Plan, PlanError>

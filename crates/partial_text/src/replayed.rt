@@ -26,7 +26,7 @@ pub struct Replayed {
     pub steps: u64,
 }
 
-/// Moves the calls of all ports into one list, one port's behind the other's.
+/// Moves the calls of all ports into one list, one port's after the other's.
 ///
 /// # Errors
 ///

@@ -1,4 +1,4 @@
-//! The text of a report, told to a writer.
+//! The text of a report, given to a writer.
 
 ghost use Rattle.partial_text.specs.ReportText.{answer_line, answer_lines, port_lines, report_text};
 ghost use Rattle.partial_text.specs.Inner.Telling.{TellsBytes, telling};
@@ -12,7 +12,7 @@ use crate::report::RunReport;
 use partial_model::Answer;
 use std::io::Write;
 
-/// Tells the line of an answered call.
+/// Writes the line of an answered call.
 #[tactic(auto, using(crate::proofs::Telling::tellings))]
 fn tell_answer_line<W: Write>(
     text: &mut Gathered,
@@ -31,7 +31,7 @@ fn tell_answer_line<W: Write>(
     text.tell(out, b"\n");
 }
 
-/// Tells the lines of a port.
+/// Writes the lines of a port.
 fn tell_answers<W: Write>(text: &mut Gathered, out: &mut Device<W>, port: usize, answers: &[Answer])
     ensures { TellsBytes (telling W.contents text.old out.old) (answer_lines port 0 answers.now)
         (telling W.contents text.new out.new) }
@@ -41,7 +41,7 @@ fn tell_answers<W: Write>(text: &mut Gathered, out: &mut Device<W>, port: usize,
     }
 }
 
-/// Tells the lines of the ports.
+/// Writes the lines of the ports.
 fn tell_ports<W: Write>(text: &mut Gathered, out: &mut Device<W>, ports: &[Vec<Answer>])
     ensures { TellsBytes (telling W.contents text.old out.old) (port_lines 0 ports.now)
         (telling W.contents text.new out.new) }
@@ -51,7 +51,7 @@ fn tell_ports<W: Write>(text: &mut Gathered, out: &mut Device<W>, ports: &[Vec<A
     }
 }
 
-/// Tells the text of a report.
+/// Writes the text of a report.
 #[tactic(auto, using(crate::proofs::Telling::tellings))]
 pub(crate) fn tell_report<W: Write>(text: &mut Gathered, out: &mut Device<W>, report: &RunReport)
     ensures { TellsBytes (telling W.contents text.old out.old)

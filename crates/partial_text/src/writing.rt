@@ -29,7 +29,7 @@ pub fn write_text<W: Write>(text: &[u8], writer: &mut Device<W>) -> Result<(), O
     ensures part { OnErr result ((n : ℕ)
         × Appends (W.contents writer.old.inner) (W.contents writer.new.inner) (take n text.now)) }
     ensures fault { IsErrOf result OutcomeError.Write ↔ (writer.new.failed ≡ true) }
-    ensures memory { IsErrOf result OutcomeError.Memory → ⊥ }
+    ensures memory { IsErrOf result OutcomeError.OutOfMemory → ⊥ }
 {
     let mut rest = text;
     while !rest.is_empty() {
@@ -46,7 +46,7 @@ pub fn write_text<W: Write>(text: &[u8], writer: &mut Device<W>) -> Result<(), O
 ///
 /// # Errors
 ///
-/// `Memory` when an allocation was refused: nothing was written. `Write` when a write fails or takes 0
+/// `OutOfMemory` when an allocation was refused: nothing was written. `Write` when a write fails or takes 0
 /// bytes: a part of the text from its front has been written.
 pub fn write_outcome<W: Write>(
     alloc: Global,
@@ -62,7 +62,7 @@ pub fn write_outcome<W: Write>(
         (take n (outcome_text outcome.now.opening outcome.now.history.items
         outcome.now.calls.items outcome.now.steps))) }
     ensures fault { IsErrOf result OutcomeError.Write ↔ (writer.new.failed ≡ true) }
-    ensures memory { IsErrOf result OutcomeError.Memory → writer.new ≡ writer.old }
+    ensures memory { IsErrOf result OutcomeError.OutOfMemory → writer.new ≡ writer.old }
 {
     let values = final_values(alloc, &outcome.opening, &outcome.history)?;
     let mut text = Gathered::new(alloc)?;
@@ -89,7 +89,7 @@ pub fn write_replayed<W: Write>(
         (take n (outcome_text replayed.now.opening replayed.now.history.items
         (calls_in_order replayed.now.calls.items) replayed.now.steps))) }
     ensures fault { IsErrOf result OutcomeError.Write ↔ (writer.new.failed ≡ true) }
-    ensures memory { IsErrOf result OutcomeError.Memory → writer.new ≡ writer.old }
+    ensures memory { IsErrOf result OutcomeError.OutOfMemory → writer.new ≡ writer.old }
 {
     let values = final_values(alloc, &replayed.opening, &replayed.history)?;
     let mut text = Gathered::new(alloc)?;
@@ -102,7 +102,7 @@ pub fn write_replayed<W: Write>(
 ///
 /// # Errors
 ///
-/// `Memory` when an allocation was refused: nothing was written. `Write` when a write fails or takes 0
+/// `OutOfMemory` when an allocation was refused: nothing was written. `Write` when a write fails or takes 0
 /// bytes: a part of the text from its front has been written.
 pub fn write_report<W: Write>(
     alloc: Global,
@@ -116,7 +116,7 @@ pub fn write_report<W: Write>(
         × Appends (W.contents writer.old.inner) (W.contents writer.new.inner)
         (take n (report_text report.now.answers.items report.now.values.items))) }
     ensures fault { IsErrOf result OutcomeError.Write ↔ (writer.new.failed ≡ true) }
-    ensures memory { IsErrOf result OutcomeError.Memory → writer.new ≡ writer.old }
+    ensures memory { IsErrOf result OutcomeError.OutOfMemory → writer.new ≡ writer.old }
 {
     let mut text = Gathered::new(alloc)?;
     tell_report(&mut text, writer, report);
@@ -127,7 +127,7 @@ pub fn write_report<W: Write>(
 ///
 /// # Errors
 ///
-/// `Memory` when an allocation was refused: nothing was written, not even of the first report. `Write` when
+/// `OutOfMemory` when an allocation was refused: nothing was written, not even of the first report. `Write` when
 /// a write fails or takes 0 bytes: a part of the text of both from its front has been written.
 pub fn write_reports<W: Write>(
     alloc: Global,
@@ -144,7 +144,7 @@ pub fn write_reports<W: Write>(
         (take n (report_text first.now.answers.items first.now.values.items
         ++ report_text second.now.answers.items second.now.values.items))) }
     ensures fault { IsErrOf result OutcomeError.Write ↔ (writer.new.failed ≡ true) }
-    ensures memory { IsErrOf result OutcomeError.Memory → writer.new ≡ writer.old }
+    ensures memory { IsErrOf result OutcomeError.OutOfMemory → writer.new ≡ writer.old }
 {
     let mut text = Gathered::new(alloc)?;
     tell_report(&mut text, writer, first);

@@ -59,7 +59,7 @@ slot_word s l = s.m + 4 + l
 abbrev pub list_base : Layout → ℕ
 list_base s = s.m + 4 + s.slots
 
--- the word behind the list words
+-- the word after the list words
 abbrev pub list_end : Layout → ℕ
 list_end s = s.m + 4 + s.slots + s.lists
 
@@ -67,7 +67,7 @@ list_end s = s.m + 4 + s.slots + s.lists
 abbrev pub pool_base : Layout → ℕ
 pool_base s = s.m + 4 + s.slots + s.lists
 
--- the word behind the pool
+-- the word after the pool
 abbrev pub pool_end : Layout → ℕ
 pool_end s = s.m + 4 + s.slots + s.lists + s.pool
 
@@ -83,7 +83,7 @@ initial_record s j = pool_base s + 3 * j
 abbrev pub initial_words : Layout → ℕ
 initial_words s = 3 * s.m
 
--- the first pool word behind the initial records
+-- the first pool word after the initial records
 abbrev pub first_free : Layout → ℕ
 first_free s = pool_base s + 3 * s.m
 
@@ -117,7 +117,7 @@ first_word s Slots = slot_word s 0
 first_word s Lists = list_base s
 first_word s Pool = pool_base s
 
--- the word behind a region
+-- the word after a region
 abbrev pub end_word : Layout → Region → ℕ
 end_word s Components = s.m
 end_word s SlotCounter = slot_counter s + 1

@@ -10,7 +10,7 @@ pair_words pair = pair.0 ∷ pair.1 ∷ []
 abbrev pub view_block : List (ℕ × ℕ) → List ℕ
 view_block pairs = length pairs ∷ flat_map pair_words pairs
 
--- a record: the record before it, its value, its view, and the words of a view of its own behind
+-- a record: the record before it, its value, its view, and then the words of a view of its own
 abbrev pub record_block : ℕ → ℕ → ℕ → List (ℕ × ℕ) → List ℕ
 record_block prev value view [] = prev ∷ value ∷ view ∷ []
 record_block prev value view (pair ∷ pairs) = prev ∷ value ∷ view ∷ view_block (pair ∷ pairs)
@@ -39,7 +39,7 @@ value_word at = at + 1
 abbrev pub view_word : ℕ → ℕ
 view_word at = at + 2
 
--- the place of a view of its own, behind its three words
+-- the place of a view of its own, after its three words
 abbrev pub own_view : ℕ → ℕ
 own_view at = at + 3
 
@@ -51,7 +51,7 @@ pairs_size n = 2 * n
 abbrev pub pairs_word : ℕ → ℕ
 pairs_word at = at + 1
 
--- the word behind that one, of pairs or of indices that are read word by word
+-- the word after that one, of pairs or of indices that are read word by word
 abbrev pub next_word : ℕ → ℕ
 next_word at = at + 1
 
@@ -92,7 +92,7 @@ pub record ReadsBackRecord (words : List ℕ) (at p v w : ℕ) (pairs : List (�
   pub prev : prev_of words at ≡ p
   pub value : record_value words at ≡ v
   pub view : view_of words at ≡ w
-  -- a view of its own stands behind it
+  -- a view of its own stands after it
   pub count : 0 < length pairs → view_len words (own_view at) ≡ length pairs
   pub each : (k : ℕ) (d : ℕ × ℕ) → k < length pairs → view_pair words (own_view at) k ≡ slice_index_or pairs k d
 

@@ -13,7 +13,7 @@ use std::marker::Model;
 // How many words are stored together: as many as a page of memory holds.
 const STRETCH: usize = 512;
 
-/// Words of one thread. Those behind the last one on which a step was made needn't be stored: they are 0. So words that
+/// Words of one thread. Those after the last one on which a step was made needn't be stored: they are 0. So words that
 /// no step has reached cost room, and no time. To a contract it is the list of all words.
 #[derive(Debug, Drop)]
 pub struct PlainWords {
@@ -54,7 +54,7 @@ fn store_up_to(stored: &mut Vec<u64>, count: usize)
     }
 }
 
-// Stores the word with that number, and some behind it, unless it is stored. The `count` words stay as they are.
+// Stores the word with that number, and some after it, unless it is stored. The `count` words stay as they are.
 #[inline(always)]
 #[tactic(auto, using(crate::proofs::PlainLemmas::zeros_stored))]
 fn reach(stored: &mut Vec<u64>, count: usize, at: usize)

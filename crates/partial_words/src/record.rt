@@ -69,7 +69,7 @@ pub fn pairs_word(at: u64) -> u64
     next_word(at)
 }
 
-/// The number of the word behind that one, of pairs or of indices that are read word by word.
+/// The number of the word after that one, of pairs or of indices that are read word by word.
 #[inline(always)]
 pub fn next_word(at: u64) -> u64
     requires { next_word at < 2 ^ 64 }

@@ -11,7 +11,7 @@ use thiserror::Error;
 pub enum RunError {
     /// An allocation was refused, or a worker couldn't be started.
     #[error("out of memory")]
-    Memory,
+    OutOfMemory,
 }
 
 impl RunError {
@@ -20,26 +20,26 @@ impl RunError {
         ensures { result ≡ 6 }
     {
         match self {
-            RunError::Memory => 6,
+            RunError::OutOfMemory => 6,
         }
     }
 }
 
 impl From<AllocError> for RunError {
     fn from(_error: AllocError) -> RunError {
-        RunError::Memory
+        RunError::OutOfMemory
     }
 }
 
 // A run has 1 to 64 ports and as many components as its memory, so only an allocation can be refused.
 impl From<OpenError> for RunError {
     fn from(_error: OpenError) -> RunError {
-        RunError::Memory
+        RunError::OutOfMemory
     }
 }
 
 impl From<CloseError> for RunError {
     fn from(_error: CloseError) -> RunError {
-        RunError::Memory
+        RunError::OutOfMemory
     }
 }

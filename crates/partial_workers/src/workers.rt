@@ -32,7 +32,7 @@ impl Promise<Worked> for Works<'_> {
     ghost kept_by = { λ p w. IsWorkDone p.memory.value p.port p.calls.value.now w };
 }
 
-// Room for what the workers come to, made before they start.
+// Room for the answers of the workers, made before they start.
 #[derive(Drop)]
 struct Results {
     ports: Vec<Port>,
@@ -151,7 +151,7 @@ pub fn calls_by_port(alloc: Global, ports: &[Sequence<Call>]) -> Result<Vec<&[Ca
     Ok(calls)
 }
 
-/// What workers came to, and the memory that they left.
+/// What workers did, and the memory that they left.
 #[derive(Drop)]
 pub struct Ran {
     /// The answers of each port, one for each of its calls, in order.
@@ -171,7 +171,7 @@ pub struct Ran {
 ///
 /// # Errors
 ///
-/// [`RunError::Memory`] when an allocation was refused or a worker couldn't be started. It comes once all workers
+/// [`RunError::OutOfMemory`] when an allocation was refused or a worker couldn't be started. It comes once all workers
 /// that were started have ended. The memory with all that was applied to it is gone then.
 pub fn run_on<'c, R: Threads + Wait + Sync, G: Gate>(
     rt: &R,

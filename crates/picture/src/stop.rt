@@ -65,7 +65,7 @@ impl From<Fault> for Stop {
 
 impl From<AllocError> for Stop {
     fn from(_error: AllocError) -> Stop {
-        Stop::Refused(Fault::Picture(PictureError::Memory))
+        Stop::Refused(Fault::Picture(PictureError::OutOfMemory))
     }
 }
 
@@ -73,7 +73,7 @@ impl From<AllocError> for Stop {
 impl From<io::Error> for Stop {
     fn from(error: io::Error) -> Stop {
         match error.kind() {
-            io::ErrorKind::OutOfMemory => Stop::Refused(Fault::Picture(PictureError::Memory)),
+            io::ErrorKind::OutOfMemory => Stop::Refused(Fault::Picture(PictureError::OutOfMemory)),
             _ => Stop::NotText,
         }
     }
@@ -82,7 +82,7 @@ impl From<io::Error> for Stop {
 impl From<Error> for Stop {
     fn from(error: Error) -> Stop {
         match error.kind() {
-            ErrorKind::OutOfMemory => Stop::Refused(Fault::Picture(PictureError::Memory)),
+            ErrorKind::OutOfMemory => Stop::Refused(Fault::Picture(PictureError::OutOfMemory)),
             _ => Stop::Words(error),
         }
     }

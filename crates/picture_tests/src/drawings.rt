@@ -75,7 +75,7 @@ fn judge_shapes(
     Ok(())
 }
 
-/// Judges that each step is told once.
+/// Judges that each step is drawn once.
 fn judge_steps(
     rt: &impl Abort,
     alloc: Global,
@@ -89,7 +89,7 @@ fn judge_steps(
     Ok(())
 }
 
-/// Judges that each call is told once.
+/// Judges that each call is drawn once.
 fn judge_calls(
     rt: &impl Abort,
     alloc: Global,
@@ -143,7 +143,7 @@ fn arrows() -> [(&'static [u8], Option<&'static str>); 3] {
             borrowed_view_plan(),
             Some("<title>stamp 32 lent its view to call 0 0</title>"),
         ),
-        // The second conditional update came behind the entry that it shows: it wasn't overtaken.
+        // The second conditional update came after the entry that it shows: it wasn't overtaken.
         (refused_plan(), None),
     ]
 }
@@ -167,7 +167,7 @@ fn arrows_tell_what_was_overtaken_and_lent(rt: HostRuntime) -> Result<(), Fail> 
     Ok(())
 }
 
-// Plans, whether their drawings show words, and their sizes. 16 steps of 26 behind 116, and 120 behind them, are
+// Plans, whether their drawings show words, and their sizes. 16 steps of 26 after 116, and 120 after them, are
 // narrower than the legend. The lanes are 74 high, and the legend 66 with what is free above it.
 fn sizes() -> [(&'static [u8], bool, &'static str); 3] {
     [
@@ -199,7 +199,7 @@ fn size_of_a_drawing(rt: HostRuntime) -> Result<(), Fail> {
     Ok(())
 }
 
-/// A text, and these words escaped behind it.
+/// A text, and these words escaped after it.
 fn escaped(alloc: Global, text: &str, words: &str) -> Result<String, AllocError> {
     let mut text = String::from_str(alloc, text)?;
     push_escaped(&mut text, words)?;

@@ -63,8 +63,8 @@ fn their_tables() -> [(Window, &'static str); 2] {
     ]
 }
 
-// Calls without a step have lines of their own, also behind the last step, and a call that goes on beyond the
-// window isn't told to begin or to end in it.
+// Calls without a step have lines of their own, also after the last step, and a call that goes on beyond the
+// window isn't shown to begin or to end in it.
 #[test]
 fn calls_between_steps(rt: HostRuntime) -> Result<(), Fail> {
     for (window, wanted) in their_tables() {

@@ -30,7 +30,7 @@ fn judge_part(rt: &impl Abort, text: &str, part: &str, expected: usize, window: 
     assert_eq!(rt; count(text, part), expected, "{first} {last}");
 }
 
-/// Judges what the drawing of a window tells.
+/// Judges what the drawing of a window shows.
 fn judge_window(rt: &impl Abort, text: &str, counted: Counted) {
     let (first, last, marks, bars, entries, arrows) = counted;
     judge_part(rt, text, "<title>step ", marks, (first, last));
@@ -79,8 +79,12 @@ fn numbered() -> [(Fault, u8, &'static str); 7] {
     [
         (Fault::Plan(PlanError::Ports), 5, "ports out of range"),
         (Fault::Plan(line), 10, "line 3: word"),
-        (Fault::Replay(ReplayError::Memory), 6, "out of memory"),
-        (Fault::Picture(PictureError::Memory), 6, "out of memory"),
+        (Fault::Replay(ReplayError::OutOfMemory), 6, "out of memory"),
+        (
+            Fault::Picture(PictureError::OutOfMemory),
+            6,
+            "out of memory",
+        ),
         (
             Fault::Picture(PictureError::TooMany { steps: 2001 }),
             15,

@@ -60,7 +60,7 @@ impl From<PipelineError> for Stop {
 
 impl From<AllocError> for Stop {
     fn from(_error: AllocError) -> Stop {
-        Stop::Refused(PipelineError::Memory)
+        Stop::Refused(PipelineError::OutOfMemory)
     }
 }
 
@@ -68,7 +68,7 @@ impl From<AllocError> for Stop {
 impl From<io::Error> for Stop {
     fn from(error: io::Error) -> Stop {
         match error.kind() {
-            io::ErrorKind::OutOfMemory => Stop::Refused(PipelineError::Memory),
+            io::ErrorKind::OutOfMemory => Stop::Refused(PipelineError::OutOfMemory),
             _ => Stop::NotText,
         }
     }
@@ -77,7 +77,7 @@ impl From<io::Error> for Stop {
 impl From<Error> for Stop {
     fn from(error: Error) -> Stop {
         match error.kind() {
-            ErrorKind::OutOfMemory => Stop::Refused(PipelineError::Memory),
+            ErrorKind::OutOfMemory => Stop::Refused(PipelineError::OutOfMemory),
             _ => Stop::Words(error),
         }
     }

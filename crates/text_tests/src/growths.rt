@@ -30,7 +30,7 @@ fn a_refused_growth_reads_no_plan(rt: HostRuntime) -> Result<(), Fail> {
     match read(rt.alloc(), each_call()) {
         Ok(plan) => assert_eq!(rt; plan.ports().len(), 2),
         Err(error) => {
-            assert_eq!(rt; error, PlanError::Memory);
+            assert_eq!(rt; error, PlanError::OutOfMemory);
             Err(AllocError)?;
         }
     }
@@ -66,7 +66,7 @@ fn judge(
     match given {
         Ok(()) => assert!(rt; 0 < taken),
         Err(error) => {
-            assert_eq!(rt; error, OutcomeError::Memory);
+            assert_eq!(rt; error, OutcomeError::OutOfMemory);
             assert_eq!(rt; taken, 0);
             Err(AllocError)?;
         }

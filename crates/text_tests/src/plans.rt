@@ -235,7 +235,7 @@ fn plan_fronts(rt: HostRuntime) -> Result<(), Fail> {
     Ok(())
 }
 
-/// The refusal of the plan above with more behind it.
+/// The refusal of the plan above with more after it.
 fn refusal_of_more(alloc: Global, more: &[u8]) -> Result<Option<PlanError>, AllocError> {
     let text = repeated(alloc, whole(), more, 1, b"")?;
     Ok(read(alloc, &text).err())
@@ -302,7 +302,7 @@ fn numbered() -> [(PlanError, u8, &'static str); 14] {
             "pool words out of range",
         ),
         (PlanError::Ports, 5, "ports out of range"),
-        (PlanError::Memory, 6, "out of memory"),
+        (PlanError::OutOfMemory, 6, "out of memory"),
         (line(3, Cause::Size), 10, "line 3: size"),
         (line(3, Cause::End), 10, "line 3: end"),
         (line(3, Cause::Word), 10, "line 3: word"),

@@ -13,7 +13,7 @@ fn row() -> &'static [u8] {
     b"call 0 0 applied 24\ncall 0 1 read 7 24\nvalues 7 20\n"
 }
 
-/// The text of one report and, behind it, that of another.
+/// The text of one report and, after it, that of another.
 fn rows() -> &'static [u8] {
     b"call 0 0 applied 24\ncall 0 1 read 7 24\nvalues 7 20\ncall 0 0 changed 24\ncall 1 0 applied 27\nvalues 7 9\n"
 }
@@ -29,7 +29,7 @@ fn write_then_read(alloc: Global) -> Result<RunReport, AllocError> {
     })
 }
 
-/// A report of two ports that came behind the other one's.
+/// A report of two ports that came after the other one's.
 fn changed_then_applied(alloc: Global) -> Result<RunReport, AllocError> {
     let first = vec![in alloc; Answer::Changed { by: 24 }]?;
     let last = vec![in alloc; Answer::Applied { stamp: 27 }]?;

@@ -73,12 +73,12 @@ fn scans_are_read(rt: HostRuntime) -> Result<(), Fail> {
     Ok(())
 }
 
-/// Puts a number behind the text.
+/// Puts a number after the text.
 fn push_number(text: &mut Vec<u8>, number: u32) -> Result<(), AllocError> {
     text.extend_from_slice(Buffer::new().format(number).as_bytes())
 }
 
-/// Puts a scan of so many components behind the text.
+/// Puts a scan of so many components after the text.
 fn push_scan_of_all(text: &mut Vec<u8>, components: u32) -> Result<(), AllocError> {
     text.extend_from_slice(b"\nport scan")?;
     for component in 0..components {
@@ -96,7 +96,7 @@ fn front_of_all(alloc: Global, components: u32) -> Result<Vec<u8>, AllocError> {
     Ok(text)
 }
 
-/// A plan of so many components, whose one port scans each of them, with `more` behind the last one.
+/// A plan of so many components, whose one port scans each of them, with `more` after the last one.
 fn scan_of_all(alloc: Global, components: u32, more: &[u8]) -> Result<Vec<u8>, AllocError> {
     let front = front_of_all(alloc, components)?;
     let mut text = repeated(alloc, &front, b" 0", components, b"")?;
@@ -128,7 +128,7 @@ fn judge_scan_of_all(rt: &impl Abort, alloc: Global, components: u32) -> Result<
     Ok(())
 }
 
-/// Why this scan is refused with more behind it.
+/// Why this scan is refused with more after it.
 fn refusal_of_more(
     alloc: Global,
     components: u32,
@@ -138,7 +138,7 @@ fn refusal_of_more(
     Ok(read(alloc, &text).err())
 }
 
-/// Judges that this scan is refused with more behind it.
+/// Judges that this scan is refused with more after it.
 fn judge_more(
     rt: &impl Abort,
     alloc: Global,

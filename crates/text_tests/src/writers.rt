@@ -349,7 +349,7 @@ fn greatest_scan() -> &'static [u8] {
     b"scanned 18446744073709551615 0 18446744073709551615 prefix 0 collects 4294967295 borrowed 18446744073709551615"
 }
 
-// The values of scans, their collects, the stamps that they borrow from, and what is told of them.
+// The values of scans, their collects, the stamps that they borrow from, and what is said of them.
 fn scans() -> [(&'static [u64], u32, Option<u64>, &'static [u8]); 4] {
     [
         (&[], 0, None, b"scanned prefix 0 collects 0 borrowed -"),
@@ -387,7 +387,7 @@ fn each_scan_is_written(rt: HostRuntime) -> Result<(), Fail> {
     Ok(())
 }
 
-/// Judges writers that stop, each behind another part of the outcome's text.
+/// Judges writers that stop, each after another part of the outcome's text.
 fn judge_stops(rt: &impl Abort, alloc: Global, outcome: &Outcome, row: &[u8]) {
     for room in 0..row.len() {
         for (step, takes_none) in [(1, false), (7, true), (1000, false)] {
@@ -405,7 +405,7 @@ fn each_stop(rt: HostRuntime) -> Result<(), Fail> {
     Ok(())
 }
 
-/// Judges writers of what a replay has made, each of which stops behind another part of its text.
+/// Judges writers of what a replay has made, each of which stops after another part of its text.
 fn judge_replay_stops(rt: &impl Abort, alloc: Global, replayed: &Replayed, text: &[u8]) {
     for room in 0..text.len() {
         let mut device = Device::new(Sink::new(alloc, 7, room, false));
@@ -491,7 +491,7 @@ fn long_texts_stop_in_any_part(rt: HostRuntime) -> Result<(), Fail> {
 #[test]
 fn write_refusals_have_numbers(rt: HostRuntime) -> Result<(), Fail> {
     for (error, code, text) in [
-        (OutcomeError::Memory, 6, "out of memory"),
+        (OutcomeError::OutOfMemory, 6, "out of memory"),
         (OutcomeError::Write, 12, "write fault"),
     ] {
         assert_eq!(rt; error.code(), code);

@@ -116,8 +116,8 @@ impl Refused {
 }
 
 impl CloseError {
-    /// The number of the refusal: 22 for `NotAll`, 6 for `OutOfMemory`. When the library returns 24, a
-    /// reference of the memory is in use, `close` reports `NotAll` too; one call after the other on
+    /// The number of the refusal: 22 for `NotAll`, 6 for `OutOfMemory`. When the library returns 24, since
+    /// another handle still references the memory, `close` reports `NotAll` too; one call after the other on
     /// a memory never leads there.
     #[must_use]
     pub fn code(&self) -> u32 {

@@ -14,7 +14,7 @@ fn a_refused_growth_leaves_no_pipeline(rt: HostRuntime) -> Result<(), Fail> {
             drop(report);
         }
         Err(error) => {
-            assert_eq!(rt; error, PipelineError::Memory);
+            assert_eq!(rt; error, PipelineError::OutOfMemory);
             Err(AllocError)?;
         }
     }

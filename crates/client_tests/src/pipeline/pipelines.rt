@@ -146,7 +146,7 @@ fn stages_are_refused(rt: HostRuntime) -> Result<(), Fail> {
     assert_eq!(rt; PipelineError::Stages.code(), 5);
     assert_eq!(rt; PipelineError::Lists.code(), 3);
     assert_eq!(rt; PipelineError::Pool.code(), 4);
-    assert_eq!(rt; PipelineError::Memory.code(), 6);
+    assert_eq!(rt; PipelineError::OutOfMemory.code(), 6);
     Ok(())
 }
 

@@ -48,7 +48,7 @@ pub(super) fn winner() -> Called {
     )
 }
 
-/// The entries behind a borrowed view.
+/// The entries after a borrowed view.
 pub(super) const BORROWED: [Applied; 2] = [
     Applied {
         port: 1,
@@ -263,7 +263,7 @@ fn scan_without_slot(alloc: Global, number: u32) -> Result<Called, AllocError> {
     Ok(called(0, number, scan(alloc, &[1])?, (0, 0), spent, None))
 }
 
-// The scans with the only slot and without one, and an update behind them.
+// The scans with the only slot and without one, and an update after them.
 fn scans_and_update(alloc: Global) -> Result<[Called; 4], AllocError> {
     let first = scan_with_slot(alloc)?;
     let second = scan_without_slot(alloc, 1)?;

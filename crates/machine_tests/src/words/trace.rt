@@ -4,7 +4,7 @@ use partial_words::{Event, Step, Trace};
 use std::process::Abort;
 use std::test::Fail;
 
-// Events of each kind, of ports at the edge of those whose loads and stores are kept shorter and behind it, and a store
+// Events of each kind, of ports at the edge of those whose loads and stores are kept shorter and past it, and a store
 // with an answer that no store has.
 fn events() -> [(u32, Step, u64); 12] {
     [

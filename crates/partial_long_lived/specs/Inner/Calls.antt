@@ -65,7 +65,7 @@ pub record IsIdle (s : Stand) : Type 0 where
   pub stands : (port_at s).port.control.entering ≡ Stands
   pub free : (port_at s).port.control.owned ≡ None
 
--- The port stands where it stood, with the same machine; or it has come to a later epoch, with a new one.
+-- The port stands where it stood, with the same machine; or it has entered a later epoch, with a new one.
 pub record HasCome (s t : Stand) : Type 0 where
   pub shape : t.shape ≡ s.shape
   pub number : t.number ≡ s.number
@@ -76,7 +76,7 @@ pub record HasCome (s t : Stand) : Type 0 where
       ⊎ ((s.epoch < t.epoch) × (core_of (port_at t).port.part ≡ fresh (port_at s).about.sizes (port_at s).number)
       × ((port_at t).port.over ≡ false))
 
--- The port has come to an epoch that was the current one during its call, and has noted nothing.
+-- The port has entered an epoch that was the current one during its call, and has noted nothing.
 pub record EpochSettled (s t : Stand) : Type 0 where
   pub come : HasCome s t
   pub notes : (port_at t).notes ≡ (port_at s).notes
@@ -91,11 +91,11 @@ pub record HasNotedRead (s t : Stand) (j value stamp : ℕ) : Type 0 where
   pub first : length (seen_in (port_at s).port) ≤ (port_at t).began.length
   pub behind : (port_at t).began.length ≤ length (seen_in (port_at t).port)
 
--- the port has loaded the record of component j, behind all that it has seen
+-- the port has loaded the record of component j, after all that it has seen
 pub record HasLoadedRecord (t : Stand) (j at : ℕ) : Type 0 where
   pub record_is : at ≡ stamp_of (opening_of (port_at t)) (port_at t).port.part.seen j
   pub within : value_word at < total (port_at t).about.sizes
 
--- the value of component j behind all that the port has seen
+-- the value of component j after all that the port has seen
 abbrev pub HasValue : Stand → ℕ → ℕ → Type 0
 HasValue t j value = value ≡ value_of (opening_of (port_at t)) (port_at t).port.part.seen j

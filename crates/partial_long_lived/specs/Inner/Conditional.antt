@@ -30,7 +30,7 @@ noted_if a (UpdatedIf.Applied stamp) place =
 noted_if a (UpdatedIf.Changed by) place =
     record { call = Call.UpdateIf a.component a.expected a.value; answer = Answer.Changed by; note = Some (Note.Saw place) }
 
--- how it ended, as its caller is told, where it ended so in the port's epoch
+-- how it ended, as its caller is answered, where it ended so in the port's epoch
 abbrev pub outcome_of : SeatedPort → ℕ → Exchanged → UpdatedIf
 outcome_of x j (Applied stamp) = UpdatedIf.Applied (public_stamp (length x.port.before) stamp)
 outcome_of x j (Overtaken by) = UpdatedIf.Changed (public_of (plan_of x.about) x.port.before j by)

@@ -26,8 +26,8 @@ use Rattle.partial_long_lived.specs.Inner.Scans.{SettledFirst}
 abbrev pub AreInside : Layout → List ℕ → Type 0
 AreInside z js = (k : ℕ) → k < length js → slice_index js k < z.m
 
--- The word w, which the port has loaded as that of component j, names the record that the component had behind some number of entries of the
--- epoch, from `low` to `high`. That record lies in the arena.
+-- The word w, which the port has loaded as that of component j, names the record that the component had after some number of entries of
+-- the epoch, from `low` to `high`. That record lies in the arena.
 pub record WasThere (x : SeatedPort) (low high j w : ℕ) : Type 0 where
   pub entries : ℕ
   pub from : low ≤ entries
@@ -48,14 +48,14 @@ HadValue x j w v = (n : ℕ) → n ≤ length x.port.part.seen → unsealed w �
 abbrev pub HadValues : SeatedPort → List ℕ → List ℕ → List ℕ → ℕ → Type 0
 HadValues x js ws vs n = (k : ℕ) → k < n → HadValue x (slice_index js k) (slice_index ws k) (slice_index vs k)
 
--- The port may note that these components stood together behind the first b entries that it has seen of its epoch: its notes show no more.
+-- The port may note that these components stood together after the first b entries that it has seen of its epoch: its notes show no more.
 pub record MayNoteScan (js : List ℕ) (b : ℕ) (x : SeatedPort) : Type 0 where
   pub some : 0 < length js
   pub inside : AllByRecursion (λ j. j < x.about.sizes.m) js
   pub seen : b ≤ length x.port.part.seen
   pub behind : seen_by 0 x.notes ≤ length (history_of x.port.before) + b
 
--- that note: the values behind those entries
+-- that note: the values after those entries
 abbrev pub noted_together : List ℕ → ℕ → SeatedPort → Noted
 noted_together js b x = record {
   call = Call.Scan js;
@@ -63,8 +63,8 @@ noted_together js b x = record {
   note = Some (Note.Saw (length (history_of x.port.before) + b));
 }
 
--- A load of word i of the table by which the port notes that scan: it tells the same as a load of a word that is final for the port, and the
--- port sees its epoch's whole history.
+-- A load of word i of the table by which the port notes that scan: it shows the same as a load of a word that is final for the port, and
+-- the port sees its epoch's whole history.
 pub record NotesScan (js : List ℕ) (b i : ℕ) (x : SeatedPort) (a : ℕ) (y : SeatedPort) : Type 0 where
   pub recalls : Recalls i x a x
   pub log : List Applied

@@ -1,4 +1,4 @@
--- What a load in the arena where a port stands tells it.
+-- What a load in the arena where a port stands shows it.
 use Rattle.std.specs.Prelude.{ℕ, ◌≡◌, ◌+◌, ◌-◌, ◌<◌, ◌≤◌, ◌==◌, ◌&&◌, ◌++◌, nat_lt, Bool, not, List, [], ◌∷◌, length, take, Option, Some, if◌then◌else◌}
 use Rattle.partial_table.specs.Table.{Me}
 use Rattle.partial_model.specs.declared.history.Applied.{Applied}
@@ -29,7 +29,7 @@ pub data Wish : Type 0 where
 abbrev pub opening_of : SeatedPort → Opening
 opening_of x = opening_behind x.about.opening x.port.before
 
--- the value of component j behind that history of the port's epoch
+-- the value of component j after that history of the port's epoch
 abbrev pub value_seen : SeatedPort → List Applied → ℕ → ℕ
 value_seen x log j = value_of (opening_of x) log j
 
@@ -37,7 +37,7 @@ value_seen x log j = value_of (opening_of x) log j
 abbrev pub stamp_seen : SeatedPort → List Applied → ℕ → ℕ
 stamp_seen x log j = public_of (plan_of x.about) x.port.before j (stamp_of (opening_of x) log j)
 
--- the place behind that history
+-- the place after that history
 abbrev pub place_seen : SeatedPort → List Applied → ℕ
 place_seen x log = length (history_of (log ∷ x.port.before))
 
@@ -93,7 +93,7 @@ pub record SeatSees (first : Bool) (wish : Wish) (j : ℕ) (x : SeatedPort) (a :
   -- what the port sees in an epoch that is no older than its call is no older either
   pub time : n.epoch ≤ x.port.control.here.epoch → n.length ≤ place_seen x log
 
--- A load of word i of the table tells what the port has seen: the value of a record, or a carried stamp.
+-- A load of word i of the table shows what the port has seen: the value of a record, or a carried stamp.
 pub record Recalls (i : ℕ) (x : SeatedPort) (a : ℕ) (y : SeatedPort) : Type 0 where
   pub same : y ≡ x
   pub value : (j n : ℕ) → j < x.about.sizes.m → n ≤ length x.port.part.seen →

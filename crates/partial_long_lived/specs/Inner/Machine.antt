@@ -1,4 +1,4 @@
--- What a step of a port's machine tells the port, made in the arena where the port stands.
+-- What a step of a port's machine shows the port, made in the arena where the port stands.
 use Rattle.std.specs.Prelude.{⊤, ℕ, ◌≡◌, ◌≢◌, ◌+◌, ◌%◌, ◌^◌, ◌<◌, ◌≤◌, ◌==◌, ◌&&◌, ◌||◌, ◌⊎◌, ◌++◌, nat_lt, Bool, true, false, List, length, map, take, Some, if◌then◌else◌}
 use Rattle.partial_table.specs.Table.{Me}
 use Rattle.partial_model.specs.declared.history.Applied.{Applied}
@@ -38,7 +38,7 @@ abbrev pub told_of : Step → ℕ → ℕ
 told_of (Store w v) n = 0
 told_of _ n = n
 
--- what the machine is told: a component word's record, without seals
+-- what the machine is shown: a component word's record, without seals
 abbrev pub unsealed_answer : Plan → Step → ℕ → ℕ
 unsealed_answer e s n = plain e (word_of s) (told_of s n)
 
@@ -76,7 +76,7 @@ pub record MayMake (x : SeatedPort) (c : CoreState) (s : Step) : Type 0 where
   pub shown : IsShown x c
   pub expects : ExpectsSeen x c
 
--- What such a step tells, answered by a: what the one law of steps tells the machine, and what the port notes over all epochs.
+-- What such a step shows, answered by a: what the one law of steps shows the machine, and what the port notes over all epochs.
 pub record SeatMakes (first : Bool) (c : CoreState) (s : Step) (x : SeatedPort) (a : ℕ) (y : SeatedPort) : Type 0 where
   pub n : Began
   pub began : BeganBy first x n
@@ -103,7 +103,7 @@ abbrev pub Exchanges : CoreState → ℕ → Step → SeatedPort → ℕ → Sea
 Exchanges c old s x a y = (IsSealed a × (unsealed a ≡ old) × (y ≡ finding_seal x))
     ⊎ (MissesSeal old a × SeatMakes false c s x (unsealed_answer (plan_of x.about) s a) y)
 
--- the step of a machine, as the seat is told of it
+-- the step of a machine, as the seat is shown it
 abbrev pub makes : {S : Type 0} → Bool → CoreState → Step → Me S (List SeatedPort) → ℕ → Me S (List SeatedPort) → Type 0
 makes first c s me = tells (λ x a y. SeatMakes first c s x (unsealed_answer (plan_of x.about) s a) y) me
 

@@ -1,4 +1,4 @@
--- What two ports tell each other that meet.
+-- What two ports show each other that meet.
 use Rattle.std.specs.Prelude.{ℕ, ◌≡◌, ◌<◌, ◌≤◌, ◌⊎◌, List, [], ◌∷◌, length}
 use Rattle.partial_table.specs.Table.{Me}
 use Rattle.partial_model.specs.declared.history.Applied.{Applied}

@@ -29,7 +29,7 @@ pub record RestsUnmarked (x : SeatedPort) (core : CoreState) : Type 0 where
   pub pool : core.pool_spent ≡ false
   pub slots : core.slots_spent ≡ false
 
--- By the first steps of a call the port has come to an epoch that was the current one during the call, and has noted nothing.
+-- By the first steps of a call the port has entered an epoch that was the current one during the call, and has noted nothing.
 pub record SettledFirst (s t : Stand) : Type 0 where
   pub come : HasCome s t
   pub notes : (port_at t).notes ≡ (port_at s).notes

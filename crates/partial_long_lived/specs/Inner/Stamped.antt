@@ -9,7 +9,7 @@ use Rattle.partial_long_lived.specs.Inner.Held.{port_at}
 use Rattle.partial_long_lived.specs.Inner.Scans.{HasNotedScan, ScanMade}
 use Rattle.partial_long_lived.specs.Inner.Unchanged.{stamp_at}
 
--- The public stamps of the records that these words name are the stamps that these components had behind the first n entries of the one
+-- The public stamps of the records that these words name are the stamps that these components had after the first n entries of the one
 -- history. Each record lies below the limit of stamps.
 abbrev pub NameStamps : SeatedPort → ℕ → List ℕ → List ℕ → Type 0
 NameStamps x n js ws = (k : ℕ) → k < length js → (unsealed (slice_index ws k) < stamp_limit)

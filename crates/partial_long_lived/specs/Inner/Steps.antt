@@ -1,4 +1,4 @@
--- What one atomic step of a call tells its port.
+-- What one atomic step of a call shows its port.
 use Rattle.std.specs.Prelude.{ℕ, ◌≡◌, ◌<◌, ◌≤◌, ◌++◌, List, [], ◌∷◌, length}
 use Rattle.std.specs.List.{AllByRecursion}
 use Rattle.partial_table.specs.Table.{Me}
@@ -14,7 +14,7 @@ use Rattle.partial_long_lived.specs.Ports.{Knows, seen_in}
 pub record HasStampsInWords (h : List Applied) : Type 0 where
   pub each : AllByRecursion (λ e. e.stamp < 18446744073709551616) h
 
--- each entry of an epoch has the stamp of a record behind the initial ones, which fits below the epoch's number
+-- each entry of an epoch has the stamp of a record after the initial ones, which fits below the epoch's number
 pub record HasRecordStamps (z : Layout) (h : List Applied) : Type 0 where
   pub above : AllByRecursion (λ e. first_free z ≤ e.stamp) h
   pub below : AllByRecursion (λ e. e.stamp < stamp_limit) h
@@ -46,6 +46,6 @@ pub record SeatGoes (x y : SeatedPort) : Type 0 where
 abbrev pub IsOne : {S : Type 0} → Me S (List SeatedPort) → Type 0
 IsOne me = (me.0 ≡ one_of me.0 ∷ []) × (me.1 ≡ [])
 
--- what a step tells the seat of one port: it goes on, and what the step says in particular
+-- what a step shows the seat of one port: it goes on, and what the step says in particular
 abbrev pub tells : {S : Type 0} → (SeatedPort → ℕ → SeatedPort → Type 0) → Me S (List SeatedPort) → ℕ → Me S (List SeatedPort) → Type 0
 tells R me a me' = IsOne me' × SeatGoes (one_of me.0) (one_of me'.0) × R (one_of me.0) a (one_of me'.0)

@@ -8,7 +8,7 @@ use Rattle.partial_long_lived.specs.Ports.{seen_in}
 abbrev pub stamp_at : SeatedPort → ℕ → ℕ → ℕ
 stamp_at x n j = stamp_of x.about.opening (take n (seen_in x.port)) j
 
--- the component has that stamp behind all that the port has seen, which is no less than there was as the call began
+-- the component has that stamp after all that the port has seen, which is no less than there was as the call began
 pub record HasStamp (x : SeatedPort) (j s : ℕ) : Type 0 where
   pub is : s ≡ stamp_at x (length (seen_in x.port)) j
   pub time : x.began.length ≤ length (seen_in x.port)

@@ -85,7 +85,7 @@ pub record IsGoing (table : TableId) (about : About) (s : Stand) : Type 0 where
   pub held : IsHeld table about s
   pub under : IsUnderWay (port_at s)
 
--- from the one stand the call has come to the other by further steps
+-- from the one stand the call has reached the other by further steps
 pub record ComesTo (s t : Stand) : Type 0 where
   pub shape : t.shape ≡ s.shape
   pub number : t.number ≡ s.number
@@ -96,7 +96,7 @@ pub record ComesTo (s t : Stand) : Type 0 where
   pub began : (port_at t).began ≡ (port_at s).began
   pub call : (b : CoreState) (x : SeatedPort) → MayBegin b x → CallMade b x (machine_at s) (port_at s) →
       CallMade b x (machine_at t) (port_at t)
-  -- behind its claim a call makes no other
+  -- after its claim a call makes no other
   pub over : before_claim (machine_at s).stage ≡ false → (before_claim (machine_at t).stage ≡ false)
       × ((port_at t).port.over ≡ (port_at s).port.over)
   -- each step of it left its machine fewer steps to make

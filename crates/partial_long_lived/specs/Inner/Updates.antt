@@ -68,7 +68,7 @@ abbrev pub stamp_from : ℕ → Exchanged → ℕ
 stamp_from epoch (Applied stamp) = public_stamp epoch stamp
 stamp_from epoch (Overtaken by) = public_stamp epoch by
 
--- how such an update ended, as its caller is told
+-- how such an update ended, as its caller is answered
 abbrev pub public_update : ℕ → Exchanged → answers.Updated
 public_update epoch (Applied stamp) = Updated.Applied (public_stamp epoch stamp)
 public_update epoch (Overtaken by) = Updated.Lost (public_stamp epoch by)
@@ -137,7 +137,7 @@ pub record MayCall (x : SeatedPort) (core : CoreState) : Type 0 where
   pub rests : RestsUnmarked x core
   pub over : x.port.over ≡ false
 
--- Why an update is refused behind some steps: its port has come to so many later epochs and has met so many seals, or the epoch can't be
+-- Why an update is refused after some steps: its port has entered so many later epochs and has met so many seals, or the epoch can't be
 -- changed.
 abbrev pub IsLate : ℕ → ℕ → Stand → Refused → Stand → Type 0
 IsLate times seals s IsOvertaken t = (epoch_at s + times ≤ epoch_at t) × ((port_at s).contention.seals + seals ≤ (port_at t).contention.seals)

@@ -219,7 +219,7 @@ impl Core {
         self.pool_spent = true;
     }
 
-    /// Takes all marks off the port. It has come to words where it has made no claim.
+    /// Takes all marks off the port. It has entered words where it has made no claim.
     pub fn clear_marks(&mut self)
         requires { self.old.stage ≡ Idle }
         ensures { self.new ≡ record self.old { pool_spent = false; slots_spent = false; get_set = unmarked self.old.sizes false } }

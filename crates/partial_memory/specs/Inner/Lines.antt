@@ -17,11 +17,11 @@ machine_of me = core_of (one_of me.0).part
 abbrev pub IsUnderWay : SeatedPort → Type 0
 IsUnderWay x = (b : CoreState) × (h : SeatedPort) × Begins b h × CallMade b h (core_of x.part) x
 
--- each call that has come to the one port has come to the other
+-- each call that has reached the one port has reached the other
 abbrev pub ComesTo : SeatedPort → SeatedPort → Type 0
 ComesTo x y = (b : CoreState) (h : SeatedPort) → Begins b h → CallMade b h (core_of x.part) x → CallMade b h (core_of y.part) y
 
--- the seat is one of the table, and stands for one port of that memory, whose call is under way
+-- the seat is one of the table, and is that of one port of that memory, whose call is under way
 pub record IsGoing {S : Type 0} (table : TableId) (about : About) (here : TableId) (me : Me S (List SeatedPort)) : Type 0 where
   pub fits : here ≡ table
   pub words : table.words ≡ total about.sizes

@@ -28,7 +28,7 @@ pub record Begins (b : CoreState) (x : SeatedPort) : Type 0 where
   pub layout : IsLayout b.sizes
   pub sizes : b.sizes ≡ x.about.sizes
 
--- The call has made some steps, which have led to the machine c and the port y. The port comes to be marked exactly where the call is
+-- The call has made some steps, which have led to the machine c and the port y. The port becomes marked exactly where the call is
 -- refused.
 pub record CallMade (b : CoreState) (x : SeatedPort) (c : CoreState) (y : SeatedPort) : Type 0 where
   pub about : y.about ≡ x.about

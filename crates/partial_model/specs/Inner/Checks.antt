@@ -109,7 +109,7 @@ is_legal o h p seen c a (Some n) = is_right o h p c a n && nat_le seen (place_of
 abbrev pub call_is_legal : Opening → List Applied → ℕ → Called → Bool
 call_is_legal o h seen c = option_map_or (λ f. is_legal o h c.port seen c.call f.answer f.note) c.finish true
 
--- how many entries the port of a call has seen behind it
+-- how many entries the port of a call has seen after it
 abbrev pub seen_behind : ℕ → Option Finish → ℕ
 seen_behind seen None = seen
 seen_behind seen (Some f) = seen_after seen f.note

@@ -19,7 +19,7 @@ pub record AreStampsOf (h : List Applied) (n : ℕ) (place : ℕ → Option ℕ)
   pub found : (k : ℕ) (e : Applied) → k < n → slice_get h k ≡ Some e → place e.stamp ≡ Some k
   pub stands : (t k : ℕ) → place t ≡ Some k → (e : Applied) × (k < n) × (slice_get h k ≡ Some e) × (e.stamp ≡ t)
 
--- the list at place j, and none behind the last one
+-- the list at place j, and none after the last one
 abbrev pub list_at : List (Vec ℕ) → ℕ → List ℕ
 list_at lists j = option_map_or (λ v. v.items) (slice_get lists j) []
 

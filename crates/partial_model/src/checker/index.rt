@@ -111,7 +111,7 @@ impl Index {
         }
     }
 
-    /// Whether the entry with the stamp stands behind the first `prefix` and is for one of the components.
+    /// Whether the entry with the stamp stands after the first `prefix` and is for one of the components.
     pub fn shows_stamp(
         &self,
         history: &[Applied],

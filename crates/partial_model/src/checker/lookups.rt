@@ -77,7 +77,7 @@ impl<'a> Lookups<'a> {
         }
     }
 
-    /// Whether an entry behind the first `prefix` is for one of the components and has the stamp.
+    /// Whether an entry after the first `prefix` is for one of the components and has the stamp.
     pub fn shows_stamp(&self, prefix: usize, components: &[u32], stamp: u64) -> bool
         requires { prefix ≤ length self.now }
         ensures { result ≡ shows_stamp components.now stamp (drop prefix self.now) }

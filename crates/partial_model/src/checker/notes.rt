@@ -18,7 +18,7 @@ fn call_is_legal(opening: &Opening, history: &Lookups, seen: usize, call: &Calle
     }
 }
 
-// How many entries the port of a legal call has seen behind it.
+// How many entries the port of a legal call has seen after it.
 fn seen_behind(seen: usize, finish: &Option<Finish>) -> usize
     requires { seen_behind seen finish.now ≤ usize.MAX }
     ensures { result ≡ seen_behind seen finish.now }

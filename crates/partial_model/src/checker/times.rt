@@ -17,7 +17,7 @@ fn has_ended(finish: &Option<Finish>, began: usize) -> bool
     }
 }
 
-// Whether the call may stand behind that one: as the first of a later port, or as its port's next.
+// Whether the call may stand after that one: as the first of a later port, or as its port's next.
 fn follows(before: &Called, call: &Called) -> bool
     ensures { result ≡ follows (Some before.now) call.now }
 {

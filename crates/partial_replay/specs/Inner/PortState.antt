@@ -49,7 +49,7 @@ pub record IsFinishedCall (n low : ℕ) (c : Called) : Type 0 where
   pub ended : IsSomeAnd c.finish (λ f. (c.began ≤ f.ended) × (f.ended ≤ n) ×
       IfSome f.note (λ note. (c.began ≤ place_of note) × (shown_by note ≤ f.ended)))
 
--- the finished calls of port p from number k on, one behind the other, in a history of n entries
+-- the finished calls of port p from number k on, one after the other, in a history of n entries
 abbrev pub AreFinished : ℕ → ℕ → ℕ → ℕ → List Called → Type 0
 AreFinished n p k low [] = ⊤
 AreFinished n p k low (c ∷ cs) = (c.port ≡ p) × (c.number ≡ k) × IsFinishedCall n low c × AreFinished n p (k + 1) (end_of_call low c) cs
@@ -58,7 +58,7 @@ AreFinished n p k low (c ∷ cs) = (c.port ≡ p) × (c.number ≡ k) × IsFinis
 abbrev pub notes_in : List Called → List Noted
 notes_in calls = filter_map noted_of calls
 
--- the call under way is the plan's next one, began behind the finished ones, and is what the machine has begun
+-- the call under way is the plan's next one, began after the finished ones, and is what the machine has begun
 pub record IsCallUnderWay (n : ℕ) (calls : List Call) (x : Part) (core : CoreState) (done : List Called) (way : UnderWay) : Type 0 where
   pub call : Call
   pub next : slice_get calls (length done) ≡ Some call
@@ -109,7 +109,7 @@ ended_call port number call way ended a note = record {
   finish = Some (record { ended = ended; answer = a; note = note });
 }
 
--- what the machine behind a step makes of its port: the call goes on, or it is finished
+-- what the machine after a step makes of its port: the call goes on, or it is finished
 pub record CallGoesOn (port new : Port) (way : UnderWay) (core : CoreState) : Type 0 where
   pub machine : new.core ≡ core
   pub finished : new.finished.items ≡ port.finished.items
@@ -130,7 +130,7 @@ pub record Ends (calls : List Call) (words : List ℕ) (log : List Applied) (por
 abbrev pub event_of : Memory → ℕ → Step → Event
 event_of memory p step = record { port = p; step = step; answer = answer_of memory.words step }
 
--- the machine behind a step
+-- the machine after a step
 abbrev pub core_behind : Memory → Step → Port → CoreState
 core_behind memory step port = advance port.core (answer_of memory.words step)
 
@@ -193,7 +193,7 @@ abbrev pub call_at_once : ℕ → ℕ → Call → ℕ → Answer → Option Not
 call_at_once port number call seen a note = record
     { port = port; number = number; call = call; began = seen; steps = 0; finish = Some (record { ended = seen; answer = a; note = note }) }
 
--- a call of port p that the machine s has finished as it was begun, and the machine behind it
+-- a call of port p that the machine s has finished as it was begun, and the machine after it
 pub record IsDoneAtOnce (p number : ℕ) (call : Call) (seen : ℕ) (s t : CoreState) (c : Called) : Type 0 where
   pub port : c.port ≡ p
   pub number' : c.number ≡ number

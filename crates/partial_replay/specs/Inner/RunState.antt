@@ -22,7 +22,7 @@ use Rattle.partial_replay.specs.Trace.{event_entry, moments_by}
 use Rattle.partial_replay.specs.Inner.PortState.{PortFits, PortMade, unfinished_call}
 use Rattle.partial_machine.specs.Calls.{IsServed}
 
--- what a replay has come to: its sizes, its opening, its memory, and its ports by their number
+-- what a replay has made: its sizes, its opening, its memory, and its ports by their number
 pub record ReplayState : Type 0 where
   pub sizes : Layout
   pub opening : Opening
@@ -109,7 +109,7 @@ pub record IsSameOpening (old new : Run) : Type 0 where
 abbrev pub left_for : Layout → ℕ → ℕ
 left_for z calls = (most_of_update z + 1) * calls
 
--- how many steps a port has left at most: of the call under way, and of those behind it
+-- how many steps a port has left at most: of the call under way, and of those after it
 abbrev pub port_left : List Call → Port → ℕ
 port_left calls port = option_map_or (λ way. left_for port.core.sizes (length calls - length port.finished.items - 1) +
     steps_left port.core)
@@ -158,7 +158,7 @@ AreListed (calls ∷ plans) (port ∷ ports) = (length calls < 2 ^ 32) ×
     (IsSome port.under_way → length port.finished.items < length calls) × AreListed plans ports
 AreListed _ _ = ⊥
 
--- what a replay has come to in the end
+-- what a replay has made in the end
 pub record TellsOutcome (plans : List (List Call)) (run : Run) (outcome : OutcomeView) : Type 0 where
   pub opening : outcome.opening ≡ run.opening
   pub history : outcome.history ≡ run.memory.history.items

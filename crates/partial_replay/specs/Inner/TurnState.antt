@@ -98,13 +98,13 @@ pub record TurnsMade (plans : List (List Call)) (p : ℕ) (turns : Option ℕ) (
   pub all : MatchOption turns (IsPortDone plans new.ports.items p) (λ k. (steps ≤ k) × (steps < k → IsPortDone plans new.ports.items p))
   pub ending : (q : ℕ) → (q ≡ p → turns ≡ Some steps) → StopsAtStep old.ports.items q → StopsAtStep new.ports.items q
 
--- Port q has made n steps in an entry, and these events are behind it: a step in each turn until it has made
+-- Port q has made n steps in an entry, and with them these events: a step in each turn until it has made
 -- all its calls, which D says.
 abbrev pub HasTurns : (ℕ → Type 0) → ℕ → Option ℕ → ℕ → List ℕ → Type 0
 HasTurns D q None n behind = D q × (events_in q behind ≡ 0)
 HasTurns D q (Some k) n behind = (n ≤ k) × (n < k → D q × (events_in q behind ≡ 0))
 
--- whose events the entries have made, one behind the other
+-- whose events the entries have made, one after the other
 abbrev pub MakeTurns : (ℕ → Type 0) → List (ℕ × Option ℕ) → List ℕ → Type 0
 MakeTurns D [] ports = ports ≡ []
 MakeTurns D (e ∷ es) ports = (n : ℕ) × (behind : List ℕ) × (ports ≡ replicate n e.0 ++ behind) ×

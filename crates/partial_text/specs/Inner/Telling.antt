@@ -1,4 +1,4 @@
--- How a text is told to a writer, piece by piece.
+-- How a text is given to a writer, piece by piece.
 use Rattle.std.specs.Prelude.{ℕ, ◌≡◌, List, ◌++◌, Bool, Option, take, MatchBool}
 use Rattle.std.specs.Io.KnownBytes.{Appends}
 use Rattle.partial_text.specs.DeviceView.{DeviceView}
@@ -13,12 +13,12 @@ pub record Telling : Type 0 where
 abbrev pub telling : {W : Type 0} → (W → Option (List ℕ)) → List ℕ → DeviceView W → Telling
 telling contents gathered writer = record { gathered = gathered; written = contents writer.inner; failed = writer.failed }
 
--- the text was told behind these bytes: all of it is written but what is gathered, or a write has failed behind a part of it
+-- the text was given after these bytes: all of it is written but what is gathered, or a write has failed after a part of it
 abbrev pub IsTold : Option (List ℕ) → List ℕ → Telling → Type 0
 IsTold before text t = MatchBool t.failed
     ((n : ℕ) × Appends before t.written (take n text))
     ((part : List ℕ) × Appends before t.written part × (text ≡ part ++ t.gathered))
 
--- these bytes are told, behind whatever text was told before
+-- these bytes are given, after whatever text was given before
 pub record TellsBytes (old : Telling) (bytes : List ℕ) (new : Telling) : Type 0 where
   pub behind : (before : Option (List ℕ)) (text : List ℕ) → IsTold before text old → IsTold before (text ++ bytes) new

@@ -347,7 +347,7 @@ fn judge_entries(
     Ok(tried)
 }
 
-/// Judges that the outcome passes neither when it was turned as is told.
+/// Judges that the outcome passes neither when it was turned so.
 fn judge_turned(
     rt: &impl Abort,
     alloc: Global,

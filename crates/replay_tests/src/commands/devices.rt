@@ -76,7 +76,7 @@ fn filled_to(alloc: Global, room: usize, takes_none: bool) -> Device<Filling>
     })
 }
 
-/// Why a replay is refused whose reader fails behind that part of a plan, and how much it has written.
+/// Why a replay is refused whose reader fails after that part of a plan, and how much it has written.
 fn replayed_part<R: Threads + Wait + Sync>(
     rt: &R,
     alloc: Global,

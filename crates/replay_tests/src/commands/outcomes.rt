@@ -50,7 +50,7 @@ fn outcome_with_steps<R: Threads + Wait + Sync>(
     Ok(outcome_of(rt, alloc, &plan)?)
 }
 
-/// The text of that outcome, with what is listed behind the update.
+/// The text of that outcome, with what is listed after the update.
 fn text_with_listed(alloc: Global, listed: &[u8]) -> Result<Vec<u8>, AllocError> {
     let update = b"applied 0 port 0 component 0 value 7 stamp 24
 call 0 0 applied 24 place 0 steps 8 span 0 1
@@ -58,7 +58,7 @@ call 0 0 applied 24 place 0 steps 8 span 0 1
     repeated(alloc, update, listed, 1, b"values 7 20\ntotal 8\n")
 }
 
-/// Judges that outcome by what is listed behind the update.
+/// Judges that outcome by what is listed after the update.
 fn judge_steps<R: Threads + Wait + Sync + Abort>(
     rt: &R,
     alloc: Global,

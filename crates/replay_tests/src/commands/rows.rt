@@ -67,7 +67,7 @@ values 9 20
 total 16
 ",
     ),
-    // A body that loads the record behind the active set finds the one with stamp 24, and is applied.
+    // A body that loads the record after the active set finds the one with stamp 24, and is applied.
     (
         "old_loaded_first",
         b"sizes 2 4 8 64
@@ -299,7 +299,7 @@ values 7 9
 total 110
 ",
     ),
-    // A body that shares the words behind a record, in place of the view that it names, fails here.
+    // A body that shares the words after a record, in place of the view that it names, fails here.
     (
         "view_borrowed_twice",
         b"sizes 3 4 8 64

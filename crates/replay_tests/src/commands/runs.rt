@@ -161,7 +161,7 @@ fn a_report_to_a_failing_writer(rt: HostRuntime) -> Result<(), Fail> {
     Ok(())
 }
 
-/// How often each of two ports has come to its gates, and whether it has seen the other at its first one.
+/// How often each of two ports has reached its gates, and whether it has seen the other at its first one.
 #[derive(Drop)]
 struct Flags {
     before: [AtomicU64; 2],
@@ -227,7 +227,7 @@ fn side_by_side(rt: HostRuntime) -> Result<(), Fail> {
     Ok(())
 }
 
-/// How often each of two ports has come to its gates, and whether one was passed out of turn.
+/// How often each of two ports has reached its gates, and whether one was passed out of turn.
 #[derive(Drop)]
 struct Counting {
     passed: [AtomicU64; 2],
@@ -385,7 +385,7 @@ fn refusals_of_two_plans(rt: HostRuntime) -> Result<(), Fail> {
     Ok(())
 }
 
-/// Judges two plans of which the first one's reader fails behind its part.
+/// Judges two plans of which the first one's reader fails after its part.
 fn judge_first_reader<R: Threads + Wait + Sync + Abort>(
     rt: &R,
     alloc: Global,
@@ -400,7 +400,7 @@ fn judge_first_reader<R: Threads + Wait + Sync + Abort>(
     assert_eq!(rt; written, 0);
 }
 
-/// Judges two plans of which the second one's reader fails behind its part.
+/// Judges two plans of which the second one's reader fails after its part.
 fn judge_second_reader<R: Threads + Wait + Sync + Abort>(
     rt: &R,
     alloc: Global,

@@ -31,7 +31,7 @@ fn a_refused_growth_gives_no_outcome(rt: HostRuntime) -> Result<(), Fail> {
     match given {
         Ok(counts) => assert_eq!(rt; counts, (7, 3)),
         Err(error) => {
-            assert_eq!(rt; error, ReplayError::Memory);
+            assert_eq!(rt; error, ReplayError::OutOfMemory);
             Err(AllocError)?;
         }
     }

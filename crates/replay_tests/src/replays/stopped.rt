@@ -43,7 +43,7 @@ fn is_lawful(outcome: &Outcome) -> bool {
     check_outcome(&outcome.opening, &outcome.history, &outcome.calls)
 }
 
-/// Calls of ports, and a port that has some turns between those before and those behind.
+/// Calls of ports, and a port that has some turns between those before and those after.
 #[derive(Clone, Copy)]
 struct Stops<'a> {
     ports: &'a str,
@@ -92,7 +92,7 @@ fn judge_standing(rt: &impl Abort, calls: &[Called], port: u32, turns: u32, stan
     assert_eq!(rt; standing_of(calls, port), stands, "{turns} turns");
 }
 
-/// Judges whether the port stands so after as many turns, and whether the update of the port behind it was applied in
+/// Judges whether the port stands so after as many turns, and whether the update of the port after it was applied in
 /// so many steps, with that stamp and place.
 fn judge_outcome(
     rt: &impl Abort,
@@ -155,7 +155,7 @@ total 27
 "
 }
 
-// A scan that stops behind its last step is as any other that no update met.
+// A scan that stops after its last step is as any other that no update met.
 #[test]
 fn scanner_stopped_behind_its_scan(rt: HostRuntime) -> Result<(), Fail> {
     judge_replay(&rt, rt.alloc(), scan_then_update(), their_outcome())

@@ -6,7 +6,7 @@ use partial_words::Step;
 use std::process::Abort;
 use std::test::Fail;
 
-// Plans in which an update publishes a list, the head of the lists behind each, and their words: the list that is
+// Plans in which an update publishes a list, the head of the lists after each, and their words: the list that is
 // published, the one that won when two were, and none when no words are left for it.
 fn publishing() -> [(&'static [u8], u64, &'static [u64]); 3] {
     [
@@ -85,7 +85,7 @@ fn shared_view(rt: HostRuntime) -> Result<(), Fail> {
     Ok(())
 }
 
-// The words that a replay has made, of which those behind the last step aren't stored, are those of its outcome.
+// The words that a replay has made, of which those after the last step aren't stored, are those of its outcome.
 #[test]
 fn words_apart(rt: HostRuntime) -> Result<(), Fail> {
     let plan = Plan::read(rt.alloc(), &mut Device::new(sharing()))?;
