@@ -55,6 +55,8 @@ ALLOWED = [
     ('partial_long_lived/specs/Bounds.antt', ['3 * r + 1'], BOUND),
     ('partial_long_lived/specs/Inner/Changing.antt', ['(3 * (port_at t).about.ports)'], FOUND),
     ('partial_long_lived/proofs/Contention.antt', ['(3 * (port_at v).about.ports)'], FOUND),
+    ('partial_long_lived/proofs/Counts.antt', ['3 * i', '3 * (i + 1)', '3 * n', '3 * 0'], BOUND),
+    ('partial_long_lived/proofs/change/open_next/Answers.antt', ['(3 * (port_at c.claim.new.stand).about.ports)'], FOUND),
     ('partial_long_lived/proofs/clear/clear/Invariants.antt', ['1 + 3 * l.port'], BOUND),
     ('partial_long_lived/proofs/fill/fill/Invariants.antt', ['3 * l.component', '3 * l.words.key.sizes.m'], BOUND),
     ('partial_long_lived/proofs/unchanged/unchanged/Invariants.antt', ['4 + 2 * l.k'], BOUND),

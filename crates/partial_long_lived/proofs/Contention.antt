@@ -50,6 +50,15 @@ busy_from n s t v goes all x low other =
     let found = all x low other in
     omega (arith, more, found)
 
+pub busy_at_last : (x : ℕ) (s t v : Stand) → SeatGoes (port_at s) (port_at t) → IsBusy x t v → IsBusy x s v
+busy_at_last x s t v goes found = let more = goes.contention.busy x in omega (arith, more, found)
+
+pub busy_between : (x : ℕ) (s t u v : Stand) → SeatGoes (port_at s) (port_at t) → IsBusy x t u → SeatGoes (port_at u) (port_at v) → IsBusy x s v
+busy_between x s t u v goes found behind =
+    let before = goes.contention.busy x in
+    let more = behind.contention.busy x in
+    omega (arith, before, more, found)
+
 -- so why a change of epoch was refused holds of the whole
 pub cause_from : (s t v : Stand) (cause : Refused) → SeatGoes (port_at s) (port_at t) → IsCause t v cause → IsCause s v cause
 cause_from s t v Component goes why = why
@@ -109,3 +118,10 @@ below_more i s t u goes remains below once x low other = elim (eqb_tells x i) [
       let more = remains.stays.goes.contention.busy x in
       omega (arith, found, more)
 ]
+
+-- all were found in use, and the look behind them is none of it
+pub found_all : (i : ℕ) (s t u : Stand) → Remains t u → (port_at u).about.arenas ≤ i → FoundBelow i s t → FoundAllBusy 1 s u
+found_all i s t u remains all below x low other =
+    let found = below x (omega (arith, low, all)) (arena_there t u remains x other) in
+    let more = remains.stays.goes.contention.busy x in
+    omega (arith, found, more)

@@ -1,5 +1,6 @@
 -- What the owner of an arena has behind its steps.
-use Rattle.partial_long_lived.proofs.{Common.{ℕ, ◌≡◌, ◌≢◌, ◌+◌, ◌-◌, ◌%◌, ◌<◌, ◌≤◌, Bool, true, if◌then◌else◌, Option, Some, None, IfSome, refl, sym, ap, subst, ◌∙◌, inl, inr, arith, nat_lt, lt-ltb, Layout, first_free, Place, arena_limit, entering_mark, marked, OwnedArena, Stands, at_next_port, having_loaded, owning_port, resting_arena, not_below, About, Stand, SeatedPort, port_at, LoadsPort, SeatPublishes, PutsPort, Sets, becomes, elsewhere, port_loaded, port_put, unpacked, HasLoadedPort, IsRight, MayPutPort, OfOwned, Owns, PutsBy, SetsLists, SetsValue, HasControl, Control, behind_value, behind_values, SetsNext, HasSetWords, FindsClear, Contention, IsBusy, Takes, finding_busy, contention_loading, contention_putting, contention_there, times_in, cases_lt, ◌⊎◌, TakesBy}, Sets.{alike, unlike, value_behind}, Contention.busy_once}
+use Rattle.std.proofs.Common.{le-ltb}
+use Rattle.partial_long_lived.proofs.{Common.{ℕ, value_word, initial_record, ◌≡◌, ◌≢◌, ◌+◌, ◌-◌, ◌%◌, ◌<◌, ◌≤◌, Bool, true, if◌then◌else◌, Option, Some, None, IfSome, refl, sym, ap, subst, ◌∙◌, inl, inr, arith, nat_lt, lt-ltb, Layout, first_free, Place, arena_limit, entering_mark, marked, OwnedArena, Stands, at_next_port, having_loaded, owning_port, resting_arena, not_below, About, Stand, SeatedPort, port_at, LoadsPort, SeatPublishes, PutsPort, Sets, becomes, elsewhere, port_loaded, port_put, unpacked, HasLoadedPort, IsRight, MayPutPort, OfOwned, Owns, PutsBy, SetsLists, SetsValue, HasControl, Control, behind_value, behind_values, SetsNext, HasSetWords, FindsClear, Contention, IsBusy, Takes, finding_busy, contention_loading, contention_putting, contention_there, times_in, cases_lt, ◌⊎◌, TakesBy}, Sets.{alike, unlike, value_behind}, Contention.busy_once}
 
 -- a step by the arena that the port owns
 own_told : (R : OwnedArena → SeatedPort → ℕ → SeatedPort → Type 0) (x : SeatedPort) (a : ℕ) (y : SeatedPort) (o : OwnedArena) → x.port.control.owned ≡ Some o → OfOwned R x a y → R o x a y
@@ -180,3 +181,9 @@ module _ (s t : Stand) (y q m a : ℕ) (w : MayPutPort s y q m) (from : entering
       by (inl low) = ap busy_if (lt-ltb a entering_mark low)
           ∙ ap (λ (c : Bool). if c then finding_busy put.arena (port_at s).contention else (port_at s).contention) (alike (unpacked a).arena put.arena (there low ∙ sym w.holds.arena))
       by (inr from) = ap busy_if (not_below a entering_mark from)
+
+-- behind the last value come the carried stamps
+pub behind_last : (z : Layout) (n : ℕ) → z.m ≤ n → behind_values z n ≡ first_free z + 0
+behind_last z n all =
+    let here : behind_values z n ≡ first_free z = ap (λ (b : Bool). if b then value_word (initial_record z n) else first_free z) (le-ltb n z.m all) in
+    omega (arith, here)

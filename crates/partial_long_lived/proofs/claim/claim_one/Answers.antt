@@ -1,5 +1,5 @@
 use Rattle.std.proofs.Common.{rules, tests}
-use Rattle.partial_long_lived.proofs.{Common.{◌+◌, sym, subst, ◌∙◌, Stand, ap, arith, arena_steps, Plan}, Contention.{OnePass, below_more, below_none, below_own}, Staying.{remains_same, remains_then}, Counts.{round_more, rounds_all, rounds_within}}
+use Rattle.partial_long_lived.proofs.{Common.{◌+◌, false, sym, subst, ◌∙◌, Stand, ap, arith, arena_steps, About, Plan, Port}, Contention.{OnePass, below_more, below_none, below_own, found_all}, Staying.{remains_same, remains_then}, Counts.{round_more, rounds_all, rounds_within}, Looking.{looked_away, looked_remains}}
 use Rattle.partial_long_lived.proofs.claim.claim_one.Goals.{then-arena-stand+in-Taken, else-arena-stand}
 use Rattle.partial_long_lived.proofs.claim.claim_one.Goals as goal
 
@@ -66,3 +66,31 @@ loop-arena-init c = record {
   busy = below_none c.args.stand.now c.args.stand.now;
   steps = omega arith;
 }
+
+pub returns-in-Clean-clause-remains : goal.returns-in-Clean-clause-remains
+returns-in-Clean-clause-remains c = remains_then _ _ _ c.loop-arena.invariant.remains c.try_arena.ensures.remains
+
+pub returns-in-Ended-clause-remains : goal.returns-in-Ended-clause-remains
+returns-in-Ended-clause-remains c = remains_then _ _ _ c.loop-arena.invariant.remains c.try_arena.ensures.remains
+
+pub returns-then-look-clause-remains : goal.returns-then-look-clause-remains
+returns-then-look-clause-remains c = remains_then _ _ _ c.loop-arena.invariant.remains (looked_remains _ _ _ c.look.ensures.kept c.look.ensures.looked)
+
+pub returns-else-look-clause-remains : goal.returns-else-look-clause-remains
+returns-else-look-clause-remains c = remains_then _ _ _ c.loop-arena.invariant.remains (looked_remains _ _ _ c.look.ensures.kept c.look.ensures.looked)
+
+pub returns-then-look-clause-busy : goal.returns-then-look-clause-busy
+returns-then-look-clause-busy c =
+    let arenas = ap (λ (e : Plan). e.arenas) c.requires.held.shape in
+    let own = ap (λ (a : About). a.arenas) c.look.ensures.held.own in
+    let past = c.loop-arena-test.false in
+    found_all c.loop-arena.arena c.args.stand.now c.loop-arena.stand c.look.new.stand (looked_remains _ _ _ c.look.ensures.kept c.look.ensures.looked) (omega (arith, arenas, own, past))
+    c.loop-arena.invariant.busy
+
+pub returns-else-look-clause-claimed : goal.returns-else-look-clause-claimed
+returns-else-look-clause-claimed c =
+    let idle = c.loop-arena.invariant.idle in
+    let away = looked_away false c.loop-arena.stand c.look.new.stand c.look.result c.look.ensures.looked c.if-look.false in (
+      record { stands = ap (λ (p : Port). p.control.entering) away ∙ idle.stands; free = ap (λ (p : Port). p.control.owned) away ∙ idle.free },
+      ap (λ (p : Port). p.control.past) away,
+    )

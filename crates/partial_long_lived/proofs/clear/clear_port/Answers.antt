@@ -1,5 +1,5 @@
 use Rattle.std.proofs.Common.{rules, tests}
-use Rattle.partial_long_lived.proofs.Looking.{marked_puts}
+use Rattle.partial_long_lived.proofs.{Common.{false, ◌∙◌, arith}, Looking.{away_owns, away_past, looked_remains, marked_puts}, Staying.{remains_then}}
 use Rattle.partial_long_lived.proofs.clear.clear_port.Goals as goal
 
 pub put_port-requires-clause-may : goal.put_port-requires-clause-may
@@ -9,3 +9,31 @@ put_port-requires-clause-may c =
 
 pub returns-else-found-from-clause-cleared : goal.returns-else-found-from-clause-cleared
 returns-else-found-from-clause-cleared c = search (tests, rules)
+
+pub returns-else-look : goal.returns-else-look
+returns-else-look c =
+    let load = c.load_port-found.ensures in
+    let look = c.look.ensures in
+    let holds = load.loaded.marked c.if-found-lt-MARK.false in record {
+      held = look.held;
+      remains = remains_then _ _ _ load.remains (looked_remains _ _ _ look.kept look.looked);
+      cleared = (
+        away_owns false c.load_port-found.new.stand c.look.new.stand c.look.result look.looked c.args.arena c.if-look.false
+            (record { stands = holds.stands; owned = holds.owned; is = holds.is; arena = holds.arena }),
+        away_past false c.load_port-found.new.stand c.look.new.stand c.look.result look.looked c.if-look.false,
+      );
+      busy = tt;
+      steps = let one = load.steps in let more = look.steps in omega (arith, one, more);
+    }
+
+pub returns-then-found-from : goal.returns-then-found-from
+returns-then-found-from c =
+    let load = c.load_port-found.ensures in
+    let same = c.if-found-from.true ∙ c.from.ensures in
+    let there = load.loaded.there c.if-found-lt-MARK.true same in record {
+      held = load.held;
+      remains = load.remains;
+      cleared = record { stands = there.stands; owned = there.owned; is = there.is; arena = there.arena };
+      busy = load.busy c.if-found-lt-MARK.true same;
+      steps = let one = load.steps in omega (arith, one);
+    }

@@ -1,4 +1,4 @@
-use Rattle.partial_lines.proofs.{Common.{◌≡◌, ◌<◌, refl, ap, arith, Layout, CoreState}, Loading.{may_answer, same_positions, scan_goes_on, scan_sizes, scan_stays, scans_forth, still_scans}, Parts.{scan_due}}
+use Rattle.partial_lines.proofs.{Common.{refl, ap, arith, Layout, CoreState}, Loading.{may_answer, same_positions, scan_goes_on, scan_sizes, scan_stays, scans_forth, still_scans}, Parts.{scan_due}}
 use Rattle.partial_lines.proofs.embedded.ScanLoadsLoads.load_component.Goals as goal
 
 pub load_component-requires-clause-due : goal.load_component-requires-clause-due
