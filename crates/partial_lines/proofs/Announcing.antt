@@ -1,5 +1,5 @@
 -- The announcement of a scan in straight lines: which store is due, and where its answer leads.
-use Rattle.partial_lines.proofs.Common.{ℕ, ◌≡◌, ◌+◌, ◌<◌, ◌==◌, Bool, true, false, if◌then◌else◌, length, Some, refl, sym, ap, ◌∙◌, arith, slice_index, ne_eqb, eq-eqb, eqb-true, eqb-false, le-ltb, pool_end, Stage, ScanBegun, StoringAnnouncement, CoreState, advance, advance_at, at_stage, begin_joining, pool_refused, step_of, announcing_scan, Store, announcement_block, announcement_size}
+use Rattle.partial_lines.proofs.Common.{ℕ, lt-ltb, ◌≡◌, ◌+◌, ◌<◌, ◌≤◌, ◌==◌, Bool, true, false, if◌then◌else◌, length, Some, refl, sym, ap, ◌∙◌, arith, slice_index, ne_eqb, eq-eqb, eqb-true, eqb-false, le-ltb, pool_end, Stage, ScanBegun, StoringAnnouncement, CoreState, advance, advance_at, at_stage, begin_joining, pool_refused, step_of, announcing_scan, Store, announcement_block, announcement_size}
 
 abbrev either : CoreState → ℕ → ℕ → Bool → CoreState
 either s at k b = if b then begin_joining s at else at_stage s (StoringAnnouncement at k)
@@ -27,3 +27,9 @@ pub not_fitting : (s d : CoreState) (at : ℕ) → d ≡ advance s at → s.stag
 not_fitting s d at is begun past =
     is ∙ ap (λ (t : Stage). advance_at s t at) begun ∙ ap (λ (b : Bool). if b then at_stage s (StoringAnnouncement at 0) else pool_refused s)
     (le-ltb (at + announcement_size (length s.asked)) (pool_end s.sizes + 1) (omega (arith, past)))
+
+-- they are not, and the first store is due
+pub fitting : (s d : CoreState) (at : ℕ) → d ≡ advance s at → s.stage ≡ ScanBegun → at + announcement_size (length s.asked) ≤ pool_end s.sizes → d ≡ at_stage s (StoringAnnouncement at 0)
+fitting s d at is begun within =
+    is ∙ ap (λ (t : Stage). advance_at s t at) begun ∙ ap (λ (b : Bool). if b then at_stage s (StoringAnnouncement at 0) else pool_refused s)
+    (lt-ltb (at + announcement_size (length s.asked)) (pool_end s.sizes + 1) (omega (arith, within)))

@@ -1,4 +1,4 @@
-use Rattle.partial_lines.proofs.Common.{sym, ap, ◌∙◌, at_stage, writing_stage}
+use Rattle.partial_lines.proofs.{Common.{sym, ap, ◌∙◌, arith, at_stage, writing_stage}, Writing.{stored}}
 use Rattle.partial_lines.proofs.update.fill_record.Goals as goal
 
 pub loop-k-init : goal.loop-k-init
@@ -16,3 +16,27 @@ loop-k-preserved g c = record {
   leads = g.met.M.Makes.leads_on _ _ _ c.loop-k.invariant.leads c.store_word-in-loop-k.ensures.leads;
   machine = c.in_ok-store_word-4.ensures.machine;
 }
+
+pub returns-in_err-store_word-clause-leads : goal.returns-in_err-store_word-clause-leads
+returns-in_err-store_word-clause-leads g c = c.store_word.ensures.leads
+
+pub returns-in_err-store_word-2-clause-leads : goal.returns-in_err-store_word-2-clause-leads
+returns-in_err-store_word-2-clause-leads g c = g.met.M.Makes.leads_on _ _ _ c.store_word.ensures.leads c.store_word-2.ensures.leads
+
+pub returns-in_err-store_word-3-clause-leads : goal.returns-in_err-store_word-3-clause-leads
+returns-in_err-store_word-3-clause-leads g c = g.met.M.Makes.leads_on _ _ _ (g.met.M.Makes.leads_on _ _ _ c.store_word.ensures.leads c.store_word-2.ensures.leads) c.store_word-3.ensures.leads
+
+pub returns-in_err-store_word-4-clause-leads : goal.returns-in_err-store_word-4-clause-leads
+returns-in_err-store_word-4-clause-leads g c = g.met.M.Makes.leads_on _ _ _ c.loop-k.invariant.leads c.store_word-in-loop-k.ensures.leads
+
+pub returns-clause-leads : goal.returns-clause-leads
+returns-clause-leads g c = c.loop-k.invariant.leads
+
+pub returns-clause-machine : goal.returns-clause-machine
+returns-clause-machine g c =
+    let value = c.record_size-k-end.ensures.value in
+    let least = c.record_size-k-end.ensures.least in
+    let plain = c.plain_record_size-k.ensures in
+    let within = c.loop-k.auto.k-end (omega (arith, value, least, plain)) in
+    let past = c.loop-k-test.false in
+    stored c.args.core.now _ c.args.change c.args.old c.args.at c.loop-k.k c.loop-k.invariant.machine (omega (arith, value, within, past))
