@@ -57,7 +57,7 @@ from definitions import PARTS, SPENT  # noqa: E402
 
 TOP = Path(__file__).resolve().parent.parent
 # The crates whose edits weren't all tried yet by the prover's own search where an answer is written for the goal.
-LEFT = {'partial_cmd', 'partial_door', 'partial_lines', 'partial_long_lived', 'partial_machine', 'partial_memory',
+LEFT = {'partial_cmd', 'partial_door', 'partial_lines', 'partial_long_lived', 'partial_memory',
         'partial_picture', 'partial_pipeline', 'partial_replay', 'partial_text', 'partial_workers'}
 # The file of a crate with its edits.
 EDITS = 'edits.txt'

@@ -160,9 +160,13 @@ module _ {S : Type 0} (a : About) (slots id : ℕ) (me : Me S (List SeatedPort))
       let P : Bool → Port = λ t. (if t then owning_port (ports k) (just_taken i) else ports k) in
       (elim (eqb_tells n 0) [
         | inl free ↦
-            let may : MayMove e words ports b notes k (move.Takes i) =
-            (ap (λ (p : Port). p.control.entering) (sym is) ∙ stands, ap (λ (p : Port). p.control.owned) (sym is) ∙ none, inside,
-            (λ same. apart (ap (λ (p : Port). p.control.here.arena) is ∙ same)), free.1) in
+            let may : MayMove e words ports b notes k (move.Takes i) = (
+              ap (λ (p : Port). p.control.entering) (sym is) ∙ stands,
+              ap (λ (p : Port). p.control.owned) (sym is) ∙ none,
+              inside,
+              (λ same. apart (ap (λ (p : Port). p.control.here.arena) is ∙ same)),
+              free.1,
+            ) in
             subst (λ (t : Bool). Quietly a (slice_set words (own_word e i) v) ports notes b since k x.began (P t)) (sym free.0)
             (by_move a words ports notes b since w time k below x.began (move.Takes i) may (λ p c n is. is) (λ q ne. refl) (slice_set words (own_word e i) v)
             (ap (λ v. slice_set words (own_word e i) v) (either_cond (n == 0) (k + 1) n)) (owning_port (ports k) (just_taken i)) refl old)
