@@ -67,7 +67,7 @@ def keeps(drawn, lines, columns):
 def main():
     failed, cases = 0, 0
     for verb in ('replay', 'check', 'run'):
-        long = walk(40000, 8000) if verb == 'run' else walk(30000, 1200)
+        long = walk(40000, 8000 if verb == 'run' else 3600)
         for plan, seconds, is_terminal in ((PLAN, 1.3, True), (long, 0, True), (long, 0, False)):
             given = said(sys.argv[1], verb, plan, seconds, is_terminal)
             is_shown = is_terminal and plan is long

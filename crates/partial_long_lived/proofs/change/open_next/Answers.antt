@@ -4,7 +4,7 @@ use Rattle.partial_long_lived.specs.Inner.Changing.{FoundAllBusy}
 use Rattle.partial_long_lived.proofs.change.open_next.Goals as goal
 
 pub publish-requires-clause-works : goal.publish-requires-clause-works
-publish-requires-clause-works c = c.fill.ensures.works
+publish-requires-clause-works c = search (tests, rules)
 
 pub returns-in-Clean-clause-stays : goal.returns-in-Clean-clause-stays
 returns-in-Clean-clause-stays c =
