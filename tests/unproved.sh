@@ -44,10 +44,12 @@ refuses() {
     ! "$made/top/bindings/c/install.sh" "$@" 2>"$made/said" && grep -qF "$text" "$made/said" && [ ! -e "$made/refused" ]
 }
 installs() {
+    staged=$made/staged
     "$made/top/bindings/c/install.sh" --unproved "$made/pre fix" && DESTDIR="$made/root" \
-        "$made/top/bindings/c/install.sh" --unproved /installed && [ -f "$made/root/installed/lib/libpartial_door_unproved.a" ] &&
-        [ ! -e "$made/root/installed/lib/libpartial_door.a" ] &&
-        grep -qx 'prefix=/installed' "$made/root/installed/lib/pkgconfig/partial_door.pc"
+        "$made/top/bindings/c/install.sh" --unproved "$staged" && [ ! -e "$staged" ] &&
+        [ -f "$made/root$staged/lib/libpartial_door_unproved.a" ] &&
+        [ ! -e "$made/root$staged/lib/libpartial_door.a" ] &&
+        grep -qxF "prefix=$staged" "$made/root$staged/lib/pkgconfig/partial_door.pc"
 }
 links_installed() {
     words=$(PKG_CONFIG_PATH="$made/pre fix/lib/pkgconfig" pkg-config --cflags --libs partial_door) &&
