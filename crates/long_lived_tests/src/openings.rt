@@ -93,14 +93,14 @@ fn refused_openings(rt: HostRuntime) -> Result<(), Fail> {
     let alloc = rt.alloc();
     let most = Options {
         lists: 65_536,
-        pool: Some(131_066),
+        pool: Some(4_194_295),
     };
     let lists = Options {
         lists: 65_537,
-        pool: Some(131_067),
+        pool: Some(4_194_296),
     };
     let pool = Options {
-        pool: Some(131_067),
+        pool: Some(4_194_296),
         ..most
     };
     refused(&rt, alloc, &[], 0, lists, OpenError::Ports);
@@ -149,18 +149,19 @@ fn claims(
     Ok(())
 }
 
-// Where the options leave the pool open, an arena has 16,384 words for each port, until all arenas have 524,288 together.
+// Where the options leave the pool open, an arena has 16,384 words for each port, until all arenas have 262,144 together,
+// and 8,192 at least.
 #[test]
 fn usual_pools(rt: HostRuntime) -> Result<(), Fail> {
     let pools = [
         (1, 16_384),
         (2, 32_768),
-        (3, 49_152),
-        (4, 65_536),
-        (5, 52_428),
-        (8, 32_768),
-        (16, 16_384),
-        (64, 16_384),
+        (3, 43_690),
+        (4, 32_768),
+        (5, 26_214),
+        (8, 16_384),
+        (16, 8_192),
+        (64, 8_192),
     ];
     for (ports, words) in &pools {
         claims(&rt, rt.alloc(), &[10], *ports, *words)?;

@@ -1,11 +1,32 @@
 -- Each due step of a machine in the arena where its port stands keeps the lawful state of all epochs.
-use Rattle.partial_epochs.proofs.{Common.{ℕ, ◌≡◌, ◌≢◌, ◌+◌, ◌*◌, ◌%◌, ◌^◌, ◌<◌, ◌≤◌, ◌==◌, ◌⊎◌, ◌++◌, Bool, true, false, if◌then◌else◌, Some, List, [], ◌∷◌, length, slice_index, slice_set, refl, sym, ap, subst, ◌∙◌, inl, inr, arith, ◌&&◌, ◌||◌, nat_lt, AllByRecursion, cases_lt, lt-ltb, eqb_tells, get_or-set_same, get_or-set_other, Applied, Opening, Step, Load, Store, Exchange, Add, IsLayout, Layout, first_free, total, pool_counter, slot_counter, greatest_record, answer_of, word_of, words_after, steps_left, CoreState, advance, step_of, Part, PartAmong, IsMachineOf, port_of, IsReady, LeadsOn, added_by, lawful_machines_are_ready, steps_stay_lawful, count, list_of, put, Plan, arena_words, carried_words, component_words, placed_step, opening_behind, Port, Epoch, Beside, IsArena, IsStanding, LawfulEpochs, IsPresent, awaits_slot, MachineLeads, MachineStepsStayLawful, MayClaim, MeetsSeal, ends_over, Stands, not_below, value_word, least_announcement}, Apart.{IsApart, due_apart}, Change.{Changes, beside_then, change_kept}, Lists.{Around, around_of, count_more, count_one, count_same, length_of, put_all, put_other, put_same}, Places.below_whole, Present.{by_seal, standing}, Slots.{awaits, awaits_same, counted, one, pool_small}, Worded.{Words, worded}}
+use Rattle.partial_epochs.proofs.{Common.{ℕ, ◌≡◌, ◌≢◌, ◌+◌, ◌*◌, ◌%◌, ◌^◌, ◌<◌, ◌≤◌, ◌==◌, ◌⊎◌, ◌++◌, Bool, true, false, if◌then◌else◌, Some, List, [], ◌∷◌, length, slice_index, slice_set, refl, sym, ap, subst, ◌∙◌, inl, inr, arith, ◌&&◌, ◌||◌, nat_lt, AllByRecursion, cases_lt, lt-ltb, eqb_tells, get_or-set_same, get_or-set_other, Applied, Opening, Step, Load, Store, Exchange, Add, Layout, total, pool_counter, slot_counter, greatest_record, answer_of, word_of, words_after, steps_left, CoreState, advance, step_of, Part, PartAmong, IsMachineOf, port_of, IsReady, LeadsOn, added_by, lawful_machines_are_ready, steps_stay_lawful, count, list_of, put, Plan, arena_words, carried_words, component_words, placed_step, opening_behind, Port, Epoch, Beside, IsArena, IsStanding, LawfulEpochs, IsPresent, awaits_slot, claims_no_more, slot_limit, mul-le-mul_left, MachineLeads, MachineStepsStayLawful, MayClaim, MeetsSeal, ends_over, Stands, not_below, value_word}, Apart.{IsApart, due_apart}, Change.{Changes, beside_then, change_kept}, Lists.{Around, around_of, count_more, count_one, count_same, length_of, put_all, put_other, put_same}, Places.below_whole, Present.{by_seal, standing}, Slots.{MayClaimWords, awaits, awaits_same, counted, done, one}, Worded.{Words, worded}}
 use Rattle.partial_core.specs.Lawful as one
 use Rattle.partial_core.specs.Steps.{Tells}
 
 or_none : (b c : Bool) → c ≡ false → (b || c) ≡ b
 or_none true c e = refl
 or_none false c e = e
+
+or_more : (b c : Bool) → b ≡ true → (b || c) ≡ true
+or_more true c e = refl
+or_more false c e = absurd cc
+
+or_last : (a b c : Bool) → c ≡ true → (a || (b || c)) ≡ true
+or_last true b c e = refl
+or_last false true c e = refl
+or_last false false c e = e
+
+not_equal : (i j : ℕ) → i ≢ j → (i == j) ≡ false
+not_equal i j ne = elim (eqb_tells i j) [
+  | inl same ↦ absurd (ne same.1)
+  | inr other ↦ other.0
+]
+
+equal : (i : ℕ) → (i == i) ≡ true
+equal i = elim (eqb_tells i i) [
+  | inl same ↦ same.0
+  | inr other ↦ absurd (other.1 refl)
+]
 
 -- The reserve: a claim that ends past the limit is its port's last.
 module _ (e : Plan) (words : List ℕ) (over : ℕ → Bool) (k : ℕ) (below : k < e.ports) (there : pool_counter e.sizes < length words)
@@ -16,23 +37,36 @@ module _ (e : Plan) (words : List ℕ) (over : ℕ → Bool) (k : ℕ) (below : 
   unchanged : (v : Bool) → v ≡ over k → count (put k v over) 0 e.ports ≡ count over 0 e.ports
   unchanged v is = count_same (put k v over) over 0 e.ports (λ i low high. put_all (λ j u. u ≡ over j) k v over i (λ _. is) (λ _. refl))
 
-  reserved_same : (v : Bool) (words' : List ℕ) → v ≡ over k → slice_index words' (pool_counter e.sizes) ≡ slice_index words (pool_counter e.sizes) → Reserved v words'
-  reserved_same v words' is same =
-      let times : greatest_record e.sizes * count (put k v over) 0 e.ports ≡ greatest_record e.sizes * count over 0 e.ports = ap (λ n. greatest_record e.sizes * n) (unchanged v is) in
+  -- of a port that is over no fewer are over
+  rises : (v : Bool) → (over k ≡ true → v ≡ true) → count over 0 e.ports ≤ count (put k v over) 0 e.ports
+  rises v up = by (over k) v refl refl
+    where
+      by : (b c : Bool) → over k ≡ b → v ≡ c → count over 0 e.ports ≤ count (put k v over) 0 e.ports
+      by true true was is = let same = unchanged v (is ∙ sym was) in omega (arith, same)
+      by false false was is = let same = unchanged v (is ∙ sym was) in omega (arith, same)
+      by true false was is = let bad : true ≡ false = sym (up was) ∙ is in absurd cc
+      by false true was is =
+          let more : count (put k v over) 0 e.ports ≡ count over 0 e.ports + 1 =
+          count_more over (put k v over) 0 e.ports k (omega arith) (omega (arith, below)) was (put_same k v over ∙ is) (λ i ne. put_other k v over i ne) in
+          omega (arith, more)
+
+  reserved_same : (v : Bool) (words' : List ℕ) → (over k ≡ true → v ≡ true) → slice_index words' (pool_counter e.sizes) ≡ slice_index words (pool_counter e.sizes) → Reserved v words'
+  reserved_same v words' up same =
+      let times : greatest_record e.sizes * count over 0 e.ports ≤ greatest_record e.sizes * count (put k v over) 0 e.ports = mul-le-mul_left (greatest_record e.sizes) (rises v up) in
       omega (arith, times, same, reserve)
 
   reserved_by : (step : Step) → IsApart e.sizes step → MayClaim e (over k) step → Reserved (over k || ends_over e words step) (words_after words step)
-  reserved_by (Load w) apart may = reserved_same (over k || false) words (or_none (over k) false refl) refl
-  reserved_by (Store w v) apart may = reserved_same (over k || false) (slice_set words w v) (or_none (over k) false refl)
+  reserved_by (Load w) apart may = reserved_same (over k || false) words (or_more (over k) false) refl
+  reserved_by (Store w v) apart may = reserved_same (over k || false) (slice_set words w v) (or_more (over k) false)
       (get_or-set_other words w (pool_counter e.sizes) v 0 (omega (arith, apart)))
-  reserved_by (Exchange w old new) apart may = reserved_same (over k || false) (words_after words (Exchange w old new)) (or_none (over k) false refl)
+  reserved_by (Exchange w old new) apart may = reserved_same (over k || false) (words_after words (Exchange w old new)) (or_more (over k) false)
       (get_or-set_other words w (pool_counter e.sizes) (if slice_index words w == old then new else slice_index words w) 0 (omega (arith, apart)))
   reserved_by (Add w n) apart may = elim (eqb_tells w (pool_counter e.sizes)) [
     | inl same ↦ claimed same.0 same.1
     | inr other ↦
         let ne = other.1 in
         reserved_same (over k || ends_over e words (Add w n)) (words_after words (Add w n))
-        (or_none (over k) (ends_over e words (Add w n)) (ap (λ (b : Bool). b && nat_lt e.limit (slice_index words w + n)) other.0))
+        (or_more (over k) (ends_over e words (Add w n)))
         (get_or-set_other words w (pool_counter e.sizes) ((slice_index words w + n) % 2 ^ 64) 0 (omega (arith, ne)))
   ]
     where
@@ -45,7 +79,11 @@ module _ (e : Plan) (words : List ℕ) (over : ℕ → Bool) (k : ℕ) (below : 
           let less : (slice_index words w + n) % 2 ^ 64 ≤ slice_index words w + n = omega arith in
           let free = may is in
           let v : Bool = over k || ends_over e words (Add w n) in
-          let v_is : v ≡ nat_lt e.limit (slice_index words w + n) = ap (λ (b : Bool). b || ends_over e words (Add w n)) free ∙ ap (λ (b : Bool). b && nat_lt e.limit (slice_index words w + n)) test in
+          let apart_from : (w == slot_counter e.sizes) ≡ false = not_equal w (slot_counter e.sizes) (λ (bad : w ≡ slot_counter e.sizes). omega (arith, bad, is)) in
+          let v_is : v ≡ nat_lt e.limit (slice_index words w + n) = ap (λ (b : Bool). b || ends_over e words (Add w n)) free
+          ∙ ap (λ (b : Bool). (b && nat_lt e.limit (slice_index words w + n)) || ((w == slot_counter e.sizes) && nat_lt (slot_limit e) (slice_index words w + n))) test
+          ∙ ap (λ (b : Bool). nat_lt e.limit (slice_index words w + n) || (b && nat_lt (slot_limit e) (slice_index words w + n))) apart_from
+          ∙ or_none (nat_lt e.limit (slice_index words w + n)) false refl in
           elim (cases_lt e.limit (slice_index words w + n)) [
             | inl past ↦
                 let on : put k v over k ≡ true = put_same k v over ∙ v_is ∙ lt-ltb e.limit (slice_index words w + n) past in
@@ -117,11 +155,28 @@ module _ (e : Plan) (words : List ℕ) (ports : ℕ → Port) (b : Beside) (k : 
   abbrev entries : List Applied
   entries = added_by e.sizes (port_of (r.part k)) bw step
 
-  -- what the step leaves of the counters of slots and of pool words, in a memory of these sizes
+  -- whether the port is over after the step
+  abbrev over_then : Bool
+  over_then = r.over k || ends_over e bw step
+
+  -- what the step leaves of the slot counter, in a memory of these sizes
   abbrev Counts : Layout → Bool → Bool → Type 0
-  Counts z before behind =
-      least_announcement * (slice_index (words_after bw step) (slot_counter z) + one behind) + slice_index bw (pool_counter z)
-      ≤ least_announcement * (slice_index bw (slot_counter z) + one before) + slice_index (words_after bw step) (pool_counter z)
+  Counts z before behind = (slice_index (words_after bw step) (slot_counter z) ≤ slot_limit e)
+      ⊎ (slice_index (words_after bw step) (slot_counter z) + one (done (r.over k) before) ≤ slice_index bw (slot_counter z) + one (done over_then behind))
+
+  -- it may claim words of the pool, in a memory of these sizes
+  may_words : (t : Step) → MayClaim e (r.over k) t → MayClaimWords e.sizes (r.over k) t
+  may_words (Add v n) h = h
+  may_words (Load v) h = tt
+  may_words (Store v u) h = tt
+  may_words (Exchange v u n) h = tt
+
+  -- a slot that it claims past the limit is the last one
+  passes : step ≡ Add (slot_counter e.sizes) 1 → nat_lt (slot_limit e) (slice_index bw (slot_counter e.sizes) + 1) ≡ true → over_then ≡ true
+  passes is past = subst (λ (t : Step). (r.over k || ends_over e bw t) ≡ true) (sym is)
+      (or_last (r.over k) ((slot_counter e.sizes == pool_counter e.sizes) && nat_lt e.limit (slice_index bw (slot_counter e.sizes) + 1))
+      ((slot_counter e.sizes == slot_counter e.sizes) && nat_lt (slot_limit e) (slice_index bw (slot_counter e.sizes) + 1))
+      (ap (λ (b : Bool). b && nat_lt (slot_limit e) (slice_index bw (slot_counter e.sizes) + 1)) (equal (slot_counter e.sizes)) ∙ past))
 
   counts : Counts e.sizes (awaits_slot (r.part k)) (awaits_slot leads.y)
   counts =
@@ -132,27 +187,29 @@ module _ (e : Plan) (words : List ℕ) (ports : ℕ → Port) (b : Beside) (k : 
       let some = z.slots.0 in
       let m = z.components.0 in
       let slots_there : slot_counter e.sizes < length bw = omega (arith, long, pool, some, m) in
-      let pool_there : pool_counter e.sizes < length bw = omega (arith, long, pool, some, m) in
-      let small = pool_small e bw (component_words e words x) (carried_words e words x) r (x ≢ b.arena) w.plan arena in
-      let behind = arena.slots in
-      let slots_small : slice_index bw (slot_counter e.sizes) < 2 ^ 32 = omega (arith, behind, small) in
       let back : c.sizes ≡ e.sizes = ready.sizes in
+      let claim : MayClaim e (r.over k) step = subst (λ (v : Bool). MayClaim e v step) (sym s.over) may in
       subst (λ (v : Bool). Counts e.sizes v (awaits_slot leads.y)) (awaits_same c (r.part k) machine_here)
       (subst (λ (v : Bool). Counts e.sizes (awaits c) v) (ap awaits leads.tells.machine.is)
       (subst (λ (l : Layout). Counts l (awaits c) (awaits (advance c (answer_of bw step)))) back
-      (counted c (subst IsLayout (sym back) z) ready.sound bw (subst (λ (l : Layout). slot_counter l < length bw) (sym back) slots_there)
-      (subst (λ (l : Layout). pool_counter l < length bw) (sym back) pool_there) (subst (λ (l : Layout). slice_index bw (slot_counter l) < 2 ^ 32) (sym back) slots_small)
-      (subst (λ (l : Layout). slice_index bw (pool_counter l) < 2 ^ 32) (sym back) small) (answer_of bw step) step due (subst (λ (l : Layout). IsApart l step) (sym back) apart))))
+      (counted c ready.sound bw (subst (λ (l : Layout). slot_counter l < length bw) (sym back) slots_there) (slot_limit e) (r.over k) over_then
+      (or_more (r.over k) (ends_over e bw step)) (answer_of bw step) step due (subst (λ (l : Layout). IsApart l step) (sym back) apart)
+      (subst (λ (l : Layout). MayClaimWords l (r.over k) step) (sym back) (may_words step claim))
+      (subst (λ (l : Layout). step ≡ Add (slot_counter l) 1 → nat_lt (slot_limit e) (slice_index bw (slot_counter l) + 1) ≡ true → over_then ≡ true) (sym back) passes))))
 
-  slots_then : first_free e.sizes + least_announcement * (slice_index (words_after bw step) (slot_counter e.sizes) + count (λ q. awaits_slot (put k leads.y r.part q)) 0 e.ports)
-      ≤ slice_index (words_after bw step) (pool_counter e.sizes)
+  slots_then : slice_index (words_after bw step) (slot_counter e.sizes)
+      ≤ slot_limit e + count (λ q. claims_no_more (put k over_then r.over q) (put k leads.y r.part q)) 0 e.ports
   slots_then =
       let was = arena.slots in
-      let changed = count_one (λ q. awaits_slot (r.part q)) (λ q. awaits_slot (put k leads.y r.part q)) 0 e.ports k (omega arith) (omega (arith, below))
-      (λ i ne. ap awaits_slot (put_other k leads.y r.part i ne)) in
-      let now : ◌≡◌ {A = ℕ} (one (awaits_slot (put k leads.y r.part k))) (one (awaits_slot leads.y)) = ap (λ (y : Part). one (awaits_slot y)) (put_same k leads.y r.part) in
-      let step_counts = counts in
-      omega (arith, was, changed, now, step_counts)
+      let changed = count_one (λ q. claims_no_more (r.over q) (r.part q)) (λ q. claims_no_more (put k over_then r.over q) (put k leads.y r.part q)) 0 e.ports k
+      (omega arith) (omega (arith, below))
+      (λ i ne. ap (λ (v : Bool). claims_no_more v (put k leads.y r.part i)) (put_other k over_then r.over i ne) ∙ ap (claims_no_more (r.over i)) (put_other k leads.y r.part i ne)) in
+      let now : ◌≡◌ {A = ℕ} (one (claims_no_more (put k over_then r.over k) (put k leads.y r.part k))) (one (done over_then (awaits_slot leads.y))) =
+      ap (λ (v : Bool). one (claims_no_more v (put k leads.y r.part k))) (put_same k over_then r.over) ∙ ap (λ (y : Part). one (claims_no_more over_then y)) (put_same k leads.y r.part) in
+      elim counts [
+        | inl within ↦ omega (arith, within)
+        | inr added ↦ omega (arith, was, changed, now, added)
+      ]
 
   abbrev words' : List ℕ
   words' = words_after words (placed_step e x step)
@@ -188,9 +245,10 @@ module _ (e : Plan) (words : List ℕ) (ports : ℕ → Port) (b : Beside) (k : 
           reserve = subst (λ (l : List ℕ). slice_index l (pool_counter e.sizes) ≤ e.limit + greatest_record e.sizes * count (put k over' r.over) 0 e.ports) (sym h.arena)
               (subst (λ (v : Bool). slice_index (words_after bw step) (pool_counter e.sizes) ≤ e.limit + greatest_record e.sizes * count (put k v r.over) 0 e.ports) (sym same_over)
               (reserved_by e bw r.over k below there arena.reserve step apart claim));
-          slots = subst (λ (l : List ℕ). first_free e.sizes + least_announcement * (slice_index l (slot_counter e.sizes) + count (λ q. awaits_slot (put k leads.y r.part q)) 0 e.ports)
-              ≤ slice_index l (pool_counter e.sizes))
-              (sym h.arena) slots_then;
+          slots = subst (λ (l : List ℕ). slice_index l (slot_counter e.sizes)
+              ≤ slot_limit e + count (λ q. claims_no_more (put k over' r.over q) (put k leads.y r.part q)) 0 e.ports) (sym h.arena)
+              (subst (λ (v : Bool). slice_index (words_after bw step) (slot_counter e.sizes)
+              ≤ slot_limit e + count (λ q. claims_no_more (put k v r.over q) (put k leads.y r.part q)) 0 e.ports) (sym same_over) slots_then);
         }
 
     changes : Changes e words b k x (ports k) r words' p' r' entries

@@ -1,5 +1,5 @@
 -- A memory opens lawful.
-use Rattle.partial_epochs.proofs.{Common.{ℕ, ◌≡◌, ◌≢◌, ◌+◌, ◌<◌, ◌≤◌, ◌⊎◌, Some, None, List, [], length, slice_index, refl, sym, ap, subst, ◌∙◌, inl, inr, arith, option_map, cases_lt, eqb_tells, some_same, first_free, pool_counter, slot_counter, total, Part, fresh_part, Plan, arena_words, base, carried_word, carried_words, component_words, control_size, control_words, plain, seal, Epoch, LawfulControl, Beside, IsArena, LawfulEpochs, awaits_slot, controls, numbers, place_now, EpochsOpenLawful, OpensAll, first_beside, first_place, first_ports, first_epoch, nothing_held, OpensOver, opening_component, pool_opens, slot_opens}, Lists.{at_of, count_none, length_of, put_other, put_same}, Opens.opens_over, Places.packed_arena, Publishes.fresh_list, Worded.{component_at, plain_at, plain_component, plain_other}}
+use Rattle.partial_epochs.proofs.{Common.{ℕ, ◌≡◌, ◌≢◌, ◌+◌, ◌<◌, ◌≤◌, ◌⊎◌, Some, None, List, [], length, slice_index, refl, sym, ap, subst, ◌∙◌, inl, inr, arith, option_map, cases_lt, eqb_tells, some_same, first_free, pool_counter, slot_counter, total, Part, Plan, arena_words, base, carried_word, carried_words, component_words, control_size, control_words, plain, seal, Epoch, LawfulControl, Beside, IsArena, LawfulEpochs, controls, numbers, place_now, EpochsOpenLawful, OpensAll, first_beside, first_place, first_ports, first_epoch, nothing_held, OpensOver, opening_component, pool_opens, slot_opens}, Lists.{at_of, length_of, put_other, put_same}, Opens.opens_over, Places.packed_arena, Publishes.fresh_list, Worded.{component_at, plain_at, plain_component, plain_other}}
 use Rattle.partial_core.specs.Lawful as one
 
 module _ (e : Plan) (words : List ℕ) (w : OpensAll e words) where
@@ -43,12 +43,9 @@ module _ (e : Plan) (words : List ℕ) (w : OpensAll e words) where
     slots =
         let some_slots = w.plan.sizes.slots.0 in
         let some_components = w.plan.sizes.components.0 in
-        let pool : slice_index (arena_words e words 0) (pool_counter e.sizes) ≡ first_free e.sizes =
-        opens.each (pool_counter e.sizes) (omega (arith, some_slots, some_components)) (inl (omega (arith, some_slots))) ∙ pool_opens e.sizes e.opening.values in
         let claimed : slice_index (arena_words e words 0) (slot_counter e.sizes) ≡ 0 = opens.each (slot_counter e.sizes) (omega (arith, some_slots, some_components)) (inl (omega (arith, some_slots)))
         ∙ slot_opens e.sizes e.opening.values some_slots in
-        let none = count_none (λ q. awaits_slot (fresh_part e.sizes q)) 0 e.ports (λ q. refl) in
-        omega (arith, pool, claimed, none);
+        omega (arith, claimed);
   }
 
   abbrev b : Beside

@@ -1,5 +1,5 @@
 -- The exchange of the current word opens the next epoch.
-use Rattle.partial_epochs.proofs.{Common.{ℕ, zero, suc, ◌≡◌, ◌≢◌, ◌+◌, ◌-◌, ◌<◌, ◌≤◌, ◌==◌, ◌⊎◌, Bool, true, false, if◌then◌else◌, Option, Some, None, IfSome, List, [], ◌∷◌, length, slice_index, slice_set, refl, sym, ap, subst, ◌∙◌, inl, inr, arith, option_map, cases_lt, lt-ltb, eqb_tells, get_or-set_same, get_or-set_other, length-set, set-get_or, Applied, Opening, value_of, some_same, Layout, total, first_free, pool_counter, slot_counter, slot_word, set_offset, HasClearRecords, HasClearSlots, Part, fresh_part, fresh_parts, list_of, put, IsToBeSet, Plan, Place, IsSealed, at_word, arena_words, base, carried_word, carried_words, component_words, control_size, control_words, current_word, packed, plain, seal, carried_behind, opening_behind, Control, OwnedArena, Port, Epoch, IsPlaceWord, IsOut, IsOwner, LawfulControl, MayPut, Beside, IsArena, IsFinished, IsNewPart, IsSetting, IsStanding, LawfulEpochs, awaits_slot, controls, numbers, place_now, IsPresent, IsWholeArena, PublishesStayLawful, having_published, next_beside, next_place, next_epoch, resting_arena, OpensOver, Stands, not_below, opening_word, opening_component, pool_opens, slot_opens}, ClearRecords.{opens_by_set, records_before}, Entering.{control_lifted, current_is, cw_long, high_arenaed, high_clear, high_records}, Lists.{at_of, count_none, length_of, put_all, put_other, put_same, set_of}, Opens.opens_over, Owning.{knows_more, out_then}, Places.{offset_back, offset_low, offset_to_be_set, packed_arena, set_high, set_low}, Present.{present, same_place}, Publishing.published, Worded.{component_at, plain_at, plain_component, plain_other}}
+use Rattle.partial_epochs.proofs.{Common.{ℕ, zero, suc, ◌≡◌, ◌≢◌, ◌+◌, ◌-◌, ◌<◌, ◌≤◌, ◌==◌, ◌⊎◌, Bool, true, false, if◌then◌else◌, Option, Some, None, IfSome, List, [], ◌∷◌, length, slice_index, slice_set, refl, sym, ap, subst, ◌∙◌, inl, inr, arith, option_map, cases_lt, lt-ltb, eqb_tells, get_or-set_same, get_or-set_other, length-set, set-get_or, Applied, Opening, value_of, some_same, Layout, total, first_free, pool_counter, slot_counter, slot_word, set_offset, HasClearRecords, HasClearSlots, Part, fresh_part, fresh_parts, list_of, put, IsToBeSet, Plan, Place, IsSealed, at_word, arena_words, base, carried_word, carried_words, component_words, control_size, control_words, current_word, packed, plain, seal, carried_behind, opening_behind, Control, OwnedArena, Port, Epoch, IsPlaceWord, IsOut, IsOwner, LawfulControl, MayPut, Beside, IsArena, IsFinished, IsNewPart, IsSetting, IsStanding, LawfulEpochs, controls, numbers, place_now, IsPresent, IsWholeArena, PublishesStayLawful, having_published, next_beside, next_place, next_epoch, resting_arena, OpensOver, Stands, not_below, opening_word, opening_component, pool_opens, slot_opens}, ClearRecords.{opens_by_set, records_before}, Entering.{control_lifted, current_is, cw_long, high_arenaed, high_clear, high_records}, Lists.{at_of, length_of, put_all, put_other, put_same, set_of}, Opens.opens_over, Owning.{knows_more, out_then}, Places.{offset_back, offset_low, offset_to_be_set, packed_arena, set_high, set_low}, Present.{present, same_place}, Publishing.published, Worded.{component_at, plain_at, plain_component, plain_other}}
 use Rattle.partial_core.specs.Lawful as one
 
 -- what an epoch opens with has a value for each component, and the same first stamp
@@ -248,14 +248,10 @@ module _ (e : Plan) (words : List ℕ) (ports : ℕ → Port) (b : Beside) (k : 
           let pool = w.plan.sizes.pool.0 in
           let some_slots = w.plan.sizes.slots.0 in
           let some_components = w.plan.sizes.components.0 in
-          let free : slice_index (arena_words e words o.arena) (pool_counter e.sizes) ≡ first_free e.sizes =
-          opens.each (pool_counter e.sizes) (omega (arith, some_slots, some_components)) (inl (omega (arith, some_slots)))
-          ∙ pool_opens e.sizes (opening_behind e.opening (b.log ∷ b.before)).values in
           let claimed : slice_index (arena_words e words o.arena) (slot_counter e.sizes) ≡ 0 =
           opens.each (slot_counter e.sizes) (omega (arith, some_slots, some_components)) (inl (omega (arith, some_slots)))
           ∙ slot_opens e.sizes (opening_behind e.opening (b.log ∷ b.before)).values some_slots in
-          let none = count_none (λ q. awaits_slot (fresh_part e.sizes q)) 0 e.ports (λ q. refl) in
-          omega (arith, free, claimed, none);
+          omega (arith, claimed);
     }
 
     held : (P : Epoch → Type 0) (y : ℕ) (r : Epoch) → b'.holds y ≡ Some r → (y ≡ o.arena → P (next_epoch e b)) → (y ≢ o.arena → b.holds y ≡ Some r → P r) → P r

@@ -1,5 +1,5 @@
 -- No machine is marked for the pool nor for the slots, and none is refused.
-use Rattle.partial_epochs.proofs.{Common.{Option, ℕ, ◌≡◌, ◌≢◌, ◌<◌, Bool, true, false, Some, List, refl, sym, ap, subst, ◌∙◌, inl, inr, arith, ◌||◌, Opening, all_at, Step, answer_of, words_after, Reply, CoreState, advance, reply_of, IsTied, IsMachineOf, Part, PartAmong, core_of, holdings, joined_since, put, Plan, arena_words, carried_words, component_words, placed_step, opening_behind, Control, Epoch, Port, Stands, Beside, IsArena, IsStanding, LawfulEpochs, HaveSlots, MachineLeads, MachinesAreNeverRefused, MarksNeverCome, holding_in, memory_at, PoolWords, Slots}, Lists.{Around, around_of, put_same}, Slots.pool_within}
+use Rattle.partial_epochs.proofs.{Common.{Option, ℕ, ◌≡◌, ◌≢◌, ◌<◌, Bool, true, false, Some, List, refl, sym, ap, subst, ◌∙◌, inl, inr, arith, ◌||◌, Opening, all_at, Step, answer_of, words_after, Reply, CoreState, advance, reply_of, IsTied, IsMachineOf, Part, PartAmong, core_of, holdings, joined_since, put, Plan, arena_words, carried_words, component_words, placed_step, opening_behind, Control, Epoch, Port, Stands, Beside, IsArena, IsStanding, LawfulEpochs, HaveSlots, MachineLeads, MachinesAreNeverRefused, MarksNeverCome, claims_no_more, holding_in, memory_at, PoolWords, Slots}, Lists.{Around, around_of, count_few, put_same}, Slots.pool_within}
 use Rattle.partial_model.specs.declared.call.Refused.{Refused}
 use Rattle.partial_machine.specs.Behind.{refuses_pool, refuses_slots}
 use Rattle.partial_core.specs.Lawful as one
@@ -43,10 +43,10 @@ module _ (e : Plan) (words : List ℕ) (ports : ℕ → Port) (b : Beside) (k : 
   core_unmarked =
       let within = pool_within e bw (component_words e words x) (carried_words e words x) r (x ≢ b.arena) w.plan arena in
       let claimed = arena.slots in
-      let opens = w.plan.sizes.pool.0 in
+      let few = count_few (λ q. claims_no_more (r.over q) (r.part q)) 0 e.ports in
       let marked = tied in (
         not_true (core_of (r.part k)).pool_spent (λ on. let past = marked.marked PoolWords on in omega (arith, past, within)),
-        not_true (core_of (r.part k)).slots_spent (λ on. let past = marked.marked Slots on in omega (arith, past, within, claimed, opens, have)),
+        not_true (core_of (r.part k)).slots_spent (λ on. let past = marked.marked Slots on in omega (arith, past, claimed, few, have)),
       )
 
   pub unmarked : (c : CoreState) → IsMachineOf c (ports k).part → (c.pool_spent ≡ false) × (c.slots_spent ≡ false)

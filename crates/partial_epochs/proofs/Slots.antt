@@ -1,5 +1,5 @@
--- Each slot that is claimed, or that a port has yet to claim, follows two words claimed of the pool.
-use Rattle.partial_epochs.proofs.{Common.{ℕ, ◌≡◌, ◌+◌, ◌*◌, ◌%◌, ◌^◌, ◌<◌, ◌≤◌, ◌==◌, ◌⊎◌, Bool, true, false, if◌then◌else◌, Option, Some, None, List, length, slice_index, refl, sym, ap, subst, ◌∙◌, inl, inr, arith, ⊤, nat_lt, is_some, option_map_or, get_or-set_same, get_or-set_other, mul-le-mul_left, some_same, Step, Load, Store, Exchange, Add, Layout, IsLayout, list_counter, pool_counter, pool_end, slot_counter, slot_word, greatest_record, words_after, CoreState, advance, advance_at, after_joining, at_stage, begin_getting, expects, fits_pool, getting, pool_refused, record_size, scanning, step_at, step_of, with_getting, with_scanning, is_at_rest, is_begun, IsSound, is_sound_at, IsMachineOf, Part, core_of, Plan, count, Epoch, IsArena, IsEpochPlan, awaits_at, awaits_slot, is_claiming, announcement_size, least_announcement, join_after, join_step, JoinStage, Claiming, Storing, Joined, Spent, Change, Stage, Idle, ReadBegun, LoadingValue, UpdateBegun, GettingSet, Viewing, ClaimingRecord, StoringRecord, Exchanging, ScanBegun, StoringAnnouncement, Joining, Scanning, Leaving, Finished, size_few, view_loads, Reply}, Apart.IsApart, Lists.count_few}
+-- Slots past the slot limit are claimed by ports that claim no more.
+use Rattle.partial_epochs.proofs.{Common.{ℕ, ◌≡◌, ◌+◌, ◌*◌, ◌%◌, ◌^◌, ◌<◌, ◌≤◌, ◌==◌, ◌⊎◌, Bool, true, false, if◌then◌else◌, Option, Some, None, List, length, slice_index, refl, sym, ap, subst, ◌∙◌, inl, inr, arith, ⊤, nat_lt, is_some, option_map_or, cases_lt, lt-ltb, get_or-set_same, get_or-set_other, mul-le-mul_left, some_same, Step, Load, Store, Exchange, Add, Layout, list_counter, pool_counter, pool_end, slot_counter, slot_word, greatest_record, words_after, CoreState, advance, advance_at, after_joining, at_stage, begin_getting, expects, getting, record_size, scanning, step_at, step_of, with_getting, with_scanning, is_at_rest, is_begun, IsSound, is_sound_at, IsMachineOf, Part, core_of, Plan, count, Epoch, IsArena, IsEpochPlan, awaits_at, awaits_slot, is_claiming, announcement_size, join_after, join_step, JoinStage, Claiming, Storing, Joined, Spent, Change, Stage, Idle, ReadBegun, LoadingValue, UpdateBegun, GettingSet, Viewing, ClaimingRecord, StoringRecord, Exchanging, ScanBegun, StoringAnnouncement, Joining, Scanning, Leaving, Finished, view_loads, Reply}, Apart.IsApart, Lists.count_few}
 use Rattle.partial_active.specs.declared.get_set.Stage.{Stage as SetStage}
 use Rattle.partial_active.specs.declared.get_set.Stage.TheVariants as set_stage
 use Rattle.partial_active.specs.GetSet as finding
@@ -67,78 +67,79 @@ goes_on : (o : Option Step) (s t : CoreState) → awaits s ≡ false → awaits 
 goes_on None s t h g = g
 goes_on (Some step) s t h g = h
 
-module _ (z : Layout) (sizes : IsLayout z) (words : List ℕ) (slots_there : slot_counter z < length words) (pool_there : pool_counter z < length words)
-    (slots_small : slice_index words (slot_counter z) < 2 ^ 32) (pool_small : slice_index words (pool_counter z) < 2 ^ 32) where
-  -- what a step leaves of the two counters
+-- whether a port that is over or not claims no more, where it awaits a slot or not
+abbrev pub done : Bool → Bool → Bool
+done over waits = if waits then false else over
+
+done_few : (over after waits : Bool) → (over ≡ true → after ≡ true) → one (done over waits) ≤ one after
+done_few over after true rises = omega arith
+done_few false after false rises = omega arith
+done_few true after false rises = let on : ◌≡◌ {A = ℕ} (one after) 1 = ap one (rises refl) in omega (arith, on)
+
+-- only a port that is not over claims words of the pool
+abbrev pub MayClaimWords : Layout → Bool → Step → Type 0
+MayClaimWords z over (Add w n) = w ≡ pool_counter z → over ≡ false
+MayClaimWords z over _ = ⊤
+
+module _ (z : Layout) (words : List ℕ) (slots_there : slot_counter z < length words) (limit : ℕ) (over after : Bool) (rises : over ≡ true → after ≡ true) where
+  -- the slots that are claimed after a step are within the limit, or it has added as many as ports that claim no more
   abbrev pub Counted : Bool → Bool → List ℕ → Type 0
-  Counted before behind words' =
-      least_announcement * (slice_index words' (slot_counter z) + one behind) + slice_index words (pool_counter z)
-      ≤ least_announcement * (slice_index words (slot_counter z) + one before) + slice_index words' (pool_counter z)
+  Counted before behind words' = (slice_index words' (slot_counter z) ≤ limit)
+      ⊎ (slice_index words' (slot_counter z) + one (done over before) ≤ slice_index words (slot_counter z) + one (done after behind))
 
-  counted_same : (words' : List ℕ) (b : Bool) → slice_index words' (slot_counter z) ≡ slice_index words (slot_counter z) → slice_index words' (pool_counter z) ≡ slice_index words (pool_counter z) →
-      Counted b false words'
-  counted_same words' b slots pool = omega (arith, slots, pool)
+  counted_same : (words' : List ℕ) (b : Bool) → slice_index words' (slot_counter z) ≡ slice_index words (slot_counter z) → Counted b false words'
+  counted_same words' b slots = let few = done_few over after b rises in inr (omega (arith, slots, few))
 
-  counted_on : (words' : List ℕ) (c : Bool) → slice_index words' (slot_counter z) ≡ slice_index words (slot_counter z) → slice_index words' (pool_counter z) ≡ slice_index words (pool_counter z) →
-      Counted true c words'
-  counted_on words' c slots pool = let few = one_few c in omega (arith, few, slots, pool)
+  counted_on : (words' : List ℕ) (c : Bool) → slice_index words' (slot_counter z) ≡ slice_index words (slot_counter z) → Counted true c words'
+  counted_on words' c slots = inr (omega (arith, slots))
 
-  -- a quiet step changes neither
-  quiet : (step : Step) → IsApart z step → IsQuiet z step →
-      (slice_index (words_after words step) (slot_counter z) ≡ slice_index words (slot_counter z)) × (slice_index (words_after words step) (pool_counter z) ≡ slice_index words (pool_counter z))
-  quiet (Load w) apart h = (refl, refl)
-  quiet (Store w v) apart h = (get_or-set_other words w (slot_counter z) v 0 (omega (arith, apart)), get_or-set_other words w (pool_counter z) v 0 (omega (arith, apart)))
-  quiet (Exchange w old new) apart h = (
-    get_or-set_other words w (slot_counter z) (if slice_index words w == old then new else slice_index words w) 0 (omega (arith, apart)),
-    get_or-set_other words w (pool_counter z) (if slice_index words w == old then new else slice_index words w) 0 (omega (arith, apart)),
-  )
-  quiet (Add w n) apart h = (
-    get_or-set_other words w (slot_counter z) ((slice_index words w + n) % 2 ^ 64) 0 (omega (arith, h)),
-    get_or-set_other words w (pool_counter z) ((slice_index words w + n) % 2 ^ 64) 0 (omega (arith, h)),
-  )
+  -- a quiet step claims no slot
+  quiet : (step : Step) → IsApart z step → IsQuiet z step → slice_index (words_after words step) (slot_counter z) ≡ slice_index words (slot_counter z)
+  quiet (Load w) apart h = refl
+  quiet (Store w v) apart h = get_or-set_other words w (slot_counter z) v 0 (omega (arith, apart))
+  quiet (Exchange w old new) apart h = get_or-set_other words w (slot_counter z) (if slice_index words w == old then new else slice_index words w) 0 (omega (arith, apart))
+  quiet (Add w n) apart h = get_or-set_other words w (slot_counter z) ((slice_index words w + n) % 2 ^ 64) 0 (omega (arith, h))
 
   quiet_none : (step : Step) (b : Bool) → IsApart z step → IsQuiet z step → Counted b false (words_after words step)
-  quiet_none step b apart h = let same = quiet step apart h in counted_same (words_after words step) b same.0 same.1
+  quiet_none step b apart h = counted_same (words_after words step) b (quiet step apart h)
 
   -- a claim of pool words
-  pool_claimed : (n : ℕ) (b : Bool) → n ≤ greatest_record z → (one b ≡ 0) ⊎ (2 ≤ n) → Counted false b (words_after words (Add (pool_counter z) n))
-  pool_claimed n b few some =
-      let m = sizes.components.1 in
-      let most = one_few b in
+  pool_claimed : (n : ℕ) (b : Bool) → over ≡ false → Counted false b (words_after words (Add (pool_counter z) n))
+  pool_claimed n b free =
+      let none : ◌≡◌ {A = ℕ} (one over) 0 = ap one free in
       let slots : slice_index (words_after words (Add (pool_counter z) n)) (slot_counter z) ≡ slice_index words (slot_counter z) =
       get_or-set_other words (pool_counter z) (slot_counter z) ((slice_index words (pool_counter z) + n) % 2 ^ 64) 0 (omega arith) in
-      let pool : slice_index (words_after words (Add (pool_counter z) n)) (pool_counter z) ≡ (slice_index words (pool_counter z) + n) % 2 ^ 64 =
-      get_or-set_same words (pool_counter z) ((slice_index words (pool_counter z) + n) % 2 ^ 64) 0 pool_there in
-      let is : (slice_index words (pool_counter z) + n) % 2 ^ 64 ≡ slice_index words (pool_counter z) + n = omega (arith, few, m, pool_small) in
-      omega (arith, slots, pool, is, most, some)
+      inr (omega (arith, none, slots))
 
   -- the claim of a slot
-  slot_claimed : Counted true false (words_after words (Add (slot_counter z) 1))
-  slot_claimed =
+  slot_claimed : (nat_lt limit (slice_index words (slot_counter z) + 1) ≡ true → after ≡ true) → Counted true false (words_after words (Add (slot_counter z) 1))
+  slot_claimed past =
       let slots : slice_index (words_after words (Add (slot_counter z) 1)) (slot_counter z) ≡ (slice_index words (slot_counter z) + 1) % 2 ^ 64 =
       get_or-set_same words (slot_counter z) ((slice_index words (slot_counter z) + 1) % 2 ^ 64) 0 slots_there in
-      let is : (slice_index words (slot_counter z) + 1) % 2 ^ 64 ≡ slice_index words (slot_counter z) + 1 = omega (arith, slots_small) in
-      let pool : slice_index (words_after words (Add (slot_counter z) 1)) (pool_counter z) ≡ slice_index words (pool_counter z) =
-      get_or-set_other words (slot_counter z) (pool_counter z) ((slice_index words (slot_counter z) + 1) % 2 ^ 64) 0 (omega arith) in
-      omega (arith, slots, is, pool)
+      let less : (slice_index words (slot_counter z) + 1) % 2 ^ 64 ≤ slice_index words (slot_counter z) + 1 = omega arith in
+      elim (cases_lt limit (slice_index words (slot_counter z) + 1)) [
+        | inl over_it ↦
+            let on : ◌≡◌ {A = ℕ} (one after) 1 = ap one (past (lt-ltb limit (slice_index words (slot_counter z) + 1) over_it)) in
+            inr (omega (arith, slots, less, on))
+        | inr within ↦ inl (omega (arith, slots, less, within))
+      ]
 
-module _ (s : CoreState) (sizes : IsLayout s.sizes) (sound : IsSound s) (words : List ℕ) (slots_there : slot_counter s.sizes < length words) (pool_there : pool_counter s.sizes < length words)
-    (slots_small : slice_index words (slot_counter s.sizes) < 2 ^ 32) (pool_small : slice_index words (pool_counter s.sizes) < 2 ^ 32) (x : ℕ) where
+module _ (s : CoreState) (sound : IsSound s) (words : List ℕ) (slots_there : slot_counter s.sizes < length words) (limit : ℕ) (over after : Bool)
+    (rises : over ≡ true → after ≡ true) (x : ℕ) where
   abbrev C : Bool → Bool → List ℕ → Type 0
-  C = Counted s.sizes sizes words slots_there pool_there slots_small pool_small
+  C = Counted s.sizes words slots_there limit over after rises
 
   silent : (t : Stage) (step : Step) (b : Bool) → awaits (advance_at s t x) ≡ false → IsApart s.sizes step → IsQuiet s.sizes step → C b (awaits (advance_at s t x)) (words_after words step)
-  silent t step b none apart h = subst (λ v. C b v (words_after words step)) (sym none) (quiet_none s.sizes sizes words slots_there pool_there slots_small pool_small step b apart h)
+  silent t step b none apart h = subst (λ v. C b v (words_after words step)) (sym none) (quiet_none s.sizes words slots_there limit over after rises step b apart h)
 
-  claims_pool : (t : Stage) (n : ℕ) → n ≤ greatest_record s.sizes → (one (awaits (advance_at s t x)) ≡ 0) ⊎ (2 ≤ n) →
-      C false (awaits (advance_at s t x)) (words_after words (Add (pool_counter s.sizes) n))
-  claims_pool t n few some = pool_claimed s.sizes sizes words slots_there pool_there slots_small pool_small n (awaits (advance_at s t x)) few some
+  claims_pool : (t : Stage) (n : ℕ) (step : Step) → Add (pool_counter s.sizes) n ≡ step → MayClaimWords s.sizes over step → C false (awaits (advance_at s t x)) (words_after words step)
+  claims_pool t n step is may =
+      let free : over ≡ false = subst (MayClaimWords s.sizes over) (sym is) may refl in
+      subst (λ (u : Step). C false (awaits (advance_at s t x)) (words_after words u)) is (pool_claimed s.sizes words slots_there limit over after rises n (awaits (advance_at s t x)) free)
 
   -- where the port awaits a slot before, a quiet step may leave what it will
   loud : (t : Stage) (step : Step) → IsApart s.sizes step → IsQuiet s.sizes step → C true (awaits (advance_at s t x)) (words_after words step)
-  loud t step apart h =
-      let same = quiet s.sizes sizes words slots_there pool_there slots_small pool_small step apart h in
-      counted_on s.sizes sizes words slots_there pool_there slots_small pool_small (words_after words step) (awaits (advance_at s t x)) same.0 same.1
+  loud t step apart h = counted_on s.sizes words slots_there limit over after rises (words_after words step) (awaits (advance_at s t x)) (quiet s.sizes words slots_there limit over after rises step apart h)
 
   begins_getting : (c : Change) (old : ℕ) → awaits (begin_getting s c old) ≡ false
   begins_getting c old = refl
@@ -153,65 +154,63 @@ module _ (s : CoreState) (sizes : IsLayout s.sizes) (sound : IsSound s) (words :
   claimed_none true = refl
   claimed_none false = refl
 
-  joining : (j : JoinStage) → s.join.stage ≡ j → s.stage ≡ Joining → s.join.sizes ≡ s.sizes → (step : Step) → join_step s.join.sizes s.join.announcement j ≡ Some step → IsApart s.sizes step →
+  -- where the step claims a slot past the limit the port is over
+  abbrev Passes : Step → Type 0
+  Passes step = step ≡ Add (slot_counter s.sizes) 1 → nat_lt limit (slice_index words (slot_counter s.sizes) + 1) ≡ true → after ≡ true
+
+  joining : (j : JoinStage) → s.join.stage ≡ j → s.stage ≡ Joining → s.join.sizes ≡ s.sizes → (step : Step) → join_step s.join.sizes s.join.announcement j ≡ Some step → IsApart s.sizes step → Passes step →
       C (is_claiming j) (awaits (after_joining (record s { join = record s.join { stage = join_after s.join.sizes j x } }) (join_after s.join.sizes j x))) (words_after words step)
-  joining Claiming at is same step due apart =
+  joining Claiming at is same step due apart past =
       let none = joined_none (if nat_lt x s.join.sizes.slots then Storing x else Spent) (claimed_none (nat_lt x s.join.sizes.slots)) is in
+      let here = some_same (ap (λ (y : Layout). Some (Add (slot_counter y) 1)) (sym same) ∙ due) in
       subst (λ v. C true v (words_after words step)) (sym none)
-      (subst (λ (t : Step). C true false (words_after words t)) (some_same (ap (λ (y : Layout). Some (Add (slot_counter y) 1)) (sym same) ∙ due))
-      (slot_claimed s.sizes sizes words slots_there pool_there slots_small pool_small))
-  joining (Storing slot) at is same step due apart =
+      (subst (λ (t : Step). C true false (words_after words t)) here (slot_claimed s.sizes words slots_there limit over after rises (past (sym here))))
+  joining (Storing slot) at is same step due apart past =
       let h : IsQuiet s.sizes step = subst (IsQuiet s.sizes) (some_same due) tt in
-      subst (λ v. C false v (words_after words step)) (sym (joined_none (Joined slot) refl is)) (quiet_none s.sizes sizes words slots_there pool_there slots_small pool_small step false apart h)
-  joining (Joined slot) at is same step due apart = absurd cc
-  joining Spent at is same step due apart = absurd cc
+      subst (λ v. C false v (words_after words step)) (sym (joined_none (Joined slot) refl is)) (quiet_none s.sizes words slots_there limit over after rises step false apart h)
+  joining (Joined slot) at is same step due apart past = absurd cc
+  joining Spent at is same step due apart past = absurd cc
 
   leaving_quiet : (b : Bool) (w : ℕ) (step : Step) → (if b then None else Some (Store w 1)) ≡ Some step → IsQuiet s.sizes step
   leaving_quiet true w step e = absurd cc
   leaving_quiet false w step e = subst (IsQuiet s.sizes) (some_same e) tt
 
-  counted_at : (t : Stage) → s.stage ≡ t → is_sound_at s t → (step : Step) → step_at s t ≡ Some step → IsApart s.sizes step → C (awaits_at s t) (awaits (advance_at s t x)) (words_after words step)
-  counted_at Idle is here step due apart = absurd cc
-  counted_at (ReadBegun j) is here step due apart = silent (ReadBegun j) step false refl apart (subst (IsQuiet s.sizes) (some_same due) tt)
-  counted_at (LoadingValue stamp) is here step due apart = silent (LoadingValue stamp) step false refl apart (subst (IsQuiet s.sizes) (some_same due) tt)
-  counted_at (UpdateBegun c) is here step due apart = silent (UpdateBegun c) step false (either_none (expects c x) (begin_getting s c x) (at_stage s (Finished (Reply.Changed x))) refl refl) apart
+  counted_at : (t : Stage) → s.stage ≡ t → is_sound_at s t → (step : Step) → step_at s t ≡ Some step → IsApart s.sizes step → MayClaimWords s.sizes over step → Passes step → C (awaits_at s t) (awaits (advance_at s t x)) (words_after words step)
+  counted_at Idle is here step due apart may past = absurd cc
+  counted_at (ReadBegun j) is here step due apart may past = silent (ReadBegun j) step false refl apart (subst (IsQuiet s.sizes) (some_same due) tt)
+  counted_at (LoadingValue stamp) is here step due apart may past = silent (LoadingValue stamp) step false refl apart (subst (IsQuiet s.sizes) (some_same due) tt)
+  counted_at (UpdateBegun c) is here step due apart may past = silent (UpdateBegun c) step false (either_none (expects c x) (begin_getting s c x) (at_stage s (Finished (Reply.Changed x))) refl refl) apart
       (subst (IsQuiet s.sizes) (some_same due) tt)
-  counted_at (GettingSet c old) is here step due apart =
+  counted_at (GettingSet c old) is here step due apart may past =
       let t : CoreState = with_getting s (finding.advance_set (getting s) x) in
       silent (GettingSet c old) step false
       (goes_on (finding.set_step_due t.get_set) t (record t { embedded = viewing.fresh_view t.sizes true; stage = (if length t.found.indices == 0 then ClaimingRecord c old else Viewing c old) })
       (ap (awaits_at t) is)
       (stage_none (length t.found.indices == 0) (record t { embedded = viewing.fresh_view t.sizes true }) (ClaimingRecord c old) (Viewing c old) refl refl)) apart
       (subst (λ (y : Layout). IsQuiet y step) here.2 (getting_quiet s.get_set.sizes s.get_set.head s.get_set.stage step due))
-  counted_at (Viewing c old) is here step due apart =
+  counted_at (Viewing c old) is here step due apart may past =
       let t : CoreState = with_scanning s (viewing.advance_view s.found.indices (scanning s) x) in
       silent (Viewing c old) step false (goes_on (viewing.view_step_due s.found.indices (scanning t)) t (at_stage t (ClaimingRecord c old)) (ap (awaits_at t) is) refl) apart
       (viewing_quiet s.sizes s.embedded.sizes s.found.indices s.rows.last s.embedded.stage step due)
-  counted_at (ClaimingRecord c old) is here step due apart =
-      let size = size_few s sound.indices.few in
-      let none = either_none (fits_pool s.sizes (record_size s) x) (at_stage s (StoringRecord c old x 0)) (pool_refused s) refl refl in
-      subst (λ (u : Step). C false (awaits (advance_at s (ClaimingRecord c old) x)) (words_after words u)) (some_same due)
-      (claims_pool (ClaimingRecord c old) (record_size s) size.1 (inl (ap one none)))
-  counted_at (StoringRecord c old at k) is here step due apart = silent (StoringRecord c old at k) step false
+  counted_at (ClaimingRecord c old) is here step due apart may past =
+      claims_pool (ClaimingRecord c old) (record_size s) step (some_same due) may
+  counted_at (StoringRecord c old at k) is here step due apart may past = silent (StoringRecord c old at k) step false
       (stage_none (k + 1 == record_size s) s (Exchanging c old at) (StoringRecord c old at (k + 1)) refl refl) apart (subst (IsQuiet s.sizes) (some_same due) tt)
-  counted_at (Exchanging c old at) is here step due apart = silent (Exchanging c old at) step false refl apart (subst (IsQuiet s.sizes) (some_same due) tt)
-  counted_at ScanBegun is here step due apart =
-      let few = sound.asked.few in
-      let some = here.0 in
-      subst (λ (u : Step). C false (awaits (advance_at s ScanBegun x)) (words_after words u)) (some_same due)
-      (claims_pool ScanBegun (announcement_size (length s.asked)) (omega (arith, few)) (inr (omega (arith, some))))
-  counted_at (StoringAnnouncement at k) is here step due apart = loud (StoringAnnouncement at k) step apart (subst (IsQuiet s.sizes) (some_same due) tt)
-  counted_at Joining is here step due apart = joining s.join.stage refl is here.2 step due apart
-  counted_at Scanning is here step due apart =
+  counted_at (Exchanging c old at) is here step due apart may past = silent (Exchanging c old at) step false refl apart (subst (IsQuiet s.sizes) (some_same due) tt)
+  counted_at ScanBegun is here step due apart may past =
+      claims_pool ScanBegun (announcement_size (length s.asked)) step (some_same due) may
+  counted_at (StoringAnnouncement at k) is here step due apart may past = loud (StoringAnnouncement at k) step apart (subst (IsQuiet s.sizes) (some_same due) tt)
+  counted_at Joining is here step due apart may past = joining s.join.stage refl is here.2 step due apart past
+  counted_at Scanning is here step due apart may past =
       let t : CoreState = with_scanning s (viewing.advance_view s.asked (scanning s) x) in
       silent Scanning step false (goes_on (viewing.view_step_due s.asked (scanning t)) t (at_stage t Leaving) (ap (awaits_at t) is) refl) apart
       (viewing_quiet s.sizes s.embedded.sizes s.asked s.rows.last s.embedded.stage step due)
-  counted_at Leaving is here step due apart = silent Leaving step false refl apart (leaving_quiet s.leave.left (slot_word s.leave.sizes s.leave.slot) step due)
-  counted_at (Finished r) is here step due apart = absurd cc
+  counted_at Leaving is here step due apart may past = silent Leaving step false refl apart (leaving_quiet s.leave.left (slot_word s.leave.sizes s.leave.slot) step due)
+  counted_at (Finished r) is here step due apart may past = absurd cc
 
-  -- what the due step leaves of the two counters
-  pub counted : (step : Step) → step_of s ≡ Some step → IsApart s.sizes step → C (awaits s) (awaits (advance s x)) (words_after words step)
-  counted step due apart = counted_at s.stage refl sound.stage step due apart
+  -- what the due step leaves of the slot counter
+  pub counted : (step : Step) → step_of s ≡ Some step → IsApart s.sizes step → MayClaimWords s.sizes over step → Passes step → C (awaits s) (awaits (advance s x)) (words_after words step)
+  counted step due apart may past = counted_at s.stage refl sound.stage step due apart may past
 
 -- what is claimed of the pool lies within it
 pub pool_within : (e : Plan) (words components carried : List ℕ) (r : Epoch) (f : Type 0) → IsEpochPlan e → IsArena e words components carried r f →

@@ -11,11 +11,10 @@ use Rattle.partial_machine.specs.declared.stage.Stage.TheVariants.{StoringAnnoun
 use Rattle.partial_machine.specs.Machine.{CoreState}
 use Rattle.partial_core.specs.Part.{Part, core_of, port_of, fresh_part}
 use Rattle.partial_words.specs.Chain.{opening_word}
-use Rattle.partial_words.specs.Announcement.{least_announcement}
 use Rattle.partial_core.specs.Lawful.{Lawful}
 use Rattle.partial_core.specs.Lawful as one
 use Rattle.partial_epochs.specs.Lists.{list_of, count}
-use Rattle.partial_epochs.specs.Layout.{arena_limit, Plan, Place, packed, current_word, control_words, component_words, carried_words, whole, seals, IsSealed, IsToBeSet, arena_words, base, set_offset, set_word}
+use Rattle.partial_epochs.specs.Layout.{arena_limit, Plan, Place, packed, current_word, control_words, component_words, carried_words, whole, slot_limit, seals, IsSealed, IsToBeSet, arena_words, base, set_offset, set_word}
 use Rattle.partial_epochs.specs.History.{opening_behind, carried_behind}
 use Rattle.partial_epochs.specs.Ports.{OwnedArena, Control, Port, Epoch}
 use Rattle.partial_epochs.specs.Control.{LawfulControl}
@@ -80,6 +79,10 @@ awaits_at s _ = false
 abbrev pub awaits_slot : Part → Bool
 awaits_slot x = awaits_at (core_of x) (core_of x).stage
 
+-- whether a port that is over has claimed its last slot too
+abbrev pub claims_no_more : Bool → Part → Bool
+claims_no_more over x = if awaits_slot x then false else over
+
 -- What is so of an arena that holds the epoch r: of its words without the seals, its component words with them, and its
 -- carried stamps.
 pub record IsArena (e : Plan) (words components carried : List ℕ) (r : Epoch) (finished : Type 0) : Type 0 where
@@ -97,10 +100,8 @@ pub record IsArena (e : Plan) (words components carried : List ℕ) (r : Epoch) 
   pub sealed : finished → (j : ℕ) → j < e.sizes.m → IsSealed (slice_index components j)
   -- claims that end past the limit are those of ports that make no more
   pub reserve : slice_index words (pool_counter e.sizes) ≤ e.limit + greatest_record e.sizes * count r.over 0 e.ports
-  -- the words of an announcement were claimed for each slot that is claimed, and for each that a port has yet to claim
-  pub slots : first_free e.sizes + least_announcement * (slice_index words (slot_counter e.sizes)
-      + count (λ k. awaits_slot (r.part k)) 0 e.ports)
-      ≤ slice_index words (pool_counter e.sizes)
+  -- slots past the slot limit are those of ports that claim no more
+  pub slots : slice_index words (slot_counter e.sizes) ≤ slot_limit e + count (λ k. claims_no_more (r.over k) (r.part k)) 0 e.ports
 
 -- a port that stands in an epoch has its own part there
 pub record IsStanding (b : Beside) (k : ℕ) (p : Port) : Type 0 where

@@ -25,6 +25,10 @@ pub record Place : Type 0 where
   pub epoch : ℕ
   pub arena : ℕ
 
+-- so many slots of an arena are claimed before a port's claim of one is its last in the epoch: one for each port is left
+abbrev pub slot_limit : Plan → ℕ
+slot_limit e = e.sizes.slots - e.ports
+
 -- there are at most so many arenas, so that a place is the number of its epoch and of its arena in one word
 abbrev pub arena_limit : ℕ
 arena_limit = 65536

@@ -1,19 +1,18 @@
 -- The steps of a port's machine, made in the arena where the port stands.
-use Rattle.std.specs.Prelude.{ℕ, ◌+◌, ◌*◌, ◌<◌, ◌≤◌, ◌==◌, nat_lt, Bool, List, [], slice_index, ◌++◌, length, ◌≡◌, ◌≢◌, ◌⊎◌, ⊤, Some, false, ◌&&◌, ◌||◌}
-use Rattle.partial_words.specs.Layout.{pool_counter, pool_end, greatest_record, initial_words}
+use Rattle.std.specs.Prelude.{ℕ, ◌+◌, ◌<◌, ◌≤◌, ◌==◌, nat_lt, Bool, List, [], slice_index, ◌++◌, length, ◌≡◌, ◌≢◌, ◌⊎◌, ⊤, Some, false, ◌&&◌, ◌||◌}
+use Rattle.partial_words.specs.Layout.{pool_counter, pool_end, greatest_record, slot_counter}
 use Rattle.partial_words.specs.declared.step.Step.{Step}
 use Rattle.partial_words.specs.declared.step.Step.TheVariants.{Exchange, Add}
 use Rattle.std.specs.List.{AllByRecursion}
 use Rattle.partial_model.specs.declared.history.Applied.{Applied}
 use Rattle.partial_core.specs.Part.{IsMachineOf}
 use Rattle.partial_words.specs.Step.{answer_of, word_of, words_after}
-use Rattle.partial_words.specs.Announcement.{least_announcement}
 use Rattle.partial_model.specs.declared.call.Refused.{Refused}
 use Rattle.partial_machine.specs.declared.stage.Reply.{Reply}
 use Rattle.partial_machine.specs.Machine.{CoreState, advance, reply_of, step_of}
 use Rattle.partial_core.specs.Steps.{Tells}
 use Rattle.partial_epochs.specs.Lists.{put}
-use Rattle.partial_epochs.specs.Layout.{Plan, component_words, unsealed, IsSealed, plain, arena_words, placed_step}
+use Rattle.partial_epochs.specs.Layout.{Plan, component_words, unsealed, IsSealed, plain, arena_words, placed_step, slot_limit}
 use Rattle.partial_epochs.specs.History.{opening_behind}
 use Rattle.partial_epochs.specs.Ports.{Port}
 use Rattle.partial_epochs.specs.Epochs.{Beside, IsStanding, LawfulEpochs, IsPresent}
@@ -31,9 +30,10 @@ MeetsSeal e components (Exchange w old new) =
     (w < e.sizes.m) × IsSealed (slice_index components w) × (unsealed (slice_index components w) ≡ old)
 MeetsSeal e components _ = ⊥
 
--- whether the step is a claim of the pool that ends past the limit
+-- whether the step is a claim that ends past its limit, of the pool or of the slots
 abbrev pub ends_over : Plan → List ℕ → Step → Bool
-ends_over e words (Add w n) = (w == pool_counter e.sizes) && nat_lt e.limit (slice_index words w + n)
+ends_over e words (Add w n) = ((w == pool_counter e.sizes) && nat_lt e.limit (slice_index words w + n))
+    || ((w == slot_counter e.sizes) && nat_lt (slot_limit e) (slice_index words w + n))
 ends_over e words _ = false
 
 -- a port that has made such a claim makes no further claim of the pool
@@ -84,9 +84,9 @@ ClaimsHaveRoom = (e : Plan) (words : List ℕ) (ports : ℕ → Port) (b : Besid
     (ports k).control.entering ≡ Stands → (ports k).over ≡ false →
     slice_index (arena_words e words (ports k).control.here.arena) (pool_counter e.sizes) + greatest_record e.sizes ≤ pool_end e.sizes
 
--- the pool after the initial records has no room for more announcements than there are slots
+-- there is a slot for each port, so that one is left for each after the slot limit
 abbrev pub HaveSlots : Plan → Type 0
-HaveSlots e = e.sizes.pool ≤ least_announcement * e.sizes.slots + initial_words e.sizes
+HaveSlots e = e.ports ≤ e.sizes.slots
 
 -- no machine of a port that stands is marked for the pool, nor for the slots
 abbrev pub MarksNeverCome : Type 0

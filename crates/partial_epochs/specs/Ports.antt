@@ -42,7 +42,7 @@ pub record Port : Type 0 where
   pub part : Part
   -- how many components it has passed there in a change of epoch: each of them is sealed
   pub passed : ℕ
-  -- it has made a claim there that ends past the limit
+  -- it has made a claim there that ends past its limit, of pool words or of a slot
   pub over : Bool
   -- the epochs before that one, the last one first
   pub before : List (List Applied)
@@ -58,5 +58,5 @@ pub record Epoch : Type 0 where
   pub part : ℕ → Part
   -- how many components each port has passed
   pub passed : ℕ → ℕ
-  -- whether each port has made a claim past the limit
+  -- whether each port has made a claim past a limit
   pub over : ℕ → Bool

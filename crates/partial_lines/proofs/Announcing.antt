@@ -1,5 +1,6 @@
 -- The announcement of a scan in straight lines: which store is due, and where its answer leads.
-use Rattle.partial_lines.proofs.Common.{ℕ, lt-ltb, ◌≡◌, ◌+◌, ◌<◌, ◌≤◌, ◌==◌, Bool, true, false, if◌then◌else◌, length, Some, refl, sym, ap, ◌∙◌, arith, slice_index, ne_eqb, eq-eqb, eqb-true, eqb-false, le-ltb, pool_end, Stage, ScanBegun, StoringAnnouncement, CoreState, advance, advance_at, at_stage, begin_joining, pool_refused, step_of, announcing_scan, Store, announcement_block, announcement_size}
+use Rattle.partial_words.specs.Layout.{slot_counter}
+use Rattle.partial_lines.proofs.Common.{ℕ, lt-ltb, ◌≡◌, ◌+◌, ◌<◌, ◌≤◌, ◌==◌, Bool, true, false, if◌then◌else◌, length, Some, refl, sym, ap, ◌∙◌, arith, slice_index, ne_eqb, eq-eqb, eqb-true, eqb-false, le-ltb, pool_end, Stage, ScanBegun, StoringAnnouncement, CoreState, advance, advance_at, at_stage, begin_joining, pool_refused, step_of, announcing_scan, Add, Store, announcement_block, announcement_size}
 
 abbrev either : CoreState → ℕ → ℕ → Bool → CoreState
 either s at k b = if b then begin_joining s at else at_stage s (StoringAnnouncement at k)
@@ -33,3 +34,7 @@ pub fitting : (s d : CoreState) (at : ℕ) → d ≡ advance s at → s.stage �
 fitting s d at is begun within =
     is ∙ ap (λ (t : Stage). advance_at s t at) begun ∙ ap (λ (b : Bool). if b then at_stage s (StoringAnnouncement at 0) else pool_refused s)
     (lt-ltb (at + announcement_size (length s.asked)) (pool_end s.sizes + 1) (omega (arith, within)))
+
+-- after the last store the claim of a slot is due
+pub slot_due : (s d : CoreState) (at : ℕ) → d ≡ begin_joining s at → (w : ℕ) → w ≡ slot_counter s.sizes → step_of d ≡ Some (Add w 1)
+slot_due s d at is w here = ap step_of is ∙ ap (λ v. Some (Add v 1)) (sym here)

@@ -17,4 +17,4 @@ pub use get_set::SetSteps;
 pub use makes::Makes;
 pub use update::{PutBegun, begin_put, put, put_found};
 pub use whole_read::read;
-pub use whole_scan::{Scanned, scan};
+pub use whole_scan::{Scanned, announce, scan, scan_claimed};

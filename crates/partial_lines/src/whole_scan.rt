@@ -64,7 +64,40 @@ pub fn scan<M: Makes>(
         return Ok(Err(Refused::PoolSpent));
     }
     announce(lines, which, at, size)?;
-    let Some(slot) = join(lines, sizes, at)? else {
+    let found = lines.make(Step::Add(sizes.slot_counter(), 1))?;
+    scan_claimed(lines, core, which, at, found, into)
+}
+
+/// Makes a scan of these positions after the claim of its slot, which was answered with `found`. Its announcement is
+/// stored at `at`.
+///
+/// # Errors
+/// As those of [`scan`], but that the pool has had room.
+#[inline(always)]
+pub fn scan_claimed<M: Makes>(
+    lines: &mut M,
+    core: &mut Core,
+    which: &[u32],
+    at: u64,
+    found: u64,
+    into: &mut [u64],
+) -> Result<Result<Scanned, Refused>, M::Break>
+    requires goes { M.goes lines.old }
+    requires idle { core.old.stage ≡ Idle }
+    requires sound { IsSound core.old }
+    requires machine { M.machine lines.old ≡ advance (begin_joining (scan_asked core.old which.now) at) found }
+    requires lengths { length into.old ≡ length which.now }
+    ensures goes { M.goes lines.new }
+    ensures leads { M.leads lines.old lines.new }
+    ensures replies { IfOk result (λ made. reply_of (M.machine lines.new) ≡ Some (scan_reply made)) }
+    ensures asked { OnOk result ((M.machine lines.new).asked ≡ which.now) }
+    ensures rows { OnOk result (core.new.rows ≡ (M.machine lines.new).rows) }
+    ensures rests { OnOk result (RestsLike (M.machine lines.new) core.new) }
+    ensures copied { IfOk result (λ made. IfOk made (λ _.
+        into.new ≡ map (slice_index core.new.rows.values) which.now)) }
+    ensures unchanged { IfOk result (λ made. IfErr made (λ _. into.new ≡ into.old)) }
+{
+    let Some(slot) = join(lines, core, which, at, found)? else {
         core.mark_slots();
         return Ok(Err(Refused::SlotsSpent));
     };
@@ -104,9 +137,10 @@ fn scan_joined<M: Makes>(
     })
 }
 
-// Stores the announcement of these positions, of `size` words, in the block that begins at word `at`.
+/// Stores the announcement of these positions, of `size` words, in the block that begins at word `at`. Then the claim of a
+/// slot is due. It is broken off as [`scan`] is.
 #[inline(always)]
-fn announce<M: Makes>(lines: &mut M, which: &[u32], at: u64, size: u64) -> Result<(), M::Break>
+pub fn announce<M: Makes>(lines: &mut M, which: &[u32], at: u64, size: u64) -> Result<(), M::Break>
     requires goes { M.goes lines.old }
     requires asked { (M.machine lines.old).asked ≡ which.now }
     requires stage { (M.machine lines.old).stage ≡ StoringAnnouncement at 0 }
@@ -139,21 +173,27 @@ fn store_index<M: Makes>(lines: &mut M, which: &[u32], at: u64, k: u64) -> Resul
     Ok(())
 }
 
-// Joins the active set with the announcement at word `at`. Returns its slot, or `None` when no slot is
-// left.
+// Joins the active set with the announcement at word `at`, after the claim of a slot, which was answered with `found`.
+// Returns the slot, or `None` when no slot is left.
 #[inline(always)]
-fn join<M: Makes>(lines: &mut M, sizes: Sizes, at: u64) -> Result<Option<u32>, M::Break>
+fn join<M: Makes>(
+    lines: &mut M,
+    core: &Core,
+    which: &[u32],
+    at: u64,
+    found: u64,
+) -> Result<Option<u32>, M::Break>
     requires goes { M.goes lines.old }
-    requires sizes { (M.machine lines.old).sizes ≡ sizes }
-    requires machine { M.machine lines.old ≡ begin_joining (M.machine lines.old) at }
+    requires machine { M.machine lines.old ≡ advance (begin_joining (scan_asked core.now which.now) at) found }
     ensures goes { M.goes lines.new }
     ensures leads { M.leads lines.old lines.new }
-    ensures slot { IfOk result (λ joined. IfSome joined (λ slot. slot < sizes.slots)) }
+    ensures slot { IfOk result (λ joined. IfSome joined (λ slot. slot < core.now.sizes.slots)) }
     ensures joined { IfOk result (λ joined. IfSome joined (λ slot.
-        M.machine lines.new ≡ at_stage (scan_begun (scan_joined (M.machine lines.old) at slot) false) Scanning)) }
-    ensures spent { IfOk result (λ joined. IfNone joined (M.machine lines.new ≡ not_joined (M.machine lines.old) at)) }
+        M.machine lines.new ≡ at_stage (scan_begun (scan_joined (scan_asked core.now which.now) at slot) false) Scanning)) }
+    ensures spent { IfOk result (λ joined. IfNone joined (
+        M.machine lines.new ≡ not_joined (scan_asked core.now which.now) at)) }
 {
-    let found = lines.make(Step::Add(sizes.slot_counter(), 1))?;
+    let sizes = core.sizes();
     if found >= u64::from(sizes.slots()) {
         return Ok(None);
     }

@@ -1,11 +1,12 @@
 -- A machine claims words of the pool once in a call.
-use Rattle.partial_long_lived.proofs.Common.{ℕ, ◌≡◌, ◌+◌, ◌≤◌, ◌==◌, ◌⊎◌, Bool, true, false, if◌then◌else◌, Option, Some, None, List, length, refl, sym, ap, subst, ◌∙◌, inl, inr, arith, option_map_or, some_same, Step, Load, Store, Exchange, Add, Layout, list_counter, list_head, pool_counter, slot_counter, slot_word, Change, Stage, Idle, ReadBegun, LoadingValue, UpdateBegun, GettingSet, Viewing, ClaimingRecord, StoringRecord, Exchanging, ScanBegun, StoringAnnouncement, Joining, Scanning, Leaving, Finished, CoreState, advance, advance_at, after_joining, at_stage, begin_getting, begin_joining, expects, fits_pool, getting, pool_refused, record_size, step_at, step_of, with_getting, IsSound, is_sound_at, LeavesComponents, before_claim, record_claim, announcement_size, IsQuiet, Reply}
+use Rattle.partial_long_lived.proofs.Common.{ℕ, ◌≡◌, ◌+◌, ◌≤◌, ◌==◌, ◌⊎◌, Bool, true, false, if◌then◌else◌, Option, Some, None, List, length, refl, sym, ap, subst, ◌∙◌, inl, inr, arith, option_map_or, some_same, Step, Load, Store, Exchange, Add, Layout, list_counter, list_head, pool_counter, slot_counter, slot_word, Change, Stage, Idle, ReadBegun, LoadingValue, UpdateBegun, GettingSet, Viewing, ClaimingRecord, StoringRecord, Exchanging, ScanBegun, StoringAnnouncement, Joining, Scanning, Leaving, Finished, CoreState, advance, advance_at, after_joining, at_stage, begin_getting, begin_joining, expects, fits_pool, getting, pool_refused, record_size, step_at, step_of, with_getting, IsSound, is_sound_at, LeavesComponents, awaits, awaits_at, is_claiming, nat_lt, word_of, before_claim, record_claim, announcement_size, IsQuiet, Reply}
+use Rattle.partial_machine.specs.Machine.{scanning, with_scanning}
 use Rattle.partial_active.specs.declared.join.JoinStage.{JoinStage}
 use Rattle.partial_active.specs.declared.join.JoinStage.TheVariants.{Claiming, Storing, Joined, Spent}
 use Rattle.partial_active.specs.declared.get_set.Stage.{Stage as SetStage}
 use Rattle.partial_active.specs.declared.get_set.Stage.TheVariants as set
 use Rattle.partial_active.specs.GetSet as finding
-use Rattle.partial_active.specs.Join.{join_step}
+use Rattle.partial_active.specs.Join.{join_after, join_step}
 use Rattle.partial_embedded.specs.Embedded as viewing
 use Rattle.partial_embedded.specs.declared.embedded.Stage.{Stage as ScanStage}
 use Rattle.partial_embedded.specs.declared.embedded.Stage.TheVariants as scan
@@ -52,6 +53,49 @@ unclaimed_before s x = by s.stage refl
     by Scanning is h = never _ Scanning (scans _ _ Scanning Leaving is refl refl) h
     by Leaving is h = h
     by (Finished r) is h = sym (ap before_claim is) ∙ h
+
+-- a machine that has no slot to claim, behind its claim of the pool, has none to claim then
+pub unawaited : (s : CoreState) (x : ℕ) → before_claim s.stage ≡ false → awaits s ≡ false → awaits (advance s x) ≡ false
+unawaited s x = by s.stage refl
+  where
+    stage_none : (b : Bool) (s : CoreState) (t u : Stage) → awaits_at s t ≡ false → awaits_at s u ≡ false → awaits_at s (if b then t else u) ≡ false
+    stage_none true s t u h g = h
+    stage_none false s t u h g = g
+
+    scans : (s : CoreState) (o : Option Step) (a b : Stage) → s.stage ≡ a → awaits_at s a ≡ false → awaits (at_stage s b) ≡ false → awaits (option_map_or (λ _. s) o (at_stage s b)) ≡ false
+    scans s None a b is p q = q
+    scans s (Some u) a b is p q = ap (awaits_at s) is ∙ p
+
+    joins : (s : CoreState) (j : JoinStage) → s.stage ≡ Joining → s.join.stage ≡ j → is_claiming j ≡ false → awaits (after_joining s j) ≡ false
+    joins s Claiming is at none = absurd cc
+    joins s (Storing slot) is at none = ap (awaits_at s) is ∙ ap is_claiming at
+    joins s (Joined slot) is at none = refl
+    joins s Spent is at none = refl
+
+    joined : (j : JoinStage) → s.join.stage ≡ j → s.stage ≡ Joining → is_claiming j ≡ false → awaits (advance_at s Joining x) ≡ false
+    joined Claiming at is none = absurd cc
+    joined (Storing slot) at is none = subst (λ (j : JoinStage). awaits (after_joining (record s { join = record s.join { stage = join_after s.join.sizes j x } }) (join_after s.join.sizes j x)) ≡ false) (sym at) refl
+    joined (Joined slot) at is none = subst (λ (j : JoinStage). awaits (after_joining (record s { join = record s.join { stage = join_after s.join.sizes j x } }) (join_after s.join.sizes j x)) ≡ false) (sym at) refl
+    joined Spent at is none = subst (λ (j : JoinStage). awaits (after_joining (record s { join = record s.join { stage = join_after s.join.sizes j x } }) (join_after s.join.sizes j x)) ≡ false) (sym at) refl
+
+    by : (t : Stage) → s.stage ≡ t → before_claim t ≡ false → awaits_at s t ≡ false → awaits (advance_at s t x) ≡ false
+    by Idle is b h = ap (awaits_at s) is
+    by (ReadBegun j) is b h = refl
+    by (LoadingValue stamp) is b h = refl
+    by (UpdateBegun c) is b h = absurd cc
+    by (GettingSet c old) is b h = absurd cc
+    by (Viewing c old) is b h = absurd cc
+    by (ClaimingRecord c old) is b h = absurd cc
+    by (StoringRecord c old at k) is b h = stage_none (k + 1 == record_size s) s (Exchanging c old at) (StoringRecord c old at (k + 1)) refl refl
+    by (Exchanging c old at) is b h = refl
+    by ScanBegun is b h = absurd cc
+    by (StoringAnnouncement at k) is b h = absurd cc
+    by Joining is b h = joined s.join.stage refl is h
+    by Scanning is b h =
+        let t : CoreState = with_scanning s (viewing.advance_view s.asked (scanning s) x) in
+        scans t (viewing.view_step_due s.asked (scanning t)) Scanning Leaving is refl refl
+    by Leaving is b h = refl
+    by (Finished r) is b h = ap (awaits_at s) is
 
 -- where a record lies that is claimed: it has just been claimed there, or was before
 pub claimed_from : (s : CoreState) (x at : ℕ) → record_claim (advance s x).stage ≡ Some at → ((c : Change) × (old : ℕ) × (s.stage ≡ ClaimingRecord c old) × (at ≡ x)) ⊎ (record_claim s.stage ≡ Some at)
@@ -140,6 +184,10 @@ set_claims y head (set.Claim words) w n is = let same : Add (list_counter y) wor
 set_claims y head (set.Write at k words word) w n is = cc
 set_claims y head (set.Publish at) w n is = cc
 set_claims y head set.Done w n is = cc
+
+-- the word to which a step adds
+added_word : {v w k n : ℕ} → Add v k ≡ Add w n → v ≡ w
+added_word e = ap word_of e
 
 -- a claim of a join is one of a slot
 join_claims : (y : Layout) (at : ℕ) (t : JoinStage) (w n : ℕ) → join_step y at t ≡ Some (Add w n) → w ≡ slot_counter y
@@ -287,3 +335,61 @@ inner_word c z sound sizes quiet (Add w k) due = by c.stage refl sound.stage due
         leaves true is = let bad : None ≡ Some (Add w k) = is in cc
         leaves false is = let bad : Store _ _ ≡ Add w k = some_same is in cc
     by (Finished r) at ok is = let bad : None ≡ Some (Add w k) = is in cc
+
+-- a claim of a slot is that of a join, which claims no more then
+pub record ClaimsSlot (c : CoreState) : Type 0 where
+  pub behind : before_claim c.stage ≡ false
+  pub now : awaits c ≡ true
+  pub last : (a : ℕ) → awaits (advance c a) ≡ false
+
+pub slot_claims : (c : CoreState) (z : Layout) → IsSound c → c.sizes ≡ z → (w n : ℕ) → step_of c ≡ Some (Add w n) → w ≡ slot_counter z → ClaimsSlot c
+slot_claims c z sound sizes w n due slot = by c.stage refl sound.stage due
+  where
+    m_same : (y : Layout) → y ≡ c.sizes → y.m ≡ z.m
+    m_same y is = ap (λ (s : Layout). s.m) (is ∙ sizes)
+
+    taken : (b : Bool) (a : ℕ) → (s : CoreState) → s.stage ≡ Joining → awaits (after_joining (record s { join = record s.join { stage = if b then Storing a else Spent } }) (if b then Storing a else Spent)) ≡ false
+    taken true a s is = ap (awaits_at (record s { join = record s.join { stage = Storing a } })) is
+    taken false a s is = refl
+
+    joins : (j : JoinStage) → c.join.stage ≡ j → c.stage ≡ Joining → join_step c.join.sizes c.join.announcement j ≡ Some (Add w n) → ClaimsSlot c
+    joins Claiming at is due = record {
+      behind = ap before_claim is;
+      now = ap (awaits_at c) is ∙ ap is_claiming at;
+      last = λ a. subst (λ (t : Stage). awaits (advance_at c t a) ≡ false) (sym is)
+          (subst (λ (j : JoinStage). awaits (after_joining (record c { join = record c.join { stage = join_after c.join.sizes j a } }) (join_after c.join.sizes j a)) ≡ false) (sym at)
+          (taken (nat_lt a c.join.sizes.slots) a c is));
+    }
+    joins (Storing slot) at is due = let bad : Store _ _ ≡ Add w n = some_same due in cc
+    joins (Joined slot) at is due = cc
+    joins Spent at is due = cc
+
+    by : (t : Stage) → c.stage ≡ t → is_sound_at c t → step_at c t ≡ Some (Add w n) → ClaimsSlot c
+    by Idle at ok is = let bad : None ≡ Some (Add w n) = is in cc
+    by (ReadBegun j) at ok is = let bad : Load _ ≡ Add w n = some_same is in cc
+    by (LoadingValue stamp) at ok is = let bad : Load _ ≡ Add w n = some_same is in cc
+    by (UpdateBegun d) at ok is = let bad : Load _ ≡ Add w n = some_same is in cc
+    by (GettingSet d old) at ok is =
+        let same = m_same c.get_set.sizes ok.2 in
+        let list = set_claims c.get_set.sizes c.get_set.head c.get_set.stage w n is in
+        absurd (omega (arith, same, list, slot))
+    by (Viewing d old) at ok is = scan_never c.embedded.sizes c.found.indices c.rows.last c.embedded.stage w n (ClaimsSlot c) is
+    by (ClaimingRecord d old) at ok is =
+        let same = m_same c.sizes refl in
+        let pool : pool_counter c.sizes ≡ w = added_word (some_same is) in
+        absurd (omega (arith, same, pool, slot))
+    by (StoringRecord d old at' k) at ok is = let bad : Store _ _ ≡ Add w n = some_same is in cc
+    by (Exchanging d old at') at ok is = let bad : Exchange _ _ _ ≡ Add w n = some_same is in cc
+    by ScanBegun at ok is =
+        let same = m_same c.sizes refl in
+        let pool : pool_counter c.sizes ≡ w = added_word (some_same is) in
+        absurd (omega (arith, same, pool, slot))
+    by (StoringAnnouncement at' k) at ok is = let bad : Store _ _ ≡ Add w n = some_same is in cc
+    by Joining at ok is = joins c.join.stage refl at is
+    by Scanning at ok is = scan_never c.embedded.sizes c.asked c.rows.last c.embedded.stage w n (ClaimsSlot c) is
+    by Leaving at ok is = leaves c.leave.left is
+      where
+        leaves : (b : Bool) → (if b then None else Some (Store (slot_word c.leave.sizes c.leave.slot) 1)) ≡ Some (Add w n) → ClaimsSlot c
+        leaves true is = let bad : None ≡ Some (Add w n) = is in cc
+        leaves false is = let bad : Store _ _ ≡ Add w n = some_same is in cc
+    by (Finished r) at ok is = let bad : None ≡ Some (Add w n) = is in cc

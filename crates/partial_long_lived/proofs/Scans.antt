@@ -1,5 +1,10 @@
 -- A scan where a port stands: its first step is allowed, and what it leaves of its port.
-use Rattle.partial_long_lived.proofs.{Common.{None, answers_lead_on, most_of_scan, steps_left, ℕ, ◌≡◌, ◌+◌, ◌-◌, ◌%◌, ◌^◌, ◌<◌, ◌≤◌, ◌||◌, ◌++◌, Bool, false, if◌then◌else◌, Option, Some, List, [], ◌∷◌, length, map, refl, sym, ap, subst, ◌∙◌, inl, inr, arith, length-append, is_some, slice_index, length-map, Allows, TableId, Applied, Call, Note, Noted, place_of, Add, Layout, IsLayout, pool_counter, total, Reply, call_of, CoreState, advance, reply_of, scanned_values, step_of, AreComponentIndices, IsSound, AreNotesOf, IsNoteOf, IsPlacedAt, Plan, base, plain, unsealed, history_of, public_entry, public_log, public_noted, Control, not_below, RestsLike, About, Stand, Began, IsRuleKept, SeatedPort, plan_of, SeatGoes, IsOne, IsHeld, port_at, IsIdle, component_at, SeatMakes, unsealed_answer, makes, over_by, word_at, HasNotedScan, RestsUnmarked, ScanMade, SettledFirst, noted_scan, CallMade, IsGoing, ComesTo, MayBegin, machine_at, take, Opening, stamp_of, CollectsStamps, opening_behind, stamp_limit, public_of, stamp_public, opening_of, MadeNamed, NameStamps, ScannedNamed, stamp_at, announcement_size, scan_asked, Answer}, RecordStamps.{stamp_small, unsealed_same}, Coming.goes_on, Making.may_make, Standing.{arena_there, held_then, room_of}, Under.{first_made, first_may}, Unmarked.marks_stay}
+use Rattle.partial_long_lived.proofs.{Common.{None, true, nat_lt, ◌==◌, ◌&&◌, StoringAnnouncement, at_stage, slot_limit, IsEpochPlan, awaits, before_claim, has_claimed, answers_lead_on, most_of_scan, steps_left, ℕ, ◌≡◌, ◌+◌, ◌-◌, ◌%◌, ◌^◌, ◌<◌, ◌≤◌, ◌||◌, ◌++◌, Bool, false, if◌then◌else◌, Option, Some, List, [], ◌∷◌, length, map, refl, sym, ap, subst, ◌∙◌, inl, inr, arith, length-append, is_some, slice_index, length-map, Allows, TableId, Applied, Call, Note, Noted, place_of, Add, Layout, IsLayout, pool_counter, total, Reply, call_of, CoreState, advance, reply_of, scanned_values, step_of, AreComponentIndices, IsSound, AreNotesOf, IsNoteOf, IsPlacedAt, Plan, base, plain, unsealed, history_of, public_entry, public_log, public_noted, Control, not_below, RestsLike, About, Stand, Began, IsRuleKept, SeatedPort, plan_of, SeatGoes, IsOne, IsHeld, port_at, IsIdle, component_at, SeatMakes, unsealed_answer, makes, over_by, word_at, HasNotedScan, RestsUnmarked, ScanMade, SettledFirst, noted_scan, CallMade, IsGoing, ComesTo, MayBegin, machine_at, take, Opening, stamp_of, CollectsStamps, opening_behind, stamp_limit, public_of, stamp_public, opening_of, MadeNamed, NameStamps, ScannedNamed, stamp_at, announcement_size, scan_asked, Answer}, RecordStamps.{stamp_small, unsealed_same}, Coming.goes_on, Making.may_make, Standing.{arena_there, held_then, room_of}, Under.{first_made, first_may}, Unmarked.marks_stay}
+use Rattle.std.proofs.lemmas.Bool.{eq-eqb, ltb-true, ne_eqb}
+use Rattle.partial_model.specs.declared.call.Refused.{Refused}
+use Rattle.partial_active.specs.declared.join.JoinStage.TheVariants.{Storing, Spent}
+use Rattle.partial_words.specs.Layout.{pool_end, slot_counter}
+use Rattle.partial_machine.specs.Machine.{after_joining, begin_joining, fits_pool, pool_refused}
 use Rattle.partial_knowledge.specs.Scans.{AreStamps}
 use Rattle.partial_embedded.specs.Embedded.{RowsState}
 use Rattle.partial_long_lived.specs.Inner.Scans.{ScanBegun}
@@ -96,6 +101,69 @@ module _ (table : TableId) (about : About) (s : Stand) (h : IsHeld table about s
       over = ap (λ (x : SeatedPort). x.port.over) claim_told.is ∙ ap (λ c. c || over_by (plan_of (port_at s).about) (Add w n) a) begins.spare
           ∙ ap (λ v. over_by (plan_of (port_at s).about) (Add v n) a) at_there ∙ ap (λ k. over_by (plan_of (port_at s).about) (Add (pool_counter (port_at s).about.sizes) k) a) many;
     }
+
+-- A call under way isn't refused, so its announcement fits the pool, and its first store is due.
+module _ (table : TableId) (about : About) (u : Stand) (w : IsGoing table about u) (core : CoreState) (which : List ℕ) (at : ℕ) (machine : machine_at u ≡ advance (scan_asked core which) at) where
+  fits_is : fits_pool core.sizes (announcement_size (length which)) at ≡ true
+  fits_is = by (fits_pool core.sizes (announcement_size (length which)) at) refl
+    where
+      by : (b : Bool) → fits_pool core.sizes (announcement_size (length which)) at ≡ b → fits_pool core.sizes (announcement_size (length which)) at ≡ true
+      by true is = is
+      by false is =
+          let refused : machine_at u ≡ pool_refused (scan_asked core which) =
+          machine ∙ ap (λ (b : Bool). if b then at_stage (scan_asked core which) (StoringAnnouncement at 0) else pool_refused (scan_asked core which)) is in
+          absurd (w.under.3.unrefused Refused.PoolSpent (ap reply_of refused))
+
+  pub first_store : machine_at u ≡ at_stage (scan_asked core which) (StoringAnnouncement at 0)
+  first_store = machine ∙ ap (λ (b : Bool). if b then at_stage (scan_asked core which) (StoringAnnouncement at 0) else pool_refused (scan_asked core which)) fits_is
+
+  pub announcement_fits : core.sizes ≡ about.sizes → at + announcement_size (length which) < 2 ^ 32
+  announcement_fits sizes =
+      let within = ltb-true (at + announcement_size (length which)) (pool_end core.sizes + 1) fits_is in
+      let plan = subst (λ (a : About). IsEpochPlan (plan_of a)) w.held.own w.held.known.plan in
+      let same = ap pool_end sizes in
+      let m = plan.sizes.components.1 in
+      let slots = plan.sizes.slots.1 in
+      let lists = plan.sizes.lists in
+      let pool = plan.sizes.pool.1 in
+      omega (arith, within, same, m, slots, lists, pool)
+
+-- after the claim of its slot a scan has claimed all
+pub slot_taken : (s : CoreState) (at slot : ℕ) → has_claimed (advance (begin_joining s at) slot) ≡ true
+slot_taken s at slot = by (nat_lt slot s.sizes.slots)
+  where
+    by : (b : Bool) → has_claimed (after_joining (record (begin_joining s at) { join = record { sizes = s.sizes; announcement = at; stage = (if b then Storing slot else Spent) } }) (if b then Storing slot else Spent)) ≡ true
+    by true = refl
+    by false = refl
+
+-- whether a claim of the pool, or of a slot, is over
+pub pool_over : (e : Plan) (n a : ℕ) → over_by e (Add (pool_counter e.sizes) n) a ≡ nat_lt e.limit (a + n)
+pool_over e n a =
+    ap (λ (b : Bool). (b && nat_lt e.limit (a + n)) || ((pool_counter e.sizes == slot_counter e.sizes) && nat_lt (slot_limit e) (a + n))) (eq-eqb (pool_counter e.sizes) (pool_counter e.sizes) refl)
+    ∙ ap (λ (b : Bool). nat_lt e.limit (a + n) || (b && nat_lt (slot_limit e) (a + n))) (ne_eqb (pool_counter e.sizes) (slot_counter e.sizes) (λ bad. omega (arith, bad)))
+    ∙ or_none (nat_lt e.limit (a + n))
+  where
+    or_none : (b : Bool) → (b || false) ≡ b
+    or_none true = refl
+    or_none false = refl
+
+pub slot_over : (e : Plan) (w a : ℕ) → w ≡ slot_counter e.sizes → over_by e (Add w 1) a ≡ nat_lt (slot_limit e) (a + 1)
+slot_over e w a is =
+    ap (λ (b : Bool). (b && nat_lt e.limit (a + 1)) || ((w == slot_counter e.sizes) && nat_lt (slot_limit e) (a + 1))) (ne_eqb w (pool_counter e.sizes) (λ bad. omega (arith, bad, is)))
+    ∙ ap (λ (b : Bool). b && nat_lt (slot_limit e) (a + 1)) (eq-eqb w (slot_counter e.sizes) is)
+
+-- Whether the port is over once its scan has ended: after its first step it was as the claim of the pool says, and then as that of the slot says.
+pub scan_over : (table : TableId) (about : About) (s u v w t : Stand) (core : CoreState) (which : List ℕ) (at slot : ℕ) → IsHeld table about s → ScanBegun (scan_asked core which) (length which) s at u →
+    machine_at u ≡ at_stage (scan_asked core which) (StoringAnnouncement at 0) → ComesTo u v → machine_at v ≡ begin_joining (scan_asked core which) at →
+    (port_at w).port.over ≡ ((port_at v).port.over || nat_lt (slot_limit (plan_of about)) (slot + 1)) → machine_at w ≡ advance (machine_at v) slot → ComesTo w t →
+    (port_at t).port.over ≡ (nat_lt about.limit (at + announcement_size (length which)) || nat_lt (about.sizes.slots - about.ports) (slot + 1))
+scan_over table about s u v w t core which at slot h begun stored first joining claimed led last =
+    let same : (port_at v).port.over ≡ (port_at u).port.over =
+    ((first.waits (ap (λ (c : CoreState). before_claim c.stage) stored)).1 (ap awaits joining)).1 in
+    let over : (port_at u).port.over ≡ nat_lt about.limit (at + announcement_size (length which)) =
+    begun.over ∙ pool_over (plan_of (port_at s).about) (announcement_size (length which)) at ∙ ap (λ (a : About). nat_lt a.limit (at + announcement_size (length which))) h.own in
+    let taken : has_claimed (machine_at w) ≡ true = ap has_claimed (led ∙ ap (λ (c : CoreState). advance c slot) joining) ∙ slot_taken (scan_asked core which) at slot in
+    (last.over taken).1 ∙ claimed ∙ ap (λ (b : Bool). b || nat_lt (slot_limit (plan_of about)) (slot + 1)) (same ∙ over)
 
 -- a scan is noted at a place that it has seen
 saw_at : (collects : ℕ) (borrowed : Option ℕ) (n : Note) (seen : ℕ) → IsPlacedAt (Reply.Scanned collects borrowed) n seen → (k : ℕ) × (n ≡ Note.Saw k) × (k ≤ seen)

@@ -1,5 +1,5 @@
 -- A call under way: each step of its machine is allowed, and leads the call on.
-use Rattle.partial_long_lived.proofs.{Common.{ℕ, ◌≡◌, ◌+◌, ◌-◌, ◌<◌, ◌≤◌, ◌==◌, ◌%◌, ◌^◌, Bool, true, false, if◌then◌else◌, Some, refl, sym, ap, subst, ◌∙◌, arith, nat_lt, either, Allows, TableId, Step, Load, Store, Exchange, Add, total, word_of, CoreState, advance, step_of, IsSound, steps_left, answers_lead_on, IsLayout, base, plain, unsealed, IsEpochPlan, not_below, About, Stand, IsRuleKept, SeatedPort, plan_of, SeatGoes, IsOne, port_at, component_at, IsApart, LeavesComponents, SeatMakes, MayMake, unsealed_answer, change_of, goes_on, makes, word_at, CallMade, IsGoing, ComesTo, MayBegin, before_claim, machine_at, IsQuiet}, Claims.inner_word, Making.may_make, Changes.either_cond, Standing.{arena_there, base_small, held_then, room_of}, Under.{next_made, next_over, next_may, next_within}}
+use Rattle.partial_long_lived.proofs.{Common.{ℕ, ◌≡◌, ◌+◌, ◌-◌, ◌<◌, ◌≤◌, ◌==◌, ◌%◌, ◌^◌, Bool, true, false, if◌then◌else◌, Some, refl, sym, ap, subst, ◌∙◌, arith, nat_lt, either, Allows, TableId, Step, Load, Store, Exchange, Add, total, word_of, CoreState, advance, step_of, IsSound, steps_left, answers_lead_on, IsLayout, base, plain, unsealed, IsEpochPlan, not_below, About, Stand, IsRuleKept, SeatedPort, plan_of, SeatGoes, IsOne, port_at, component_at, IsApart, LeavesComponents, SeatMakes, MayMake, unsealed_answer, change_of, goes_on, makes, word_at, CallMade, IsGoing, ComesTo, MayBegin, awaits, before_claim, has_claimed, machine_at, over_by, ◌||◌, IsQuiet}, Claims.inner_word, Making.may_make, Changes.either_cond, Standing.{arena_there, base_small, held_then, room_of}, Under.{next_made, next_over, next_may, next_waits, next_within}}
 
 -- a word behind the component words is another
 apart_of : (a : About) (s : Step) → LeavesComponents a.sizes s → IsApart a.sizes s
@@ -83,11 +83,18 @@ module _ (table : TableId) (about : About) (s : Stand) (w : IsGoing table about 
       passed = passed_same;
       began = ap (λ (x : SeatedPort). x.began) m.is ∙ m.began;
       call = call_on;
-      over = λ behind.
-          let next = next_over w.under.0 w.under.1 w.under.2 (machine_at s) (port_at s) had step due a (port_at t) goes m behind in
-          (ap (λ (d : CoreState). before_claim d.stage) machine_is ∙ next.0, next.1);
+      over = λ claimed.
+          let next = next_over w.under.0 w.under.1 w.under.2 (machine_at s) (port_at s) had step due a (port_at t) goes m claimed in
+          (ap has_claimed machine_is ∙ next.0, next.1);
+      waits = λ behind.
+          let next = next_waits w.under.0 w.under.1 w.under.2 (machine_at s) (port_at s) had step due a (port_at t) goes m behind in
+          (ap (λ (d : CoreState). before_claim d.stage) machine_is ∙ next.0, λ on. next.1 (sym (ap awaits machine_is) ∙ on));
       steps = let less = fewer in omega (arith, one_more, less);
     }
+
+    -- whether the port is over then
+    pub over_there : (port_at t).port.over ≡ ((port_at s).port.over || over_by (plan_of about) step a)
+    over_there = ap (λ (x : SeatedPort). x.port.over) m.is ∙ ap (λ (o : About). (port_at s).port.over || over_by (plan_of o) step a) w.held.own
 
 -- the steps of each kind, as the table makes them
 module _ (table : TableId) (about : About) (s : Stand) (w : IsGoing table about s) where

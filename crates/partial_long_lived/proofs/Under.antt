@@ -1,9 +1,15 @@
 -- The steps of a call of a port's machine, one after the other.
-use Rattle.partial_long_lived.proofs.{Common.{ℕ, ◌≡◌, ◌≢◌, ◌+◌, ◌<◌, ◌≤◌, ◌==◌, ◌⊎◌, ◌&&◌, ◌||◌, ◌++◌, Bool, true, false, if◌then◌else◌, Option, Some, None, List, [], ◌∷◌, length, map, take, refl, sym, ap, subst, ◌∙◌, inl, inr, arith, append-nil, nat_lt, eqb_tells, append_cancel_left, Applied, Opening, stamp_of, Noted, seen_by, Step, Load, Store, Exchange, Add, Layout, IsLayout, pool_counter, total, word_of, Reply, Change, Stage, Idle, ReadBegun, LoadingValue, UpdateBegun, GettingSet, Viewing, ClaimingRecord, StoringRecord, Exchanging, ScanBegun, StoringAnnouncement, Joining, Scanning, Leaving, Finished, some_same, CoreState, advance, advance_at, at_stage, fits_pool, pool_refused, record_size, reply_of, step_at, step_of, call_of, is_begun, IsSound, Part, first_at, AreNotesOf, Tells, begun_with, moved_part, take_within, first_steps_make_calls, further_steps_make_calls, history_of, opening_behind, Control, MayClaim, public_noted, About, Began, SeatedPort, plan_of, SeatGoes, opening_of, SeatMakes, MayMake, over_by, CallMade, MayBegin, before_claim, record_claim, IsBehind, refuses_pool, refuses_slots, due_is_unreplied, due_words_are_there, KeptAnswer, Call}, Claims.{claimed_from, pool_claims, unclaimed_before}, Coming.goes_on}
-use Rattle.std.proofs.lemmas.Bool.{eq-eqb}
+use Rattle.partial_long_lived.proofs.{Common.{ℕ, ◌≡◌, ◌≢◌, ◌+◌, ◌<◌, ◌≤◌, ◌==◌, ◌⊎◌, ◌&&◌, ◌||◌, ◌++◌, Bool, true, false, if◌then◌else◌, Option, Some, None, List, [], ◌∷◌, length, map, take, refl, sym, ap, subst, ◌∙◌, inl, inr, arith, append-nil, nat_lt, eqb_tells, append_cancel_left, Applied, Opening, stamp_of, Noted, seen_by, Step, Load, Store, Exchange, Add, Layout, IsLayout, pool_counter, slot_counter, total, word_of, Reply, Change, Stage, Idle, ReadBegun, LoadingValue, UpdateBegun, GettingSet, Viewing, ClaimingRecord, StoringRecord, Exchanging, ScanBegun, StoringAnnouncement, Joining, Scanning, Leaving, Finished, some_same, CoreState, advance, advance_at, at_stage, fits_pool, pool_refused, record_size, reply_of, step_at, step_of, call_of, is_begun, IsSound, Part, first_at, AreNotesOf, Tells, begun_with, moved_part, take_within, first_steps_make_calls, further_steps_make_calls, history_of, opening_behind, Control, MayClaim, public_noted, About, Began, SeatedPort, plan_of, SeatGoes, opening_of, SeatMakes, MayMake, over_by, slot_limit, CallMade, MayBegin, awaits, before_claim, has_claimed, neither, record_claim, IsBehind, refuses_pool, refuses_slots, due_is_unreplied, due_words_are_there, KeptAnswer, Call}, Claims.{ClaimsSlot, claimed_from, pool_claims, slot_claims, unawaited, unclaimed_before}, Coming.goes_on}
+use Rattle.std.proofs.lemmas.Bool.{eq-eqb, ne_eqb}
 use Rattle.partial_model.specs.declared.call.Refused.{Refused}
 use Rattle.partial_core.specs.Calls.{Made}
 use Rattle.partial_core.proofs.{Parts.seen_within as no_longer, WholeCalls.first_push}
+
+-- what adds to neither counter is no claim
+not_over : (a : About) (w k x : ℕ) → w ≢ pool_counter a.sizes → (w ≡ slot_counter a.sizes → ⊥) → over_by (plan_of a) (Add w k) x ≡ false
+not_over a w k x pool slot =
+    ap (λ (b : Bool). (b && nat_lt a.limit (x + k)) || ((w == slot_counter a.sizes) && nat_lt (slot_limit (plan_of a)) (x + k))) (ne_eqb w (pool_counter a.sizes) pool)
+    ∙ ap (λ (b : Bool). b && nat_lt (slot_limit (plan_of a)) (x + k)) (ne_eqb w (slot_counter a.sizes) slot)
 
 -- where a machine has yet to claim, its last step was no claim past the limit
 spare_step : (a : About) (c : CoreState) (s : Step) (x : ℕ) → IsSound c → c.sizes ≡ a.sizes → step_of c ≡ Some s → before_claim (advance c x).stage ≡ true → over_by (plan_of a) s x ≡ false
@@ -15,7 +21,10 @@ spare_step a c (Add w k) x sound sizes due yet = elim (eqb_tells w (pool_counter
       let claims = pool_claims c a.sizes sound sizes w k due same.1 in
       let bad : true ≡ false = sym yet ∙ claims.behind_claim x in
       cc
-  | inr other ↦ ap (λ t. t && nat_lt a.limit (x + k)) other.0
+  | inr other ↦ not_over a w k x other.1 (λ is.
+      let claims = slot_claims c a.sizes sound sizes w k due is in
+      let bad : true ≡ false = sym (unclaimed_before c x yet) ∙ claims.behind in
+      cc)
 ]
 
 -- so a port that has yet to claim may claim
@@ -43,15 +52,34 @@ no_over a c s x Scanning at is due = cc
 no_over a c s x Leaving at is due = cc
 no_over a c s x (Finished r) at is due = cc
 
--- a step behind the claim is no claim
-over_stays : (a : About) (c : CoreState) (s : Step) (x : ℕ) → IsSound c → c.sizes ≡ a.sizes → step_of c ≡ Some s → before_claim c.stage ≡ false → over_by (plan_of a) s x ≡ false
-over_stays a c (Load w) x sound sizes due behind = refl
-over_stays a c (Store w v) x sound sizes due behind = refl
-over_stays a c (Exchange w old new) x sound sizes due behind = refl
-over_stays a c (Add w k) x sound sizes due behind = elim (eqb_tells w (pool_counter a.sizes)) [
-  | inl same ↦ let claims = pool_claims c a.sizes sound sizes w k due same.1 in let bad : true ≡ false = sym claims.now ∙ behind in cc
-  | inr other ↦ ap (λ t. t && nat_lt a.limit (x + k)) other.0
-]
+-- a step after the claim of the pool, which claims no slot, is no claim
+over_stays : (a : About) (c : CoreState) (s : Step) (x : ℕ) → IsSound c → c.sizes ≡ a.sizes → step_of c ≡ Some s → before_claim c.stage ≡ false →
+    (ClaimsSlot c → ⊥) → over_by (plan_of a) s x ≡ false
+over_stays a c (Load w) x sound sizes due behind none = refl
+over_stays a c (Store w v) x sound sizes due behind none = refl
+over_stays a c (Exchange w old new) x sound sizes due behind none = refl
+over_stays a c (Add w k) x sound sizes due behind none = not_over a w k x
+    (λ is. let claims = pool_claims c a.sizes sound sizes w k due is in let bad : true ≡ false = sym claims.now ∙ behind in cc)
+    (λ is. none (slot_claims c a.sizes sound sizes w k due is))
+
+-- what has claimed has neither claim to make
+pub neither_is : (b d : Bool) → neither b d ≡ true → (b ≡ false) × (d ≡ false)
+neither_is false false h = (refl, refl)
+neither_is true d h = absurd cc
+neither_is false true h = absurd cc
+
+pub neither_so : (b d : Bool) → b ≡ false → d ≡ false → neither b d ≡ true
+neither_so false false p q = refl
+neither_so true d p q = absurd cc
+neither_so false true p q = absurd cc
+
+-- what awaits a slot then awaited it before
+awaited : (c : CoreState) (x : ℕ) → before_claim c.stage ≡ false → awaits (advance c x) ≡ true → awaits c ≡ true
+awaited c x behind on = by (awaits c) refl
+  where
+    by : (b : Bool) → awaits c ≡ b → awaits c ≡ true
+    by true is = is
+    by false is = let bad : true ≡ false = sym on ∙ unawaited c x behind is in absurd cc
 
 -- what stays unclaimed was unclaimed
 behind_stays : (c : CoreState) (x : ℕ) → before_claim c.stage ≡ false → before_claim (advance c x).stage ≡ false
@@ -142,10 +170,14 @@ claim_step a c s x over sizes due spare was at is = elim (claimed_from c x at is
       let size = claiming_size c x new.0 new.1 stage in
       let same = new.3 in
       let sum : x + record_size c ≡ at + record_size (advance c x) = omega (arith, size, same) in
+      let apart_from : (pool_counter c.sizes == slot_counter a.sizes) ≡ false =
+      ap (λ (z : Layout). pool_counter z == slot_counter a.sizes) sizes ∙ ne_eqb (pool_counter a.sizes) (slot_counter a.sizes) (λ bad. omega (arith, bad)) in
       let counter : (pool_counter c.sizes == pool_counter a.sizes) ≡ true = ap (λ (z : Layout). pool_counter z == pool_counter a.sizes) sizes ∙ eq-eqb (pool_counter a.sizes) (pool_counter a.sizes) refl in
       subst (λ (t : Step). (over || over_by (plan_of a) t x) ≡ nat_lt a.limit (at + record_size (advance c x))) step
-      (ap (λ t. t || ((pool_counter c.sizes == pool_counter a.sizes) && nat_lt a.limit (x + record_size c))) (spare (ap before_claim stage))
-      ∙ ap (λ t. t && nat_lt a.limit (x + record_size c)) counter ∙ ap (nat_lt a.limit) sum)
+      (ap (λ t. t || over_by (plan_of a) (Add (pool_counter c.sizes) (record_size c)) x) (spare (ap before_claim stage))
+      ∙ ap (λ t. (t && nat_lt a.limit (x + record_size c)) || ((pool_counter c.sizes == slot_counter a.sizes) && nat_lt (slot_limit (plan_of a)) (x + record_size c))) counter
+      ∙ ap (λ t. nat_lt a.limit (x + record_size c) || (t && nat_lt (slot_limit (plan_of a)) (x + record_size c))) apart_from
+      ∙ or_none (nat_lt a.limit (x + record_size c)) ∙ ap (nat_lt a.limit) sum)
   | inr before ↦
       let size : record_size (advance c x) ≡ record_size c = claimed_size c x c.stage at before in
       ap (λ t. over || t) (no_over a c s x c.stage at before due) ∙ or_none over ∙ was at before ∙ ap (λ n. nat_lt a.limit (at + n)) (sym size)
@@ -313,13 +345,25 @@ module _ (b : CoreState) (x : SeatedPort) (begins : MayBegin b x) (c : CoreState
     pub next_began : z.began ≡ y.began
     next_began = ap (λ (t : SeatedPort). t.began) m.is ∙ m.began
 
-    -- behind its claim it makes no other
-    pub next_over : before_claim c.stage ≡ false → (before_claim (advance c a).stage ≡ false) × (z.port.over ≡ y.port.over)
-    next_over behind = (
+    or_false : (b : Bool) → (b || false) ≡ b
+    or_false true = refl
+    or_false false = refl
+
+    over_same : before_claim c.stage ≡ false → (ClaimsSlot c → ⊥) → z.port.over ≡ y.port.over
+    over_same behind none = ap (λ (t : SeatedPort). t.port.over) m.is ∙ ap (λ t. y.port.over || t) (over_stays y.about c s a had.made.sound sizes_same due behind none) ∙ or_false y.port.over
+
+    -- after its claims it makes no other
+    pub next_over : has_claimed c ≡ true → (has_claimed (advance c a) ≡ true) × (z.port.over ≡ y.port.over)
+    next_over claimed =
+        let is = neither_is (before_claim c.stage) (awaits c) claimed in (
+          neither_so (before_claim (advance c a).stage) (awaits (advance c a)) (behind_stays c a is.0) (unawaited c a is.0 is.1),
+          over_same is.0 (λ claims. let bad : true ≡ false = sym claims.now ∙ is.1 in cc),
+        )
+
+    -- nor does a scan, between its two claims
+    pub next_waits : before_claim c.stage ≡ false → (before_claim (advance c a).stage ≡ false)
+        × (awaits (advance c a) ≡ true → (awaits c ≡ true) × (z.port.over ≡ y.port.over))
+    next_waits behind = (
       behind_stays c a behind,
-      ap (λ (t : SeatedPort). t.port.over) m.is ∙ ap (λ t. y.port.over || t) (over_stays y.about c s a had.made.sound sizes_same due behind) ∙ or_false y.port.over,
+      λ on. (awaited c a behind on, over_same behind (λ claims. let bad : true ≡ false = sym on ∙ claims.last a in cc)),
     )
-      where
-        or_false : (b : Bool) → (b || false) ≡ b
-        or_false true = refl
-        or_false false = refl

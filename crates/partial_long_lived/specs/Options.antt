@@ -16,17 +16,21 @@ most_lists = 65536
 abbrev pub most_slots : ℕ
 most_slots = 65536
 
--- the most pool words after the initial records
-abbrev pub most_words : ℕ
-most_words = 131072
+-- the most pool words
+abbrev pub most_pool : ℕ
+most_pool = 4194304
 
--- how many pool words an arena has for each port where the options leave that open, and the fewest that it has then
+-- how many pool words an arena has for each port where the options leave that open
 abbrev pub pool_of_port : ℕ
 pool_of_port = 16384
 
+-- the fewest that it has then
+abbrev pub fewest_pool : ℕ
+fewest_pool = 8192
+
 -- how many pool words half the arenas have together then, at most, unless each has the fewest; there are as many as ports
 abbrev pub pool_of_all : ℕ
-pool_of_all = 262144
+pool_of_all = 131072
 
 -- how many pool words an arena has for each component then, at least, where it has room for them
 abbrev pub pool_of_component : ℕ
@@ -35,7 +39,7 @@ pool_of_component = 16
 -- how many pool words are claimed in an epoch then
 abbrev pub usual_pool : ℕ → ℕ → ℕ
 usual_pool count ports = max (min (max (min (pool_of_port * ports) (pool_of_all / ports)) (pool_of_component * count))
-    (most_words - full_record_size count * ports)) pool_of_port
+    (most_pool - (plain_record_size * count + full_record_size count * ports))) fewest_pool
 
 -- how many pool words are claimed in an epoch
 abbrev pub claimed_pool : ℕ → ℕ → Options → ℕ
@@ -45,9 +49,9 @@ claimed_pool count ports o = option_map_or (λ words. words) o.pool (usual_pool 
 abbrev pub pool_words_behind : ℕ → ℕ → Options → ℕ
 pool_words_behind count ports o = claimed_pool count ports o + full_record_size count * ports
 
--- the fewest slots that an arena has: one for each two words of its pool
+-- the fewest slots that an arena has: one for each 8 pool words that are claimed in an epoch, and one for each port
 abbrev pub least_slots : ℕ → ℕ → Options → ℕ
-least_slots count ports o = (pool_words_behind count ports o + 1) / 2
+least_slots count ports o = claimed_pool count ports o / 8 + ports
 
 -- how many words the pool has
 abbrev pub pool_words : ℕ → ℕ → Options → ℕ
@@ -87,12 +91,12 @@ IsShapeError count ports o Ports = (ports ≡ 0) ⊎ (64 < ports)
 IsShapeError count ports o Components = ArePorts ports × ((count ≡ 0) ⊎ (65536 < count))
 IsShapeError count ports o Lists = ArePorts ports × IsComponentCount count × (most_lists < o.lists)
 IsShapeError count ports o Pool = ArePorts ports × IsComponentCount count × (o.lists ≤ most_lists) ×
-    (most_words < pool_words_behind count ports o)
+    (most_pool < pool_words count ports o)
 IsShapeError count ports o OutOfMemory = ⊥
 
 -- there are sizes for so many components and ports, and these options
 abbrev pub MayOpen : ℕ → ℕ → Options → Type 0
-MayOpen count ports o = ArePorts ports × IsComponentCount count × (o.lists ≤ most_lists) × (pool_words_behind count ports o ≤ most_words)
+MayOpen count ports o = ArePorts ports × IsComponentCount count × (o.lists ≤ most_lists) × (pool_words count ports o ≤ most_pool)
 
 -- why a memory doesn't open with these components, ports and options: there are no such sizes, or memory is refused only where there are
 abbrev pub MayNotOpen : ℕ → ℕ → Options → OpenError → Type 0

@@ -1,10 +1,9 @@
 -- Sizes that a long-lived memory may have.
 use Rattle.std.specs.Prelude.{ℕ, ◌≡◌, ◌+◌, ◌*◌, ◌≤◌}
-use Rattle.partial_words.specs.Layout.{Layout, IsLayout, first_free, greatest_record, pool_end, total, initial_words}
-use Rattle.partial_words.specs.Announcement.{least_announcement}
+use Rattle.partial_words.specs.Layout.{Layout, IsLayout, first_free, greatest_record, pool_end, total}
 
 -- The sizes of an arena are in range, there are 1 to 64 ports and twice as many arenas, above the limit there is room for the greatest claim of
--- each port, and the pool has no room for more announcements than there are slots.
+-- each port, and there is a slot for each port.
 pub record IsSized (sizes : Layout) (ports arenas limit : ℕ) : Type 0 where
   pub layout : IsLayout sizes
   pub some : 1 ≤ ports
@@ -12,7 +11,7 @@ pub record IsSized (sizes : Layout) (ports arenas limit : ℕ) : Type 0 where
   pub twice : arenas ≡ 2 * ports
   pub opens : first_free sizes ≤ limit
   pub room : limit + greatest_record sizes * ports ≤ pool_end sizes
-  pub slots : sizes.pool ≤ least_announcement * sizes.slots + initial_words sizes
+  pub slots : ports ≤ sizes.slots
 
 -- where an epoch's own records begin in an arena, and where the carried stamps do
 pub record IsPlaced (sizes : Layout) (records stamps : ℕ) : Type 0 where

@@ -142,8 +142,8 @@ impl LongLived {
     /// # Errors
     /// [`OpenError::Ports`] exactly when there are not 1 to 64 ports; otherwise [`OpenError::Components`] exactly when there
     /// are not 1 to 65,536 values; otherwise [`OpenError::Lists`] exactly when the options ask for more than 65,536 list
-    /// words; otherwise [`OpenError::Pool`] exactly when the pool would have more than 131,072 words after the initial
-    /// records; otherwise [`OpenError::OutOfMemory`] when an allocation was refused. Nothing was made then.
+    /// words; otherwise [`OpenError::Pool`] exactly when the pool would have more than 4,194,304 words; otherwise
+    /// [`OpenError::OutOfMemory`] when an allocation was refused. Nothing was made then.
     pub fn open(
         alloc: Global,
         initial: &[u64],

@@ -10,15 +10,18 @@ use partial_words::{Sizes, full_record_size, plain_record_size};
 /// The most slots.
 const MOST_SLOTS: u32 = 65_536;
 
-/// The most pool words after the initial records: there is a slot for each two of them.
-const MOST_WORDS: u64 = 131_072;
+/// The most pool words.
+const MOST_POOL: u64 = 4_194_304;
 
-/// How many pool words an arena has for each port where the options leave that open, and the fewest that it has then.
+/// How many pool words an arena has for each port where the options leave that open.
 const POOL_OF_PORT: u64 = 16_384;
+
+/// The fewest pool words that an arena has then.
+const FEWEST_POOL: u64 = 8_192;
 
 /// How many pool words half the arenas have together then, at most, unless each has the fewest. There are as many as
 /// ports.
-const POOL_OF_ALL: u64 = 262_144;
+const POOL_OF_ALL: u64 = 131_072;
 
 /// How many pool words an arena has for each component then, at least, where it has room for them.
 const POOL_OF_COMPONENT: u64 = 16;
@@ -33,8 +36,8 @@ pub struct Options {
     /// 4 and 2 more for each component of a view that it stores; a scan claims 1, and 1 more for each position. The pool
     /// has, beside these, the initial records and room for the greatest record of each port.
     ///
-    /// `None` is 16,384 for each port, but no more than 262,144 divided by the number of ports, or 16 for each component
-    /// if that is more; no more than an arena has room for, and always 16,384 at least.
+    /// `None` is 16,384 for each port, but no more than 131,072 divided by the number of ports, or 16 for each component
+    /// if that is more; no more than an arena has room for, and always 8,192 at least.
     pub pool: Option<u32>,
 }
 
@@ -57,8 +60,7 @@ impl Default for Options {
 /// # Errors
 /// [`OpenError::Ports`] exactly when there are not 1 to 64 ports; otherwise [`OpenError::Components`] exactly when there
 /// are not 1 to 65,536 components; otherwise [`OpenError::Lists`] exactly when the options ask for more than 65,536 list
-/// words; otherwise [`OpenError::Pool`] exactly when the pool would have more than 131,072 words after the initial
-/// records.
+/// words; otherwise [`OpenError::Pool`] exactly when the pool would have more than 4,194,304 words.
 pub fn shape(count: usize, ports: u32, options: Options) -> Result<Shape, OpenError>
     ensures ok { IfOk result (IsShapeFor count ports options) }
     ensures fits { IfOk result (λ _. MayOpen count ports options) }
@@ -75,14 +77,13 @@ pub fn shape(count: usize, ports: u32, options: Options) -> Result<Shape, OpenEr
     }
     let m = count as u32;
     let room = full_record_size(u64::from(m)) * u64::from(ports);
-    let pool = pool_of(options, u64::from(m), u64::from(ports));
-    let behind = pool + room;
-    if behind > MOST_WORDS {
+    let claimed = pool_of(options, u64::from(m), u64::from(ports));
+    let pool_words = plain_record_size() * u64::from(m) + claimed + room;
+    if pool_words > MOST_POOL {
         return Err(OpenError::Pool);
     }
-    let behind = behind as u32;
-    let pool_words = plain_record_size() as u32 * m + behind;
-    let slots = (behind + 1) / 2;
+    let pool_words = pool_words as u32;
+    let slots = claimed as u32 / 8 + ports;
     let spare = 15 - (2 * m + 3 + slots + options.lists + pool_words) % 16;
     let slots = MOST_SLOTS.min(slots + spare);
     let Ok(sizes) = Sizes::new(m, slots, options.lists, pool_words) else {
@@ -93,7 +94,7 @@ pub fn shape(count: usize, ports: u32, options: Options) -> Result<Shape, OpenEr
         sizes,
         ports,
         arenas: 2 * ports,
-        limit: own + pool,
+        limit: own + claimed,
         own,
         carried: u64::from(sizes.total()),
     })
@@ -108,11 +109,11 @@ fn pool_of(options: Options, m: u64, ports: u64) -> u64
     match options.pool {
         Some(words) => u64::from(words),
         None => {
-            let room = full_record_size(m) * ports;
+            let others = plain_record_size() * m + full_record_size(m) * ports;
             let words = (POOL_OF_PORT * ports)
                 .min(POOL_OF_ALL / ports)
                 .max(POOL_OF_COMPONENT * m);
-            words.min(MOST_WORDS.saturating_sub(room)).max(POOL_OF_PORT)
+            words.min(MOST_POOL.saturating_sub(others)).max(FEWEST_POOL)
         }
     }
 }

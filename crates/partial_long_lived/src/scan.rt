@@ -1,14 +1,18 @@
 //! Scans.
 
-ghost use Rattle.std.specs.Prelude.{◌≡◌, ◌+◌, ◌<◌, ◌≤◌, true, false, length, map, slice_index, IfErr, IfOk, IfSome, Ok, Some};
+ghost use Rattle.std.specs.Prelude.{◌≡◌, ◌+◌, ◌-◌, ◌<◌, ◌≤◌, ◌||◌, nat_lt, true, false, length, map, slice_index, IfErr, IfOk, IfSome, Ok, Some};
 ghost use Rattle.std.specs.Option.{option_map};
 ghost use Rattle.partial_machine.specs.declared.stage.Stage.TheVariants.{Idle};
 ghost use Rattle.partial_machine.specs.Lines.{scan_asked};
-ghost use Rattle.partial_machine.specs.Machine.{advance, reply_of};
-ghost use Rattle.partial_machine.specs.Possible.{IsPossible};
+ghost use Rattle.partial_words.specs.Layout.{slot_counter};
+ghost use Rattle.partial_words.specs.declared.step.Step.TheVariants.{Add};
+ghost use Rattle.partial_machine.specs.Machine.{advance, begin_joining, reply_of, step_of};
+ghost use Rattle.partial_lines.specs.Lines.{IsQuiet};
 ghost use Rattle.partial_machine.specs.Sound.{AreComponentIndices, IsSound};
 ghost use Rattle.partial_lines.specs.Replies.{RestsLike, scan_reply};
 ghost use Rattle.partial_epochs.specs.History.{public_stamp};
+ghost use Rattle.partial_epochs.specs.Layout.{slot_limit};
+ghost use Rattle.partial_long_lived.specs.Rule.{plan_of};
 ghost use Rattle.partial_long_lived.specs.Bounds.{most_of_change, most_of_scan};
 ghost use Rattle.partial_long_lived.specs.Inner.Held.{IsHeld, port_at};
 ghost use Rattle.partial_long_lived.specs.Inner.Calls.{IsIdle};
@@ -22,8 +26,9 @@ use crate::change::change;
 use crate::enter::{enter, look_first};
 use crate::error::Refused;
 use crate::lines::{ArenaLines, LateScan, Scan};
-use crate::machine_plays::{BeginScan, Moment};
+use crate::machine_plays::{AddOn, BeginScan, Moment};
 use crate::rule::Words;
+use crate::shape::Shape;
 use crate::stand::Stand;
 use partial_core::Core;
 use partial_lines::Scanned;
@@ -177,25 +182,73 @@ fn make_scan<C>(
     ensures steps { stand.new.seat.steps ≤ stand.old.seat.steps + most_of_scan words.now.key.sizes (length which.now) }
 {
     let at = begin_scan::<Brand>(words, stand, core, which);
-    *spent = at + announcement_size(which.len() as u64) > stand.shape.limit;
-    announce::<C>(words, stand, core, which, at, into)
+    announce::<C>(words, stand, core, which, at);
+    let slot = claim_slot(words, stand);
+    let size = announcement_size(which.len() as u64);
+    *spent = at + size > stand.shape.limit || is_last_slot(&stand.shape, slot);
+    finish::<C>(words, stand, core, which, at, slot, into)
 }
 
-// Makes a scan after its first step, the claim of its announcement, which was answered with `at`.
+// Stores the announcement of a scan after its first step, the claim of that, which was answered with `at`.
 #[inline(always)]
-fn announce<C>(
+fn announce<C>(words: &Words, stand: &mut Stand, core: &Core, which: &[u32], at: u64)
+    requires going { IsGoing words.now.table_id words.now.key stand.old }
+    requires sizes { core.now.sizes ≡ words.now.key.sizes }
+    requires machine { machine_at stand.old ≡ advance (scan_asked core.now which.now) at }
+    ensures going { IsGoing words.now.table_id words.now.key stand.new }
+    ensures leads { ComesTo stand.old stand.new }
+    ensures machine { machine_at stand.new ≡ begin_joining (scan_asked core.now which.now) at }
+{
+    let size = announcement_size(which.len() as u64);
+    let mut lines = ArenaLines::<C> {
+        words,
+        stand,
+        kind: PhantomData,
+    };
+    let Ok(()) = partial_lines::announce(&mut lines, which, at, size) else {
+        unreachable!()
+    };
+}
+
+// Claims a slot, which is due in the call of the port, and returns its number.
+#[inline(always)]
+fn claim_slot(words: &Words, stand: &mut Stand) -> u64
+    requires going { IsGoing words.now.table_id words.now.key stand.old }
+    requires due { step_of (machine_at stand.old) ≡ Some (Add (slot_counter words.now.key.sizes) 1) }
+    requires quiet { IsQuiet (machine_at stand.old).stage }
+    ensures going { IsGoing words.now.table_id words.now.key stand.new }
+    ensures leads { ComesTo stand.old stand.new }
+    ensures machine { machine_at stand.new ≡ advance (machine_at stand.old) result }
+    ensures over { (port_at stand.new).port.over ≡
+        ((port_at stand.old).port.over || nat_lt (slot_limit (plan_of words.now.key)) (result + 1)) }
+{
+    let word = stand.base + u64::from(stand.shape.sizes.slot_counter());
+    words.fetch_add::<AddOn>(&mut stand.seat, word as usize, 1)
+}
+
+// Whether the claim of this slot is its port's last one in the epoch: there is one slot more for each port.
+#[inline(always)]
+fn is_last_slot(shape: &Shape, slot: u64) -> bool
+    ensures { result ≡ nat_lt (shape.now.sizes.slots - shape.now.ports) (slot + 1) }
+{
+    u64::from(shape.sizes.slots() - shape.ports) <= slot
+}
+
+// Ends a scan after the claim of its slot, with its announcement at `at`.
+#[inline(always)]
+fn finish<C>(
     words: &Words,
     stand: &mut Stand,
     core: &mut Core,
     which: &[u32],
     at: u64,
+    slot: u64,
     into: &mut [u64],
 ) -> Scanned
     requires going { IsGoing words.now.table_id words.now.key stand.old }
     requires idle { core.old.stage ≡ Idle }
     requires sound { IsSound core.old }
-    requires possible { IsPossible (scan_asked core.old which.now) at }
-    requires machine { machine_at stand.old ≡ advance (scan_asked core.old which.now) at }
+    requires machine { machine_at stand.old ≡ advance (begin_joining (scan_asked core.old which.now) at) slot }
     requires lengths { length into.old ≡ length which.now }
     ensures going { IsGoing words.now.table_id words.now.key stand.new }
     ensures leads { ComesTo stand.old stand.new }
@@ -210,7 +263,8 @@ fn announce<C>(
         stand,
         kind: PhantomData,
     };
-    let Ok(Ok(scanned)) = partial_lines::scan(&mut lines, core, which, at, into) else {
+    let Ok(Ok(scanned)) = partial_lines::scan_claimed(&mut lines, core, which, at, slot, into)
+    else {
         unreachable!()
     };
     scanned

@@ -8,14 +8,14 @@ use Rattle.partial_model.specs.History.{stamp_of}
 use Rattle.partial_model.specs.Notes.{seen_by}
 use Rattle.partial_words.specs.declared.step.Step.{Step}
 use Rattle.partial_words.specs.declared.step.Step.TheVariants.{Load, Store, Exchange, Add}
-use Rattle.partial_words.specs.Layout.{Layout, pool_counter}
+use Rattle.partial_words.specs.Layout.{Layout, pool_counter, slot_counter}
 use Rattle.partial_words.specs.Step.{word_of}
 use Rattle.partial_machine.specs.declared.stage.Reply.{Reply}
 use Rattle.partial_machine.specs.Machine.{CoreState, advance, reply_of, step_of}
 use Rattle.partial_machine.specs.Calls.{call_of, is_begun}
 use Rattle.partial_core.specs.Part.{IsMachineOf, core_of}
 use Rattle.partial_core.specs.Steps.{Tells, begun_with, since_with}
-use Rattle.partial_epochs.specs.Layout.{IsSealed, Plan, plain, seal, unsealed}
+use Rattle.partial_epochs.specs.Layout.{IsSealed, Plan, plain, seal, slot_limit, unsealed}
 use Rattle.partial_epochs.specs.History.{history_of}
 use Rattle.partial_epochs.specs.Ports.Entering.{Stands}
 use Rattle.partial_epochs.specs.MachineSteps.{MayClaim}
@@ -42,9 +42,9 @@ told_of _ n = n
 abbrev pub unsealed_answer : Plan → Step → ℕ → ℕ
 unsealed_answer e s n = plain e (word_of s) (told_of s n)
 
--- the claim of the pool that is answered so ends past the limit
+-- the claim that is answered so ends past its limit, of the pool or of the slots
 abbrev pub over_by : Plan → Step → ℕ → Bool
-over_by e (Add w k) n = (w == pool_counter e.sizes) && nat_lt e.limit (n + k)
+over_by e (Add w k) n = ((w == pool_counter e.sizes) && nat_lt e.limit (n + k)) || ((w == slot_counter e.sizes) && nat_lt (slot_limit e) (n + k))
 over_by e _ n = false
 
 -- the step exchanges no component word

@@ -16,6 +16,7 @@ use Rattle.partial_core.specs.Calls.{Made}
 use Rattle.partial_epochs.specs.History.{history_of}
 use Rattle.partial_epochs.specs.Notes.{public_noted}
 use Rattle.partial_epochs.specs.Ports.Entering.{Stands}
+use Rattle.partial_epochs.specs.Epochs.{awaits_at}
 use Rattle.partial_long_lived.specs.declared.rule.About.{About}
 use Rattle.partial_long_lived.specs.declared.stand.Stand.{Stand}
 use Rattle.partial_long_lived.specs.Rule.{SeatedPort, plan_of}
@@ -32,6 +33,19 @@ before_claim (Viewing c old) = true
 before_claim (ClaimingRecord c old) = true
 before_claim ScanBegun = true
 before_claim _ = false
+
+-- whether the machine has yet to claim a slot for its announcement
+abbrev pub awaits : CoreState → Bool
+awaits c = awaits_at c c.stage
+
+-- neither of the two is so
+abbrev pub neither : Bool → Bool → Bool
+neither false false = true
+neither _ _ = false
+
+-- whether the machine has made all its claims, of pool words and of a slot
+abbrev pub has_claimed : CoreState → Bool
+has_claimed c = neither (before_claim c.stage) (awaits c)
 
 -- where the record of an update lies that has been claimed
 abbrev pub record_claim : Stage → Option ℕ
@@ -96,9 +110,11 @@ pub record ComesTo (s t : Stand) : Type 0 where
   pub began : (port_at t).began ≡ (port_at s).began
   pub call : (b : CoreState) (x : SeatedPort) → MayBegin b x → CallMade b x (machine_at s) (port_at s) →
       CallMade b x (machine_at t) (port_at t)
-  -- after its claim a call makes no other
-  pub over : before_claim (machine_at s).stage ≡ false → (before_claim (machine_at t).stage ≡ false)
-      × ((port_at t).port.over ≡ (port_at s).port.over)
+  -- after its claims a call makes no other
+  pub over : has_claimed (machine_at s) ≡ true → (has_claimed (machine_at t) ≡ true) × ((port_at t).port.over ≡ (port_at s).port.over)
+  -- nor does a scan that has claimed its announcement before it claims a slot
+  pub waits : before_claim (machine_at s).stage ≡ false → (before_claim (machine_at t).stage ≡ false)
+      × (awaits (machine_at t) ≡ true → (awaits (machine_at s) ≡ true) × ((port_at t).port.over ≡ (port_at s).port.over))
   -- each step of it left its machine fewer steps to make
   pub steps : t.seat.steps + steps_left (machine_at t) ≤ s.seat.steps + steps_left (machine_at s)
 
@@ -113,7 +129,8 @@ leads_itself s = record {
   passed = refl;
   began = refl;
   call = λ b x begins had. had;
-  over = λ behind. (behind, refl);
+  over = λ claimed. (claimed, refl);
+  waits = λ claimed. (claimed, λ waits. (waits, refl));
   steps = le_refl _;
 }
 
@@ -128,6 +145,10 @@ leads_on s t u f g = record {
   passed = g.passed ∙ f.passed;
   began = g.began ∙ f.began;
   call = λ b x begins had. g.call b x begins (f.call b x begins had);
-  over = λ behind. let first = f.over behind in let then = g.over first.0 in (then.0, then.1 ∙ first.1);
+  over = λ claimed. let first = f.over claimed in let later = g.over first.0 in (later.0, later.1 ∙ first.1);
+  waits = λ claimed.
+      let first = f.waits claimed in
+      let later = g.waits first.0 in
+      (later.0, λ waits. let last = later.1 waits in let early = first.1 last.0 in (early.0, last.1 ∙ early.1));
   steps = le_trans g.steps f.steps;
 }

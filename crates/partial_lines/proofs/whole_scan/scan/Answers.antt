@@ -1,5 +1,6 @@
 use Rattle.std.proofs.Common.{rules, tests}
-use Rattle.partial_lines.proofs.{Common.{refl, ap, sym, ◌∙◌, arith, pool_end, scan_asked, begin_joining, CoreState}, Announcing.{fitting, not_fitting}}
+use Rattle.partial_words.specs.Layout.{slot_counter}
+use Rattle.partial_lines.proofs.{Common.{refl, ap, sym, ◌∙◌, arith, pool_end, scan_asked, begin_joining, CoreState}, Announcing.{fitting, not_fitting, slot_due}}
 use Rattle.partial_machine.specs.Machine.{reply_of}
 use Rattle.partial_lines.proofs.whole_scan.scan.Goals as goal
 
@@ -52,35 +53,11 @@ announce-requires-clause-stage g c =
 pub returns-in_err-announce-clause-leads : goal.returns-in_err-announce-clause-leads
 returns-in_err-announce-clause-leads g c = c.announce.ensures.leads
 
-pub join-requires-clause-sizes : goal.join-requires-clause-sizes
-join-requires-clause-sizes g c =
+pub make-requires-clause-due : goal.make-requires-clause-due
+make-requires-clause-due g c =
     let end = c.from.ensures ∙ c.pool_end.ensures ∙ ap pool_end c.sizes-sizes.ensures in
     let size = c.announcement_size-size.ensures in
     let within = c.if-at-size.false in
     let begun = fitting (scan_asked c.args.core.now c.args.which.now) (g.M.Makes.machine c.args.lines.now) c.args.at c.requires.machine refl (omega (arith, end, size, within)) in
     let joining = c.in_ok-announce.ensures.machine ∙ ap (λ (s : CoreState). begin_joining s c.args.at) begun in
-    ap (λ (s : CoreState). s.sizes) joining ∙ sym c.sizes-sizes.ensures
-
-pub join-requires-clause-machine : goal.join-requires-clause-machine
-join-requires-clause-machine g c =
-    let end = c.from.ensures ∙ c.pool_end.ensures ∙ ap pool_end c.sizes-sizes.ensures in
-    let size = c.announcement_size-size.ensures in
-    let within = c.if-at-size.false in
-    let begun = fitting (scan_asked c.args.core.now c.args.which.now) (g.M.Makes.machine c.args.lines.now) c.args.at c.requires.machine refl (omega (arith, end, size, within)) in
-    let joining = c.in_ok-announce.ensures.machine ∙ ap (λ (s : CoreState). begin_joining s c.args.at) begun in
-    joining ∙ sym (ap (λ (s : CoreState). begin_joining s c.args.at) joining)
-
-pub returns-in_err-slot-clause-leads : goal.returns-in_err-slot-clause-leads
-returns-in_err-slot-clause-leads g c = g.met.M.Makes.leads_on _ _ _ c.announce.ensures.leads c.join.ensures.leads
-
-pub returns-in_default-clause-leads : goal.returns-in_default-clause-leads
-returns-in_default-clause-leads g c = g.met.M.Makes.leads_on _ _ _ c.announce.ensures.leads c.join.ensures.leads
-
-pub returns-in_default-clause-rests : goal.returns-in_default-clause-rests
-returns-in_default-clause-rests g c = search (tests, rules)
-
-pub returns-in_err-scan_joined-clause-leads : goal.returns-in_err-scan_joined-clause-leads
-returns-in_err-scan_joined-clause-leads g c = g.met.M.Makes.leads_on _ _ _ (g.met.M.Makes.leads_on _ _ _ c.announce.ensures.leads c.join.ensures.leads) c.scan_joined.ensures.leads
-
-pub returns-clause-leads : goal.returns-clause-leads
-returns-clause-leads g c = g.met.M.Makes.leads_on _ _ _ (g.met.M.Makes.leads_on _ _ _ c.announce.ensures.leads c.join.ensures.leads) c.scan_joined.ensures.leads
+    slot_due (scan_asked c.args.core.now c.args.which.now) _ c.args.at joining _ (c.slot_counter.ensures ∙ ap slot_counter c.sizes-sizes.ensures)
