@@ -1,14 +1,15 @@
 -- A call of a port's machine under way, in the arena where the port stands.
-use Rattle.std.specs.Prelude.{ℕ, ◌≡◌, ◌≢◌, ◌+◌, ◌<◌, ◌≤◌, ◌++◌, Bool, true, false, Option, nat_lt, length, map, Some, None}
+use Rattle.std.specs.Prelude.{ℕ, ◌≡◌, ◌≢◌, ◌+◌, ◌≤◌, ◌==◌, ◌&&◌, ◌++◌, if◌then◌else◌, Bool, true, false, Option, nat_lt, length, map, Some, None}
 use Rattle.std.proofs.Common.{refl, ◌∙◌, le_refl, le_trans}
 use Rattle.partial_table.specs.Table.{TableId}
 use Rattle.partial_model.specs.declared.call.Refused.{Refused}
 use Rattle.partial_model.specs.Notes.{seen_by}
 use Rattle.partial_words.specs.Layout.{IsLayout}
+use Rattle.partial_words.specs.Record.{plain_record_size}
 use Rattle.partial_machine.specs.declared.stage.Stage.{Stage}
 use Rattle.partial_machine.specs.declared.stage.Stage.TheVariants.{UpdateBegun, GettingSet, Viewing, ClaimingRecord, StoringRecord, Exchanging, ScanBegun}
 use Rattle.partial_machine.specs.declared.stage.Reply.{Reply}
-use Rattle.partial_machine.specs.Bounds.{steps_left}
+use Rattle.partial_machine.specs.Bounds.{left_at}
 use Rattle.partial_machine.specs.Machine.{CoreState, record_size, reply_of}
 use Rattle.partial_machine.specs.Sound.{IsSound}
 use Rattle.partial_core.specs.Part.{HasBegun, core_of, first_at}
@@ -32,6 +33,21 @@ before_claim (Viewing c old) = true
 before_claim (ClaimingRecord c old) = true
 before_claim ScanBegun = true
 before_claim _ = false
+
+-- whether a machine at this stage writes a record without a view, of which it has yet to store the view word
+abbrev pub before_no_view : CoreState → Stage → Bool
+before_no_view c (Viewing d old) = length c.found.indices == 0
+before_no_view c (ClaimingRecord d old) = length c.found.indices == 0
+before_no_view c (StoringRecord d old at k) = nat_lt k plain_record_size && (length c.found.indices == 0)
+before_no_view c _ = false
+
+-- how many steps a seat makes at most for those that its machine makes from a stage on: such a view word may be loaded before it is stored
+abbrev pub seat_left_at : CoreState → Stage → ℕ
+seat_left_at c t = left_at c t + (if before_no_view c t then 1 else 0)
+
+-- how many it makes at most for the rest of the call
+abbrev pub seat_steps_left : CoreState → ℕ
+seat_steps_left c = seat_left_at c c.stage
 
 -- where the record of an update lies that has been claimed
 abbrev pub record_claim : Stage → Option ℕ
@@ -99,8 +115,8 @@ pub record ComesTo (s t : Stand) : Type 0 where
   -- after its claim a call makes no other
   pub over : before_claim (machine_at s).stage ≡ false → (before_claim (machine_at t).stage ≡ false)
       × ((port_at t).port.over ≡ (port_at s).port.over)
-  -- each step of it left its machine fewer steps to make
-  pub steps : t.seat.steps + steps_left (machine_at t) ≤ s.seat.steps + steps_left (machine_at s)
+  -- each step of it left its seat fewer steps to make
+  pub steps : t.seat.steps + seat_steps_left (machine_at t) ≤ s.seat.steps + seat_steps_left (machine_at s)
 
 -- by no step a call stays where it is
 pub leads_itself : (s : Stand) → ComesTo s s
@@ -128,6 +144,6 @@ leads_on s t u f g = record {
   passed = g.passed ∙ f.passed;
   began = g.began ∙ f.began;
   call = λ b x begins had. g.call b x begins (f.call b x begins had);
-  over = λ behind. let first = f.over behind in let then = g.over first.0 in (then.0, then.1 ∙ first.1);
+  over = λ behind. let first = f.over behind in let second = g.over first.0 in (second.0, second.1 ∙ first.1);
   steps = le_trans g.steps f.steps;
 }
