@@ -18,7 +18,7 @@ KNOWN = {
     ('partial_long_lived', 'rule.rt'): 'Deals Gathers',
     ('partial_long_lived', 'plays.rt'):
         'Look FirstLook Mark LoadCurrent Arrive ReadFirst ReadAgain SeeFirst SeeAgain GlanceFirst Glance NoteScan Recall Observe',
-    ('partial_long_lived', 'machine_plays.rt'): 'LoadOn StoreOn ExchangeOn AddOn BeginFirst BeginAgain BeginScan ExchangeComponent',
+    ('partial_long_lived', 'machine_plays.rt'): 'LoadOn StoreOn LoadZero ExchangeOn AddOn BeginFirst BeginAgain BeginScan ExchangeComponent',
     ('partial_long_lived', 'change_plays.rt'):
         'Pass Seal Take Give LoadPort Put FindClear SetWord SetLists SetValue Find Publish',
 }

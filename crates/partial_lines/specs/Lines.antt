@@ -1,9 +1,10 @@
 -- Calls in straight lines: the machine of the call is a ghost, to which the answers of its steps lead.
-use Rattle.std.specs.Prelude.{ℕ, ⊤, ◌≡◌, ◌==◌, true, Option, Some, None, IsSome, List, length, if◌then◌else◌}
+use Rattle.std.specs.Prelude.{ℕ, ⊤, ◌≡◌, ◌+◌, ◌==◌, true, Option, Some, None, IsSome, List, [], length, if◌then◌else◌}
 use Rattle.std.specs.Option.{option_map_or}
 use Rattle.std.proofs.Common.{refl, sym, ap, ◌∙◌}
 use Rattle.partial_words.specs.declared.step.Step.{Step}
 use Rattle.partial_words.specs.Announcement.{announcement_size}
+use Rattle.partial_words.specs.Record.{plain_record_size}
 use Rattle.partial_machine.specs.declared.stage.Change.{Change}
 use Rattle.partial_machine.specs.declared.stage.Stage.{Stage}
 use Rattle.partial_machine.specs.declared.stage.Stage.TheVariants.{Idle, GettingSet, Viewing, ClaimingRecord, StoringRecord, Exchanging, StoringAnnouncement, Scanning, Leaving}
@@ -15,6 +16,16 @@ use Rattle.partial_machine.specs.Machine.{CoreState, after_getting, at_stage, be
 abbrev pub IsQuiet : Stage → Type 0
 IsQuiet (Exchanging c old at) = ⊥
 IsQuiet _ = ⊤
+
+-- The last word of a record without a view is to be stored, which refers to none.
+pub record StoresNoView (s : CoreState) : Type 0 where
+  pub none : s.found.indices ≡ []
+  pub change : Change
+  pub old : ℕ
+  pub at : ℕ
+  pub k : ℕ
+  pub stage : s.stage ≡ StoringRecord change old at k
+  pub last : k + 1 ≡ plain_record_size
 
 -- whether and where the record of an update was written, unless its embedded scan is due
 abbrev pub written_in : PutBegun → Option (Option ℕ)

@@ -1,11 +1,11 @@
 //! Whoever makes the steps of a call.
 
 ghost use Rattle.std.specs.Prelude.{◌≡◌, ◌<◌, ◌≤◌, Some, IfErr, IfOk};
-ghost use Rattle.partial_words.specs.declared.step.Step.TheVariants.{Load};
+ghost use Rattle.partial_words.specs.declared.step.Step.TheVariants.{Load, Store};
 ghost use Rattle.partial_machine.specs.Machine.{CoreState, advance, step_of};
 ghost use Rattle.partial_machine.specs.Possible.{IsPossible};
 ghost use Rattle.partial_machine.specs.Sound.{IsSound};
-ghost use Rattle.partial_lines.specs.Lines.{IsQuiet};
+ghost use Rattle.partial_lines.specs.Lines.{IsQuiet, StoresNoView};
 
 use partial_words::Step;
 
@@ -66,6 +66,25 @@ pub trait Makes {
         ensures machine { IfOk result (λ answer. machine self.new ≡ advance (machine self.old) answer) }
         ensures stays { IfErr result (λ _. machine self.new ≡ machine self.old) }
         ensures leads { leads self.old self.new };
+
+    /// Makes the store of 0 that is due in the view word of a record without a view, and returns its answer. Whoever makes
+    /// the steps may load the word first: if it is 0 already, that load is the step.
+    ///
+    /// # Errors
+    /// As those of [`Makes::make`].
+    #[inline(always)]
+    fn store_zero(&mut self, word: u32) -> Result<u64, Self::Break>
+        requires goes { goes self.old }
+        requires due { step_of (machine self.old) ≡ Some (Store word 0) }
+        requires unviewed { StoresNoView (machine self.old) }
+        ensures goes { goes self.new }
+        ensures possible { IfOk result (λ answer. IsPossible (machine self.old) answer) }
+        ensures machine { IfOk result (λ answer. machine self.new ≡ advance (machine self.old) answer) }
+        ensures stays { IfErr result (λ _. machine self.new ≡ machine self.old) }
+        ensures leads { leads self.old self.new }
+    {
+        self.make(Step::Store(word, 0))
+    }
 
     /// The machine of a call under way is sound.
     ghost sound: { (x : Self) → goes x → IsSound (machine x) };

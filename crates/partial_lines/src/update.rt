@@ -193,7 +193,7 @@ fn fill_plain<M: Makes>(lines: &mut M, change: Change, old: u64, at: u64) -> Res
 {
     lines.make(Step::Store(prev_word(at) as u32, old))?;
     lines.make(Step::Store(value_word(at) as u32, change.value))?;
-    lines.make(Step::Store(view_word(at) as u32, 0))?;
+    lines.store_zero(view_word(at) as u32)?;
     Ok(())
 }
 

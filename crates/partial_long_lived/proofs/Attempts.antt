@@ -1,5 +1,5 @@
 -- An attempt of an update in the epoch where a port stands.
-use Rattle.partial_long_lived.proofs.{Common.{Opening, ℕ, ◌≡◌, ◌≢◌, ◌+◌, ◌<◌, ◌≤◌, ◌==◌, ◌++◌, Bool, true, false, if◌then◌else◌, Option, None, Some, Ok, List, [], ◌∷◌, length, map, refl, sym, ap, subst, ◌∙◌, inl, inr, arith, option_map_or, nat_lt, is_some, lt-ltb, eqb_tells, length-map, TableId, Applied, Call, Answer, Note, stamp_of, Noted, place_of, Load, Exchange, IsLayout, Layout, pool_end, Change, Reply, Stage, Exchanging, Finished, UpdateBegun, CoreState, advance_at, answers_lead_on, at_stage, begin_getting, left_at, record_size, most_of_update, steps_left, lists_spent, overtaken_reply, reply_of, step_at, step_of, answer_for, call_of, update_call, IsRecord, IsSound, is_sound_at, Part, AreNotesOf, IsNoteOf, IsPlacedAt, Exchanged, RestsLike, update_reply, Plan, seal, unsealed, history_of, public_entry, public_log, stamp_limit, public_noted, Control, About, Shape, Stand, Began, SeatedPort, plan_of, seen_in, SeatGoes, BeganBy, IsHeld, port_at, IsIdle, StaysAt, opening_of, SeatMakes, MissesSeal, unsealed_answer, RestsUnmarked, CallMade, record_claim, IsGoing, ComesTo, MayBegin, machine_at, UpdateAttempted, ExchangeDue, ExpectsOne, IsEntryOf, IsOwnMachine, NotesNothing, PortStayed, noted_where, word_from, ◌||◌, IfSome, take, length-append, IsPossibleAt, SeatBegins, FoundSealed}, Coming.goes_on, Under.{first_made, next_made, notes_same}}
+use Rattle.partial_long_lived.proofs.{Common.{Opening, ℕ, ◌≡◌, ◌≢◌, ◌+◌, ◌<◌, ◌≤◌, ◌==◌, ◌++◌, Bool, true, false, if◌then◌else◌, Option, None, Some, Ok, List, [], ◌∷◌, length, map, refl, sym, ap, subst, ◌∙◌, inl, inr, arith, option_map_or, nat_lt, is_some, lt-ltb, eqb_tells, length-map, TableId, Applied, Call, Answer, Note, stamp_of, Noted, place_of, Load, Exchange, IsLayout, Layout, pool_end, Change, Reply, Stage, Exchanging, Finished, UpdateBegun, CoreState, advance_at, answers_lead_on, at_stage, begin_getting, seat_left_at, record_size, most_of_update, seat_steps_left, lists_spent, overtaken_reply, reply_of, step_at, step_of, answer_for, call_of, update_call, IsRecord, IsSound, is_sound_at, Part, AreNotesOf, IsNoteOf, IsPlacedAt, Exchanged, RestsLike, update_reply, Plan, seal, unsealed, history_of, public_entry, public_log, stamp_limit, public_noted, Control, About, Shape, Stand, Began, SeatedPort, plan_of, seen_in, SeatGoes, BeganBy, IsHeld, port_at, IsIdle, StaysAt, opening_of, SeatMakes, MissesSeal, unsealed_answer, RestsUnmarked, CallMade, record_claim, IsGoing, ComesTo, MayBegin, machine_at, UpdateAttempted, ExchangeDue, ExpectsOne, IsEntryOf, IsOwnMachine, NotesNothing, PortStayed, noted_where, word_from, ◌||◌, IfSome, take, length-append, IsPossibleAt, SeatBegins, FoundSealed}, Coming.goes_on, Under.{first_made, next_made, notes_same}, Zeros.seat_fewer}
 use Rattle.std.proofs.Math.Bool.{or-false}
 use Rattle.partial_lines.specs.declared.exchange.Exchanged.TheVariants.{Applied as IsApplied, Overtaken}
 
@@ -119,13 +119,13 @@ module _ (table : TableId) (about : About) (s : Stand) (h : IsHeld table about s
   made = subst (λ (c : CoreState). CallMade b (port_at s) c (port_at u)) makes.0.told.machine.is
       (first_made b (port_at s) begins first (Load d.component) refl old (port_at u) kept.goes makes.0)
 
-  -- behind its first step the machine has fewer steps left than an update may make
-  steps_behind : steps_left (machine_at u) + 1 ≤ most_of_update about.sizes
+  -- behind its first step the seat has fewer steps left than an update may make
+  steps_behind : seat_steps_left (machine_at u) + 1 ≤ most_of_update about.sizes
   steps_behind =
-      let fewer = (answers_lead_on b old begins.layout begins.sound makes.0.told.possible).fewer in
-      let machine = ap steps_left makes.0.told.machine.is in
-      let left : steps_left b ≡ most_of_update b.sizes = omega arith in
-      subst (λ (z : Layout). steps_left (machine_at u) + 1 ≤ most_of_update z) (begins.sizes ∙ ap (λ (a : About). a.sizes) h.own) (omega (arith, fewer, machine, left))
+      let fewer = seat_fewer b old begins.layout (answers_lead_on b old begins.layout begins.sound makes.0.told.possible).fewer in
+      let machine = ap seat_steps_left makes.0.told.machine.is in
+      let left : seat_steps_left b ≡ most_of_update b.sizes = omega arith in
+      subst (λ (z : Layout). seat_steps_left (machine_at u) + 1 ≤ most_of_update z) (begins.sizes ∙ ap (λ (a : About). a.sizes) h.own) (omega (arith, fewer, machine, left))
 
   pub attempt_going : IsGoing table about u
   attempt_going = record { held = held; under = (b, port_at s, begins, made) }
@@ -267,7 +267,7 @@ module _ (table : TableId) (about : About) (s : Stand) (h : IsHeld table about s
     attempt_steps one last =
         let later = leads.steps in
         let few = steps_behind in
-        let left : steps_left (machine_at v) ≡ 1 = ap (left_at (machine_at v)) stage in
+        let left : seat_steps_left (machine_at v) ≡ 1 = ap (seat_left_at (machine_at v)) stage in
         omega (arith, one, last, later, few, left)
 
     over_call : CallMade b (port_at s) (machine_at v) (port_at v)

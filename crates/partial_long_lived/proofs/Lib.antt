@@ -53,3 +53,4 @@ pub mod Updates
 pub mod Updating
 pub mod Views
 pub mod Working
+pub mod Zeros

@@ -1,5 +1,5 @@
 -- What a look leaves of a port.
-use Rattle.partial_long_lived.proofs.Common.{ℕ, ◌≡◌, ◌==◌, Bool, true, false, if◌then◌else◌, Option, Some, None, refl, sym, ap, ◌∙◌, option_map_or, packed, OwnedArena, Port, having_passed, having_looked, Stand, SeatedPort, port_at, having_found, looked_at, StaysAt, LookFound, HasTaken, HoldsMark, IsPast, MayPutPort, Owns, Remains, HasSetWords}
+use Rattle.partial_long_lived.proofs.Common.{ℕ, ◌≡◌, ◌==◌, Bool, true, false, if◌then◌else◌, Option, Some, None, refl, sym, ap, ◌∙◌, option_map_or, packed, OwnedArena, Port, having_passed, having_looked, Stand, SeatedPort, port_at, having_found, looked_at, IsIdle, StaysAt, LookFound, HasTaken, HoldsMark, IsPast, MayPutPort, Owns, Remains, HasSetWords}
 
 -- what a look leaves as it was, whatever it finds
 looked_same : {A : Type 0} (f : Port → A) (n : ℕ) (p : Port) → ((o : OwnedArena) → f (having_looked p o) ≡ f p) → f (having_passed p) ≡ f p → f (looked_at n p) ≡ f p
@@ -37,6 +37,19 @@ module _ (first : Bool) (s t : Stand) (b : Bool) (w : LookFound first s b t) whe
     is = ap (λ (p : Port). p.control.owned) (looked_away away) ∙ own.is;
     arena = own.arena;
   }
+
+-- a port that owns no arena owns none behind a look
+pub look_idle : (first : Bool) (s t : Stand) (b : Bool) → IsIdle s → LookFound first s b t → IsIdle t
+look_idle first s t b idle w = record {
+  stands = looked_keeps first s t b w (λ (p : Port). p.control.entering) (λ o. refl) refl ∙ idle.stands;
+  free = ap (λ (p : Port). p.control.owned) (port_is first s t b w)
+      ∙ ap (λ (o : Option OwnedArena). (if w.found == packed (port_at s).port.control.here then option_map_or (having_looked (port_at s).port) o (port_at s).port else having_passed (port_at s).port).control.owned) idle.free
+      ∙ by (w.found == packed (port_at s).port.control.here) ∙ idle.free;
+}
+  where
+    by : (c : Bool) → (if c then (port_at s).port else having_passed (port_at s).port).control.owned ≡ (port_at s).port.control.owned
+    by true = refl
+    by false = refl
 
 -- a look but the first step of a call
 pub looked_remains : (s t : Stand) (b : Bool) → StaysAt s t → LookFound false s b t → Remains s t

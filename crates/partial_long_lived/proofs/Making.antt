@@ -1,5 +1,5 @@
 -- The steps of the machine of a seat's port are allowed.
-use Rattle.partial_long_lived.proofs.{Common.{ℕ, ◌≡◌, ◌+◌, ◌<◌, ◌≤◌, Bool, false, if◌then◌else◌, List, length, slice_index, slice_set, refl, sym, ap, subst, ◌∙◌, inl, inr, arith, ◌⊎◌, set-get_or, Me, Allows, Step, Load, Exchange, word_of, CoreState, IsSealed, Place, Plan, base, component_words, HaveSlots, MeetsSeal, unsealed_is_present, at_of, eqb_tells, About, IsRuleKept, IsSeat, SeatedPort, one_of, plan_of, IsSeatKnown, IsOne, tells, seal, unsealed, cases_lt, lt-ltb, Glances, Exchanges, IsApart, SeatMakes, MayMake, MissesSeal, unsealed_answer, change_of, finding_seal, makes}, Sights.nothing_moved, Contention.{contends_on, sealed_more}, Kept.{Moved, allowed, moved_as, moved_contending, moved_says}, Loads.{moved_see, seat_at, seat_is}, Machine.{moved_come, moved_make, never_met, words_then, made_or_met}}
+use Rattle.partial_long_lived.proofs.{Common.{ℕ, ◌≡◌, ◌+◌, ◌<◌, ◌≤◌, Bool, false, if◌then◌else◌, List, length, slice_index, slice_set, refl, sym, ap, subst, ◌∙◌, inl, inr, arith, ◌⊎◌, set-get_or, Me, Allows, Step, Load, Store, Exchange, word_of, CoreState, IsSealed, Place, Plan, base, component_words, HaveSlots, MeetsSeal, unsealed_is_present, at_of, eqb_tells, About, IsRuleKept, IsSeat, SeatedPort, one_of, plan_of, IsSeatKnown, IsOne, tells, seal, unsealed, cases_lt, lt-ltb, Glances, Exchanges, FindsZero, IsApart, SeatMakes, MayMake, MissesSeal, unsealed_answer, change_of, finding_seal, makes}, Sights.nothing_moved, Contention.{contends_on, sealed_more}, Kept.{Moved, allowed, moved_as, moved_contending, moved_says}, Loads.{moved_see, seat_at, seat_is}, Machine.{moved_come, moved_make, never_met, words_then, made_or_met}}
 use Rattle.partial_long_lived.specs.Inner.Machine.{SeatBegins as BeginsUpdate}
 
 -- a word is the record old, sealed, or it isn't
@@ -75,6 +75,29 @@ module _ {S : Type 0} (a : About) (slots id : ℕ) (me : Me S (List SeatedPort))
               (inl (subst IsSealed at is_met.1, ap unsealed (sym at) ∙ is_met.2, ap (λ (y : SeatedPort). record y { contention = (finding_seal X).contention }) m.says))
           | inr made ↦ moved_as (λ y m. inr (misses, m)) (moved_make a words ports notes b since w time k s.number x.began x.found x.contention seat of_port room false c step may' made.0 made.1 made.2)
         ])
+      ]))
+
+  -- the load of a word of which the store of 0 is due
+  pub may_find_zero : (v : ℕ) → step ≡ Store v 0 → Allows (IsRuleKept a) slots id me (base e x.port.control.here.arena + v) (λ n. n) (tells (FindsZero c v) me)
+  may_find_zero v is = allowed a slots id me (base e x.port.control.here.arena + v) (λ n. n) (FindsZero c v) one own
+      (λ words ports notes b since w time s small.
+      let k : ℕ = x.number in
+      let X : SeatedPort = seat_at a ports notes k x.began x.found x.contention in
+      let same = seat_is a ports notes b since x s in
+      let i : ℕ = base e (ports k).control.here.arena + v in
+      let n : ℕ = slice_index words i in
+      let P : SeatedPort → Type 0 = λ z. Moved a (slice_set words (base e z.port.control.here.arena + v) (slice_index words (base e z.port.control.here.arena + v))) ports notes b since z
+      (FindsZero c v z (slice_index words (base e z.port.control.here.arena + v))) in
+      let may' : MayMake X c (Store v 0) = subst (λ (t : Step). MayMake X c t) is (subst (λ (z : SeatedPort). MayMake z c step) same may) in
+      let of_port = subst IsSeatKnown same known in
+      let seat = subst (IsSeat a ports notes b since) same s in
+      subst P (sym same) (elim (eqb_tells n 0) [
+        | inl zero ↦ subst (λ u. Moved a (slice_set words i u) ports notes b since X (FindsZero c v X n)) (sym zero.1)
+            (elim (made_or_met a words ports notes b since w time k s.number x.began x.found x.contention seat of_port room c (Store v 0) may') [
+              | inl met ↦ absurd (never_met e (component_words e words (ports k).control.here.arena) (Store v 0) tt met.0)
+              | inr made ↦ moved_as (λ y m. inl (zero.1, m)) (moved_make a words ports notes b since w time k s.number x.began x.found x.contention seat of_port room false c (Store v 0) may' made.0 made.1 made.2)
+            ])
+        | inr other ↦ nothing_moved a words (slice_set words i n) ports notes b since w time X seat refl of_port may'.stands (set-get_or words i 0) (FindsZero c v X n) (inr (other.1, refl))
       ]))
 
   -- the load by which an update begins

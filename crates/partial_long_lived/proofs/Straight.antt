@@ -1,5 +1,7 @@
 -- A call under way: each step of its machine is allowed, and leads the call on.
-use Rattle.partial_long_lived.proofs.{Common.{ℕ, ◌≡◌, ◌+◌, ◌-◌, ◌<◌, ◌≤◌, ◌==◌, ◌%◌, ◌^◌, Bool, true, false, if◌then◌else◌, Some, refl, sym, ap, subst, ◌∙◌, arith, nat_lt, either, Allows, TableId, Step, Load, Store, Exchange, Add, total, word_of, CoreState, advance, step_of, IsSound, steps_left, answers_lead_on, IsLayout, base, plain, unsealed, IsEpochPlan, not_below, About, Stand, IsRuleKept, SeatedPort, plan_of, SeatGoes, IsOne, port_at, component_at, IsApart, LeavesComponents, SeatMakes, MayMake, unsealed_answer, change_of, goes_on, makes, word_at, CallMade, IsGoing, ComesTo, MayBegin, awaits, before_claim, has_claimed, machine_at, over_by, ◌||◌, IsQuiet}, Claims.inner_word, Making.may_make, Changes.either_cond, Standing.{arena_there, base_small, held_then, room_of}, Under.{next_made, next_over, next_may, next_waits, next_within}}
+use Rattle.partial_long_lived.proofs.{Common.{ℕ, ◌≡◌, ◌+◌, ◌-◌, ◌<◌, ◌≤◌, ◌==◌, ◌%◌, ◌^◌, Bool, true, false, if◌then◌else◌, Some, refl, sym, ap, subst, ◌∙◌, arith, nat_lt, either, Allows, TableId, Step, Load, Store, Exchange, Add, total, word_of, CoreState, advance, step_of, IsSound, core_of, seat_steps_left, StoresNoView, FindsZero, finds_zero, ◌≢◌, inl, inr, answers_lead_on, IsLayout, base, plain, unsealed, IsEpochPlan, not_below, About, Stand, IsRuleKept, SeatedPort, plan_of, SeatGoes, IsOne, port_at, component_at, IsApart, LeavesComponents, SeatMakes, MayMake, unsealed_answer, change_of, goes_on, makes, word_at, CallMade, IsGoing, ComesTo, MayBegin, awaits, before_claim, has_claimed, machine_at, over_by, ◌||◌, IsQuiet}, Claims.inner_word, Making.{may_make, may_find_zero}, Changes.either_cond, Standing.{arena_there, base_small, held_then, room_of}, Under.{next_made, next_over, next_may, next_waits, next_within}, Zeros.{last_stored, seat_fewer}}
+use Rattle.partial_machine.specs.Possible.{IsPossible}
+use Rattle.partial_long_lived.specs.Inner.Under.{IsUnderWay}
 
 -- a word behind the component words is another
 apart_of : (a : About) (s : Step) → LeavesComponents a.sizes s → IsApart a.sizes s
@@ -50,6 +52,12 @@ module _ (table : TableId) (about : About) (s : Stand) (w : IsGoing table about 
       subst (λ i. Allows (IsRuleKept about) slots id s.seat.me (i + word_of step) (change_of step) (makes false (machine_at s) step s.seat.me)) (sym base_is)
       (may_make about slots id s.seat.me w.held.one w.held.own w.held.known (room_of table about s w.held) (machine_at s) step may false apart)
 
+  -- the load of a word of which the store of 0 is due
+  pub zero_there : (v : ℕ) → step ≡ Store v 0 → (slots id : ℕ) → Allows (IsRuleKept about) slots id s.seat.me (s.base + v) (λ n. n) (finds_zero v s.seat.me)
+  zero_there v is slots id =
+      subst (λ i. Allows (IsRuleKept about) slots id s.seat.me (i + v) (λ n. n) (finds_zero v s.seat.me)) (sym base_is)
+      (may_find_zero about slots id s.seat.me w.held.one w.held.own w.held.known (room_of table about s w.held) (machine_at s) step may v is)
+
   -- the call goes on
   module _ (t : Stand) (id : t.seat.table_id ≡ s.seat.table_id) (one : IsOne t.seat.me) (goes : SeatGoes (port_at s) (port_at t)) (a : ℕ)
       (m : SeatMakes false (machine_at s) step (port_at s) a (port_at t))
@@ -66,12 +74,13 @@ module _ (table : TableId) (about : About) (s : Stand) (w : IsGoing table about 
       under = (w.under.0, w.under.1, w.under.2, call_on w.under.0 w.under.1 w.under.2 had);
     }
 
-    -- the machine has fewer steps left
-    fewer : steps_left (machine_at t) < steps_left (machine_at s)
+    -- the seat has fewer steps left
+    fewer : seat_steps_left (machine_at t) < seat_steps_left (machine_at s)
     fewer =
         let begins = w.under.2 in
         let layout : IsLayout (machine_at s).sizes = subst IsLayout (begins.sizes ∙ sym had.made.sizes) begins.layout in
-        subst (λ (c : CoreState). steps_left c < steps_left (machine_at s)) (sym machine_is) (answers_lead_on (machine_at s) a layout had.made.sound m.told.possible).fewer
+        subst (λ (c : CoreState). seat_steps_left c < seat_steps_left (machine_at s)) (sym machine_is)
+        (seat_fewer (machine_at s) a layout (answers_lead_on (machine_at s) a layout had.made.sound m.told.possible).fewer)
 
     pub leads_there : t.seat.steps ≡ s.seat.steps + 1 → ComesTo s t
     leads_there one_more = record {
@@ -95,6 +104,15 @@ module _ (table : TableId) (about : About) (s : Stand) (w : IsGoing table about 
     -- whether the port is over then
     pub over_there : (port_at t).port.over ≡ ((port_at s).port.over || over_by (plan_of about) step a)
     over_there = ap (λ (x : SeatedPort). x.port.over) m.is ∙ ap (λ (o : About). (port_at s).port.over || over_by (plan_of o) step a) w.held.own
+
+-- behind the store of the view word of a record without a view a seat has two steps fewer left
+view_stored : (table : TableId) (about : About) (s : Stand) (w : IsGoing table about s) → (v : StoresNoView (machine_at s)) → (d : CoreState) → d ≡ advance (machine_at s) 0 → IsPossible (machine_at s) 0 →
+    seat_steps_left d + 2 ≤ seat_steps_left (machine_at s)
+view_stored table about s w v d is possible =
+    let begins = w.under.2 in
+    let made = w.under.3.made in
+    let layout : IsLayout (machine_at s).sizes = subst IsLayout (begins.sizes ∙ sym made.sizes) begins.layout in
+    last_stored (machine_at s) v d is (answers_lead_on (machine_at s) 0 layout made.sound possible).fewer
 
 -- the steps of each kind, as the table makes them
 module _ (table : TableId) (about : About) (s : Stand) (w : IsGoing table about s) where
@@ -132,6 +150,59 @@ module _ (table : TableId) (about : About) (s : Stand) (w : IsGoing table about 
       no_answer : (c : Bool) → (if c then 0 % 72057594037927936 else 0) ≡ 0
       no_answer true = omega arith
       no_answer false = refl
+
+  pub zero_asked : (v : ℕ) → step_of (machine_at s) ≡ Some (Store v 0) → (slots id : ℕ) → Allows (IsRuleKept about) slots id s.seat.me (s.base + v) (λ n. n) (finds_zero (word_at s.seat.me (s.base + v)) s.seat.me)
+  zero_asked v due slots id = subst (λ u. Allows (IsRuleKept about) slots id s.seat.me (s.base + v) (λ n. n) (finds_zero u s.seat.me)) (sym (word_same table about s w (Store v 0) due))
+      (zero_there table about s w (Store v 0) due v refl slots id)
+
+  -- a load that finds 0 is the store, and one that doesn't shows nothing
+  pub zero_told : (v : ℕ) → step_of (machine_at s) ≡ Some (Store v 0) → (n : ℕ) (y : SeatedPort) → FindsZero (machine_at s) (word_at s.seat.me (s.base + v)) (port_at s) n y → n ≡ 0 →
+      SeatMakes false (machine_at s) (Store v 0) (port_at s) 0 y
+  zero_told v due n y told zero = elim told [
+    | inl made ↦ store_told v 0 due n y made.1
+    | inr other ↦ absurd (other.0 zero)
+  ]
+
+  pub other_told : (v n : ℕ) (y : SeatedPort) → FindsZero (machine_at s) (word_at s.seat.me (s.base + v)) (port_at s) n y → n ≢ 0 → y ≡ port_at s
+  other_told v n y told other = elim told [
+    | inl made ↦ absurd (other made.0)
+    | inr rests ↦ rests.1
+  ]
+
+  -- such a load leaves the call where it is
+  module _ (u : Stand) (id : u.seat.table_id ≡ s.seat.table_id) (one : IsOne u.seat.me) (goes : SeatGoes (port_at s) (port_at u)) (same : port_at u ≡ port_at s)
+      (shape : u.shape ≡ s.shape) (number : u.number ≡ s.number) (epoch : u.epoch ≡ s.epoch) (arena : u.arena ≡ s.arena) (base_same : u.base ≡ s.base) (passed_same : u.passed ≡ s.passed) where
+    pub still_going : IsGoing table about u
+    still_going = record {
+      held = held_then table about s u w.held id one goes (ap (λ (x : SeatedPort). x.port.control.here) same) shape number epoch arena base_same (passed_same ∙ w.held.passed ∙ sym (ap (λ (x : SeatedPort). x.port.passed) same));
+      under = subst IsUnderWay (sym same) w.under;
+    }
+
+    machine_same : machine_at u ≡ machine_at s
+    machine_same = ap (λ (x : SeatedPort). core_of x.port.part) same
+
+    -- and the store after it leads on as the load and the store together
+    pub leads_behind : u.seat.steps ≡ s.seat.steps + 1 → StoresNoView (machine_at s) → (t : Stand) → ComesTo u t → machine_at t ≡ advance (machine_at u) 0 → IsPossible (machine_at u) 0 →
+        t.seat.steps ≡ u.seat.steps + 1 → ComesTo s t
+    leads_behind loaded unviewed t leads machine possible stored = record {
+      shape = leads.shape ∙ shape;
+      number = leads.number ∙ number;
+      epoch = leads.epoch ∙ epoch;
+      arena = leads.arena ∙ arena;
+      base = leads.base ∙ base_same;
+      passed = leads.passed ∙ passed_same;
+      began = leads.began ∙ ap (λ (x : SeatedPort). x.began) same;
+      call = λ b x begins had. leads.call b x begins (subst (λ (y : SeatedPort). CallMade b x (core_of y.port.part) y) (sym same) had);
+      over = λ claimed.
+          let next = leads.over (ap has_claimed machine_same ∙ claimed) in
+          (next.0, next.1 ∙ ap (λ (x : SeatedPort). x.port.over) same);
+      waits = λ behind.
+          let next = leads.waits (ap (λ (c : CoreState). before_claim c.stage) machine_same ∙ behind) in
+          (next.0, λ on. let is = next.1 on in (sym (ap awaits machine_same) ∙ is.0, is.1 ∙ ap (λ (x : SeatedPort). x.port.over) same));
+      steps =
+          let less = view_stored table about s w unviewed (machine_at t) (machine ∙ ap (λ (c : CoreState). advance c 0) machine_same) (subst (λ (c : CoreState). IsPossible c 0) machine_same possible) in
+          omega (arith, loaded, stored, less);
+    }
 
   module _ (quiet : IsQuiet (machine_at s).stage) where
     pub exchange_asked : (v old new : ℕ) → step_of (machine_at s) ≡ Some (Exchange v old new) → (slots id : ℕ) →

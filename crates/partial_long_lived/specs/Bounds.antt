@@ -22,10 +22,18 @@ claim_steps a = 3 * a.ports * pass_steps a
 abbrev pub fill_steps : About → ℕ
 fill_steps a = 1 + list_base a.sizes + 6 * a.sizes.m
 
--- a change of epoch: a look, two steps to seal each component, the passes, the words, the exchange of the current word, the store that
--- gives the arena back, and the three steps of entering
+-- how often, for each component, a port looks whether its epoch has ended once it finds that another one seals the components
+abbrev pub patience : ℕ
+patience = 32
+
+-- the seals: the load that finds component 0 sealed, the looks after it, and two steps to seal each component
+abbrev pub seal_steps : About → ℕ
+seal_steps a = 1 + patience * a.sizes.m + 2 * a.sizes.m
+
+-- a change of epoch: a look, the seals, the passes, the words, the exchange of the current word, the store that gives the arena back, and
+-- the three steps of entering
 abbrev pub most_of_change : About → ℕ
-most_of_change a = 2 * a.sizes.m + claim_steps a + fill_steps a + 6
+most_of_change a = seal_steps a + claim_steps a + fill_steps a + 6
 
 -- an announced scan of so many positions: its claim, its announcement, a slot, its embedded scan, and the store that leaves the slot
 abbrev pub most_of_scan : Layout → ℕ → ℕ

@@ -1,7 +1,7 @@
 //! A change of epoch.
 
 ghost use Rattle.std.specs.Prelude.{◌≡◌, ◌+◌, ◌*◌, ◌<◌, ◌≤◌, ◌==◌, IfErr, IfOk, true};
-ghost use Rattle.partial_long_lived.specs.Bounds.{claim_steps, fill_steps, most_of_change};
+ghost use Rattle.partial_long_lived.specs.Bounds.{claim_steps, fill_steps, most_of_change, seal_steps};
 ghost use Rattle.partial_words.specs.Layout.{first_free};
 ghost use Rattle.partial_long_lived.specs.Inner.Held.{IsHeld, port_at};
 ghost use Rattle.partial_long_lived.specs.Inner.Calls.{IsIdle, StaysAt, LookFound, MayLook};
@@ -13,7 +13,7 @@ use crate::enter::{ARENAS, enter, look, look_first};
 use crate::error::Refused;
 use crate::fill::fill;
 use crate::rule::Words;
-use crate::seal::seal;
+use crate::seal::seal_unless_ended;
 use crate::stand::Stand;
 
 /// The number of each epoch is below this one.
@@ -69,12 +69,14 @@ fn open_next(words: &Words, stand: &mut Stand) -> Result<(), Refused>
     ensures past { IfOk result (λ _. IsPast stand.new) }
     ensures same { IfErr result (λ _. HasSamePart stand.old stand.new) }
     ensures cause { IfErr result (IsCause stand.old stand.new) }
-    ensures steps { stand.new.seat.steps ≤ stand.old.seat.steps + (2 * words.now.key.sizes.m + claim_steps words.now.key + fill_steps words.now.key + 2) }
+    ensures steps { stand.new.seat.steps ≤ stand.old.seat.steps + (seal_steps words.now.key + claim_steps words.now.key + fill_steps words.now.key + 2) }
 {
     if stand.epoch + 1 == EPOCHS {
         return Err(Refused::EpochsSpent);
     }
-    seal(words, stand);
+    if seal_unless_ended(words, stand) {
+        return Ok(());
+    }
     match claim(words, stand) {
         Claimed::Clean(arena) => {
             let first = stand.shape.base(arena);

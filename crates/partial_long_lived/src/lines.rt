@@ -1,15 +1,15 @@
 //! The steps of a call of a port's machine, made in the arena where the port stands.
 
-ghost use Rattle.std.specs.Prelude.{◌≡◌, IfSome, Some, nat_lt};
+ghost use Rattle.std.specs.Prelude.{◌≡◌, ◌+◌, IfSome, Some, nat_lt};
 ghost use Rattle.std.proofs.Common.{refl, ◌∙◌};
-ghost use Rattle.partial_words.specs.declared.step.Step.TheVariants.{Load};
+ghost use Rattle.partial_words.specs.declared.step.Step.TheVariants.{Load, Store};
 ghost use Rattle.partial_machine.specs.Machine.{advance, step_of};
 ghost use Rattle.partial_machine.specs.Possible.{IsPossible};
-ghost use Rattle.partial_lines.specs.Lines.{IsQuiet};
+ghost use Rattle.partial_lines.specs.Lines.{IsQuiet, StoresNoView};
 ghost use Rattle.partial_long_lived.specs.Inner.Under.{IsGoing, ComesTo, leads_itself, leads_on, machine_at};
 
 use crate::arena::SEAL;
-use crate::machine_plays::{AddOn, ExchangeOn, LoadOn, StoreOn};
+use crate::machine_plays::{AddOn, ExchangeOn, LoadOn, LoadZero, StoreOn};
 use crate::rule::Words;
 use crate::shape::Shape;
 use crate::stand::Stand;
@@ -67,6 +67,12 @@ impl<'a, C> Makes for ArenaLines<'a, C> {
         Ok(make_load(self.words, self.stand, word, Some(false)))
     }
 
+    #[inline(always)]
+    fn store_zero(&mut self, word: u32) -> Result<u64, Infallible> {
+        make_zero(self.words, self.stand, word);
+        Ok(0)
+    }
+
     ghost sound = { λ l w. let m = w.under.3 in m.made.sound };
 
     ghost leads_itself = { λ l. ((refl, refl), leads_itself l.stand.now) };
@@ -91,8 +97,7 @@ pub fn make(words: &Words, stand: &mut Stand, step: Step) -> u64
     match step {
         Step::Load(word) => make_load(words, stand, u64::from(word), None),
         Step::Store(word, value) => {
-            let at = stand.base + u64::from(word);
-            words.store::<StoreOn>(&mut stand.seat, at as usize, value);
+            make_store(words, stand, word, value);
             0
         }
         Step::Exchange(word, old, new) => {
@@ -104,6 +109,41 @@ pub fn make(words: &Words, stand: &mut Stand, step: Step) -> u64
             words.fetch_add::<AddOn>(&mut stand.seat, at as usize, by)
         }
     }
+}
+
+// Makes a store that is due.
+#[inline(always)]
+fn make_store(words: &Words, stand: &mut Stand, word: u32, value: u64)
+    requires going { IsGoing words.now.table_id words.now.key stand.old }
+    requires due { step_of (machine_at stand.old) ≡ Some (Store word value) }
+    ensures going { IsGoing words.now.table_id words.now.key stand.new }
+    ensures leads { ComesTo stand.old stand.new }
+    ensures machine { machine_at stand.new ≡ advance (machine_at stand.old) 0 }
+    ensures possible { IsPossible (machine_at stand.old) 0 }
+    ensures steps { stand.new.seat.steps ≡ stand.old.seat.steps + 1 }
+{
+    let at = stand.base + u64::from(word);
+    words.store::<StoreOn>(&mut stand.seat, at as usize, value);
+}
+
+// Makes the store of 0 that is due in the view word of a record without a view. Where the word is 0 already, as in a pool
+// that no epoch has used, its load is that step, and nothing is stored.
+#[inline(always)]
+fn make_zero(words: &Words, stand: &mut Stand, word: u32)
+    requires going { IsGoing words.now.table_id words.now.key stand.old }
+    requires due { step_of (machine_at stand.old) ≡ Some (Store word 0) }
+    requires unviewed { StoresNoView (machine_at stand.old) }
+    ensures going { IsGoing words.now.table_id words.now.key stand.new }
+    ensures leads { ComesTo stand.old stand.new }
+    ensures machine { machine_at stand.new ≡ advance (machine_at stand.old) 0 }
+    ensures possible { IsPossible (machine_at stand.old) 0 }
+{
+    let at = stand.base + u64::from(word);
+    let found = words.load::<LoadZero>(&mut stand.seat, at as usize);
+    if found == 0 {
+        return;
+    }
+    make_store(words, stand, word, 0);
 }
 
 /// Makes a load that is due, and returns its answer: a component word without its seals. `component` says whether it is one,

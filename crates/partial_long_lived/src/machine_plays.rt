@@ -24,6 +24,15 @@ impl Play<(), View> for StoreOn {
     ghost then = { λ s me. goes_on (Store (word_at me s.word) s.first) me };
 }
 
+/// A load of a word of which the store of 0 is due. If the word is 0, the load is that step.
+pub struct LoadZero;
+
+impl Play<(), View> for LoadZero {
+    ghost use Rattle.partial_long_lived.specs.Inner.Machine.{finds_zero, word_at};
+
+    ghost then = { λ s me. finds_zero (word_at me s.word) me };
+}
+
 /// A further exchange, of another word than a component's.
 pub struct ExchangeOn;
 

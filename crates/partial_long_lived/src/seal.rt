@@ -1,19 +1,104 @@
-//! How a port seals the components of its epoch.
+//! How a port seals the components of its epoch, unless another one does.
 
-ghost use Rattle.std.specs.Prelude.{◌≡◌, ◌+◌, ◌*◌, ◌<◌, ◌≤◌};
+ghost use Rattle.std.specs.Prelude.{◌≡◌, ◌+◌, ◌*◌, ◌<◌, ◌≤◌, true, false};
 ghost use Rattle.partial_epochs.specs.Ports.Entering.{Stands};
 ghost use Rattle.partial_epochs.specs.Sealing.{passing_port};
+ghost use Rattle.partial_long_lived.specs.Bounds.{patience, seal_steps};
 ghost use Rattle.partial_long_lived.specs.Inner.Held.{IsHeld, port_at};
 ghost use Rattle.partial_long_lived.specs.Inner.Calls.{IsIdle};
-ghost use Rattle.partial_long_lived.specs.Inner.Changing.{HasSamePart, Stays};
+ghost use Rattle.partial_long_lived.specs.Inner.Changing.{HasSamePart, IsPast, Remains, Stays};
 
 use crate::arena::SEAL;
 use crate::change_plays::{Pass, Seal};
+use crate::enter::look;
 use crate::rule::Words;
 use crate::stand::Stand;
 
-/// Seals each component of the port's epoch that isn't sealed. No update takes effect in the epoch from then on.
-pub fn seal(words: &Words, stand: &mut Stand)
+/// How often, for each component, a port looks whether its epoch has ended once another port seals the components. These
+/// looks take about as long as that port's change of epoch does if nothing stops it.
+const PATIENCE: u64 = 32;
+
+/// Seals the components of the port's epoch, or sees that it has ended, and returns whether it has. When another port has
+/// sealed component 0 first, this one looks for a while and leaves the change of epoch to that port: sealing and filling
+/// beside it would make both slower. Then it seals what isn't sealed yet.
+pub fn seal_unless_ended(words: &Words, stand: &mut Stand) -> bool
+    requires held { IsHeld words.now.table_id words.now.key stand.old }
+    requires may { IsIdle stand.old }
+    ensures held { IsHeld words.now.table_id words.now.key stand.new }
+    ensures stays { Stays stand.old stand.new }
+    ensures same { HasSamePart stand.old stand.new }
+    ensures free { IsIdle stand.new }
+    ensures past { result ≡ true → IsPast stand.new }
+    ensures sealed { result ≡ false → words.now.key.sizes.m ≤ (port_at stand.new).port.passed }
+    ensures steps { stand.new.seat.steps ≤ stand.old.seat.steps + seal_steps words.now.key }
+{
+    if ends_meanwhile(words, stand) {
+        return true;
+    }
+    seal(words, stand);
+    false
+}
+
+// Waits for another port that seals the components, for so many looks. Returns whether the epoch has ended.
+fn ends_meanwhile(words: &Words, stand: &mut Stand) -> bool
+    requires held { IsHeld words.now.table_id words.now.key stand.old }
+    requires may { IsIdle stand.old }
+    ensures held { IsHeld words.now.table_id words.now.key stand.new }
+    ensures stays { Stays stand.old stand.new }
+    ensures same { HasSamePart stand.old stand.new }
+    ensures free { IsIdle stand.new }
+    ensures past { result ≡ true → IsPast stand.new }
+    ensures steps { stand.new.seat.steps ≤ stand.old.seat.steps + (1 + patience * words.now.key.sizes.m) }
+{
+    if stand.passed > 0 {
+        return false;
+    }
+    if !finds_sealed(words, stand) {
+        return false;
+    }
+    sees_the_end(words, stand)
+}
+
+// Loads the word of component 0, and says whether it is sealed. If it is, the port has passed it.
+fn finds_sealed(words: &Words, stand: &mut Stand) -> bool
+    requires held { IsHeld words.now.table_id words.now.key stand.old }
+    requires may { IsIdle stand.old }
+    requires first { stand.old.passed ≡ 0 }
+    ensures held { IsHeld words.now.table_id words.now.key stand.new }
+    ensures stays { Stays stand.old stand.new }
+    ensures same { HasSamePart stand.old stand.new }
+    ensures free { IsIdle stand.new }
+    ensures steps { stand.new.seat.steps ≤ stand.old.seat.steps + 1 }
+{
+    let word = stand.base as usize;
+    let found = words.load::<Pass>(&mut stand.seat, word);
+    if found < SEAL {
+        return false;
+    }
+    stand.passed = 1;
+    true
+}
+
+// Looks up to so often whether the port's epoch has ended, and says whether it has.
+fn sees_the_end(words: &Words, stand: &mut Stand) -> bool
+    requires held { IsHeld words.now.table_id words.now.key stand.old }
+    requires may { IsIdle stand.old }
+    ensures held { IsHeld words.now.table_id words.now.key stand.new }
+    ensures remains { Remains stand.old stand.new }
+    ensures free { IsIdle stand.new }
+    ensures past { result ≡ true → IsPast stand.new }
+    ensures steps { stand.new.seat.steps ≤ stand.old.seat.steps + patience * words.now.key.sizes.m }
+{
+    for _ in 0..PATIENCE * u64::from(stand.shape.sizes.m()) {
+        if !look(words, stand) {
+            return true;
+        }
+    }
+    false
+}
+
+// Seals each component of the port's epoch that isn't sealed. No update takes effect in the epoch from then on.
+fn seal(words: &Words, stand: &mut Stand)
     requires held { IsHeld words.now.table_id words.now.key stand.old }
     requires may { IsIdle stand.old }
     ensures held { IsHeld words.now.table_id words.now.key stand.new }

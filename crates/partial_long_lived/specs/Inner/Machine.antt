@@ -111,6 +111,14 @@ makes first c s me = tells (λ x a y. SeatMakes first c s x (unsealed_answer (pl
 abbrev pub goes_on : {S : Type 0} → Step → Me S (List SeatedPort) → ℕ → Me S (List SeatedPort) → Type 0
 goes_on s me = makes false (core_of (one_of me.0).port.part) s me
 
+-- The load of the word w of which the machine c is to store 0. Where the word is 0, the load is that step; otherwise it shows nothing.
+abbrev pub FindsZero : CoreState → ℕ → SeatedPort → ℕ → SeatedPort → Type 0
+FindsZero c w x a y = ((a ≡ 0) × SeatMakes false c (Store w 0) x (unsealed_answer (plan_of x.about) (Store w 0) a) y) ⊎ ((a ≢ 0) × (y ≡ x))
+
+-- that load in the call of the seat's port
+abbrev pub finds_zero : {S : Type 0} → ℕ → Me S (List SeatedPort) → ℕ → Me S (List SeatedPort) → Type 0
+finds_zero w me = tells (FindsZero (core_of (one_of me.0).port.part) w) me
+
 -- the exchange of the component of that call
 abbrev pub exchanges : {S : Type 0} → ℕ → Step → Me S (List SeatedPort) → ℕ → Me S (List SeatedPort) → Type 0
 exchanges old s me = tells (Exchanges (core_of (one_of me.0).port.part) old s) me

@@ -1,14 +1,15 @@
 -- A call of a port's machine under way, in the arena where the port stands.
-use Rattle.std.specs.Prelude.{ℕ, ◌≡◌, ◌≢◌, ◌+◌, ◌<◌, ◌≤◌, ◌++◌, Bool, true, false, Option, nat_lt, length, map, Some, None}
+use Rattle.std.specs.Prelude.{ℕ, ◌≡◌, ◌≢◌, ◌+◌, ◌≤◌, ◌==◌, ◌&&◌, ◌++◌, if◌then◌else◌, Bool, true, false, Option, nat_lt, length, map, Some, None}
 use Rattle.std.proofs.Common.{refl, ◌∙◌, le_refl, le_trans}
 use Rattle.partial_table.specs.Table.{TableId}
 use Rattle.partial_model.specs.declared.call.Refused.{Refused}
 use Rattle.partial_model.specs.Notes.{seen_by}
 use Rattle.partial_words.specs.Layout.{IsLayout}
+use Rattle.partial_words.specs.Record.{plain_record_size}
 use Rattle.partial_machine.specs.declared.stage.Stage.{Stage}
 use Rattle.partial_machine.specs.declared.stage.Stage.TheVariants.{UpdateBegun, GettingSet, Viewing, ClaimingRecord, StoringRecord, Exchanging, ScanBegun}
 use Rattle.partial_machine.specs.declared.stage.Reply.{Reply}
-use Rattle.partial_machine.specs.Bounds.{steps_left}
+use Rattle.partial_machine.specs.Bounds.{left_at}
 use Rattle.partial_machine.specs.Machine.{CoreState, record_size, reply_of}
 use Rattle.partial_machine.specs.Sound.{IsSound}
 use Rattle.partial_core.specs.Part.{HasBegun, core_of, first_at}
@@ -46,6 +47,21 @@ neither _ _ = false
 -- whether the machine has made all its claims, of pool words and of a slot
 abbrev pub has_claimed : CoreState → Bool
 has_claimed c = neither (before_claim c.stage) (awaits c)
+
+-- whether a machine at this stage writes a record without a view, of which it has yet to store the view word
+abbrev pub before_no_view : CoreState → Stage → Bool
+before_no_view c (Viewing d old) = length c.found.indices == 0
+before_no_view c (ClaimingRecord d old) = length c.found.indices == 0
+before_no_view c (StoringRecord d old at k) = nat_lt k plain_record_size && (length c.found.indices == 0)
+before_no_view c _ = false
+
+-- how many steps a seat makes at most for those that its machine makes from a stage on: such a view word may be loaded before it is stored
+abbrev pub seat_left_at : CoreState → Stage → ℕ
+seat_left_at c t = left_at c t + (if before_no_view c t then 1 else 0)
+
+-- how many it makes at most for the rest of the call
+abbrev pub seat_steps_left : CoreState → ℕ
+seat_steps_left c = seat_left_at c c.stage
 
 -- where the record of an update lies that has been claimed
 abbrev pub record_claim : Stage → Option ℕ
@@ -115,8 +131,8 @@ pub record ComesTo (s t : Stand) : Type 0 where
   -- nor does a scan that has claimed its announcement before it claims a slot
   pub waits : before_claim (machine_at s).stage ≡ false → (before_claim (machine_at t).stage ≡ false)
       × (awaits (machine_at t) ≡ true → (awaits (machine_at s) ≡ true) × ((port_at t).port.over ≡ (port_at s).port.over))
-  -- each step of it left its machine fewer steps to make
-  pub steps : t.seat.steps + steps_left (machine_at t) ≤ s.seat.steps + steps_left (machine_at s)
+  -- each step of it left its seat fewer steps to make
+  pub steps : t.seat.steps + seat_steps_left (machine_at t) ≤ s.seat.steps + seat_steps_left (machine_at s)
 
 -- by no step a call stays where it is
 pub leads_itself : (s : Stand) → ComesTo s s

@@ -1,26 +1,6 @@
 use Rattle.std.proofs.Common.{rules, tests}
-use Rattle.partial_long_lived.proofs.{Common.{Some, refl, ap, ◌∙◌, Store, Exchange, Add}, Straight.{add_asked, add_told, exchange_asked, exchange_told, going_on, leads_there, step_there, store_asked, store_told}}
+use Rattle.partial_long_lived.proofs.{Common.{Some, refl, ap, ◌∙◌, Exchange, Add}, Straight.{add_asked, add_told, exchange_asked, exchange_told, going_on, leads_there, step_there}}
 use Rattle.partial_long_lived.proofs.lines.make.Goals as goal
-
-pub store-requires : goal.store-requires
-store-requires c =
-    let w = c.requires.going in
-    let due = c.requires.due ∙ ap Some c.in-Store.is in
-    rw c.from-in-Store.ensures (w.held.fits, step_there _ _ _ w (Store _ _) due, store_asked _ _ _ w _ _ due _ _)
-
-pub returns-in-Store-clause-going : goal.returns-in-Store-clause-going
-returns-in-Store-clause-going c =
-    let w = c.requires.going in
-    let due = c.requires.due ∙ ap Some c.in-Store.is in
-    let told = rw c.from-in-Store.ensures at c.store.ensures.2 in
-    going_on _ _ _ w (Store _ _) due _ c.store.ensures.0 told.0 told.1 _ (store_told _ _ _ w _ _ due 0 _ told.2) refl refl refl refl refl refl
-
-pub returns-in-Store-clause-leads : goal.returns-in-Store-clause-leads
-returns-in-Store-clause-leads c =
-    let w = c.requires.going in
-    let due = c.requires.due ∙ ap Some c.in-Store.is in
-    let told = rw c.from-in-Store.ensures at c.store.ensures.2 in
-    leads_there _ _ _ w (Store _ _) due _ c.store.ensures.0 told.0 told.1 _ (store_told _ _ _ w _ _ due 0 _ told.2) refl refl refl refl refl refl c.store.ensures.3
 
 pub compare_exchange-requires : goal.compare_exchange-requires
 compare_exchange-requires c =
