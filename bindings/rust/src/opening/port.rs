@@ -27,7 +27,7 @@ impl Port {
     pub(crate) fn new(mut handle: Handle, opening: u64, components: u32, home: &Counted<Home>) -> Port {
         let mut state = raw::PortState::default();
         // SAFETY: the handle and the place for the answer are borrowed for the call.
-        let code = unsafe { raw::partial_door_state(&mut handle, &mut state) };
+        let code = unsafe { raw::partial_door_opening_state(&mut handle, &mut state) };
         assert_eq!(code, 0, "a port's handle holds a port");
         Port {
             handle,
@@ -76,7 +76,7 @@ impl Port {
     pub fn update(&mut self, component: u32, value: u64) -> Result<Updated, Refused> {
         let mut answer = raw::UpdateAnswer::default();
         // SAFETY: the handle and the place for the answer are borrowed for the call.
-        match unsafe { raw::partial_door_update(&mut self.handle, component, value, &mut answer) } {
+        match unsafe { raw::partial_door_opening_update(&mut self.handle, component, value, &mut answer) } {
             0 if answer.applied == 1 => Ok(Updated::Applied { stamp: self.stamp(answer.stamp) }),
             0 => Ok(Updated::Lost { by: self.stamp(answer.stamp) }),
             code => Err(self.refused(code)),
@@ -107,8 +107,9 @@ impl Port {
         }
         let mut answer = raw::UpdateAnswer::default();
         // SAFETY: the handle and the place for the answer are borrowed for the call.
-        let code =
-            unsafe { raw::partial_door_update_if(&mut self.handle, component, expected.word, value, &mut answer) };
+        let code = unsafe {
+            raw::partial_door_opening_update_if(&mut self.handle, component, expected.word, value, &mut answer)
+        };
         match code {
             0 if answer.applied == 1 => Ok(UpdatedIf::Applied { stamp: self.stamp(answer.stamp) }),
             0 => Ok(UpdatedIf::Changed { by: self.stamp(answer.stamp) }),
@@ -168,7 +169,7 @@ impl Port {
     pub fn read(&mut self, component: u32) -> Result<Value, Refused> {
         let mut answer = raw::ReadAnswer::default();
         // SAFETY: the handle and the place for the answer are borrowed for the call.
-        match unsafe { raw::partial_door_read(&mut self.handle, component, &mut answer) } {
+        match unsafe { raw::partial_door_opening_read(&mut self.handle, component, &mut answer) } {
             0 => Ok(Value { value: answer.value, stamp: self.stamp(answer.stamp) }),
             code => Err(self.refused(code)),
         }
@@ -197,7 +198,7 @@ impl Port {
         let mut answer = raw::ScanAnswer::default();
         // SAFETY: the handle, both slices and the place for the answer are borrowed for the call.
         let code = unsafe {
-            raw::partial_door_scan(
+            raw::partial_door_opening_scan(
                 &mut self.handle,
                 which.as_ptr(),
                 which.len(),
@@ -288,7 +289,7 @@ impl Port {
     /// [`TwoMemories`] when the ports are of two memories. Both are as they were.
     pub fn meet(&mut self, other: &mut Port) -> Result<(), TwoMemories> {
         // SAFETY: both handles are borrowed for the call, and Rust keeps them apart.
-        match unsafe { raw::partial_door_meet(&mut self.handle, &mut other.handle) } {
+        match unsafe { raw::partial_door_opening_meet(&mut self.handle, &mut other.handle) } {
             0 => Ok(()),
             _ => Err(TwoMemories),
         }
