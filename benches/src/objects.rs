@@ -120,8 +120,8 @@ impl Face for Locked {
     }
     fn scan(&mut self, which: &[u32], into: &mut [u64]) -> bool {
         let values = self.0.lock().unwrap();
-        for (place, &component) in into.iter_mut().zip(which) {
-            *place = values[component as usize];
+        for (value, &component) in into.iter_mut().zip(which) {
+            *value = values[component as usize];
         }
         true
     }
@@ -144,8 +144,8 @@ impl Face for Shared {
     }
     fn scan(&mut self, which: &[u32], into: &mut [u64]) -> bool {
         let values = self.0.read().unwrap();
-        for (place, &component) in into.iter_mut().zip(which) {
-            *place = values[component as usize];
+        for (value, &component) in into.iter_mut().zip(which) {
+            *value = values[component as usize];
         }
         true
     }
@@ -187,8 +187,8 @@ impl Face for Seqlock {
         let (version, values) = &*self.0;
         loop {
             let before = version.load(SeqCst);
-            for (place, &component) in into.iter_mut().zip(which) {
-                *place = values[component as usize].load(SeqCst);
+            for (value, &component) in into.iter_mut().zip(which) {
+                *value = values[component as usize].load(SeqCst);
             }
             if before % 2 == 0 && version.load(SeqCst) == before {
                 return true;
@@ -231,14 +231,14 @@ impl Face for Collects {
     fn scan(&mut self, which: &[u32], into: &mut [u64]) -> bool {
         let load = |component: u32| self.0[component as usize].load(SeqCst);
         loop {
-            for (place, &component) in into.iter_mut().zip(which) {
-                *place = load(component);
+            for (value, &component) in into.iter_mut().zip(which) {
+                *value = load(component);
             }
             if into.iter().zip(which).all(|(&seen, &component)| seen == load(component)) {
                 break;
             }
         }
-        into.iter_mut().for_each(|place| *place &= 0xffff_ffff);
+        into.iter_mut().for_each(|value| *value &= 0xffff_ffff);
         true
     }
 }
@@ -260,8 +260,8 @@ impl Face for Plain {
         self.0[component as usize].load(SeqCst)
     }
     fn scan(&mut self, which: &[u32], into: &mut [u64]) -> bool {
-        for (place, &component) in into.iter_mut().zip(which) {
-            *place = self.0[component as usize].load(SeqCst);
+        for (value, &component) in into.iter_mut().zip(which) {
+            *value = self.0[component as usize].load(SeqCst);
         }
         true
     }

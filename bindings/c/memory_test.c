@@ -201,7 +201,7 @@ static void test_refused_calls(void)
     check(partial_port_scan_stamped(&port, which, 1, into, 1, stamps, 2, &scanned) == PARTIAL_LENGTH, "more room for stamps is refused");
     check(partial_port_scan_stamped(&port, which, 3, into, 3, stamps, 3, &scanned) == PARTIAL_LENGTH, "more positions than components are");
     check(partial_port_scan_stamped(&port, which + 1, 2, into, 2, stamps, 2, &scanned) == PARTIAL_COMPONENT, "stamps past the end are refused");
-    check(into[0] == 77 && into[1] == 77 && stamps[0] == 88 && stamps[1] == 88 && scanned.collects == 5, "and the caller's places are as they were");
+    check(into[0] == 77 && into[1] == 77 && stamps[0] == 88 && stamps[1] == 88 && scanned.collects == 5, "and the caller's answers are as they were");
     check(partial_port_update(&port, 2, 1, &set) == PARTIAL_COMPONENT && set.stamp == 5, "an update past the end is refused");
     check(partial_port_update_if(&port, 2, 1, 1, &set) == PARTIAL_COMPONENT && set.stamp == 5, "and a conditional one");
     check(partial_port_read(&port, 2, &read) == PARTIAL_COMPONENT && read.value == 5, "a read past the end is refused");

@@ -32,12 +32,12 @@
  * ------------------------------
  * - A pointer that isn't null points to what its type says, aligned. Nothing else
  *   reads or writes that during the call, and no two pointers of a call point to
- *   one place. A pointer with a number beside it is an array of so many elements.
+ *   one object. A pointer with a number beside it is an array of so many elements.
  *   A null pointer is refused by 23 before anything is done; only the pointer of an
  *   array of no elements may be null.
  * - A handle begins as PARTIAL_EMPTY, and only these functions change it. It isn't
  *   copied: of two copies of a handle, none may be used. It may be moved, if the
- *   old place is no longer used.
+ *   old object is no longer used.
  * - One call at a time uses a handle. It may move to another thread when a lock, the
  *   start or the join of a thread, or a sequentially consistent atomic orders its
  *   calls. Calls on different handles may run side by side.

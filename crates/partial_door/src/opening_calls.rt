@@ -1,5 +1,5 @@
 //! The calls of a port of a single opening, made on what a handle holds. Each returns 0 when it was answered
-//! and otherwise the number of the refusal. A refused call leaves the caller's places as they were.
+//! and otherwise the number of the refusal. A refused call leaves the caller's answers as they were.
 
 ghost use Rattle.std.specs.Prelude.{◌≡◌};
 ghost use Rattle.partial_door.specs.OpeningCalls.{AtOpeningPort, OpeningReadEnds, OpeningScanEnds, OpeningStateEnds, OpeningUpdateEnds, OpeningUpdateIfEnds};

@@ -26,7 +26,7 @@ impl Port {
     /// The port of this handle, which the library has filled.
     pub(crate) fn new(mut handle: Handle, opening: u64, components: u32, home: &Counted<Home>) -> Port {
         let mut state = raw::PortState::default();
-        // SAFETY: the handle and the place for the answer are borrowed for the call.
+        // SAFETY: the handle and the answer are borrowed for the call.
         let code = unsafe { raw::partial_door_opening_state(&mut handle, &mut state) };
         assert_eq!(code, 0, "a port's handle holds a port");
         Port {
@@ -75,7 +75,7 @@ impl Port {
     #[inline]
     pub fn update(&mut self, component: u32, value: u64) -> Result<Updated, Refused> {
         let mut answer = raw::UpdateAnswer::default();
-        // SAFETY: the handle and the place for the answer are borrowed for the call.
+        // SAFETY: the handle and the answer are borrowed for the call.
         match unsafe { raw::partial_door_opening_update(&mut self.handle, component, value, &mut answer) } {
             0 if answer.applied == 1 => Ok(Updated::Applied { stamp: self.stamp(answer.stamp) }),
             0 => Ok(Updated::Lost { by: self.stamp(answer.stamp) }),
@@ -106,7 +106,7 @@ impl Port {
             return Err(Refused::Stamp);
         }
         let mut answer = raw::UpdateAnswer::default();
-        // SAFETY: the handle and the place for the answer are borrowed for the call.
+        // SAFETY: the handle and the answer are borrowed for the call.
         let code = unsafe {
             raw::partial_door_opening_update_if(&mut self.handle, component, expected.word, value, &mut answer)
         };
@@ -168,7 +168,7 @@ impl Port {
     #[inline]
     pub fn read(&mut self, component: u32) -> Result<Value, Refused> {
         let mut answer = raw::ReadAnswer::default();
-        // SAFETY: the handle and the place for the answer are borrowed for the call.
+        // SAFETY: the handle and the answer are borrowed for the call.
         match unsafe { raw::partial_door_opening_read(&mut self.handle, component, &mut answer) } {
             0 => Ok(Value { value: answer.value, stamp: self.stamp(answer.stamp) }),
             code => Err(self.refused(code)),
@@ -196,7 +196,7 @@ impl Port {
     #[inline]
     pub fn scan(&mut self, which: &[u32], into: &mut [u64]) -> Result<Scanned, Refused> {
         let mut answer = raw::ScanAnswer::default();
-        // SAFETY: the handle, both slices and the place for the answer are borrowed for the call.
+        // SAFETY: the handle, both slices and the answer are borrowed for the call.
         let code = unsafe {
             raw::partial_door_opening_scan(
                 &mut self.handle,
