@@ -1,4 +1,4 @@
-//! Ports: the tokens by which threads call a memory.
+//! Ports, by which threads call a memory.
 
 use super::memory::Home;
 use super::{Change, Refused, Scanned, Stamp, TwoMemories, Updated, UpdatedIf, Value};
