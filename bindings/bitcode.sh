@@ -1,8 +1,8 @@
 #!/bin/sh
 # bitcode.sh [OUT]: builds the proved static library `partial_door` as bitcode of LLVM, into OUT or into
 # crates/partial_door/out/bitcode/libpartial_door.a. The linker of a Rust program then generates the door's code, and
-# can put that of a call in the place of the call (docs/using/c-and-rust.md). What it writes to standard output is one
-# line, the words for RUSTFLAGS to link so.
+# can inline that of a call (docs/using/c-and-rust.md). What it writes to standard output is one line, the words for
+# RUSTFLAGS to link so.
 #
 # It wants `rt` on the path. library.sh proves and builds all, with the kit's toolchain. Then the last step is made once
 # more: `rattle build`, which builds nothing but what is proved, with a toolchain in which `clang` is the kit's own and

@@ -1,5 +1,5 @@
 #!/usr/bin/env python3
-"""Counts the lines of definitions that a reader believes behind the contracts of public functions.
+"""Counts the lines of definitions that a reader believes for the contracts of public functions.
 
 A contract cites definitions of specs/, and these cite others. Followed from the clauses of a function on, each
 definition that is reached counts with its lines, but for comments, imports and blank ones. What a function's words

@@ -49,7 +49,7 @@ soak() {
 # Whether the program of these tests has a function of the library for scans, and none for reads.
 calls_no_read() {
     cat "$made"/bitcode/target/release/deps/openings-* >"$made/program" &&
-        grep -q partial_door_scan "$made/program" && ! grep -q partial_door_read "$made/program"
+        grep -q partial_door_opening_scan "$made/program" && ! grep -q partial_door_opening_read "$made/program"
 }
 # Whether the crate is checked and documented without the library, and a build that needs it says what to run.
 without_library() {

@@ -51,8 +51,8 @@ int main(void)
     partial_handle opening = PARTIAL_EMPTY;
     partial_handle closed = PARTIAL_EMPTY;
     return partial_memory_new(initial, 1, 1, &memory) != PARTIAL_OTHER_VERSION || memory.held
-        || partial_open(initial, 1, &sizes, 1, &opening) != PARTIAL_OTHER_VERSION || opening.held
-        || partial_reopen(&closed, 1, &sizes, 1, &opening) != PARTIAL_OTHER_VERSION || opening.held;
+        || partial_opening_open(initial, 1, &sizes, 1, &opening) != PARTIAL_OTHER_VERSION || opening.held
+        || partial_opening_reopen(&closed, 1, &sizes, 1, &opening) != PARTIAL_OTHER_VERSION || opening.held;
 }
 END
 # takes COMPILER STANDARD: whether this compiler knows the standard.

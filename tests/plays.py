@@ -1,9 +1,9 @@
 #!/usr/bin/env python3
 """Sees that nobody steps on a table of words but by a play that is read here.
 
-A *play* says what a step on a word tells its seat. A table counts the steps that its seats make, but whoever writes a play,
+A *play* says what a step on a word says to its seat. A table counts the steps that its seats make, but whoever writes a play,
 a split or a join of views decides what is counted, and a `peek` of a word is no step at all. So each `impl` of one of these
-in the memories and their table stands in KNOWN, and each use of what makes no counted step in UNCOUNTED. A new one is a
+in the memories and their table is listed in KNOWN, and each use of what makes no counted step in UNCOUNTED. A new one is a
 failure until it is listed here, and one that is gone is a failure too. The last line is 'N passed, M failed', one for each.
 """
 import re

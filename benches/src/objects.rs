@@ -62,30 +62,43 @@ face_of!(Port);
 face_of!(opening::Port);
 face_of!(raw::Port);
 
-/// A port of the memory that never wears out, called by keys.
-struct Keyed(Port, Vec<Key<u64>>);
+/// The keys of four components.
+type Four = (Key<u64>, Key<u64>, Key<u64>, Key<u64>);
+
+/// A port of the memory that never wears out, called by keys. A program has the keys of a snapshot at hand, so here are
+/// those of each component and the three after it.
+struct Keyed {
+    port: Port,
+    keys: Vec<Key<u64>>,
+    fours: Vec<Four>,
+}
 
 impl Keyed {
+    fn new(port: Port, keys: Vec<Key<u64>>) -> Keyed {
+        let key = |at: usize| keys[at % keys.len()];
+        let fours = (0..keys.len()).map(|at| (key(at), key(at + 1), key(at + 2), key(at + 3))).collect();
+        Keyed { port, keys, fours }
+    }
     fn key(&self, component: u32) -> Key<u64> {
-        self.1[component as usize]
+        self.keys[component as usize]
     }
 }
 
 impl Face for Keyed {
     fn update(&mut self, component: u32, value: u64) -> bool {
-        self.0.set(self.key(component), value).is_ok()
+        self.port.set(self.key(component), value).is_ok()
     }
     fn add_one(&mut self, component: u32) -> bool {
         let key = self.key(component);
-        let seen = self.0.get_stamped(key).expect("the component is there");
-        self.0.set_if(key, seen.stamp, seen.value + 1).is_ok()
+        let seen = self.port.get_stamped(key).expect("the component is there");
+        self.port.set_if(key, seen.stamp, seen.value + 1).is_ok()
     }
     fn read(&mut self, component: u32) -> u64 {
-        self.0.get(self.key(component)).expect("the component is there")
+        self.port.get(self.key(component)).expect("the component is there")
     }
     fn scan(&mut self, which: &[u32], into: &mut [u64]) -> bool {
-        let &[a, b, c, d] = which else { panic!("the row scans 4 components") };
-        let made = self.0.snapshot((self.key(a), self.key(b), self.key(c), self.key(d)));
+        assert_eq!(which.len(), 4, "the row scans 4 components, one after the other");
+        let made = self.port.snapshot(self.fours[which[0] as usize]);
         made.map(|(a, b, c, d)| into.copy_from_slice(&[a, b, c, d])).is_ok()
     }
 }
@@ -107,8 +120,8 @@ impl Face for Locked {
     }
     fn scan(&mut self, which: &[u32], into: &mut [u64]) -> bool {
         let values = self.0.lock().unwrap();
-        for (place, &component) in into.iter_mut().zip(which) {
-            *place = values[component as usize];
+        for (value, &component) in into.iter_mut().zip(which) {
+            *value = values[component as usize];
         }
         true
     }
@@ -131,8 +144,8 @@ impl Face for Shared {
     }
     fn scan(&mut self, which: &[u32], into: &mut [u64]) -> bool {
         let values = self.0.read().unwrap();
-        for (place, &component) in into.iter_mut().zip(which) {
-            *place = values[component as usize];
+        for (value, &component) in into.iter_mut().zip(which) {
+            *value = values[component as usize];
         }
         true
     }
@@ -174,8 +187,8 @@ impl Face for Seqlock {
         let (version, values) = &*self.0;
         loop {
             let before = version.load(SeqCst);
-            for (place, &component) in into.iter_mut().zip(which) {
-                *place = values[component as usize].load(SeqCst);
+            for (value, &component) in into.iter_mut().zip(which) {
+                *value = values[component as usize].load(SeqCst);
             }
             if before % 2 == 0 && version.load(SeqCst) == before {
                 return true;
@@ -218,14 +231,14 @@ impl Face for Collects {
     fn scan(&mut self, which: &[u32], into: &mut [u64]) -> bool {
         let load = |component: u32| self.0[component as usize].load(SeqCst);
         loop {
-            for (place, &component) in into.iter_mut().zip(which) {
-                *place = load(component);
+            for (value, &component) in into.iter_mut().zip(which) {
+                *value = load(component);
             }
             if into.iter().zip(which).all(|(&seen, &component)| seen == load(component)) {
                 break;
             }
         }
-        into.iter_mut().for_each(|place| *place &= 0xffff_ffff);
+        into.iter_mut().for_each(|value| *value &= 0xffff_ffff);
         true
     }
 }
@@ -247,8 +260,8 @@ impl Face for Plain {
         self.0[component as usize].load(SeqCst)
     }
     fn scan(&mut self, which: &[u32], into: &mut [u64]) -> bool {
-        for (place, &component) in into.iter_mut().zip(which) {
-            *place = self.0[component as usize].load(SeqCst);
+        for (value, &component) in into.iter_mut().zip(which) {
+            *value = self.0[component as usize].load(SeqCst);
         }
         true
     }
@@ -294,7 +307,7 @@ pub fn faces_of(name: &str, m: usize, threads: usize, sizes: Sizes) -> Faces {
             let keys: Vec<_> = zeros.iter().map(|&zero| layout.add(zero)).collect();
             let memory = layout.open_with(Memory::builder().ports(threads as u32)).expect("it opens");
             let port = || memory.port().expect("a port is free");
-            (None, (0..threads).map(|_| boxed(Keyed(port(), keys.clone()))).collect())
+            (None, (0..threads).map(|_| boxed(Keyed::new(port(), keys.clone()))).collect())
         }
         "opening" => {
             let (memory, ports) = opening::open(&zeros, sizes, threads as u32).expect("it opens");

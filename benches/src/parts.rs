@@ -46,8 +46,8 @@ fn delay_in(schedstat: &str) -> Option<&str> {
 }
 
 fn switches_in(status: &str) -> Option<&str> {
-    let behind = status.split("nonvoluntary_ctxt_switches:").nth(1)?;
-    behind.split_whitespace().next()
+    let after = status.split("nonvoluntary_ctxt_switches:").nth(1)?;
+    after.split_whitespace().next()
 }
 
 // A number in an open file, which is read anew from its front.
@@ -182,7 +182,7 @@ mod tests {
     use super::*;
     use std::time::Duration;
 
-    // From and to which nanosecond behind the front each part was, whether the thread waited, and whether it counts.
+    // From and to which nanosecond after the beginning each part was, whether the thread waited, and whether it counts.
     fn parts(front: Instant, made: &[(u64, u64, bool, bool)]) -> Parts {
         let at = |nanoseconds| front + Duration::from_nanos(nanoseconds);
         let part = |&(from, to, waited, counts)| Part { from: at(from), to: at(to), waited, counts };

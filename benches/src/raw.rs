@@ -444,7 +444,7 @@ impl Port {
         noted
     }
 
-    // Publishes the next list of vacated slots in place of the one at `head`.
+    // Publishes the next list of vacated slots instead of the one at `head`.
     fn publish(&mut self, head: u64) {
         let intervals = self.next.0.len() as u64;
         let size = 1 + 2 * intervals;

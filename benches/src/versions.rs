@@ -113,12 +113,12 @@ impl Face for Versions {
         let clock = &self.shared.clock;
         let now = clock.load(SeqCst);
         let _passed = clock.compare_exchange(now, now + 1, SeqCst, SeqCst);
-        for (place, &component) in into.iter_mut().zip(which) {
+        for (value, &component) in into.iter_mut().zip(which) {
             let mut version = self.shared.version(self.shared.newest(component));
             while version.stamp.load(SeqCst) > now {
                 version = self.shared.version(version.before.load(SeqCst));
             }
-            *place = version.value.load(SeqCst);
+            *value = version.value.load(SeqCst);
         }
         true
     }

@@ -74,7 +74,7 @@ static const uint64_t initial[2] = {3, 4};
 static int reads(partial_handle *port, uint64_t value)
 {
     partial_read_answer answer = {0, 0};
-    return partial_read(port, 1, &answer) == 0 && answer.value == value;
+    return partial_opening_read(port, 1, &answer) == 0 && answer.value == value;
 }
 
 /* Each of these makes its call once with that growth refused, and returns whether it was answered. */
@@ -83,11 +83,11 @@ static int open_without(long growth)
 {
     partial_handle memory = PARTIAL_EMPTY;
     refuse(growth);
-    uint32_t code = partial_open(initial, 2, &sizes, 3, &memory);
+    uint32_t code = partial_opening_open(initial, 2, &sizes, 3, &memory);
     refuse(0);
     check(code == 0 || code == PARTIAL_OUT_OF_MEMORY, "an opening is answered or refused for memory", growth);
     check((code == 0) == (memory.held != NULL), "a refused opening leaves the handle empty", growth);
-    partial_free(&memory);
+    partial_opening_free(&memory);
     return code == 0;
 }
 
@@ -95,18 +95,18 @@ static int take_without(long growth)
 {
     partial_handle memory = PARTIAL_EMPTY;
     partial_handle port = PARTIAL_EMPTY;
-    partial_open(initial, 2, &sizes, 1, &memory);
+    partial_opening_open(initial, 2, &sizes, 1, &memory);
     refuse(growth);
-    uint32_t code = partial_take_port(&memory, &port);
+    uint32_t code = partial_opening_take_port(&memory, &port);
     refuse(0);
     check(code == 0 || code == PARTIAL_OUT_OF_MEMORY, "a port is taken or refused for memory", growth);
     check((code == 0) == (port.held != NULL), "a refused taking leaves the handle empty", growth);
     if (code != 0) {
-        check(partial_take_port(&memory, &port) == 0, "and the port in its memory", growth);
+        check(partial_opening_take_port(&memory, &port) == 0, "and the port in its memory", growth);
     }
     check(reads(&port, 4), "the port reads", growth);
-    partial_free(&port);
-    partial_free(&memory);
+    partial_opening_free(&port);
+    partial_opening_free(&memory);
     return code == 0;
 }
 
@@ -114,31 +114,31 @@ static int give_without(long growth)
 {
     partial_handle memory = PARTIAL_EMPTY;
     partial_handle port = PARTIAL_EMPTY;
-    partial_open(initial, 2, &sizes, 1, &memory);
-    partial_take_port(&memory, &port);
+    partial_opening_open(initial, 2, &sizes, 1, &memory);
+    partial_opening_take_port(&memory, &port);
     refuse(growth);
-    uint32_t code = partial_give_port(&memory, &port);
+    uint32_t code = partial_opening_give_port(&memory, &port);
     refuse(0);
     check(code == 0 || code == PARTIAL_OUT_OF_MEMORY, "a port is returned or refused for memory", growth);
     if (code != 0) {
         check(reads(&port, 4), "a refused port is as it was", growth);
-        check(partial_give_port(&memory, &port) == 0, "and is returned then", growth);
+        check(partial_opening_give_port(&memory, &port) == 0, "and is returned then", growth);
     }
-    check(partial_close(&memory) == 0, "the memory closes", growth);
-    partial_free(&memory);
+    check(partial_opening_close(&memory) == 0, "the memory closes", growth);
+    partial_opening_free(&memory);
     return code == 0;
 }
 
 static int close_without(long growth)
 {
     partial_handle memory = PARTIAL_EMPTY;
-    partial_open(initial, 2, &sizes, 2, &memory);
+    partial_opening_open(initial, 2, &sizes, 2, &memory);
     refuse(growth);
-    uint32_t code = partial_close(&memory);
+    uint32_t code = partial_opening_close(&memory);
     refuse(0);
     check(code == 0 || code == PARTIAL_OUT_OF_MEMORY, "a memory closes or is refused for memory", growth);
     check((code == 0) == (memory.held != NULL), "a lost memory leaves the handle empty", growth);
-    partial_free(&memory);
+    partial_opening_free(&memory);
     return code == 0;
 }
 
@@ -147,16 +147,16 @@ static int reopen_without(long growth)
     partial_handle memory = PARTIAL_EMPTY;
     partial_handle again = PARTIAL_EMPTY;
     uint64_t values[2] = {0, 0};
-    partial_open(initial, 2, &sizes, 1, &memory);
-    partial_close(&memory);
+    partial_opening_open(initial, 2, &sizes, 1, &memory);
+    partial_opening_close(&memory);
     refuse(growth);
-    uint32_t code = partial_reopen(&memory, 3, &sizes, 2, &again);
+    uint32_t code = partial_opening_reopen(&memory, 3, &sizes, 2, &again);
     refuse(0);
     check(code == 0 || code == PARTIAL_OUT_OF_MEMORY, "a memory reopens or is refused for memory", growth);
     check((code == 0) == (again.held != NULL), "a refused reopening leaves the handle empty", growth);
-    check(partial_values(&memory, values, 2) == 0 && values[1] == 4, "and the closed memory", growth);
-    partial_free(&again);
-    partial_free(&memory);
+    check(partial_opening_values(&memory, values, 2) == 0 && values[1] == 4, "and the closed memory", growth);
+    partial_opening_free(&again);
+    partial_opening_free(&memory);
     return code == 0;
 }
 

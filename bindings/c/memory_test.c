@@ -201,7 +201,7 @@ static void test_refused_calls(void)
     check(partial_port_scan_stamped(&port, which, 1, into, 1, stamps, 2, &scanned) == PARTIAL_LENGTH, "more room for stamps is refused");
     check(partial_port_scan_stamped(&port, which, 3, into, 3, stamps, 3, &scanned) == PARTIAL_LENGTH, "more positions than components are");
     check(partial_port_scan_stamped(&port, which + 1, 2, into, 2, stamps, 2, &scanned) == PARTIAL_COMPONENT, "stamps past the end are refused");
-    check(into[0] == 77 && into[1] == 77 && stamps[0] == 88 && stamps[1] == 88 && scanned.collects == 5, "and the caller's places are as they were");
+    check(into[0] == 77 && into[1] == 77 && stamps[0] == 88 && stamps[1] == 88 && scanned.collects == 5, "and the caller's answers are as they were");
     check(partial_port_update(&port, 2, 1, &set) == PARTIAL_COMPONENT && set.stamp == 5, "an update past the end is refused");
     check(partial_port_update_if(&port, 2, 1, 1, &set) == PARTIAL_COMPONENT && set.stamp == 5, "and a conditional one");
     check(partial_port_read(&port, 2, &read) == PARTIAL_COMPONENT && read.value == 5, "a read past the end is refused");
@@ -221,18 +221,18 @@ static void test_other_kind(void)
     partial_port port = PARTIAL_EMPTY;
     void *at_memory = &memory, *at_port = &port;
     partial_read_answer read = {5, 5};
-    check(partial_open(initial, 1, &sizes, 2, &opening) == 0 && partial_take_port(&opening, &own) == 0, "an opening opens");
+    check(partial_opening_open(initial, 1, &sizes, 2, &opening) == 0 && partial_opening_take_port(&opening, &own) == 0, "an opening opens");
     check(made(initial, 1, &tiny, &memory, &port, 1), "a memory is made beside it");
-    check(partial_read(at_port, 0, &read) == PARTIAL_HOLDS_NONE, "its port is none of an opening");
+    check(partial_opening_read(at_port, 0, &read) == PARTIAL_HOLDS_NONE, "its port is none of an opening");
     check(partial_port_read(at_own, 0, &read) == PARTIAL_HOLDS_NONE, "and an opening's port is none of a memory");
-    check(partial_take_port(at_memory, &none) == PARTIAL_HOLDS_NONE, "a memory is no opening");
+    check(partial_opening_take_port(at_memory, &none) == PARTIAL_HOLDS_NONE, "a memory is no opening");
     check(partial_memory_take_port(at_opening, at_none) == PARTIAL_HOLDS_NONE, "and an opening no memory");
-    check(partial_give_port(&opening, at_port) == PARTIAL_HOLDS_NONE, "a memory's port isn't returned to an opening");
+    check(partial_opening_give_port(&opening, at_port) == PARTIAL_HOLDS_NONE, "a memory's port isn't returned to an opening");
     check(partial_memory_give_port(at_memory, at_own) == PARTIAL_HOLDS_NONE, "nor an opening's to a memory");
-    check(partial_close(at_memory) == PARTIAL_HOLDS_NONE, "a memory isn't closed as an opening");
+    check(partial_opening_close(at_memory) == PARTIAL_HOLDS_NONE, "a memory isn't closed as an opening");
     check(partial_memory_close(at_opening, into, 1) == PARTIAL_HOLDS_NONE && into[0] == 77, "nor an opening as a memory");
-    partial_free(&own);
-    partial_free(&opening);
+    partial_opening_free(&own);
+    partial_opening_free(&opening);
     partial_port_free(&port);
     partial_memory_free(&memory);
 }

@@ -1,12 +1,11 @@
 /*
  * A wait-free, linearizable partial snapshot object for programs in C: components of
  * 64 bits that many threads share. Any port may update or read any component, and scan
- * any few of them as they stood together at one moment. Each call of a port ends,
- * whatever other threads do; the calls of a single opening do within a fixed number of
- * atomic steps.
+ * any few of them as they stood together at one moment. Each call of a port ends within a
+ * fixed number of atomic steps, whatever other threads do.
  *
  * A `partial_memory` never wears out, and its ports are `partial_port`s. A single opening
- * (`partial_handle`) wears out:
+ * (`partial_handle`, with functions named `partial_opening_`) wears out:
  * `docs/using/choosing.md` says what a program does then.
  *
  * What is proved, and what isn't
@@ -33,12 +32,12 @@
  * ------------------------------
  * - A pointer that isn't null points to what its type says, aligned. Nothing else
  *   reads or writes that during the call, and no two pointers of a call point to
- *   one place. A pointer with a number beside it is an array of so many elements.
+ *   one object. A pointer with a number beside it is an array of so many elements.
  *   A null pointer is refused by 23 before anything is done; only the pointer of an
  *   array of no elements may be null.
  * - A handle begins as PARTIAL_EMPTY, and only these functions change it. It isn't
  *   copied: of two copies of a handle, none may be used. It may be moved, if the
- *   old place is no longer used.
+ *   old object is no longer used.
  * - One call at a time uses a handle. It may move to another thread when a lock, the
  *   start or the join of a thread, or a sequentially consistent atomic orders its
  *   calls. Calls on different handles may run side by side.
@@ -197,29 +196,6 @@ typedef struct partial_port_state {
 } partial_port_state;
 
 /* The proved functions. No pointer that they are given may be null. */
-uint32_t partial_door_open(uint64_t opening, const uint64_t *initial, size_t components,
-                           const partial_sizes *sizes, uint32_t ports,
-                           partial_handle *memory);
-uint32_t partial_door_reopen(uint64_t opening, partial_handle *closed,
-                             uint32_t components, const partial_sizes *sizes,
-                             uint32_t ports, partial_handle *memory);
-uint32_t partial_door_take_port(partial_handle *memory, partial_handle *port);
-uint32_t partial_door_give_port(partial_handle *memory, partial_handle *port);
-uint32_t partial_door_update(partial_handle *port, uint32_t component, uint64_t value,
-                             partial_update_answer *answer);
-uint32_t partial_door_update_if(partial_handle *port, uint32_t component,
-                                uint64_t expected, uint64_t value,
-                                partial_update_answer *answer);
-uint32_t partial_door_read(partial_handle *port, uint32_t component,
-                           partial_read_answer *answer);
-uint32_t partial_door_scan(partial_handle *port, const uint32_t *which,
-                           size_t positions, uint64_t *into, size_t room,
-                           partial_scan_answer *answer);
-uint32_t partial_door_state(partial_handle *port, partial_port_state *answer);
-uint32_t partial_door_meet(partial_handle *first, partial_handle *second);
-uint32_t partial_door_close(partial_handle *memory);
-uint32_t partial_door_values(partial_handle *closed, uint64_t *into, size_t room);
-uint32_t partial_door_free(partial_handle *handle);
 uint32_t partial_door_memory_new(uint64_t number, const uint64_t *initial,
                                  size_t components, uint32_t ports,
                                  const partial_arena *arena, partial_memory *memory);
@@ -245,6 +221,30 @@ uint32_t partial_door_port_unchanged(partial_port *port, const uint32_t *which,
                                      size_t count, uint32_t *answer);
 uint32_t partial_door_port_meet(partial_port *first, partial_port *second);
 uint32_t partial_door_port_number(partial_port *port, uint32_t *answer);
+uint32_t partial_door_opening_open(uint64_t opening, const uint64_t *initial,
+                                   size_t components, const partial_sizes *sizes,
+                                   uint32_t ports, partial_handle *memory);
+uint32_t partial_door_opening_reopen(uint64_t opening, partial_handle *closed,
+                                     uint32_t components, const partial_sizes *sizes,
+                                     uint32_t ports, partial_handle *memory);
+uint32_t partial_door_opening_take_port(partial_handle *memory, partial_handle *port);
+uint32_t partial_door_opening_give_port(partial_handle *memory, partial_handle *port);
+uint32_t partial_door_opening_update(partial_handle *port, uint32_t component,
+                                     uint64_t value, partial_update_answer *answer);
+uint32_t partial_door_opening_update_if(partial_handle *port, uint32_t component,
+                                        uint64_t expected, uint64_t value,
+                                        partial_update_answer *answer);
+uint32_t partial_door_opening_read(partial_handle *port, uint32_t component,
+                                   partial_read_answer *answer);
+uint32_t partial_door_opening_scan(partial_handle *port, const uint32_t *which,
+                                   size_t positions, uint64_t *into, size_t room,
+                                   partial_scan_answer *answer);
+uint32_t partial_door_opening_state(partial_handle *port, partial_port_state *answer);
+uint32_t partial_door_opening_meet(partial_handle *first, partial_handle *second);
+uint32_t partial_door_opening_close(partial_handle *memory);
+uint32_t partial_door_opening_values(partial_handle *closed, uint64_t *into,
+                                     size_t room);
+uint32_t partial_door_free(partial_handle *handle);
 uint32_t partial_door_version(void);
 
 /* How many memories and openings were made in this program: the number of the last one. */
@@ -263,9 +263,10 @@ static inline uint64_t partial_next_number(void)
  * its arenas are.
  *
  * 23: a pointer is null. 31: the library is of another version than this header. 18: the
- * handle holds something. 5: there are not 1 to 64 ports. 1: there are not 1 to 65536 values. 3: there are more than 65536 list words. 4: the pool
- * words, with 4 for each port and 2 for each port and component, are more than 131072. 6:
- * an allocation was refused. The handle is as it was.
+ * handle holds something. 5: there are not 1 to 64 ports. 1: there are not 1 to 65536
+ * values. 3: there are more than 65536 list words. 4: the pool words, with 4 for each
+ * port and 2 for each port and component, are more than 131072. 6: an allocation was
+ * refused. The handle is as it was.
  */
 static inline uint32_t partial_memory_new_with(const uint64_t *initial, size_t components,
                                                uint32_t ports, const partial_arena *arena,
@@ -326,16 +327,16 @@ static inline uint32_t partial_memory_give_port(partial_memory *memory, partial_
 }
 
 /*
- * Closes a memory to which all ports were returned, and puts its values into `into`, which
- * has room for as many as it has components. They are those after one history, which
- * begins with all that each port had observed. The handle is empty afterwards.
+ * Closes a memory to which all ports were returned, and puts its values into `into`,
+ * which has room for as many as it has components. They are those after one history,
+ * which begins with all that each port had observed. The handle is empty afterwards.
  *
  * 23: a pointer is null. 17: the handle holds no memory. 19: `room` isn't the number of
  * components. 22: not all ports were returned. 24: all were, and another handle still
  * references the memory; a port that is returned gives up its reference, so a caller who
- * follows the rules above doesn't get it. After these the handle is as it was. 6: an allocation was
- * refused; nothing is lost, the memory may be closed later, and until then it gives out no
- * port. `into` is as it was.
+ * follows the rules above doesn't get it. After these the handle is as it was. 6: an
+ * allocation was refused; nothing is lost, the memory may be closed later, and until
+ * then it gives out no port. `into` is as it was.
  */
 static inline uint32_t partial_memory_close(partial_memory *memory, uint64_t *into,
                                             size_t room)
@@ -366,8 +367,8 @@ static inline uint32_t partial_memory_free(partial_memory *memory)
  * afterwards, and no other update has its stamp. Otherwise another update, with the
  * stamp in `answer`, took effect during the call and overwrote it.
  *
- * An applied update publishes what its thread wrote before: a thread that reads its value,
- * or a later one of this component, sees that. A lost one publishes nothing.
+ * An applied update publishes what its thread wrote before: a thread that reads its
+ * value, or a later one of this component, sees that. A lost one publishes nothing.
  *
  * 23: a pointer is null. 17: the handle holds no port. 7: `component` isn't below the
  * number of components. 25: the epoch was changed 16 times during the call. 26, 27: the
@@ -384,9 +385,9 @@ static inline uint32_t partial_port_update(partial_port *port, uint32_t componen
 }
 
 /*
- * Sets component `component` to `value` if it has the stamp `expected`, which a read or an
- * update of this memory has answered. Otherwise the component had another stamp, the one in
- * `answer`, at a moment of the call. No stamp of a memory ever comes back.
+ * Sets component `component` to `value` if it has the stamp `expected`, which a read or
+ * an update of this memory has answered. Otherwise the component had another stamp, the
+ * one in `answer`, at a moment of the call. No stamp of a memory ever comes back.
  *
  * The numbers are those of `partial_port_update`.
  */
@@ -439,15 +440,15 @@ static inline uint32_t partial_port_scan(partial_port *port,
 }
 
 /*
- * Scans the components in `which`, in this order and with repeats: `into` has their values
- * and `stamps` their stamps as they stood together at one moment of the call. `count` is how
- * many stamps there is room for. Where `answer` says that the scan took the view of an
- * update, which has no stamps, `stamps` is as it was.
+ * Scans the components in `which`, in this order and with repeats: `into` has their
+ * values and `stamps` their stamps as they stood together at one moment of the call.
+ * `count` is how many stamps there is room for. Where `answer` says that the scan took
+ * the view of an update, which has no stamps, `stamps` is as it was.
  *
  * 23: a pointer is null. 17: the handle holds no port. 19: `positions` and `room`, or
- * `positions` and `count`, differ, or there are more positions than components. 7: an index
- * in `which` isn't below the number of components. 26, 27: the epoch has to be changed and
- * can't be. `into`, `stamps` and `answer` are as they were.
+ * `positions` and `count`, differ, or there are more positions than components. 7: an
+ * index in `which` isn't below the number of components. 26, 27: the epoch has to be
+ * changed and can't be. `into`, `stamps` and `answer` are as they were.
  */
 static inline uint32_t partial_port_scan_stamped(partial_port *port,
                                                  const uint32_t *which, size_t positions,
@@ -472,8 +473,8 @@ static inline uint32_t partial_port_scan_stamped(partial_port *port,
  * moment of the call. It is 0 when a component isn't there, or had another stamp at a
  * moment of the call. `count` is how many stamps there are.
  *
- * 23: a pointer is null. 17: the handle holds no port. 19: `positions` and `count` differ.
- * `answer` is as it was.
+ * 23: a pointer is null. 17: the handle holds no port. 19: `positions` and `count`
+ * differ. `answer` is as it was.
  */
 static inline uint32_t partial_port_unchanged(partial_port *port,
                                               const uint32_t *which, size_t positions,
@@ -540,12 +541,12 @@ static inline uint32_t partial_port_free(partial_port *port)
  * `initial`, and holds `ports` ports.
  *
  * 23: a pointer is null. 31: the library is of another version than this header. 18: the
- * handle holds something. 1 to 4: the first size that is out of its range. 5: there are not 1 to 64 ports. 6: an allocation was refused. The
- * handle is as it was.
+ * handle holds something. 1 to 4: the first size that is out of its range. 5: there are
+ * not 1 to 64 ports. 6: an allocation was refused. The handle is as it was.
  */
-static inline uint32_t partial_open(const uint64_t *initial, size_t components,
-                                    const partial_sizes *sizes, uint32_t ports,
-                                    partial_handle *memory)
+static inline uint32_t partial_opening_open(const uint64_t *initial, size_t components,
+                                            const partial_sizes *sizes, uint32_t ports,
+                                            partial_handle *memory)
 {
     const uint64_t none = 0;
     if ((!initial && components) || !sizes || !memory) {
@@ -554,24 +555,26 @@ static inline uint32_t partial_open(const uint64_t *initial, size_t components,
     if (partial_door_version() != PARTIAL_VERSION_NUMBER) {
         return PARTIAL_OTHER_VERSION;
     }
-    return partial_door_open(partial_next_number(), initial ? initial : &none, components,
-                             sizes, ports, memory);
+    return partial_door_opening_open(partial_next_number(), initial ? initial : &none,
+                                     components, sizes, ports, memory);
 }
 
 /*
  * Opens a memory that goes on with the values of a closed one into the handle
  * `memory`. It has `components` components, and those that the closed memory didn't
  * have begin at 0. Stamps start anew. The closed memory stays, and can be reopened
- * again. `ports` as for `partial_open`.
+ * again. `ports` as for `partial_opening_open`.
  *
  * 23: a pointer is null. 30: both handles are one. 31: the library is of another version
- * than this header. 18: `memory` holds something. 17: `closed` holds no closed memory. 1 to 4: the first size that is out of its range. 5: there are not 1 to 64
- * ports. 13: the closed memory has more components. 6: an allocation was refused. Both
- * handles are as they were.
+ * than this header. 18: `memory` holds something. 17: `closed` holds no closed memory. 1
+ * to 4: the first size that is out of its range. 5: there are not 1 to 64 ports. 13: the
+ * closed memory has more components. 6: an allocation was refused. Both handles are as
+ * they were.
  */
-static inline uint32_t partial_reopen(partial_handle *closed, uint32_t components,
-                                      const partial_sizes *sizes, uint32_t ports,
-                                      partial_handle *memory)
+static inline uint32_t partial_opening_reopen(partial_handle *closed,
+                                              uint32_t components,
+                                              const partial_sizes *sizes,
+                                              uint32_t ports, partial_handle *memory)
 {
     if (!closed || !sizes || !memory) {
         return PARTIAL_NULL;
@@ -582,8 +585,8 @@ static inline uint32_t partial_reopen(partial_handle *closed, uint32_t component
     if (partial_door_version() != PARTIAL_VERSION_NUMBER) {
         return PARTIAL_OTHER_VERSION;
     }
-    return partial_door_reopen(partial_next_number(), closed, components, sizes, ports,
-                               memory);
+    return partial_door_opening_reopen(partial_next_number(), closed, components, sizes,
+                                       ports, memory);
 }
 
 /*
@@ -591,10 +594,11 @@ static inline uint32_t partial_reopen(partial_handle *closed, uint32_t component
  * holds its ports in the order of their numbers, which are counted from 0.
  *
  * 23: a pointer is null. 30: both handles are one. 18: `port` holds something. 17:
- * `memory` holds no open memory. 21: the memory holds no port. 6: an allocation was refused. Both handles are as
- * they were.
+ * `memory` holds no open memory. 21: the memory holds no port. 6: an allocation was
+ * refused. Both handles are as they were.
  */
-static inline uint32_t partial_take_port(partial_handle *memory, partial_handle *port)
+static inline uint32_t partial_opening_take_port(partial_handle *memory,
+                                                 partial_handle *port)
 {
     if (!memory || !port) {
         return PARTIAL_NULL;
@@ -602,7 +606,7 @@ static inline uint32_t partial_take_port(partial_handle *memory, partial_handle 
     if (memory == port) {
         return PARTIAL_SAME;
     }
-    return partial_door_take_port(memory, port);
+    return partial_door_opening_take_port(memory, port);
 }
 
 /*
@@ -612,7 +616,8 @@ static inline uint32_t partial_take_port(partial_handle *memory, partial_handle 
  * `port` no port. 20: the port is of another memory. 6: an allocation was refused. Both
  * handles are as they were.
  */
-static inline uint32_t partial_give_port(partial_handle *memory, partial_handle *port)
+static inline uint32_t partial_opening_give_port(partial_handle *memory,
+                                                 partial_handle *port)
 {
     if (!memory || !port) {
         return PARTIAL_NULL;
@@ -620,7 +625,7 @@ static inline uint32_t partial_give_port(partial_handle *memory, partial_handle 
     if (memory == port) {
         return PARTIAL_SAME;
     }
-    return partial_door_give_port(memory, port);
+    return partial_door_opening_give_port(memory, port);
 }
 
 /*
@@ -634,13 +639,14 @@ static inline uint32_t partial_give_port(partial_handle *memory, partial_handle 
  * number of components. 9: the port is marked for the pool, or this call marks it.
  * `answer` is as it was, and nothing was applied.
  */
-static inline uint32_t partial_update(partial_handle *port, uint32_t component,
-                                      uint64_t value, partial_update_answer *answer)
+static inline uint32_t partial_opening_update(partial_handle *port, uint32_t component,
+                                              uint64_t value,
+                                              partial_update_answer *answer)
 {
     if (!port || !answer) {
         return PARTIAL_NULL;
     }
-    return partial_door_update(port, component, value, answer);
+    return partial_door_opening_update(port, component, value, answer);
 }
 
 /*
@@ -648,16 +654,17 @@ static inline uint32_t partial_update(partial_handle *port, uint32_t component,
  * applied, the component had the stamp in `answer`, not the expected one, at a moment of
  * the call.
  *
- * Refusals as those of `partial_update`.
+ * Refusals as those of `partial_opening_update`.
  */
-static inline uint32_t partial_update_if(partial_handle *port, uint32_t component,
-                                         uint64_t expected, uint64_t value,
-                                         partial_update_answer *answer)
+static inline uint32_t partial_opening_update_if(partial_handle *port,
+                                                 uint32_t component, uint64_t expected,
+                                                 uint64_t value,
+                                                 partial_update_answer *answer)
 {
     if (!port || !answer) {
         return PARTIAL_NULL;
     }
-    return partial_door_update_if(port, component, expected, value, answer);
+    return partial_door_opening_update_if(port, component, expected, value, answer);
 }
 
 /*
@@ -666,13 +673,13 @@ static inline uint32_t partial_update_if(partial_handle *port, uint32_t componen
  * 23: a pointer is null. 17: the handle holds no port. 7: `component` isn't below the
  * number of components. `answer` is as it was.
  */
-static inline uint32_t partial_read(partial_handle *port, uint32_t component,
-                                    partial_read_answer *answer)
+static inline uint32_t partial_opening_read(partial_handle *port, uint32_t component,
+                                            partial_read_answer *answer)
 {
     if (!port || !answer) {
         return PARTIAL_NULL;
     }
-    return partial_door_read(port, component, answer);
+    return partial_door_opening_read(port, component, answer);
 }
 
 /*
@@ -684,18 +691,17 @@ static inline uint32_t partial_read(partial_handle *port, uint32_t component,
  * the number of components. 9, 8: the port is marked for the pool or the slots, or this
  * call marks it. `into` and `answer` are as they were.
  */
-static inline uint32_t partial_scan(partial_handle *port,
-                                    const uint32_t *which, size_t positions,
-                                    uint64_t *into, size_t room,
-                                    partial_scan_answer *answer)
+static inline uint32_t partial_opening_scan(partial_handle *port, const uint32_t *which,
+                                            size_t positions, uint64_t *into,
+                                            size_t room, partial_scan_answer *answer)
 {
     const uint32_t no_component = 0;
     uint64_t no_value = 0;
     if (!port || (!which && positions) || (!into && room) || !answer) {
         return PARTIAL_NULL;
     }
-    return partial_door_scan(port, which ? which : &no_component, positions,
-                             into ? into : &no_value, room, answer);
+    return partial_door_opening_scan(port, which ? which : &no_component, positions,
+                                     into ? into : &no_value, room, answer);
 }
 
 /*
@@ -703,12 +709,13 @@ static inline uint32_t partial_scan(partial_handle *port,
  *
  * 23: a pointer is null. 17: the handle holds no port. `answer` is as it was.
  */
-static inline uint32_t partial_state(partial_handle *port, partial_port_state *answer)
+static inline uint32_t partial_opening_state(partial_handle *port,
+                                             partial_port_state *answer)
 {
     if (!port || !answer) {
         return PARTIAL_NULL;
     }
-    return partial_door_state(port, answer);
+    return partial_door_opening_state(port, answer);
 }
 
 /*
@@ -718,7 +725,8 @@ static inline uint32_t partial_state(partial_handle *port, partial_port_state *a
  * 23: a pointer is null. 30: both handles are one. 17: a handle holds no port. 20: the
  * ports are of two memories. Both are as they were.
  */
-static inline uint32_t partial_meet(partial_handle *first, partial_handle *second)
+static inline uint32_t partial_opening_meet(partial_handle *first,
+                                            partial_handle *second)
 {
     if (!first || !second) {
         return PARTIAL_NULL;
@@ -726,7 +734,7 @@ static inline uint32_t partial_meet(partial_handle *first, partial_handle *secon
     if (first == second) {
         return PARTIAL_SAME;
     }
-    return partial_door_meet(first, second);
+    return partial_door_opening_meet(first, second);
 }
 
 /*
@@ -735,16 +743,16 @@ static inline uint32_t partial_meet(partial_handle *first, partial_handle *secon
  *
  * 23: the pointer is null. 17: the handle holds no open memory. 22: not all ports were
  * returned. 24: all were, and another handle still references the memory; a port that is
- * returned gives up its reference, so a caller who follows the rules above doesn't get it.
- * After these the handle is as it was. 6: an allocation was refused; the contents are lost, and
- * the handle is empty.
+ * returned gives up its reference, so a caller who follows the rules above doesn't get
+ * it. After these the handle is as it was. 6: an allocation was refused; the contents
+ * are lost, and the handle is empty.
  */
-static inline uint32_t partial_close(partial_handle *memory)
+static inline uint32_t partial_opening_close(partial_handle *memory)
 {
     if (!memory) {
         return PARTIAL_NULL;
     }
-    return partial_door_close(memory);
+    return partial_door_opening_close(memory);
 }
 
 /*
@@ -753,13 +761,14 @@ static inline uint32_t partial_close(partial_handle *memory)
  * 23: a pointer is null. 17: the handle holds no closed memory. 19: `room` isn't the
  * number of its components. `into` is as it was.
  */
-static inline uint32_t partial_values(partial_handle *closed, uint64_t *into, size_t room)
+static inline uint32_t partial_opening_values(partial_handle *closed, uint64_t *into,
+                                              size_t room)
 {
     uint64_t no_value = 0;
     if (!closed || (!into && room)) {
         return PARTIAL_NULL;
     }
-    return partial_door_values(closed, into ? into : &no_value, room);
+    return partial_door_opening_values(closed, into ? into : &no_value, room);
 }
 
 /*
@@ -767,7 +776,7 @@ static inline uint32_t partial_values(partial_handle *closed, uint64_t *into, si
  * the handles of all its ports are empty. Once a port was freed, its memory can't be
  * closed. Returns 0, or 23 when the pointer is null.
  */
-static inline uint32_t partial_free(partial_handle *handle)
+static inline uint32_t partial_opening_free(partial_handle *handle)
 {
     if (!handle) {
         return PARTIAL_NULL;

@@ -150,7 +150,7 @@ fn other(random: &mut Random) -> Vec<u8> {
     }
 }
 
-/// Scans of one port, and behind them updates of another one, each of which walks all the slots that the
+/// Scans of one port, and after them updates of another one, each of which walks all the slots that the
 /// scans have left, since there are no list words: many steps for few bytes.
 pub fn walk() -> Vec<u8> {
     let mut random = Random::new();

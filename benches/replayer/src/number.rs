@@ -13,7 +13,7 @@ const fn pairs() -> [[u8; 2]; 100] {
     pairs
 }
 
-/// Puts a number in decimal behind a text.
+/// Puts a number in decimal after a text.
 #[inline]
 pub fn push_number(text: &mut Vec<u8>, mut number: u64) {
     let mut digits = [0; 20];

@@ -8,7 +8,7 @@ use crate::port::Answer;
 pub enum Note {
     /// At this entry.
     Place(usize),
-    /// Behind so many entries.
+    /// After so many entries.
     Prefix(usize),
     None,
 }
@@ -21,7 +21,7 @@ impl Places {
         Places(vec![None; components as usize])
     }
 
-    /// The note of a call with this answer, that began behind so many entries and has just ended. The
+    /// The note of a call with this answer, that began after so many entries and has just ended. The
     /// positions are those of a scan.
     #[inline]
     pub fn note(&mut self, memory: &Memory, began: usize, positions: &[u32], answer: &Answer) -> Note {

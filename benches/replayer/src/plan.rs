@@ -25,7 +25,7 @@ pub struct Plan {
     pub ports: Vec<Vec<Call>>,
     /// Ports, with how many turns each gets.
     pub turns: Vec<(u32, u32)>,
-    /// Whether each port is run to its end behind them.
+    /// Whether each port is run to its end after them.
     pub rest: bool,
 }
 
@@ -69,10 +69,10 @@ impl Text<'_> {
     fn number(&mut self) -> Option<u64> {
         let (&first, mut rest) = self.0.split_first()?;
         let mut number = u64::from(digit(first)?);
-        while let [byte, behind @ ..] = rest {
+        while let [byte, after @ ..] = rest {
             let Some(digit) = digit(*byte) else { break };
             number = number.checked_mul(10)?.checked_add(u64::from(digit))?;
-            rest = behind;
+            rest = after;
         }
         self.0 = rest;
         Some(number)

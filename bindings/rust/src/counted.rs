@@ -28,7 +28,7 @@ impl<T> Counted<T> {
     pub fn new(value: T) -> Option<Counted<T>> {
         // SAFETY: the layout has the count, so its size isn't 0.
         let inner = NonNull::new(unsafe { alloc(Layout::new::<Inner<T>>()) }.cast::<Inner<T>>())?;
-        // SAFETY: the place was allocated for this, and nobody else knows it.
+        // SAFETY: the block was allocated for this, and nobody else knows it.
         unsafe { inner.write(Inner { count: AtomicUsize::new(1), value }) };
         Some(Counted { inner, owns: PhantomData })
     }
@@ -60,7 +60,7 @@ impl<T> Clone for Counted<T> {
 impl<T> Drop for Counted<T> {
     fn drop(&mut self) {
         if self.inner().count.fetch_sub(1, Ordering::AcqRel) == 1 {
-            // SAFETY: this was the last reference, and the place was allocated with the layout that a box has.
+            // SAFETY: this was the last reference, and the block was allocated with the layout that a box has.
             drop(unsafe { Box::from_raw(self.inner.as_ptr()) });
         }
     }

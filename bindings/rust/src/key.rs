@@ -38,14 +38,14 @@ impl Layout {
     }
 
     /// Adds a component with this value, and returns its key. [`Layout::open`] says when there are too many, or when an
-    /// allocation was refused here.
+    /// allocation was refused here; no call takes the keys of such a layout.
     pub fn add<T: Word>(&mut self, value: T) -> Key<T> {
         self.is_cut |= self.initial.try_reserve(1).is_err();
-        let component = u32::try_from(self.initial.len()).unwrap_or(u32::MAX);
+        let component = u16::try_from(self.initial.len()).unwrap_or(u16::MAX);
         if !self.is_cut {
             self.initial.push(value.to_word());
         }
-        Key { memory: self.memory, component, of: PhantomData }
+        Key { word: self.memory | u64::from(component), of: PhantomData }
     }
 
     /// Makes the memory, with 64 ports and arenas of the usual size.
@@ -99,8 +99,8 @@ impl Default for Layout {
 /// ```
 #[must_use]
 pub struct Key<T> {
-    memory: u64,
-    component: u32,
+    /// The number of the memory, a multiple of 65,536, and the component, which is less.
+    word: u64,
     of: PhantomData<fn(T) -> T>,
 }
 
@@ -120,18 +120,43 @@ impl<T> Key<T> {
     #[must_use]
     #[inline]
     pub fn component(self) -> u32 {
-        self.component
+        u32::from(self.word as u16)
+    }
+
+    /// The number of the memory.
+    fn memory(self) -> u64 {
+        self.word >> 16 << 16
+    }
+
+    /// The component if the key is one of this memory, and otherwise a number of more than 16 bits.
+    #[inline]
+    fn seen_from(self, memory: u64) -> u64 {
+        self.word ^ memory
     }
 
     /// The component, if the key is one of this memory.
     #[inline]
     pub(crate) fn of(self, memory: u64) -> Result<u32, Refused> {
-        if self.memory == memory {
-            Ok(self.component)
+        let component = self.seen_from(memory);
+        if is_component(component) {
+            Ok(component as u32)
         } else {
-            Err(Refused::Key)
+            Err(of_another_memory())
         }
     }
+}
+
+/// Whether a number that is a key seen from a memory, or several of them by `|`, has only components of that memory.
+#[inline]
+fn is_component(seen: u64) -> bool {
+    seen >> 16 == 0
+}
+
+/// The refusal of a key of another memory. A call of a cold function is kept out of the way of what isn't refused.
+#[cold]
+#[inline(never)]
+fn of_another_memory() -> Refused {
+    Refused::Key
 }
 
 impl<T> Clone for Key<T> {
@@ -144,7 +169,7 @@ impl<T> Copy for Key<T> {}
 
 impl<T> PartialEq for Key<T> {
     fn eq(&self, other: &Key<T>) -> bool {
-        (self.memory, self.component) == (other.memory, other.component)
+        self.word == other.word
     }
 }
 
@@ -152,13 +177,13 @@ impl<T> Eq for Key<T> {}
 
 impl<T> Hash for Key<T> {
     fn hash<H: Hasher>(&self, state: &mut H) {
-        (self.memory, self.component).hash(state);
+        self.word.hash(state);
     }
 }
 
 impl<T> fmt::Debug for Key<T> {
     fn fmt(&self, f: &mut fmt::Formatter<'_>) -> fmt::Result {
-        f.debug_struct("Key").field("memory", &self.memory).field("component", &self.component).finish()
+        f.debug_struct("Key").field("memory", &self.memory()).field("component", &self.component()).finish()
     }
 }
 
@@ -188,25 +213,27 @@ impl<T: Word, const N: usize> Keys for [Key<T>; N] {
 
     #[inline]
     fn snapshot(self, port: &mut Port) -> Result<[T; N], Refused> {
-        let which = components(self, port.memory())?;
+        let memory = port.memory();
+        let which = components(self.map(|key| key.seen_from(memory)))?;
         Ok(port.scan_array(which)?.map(T::from_word))
     }
 
     #[inline]
     fn stamped(self, port: &mut Port) -> Result<([T; N], Option<[Stamp; N]>), Refused> {
-        let which = components(self, port.memory())?;
+        let memory = port.memory();
+        let which = components(self.map(|key| key.seen_from(memory)))?;
         let (words, stamps) = port.scan_stamped(which)?;
         Ok((words.map(T::from_word), stamps))
     }
 }
 
-/// The components of these keys, if all are of this memory.
+/// The components of these keys, each seen from this memory, if all are of it. One branch compares them all.
 #[inline]
-fn components<T, const N: usize>(keys: [Key<T>; N], memory: u64) -> Result<[u32; N], Refused> {
-    if keys.iter().all(|key| key.memory == memory) {
-        Ok(keys.map(Key::component))
+fn components<const N: usize>(seen: [u64; N]) -> Result<[u32; N], Refused> {
+    if is_component(seen.iter().fold(0, |all, one| all | one)) {
+        Ok(seen.map(|component| component as u32))
     } else {
-        Err(Refused::Key)
+        Err(of_another_memory())
     }
 }
 
@@ -220,15 +247,15 @@ macro_rules! tuples {
 
             #[inline]
             fn snapshot(self, port: &mut Port) -> Result<Self::Values, Refused> {
-                let ($($word,)+) = self;
-                let [$($word),+] = port.scan_array([$($word.of(port.memory())?),+])?;
+                let (memory, ($($word,)+)) = (port.memory(), self);
+                let [$($word),+] = port.scan_array(components([$($word.seen_from(memory)),+])?)?;
                 Ok(($($of::from_word($word),)+))
             }
 
             #[inline]
             fn stamped(self, port: &mut Port) -> Result<(Self::Values, Option<[Stamp; $count]>), Refused> {
-                let ($($word,)+) = self;
-                let ([$($word),+], stamps) = port.scan_stamped([$($word.of(port.memory())?),+])?;
+                let (memory, ($($word,)+)) = (port.memory(), self);
+                let ([$($word),+], stamps) = port.scan_stamped(components([$($word.seen_from(memory)),+])?)?;
                 Ok((($($of::from_word($word),)+), stamps))
             }
         }

@@ -8,12 +8,17 @@ use std::fmt;
 use std::sync::atomic::{AtomicU64, Ordering};
 use std::sync::{Mutex, MutexGuard, PoisonError};
 
-// The number of the next memory. Each memory has a number of its own.
+// How many numbers of memories were given out. Each memory has a number of its own.
 static MEMORIES: AtomicU64 = AtomicU64::new(0);
 
-/// A number that no other memory has.
+/// A number that no other memory has: a multiple of 65,536, so that a key is the sum of this and of a component.
+///
+/// # Panics
+/// When 2^48 numbers were given out, which takes days that are spent on nothing else.
 pub(crate) fn next_number() -> u64 {
-    MEMORIES.fetch_add(1, Ordering::Relaxed)
+    let number = MEMORIES.fetch_add(1, Ordering::Relaxed);
+    assert!(number >> 48 == 0, "the numbers of memories are used up");
+    number << 16
 }
 
 /// The library's memory, which holds the ports that are free, and how many they are. It is empty once it is closed.

@@ -225,7 +225,7 @@ fn sizes_fit(components: usize, sizes: &Sizes, ports: u32) -> Ended {
     }
 }
 
-pub unsafe fn partial_door_open(
+pub unsafe fn partial_door_opening_open(
     _opening: u64,
     initial: *const u64,
     components: usize,
@@ -247,7 +247,7 @@ fn opening_of(sizes: &Sizes) -> Kind {
     Kind::Opening { pool: u64::from(sizes.pool_words), slots: sizes.slots }
 }
 
-pub unsafe fn partial_door_reopen(
+pub unsafe fn partial_door_opening_reopen(
     _opening: u64,
     closed: &mut Handle,
     components: u32,
@@ -269,7 +269,7 @@ pub unsafe fn partial_door_reopen(
     }))
 }
 
-pub unsafe fn partial_door_take_port(memory: &mut Handle, port: &mut Handle) -> u32 {
+pub unsafe fn partial_door_opening_take_port(memory: &mut Handle, port: &mut Handle) -> u32 {
     if !port.is_empty() {
         return HOLDS_ONE;
     }
@@ -279,7 +279,7 @@ pub unsafe fn partial_door_take_port(memory: &mut Handle, port: &mut Handle) -> 
     FINE
 }
 
-pub unsafe fn partial_door_give_port(memory: &mut Handle, port: &mut Handle) -> u32 {
+pub unsafe fn partial_door_opening_give_port(memory: &mut Handle, port: &mut Handle) -> u32 {
     let Held::Memory { table, seats, .. } = &mut memory.held else { return HOLDS_NONE };
     match take(&mut port.held) {
         Held::Port { table: own, seat } if is_same(&own, table) => {
@@ -314,7 +314,7 @@ fn close(memory: &mut Handle, room: Option<usize>) -> Result<Vec<u64>, u32> {
     Ok(values)
 }
 
-pub unsafe fn partial_door_close(memory: &mut Handle) -> u32 {
+pub unsafe fn partial_door_opening_close(memory: &mut Handle) -> u32 {
     number(close(memory, None).map(|values| memory.held = Held::Closed(values)))
 }
 
@@ -324,7 +324,7 @@ pub unsafe fn partial_door_memory_close(memory: &mut Handle, into: *mut u64, roo
     number(close(memory, Some(room)).map(|values| into.copy_from_slice(&values)))
 }
 
-pub unsafe fn partial_door_values(closed: &mut Handle, into: *mut u64, room: usize) -> u32 {
+pub unsafe fn partial_door_opening_values(closed: &mut Handle, into: *mut u64, room: usize) -> u32 {
     // SAFETY: the caller lends room for so many values.
     let into = unsafe { from_raw_parts_mut(into, room) };
     match &closed.held {
@@ -337,11 +337,16 @@ pub unsafe fn partial_door_values(closed: &mut Handle, into: *mut u64, room: usi
     }
 }
 
-pub unsafe fn partial_door_update(port: &mut Handle, component: u32, value: u64, answer: &mut UpdateAnswer) -> u32 {
+pub unsafe fn partial_door_opening_update(
+    port: &mut Handle,
+    component: u32,
+    value: u64,
+    answer: &mut UpdateAnswer,
+) -> u32 {
     number(update(port, component, None, value, answer))
 }
 
-pub unsafe fn partial_door_update_if(
+pub unsafe fn partial_door_opening_update_if(
     port: &mut Handle,
     component: u32,
     expected: u64,
@@ -370,7 +375,7 @@ fn update(port: &mut Handle, component: u32, expected: Option<u64>, value: u64, 
     Ok(())
 }
 
-pub unsafe fn partial_door_read(port: &mut Handle, component: u32, answer: &mut ReadAnswer) -> u32 {
+pub unsafe fn partial_door_opening_read(port: &mut Handle, component: u32, answer: &mut ReadAnswer) -> u32 {
     number(port.port().and_then(|(table, _)| {
         let cells = table.cells();
         let component = component as usize;
@@ -380,7 +385,7 @@ pub unsafe fn partial_door_read(port: &mut Handle, component: u32, answer: &mut 
     }))
 }
 
-pub unsafe fn partial_door_scan(
+pub unsafe fn partial_door_opening_scan(
     port: &mut Handle,
     which: *const u32,
     positions: usize,
@@ -461,7 +466,7 @@ pub unsafe fn partial_door_port_unchanged(
     }))
 }
 
-pub unsafe fn partial_door_meet(first: &mut Handle, second: &mut Handle) -> u32 {
+pub unsafe fn partial_door_opening_meet(first: &mut Handle, second: &mut Handle) -> u32 {
     number(first.port().and_then(|(one, _)| {
         let (other, _) = second.port()?;
         if is_same(one, other) {
@@ -472,7 +477,7 @@ pub unsafe fn partial_door_meet(first: &mut Handle, second: &mut Handle) -> u32 
     }))
 }
 
-pub unsafe fn partial_door_state(port: &mut Handle, answer: &mut PortState) -> u32 {
+pub unsafe fn partial_door_opening_state(port: &mut Handle, answer: &mut PortState) -> u32 {
     number(port.port().map(|(_, seat)| {
         *answer = PortState {
             number: seat.number,
@@ -488,10 +493,10 @@ pub unsafe fn partial_door_port_number(port: &mut Handle, answer: &mut u32) -> u
 
 // The calls of a memory that never wears out are those of an opening. A handle of the other kind never comes here: the
 // crate has types of its own for each.
-pub use partial_door_give_port as partial_door_memory_give_port;
-pub use partial_door_meet as partial_door_port_meet;
-pub use partial_door_read as partial_door_port_read;
-pub use partial_door_scan as partial_door_port_scan;
-pub use partial_door_take_port as partial_door_memory_take_port;
-pub use partial_door_update as partial_door_port_update;
-pub use partial_door_update_if as partial_door_port_update_if;
+pub use partial_door_opening_give_port as partial_door_memory_give_port;
+pub use partial_door_opening_meet as partial_door_port_meet;
+pub use partial_door_opening_read as partial_door_port_read;
+pub use partial_door_opening_scan as partial_door_port_scan;
+pub use partial_door_opening_take_port as partial_door_memory_take_port;
+pub use partial_door_opening_update as partial_door_port_update;
+pub use partial_door_opening_update_if as partial_door_port_update_if;

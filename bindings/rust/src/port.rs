@@ -1,4 +1,4 @@
-//! Ports: the tokens by which threads call a memory.
+//! Ports, by which threads call a memory.
 
 use crate::answers::loaded;
 use crate::counted::Counted;
@@ -37,7 +37,7 @@ impl Port {
     /// The port of this handle, which the library has filled.
     pub(crate) fn new(mut handle: Handle, shared: Counted<Shared>) -> Port {
         let mut number = 0;
-        // SAFETY: the handle and the place for the answer are borrowed for the call.
+        // SAFETY: the handle and the answer are borrowed for the call.
         let code = unsafe { raw::partial_door_port_number(&mut handle, &mut number) };
         assert_eq!(code, 0, "a port's handle holds a port");
         Port { handle, number, memory: shared.number, shared }
@@ -69,7 +69,7 @@ impl Port {
     #[inline]
     pub fn update(&mut self, component: u32, value: u64) -> Result<Updated, Refused> {
         let mut answer = raw::UpdateAnswer::default();
-        // SAFETY: the handle and the place for the answer are borrowed for the call.
+        // SAFETY: the handle and the answer are borrowed for the call.
         match unsafe { raw::partial_door_port_update(&mut self.handle, component, value, &mut answer) } {
             0 if answer.applied == 1 => Ok(Updated::Applied { stamp: self.stamp(answer.stamp) }),
             0 => Ok(Updated::Lost { by: self.stamp(answer.stamp) }),
@@ -103,7 +103,7 @@ impl Port {
             return Err(Refused::Stamp);
         }
         let mut answer = raw::UpdateAnswer::default();
-        // SAFETY: the handle and the place for the answer are borrowed for the call.
+        // SAFETY: the handle and the answer are borrowed for the call.
         let code =
             unsafe { raw::partial_door_port_update_if(&mut self.handle, component, expected.word, value, &mut answer) };
         match code {
@@ -205,7 +205,7 @@ impl Port {
     #[inline]
     pub fn read(&mut self, component: u32) -> Result<Value, Refused> {
         let mut answer = raw::ReadAnswer::default();
-        // SAFETY: the handle and the place for the answer are borrowed for the call.
+        // SAFETY: the handle and the answer are borrowed for the call.
         match unsafe { raw::partial_door_port_read(&mut self.handle, component, &mut answer) } {
             0 => Ok(Value { value: answer.value, stamp: self.stamp(answer.stamp) }),
             code => Err(Refused::of(code)),
@@ -331,7 +331,7 @@ impl Port {
     #[inline]
     fn scan_words(&mut self, which: &[u32], into: &mut [u64], words: &mut [u64]) -> Result<bool, Refused> {
         let mut answer = raw::ScanAnswer::default();
-        // SAFETY: the handle, the slices and the place for the answer are borrowed for the call.
+        // SAFETY: the handle, the slices and the answer are borrowed for the call.
         let code = unsafe {
             raw::partial_door_port_scan_stamped(
                 &mut self.handle,
@@ -415,7 +415,7 @@ impl Port {
     #[inline]
     fn have_stamps(&mut self, which: &[u32], words: &[u64]) -> Result<bool, Refused> {
         let mut answer = 0;
-        // SAFETY: the handle, both slices and the place for the answer are borrowed for the call.
+        // SAFETY: the handle, both slices and the answer are borrowed for the call.
         let code = unsafe {
             raw::partial_door_port_unchanged(
                 &mut self.handle,
@@ -485,7 +485,7 @@ impl Port {
 #[inline]
 fn scan_by(port: &mut Handle, which: &[u32], into: &mut [u64]) -> Result<raw::ScanAnswer, Refused> {
     let mut answer = raw::ScanAnswer::default();
-    // SAFETY: the handle, both slices and the place for the answer are borrowed for the call.
+    // SAFETY: the handle, both slices and the answer are borrowed for the call.
     let code = unsafe {
         raw::partial_door_port_scan(port, which.as_ptr(), which.len(), into.as_mut_ptr(), into.len(), &mut answer)
     };

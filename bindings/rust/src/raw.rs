@@ -83,7 +83,7 @@ unsafe extern "C" {
     ) -> u32;
     pub fn partial_door_port_meet(first: *mut Handle, second: *mut Handle) -> u32;
     pub fn partial_door_port_number(port: *mut Handle, answer: *mut u32) -> u32;
-    pub fn partial_door_open(
+    pub fn partial_door_opening_open(
         opening: u64,
         initial: *const u64,
         components: usize,
@@ -91,7 +91,7 @@ unsafe extern "C" {
         ports: u32,
         memory: *mut Handle,
     ) -> u32;
-    pub fn partial_door_reopen(
+    pub fn partial_door_opening_reopen(
         opening: u64,
         closed: *mut Handle,
         components: u32,
@@ -99,18 +99,19 @@ unsafe extern "C" {
         ports: u32,
         memory: *mut Handle,
     ) -> u32;
-    pub fn partial_door_take_port(memory: *mut Handle, port: *mut Handle) -> u32;
-    pub fn partial_door_give_port(memory: *mut Handle, port: *mut Handle) -> u32;
-    pub fn partial_door_update(port: *mut Handle, component: u32, value: u64, answer: *mut UpdateAnswer) -> u32;
-    pub fn partial_door_update_if(
+    pub fn partial_door_opening_take_port(memory: *mut Handle, port: *mut Handle) -> u32;
+    pub fn partial_door_opening_give_port(memory: *mut Handle, port: *mut Handle) -> u32;
+    pub fn partial_door_opening_update(port: *mut Handle, component: u32, value: u64, answer: *mut UpdateAnswer)
+        -> u32;
+    pub fn partial_door_opening_update_if(
         port: *mut Handle,
         component: u32,
         expected: u64,
         value: u64,
         answer: *mut UpdateAnswer,
     ) -> u32;
-    pub fn partial_door_read(port: *mut Handle, component: u32, answer: *mut ReadAnswer) -> u32;
-    pub fn partial_door_scan(
+    pub fn partial_door_opening_read(port: *mut Handle, component: u32, answer: *mut ReadAnswer) -> u32;
+    pub fn partial_door_opening_scan(
         port: *mut Handle,
         which: *const u32,
         positions: usize,
@@ -118,10 +119,10 @@ unsafe extern "C" {
         room: usize,
         answer: *mut ScanAnswer,
     ) -> u32;
-    pub fn partial_door_state(port: *mut Handle, answer: *mut PortState) -> u32;
-    pub fn partial_door_meet(first: *mut Handle, second: *mut Handle) -> u32;
-    pub fn partial_door_close(memory: *mut Handle) -> u32;
-    pub fn partial_door_values(closed: *mut Handle, into: *mut u64, room: usize) -> u32;
+    pub fn partial_door_opening_state(port: *mut Handle, answer: *mut PortState) -> u32;
+    pub fn partial_door_opening_meet(first: *mut Handle, second: *mut Handle) -> u32;
+    pub fn partial_door_opening_close(memory: *mut Handle) -> u32;
+    pub fn partial_door_opening_values(closed: *mut Handle, into: *mut u64, room: usize) -> u32;
     pub fn partial_door_free(handle: *mut Handle) -> u32;
     pub fn partial_door_version() -> u32;
 }

@@ -51,9 +51,9 @@ pub(crate) fn pool_of(components: usize, ports: u32, arena: &Arena) -> u64 {
 pub(crate) fn bytes(components: usize, ports: u32, arena: &Arena) -> usize {
     let pool = pool_of(components, ports, arena);
     let (m, ports, lists) = (components as u64, u64::from(ports), u64::from(arena.list_words));
-    let behind = pool + kept(m, ports);
-    let rest = 5 * m + 4 + lists + behind;
-    let slots = behind.div_ceil(2);
+    let claimed = pool + kept(m, ports);
+    let rest = 5 * m + 4 + lists + claimed;
+    let slots = claimed.div_ceil(2);
     let slots = (slots + 15 - (rest + slots - 1) % 16).min(MOST_SLOTS);
     let control = 1 + ports + 2 * ports;
     let first = control + 15 - (control + 3 + m) % 16;

@@ -28,9 +28,9 @@ unsafe impl GlobalAlloc for Counting {
         System.alloc(block)
     }
 
-    unsafe fn dealloc(&self, place: *mut u8, block: Block) {
+    unsafe fn dealloc(&self, pointer: *mut u8, block: Block) {
         HELD.set(HELD.get() - 1);
-        System.dealloc(place, block);
+        System.dealloc(pointer, block);
     }
 }
 

@@ -260,7 +260,7 @@ fn no_conditional_increment_is_lost_over_many_epochs() {
 }
 
 #[test]
-fn errors_and_tokens_may_go_to_other_threads() {
+fn errors_and_ports_may_go_to_other_threads() {
     fn is_error<E: Error + Send + Sync + 'static>() {}
     fn is_shared<T: Send + Sync + 'static>() {}
     is_error::<OpenError>();

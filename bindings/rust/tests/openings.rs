@@ -78,7 +78,7 @@ fn a_port_is_marked_for_its_slots() {
 }
 
 #[test]
-fn errors_and_tokens_may_go_to_other_threads() {
+fn errors_and_ports_may_go_to_other_threads() {
     fn is_error<E: Error + Send + Sync + 'static>() {}
     fn is_shared<T: Send + Sync + 'static>() {}
     is_error::<OpenError>();

@@ -158,6 +158,46 @@ fn a_key_of_another_memory_is_refused() {
     assert_eq!((port.get(load), other.get(strange)), (Ok(0.25), Ok(0.25)));
 }
 
+/// A key carries the number of its memory and its component in one word.
+#[test]
+fn a_key_is_of_one_memory_alone_however_far_apart_their_numbers_are() {
+    let mut layouts: Vec<Layout> = Vec::new();
+    for made in 0..200_000_u32 {
+        let layout = Layout::new();
+        if made.is_power_of_two() || made == 199_999 {
+            layouts.push(layout);
+        }
+    }
+    let keys: Vec<[Key<u32>; 3]> = layouts.iter_mut().map(|layout| [1, 2, 3].map(|value| layout.add(value))).collect();
+    for (at, layout) in layouts.into_iter().enumerate() {
+        let memory = layout.open_with(Memory::builder().ports(1).pool_words(64)).expect("a memory is made");
+        let mut port = memory.port().expect("a port is free");
+        for (of, &[a, b, c]) in keys.iter().enumerate() {
+            let is_own = of == at;
+            assert_eq!([a, b, c].map(Key::component), [0, 1, 2]);
+            assert_eq!(port.get(c), if is_own { Ok(3) } else { Err(Refused::Key) });
+            assert_eq!(port.snapshot((c, a, b)), if is_own { Ok((3, 1, 2)) } else { Err(Refused::Key) });
+            let [first, second, third] = keys[at];
+            let mixed = if is_own { Ok([3, 1, 2]) } else { Err(Refused::Key) };
+            assert_eq!(port.snapshot([third, first, b]), mixed);
+            assert_eq!(port.snapshot([c, first, second]), mixed);
+        }
+    }
+}
+
+#[test]
+fn the_greatest_layout_has_a_key_for_each_component() {
+    let mut layout = Layout::new();
+    let keys: Vec<Key<u32>> = (0..57_342).map(|value| layout.add(value)).collect();
+    let memory = layout.open_with(Memory::builder().ports(1)).expect("a memory is made");
+    let mut port = memory.port().expect("a port is free");
+    assert_eq!(port.snapshot((keys[57_341], keys[0])), Ok((57_341, 0)));
+    let mut layout = Layout::new();
+    let keys: Vec<Key<u32>> = (0..65_538).map(|value| layout.add(value)).collect();
+    assert_eq!([65_535, 65_537].map(|at| keys[at].component()), [65_535, 65_535]);
+    assert_eq!(layout.open_with(Memory::builder().ports(1)).err(), Some(OpenError::Components));
+}
+
 #[test]
 fn keys_of_one_component_are_equal_and_no_others() {
     let (mut one, mut other) = (Layout::new(), Layout::default());

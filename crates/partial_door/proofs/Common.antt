@@ -27,5 +27,5 @@ pub use Rattle.partial_words.specs.Layout.{Layout, pool_base}
 pub use Rattle.partial_memory.specs.Ports.{IsOf, MemoryView, new_ports}
 pub use Rattle.partial_long_lived.specs.Ports.{PortView}
 pub use Rattle.partial_door.specs.declared.held.Held.{Held}
-pub use Rattle.partial_door.specs.Inner.{Kept.{IsUnclosed, IsMemoryKept}, Long.{IsUnclosedLong, IsUnready}}
-pub use Rattle.partial_door.specs.{LongMemories.IsNewMemory, Memories.{ClosesAt, HasOpened}, Owned.handle_owns}
+pub use Rattle.partial_door.specs.Inner.{Openings.{IsUnclosedOpening, IsOpeningKept}, Memories.{IsUnclosed, IsUnready}}
+pub use Rattle.partial_door.specs.{Memories.IsNewMemory, OpeningMemories.{ClosesOpening, HasOpened}, Owned.handle_owns}

@@ -1,5 +1,5 @@
 mod Common
 pub mod AsBox
 pub mod HandleSteps
+pub mod OpenedOpening
 pub mod Opened
-pub mod OpenedLong

@@ -1,12 +1,12 @@
--- What the calls leave of a handle.
-use Rattle.std.specs.Prelude.{ℕ, ◌≡◌, ◌⊎◌, List}
+-- What the calls of long-lived memories leave of a handle.
+use Rattle.std.specs.Prelude.{ℕ, ◌≡◌, ◌⊎◌, List, length}
 use Rattle.std.specs.declared.option.Option.{Option}
 use Rattle.std.specs.declared.option.Option.TheVariants.{None, Some}
-use Rattle.partial_memory.specs.Ports.{PortView}
+use Rattle.partial_long_lived.specs.declared.options.Options.{Options}
+use Rattle.partial_long_lived.specs.Ports.{PortView}
 use Rattle.partial_door.specs.declared.held.Held.{Held}
-use Rattle.partial_words.specs.Layout.{Layout}
 use Rattle.partial_door.specs.Calls.{AtPort}
-use Rattle.partial_door.specs.Memories.{ClosesAt, CopiesValues, GivesPort, HoldsOpened, HoldsReopened, MayLose, MayNotClose, MayNotGive, MayNotOpenWith, MayNotReopenWith, MayNotTake, MeetsAt, StaysHome, TakesPort}
+use Rattle.partial_door.specs.Memories.{ClosesAt, GivesPort, HoldsNew, KeepsAll, MayNotBeNew, MayNotClose, MayNotGive, MayNotTake, MeetsAt, KeepsPorts, TakesPort}
 
 -- a call of a port on a handle: when it holds nothing the number is 17, and the caller's answer stays
 abbrev pub AtHandle : Type 0 → (PortView → ℕ → PortView → Type 0) → Option Held → ℕ → Option Held → Type 0
@@ -15,19 +15,11 @@ AtHandle stays done before code after =
     ⊎ ((h : Held) × (k : Held) × (before ≡ Some h) × (after ≡ Some k) × AtPort stays done h code k)
 
 -- an opening into a handle: one that holds something is as it was, and so is one for which nothing opened
-abbrev pub OpensAt : ℕ → Layout → List ℕ → ℕ → Option Held → ℕ → Option Held → Type 0
-OpensAt opening z initial ports before code after =
+abbrev pub OpensNewAt : ℕ → List ℕ → ℕ → Options → Option Held → ℕ → Option Held → Type 0
+OpensNewAt number initial ports o before code after =
     ((h : Held) × (before ≡ Some h) × (after ≡ Some h) × (code ≡ 18))
-    ⊎ ((h : Held) × (before ≡ None) × (after ≡ Some h) × (code ≡ 0) × HoldsOpened opening z initial ports h)
-    ⊎ ((before ≡ None) × (after ≡ None) × MayNotOpenWith z ports code)
-
--- an opening of a closed memory's values into a handle likewise: one that holds something comes first, then a handle of no closed memory
-abbrev pub ReopensAt : ℕ → Option Held → Layout → ℕ → Option Held → ℕ → Option Held → Type 0
-ReopensAt opening closed z ports before code after =
-    ((h : Held) × (before ≡ Some h) × (after ≡ Some h) × (code ≡ 18))
-    ⊎ ((before ≡ None) × (after ≡ None) × (closed ≡ None) × (code ≡ 17))
-    ⊎ ((c : Held) × (h : Held) × (before ≡ None) × (after ≡ Some h) × (closed ≡ Some c) × (code ≡ 0) × HoldsReopened opening c z ports h)
-    ⊎ ((c : Held) × (before ≡ None) × (after ≡ None) × (closed ≡ Some c) × MayNotReopenWith c z ports code)
+    ⊎ ((h : Held) × (before ≡ None) × (after ≡ Some h) × (code ≡ 0) × HoldsNew number initial ports o h)
+    ⊎ ((before ≡ None) × (after ≡ None) × MayNotBeNew initial ports o code)
 
 -- why a port isn't taken out of a memory into a handle: that holds something, or nothing is there to take it out of, or no port is
 abbrev pub MayNotTakeAt : Option Held → Option Held → ℕ → Type 0
@@ -49,8 +41,17 @@ GivesAt memory port code memory' port' =
     ((h : Held) × (k : Held) × (p : Held) × (memory ≡ Some h) × (port ≡ Some p) × (memory' ≡ Some k) × (port' ≡ None) × (code ≡ 0)
     × GivesPort h p k)
     ⊎ ((h : Held) × (k : Held) × (p : Held) × (memory ≡ Some h) × (port ≡ Some p) × (memory' ≡ Some k) × (port' ≡ port)
-    × StaysHome h k × MayNotGive h p code)
+    × KeepsPorts h k × MayNotGive h p code)
     ⊎ (((memory ≡ None) ⊎ (port ≡ None)) × (memory' ≡ memory) × (port' ≡ port) × (code ≡ 17))
+
+-- a memory is closed and leaves its handle empty, or both it and the caller's values are as they were, or an allocation was refused, and the
+-- handle holds the memory with all its ports for a later close
+abbrev pub ClosesHandle : Option Held → List ℕ → ℕ → Option Held → List ℕ → Type 0
+ClosesHandle before room code after values =
+    ((before ≡ None) × (after ≡ None) × (code ≡ 17) × (values ≡ room))
+    ⊎ ((h : Held) × (before ≡ Some h) × (after ≡ None) × (code ≡ 0) × ClosesAt h values)
+    ⊎ ((h : Held) × (before ≡ Some h) × (after ≡ before) × (values ≡ room) × MayNotClose h (length room) code)
+    ⊎ ((h : Held) × (k : Held) × (before ≡ Some h) × (after ≡ Some k) × (values ≡ room) × (code ≡ 6) × KeepsAll h k)
 
 -- two ports meet, and an empty handle lets none meet
 abbrev pub MeetsHandles : Option Held → Option Held → ℕ → Option Held → Option Held → Type 0
@@ -58,17 +59,3 @@ MeetsHandles first second code first' second' =
     ((g : Held) × (h : Held) × (k : Held) × (l : Held) × (first ≡ Some g) × (second ≡ Some h) × (first' ≡ Some k) × (second' ≡ Some l)
     × MeetsAt g h code k l)
     ⊎ (((first ≡ None) ⊎ (second ≡ None)) × (first' ≡ first) × (second' ≡ second) × (code ≡ 17))
-
--- a memory is closed in its handle, or stays open, or is lost and leaves the handle empty
-abbrev pub ClosesHandle : Option Held → ℕ → Option Held → Type 0
-ClosesHandle before code after =
-    ((before ≡ None) × (after ≡ None) × (code ≡ 17))
-    ⊎ ((h : Held) × (k : Held) × (before ≡ Some h) × (after ≡ Some k) × (code ≡ 0) × ClosesAt h k)
-    ⊎ ((h : Held) × (before ≡ Some h) × (after ≡ before) × MayNotClose h code)
-    ⊎ ((h : Held) × (before ≡ Some h) × (after ≡ None) × (code ≡ 6) × MayLose h)
-
--- the values are copied when a closed memory is held, and otherwise the caller's stay
-abbrev pub CopiesAt : Option Held → List ℕ → ℕ → List ℕ → Type 0
-CopiesAt held before code after =
-    ((held ≡ None) × (code ≡ 17) × (after ≡ before))
-    ⊎ ((h : Held) × (held ≡ Some h) × CopiesValues h before code after)

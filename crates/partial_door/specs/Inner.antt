@@ -1,3 +1,3 @@
 -- What the contracts of private functions cite.
-pub mod Kept
-pub mod Long
+pub mod Openings
+pub mod Memories

@@ -1,11 +1,11 @@
-pub mod Home
+pub mod Belonging
 pub mod Owned
+pub mod OpeningCalls
+pub mod OpeningExports
 pub mod Calls
 pub mod Exports
-pub mod LongCalls
-pub mod LongExports
-pub mod LongMemories
 pub mod Memories
+pub mod OpeningMemories
 pub mod Misuses
 pub mod Inner
 pub mod Lending

@@ -1,8 +1,8 @@
 //! The answers of the calls, laid out as in C.
 
 ghost use Rattle.std.specs.Prelude.{◌≡◌};
-ghost use Rattle.partial_door.specs.Calls.{port_state as state_of, scan_answer as answer_of};
-ghost use Rattle.partial_door.specs.LongCalls.{long_update_answer, long_update_if_answer};
+ghost use Rattle.partial_door.specs.OpeningCalls.{port_state as state_of, scan_answer as answer_of};
+ghost use Rattle.partial_door.specs.Calls.{update_answer as update_of, update_if_answer as update_if_of};
 
 use partial_long_lived::{Updated, UpdatedIf};
 use partial_memory::{Port, Scanned};
@@ -77,7 +77,7 @@ pub struct ArenaSizes {
 
 /// Lays out how an update of a long-lived memory ended.
 pub fn update_answer(updated: Updated) -> UpdateAnswer
-    ensures { result ≡ long_update_answer updated }
+    ensures { result ≡ update_of updated }
 {
     match updated {
         Updated::Applied { stamp } => UpdateAnswer { stamp, applied: 1 },
@@ -90,7 +90,7 @@ pub fn update_answer(updated: Updated) -> UpdateAnswer
 
 /// Lays out how a conditional update of a long-lived memory ended.
 pub fn update_if_answer(updated: UpdatedIf) -> UpdateAnswer
-    ensures { result ≡ long_update_if_answer updated }
+    ensures { result ≡ update_if_of updated }
 {
     match updated {
         UpdatedIf::Applied { stamp } => UpdateAnswer { stamp, applied: 1 },

@@ -9,8 +9,8 @@ ghost use Rattle.partial_model.specs.Refusals.{refused_code};
 ghost use Rattle.partial_long_lived.specs.Refusals.{refusal_code};
 ghost use Rattle.partial_door.specs.Misuses.{misuse_code};
 
-use partial_long_lived::Refused as LongRefused;
-use partial_model::Refused;
+use partial_long_lived::Refused;
+use partial_model::Refused as RefusedByOpening;
 
 /// The call was answered.
 pub const FINE: u32 = 0;
@@ -61,7 +61,7 @@ impl Misuse {
 /// The number of a refusal by a single opening.
 #[cold]
 #[inline(never)]
-pub fn code_of(refused: Refused) -> u32
+pub fn opening_code_of(refused: RefusedByOpening) -> u32
     ensures { result ≡ refused_code refused }
 {
     u32::from(refused.code())
@@ -70,7 +70,7 @@ pub fn code_of(refused: Refused) -> u32
 /// The number of a refusal by a long-lived memory.
 #[cold]
 #[inline(never)]
-pub fn long_code_of(cause: LongRefused) -> u32
+pub fn code_of(cause: Refused) -> u32
     ensures { result ≡ refusal_code cause }
 {
     u32::from(cause.code())

@@ -1,25 +1,26 @@
-//! The functions that are called from C. Each returns 0 when the call was answered, and otherwise the
-//! number of the first refusal that holds. When it is refused, handles and answers stay as they were, apart
-//! from the one case named at [`partial_door_close`].
+//! The functions for long-lived memories that are called from C. Each returns 0 when the call was answered,
+//! and otherwise the number of the first refusal that holds. When it is refused, handles, answers and values
+//! stay as they were, apart from the one case named at [`partial_door_memory_close`].
 
-ghost use Rattle.std.specs.Prelude.{◌≡◌, length, None, Some};
+ghost use Rattle.std.specs.Prelude.{◌≡◌, Some};
 ghost use Rattle.partial_door.specs.declared.held.Held.{Held as HeldType};
-ghost use Rattle.partial_door.specs.Memories.{AreHeldApart, layout_of};
-ghost use Rattle.partial_door.specs.Calls.{ReadEnds, ScanEnds, StateEnds, UpdateEnds, UpdateIfEnds};
-ghost use Rattle.partial_door.specs.Exports.{AtHandle, ClosesHandle, CopiesAt, GivesAt, MeetsHandles, OpensAt, ReopensAt, TakesAt};
+ghost use Rattle.partial_door.specs.Calls.{NumberEnds, ReadEnds, ScanEnds, ScanStampedEnds, UnchangedEnds, UpdateEnds, UpdateIfEnds};
+ghost use Rattle.partial_door.specs.Memories.{AreHeldApart, ArePortsApart, options_of};
+ghost use Rattle.partial_door.specs.Exports.{AtHandle, ClosesHandle, GivesAt, MeetsHandles, OpensNewAt, TakesAt};
 
-use crate::answers::{PortState, ReadAnswer, RoomSizes, ScanAnswer, UpdateAnswer};
-use crate::codes::{FINE, HOLDS_NONE, HOLDS_ONE, Misuse, OUT_OF_MEMORY, VERSION};
+use crate::answers::{ArenaSizes, ReadAnswer, ScanAnswer, UpdateAnswer};
+use crate::codes::{FINE, HOLDS_NONE, HOLDS_ONE, Misuse};
 use crate::handle::Handle;
-use crate::memories::{Unclosed, open};
+use crate::memories::{open, options_for};
 use std::alloc::Global;
 
 /// Sets a component.
 ///
-/// Returns 17 when the handle holds no port, 7 when `component` isn't below the number of components, and 9
-/// when the port is marked for the pool or this call marks it.
+/// Returns 17 when the handle holds no port of a long-lived memory, 7 when `component` isn't below the number
+/// of components, 25 when the port entered a later epoch 16 times during the call, and 26 or 27 when the epoch
+/// has to be changed and can't be.
 #[unsafe(no_mangle)]
-pub extern "C" fn partial_door_update(
+pub extern "C" fn partial_door_port_update(
     port: &mut Handle,
     component: u32,
     value: u64,
@@ -34,19 +35,19 @@ pub extern "C" fn partial_door_update(
     held.update(component, value, answer)
 }
 
-/// Sets a component if it has the expected stamp.
+/// Sets a component that has the expected stamp. Otherwise `answer` has the stamp that it had instead.
 ///
-/// Returns numbers as [`partial_door_update`].
+/// Returns what [`partial_door_port_update`] returns.
 #[unsafe(no_mangle)]
-pub extern "C" fn partial_door_update_if(
+pub extern "C" fn partial_door_port_update_if(
     port: &mut Handle,
     component: u32,
     expected: u64,
     value: u64,
     answer: &mut UpdateAnswer,
 ) -> u32
-    ensures { AtHandle (answer.new ≡ answer.old) (UpdateIfEnds component expected value answer.old answer.new)
-        port.old.held result port.new.held }
+    ensures { AtHandle (answer.new ≡ answer.old)
+        (UpdateIfEnds component expected value answer.old answer.new) port.old.held result port.new.held }
 {
     let Some(held) = port.held() else {
         return Misuse::HoldsNone.code();
@@ -56,9 +57,10 @@ pub extern "C" fn partial_door_update_if(
 
 /// Reads a component: its value and its stamp.
 ///
-/// Returns 17 when the handle holds no port, and 7 when `component` isn't below the number of components.
+/// Returns 17 when the handle holds no port of a long-lived memory, and 7 when `component` isn't below the
+/// number of components.
 #[unsafe(no_mangle)]
-pub extern "C" fn partial_door_read(
+pub extern "C" fn partial_door_port_read(
     port: &mut Handle,
     component: u32,
     answer: &mut ReadAnswer,
@@ -74,11 +76,11 @@ pub extern "C" fn partial_door_read(
 
 /// Scans the components `which` into `into`.
 ///
-/// Returns 17 when the handle holds no port, 19 when the two lengths differ or exceed the number of
-/// components, 7 when an index isn't below that number, and 9 or 8 when the port is marked for the pool or
-/// the slots, or this call marks it.
+/// Returns 17 when the handle holds no port of a long-lived memory, 19 when the two lengths differ or exceed
+/// the number of components, 7 when an index isn't below that number, and 26 or 27 when the epoch has to be
+/// changed and can't be.
 #[unsafe(no_mangle)]
-pub extern "C" fn partial_door_scan(
+pub extern "C" fn partial_door_port_scan(
     port: &mut Handle,
     which: &[u32],
     into: &mut [u64],
@@ -93,78 +95,101 @@ pub extern "C" fn partial_door_scan(
     held.scan(which, into, answer)
 }
 
-/// Reports the number and the marks of a port.
+/// Scans the components `which` into `into`, and their stamps into `stamps`, unless the scan took the view of an
+/// update, which `answer` says: then `stamps` stays.
 ///
-/// Returns 17 when the handle holds no port.
+/// Returns 17 when the handle holds no port of a long-lived memory, 19 when two of the three lengths differ or
+/// they exceed the number of components, 7 when an index isn't below that number, and 26 or 27 when the epoch has
+/// to be changed and can't be.
 #[unsafe(no_mangle)]
-pub extern "C" fn partial_door_state(port: &mut Handle, answer: &mut PortState) -> u32
-    ensures { AtHandle (answer.new ≡ answer.old) (StateEnds answer.new) port.old.held result port.new.held }
+pub extern "C" fn partial_door_port_scan_stamped(
+    port: &mut Handle,
+    which: &[u32],
+    into: &mut [u64],
+    stamps: &mut [u64],
+    answer: &mut ScanAnswer,
+) -> u32
+    ensures { AtHandle ((into.new ≡ into.old) × (stamps.new ≡ stamps.old) × (answer.new ≡ answer.old))
+        (ScanStampedEnds which.now into.old into.new stamps.old stamps.new answer.old answer.new)
+        port.old.held result port.new.held }
 {
     let Some(held) = port.held() else {
         return Misuse::HoldsNone.code();
     };
-    held.state(answer)
+    held.scan_stamped(which, into, stamps, answer)
 }
 
-/// Opens a memory into an empty handle. The memory holds all its ports.
+/// Says whether each of the components `which` still has the stamp beside it in `stamps`: 1 or 0.
 ///
-/// Returns 18 when the handle holds something, 1 to 4 for the first size out of its range, 5 when there are
-/// not 1 to 64 ports, and 6 when an allocation was refused.
+/// Returns 17 when the handle holds no port of a long-lived memory, and 19 when the two lengths differ.
 #[unsafe(no_mangle)]
-pub extern "C" fn partial_door_open(
-    alloc: Global,
-    opening: u64,
-    initial: &[u64],
-    room: &RoomSizes,
-    ports: u32,
-    memory: &mut Handle,
+pub extern "C" fn partial_door_port_unchanged(
+    port: &mut Handle,
+    which: &[u32],
+    stamps: &[u64],
+    answer: &mut u32,
 ) -> u32
-    ensures { OpensAt opening (layout_of (length initial.now) room.now) initial.now ports
-        memory.old.held result memory.new.held }
+    ensures { AtHandle (answer.new ≡ answer.old)
+        (UnchangedEnds which.now stamps.now answer.old answer.new) port.old.held result port.new.held }
 {
-    if let Some(held) = memory.take(alloc) {
-        memory.put(held);
-        return HOLDS_ONE;
-    }
-    match open(alloc, opening, initial, room, ports) {
-        Ok(held) => {
-            memory.put(held);
-            FINE
-        }
-        Err(code) => code,
-    }
+    let Some(held) = port.held() else {
+        return Misuse::HoldsNone.code();
+    };
+    held.unchanged(which, stamps, answer)
 }
 
-/// Opens a memory that goes on with the values of a closed one into an empty handle. The memory holds all
-/// its ports.
+/// Has two ports of a long-lived memory meet: each has observed afterwards all that either had observed before.
 ///
-/// Returns 18 when `memory` holds something, 17 when `closed` holds no closed memory, 1 to 4 for the first
-/// size out of its range, 5 when there are not 1 to 64 ports, 13 when the closed memory has more
-/// components, and 6 when an allocation was refused.
+/// Returns 17 when a handle holds no port of a long-lived memory, and 20 when the ports are of two memories.
 #[unsafe(no_mangle)]
-pub extern "C" fn partial_door_reopen(
-    alloc: Global,
-    opening: u64,
-    closed: &mut Handle,
-    components: u32,
-    room: &RoomSizes,
-    ports: u32,
-    memory: &mut Handle,
-) -> u32
-    ensures same { closed.new.held ≡ closed.old.held }
-    ensures opened { ReopensAt opening closed.old.held (layout_of components room.now) ports
-        memory.old.held result memory.new.held }
+pub extern "C" fn partial_door_port_meet(first: &mut Handle, second: &mut Handle) -> u32
+    requires { (h k : HeldType) → first.old.held ≡ Some h → second.old.held ≡ Some k → ArePortsApart h k }
+    ensures { MeetsHandles first.old.held second.old.held result first.new.held second.new.held }
 {
-    if let Some(held) = memory.take(alloc) {
-        memory.put(held);
-        return HOLDS_ONE;
-    }
-    let Some(held) = closed.take(alloc) else {
+    let Some(one) = first.held() else {
         return HOLDS_NONE;
     };
-    let opened = held.reopen(alloc, opening, components, room, ports);
-    closed.put(held);
-    match opened {
+    let Some(other) = second.held() else {
+        return HOLDS_NONE;
+    };
+    one.meet(other)
+}
+
+/// Reports the number of a port.
+///
+/// Returns 17 when the handle holds no port of a long-lived memory.
+#[unsafe(no_mangle)]
+pub extern "C" fn partial_door_port_number(port: &mut Handle, answer: &mut u32) -> u32
+    ensures { AtHandle (answer.new ≡ answer.old) (NumberEnds answer.new)
+        port.old.held result port.new.held }
+{
+    let Some(held) = port.held() else {
+        return Misuse::HoldsNone.code();
+    };
+    held.number(answer)
+}
+
+/// Opens a long-lived memory into an empty handle. The memory holds all its ports.
+///
+/// Returns 18 when the handle holds something, 5 when there are not 1 to 64 ports, 1 when there are not 1 to
+/// 65,536 values, 3 or 4 when a size of an arena is out of its range, and 6 when an allocation was refused.
+#[unsafe(no_mangle)]
+pub extern "C" fn partial_door_memory_new(
+    alloc: Global,
+    number: u64,
+    initial: &[u64],
+    ports: u32,
+    arena: &ArenaSizes,
+    memory: &mut Handle,
+) -> u32
+    ensures { OpensNewAt number initial.now ports (options_of arena.now)
+        memory.old.held result memory.new.held }
+{
+    if let Some(held) = memory.take(alloc) {
+        memory.put(held);
+        return HOLDS_ONE;
+    }
+    match open(alloc, number, initial, ports, options_for(arena)) {
         Ok(held) => {
             memory.put(held);
             FINE
@@ -173,12 +198,12 @@ pub extern "C" fn partial_door_reopen(
     }
 }
 
-/// Takes the last port that a memory holds out of it, into an empty handle.
+/// Takes the last port that a long-lived memory holds out of it, into an empty handle.
 ///
-/// Returns 18 when `port` holds something, 17 when `memory` holds no open memory, 21 when that memory holds
-/// no port, and 6 when an allocation was refused.
+/// Returns 18 when `port` holds something, 17 when `memory` holds no open long-lived memory, 21 when that
+/// memory holds no port, and 6 when an allocation was refused.
 #[unsafe(no_mangle)]
-pub extern "C" fn partial_door_take_port(
+pub extern "C" fn partial_door_memory_take_port(
     alloc: Global,
     memory: &mut Handle,
     port: &mut Handle,
@@ -203,12 +228,12 @@ pub extern "C" fn partial_door_take_port(
     }
 }
 
-/// Returns a port to its memory. Its handle is empty afterwards.
+/// Returns a port to its long-lived memory. Its handle is empty afterwards.
 ///
-/// Returns 17 when `memory` holds no open memory or `port` no port, 20 when the port is of another memory,
-/// and 6 when an allocation was refused.
+/// Returns 17 when `memory` holds no open long-lived memory or `port` no port of one, 20 when the port is of
+/// another memory, and 6 when an allocation was refused.
 #[unsafe(no_mangle)]
-pub extern "C" fn partial_door_give_port(
+pub extern "C" fn partial_door_memory_give_port(
     alloc: Global,
     memory: &mut Handle,
     port: &mut Handle,
@@ -231,74 +256,29 @@ pub extern "C" fn partial_door_give_port(
     }
 }
 
-/// Merges what two ports of a memory have observed.
+/// Closes a long-lived memory to which all ports were returned, and puts its values into `into`. Its handle is
+/// empty afterwards.
 ///
-/// Returns 17 when a handle holds no port, and 20 when the ports are of two memories.
+/// Returns 17 when the handle holds no long-lived memory, 19 when `into` isn't as long as that has components,
+/// 22 when not all ports were returned, and 24 when all were and another handle still references the memory. Returns 6
+/// when an allocation was refused: then the handle holds the memory with all its ports. It may be closed later,
+/// and its ports are not taken out again.
 #[unsafe(no_mangle)]
-pub extern "C" fn partial_door_meet(first: &mut Handle, second: &mut Handle) -> u32
-    requires { (h k : HeldType) → first.old.held ≡ Some h → second.old.held ≡ Some k → AreHeldApart h k }
-    ensures { MeetsHandles first.old.held second.old.held result first.new.held second.new.held }
-{
-    let Some(one) = first.held() else {
-        return HOLDS_NONE;
-    };
-    let Some(other) = second.held() else {
-        return HOLDS_NONE;
-    };
-    one.meet(other)
-}
-
-/// Closes a memory to which all ports were returned. Its handle holds the closed memory afterwards.
-///
-/// Returns 17 when the handle holds no open memory, 22 when not all ports were returned, and 24 when all
-/// were and another handle still references the memory. Returns 6 when an allocation was refused: then the
-/// contents are lost and the handle is empty.
-#[unsafe(no_mangle)]
-pub extern "C" fn partial_door_close(alloc: Global, memory: &mut Handle) -> u32
-    ensures { ClosesHandle memory.old.held result memory.new.held }
+pub extern "C" fn partial_door_memory_close(
+    alloc: Global,
+    memory: &mut Handle,
+    into: &mut [u64],
+) -> u32
+    ensures { ClosesHandle memory.old.held into.old result memory.new.held into.new }
 {
     let Some(held) = memory.held() else {
         return HOLDS_NONE;
     };
-    match held.close(alloc) {
-        Ok(()) => FINE,
-        Err(Unclosed::Kept(code)) => code,
-        Err(Unclosed::Lost) => {
+    match held.close(alloc, into) {
+        Ok(()) => {
             drop(memory.take(alloc));
-            OUT_OF_MEMORY
+            FINE
         }
+        Err(code) => code,
     }
-}
-
-/// Copies the values of a closed memory.
-///
-/// Returns 17 when the handle holds no closed memory, and 19 when `into` isn't as long as that memory has
-/// components.
-#[unsafe(no_mangle)]
-pub extern "C" fn partial_door_values(closed: &mut Handle, into: &mut [u64]) -> u32
-    ensures same { closed.new.held ≡ closed.old.held }
-    ensures copied { CopiesAt closed.old.held into.old result into.new }
-{
-    let Some(held) = closed.held() else {
-        return HOLDS_NONE;
-    };
-    held.copy_values(into)
-}
-
-/// Empties a handle and frees what it held. Returns 0.
-#[unsafe(no_mangle)]
-pub extern "C" fn partial_door_free(alloc: Global, handle: &mut Handle) -> u32
-    ensures code { result ≡ 0 }
-    ensures empty { handle.new.held ≡ None }
-{
-    drop(handle.take(alloc));
-    FINE
-}
-
-/// Returns the version of these functions. A header of another version may declare other ones.
-#[unsafe(no_mangle)]
-pub extern "C" fn partial_door_version() -> u32
-    ensures { result ≡ 1000 }
-{
-    VERSION
 }

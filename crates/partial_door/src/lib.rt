@@ -1,4 +1,4 @@
-//! The running memories for callers from C: handles, and functions that return numbers.
+//! The memories of threads for callers from C: handles, and functions that return numbers.
 #![tactic(auto)]
 
 mod answers;
@@ -7,13 +7,13 @@ mod codes;
 mod exports;
 mod handle;
 mod held;
-mod long_calls;
-mod long_exports;
-mod long_memories;
 mod memories;
+mod opening_calls;
+mod opening_exports;
+mod opening_memories;
 mod parts;
 
 pub use answers::{ArenaSizes, PortState, ReadAnswer, RoomSizes, ScanAnswer, UpdateAnswer};
 pub use handle::Handle;
-pub use held::{Held, LongClosing, LongMemory, LongPort, OpenMemory, OwnedPort};
+pub use held::{ClosingMemory, Held, OpenMemory, OpeningMemory, OpeningPort, OwnedPort};
 pub use parts::Parts;

@@ -1,66 +1,34 @@
-//! The calls on the handle of a memory. A refused call returns the number of the refusal.
+//! The calls on the handle of a long-lived memory. A refused call returns the number of the refusal.
 
-ghost use Rattle.std.specs.Prelude.{◌≡◌, length, IfOk, IfErr};
-ghost use Rattle.partial_words.specs.Layout.{IsLayout};
-ghost use Rattle.partial_words.specs.declared.sizes.SizeError.{SizeError as SizeErrorType};
-ghost use Rattle.partial_words.specs.SizeFault.{IsFirstFault, size_code};
+ghost use Rattle.std.specs.Prelude.{◌≡◌, ◌∷◌, length, IfOk, IfErr};
+ghost use Rattle.partial_long_lived.specs.Closing.{Closes};
+ghost use Rattle.partial_door.specs.Belonging.{AreOf};
 ghost use Rattle.partial_door.specs.declared.held.Held.TheVariants as held;
-ghost use Rattle.partial_door.specs.Inner.Kept.{IsMemoryKept, IsOpenOf, IsUnclosed};
-ghost use Rattle.partial_door.specs.Home.{AreOf};
-ghost use Rattle.partial_door.specs.Memories.{AreHeldApart, ClosesAt, CopiesValues, GivesPort, GoesOnWith, HoldsOpened, HoldsReopened, IsClosedHome};
-ghost use Rattle.partial_door.specs.Memories.{MayNotGive, MayNotGoOn, MayNotOpenWith, MayNotReopenWith, MayNotTake, MeetsAt, StaysHome, TakesPort, layout_of};
+ghost use Rattle.partial_door.specs.Inner.Memories.{IsOpenOf, IsUnclosed, IsUnready};
+ghost use Rattle.partial_door.specs.Memories.{AreHeldApart, ClosesAt, GivesPort, HoldsNew, IsReadyToClose, IsSameClosing};
+ghost use Rattle.partial_door.specs.Memories.{MayNotBeNew, MayNotClose, MayNotGive, MayNotTake, KeepsPorts, TakesPort, options_of};
 
-use crate::answers::RoomSizes;
-use crate::codes::{
-    FINE, HOLDS_NONE, IN_USE, LENGTH, NONE_FREE, OUT_OF_MEMORY, SHARED, TWO_MEMORIES,
-};
-use crate::held::{Held, OpenMemory, OwnedPort};
-use partial_memory::{Closed, Memory, Port};
-use partial_words::Sizes;
+use crate::answers::ArenaSizes;
+use crate::codes::{HOLDS_NONE, IN_USE, LENGTH, NONE_FREE, OUT_OF_MEMORY, SHARED, TWO_MEMORIES};
+use crate::held::{ClosingMemory, Held, OpenMemory, OwnedPort};
+use crate::opening_memories::{boxed, nothing};
+use partial_long_lived::{LongLived, Options, Port, Unclosed};
 use std::alloc::Global;
 use std::mem;
 use std::sync::Arc;
 
-// Checks the sizes. Returns the number of the first one that is out of its range.
-fn sizes_of(components: usize, room: &RoomSizes) -> Result<Sizes, u32>
-    ensures ok { IfOk result (λ s. (s ≡ layout_of components room.now) × IsLayout s) }
-    ensures err { IfErr result (λ code. (e : SizeErrorType) × (code ≡ size_code e) ×
-        IsFirstFault (layout_of components room.now) e) }
-{
-    if components > 65_536 {
-        return Err(1);
-    }
-    match Sizes::new(components as u32, room.slots, room.lists, room.pool) {
-        Ok(sizes) => Ok(sizes),
-        Err(fault) => Err(u32::from(fault.code())),
-    }
-}
-
-// Boxes what a handle is to hold. The number is that of a refused allocation.
-pub(crate) fn boxed(alloc: Global, held: Held) -> Result<Box<Held>, u32>
-    ensures ok { IfOk result (λ b. b.value ≡ held) }
-    ensures err { IfErr result (λ code. code ≡ 6) }
-{
-    match Box::new(alloc, held) {
-        Ok(held) => Ok(held),
-        Err(failed) => {
-            drop(failed);
-            Err(OUT_OF_MEMORY)
-        }
-    }
-}
-
 // Boxes an opened memory with so many components and so many ports, all of which it holds.
-fn at_home(
+fn with_ports(
     alloc: Global,
-    opening: u64,
-    components: u32,
+    number: u64,
+    components: usize,
     count: u32,
-    opened: (Memory, Vec<Port>),
+    opened: (LongLived, Vec<Port>),
 ) -> Result<Box<Held>, u32>
     requires size { components ≡ opened.0.about.sizes.m }
+    requires values { components ≡ length opened.0.about.opening.values }
     requires of { AreOf opened.0 opened.1.items }
-    ensures ok { IfOk result (λ b. IsOpenOf opening count opened.0 opened.1.items b.value) }
+    ensures ok { IfOk result (λ b. IsOpenOf number count opened.0 opened.1.items b.value) }
     ensures err { IfErr result (λ code. code ≡ 6) }
 {
     let (memory, ports) = opened;
@@ -68,7 +36,7 @@ fn at_home(
         return Err(OUT_OF_MEMORY);
     };
     let open = OpenMemory {
-        opening,
+        number,
         components,
         count,
         memory,
@@ -77,86 +45,42 @@ fn at_home(
     boxed(alloc, Held::Memory(open))
 }
 
-/// Opens a memory that holds all its ports.
+/// The options with these sizes of an arena.
+pub fn options_for(arena: &ArenaSizes) -> Options
+    ensures { result ≡ options_of arena.now }
+{
+    Options {
+        lists: arena.lists,
+        pool: match arena.pool {
+            0 => None,
+            words => Some(words),
+        },
+    }
+}
+
+/// Opens a long-lived memory that holds all its ports.
 ///
 /// # Errors
-/// 1 to 4 for the first size out of its range, 5 when there are not 1 to 64 ports, and 6 when an allocation
-/// was refused. Nothing is left of the attempt.
+/// 5 when there are not 1 to 64 ports, 1 when there are not 1 to 65,536 values, 3 or 4 when a size of an arena
+/// is out of its range, and 6 when an allocation was refused. Nothing is left of the attempt.
 pub fn open(
     alloc: Global,
-    opening: u64,
+    number: u64,
     initial: &[u64],
-    room: &RoomSizes,
     ports: u32,
+    options: Options,
 ) -> Result<Box<Held>, u32>
-    ensures ok { IfOk result (λ b.
-        HoldsOpened opening (layout_of (length initial.now) room.now) initial.now ports b.value) }
-    ensures err { IfErr result (λ code. MayNotOpenWith (layout_of (length initial.now) room.now) ports code) }
+    ensures ok { IfOk result (λ b. HoldsNew number initial.now ports options b.value) }
+    ensures err { IfErr result (λ code. MayNotBeNew initial.now ports options code) }
 {
-    let sizes = sizes_of(initial.len(), room)?;
-    match Memory::open(alloc, sizes, initial, ports) {
-        Ok(opened) => at_home(alloc, opening, sizes.m(), ports, opened),
-        Err(fault) => Err(u32::from(fault.code())),
-    }
-}
-
-// Opens a memory that goes on with the values of this closed one.
-fn reopen_closed(
-    alloc: Global,
-    opening: u64,
-    closed: &Closed,
-    components: u32,
-    room: &RoomSizes,
-    ports: u32,
-) -> Result<Box<Held>, u32>
-    ensures ok { IfOk result (λ b.
-        GoesOnWith opening closed.now.values.items (layout_of components room.now) ports b.value) }
-    ensures err { IfErr result (λ code.
-        MayNotGoOn (length closed.now.values.items) (layout_of components room.now) ports code) }
-{
-    let sizes = sizes_of(components as usize, room)?;
-    match Memory::reopen(alloc, closed, sizes, ports) {
-        Ok(opened) => at_home(alloc, opening, sizes.m(), ports, opened),
+    match LongLived::open(alloc, initial, ports, options) {
+        Ok(opened) => with_ports(alloc, number, initial.len(), ports, opened),
         Err(fault) => Err(u32::from(fault.code())),
     }
 }
 
 impl Held {
-    /// Opens a memory that goes on with the values of a closed one, and holds all its ports. The closed
-    /// memory stays.
-    ///
-    /// # Errors
-    /// 17 when this isn't a closed memory, 1 to 4 for the first size out of its range, 5 when there are not
-    /// 1 to 64 ports, 13 when the closed memory has more components, and 6 when an allocation was refused.
-    /// Nothing is left of the attempt.
-    pub fn reopen(
-        &self,
-        alloc: Global,
-        opening: u64,
-        components: u32,
-        room: &RoomSizes,
-        ports: u32,
-    ) -> Result<Box<Held>, u32>
-        ensures ok { IfOk result (λ b. HoldsReopened opening self.now (layout_of components room.now) ports b.value) }
-        ensures err { IfErr result (λ code. MayNotReopenWith self.now (layout_of components room.now) ports code) }
-    {
-        match self {
-            Held::Closed(closed) => reopen_closed(alloc, opening, closed, components, room, ports),
-            _ => Err(HOLDS_NONE),
-        }
-    }
-}
-
-/// Makes a closed memory of no component. It stands in a box until something else is put there.
-pub fn nothing(alloc: Global) -> Held {
-    Held::Closed(Closed {
-        values: Vec::new(alloc),
-        chains: Vec::new(alloc),
-    })
-}
-
-impl Held {
-    // The port that this is.
+    // The port of a long-lived memory that this is.
     fn into_port(self) -> OwnedPort
         requires { (own : OwnedPort) × (self ≡ held.Port own) }
         ensures { self ≡ held.Port result }
@@ -167,11 +91,11 @@ impl Held {
         }
     }
 
-    /// Takes out the last port that the memory holds.
+    /// Takes out the last port that the long-lived memory holds.
     ///
     /// # Errors
-    /// 17 when this isn't an open memory, 21 when it holds no port, and 6 when an allocation was refused.
-    /// The memory is as it was.
+    /// 17 when this isn't an open long-lived memory, 21 when it holds no port, and 6 when an allocation was
+    /// refused. The memory is as it was.
     pub fn take_port(&mut self, alloc: Global) -> Result<Box<Held>, u32>
         ensures ok { IfOk result (λ b. TakesPort self.old b.value self.new) }
         ensures err { IfErr result (λ code. (self.new ≡ self.old) × MayNotTake self.old code) }
@@ -192,7 +116,7 @@ impl Held {
             unreachable!()
         };
         let own = OwnedPort {
-            opening: open.opening,
+            number: open.number,
             components: open.components,
             memory,
             port,
@@ -201,16 +125,16 @@ impl Held {
         Ok(taken)
     }
 
-    /// Returns a port to its memory.
+    /// Returns a port to its long-lived memory.
     ///
     /// # Errors
-    /// 17 when this isn't an open memory or `given` isn't a port, 20 when the port is of another memory,
-    /// and 6 when an allocation was refused. The memory is as it was, and `given` comes back with the
-    /// number.
+    /// 17 when this isn't an open long-lived memory or `given` isn't a port of one, 20 when the port is of
+    /// another memory, and 6 when an allocation was refused. The memory is as it was, and `given` comes back
+    /// with the number.
     pub fn give_port(&mut self, given: Box<Held>) -> Result<(), (u32, Box<Held>)>
         requires { AreHeldApart self.old given.value }
         ensures ok { IfOk result (λ _. GivesPort self.old given.value self.new) }
-        ensures err { IfErr result (λ e. (e.1.value ≡ given.value) × StaysHome self.old self.new ×
+        ensures err { IfErr result (λ e. (e.1.value ≡ given.value) × KeepsPorts self.old self.new ×
             MayNotGive self.old given.value e.0) }
     {
         let Held::Memory(open) = self else {
@@ -219,7 +143,7 @@ impl Held {
         let Held::Port(own) = &*given else {
             return Err((HOLDS_NONE, given));
         };
-        if own.opening != open.opening {
+        if own.number != open.number {
             return Err((TWO_MEMORIES, given));
         }
         if open.ports.reserve(1).is_err() {
@@ -231,26 +155,25 @@ impl Held {
     }
 }
 
-// Why a memory wasn't closed, and what is left of it.
+// Why a memory wasn't taken apart, and the memory.
 #[derive(Drop)]
-enum Kept {
+enum Unready {
     Away(OpenMemory),
     Shared(OpenMemory),
-    Lost,
 }
 
 impl OpenMemory {
-    /// Closes the memory when it holds all its ports and no other reference of it is in use.
-    fn close(self, alloc: Global) -> Result<Closed, Kept>
-        ensures ok { IfOk result (λ c. IsClosedHome self c) }
-        ensures err { IfErr result (λ k. IsMemoryKept self k) }
+    // Takes the memory apart when it holds all its ports and no other reference of it is in use.
+    fn alone(self) -> Result<ClosingMemory, Unready>
+        ensures ok { IfOk result (λ c. IsReadyToClose (held.Memory self) c × (c.components ≡ self.components)) }
+        ensures err { IfErr result (IsUnready self) }
     {
         let all = self.count as usize;
         if self.ports.is_empty() || self.ports.len() != all {
-            return Err(Kept::Away(self));
+            return Err(Unready::Away(self));
         }
         let OpenMemory {
-            opening,
+            number,
             components,
             count,
             memory,
@@ -259,8 +182,8 @@ impl OpenMemory {
         let memory = match Arc::try_unwrap(memory) {
             Ok(memory) => memory,
             Err(memory) => {
-                return Err(Kept::Shared(OpenMemory {
-                    opening,
+                return Err(Unready::Shared(OpenMemory {
+                    number,
                     components,
                     count,
                     memory,
@@ -268,92 +191,104 @@ impl OpenMemory {
                 }));
             }
         };
-        let Some(last) = ports.pop() else {
+        let Some(port) = ports.pop() else {
             unreachable!()
         };
-        match memory.close(alloc, last, ports) {
-            Ok(closed) => Ok(closed),
-            Err(_) => Err(Kept::Lost),
+        Ok(ClosingMemory {
+            components,
+            memory,
+            port,
+            rest: ports,
+        })
+    }
+}
+
+impl ClosingMemory {
+    // Closes the memory, and puts its values into `into`, which has room for just as many.
+    fn close(self, alloc: Global, into: &mut [u64]) -> Result<(), ClosingMemory>
+        requires { length into.old ≡ self.components }
+        ensures ok { IfOk result (λ _. Closes self.memory (self.port ∷ self.rest.items) into.new) }
+        ensures err { IfErr result (λ kept. IsSameClosing self kept × (into.new ≡ into.old)) }
+    {
+        let ClosingMemory {
+            components,
+            memory,
+            port,
+            rest,
+        } = self;
+        match memory.close(alloc, port, rest) {
+            Ok(values) => {
+                into.copy_from_slice(&values);
+                Ok(())
+            }
+            Err(Unclosed { memory, port, rest }) => Err(ClosingMemory {
+                components,
+                memory,
+                port,
+                rest,
+            }),
         }
     }
 }
 
-/// Why a memory wasn't closed.
-#[derive(Clone, Copy)]
-pub enum Unclosed {
-    /// The memory is as it was. This is the number of the refusal: 17, 22 or 24.
-    Kept(u32),
-    /// An allocation was refused, and the contents are lost.
-    Lost,
+// Takes a long-lived memory apart that is to be closed into room for so many values.
+fn ready(held: Held, room: usize) -> Result<ClosingMemory, (u32, Held)>
+    ensures ok { IfOk result (λ c. IsReadyToClose held c × (c.components ≡ room)) }
+    ensures err { IfErr result (λ e. (e.1 ≡ held) × MayNotClose held room e.0) }
+{
+    match held {
+        Held::Memory(open) => {
+            if open.components != room {
+                return Err((LENGTH, Held::Memory(open)));
+            }
+            match open.alone() {
+                Ok(closing) => Ok(closing),
+                Err(Unready::Away(open)) => Err((IN_USE, Held::Memory(open))),
+                Err(Unready::Shared(open)) => Err((SHARED, Held::Memory(open))),
+            }
+        }
+        Held::Closing(closing) => {
+            if closing.components != room {
+                return Err((LENGTH, Held::Closing(closing)));
+            }
+            Ok(closing)
+        }
+        other => Err((HOLDS_NONE, other)),
+    }
 }
 
-// Closes what is held when it is a memory with all its ports. Returns what is held then, and why it isn't closed if so.
-fn closed(found: Held, alloc: Global) -> (Held, Result<(), Unclosed>)
-    ensures ok { IfOk result.1 (λ _. ClosesAt found result.0) }
-    ensures err { IfErr result.1 (IsUnclosed found result.0) }
+// Closes what is held when it is a long-lived memory with all its ports, and puts its values into `into`. Returns what is
+// held then, and the number of the refusal if it was refused.
+fn closed(found: Held, alloc: Global, into: &mut [u64]) -> (Held, Result<(), u32>)
+    ensures ok { IfOk result.1 (λ _. ClosesAt found into.new) }
+    ensures unchanged { IfErr result.1 (λ _. into.new ≡ into.old) }
+    ensures err { IfErr result.1 (IsUnclosed found result.0 (length into.old)) }
 {
-    let Held::Memory(open) = found else {
-        return (found, Err(Unclosed::Kept(HOLDS_NONE)));
+    let closing = match ready(found, into.len()) {
+        Ok(closing) => closing,
+        Err((code, held)) => return (held, Err(code)),
     };
-    match open.close(alloc) {
-        Ok(closed) => (Held::Closed(closed), Ok(())),
-        Err(Kept::Away(open)) => (Held::Memory(open), Err(Unclosed::Kept(IN_USE))),
-        Err(Kept::Shared(open)) => (Held::Memory(open), Err(Unclosed::Kept(SHARED))),
-        Err(Kept::Lost) => (nothing(alloc), Err(Unclosed::Lost)),
+    match closing.close(alloc, into) {
+        Ok(()) => (nothing(alloc), Ok(())),
+        Err(kept) => (Held::Closing(kept), Err(OUT_OF_MEMORY)),
     }
 }
 
 impl Held {
-    /// Closes a memory to which all ports were returned.
+    /// Closes a long-lived memory to which all ports were returned, and puts its values into `into`. What is
+    /// left then holds nothing.
     ///
     /// # Errors
-    /// [`Unclosed::Kept`] with 17 when this isn't an open memory, with 22 when not all ports were returned,
-    /// and with 24 when all were and another handle still references the memory. [`Unclosed::Lost`] when an
-    /// allocation was refused.
-    pub fn close(&mut self, alloc: Global) -> Result<(), Unclosed>
-        ensures ok { IfOk result (λ _. ClosesAt self.old self.new) }
-        ensures err { IfErr result (IsUnclosed self.old self.new) }
+    /// 17 when this isn't a long-lived memory, 19 when `into` isn't as long as it has components, 22 when not
+    /// all ports were returned, and 24 when all were and another handle still references the memory: this is as it
+    /// was. 6 when an allocation was refused: this is the memory with all its ports, and closes later.
+    pub fn close(&mut self, alloc: Global, into: &mut [u64]) -> Result<(), u32>
+        ensures ok { IfOk result (λ _. ClosesAt self.old into.new) }
+        ensures unchanged { IfErr result (λ _. into.new ≡ into.old) }
+        ensures err { IfErr result (IsUnclosed self.old self.new (length into.old)) }
     {
-        let (left, answer) = closed(mem::replace(self, nothing(alloc)), alloc);
+        let (left, answer) = closed(mem::replace(self, nothing(alloc)), alloc, into);
         drop(mem::replace(self, left));
         answer
-    }
-
-    /// Merges what two ports have observed.
-    ///
-    /// Returns 17 when one of the two isn't a port, and 20 when they are of two memories. Both are as they
-    /// were then.
-    pub fn meet(&mut self, other: &mut Held) -> u32
-        requires { AreHeldApart self.old other.old }
-        ensures { MeetsAt self.old other.old result self.new other.new }
-    {
-        let Held::Port(first) = self else {
-            return HOLDS_NONE;
-        };
-        let Held::Port(second) = other else {
-            return HOLDS_NONE;
-        };
-        if second.opening != first.opening {
-            return TWO_MEMORIES;
-        }
-        first.memory.meet(&mut first.port, &mut second.port);
-        FINE
-    }
-
-    /// Copies the values of a closed memory.
-    ///
-    /// Returns 17 when this isn't a closed memory, and 19 when `into` isn't as long as it has components.
-    /// `into` is as it was then.
-    pub fn copy_values(&self, into: &mut [u64]) -> u32
-        ensures { CopiesValues self.now into.old result into.new }
-    {
-        let Held::Closed(closed) = self else {
-            return HOLDS_NONE;
-        };
-        if closed.values.len() != into.len() {
-            return LENGTH;
-        }
-        into.copy_from_slice(&closed.values);
-        FINE
     }
 }

@@ -110,7 +110,7 @@ impl UpdatedIf {
 }
 
 /// A value, and the stamp of the update that wrote it.
-// A read stores the value and the word of the stamp side by side. They are copied to two places that aren't, so that no
+// A read stores the value and the word of the stamp side by side. They are copied to two fields that aren't, so that no
 // compiler copies them by one load, which waits until both stores have reached the cache.
 #[must_use]
 #[repr(C)]

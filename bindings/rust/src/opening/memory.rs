@@ -69,7 +69,14 @@ pub fn open(initial: &[u64], sizes: Sizes, ports: u32) -> Result<(Memory, Vec<Po
     // SAFETY: the values, the sizes and the empty handle are borrowed for the call, and the number of
     // the opening is new.
     let code = unsafe {
-        raw::partial_door_open(memory.opening, initial.as_ptr(), initial.len(), &sizes.raw(), ports, &mut memory.handle)
+        raw::partial_door_opening_open(
+            memory.opening,
+            initial.as_ptr(),
+            initial.len(),
+            &sizes.raw(),
+            ports,
+            &mut memory.handle,
+        )
     };
     match code {
         0 => memory.with_ports(),
@@ -105,7 +112,7 @@ impl Memory {
     fn take_port(&mut self) -> Result<Port, u32> {
         let mut handle = Handle::empty();
         // SAFETY: both handles are borrowed for the call.
-        match unsafe { raw::partial_door_take_port(&mut self.handle, &mut handle) } {
+        match unsafe { raw::partial_door_opening_take_port(&mut self.handle, &mut handle) } {
             0 => Ok(Port::new(handle, self.opening, self.components, &self.home)),
             code => Err(code),
         }
@@ -178,14 +185,14 @@ impl Memory {
         let mut returned = 0;
         for mut port in ports {
             // SAFETY: both handles are borrowed for the call.
-            match unsafe { raw::partial_door_give_port(&mut self.handle, port.handle()) } {
+            match unsafe { raw::partial_door_opening_give_port(&mut self.handle, port.handle()) } {
                 0 => returned += 1,
                 _ => left.push(port),
             }
         }
         // SAFETY: the handle is borrowed for the call.
         let code = match left.is_empty() {
-            true => unsafe { raw::partial_door_close(&mut self.handle) },
+            true => unsafe { raw::partial_door_opening_close(&mut self.handle) },
             false => 22,
         };
         match code {
@@ -217,7 +224,7 @@ impl Closed {
     /// Takes the values of a closed memory, of which there are as many as here.
     fn new(mut handle: Handle, mut values: Vec<u64>) -> Closed {
         // SAFETY: the handle and the values are borrowed for the call.
-        let code = unsafe { raw::partial_door_values(&mut handle, values.as_mut_ptr(), values.len()) };
+        let code = unsafe { raw::partial_door_opening_values(&mut handle, values.as_mut_ptr(), values.len()) };
         assert_eq!(code, 0, "a closed memory has as many values as it was opened with");
         Closed { handle, values }
     }
@@ -245,7 +252,7 @@ impl Closed {
         let mut memory = Memory::new(components, ports)?;
         // SAFETY: both handles and the sizes are borrowed for the call, and the number of the opening is new.
         let code = unsafe {
-            raw::partial_door_reopen(
+            raw::partial_door_opening_reopen(
                 memory.opening,
                 &mut self.handle,
                 components,

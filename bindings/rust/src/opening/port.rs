@@ -1,4 +1,4 @@
-//! Ports: the tokens by which threads call a memory.
+//! Ports, by which threads call a memory.
 
 use super::memory::Home;
 use super::{Change, Refused, Scanned, Stamp, TwoMemories, Updated, UpdatedIf, Value};
@@ -26,8 +26,8 @@ impl Port {
     /// The port of this handle, which the library has filled.
     pub(crate) fn new(mut handle: Handle, opening: u64, components: u32, home: &Counted<Home>) -> Port {
         let mut state = raw::PortState::default();
-        // SAFETY: the handle and the place for the answer are borrowed for the call.
-        let code = unsafe { raw::partial_door_state(&mut handle, &mut state) };
+        // SAFETY: the handle and the answer are borrowed for the call.
+        let code = unsafe { raw::partial_door_opening_state(&mut handle, &mut state) };
         assert_eq!(code, 0, "a port's handle holds a port");
         Port {
             handle,
@@ -75,8 +75,8 @@ impl Port {
     #[inline]
     pub fn update(&mut self, component: u32, value: u64) -> Result<Updated, Refused> {
         let mut answer = raw::UpdateAnswer::default();
-        // SAFETY: the handle and the place for the answer are borrowed for the call.
-        match unsafe { raw::partial_door_update(&mut self.handle, component, value, &mut answer) } {
+        // SAFETY: the handle and the answer are borrowed for the call.
+        match unsafe { raw::partial_door_opening_update(&mut self.handle, component, value, &mut answer) } {
             0 if answer.applied == 1 => Ok(Updated::Applied { stamp: self.stamp(answer.stamp) }),
             0 => Ok(Updated::Lost { by: self.stamp(answer.stamp) }),
             code => Err(self.refused(code)),
@@ -106,9 +106,10 @@ impl Port {
             return Err(Refused::Stamp);
         }
         let mut answer = raw::UpdateAnswer::default();
-        // SAFETY: the handle and the place for the answer are borrowed for the call.
-        let code =
-            unsafe { raw::partial_door_update_if(&mut self.handle, component, expected.word, value, &mut answer) };
+        // SAFETY: the handle and the answer are borrowed for the call.
+        let code = unsafe {
+            raw::partial_door_opening_update_if(&mut self.handle, component, expected.word, value, &mut answer)
+        };
         match code {
             0 if answer.applied == 1 => Ok(UpdatedIf::Applied { stamp: self.stamp(answer.stamp) }),
             0 => Ok(UpdatedIf::Changed { by: self.stamp(answer.stamp) }),
@@ -167,8 +168,8 @@ impl Port {
     #[inline]
     pub fn read(&mut self, component: u32) -> Result<Value, Refused> {
         let mut answer = raw::ReadAnswer::default();
-        // SAFETY: the handle and the place for the answer are borrowed for the call.
-        match unsafe { raw::partial_door_read(&mut self.handle, component, &mut answer) } {
+        // SAFETY: the handle and the answer are borrowed for the call.
+        match unsafe { raw::partial_door_opening_read(&mut self.handle, component, &mut answer) } {
             0 => Ok(Value { value: answer.value, stamp: self.stamp(answer.stamp) }),
             code => Err(self.refused(code)),
         }
@@ -195,9 +196,9 @@ impl Port {
     #[inline]
     pub fn scan(&mut self, which: &[u32], into: &mut [u64]) -> Result<Scanned, Refused> {
         let mut answer = raw::ScanAnswer::default();
-        // SAFETY: the handle, both slices and the place for the answer are borrowed for the call.
+        // SAFETY: the handle, both slices and the answer are borrowed for the call.
         let code = unsafe {
-            raw::partial_door_scan(
+            raw::partial_door_opening_scan(
                 &mut self.handle,
                 which.as_ptr(),
                 which.len(),
@@ -288,7 +289,7 @@ impl Port {
     /// [`TwoMemories`] when the ports are of two memories. Both are as they were.
     pub fn meet(&mut self, other: &mut Port) -> Result<(), TwoMemories> {
         // SAFETY: both handles are borrowed for the call, and Rust keeps them apart.
-        match unsafe { raw::partial_door_meet(&mut self.handle, &mut other.handle) } {
+        match unsafe { raw::partial_door_opening_meet(&mut self.handle, &mut other.handle) } {
             0 => Ok(()),
             _ => Err(TwoMemories),
         }

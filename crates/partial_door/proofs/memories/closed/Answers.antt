@@ -1,21 +1,9 @@
-use Rattle.std.proofs.Common.{tests}
-use Rattle.partial_door.proofs.Common.{rules, ◌∙◌, refl, sym, ap, subst, inl, inr, IsMemoryKept, Held}
+use Rattle.partial_door.proofs.Common.{refl, inl, inr}
 use Rattle.partial_door.proofs.memories.closed.Goals as goal
 
-pub returns-in-Err-Away-clause-err : goal.returns-in-Err-Away-clause-err
-returns-in-Err-Away-clause-err c =
-    let own = c.in-Memory.open in
-    let kept = subst (IsMemoryKept own) c.in-Err-Away.field-0-is c.in-Err-Away.ensures.err in
-    (ap Held.Memory kept.0 ∙ sym c.in-Memory.is, inr (inl (own, c.in-Memory.is, refl, kept.1)))
+pub returns-in-Err-clause-err : goal.returns-in-Err-clause-err
+returns-in-Err-clause-err c = inl c.in-Err.ensures.err
 
-pub returns-in-Err-Shared-clause-err : goal.returns-in-Err-Shared-clause-err
-returns-in-Err-Shared-clause-err c =
-    let own = c.in-Memory.open in
-    let kept = subst (IsMemoryKept own) c.in-Err-Shared.field-0-is c.in-Err-Shared.ensures.err in
-    (ap Held.Memory kept.0 ∙ sym c.in-Memory.is, inr (inr (own, c.in-Memory.is, refl, kept.1)))
-
-pub returns-in-Err-Lost-clause-err : goal.returns-in-Err-Lost-clause-err
-returns-in-Err-Lost-clause-err c = (c.in-Memory.open, search rules, search rules)
-
-pub returns-in-Ok-clause-ok : goal.returns-in-Ok-clause-ok
-returns-in-Ok-clause-ok c = let h0 = c.in-Ok.ensures in search (tests, rules)
+pub returns-in-Err-close-clause-err : goal.returns-in-Err-close-clause-err
+returns-in-Err-close-clause-err c =
+    inr (refl, (c.in-Ok.closing, c.in-Err-close.kept, c.in-Ok.ensures.ok.0, c.in-Err-close.ensures.err.0, refl))

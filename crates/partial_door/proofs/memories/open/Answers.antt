@@ -1,16 +1,24 @@
-use Rattle.partial_door.proofs.{Common.{ap, refl, ◌∙◌, if_ok_then, pool_base}, Opened.{homes, opened_is}}
+use Rattle.partial_door.proofs.{Common.{rules, inl, inr, if_ok_then, IfErr-weaker}, Opened.still_new}
 use Rattle.partial_door.proofs.memories.open.Goals as goal
-
-pub at_home-requires-clause-of : goal.at_home-requires-clause-of
-at_home-requires-clause-of c = homes _ _ _ _ refl c.in-Ok.ensures.about.1 c.in-Ok.ensures.ports
 
 pub returns-in-Ok-clause-ok : goal.returns-in-Ok-clause-ok
 returns-in-Ok-clause-ok c =
-    let opened = c.in-Ok.ensures in
-    let laid = c.in_ok-sizes.ensures.ok.0 in
-    if_ok_then c.at_home.result _ _
+    let o = c.in-Ok.ensures in
+    if_ok_then c.with_ports.result _ _
     (λ b x. (
       x.0,
       x.1,
-      opened_is x.0 _ _ _ _ _ x.4 x.2 x.3 (opened.about.0 ∙ laid) opened.about.1 opened.values (opened.first ∙ ap pool_base laid) (x.5 ∙ opened.ports),
-    )) c.at_home.ensures.ok
+      x.2,
+      x.3,
+      still_new _ _ _ _ _ _ _ x.4 x.5
+          (record { sizes = o.sizes; limit = o.limit; many = o.about; values = o.values; first = o.first; held = o.ports }),
+    )) c.with_ports.ensures.ok
+
+pub returns-in-Ok-clause-err : goal.returns-in-Ok-clause-err
+returns-in-Ok-clause-err c =
+    let o = c.in-Ok.ensures in
+    IfErr-weaker c.with_ports.result _ _
+    (λ code x. inr (_, _, record { sizes = o.sizes; limit = o.limit; many = o.about; values = o.values; first = o.first; held = o.ports }, x)) c.with_ports.ensures.err
+
+pub returns-in-Err-clause-err : goal.returns-in-Err-clause-err
+returns-in-Err-clause-err c = inl (c.in-Err.fault, search rules, c.in-Err.ensures.refused)

@@ -1,11 +1,10 @@
-use Rattle.partial_door.proofs.Common.{rules, ◌∙◌, ap, sym, refl, inl, inr, ◌++◌, ◌∷◌, [], List}
-use Rattle.partial_memory.specs.Ports.{PortView}
+use Rattle.partial_door.proofs.Common.{rules, ◌∙◌, ap, sym, refl, inl, inr, PortView, ◌++◌, ◌∷◌, [], List}
 use Rattle.partial_door.proofs.held.Held.give_port.Goals as goal
 
 pub returns-then-is_err-clause-err : goal.returns-then-is_err-clause-err
 returns-then-is_err-clause-err c = (
   refl,
-  inr (c.in-Memory.open, _, c.in-Memory.is, refl, record { opening = refl; count = refl; memory = refl }, c.reserve.ensures.items),
+  inr (c.in-Memory.open, _, c.in-Memory.is, refl, record { number = refl; count = refl; memory = refl }, c.reserve.ensures.items),
   inr (inr (inr (c.in-Memory.open, c.in-Port.own, c.in-Memory.is, search rules, search rules, refl))),
 )
 
@@ -18,7 +17,7 @@ returns-clause-ok c = (
   refl,
   sym c.into_inner.ensures ∙ c.into_port-own.ensures,
   search rules,
-  record { opening = refl; count = refl; memory = refl },
+  record { number = refl; count = refl; memory = refl },
   c.push_reserved.ensures.items ∙ ap (λ (xs : List PortView). xs ++ c.into_port-own.result.port ∷ []) c.reserve.ensures.items,
 )
 

@@ -15,8 +15,8 @@ returns c =
         refl,
         refl,
         search rules,
-        record { opening = refl; memory = refl },
-        record { opening = refl; memory = refl },
+        record { number = refl; memory = refl },
+        record { number = refl; memory = refl },
         c.meet.ensures.met,
       ),
     )

@@ -1,5 +1,6 @@
 use Rattle.std.proofs.Common.{tests}
-use Rattle.partial_door.proofs.{Common.{rules, refl, sym, inl, inr, IsOf}, Opened.last_of}
+use Rattle.partial_door.proofs.{Common.{rules, refl, sym, inl, inr}, OpenedOpening.last_of}
+use Rattle.partial_long_lived.specs.Ports.{IsOf}
 use Rattle.partial_door.proofs.held.Held.take_port.Goals as goal
 
 pub invariant_of-own-clause-of : goal.invariant_of-own-clause-of
@@ -13,7 +14,7 @@ returns-clause-ok c = (
   c.in-Memory.is,
   refl,
   c.replace.ensures.after,
-  record { opening = refl; count = refl; memory = refl },
+  record { number = refl; count = refl; memory = refl },
   c.in-Some.ensures.items,
   refl,
   c.in-Ok-try_clone.ensures,

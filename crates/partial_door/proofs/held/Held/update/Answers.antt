@@ -1,12 +1,8 @@
 use Rattle.partial_door.proofs.Common.{rules, refl, inl, inr}
-use Rattle.partial_memory.specs.declared.answers.Updated.TheVariants.{Applied, Lost}
 use Rattle.partial_door.proofs.held.Held.update.Goals as goal
 
-pub returns-in-Ok-Applied : goal.returns-in-Ok-Applied
-returns-in-Ok-Applied c = inr (c.in-Port.own, _, c.in-Port.is, refl, record { opening = refl; memory = refl }, inl (Applied c.in-Ok-Applied.stamp, refl, refl, search rules))
-
-pub returns-in-Ok-Lost : goal.returns-in-Ok-Lost
-returns-in-Ok-Lost c = inr (c.in-Port.own, _, c.in-Port.is, refl, record { opening = refl; memory = refl }, inl (Lost c.in-Ok-Lost.by, refl, refl, search rules))
+pub returns-in-Ok : goal.returns-in-Ok
+returns-in-Ok c = inr (c.in-Port.own, _, c.in-Port.is, refl, record { number = refl; memory = refl }, inl (c.in-Ok.updated, refl, search rules, search rules))
 
 pub returns-in-Err : goal.returns-in-Err
-returns-in-Err c = inr (c.in-Port.own, _, c.in-Port.is, refl, record { opening = refl; memory = refl }, inr (c.in-Err.cause, search rules, refl, search rules))
+returns-in-Err c = inr (c.in-Port.own, _, c.in-Port.is, refl, record { number = refl; memory = refl }, inr (c.in-Err.cause, search rules, refl, search rules))

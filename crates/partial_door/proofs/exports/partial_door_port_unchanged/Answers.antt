@@ -1,0 +1,5 @@
+use Rattle.partial_door.proofs.Common.{refl, inr}
+use Rattle.partial_door.proofs.exports.partial_door_port_unchanged.Goals as goal
+
+pub returns : goal.returns
+returns c = inr (_, _, c.in-Some.ensures.lent, refl, c.unchanged.ensures)

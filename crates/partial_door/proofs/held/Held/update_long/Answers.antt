@@ -1,8 +1,0 @@
-use Rattle.partial_door.proofs.Common.{rules, refl, inl, inr}
-use Rattle.partial_door.proofs.held.Held.update_long.Goals as goal
-
-pub returns-in-Ok : goal.returns-in-Ok
-returns-in-Ok c = inr (c.in-LongPort.own, _, c.in-LongPort.is, refl, record { number = refl; memory = refl }, inl (c.in-Ok.updated, refl, search rules, search rules))
-
-pub returns-in-Err : goal.returns-in-Err
-returns-in-Err c = inr (c.in-LongPort.own, _, c.in-LongPort.is, refl, record { number = refl; memory = refl }, inr (c.in-Err.cause, search rules, refl, search rules))

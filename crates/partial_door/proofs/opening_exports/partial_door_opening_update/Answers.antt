@@ -1,0 +1,5 @@
+use Rattle.partial_door.proofs.Common.{refl, inr}
+use Rattle.partial_door.proofs.opening_exports.partial_door_opening_update.Goals as goal
+
+pub returns : goal.returns
+returns c = inr (_, _, c.in-Some.ensures.lent, refl, c.update_opening.ensures)
