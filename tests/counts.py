@@ -24,6 +24,8 @@ TOP = Path(__file__).resolve().parent.parent
 FIGURE = re.compile(r'(<!--=([\w.]+)-->)([^<]*)(<!--=-->)')
 # The list words of an arena, by default (`Options::default`).
 LIST_WORDS = 1_024
+# The most components of a memory.
+MOST_COMPONENTS = 65_536
 
 
 def tests():
@@ -44,19 +46,18 @@ def option(name):
 
 def components(ports):
     """The most components with so many ports: each has room for a greatest record, 4 + 2 m words, beside the pool."""
-    return ((option('most_words') - option('pool_of_port')) // ports - 4) // 2
+    return min((option('most_pool') - option('fewest_pool') - 4 * ports) // (3 + 2 * ports), MOST_COMPONENTS)
 
 
-def pool(ports):
-    """The usual pool of an arena with few components (`usual_pool`)."""
-    most = min(option('pool_of_port') * ports, option('pool_of_all') // ports)
-    return max(most, option('pool_of_port'))
+def pool(ports, m=8):
+    """The usual pool of an arena (`usual_pool`)."""
+    most = max(min(option('pool_of_port') * ports, option('pool_of_all') // ports), option('pool_of_component') * m)
+    return max(min(most, option('most_pool') - 3 * m - (4 + 2 * m) * ports), option('fewest_pool'))
 
 
 def megabytes(ports, m=8):
-    """What a memory of few components and the usual sizes takes, in MB: the words of its epochs, ports and arenas."""
-    own = pool(ports) + (4 + 2 * m) * ports
-    rest, slots = 5 * m + 4 + LIST_WORDS + own, (own + 1) // 2
+    """What a memory of the usual sizes takes, in MB: the words of its epochs, ports and arenas."""
+    rest, slots = 5 * m + 4 + LIST_WORDS + pool(ports, m) + (4 + 2 * m) * ports, pool(ports, m) // 8 + ports
     slots = min(slots + 15 - (rest + slots - 1) % 16, option('most_slots'))
     control = 1 + 3 * ports
     taken = 8 * (control + 15 - (control + 3 + m) % 16 + 2 * ports * (rest + slots)) / 10 ** 6

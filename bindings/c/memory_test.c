@@ -126,13 +126,13 @@ static void test_refused_openings(void)
     static const uint64_t initial[65537];
     partial_memory memory = PARTIAL_EMPTY;
     const partial_arena many_lists = {65537, 16};
-    const partial_arena large_pool = {4, 131072};
+    const partial_arena large_pool = {4, 4194304};
     check(partial_memory_new(initial, 1, 0, &memory) == PARTIAL_PORT_COUNT, "no port is refused");
     check(partial_memory_new(initial, 0, 65, &memory) == PARTIAL_PORT_COUNT, "65 ports are refused first");
     check(partial_memory_new(initial, 0, 1, &memory) == PARTIAL_COMPONENTS, "no component is refused");
     check(partial_memory_new(initial, 65537, 1, &memory) == PARTIAL_COMPONENTS, "65537 are refused");
     check(partial_memory_new_with(initial, 1, 1, &many_lists, &memory) == PARTIAL_LIST_WORDS, "65537 list words are refused");
-    check(partial_memory_new_with(initial, 1, 1, &large_pool, &memory) == PARTIAL_POOL_WORDS, "131072 pool words are refused");
+    check(partial_memory_new_with(initial, 1, 1, &large_pool, &memory) == PARTIAL_POOL_WORDS, "4194304 pool words are refused");
     check(memory.held == NULL, "a refused opening leaves the handle empty");
     check(partial_memory_new(initial, 2, 1, &memory) == 0, "a memory is made after refusals");
     void *held = memory.held;

@@ -160,9 +160,9 @@ static inline int partial_is_transient(uint32_t code)
 /* The sizes of an arena of a `partial_memory`, which has two arenas for each port. */
 typedef struct partial_arena {
     uint32_t list_words; /* for the lists of vacated slots: at most 65536 */
-    uint32_t pool_words; /* claimed before the epoch changes: at most 131072, less 4 for
-                            each port and 2 for each port and component; 0 for as many
-                            as suit the number of ports (below) */
+    uint32_t pool_words; /* claimed before the epoch changes: at most 4194304, less 4 for
+                            each port, 2 for each port and component, and 3 for each
+                            component; 0 for as many as suit the number of ports (below) */
 } partial_arena;
 
 /* The sizes of an opening, apart from the number of its components. */
@@ -265,8 +265,8 @@ static inline uint64_t partial_next_number(void)
  * 23: a pointer is null. 31: the library is of another version than this header. 18: the
  * handle holds something. 5: there are not 1 to 64 ports. 1: there are not 1 to 65536
  * values. 3: there are more than 65536 list words. 4: the pool words, with 4 for each
- * port and 2 for each port and component, are more than 131072. 6: an allocation was
- * refused. The handle is as it was.
+ * port, 2 for each port and component, and 3 for each component, are more than 4194304.
+ * 6: an allocation was refused. The handle is as it was.
  */
 static inline uint32_t partial_memory_new_with(const uint64_t *initial, size_t components,
                                                uint32_t ports, const partial_arena *arena,
@@ -285,8 +285,8 @@ static inline uint32_t partial_memory_new_with(const uint64_t *initial, size_t c
 
 /*
  * The same, with arenas of 1024 list words, and of 16384 pool words for each port. But
- * these are no more than 262144 divided by the number of ports, and no more than there is
- * room for; and always 16384 at least.
+ * these are no more than 131072 divided by the number of ports, or 16 for each component
+ * if that is more; no more than there is room for; and always 8192 at least.
  */
 static inline uint32_t partial_memory_new(const uint64_t *initial, size_t components,
                                           uint32_t ports, partial_memory *memory)

@@ -6,9 +6,9 @@ use crate::sizes;
 use crate::OpenError;
 
 /// How many ports a memory has, and how large its arenas are. There are two arenas for each port. An arena of `m`
-/// components and `p` ports has `5 m + 4 + list_words + 1.5 (pool_words + (4 + 2 m) p)` words of 8 bytes, rounded up to
-/// a multiple of 16; with the greatest pools only to a whole number. While a memory opens, its words are there twice:
-/// with 64 ports and 894 components it has 207 MB, and its process had 416 MB at its peak.
+/// components and `p` ports has `5 m + 4 + list_words + pool_words + (4 + 2 m) p` words of 8 bytes and its slots: one for
+/// each 8 pool words, and one for each port. They are rounded up to a multiple of 16, unless there are 65,536 slots, the
+/// most. While a memory opens, its words are there twice.
 ///
 /// ```
 /// use partial_door::Memory;
@@ -25,9 +25,10 @@ pub struct Builder {
 }
 
 impl Default for Builder {
-    /// 64 ports, 1,024 list words, and as many pool words as suit the number of ports.
+    /// 16 ports, 1,024 list words, and as many pool words as suit the numbers of ports and components. A memory with more
+    /// ports takes more than its share: each has two arenas, and room for a record in all of them.
     fn default() -> Builder {
-        Builder { ports: 64, arena: raw::Arena { list_words: 1024, pool_words: 0 } }
+        Builder { ports: 16, arena: raw::Arena { list_words: 1024, pool_words: 0 } }
     }
 }
 
@@ -61,17 +62,17 @@ impl Builder {
 
     /// How many pool words of an arena are claimed before the epoch changes. An update claims 3 of them, or 4 and 2
     /// more for each component of a view that it stores; a scan claims 1, and 1 more for each position. The words
-    /// and the room of `4 + 2 m` words for each port, for `m` components, are at most 131,072 together.
+    /// and the room of `4 + 2 m` words for each port, for `m` components, and `3 m` more, are at most 4,194,304 together.
     ///
-    /// 0 is the number that a memory has by default: 16,384 for each port, but no more than 262,144 divided by the number
-    /// of ports, or 16 for each component if that is more; no more than there is room for, and always 16,384 at least.
+    /// 0 is the number that a memory has by default: 16,384 for each port, but no more than 131,072 divided by the number
+    /// of ports, or 16 for each component if that is more; no more than there is room for, and always 8,192 at least.
     ///
     /// ```
     /// use partial_door::{Memory, OpenError};
     ///
-    /// assert_eq!(Memory::builder().pool_words(131_073).open(&[1]).err(), Some(OpenError::PoolWords));
-    /// assert_eq!(Memory::builder().open(&[0; 1000]).err(), Some(OpenError::PoolWords));
-    /// assert!(Memory::builder().ports(8).open(&[0; 1000]).is_ok());
+    /// assert_eq!(Memory::builder().pool_words(4_194_305).open(&[1]).err(), Some(OpenError::PoolWords));
+    /// assert_eq!(Memory::builder().ports(64).open(&[0; 40_000]).err(), Some(OpenError::PoolWords));
+    /// assert!(Memory::builder().ports(4).open(&[0; 40_000]).is_ok());
     /// ```
     pub fn pool_words(mut self, words: u32) -> Builder {
         self.arena.pool_words = words;
@@ -84,8 +85,8 @@ impl Builder {
     /// ```
     /// use partial_door::Memory;
     ///
-    /// assert_eq!(Memory::builder().max_components(), 894);
-    /// assert_eq!(Memory::builder().ports(1).max_components(), 57_342);
+    /// assert_eq!(Memory::builder().max_components(), 65_536);
+    /// assert_eq!(Memory::builder().ports(64).max_components(), 31_953);
     /// assert_eq!(Memory::builder().ports(65).max_components(), 0);
     /// ```
     #[must_use]

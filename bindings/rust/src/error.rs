@@ -14,7 +14,7 @@ pub enum OpenError {
     Components,
     /// There are more than 65,536 list words.
     ListWords,
-    /// The pool words of an arena, with the room for each port, are more than 131,072.
+    /// The pool words of an arena, with the initial records and the room for each port, are more than 4,194,304.
     PoolWords,
     /// An allocation was refused.
     OutOfMemory,

@@ -48,7 +48,7 @@ impl Layout {
         Key { word: self.memory | u64::from(component), of: PhantomData }
     }
 
-    /// Makes the memory, with 64 ports and arenas of the usual size.
+    /// Makes the memory, with 16 ports and arenas of the usual size.
     ///
     /// # Errors
     /// As those of [`Builder::open`].

@@ -62,7 +62,7 @@ pub struct Memory {
 }
 
 impl Memory {
-    /// Makes a memory whose components hold these values, with 64 ports and arenas of the usual size.
+    /// Makes a memory whose components hold these values, with 16 ports and arenas of the usual size.
     ///
     /// ```
     /// use partial_door::Memory;
@@ -73,8 +73,8 @@ impl Memory {
     /// ```
     ///
     /// # Errors
-    /// As those of [`Builder::open`]. There is room for 894 components with 64 ports; a [`Builder`] with fewer ports
-    /// allows more ([`Builder::max_components`]).
+    /// As those of [`Builder::open`], but that no size is out of its range when there are 1 to 65,536 values. A [`Builder`]
+    /// makes a memory with more ports, up to 64, and one with fewer, which takes less memory ([`Memory::bytes`]).
     pub fn new(initial: &[u64]) -> Result<Memory, OpenError> {
         Builder::default().open(initial)
     }

@@ -3,21 +3,23 @@
 
 use crate::parts::Arena;
 
-/// The most words of an arena that are claimed or kept for the ports.
-const MOST_WORDS: u64 = 131_072;
+/// The most pool words of an arena.
+const MOST_POOL: u64 = 4_194_304;
 /// The most slots of an arena.
 #[cfg(not(feature = "plain"))]
 const MOST_SLOTS: u64 = 65_536;
-/// How many pool words an arena has for each port where a program leaves that open, and the fewest that it has then.
+/// How many pool words an arena has for each port where a program leaves that open.
 const POOL_OF_PORT: u64 = 16_384;
+/// The fewest that it has then.
+const FEWEST_POOL: u64 = 8_192;
 /// How many pool words half the arenas have together then, at most, unless each has the fewest.
-const POOL_OF_ALL: u64 = 262_144;
+const POOL_OF_ALL: u64 = 131_072;
 /// How many pool words an arena has for each component then, at least, where it has room for them.
 const POOL_OF_COMPONENT: u64 = 16;
 
-/// The words that an arena keeps for the ports: the greatest record of each.
+/// The pool words that are not claimed in an epoch: the initial records, and room for the greatest record of each port.
 fn kept(components: u64, ports: u64) -> u64 {
-    (4 + 2 * components) * ports
+    3 * components + (4 + 2 * components) * ports
 }
 
 /// How many components a memory may have: 0 when it isn't made with any.
@@ -26,11 +28,11 @@ pub(crate) fn max_components(ports: u32, arena: Arena) -> usize {
         return 0;
     }
     let pool = match arena.pool_words {
-        0 => POOL_OF_PORT,
+        0 => FEWEST_POOL,
         words => u64::from(words),
     };
-    let room = MOST_WORDS.saturating_sub(pool) / u64::from(ports);
-    (room.saturating_sub(4) / 2).min(65_536) as usize
+    let ports = u64::from(ports);
+    (MOST_POOL.saturating_sub(pool + 4 * ports) / (3 + 2 * ports)).min(65_536) as usize
 }
 
 /// How many pool words of an arena are claimed before the epoch changes. There is a port at least.
@@ -40,8 +42,8 @@ pub(crate) fn pool_of(components: usize, ports: u32, arena: &Arena) -> u64 {
         0 => (POOL_OF_PORT * ports)
             .min(POOL_OF_ALL / ports)
             .max(POOL_OF_COMPONENT * components as u64)
-            .min(MOST_WORDS.saturating_sub(kept(components as u64, ports)))
-            .max(POOL_OF_PORT),
+            .min(MOST_POOL.saturating_sub(kept(components as u64, ports)))
+            .max(FEWEST_POOL),
         words => u64::from(words),
     }
 }
@@ -51,9 +53,8 @@ pub(crate) fn pool_of(components: usize, ports: u32, arena: &Arena) -> u64 {
 pub(crate) fn bytes(components: usize, ports: u32, arena: &Arena) -> usize {
     let pool = pool_of(components, ports, arena);
     let (m, ports, lists) = (components as u64, u64::from(ports), u64::from(arena.list_words));
-    let claimed = pool + kept(m, ports);
-    let rest = 5 * m + 4 + lists + claimed;
-    let slots = claimed.div_ceil(2);
+    let rest = 2 * m + 4 + lists + pool + kept(m, ports);
+    let slots = pool / 8 + ports;
     let slots = (slots + 15 - (rest + slots - 1) % 16).min(MOST_SLOTS);
     let control = 1 + ports + 2 * ports;
     let first = control + 15 - (control + 3 + m) % 16;

@@ -37,7 +37,7 @@ fn each_writer_of_its_own_component_is_applied_over_many_epochs() {
 
 #[test]
 fn each_of_64_threads_has_a_port_and_no_more() {
-    let memory = Memory::new(&[0]).expect("a memory is made");
+    let memory = Memory::builder().ports(64).open(&[0]).expect("a memory is made");
     let ports: Vec<Port> = (0..64).map(|_| memory.port().expect("a port is free")).collect();
     assert_eq!(memory.port().err(), Some(PortError::NoneFree));
     let numbers: HashSet<u32> = ports.iter().map(Port::number).collect();
@@ -59,8 +59,8 @@ fn a_memory_is_refused_with_the_first_cause() {
     assert_eq!(opened(1, 65_537), Some(OpenError::Components));
     assert_eq!(opened(1, 1), Some(OpenError::ListWords));
     assert_eq!(Memory::new(&[0; 895]).err(), Some(OpenError::PoolWords));
-    assert!(Memory::new(&[0; 894]).is_ok());
-    assert!(Memory::builder().ports(1).open(&[0; 57_342]).is_ok());
+    assert!(Memory::new(&[0; 10_000]).is_ok());
+    assert!(Memory::builder().ports(1).open(&[0; 65_536]).is_ok());
     assert_eq!(Memory::builder().ports(1).open(&[0; 57_343]).err(), Some(OpenError::PoolWords));
     assert!(Memory::builder().ports(4).open(&[0; 14_334]).is_ok());
     assert_eq!(Memory::builder().ports(4).open(&[0; 14_335]).err(), Some(OpenError::PoolWords));

@@ -188,10 +188,10 @@ fn a_key_is_of_one_memory_alone_however_far_apart_their_numbers_are() {
 #[test]
 fn the_greatest_layout_has_a_key_for_each_component() {
     let mut layout = Layout::new();
-    let keys: Vec<Key<u32>> = (0..57_342).map(|value| layout.add(value)).collect();
+    let keys: Vec<Key<u32>> = (0..65_536).map(|value| layout.add(value)).collect();
     let memory = layout.open_with(Memory::builder().ports(1)).expect("a memory is made");
     let mut port = memory.port().expect("a port is free");
-    assert_eq!(port.snapshot((keys[57_341], keys[0])), Ok((57_341, 0)));
+    assert_eq!(port.snapshot((keys[65_535], keys[0])), Ok((65_535, 0)));
     let mut layout = Layout::new();
     let keys: Vec<Key<u32>> = (0..65_538).map(|value| layout.add(value)).collect();
     assert_eq!([65_535, 65_537].map(|at| keys[at].component()), [65_535, 65_535]);

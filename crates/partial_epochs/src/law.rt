@@ -36,14 +36,14 @@ pub fn claims_have_room()
     ensures { ClaimsHaveRoom }
 {}
 
-/// In an arena with a slot for each two words of its pool, no machine of a port is marked for the pool or for the
-/// slots, so no call is refused at once for either.
+/// In an arena with a slot for each port, no machine of a port is marked for the pool or for the slots, so no call is
+/// refused at once for either.
 pub fn marks_never_come()
     ensures { MarksNeverCome }
 {}
 
-/// With a slot for each two words of the pool no step of a machine ends its call with a refusal: each announcement
-/// finds a slot, since two words of the pool are claimed for it first.
+/// In such an arena no step of a machine ends its call with a refusal: each announcement finds a slot, since one is left
+/// for each port after the slot limit, and a claim past that is its port's last.
 pub fn machines_are_never_refused()
     ensures { MachinesAreNeverRefused }
 {}

@@ -17,8 +17,8 @@ pub enum OpenError {
     /// There are more than 65,536 list words.
     #[error("list words out of range")]
     Lists,
-    /// An arena would have more than 131,072 pool words after the initial records: those of the options, and room for
-    /// the greatest record of each port.
+    /// An arena would have more than 4,194,304 pool words: the initial records, those of the options, and room for the
+    /// greatest record of each port.
     #[error("pool words out of range")]
     Pool,
     /// An allocation was refused.

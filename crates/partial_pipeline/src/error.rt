@@ -16,8 +16,8 @@ pub enum PipelineError {
     /// The options ask for more than 65,536 list words. Nothing was made.
     #[error("list words out of range")]
     Lists,
-    /// An arena of the memory would have more than 131,072 pool words after the initial records: those of the
-    /// options, and room for the greatest record of each port. Nothing was made.
+    /// An arena of the memory would have more than 4,194,304 pool words: the initial records, those of the options, and
+    /// room for the greatest record of each port. Nothing was made.
     #[error("pool words out of range")]
     Pool,
     /// An allocation was refused, or a thread couldn't be started.
