@@ -61,9 +61,10 @@ fn a_memory_is_refused_with_the_first_cause() {
     assert_eq!(Memory::new(&[0; 895]).err(), Some(OpenError::PoolWords));
     assert!(Memory::new(&[0; 10_000]).is_ok());
     assert!(Memory::builder().ports(1).open(&[0; 65_536]).is_ok());
-    assert_eq!(Memory::builder().ports(1).open(&[0; 57_343]).err(), Some(OpenError::PoolWords));
-    assert!(Memory::builder().ports(4).open(&[0; 14_334]).is_ok());
-    assert_eq!(Memory::builder().ports(4).open(&[0; 14_335]).err(), Some(OpenError::PoolWords));
+    assert_eq!(Memory::builder().ports(1).open(&[0; 65_537]).err(), Some(OpenError::Components));
+    assert!(Memory::builder().ports(4).open(&[0; 65_536]).is_ok());
+    assert!(Memory::builder().ports(64).open(&[0; 1_000]).is_ok());
+    assert_eq!(Memory::builder().ports(64).open(&[0; 31_954]).err(), Some(OpenError::PoolWords));
 }
 
 #[test]
@@ -76,7 +77,7 @@ fn a_memory_has_pool_words_for_each_of_four_ports() {
         applied += 1;
     }
     // An update claims 3 words, the last one of an epoch past the pool; the one that changed the epoch is of the next one.
-    assert_eq!(applied - 1, 65_536 / 3 + 1);
+    assert_eq!(applied - 1, 32_768 / 3 + 1);
 }
 
 #[test]
