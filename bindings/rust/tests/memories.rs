@@ -58,7 +58,6 @@ fn a_memory_is_refused_with_the_first_cause() {
     assert_eq!(opened(1, 0), Some(OpenError::Components));
     assert_eq!(opened(1, 65_537), Some(OpenError::Components));
     assert_eq!(opened(1, 1), Some(OpenError::ListWords));
-    assert_eq!(Memory::new(&[0; 895]).err(), Some(OpenError::PoolWords));
     assert!(Memory::new(&[0; 10_000]).is_ok());
     assert!(Memory::builder().ports(1).open(&[0; 65_536]).is_ok());
     assert_eq!(Memory::builder().ports(1).open(&[0; 65_537]).err(), Some(OpenError::Components));
