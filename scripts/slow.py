@@ -1,5 +1,6 @@
 #!/usr/bin/env python3
-"""Proves a crate from nothing, over the libraries in out/, and prints the modules that took longest, with their seconds.
+"""Proves a crate from nothing, over the libraries in out/, with its tests if it has some, and prints the modules that took
+longest, with their seconds.
 
 A module is one part of a function's proof: `Lts` is slow where a function owns much at its ends, `Proof` where a goal is
 searched for that has no answer, and `Answers` where a written answer is slow. The times are those between the files that
@@ -23,6 +24,11 @@ def times_in(folder):
     return [(here - before, name.removesuffix(ENDING)) for (before, _), (here, name) in zip(files, files[1:])]
 
 
+def has_tests(crate):
+    """Whether the crate in this folder has tests."""
+    return any('#[test]' in it.read_text(encoding='utf-8') for it in (crate / 'src').glob('**/*.rt'))
+
+
 def main():
     name, many = sys.argv[1], int(sys.argv[2]) if len(sys.argv) > 2 else 30
     crates = edits.crates_of(edits.TOP)
@@ -36,7 +42,7 @@ def main():
         kept.mkdir()
         command = [str(kept) if it == 'kept' else it for it in edits.command_of(name, crates, room)]
         root = 'src/lib.rt' if (edits.TOP / 'crates' / name / 'src/lib.rt').exists() else 'src/main.rt'
-        command = [root if it == 'src/lib.rt' else it for it in command]
+        command = [root if it == 'src/lib.rt' else it for it in command] + ['--test'] * has_tests(edits.TOP / 'crates' / name)
         status = subprocess.run(command, cwd=edits.TOP / 'crates' / name, stdin=subprocess.DEVNULL).returncode
         found = sorted(times_in(kept), reverse=True)
     for seconds, module in found[:many]:

@@ -136,67 +136,6 @@ fn assert_scanned(
     assert_eq!(rt; scanned.values, values);
 }
 
-// The first two collects are equal: the second is the last.
-#[test]
-fn equal_collects(rt: HostRuntime) -> Result<(), Fail> {
-    let scanned = scan(&rt, rt.alloc(), &[0, 1], false, &[])?;
-    assert_eq!(rt; scanned.view, 0);
-    assert_scanned(&rt, &scanned, &[0, 1, 0, 1, 19, 22], 2, None, [5, 7]);
-    Ok(())
-}
-
-// Component 0 gets the record at word 24 between the first two collects: the scan makes a third one.
-#[test]
-fn component_changed_once(rt: HostRuntime) -> Result<(), Fail> {
-    let changes = [(2, 25, 9), (2, 0, 24)];
-    let scanned = scan(&rt, rt.alloc(), &[0, 1], false, &changes)?;
-    assert_scanned(&rt, &scanned, &[0, 1, 0, 1, 0, 1, 25, 22], 3, None, [9, 7]);
-    Ok(())
-}
-
-// Each of two components changes once, component 0 between the first two collects and component 1
-// between the next two: there are four collects, and there can't be more.
-#[test]
-fn each_component_changed_once(rt: HostRuntime) -> Result<(), Fail> {
-    let changes = [(2, 25, 9), (2, 0, 24), (4, 28, 8), (4, 1, 27)];
-    let scanned = scan(&rt, rt.alloc(), &[0, 1], false, &changes)?;
-    assert_scanned(
-        &rt,
-        &scanned,
-        &[0, 1, 0, 1, 0, 1, 0, 1, 25, 28],
-        4,
-        None,
-        [9, 8],
-    );
-    Ok(())
-}
-
-// Component 0 shows its third record in the third collect, which ends at once. That record, at word 27, has
-// a view at word 30 with two pairs.
-#[test]
-fn borrowed_view(rt: HostRuntime) -> Result<(), Fail> {
-    let changes = [
-        (2, 0, 24),
-        (4, 0, 27),
-        (4, 29, 30),
-        (4, 30, 2),
-        (4, 31, 1),
-        (4, 32, 13),
-        (4, 34, 12),
-    ];
-    let scanned = scan(&rt, rt.alloc(), &[0, 1], false, &changes)?;
-    assert_eq!(rt; scanned.view, 30);
-    assert_scanned(
-        &rt,
-        &scanned,
-        &[0, 1, 0, 1, 0, 29, 30, 31, 32, 33, 34],
-        3,
-        Some(27),
-        [12, 13],
-    );
-    Ok(())
-}
-
 // One position and a view with all components: 9 steps, and `r (r + 2) + 2 m + 2` is 9.
 #[test]
 fn most_steps_of_one_position(rt: HostRuntime) -> Result<(), Fail> {
@@ -247,16 +186,6 @@ fn third_record_in_the_last_collect(rt: HostRuntime) -> Result<(), Fail> {
     Ok(())
 }
 
-// A scan that shares stops after the view word, and loads no pair.
-#[test]
-fn shared_view(rt: HostRuntime) -> Result<(), Fail> {
-    let changes = [(1, 0, 24), (2, 0, 27), (2, 29, 30), (2, 30, 1), (2, 32, 12)];
-    let scanned = scan(&rt, rt.alloc(), &[0], true, &changes)?;
-    assert_eq!(rt; scanned.view, 30);
-    assert_scanned(&rt, &scanned, &[0, 0, 0, 29], 3, Some(27), [0, 0]);
-    Ok(())
-}
-
 // A scan that shares loads the values of its records when two collects are equal, as every scan does.
 #[test]
 fn shares_nothing_without_a_third_record(rt: HostRuntime) -> Result<(), Fail> {
@@ -282,15 +211,6 @@ fn repeated_position(rt: HostRuntime) -> Result<(), Fail> {
     let changes = [(1, 25, 9), (1, 1, 24)];
     let scanned = scan(&rt, rt.alloc(), &[1, 1], false, &changes)?;
     assert_scanned(&rt, &scanned, &[1, 1, 1, 1, 1, 1, 25, 25], 3, None, [0, 9]);
-    Ok(())
-}
-
-// Component 0 gets another record with the value that it had: references are compared, not values.
-#[test]
-fn value_set_back(rt: HostRuntime) -> Result<(), Fail> {
-    let changes = [(1, 25, 5), (1, 0, 24)];
-    let scanned = scan(&rt, rt.alloc(), &[0], false, &changes)?;
-    assert_scanned(&rt, &scanned, &[0, 0, 0, 25], 3, None, [5, 0]);
     Ok(())
 }
 

@@ -1,5 +1,4 @@
-//! A machine that has made no call, the first step of each call, and the calls that need no words. The
-//! replay makes all others.
+//! A machine that has made no call, and one that reads. The replay makes all others.
 
 ghost use Rattle.std.specs.Prelude.{◌≡◌, ◌<◌, IfOk};
 ghost use Rattle.partial_machine.specs.declared.stage.Stage.TheVariants.{Idle};
@@ -34,12 +33,6 @@ fn is_due(rt: &impl Abort, core: &Core, step: Option<Step>) {
     assert_eq!(rt; core.step(), step);
 }
 
-// The call has ended with that reply.
-fn replies(rt: &impl Abort, core: &mut Core, reply: Reply) {
-    assert_eq!(rt; core.take(), Some(reply));
-    assert!(rt; core.idle());
-}
-
 // Nothing is begun or spent.
 fn is_unused(rt: &impl Abort, core: &mut Core) {
     assert!(rt; core.idle());
@@ -54,53 +47,6 @@ fn is_unused(rt: &impl Abort, core: &mut Core) {
 fn no_call(rt: HostRuntime) -> Result<(), Fail> {
     let mut core = opened(rt.alloc(), 0)?;
     is_unused(&rt, &mut core);
-    drop(core);
-    Ok(())
-}
-
-fn begins_read(rt: &impl Abort, core: &mut Core)
-    requires { core.old.stage ≡ Idle }
-{
-    is_begun(rt, core.begin_read(1), Ok(()));
-    is_due(rt, core, Some(Step::Load(1)));
-}
-
-#[test]
-fn first_step_of_a_read(rt: HostRuntime) -> Result<(), Fail> {
-    let mut core = opened(rt.alloc(), 0)?;
-    begins_read(&rt, &mut core);
-    drop(core);
-    Ok(())
-}
-
-fn begins_update(rt: &impl Abort, core: &mut Core)
-    requires { core.old.stage ≡ Idle }
-{
-    is_begun(rt, core.begin_update(0, 7), Ok(()));
-    is_due(rt, core, Some(Step::Load(0)));
-}
-
-#[test]
-fn first_step_of_an_update(rt: HostRuntime) -> Result<(), Fail> {
-    let mut core = opened(rt.alloc(), 1)?;
-    begins_update(&rt, &mut core);
-    drop(core);
-    Ok(())
-}
-
-fn begins_scan(rt: &impl Abort, core: &mut Core)
-    requires idle { core.old.stage ≡ Idle }
-    requires two { core.old.sizes.m ≡ 2 }
-{
-    is_begun(rt, core.begin_scan(&[0, 1]), Ok(()));
-    is_due(rt, core, Some(Step::Add(4, 3)));
-    assert!(rt; !core.idle());
-}
-
-#[test]
-fn first_step_of_a_scan(rt: HostRuntime) -> Result<(), Fail> {
-    let mut core = opened(rt.alloc(), 2)?;
-    begins_scan(&rt, &mut core);
     drop(core);
     Ok(())
 }
@@ -126,45 +72,6 @@ fn reads(rt: &impl Abort, core: &mut Core)
 fn read(rt: HostRuntime) -> Result<(), Fail> {
     let mut core = opened(rt.alloc(), 0)?;
     reads(&rt, &mut core);
-    drop(core);
-    Ok(())
-}
-
-fn scans_nothing(rt: &impl Abort, core: &mut Core)
-    requires { core.old.stage ≡ Idle }
-{
-    is_begun(rt, core.begin_scan(&[]), Ok(()));
-    is_due(rt, core, None);
-    let reply = Reply::Scanned {
-        collects: 0,
-        borrowed: None,
-    };
-    replies(rt, core, reply);
-}
-
-#[test]
-fn empty_scan(rt: HostRuntime) -> Result<(), Fail> {
-    let mut core = opened(rt.alloc(), 0)?;
-    scans_nothing(&rt, &mut core);
-    drop(core);
-    Ok(())
-}
-
-fn refuses_component(rt: &impl Abort, core: &mut Core)
-    requires idle { core.old.stage ≡ Idle }
-    requires two { core.old.sizes.m ≡ 2 }
-{
-    is_begun(rt, core.begin_update(2, 1), Err(Refused::Component));
-    is_begun(rt, core.begin_update_if(2, 18, 1), Err(Refused::Component));
-    is_begun(rt, core.begin_scan(&[0, 2]), Err(Refused::Component));
-    is_begun(rt, core.begin_read(2), Err(Refused::Component));
-    assert!(rt; core.idle());
-}
-
-#[test]
-fn component_refused(rt: HostRuntime) -> Result<(), Fail> {
-    let mut core = opened(rt.alloc(), 0)?;
-    refuses_component(&rt, &mut core);
     drop(core);
     Ok(())
 }

@@ -1,12 +1,12 @@
 //! Rows in one thread, each worked out by hand.
 
-ghost use Rattle.std.specs.Prelude.{◌≡◌, ◌≤◌, IfOk};
+ghost use Rattle.std.specs.Prelude.{◌≤◌, IfOk};
 ghost use Rattle.std.specs.List.{AllByRecursion};
 ghost use Rattle.partial_memory.specs.Ports.{IsOf};
 
 use super::calls::{COLLECTED_TWICE, applies, reads, scans, updates_if};
 use super::memories::{add, pair, single};
-use partial_memory::{Closed, Memory, OpenError, Port, Scanned, Updated, UpdatedIf};
+use partial_memory::{Closed, Memory, Port, Updated, UpdatedIf};
 use partial_model::Refused;
 use partial_words::{Link, Sizes};
 use std::alloc::{AllocError, Global};
@@ -110,77 +110,6 @@ fn one_thread_without_the_second_port(rt: HostRuntime) -> Result<(), Fail> {
     Ok(())
 }
 
-// How many ports a memory has that opens with so many.
-fn ports_of(alloc: Global, sizes: Sizes, ports: u32) -> Result<usize, OpenError>
-    requires { sizes.m ≡ 2 }
-{
-    let opened = Memory::open(alloc, sizes, &[10, 20], ports)?;
-    let ports = opened.1.len();
-    drop(opened);
-    Ok(ports)
-}
-
-// No memory opens with so many ports.
-fn refuses_ports(rt: &impl Abort, alloc: Global, sizes: Sizes, ports: u32)
-    requires { sizes.m ≡ 2 }
-{
-    let refused = ports_of(alloc, sizes, ports).err();
-    assert_eq!(rt; refused, Some(OpenError::Ports), "{ports} ports");
-}
-
-// A memory opens with so many ports.
-fn has_ports(rt: &impl Abort, alloc: Global, sizes: Sizes, ports: u32) -> Result<(), OpenError>
-    requires { sizes.m ≡ 2 }
-{
-    let all = ports_of(alloc, sizes, ports)?;
-    assert_eq!(rt; all, ports as usize);
-    Ok(())
-}
-
-#[test]
-fn ports_refused(rt: HostRuntime) -> Result<(), Fail> {
-    let sizes = Sizes::new(2, 4, 8, 64)?;
-    for ports in [0, 65] {
-        refuses_ports(&rt, rt.alloc(), sizes, ports);
-    }
-    for ports in [1, 64] {
-        has_ports(&rt, rt.alloc(), sizes, ports)?;
-    }
-    Ok(())
-}
-
-// Updates that are refused for a component that isn't there.
-fn refuses_updates(rt: &impl Abort, memory: &Memory, me: &mut Port)
-    requires { IsOf memory.now me.old }
-    ensures { IsOf memory.now me.new }
-{
-    assert_eq!(rt; memory.update(me, 2, 1), Err(Refused::Component));
-    assert_eq!(rt; memory.update_if(me, 2, 18, 1), Err(Refused::Component));
-}
-
-// Calls that are refused for a component that isn't there, and one that is applied after them.
-fn refuses_component(rt: &impl Abort, memory: &Memory, me: &mut Port)
-    requires { IsOf memory.now me.old × (2 ≤ memory.now.about.sizes.m) }
-{
-    refuses_updates(rt, memory, me);
-    let mut into = [3u64, 4];
-    assert_eq!(rt;
-        memory.scan(me, &[0, 2], &mut into),
-        Err(Refused::Component)
-    );
-    assert_eq!(rt; into, [3, 4]);
-    applies(rt, memory, me, 0, 7, 24);
-}
-
-#[test]
-fn component_refused(rt: HostRuntime) -> Result<(), Fail> {
-    let sizes = Sizes::new(2, 4, 8, 64)?;
-    let (memory, mut first, second) = pair(rt.alloc(), sizes, &[10, 20])?;
-    refuses_component(&rt, &memory, &mut first);
-    drop((memory, first, second));
-    Ok(())
-}
-
 // Two updates that are refused for the pool.
 fn refused_for_pool(rt: &impl Abort, memory: &Memory, me: &mut Port, component: u32)
     requires { IsOf memory.now me.old }
@@ -202,41 +131,6 @@ fn pool_spent(rt: HostRuntime) -> Result<(), Fail> {
     refused_for_pool(&rt, &memory, &mut first, 0);
     refused_for_pool(&rt, &memory, &mut second, 1);
     reads(&rt, &memory, &mut second, 0, 7, 24);
-    drop((memory, first, second));
-    Ok(())
-}
-
-// Two scans that are refused for the slots.
-fn refused_for_slots(rt: &impl Abort, memory: &Memory, me: &mut Port)
-    requires { IsOf memory.now me.old × (1 ≤ memory.now.about.sizes.m) }
-    ensures { IsOf memory.now me.new }
-{
-    assert!(rt; !me.slots_spent());
-    for _ in 0..2 {
-        let mut into = [3u64];
-        let scanned = memory.scan(me, &[1], &mut into);
-        assert_eq!(rt; scanned, Err(Refused::SlotsSpent));
-        assert_eq!(rt; into, [3]);
-        assert!(rt; me.slots_spent());
-    }
-}
-
-// The one scan for which there is a slot, two that are refused, and an update after them.
-fn spends_slots(rt: &impl Abort, memory: &Memory, me: &mut Port)
-    requires { IsOf memory.now me.old × (1 ≤ memory.now.about.sizes.m) }
-{
-    let mut into = [0u64];
-    assert_eq!(rt; memory.scan(me, &[0], &mut into), Ok(COLLECTED_TWICE));
-    assert_eq!(rt; into, [10]);
-    refused_for_slots(rt, memory, me);
-    applies(rt, memory, me, 1, 5, 25);
-}
-
-#[test]
-fn slots_spent(rt: HostRuntime) -> Result<(), Fail> {
-    let sizes = Sizes::new(2, 1, 8, 64)?;
-    let (memory, mut first, second) = pair(rt.alloc(), sizes, &[10, 20])?;
-    spends_slots(&rt, &memory, &mut first);
     drop((memory, first, second));
     Ok(())
 }
@@ -267,41 +161,6 @@ fn never_met(rt: HostRuntime) -> Result<(), Fail> {
     let sizes = Sizes::new(2, 64, 0, 4096)?;
     let (memory, mut first, mut second) = pair(rt.alloc(), sizes, &[0, 0])?;
     update_and_look(&rt, &memory, &mut first, &mut second);
-    drop((memory, first, second));
-    Ok(())
-}
-
-#[test]
-fn conditional(rt: HostRuntime) -> Result<(), Fail> {
-    let sizes = Sizes::new(2, 4, 8, 64)?;
-    let (memory, mut first, mut second) = pair(rt.alloc(), sizes, &[10, 20])?;
-    let applied = UpdatedIf::Applied { stamp: 24 };
-    updates_if(&rt, &memory, &mut first, 0, 18, 7, applied);
-    let changed = UpdatedIf::Changed { by: 24 };
-    updates_if(&rt, &memory, &mut second, 0, 18, 8, changed);
-    let applied = UpdatedIf::Applied { stamp: 27 };
-    updates_if(&rt, &memory, &mut second, 0, 24, 9, applied);
-    drop((memory, first, second));
-    Ok(())
-}
-
-// A scan of no position makes no collect.
-fn scans_nothing(rt: &impl Abort, memory: &Memory, me: &mut Port)
-    requires { IsOf memory.now me.old }
-{
-    let scanned = memory.scan(me, &[], &mut []);
-    let none = Scanned {
-        collects: 0,
-        borrowed: None,
-    };
-    assert_eq!(rt; scanned, Ok(none));
-}
-
-#[test]
-fn empty_scan(rt: HostRuntime) -> Result<(), Fail> {
-    let sizes = Sizes::new(2, 1, 8, 9)?;
-    let (memory, mut first, second) = pair(rt.alloc(), sizes, &[10, 20])?;
-    scans_nothing(&rt, &memory, &mut first);
     drop((memory, first, second));
     Ok(())
 }

@@ -4,7 +4,6 @@ mod checks;
 mod devices;
 mod growths;
 mod outcomes;
-mod refusals;
 mod rows;
 mod runs;
 

@@ -208,12 +208,12 @@ fn plan_refusals(rt: HostRuntime) -> Result<(), Fail> {
     Ok(())
 }
 
-pub(crate) fn is_plan(alloc: Global, text: &[u8]) -> bool {
+fn is_plan(alloc: Global, text: &[u8]) -> bool {
     read(alloc, text).is_ok()
 }
 
 /// Judges that a plan ends too early, in the line with that number.
-pub(crate) fn judge_front(rt: &impl Abort, alloc: Global, front: &[u8], number: u32) {
+fn judge_front(rt: &impl Abort, alloc: Global, front: &[u8], number: u32) {
     let given = read(alloc, front).err();
     let length = front.len();
     assert_eq!(rt; given, Some(line(number, Cause::End)), "{length} bytes");

@@ -106,12 +106,6 @@ fn judge_report(
     Ok(())
 }
 
-#[test]
-fn report_is_written(rt: HostRuntime) -> Result<(), Fail> {
-    let report = write_then_read(rt.alloc())?;
-    judge_report(&rt, rt.alloc(), &report, row())
-}
-
 fn text_of_each_answer() -> &'static [u8] {
     b"call 0 0 lost 27
 call 0 1 scanned 10 10 18446744073709551615 collects 2 borrowed -
@@ -131,58 +125,6 @@ values 6 18446744073709551615
 fn each_answer_is_reported(rt: HostRuntime) -> Result<(), Fail> {
     let report = each_answer(rt.alloc())?;
     judge_report(&rt, rt.alloc(), &report, text_of_each_answer())
-}
-
-#[test]
-fn empty_scan_is_reported(rt: HostRuntime) -> Result<(), Fail> {
-    let alloc = rt.alloc();
-    let report = RunReport {
-        answers: vec![in alloc; vec![in alloc; scanned(Vec::new(alloc), 0, None)]?]?,
-        values: vec![in alloc; 10, 20]?,
-    };
-    let expected = b"call 0 0 scanned collects 0 borrowed -\nvalues 10 20\n";
-    judge_report(&rt, alloc, &report, expected)
-}
-
-/// Judges the text of a report in which no port has an answer.
-fn judge_no_calls(rt: &impl Abort, alloc: Global, answers: Vec<Vec<Answer>>) -> Result<(), Fail> {
-    let report = RunReport {
-        answers,
-        values: vec![in alloc; 10, 0]?,
-    };
-    judge_report(rt, alloc, &report, b"values 10 0\n")
-}
-
-#[test]
-fn no_port_is_reported(rt: HostRuntime) -> Result<(), Fail> {
-    judge_no_calls(&rt, rt.alloc(), Vec::new(rt.alloc()))
-}
-
-#[test]
-fn no_call_is_reported(rt: HostRuntime) -> Result<(), Fail> {
-    let alloc = rt.alloc();
-    let answers = vec![in alloc; Vec::new(alloc), Vec::new(alloc)]?;
-    judge_no_calls(&rt, alloc, answers)
-}
-
-/// Judges writers that stop within the report's text.
-fn judge_stops(rt: &impl Abort, alloc: Global, report: &RunReport) {
-    let row = row();
-    for room in [0, 10, row.len().saturating_sub(1)] {
-        for (step, takes_none) in [(1, false), (7, true), (1000, false)] {
-            let mut device = Device::new(Sink::new(alloc, step, room, takes_none));
-            let given = write_report(alloc, report, &mut device);
-            judge_stop(rt, given, device, row, room);
-        }
-    }
-}
-
-#[test]
-fn each_stop_of_a_report(rt: HostRuntime) -> Result<(), Fail> {
-    let report = write_then_read(rt.alloc())?;
-    judge_stops(&rt, rt.alloc(), &report);
-    assert_eq!(rt; OutcomeError::Write.code(), 12);
-    Ok(())
 }
 
 /// Judges the texts of two reports.

@@ -1,6 +1,6 @@
 //! Which texts are plans with scans, and the first fault of those that are not.
 
-use crate::plans::{is_plan, judge_front, line, plan_of, read, refusal};
+use crate::plans::{line, plan_of, read, refusal};
 use crate::texts::repeated;
 use itoa::Buffer;
 use partial_model::Call;
@@ -8,11 +8,6 @@ use partial_text::{Cause, Plan, PlanError};
 use std::alloc::{AllocError, Global};
 use std::process::Abort;
 use std::test::Fail;
-
-// Texts and tables are results of functions, whose contents no proof of a test has to know.
-fn whole() -> &'static [u8] {
-    b"sizes 2 4 8 64\ninitial 10 20\nport scan 0 1\nsteps rest\n"
-}
 
 /// The positions of a call, if it is a scan.
 fn positions(plan: &Plan, port: usize, number: usize) -> Option<&[u32]> {
@@ -22,6 +17,7 @@ fn positions(plan: &Plan, port: usize, number: usize) -> Option<&[u32]> {
     }
 }
 
+// Texts and tables are results of functions, whose contents no proof of a test has to know.
 fn seven_calls() -> &'static [u8] {
     b"sizes 3 4 8 64
 initial 10 20 30
@@ -195,21 +191,5 @@ fn scan_refusals(rt: HostRuntime) -> Result<(), Fail> {
         let given = refusal(rt.alloc(), 3, other)?;
         assert_eq!(rt; given, Some(line(3, cause)), "{other:?}");
     }
-    Ok(())
-}
-
-#[test]
-fn scan_fronts(rt: HostRuntime) -> Result<(), Fail> {
-    let plan = whole();
-    for length in 0..plan.len() {
-        let expected = match length {
-            0..15 => 1,
-            15..29 => 2,
-            29..43 => 3,
-            _ => 4,
-        };
-        judge_front(&rt, rt.alloc(), &plan[..length], expected);
-    }
-    assert!(rt; is_plan(rt.alloc(), plan));
     Ok(())
 }

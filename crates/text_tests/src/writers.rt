@@ -2,9 +2,7 @@
 
 use crate::texts::judge_text;
 use partial_model::{Answer, Applied, Call, Called, Finish, Note, Opening, Refused, Sequence};
-use partial_text::{
-    Device, Outcome, OutcomeError, Replayed, in_one_list, write_outcome, write_replayed,
-};
+use partial_text::{Device, Outcome, OutcomeError, Replayed, write_outcome, write_replayed};
 use partial_words::{PlainWords, Trace};
 use std::alloc::{AllocError, Global};
 use std::io;
@@ -206,12 +204,6 @@ fn judge_outcome(
     Ok(())
 }
 
-#[test]
-fn outcome_is_written(rt: HostRuntime) -> Result<(), Fail> {
-    let outcome = write_then_read(rt.alloc())?;
-    judge_outcome(&rt, rt.alloc(), &outcome, row())
-}
-
 /// A replay with these calls of its ports, and nothing else.
 pub(crate) fn replay_of(
     alloc: Global,
@@ -268,13 +260,6 @@ fn each_answer_of_a_replay_is_written(rt: HostRuntime) -> Result<(), Fail> {
     Ok(())
 }
 
-#[test]
-fn calls_of_ports_are_put_in_one_list(rt: HostRuntime) -> Result<(), Fail> {
-    let calls = in_one_list(rt.alloc(), each_answer_by_port(rt.alloc())?)?;
-    let outcome = outcome_of(rt.alloc(), Vec::new(rt.alloc()), calls, 51)?;
-    judge_outcome(&rt, rt.alloc(), &outcome, text_of_each_answer())
-}
-
 /// Adds the calls of a scan and of the two updates that overtook it.
 fn push_overtaken(alloc: Global, calls: &mut Vec<Called>) -> Result<(), AllocError> {
     let borrowed = scanned(alloc, &[5], 3, Some(32))?;
@@ -315,76 +300,6 @@ total 47
 fn scans_are_written(rt: HostRuntime) -> Result<(), Fail> {
     let outcome = borrowed_scan(rt.alloc())?;
     judge_outcome(&rt, rt.alloc(), &outcome, text_of_borrowed_scan())
-}
-
-/// An outcome with that one call.
-fn outcome_of_scan(alloc: Global, scanned: Answer) -> Result<Outcome, AllocError> {
-    let call = called(0, 0, 0, 9, finished(0, scanned, Some(Note::Saw(0))));
-    let calls = vec![in alloc; call]?;
-    let values = Sequence::from(vec![in alloc; 1]?);
-    Ok(Outcome {
-        opening: Opening { values, first: 6 },
-        history: Vec::new(alloc),
-        calls,
-        words: Vec::new(alloc),
-        trace: Vec::new(alloc),
-        steps: 9,
-    })
-}
-
-/// The line of one scan in the text of an outcome with no other call.
-fn scan_line(
-    alloc: Global,
-    values: &[u64],
-    collects: u32,
-    borrowed: Option<u64>,
-) -> Result<Vec<u8>, Fail> {
-    let scanned = scanned(alloc, values, collects, borrowed)?;
-    let outcome = outcome_of_scan(alloc, scanned)?;
-    full_text(alloc, &outcome)
-}
-
-/// A scan with the greatest numbers.
-fn greatest_scan() -> &'static [u8] {
-    b"scanned 18446744073709551615 0 18446744073709551615 prefix 0 collects 4294967295 borrowed 18446744073709551615"
-}
-
-// The values of scans, their collects, the stamps that they borrow from, and what is said of them.
-fn scans() -> [(&'static [u64], u32, Option<u64>, &'static [u8]); 4] {
-    [
-        (&[], 0, None, b"scanned prefix 0 collects 0 borrowed -"),
-        (&[0], 2, None, b"scanned 0 prefix 0 collects 2 borrowed -"),
-        (
-            &[0],
-            3,
-            Some(0),
-            b"scanned 0 prefix 0 collects 3 borrowed 0",
-        ),
-        (
-            &[u64::MAX, 0, u64::MAX],
-            u32::MAX,
-            Some(u64::MAX),
-            greatest_scan(),
-        ),
-    ]
-}
-
-/// The text of an outcome with that scan and no other call.
-fn text_of_scan(alloc: Global, told: &[u8]) -> Result<Vec<u8>, Fail> {
-    let mut text = Vec::from_slice(alloc, b"call 0 0 ")?;
-    text.extend_from_slice(told)?;
-    text.extend_from_slice(b" steps 9 span 0 0\nvalues 1\ntotal 9\n")?;
-    Ok(text)
-}
-
-#[test]
-fn each_scan_is_written(rt: HostRuntime) -> Result<(), Fail> {
-    for (values, collects, borrowed, told) in scans() {
-        let expected = text_of_scan(rt.alloc(), told)?;
-        let text = scan_line(rt.alloc(), values, collects, borrowed)?;
-        judge_text(&rt, &text, &expected);
-    }
-    Ok(())
 }
 
 /// Judges writers that stop, each after another part of the outcome's text.
@@ -463,12 +378,6 @@ fn text_of_many_reads(alloc: Global) -> Result<Vec<u8>, AllocError> {
     }
     text.extend_from_slice(b"values 10 20\ntotal 4000\n")?;
     Ok(text)
-}
-
-#[test]
-fn long_texts_are_written_in_parts(rt: HostRuntime) -> Result<(), Fail> {
-    let outcome = many_reads(rt.alloc())?;
-    judge_outcome(&rt, rt.alloc(), &outcome, &text_of_many_reads(rt.alloc())?)
 }
 
 /// Judges a writer that takes so many bytes of the text, up to 1,000 a write.

@@ -89,18 +89,6 @@ pub(super) fn called(
     }
 }
 
-/// A call that its port has begun and not finished.
-pub(super) fn unfinished(port: u32, number: u32, call: Call, began: usize) -> Called {
-    Called {
-        port,
-        number,
-        call,
-        began,
-        steps: 0,
-        finish: None,
-    }
-}
-
 /// Whether the history and the calls are lawful, when two components open with 10 and 20 and with the
 /// stamps 18 and 21. It fails when the check without memory and the checker answer differently.
 pub(super) fn verdict<const N: usize>(

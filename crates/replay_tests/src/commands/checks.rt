@@ -133,22 +133,6 @@ fn put_entry(history: &mut [Applied], place: usize, entry: Applied) {
     }
 }
 
-/// Judges that what comes of the plan passes both.
-fn judge_lawful(rt: &impl Abort, alloc: Global, name: &str, plan: &[u8]) -> Result<(), Fail> {
-    let outcome = replayed(alloc, plan)?;
-    let answers = verdicts(alloc, &outcome)?;
-    assert_eq!(rt; answers, (true, true), "{name}");
-    Ok(())
-}
-
-#[test]
-fn worked_rows_pass_both(rt: HostRuntime) -> Result<(), Fail> {
-    for (name, plan, _) in rows() {
-        judge_lawful(&rt, rt.alloc(), name, plan)?;
-    }
-    Ok(())
-}
-
 /// What both answer with the answer in place of the call's own. The call's own is put back.
 fn verdicts_with_answer(
     alloc: Global,

@@ -1,45 +1,17 @@
-//! Readers and writers that fail.
+//! Writers that fail.
 
 ghost use Rattle.std.specs.Prelude.{◌≡◌, false};
 
-use super::rows::{Row, borrowed_view, rows, whole_scan, write_then_read};
-use partial_cmd::{Fault, Verb, execute};
+use super::rows::{Row, borrowed_view, write_then_read};
+use partial_cmd::{Verb, execute};
 use partial_replay::Device;
 use std::alloc::Global;
 use std::io;
-use std::io::{Read, Write};
+use std::io::Write;
 use std::process::Abort;
 use std::sync::Wait;
 use std::test::Fail;
 use std::thread::Threads;
-
-/// Returns one byte a read, and fails or ends when none is left.
-#[derive(Drop)]
-pub(super) struct Bytewise<'a> {
-    text: &'a [u8],
-    fails: bool,
-}
-
-impl<'a> Bytewise<'a> {
-    /// Fails when none is left.
-    pub(super) fn failing(text: &'a [u8]) -> Bytewise<'a> {
-        Bytewise { text, fails: true }
-    }
-}
-
-impl Read for Bytewise<'_> {
-    fn read(&mut self, buf: &mut [u8]) -> io::Result<usize> {
-        match (self.text, buf) {
-            ([byte, rest @ ..], [place, ..]) => {
-                *place = *byte;
-                self.text = rest;
-                Ok(1)
-            }
-            _ if self.fails => Err(io::Error::from(io::ErrorKind::Other)),
-            _ => Ok(0),
-        }
-    }
-}
 
 /// Takes so many bytes, one a write, and then takes none or fails.
 #[derive(Drop)]
@@ -74,66 +46,6 @@ fn filled_to(alloc: Global, room: usize, takes_none: bool) -> Device<Filling>
         room,
         takes_none,
     })
-}
-
-/// Why a replay is refused whose reader fails after that part of a plan, and how much it has written.
-fn replayed_part<R: Threads + Wait + Sync>(
-    rt: &R,
-    alloc: Global,
-    part: &[u8],
-) -> (Option<Fault>, usize) {
-    let mut reader = Device::new(Bytewise::failing(part));
-    let mut writer = Device::new(Vec::new(alloc));
-    let given = execute(rt, alloc, Verb::Replay, &mut reader, &mut writer);
-    (given.err(), writer.into_inner().len())
-}
-
-#[test]
-fn failing_reader(rt: HostRuntime) -> Result<(), Fail> {
-    let (_, plan, _) = whole_scan();
-    for count in 0..=plan.len() {
-        let (fault, written) = replayed_part(&rt, rt.alloc(), &plan[..count]);
-        assert_eq!(rt; written, 0);
-        let fault = fault.ok_or("a refusal")?;
-        assert_eq!(rt; fault.code(), 11, "after {count} bytes");
-        assert_eq!(rt; fault.at(), None);
-    }
-    Ok(())
-}
-
-/// What a replay writes that reads its plan byte by byte.
-fn replayed_bytewise<R: Threads + Wait + Sync>(
-    rt: &R,
-    alloc: Global,
-    plan: &[u8],
-) -> Result<Vec<u8>, Fault> {
-    let mut reader = Device::new(Bytewise {
-        text: plan,
-        fails: false,
-    });
-    let mut writer = Device::new(Vec::new(alloc));
-    execute(rt, alloc, Verb::Replay, &mut reader, &mut writer)?;
-    Ok(writer.into_inner())
-}
-
-/// Judges what such a replay writes.
-fn judge_bytewise<R: Threads + Wait + Sync + Abort>(
-    rt: &R,
-    alloc: Global,
-    row: Row,
-) -> Result<(), Fault> {
-    let (name, plan, expected) = row;
-    let written = replayed_bytewise(rt, alloc, plan)?;
-    assert_eq!(rt; written.as_slice(), expected, "{name}");
-    Ok(())
-}
-
-#[test]
-fn one_byte_a_read(rt: HostRuntime) -> Result<(), Fail> {
-    for row in rows() {
-        judge_bytewise(&rt, rt.alloc(), row)?;
-    }
-    Ok(())
 }
 
 /// The number of the fault of a command whose writer has room for so many bytes, and what the writer has taken.

@@ -421,10 +421,6 @@ pub(super) fn write_then_read() -> Row {
     WRITE_THEN_READ
 }
 
-pub(super) fn whole_scan() -> Row {
-    WHOLE_SCAN
-}
-
 pub(super) fn borrowed_view() -> Row {
     BORROWED_VIEW
 }

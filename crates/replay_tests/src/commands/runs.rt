@@ -1,8 +1,5 @@
 //! Plans that are run: ports side by side, each in a thread of its own.
 
-ghost use Rattle.std.specs.Prelude.{◌≡◌, false};
-
-use super::devices::Bytewise;
 use super::judge;
 use super::rows::Row;
 use crate::texts::{judge_text, repeated};
@@ -12,7 +9,6 @@ use partial_cmd::{
 use partial_model::Answer;
 use partial_replay::{Device, Plan, PlanError};
 use std::alloc::Global;
-use std::io::Read;
 use std::process::Abort;
 use std::sync::Wait;
 use std::sync::atomic::{AtomicU64, Ordering};
@@ -344,120 +340,6 @@ fn stamps_start_anew(rt: HostRuntime) -> Result<(), Fail> {
     let (next, expected) = stale_stamp();
     let written = executed_both(&rt, rt.alloc(), plan, next)?;
     judge_text(&rt, &written, expected);
-    Ok(())
-}
-
-/// The number of the refusal of two plans, and how much is written.
-fn refusal_of_both<R: Threads + Wait + Sync, First: Read, Second: Read>(
-    rt: &R,
-    alloc: Global,
-    first: &mut Device<First>,
-    second: &mut Device<Second>,
-) -> (Option<u8>, usize)
-    requires first { first.old.failed ≡ false }
-    requires second { second.old.failed ≡ false }
-{
-    let mut writer = Device::new(Vec::new(alloc));
-    let given = execute_next(rt, alloc, first, second, &mut writer);
-    let code = given.err().map(|fault| fault.code());
-    (code, writer.into_inner().len())
-}
-
-// The first plan's refusal comes first, then the second's, then that of too few components.
-#[test]
-fn refusals_of_two_plans(rt: HostRuntime) -> Result<(), Fail> {
-    let (plan, next, _) = two_plans();
-    let small = b"sizes 1 4 8 64\ninitial 0\nport\nsteps\n";
-    let none = b"sizes 1 4 8 64\ninitial 0\nsteps\n";
-    let cases: [(&[u8], &[u8], u8); 5] = [
-        (plan, small, 13),
-        (plan, none, 5),
-        (plan, b"", 10),
-        (none, b"", 5),
-        (b"sizes 0 4 8 64\n", next, 1),
-    ];
-    for (first, second, code) in cases {
-        let mut first = Device::new(first);
-        let mut second = Device::new(second);
-        let (given, _) = refusal_of_both(&rt, rt.alloc(), &mut first, &mut second);
-        assert_eq!(rt; given, Some(code));
-    }
-    Ok(())
-}
-
-/// Judges two plans of which the first one's reader fails after its part.
-fn judge_first_reader<R: Threads + Wait + Sync + Abort>(
-    rt: &R,
-    alloc: Global,
-    part: &[u8],
-    next: &[u8],
-) {
-    let mut first = Device::new(Bytewise::failing(part));
-    let mut second = Device::new(next);
-    let (code, written) = refusal_of_both(rt, alloc, &mut first, &mut second);
-    assert_eq!(rt; code, Some(11));
-    assert_eq!(rt; second.into_inner(), next);
-    assert_eq!(rt; written, 0);
-}
-
-/// Judges two plans of which the second one's reader fails after its part.
-fn judge_second_reader<R: Threads + Wait + Sync + Abort>(
-    rt: &R,
-    alloc: Global,
-    plan: &[u8],
-    part: &[u8],
-) {
-    let mut first = Device::new(plan);
-    let mut second = Device::new(Bytewise::failing(part));
-    let (code, written) = refusal_of_both(rt, alloc, &mut first, &mut second);
-    assert_eq!(rt; code, Some(11));
-    assert_eq!(rt; written, 0);
-}
-
-// Where the first plan's reader fails the second plan isn't read, and nothing is written.
-#[test]
-fn readers_of_two_plans(rt: HostRuntime) -> Result<(), Fail> {
-    let (plan, next, _) = two_plans();
-    assert!(rt; 40 <= plan.len() && 40 <= next.len());
-    for count in [0usize, 20, 40] {
-        judge_first_reader(&rt, rt.alloc(), &plan[..count], next);
-        judge_second_reader(&rt, rt.alloc(), plan, &next[..count]);
-    }
-    Ok(())
-}
-
-/// Judges that the plan is refused with that number, before anything is read of the next one.
-fn judge_refused<R: Threads + Wait + Sync + Abort>(
-    rt: &R,
-    alloc: Global,
-    plan: &[u8],
-    code: u8,
-    part: &[u8],
-) {
-    let mut first = Device::new(plan);
-    let mut second = Device::new(Bytewise::failing(part));
-    let (given, written) = refusal_of_both(rt, alloc, &mut first, &mut second);
-    assert_eq!(rt; given, Some(code));
-    assert!(rt; !second.failed());
-    assert_eq!(rt; written, 0);
-}
-
-// When the first plan is refused the second one isn't read, though its reader would fail.
-#[test]
-fn a_refused_plan_leaves_the_next_unread(rt: HostRuntime) -> Result<(), Fail> {
-    let (_, next, _) = two_plans();
-    assert!(rt; 20 <= next.len());
-    let cases: [(&[u8], u8); 6] = [
-        (b"sizes 0 4 8 64\n", 1),
-        (b"sizes 1 0 8 64\n", 2),
-        (b"sizes 1 4 65537 64\n", 3),
-        (b"sizes 1 4 8 2\n", 4),
-        (b"sizes 1 4 8 64\ninitial 0\nsteps\n", 5),
-        (b"", 10),
-    ];
-    for (plan, code) in cases {
-        judge_refused(&rt, rt.alloc(), plan, code, &next[..20]);
-    }
     Ok(())
 }
 
