@@ -1,8 +1,8 @@
 -- The pool counters of the arenas lie two words before numbers of 16 words.
 use Rattle.std.proofs.lemmas.Nat.{mul-mod}
 use native.Mathlib.Nat.{mul-zero}
-use Rattle.partial_long_lived.proofs.Common.{ℕ, ◌≡◌, ◌+◌, ◌*◌, ◌%◌, ◌<◌, ap, ◌∙◌, arith, base, span, pool_counter, bare, shape_plan, Layout}
-use Rattle.partial_long_lived.specs.Options.{IsShapeFor, layout_for, most_slots}
+use Rattle.partial_long_lived.proofs.Common.{ℕ, ◌≡◌, ◌*◌, ◌%◌, ◌<◌, ap, ◌∙◌, arith, span, bare, shape_plan, Layout}
+use Rattle.partial_long_lived.specs.Options.{IsShapeFor, most_slots}
 use Rattle.partial_long_lived.specs.PoolCounters.{PoolCountersLieApart}
 use Rattle.partial_long_lived.specs.declared.options.Options.{Options}
 use Rattle.partial_long_lived.specs.declared.shape.Shape.{Shape}

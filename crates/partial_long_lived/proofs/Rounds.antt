@@ -1,5 +1,5 @@
 -- The rounds of an update: an attempt, and a change of epoch, and so on.
-use Rattle.partial_long_lived.proofs.{Common.{ℕ, Option, None, Result, Ok, Err, IfOk, IfErr, ◌≡◌, ◌+◌, ◌<◌, ◌≤◌, ◌++◌, Bool, true, false, List, [], ◌∷◌, length, refl, sym, ap, subst, ◌∙◌, arith, append-nil, TableId, Noted, Change, CoreState, Exchanged, About, Refused, Component, Overtaken, NoArena, EpochsSpent, Stand, IsCause, Began, SeatedPort, seen_in, SeatGoes, BeganBy, IsHeld, epoch_at, port_at, IsIdle, UpdateAttempted, CameBy, IsEntryOf, IsLate, IsOwnMachine, MayCall, NotesNothing, UpdateEnded, noted_change, noted_where, FoundSealed, ◌*◌, inl, inr, cases_lt}, Coming.{goes_on, goes_same, seen_more}, Contention.cause_from}
+use Rattle.partial_long_lived.proofs.{Common.{ℕ, Option, None, Result, Ok, Err, IfOk, IfErr, ◌≡◌, ◌+◌, ◌<◌, ◌≤◌, ◌++◌, Bool, true, false, List, [], ◌∷◌, length, refl, sym, ap, subst, ◌∙◌, arith, TableId, Noted, Change, CoreState, Exchanged, About, Refused, Component, Overtaken, NoArena, EpochsSpent, Stand, IsCause, Began, SeatedPort, seen_in, SeatGoes, BeganBy, IsHeld, epoch_at, port_at, IsIdle, UpdateAttempted, CameBy, IsEntryOf, IsLate, IsOwnMachine, MayCall, NotesNothing, UpdateEnded, noted_change, noted_where, FoundSealed, inl, inr, cases_lt}, Coming.{goes_on, goes_same, seen_more}, Contention.cause_from}
 
 -- whether the call began with its first step here, or as before, where the next step may still be its first one
 abbrev pub BeganSo : Bool → Bool → Stand → Stand → Type 0

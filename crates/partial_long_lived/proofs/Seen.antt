@@ -1,5 +1,5 @@
 -- What a port knows of the history that it has seen.
-use Rattle.partial_long_lived.proofs.Common.{ℕ, ◌≡◌, ◌≢◌, ◌+◌, ◌<◌, ◌≤◌, ◌==◌, ◌++◌, Bool, true, false, if◌then◌else◌, Option, Some, None, IfSome, List, [], ◌∷◌, length, refl, sym, ap, subst, ◌∙◌, arith, append_assoc, AllByRecursion, Applied, Opening, Call, Answer, Note, HaveDistinctStamps, IsHistory, IsTrueOf, LegalNotes, Noted, place_of, seen_after, EachOnce, places_by, places_written, wrote, all_append, all_front, place_below, LegalNotes-grows, history_of, public_log, Port, Beside, LawfulMemory, one_history, epochs_fit_one_history, public_stamps_are_unique, history_grows, history_longer, About, IsSeen, plan_of, Knows, seen_in, BeginsWith, HasStampsInWords, initial_stamp, first_free, IsEpochHistory, places_both, present_history, stamp_limit, HasRecordStamps, take, take-append_seam}
+use Rattle.partial_long_lived.proofs.Common.{ℕ, ◌≡◌, ◌≢◌, ◌+◌, ◌<◌, ◌≤◌, ◌==◌, ◌++◌, Bool, true, false, if◌then◌else◌, Option, Some, None, IfSome, List, [], ◌∷◌, length, refl, sym, ap, subst, ◌∙◌, arith, append_assoc, AllByRecursion, Applied, Opening, Call, Answer, Note, HaveDistinctStamps, IsHistory, IsTrueOf, LegalNotes, Noted, place_of, seen_after, EachOnce, places_by, places_written, wrote, all_append, all_front, place_below, LegalNotes-grows, history_of, public_log, Port, Beside, LawfulMemory, one_history, epochs_fit_one_history, public_stamps_are_unique, history_grows, history_longer, About, IsSeen, plan_of, Knows, seen_in, BeginsWith, HasStampsInWords, initial_stamp, first_free, IsEpochHistory, places_both, present_history, stamp_limit, HasRecordStamps}
 use Rattle.partial_core.proofs.Parts.{all_at}
 
 distinct_front : (h rest : List Applied) → HaveDistinctStamps (h ++ rest) → HaveDistinctStamps h

@@ -1,5 +1,5 @@
 -- A port stays where it stands, from part to part of a call.
-use Rattle.partial_long_lived.proofs.{Common.{[], refl, sym, ◌∙◌, append-nil, TableId, About, Stand, SeatedPort, seen_in, SeatGoes, IsSeatKnown, IsHeld, port_at, HasSamePart, Remains, Stays}, Coming.{goes_on, goes_same}}
+use Rattle.partial_long_lived.proofs.{Common.{refl, ◌∙◌, TableId, About, Stand, IsHeld, port_at, HasSamePart, Remains, Stays}, Coming.{goes_on, goes_same}}
 
 pub stays_same : (table : TableId) (about : About) (s : Stand) → IsHeld table about s → Stays s s
 stays_same table about s h = record {

@@ -1,4 +1,3 @@
-use Rattle.std.proofs.Common.{arith}
 use Rattle.partial_long_lived.proofs.{Common.{Add, Plan, Some, ap, plan_of, port_at, refl, sym, ◌∙◌, ◌||◌}, Scans.slot_over, Straight.{add_asked, add_told, going_on, leads_there, over_there, step_there}}
 use Rattle.partial_words.specs.Layout.{slot_counter}
 use Rattle.partial_long_lived.proofs.scan.claim_slot.Goals as goal

@@ -1,4 +1,3 @@
-use Rattle.std.proofs.Common.{rules, tests}
 use Rattle.partial_long_lived.proofs.{Common.{About, Add, Plan, announcement_size, arith, length, lt-ltb, nat_lt, not_below, ◌+◌, ◌-◌, ◌||◌, CoreState, Layout, Some, advance, ap, step_of, subst, sym, ◌∙◌}, Scans.{first_store, scan_begins, scan_named, scan_over, scan_rests, scan_steps}}
 use Rattle.partial_words.specs.Layout.{slot_counter}
 use Rattle.partial_lines.specs.Lines.{IsQuiet}

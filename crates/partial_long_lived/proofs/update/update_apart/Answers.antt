@@ -1,4 +1,4 @@
-use Rattle.partial_long_lived.proofs.{Common.{rules, arith, subst, sym, IfOk, true, false, epoch_at, ◌≤◌, Exchanged, Refused, CameBy, IsLate, NotesNothing, UpdateAttempted, UpdateEnded, asked_change, ended_as, None, refl, Change}, Rounds.{came_on, err_as, late_from, ok_as, round_ended, round_met, rounds_begin, updated_behind}, Updates.{rests_may, rests_own}}
+use Rattle.partial_long_lived.proofs.{Common.{rules, subst, sym, IfOk, true, false, Exchanged, Refused, CameBy, IsLate, NotesNothing, UpdateAttempted, UpdateEnded, asked_change, ended_as, None, refl, Change}, Rounds.{came_on, err_as, late_from, ok_as, round_ended, round_met, rounds_begin, updated_behind}, Updates.{rests_may, rests_own}}
 use Rattle.partial_long_lived.proofs.update.update_apart.Goals as goal
 
 pub update_late-requires-clause-rests : goal.update_late-requires-clause-rests
