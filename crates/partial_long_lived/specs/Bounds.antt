@@ -24,7 +24,7 @@ fill_steps a = 1 + list_base a.sizes + 6 * a.sizes.m
 
 -- how often, for each component, a port looks whether its epoch has ended once it finds that another one seals the components
 abbrev pub patience : ℕ
-patience = 32
+patience = 64
 
 -- the seals: the load that finds component 0 sealed, the looks after it, and two steps to seal each component
 abbrev pub seal_steps : About → ℕ

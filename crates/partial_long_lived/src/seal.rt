@@ -15,8 +15,8 @@ use crate::rule::Words;
 use crate::stand::Stand;
 
 /// How often, for each component, a port looks whether its epoch has ended once another port seals the components. These
-/// looks take about as long as that port's change of epoch does if nothing stops it.
-const PATIENCE: u64 = 32;
+/// looks take longer than that port's change of epoch does if nothing stops it.
+const PATIENCE: u64 = 64;
 
 /// Seals the components of the port's epoch, or sees that it has ended, and returns whether it has. When another port has
 /// sealed component 0 first, this one looks for a while and leaves the change of epoch to that port: sealing and filling
