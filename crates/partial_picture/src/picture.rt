@@ -4,7 +4,7 @@ ghost use Rattle.std.specs.Prelude.{◌≡◌, ◌≢◌, ◌≤◌, ◌-◌, Al
 ghost use Rattle.partial_picture.specs.Arrows.{IsArrowWithin};
 ghost use Rattle.partial_picture.specs.Bars.{BarStandsIn};
 ghost use Rattle.partial_picture.specs.Drawn.{SpanHasRoom, drawn_of};
-ghost use Rattle.partial_picture.specs.Marks.{mark_of, marks_in};
+ghost use Rattle.partial_picture.specs.Marks.{AreTouched, mark_of, marks_in};
 ghost use Rattle.partial_picture.specs.Pins.{pin_at, pins_at, won_steps};
 
 use crate::arrows::arrows_of;
@@ -155,6 +155,8 @@ impl<'a> Picture<'a> {
             All (BarStandsIn (picture.window.behind - picture.window.first)) picture.bars.items) }
         ensures arrows { IfOk result (λ picture.
             All (IsArrowWithin (picture.window.behind - picture.window.first)) picture.arrows.items) }
+        // The words are those that the marks touch, each once, rising.
+        ensures words { IfOk result (λ picture. AreTouched picture.marks.items picture.words.items) }
     {
         let span = window.drawn(outcome.trace.len())?;
         Ok(Picture::of_span(alloc, sizes, ports, outcome, span)?)
@@ -176,6 +178,7 @@ impl<'a> Picture<'a> {
         ensures bars { IfOk result (λ picture. All (BarStandsIn (window.behind - window.first)) picture.bars.items) }
         ensures arrows { IfOk result (λ picture. All (IsArrowWithin (window.behind - window.first))
             picture.arrows.items) }
+        ensures words { IfOk result (λ picture. AreTouched picture.marks.items picture.words.items) }
     {
         let steps = outcome.trace.len();
         let m = sizes.m() as usize;
@@ -273,7 +276,9 @@ fn pins_of(
 }
 
 /// The words that the marks touch.
-fn words_of(alloc: Global, marks: &[Mark]) -> Result<Vec<u32>, AllocError> {
+fn words_of(alloc: Global, marks: &[Mark]) -> Result<Vec<u32>, AllocError>
+    ensures { IfOk result (λ words. AreTouched marks.now words.items) }
+{
     let mut words: Vec<u32> = marks
         .iter()
         .map(|mark| mark.event.step.word())
