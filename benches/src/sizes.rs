@@ -5,7 +5,7 @@ use crate::parts::{Parts, Sample, Times};
 use partial_door::{Memory, Port, Updated};
 use std::sync::atomic::AtomicUsize;
 
-const COMPONENTS: [usize; 5] = [1, 64, 1_024, 16_384, 57_342];
+const COMPONENTS: [usize; 5] = [1, 64, 1_024, 16_384, 65_536];
 const PORTS: [u32; 2] = [1, 4];
 // Of all threads of a memory together, in a repetition: so many in parts, which give the mean, and as many one by one.
 const UPDATES: u32 = 400_000;
@@ -141,7 +141,7 @@ mod tests {
 
     #[test]
     fn a_memory_that_does_not_open_has_no_sample() {
-        assert_eq!(sample(57_342, 4), None);
+        assert_eq!(sample(40_000, 64), None);
         assert_eq!(cell(Vec::new()), "-");
         assert_eq!((grouped(64), grouped(1_024)), ("64".to_string(), "1,024".to_string()));
     }
