@@ -12,7 +12,7 @@ use Rattle.partial_model.specs.Notes.{Noted, LegalNotes}
 use Rattle.partial_model.specs.Outcome.{EachOnce}
 use Rattle.partial_long_lived.specs.declared.open_error.OpenError.{OpenError}
 use Rattle.partial_long_lived.specs.declared.options.Options.{Options}
-use Rattle.partial_long_lived.specs.Options.{most_lists, most_words, pool_words_behind}
+use Rattle.partial_long_lived.specs.Options.{most_lists, most_pool, pool_words}
 use Rattle.partial_pipeline.specs.declared.error.PipelineError.{PipelineError}
 use Rattle.partial_pipeline.specs.declared.error.PipelineError.TheVariants.{Stages, Lists, Pool, OutOfMemory}
 use Rattle.partial_pipeline.specs.declared.report.PipelineReport.{PipelineReport}
@@ -63,7 +63,7 @@ AreStages stages = (1 ≤ stages) × (stages ≤ 63)
 abbrev pub MayNotRun : ℕ → Options → PipelineError → Type 0
 MayNotRun stages o Stages = (stages ≡ 0) ⊎ (63 < stages)
 MayNotRun stages o Lists = AreStages stages × (most_lists < o.lists)
-MayNotRun stages o Pool = AreStages stages × (o.lists ≤ most_lists) × (most_words < pool_words_behind stages (stages + 1) o)
+MayNotRun stages o Pool = AreStages stages × (o.lists ≤ most_lists) × (most_pool < pool_words stages (stages + 1) o)
 MayNotRun stages o OutOfMemory = AreStages stages
 
 -- what the refusal of a memory is to its pipeline
