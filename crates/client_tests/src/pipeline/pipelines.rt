@@ -161,7 +161,7 @@ fn options_are_refused(rt: HostRuntime) -> Result<(), Fail> {
     // With 2 stages and 3 ports the pool has 24 words more than the options ask for.
     pipeline.options = Options {
         lists: 0,
-        pool: Some(131_049),
+        pool: Some(4_194_275),
     };
     assert_eq!(rt;
         ran(&rt, rt.alloc(), pipeline).err(),
