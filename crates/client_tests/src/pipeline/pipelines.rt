@@ -158,7 +158,7 @@ fn options_are_refused(rt: HostRuntime) -> Result<(), Fail> {
         ran(&rt, rt.alloc(), pipeline).err(),
         Some(PipelineError::Lists)
     );
-    // With 2 stages and 3 ports the pool has 24 words more than the options ask for.
+    // With 2 stages and 3 ports the pool has 30 words more than the options ask for.
     pipeline.options = Options {
         lists: 0,
         pool: Some(4_194_275),
