@@ -15,4 +15,5 @@ pub mod Collects
 pub mod Notes
 pub mod Time
 pub mod EveryStep
+pub mod FreeArenas
 pub mod Variants
