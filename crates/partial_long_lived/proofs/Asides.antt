@@ -1,5 +1,5 @@
 -- Steps that change neither histories nor what their port has seen or noted.
-use Rattle.partial_long_lived.proofs.{Common.{ℕ, ◌≡◌, ◌≢◌, ◌≤◌, ◌++◌, Option, Some, None, IfSome, List, [], ◌∷◌, length, refl, sym, ap, subst, ◌∙◌, arith, append-nil, Applied, LegalNotes, Noted, Part, put, history_of, Port, Beside, place_now, KeepsTime, LawfulMemory, put_other, put_same, About, Began, Found, BeganInTime, IsFinal, IsLast, IsSeat, IsSeen, IsSince, SeatedPort, plan_of, seen_in, IsSeatKnown, becomes, Place}, Kept.{HasGrown, Moved, final_grows, none_grown, not_grown, seen_grows}, Contention.contends_same}
+use Rattle.partial_long_lived.proofs.{Common.{ℕ, ◌≡◌, ◌≢◌, ◌≤◌, ◌++◌, Option, Some, None, IfSome, List, [], ◌∷◌, length, refl, sym, ap, subst, ◌∙◌, arith, append-nil, Applied, LegalNotes, Noted, Part, put, history_of, Port, Beside, place_now, Reckons, Reckoning, LawfulMemory, put_other, put_same, About, Began, Found, BeganInTime, IsFinal, IsLast, IsSeat, IsSeen, IsSince, SeatedPort, plan_of, seen_in, IsSeatKnown, becomes, Place, Contention, IsSearching, true}, Kept.{GoesOn, HasGrown, Moved, final_grows, none_grown, not_grown, seen_grows}}
 
 -- a change of a port that leaves its place, its part and the epochs behind it, and passes no fewer components
 pub record IsQuiet (g : Port → Port) : Type 0 where
@@ -25,12 +25,13 @@ seen_same b g p q w later log is =
 pub seen_quiet : (g : Port → Port) (p : Port) → IsQuiet g → seen_in (g p) ≡ seen_in p
 seen_quiet g p q = ap (λ (x : Part). history_of (x.seen ∷ (g p).before)) (q.part p) ∙ ap (λ (l : List (List Applied)). history_of (p.part.seen ∷ l)) (q.before p)
 
-pub aside : (a : About) (words words' : List ℕ) (ports : ℕ → Port) (notes : ℕ → List Noted) (b c : Beside) (since since' : ℕ → ℕ) (x : SeatedPort) → LawfulMemory (plan_of a) words ports b notes →
-    IsSeat a ports notes b since x → IsSeatKnown x → (g : Port → Port) → IsQuiet g → (n : Began) → IsSince n (g x.port).control.entering (since' x.number) → BeganInTime c n →
-    KeepsTime (plan_of a) words' (put x.number (g (ports x.number)) ports) (place_now c) since' → ((q : ℕ) → q ≢ x.number → since' q ≡ since q) → c.log ≡ b.log → c.before ≡ b.before →
-    LawfulMemory (plan_of a) words' (put x.number (g (ports x.number)) ports) c notes → (P : SeatedPort → Type 0) →
-    P (becomes x n (g x.port)) → Moved a words' ports notes b since x P
-aside a words words' ports notes b c since since' x w s known g q n marked began time since_others log before then P says =
+pub aside : (a : About) (words words' : List ℕ) (ports : ℕ → Port) (notes : ℕ → List Noted) (b c : Beside) (reckoned reckoned' : Reckoning) (x : SeatedPort) → LawfulMemory (plan_of a) words ports b notes →
+    IsSeat a words ports notes b reckoned x → IsSeatKnown x → (g : Port → Port) → IsQuiet g → (n : Began) → IsSince n (g x.port).control.entering (reckoned'.since x.number) → BeganInTime c n →
+    GoesOn a words words' ports (put x.number (g (ports x.number)) ports) b c reckoned reckoned' x.number → c.log ≡ b.log → c.before ≡ b.before →
+    LawfulMemory (plan_of a) words' (put x.number (g (ports x.number)) ports) c notes → (m : Contention) → m.seals ≡ x.contention.seals →
+    IsSearching (plan_of a) words' (put x.number (g (ports x.number)) ports) (place_now c) reckoned' x.number m.search → (m.search.met ≡ true → reckoned'.tally.met x.number ≡ true) →
+    (P : SeatedPort → Type 0) → P (record (becomes x n (g x.port)) { contention = m }) → Moved a words words' ports notes b reckoned x P
+aside a words words' ports notes b c reckoned reckoned' x w s known g q n marked began time log before then m seals search met P says =
     let k : ℕ = x.number in
     let p : Port = ports k in
     let own : x.about ≡ a = s.about in
@@ -39,17 +40,17 @@ aside a words words' ports notes b c since since' x w s known g q n marked began
     let grown : HasGrown (g x.port) b c = not_grown (g x.port) b c log before in
     let r = w.noted.reached k s.number in
     record {
-      y = becomes x n (g x.port);
+      y = record (becomes x n (g x.port)) { contention = m };
       ports' = put k (g p) ports;
       notes' = notes;
       beside = c;
-      since' = since';
+      reckoned' = reckoned';
       time = time;
       lawful = then;
-      others = λ i ne. (put_other k (g p) ports i ne, refl, since_others i ne);
+      others = λ i ne. (put_other k (g p) ports i ne, refl);
       number = refl;
       epoch = (let same = ap (λ (d : Place). d.epoch) (q.here x.port) in omega (arith, same));
-      contention = contends_same x.contention;
+      seals = omega (arith, seals);
       seat = record {
         about = s.about;
         number = s.number;
@@ -59,6 +60,8 @@ aside a words words' ports notes b c since since' x w s known g q n marked began
         entering = marked;
         seen = seen_grows (g x.port) b c grown (seen_same b g x.port q s.seen);
         found = final_grows a (g x.port) b c grown x.found (final_same a b g x.port q x.found s.found);
+        search = search;
+        met = met;
       };
       grown = λ i low ne. not_grown (ports i) b c log before;
       all_grown = none_grown b c log before;

@@ -1,10 +1,10 @@
 -- When a call begins, and where a port that looks stands.
-use Rattle.partial_long_lived.proofs.{Common.{ℕ, ◌≡◌, ◌<◌, ◌≤◌, ◌++◌, Bool, true, false, List, [], ◌∷◌, length, slice_index, refl, sym, ap, ◌∙◌, arith, length-append, Applied, Noted, current_word, packed, history_of, Port, Beside, LawfulEpochs, place_now, LawfulMemory, one_history, current_is, packed_arena, About, Began, BeganInTime, IsSeat, SeatedPort, plan_of, seen_in, BeganBy, same_place}, Seen.seen_begins}
+use Rattle.partial_long_lived.proofs.{Common.{ℕ, ◌≡◌, ◌<◌, ◌≤◌, ◌++◌, Bool, true, false, List, [], ◌∷◌, length, slice_index, refl, sym, ap, ◌∙◌, arith, length-append, Applied, Noted, current_word, packed, history_of, Port, Beside, LawfulEpochs, place_now, LawfulMemory, one_history, current_is, packed_arena, About, Began, BeganInTime, IsSeat, SeatedPort, plan_of, seen_in, BeganBy, same_place, Reckoning}, Seen.seen_begins}
 
 -- what a port has seen is no more than there is
-pub seen_few : (a : About) (words : List ℕ) (ports : ℕ → Port) (notes : ℕ → List Noted) (b : Beside) (since : ℕ → ℕ) (x : SeatedPort) → LawfulMemory (plan_of a) words ports b notes →
-    IsSeat a ports notes b since x → length (seen_in x.port) ≤ length (one_history b)
-seen_few a words ports notes b since x w s =
+pub seen_few : (a : About) (words : List ℕ) (ports : ℕ → Port) (notes : ℕ → List Noted) (b : Beside) (reckoned : Reckoning) (x : SeatedPort) → LawfulMemory (plan_of a) words ports b notes →
+    IsSeat a words ports notes b reckoned x → length (seen_in x.port) ≤ length (one_history b)
+seen_few a words ports notes b reckoned x w s =
     let r = w.noted.reached x.number s.number in
     let g = seen_begins b x.port s.seen r.later r.log (r.is ∙ ap (λ (p : Port). r.later ++ r.log ∷ p.before) (sym s.port)) in
     let long = ap (λ (l : List Applied). length l) g.1 in

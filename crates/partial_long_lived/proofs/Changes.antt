@@ -1,5 +1,5 @@
 -- The steps of a change of epoch are allowed.
-use Rattle.partial_long_lived.proofs.{Common.{ℕ, control_size, ◌≡◌, ◌≢◌, ◌+◌, ◌-◌, ◌%◌, ◌^◌, ◌<◌, ◌≤◌, ◌==◌, ◌⊎◌, Bool, true, false, if◌then◌else◌, Option, Some, None, List, slice_index, slice_set, refl, sym, ap, subst, ◌∙◌, inl, inr, arith, nat_lt, cases_lt, lt-ltb, eqb_tells, either, Me, Allows, IsPlace, Place, Plan, at_word, base, component_words, control_words, entering_mark, marked, own_word, packed, seal, Entering, OwnedArena, Port, Stands, Marks, Loaded, IsPlaceWord, Beside, LawfulEpochs, place_now, KeepsTime, passing_port, at_next_port, having_given, having_loaded, just_taken, owning_port, at_of, not_below, About, Began, IsRuleKept, IsSince, SeatedPort, one_of, plan_of, IsSeatKnown, IsOne, tells, SeatGives, LoadsPort, PassesSealed, PutsPort, contention_loading, contention_putting, contention_taking, Seals, Takes, elsewhere, passed_at, port_loaded, port_put, taken_at, unpacked, MayMove, LawfulMemory, Noted, unpacked_is}, Asides.IsQuiet, Control.{Quietly, load_same, quietly, quietly_contending, by_move, by_rest}, Contention.{loading_more, putting_more, taking_more}}
+use Rattle.partial_long_lived.proofs.{Common.{ℕ, control_size, ◌≡◌, ◌≢◌, ◌+◌, ◌-◌, ◌%◌, ◌^◌, ◌<◌, ◌≤◌, ◌==◌, ◌⊎◌, Bool, true, false, if◌then◌else◌, Option, Some, None, List, slice_index, slice_set, refl, sym, ap, subst, ◌∙◌, inl, inr, arith, nat_lt, cases_lt, lt-ltb, eqb_tells, either, Me, Allows, IsPlace, Place, Plan, at_word, base, component_words, control_words, entering_mark, marked, own_word, packed, seal, Entering, OwnedArena, Port, Stands, Marks, Loaded, IsPlaceWord, Beside, LawfulEpochs, place_now, Reckons, Reckoning, passing_port, at_next_port, having_given, having_loaded, just_taken, owning_port, at_of, not_below, About, Began, IsRuleKept, IsSince, SeatedPort, one_of, plan_of, IsSeatKnown, IsOne, tells, SeatGives, LoadsPort, PassesSealed, PutsPort, contention_loading, contention_putting, contention_taking, Seals, Takes, elsewhere, passed_at, port_loaded, port_put, taken_at, unpacked, MayMove, LawfulMemory, Noted, unpacked_is}, Asides.IsQuiet, Control.{Quietly, load_same, quietly, quietly_contending, by_move, by_rest}, Contention.{loading_more, putting_more, taking_more}}
 use Rattle.partial_epochs.specs.EveryStep.{Move as move}
 
 -- an exchange as a table makes it
@@ -82,23 +82,23 @@ module _ (e : Plan) (words : List ℕ) (ports : ℕ → Port) (b : Beside) (w : 
       by (Loaded c) at = entering at
 
 -- what becomes of an owner that finds the next port's word unmarked
-module _ (a : About) (words : List ℕ) (ports : ℕ → Port) (notes : ℕ → List Noted) (b : Beside) (since : ℕ → ℕ) (w : LawfulMemory (plan_of a) words ports b notes)
-    (time : KeepsTime (plan_of a) words ports (place_now b) since) (k : ℕ) (below : k < a.ports) (g : Began) (old : IsSince g (ports k).control.entering (since k)) (o : OwnedArena)
+module _ (a : About) (words : List ℕ) (ports : ℕ → Port) (notes : ℕ → List Noted) (b : Beside) (reckoned : Reckoning) (w : LawfulMemory (plan_of a) words ports b notes)
+    (time : Reckons (plan_of a) words ports (place_now b) reckoned) (k : ℕ) (below : k < a.ports) (g : Began) (old : IsSince g (ports k).control.entering (reckoned.since k)) (o : OwnedArena)
     (owned : (ports k).control.owned ≡ Some o) (looked : o.looked ≡ true) (none : o.set ≡ 0) (more : o.clean < a.ports) where
   -- it owns the arena as it did
-  pub owns_still : (words' : List ℕ) → words ≡ words' → Quietly a words' ports notes b since k g (owning_port (ports k) o)
-  owns_still words' same = by_rest a words ports notes b since w time k below g words' same (owning_port (ports k) o) (sym (owning_same (ports k) o owned)) old
+  pub owns_still : (words' : List ℕ) → words ≡ words' → Quietly a words' ports notes b reckoned k g (owning_port (ports k) o)
+  owns_still words' same = by_rest a words ports notes b reckoned w time k below g words' same (owning_port (ports k) o) (sym (owning_same (ports k) o owned)) old
 
   pub finds_elsewhere : (words' : List ℕ) → words ≡ words' → slice_index words (at_word o.clean) < entering_mark →
-      Quietly a words' ports notes b since k g (owning_port (ports k) (elsewhere (slice_index words (at_word o.clean)) o))
+      Quietly a words' ports notes b reckoned k g (owning_port (ports k) (elsewhere (slice_index words (at_word o.clean)) o))
   finds_elsewhere words' same less =
       let n : ℕ = slice_index words (at_word o.clean) in
       let there = unmarked_place (plan_of a) words ports b w.epochs o.clean more less in
       let P : Bool → Port = λ t. owning_port (ports k) (if t then o else at_next_port o) in
       (elim (eqb_tells (unpacked n).arena o.arena) [
-        | inl is ↦ subst (λ (t : Bool). Quietly a words' ports notes b since k g (P t)) (sym is.0) (owns_still words' same)
-        | inr ne ↦ subst (λ (t : Bool). Quietly a words' ports notes b since k g (P t)) (sym ne.0)
-            (by_move a words ports notes b since w time k below g (move.FindsElsewhere o (unpacked n)) (owned, looked, none, more, there.1, there.0, ne.1) (λ p c n is. is) (λ q ne. refl) words' same
+        | inl is ↦ subst (λ (t : Bool). Quietly a words' ports notes b reckoned k g (P t)) (sym is.0) (owns_still words' same)
+        | inr ne ↦ subst (λ (t : Bool). Quietly a words' ports notes b reckoned k g (P t)) (sym ne.0)
+            (by_move a words ports notes b reckoned w time k below g (move.FindsElsewhere o (unpacked n)) (owned, looked, none, more, there.1, there.0, ne.1) (λ p c n is. is) (λ q ne. refl) words' same
             (owning_port (ports k) (at_next_port o)) refl old)
       ])
 
@@ -113,14 +113,14 @@ module _ {S : Type 0} (a : About) (slots id : ℕ) (me : Me S (List SeatedPort))
   pub may_pass : x.port.control.entering ≡ Stands → x.port.passed < a.sizes.m →
       Allows (IsRuleKept a) slots id me (base e x.port.control.here.arena + x.port.passed) (λ n. n) (tells PassesSealed me)
   may_pass stands more = quietly a slots id me one own known (base e x.port.control.here.arena + x.port.passed) (λ n. n) passed_at PassesSealed passed_quiet
-      (λ words ports notes b since w time below is old come.
+      (λ words ports notes b reckoned w time below is old come.
       let k : ℕ = x.number in
       let i : ℕ = base e x.port.control.here.arena + x.port.passed in
       let n : ℕ = slice_index words i in
       let P : Bool → Port = λ t. (if t then ports k else passing_port (ports k)) in
       (elim (cases_lt n seal) [
-        | inl less ↦ subst (λ (t : Bool). Quietly a (slice_set words i n) ports notes b since k x.began (P t)) (sym (lt-ltb n seal less))
-            (by_rest a words ports notes b since w time k below x.began (slice_set words i n) (load_same words i) (ports k) refl old)
+        | inl less ↦ subst (λ (t : Bool). Quietly a (slice_set words i n) ports notes b reckoned k x.began (P t)) (sym (lt-ltb n seal less))
+            (by_rest a words ports notes b reckoned w time k below x.began (slice_set words i n) (load_same words i) (ports k) refl old)
         | inr from ↦
             let here = ap (λ (p : Port). p.control.here.arena) is in
             let passed = ap (λ (p : Port). p.passed) is in
@@ -129,8 +129,8 @@ module _ {S : Type 0} (a : About) (slots id : ℕ) (me : Me S (List SeatedPort))
             ∙ ap (λ j. slice_index words (base e (ports k).control.here.arena + j)) (omega (arith, passed)) ∙ ap (λ z. slice_index words (base e z + x.port.passed)) (sym here) in
             let may : MayMove e words ports b notes k move.PassesSealed =
             (ap (λ (p : Port). p.control.entering) (sym is) ∙ stands, omega (arith, more, passed), omega (arith, at, from)) in
-            subst (λ (t : Bool). Quietly a (slice_set words i n) ports notes b since k x.began (P t)) (sym (not_below n seal from))
-            (by_move a words ports notes b since w time k below x.began move.PassesSealed may (λ p c n is. is) (λ q ne. refl) (slice_set words i n) (load_same words i) (passing_port (ports k)) refl old)
+            subst (λ (t : Bool). Quietly a (slice_set words i n) ports notes b reckoned k x.began (P t)) (sym (not_below n seal from))
+            (by_move a words ports notes b reckoned w time k below x.began move.PassesSealed may (λ p c n is. is) (λ q ne. refl) (slice_set words i n) (load_same words i) (passing_port (ports k)) refl old)
       ]))
       (λ words ports b w below is. refl)
 
@@ -139,12 +139,12 @@ module _ {S : Type 0} (a : About) (slots id : ℕ) (me : Me S (List SeatedPort))
       Allows (IsRuleKept a) slots id me (base e x.port.control.here.arena + x.port.passed) (λ n. (n + seal) % 2 ^ 64) (tells Seals me)
   may_seal stands more = quietly a slots id me one own known (base e x.port.control.here.arena + x.port.passed) (λ n. (n + seal) % 2 ^ 64) (λ n. passing_port) Seals
       (λ n. record { part = λ p. refl; before = λ p. refl; here = λ p. refl; passed = λ p. omega arith })
-      (λ words ports notes b since w time below is old come.
+      (λ words ports notes b reckoned w time below is old come.
       let k : ℕ = x.number in
       let i : ℕ = base e x.port.control.here.arena + x.port.passed in
       let passed = ap (λ (p : Port). p.passed) is in
       let may : MayMove e words ports b notes k move.Seals = (ap (λ (p : Port). p.control.entering) (sym is) ∙ stands, omega (arith, more, passed)) in
-      by_move a words ports notes b since w time k below x.began move.Seals may (λ p c n is. is) (λ q ne. refl) (slice_set words i ((slice_index words i + seal) % 2 ^ 64))
+      by_move a words ports notes b reckoned w time k below x.began move.Seals may (λ p c n is. is) (λ q ne. refl) (slice_set words i ((slice_index words i + seal) % 2 ^ 64))
       (ap (λ (p : Port). slice_set words (base e p.control.here.arena + p.passed) ((slice_index words (base e p.control.here.arena + p.passed) + seal) % 2 ^ 64)) (sym is)) (passing_port (ports k)) refl old)
       (λ words ports b w below is. refl)
 
@@ -153,7 +153,7 @@ module _ {S : Type 0} (a : About) (slots id : ℕ) (me : Me S (List SeatedPort))
       Allows (IsRuleKept a) slots id me (own_word e i) (λ n. either (n == 0) (x.number + 1) n) (tells (Takes i) me)
   may_take i stands none inside apart = quietly_contending a slots id me one own known (own_word e i) (λ n. either (n == 0) (x.number + 1) n) (taken_at i) (contention_taking i) (Takes i) (taken_quiet i)
       (taking_more i)
-      (λ words ports notes b since w time below is old come.
+      (λ words ports notes b reckoned w time below is old come.
       let k : ℕ = x.number in
       let n : ℕ = slice_index words (own_word e i) in
       let v : ℕ = either (n == 0) (k + 1) n in
@@ -167,12 +167,12 @@ module _ {S : Type 0} (a : About) (slots id : ℕ) (me : Me S (List SeatedPort))
               (λ same. apart (ap (λ (p : Port). p.control.here.arena) is ∙ same)),
               free.1,
             ) in
-            subst (λ (t : Bool). Quietly a (slice_set words (own_word e i) v) ports notes b since k x.began (P t)) (sym free.0)
-            (by_move a words ports notes b since w time k below x.began (move.Takes i) may (λ p c n is. is) (λ q ne. refl) (slice_set words (own_word e i) v)
+            subst (λ (t : Bool). Quietly a (slice_set words (own_word e i) v) ports notes b reckoned k x.began (P t)) (sym free.0)
+            (by_move a words ports notes b reckoned w time k below x.began (move.Takes i) may (λ p c n is. is) (λ q ne. refl) (slice_set words (own_word e i) v)
             (ap (λ v. slice_set words (own_word e i) v) (either_cond (n == 0) (k + 1) n)) (owning_port (ports k) (just_taken i)) refl old)
         | inr held ↦
-            subst (λ (t : Bool). Quietly a (slice_set words (own_word e i) v) ports notes b since k x.began (P t)) (sym held.0)
-            (by_rest a words ports notes b since w time k below x.began (slice_set words (own_word e i) v)
+            subst (λ (t : Bool). Quietly a (slice_set words (own_word e i) v) ports notes b reckoned k x.began (P t)) (sym held.0)
+            (by_rest a words ports notes b reckoned w time k below x.began (slice_set words (own_word e i) v)
             (load_same words (own_word e i) ∙ ap (λ t. slice_set words (own_word e i) (either t (k + 1) n)) (sym held.0)) (ports k) refl old)
       ]))
       (λ words ports b w below is. refl)
@@ -181,9 +181,9 @@ module _ {S : Type 0} (a : About) (slots id : ℕ) (me : Me S (List SeatedPort))
   pub may_give : (o : OwnedArena) → x.port.control.owned ≡ Some o → Allows (IsRuleKept a) slots id me (own_word e o.arena) (λ n. 0) (tells SeatGives me)
   may_give o owned = quietly a slots id me one own known (own_word e o.arena) (λ n. 0) (λ n. having_given) SeatGives
       (λ n. record { part = λ p. refl; before = λ p. refl; here = λ p. refl; passed = λ p. omega arith })
-      (λ words ports notes b since w time below is old come.
+      (λ words ports notes b reckoned w time below is old come.
       let k : ℕ = x.number in
-      by_move a words ports notes b since w time k below x.began (move.Gives o) (ap (λ (p : Port). p.control.owned) (sym is) ∙ owned) (λ p c n is. is) (λ q ne. refl)
+      by_move a words ports notes b reckoned w time k below x.began (move.Gives o) (ap (λ (p : Port). p.control.owned) (sym is) ∙ owned) (λ p c n is. is) (λ q ne. refl)
       (slice_set words (own_word e o.arena) 0) refl (having_given (ports k)) refl old)
       (λ words ports b w below is. refl)
 
@@ -192,17 +192,17 @@ module _ {S : Type 0} (a : About) (slots id : ℕ) (me : Me S (List SeatedPort))
       Allows (IsRuleKept a) slots id me (at_word o.clean) (λ n. n) (tells (LoadsPort o) me)
   may_load_port o owned looked none more = quietly_contending a slots id me one own known (at_word o.clean) (λ n. n) (λ n p. owning_port p (port_loaded n o)) (λ n m. contention_loading n o m) (LoadsPort o)
       (λ n. owned_quiet (λ p. port_loaded n o)) (λ n m. loading_more n o m)
-      (λ words ports notes b since w time below is old come.
+      (λ words ports notes b reckoned w time below is old come.
       let k : ℕ = x.number in
       let n : ℕ = slice_index words (at_word o.clean) in
       let words' : List ℕ = slice_set words (at_word o.clean) n in
       let owned' : (ports k).control.owned ≡ Some o = ap (λ (p : Port). p.control.owned) (sym is) ∙ owned in
       let P : Bool → Port = λ t. owning_port (ports k) (if t then elsewhere n o else having_loaded o (unpacked (n - entering_mark))) in
       (elim (cases_lt n entering_mark) [
-        | inl less ↦ subst (λ (t : Bool). Quietly a words' ports notes b since k x.began (P t)) (sym (lt-ltb n entering_mark less))
-            (finds_elsewhere a words ports notes b since w time k below x.began old o owned' looked none more words' (load_same words (at_word o.clean)) less)
-        | inr from ↦ subst (λ (t : Bool). Quietly a words' ports notes b since k x.began (P t)) (sym (not_below n entering_mark from))
-            (by_move a words ports notes b since w time k below x.began (move.LoadsMark o) (owned', more, from) (λ p c n is. is) (λ q ne. refl) words' (load_same words (at_word o.clean))
+        | inl less ↦ subst (λ (t : Bool). Quietly a words' ports notes b reckoned k x.began (P t)) (sym (lt-ltb n entering_mark less))
+            (finds_elsewhere a words ports notes b reckoned w time k below x.began old o owned' looked none more words' (load_same words (at_word o.clean)) less)
+        | inr from ↦ subst (λ (t : Bool). Quietly a words' ports notes b reckoned k x.began (P t)) (sym (not_below n entering_mark from))
+            (by_move a words ports notes b reckoned w time k below x.began (move.LoadsMark o) (owned', more, from) (λ p c n is. is) (λ q ne. refl) words' (load_same words (at_word o.clean))
             (owning_port (ports k) (having_loaded o (unpacked (n - entering_mark)))) refl old)
       ]))
       (λ words ports b w below is. refl)
@@ -214,7 +214,7 @@ module _ {S : Type 0} (a : About) (slots id : ℕ) (me : Me S (List SeatedPort))
       (λ n p. owning_port p (port_put m n o)) (λ n w. contention_putting m n o w)
       (PutsPort o m)
       (λ n. owned_quiet (λ p. port_put m n o)) (λ n w. putting_more m n o w)
-      (λ words ports notes b since w time below is old come.
+      (λ words ports notes b reckoned w time below is old come.
       let k : ℕ = x.number in
       let i : ℕ = at_word o.clean in
       let n : ℕ = slice_index words i in
@@ -226,19 +226,19 @@ module _ {S : Type 0} (a : About) (slots id : ℕ) (me : Me S (List SeatedPort))
         | inl won ↦
             let word : (if n == marked m then packed (ports k).control.here else n) ≡ v = ap (λ (p : Port). if n == marked m then packed p.control.here else n) (sym is)
             ∙ either_cond (n == marked m) there n in
-            subst (λ (t : Bool). Quietly a (slice_set words i v) ports notes b since k x.began (P t)) (sym won.0)
-            (by_move a words ports notes b since w time k below x.began (move.Puts o m) (owned', looked, more, none, mark, again, won.1) (λ p c n is. is) (λ q ne. refl) (slice_set words i v)
+            subst (λ (t : Bool). Quietly a (slice_set words i v) ports notes b reckoned k x.began (P t)) (sym won.0)
+            (by_move a words ports notes b reckoned w time k below x.began (move.Puts o m) (owned', looked, more, none, mark, again, won.1) (λ p c n is. is) (λ q ne. refl) (slice_set words i v)
             (ap (λ v. slice_set words i v) word) (owning_port (ports k) (at_next_port o)) refl old)
         | inr lost ↦
             let Q : Bool → Port = λ t. owning_port (ports k) (if t then elsewhere n o else o) in
             let same : words ≡ slice_set words i v = load_same words i ∙ ap (λ t. slice_set words i (either t there n)) (sym lost.0) in
-            let stays : Quietly a (slice_set words i v) ports notes b since k x.began (Q (nat_lt n entering_mark)) =
+            let stays : Quietly a (slice_set words i v) ports notes b reckoned k x.began (Q (nat_lt n entering_mark)) =
             (elim (cases_lt n entering_mark) [
-              | inl less ↦ subst (λ (t : Bool). Quietly a (slice_set words i v) ports notes b since k x.began (Q t)) (sym (lt-ltb n entering_mark less))
-                  (finds_elsewhere a words ports notes b since w time k below x.began old o owned' looked none more (slice_set words i v) same less)
-              | inr from ↦ subst (λ (t : Bool). Quietly a (slice_set words i v) ports notes b since k x.began (Q t)) (sym (not_below n entering_mark from))
-                  (owns_still a words ports notes b since w time k below x.began old o owned' looked none more (slice_set words i v) same)
+              | inl less ↦ subst (λ (t : Bool). Quietly a (slice_set words i v) ports notes b reckoned k x.began (Q t)) (sym (lt-ltb n entering_mark less))
+                  (finds_elsewhere a words ports notes b reckoned w time k below x.began old o owned' looked none more (slice_set words i v) same less)
+              | inr from ↦ subst (λ (t : Bool). Quietly a (slice_set words i v) ports notes b reckoned k x.began (Q t)) (sym (not_below n entering_mark from))
+                  (owns_still a words ports notes b reckoned w time k below x.began old o owned' looked none more (slice_set words i v) same)
             ]) in
-            subst (λ (t : Bool). Quietly a (slice_set words i v) ports notes b since k x.began (P t)) (sym lost.0) stays
+            subst (λ (t : Bool). Quietly a (slice_set words i v) ports notes b reckoned k x.began (P t)) (sym lost.0) stays
       ]))
       (λ words ports b w below is. refl)

@@ -50,7 +50,7 @@ pub record Ends (about : About) (words : List ℕ) (v : List SeatedPort) : Type 
   pub values : (j : ℕ) → j < about.sizes.m → slice_index words (value_now (plan_of about) words j) ≡ value_of about.opening log j
 
 -- each seat is one of a port of the history
-seat_of : {S : Type 0} (about : About) (s : State S (List SeatedPort)) (kept : IsRuleKept about s) (t : TableId) (x : SeatedPort) → IsSeat about kept.ports kept.notes kept.beside kept.since x →
+seat_of : {S : Type 0} (about : About) (s : State S (List SeatedPort)) (kept : IsRuleKept about s) (t : TableId) (x : SeatedPort) → IsSeat about s.words kept.ports kept.notes kept.beside kept.reckoned x →
     (n : ℕ) → IsPortOf (one_history kept.beside) (port_view t n x)
 seat_of about s kept t x w n =
     let f = epochs_fit_one_history (plan_of about) s.words kept.ports kept.beside kept.notes kept.lawful in
@@ -66,7 +66,7 @@ seat_of about s kept t x w n =
 pub ends : {S : Type 0} (about : About) (v : List SeatedPort) (id : ℕ) (words : List ℕ) (s : State S (List SeatedPort)) → IsRuleKept about s → get_elem? s.views id ≡ some v → s.words ≡ words →
     Ends about words v
 ends about v id words s kept at same =
-    let P : SeatedPort → Type 0 = IsSeat about kept.ports kept.notes kept.beside kept.since in
+    let P : SeatedPort → Type 0 = IsSeat about s.words kept.ports kept.notes kept.beside kept.reckoned in
     let r = around s.views id v at in
     let here : AllByRecursion P v = all_front P v r.behind (all_back P r.before (v ++ r.behind) (subst (AllByRecursion P) r.now kept.seats)) in
     let f = epochs_fit_one_history (plan_of about) s.words kept.ports kept.beside kept.notes kept.lawful in

@@ -1,13 +1,13 @@
 -- A port between the parts of a call: it stands where it stood, or has come to a later epoch.
 use Rattle.std.proofs.Common.{le_refl, le_trans}
-use Rattle.partial_long_lived.proofs.{Common.{ℕ, ◌≡◌, ◌<◌, ◌≤◌, ◌&&◌, ◌++◌, not, Bool, true, false, if◌then◌else◌, Some, List, [], ◌∷◌, length, refl, sym, ap, subst, ◌∙◌, inl, inr, arith, lt-ltb, append-nil, append_assoc, length-append, nat_lt, TableId, Applied, value_of, Noted, fresh, core_of, seal, unsealed, not_below, public_of, About, Stand, Began, SeatedPort, plan_of, seen_in, BeginsWith, SeatGoes, IsHeld, port_at, SeatSees, Wish, noted_by, opening_of, place_seen, stamp_seen, value_seen, Reads, HasCome, HasNotedRead, HasValue, IsIdle, StaysAt, EpochSettled, Call, Answer, Note, IsSeatKnown}, Contention.{contends_on, contends_same}}
+use Rattle.partial_long_lived.proofs.{Common.{ℕ, ◌≡◌, ◌<◌, ◌≤◌, ◌&&◌, ◌++◌, not, Bool, true, false, if◌then◌else◌, Some, List, [], ◌∷◌, length, refl, sym, ap, subst, ◌∙◌, inl, inr, arith, lt-ltb, append-nil, append_assoc, length-append, nat_lt, TableId, Applied, value_of, Noted, fresh, core_of, seal, unsealed, not_below, public_of, About, Stand, Began, SeatedPort, plan_of, seen_in, BeginsWith, SeatGoes, IsHeld, port_at, SeatSees, Wish, noted_by, opening_of, place_seen, stamp_seen, value_seen, Reads, HasCome, HasNotedRead, HasValue, IsIdle, StaysAt, EpochSettled, Call, Answer, Note, IsSeatKnown}}
 
 pub begins_on : (h l m : List Applied) → BeginsWith h l → BeginsWith l m → BeginsWith h m
 begins_on h l m a c = (a.0 ++ c.0, c.1 ∙ ap (λ (t : List Applied). t ++ c.0) a.1 ∙ append_assoc h a.0 c.0)
 
 -- by no step a seat stays that of its port
 pub goes_same : (x : SeatedPort) → IsSeatKnown x → SeatGoes x x
-goes_same x known = record { about = refl; number = refl; epoch = le_refl _; contention = contends_same x.contention; seen = ([], sym (append-nil (seen_in x.port))); known = known }
+goes_same x known = record { about = refl; number = refl; epoch = le_refl _; seals = le_refl _; seen = ([], sym (append-nil (seen_in x.port))); known = known }
 
 -- steps follow on steps
 pub goes_on : (x y z : SeatedPort) → SeatGoes x y → SeatGoes y z → SeatGoes x z
@@ -15,7 +15,7 @@ goes_on x y z a c = record {
   about = c.about ∙ a.about;
   number = c.number ∙ a.number;
   epoch = le_trans a.epoch c.epoch;
-  contention = contends_on x.contention y.contention z.contention a.contention c.contention;
+  seals = le_trans a.seals c.seals;
   seen = begins_on (seen_in x.port) (seen_in y.port) (seen_in z.port) a.seen c.seen;
   known = c.known;
 }

@@ -1,5 +1,5 @@
 -- The exchange of the entering mark is allowed.
-use Rattle.partial_long_lived.proofs.{Common.{ℕ, ◌≡◌, ◌<◌, ◌≤◌, ◌==◌, ◌++◌, if◌then◌else◌, None, List, [], ◌∷◌, length, slice_index, slice_set, refl, sym, ap, subst, ◌∙◌, inl, inr, arith, append-nil, append_assoc, eqb_tells, either, Me, Allows, Applied, LegalNotes, Noted, put, IsPlace, Place, Plan, at_word, marked, packed, history_of, public_log, Entering, Port, Loaded, arrived_port, Beside, LawfulEpochs, place_now, KeepsTime, LawfulMemory, EpochReached, not_marked, put_other, put_same, history_grows, history_longer, About, IsRuleKept, IsSeat, IsSeen, IsSince, SeatedPort, one_of, plan_of, seen_in, BeginsWith, IsSeatKnown, IsOne, tells, SeatArrives, place_found, unpacked, ends, every_step_stays_lawful, unpacked_is}, Seen.legal_begins, Kept.{Moved, allowed, none_grown, not_grown}, Control.{led_to, unnoted}, Changes.either_cond, Contention.contends_same}
+use Rattle.partial_long_lived.proofs.{Common.{ℕ, ◌≡◌, ◌<◌, ◌≤◌, ◌==◌, ◌++◌, if◌then◌else◌, None, List, [], ◌∷◌, length, slice_index, slice_set, refl, sym, ap, subst, ◌∙◌, inl, inr, arith, append-nil, append_assoc, eqb_tells, either, Me, Allows, Applied, LegalNotes, Noted, put, IsPlace, Place, Plan, at_word, marked, packed, history_of, public_log, Entering, Port, Loaded, arrived_port, Beside, LawfulEpochs, place_now, Reckons, Reckoning, LawfulMemory, EpochReached, not_marked, put_other, put_same, history_grows, history_longer, About, IsRuleKept, IsSeat, IsSeen, IsSince, SeatedPort, one_of, plan_of, seen_in, BeginsWith, IsSeatKnown, IsOne, tells, SeatArrives, place_found, unpacked, ends, every_step_stays_lawful, unpacked_is}, Seen.legal_begins, Kept.{Moved, allowed, none_grown, not_grown}, Control.{led_to, reckoned_behind, unnoted}, Changes.either_cond}
 use Rattle.partial_epochs.specs.EveryStep.{Move as move}
 use Rattle.partial_epochs.specs.Entering as law
 
@@ -42,11 +42,11 @@ arrival_seen b p q seen old new later none =
     split [] x t = refl
     split (y ∷ l) x t = ap (λ (m : List (List Applied)). y ∷ m) (split l x t)
 
-arrival : (a : About) (words : List ℕ) (ports : ℕ → Port) (notes : ℕ → List Noted) (b : Beside) (since : ℕ → ℕ) (x : SeatedPort) → LawfulMemory (plan_of a) words ports b notes →
-    KeepsTime (plan_of a) words ports (place_now b) since → IsSeat a ports notes b since x → IsSeatKnown x → (c : Place) → x.port.control.entering ≡ Loaded c → (v : ℕ) →
+arrival : (a : About) (words : List ℕ) (ports : ℕ → Port) (notes : ℕ → List Noted) (b : Beside) (reckoned : Reckoning) (x : SeatedPort) → LawfulMemory (plan_of a) words ports b notes →
+    Reckons (plan_of a) words ports (place_now b) reckoned → IsSeat a words ports notes b reckoned x → IsSeatKnown x → (c : Place) → x.port.control.entering ≡ Loaded c → (v : ℕ) →
     (if slice_index words (at_word x.number) == marked (ports x.number).control.here then packed c else slice_index words (at_word x.number)) ≡ v →
-    Moved a (slice_set words (at_word x.number) v) ports notes b since x (SeatArrives c x (slice_index words (at_word x.number)))
-arrival a words ports notes b since x w time s known c loaded v word =
+    Moved a words (slice_set words (at_word x.number) v) ports notes b reckoned x (SeatArrives c x (slice_index words (at_word x.number)))
+arrival a words ports notes b reckoned x w time s known c loaded v word =
     let e : Plan = plan_of a in
     let k : ℕ = x.number in
     let n : ℕ = slice_index words (at_word k) in
@@ -55,8 +55,8 @@ arrival a words ports notes b since x w time s known c loaded v word =
     let l = every_step_stays_lawful e words ports b notes k (move.ExchangesMark c) w s.number loaded' in
     let to : law.Arrives (plan_of a) words ports b k c = l.becomes.0 in
     let p : Port = arrived_port e k to.place to.before in
-    let led = led_to a words ports notes b since w time k s.number (move.ExchangesMark c) l (slice_set words (at_word k) v) (ap (λ v. slice_set words (at_word k) v) word) p l.becomes.1 b l.becomes.2 [] l.becomes.3 in
-    let lawful : LawfulMemory e (slice_set words (at_word k) v) (put k p ports) b notes = unnoted a words ports notes b since w time k s.number (slice_set words (at_word k) v) (put k p ports) b led.0 in
+    let led = led_to a words ports notes b reckoned w time k s.number (move.ExchangesMark c) loaded' tt (λ q ne. refl) l (let same = ap (λ (d : Beside). length d.before) l.becomes.2 in omega (arith, same)) (slice_set words (at_word k) v) (ap (λ v. slice_set words (at_word k) v) word) p l.becomes.1 b l.becomes.2 [] l.becomes.3 in
+    let lawful : LawfulMemory e (slice_set words (at_word k) v) (put k p ports) b notes = unnoted a words ports notes b reckoned w time k s.number (slice_set words (at_word k) v) (put k p ports) b led.lawful in
     let place : place_found x.port c n ≡ to.place = ap (λ (q : Port). place_found q c n) s.port ∙ arrival_place e words ports b k c w.epochs s.number to in
     let old : EpochReached b x.port = subst (EpochReached b) (sym s.port) (w.noted.reached k s.number) in
     let new : EpochReached b p = subst (EpochReached b) (put_same k p ports) (lawful.noted.reached k s.number) in
@@ -65,20 +65,20 @@ arrival a words ports notes b since x w time s known c loaded v word =
     let many = to.epoch in
     let seen : BeginsWith (seen_in x.port) (seen_in p) = arrival_seen b x.port p s.seen old new (omega (arith, few, many, later)) refl in
     let knows = known.knows in
-    let began : x.began.epoch ≤ since k = subst (λ (t : Entering). IsSince x.began t (since k)) loaded s.entering in
-    let up = l.becomes.4 since time in
+    let began : x.began.epoch ≤ reckoned.since k = subst (λ (t : Entering). IsSince x.began t (reckoned.since k)) loaded s.entering in
+    let up = l.becomes.4 reckoned.since time.time in
     record {
       y = record x { port = p; found = None };
       ports' = put k p ports;
       notes' = notes;
       beside = b;
-      since' = since;
+      reckoned' = reckoned_behind b k (move.ExchangesMark c) reckoned led.there;
       lawful = lawful;
-      time = led.1;
-      others = λ q ne. (put_other k p ports q ne, refl, refl);
+      time = led.time;
+      others = λ q ne. (put_other k p ports q ne, refl);
       number = refl;
       epoch = omega (arith, later);
-      contention = contends_same x.contention;
+      seals = omega arith;
       seat = record {
         about = own;
         number = s.number;
@@ -88,6 +88,8 @@ arrival a words ports notes b since x w time s known c loaded v word =
         began = s.began;
         entering = tt;
         found = tt;
+        search = (led.time).searching k x.contention.search s.number s.search;
+        met = λ is. led.met k ∙ s.met is;
       };
       grown = λ q low ne. not_grown (ports q) b b refl refl;
       all_grown = none_grown b b refl refl;
@@ -111,7 +113,7 @@ module _ {S : Type 0} (a : About) (slots id : ℕ) (me : Me S (List SeatedPort))
 
   pub may_arrive : (c : Place) → x.port.control.entering ≡ Loaded c →
       Allows (IsRuleKept a) slots id me (at_word x.number) (λ n. either (n == marked x.port.control.here) (packed c) n) (tells (SeatArrives c) me)
-  may_arrive c loaded = allowed a slots id me (at_word x.number) (λ n. either (n == marked x.port.control.here) (packed c) n) (SeatArrives c) one own (λ words ports notes b since w time s small.
+  may_arrive c loaded = allowed a slots id me (at_word x.number) (λ n. either (n == marked x.port.control.here) (packed c) n) (SeatArrives c) one own (λ words ports notes b reckoned w time s small.
       let n : ℕ = slice_index words (at_word x.number) in
-      arrival a words ports notes b since x w time s known c loaded (either (n == marked x.port.control.here) (packed c) n)
+      arrival a words ports notes b reckoned x w time s known c loaded (either (n == marked x.port.control.here) (packed c) n)
       (ap (λ (p : Port). if n == marked p.control.here then packed c else n) (sym s.port) ∙ either_cond (n == marked x.port.control.here) (packed c) n))

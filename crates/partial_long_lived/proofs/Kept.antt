@@ -1,5 +1,5 @@
 -- A step of one seat keeps the rule.
-use Rattle.partial_long_lived.proofs.{Common.{ℕ, ◌≡◌, ◌≢◌, ◌+◌, ◌<◌, ◌≤◌, ◌==◌, ◌++◌, if◌then◌else◌, Option, Some, None, IfSome, List, [], ◌∷◌, length, slice_index, slice_set, refl, sym, ap, subst, ◌∙◌, arith, append-nil, length-append, AllByRecursion, some, get_elem?, Me, Allows, keeps, Applied, LegalNotes, Noted, all_at, all_join, all_before, all_after, all_weaker, Port, Beside, IsEpochPlan, place_now, KeepsTime, history_longer, LawfulMemory, option_map_or, behind_both, IsPlace, carried_after, carried_behind, history_of, opening_behind, public_log, public_stamp, value_of, About, Began, Found, BeganInTime, IsFinal, IsRuleKept, IsSeat, IsSeen, IsSince, SeatedPort, one_of, plan_of, seats_of, Knows, seen_in, BeginsWith, SeatGoes, IsSeatKnown, IsOne, tells, HasRecordStamps, Contention, ContendsMore}, Seen.{fits_of, knows_of, own_of, seen_begins}, Views.{around, others_all, seat_own, seats_both}}
+use Rattle.partial_long_lived.proofs.{Common.{ℕ, ◌≡◌, ◌≢◌, ◌+◌, ◌<◌, ◌≤◌, ◌==◌, ◌++◌, if◌then◌else◌, Option, Some, None, IfSome, List, [], ◌∷◌, length, slice_index, slice_set, refl, sym, ap, subst, ◌∙◌, arith, append-nil, length-append, AllByRecursion, some, get_elem?, Me, Allows, keeps, Applied, LegalNotes, Noted, all_at, all_join, all_before, all_after, all_weaker, Port, Beside, IsEpochPlan, place_now, Reckons, Reckoning, history_longer, LawfulMemory, option_map_or, behind_both, IsPlace, carried_after, carried_behind, history_of, opening_behind, public_log, public_stamp, value_of, About, Began, Found, BeganInTime, IsFinal, IsRuleKept, IsSeat, IsSeen, IsSince, SeatedPort, one_of, plan_of, seats_of, Knows, seen_in, BeginsWith, SeatGoes, IsSeatKnown, IsOne, tells, HasRecordStamps, Contention, Search, IsSearching}, Seen.{fits_of, knows_of, own_of, seen_begins}, Views.{around, others_all, seat_own, seats_both}}
 use Rattle.partial_epochs.proofs.Last.{none_here, stays}
 
 -- The histories of all epochs have grown: that of the epoch behind these has at most gained entries, for components of which that is so.
@@ -87,20 +87,28 @@ final_grows a z b c grown (Some f) w = record {
       };
 }
 
+-- What a step of port k makes of what is counted beside the words: ports keep time and tally, the search of each port goes on, and what is
+-- counted of other ports stays.
+pub record GoesOn (a : About) (words words' : List ℕ) (ports ports' : ℕ → Port) (b c : Beside) (r r' : Reckoning) (k : ℕ) : Type 0 where
+  pub reckons : Reckons (plan_of a) words' ports' (place_now c) r'
+  pub searching : (q : ℕ) (s : Search) → q < a.ports → IsSearching (plan_of a) words ports (place_now b) r q s → IsSearching (plan_of a) words' ports' (place_now c) r' q s
+  pub since : (q : ℕ) → q ≢ k → r'.since q ≡ r.since q
+  pub met : (q : ℕ) → q ≢ k → r'.tally.met q ≡ r.tally.met q
+
 -- What a step of the seat x leads to: another lawful memory, in which all other ports are as they were, and the seat as it is then.
-pub record Moved (a : About) (words' : List ℕ) (ports : ℕ → Port) (notes : ℕ → List Noted) (b : Beside) (since : ℕ → ℕ) (x : SeatedPort) (P : SeatedPort → Type 0) : Type 0 where
+pub record Moved (a : About) (words words' : List ℕ) (ports : ℕ → Port) (notes : ℕ → List Noted) (b : Beside) (reckoned : Reckoning) (x : SeatedPort) (P : SeatedPort → Type 0) : Type 0 where
   pub y : SeatedPort
   pub ports' : ℕ → Port
   pub notes' : ℕ → List Noted
   pub beside : Beside
-  pub since' : ℕ → ℕ
+  pub reckoned' : Reckoning
   pub lawful : LawfulMemory (plan_of a) words' ports' beside notes'
-  pub time : KeepsTime (plan_of a) words' ports' (place_now beside) since'
-  pub others : (q : ℕ) → q ≢ x.number → (ports' q ≡ ports q) × (notes' q ≡ notes q) × (since' q ≡ since q)
+  pub time : GoesOn a words words' ports ports' b beside reckoned reckoned' x.number
+  pub others : (q : ℕ) → q ≢ x.number → (ports' q ≡ ports q) × (notes' q ≡ notes q)
   pub number : y.number ≡ x.number
   pub epoch : x.port.control.here.epoch ≤ y.port.control.here.epoch
-  pub contention : ContendsMore x.contention y.contention
-  pub seat : IsSeat a ports' notes' beside since' y
+  pub seals : x.contention.seals ≤ y.contention.seals
+  pub seat : IsSeat a words' ports' notes' beside reckoned' y
   pub grown : (q : ℕ) → q < a.ports → q ≢ x.number → HasGrown (ports q) b beside
   pub all_grown : HaveGrown b beside
   pub later : length b.before ≤ length beside.before
@@ -110,20 +118,20 @@ pub record Moved (a : About) (words' : List ℕ) (ports : ℕ → Port) (notes :
   pub says : P y
 
 -- what a step tells may be told in another way
-pub moved_says : {a : About} {words' : List ℕ} {ports : ℕ → Port} {notes : ℕ → List Noted} {b : Beside} {since : ℕ → ℕ} {x : SeatedPort} {P R : SeatedPort → Type 0} →
-    (m : Moved a words' ports notes b since x P) → R m.y → Moved a words' ports notes b since x R
+pub moved_says : {a : About} {words words' : List ℕ} {ports : ℕ → Port} {notes : ℕ → List Noted} {b : Beside} {reckoned : Reckoning} {x : SeatedPort} {P R : SeatedPort → Type 0} →
+    (m : Moved a words words' ports notes b reckoned x P) → R m.y → Moved a words words' ports notes b reckoned x R
 moved_says m says = record {
   y = m.y;
   ports' = m.ports';
   notes' = m.notes';
   beside = m.beside;
-  since' = m.since';
+  reckoned' = m.reckoned';
   lawful = m.lawful;
   time = m.time;
   others = m.others;
   number = m.number;
   epoch = m.epoch;
-  contention = m.contention;
+  seals = m.seals;
   seat = m.seat;
   grown = m.grown;
   all_grown = m.all_grown;
@@ -134,26 +142,26 @@ moved_says m says = record {
   says = says;
 }
 
-pub moved_as : {a : About} {words' : List ℕ} {ports : ℕ → Port} {notes : ℕ → List Noted} {b : Beside} {since : ℕ → ℕ} {x : SeatedPort} {P R : SeatedPort → Type 0} → ((y : SeatedPort) → P y → R y) →
-    Moved a words' ports notes b since x P → Moved a words' ports notes b since x R
+pub moved_as : {a : About} {words words' : List ℕ} {ports : ℕ → Port} {notes : ℕ → List Noted} {b : Beside} {reckoned : Reckoning} {x : SeatedPort} {P R : SeatedPort → Type 0} → ((y : SeatedPort) → P y → R y) →
+    Moved a words words' ports notes b reckoned x P → Moved a words words' ports notes b reckoned x R
 moved_as f m = moved_says m (f m.y m.says)
 
--- and of a port that has met more
-pub moved_contending : {a : About} {words' : List ℕ} {ports : ℕ → Port} {notes : ℕ → List Noted} {b : Beside} {since : ℕ → ℕ} {x : SeatedPort} {P R : SeatedPort → Type 0} →
-    (m : Moved a words' ports notes b since x P) → (t : Contention) → ContendsMore x.contention t → R (record m.y { contention = t }) → Moved a words' ports notes b since x R
-moved_contending m t more says = record {
-  y = record m.y { contention = t };
+-- and of a port that has met more seals
+pub moved_sealed : {a : About} {words words' : List ℕ} {ports : ℕ → Port} {notes : ℕ → List Noted} {b : Beside} {reckoned : Reckoning} {x : SeatedPort} {P R : SeatedPort → Type 0} →
+    (m : Moved a words words' ports notes b reckoned x P) → (n : ℕ) → x.contention.seals ≤ n → R (record m.y { contention = record (m.y).contention { seals = n } }) → Moved a words words' ports notes b reckoned x R
+moved_sealed m n more says = record {
+  y = record m.y { contention = record (m.y).contention { seals = n } };
   ports' = m.ports';
   notes' = m.notes';
   beside = m.beside;
-  since' = m.since';
+  reckoned' = m.reckoned';
   lawful = m.lawful;
   time = m.time;
   others = m.others;
   number = m.number;
   epoch = m.epoch;
-  contention = more;
-  seat = let s = m.seat in record { about = s.about; number = s.number; port = s.port; noted = s.noted; seen = s.seen; began = s.began; entering = s.entering; found = s.found };
+  seals = more;
+  seat = let s = m.seat in record { about = s.about; number = s.number; port = s.port; noted = s.noted; seen = s.seen; began = s.began; entering = s.entering; found = s.found; search = s.search; met = s.met };
   grown = m.grown;
   all_grown = m.all_grown;
   later = m.later;
@@ -163,12 +171,12 @@ moved_contending m t more says = record {
   says = says;
 }
 
-module _ {S : Type 0} (a : About) (me : Me S (List SeatedPort)) (one : IsOne me) (words' : List ℕ) (ports : ℕ → Port) (notes : ℕ → List Noted) (b : Beside) (since : ℕ → ℕ) (P : SeatedPort → Type 0)
-    (m : Moved a words' ports notes b since (one_of me.0) P) where
+module _ {S : Type 0} (a : About) (me : Me S (List SeatedPort)) (one : IsOne me) (words words' : List ℕ) (ports : ℕ → Port) (notes : ℕ → List Noted) (b : Beside) (reckoned : Reckoning) (P : SeatedPort → Type 0)
+    (m : Moved a words words' ports notes b reckoned (one_of me.0) P) where
   abbrev x : SeatedPort
   x = one_of me.0
 
-  other_seat : (z : SeatedPort) → (z.number ≢ x.number) × IsSeat a ports notes b since z → IsSeat a m.ports' m.notes' m.beside m.since' z
+  other_seat : (z : SeatedPort) → (z.number ≢ x.number) × IsSeat a words ports notes b reckoned z → IsSeat a words' m.ports' m.notes' m.beside m.reckoned' z
   other_seat z h =
       let s = h.1 in
       let same = m.others z.number h.0 in
@@ -179,22 +187,24 @@ module _ {S : Type 0} (a : About) (me : Me S (List SeatedPort)) (one : IsOne me)
         port = s.port ∙ sym same.0;
         noted = s.noted ∙ sym same.1;
         began = begun_grows b m.beside z.began m.later m.all_grown s.began;
-        entering = subst (IsSince z.began z.port.control.entering) (sym same.2) s.entering;
+        entering = subst (IsSince z.began z.port.control.entering) (sym ((m.time).since z.number h.0)) s.entering;
         seen = seen_grows z.port b m.beside grown s.seen;
         found = final_grows a z.port b m.beside grown z.found s.found;
+        search = (m.time).searching z.number z.contention.search s.number s.search;
+        met = λ is. (m.time).met z.number h.0 ∙ s.met is;
       }
 
-  pub seats_then : (before behind : List SeatedPort) → ((k : ℕ) → seats_of k (before ++ x ∷ behind) ≤ 1) → AllByRecursion (IsSeat a ports notes b since) (before ++ x ∷ behind) →
-      AllByRecursion (IsSeat a m.ports' m.notes' m.beside m.since') (before ++ m.y ∷ behind)
+  pub seats_then : (before behind : List SeatedPort) → ((k : ℕ) → seats_of k (before ++ x ∷ behind) ≤ 1) → AllByRecursion (IsSeat a words ports notes b reckoned) (before ++ x ∷ behind) →
+      AllByRecursion (IsSeat a words' m.ports' m.notes' m.beside m.reckoned') (before ++ m.y ∷ behind)
   seats_then before behind once all =
       let own = seat_own x behind in
       let both = seats_both x.number before (x ∷ behind) in
       let most = once x.number in
-      let front = others_all (IsSeat a ports notes b since) x.number before (omega (arith, own, both, most)) (all_before (IsSeat a ports notes b since) before x behind all) in
-      let back = others_all (IsSeat a ports notes b since) x.number behind (omega (arith, own, both, most)) (all_after (IsSeat a ports notes b since) before x behind all) in
-      all_join (IsSeat a m.ports' m.notes' m.beside m.since') before m.y behind
-      (all_weaker (λ (z : SeatedPort). (z.number ≢ x.number) × IsSeat a ports notes b since z) (IsSeat a m.ports' m.notes' m.beside m.since') other_seat before front) m.seat
-      (all_weaker (λ (z : SeatedPort). (z.number ≢ x.number) × IsSeat a ports notes b since z) (IsSeat a m.ports' m.notes' m.beside m.since') other_seat behind back)
+      let front = others_all (IsSeat a words ports notes b reckoned) x.number before (omega (arith, own, both, most)) (all_before (IsSeat a words ports notes b reckoned) before x behind all) in
+      let back = others_all (IsSeat a words ports notes b reckoned) x.number behind (omega (arith, own, both, most)) (all_after (IsSeat a words ports notes b reckoned) before x behind all) in
+      all_join (IsSeat a words' m.ports' m.notes' m.beside m.reckoned') before m.y behind
+      (all_weaker (λ (z : SeatedPort). (z.number ≢ x.number) × IsSeat a words ports notes b reckoned z) (IsSeat a words' m.ports' m.notes' m.beside m.reckoned') other_seat before front) m.seat
+      (all_weaker (λ (z : SeatedPort). (z.number ≢ x.number) × IsSeat a words ports notes b reckoned z) (IsSeat a words' m.ports' m.notes' m.beside m.reckoned') other_seat behind back)
 
   pub once_then : (before behind : List SeatedPort) → ((k : ℕ) → seats_of k (before ++ x ∷ behind) ≤ 1) → (k : ℕ) → seats_of k (before ++ m.y ∷ behind) ≤ 1
   once_then before behind once k =
@@ -225,22 +235,22 @@ module _ {S : Type 0} (a : About) (me : Me S (List SeatedPort)) (one : IsOne me)
       }
 
   pub goes_then : x.about ≡ a → SeatGoes x m.y
-  goes_then own = record { about = (m.seat).about ∙ sym own; number = m.number; epoch = m.epoch; contention = m.contention; seen = m.seen; known = known_then }
+  goes_then own = record { about = (m.seat).about ∙ sym own; number = m.number; epoch = m.epoch; seals = m.seals; seen = m.seen; known = known_then }
 
 -- a step is allowed where it leads on from each lawful memory
 pub allowed : {S : Type 0} (a : About) (slots id : ℕ) (me : Me S (List SeatedPort)) (i : ℕ) (f : ℕ → ℕ) (R : SeatedPort → ℕ → SeatedPort → Type 0) → IsOne me → (one_of me.0).about ≡ a →
-    ((words : List ℕ) (ports : ℕ → Port) (notes : ℕ → List Noted) (b : Beside) (since : ℕ → ℕ) → LawfulMemory (plan_of a) words ports b notes → KeepsTime (plan_of a) words ports (place_now b) since →
-    IsSeat a ports notes b since (one_of me.0) →
-    slice_index words i < 18446744073709551616 → Moved a (slice_set words i (f (slice_index words i))) ports notes b since (one_of me.0) (R (one_of me.0) (slice_index words i))) →
+    ((words : List ℕ) (ports : ℕ → Port) (notes : ℕ → List Noted) (b : Beside) (reckoned : Reckoning) → LawfulMemory (plan_of a) words ports b notes → Reckons (plan_of a) words ports (place_now b) reckoned →
+    IsSeat a words ports notes b reckoned (one_of me.0) →
+    slice_index words i < 18446744073709551616 → Moved a words (slice_set words i (f (slice_index words i))) ports notes b reckoned (one_of me.0) (R (one_of me.0) (slice_index words i))) →
     Allows (IsRuleKept a) slots id me i f (tells R me)
 allowed {S} a slots id me i f R one own leads table kept homes at small =
     let x : SeatedPort = one_of me.0 in
     let r = around table.views id (x ∷ []) (subst (λ v. get_elem? table.views id ≡ some v) one.0 at) in
-    let seats : AllByRecursion (IsSeat a kept.ports kept.notes kept.beside kept.since) (r.before ++ x ∷ r.behind) =
-    subst (AllByRecursion (IsSeat a kept.ports kept.notes kept.beside kept.since)) r.now kept.seats in
+    let seats : AllByRecursion (IsSeat a table.words kept.ports kept.notes kept.beside kept.reckoned) (r.before ++ x ∷ r.behind) =
+    subst (AllByRecursion (IsSeat a table.words kept.ports kept.notes kept.beside kept.reckoned)) r.now kept.seats in
     let once : (k : ℕ) → seats_of k (r.before ++ x ∷ r.behind) ≤ 1 = λ k. subst (λ l. seats_of k l ≤ 1) r.now (kept.once k) in
-    let here : IsSeat a kept.ports kept.notes kept.beside kept.since x = all_at (IsSeat a kept.ports kept.notes kept.beside kept.since) r.before x r.behind seats in
-    let m = leads table.words kept.ports kept.notes kept.beside kept.since kept.lawful kept.time here small in
+    let here : IsSeat a table.words kept.ports kept.notes kept.beside kept.reckoned x = all_at (IsSeat a table.words kept.ports kept.notes kept.beside kept.reckoned) r.before x r.behind seats in
+    let m = leads table.words kept.ports kept.notes kept.beside kept.reckoned kept.lawful kept.reckons here small in
     let words' : List ℕ = slice_set table.words i (f (slice_index table.words i)) in
     let P : SeatedPort → Type 0 = R x (slice_index table.words i) in (
       m.y ∷ [],
@@ -250,12 +260,12 @@ allowed {S} a slots id me i f R one own leads table kept homes at small =
         ports = m.ports';
         notes = m.notes';
         beside = m.beside;
-        since = m.since';
+        reckoned = m.reckoned';
         lawful = m.lawful;
-        time = m.time;
-        seats = subst (AllByRecursion (IsSeat a m.ports' m.notes' m.beside m.since')) (sym (r.renewed (m.y ∷ [])))
-            (seats_then a me one words' kept.ports kept.notes kept.beside kept.since P m r.before r.behind once seats);
-        once = λ k. subst (λ l. seats_of k l ≤ 1) (sym (r.renewed (m.y ∷ []))) (once_then a me one words' kept.ports kept.notes kept.beside kept.since P m r.before r.behind once k);
+        reckons = (m.time).reckons;
+        seats = subst (AllByRecursion (IsSeat a words' m.ports' m.notes' m.beside m.reckoned')) (sym (r.renewed (m.y ∷ [])))
+            (seats_then a me one table.words words' kept.ports kept.notes kept.beside kept.reckoned P m r.before r.behind once seats);
+        once = λ k. subst (λ l. seats_of k l ≤ 1) (sym (r.renewed (m.y ∷ []))) (once_then a me one table.words words' kept.ports kept.notes kept.beside kept.reckoned P m r.before r.behind once k);
       },
-      ((refl, one.1), goes_then a me one words' kept.ports kept.notes kept.beside kept.since P m own, m.says),
+      ((refl, one.1), goes_then a me one table.words words' kept.ports kept.notes kept.beside kept.reckoned P m own, m.says),
     )

@@ -31,6 +31,7 @@ pub mod Meeting
 pub mod Meetings
 pub mod Meets
 pub mod Contention
+pub mod Pending
 pub mod NewPorts
 pub mod Opens
 pub mod PoolCounters

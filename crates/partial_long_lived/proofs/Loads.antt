@@ -1,5 +1,5 @@
 -- Loads of component words are allowed, and what they tell.
-use Rattle.partial_long_lived.proofs.{Common.{ℕ, ◌≡◌, ◌≢◌, ◌+◌, ◌<◌, ◌≤◌, ◌==◌, ◌⊎◌, ◌&&◌, ◌++◌, not, Bool, true, false, if◌then◌else◌, Option, Some, None, IfSome, List, [], ◌∷◌, length, map, take, slice_index, slice_set, refl, sym, ap, subst, ◌∙◌, inl, inr, arith, append-nil, append_assoc, length-append, ⊤, nat_lt, AllByRecursion, eqb_tells, length-map, take-append-le, take_all, Applied, Opening, Note, stamp_of, value_of, Fits, IsTrueOf, LegalNotes, Noted, place_of, seen_by, AreCollects, LegalNotes-push, first_free, put, Place, Plan, base, component_words, seal, unsealed, carried_after, carried_behind, history_of, opening_behind, public_entry, public_log, Port, Stands, Beside, IsStanding, place_now, LawfulMemory, having_seen, noting, public_of, IsBesideAs, KeepsTime, components_name_records, epochs_are_histories, seen_records_stay, unsealed_is_present, history_took, at_of, put_other, put_same, held_history, history_grows, among, history_longer, About, Began, Found, BeganInTime, IsFinal, IsSeat, SeatedPort, plan_of, seen_in, BeginsWith, IsSeatKnown, Recalls, SeatSees, Wish, found_by, noted_by, place_seen, stamp_seen, MayNoteScan, NotesScan, noted_together, Expects, Finds, Glances, Reads, epochs_continue, stamp_public, value_public, Call, Answer, Contention, ContendsMore, contention_by, every_step_stays_lawful, IsSight}, Begins.{began_by, seen_few}, Control.{load_same, stands_since, led_to, unnoted}, Kept.{Moved, begun_grows, final_grows, none_grown, not_grown}, Lists.{cut, same_before}, Seen.legal_begins, Contention.{by_more, contends_same}}
+use Rattle.partial_long_lived.proofs.{Common.{ℕ, ◌≡◌, ◌≢◌, ◌+◌, ◌<◌, ◌≤◌, ◌==◌, ◌⊎◌, ◌&&◌, ◌++◌, not, Bool, true, false, if◌then◌else◌, Option, Some, None, IfSome, List, [], ◌∷◌, length, map, take, slice_index, slice_set, refl, sym, ap, subst, ◌∙◌, inl, inr, arith, append-nil, append_assoc, length-append, ⊤, nat_lt, AllByRecursion, eqb_tells, length-map, take-append-le, take_all, Applied, Opening, Note, stamp_of, value_of, Fits, IsTrueOf, LegalNotes, Noted, place_of, seen_by, AreCollects, LegalNotes-push, first_free, put, Place, Plan, base, component_words, seal, unsealed, carried_after, carried_behind, history_of, opening_behind, public_entry, public_log, Port, Stands, Beside, IsStanding, place_now, LawfulMemory, having_seen, noting, public_of, IsBesideAs, Reckons, Reckoning, components_name_records, epochs_are_histories, seen_records_stay, unsealed_is_present, history_took, at_of, put_other, put_same, held_history, history_grows, among, history_longer, About, Began, Found, BeganInTime, IsFinal, IsSeat, SeatedPort, plan_of, seen_in, BeginsWith, IsSeatKnown, Recalls, SeatSees, Wish, found_by, noted_by, place_seen, stamp_seen, MayNoteScan, NotesScan, noted_together, Expects, Finds, Glances, Reads, epochs_continue, stamp_public, value_public, Call, Answer, Contention, contention_by, every_step_stays_lawful, IsSight, Search, IsSearching}, Begins.{began_by, seen_few}, Control.{load_same, stands_since, led_to, reckoned_behind, unnoted}, Kept.{GoesOn, Moved, begun_grows, final_grows, none_grown, not_grown}, Lists.{cut, same_before}, Seen.legal_begins, Contention.{by_more, by_search}}
 use Rattle.partial_epochs.specs.EveryStep.{Move as move}
 use Rattle.partial_epochs.proofs.Last.{is_raw, within as arena_within}
 
@@ -34,15 +34,15 @@ two_collects (j ∷ js) some = (omega arith, omega arith, λ none. let bad : fal
 abbrev pub seat_at : About → (ℕ → Port) → (ℕ → List Noted) → ℕ → Began → Option Found → Contention → SeatedPort
 seat_at a ports notes k g f u = record { about = a; number = k; port = ports k; notes = notes k; began = g; found = f; contention = u }
 
-pub seat_is : (a : About) (ports : ℕ → Port) (notes : ℕ → List Noted) (b : Beside) (since : ℕ → ℕ) (x : SeatedPort) → IsSeat a ports notes b since x →
+pub seat_is : {words : List ℕ} → (a : About) (ports : ℕ → Port) (notes : ℕ → List Noted) (b : Beside) (reckoned : Reckoning) (x : SeatedPort) → IsSeat a words ports notes b reckoned x →
     x ≡ seat_at a ports notes x.number x.began x.found x.contention
-seat_is a ports notes b since x s =
+seat_is a ports notes b reckoned x s =
     ap (λ (z : About). record { about = z; number = x.number; port = x.port; notes = x.notes; began = x.began; found = x.found; contention = x.contention }) s.about
     ∙ ap (λ (p : Port). record { about = a; number = x.number; port = p; notes = x.notes; began = x.began; found = x.found; contention = x.contention }) s.port
     ∙ ap (λ (l : List Noted). record { about = a; number = x.number; port = ports x.number; notes = l; began = x.began; found = x.found; contention = x.contention }) s.noted
 
-module _ (a : About) (words : List ℕ) (ports : ℕ → Port) (notes : ℕ → List Noted) (b : Beside) (since : ℕ → ℕ) (w : LawfulMemory (plan_of a) words ports b notes)
-    (time : KeepsTime (plan_of a) words ports (place_now b) since) (k : ℕ) (below : k < a.ports) (g : Began) (f : Option Found) (u : Contention) (stands : (ports k).control.entering ≡ Stands) where
+module _ (a : About) (words : List ℕ) (ports : ℕ → Port) (notes : ℕ → List Noted) (b : Beside) (reckoned : Reckoning) (w : LawfulMemory (plan_of a) words ports b notes)
+    (time : Reckons (plan_of a) words ports (place_now b) reckoned) (k : ℕ) (below : k < a.ports) (g : Began) (f : Option Found) (u : Contention) (stands : (ports k).control.entering ≡ Stands) where
   abbrev e : Plan
   e = plan_of a
 
@@ -129,7 +129,7 @@ module _ (a : About) (words : List ℕ) (ports : ℕ → Port) (notes : ℕ → 
     ]
 
   -- the port once it has seen all of its epoch, and has noted these calls
-  module _ (s : IsSeat a ports notes b since X) (known : IsSeatKnown X) where
+  module _ (s : IsSeat a words ports notes b reckoned X) (known : IsSeatKnown X) where
     abbrev p' : Port
     p' = having_seen (ports k) log
 
@@ -155,7 +155,9 @@ module _ (a : About) (words : List ℕ) (ports : ℕ → Port) (notes : ℕ → 
       pub own : notes' k ≡ notes k ++ added
       pub others : (q : ℕ) → q ≢ k → notes' q ≡ notes q
       pub lawful : LawfulMemory e words (put k p' ports) beside notes'
-      pub in_time : KeepsTime e words (put k p' ports) (place_now beside) since
+      pub reckoned' : Reckoning
+      pub time : GoesOn a words words ports (put k p' ports) b beside reckoned reckoned' k
+      pub met : reckoned'.tally.met k ≡ reckoned.tally.met k
 
     shown_few : seen_by 0 (notes k) ≤ length (history_of (ports k).before) + length log
     shown_few =
@@ -167,30 +169,36 @@ module _ (a : About) (words : List ℕ) (ports : ℕ → Port) (notes : ℕ → 
     sees_nothing : Seen []
     sees_nothing =
         let l = every_step_stays_lawful e words ports b notes k (move.Sees log) w below (stands, (standing, refl)) in
-        let led = led_to a words ports notes b since w time k below (move.Sees log) l words refl p' l.becomes.0 l.beside refl [] l.becomes.2 in
+        let same = ap (λ (l : List (List Applied)). length l) (l.becomes.1).before in
+        let led = led_to a words ports notes b reckoned w time k below (move.Sees log) (stands, (standing, refl)) tt (λ q ne. refl) l (omega (arith, same)) words refl p' l.becomes.0 l.beside refl [] l.becomes.2 in
         record {
           beside = l.beside;
           same = l.becomes.1;
           notes' = notes;
           own = sym (append-nil (notes k));
           others = λ q ne. refl;
-          lawful = unnoted a words ports notes b since w time k below words (put k p' ports) l.beside led.0;
-          in_time = led.1;
+          lawful = unnoted a words ports notes b reckoned w time k below words (put k p' ports) l.beside led.lawful;
+          reckoned' = reckoned_behind b k (move.Sees log) reckoned led.there;
+          time = led.time;
+          met = led.met k;
         }
 
     sees_note : (i : ℕ) → i ≤ length log → seen_by 0 (notes k) ≤ length (history_of (ports k).before) + i → (n : Noted) → IsTrueAt i n → Seen (n ∷ [])
     sees_note i few behind n is =
         let sight : IsSight e k (ports k) log (notes k) n i = record { noted = is.0; within = few; behind = behind; fits = is.1; is_true = is.2 } in
         let l = every_step_stays_lawful e words ports b notes k (move.Notes n i log) w below (stands, (standing, refl, sight)) in
-        let led = led_to a words ports notes b since w time k below (move.Notes n i log) l words refl p' l.becomes.0 l.beside refl (n ∷ []) l.becomes.2 in
+        let same = ap (λ (l : List (List Applied)). length l) (l.becomes.1).before in
+        let led = led_to a words ports notes b reckoned w time k below (move.Notes n i log) (stands, (standing, refl, sight)) tt (λ q ne. refl) l (omega (arith, same)) words refl p' l.becomes.0 l.beside refl (n ∷ []) l.becomes.2 in
         record {
           beside = l.beside;
           same = l.becomes.1;
           notes' = noting k (n ∷ []) notes;
           own = put_same k (notes k ++ n ∷ []) notes;
           others = λ q ne. put_other k (notes k ++ n ∷ []) notes q ne;
-          lawful = led.0;
-          in_time = led.1;
+          lawful = led.lawful;
+          reckoned' = reckoned_behind b k (move.Notes n i log) reckoned led.there;
+          time = led.time;
+          met = led.met k;
         }
 
     legal_then : LegalNotes a.opening (seen_in p') k 0 (notes k)
@@ -202,27 +210,28 @@ module _ (a : About) (words : List ℕ) (ports : ℕ → Port) (notes : ℕ → 
 
     -- what a load of word i leads to, by which the port sees all of its epoch
     moved_to : (i : ℕ) (n : Began) → BeganInTime b n → (added : List Noted) → Seen added → LegalNotes a.opening (seen_in p') k 0 (notes k ++ added) → (found : Option Found) →
-        ((c : Beside) → c.log ≡ b.log → c.before ≡ b.before → IfSome found (IsFinal e c p')) → (contention : Contention) → ContendsMore u contention → (P : SeatedPort → Type 0) →
-        P (record { about = a; number = k; port = p'; notes = notes k ++ added; began = n; found = found; contention = contention }) → Moved a (slice_set words i (slice_index words i)) ports notes b since X P
-    moved_to i n has added to legal found final contention more P says =
+        ((c : Beside) → c.log ≡ b.log → c.before ≡ b.before → IfSome found (IsFinal e c p')) → (contention : Contention) → u.seals ≤ contention.seals → contention.search ≡ u.search → (P : SeatedPort → Type 0) →
+        P (record { about = a; number = k; port = p'; notes = notes k ++ added; began = n; found = found; contention = contention }) → Moved a words (slice_set words i (slice_index words i)) ports notes b reckoned X P
+    moved_to i n has added to legal found final contention more same_search P says =
         let same_log = to.same.log in
         let same_before_is = to.same.before in
         let grown = not_grown p' b to.beside same_log same_before_is in
         let lawful' : LawfulMemory e (slice_set words i (slice_index words i)) (put k p' ports) to.beside to.notes' =
         subst (λ (l : List ℕ). LawfulMemory e l (put k p' ports) to.beside to.notes') (load_same words i) to.lawful in
+        let time' : GoesOn a words (slice_set words i (slice_index words i)) ports (put k p' ports) b to.beside reckoned to.reckoned' k =
+        subst (λ (l : List ℕ). GoesOn a words l ports (put k p' ports) b to.beside reckoned to.reckoned' k) (load_same words i) to.time in
         record {
           y = record { about = a; number = k; port = p'; notes = notes k ++ added; began = n; found = found; contention = contention };
           ports' = put k p' ports;
           notes' = to.notes';
           beside = to.beside;
-          since' = since;
+          reckoned' = to.reckoned';
           lawful = lawful';
-          time = subst (λ (l : List ℕ). KeepsTime e l (put k p' ports) (place_now to.beside) since) (load_same words i)
-              to.in_time;
-          others = λ q ne. (put_other k p' ports q ne, to.others q ne, refl);
+          time = time';
+          others = λ q ne. (put_other k p' ports q ne, to.others q ne);
           number = refl;
           epoch = omega arith;
-          contention = more;
+          seals = more;
           seat = record {
             about = refl;
             number = below;
@@ -233,8 +242,10 @@ module _ (a : About) (words : List ℕ) (ports : ℕ → Port) (notes : ℕ → 
                 ap (λ (t : List Applied). t ∷ b.before) (sym same_log) ∙ ap (λ (t : List (List Applied)). to.beside.log ∷ t) (sym same_before_is) ∙ at in
                 ([], sym (same_before where_is.0 later log l (ports k).before (sym where_is.1 ∙ all)) ∙ sym (append-nil log));
             began = begun_grows b to.beside n (let longer = ap (λ (l : List (List Applied)). length l) same_before_is in omega (arith, longer)) (none_grown b to.beside same_log same_before_is) has;
-            entering = stands_since n (ports k).control.entering (since k) stands;
+            entering = stands_since n (ports k).control.entering ((to.reckoned').since k) stands;
             found = final to.beside same_log same_before_is;
+            search = subst (IsSearching e (slice_set words i (slice_index words i)) (put k p' ports) (place_now to.beside) to.reckoned' k) (sym same_search) (time'.searching k u.search below s.search);
+            met = λ is. to.met ∙ s.met (ap (λ (t : Search). t.met) (sym same_search) ∙ is);
           };
           grown = λ q low ne. not_grown (ports q) b to.beside same_log same_before_is;
           all_grown = none_grown b to.beside same_log same_before_is;
@@ -247,9 +258,9 @@ module _ (a : About) (words : List ℕ) (ports : ℕ → Port) (notes : ℕ → 
 
     -- a load of word i by which the port sees all of its epoch, in a call that began then
     pub moved_glance : (i : ℕ) (n : Began) → BeganInTime b n → (P : SeatedPort → Type 0) → P (record { about = a; number = k; port = p'; notes = notes k ++ []; began = n; found = f; contention = u }) →
-        Moved a (slice_set words i (slice_index words i)) ports notes b since X P
+        Moved a words (slice_set words i (slice_index words i)) ports notes b reckoned X P
     moved_glance i n has P says = moved_to i n has [] sees_nothing (subst (λ (l : List Noted). LegalNotes a.opening (seen_in p') k 0 l) (sym (append-nil (notes k))) legal_then) f
-        (λ c same before. final_grows a p' b c (not_grown p' b c same before) f (final_seen f s.found)) u (contends_same u) P says
+        (λ c same before. final_grows a p' b c (not_grown p' b c same before) f (final_seen f s.found)) u (omega arith) refl P says
 
     -- a load of word i by which the port notes a scan by a double collect
     module _ (js : List ℕ) (m : ℕ) (may : MayNoteScan js m X) where
@@ -287,11 +298,11 @@ module _ (a : About) (words : List ℕ) (ports : ℕ → Port) (notes : ℕ → 
             },
           )
 
-      pub moved_note : (i : ℕ) → Moved a (slice_set words i (slice_index words i)) ports notes b since X (NotesScan js m i X (slice_index words i))
+      pub moved_note : (i : ℕ) → Moved a words (slice_set words i (slice_index words i)) ports notes b reckoned X (NotesScan js m i X (slice_index words i))
       moved_note i =
           let histories = epochs_are_histories e words ports b k w.epochs below stands standing in
           moved_to i g s.began (scan ∷ []) (sees_note m few_seen may.behind scan scan_true) (legal_note m may.behind scan scan_true) f
-          (λ c same before. final_grows a p' b c (not_grown p' b c same before) f (final_seen f s.found)) u (contends_same u) (NotesScan js m i X (slice_index words i))
+          (λ c same before. final_grows a p' b c (not_grown p' b c same before) f (final_seen f s.found)) u (omega arith) refl (NotesScan js m i X (slice_index words i))
           (record { recalls = recalled i; log = log; begins = seen_rest; is = refl; history = histories.0; values = histories.1; stamps = λ j inside. ap (λ (l : List Applied). public_of e (ports k).before j (stamp_of o l j)) taken_seen ∙ stamp_public e w.epochs.plan (ports k).before log above m j inside })
 
     -- what a load of the component's word leads to
@@ -330,10 +341,10 @@ module _ (a : About) (words : List ℕ) (ports : ℕ → Port) (notes : ℕ → 
       found_final (Expects x v) passed c same before = final_grows a p' b c (not_grown p' b c same before) f (final_seen f s.found)
 
       pub moved_by : (added : List Noted) → Seen added → LegalNotes a.opening (seen_in p') k 0 (notes k ++ added) → added ≡ (if first && not (nat_lt n seal) then [] else noted_by wish X log j) →
-          Moved a (slice_set words i n) ports notes b since X (SeatSees first wish j X n)
+          Moved a words (slice_set words i n) ports notes b reckoned X (SeatSees first wish j X n)
       moved_by added to legal is =
-          let d = began_by first X b (seen_few a words ports notes b since X w s) s.began in
-          moved_to i d.0 d.2 added to legal (found_by wish X log j) (found_final wish finds) (contention_by wish n u) (by_more wish n u) (SeatSees first wish j X n) (record {
+          let d = began_by first X b (seen_few a words ports notes b reckoned X w s) s.began in
+          moved_to i d.0 d.2 added to legal (found_by wish X log j) (found_final wish finds) (contention_by wish n u) (by_more wish n u) (by_search wish n u) (SeatSees first wish j X n) (record {
             n = d.0;
             began = d.1;
             log = log;
@@ -357,13 +368,13 @@ module _ (a : About) (words : List ℕ) (ports : ℕ → Port) (notes : ℕ → 
           by true = inl refl
           by false = inr (_, refl)
 
-      pub moved_see : Moved a (slice_set words i n) ports notes b since X (SeatSees first wish j X n)
+      pub moved_see : Moved a words (slice_set words i n) ports notes b reckoned X (SeatSees first wish j X n)
       moved_see = by (first && not (nat_lt n seal)) refl (one_note wish)
         where
-          nothing : [] ≡ (if first && not (nat_lt n seal) then [] else noted_by wish X log j) → Moved a (slice_set words i n) ports notes b since X (SeatSees first wish j X n)
+          nothing : [] ≡ (if first && not (nat_lt n seal) then [] else noted_by wish X log j) → Moved a words (slice_set words i n) ports notes b reckoned X (SeatSees first wish j X n)
           nothing is = moved_by [] sees_nothing (subst (λ (l : List Noted). LegalNotes a.opening (seen_in p') k 0 l) (sym (append-nil (notes k))) legal_then) is
 
-          by : (c : Bool) → (first && not (nat_lt n seal)) ≡ c → ((noted_by wish X log j ≡ []) ⊎ ((m : Noted) × (noted_by wish X log j ≡ m ∷ []))) → Moved a (slice_set words i n) ports notes b since X (SeatSees first wish j X n)
+          by : (c : Bool) → (first && not (nat_lt n seal)) ≡ c → ((noted_by wish X log j ≡ []) ⊎ ((m : Noted) × (noted_by wish X log j ≡ m ∷ []))) → Moved a words (slice_set words i n) ports notes b reckoned X (SeatSees first wish j X n)
           by true skip some = nothing (sym (ap (λ (c : Bool). if c then [] else noted_by wish X log j) skip))
           by false skip (inl none) = nothing (sym (ap (λ (c : Bool). if c then [] else noted_by wish X log j) skip ∙ none))
           by false skip (inr one) =

@@ -1,5 +1,5 @@
 -- The steps of a port's machine are allowed.
-use Rattle.partial_long_lived.proofs.{Common.{ℕ, ◌≡◌, ◌≢◌, ◌+◌, ◌<◌, ◌≤◌, ◌||◌, ◌++◌, Bool, true, false, if◌then◌else◌, Option, Some, None, IfSome, List, [], ◌∷◌, length, map, take, drop, slice_index, slice_set, refl, sym, ap, subst, ◌∙◌, inl, inr, arith, append-nil, append_assoc, length-append, AllByRecursion, length-map, take-append-drop, take-append-le, set-get_or, Applied, Call, Answer, stamp_of, LegalNotes, Noted, seen_by, Step, Load, Store, Exchange, Add, answer_of, word_of, words_after, CoreState, advance, reply_of, answer_for, call_of, is_begun, Part, core_of, begun_with, since_with, put, IsSealed, Place, Plan, arena_words, base, component_words, plain, placed_step, history_of, opening_behind, public_entry, public_log, among, history_longer, known, Control, Entering, Epoch, Port, Stands, Marks, Loaded, IsOld, option_map, present_history, all_back, Beside, IsStanding, LawfulEpochs, numbers, place_now, HaveSlots, MachineLeads, MeetsSeal, ends_over, ExpectedOne, LawfulMemory, EpochReached, noting, public_noted, KeepsTime, machines_are_never_refused, put_other, put_same, About, Began, Found, IsFinal, IsLast, IsSeat, SeatedPort, plan_of, seen_in, BeginsWith, IsSeatKnown, IsApart, SeatMakes, MayMake, unsealed_answer, change_of, over_by, told_of, legal_notes_seen, one_or_none, Contention, every_step_stays_lawful, MayNote, ◌⊎◌}, Begins.{began_by, seen_few}, Control.{stands_since, led_to}, Kept.{Grows, HasGrown, HaveGrown, Moved, begun_grows, final_grows, moved_says}, Lists.same_before, Seen.legal_begins, Loads.{begun_place, seat_at}, Contention.contends_same}
+use Rattle.partial_long_lived.proofs.{Common.{ℕ, ◌≡◌, ◌≢◌, ◌+◌, ◌<◌, ◌≤◌, ◌||◌, ◌++◌, Bool, true, false, if◌then◌else◌, Option, Some, None, IfSome, List, [], ◌∷◌, length, map, take, drop, slice_index, slice_set, refl, sym, ap, subst, ◌∙◌, inl, inr, arith, append-nil, append_assoc, length-append, AllByRecursion, length-map, take-append-drop, take-append-le, set-get_or, Applied, Call, Answer, stamp_of, LegalNotes, Noted, seen_by, Step, Load, Store, Exchange, Add, answer_of, word_of, words_after, CoreState, advance, reply_of, answer_for, call_of, is_begun, Part, core_of, begun_with, since_with, put, IsSealed, Place, Plan, arena_words, base, component_words, plain, placed_step, history_of, opening_behind, public_entry, public_log, among, history_longer, known, Control, Entering, Epoch, Port, Stands, Marks, Loaded, IsOld, option_map, present_history, all_back, Beside, IsStanding, LawfulEpochs, numbers, place_now, HaveSlots, MachineLeads, MeetsSeal, ends_over, ExpectedOne, LawfulMemory, EpochReached, noting, public_noted, Reckons, Reckoning, machines_are_never_refused, put_other, put_same, About, Began, Found, IsFinal, IsLast, IsSeat, SeatedPort, plan_of, seen_in, BeginsWith, IsSeatKnown, IsApart, SeatMakes, MayMake, unsealed_answer, change_of, over_by, told_of, legal_notes_seen, one_or_none, Contention, every_step_stays_lawful, MayNote, ◌⊎◌, MayMove}, Begins.{began_by, seen_few}, Control.{stands_since, led_to, reckoned_behind}, Kept.{GoesOn, Grows, HasGrown, HaveGrown, Moved, begun_grows, final_grows, moved_says}, Lists.same_before, Seen.legal_begins, Loads.{begun_place, seat_at}}
 use Rattle.partial_epochs.specs.EveryStep.{Move as move}
 
 -- a step does the same to plain words as to those of a table
@@ -105,8 +105,8 @@ module _ (e : Plan) (words : List ℕ) (ports : ℕ → Port) (b : Beside) (w : 
   pub all_grown : HaveGrown b lead.beside
   all_grown before later log few is = grown_by (λ j. ⊥) before (λ same j no. absurd no) later log is
 
-module _ (a : About) (words : List ℕ) (ports : ℕ → Port) (notes : ℕ → List Noted) (b : Beside) (since : ℕ → ℕ) (w : LawfulMemory (plan_of a) words ports b notes)
-    (time : KeepsTime (plan_of a) words ports (place_now b) since) (k : ℕ) (below : k < a.ports) (g : Began) (f : Option Found) (u : Contention) (s : IsSeat a ports notes b since (seat_at a ports notes k g f u))
+module _ (a : About) (words : List ℕ) (ports : ℕ → Port) (notes : ℕ → List Noted) (b : Beside) (reckoned : Reckoning) (w : LawfulMemory (plan_of a) words ports b notes)
+    (time : Reckons (plan_of a) words ports (place_now b) reckoned) (k : ℕ) (below : k < a.ports) (g : Began) (f : Option Found) (u : Contention) (s : IsSeat a words ports notes b reckoned (seat_at a ports notes k g f u))
     (of_port : IsSeatKnown (seat_at a ports notes k g f u)) (slots : HaveSlots (plan_of a)) (first : Bool) (c : CoreState) (step : Step) (may : MayMake (seat_at a ports notes k g f u) c step)
     (lead : MachineLeads (plan_of a) words ports b k c step) where
   abbrev e : Plan
@@ -239,18 +239,20 @@ module _ (a : About) (words : List ℕ) (ports : ℕ → Port) (notes : ℕ → 
   may_note_all = inr (refl, shown_then, expected_one lead.tells.new refl)
 
   -- the step that is due leads on
-  pub moved_make : LawfulMemory e words' ports' lead.beside (noting k (map (public_noted e (ports k).before) lead.tells.new) notes) → KeepsTime e words' ports' (place_now lead.beside) since →
-      Moved a (slice_set words i (change_of step n)) ports notes b since X (λ y. SeatMakes first c step X (unsealed_answer e step n) y)
-  moved_make whole in_time =
+  pub moved_make : LawfulMemory e words' ports' lead.beside (noting k (map (public_noted e (ports k).before) lead.tells.new) notes) → (reckoned' : Reckoning) → (reckoned.tally.met k ≡ true → reckoned'.tally.met k ≡ true) → GoesOn a words words' ports ports' b lead.beside reckoned reckoned' k →
+      Moved a words (slice_set words i (change_of step n)) ports notes b reckoned X (λ y. SeatMakes first c step X (unsealed_answer e step n) y)
+  moved_make whole reckoned' met in_time =
       let stands = may.stands in
       let words_is = words_then words e (ports k).control.here.arena step in
       let added : List Noted = map (public_noted e (ports k).before) lead.tells.new in
       let lawful' : LawfulMemory e (slice_set words i (change_of step n)) (put k lead.port ports) lead.beside (noting k added notes) =
       subst (λ (l : List ℕ). LawfulMemory e l (put k lead.port ports) lead.beside (noting k added notes)) words_is whole in
+      let time' : GoesOn a words (slice_set words i (change_of step n)) ports (put k lead.port ports) b lead.beside reckoned reckoned' k =
+      subst (λ (l : List ℕ). GoesOn a words l ports (put k lead.port ports) b lead.beside reckoned reckoned' k) words_is in_time in
       let r = w.noted.reached k below in
       let again = whole.noted.reached k below in
       let there : EpochReached lead.beside lead.port = subst (λ (p : Port). EpochReached lead.beside p) (put_same k lead.port ports) again in
-      let d = began_by first X b (seen_few a words ports notes b since X w s) s.began in
+      let d = began_by first X b (seen_few a words ports notes b reckoned X w s) s.began in
       let longer = ap (λ (l : List (List Applied)). length l) lead.epochs in
       let more : length b.before ≤ length lead.beside.before = omega (arith, longer) in
       let began' = begun_grows b lead.beside d.0 more (all_grown e words ports b w.epochs k c step lead) d.2 in
@@ -268,14 +270,13 @@ module _ (a : About) (words : List ℕ) (ports : ℕ → Port) (notes : ℕ → 
         ports' = put k lead.port ports;
         notes' = noting k added notes;
         beside = lead.beside;
-        since' = since;
+        reckoned' = reckoned';
         lawful = lawful';
-        time = subst (λ (l : List ℕ). KeepsTime e l (put k lead.port ports) (place_now lead.beside) since) words_is
-            in_time;
-        others = λ q ne. (put_other k lead.port ports q ne, put_other k (notes k ++ added) notes q ne, refl);
+        time = time';
+        others = λ q ne. (put_other k lead.port ports q ne, put_other k (notes k ++ added) notes q ne);
         number = refl;
         epoch = (let same = ap (λ (t : Control). t.here.epoch) lead.control in omega (arith, same));
-        contention = contends_same u;
+        seals = omega arith;
         seat = record {
           about = refl;
           number = below;
@@ -287,8 +288,10 @@ module _ (a : About) (words : List ℕ) (ports : ℕ → Port) (notes : ℕ → 
               let kept = (known e words' ports' lead.beside lead.lawful k below lead.port there_then).seen in
               (drop (length lead.port.part.seen) log, sym (take-append-drop (length lead.port.part.seen) log) ∙ ap (λ (l : List Applied). l ++ drop (length lead.port.part.seen) log) (ap (take (length lead.port.part.seen)) (sym one) ∙ sym kept));
           began = began';
-          entering = stands_since d.0 lead.port.control.entering (since k) (ap (λ (t : Control). t.entering) lead.control ∙ stands);
+          entering = stands_since d.0 lead.port.control.entering (reckoned'.since k) (ap (λ (t : Control). t.entering) lead.control ∙ stands);
           found = final_then f s.found;
+          search = time'.searching k u.search below s.search;
+          met = λ is. met (s.met is);
         };
         grown = λ q low ne. port_grown e words ports b w.epochs k c step lead q low (w.noted.reached q low).epoch;
         all_grown = all_grown e words ports b w.epochs k c step lead;
@@ -310,27 +313,43 @@ module _ (a : About) (words : List ℕ) (ports : ℕ → Port) (notes : ℕ → 
       }
 
   -- its call began in an epoch that has come
-  pub moved_come : LawfulMemory e words' ports' lead.beside (noting k (map (public_noted e (ports k).before) lead.tells.new) notes) → KeepsTime e words' ports' (place_now lead.beside) since → Moved a (slice_set words i (change_of step n)) ports notes b since X (λ y. SeatMakes first c step X (unsealed_answer e step n) y × (y.began.epoch ≤ length b.before))
+  pub moved_come : LawfulMemory e words' ports' lead.beside (noting k (map (public_noted e (ports k).before) lead.tells.new) notes) → (reckoned' : Reckoning) → (reckoned.tally.met k ≡ true → reckoned'.tally.met k ≡ true) → GoesOn a words words' ports ports' b lead.beside reckoned reckoned' k → Moved a words (slice_set words i (change_of step n)) ports notes b reckoned X (λ y. SeatMakes first c step X (unsealed_answer e step n) y × (y.began.epoch ≤ length b.before))
   unfolding moved_make
-  moved_come whole in_time = moved_says (moved_make whole in_time) ((moved_make whole in_time).says, (began_by first X b (seen_few a words ports notes b since X w s) s.began).2.come)
+  moved_come whole reckoned' met in_time = moved_says (moved_make whole reckoned' met in_time) ((moved_make whole reckoned' met in_time).says, (began_by first X b (seen_few a words ports notes b reckoned X w s) s.began).2.come)
+
+-- What the machine's step leads to: the machine is told what the law says, and what is counted beside the words goes on.
+pub record Made (a : About) (words : List ℕ) (ports : ℕ → Port) (notes : ℕ → List Noted) (b : Beside) (reckoned : Reckoning) (k : ℕ) (c : CoreState) (step : Step) : Type 0 where
+  pub lead : MachineLeads (plan_of a) words ports b k c step
+  pub lawful : LawfulMemory (plan_of a) (words_after words (placed_step (plan_of a) (ports k).control.here.arena step)) (put k lead.port ports) lead.beside
+      (noting k (map (public_noted (plan_of a) (ports k).before) lead.tells.new) notes)
+  pub reckoned' : Reckoning
+  pub met : reckoned.tally.met k ≡ true → reckoned'.tally.met k ≡ true
+  pub time : GoesOn a words (words_after words (placed_step (plan_of a) (ports k).control.here.arena step)) ports (put k lead.port ports) b lead.beside reckoned reckoned' k
 
 -- What a due step of a port's machine leads to, by the one law of all moves: it meets a seal, or the machine is told what the law says.
-pub made_or_met : (a : About) (words : List ℕ) (ports : ℕ → Port) (notes : ℕ → List Noted) (b : Beside) (since : ℕ → ℕ) (w : LawfulMemory (plan_of a) words ports b notes) →
-    KeepsTime (plan_of a) words ports (place_now b) since → (k : ℕ) → k < a.ports → (g : Began) (f : Option Found) (u : Contention) → IsSeat a ports notes b since (seat_at a ports notes k g f u) →
+pub made_or_met : (a : About) (words : List ℕ) (ports : ℕ → Port) (notes : ℕ → List Noted) (b : Beside) (reckoned : Reckoning) (w : LawfulMemory (plan_of a) words ports b notes) →
+    Reckons (plan_of a) words ports (place_now b) reckoned → (k : ℕ) → k < a.ports → (g : Began) (f : Option Found) (u : Contention) → IsSeat a words ports notes b reckoned (seat_at a ports notes k g f u) →
     IsSeatKnown (seat_at a ports notes k g f u) → HaveSlots (plan_of a) → (c : CoreState) (step : Step) → MayMake (seat_at a ports notes k g f u) c step →
     (MeetsSeal (plan_of a) (component_words (plan_of a) words (ports k).control.here.arena) step × (words_after words (placed_step (plan_of a) (ports k).control.here.arena step) ≡ words))
-    ⊎ ((lead : MachineLeads (plan_of a) words ports b k c step)
-    × LawfulMemory (plan_of a) (words_after words (placed_step (plan_of a) (ports k).control.here.arena step)) (put k lead.port ports) lead.beside
-    (noting k (map (public_noted (plan_of a) (ports k).before) lead.tells.new) notes)
-    × KeepsTime (plan_of a) (words_after words (placed_step (plan_of a) (ports k).control.here.arena step)) (put k lead.port ports) (place_now lead.beside) since)
-made_or_met a words ports notes b since w time k below g f u s known slots c step may =
+    ⊎ Made a words ports notes b reckoned k c step
+made_or_met a words ports notes b reckoned w time k below g f u s known slots c step may =
     let e : Plan = plan_of a in
     let words' : List ℕ = words_after words (placed_step e (ports k).control.here.arena step) in
-    let l = every_step_stays_lawful e words ports b notes k (move.Makes c step true) w below
-    (may.stands, may.machine, may.due, may.claim, λ lead. may_note_all a words ports notes b since w time k below g f u s known slots true c step may lead) in
+    let may_move : MayMove e words ports b notes k (move.Makes c step true) =
+    (may.stands, may.machine, may.due, may.claim, λ lead. may_note_all a words ports notes b reckoned w time k below g f u s known slots true c step may lead) in
+    let l = every_step_stays_lawful e words ports b notes k (move.Makes c step true) w below may_move in
     elim l.becomes [
       | inl met ↦ inl (met.0, met.1)
       | inr made ↦
-          let led = led_to a words ports notes b since w time k below (move.Makes c step true) l words' refl made.0.port made.1 made.0.beside made.2 (map (public_noted e (ports k).before) made.0.tells.new) made.3 in
-          inr (made.0, led.0, led.1)
+          let same = ap (λ (d : Beside). length d.before) made.2 in
+          let epochs = ap (λ (l : List (List Applied)). length l) (made.0).epochs in
+          let led = led_to a words ports notes b reckoned w time k below (move.Makes c step true) may_move tt (λ q ne. refl) l (omega (arith, same, epochs)) words' refl made.0.port made.1 made.0.beside made.2
+          (map (public_noted e (ports k).before) made.0.tells.new) made.3 in
+          inr (record {
+            lead = made.0;
+            lawful = led.lawful;
+            reckoned' = reckoned_behind b k (move.Makes c step true) reckoned led.there;
+            met = λ is. led.met k ∙ is;
+            time = led.time;
+          })
     ]

@@ -1,5 +1,5 @@
 -- The step by which one port of a seat of two sees all of its epoch.
-use Rattle.partial_long_lived.proofs.{Common.{ℕ, ◌≡◌, ◌<◌, ◌≤◌, ◌++◌, List, [], ◌∷◌, length, slice_index, slice_set, refl, sym, ap, subst, ◌∙◌, arith, Option, append-nil, append_assoc, length-append, AllByRecursion, Me, Allows, keeps, Applied, Noted, all_at, all_after, history_of, public_log, Port, Stands, Beside, place_now, LawfulMemory, having_seen, one_history, KeepsTime, history_grows, history_longer, About, Began, Found, BeganInTime, IsRuleKept, IsSeat, SeatedPort, one_of, plan_of, seats_of, seen_in, BeginsWith, IsSeatKnown, IsOne, Observes, observes, Contention, Knows, LegalNotes}, Begins.{now, now_has_begun, seen_few}, Kept.{Moved, goes_then, once_then, seats_then}, Loads.{begun_place, moved_glance, seat_at, seat_is, standing, where_is}, Seen.seen_begins, Views.around, Seen.{knows_of, legal_begins}}
+use Rattle.partial_long_lived.proofs.{Common.{ℕ, ◌≡◌, ◌<◌, ◌≤◌, ◌++◌, List, [], ◌∷◌, length, slice_index, slice_set, refl, sym, ap, subst, ◌∙◌, arith, Option, append-nil, append_assoc, length-append, AllByRecursion, Me, Allows, keeps, Applied, Noted, all_at, all_after, history_of, public_log, Port, Stands, Beside, place_now, LawfulMemory, having_seen, one_history, Reckons, Reckoning, history_grows, history_longer, About, Began, Found, BeganInTime, IsRuleKept, IsSeat, SeatedPort, one_of, plan_of, seats_of, seen_in, BeginsWith, IsSeatKnown, IsOne, Observes, observes, Contention, Knows, LegalNotes}, Begins.{now, now_has_begun, seen_few}, Kept.{Moved, goes_then, once_then, seats_then}, Loads.{begun_place, moved_glance, seat_at, seat_is, standing, where_is}, Seen.seen_begins, Views.around, Seen.{knows_of, legal_begins}}
 
 -- of two beginnings of a history the longer one begins with the other
 begins_within : (h l m : List Applied) → BeginsWith h m → BeginsWith l m → length h ≤ length l → BeginsWith h l
@@ -29,8 +29,8 @@ same_end (c ∷ l) [] x y t u is long =
 same_end (c ∷ l) (d ∷ m) x y t u is long = let rest : l ++ x ∷ t ≡ m ++ y ∷ u = cc in same_end l m x y t u rest long
 
 -- All that a port has seen was there in its epoch.
-module _ (a : About) (words : List ℕ) (ports : ℕ → Port) (notes : ℕ → List Noted) (b : Beside) (since : ℕ → ℕ) (w : LawfulMemory (plan_of a) words ports b notes) (y : SeatedPort)
-    (s : IsSeat a ports notes b since y) where
+module _ (a : About) (words : List ℕ) (ports : ℕ → Port) (notes : ℕ → List Noted) (b : Beside) (reckoned : Reckoning) (w : LawfulMemory (plan_of a) words ports b notes) (y : SeatedPort)
+    (s : IsSeat a words ports notes b reckoned y) where
   abbrev seen_then : Began
   seen_then = record { epoch = length y.port.before; length = length (seen_in y.port) }
 
@@ -71,22 +71,22 @@ module _ (a : About) (words : List ℕ) (ports : ℕ → Port) (notes : ℕ → 
   begins_all = let at = where_seen in seen_begins b y.port s.seen at.0 at.1 at.2
 
 -- what a port has seen of an epoch a port of a later one has seen
-seen_before : (a : About) (words : List ℕ) (ports : ℕ → Port) (notes : ℕ → List Noted) (b : Beside) (since : ℕ → ℕ) (w : LawfulMemory (plan_of a) words ports b notes) (x : SeatedPort)
-    (s : IsSeat a ports notes b since x) (y : SeatedPort) (t : IsSeat a ports notes b since y) → x.port.control.here.epoch < y.port.control.here.epoch →
+seen_before : (a : About) (words : List ℕ) (ports : ℕ → Port) (notes : ℕ → List Noted) (b : Beside) (reckoned : Reckoning) (w : LawfulMemory (plan_of a) words ports b notes) (x : SeatedPort)
+    (s : IsSeat a words ports notes b reckoned x) (y : SeatedPort) (t : IsSeat a words ports notes b reckoned y) → x.port.control.here.epoch < y.port.control.here.epoch →
     length (seen_in x.port) ≤ length (seen_in y.port)
-seen_before a words ports notes b since w x s y t early = by y.port.before refl
+seen_before a words ports notes b reckoned w x s y t early = by y.port.before refl
   where
     by : (before : List (List Applied)) → y.port.before ≡ before → length (seen_in x.port) ≤ length (seen_in y.port)
     by [] is =
         let none = ap (λ (l : List (List Applied)). length l) is in
-        let own = epoch_is a words ports notes b since w y t in
+        let own = epoch_is a words ports notes b reckoned w y t in
         absurd (omega (arith, early, none, own))
     by (h ∷ before) is =
-        let at = where_seen a words ports notes b since w y t in
-        let own = epoch_is a words ports notes b since w y t in
+        let at = where_seen a words ports notes b reckoned w y t in
+        let own = epoch_is a words ports notes b reckoned w y t in
         let long = ap (λ (l : List (List Applied)). length l) is in
         let all : kept_log ≡ (at.0 ++ at.1 ∷ []) ++ h ∷ before = at.2 ∙ ap (λ (l : List (List Applied)). at.0 ++ at.1 ∷ l) is ∙ sym (append_assoc at.0 (at.1 ∷ []) (h ∷ before)) in
-        let short = seen_there a words ports notes b since w x s (at.0 ++ at.1 ∷ []) before h all (omega (arith, early, own, long)) in
+        let short = seen_there a words ports notes b reckoned w x s (at.0 ++ at.1 ∷ []) before h all (omega (arith, early, own, long)) in
         let same = ap (λ (l : List (List Applied)). length (history_of l)) is in
         let more = length-append (history_of y.port.before) (public_log (length y.port.before) y.port.part.seen) in
         omega (arith, short, same, more)
@@ -95,37 +95,37 @@ seen_before a words ports notes b since w x s y t early = by y.port.before refl
         kept_log = b.log ∷ b.before
 
 -- a port that stands sees all of its epoch, beside another one
-observed : (a : About) (words : List ℕ) (ports : ℕ → Port) (notes : ℕ → List Noted) (b : Beside) (since : ℕ → ℕ) (w : LawfulMemory (plan_of a) words ports b notes) →
-    KeepsTime (plan_of a) words ports (place_now b) since → (k : ℕ) → k < a.ports → (g : Began) → (f : Option Found) → (u : Contention) → (ports k).control.entering ≡ Stands →
-    IsSeat a ports notes b since (seat_at a ports notes k g f u) → IsSeatKnown (seat_at a ports notes k g f u) → (y : SeatedPort) → IsSeat a ports notes b since y → IsSeatKnown y → (i : ℕ) →
-    Moved a (slice_set words i (slice_index words i)) ports notes b since (seat_at a ports notes k g f u) (Observes (seat_at a ports notes k g f u) y)
-observed a words ports notes b since w time k below g f u stands s known y t other i =
+observed : (a : About) (words : List ℕ) (ports : ℕ → Port) (notes : ℕ → List Noted) (b : Beside) (reckoned : Reckoning) (w : LawfulMemory (plan_of a) words ports b notes) →
+    Reckons (plan_of a) words ports (place_now b) reckoned → (k : ℕ) → k < a.ports → (g : Began) → (f : Option Found) → (u : Contention) → (ports k).control.entering ≡ Stands →
+    IsSeat a words ports notes b reckoned (seat_at a ports notes k g f u) → IsSeatKnown (seat_at a ports notes k g f u) → (y : SeatedPort) → IsSeat a words ports notes b reckoned y → IsSeatKnown y → (i : ℕ) →
+    Moved a words (slice_set words i (slice_index words i)) ports notes b reckoned (seat_at a ports notes k g f u) (Observes (seat_at a ports notes k g f u) y)
+observed a words ports notes b reckoned w time k below g f u stands s known y t other i =
     let x : SeatedPort = seat_at a ports notes k g f u in
-    let there = standing a words ports notes b since w time k below g f u stands in
+    let there = standing a words ports notes b reckoned w time k below g f u stands in
     let log : List Applied = there.epoch.log in
-    let at = where_is a words ports notes b since w time k below g f u stands in
+    let at = where_is a words ports notes b reckoned w time k below g f u stands in
     let z : SeatedPort = record x { port = having_seen (ports k) log; began = now b; notes = notes k ++ [] } in
     let epoch = (w.noted.reached k below).epoch in
-    let long = come_there a words ports notes b since w y t in
-    let own = epoch_is a words ports notes b since w y t in
-    let few = seen_few a words ports notes b since x w s in
+    let long = come_there a words ports notes b reckoned w y t in
+    let own = epoch_is a words ports notes b reckoned w y t in
+    let few = seen_few a words ports notes b reckoned x w s in
     let all_of_x : BeginsWith (history_of (log ∷ (ports k).before)) (one_history b) = (let grows = history_grows at.0 (log ∷ (ports k).before) in (grows.0, ap history_of at.1 ∙ grows.1)) in
     let knows_beside : (h : List Applied) → BeginsWith h (one_history b) → BeginsWith (seen_in y.port) h → Knows y.about y.number h y.notes = λ h all begins.
     subst (λ (d : About). Knows d y.number h y.notes) (sym t.about) (subst (Knows a y.number h) (sym t.noted)
     (knows_of a words ports b notes w y.number t.number h all (legal_begins a.opening (seen_in y.port) h y.number 0 (notes y.number) begins
     (subst (LegalNotes a.opening (seen_in y.port) y.number 0) t.noted (subst (λ (d : About). LegalNotes d.opening (seen_in y.port) y.number 0 y.notes) t.about other.knows.legal))))) in
-    moved_glance a words ports notes b since w time k below g f u stands s known i (now b) (now_has_begun b) (Observes x y) (record {
+    moved_glance a words ports notes b reckoned w time k below g f u stands s known i (now b) (now_has_begun b) (Observes x y) (record {
       n = now b;
       log = log;
       is = ap (λ (l : List Noted). record x { port = having_seen (ports k) log; began = now b; notes = l }) (append-nil (notes k));
       began = few;
       late = omega (arith, long, own);
-      all = λ late. begins_within (seen_in y.port) (history_of (log ∷ (ports k).before)) (one_history b) (begins_all a words ports notes b since w y t) all_of_x
-          (seen_there a words ports notes b since w y t at.0 (ports k).before log at.1 (omega (arith, late, epoch)));
-      before = λ early. begins_within (seen_in x.port) (seen_in y.port) (one_history b) (begins_all a words ports notes b since w x s) (begins_all a words ports notes b since w y t)
-          (seen_before a words ports notes b since w x s y t early);
+      all = λ late. begins_within (seen_in y.port) (history_of (log ∷ (ports k).before)) (one_history b) (begins_all a words ports notes b reckoned w y t) all_of_x
+          (seen_there a words ports notes b reckoned w y t at.0 (ports k).before log at.1 (omega (arith, late, epoch)));
+      before = λ early. begins_within (seen_in x.port) (seen_in y.port) (one_history b) (begins_all a words ports notes b reckoned w x s) (begins_all a words ports notes b reckoned w y t)
+          (seen_before a words ports notes b reckoned w x s y t early);
       known = λ begins. knows_beside (history_of (log ∷ (ports k).before)) all_of_x begins;
-      known_before = λ begins. knows_of a words ports b notes w k below (seen_in y.port) (begins_all a words ports notes b since w y t)
+      known_before = λ begins. knows_of a words ports b notes w k below (seen_in y.port) (begins_all a words ports notes b reckoned w y t)
           (legal_begins a.opening (seen_in x.port) (seen_in y.port) k 0 (notes k) begins known.knows.legal);
     })
 
@@ -140,17 +140,17 @@ may_observe {S} a slots id me x y i is own known other stands = subst (λ (m : M
 
     here : Allows {S = S} (IsRuleKept {S = S} a) slots id pair i (λ n. n) (observes {S = S} pair)
     here table kept homes at small =
-        let P : SeatedPort → Type 0 = IsSeat a kept.ports kept.notes kept.beside kept.since in
+        let P : SeatedPort → Type 0 = IsSeat a table.words kept.ports kept.notes kept.beside kept.reckoned in
         let one : Me S (List SeatedPort) = (x ∷ [], []) in
         let r = around table.views id (x ∷ y ∷ []) at in
         let seats : AllByRecursion P (r.before ++ x ∷ (y ∷ r.behind)) = subst (AllByRecursion P) r.now kept.seats in
         let once : (k : ℕ) → seats_of k (r.before ++ x ∷ (y ∷ r.behind)) ≤ 1 = λ k. subst (λ l. seats_of k l ≤ 1) r.now (kept.once k) in
         let s : P x = all_at P r.before x (y ∷ r.behind) seats in
         let t : P y = (all_after P r.before x (y ∷ r.behind) seats).0 in
-        let same = seat_is a kept.ports kept.notes kept.beside kept.since x s in
+        let same = seat_is a kept.ports kept.notes kept.beside kept.reckoned x s in
         let stands' = ap (λ (p : Port). p.control.entering) (sym s.port) ∙ stands in
-        let m = subst (λ (z : SeatedPort). Moved a (slice_set table.words i (slice_index table.words i)) kept.ports kept.notes kept.beside kept.since z (Observes z y)) (sym same)
-        (observed a table.words kept.ports kept.notes kept.beside kept.since kept.lawful kept.time x.number s.number x.began x.found x.contention stands' (subst P same s) (subst IsSeatKnown same known) y t other i) in (
+        let m = subst (λ (z : SeatedPort). Moved a table.words (slice_set table.words i (slice_index table.words i)) kept.ports kept.notes kept.beside kept.reckoned z (Observes z y)) (sym same)
+        (observed a table.words kept.ports kept.notes kept.beside kept.reckoned kept.lawful kept.reckons x.number s.number x.began x.found x.contention stands' (subst P same s) (subst IsSeatKnown same known) y t other i) in (
           m.y ∷ y ∷ [],
           keeps,
           tt,
@@ -158,15 +158,15 @@ may_observe {S} a slots id me x y i is own known other stands = subst (λ (m : M
             ports = m.ports';
             notes = m.notes';
             beside = m.beside;
-            since = m.since';
+            reckoned = m.reckoned';
             lawful = m.lawful;
-            time = m.time;
-            seats = subst (AllByRecursion (IsSeat a m.ports' m.notes' m.beside m.since')) (sym (r.renewed (m.y ∷ y ∷ [])))
-                (seats_then a one (refl, refl) (slice_set table.words i (slice_index table.words i)) kept.ports kept.notes kept.beside kept.since (Observes x y) m r.before (y ∷ r.behind) once seats);
+            reckons = (m.time).reckons;
+            seats = subst (AllByRecursion (IsSeat a (slice_set table.words i (slice_index table.words i)) m.ports' m.notes' m.beside m.reckoned')) (sym (r.renewed (m.y ∷ y ∷ [])))
+                (seats_then a one (refl, refl) table.words (slice_set table.words i (slice_index table.words i)) kept.ports kept.notes kept.beside kept.reckoned (Observes x y) m r.before (y ∷ r.behind) once seats);
             once = λ k. subst (λ l. seats_of k l ≤ 1) (sym (r.renewed (m.y ∷ y ∷ [])))
-                (once_then a one (refl, refl) (slice_set table.words i (slice_index table.words i)) kept.ports kept.notes kept.beside kept.since (Observes x y) m r.before (y ∷ r.behind) once k);
+                (once_then a one (refl, refl) table.words (slice_set table.words i (slice_index table.words i)) kept.ports kept.notes kept.beside kept.reckoned (Observes x y) m r.before (y ∷ r.behind) once k);
           },
-          (refl, refl, goes_then a one (refl, refl) (slice_set table.words i (slice_index table.words i)) kept.ports kept.notes kept.beside kept.since (Observes x y) m own, m.says),
+          (refl, refl, goes_then a one (refl, refl) table.words (slice_set table.words i (slice_index table.words i)) kept.ports kept.notes kept.beside kept.reckoned (Observes x y) m own, m.says),
         )
 
 -- the seat of two ports that were seats of one

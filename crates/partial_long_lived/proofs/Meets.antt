@@ -3,15 +3,15 @@ use Rattle.partial_long_lived.proofs.{Common.{ℕ, zero, suc, ◌≡◌, ◌≢�
 
 -- the rule holds with the same seats in other views
 regrouped : {S : Type 0} (about : About) (s : State S (List SeatedPort)) (views : List (List SeatedPort)) (kept : IsRuleKept about s) →
-    AllByRecursion (IsSeat about kept.ports kept.notes kept.beside kept.since) (flatten views) → ((k : ℕ) → seats_of k (flatten views) ≡ seats_of k (flatten s.views)) →
+    AllByRecursion (IsSeat about s.words kept.ports kept.notes kept.beside kept.reckoned) (flatten views) → ((k : ℕ) → seats_of k (flatten views) ≡ seats_of k (flatten s.views)) →
     IsRuleKept about (record { words = s.words; homes = s.homes; views = views })
 regrouped about s views kept seats same = record {
   ports = kept.ports;
   notes = kept.notes;
   beside = kept.beside;
-  since = kept.since;
+  reckoned = kept.reckoned;
   lawful = kept.lawful;
-  time = kept.time;
+  reckons = kept.reckons;
   seats = seats;
   once = λ k. let once = kept.once k in let is = same k in omega (arith, once, is);
 }
@@ -21,9 +21,9 @@ pub deals : {S : Type 0} (about : About) (id : ℕ) (v : List SeatedPort) → Sp
 deals about id [] s kept at =
     let r = around s.views id [] at in
     let same : flatten (slice_set s.views id [] ++ [] ∷ []) ≡ flatten s.views = flatten-snoc (slice_set s.views id []) [] ∙ append-nil (flatten (slice_set s.views id [])) ∙ r.renewed [] ∙ sym r.now in
-    regrouped about s (slice_set s.views id [] ++ [] ∷ []) kept (subst (AllByRecursion (IsSeat about kept.ports kept.notes kept.beside kept.since)) (sym same) kept.seats) (λ k. ap (seats_of k) same)
+    regrouped about s (slice_set s.views id [] ++ [] ∷ []) kept (subst (AllByRecursion (IsSeat about s.words kept.ports kept.notes kept.beside kept.reckoned)) (sym same) kept.seats) (λ k. ap (seats_of k) same)
 deals about id (x ∷ xs) s kept at =
-    let P : SeatedPort → Type 0 = IsSeat about kept.ports kept.notes kept.beside kept.since in
+    let P : SeatedPort → Type 0 = IsSeat about s.words kept.ports kept.notes kept.beside kept.reckoned in
     let r = around s.views id (x ∷ xs) at in
     let then : flatten (slice_set s.views id xs ++ (x ∷ []) ∷ []) ≡ (r.before ++ (xs ++ r.behind)) ++ x ∷ [] = flatten-snoc (slice_set s.views id xs) (x ∷ []) ∙ ap (λ l. l ++ x ∷ []) (r.renewed xs) in
     let all : AllByRecursion P (r.before ++ x ∷ (xs ++ r.behind)) = subst (AllByRecursion P) r.now kept.seats in
@@ -49,7 +49,7 @@ elsewhere (v ∷ views) (suc id) (suc other) u ne = elsewhere views id other u (
 -- a seat may take in the ports of another
 pub gathers : {S : Type 0} (about : About) (id : ℕ) (v : List SeatedPort) (other : ℕ) (w : List SeatedPort) → Joins {S = S} (IsRuleKept about) id v other w (v ++ w) []
 gathers about id v other w s kept at ne there =
-    let P : SeatedPort → Type 0 = IsSeat about kept.ports kept.notes kept.beside kept.since in
+    let P : SeatedPort → Type 0 = IsSeat about s.words kept.ports kept.notes kept.beside kept.reckoned in
     let r = around s.views id v at in
     let q = around (slice_set s.views id (v ++ w)) other w there in
     let o = around s.views other w (sym (elsewhere s.views id other (v ++ w) ne) ∙ there) in

@@ -1,5 +1,6 @@
 -- The rule holds as a memory opens.
-use Rattle.partial_long_lived.proofs.Common.{ℕ, zero, suc, ◌≡◌, ◌+◌, ◌<◌, ◌≤◌, Bool, if◌then◌else◌, List, [], refl, sym, ap, subst, inl, inr, arith, append-nil, AllByRecursion, eqb_tells, opening, OpensAll, first_beside, first_ports, memories_open_lawful, openings_keep_time, About, IsRuleKept, IsSeat, SeatedPort, newcomer, newcomers, plan_of, seats_of, IsSeatKnown}
+use Rattle.partial_long_lived.proofs.{Common.{ℕ, zero, suc, ◌≡◌, ◌+◌, ◌<◌, ◌≤◌, Bool, if◌then◌else◌, List, [], refl, sym, ap, subst, inl, inr, arith, append-nil, AllByRecursion, eqb_tells, opening, OpensAll, first_beside, first_ports, memories_open_lawful, openings_keep_time, About, IsRuleKept, IsSeat, SeatedPort, newcomer, newcomers, plan_of, seats_of, IsSeatKnown, first_tally, true, false}, Pending.{openings_keep_tally}}
+use Rattle.partial_epochs.proofs.InUse.{few_come_free}
 
 -- what is so of the seat of each port is so of all
 newcomers_all : (P : SeatedPort → Type 0) (a : About) (k n : ℕ) → ((i : ℕ) → i < k + n → P (newcomer a i)) → AllByRecursion P (newcomers a k n)
@@ -30,11 +31,11 @@ opens a words w = record {
   ports = first_ports (plan_of a);
   notes = λ k. [];
   beside = first_beside (plan_of a);
-  since = λ k. 0;
+  reckoned = record { since = λ k. 0; tally = first_tally };
   lawful = memories_open_lawful (plan_of a) words w;
-  time = openings_keep_time (plan_of a) words;
-  seats = subst (AllByRecursion (IsSeat a (first_ports (plan_of a)) (λ k. []) (first_beside (plan_of a)) (λ k. 0))) (sym (append-nil (newcomers a 0 a.ports)))
-      (newcomers_all (IsSeat a (first_ports (plan_of a)) (λ k. []) (first_beside (plan_of a)) (λ k. 0)) a 0 a.ports (λ i low. record {
+  reckons = record { time = openings_keep_time (plan_of a) words; tally = openings_keep_tally (plan_of a) words w };
+  seats = subst (AllByRecursion (IsSeat a words (first_ports (plan_of a)) (λ k. []) (first_beside (plan_of a)) (record { since = λ k. 0; tally = first_tally }))) (sym (append-nil (newcomers a 0 a.ports)))
+      (newcomers_all (IsSeat a words (first_ports (plan_of a)) (λ k. []) (first_beside (plan_of a)) (record { since = λ k. 0; tally = first_tally })) a 0 a.ports (λ i low. record {
         about = refl;
         number = omega (arith, low);
         port = refl;
@@ -43,6 +44,14 @@ opens a words w = record {
         began = record { come = omega arith; reached = λ later before log is epoch. omega arith };
         entering = tt;
         found = tt;
+        search = record {
+          come = omega arith;
+          begun = omega arith;
+          within = omega arith;
+          bound = λ is. few_come_free (plan_of a) words (first_ports (plan_of a)) 0 (λ k. 0) first_tally;
+          busy = λ is none x low. absurd (omega (arith, low));
+        };
+        met = λ is. let bad : false ≡ true = is in cc;
       }));
   once = λ k. subst (λ l. seats_of k l ≤ 1) (sym (append-nil (newcomers a 0 a.ports))) (newcomers_once a k 0 a.ports).0;
 }

@@ -1,5 +1,5 @@
 -- The exchange of the current word is allowed.
-use Rattle.partial_long_lived.proofs.{Common.{ℕ, ◌≡◌, ◌<◌, ◌≤◌, ◌==◌, ◌++◌, if◌then◌else◌, List, [], ◌∷◌, length, slice_index, slice_set, refl, sym, ap, subst, ◌∙◌, inl, inr, arith, append-nil, length-append, either, Me, Allows, Applied, LegalNotes, Noted, put, Plan, current_word, packed, OwnedArena, Port, Beside, place_now, KeepsTime, IsWholeArena, having_published, next_beside, next_place, LawfulMemory, put_other, put_same, About, IsRuleKept, IsSeat, SeatedPort, one_of, plan_of, seen_in, IsSeatKnown, IsOne, tells, SeatPublishes, becomes, every_step_stays_lawful, IsSince}, Kept.{Grows, HasGrown, HaveGrown, Moved, allowed, begun_grows, final_grows, seen_grows}, Asides.{IsQuiet, final_same}, Changes.either_cond, Contention.contends_same, Control.{led_to, moved_quietly, unnoted}}
+use Rattle.partial_long_lived.proofs.{Common.{ℕ, ◌≡◌, ◌<◌, ◌≤◌, ◌==◌, ◌++◌, if◌then◌else◌, List, [], ◌∷◌, length, slice_index, slice_set, refl, sym, ap, subst, ◌∙◌, inl, inr, arith, append-nil, length-append, either, Me, Allows, Applied, LegalNotes, Noted, put, Plan, current_word, packed, OwnedArena, Port, Beside, place_now, Reckons, Reckoning, IsWholeArena, having_published, next_beside, next_place, LawfulMemory, put_other, put_same, About, IsRuleKept, IsSeat, SeatedPort, one_of, plan_of, seen_in, IsSeatKnown, IsOne, tells, SeatPublishes, becomes, every_step_stays_lawful, IsSince}, Kept.{GoesOn, Grows, HasGrown, HaveGrown, Moved, allowed, begun_grows, final_grows, seen_grows}, Asides.{IsQuiet, final_same}, Changes.either_cond, Control.{LedTo, led_to, moved_quietly, reckoned_behind, unnoted}}
 use Rattle.partial_epochs.specs.EveryStep.{Move as move}
 
 -- once the next epoch is open, the epochs that had come have the histories that they had
@@ -20,12 +20,13 @@ next_grows P e b y before (l ∷ later) log few is = record {
 published_quiet : (o : OwnedArena) → IsQuiet (λ p. having_published p o)
 published_quiet o = record { part = λ p. refl; before = λ p. refl; here = λ p. refl; passed = λ p. omega arith }
 
-won : (a : About) (words words' : List ℕ) (ports : ℕ → Port) (notes : ℕ → List Noted) (b : Beside) (since : ℕ → ℕ) (x : SeatedPort) → LawfulMemory (plan_of a) words ports b notes →
-    IsSeat a ports notes b since x → IsSeatKnown x → (o : OwnedArena) →
+won : (a : About) (words words' : List ℕ) (ports : ℕ → Port) (notes : ℕ → List Noted) (b : Beside) (reckoned : Reckoning) (x : SeatedPort) → LawfulMemory (plan_of a) words ports b notes →
+    IsSeat a words ports notes b reckoned x → IsSeatKnown x → (o : OwnedArena) →
     LawfulMemory (plan_of a) words' (put x.number (having_published (ports x.number) o) ports) (next_beside (plan_of a) b o.arena) notes →
-    KeepsTime (plan_of a) words' (put x.number (having_published (ports x.number) o) ports) (place_now (next_beside (plan_of a) b o.arena)) since → (P : SeatedPort → Type 0) →
-    P (becomes x x.began (having_published x.port o)) → Moved a words' ports notes b since x P
-won a words words' ports notes b since x w s known o thereafter time P says =
+    (reckoned' : Reckoning) → ((k : ℕ) → reckoned'.since k ≡ reckoned.since k) → (reckoned.tally.met x.number ≡ true → reckoned'.tally.met x.number ≡ true) →
+    GoesOn a words words' ports (put x.number (having_published (ports x.number) o) ports) b (next_beside (plan_of a) b o.arena) reckoned reckoned' x.number → (P : SeatedPort → Type 0) →
+    P (becomes x x.began (having_published x.port o)) → Moved a words words' ports notes b reckoned x P
+won a words words' ports notes b reckoned x w s known o thereafter reckoned' same_since met time P says =
     let e : Plan = plan_of a in
     let k : ℕ = x.number in
     let p : Port = having_published (ports k) o in
@@ -44,13 +45,13 @@ won a words words' ports notes b since x w s known o thereafter time P says =
       ports' = put k p ports;
       notes' = notes;
       beside = c;
-      since' = since;
+      reckoned' = reckoned';
       lawful = thereafter;
       time = time;
-      others = λ i ne. (put_other k p ports i ne, refl, refl);
+      others = λ i ne. (put_other k p ports i ne, refl);
       number = refl;
       epoch = omega arith;
-      contention = contends_same x.contention;
+      seals = omega arith;
       seat = record {
         about = own;
         number = s.number;
@@ -58,8 +59,10 @@ won a words words' ports notes b since x w s known o thereafter time P says =
         noted = s.noted;
         seen = seen_grows q b c grown s.seen;
         began = begun_grows b c x.began (omega arith) all s.began;
-        entering = s.entering;
+        entering = subst (IsSince x.began x.port.control.entering) (sym (same_since k)) s.entering;
         found = final_grows a q b c grown x.found (final_same a b (λ t. having_published t o) x.port (published_quiet o) x.found s.found);
+        search = time.searching k x.contention.search s.number s.search;
+        met = λ is. met (s.met is);
       };
       grown = λ i low ne later log is. next_grows (λ j. j < (ports i).passed) e b o.arena (ports i).before later log (come i low) is;
       all_grown = all;
@@ -83,7 +86,7 @@ module _ {S : Type 0} (a : About) (slots id : ℕ) (me : Me S (List SeatedPort))
   pub may_publish : (o : OwnedArena) → IsWholeArena (plan_of a) x.port o →
       Allows (IsRuleKept a) slots id me current_word (λ n. either (n == packed x.port.control.here) (packed (next_place x.port.control.here o.arena)) n) (tells (SeatPublishes o) me)
   may_publish o whole = allowed a slots id me current_word (λ n. either (n == packed x.port.control.here) (packed (next_place x.port.control.here o.arena)) n) (SeatPublishes o) one own
-      (λ words ports notes b since w time s small.
+      (λ words ports notes b reckoned w time s small.
       let e : Plan = plan_of a in
       let k : ℕ = x.number in
       let n : ℕ = slice_index words current_word in
@@ -93,22 +96,29 @@ module _ {S : Type 0} (a : About) (slots id : ℕ) (me : Me S (List SeatedPort))
       ap (λ (q : Port). if n == packed q.control.here then packed (next_place q.control.here o.arena) else n) (sym s.port)
       ∙ either_cond (n == packed x.port.control.here) (packed (next_place x.port.control.here o.arena)) n in
       let words' : List ℕ = slice_set words current_word v in
-      let l = every_step_stays_lawful e words ports b notes k (move.Publishes o) w s.number (subst (λ (q : Port). IsWholeArena e q o) s.port whole) in
-      let to : (c : Beside) → l.beside ≡ c → LawfulMemory e words' (put k p ports) c notes × KeepsTime e words' (put k p ports) (place_now c) since = λ c is.
-      let led = led_to a words ports notes b since w time k s.number (move.Publishes o) l words' (ap (λ v. slice_set words current_word v) word) p l.becomes.0 c is [] l.becomes.1 in
-      (unnoted a words ports notes b since w time k s.number words' (put k p ports) c led.0, led.1) in
+      let whole' : IsWholeArena e (ports k) o = subst (λ (q : Port). IsWholeArena e q o) s.port whole in
+      let l = every_step_stays_lawful e words ports b notes k (move.Publishes o) w s.number whole' in
+      let to : (c : Beside) → l.beside ≡ c → length b.before ≤ length c.before → LedTo a words ports notes b reckoned k (move.Publishes o) words' p c [] = λ c is later.
+      led_to a words ports notes b reckoned w time k s.number (move.Publishes o) whole' tt (λ q ne. refl) l (let same = ap (λ (d : Beside). length d.before) is in omega (arith, same, later)) words' (ap (λ v. slice_set words current_word v) word)
+      p l.becomes.0 c is [] l.becomes.1 in
       (elim l.becomes.2 [
-        | inl opened ↦ let led = to (next_beside e b o.arena) opened.1 in won a words words' ports notes b since x w s known o led.0 led.1 (SeatPublishes o x n) refl
+        | inl opened ↦
+            let c : Beside = next_beside e b o.arena in
+            let led = to c opened.1 (omega arith) in
+            won a words words' ports notes b reckoned x w s known o (unnoted a words ports notes b reckoned w time k s.number words' (put k p ports) c led.lawful) (reckoned_behind b k (move.Publishes o) reckoned led.there) (λ q. refl)
+            (λ is. led.met k ∙ is) led.time (SeatPublishes o x n) refl
         | inr lost ↦
-            let led = to b lost.1 in
-            moved_quietly a words words' ports notes b since x w s known (λ q. having_published q o) (published_quiet o) x.began s.began (record {
-              since' = since;
-              beside = b;
-              log = refl;
-              before = refl;
-              lawful = led.0;
-              time = led.1;
-              others = λ q ne. refl;
-              entering = subst (λ (q : Port). IsSince x.began q.control.entering (since k)) s.port s.entering;
+            let led = to b lost.1 (omega arith) in
+            moved_quietly a words words' ports notes b reckoned x w s known (λ q. having_published q o) (published_quiet o) x.began s.began (record {
+              to = record {
+                reckoned' = reckoned_behind b k (move.Publishes o) reckoned led.there;
+                beside = b;
+                log = refl;
+                before = refl;
+                lawful = unnoted a words ports notes b reckoned w time k s.number words' (put k p ports) b led.lawful;
+                time = led.time;
+                entering = subst (λ (q : Port). IsSince x.began q.control.entering (reckoned.since k)) s.port s.entering;
+              };
+              met = λ is. led.met k ∙ is;
             }) (SeatPublishes o x n) refl
       ]))

@@ -167,14 +167,14 @@ module _ {S : Type 0} (a : About) (slots id : ℕ) (me : Me S (List SeatedPort))
 
   -- the words that count as set behind the store are those of the next epoch, while the port's epoch is the current one
   abbrev Right : OwnedArena → ℕ → ℕ → Type 0
-  Right o v next = (words : List ℕ) (ports : ℕ → Port) (notes : ℕ → List Noted) (b : Beside) (since : ℕ → ℕ) → LawfulMemory (plan_of a) words ports b notes → IsSeat a ports notes b since x →
+  Right o v next = (words : List ℕ) (ports : ℕ → Port) (notes : ℕ → List Noted) (b : Beside) (reckoned : Reckoning) → LawfulMemory (plan_of a) words ports b notes → IsSeat a words ports notes b reckoned x →
       slice_index words current_word ≡ packed (ports x.number).control.here → (i : ℕ) → o.set ≤ i → i < next → IsToBeSet a.sizes i →
       slice_index (slice_set words (set_word e o.arena o.set) v) (set_word e o.arena i) ≡ next_epoch_word e b i
 
   pub may_set : (o : OwnedArena) (v next : ℕ) → x.port.control.owned ≡ Some o → o.clean ≡ a.ports → o.set < next → next ≤ first_free a.sizes + a.sizes.m → a.sizes.m ≤ x.port.passed →
       Right o v next → (o.set < a.sizes.slots → (v ≡ 0) × (next ≡ o.set + 1)) → IsToBeSet a.sizes o.set →
       Allows (IsRuleKept a) slots id me (set_word e o.arena o.set) (λ n. v) (tells (Sets o next) me)
-  may_set o v next owned clean less most passed right zero to_set = allowed a slots id me (set_word e o.arena o.set) (λ n. v) (Sets o next) one own (λ words ports notes b since w time s small.
+  may_set o v next owned clean less most passed right zero to_set = allowed a slots id me (set_word e o.arena o.set) (λ n. v) (Sets o next) one own (λ words ports notes b reckoned w time s small.
       let k : ℕ = x.number in
       let i : ℕ = set_word e o.arena o.set in
       let owned' : (ports k).control.owned ≡ Some o = ap (λ (p : Port). p.control.owned) (sym s.port) ∙ owned in
@@ -185,14 +185,14 @@ module _ {S : Type 0} (a : About) (slots id : ℕ) (me : Me S (List SeatedPort))
         less,
         most,
         subst (λ (p : Port). a.sizes.m ≤ p.passed) s.port passed,
-        (λ current i from up asked. right words ports notes b since w s current i from up asked),
+        (λ current i from up asked. right words ports notes b reckoned w s current i from up asked),
         (λ l now set. let both = zero (omega (arith, now)) in let only = both.1 in clears words ports notes b w l owned' s.number now (omega (arith, now, set, only)) both.0),
         (let mine = law.own e (control_words e words) (controls ports) (place_now b) (numbers b) w.epochs.control k s.number o owned' clean in
             records_kept e words o.arena o.set v pool to_set (records_before e words ports b w.epochs o.arena mine.arena)),
       ) in
-      moved_quietly a words (slice_set words i v) ports notes b since x w s known (λ p. having_set p o next) (set_quiet o next) x.began s.began
-      (by_move a words ports notes b since w time k s.number x.began (move.Sets o v next) may (λ p c n is. is) (λ q ne. refl) (slice_set words i v) refl (having_set (ports k) o next) refl
-      (subst (λ (p : Port). IsSince x.began p.control.entering (since k)) s.port s.entering)) (Sets o next x (slice_index words i)) refl)
+      moved_quietly a words (slice_set words i v) ports notes b reckoned x w s known (λ p. having_set p o next) (set_quiet o next) x.began s.began
+      (by_move a words ports notes b reckoned w time k s.number x.began (move.Sets o v next) may tt refl (λ p c n is. is) (λ q ne. refl) (slice_set words i v) refl (having_set (ports k) o next) refl
+      (subst (λ (p : Port). IsSince x.began p.control.entering (reckoned.since k)) s.port s.entering)) (Sets o next x (slice_index words i)) refl)
     where
       clears : (words : List ℕ) (ports : ℕ → Port) (notes : ℕ → List Noted) (b : Beside) → LawfulMemory (plan_of a) words ports b notes → (l : ℕ) → (ports x.number).control.owned ≡ Some o →
           x.number < a.ports → l + o.set < a.sizes.slots → l + o.set + 1 ≡ a.sizes.slots → v ≡ 0 → slice_index (slice_set words (set_word e o.arena o.set) v) (base e o.arena + slot_word a.sizes l) ≡ 0
@@ -210,7 +210,7 @@ module _ {S : Type 0} (a : About) (slots id : ℕ) (me : Me S (List SeatedPort))
       ((b : Beside) → length a.opening.values ≡ a.sizes.m → IfSome x.found (IsFinal (plan_of a) b x.port) → x.port.before ≡ b.before → v ≡ next_epoch_word e b o.set) →
       (o.set < a.sizes.slots → (v ≡ 0) × (next ≡ o.set + 1)) → IsToBeSet a.sizes o.set →
       Allows (IsRuleKept a) slots id me (set_word e o.arena o.set) (λ n. v) (tells (Sets o next) me)
-  may_set_word o v next owned clean less most passed between value zero to_set = may_set o v next owned clean less most passed (λ words ports notes b since w s current i from up asked.
+  may_set_word o v next owned clean less most passed between value zero to_set = may_set o v next owned clean less most passed (λ words ports notes b reckoned w s current i from up asked.
       let k : ℕ = x.number in
       (elim (eqb_tells i o.set) [
         | inl same ↦
@@ -275,7 +275,7 @@ module _ {S : Type 0} (a : About) (slots id : ℕ) (me : Me S (List SeatedPort))
       Allows (IsRuleKept a) slots id me (base e o.arena + slot_counter a.sizes) (λ n. n) (tells (FindsClear o) me)
   may_find_clear o owned clean none passed = quietly a slots id me one own known (base e o.arena + slot_counter a.sizes) (λ n. n) (λ n p. having_set p o (a.sizes.slots - n)) (FindsClear o)
       (λ n. set_quiet o (a.sizes.slots - n))
-      (λ words ports notes b since w time below is old come.
+      (λ words ports notes b reckoned w time below is old come.
       let k : ℕ = x.number in
       let i : ℕ = base e o.arena + slot_counter a.sizes in
       let n : ℕ = slice_index words i in
@@ -285,10 +285,10 @@ module _ {S : Type 0} (a : About) (slots id : ℕ) (me : Me S (List SeatedPort))
         | inl less ↦
             let may : MayMove e words ports b notes k (move.FindsClear o next) =
             (owned', clean, omega (arith, none, less), omega (arith, less), subst (λ (p : Port). a.sizes.m ≤ p.passed) is passed) in
-            by_move a words ports notes b since w time k below x.began (move.FindsClear o next) may (λ p c n is. is) (λ q ne. refl) (slice_set words i n) (load_same words i) (having_set (ports k) o next) refl old
+            by_move a words ports notes b reckoned w time k below x.began (move.FindsClear o next) may tt refl (λ p c n is. is) (λ q ne. refl) (slice_set words i n) (load_same words i) (having_set (ports k) o next) refl old
         | inr from ↦
             let same : having_set (ports k) o next ≡ ports k =
             ap (λ (m : ℕ). having_set (ports k) o m) (omega (arith, from, none)) ∙ owning_same (ports k) o owned' in
-            by_rest a words ports notes b since w time k below x.began (slice_set words i n) (load_same words i) (having_set (ports k) o next) (sym same) old
+            by_rest a words ports notes b reckoned w time k below x.began (slice_set words i n) (load_same words i) (having_set (ports k) o next) (sym same) old
       ]))
       (λ words ports b w below is. ap (λ (z : About). becomes x x.began (having_set x.port o (z.sizes.slots - slice_index words (base e o.arena + slot_counter a.sizes)))) (sym own))

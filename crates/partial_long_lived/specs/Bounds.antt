@@ -3,19 +3,20 @@ use Rattle.std.specs.Prelude.{ℕ, ◌+◌, ◌*◌}
 use Rattle.partial_words.specs.Layout.{Layout, list_base}
 use Rattle.partial_embedded.specs.Embedded.{most_view_steps}
 use Rattle.partial_machine.specs.Bounds.{most_of_update}
+use Rattle.partial_epochs.specs.FreeArenas.{most_freed}
 use Rattle.partial_long_lived.specs.declared.rule.About.{About}
 
 -- an arena that is tried: the exchange of its owner word, a look, three steps for each port, and the store that gives it back
 abbrev pub arena_steps : About → ℕ
 arena_steps a = 3 * a.ports + 3
 
--- a pass over the arenas, and the look after it
+-- a pass over the arenas, and the look after it, by which the next one begins
 abbrev pub pass_steps : About → ℕ
 pass_steps a = a.arenas * arena_steps a + 1
 
--- three passes for each port
+-- the look by which a search begins, and one pass more than arenas may come free meanwhile
 abbrev pub claim_steps : About → ℕ
-claim_steps a = 3 * a.ports * pass_steps a
+claim_steps a = 1 + (most_freed a.ports + 1) * pass_steps a
 
 -- the words of the next epoch: the load of the slot counter, the stores before the list words, and of each component the loads of its last
 -- record's value and stamp and their stores

@@ -11,8 +11,7 @@ use Rattle.partial_long_lived.specs.declared.answers.Updated.{Updated}
 use Rattle.partial_long_lived.specs.declared.answers.Updated.TheVariants.{Applied as IsApplied, Lost}
 use Rattle.partial_long_lived.specs.declared.answers.UpdatedIf.{UpdatedIf}
 use Rattle.partial_long_lived.specs.declared.error.Refused.{Refused}
-use Rattle.partial_long_lived.specs.declared.error.Refused.TheVariants.{Component, EpochsSpent, NoArena, Overtaken}
-use Rattle.partial_long_lived.specs.Rule.{ContendsMore, times_in}
+use Rattle.partial_long_lived.specs.declared.error.Refused.TheVariants.{Component, EpochsSpent, Overtaken}
 use Rattle.partial_long_lived.specs.Ports.{Knows, PortView}
 
 -- what every call does to its port: it stands in no earlier epoch, the history that it has observed grows, it has met no less, and it has noted
@@ -21,7 +20,7 @@ pub record Goes (p q : PortView) (new : List Noted) : Type 0 where
   pub memory : q.memory ≡ p.memory
   pub number : q.number ≡ p.number
   pub epoch : p.epoch ≤ q.epoch
-  pub contention : ContendsMore p.contention q.contention
+  pub seals : p.seals ≤ q.seals
   pub seen : p.seen ≡ take (length p.seen) q.seen
   pub notes : q.notes ≡ p.notes ++ new
   pub knows : Knows q.memory.about q.number q.seen q.notes
@@ -107,17 +106,11 @@ pub record Meets (a b c d : PortView) : Type 0 where
   pub second_knows : Knows a.memory.about a.number d.seen a.notes
   pub one : (c.seen ≡ take (length c.seen) d.seen) ⊎ (d.seen ≡ take (length d.seen) c.seen)
 
--- from the one view to the other the port has found each arena but its own owned by another port or stood in, so many times
-abbrev pub FoundBusy : ℕ → PortView → PortView → Type 0
-FoundBusy n p q = (x : ℕ) → x < q.memory.about.arenas → x ≢ q.arena → times_in x p.contention.busy + n ≤ times_in x q.contention.busy
-
 -- Why a call that changes the epoch can't end: its port has entered 16 later epochs and has found its component sealed in 15 of them at
--- least (in its first epoch it may have no room left); it knows all components of its epoch, which isn't the last one, to be sealed, and
--- in three passes for each port each arena but its own was found in use; or its epoch is the last one that a word can name.
+-- least (in its first epoch it may have no room left); or its epoch is the last one that a word can name.
 abbrev pub CantEnd : PortView → Refused → PortView → Type 0
 CantEnd p Component q = ⊥
-CantEnd p Overtaken q = (p.epoch + 16 ≤ q.epoch) × (p.contention.seals + 15 ≤ q.contention.seals)
-CantEnd p NoArena q = (q.epoch + 1 < epoch_limit) × (q.memory.about.sizes.m ≤ q.sealed) × FoundBusy (3 * q.memory.about.ports) p q
+CantEnd p Overtaken q = (p.epoch + 16 ≤ q.epoch) × (p.seals + 15 ≤ q.seals)
 CantEnd p EpochsSpent q = q.epoch + 1 ≡ epoch_limit
 
 -- Why a call is refused, and what is left of its port. For a component that isn't there nothing has changed; otherwise nothing is noted,

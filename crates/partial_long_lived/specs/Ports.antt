@@ -11,7 +11,7 @@ use Rattle.partial_epochs.specs.Epochs.{Beside}
 use Rattle.partial_epochs.specs.Notes.{LawfulMemory, one_history}
 use Rattle.partial_epochs.specs.Ports.{Port}
 use Rattle.partial_long_lived.specs.declared.rule.About.{About}
-use Rattle.partial_long_lived.specs.Rule.{Contention, SeatedPort, plan_of}
+use Rattle.partial_long_lived.specs.Rule.{SeatedPort, plan_of}
 
 -- a memory as a contract sees it: which one it is, and what it was opened with
 pub record MemoryView : Type 0 where
@@ -19,8 +19,8 @@ pub record MemoryView : Type 0 where
   pub about : About
 
 -- A port as a contract sees it: its memory, its number, how many atomic steps its seat has made, how long the one history was when its last call
--- made its first step, the epoch and the arena where it stands and how many components of that epoch it knows to be sealed, what it has met,
--- the beginning of the one history over all epochs that it has seen, and the notes of its calls.
+-- made its first step, the epoch and the arena where it stands and how many components of that epoch it knows to be sealed, how often it has
+-- found a component sealed that it was to update, the beginning of the one history over all epochs that it has seen, and the notes of its calls.
 pub record PortView : Type 0 where
   pub memory : MemoryView
   pub number : ℕ
@@ -29,7 +29,7 @@ pub record PortView : Type 0 where
   pub epoch : ℕ
   pub arena : ℕ
   pub sealed : ℕ
-  pub contention : Contention
+  pub seals : ℕ
   pub seen : List Applied
   pub notes : List Noted
 
@@ -47,7 +47,7 @@ port_view table steps x = record {
   epoch = x.port.control.here.epoch;
   arena = x.port.control.here.arena;
   sealed = x.port.passed;
-  contention = x.contention;
+  seals = x.contention.seals;
   seen = seen_in x.port;
   notes = x.notes;
 }

@@ -1,11 +1,11 @@
 -- The rule of the table: its words and what the ports know are those of a lawful memory over all epochs.
-use Rattle.std.specs.Prelude.{⊤, ℕ, zero, suc, ◌≡◌, ◌+◌, ◌<◌, ◌≤◌, ◌==◌, List, [], ◌∷◌, ◌++◌, length, Option, None, IfSome, if◌then◌else◌}
+use Rattle.std.specs.Prelude.{⊤, ℕ, zero, suc, ◌≡◌, ◌+◌, ◌<◌, ◌≤◌, ◌==◌, Bool, true, false, List, [], ◌∷◌, ◌++◌, length, Option, None, IfSome, if◌then◌else◌}
 use Rattle.std.specs.List.{AllByRecursion}
 use Rattle.partial_table.specs.Table.{State}
 use Rattle.partial_model.specs.declared.history.Applied.{Applied}
 use Rattle.partial_model.specs.History.{value_of}
 use Rattle.partial_model.specs.Notes.{Noted}
-use Rattle.partial_epochs.specs.Layout.{Plan}
+use Rattle.partial_epochs.specs.Layout.{Place, Plan}
 use Rattle.partial_epochs.specs.History.{carried_after, carried_behind, history_of, opening_behind}
 use Rattle.partial_epochs.specs.Ports.{Entering, Port}
 use Rattle.partial_epochs.specs.Ports.Entering.{Stands}
@@ -14,6 +14,7 @@ use Rattle.partial_epochs.specs.Opening.{first_place}
 use Rattle.partial_epochs.specs.Entering.{arrived_port}
 use Rattle.partial_epochs.specs.Notes.{LawfulMemory}
 use Rattle.partial_epochs.specs.Time.{KeepsTime}
+use Rattle.partial_epochs.specs.FreeArenas.{IsInUse, KeepsTally, Tally, may_free, most_freed}
 use Rattle.partial_long_lived.specs.declared.rule.About.{About}
 
 -- the last value and the last public stamp of a component of a port's epoch, which the port has passed in a change of epoch
@@ -27,21 +28,22 @@ pub record Began : Type 0 where
   pub epoch : ℕ
   pub length : ℕ
 
--- What a port has met in its way: how often it has found a component sealed that it was to update, and the arenas that it has found owned by
--- another port or stood in, the last one first.
+-- A port's search for a free arena in a change of epoch: it passes over the arenas again and again (ghost state).
+pub record Search : Type 0 where
+  -- the epoch in which it searches
+  pub epoch : ℕ
+  -- how often an arena may have come free until its pass began, and how often at most while that epoch is the current one
+  pub freed : ℕ
+  pub most : ℕ
+  -- the arenas below this one were in use in the pass
+  pub below : ℕ
+  -- it has met another port in the arena that it owns
+  pub met : Bool
+
+-- What a port has met in its way: how often it has found a component sealed that it was to update, and what its last search found.
 pub record Contention : Type 0 where
   pub seals : ℕ
-  pub busy : List ℕ
-
--- how often that arena is among these
-abbrev pub times_in : ℕ → List ℕ → ℕ
-times_in i [] = 0
-times_in i (x ∷ xs) = (if x == i then 1 else 0) + times_in i xs
-
--- by a step a port has met no less
-pub record ContendsMore (x y : Contention) : Type 0 where
-  pub seals : x.seals ≤ y.seals
-  pub busy : (i : ℕ) → times_in i x.busy ≤ times_in i y.busy
+  pub search : Search
 
 -- what a seat knows of a port: the memory that it belongs to, its number, what it does, its notes over all epochs, when its last
 -- call began, what it has found, and what it has met
@@ -95,27 +97,54 @@ abbrev pub IsSince : Began → Entering → ℕ → Type 0
 IsSince g Stands since = ⊤
 IsSince g _ since = g.epoch ≤ since
 
+-- What is counted beside the words: the number of the epoch that was the current one as each port stored its last entering mark, and how
+-- often ports have come to places and arenas have come free.
+pub record Reckoning : Type 0 where
+  pub since : ℕ → ℕ
+  pub tally : Tally
+
+-- the ports keep time and tally
+pub record Reckons (e : Plan) (words : List ℕ) (ports : ℕ → Port) (now : Place) (r : Reckoning) : Type 0 where
+  pub time : KeepsTime e words ports now r.since
+  pub tally : KeepsTally e words ports r.tally
+
+-- What is so of a search of port k: while its epoch is the current one, arenas come free no more often than it says; and unless one may
+-- have come free in its pass, the arenas that it has passed are in use.
+pub record IsSearching (e : Plan) (words : List ℕ) (ports : ℕ → Port) (now : Place) (r : Reckoning) (k : ℕ) (s : Search) : Type 0 where
+  pub come : s.epoch ≤ now.epoch
+  pub begun : s.freed ≤ r.tally.freed
+  pub within : s.below ≤ e.arenas
+  pub bound : s.epoch ≡ now.epoch → r.tally.freed + may_free e words ports now.epoch r.since r.tally ≤ s.most
+  pub busy : s.epoch ≡ now.epoch → r.tally.freed ≡ s.freed → (x : ℕ) → x < s.below → IsInUse e words k x
+
 -- the seat is of a port of the memory, and knows what the port does and has noted
-pub record IsSeat (a : About) (ports : ℕ → Port) (notes : ℕ → List Noted) (b : Beside) (since : ℕ → ℕ) (x : SeatedPort) : Type 0 where
+pub record IsSeat (a : About) (words : List ℕ) (ports : ℕ → Port) (notes : ℕ → List Noted) (b : Beside) (r : Reckoning) (x : SeatedPort) :
+    Type 0 where
   pub about : x.about ≡ a
   pub number : x.number < a.ports
   pub port : x.port ≡ ports x.number
   pub noted : x.notes ≡ notes x.number
   pub seen : IsSeen b x.port
   pub began : BeganInTime b x.began
-  pub entering : IsSince x.began x.port.control.entering (since x.number)
+  pub entering : IsSince x.began x.port.control.entering (r.since x.number)
   pub found : IfSome x.found (IsFinal (plan_of a) b x.port)
+  pub search : IsSearching (plan_of a) words ports (place_now b) r x.number x.contention.search
+  pub met : x.contention.search.met ≡ true → r.tally.met x.number ≡ true
 
--- The rule: the words are lawful over all epochs, with ports that keep time, of which the seats know, and no two seats are of one port.
+-- The rule: the words are lawful over all epochs, with ports that keep time and tally, of which the seats know, and no two seats are of one port.
 pub record IsRuleKept {S : Type 0} (about : About) (s : State S (List SeatedPort)) : Type 0 where
   pub ports : ℕ → Port
   pub notes : ℕ → List Noted
   pub beside : Beside
-  pub since : ℕ → ℕ
+  pub reckoned : Reckoning
   pub lawful : LawfulMemory (plan_of about) s.words ports beside notes
-  pub time : KeepsTime (plan_of about) s.words ports (place_now beside) since
-  pub seats : AllByRecursion (IsSeat about ports notes beside since) (flatten s.views)
+  pub reckons : Reckons (plan_of about) s.words ports (place_now beside) reckoned
+  pub seats : AllByRecursion (IsSeat about s.words ports notes beside reckoned) (flatten s.views)
   pub once : (k : ℕ) → seats_of k (flatten s.views) ≤ 1
+
+-- a search that a port hasn't begun: in the first epoch arenas come free so often at most
+abbrev pub first_search : ℕ → Search
+first_search ports = record { epoch = 0; freed = 0; most = most_freed ports; below = 0; met = false }
 
 -- the seat of a port that has made no call
 abbrev pub newcomer : About → ℕ → SeatedPort
@@ -126,7 +155,7 @@ newcomer about k = record {
   notes = [];
   began = record { epoch = 0; length = 0 };
   found = None;
-  contention = record { seals = 0; busy = [] };
+  contention = record { seals = 0; search = first_search about.ports };
 }
 
 -- n such seats from that number on

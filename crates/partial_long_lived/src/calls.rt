@@ -30,8 +30,8 @@ impl LongLived {
     ///
     /// # Errors
     /// [`Refused::Component`] exactly when the index isn't below the number of components: no step was made.
-    /// [`Refused::Overtaken`] when the port has entered a later epoch 16 times during the call; [`Refused::NoArena`]
-    /// and [`Refused::EpochsSpent`] when the epoch has to be changed and can't be. Nothing was applied or noted.
+    /// [`Refused::Overtaken`] when the port has entered a later epoch 16 times during the call;
+    /// [`Refused::EpochsSpent`] when the epoch has to be changed and is the last one. Nothing was applied or noted.
     pub fn update(&self, me: &mut Port, component: u32, value: u64) -> Result<Updated, Refused>
         requires { IsOf self.now me.old }
         ensures same { IsOf self.now me.new }
@@ -60,8 +60,8 @@ impl LongLived {
     ///
     /// # Errors
     /// [`Refused::Component`] exactly when the index isn't below the number of components: no step was made.
-    /// [`Refused::Overtaken`] when the port has entered a later epoch 16 times during the call; [`Refused::NoArena`]
-    /// and [`Refused::EpochsSpent`] when the epoch has to be changed and can't be. Nothing was applied or noted.
+    /// [`Refused::Overtaken`] when the port has entered a later epoch 16 times during the call;
+    /// [`Refused::EpochsSpent`] when the epoch has to be changed and is the last one. Nothing was applied or noted.
     pub fn update_if(
         &self,
         me: &mut Port,
@@ -121,8 +121,8 @@ impl LongLived {
     ///
     /// # Errors
     /// [`Refused::Component`] exactly when an index isn't below the number of components: no step was made.
-    /// [`Refused::NoArena`] and [`Refused::EpochsSpent`] when the epoch has to be changed and can't be: nothing is
-    /// noted. `into` is unchanged.
+    /// [`Refused::EpochsSpent`] when the epoch has to be changed and is the last one: nothing is noted. `into` is
+    /// unchanged.
     pub fn scan(&self, me: &mut Port, which: &[u32], into: &mut [u64]) -> Result<Scanned, Refused>
         requires own { IsOf self.now me.old }
         requires lengths { (length into.old ≡ length which.now) × (length which.now ≤ self.now.about.sizes.m) }

@@ -8,7 +8,7 @@ ghost use Rattle.partial_long_lived.specs.Inner.Calls.{IsIdle, StaysAt, LookFoun
 ghost use Rattle.partial_long_lived.specs.Inner.Changing.{EpochChanged, IsCause, IsPast, HasSamePart, NotChanged, Owns, Stays, HasSetWords};
 
 use crate::change_plays::Publish;
-use crate::claim::{Claimed, claim, give};
+use crate::claim::{claim, give};
 use crate::enter::{ARENAS, enter, look, look_first};
 use crate::error::Refused;
 use crate::fill::fill;
@@ -23,7 +23,6 @@ const EPOCHS: u64 = 2_199_023_255_552;
 /// begins is the first step of its call.
 ///
 /// # Errors
-/// [`Refused::NoArena`] when three passes over the arenas for each port have found no free one;
 /// [`Refused::EpochsSpent`] when the port's epoch is the last one. The port stands where it stood, and owns no arena.
 pub fn change(words: &Words, stand: &mut Stand, first: bool) -> Result<(), Refused>
     requires held { IsHeld words.now.table_id words.now.key stand.old }
@@ -31,7 +30,7 @@ pub fn change(words: &Words, stand: &mut Stand, first: bool) -> Result<(), Refus
     ensures held { IsHeld words.now.table_id words.now.key stand.new }
     ensures changed { IfOk result (λ _. EpochChanged first stand.old stand.new) }
     ensures refused { IfErr result (λ _. NotChanged first stand.old stand.new) }
-    ensures cause { IfErr result (IsCause stand.old stand.new) }
+    ensures cause { IfErr result (IsCause stand.new) }
     ensures steps { stand.new.seat.steps ≤ stand.old.seat.steps + most_of_change words.now.key }
 {
     if !look_as(words, stand, first) {
@@ -68,7 +67,7 @@ fn open_next(words: &Words, stand: &mut Stand) -> Result<(), Refused>
     ensures free { IsIdle stand.new }
     ensures past { IfOk result (λ _. IsPast stand.new) }
     ensures same { IfErr result (λ _. HasSamePart stand.old stand.new) }
-    ensures cause { IfErr result (IsCause stand.old stand.new) }
+    ensures cause { IfErr result (IsCause stand.new) }
     ensures steps { stand.new.seat.steps ≤ stand.old.seat.steps + (seal_steps words.now.key + claim_steps words.now.key + fill_steps words.now.key + 2) }
 {
     if stand.epoch + 1 == EPOCHS {
@@ -78,15 +77,14 @@ fn open_next(words: &Words, stand: &mut Stand) -> Result<(), Refused>
         return Ok(());
     }
     match claim(words, stand) {
-        Claimed::Clean(arena) => {
+        Some(arena) => {
             let first = stand.shape.base(arena);
             fill(words, stand, arena, first);
             publish(words, stand, arena);
             give(words, stand, arena);
             Ok(())
         }
-        Claimed::Taken => Err(Refused::NoArena),
-        Claimed::Ended => Ok(()),
+        None => Ok(()),
     }
 }
 

@@ -23,6 +23,26 @@ impl Play<(), View> for Seal {
     ghost then = { λ _. tells Seals };
 }
 
+/// The look by which a port begins a search for a free arena.
+pub struct BeginSearch;
+
+impl Play<(), View> for BeginSearch {
+    ghost use Rattle.partial_long_lived.specs.Inner.Steps.{tells};
+    ghost use Rattle.partial_long_lived.specs.Inner.Moves.{BeginsSearch};
+
+    ghost then = { λ _. tells BeginsSearch };
+}
+
+/// The look by which it begins another pass over the arenas.
+pub struct BeginPass;
+
+impl Play<(), View> for BeginPass {
+    ghost use Rattle.partial_long_lived.specs.Inner.Steps.{tells};
+    ghost use Rattle.partial_long_lived.specs.Inner.Moves.{BeginsPass};
+
+    ghost then = { λ _. tells BeginsPass };
+}
+
 /// The exchange of the owner word of an arena.
 pub struct Take;
 
@@ -38,9 +58,9 @@ pub struct Give;
 
 impl Play<(), View> for Give {
     ghost use Rattle.partial_long_lived.specs.Inner.Steps.{tells};
-    ghost use Rattle.partial_long_lived.specs.Inner.Moves.{SeatGives};
+    ghost use Rattle.partial_long_lived.specs.Inner.Changing.{GivesBack};
 
-    ghost then = { λ _. tells SeatGives };
+    ghost then = { λ _. tells GivesBack };
 }
 
 /// The load of the word of the next port, with which the owner of an arena isn't done yet.

@@ -2,7 +2,7 @@
 
 ghost use Rattle.std.specs.Prelude.{◌≡◌, ◌+◌, ◌*◌, ◌%◌, ◌<◌, ◌≤◌};
 ghost use Rattle.partial_long_lived.specs.Inner.Held.{IsHeld};
-ghost use Rattle.partial_long_lived.specs.Inner.Changing.{FoundBusyAt, HasCleared, HasLoadedPort, HasTaken, IsBusy, MayPutPort, Remains, HasSetWords};
+ghost use Rattle.partial_long_lived.specs.Inner.Changing.{HasCleared, HasLoadedPort, HasTaken, MayPutPort, MeetsBy, MeetsPort, Remains, HasSetWords, Searches};
 
 use crate::change_plays::{LoadPort, Put};
 use crate::claim::Claimed;
@@ -14,10 +14,11 @@ use crate::stand::Stand;
 pub fn clear(words: &Words, stand: &mut Stand, arena: u32) -> Claimed
     requires held { IsHeld words.now.table_id words.now.key stand.old }
     requires taken { HasTaken stand.old arena }
+    requires searches { Searches false arena stand.old }
     ensures held { IsHeld words.now.table_id words.now.key stand.new }
     ensures remains { Remains stand.old stand.new }
     ensures cleared { HasCleared arena words.now.key.ports result stand.new }
-    ensures busy { FoundBusyAt result arena stand.old stand.new }
+    ensures meets { MeetsBy result arena stand.old stand.new }
     ensures steps { stand.new.seat.steps ≤ stand.old.seat.steps + (1 + 3 * words.now.key.ports) }
 {
     if !look(words, stand) {
@@ -37,11 +38,12 @@ pub fn clear(words: &Words, stand: &mut Stand, arena: u32) -> Claimed
 fn clear_port(words: &Words, stand: &mut Stand, arena: u32, port: u32) -> Claimed
     requires held { IsHeld words.now.table_id words.now.key stand.old }
     requires works { HasSetWords stand.old arena port 0 }
+    requires searches { Searches false arena stand.old }
     requires inside { port < words.now.key.ports }
     ensures held { IsHeld words.now.table_id words.now.key stand.new }
     ensures remains { Remains stand.old stand.new }
     ensures cleared { HasCleared arena (port + 1) result stand.new }
-    ensures busy { FoundBusyAt result arena stand.old stand.new }
+    ensures meets { MeetsBy result arena stand.old stand.new }
     ensures steps { stand.new.seat.steps ≤ stand.old.seat.steps + 3 }
 {
     let found = load_port(words, stand, arena, port);
@@ -63,11 +65,12 @@ fn clear_port(words: &Words, stand: &mut Stand, arena: u32, port: u32) -> Claime
 fn load_port(words: &Words, stand: &mut Stand, arena: u32, port: u32) -> u64
     requires held { IsHeld words.now.table_id words.now.key stand.old }
     requires works { HasSetWords stand.old arena port 0 }
+    requires searches { Searches false arena stand.old }
     requires inside { port < words.now.key.ports }
     ensures held { IsHeld words.now.table_id words.now.key stand.new }
     ensures remains { Remains stand.old stand.new }
     ensures loaded { HasLoadedPort stand.new arena port result }
-    ensures busy { result < 9223372036854775808 → result % 65536 ≡ arena → IsBusy arena stand.old stand.new }
+    ensures meets { MeetsPort arena result stand.old stand.new }
     ensures steps { stand.new.seat.steps ≤ stand.old.seat.steps + 1 }
 {
     words.load::<LoadPort>(&mut stand.seat, 1 + port as usize)
@@ -77,12 +80,13 @@ fn load_port(words: &Words, stand: &mut Stand, arena: u32, port: u32) -> u64
 fn put_port(words: &Words, stand: &mut Stand, arena: u32, port: u32, mark: u64) -> Claimed
     requires held { IsHeld words.now.table_id words.now.key stand.old }
     requires may { MayPutPort stand.old arena port mark }
+    requires searches { Searches false arena stand.old }
     requires marked { 9223372036854775808 ≤ mark }
     requires inside { port < words.now.key.ports }
     ensures held { IsHeld words.now.table_id words.now.key stand.new }
     ensures remains { Remains stand.old stand.new }
     ensures cleared { HasCleared arena (port + 1) result stand.new }
-    ensures busy { FoundBusyAt result arena stand.old stand.new }
+    ensures meets { MeetsBy result arena stand.old stand.new }
     ensures steps { stand.new.seat.steps ≤ stand.old.seat.steps + 1 }
 {
     let here = stand.packed();

@@ -15,8 +15,6 @@ pub enum Ended {
     NoComponent,
     /// It was refused as [`Refused::Overtaken`].
     TooLate,
-    /// It was refused as [`Refused::NoArena`].
-    NoArena,
     /// It was refused as [`Refused::EpochsSpent`].
     EpochsSpent,
 }
@@ -35,7 +33,6 @@ impl Ended {
             Ok(Exchanged::Overtaken { by }) => Ended::Overtaken { by },
             Err(Refused::Component) => Ended::NoComponent,
             Err(Refused::Overtaken) => Ended::TooLate,
-            Err(Refused::NoArena) => Ended::NoArena,
             Err(Refused::EpochsSpent) => Ended::EpochsSpent,
         }
     }
@@ -50,7 +47,6 @@ impl Ended {
             Ended::Overtaken { by } => Ok(Exchanged::Overtaken { by }),
             Ended::NoComponent => Err(Refused::Component),
             Ended::TooLate => Err(Refused::Overtaken),
-            Ended::NoArena => Err(Refused::NoArena),
             Ended::EpochsSpent => Err(Refused::EpochsSpent),
         }
     }

@@ -13,9 +13,6 @@ pub enum Refused {
     /// The update has entered a later epoch as often as it may, and took effect in none.
     #[error("overtaken by changes of epoch")]
     Overtaken,
-    /// Each arena is in use: three passes over them for each port have found no free one.
-    #[error("no arena is free")]
-    NoArena,
     /// The current epoch is the last one that a word can name.
     #[error("epochs used up")]
     EpochsSpent,
@@ -24,14 +21,13 @@ pub enum Refused {
 impl Refused {
     ghost use Rattle.partial_long_lived.specs.Refusals.{refusal_code};
 
-    /// The number of the refusal: 7 for `Component`, 25 for `Overtaken`, 26 for `NoArena`, 27 for `EpochsSpent`.
+    /// The number of the refusal: 7 for `Component`, 25 for `Overtaken`, 27 for `EpochsSpent`.
     pub fn code(&self) -> u8
         ensures { result ≡ refusal_code self.now }
     {
         match self {
             Refused::Component => 7,
             Refused::Overtaken => 25,
-            Refused::NoArena => 26,
             Refused::EpochsSpent => 27,
         }
     }

@@ -25,8 +25,8 @@ pub const MOST_CHANGES: u32 = 16;
 /// and afterwards. Returns how the update ended, with stamps of the epoch where the port stands.
 ///
 /// # Errors
-/// [`Refused::Overtaken`] when the port has entered a later epoch 16 times; [`Refused::NoArena`] and
-/// [`Refused::EpochsSpent`] when the epoch has to be changed and can't be. Nothing was applied.
+/// [`Refused::Overtaken`] when the port has entered a later epoch 16 times; [`Refused::EpochsSpent`]
+/// when the epoch has to be changed and is the last one. Nothing was applied.
 #[inline(always)]
 pub fn update(
     words: &Words,
@@ -176,7 +176,7 @@ pub fn renew(words: &Words, stand: &mut Stand, core: &mut Core, first: bool) -> 
     ensures came { CameBy first stand.old stand.new }
     ensures later { IfOk result (λ _. epoch_at stand.old < epoch_at stand.new) }
     ensures fresh { IfOk result (λ _. (port_at stand.new).began.epoch ≤ stand.new.epoch) }
-    ensures cause { IfErr result (IsCause stand.old stand.new) }
+    ensures cause { IfErr result (IsCause stand.new) }
     ensures steps { stand.new.seat.steps ≤ stand.old.seat.steps + most_of_change words.now.key }
 {
     change(words, stand, first)?;

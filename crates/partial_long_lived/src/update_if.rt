@@ -47,8 +47,8 @@ pub enum Compared {
 /// spent port ends it in its epoch.
 ///
 /// # Errors
-/// [`Refused::Overtaken`] when the port has entered a later epoch 16 times; [`Refused::NoArena`] and
-/// [`Refused::EpochsSpent`] when the epoch has to be changed and can't be. Nothing was applied.
+/// [`Refused::Overtaken`] when the port has entered a later epoch 16 times; [`Refused::EpochsSpent`]
+/// when the epoch has to be changed and is the last one. Nothing was applied.
 pub fn update_if(
     words: &Words,
     stand: &mut Stand,

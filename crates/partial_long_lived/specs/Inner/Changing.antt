@@ -1,5 +1,5 @@
 -- What the parts of a change of epoch leave of a port.
-use Rattle.std.specs.Prelude.{⊤, ℕ, ◌≡◌, ◌≢◌, ◌+◌, ◌-◌, ◌*◌, ◌%◌, ◌<◌, ◌≤◌, ◌⊎◌, nat_lt, if◌then◌else◌, Bool, true, false, IfSome, List, [], Option, None, Some}
+use Rattle.std.specs.Prelude.{⊤, ℕ, ◌≡◌, ◌≢◌, ◌+◌, ◌-◌, ◌%◌, ◌<◌, ◌≤◌, ◌==◌, ◌⊎◌, ◌&&◌, nat_lt, if◌then◌else◌, Bool, true, false, IfSome, List, [], Option, None, Some}
 use Rattle.partial_model.specs.declared.history.Applied.{Applied}
 use Rattle.partial_words.specs.Layout.{Layout, first_free, initial_record, list_base}
 use Rattle.partial_words.specs.Chain.{opening_word}
@@ -9,14 +9,15 @@ use Rattle.partial_epochs.specs.Ports.{OwnedArena}
 use Rattle.partial_epochs.specs.Ports.Entering.{Stands}
 use Rattle.partial_epochs.specs.Entering.{arrived_port}
 use Rattle.partial_epochs.specs.Owning.{just_taken}
+use Rattle.partial_epochs.specs.FreeArenas.{most_freed}
 use Rattle.partial_long_lived.specs.declared.claim.Claimed.{Claimed}
 use Rattle.partial_long_lived.specs.declared.claim.Claimed.TheVariants.{Clean, Taken, Ended}
 use Rattle.partial_long_lived.specs.declared.error.Refused.{Refused}
-use Rattle.partial_long_lived.specs.declared.error.Refused.TheVariants.{EpochsSpent, NoArena}
+use Rattle.partial_long_lived.specs.declared.error.Refused.TheVariants.{EpochsSpent}
 use Rattle.partial_long_lived.specs.declared.stand.Stand.{Stand}
-use Rattle.partial_long_lived.specs.Rule.{Began, Found, Contention, SeatedPort, plan_of, times_in}
+use Rattle.partial_long_lived.specs.Rule.{Began, Found, Contention, Search, SeatedPort, plan_of}
 use Rattle.partial_long_lived.specs.Inner.Steps.{SeatGoes}
-use Rattle.partial_long_lived.specs.Inner.Moves.{BeganBy, PutsPort, Sets, Takes}
+use Rattle.partial_long_lived.specs.Inner.Moves.{BeganBy, HasPassedArenas, PutsPort, SeatGives, Sets, Takes}
 use Rattle.partial_long_lived.specs.Inner.Calls.{IsIdle}
 use Rattle.partial_long_lived.specs.Inner.Loads.{stamp_seen, value_seen}
 use Rattle.partial_long_lived.specs.Inner.Held.{port_at}
@@ -28,6 +29,10 @@ OfOwned R x a y = IfSome x.port.control.owned (λ o. R o x a y)
 -- the exchange of the owner word w
 abbrev pub TakesBy : ℕ → SeatedPort → ℕ → SeatedPort → Type 0
 TakesBy w x a y = Takes (w - (1 + x.about.ports)) x a y
+
+-- the store that gives the owned arena back
+abbrev pub GivesBack : SeatedPort → ℕ → SeatedPort → Type 0
+GivesBack x a y = OfOwned SeatGives x a y
 
 -- the exchange of the mark w of a port
 abbrev pub PutsBy : ℕ → SeatedPort → ℕ → SeatedPort → Type 0
@@ -136,11 +141,16 @@ pub record HasLoadedPort (s : Stand) (x q a : ℕ) : Type 0 where
 abbrev pub IsPast : Stand → Type 0
 IsPast s = (port_at s).port.control.past ≡ true
 
--- what has come of arenas: the port owns one of which it is done with all ports, or none
-abbrev pub HasClaimed : Claimed → Stand → Type 0
-HasClaimed (Clean x) s = (x < (port_at s).about.arenas) × HasSetWords s x (port_at s).about.ports 0
-HasClaimed Taken s = IsIdle s
-HasClaimed Ended s = IsIdle s × IsPast s
+-- what has come of an arena, or of several: the port owns one of which it is done with all ports, or none
+abbrev pub HasTried : Claimed → Stand → Type 0
+HasTried (Clean x) s = (x < (port_at s).about.arenas) × HasSetWords s x (port_at s).about.ports 0
+HasTried Taken s = IsIdle s
+HasTried Ended s = IsIdle s × IsPast s
+
+-- what has come of a search
+abbrev pub HasClaimed : Option ℕ → Stand → Type 0
+HasClaimed (Some x) s = HasTried (Clean x) s
+HasClaimed None s = HasTried Ended s
 
 -- what has come of the ports below n, of arena x
 abbrev pub HasCleared : ℕ → ℕ → Claimed → Stand → Type 0
@@ -148,24 +158,57 @@ HasCleared x n (Clean y) s = (y ≡ x) × HasSetWords s x n 0
 HasCleared x n Taken s = Owns s x
 HasCleared x n Ended s = Owns s x × IsPast s
 
--- from the one stand to the other the port has found arena x owned by another one or stood in
-abbrev pub IsBusy : ℕ → Stand → Stand → Type 0
-IsBusy x s t = times_in x (port_at s).contention.busy + 1 ≤ times_in x (port_at t).contention.busy
+-- what the port's last search has found
+abbrev pub search_at : Stand → Search
+search_at s = (port_at s).contention.search
 
--- so it is of an arena that was found taken
-abbrev pub FoundBusyAt : Claimed → ℕ → Stand → Stand → Type 0
-FoundBusyAt Taken x s t = IsBusy x s t
-FoundBusyAt _ x s t = ⊤
+-- The port searches for a free arena in the epoch where it stands, whose end it hasn't seen: it has passed the arenas below n, and it has met
+-- another port in the arena that it owns, or it hasn't.
+pub record Searches (met : Bool) (n : ℕ) (s : Stand) : Type 0 where
+  pub epoch : (search_at s).epoch ≡ (port_at s).port.control.here.epoch
+  pub past : (port_at s).port.control.past ≡ false
+  pub met_is : (search_at s).met ≡ met
+  pub passed : HasPassedArenas n (port_at s)
 
--- from the one stand to the other the port has met another one in each arena but its own, so many times
-abbrev pub FoundAllBusy : ℕ → Stand → Stand → Type 0
-FoundAllBusy n s t = (x : ℕ) → x < (port_at t).about.arenas → x ≢ (port_at t).port.control.here.arena →
-    times_in x (port_at s).contention.busy + n ≤ times_in x (port_at t).contention.busy
+-- the search is in the same pass
+pub record InSamePass (s t : Stand) : Type 0 where
+  pub freed : (search_at t).freed ≡ (search_at s).freed
+  pub most : (search_at t).most ≡ (search_at s).most
 
--- so it is where all arenas were found taken
-abbrev pub FoundBusyBy : Claimed → ℕ → Stand → Stand → Type 0
-FoundBusyBy Taken n s t = FoundAllBusy n s t
-FoundBusyBy _ n s t = ⊤
+-- from the one stand to the other the search goes on in its pass, up to there
+pub record SearchesOn (met : Bool) (n : ℕ) (s t : Stand) : Type 0 where
+  pub searches : Searches met n t
+  pub same : InSamePass s t
+
+-- an arena that was found taken has been passed
+abbrev pub PassesBy : Claimed → ℕ → Stand → Stand → Type 0
+PassesBy Taken n s t = SearchesOn false n s t
+PassesBy _ n s t = ⊤
+
+-- a port is met in arena x where that is found taken
+abbrev pub MeetsBy : Claimed → ℕ → Stand → Stand → Type 0
+MeetsBy (Clean y) x s t = SearchesOn false x s t
+MeetsBy Taken x s t = SearchesOn true x s t
+MeetsBy Ended x s t = ⊤
+
+-- whether the word a of a port shows that it stands in arena x
+abbrev pub shows_met : ℕ → ℕ → Bool
+shows_met x a = nat_lt a entering_mark && (a % arena_limit == x)
+
+-- the load of that word goes on with the search
+abbrev pub MeetsPort : ℕ → ℕ → Stand → Stand → Type 0
+MeetsPort x a s t = SearchesOn (shows_met x a) x s t
+
+-- A look has found the port's own place the current one, and a search has begun there; or its epoch has ended.
+abbrev pub SearchBegun : Bool → Stand → Type 0
+SearchBegun true t = Searches false 0 t × ((search_at t).most ≡ (search_at t).freed + most_freed (port_at t).about.ports)
+SearchBegun false t = IsPast t
+
+-- So it is of another pass, before which an arena has come free.
+abbrev pub PassBegun : Bool → Stand → Stand → Type 0
+PassBegun true s t = Searches false 0 t × ((search_at t).most ≡ (search_at s).most) × ((search_at s).freed < (search_at t).freed)
+    × ((search_at t).freed ≤ (search_at t).most)
+PassBegun false s t = IsPast t
 
 -- v is what each opening has in the word that is set as number i, whatever its values are
 pub record IsFixedWord (z : Layout) (v i : ℕ) : Type 0 where
@@ -227,12 +270,10 @@ pub record EpochChanged (first : Bool) (s t : Stand) : Type 0 where
   pub later : (port_at s).port.control.here.epoch < t.epoch
   pub fresh : n.epoch ≤ t.epoch
 
--- Why a change of epoch is refused: the port's epoch is the last one that a word can name, or it isn't, and each of its components is sealed,
--- but in three passes for each port each arena but the port's own was found owned or stood in.
-abbrev pub IsCause : Stand → Stand → Refused → Type 0
-IsCause s t EpochsSpent = t.epoch + 1 ≡ epoch_limit
-IsCause s t NoArena = (t.epoch + 1 < epoch_limit) × ((port_at t).about.sizes.m ≤ (port_at t).port.passed) × FoundAllBusy (3 * (port_at t).about.ports) s t
-IsCause s t _ = ⊥
+-- why a change of epoch is refused: the port's epoch is the last one that a word can name
+abbrev pub IsCause : Stand → Refused → Type 0
+IsCause t EpochsSpent = t.epoch + 1 ≡ epoch_limit
+IsCause t _ = ⊥
 
 -- The change is refused: the port stands where it stood, with the part that it had, and owns no arena.
 pub record NotChanged (first : Bool) (s t : Stand) : Type 0 where

@@ -1,5 +1,5 @@
 -- What the steps of a change of epoch, and of entering one, do to a port, by what they find.
-use Rattle.std.specs.Prelude.{ℕ, ◌≡◌, ◌+◌, ◌-◌, ◌<◌, ◌≤◌, ◌==◌, nat_lt, Bool, true, false, List, ◌∷◌, length, None, if◌then◌else◌}
+use Rattle.std.specs.Prelude.{ℕ, ◌≡◌, ◌+◌, ◌-◌, ◌<◌, ◌≤◌, ◌==◌, ◌⊎◌, nat_lt, Bool, true, false, List, ◌∷◌, length, None, if◌then◌else◌}
 use Rattle.std.specs.Option.{option_map_or}
 use Rattle.partial_model.specs.declared.history.Applied.{Applied}
 use Rattle.partial_epochs.specs.Layout.{Place, IsPlace, entering_mark, marked, packed, seal, unpacked}
@@ -9,12 +9,17 @@ use Rattle.partial_epochs.specs.Entering.{arrived_port, having_passed}
 use Rattle.partial_epochs.specs.Sealing.{passing_port}
 use Rattle.partial_epochs.specs.Owning.{at_next_port, having_given, having_loaded, having_looked, just_taken, owning_port}
 use Rattle.partial_epochs.specs.Publishing.{having_published, having_set}
+use Rattle.partial_epochs.specs.FreeArenas.{most_freed}
 use Rattle.partial_long_lived.specs.Rule.{Began, Contention, SeatedPort, plan_of}
 use Rattle.partial_long_lived.specs.Ports.{seen_in}
 
--- a port that has found the arena owned by another one, or stood in
-abbrev pub finding_busy : ℕ → Contention → Contention
-finding_busy x m = record m { busy = x ∷ m.busy }
+-- a port that has passed the arenas up to that one in its search
+abbrev pub passing : ℕ → Contention → Contention
+passing x m = record m { search = record m.search { below = x + 1; met = false } }
+
+-- a port that has met another one in the arena that it owns
+abbrev pub meeting : Contention → Contention
+meeting m = record m { search = record m.search { met = true } }
 
 -- a port that has found sealed the component that it was to update
 abbrev pub finding_seal : SeatedPort → SeatedPort
@@ -41,6 +46,29 @@ looked_at a p = if a == packed p.control.here then having_found p else having_pa
 abbrev pub SeatLooks : Bool → SeatedPort → ℕ → SeatedPort → Type 0
 SeatLooks first x a y = (n : Began) × BeganBy first x n × (y ≡ becomes x n (looked_at a x.port))
     × (a ≡ packed x.port.control.here → n.epoch ≤ x.port.control.here.epoch)
+
+-- the arenas below n have been passed in the search of the seat's port, but for the one where it stands
+abbrev pub HasPassedArenas : ℕ → SeatedPort → Type 0
+HasPassedArenas n x = (i : ℕ) → i < n → (i < x.contention.search.below) ⊎ (i ≡ x.port.control.here.arena)
+
+-- A look by which a port begins a search for a free arena, in the epoch where it stands.
+pub record BeginsSearch (x : SeatedPort) (a : ℕ) (y : SeatedPort) : Type 0 where
+  pub freed : ℕ
+  pub is : y ≡ record (becomes x x.began (looked_at a x.port)) { contention = record x.contention {
+    search = record { epoch = x.port.control.here.epoch; freed = freed; most = freed + most_freed x.about.ports; below = 0; met = false };
+  } }
+  -- where that epoch is the current one, the port hadn't seen its end before
+  pub current : a ≡ packed x.port.control.here → x.port.control.past ≡ false
+
+-- A look by which it begins another pass. Where its epoch is the current one, and it has passed all arenas, one has come free since the
+-- pass before began, and no more have than may.
+pub record BeginsPass (x : SeatedPort) (a : ℕ) (y : SeatedPort) : Type 0 where
+  pub freed : ℕ
+  pub is : y ≡ record (becomes x x.began (looked_at a x.port)) { contention = record x.contention {
+    search = record x.contention.search { freed = freed; below = 0 };
+  } }
+  pub more : a ≡ packed x.port.control.here → x.contention.search.epoch ≡ x.port.control.here.epoch → HasPassedArenas x.about.arenas x →
+      (x.contention.search.freed < freed) × (freed ≤ x.contention.search.most)
 
 -- a port that has stored its mark, with which entering begins
 abbrev pub marks : Port → Port
@@ -85,17 +113,21 @@ Seals x a y = y ≡ becomes x x.began (passing_port x.port)
 abbrev pub taken_at : ℕ → ℕ → Port → Port
 taken_at i a p = if a == 0 then owning_port p (just_taken i) else p
 
--- what it has met then: another owner, unless the arena was free
+-- what it has found then: another owner, unless the arena was free
 abbrev pub contention_taking : ℕ → ℕ → Contention → Contention
-contention_taking i a m = if a == 0 then m else finding_busy i m
+contention_taking i a m = if a == 0 then m else passing i m
 
 -- that exchange
 abbrev pub Takes : ℕ → SeatedPort → ℕ → SeatedPort → Type 0
 Takes i x a y = y ≡ record (becomes x x.began (taken_at i a x.port)) { contention = contention_taking i a x.contention }
 
--- the store that gives the arena back
-abbrev pub SeatGives : SeatedPort → ℕ → SeatedPort → Type 0
-SeatGives x a y = y ≡ becomes x x.began (having_given x.port)
+-- what a port has found that gives its arena back: it has passed that one, unless it has seen that its epoch has ended
+abbrev pub contention_giving : Bool → OwnedArena → Contention → Contention
+contention_giving past o m = if past then m else passing o.arena m
+
+-- the store that gives the arena back, by the owner o
+abbrev pub SeatGives : OwnedArena → SeatedPort → ℕ → SeatedPort → Type 0
+SeatGives o x a y = y ≡ record (becomes x x.began (having_given x.port)) { contention = contention_giving x.port.control.past o x.contention }
 
 -- what an owner does with the word of the next port, which is the unmarked word a: it is done with that port if the port is in another arena
 abbrev pub elsewhere : ℕ → OwnedArena → OwnedArena
@@ -107,7 +139,7 @@ port_loaded a o = if nat_lt a entering_mark then elsewhere a o else having_loade
 
 -- what an owner has met by the unmarked word a of a port: that the port stands in the arena, unless it names another one
 abbrev pub contention_there : ℕ → OwnedArena → Contention → Contention
-contention_there a o m = if (unpacked a).arena == o.arena then finding_busy o.arena m else m
+contention_there a o m = if (unpacked a).arena == o.arena then meeting m else m
 
 -- the same where the word may be marked
 abbrev pub contention_loading : ℕ → OwnedArena → Contention → Contention
@@ -123,7 +155,7 @@ port_put m a o = if a == marked m then at_next_port o else (if nat_lt a entering
 
 -- what it has met then: a port that may come to the arena, unless it was put or is in another one
 abbrev pub contention_putting : Place → ℕ → OwnedArena → Contention → Contention
-contention_putting m a o w = if a == marked m then w else (if nat_lt a entering_mark then contention_there a o w else finding_busy o.arena w)
+contention_putting m a o w = if a == marked m then w else (if nat_lt a entering_mark then contention_there a o w else meeting w)
 
 -- that exchange, by the owner o
 abbrev pub PutsPort : OwnedArena → Place → SeatedPort → ℕ → SeatedPort → Type 0

@@ -26,4 +26,4 @@ pub record NotScanned (s t : Stand) (cause : Refused) : Type 0 where
   pub shape : t.shape ≡ s.shape
   pub goes : SeatGoes (port_at s) (port_at t)
   pub notes : (port_at t).notes ≡ (port_at s).notes
-  pub why : IsCause s t cause
+  pub why : IsCause t cause

@@ -7,7 +7,7 @@ use Rattle.partial_words.specs.Layout.{Layout, first_free}
 use Rattle.partial_epochs.specs.Layout.{IsPlace}
 use Rattle.partial_epochs.specs.History.{stamp_limit}
 use Rattle.partial_epochs.specs.Epochs.{IsEpochPlan}
-use Rattle.partial_long_lived.specs.Rule.{ContendsMore, SeatedPort, one_of, plan_of}
+use Rattle.partial_long_lived.specs.Rule.{SeatedPort, one_of, plan_of}
 use Rattle.partial_long_lived.specs.Ports.{Knows, seen_in}
 
 -- each public stamp fits a word
@@ -38,7 +38,7 @@ pub record SeatGoes (x y : SeatedPort) : Type 0 where
   pub about : y.about ≡ x.about
   pub number : y.number ≡ x.number
   pub epoch : x.port.control.here.epoch ≤ y.port.control.here.epoch
-  pub contention : ContendsMore x.contention y.contention
+  pub seals : x.contention.seals ≤ y.contention.seals
   pub seen : BeginsWith (seen_in x.port) (seen_in y.port)
   pub known : IsSeatKnown y
 

@@ -53,7 +53,6 @@ ended_as (Ended.Applied stamp) = Ok (Applied stamp)
 ended_as (Ended.Overtaken by) = Ok (Overtaken by)
 ended_as Ended.NoComponent = Err Refused.Component
 ended_as Ended.TooLate = Err Refused.Overtaken
-ended_as Ended.NoArena = Err Refused.NoArena
 ended_as Ended.EpochsSpent = Err Refused.EpochsSpent
 
 -- what a port notes of an update in that epoch that ended so, with an entry at that place
@@ -141,7 +140,7 @@ pub record MayCall (x : SeatedPort) (core : CoreState) : Type 0 where
 -- changed.
 abbrev pub IsLate : ℕ → ℕ → Stand → Refused → Stand → Type 0
 IsLate times seals s IsOvertaken t = (epoch_at s + times ≤ epoch_at t) × ((port_at s).contention.seals + seals ≤ (port_at t).contention.seals)
-IsLate times seals s cause t = IsCause s t cause
+IsLate times seals s cause t = IsCause t cause
 
 -- the port has met a seal once more
 abbrev pub FoundSealed : Stand → Stand → Type 0
