@@ -6,7 +6,7 @@ use Rattle.partial_epochs.specs.Layout.{Plan, Place, arena_limit, at_word, enter
 use Rattle.partial_epochs.specs.Ports.{Control, Entering, OwnedArena, Port}
 use Rattle.partial_epochs.specs.Ports.Entering.{Stands}
 use Rattle.partial_epochs.specs.Epochs.{Beside, LawfulEpochs, place_now}
-use Rattle.partial_epochs.specs.Opening.{OpensAll, first_place, first_ports}
+use Rattle.partial_epochs.specs.Opening.{OpensAll, first_ports}
 use Rattle.partial_epochs.specs.Notes.{LawfulMemory}
 use Rattle.partial_epochs.specs.Time.{KeepsTime}
 use Rattle.partial_epochs.specs.EveryStep.{MayMove, Move, MoveLeads, moved_words, since_behind}
