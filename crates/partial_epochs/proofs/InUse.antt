@@ -2,7 +2,7 @@
 use Rattle.partial_epochs.proofs.{Common.{ℕ, ◌≡◌, ◌≢◌, ◌+◌, ◌*◌, ◌%◌, ◌<◌, ◌≤◌, ◌==◌, ◌⊎◌, Bool, true, false, if◌then◌else◌, nat_lt, Option, Some, None, List, slice_index, refl, sym, ap, subst, ◌∙◌, inl, inr, arith, cases_lt, eqb_tells, some_same, put, Plan, arena_limit, at_word, control_words, entering_mark, packed, unpacked, Entering, OwnedArena, Port, Stands, Marks, Loaded, IsPlaceWord}, Entering.cw_at, Lists.{put_all, put_other, put_same}, Sums.{pigeonhole, sum_few}}
 use Rattle.partial_epochs.specs.FreeArenas.{FewComeFree, IsInUse, KeepsTally, OwnPlacesAreInUse, OwnedArenasAreInUse, SomeArenaIsFree, Tally, credit, gives_at, gives_left, weight}
 
--- what a port may still give back is at most two arenas, and what it may of an arena that it owns at most one
+-- a port that comes from another epoch gives back at most two arenas first
 gives_few : (at : Entering) (past : Bool) (o : Option OwnedArena) → gives_at at past o ≤ 2
 gives_few Stands true None = omega arith
 gives_few Stands true (Some o) = omega arith
@@ -15,6 +15,7 @@ gives_few Stands false (Some o) = by o.looked
 gives_few Marks past o = omega arith
 gives_few (Loaded c) past o = omega arith
 
+-- a port that stands in the current epoch gives back at most the arena that it owns
 credit_few : (t : Tally) (k : ℕ) (o : Option OwnedArena) → credit t k o ≤ 1
 credit_few t k None = omega arith
 credit_few t k (Some o) = by (nat_lt (t.taken k) t.arrivals)
@@ -23,7 +24,7 @@ credit_few t k (Some o) = by (nat_lt (t.taken k) t.arrivals)
     by true = omega arith
     by false = omega arith
 
--- the weight of a port is at most so much
+-- by one port arenas come free at most so often
 weight_few : (e : Plan) (words : List ℕ) (ports : ℕ → Port) (now : ℕ) (since : ℕ → ℕ) (t : Tally) (k : ℕ) → weight e words ports now since t k ≤ 2 * e.ports + 3
 weight_few e words ports now since t k = by (nat_lt (slice_index words (at_word k)) entering_mark) ((unpacked (slice_index words (at_word k))).epoch == now) (nat_lt (since k) now)
   where
@@ -34,18 +35,24 @@ weight_few e words ports now since t k = by (nat_lt (slice_index words (at_word 
     by false here true = omega arith
     by false here false = omega arith
 
+-- the law of few: the sum of these over all ports
 pub few_come_free : FewComeFree
 few_come_free e words ports now since t = sum_few (weight e words ports now since t) (2 * e.ports + 3) e.ports (λ i low. weight_few e words ports now since t i)
 
+-- the owner that the word names isn't the port k, which owns none
 pub owned_arenas_are_in_use : OwnedArenasAreInUse
 owned_arenas_are_in_use e words ports t k x keeps free low taken =
     let s = keeps.owners x low taken in
-    inr (taken, λ own.
-        let even : s.owner + 1 ≡ k + 1 = sym s.word ∙ own in
-        let same : s.owner ≡ k = omega (arith, even) in
-        let bad : None ≡ Some s.owned = sym free ∙ sym (ap (λ i. (ports i).control.owned) same) ∙ s.is in
-        absurd cc)
+    inr (
+      taken,
+      λ own.
+          let even : s.owner + 1 ≡ k + 1 = sym s.word ∙ own in
+          let same : s.owner ≡ k = omega (arith, even) in
+          let bad : None ≡ Some s.owned = sym free ∙ sym (ap (λ i. (ports i).control.owned) same) ∙ s.is in
+          absurd cc,
+    )
 
+-- the word of a port that stands names its arena
 pub own_places_are_in_use : OwnPlacesAreInUse
 own_places_are_in_use e words ports b k w low stands = inl (record { port = k; inside = low; names = ap (λ n. n % arena_limit) word ∙ rest })
   where
@@ -69,7 +76,7 @@ module _ (e : Plan) (words : List ℕ) (ports : ℕ → Port) (k : ℕ) where
   Reason x j = ((j < e.ports) × (slice_index words (at_word j) % arena_limit ≡ x))
       ⊎ ((q : ℕ) × (q < e.ports) × (j ≡ e.ports + q) × IsOtherOwner ports k x q)
 
-  -- it is a reason of one arena alone, and never that of k as an owner
+  -- a number is the reason of one arena alone
   one_arena : (x y j : ℕ) → Reason x j → Reason y j → x ≡ y
   one_arena x y j (inl (low, names)) (inl (below, same)) = sym names ∙ same
   one_arena x y j (inl (low, names)) (inr (q, below, is, h)) = absurd (omega (arith, low, is))
@@ -79,20 +86,24 @@ module _ (e : Plan) (words : List ℕ) (ports : ℕ → Port) (k : ℕ) where
       let even : h.owned ≡ g.owned = some_same (sym h.is ∙ ap (λ i. (ports i).control.owned) same ∙ g.is) in
       sym h.arena ∙ ap (λ (o : OwnedArena). o.arena) even ∙ g.arena
 
+  -- it is never that of k as an owner
   not_own : (x j : ℕ) → Reason x j → j ≢ e.ports + k
   not_own x j (inl (low, names)) same = absurd (omega (arith, low, same))
   not_own x j (inr (q, below, is, h)) same = absurd (h.other (omega (arith, is, same)))
 
+  -- there are two such numbers for each port
   few_reasons : (x j : ℕ) → Reason x j → j < 2 * e.ports
   few_reasons x j (inl (low, names)) = omega (arith, low)
   few_reasons x j (inr (q, below, is, h)) = omega (arith, is, below)
 
+  -- each arena that is in use has one
   reason_of : (t : Tally) (x : ℕ) → KeepsTally e words ports t → x < e.arenas → IsInUse e words k x → (j : ℕ) × Reason x j
   reason_of t x keeps low (inl named) = (named.port, inl (named.inside, named.names))
   reason_of t x keeps low (inr (taken, other)) =
       let s = keeps.owners x low taken in
       (e.ports + s.owner, inr (s.owner, s.inside, refl, record { other = λ same. other (s.word ∙ ap (λ n. n + 1) same); owned = s.owned; is = s.is; arena = s.arena }))
 
+-- the reasons of 2 n arenas, and k as an owner, would be 2 n + 1 numbers below 2 n
 pub some_arena_is_free : SomeArenaIsFree
 some_arena_is_free e words ports t k keeps low many all = pigeonhole (2 * e.ports) f f_low f_one
   where

@@ -95,7 +95,7 @@ abbrev pub weight : Plan → List ℕ → (ℕ → Port) → ℕ → (ℕ → �
 weight e words ports now since t k =
     if nat_lt (slice_index words (at_word k)) entering_mark
     then (if (unpacked (slice_index words (at_word k))).epoch == now then credit t k (ports k).control.owned
-        else (e.ports + 1) + gives_left (ports k).control)
+    else (e.ports + 1) + gives_left (ports k).control)
     else (if nat_lt (since k) now then 2 * e.ports + 3 else e.ports + 1)
 
 -- the sum of a function's values below n

@@ -295,12 +295,12 @@ pub fn every_step_stays_lawful()
     ensures { EveryStepStaysLawful }
 {}
 
-/// While one epoch is the current one, arenas come free at most as often as `most_freed` says of the number of ports.
+/// The bound on how often arenas come free in one current epoch is at most n * (2 * n + 3) for n ports.
 pub fn few_come_free()
     ensures { FewComeFree }
 {}
 
-/// A port that owns no arena finds an arena in use whose owner word is not 0.
+/// For a port that owns no arena, each arena whose owner word is not 0 is in use.
 pub fn owned_arenas_are_in_use()
     ensures { OwnedArenasAreInUse }
 {}
@@ -310,8 +310,7 @@ pub fn own_places_are_in_use()
     ensures { OwnPlacesAreInUse }
 {}
 
-/// With at least two arenas for each port, some arena is neither named by a port's word nor owned by another port, for
-/// a port that owns none.
+/// With two arenas for each port, some arena is neither named by a port's word nor owned by another port.
 pub fn some_arena_is_free()
     ensures { SomeArenaIsFree }
 {}
