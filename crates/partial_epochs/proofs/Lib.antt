@@ -34,4 +34,6 @@ pub mod SeenRecords
 pub mod Collects
 pub mod Time
 pub mod EveryStep
+pub mod Sums
+pub mod InUse
 pub mod Refused

@@ -11,6 +11,7 @@ ghost use Rattle.partial_epochs.specs.Opening.{OpensOverLawful, EpochsOpenLawful
 ghost use Rattle.partial_epochs.specs.Notes.{EpochsFitOneHistory, NotesStayLawful, SightsStayLawful, GlancesStayLawful, AsidesStayLawful, ArrivalsKeepNotes, PublishesKeepNotes, PublicStampsAreUnique};
 ghost use Rattle.partial_epochs.specs.Time.{OpeningsKeepTime, MarksKeepTime, EntriesKeepTime, ArrivalsKeepTime, LooksKeepTime, LoadedMarksKeepTime, PutsKeepTime, PublishesKeepTime, AsidesKeepTime, StepsKeepPlaces};
 ghost use Rattle.partial_epochs.specs.EveryStep.{EveryStepStaysLawful, MemoriesOpenLawful};
+ghost use Rattle.partial_epochs.specs.FreeArenas.{FewComeFree, OwnedArenasAreInUse, OwnPlacesAreInUse, SomeArenaIsFree};
 ghost use Rattle.partial_epochs.specs.Reads.{ReadsTellAllEpochs, LastWordsAreFinal, ComponentsNameRecords, SeenRecordsStay};
 ghost use Rattle.partial_epochs.specs.Collects.{CollectsStandTogether, EpochsAreHistories};
 
@@ -292,4 +293,24 @@ pub fn memories_open_lawful()
 /// again, all other ports and their notes are as they were, and a memory that kept time keeps it.
 pub fn every_step_stays_lawful()
     ensures { EveryStepStaysLawful }
+{}
+
+/// The bound on how often arenas come free in one current epoch is at most n * (2 * n + 3) for n ports.
+pub fn few_come_free()
+    ensures { FewComeFree }
+{}
+
+/// For a port that owns no arena, each arena whose owner word is not 0 is in use.
+pub fn owned_arenas_are_in_use()
+    ensures { OwnedArenasAreInUse }
+{}
+
+/// The arena where a port stands is in use.
+pub fn own_places_are_in_use()
+    ensures { OwnPlacesAreInUse }
+{}
+
+/// With two arenas for each port, some arena is neither named by a port's word nor owned by another port.
+pub fn some_arena_is_free()
+    ensures { SomeArenaIsFree }
 {}
