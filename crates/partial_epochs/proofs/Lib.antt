@@ -35,3 +35,4 @@ pub mod Collects
 pub mod Time
 pub mod EveryStep
 pub mod Refused
+pub mod FreeArenas

@@ -11,6 +11,7 @@ ghost use Rattle.partial_epochs.specs.Opening.{OpensOverLawful, EpochsOpenLawful
 ghost use Rattle.partial_epochs.specs.Notes.{EpochsFitOneHistory, NotesStayLawful, SightsStayLawful, GlancesStayLawful, AsidesStayLawful, ArrivalsKeepNotes, PublishesKeepNotes, PublicStampsAreUnique};
 ghost use Rattle.partial_epochs.specs.Time.{OpeningsKeepTime, MarksKeepTime, EntriesKeepTime, ArrivalsKeepTime, LooksKeepTime, LoadedMarksKeepTime, PutsKeepTime, PublishesKeepTime, AsidesKeepTime, StepsKeepPlaces};
 ghost use Rattle.partial_epochs.specs.EveryStep.{EveryStepStaysLawful, MemoriesOpenLawful};
+ghost use Rattle.partial_epochs.specs.FreeArenas.{OpeningsKeepTally, EveryStepCounts, MeetingsKeepTally};
 ghost use Rattle.partial_epochs.specs.Reads.{ReadsTellAllEpochs, LastWordsAreFinal, ComponentsNameRecords, SeenRecordsStay};
 ghost use Rattle.partial_epochs.specs.Collects.{CollectsStandTogether, EpochsAreHistories};
 
@@ -292,4 +293,20 @@ pub fn memories_open_lawful()
 /// again, all other ports and their notes are as they were, and a memory that kept time keeps it.
 pub fn every_step_stays_lawful()
     ensures { EveryStepStaysLawful }
+{}
+
+/// A memory as it opens keeps its tally: no port owns an arena, and nothing has come yet.
+pub fn openings_keep_tally()
+    ensures { OpeningsKeepTally }
+{}
+
+/// Every step of every port keeps the tally. While one epoch is the current one, each time that an arena may come free
+/// takes one from the number of times that arenas may come free from then on.
+pub fn every_step_counts()
+    ensures { EveryStepCounts }
+{}
+
+/// A port that has met another one in the arena that it owns may say so in the tally.
+pub fn meetings_keep_tally()
+    ensures { MeetingsKeepTally }
 {}
