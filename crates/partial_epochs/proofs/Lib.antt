@@ -35,4 +35,5 @@ pub mod Collects
 pub mod Time
 pub mod EveryStep
 pub mod Refused
+pub mod Weights
 pub mod FreeArenas
