@@ -1,4 +1,5 @@
 -- While one epoch is the current one, arenas come free a bounded number of times.
+use Rattle.partial_epochs.proofs.Tally.{counts_beside}
 use Rattle.partial_epochs.proofs.Weights.{sum_less}
 use Rattle.partial_epochs.specs.FreeArenas.{OpeningsKeepTally, EveryStepCounts, MeetingsKeepTally}
 

@@ -36,4 +36,5 @@ pub mod Time
 pub mod EveryStep
 pub mod Refused
 pub mod Weights
+pub mod Tally
 pub mod FreeArenas
