@@ -1,13 +1,177 @@
 -- While one epoch is the current one, arenas come free a bounded number of times.
-use Rattle.partial_epochs.proofs.Tally.{counts_beside}
-use Rattle.partial_epochs.proofs.Weights.{sum_less}
-use Rattle.partial_epochs.specs.FreeArenas.{OpeningsKeepTally, EveryStepCounts, MeetingsKeepTally}
+use Rattle.partial_epochs.proofs.{Common.{ℕ, ◌≡◌, ◌≢◌, ◌+◌, ◌-◌, ◌*◌, ◌<◌, ◌≤◌, ◌/◌, ◌%◌, ◌^◌, ◌==◌, ◌⊎◌, Bool, true, false, if◌then◌else◌, Option, Some, None, IfSome, List, [], ◌∷◌, length, slice_index, slice_set, refl, sym, ap, subst, ◌∙◌, inl, inr, arith, eqb_tells, cases_lt, get_or-set_same, get_or-set_other, some_same, Noted, words_after, Step, Load, Store, Exchange, Add, put, IsPlace, Place, Plan, arena_limit, at_word, base, control_size, control_words, current_word, entering_mark, marked, own_word, packed, placed_step, seal, set_word, unpacked, Control, Entering, OwnedArena, Port, Stands, Marks, Loaded, IsOld, IsOwner, IsPlaceWord, Beside, LawfulEpochs, place_now, arrived_port, having_passed, Arrives, at_next_port, having_given, having_loaded, having_looked, having_put, just_taken, owning_port, having_published, having_set, next_beside, next_place, resting_arena, MayMove, Move, MoveLeads, moved_words, since_behind, Makes, Seals, PassesSealed, LooksAsOwner, StoresMark, LoadsCurrent, ExchangesMark, Takes, Gives, FindsElsewhere, LoadsMark, Puts, Sets, Notes, Sees, Rests, FindsClear, LawfulMemory, KeepsTime}, Entering.{current_is, cw_at, not_marked}, Lists.{put_all, put_other, put_same}, Places.packed_arena, Time.steps_keep_places, Tally.{IsBesideTally, IsHeld, NameAsBefore, OwnsAsBefore, counts_arrival, counts_beside, gives_looked, gives_owned, gives_passed, held_within, met_stays, named_stays, owner_is, owners_stay, some_to, stands_at, use_stays, weight_as}, Weights.{credit_few, sum_less, sum_within, weigh, weigh_away, weigh_here, weigh_not_since, weigh_within}}
+use Rattle.partial_epochs.specs.EveryStep.Move.{Looks, Publishes}
+use Rattle.partial_epochs.specs.FreeArenas.{Counts, EveryStepCounts, HasMet, HasSeenArrival, IsInUse, IsNamed, IsOwnedBySome, KeepsTally, LeavesInUse, MayCount, MeetingsKeepTally, OpeningsKeepTally, Tally, credit, gives_at, gives_left, may_free, met_behind, weight}
 
 pub openings_keep_tally : OpeningsKeepTally
-openings_keep_tally = ?
+openings_keep_tally e words opens = record {
+  owners = λ x low some. absurd (some (opens.control (own_word e x) (omega (arith, low))));
+  taken = λ k low. omega arith;
+  marks = λ k low. tt;
+  met = λ k low is. tt;
+}
+
+pub meetings_keep_tally : MeetingsKeepTally
+meetings_keep_tally e words ports t k o s owned looked cause = record {
+  owners = s.owners;
+  taken = s.taken;
+  marks = s.marks;
+  met = λ q low. put_all (λ i (c : Bool). i < e.ports → c ≡ true → IfSome (ports i).control.owned (HasMet e words (ports i).control t' i)) k true t.met q
+      (λ _ _ _. subst (λ (d : Option OwnedArena). IfSome d (HasMet e words (ports k).control t' k)) (sym owned) (record { looked = inr looked; cause = cause }))
+      (λ _ low met. some_to (HasMet e words (ports q).control t q) (HasMet e words (ports q).control t' q) (ports q).control.owned (λ _ _ h. record { looked = h.looked; cause = h.cause }) (s.met q low met)) low;
+}
+  where
+    t' : Tally
+    t' = record t { met = put k true t.met }
+
+-- a control word is another one than each word of an arena
+control_stays : (e : Plan) (words : List ℕ) (j i v : ℕ) → j < control_size e → control_size e ≤ i → slice_index (slice_set words i v) j ≡ slice_index words j
+control_stays e words j i v low from = get_or-set_other words i j v 0 (omega (arith, low, from))
+
+-- an owner word stays by a step in an arena
+own_stays : (e : Plan) (words : List ℕ) (y x : ℕ) (step : Step) → y < e.arenas → slice_index (words_after words (placed_step e x step)) (own_word e y) ≡ slice_index words (own_word e y)
+own_stays e words y x (Load w) low = refl
+own_stays e words y x (Store w v) low = control_stays e words (own_word e y) (base e x + w) v (omega (arith, low)) (omega arith)
+own_stays e words y x (Exchange w old new) low =
+    control_stays e words (own_word e y) (base e x + w) (if slice_index words (base e x + w) == old then new else slice_index words (base e x + w)) (omega (arith, low)) (omega arith)
+own_stays e words y x (Add w n) low = control_stays e words (own_word e y) (base e x + w) ((slice_index words (base e x + w) + n) % 2 ^ 64) (omega (arith, low)) (omega arith)
+
+-- and by the store of a word that an owner sets
+own_stays_set : (e : Plan) (words : List ℕ) (y x i v : ℕ) → y < e.arenas → slice_index (words_after words (Store (set_word e x i) v)) (own_word e y) ≡ slice_index words (own_word e y)
+own_stays_set e words y x i v low = control_stays e words (own_word e y) (set_word e x i) v (omega (arith, low)) from
+  where
+    from : control_size e ≤ set_word e x i
+    from = search arith
+
+-- the word of a place is no mark, and has the place's epoch
+place_low : (e : Plan) (c : Place) → e.arenas ≤ arena_limit → IsPlace e c → packed c < entering_mark
+place_low e c few h = let r = h.epoch in let a = h.arena in omega (arith, few, r, a)
+
+place_epoch : (e : Plan) (c : Place) → e.arenas ≤ arena_limit → IsPlace e c → packed c / arena_limit ≡ c.epoch
+place_epoch e c few h = let a = h.arena in omega (arith, few, a)
+
+module _ (e : Plan) (words : List ℕ) (ports : ℕ → Port) (b : Beside) (k : ℕ) (w : LawfulEpochs e words ports b) (below : k < e.ports) (since : ℕ → ℕ) (t : Tally)
+    (time : KeepsTime e words ports (place_now b) since) (s : KeepsTally e words ports t) where
+  abbrev here : Place
+  here = (ports k).control.here
+
+  abbrev now : ℕ
+  now = (place_now b).epoch
+
+  -- what the move makes of the tally, as port k comes to be p, with c beside the words
+  abbrev Goal : Move → List ℕ → Port → Beside → (ℕ → ℕ) → Type 0
+  Goal m words' p c since' = Counts e words words' ports (put k p ports) (place_now b) (place_now c) since since' t k m
+
+  -- no word of a port or owner changes, and port k comes to be p
+  abbrev Beside_ : List ℕ → Port → Type 0
+  Beside_ words' p = IsBesideTally e words words' ports k p t
+
+  -- it weighs no more
+  abbrev WeighsNoMore : Port → Type 0
+  WeighsNoMore p = weight_as e words p now since t k ≤ weight_as e words (ports k) now since t k
+
+  place_here : IsPlace e here
+  place_here = w.control.places k below
+
+  low_here : packed here < entering_mark
+  low_here = place_low e here w.plan.arenas place_here
+
+  -- less credit and fewer gives
+  within : (p : Port) → credit t k p.control.owned ≤ credit t k (ports k).control.owned → gives_left p.control ≤ gives_left (ports k).control → WeighsNoMore p
+  within p few fewer =
+      let le = weigh_within e.ports (slice_index words (at_word k)) now (since k) (credit t k (ports k).control.owned) (gives_left (ports k).control) (credit t k p.control.owned) (gives_left p.control) 0
+      (omega (arith, few)) (omega (arith, fewer)) in
+      omega (arith, le)
+
+  credit_owned : (o o' : OwnedArena) → (ports k).control.owned ≡ Some o → credit t k (Some o') ≡ credit t k (ports k).control.owned
+  credit_owned o o' is = sym (ap (credit t k) is)
+
+  -- the port's control stays as it is
+  same_control : (m : Move) (words' : List ℕ) (p : Port) (c : Beside) → ((q : ℕ) → q < e.ports → slice_index words' (at_word q) ≡ slice_index words (at_word q)) →
+      ((x : ℕ) → x < e.arenas → slice_index words' (own_word e x) ≡ slice_index words (own_word e x)) → p.control ≡ (ports k).control →
+      ((q : ℕ) → t.met q ≡ met_behind k m t.met q) → LeavesInUse e words' t t m → Goal m words' p c since
+  same_control m words' p c at own same met leaves = counts_beside e words words' ports b k p t w s
+      (record {
+        at = at;
+        own = own;
+        owned = λ o is. (o, ap (λ (d : Control). d.owned) same ∙ is, refl);
+        marks = subst (λ (d : Control). IfSome d.owned (λ o. IfSome o.mark (IsHeld e words t k o))) (sym same) (held_within e words ports b w t s k below);
+        met = λ is. subst (λ (d : Control). IfSome d.owned (HasMet e words d t k)) (sym same) (s.met k below is);
+      }) (place_now b) (place_now c) since m
+      (λ _. subst (λ (d : Control). weigh e.ports (slice_index words (at_word k)) now (since k) (credit t k d.owned) (gives_left d) ≤ weight_as e words (ports k) now since t k) (sym same) (omega arith))
+      met leaves
+
+  -- no word of a port or owner changes, and the port's control changes without effect
+  aside : (m : Move) (words' : List ℕ) (p : Port) (c : Beside) → Beside_ words' p → ((place_now c).epoch ≡ now → WeighsNoMore p) → ((q : ℕ) → t.met q ≡ met_behind k m t.met q) →
+      LeavesInUse e words' t t m → Goal m words' p c since
+  aside m words' p c a less met leaves = counts_beside e words words' ports b k p t w s a (place_now b) (place_now c) since m less met leaves
+
+  -- the port has seen its epoch's end
+  passed : Beside_ words (having_passed (ports k))
+  passed = record {
+    at = λ q low. refl;
+    own = λ x low. refl;
+    owned = λ o is. (o, is, refl);
+    marks = held_within e words ports b w t s k below;
+    met = λ is. some_to (HasMet e words (ports k).control t k) (HasMet e words (having_passed (ports k)).control t k) (ports k).control.owned (λ o _ h. record { looked = inl refl; cause = h.cause })
+        (s.met k below is);
+  }
+
+  passed_less : WeighsNoMore (having_passed (ports k))
+  passed_less = within (having_passed (ports k)) (omega arith) (gives_passed (ports k).control.entering (ports k).control.past (ports k).control.owned)
+
+  -- the port loads the current word
+  looks : (m : Move) (p q : Port) (c : Beside) → q ≡ (if slice_index words current_word == packed here then p else having_passed (ports k)) →
+      (slice_index words current_word ≡ packed here → Goal m words p c since) → Goal m words (having_passed (ports k)) c since → Goal m words q c since
+  looks m p q c is present away = elim (eqb_tells (slice_index words current_word) (packed here)) [
+    | inl same ↦ subst (λ (r : Port). Goal m words r c since) (sym (is ∙ ap (λ (v : Bool). if v then p else having_passed (ports k)) same.0)) (present same.1)
+    | inr ne ↦ subst (λ (r : Port). Goal m words r c since) (sym (is ∙ ap (λ (v : Bool). if v then p else having_passed (ports k)) ne.0)) away
+  ]
+
+  -- the port owns the same arena in another state
+  module _ (o o' : OwnedArena) (is : (ports k).control.owned ≡ Some o) (arena : o'.arena ≡ o.arena) (looked : o.looked ≡ true → o'.looked ≡ true)
+      (mark : IfSome o'.mark (IsHeld e words t k o')) (words' : List ℕ) (at : (q : ℕ) → q < e.ports → slice_index words' (at_word q) ≡ slice_index words (at_word q))
+      (own : (x : ℕ) → x < e.arenas → slice_index words' (own_word e x) ≡ slice_index words (own_word e x)) where
+    was_met : t.met k ≡ true → HasMet e words (ports k).control t k o
+    was_met met = subst (λ (d : Option OwnedArena). IfSome d (HasMet e words (ports k).control t k)) is (s.met k below met)
+
+    owner : Beside_ words' (owning_port (ports k) o')
+    owner = record {
+      at = at;
+      own = own;
+      owned = λ d was. (o', refl, arena ∙ ap (λ (f : OwnedArena). f.arena) (some_same (sym is ∙ was)));
+      marks = mark;
+      met = λ met.
+          let h = was_met met in
+          record {
+            looked = elim h.looked [
+              | inl past ↦ inl past
+              | inr so ↦ inr (looked so)
+            ];
+            cause = elim h.cause [
+              | inl named ↦ inl (subst (λ x. IsNamed e words x) (sym arena) named)
+              | inr has ↦ inr has
+            ];
+          };
+    }
+
+    owner_less : o'.looked ≡ o.looked → WeighsNoMore (owning_port (ports k) o')
+    owner_less same =
+        let few = credit_owned o o' is in
+        within (owning_port (ports k) o') (omega (arith, few))
+        (subst (λ (d : Option OwnedArena). gives_at (ports k).control.entering (ports k).control.past (Some o') ≤ gives_at (ports k).control.entering (ports k).control.past d) (sym is)
+        (gives_looked (ports k).control.entering (ports k).control.past o o' same))
+
+    -- where it stands in the current epoch
+    owner_here : (ports k).control.entering ≡ Stands → here.epoch ≡ now → WeighsNoMore (owning_port (ports k) o')
+    owner_here stands even =
+        let at = stands_at e words ports b w k below stands in
+        let low : slice_index words (at_word k) < entering_mark = subst (λ v. v < entering_mark) (sym at) low_here in
+        let epoch : slice_index words (at_word k) / arena_limit ≡ now = ap (λ v. v / arena_limit) at ∙ place_epoch e here w.plan.arenas place_here ∙ even in
+        let before = weigh_here e.ports (slice_index words (at_word k)) now (since k) (credit t k (ports k).control.owned) (gives_left (ports k).control) low epoch in
+        let after = weigh_here e.ports (slice_index words (at_word k)) now (since k) (credit t k (Some o')) (gives_left (owning_port (ports k) o').control) low epoch in
+        let few = credit_owned o o' is in
+        omega (arith, before, after, few)
 
 pub every_step_counts : EveryStepCounts
 every_step_counts = ?
-
-pub meetings_keep_tally : MeetingsKeepTally
-meetings_keep_tally = ?

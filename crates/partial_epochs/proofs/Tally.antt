@@ -90,24 +90,25 @@ module _ (e : Plan) (words : List ℕ) (ports : ℕ → Port) (b : Beside) (w : 
           | inr has ↦ inr has
         ])) (s.marks q low)
 
--- no port's word changes
-pub named_stays : (e : Plan) (words words' : List ℕ) (x : ℕ) → ((q : ℕ) → q < e.ports → slice_index words' (at_word q) ≡ slice_index words (at_word q)) → IsNamed e words x → IsNamed e words' x
-named_stays e words words' x at h = record { port = h.port; inside = h.inside; names = ap (λ v. v % arena_limit) (at h.port h.inside) ∙ h.names }
+-- each port's word names the arena that it named
+abbrev pub NameAsBefore : Plan → List ℕ → List ℕ → Type 0
+NameAsBefore e words words' = (q : ℕ) → q < e.ports → slice_index words' (at_word q) % arena_limit ≡ slice_index words (at_word q) % arena_limit
 
-pub met_stays : (e : Plan) (words words' : List ℕ) (c : Control) (t : Tally) (q : ℕ) (o : OwnedArena) → ((q : ℕ) → q < e.ports → slice_index words' (at_word q) ≡ slice_index words (at_word q)) →
-    HasMet e words c t q o → HasMet e words' c t q o
-met_stays e words words' c t q o at h = record {
+pub named_stays : (e : Plan) (words words' : List ℕ) (x : ℕ) → NameAsBefore e words words' → IsNamed e words x → IsNamed e words' x
+named_stays e words words' x alike h = record { port = h.port; inside = h.inside; names = alike h.port h.inside ∙ h.names }
+
+pub met_stays : (e : Plan) (words words' : List ℕ) (c : Control) (t : Tally) (q : ℕ) (o : OwnedArena) → NameAsBefore e words words' → HasMet e words c t q o → HasMet e words' c t q o
+met_stays e words words' c t q o alike h = record {
   looked = h.looked;
   cause = elim h.cause [
-    | inl named ↦ inl (named_stays e words words' o.arena at named)
+    | inl named ↦ inl (named_stays e words words' o.arena alike named)
     | inr has ↦ inr has
   ];
 }
 
-pub use_stays : (e : Plan) (words words' : List ℕ) (q x : ℕ) → x < e.arenas → ((q : ℕ) → q < e.ports → slice_index words' (at_word q) ≡ slice_index words (at_word q)) →
-    slice_index words' (own_word e x) ≡ slice_index words (own_word e x) → IsInUse e words q x → IsInUse e words' q x
-use_stays e words words' q x low at own h = elim h [
-  | inl named ↦ inl (named_stays e words words' x at named)
+pub use_stays : (e : Plan) (words words' : List ℕ) (q x : ℕ) → NameAsBefore e words words' → slice_index words' (own_word e x) ≡ slice_index words (own_word e x) → IsInUse e words q x → IsInUse e words' q x
+use_stays e words words' q x alike own h = elim h [
+  | inl named ↦ inl (named_stays e words words' x alike named)
   | inr other ↦ inr (λ is. other.0 (sym own ∙ is), λ is. other.1 (sym own ∙ is))
 ]
 
@@ -137,6 +138,9 @@ pub record IsBesideTally (e : Plan) (words words' : List ℕ) (ports : ℕ → P
 -- such a step keeps the tally as it is
 module _ (e : Plan) (words words' : List ℕ) (ports : ℕ → Port) (b : Beside) (k : ℕ) (p : Port) (t : Tally) (w : LawfulEpochs e words ports b) (s : KeepsTally e words ports t)
     (a : IsBesideTally e words words' ports k p t) where
+  as_before : NameAsBefore e words words'
+  as_before q low = ap (λ v. v % arena_limit) (a.at q low)
+
   tally_stays : KeepsTally e words' (put k p ports) t
   tally_stays = record {
     owners = owners_stay e words words' ports k p a.own a.owned s.owners;
@@ -148,7 +152,7 @@ module _ (e : Plan) (words words' : List ℕ) (ports : ℕ → Port) (b : Beside
           | inr has ↦ inr has
         ])) (put_all (λ i (r : Port). i < e.ports → IfSome r.control.owned (λ o. IfSome o.mark (IsHeld e words t i o))) k p ports q (λ _ _. a.marks) (λ _ low. held_within e words ports b w t s q low) low);
     met = λ q low met. some_to (HasMet e words (put k p ports q).control t q) (HasMet e words' (put k p ports q).control t q) (put k p ports q).control.owned
-        (λ o _. met_stays e words words' (put k p ports q).control t q o a.at)
+        (λ o _. met_stays e words words' (put k p ports q).control t q o as_before)
         (put_all (λ i (r : Port). i < e.ports → t.met i ≡ true → IfSome r.control.owned (HasMet e words r.control t i)) k p ports q (λ _ _. a.met) (λ _ low met. s.met q low met) low met);
   }
 
@@ -167,7 +171,7 @@ module _ (e : Plan) (words words' : List ℕ) (ports : ℕ → Port) (b : Beside
       met = met;
       less = λ same. subst (λ n. t.freed + may_free e words' (put k p ports) n since t ≤ t.freed + may_free e words ports now.epoch since t) (sym same)
           (let all = sum_within (weight e words ports now.epoch since t) (weight e words' (put k p ports) now.epoch since t) e.ports (weights_within same) in omega (arith, all));
-      stays = λ _ q x _ low h. use_stays e words words' q x low a.at (a.own x low) h;
+      stays = λ _ q x _ low h. use_stays e words words' q x as_before (a.own x low) h;
       leaves = leaves;
     }
 
