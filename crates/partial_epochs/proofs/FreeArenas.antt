@@ -63,8 +63,8 @@ module _ (e : Plan) (words : List ℕ) (ports : ℕ → Port) (b : Beside) (k : 
   Goal m words' p c since' = Counts e words words' ports (put k p ports) (place_now b) (place_now c) since since' t k m
 
   -- no word of a port or owner changes, and port k comes to be p
-  abbrev Beside_ : List ℕ → Port → Type 0
-  Beside_ words' p = IsBesideTally e words words' ports k p t
+  abbrev Keeps : List ℕ → Port → Type 0
+  Keeps words' p = IsBesideTally e words words' ports k p t
 
   -- it weighs no more
   abbrev WeighsNoMore : Port → Type 0
@@ -102,12 +102,12 @@ module _ (e : Plan) (words : List ℕ) (ports : ℕ → Port) (b : Beside) (k : 
       met leaves
 
   -- no word of a port or owner changes, and the port's control changes without effect
-  aside : (m : Move) (words' : List ℕ) (p : Port) (c : Beside) → Beside_ words' p → ((place_now c).epoch ≡ now → WeighsNoMore p) → ((q : ℕ) → t.met q ≡ met_behind k m t.met q) →
+  aside : (m : Move) (words' : List ℕ) (p : Port) (c : Beside) → Keeps words' p → ((place_now c).epoch ≡ now → WeighsNoMore p) → ((q : ℕ) → t.met q ≡ met_behind k m t.met q) →
       LeavesInUse e words' t t m → Goal m words' p c since
   aside m words' p c a less met leaves = counts_beside e words words' ports b k p t w s a (place_now b) (place_now c) since m less met leaves
 
   -- the port has seen its epoch's end
-  passed : Beside_ words (having_passed (ports k))
+  passed : Keeps words (having_passed (ports k))
   passed = record {
     at = λ q low. refl;
     own = λ x low. refl;
@@ -128,21 +128,22 @@ module _ (e : Plan) (words : List ℕ) (ports : ℕ → Port) (b : Beside) (k : 
     | inr ne ↦ subst (λ (r : Port). Goal m words r c since) (sym (is ∙ ap (λ (v : Bool). if v then p else having_passed (ports k)) ne.0)) away
   ]
 
+  -- what an owner has met
+  was_met : (o : OwnedArena) → (ports k).control.owned ≡ Some o → t.met k ≡ true → HasMet e words (ports k).control t k o
+  was_met o is met = subst (λ (d : Option OwnedArena). IfSome d (HasMet e words (ports k).control t k)) is (s.met k below met)
+
   -- the port owns the same arena in another state
   module _ (o o' : OwnedArena) (is : (ports k).control.owned ≡ Some o) (arena : o'.arena ≡ o.arena) (looked : o.looked ≡ true → o'.looked ≡ true)
       (mark : IfSome o'.mark (IsHeld e words t k o')) (words' : List ℕ) (at : (q : ℕ) → q < e.ports → slice_index words' (at_word q) ≡ slice_index words (at_word q))
       (own : (x : ℕ) → x < e.arenas → slice_index words' (own_word e x) ≡ slice_index words (own_word e x)) where
-    was_met : t.met k ≡ true → HasMet e words (ports k).control t k o
-    was_met met = subst (λ (d : Option OwnedArena). IfSome d (HasMet e words (ports k).control t k)) is (s.met k below met)
-
-    owner : Beside_ words' (owning_port (ports k) o')
+    owner : Keeps words' (owning_port (ports k) o')
     owner = record {
       at = at;
       own = own;
       owned = λ d was. (o', refl, arena ∙ ap (λ (f : OwnedArena). f.arena) (some_same (sym is ∙ was)));
       marks = mark;
       met = λ met.
-          let h = was_met met in
+          let h = was_met o is met in
           record {
             looked = elim h.looked [
               | inl past ↦ inl past
@@ -172,6 +173,132 @@ module _ (e : Plan) (words : List ℕ) (ports : ℕ → Port) (b : Beside) (k : 
         let after = weigh_here e.ports (slice_index words (at_word k)) now (since k) (credit t k (Some o')) (gives_left (owning_port (ports k) o').control) low epoch in
         let few = credit_owned o o' is in
         omega (arith, before, after, few)
+
+  -- a port that enters loads the current place
+  module _ (entering : (ports k).control.entering ≡ Marks) (c : Place) where
+    abbrev loaded_port : Port
+    loaded_port = record (ports k) { control = record (ports k).control { entering = Loaded c } }
+
+    loads : Keeps words loaded_port
+    loads = record {
+      at = λ q low. refl;
+      own = λ x low. refl;
+      owned = λ o is. (o, is, refl);
+      marks = held_within e words ports b w t s k below;
+      met = λ is. some_to (HasMet e words (ports k).control t k) (HasMet e words loaded_port.control t k) (ports k).control.owned (λ o _ h. record { looked = h.looked; cause = h.cause }) (s.met k below is);
+    }
+
+    loads_less : WeighsNoMore loaded_port
+    loads_less = within loaded_port (omega arith) (subst (λ (n : Entering). 1 ≤ gives_at n (ports k).control.past (ports k).control.owned) (sym entering) (omega arith))
+
+  -- an owner publishes
+  module _ (o : OwnedArena) (is : (ports k).control.owned ≡ Some o) where
+    abbrev published_word : ℕ
+    published_word = if slice_index words current_word == packed here then packed (next_place here o.arena) else slice_index words current_word
+
+    publishes : Keeps (slice_set words current_word published_word) (having_published (ports k) o)
+    publishes = record {
+      at = λ q low. get_or-set_other words current_word (at_word q) published_word 0 (omega arith);
+      own = λ x low. get_or-set_other words current_word (own_word e x) published_word 0 (omega arith);
+      owned = λ d was. (resting_arena o, refl, ap (λ (f : OwnedArena). f.arena) (some_same (sym is ∙ was)));
+      marks = tt;
+      met = λ met. record { looked = inl refl; cause = (was_met o is met).cause };
+    }
+
+    publishes_less : WeighsNoMore (having_published (ports k) o)
+    publishes_less =
+        let few = credit_owned o (resting_arena o) is in
+        let owned = gives_owned (ports k).control.entering o (resting_arena o) in
+        let passed = gives_passed (ports k).control.entering (ports k).control.past (Some o) in
+        within (having_published (ports k) o) (omega (arith, few))
+        (subst (λ (d : Option OwnedArena). gives_at (ports k).control.entering true (Some (resting_arena o)) ≤ gives_at (ports k).control.entering (ports k).control.past d) (sym is) (omega (arith, owned, passed)))
+
+  -- a port stores its mark
+  module _ (stands : (ports k).control.entering ≡ Stands) (past : (ports k).control.past ≡ true) where
+    abbrev marks_port : Port
+    marks_port = record (ports k) { control = record (ports k).control { entering = Marks } }
+
+    abbrev marked_words : List ℕ
+    marked_words = slice_set words (at_word k) (marked here)
+
+    mark_other : (q : ℕ) → q ≢ k → slice_index marked_words (at_word q) ≡ slice_index words (at_word q)
+    mark_other q ne = get_or-set_other words (at_word k) (at_word q) (marked here) 0 (omega (arith, ne))
+
+    mark_same : slice_index marked_words (at_word k) ≡ marked here
+    mark_same = let count = w.count in get_or-set_same words (at_word k) (marked here) 0 (omega (arith, count, below))
+
+    mark_own : (x : ℕ) → x < e.arenas → slice_index marked_words (own_word e x) ≡ slice_index words (own_word e x)
+    mark_own x low = get_or-set_other words (at_word k) (own_word e x) (marked here) 0 (omega (arith, below))
+
+    word_was : slice_index words (at_word k) ≡ packed here
+    word_was = stands_at e words ports b w k below stands
+
+    mark_alike : NameAsBefore e words marked_words
+    mark_alike q low = elim (eqb_tells q k) [
+      | inl same ↦ subst (λ i. slice_index marked_words (at_word i) % arena_limit ≡ slice_index words (at_word i) % arena_limit) (sym same.1)
+          (let is = mark_same in let was = word_was in omega (arith, is, was))
+      | inr ne ↦ ap (λ v. v % arena_limit) (mark_other q ne.1)
+    ]
+
+    tally_marked : KeepsTally e marked_words (put k marks_port ports) t
+    tally_marked = record {
+      owners = owners_stay e words marked_words ports k marks_port mark_own (λ o is. (o, is, refl)) s.owners;
+      taken = s.taken;
+      marks = λ q low. put_all (λ i (r : Port). i < e.ports → IfSome r.control.owned (λ o. IfSome o.mark (λ d. (slice_index marked_words (at_word o.clean) ≡ marked d) ⊎ HasSeenArrival t i))) k marks_port ports q
+          (λ _ _. held k below) (λ _ low. held q low) low;
+      met = λ q low. put_all (λ i (r : Port). i < e.ports → t.met i ≡ true → IfSome r.control.owned (HasMet e marked_words r.control t i)) k marks_port ports q
+          (λ _ _ is. some_to (HasMet e words (ports k).control t k) (HasMet e marked_words marks_port.control t k) (ports k).control.owned
+          (λ o _ h. let there = met_stays e words marked_words (ports k).control t k o mark_alike h in record { looked = there.looked; cause = there.cause }) (s.met k below is))
+          (λ _ low is. some_to (HasMet e words (ports q).control t q) (HasMet e marked_words (ports q).control t q) (ports q).control.owned (λ o _. met_stays e words marked_words (ports q).control t q o mark_alike)
+          (s.met q low is)) low;
+    }
+      where
+        held : (q : ℕ) → q < e.ports → IfSome (ports q).control.owned (λ o. IfSome o.mark (λ d. (slice_index marked_words (at_word o.clean) ≡ marked d) ⊎ HasSeenArrival t q))
+        held q low = some_to (λ (o : OwnedArena). IfSome o.mark (IsHeld e words t q o)) (λ (o : OwnedArena). IfSome o.mark (λ d. (slice_index marked_words (at_word o.clean) ≡ marked d) ⊎ HasSeenArrival t q))
+            (ports q).control.owned (λ o _. some_to (IsHeld e words t q o) (λ d. (slice_index marked_words (at_word o.clean) ≡ marked d) ⊎ HasSeenArrival t q) o.mark (λ d _ h. elim h [
+              | inl is ↦ elim (eqb_tells o.clean k) [
+                | inl same ↦ absurd (not_marked e here d w.plan.arenas place_here (sym word_was ∙ ap (λ i. slice_index words (at_word i)) (sym same.1) ∙ is.1))
+                | inr ne ↦ inl (mark_other o.clean ne.1 ∙ is.1)
+              ]
+              | inr has ↦ inr has
+            ])) (held_within e words ports b w t s q low)
+
+    weights_marked : (q : ℕ) → q < e.ports → weight e marked_words (put k marks_port ports) now (put k now since) t q ≤ weight e words ports now since t q
+    weights_marked q low = elim (eqb_tells q k) [
+      | inl same ↦ subst (λ i. weight e marked_words (put k marks_port ports) now (put k now since) t i ≤ weight e words ports now since t i) (sym same.1) own_weight
+      | inr ne ↦
+          subst (λ v. weigh e.ports v now (put k now since q) (credit t q (put k marks_port ports q).control.owned) (gives_left (put k marks_port ports q).control) ≤ weight e words ports now since t q)
+          (sym (mark_other q ne.1))
+          (subst (λ u. weigh e.ports (slice_index words (at_word q)) now u (credit t q (put k marks_port ports q).control.owned) (gives_left (put k marks_port ports q).control) ≤ weight e words ports now since t q)
+          (sym (put_other k now since q ne.1))
+          (subst (λ (r : Port). weight_as e words r now since t q ≤ weight e words ports now since t q) (sym (put_other k marks_port ports q ne.1)) (omega arith)))
+    ]
+      where
+        own_weight : weight e marked_words (put k marks_port ports) now (put k now since) t k ≤ weight e words ports now since t k
+        own_weight =
+            let c : Control = (put k marks_port ports k).control in
+            let is = mark_same in
+            let low = low_here in
+            let was = word_was in
+            let epoch = place_epoch e here w.plan.arenas place_here in
+            let old = w.control.past k below past in
+            let since_now = put_same k now since in
+            let after = weigh_not_since e.ports (slice_index marked_words (at_word k)) now (put k now since k) (credit t k c.owned) (gives_left c) (omega (arith, is)) (omega (arith, since_now)) in
+            let before = weigh_away e.ports (slice_index words (at_word k)) now (since k) (credit t k (ports k).control.owned) (gives_left (ports k).control) (omega (arith, was, low))
+            (λ even. let same = ap (λ v. v / arena_limit) was in omega (arith, even, same, epoch, old)) in
+            omega (arith, after, before)
+
+    counts_mark : (c : Beside) → Goal StoresMark marked_words marks_port c (put k now since)
+    counts_mark c = record {
+      there = t;
+      keeps = tally_marked;
+      grows = omega arith;
+      met = λ q. refl;
+      less = λ same. subst (λ n. t.freed + may_free e marked_words (put k marks_port ports) n (put k now since) t ≤ t.freed + may_free e words ports now since t) (sym same)
+          (let all = sum_within (weight e words ports now since t) (weight e marked_words (put k marks_port ports) now (put k now since) t) e.ports weights_marked in omega (arith, all));
+      stays = λ _ q x _ low h. use_stays e words marked_words q x mark_alike (mark_own x low) h;
+      leaves = tt;
+    }
 
 pub every_step_counts : EveryStepCounts
 every_step_counts = ?
