@@ -1,5 +1,6 @@
 -- While one epoch is the current one, arenas come free a bounded number of times.
-use Rattle.partial_epochs.proofs.{Common.{ℕ, ◌≡◌, ◌≢◌, ◌+◌, ◌-◌, ◌*◌, ◌<◌, ◌≤◌, ◌/◌, ◌%◌, ◌^◌, ◌==◌, ◌⊎◌, Bool, true, false, if◌then◌else◌, Option, Some, None, IfSome, List, [], ◌∷◌, length, slice_index, slice_set, refl, sym, ap, subst, ◌∙◌, inl, inr, arith, eqb_tells, cases_lt, get_or-set_same, get_or-set_other, some_same, Noted, words_after, Step, Load, Store, Exchange, Add, put, IsPlace, Place, Plan, arena_limit, at_word, base, control_size, control_words, current_word, entering_mark, marked, own_word, packed, placed_step, seal, set_word, unpacked, Control, Entering, OwnedArena, Port, Stands, Marks, Loaded, IsOld, IsOwner, IsPlaceWord, Beside, LawfulEpochs, place_now, arrived_port, having_passed, Arrives, at_next_port, having_given, having_loaded, having_looked, having_put, just_taken, owning_port, having_published, having_set, next_beside, next_place, resting_arena, MayMove, Move, MoveLeads, moved_words, since_behind, Makes, Seals, PassesSealed, LooksAsOwner, StoresMark, LoadsCurrent, ExchangesMark, Takes, Gives, FindsElsewhere, LoadsMark, Puts, Sets, Notes, Sees, Rests, FindsClear, LawfulMemory, KeepsTime}, Entering.{current_is, cw_at, not_marked}, Lists.{put_all, put_other, put_same}, Places.packed_arena, Time.steps_keep_places, Tally.{IsBesideTally, IsHeld, NameAsBefore, OwnsAsBefore, counts_arrival, counts_beside, gives_looked, gives_owned, gives_passed, held_within, met_stays, named_stays, owner_is, owners_stay, some_to, stands_at, use_stays, weight_as}, Weights.{credit_few, sum_less, sum_within, weigh, weigh_away, weigh_here, weigh_not_since, weigh_within}}
+use Rattle.partial_epochs.proofs.{Common.{ℕ, ◌≡◌, ◌≢◌, ◌+◌, ◌-◌, ◌*◌, ◌<◌, ◌≤◌, ◌/◌, ◌%◌, ◌^◌, ◌==◌, ◌⊎◌, Bool, true, false, if◌then◌else◌, Option, Some, None, IfSome, List, [], ◌∷◌, length, slice_index, slice_set, refl, sym, ap, subst, ◌∙◌, inl, inr, arith, eqb_tells, cases_lt, get_or-set_same, get_or-set_other, some_same, Noted, words_after, Step, Load, Store, Exchange, Add, put, IsPlace, Place, Plan, arena_limit, at_word, base, control_size, control_words, current_word, entering_mark, marked, own_word, packed, placed_step, seal, set_word, unpacked, Control, Entering, OwnedArena, Port, Stands, Marks, Loaded, IsOld, IsOwner, IsPlaceWord, Beside, LawfulEpochs, place_now, arrived_port, having_passed, Arrives, at_next_port, having_given, having_loaded, having_looked, having_put, just_taken, owning_port, having_published, having_set, next_beside, next_place, resting_arena, MayMove, Move, MoveLeads, moved_words, since_behind, Makes, Seals, PassesSealed, LooksAsOwner, StoresMark, LoadsCurrent, ExchangesMark, Takes, Gives, FindsElsewhere, LoadsMark, Puts, Sets, Notes, Sees, Rests, FindsClear, LawfulMemory, KeepsTime}, Entering.{current_is, cw_at, not_marked}, Lists.{put_all, put_other, put_same}, Places.packed_arena, Time.steps_keep_places, Tally.{IsBesideTally, IsHeld, NameAsBefore, OwnsAsBefore, counts_arrival, counts_beside, gives_looked, gives_owned, gives_passed, held_within, met_stays, named_stays, place_epoch, place_low, owner_is, owners_stay, some_to, stands_at, use_stays, weight_as}, Weights.{credit_few, sum_less, sum_within, weigh, weigh_away, weigh_here, weigh_not_since, weigh_within}}
+use Rattle.partial_epochs.proofs.TallyChanges.{counts_entry, counts_put, counts_take, counts_give}
 use Rattle.partial_epochs.specs.EveryStep.Move.{Looks, Publishes}
 use Rattle.partial_epochs.specs.FreeArenas.{Counts, EveryStepCounts, HasMet, HasSeenArrival, IsInUse, IsNamed, IsOwnedBySome, KeepsTally, LeavesInUse, MayCount, MeetingsKeepTally, OpeningsKeepTally, Tally, credit, gives_at, gives_left, may_free, met_behind, weight}
 
@@ -42,13 +43,6 @@ own_stays_set e words y x i v low = control_stays e words (own_word e y) (set_wo
   where
     from : control_size e ≤ set_word e x i
     from = search arith
-
--- the word of a place is no mark, and has the place's epoch
-place_low : (e : Plan) (c : Place) → e.arenas ≤ arena_limit → IsPlace e c → packed c < entering_mark
-place_low e c few h = let r = h.epoch in let a = h.arena in omega (arith, few, r, a)
-
-place_epoch : (e : Plan) (c : Place) → e.arenas ≤ arena_limit → IsPlace e c → packed c / arena_limit ≡ c.epoch
-place_epoch e c few h = let a = h.arena in omega (arith, few, a)
 
 module _ (e : Plan) (words : List ℕ) (ports : ℕ → Port) (b : Beside) (k : ℕ) (w : LawfulEpochs e words ports b) (below : k < e.ports) (since : ℕ → ℕ) (t : Tally)
     (time : KeepsTime e words ports (place_now b) since) (s : KeepsTally e words ports t) where

@@ -37,4 +37,5 @@ pub mod EveryStep
 pub mod Refused
 pub mod Weights
 pub mod Tally
+pub mod TallyChanges
 pub mod FreeArenas

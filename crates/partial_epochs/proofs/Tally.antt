@@ -43,6 +43,13 @@ gives_owned Stands o o' = omega arith
 gives_owned Marks o o' = omega arith
 gives_owned (Loaded c) o o' = omega arith
 
+-- the word of a place is no mark, and has the place's epoch
+pub place_low : (e : Plan) (c : Place) → e.arenas ≤ arena_limit → IsPlace e c → packed c < entering_mark
+place_low e c few h = let r = h.epoch in let a = h.arena in omega (arith, few, r, a)
+
+pub place_epoch : (e : Plan) (c : Place) → e.arenas ≤ arena_limit → IsPlace e c → packed c / arena_limit ≡ c.epoch
+place_epoch e c few h = let a = h.arena in omega (arith, few, a)
+
 -- a mark that the owner q holds is its port's word yet, or it has seen an arrival
 abbrev pub IsHeld : Plan → List ℕ → Tally → ℕ → OwnedArena → Place → Type 0
 IsHeld e words t q o a = ((o.clean < e.ports) × (slice_index words (at_word o.clean) ≡ marked a)) ⊎ HasSeenArrival t q
