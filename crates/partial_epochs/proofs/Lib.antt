@@ -37,5 +37,6 @@ pub mod EveryStep
 pub mod Refused
 pub mod Weights
 pub mod Tally
+pub mod TallyAsides
 pub mod TallyChanges
 pub mod FreeArenas

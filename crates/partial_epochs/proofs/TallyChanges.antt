@@ -9,7 +9,7 @@ credit_same t t' q taken arrivals None = refl
 credit_same t t' q taken arrivals (Some o) = ap (λ n. if nat_lt n t'.arrivals then 1 else 0) taken ∙ ap (λ n. if nat_lt (t.taken q) n then 1 else 0) arrivals
 
 module _ (e : Plan) (words : List ℕ) (ports : ℕ → Port) (b : Beside) (k : ℕ) (w : LawfulEpochs e words ports b) (below : k < e.ports) (since : ℕ → ℕ) (t : Tally)
-    (time : KeepsTime e words ports (place_now b) since) (s : KeepsTally e words ports t) where
+    (s : KeepsTally e words ports t) where
   abbrev here : Place
   here = (ports k).control.here
 
@@ -101,7 +101,7 @@ module _ (e : Plan) (words : List ℕ) (ports : ℕ → Port) (b : Beside) (k : 
 
   -- an owner puts the next port where it stands itself
   module _ (o : OwnedArena) (a : Place) (is : (ports k).control.owned ≡ Some o) (looked : o.looked ≡ true) (low : o.clean < e.ports) (mark : o.mark ≡ Some a) (again : o.again ≡ true)
-      (at : slice_index words (at_word o.clean) ≡ marked a) where
+      (at : slice_index words (at_word o.clean) ≡ marked a) (time : KeepsTime e words ports (place_now b) since) where
     abbrev put_word : ℕ
     put_word = if slice_index words (at_word o.clean) == marked a then packed here else slice_index words (at_word o.clean)
 
