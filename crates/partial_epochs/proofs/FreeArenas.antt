@@ -1,8 +1,9 @@
 -- While one epoch is the current one, arenas come free a bounded number of times.
-use Rattle.partial_epochs.proofs.{Common.{ℕ, ◌≡◌, ◌≢◌, ◌+◌, ◌-◌, ◌*◌, ◌<◌, ◌≤◌, ◌/◌, ◌%◌, ◌^◌, ◌==◌, ◌⊎◌, Bool, true, false, if◌then◌else◌, Option, Some, None, IfSome, List, [], ◌∷◌, length, slice_index, slice_set, refl, sym, ap, subst, ◌∙◌, inl, inr, arith, eqb_tells, cases_lt, get_or-set_same, get_or-set_other, some_same, Noted, words_after, Step, Load, Store, Exchange, Add, put, IsPlace, Place, Plan, arena_limit, at_word, base, control_size, control_words, current_word, entering_mark, marked, own_word, packed, placed_step, seal, set_word, unpacked, Control, Entering, OwnedArena, Port, Stands, Marks, Loaded, IsOld, IsOwner, IsPlaceWord, Beside, LawfulEpochs, place_now, arrived_port, having_passed, Arrives, at_next_port, having_given, having_loaded, having_looked, having_put, just_taken, owning_port, having_published, having_set, next_beside, next_place, resting_arena, MayMove, Move, MoveLeads, moved_words, since_behind, Makes, Seals, PassesSealed, LooksAsOwner, StoresMark, LoadsCurrent, ExchangesMark, Takes, Gives, FindsElsewhere, LoadsMark, Puts, Sets, Notes, Sees, Rests, FindsClear, LawfulMemory, KeepsTime}, Entering.{current_is, cw_at, not_marked}, Lists.{put_all, put_other, put_same}, Places.packed_arena, Time.steps_keep_places, TallyAsides.{aside, counts_mark, loads, loads_less, looks, own_stays, own_stays_set, owner, owner_here, owner_less, passed, passed_less, publishes, publishes_less, same_control}, TallyChanges.{counts_entry, counts_give, counts_put, counts_take}, Tally.{IsBesideTally, IsHeld, NameAsBefore, OwnsAsBefore, counts_arrival, counts_beside, gives_looked, gives_owned, gives_passed, held_within, met_stays, named_stays, place_epoch, place_low, owner_is, owners_stay, some_to, stands_at, use_stays, weight_as}, Weights.{credit_few, sum_less, sum_within, weigh, weigh_away, weigh_here, weigh_not_since, weigh_within}}
+use Rattle.partial_epochs.proofs.{Common.{ℕ, ◌≡◌, ◌-◌, ◌<◌, Bool, true, Option, Some, IfSome, List, slice_index, refl, sym, ap, subst, ◌∙◌, inl, inr, arith, Noted, Add, put, Place, Plan, at_word, current_word, entering_mark, own_word, seal, unpacked, OwnedArena, Port, Marks, Loaded, Beside, LawfulEpochs, place_now, arrived_port, having_passed, at_next_port, having_given, having_loaded, having_looked, having_put, just_taken, owning_port, having_published, having_set, MayMove, Move, MoveLeads, moved_words, since_behind, Makes, Seals, PassesSealed, LooksAsOwner, StoresMark, LoadsCurrent, ExchangesMark, Takes, Gives, FindsElsewhere, LoadsMark, Puts, Sets, Notes, Sees, Rests, FindsClear, KeepsTime}, Entering.{current_is}, Lists.{put_all}, Places.packed_arena, Time.steps_keep_places, TallyAsides.{aside, counts_mark, loads, loads_less, looks, own_stays, own_stays_set, owner, owner_here, owner_less, passed, passed_less, publishes, publishes_less, same_control}, TallyChanges.{counts_entry, counts_give, counts_put, counts_take}, Tally.{IsHeld, held_within, owner_is, some_to}}
 use Rattle.partial_epochs.specs.EveryStep.Move.{Looks, Publishes}
 use Rattle.partial_epochs.specs.FreeArenas.{Counts, EveryStepCounts, HasMet, KeepsTally, LeavesInUse, MayCount, MeetingsKeepTally, OpeningsKeepTally, Tally, met_behind}
 
+-- no arena is owned
 pub openings_keep_tally : OpeningsKeepTally
 openings_keep_tally e words opens = record {
   owners = λ x low some. absurd (some (opens.control (own_word e x) (omega (arith, low))));
@@ -11,6 +12,7 @@ openings_keep_tally e words opens = record {
   met = λ k low is. tt;
 }
 
+-- a meeting has a cause
 pub meetings_keep_tally : MeetingsKeepTally
 meetings_keep_tally e words ports t k o s owned looked cause = record {
   owners = s.owners;
@@ -24,13 +26,14 @@ meetings_keep_tally e words ports t k o s owned looked cause = record {
     t' : Tally
     t' = record t { met = put k true t.met }
 
--- each move, as it is made
+-- the port makes a move
 module _ (e : Plan) (words : List ℕ) (ports : ℕ → Port) (b : Beside) (notes : ℕ → List Noted) (k : ℕ) (w : LawfulEpochs e words ports b) (below : k < e.ports) (since : ℕ → ℕ) (t : Tally)
     (time : KeepsTime e words ports (place_now b) since) (s : KeepsTally e words ports t) where
   -- port k comes to be p, and c stands beside the words
   abbrev Goal : Move → List ℕ → Port → Beside → (ℕ → ℕ) → Type 0
   Goal m words' p c since' = Counts e words words' ports (put k p ports) (place_now b) (place_now c) since since' t k m
 
+  -- port k is q, which is p
   to : (m : Move) (words' : List ℕ) (p q : Port) (c : Beside) (since' : ℕ → ℕ) → q ≡ p → Goal m words' p c since' → Goal m words' q c since'
   to m words' p q c since' is = subst (λ (r : Port). Goal m words' r c since') (sym is)
 
@@ -51,6 +54,7 @@ module _ (e : Plan) (words : List ℕ) (ports : ℕ → Port) (b : Beside) (note
   held : (o : OwnedArena) → (ports k).control.owned ≡ Some o → IfSome o.mark (IsHeld e words t k o)
   held o is = subst (λ (d : Option OwnedArena). IfSome d (λ o. IfSome o.mark (IsHeld e words t k o))) is (held_within e words ports b w t s k below)
 
+  -- each move counts
   counts : (m : Move) → MayMove e words ports b notes k m → MayCount (ports k) t k m → (l : MoveLeads e words (moved_words e words (ports k) k m) ports b notes k m) →
       Goal m (moved_words e words (ports k) k m) l.port l.beside (since_behind b k m since)
   counts Rests may so l = still Rests l.port l.beside (ap (λ (p : Port). p.control) l.becomes.0) (λ q. refl) tt

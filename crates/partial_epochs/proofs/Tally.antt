@@ -1,5 +1,5 @@
 -- What each kind of step makes of the tally of arrivals, and of the arenas that are in use.
-use Rattle.partial_epochs.proofs.{Common.{ℕ, ◌≡◌, ◌≢◌, ◌+◌, ◌<◌, ◌≤◌, ◌/◌, ◌%◌, ◌⊎◌, Bool, true, false, if◌then◌else◌, Option, Some, None, IfSome, List, slice_index, refl, sym, ap, subst, ◌∙◌, inl, inr, arith, eqb_tells, cases_lt, put, IsPlace, Place, Plan, arena_limit, at_word, control_words, entering_mark, marked, own_word, packed, Control, Entering, OwnedArena, Port, Stands, Marks, Loaded, IsOwner, IsPlaceWord, Beside, LawfulEpochs, controls, numbers, place_now, owning_port, Move}, Entering.cw_at, Lists.{put_all, put_other, put_same}, Weights.{credit_few, pick, sum_arrived, sum_within, weigh, weigh_arrived, weigh_within}}
+use Rattle.partial_epochs.proofs.{Common.{ℕ, ◌≡◌, ◌≢◌, ◌+◌, ◌<◌, ◌≤◌, ◌/◌, ◌%◌, ◌⊎◌, Bool, true, false, if◌then◌else◌, Option, Some, None, IfSome, List, slice_index, refl, sym, ap, subst, ◌∙◌, inl, inr, arith, eqb_tells, cases_lt, put, IsPlace, Place, Plan, arena_limit, at_word, control_words, entering_mark, marked, own_word, packed, Control, Entering, OwnedArena, Port, Stands, Marks, Loaded, IsOwner, IsPlaceWord, Beside, LawfulEpochs, controls, numbers, place_now, Move}, Entering.cw_at, Lists.{put_all}, Weights.{credit_few, pick, sum_arrived, sum_within, weigh, weigh_arrived, weigh_within}}
 use Rattle.partial_epochs.specs.FreeArenas.{Counts, HasMet, HasSeenArrival, IsInUse, IsNamed, IsOwnedBySome, KeepsTally, LeavesInUse, Tally, credit, gives_at, gives_left, may_free, met_behind, weight}
 
 -- what follows for the value, if there is one
@@ -43,10 +43,11 @@ gives_owned Stands o o' = omega arith
 gives_owned Marks o o' = omega arith
 gives_owned (Loaded c) o o' = omega arith
 
--- the word of a place is no mark, and has the place's epoch
+-- the word of a place is no mark
 pub place_low : (e : Plan) (c : Place) → e.arenas ≤ arena_limit → IsPlace e c → packed c < entering_mark
 place_low e c few h = let r = h.epoch in let a = h.arena in omega (arith, few, r, a)
 
+-- and it has the place's epoch
 pub place_epoch : (e : Plan) (c : Place) → e.arenas ≤ arena_limit → IsPlace e c → packed c / arena_limit ≡ c.epoch
 place_epoch e c few h = let a = h.arena in omega (arith, few, a)
 
@@ -101,9 +102,11 @@ module _ (e : Plan) (words : List ℕ) (ports : ℕ → Port) (b : Beside) (w : 
 abbrev pub NameAsBefore : Plan → List ℕ → List ℕ → Type 0
 NameAsBefore e words words' = (q : ℕ) → q < e.ports → slice_index words' (at_word q) % arena_limit ≡ slice_index words (at_word q) % arena_limit
 
+-- a port's word that names arena x does so then
 pub named_stays : (e : Plan) (words words' : List ℕ) (x : ℕ) → NameAsBefore e words words' → IsNamed e words x → IsNamed e words' x
 named_stays e words words' x alike h = record { port = h.port; inside = h.inside; names = alike h.port h.inside ∙ h.names }
 
+-- an owner that has met another port has done so then
 pub met_stays : (e : Plan) (words words' : List ℕ) (c : Control) (t : Tally) (q : ℕ) (o : OwnedArena) → NameAsBefore e words words' → HasMet e words c t q o → HasMet e words' c t q o
 met_stays e words words' c t q o alike h = record {
   looked = h.looked;
@@ -113,6 +116,7 @@ met_stays e words words' c t q o alike h = record {
   ];
 }
 
+-- an arena that is in use is so then
 pub use_stays : (e : Plan) (words words' : List ℕ) (q x : ℕ) → NameAsBefore e words words' → slice_index words' (own_word e x) ≡ slice_index words (own_word e x) → IsInUse e words q x → IsInUse e words' q x
 use_stays e words words' q x alike own h = elim h [
   | inl named ↦ inl (named_stays e words words' x alike named)
@@ -126,6 +130,7 @@ OwnsAsBefore was is = (o : OwnedArena) → was ≡ Some o → (o' : OwnedArena) 
 module _ (e : Plan) (words words' : List ℕ) (ports : ℕ → Port) (k : ℕ) (p : Port)
     (own : (x : ℕ) → x < e.arenas → slice_index words' (own_word e x) ≡ slice_index words (own_word e x))
     (owned : OwnsAsBefore (ports k).control.owned p.control.owned) where
+  -- each arena that is owned is so then
   pub owners_stay : ((x : ℕ) → x < e.arenas → slice_index words (own_word e x) ≢ 0 → IsOwnedBySome e words ports x) →
       (x : ℕ) → x < e.arenas → slice_index words' (own_word e x) ≢ 0 → IsOwnedBySome e words' (put k p ports) x
   owners_stay owners x low some =
@@ -148,6 +153,7 @@ module _ (e : Plan) (words words' : List ℕ) (ports : ℕ → Port) (b : Beside
   as_before : NameAsBefore e words words'
   as_before q low = ap (λ v. v % arena_limit) (a.at q low)
 
+  -- the tally is kept
   tally_stays : KeepsTally e words' (put k p ports) t
   tally_stays = record {
     owners = owners_stay e words words' ports k p a.own a.owned s.owners;
@@ -165,11 +171,13 @@ module _ (e : Plan) (words words' : List ℕ) (ports : ℕ → Port) (b : Beside
 
   module _ (now now' : Place) (since : ℕ → ℕ) (m : Move) (less : now'.epoch ≡ now.epoch → weight_as e words p now.epoch since t k ≤ weight_as e words (ports k) now.epoch since t k)
       (met : (q : ℕ) → t.met q ≡ met_behind k m t.met q) (leaves : LeavesInUse e words' t t m) where
+    -- no port weighs more
     weights_within : now'.epoch ≡ now.epoch → (q : ℕ) → q < e.ports → weight e words' (put k p ports) now.epoch since t q ≤ weight e words ports now.epoch since t q
     weights_within same q low =
         subst (λ v. weigh e.ports v now.epoch (since q) (credit t q (put k p ports q).control.owned) (gives_left (put k p ports q).control) ≤ weight e words ports now.epoch since t q) (sym (a.at q low))
         (put_all (λ i (r : Port). weight_as e words r now.epoch since t i ≤ weight_as e words (ports i) now.epoch since t i) k p ports q (λ _. less same) (λ _. omega arith))
 
+    -- so the step counts
     pub counts_beside : Counts e words words' ports (put k p ports) now now' since since t k m
     counts_beside = record {
       there = t;
@@ -192,6 +200,7 @@ module _ (e : Plan) (words words' : List ℕ) (ports : ℕ → Port) (k r : ℕ)
     (own : (x : ℕ) → x < e.arenas → slice_index words' (own_word e x) ≡ slice_index words (own_word e x))
     (owned : OwnsAsBefore (ports k).control.owned p.control.owned)
     (met : t.met k ≡ true → IfSome p.control.owned (λ o. (p.control.past ≡ true) ⊎ (o.looked ≡ true))) where
+  -- every owner has seen an arrival then
   tally_arrives : KeepsTally e words' (put k p ports) (having_arrived t)
   tally_arrives = record {
     owners = owners_stay e words words' ports k p own owned s.owners;
@@ -210,12 +219,14 @@ module _ (e : Plan) (words words' : List ℕ) (ports : ℕ → Port) (k r : ℕ)
   module _ (now now' : Place) (since : ℕ → ℕ) (m : Move) (epoch : ℕ) (high : entering_mark ≤ slice_index words (at_word r)) (low' : slice_index words' (at_word r) < entering_mark)
       (is : slice_index words' (at_word r) / arena_limit ≡ epoch) (late : since r ≤ epoch) (old : epoch ≤ now.epoch) (gives : k ≢ r → gives_left p.control ≤ gives_left (ports k).control)
       (met' : (q : ℕ) → t.met q ≡ met_behind k m t.met q) (leaves : LeavesInUse e words' t (having_arrived t) m) where
+    -- port r weighs less, by the number of ports
     weight_arrived : weight e words' (put k p ports) now.epoch since (having_arrived t) r + e.ports ≤ weight e words ports now.epoch since t r
     weight_arrived =
         let c = (put k p ports r).control in
         weigh_arrived e.ports (slice_index words (at_word r)) (slice_index words' (at_word r)) epoch now.epoch (since r) (credit t r (ports r).control.owned) (gives_left (ports r).control)
         (credit (having_arrived t) r c.owned) (gives_left c) high low' is late old (credit_few (having_arrived t) r c.owned) (gives_few c.entering c.past c.owned)
 
+    -- each other port weighs at most 1 more
     weights_more : (q : ℕ) → q < e.ports → q ≢ r → weight e words' (put k p ports) now.epoch since (having_arrived t) q ≤ weight e words ports now.epoch since t q + 1
     weights_more q low ne =
         let c = (put k p ports q).control in
@@ -225,6 +236,7 @@ module _ (e : Plan) (words words' : List ℕ) (ports : ℕ → Port) (k r : ℕ)
         (weigh_within e.ports (slice_index words (at_word q)) now.epoch (since q) (credit t q (ports q).control.owned) (gives_left (ports q).control) (credit (having_arrived t) q c.owned) (gives_left c) 1
         (omega (arith, few)) (omega (arith, fewer)))
 
+    -- so the step counts
     pub counts_arrival : Counts e words words' ports (put k p ports) now now' since since t k m
     counts_arrival = record {
       there = having_arrived t;

@@ -1,6 +1,5 @@
 -- What the steps make of the tally that change no owner word, and by which no port comes to another place.
-use Rattle.partial_epochs.proofs.{Common.{ℕ, ◌≡◌, ◌≢◌, ◌+◌, ◌-◌, ◌*◌, ◌<◌, ◌≤◌, ◌/◌, ◌%◌, ◌^◌, ◌==◌, ◌⊎◌, Bool, true, false, if◌then◌else◌, Option, Some, None, IfSome, List, [], ◌∷◌, length, slice_index, slice_set, refl, sym, ap, subst, ◌∙◌, inl, inr, arith, eqb_tells, cases_lt, get_or-set_same, get_or-set_other, some_same, Noted, words_after, Step, Load, Store, Exchange, Add, put, IsPlace, Place, Plan, arena_limit, at_word, base, control_size, control_words, current_word, entering_mark, marked, own_word, packed, placed_step, seal, set_word, unpacked, Control, Entering, OwnedArena, Port, Stands, Marks, Loaded, IsOld, IsOwner, IsPlaceWord, Beside, LawfulEpochs, place_now, arrived_port, having_passed, Arrives, at_next_port, having_given, having_loaded, having_looked, having_put, just_taken, owning_port, having_published, having_set, next_beside, next_place, resting_arena, MayMove, Move, MoveLeads, moved_words, since_behind, Makes, Seals, PassesSealed, LooksAsOwner, StoresMark, LoadsCurrent, ExchangesMark, Takes, Gives, FindsElsewhere, LoadsMark, Puts, Sets, Notes, Sees, Rests, FindsClear, LawfulMemory, KeepsTime}, Entering.{current_is, cw_at, not_marked}, Lists.{put_all, put_other, put_same}, Places.packed_arena, Time.steps_keep_places, Tally.{IsBesideTally, IsHeld, NameAsBefore, OwnsAsBefore, counts_arrival, counts_beside, gives_looked, gives_owned, gives_passed, held_within, met_stays, named_stays, place_epoch, place_low, owner_is, owners_stay, some_to, stands_at, use_stays, weight_as}, Weights.{credit_few, sum_less, sum_within, weigh, weigh_away, weigh_here, weigh_not_since, weigh_within}}
-use Rattle.partial_epochs.specs.EveryStep.Move.{Looks, Publishes}
+use Rattle.partial_epochs.proofs.{Common.{ℕ, ◌≡◌, ◌≢◌, ◌+◌, ◌<◌, ◌≤◌, ◌/◌, ◌%◌, ◌^◌, ◌==◌, ◌⊎◌, Bool, true, if◌then◌else◌, Option, Some, IfSome, List, slice_index, slice_set, refl, sym, ap, subst, ◌∙◌, inl, inr, arith, eqb_tells, get_or-set_same, get_or-set_other, some_same, words_after, Step, Load, Store, Exchange, Add, put, IsPlace, Place, Plan, arena_limit, at_word, base, control_size, current_word, entering_mark, marked, own_word, packed, placed_step, set_word, Control, Entering, OwnedArena, Port, Stands, Marks, Loaded, Beside, LawfulEpochs, place_now, having_passed, owning_port, having_published, next_place, resting_arena, Move, StoresMark}, Entering.{not_marked}, Lists.{put_all, put_other, put_same}, Tally.{IsBesideTally, IsHeld, NameAsBefore, counts_beside, gives_looked, gives_owned, gives_passed, held_within, met_stays, place_epoch, place_low, owners_stay, some_to, stands_at, use_stays, weight_as}, Weights.{sum_within, weigh, weigh_away, weigh_here, weigh_not_since, weigh_within}}
 use Rattle.partial_epochs.specs.FreeArenas.{Counts, HasMet, HasSeenArrival, IsNamed, KeepsTally, LeavesInUse, Tally, credit, gives_at, gives_left, may_free, met_behind, weight}
 
 -- a control word is another one than each word of an arena
@@ -55,6 +54,7 @@ module _ (e : Plan) (words : List ℕ) (ports : ℕ → Port) (b : Beside) (k : 
       (omega (arith, few)) (omega (arith, fewer)) in
       omega (arith, le)
 
+  -- credit is that of an owner, whatever the state of its arena
   credit_owned : (o o' : OwnedArena) → (ports k).control.owned ≡ Some o → credit t k (Some o') ≡ credit t k (ports k).control.owned
   credit_owned o o' is = sym (ap (credit t k) is)
 
@@ -89,6 +89,7 @@ module _ (e : Plan) (words : List ℕ) (ports : ℕ → Port) (b : Beside) (k : 
         (s.met k below is);
   }
 
+  -- it weighs no more
   pub passed_less : WeighsNoMore (having_passed (ports k))
   passed_less = within (having_passed (ports k)) (omega arith) (gives_passed (ports k).control.entering (ports k).control.past (ports k).control.owned)
 
@@ -108,6 +109,7 @@ module _ (e : Plan) (words : List ℕ) (ports : ℕ → Port) (b : Beside) (k : 
   module _ (o o' : OwnedArena) (is : (ports k).control.owned ≡ Some o) (arena : o'.arena ≡ o.arena) (looked : o.looked ≡ true → o'.looked ≡ true)
       (mark : IfSome o'.mark (IsHeld e words t k o')) (words' : List ℕ) (at : (q : ℕ) → q < e.ports → slice_index words' (at_word q) ≡ slice_index words (at_word q))
       (own : (x : ℕ) → x < e.arenas → slice_index words' (own_word e x) ≡ slice_index words (own_word e x)) where
+    -- the tally says of it what it said
     pub owner : Keeps words' (owning_port (ports k) o')
     owner = record {
       at = at;
@@ -128,6 +130,7 @@ module _ (e : Plan) (words : List ℕ) (ports : ℕ → Port) (b : Beside) (k : 
           };
     }
 
+    -- it weighs no more, if it has looked as before
     pub owner_less : o'.looked ≡ o.looked → WeighsNoMore (owning_port (ports k) o')
     owner_less same =
         let few = credit_owned o o' is in
@@ -205,6 +208,7 @@ module _ (e : Plan) (words : List ℕ) (ports : ℕ → Port) (b : Beside) (k : 
     word_was : slice_index words (at_word k) ≡ packed here
     word_was = stands_at e words ports b w k below stands
 
+    -- the mark names the arena that the word named
     mark_alike : NameAsBefore e words marked_words
     mark_alike q low = elim (eqb_tells q k) [
       | inl same ↦ subst (λ i. slice_index marked_words (at_word i) % arena_limit ≡ slice_index words (at_word i) % arena_limit) (sym same.1)
@@ -212,6 +216,7 @@ module _ (e : Plan) (words : List ℕ) (ports : ℕ → Port) (b : Beside) (k : 
       | inr ne ↦ ap (λ v. v % arena_limit) (mark_other q ne.1)
     ]
 
+    -- the tally is kept
     tally_marked : KeepsTally e marked_words (put k marks_port ports) t
     tally_marked = record {
       owners = owners_stay e words marked_words ports k marks_port mark_own (λ o is. (o, is, refl)) s.owners;
@@ -235,6 +240,7 @@ module _ (e : Plan) (words : List ℕ) (ports : ℕ → Port) (b : Beside) (k : 
               | inr has ↦ inr has
             ])) (held_within e words ports b w t s q low)
 
+    -- no port weighs more: the one that stores its mark stood in an earlier epoch
     weights_marked : (q : ℕ) → q < e.ports → weight e marked_words (put k marks_port ports) now (put k now since) t q ≤ weight e words ports now since t q
     weights_marked q low = elim (eqb_tells q k) [
       | inl same ↦ subst (λ i. weight e marked_words (put k marks_port ports) now (put k now since) t i ≤ weight e words ports now since t i) (sym same.1) own_weight
@@ -260,6 +266,7 @@ module _ (e : Plan) (words : List ℕ) (ports : ℕ → Port) (b : Beside) (k : 
             (λ even. let same = ap (λ v. v / arena_limit) was in omega (arith, even, same, epoch, old)) in
             omega (arith, after, before)
 
+    -- so the step counts
     pub counts_mark : (c : Beside) → Goal StoresMark marked_words marks_port c (put k now since)
     counts_mark c = record {
       there = t;

@@ -1,9 +1,9 @@
 -- What the steps make of the tally by which a port comes to another place, and those on owner words.
-use Rattle.partial_epochs.proofs.{Common.{ℕ, ◌≡◌, ◌≢◌, ◌+◌, ◌*◌, ◌<◌, ◌≤◌, ◌/◌, ◌%◌, ◌==◌, ◌⊎◌, nat_lt, Bool, true, false, if◌then◌else◌, Option, Some, None, IfSome, List, length, slice_index, slice_set, refl, sym, ap, subst, ◌∙◌, inl, inr, arith, eqb_tells, get_or-set_same, get_or-set_other, lt-ltb, some_same, put, IsPlace, Place, Plan, arena_limit, at_word, control_words, entering_mark, marked, own_word, packed, Control, Entering, OwnedArena, Port, Stands, Loaded, IsOld, IsOwner, IsPlaceWord, Beside, LawfulEpochs, controls, numbers, place_now, arrived_port, Arrives, at_next_port, having_given, having_put, just_taken, owning_port, Takes, Gives, ExchangesMark, Puts, KeepsTime}, Entering.cw_at, Lists.{put_all, put_other, put_same}, Tally.{IsBesideTally, IsHeld, NameAsBefore, OwnsAsBefore, counts_arrival, counts_beside, gives_looked, held_within, named_stays, owner_is, place_epoch, place_low, some_to, stands_at, use_stays, weight_as}, Weights.{sum_less, sum_within, weigh, weigh_away, weigh_here, weigh_within}}
+use Rattle.partial_epochs.proofs.{Common.{ℕ, ◌≡◌, ◌≢◌, ◌+◌, ◌<◌, ◌≤◌, ◌/◌, ◌%◌, ◌==◌, ◌⊎◌, nat_lt, Bool, true, false, if◌then◌else◌, Option, Some, None, IfSome, List, length, slice_index, slice_set, refl, sym, ap, subst, ◌∙◌, inl, inr, arith, eqb_tells, get_or-set_same, get_or-set_other, lt-ltb, some_same, put, IsPlace, Place, Plan, arena_limit, at_word, control_words, entering_mark, marked, own_word, packed, Entering, OwnedArena, Port, Stands, Loaded, IsOld, IsOwner, Beside, LawfulEpochs, controls, numbers, place_now, arrived_port, Arrives, at_next_port, having_given, having_put, just_taken, owning_port, Takes, Gives, ExchangesMark, Puts, KeepsTime}, Lists.{put_all, put_other, put_same}, Tally.{IsBesideTally, IsHeld, NameAsBefore, OwnsAsBefore, counts_arrival, counts_beside, gives_looked, held_within, named_stays, owner_is, place_epoch, place_low, some_to, stands_at, use_stays, weight_as}, Weights.{sum_less, sum_within, weigh, weigh_away, weigh_here, weigh_within}}
 use Rattle.std.proofs.lemmas.Bool.{le-ltb}
-use Rattle.partial_epochs.specs.FreeArenas.{Counts, HasMet, HasSeenArrival, IsInUse, IsNamed, IsOwnedBySome, KeepsTally, Tally, credit, gives_at, gives_left, may_free, weight}
+use Rattle.partial_epochs.specs.FreeArenas.{Counts, HasMet, HasSeenArrival, IsNamed, IsOwnedBySome, KeepsTally, Tally, credit, gives_at, gives_left, may_free, weight}
 
--- credit is that of the arrivals at the take
+-- credit depends on the arrivals alone, then and at the take
 credit_same : (t t' : Tally) (q : ℕ) → t'.taken q ≡ t.taken q → t'.arrivals ≡ t.arrivals → (o : Option OwnedArena) → credit t' q o ≡ credit t q o
 credit_same t t' q taken arrivals None = refl
 credit_same t t' q taken arrivals (Some o) = ap (λ n. if nat_lt n t'.arrivals then 1 else 0) taken ∙ ap (λ n. if nat_lt (t.taken q) n then 1 else 0) arrivals
@@ -40,6 +40,7 @@ module _ (e : Plan) (words : List ℕ) (ports : ℕ → Port) (b : Beside) (k : 
     abbrev entered_words : List ℕ
     entered_words = slice_set words (at_word k) v
 
+    -- a port that enters owns no arena
     owns_none : (o : OwnedArena) → (ports k).control.owned ≡ Some o → ⊥
     owns_none o is = let bad : Stands ≡ Loaded c = sym (owner_is e words ports b w k below o is).stands ∙ entering in absurd cc
 
@@ -82,6 +83,7 @@ module _ (e : Plan) (words : List ℕ) (ports : ℕ → Port) (b : Beside) (k : 
       met = λ _. tt;
     }
 
+    -- it weighs no more
     lost_less : weight_as e words arriving now since t k ≤ weight_as e words (ports k) now since t k
     lost_less =
         let one : 1 ≤ gives_left (ports k).control = subst (λ (n : Entering). 1 ≤ gives_at n (ports k).control.past (ports k).control.owned) (sym entering) (omega arith) in
@@ -89,6 +91,7 @@ module _ (e : Plan) (words : List ℕ) (ports : ℕ → Port) (b : Beside) (k : 
         (gives_left arriving.control) 0 (omega arith) (omega (arith, one)) in
         omega (arith, le)
 
+    -- the step counts, won or lost
     pub counts_entry : (now' : Place) → Counts e words entered_words ports (put k arriving ports) (place_now b) now' since since t k (ExchangesMark c)
     counts_entry now' = elim (eqb_tells (slice_index words (at_word k)) (marked here)) [
       | inl won ↦
@@ -117,6 +120,7 @@ module _ (e : Plan) (words : List ℕ) (ports : ℕ → Port) (b : Beside) (k : 
     put_there : slice_index put_words (at_word o.clean) ≡ packed here
     put_there = (let count = w.count in get_or-set_same words (at_word o.clean) put_word 0 (omega (arith, count, low))) ∙ won
 
+    -- the step counts
     pub counts_put : (now' : Place) → Counts e words put_words ports (put k (having_put (ports k) o) ports) (place_now b) now' since since t k (Puts o a)
     counts_put now' =
         let stands = (owner_is e words ports b w k below o is).stands in
@@ -160,6 +164,7 @@ module _ (e : Plan) (words : List ℕ) (ports : ℕ → Port) (b : Beside) (k : 
       | inr some ↦ absurd (some.1 zero_there)
     ]
 
+    -- the tally is kept
     tally_taken : KeepsTally e taken_words (put k taker ports) taken_tally
     tally_taken = record {
       owners = λ y low some. elim (eqb_tells y x) [
@@ -199,6 +204,7 @@ module _ (e : Plan) (words : List ℕ) (ports : ℕ → Port) (b : Beside) (k : 
         seen : (q : ℕ) → q ≢ k → HasSeenArrival t q → HasSeenArrival taken_tally q
         seen q ne has = subst (λ n. n < t.arrivals) (sym (put_other k t.arrivals t.taken q ne)) has
 
+    -- the port weighs no more, as there has been no arrival since
     taker_weighs : weigh e.ports (slice_index taken_words (at_word k)) now (since k) (credit taken_tally k taker.control.owned) (gives_left taker.control) ≤ weight e words ports now since t k
     taker_weighs = subst (λ u. weigh e.ports u now (since k) (credit taken_tally k taker.control.owned) (gives_left taker.control) ≤ weight e words ports now since t k) (sym (taken_at k below))
         (let le = weigh_within e.ports (slice_index words (at_word k)) now (since k) (credit t k (ports k).control.owned) (gives_left (ports k).control) (credit taken_tally k taker.control.owned) (gives_left taker.control) 0
@@ -212,6 +218,7 @@ module _ (e : Plan) (words : List ℕ) (ports : ℕ → Port) (b : Beside) (k : 
             (subst (λ (n : Entering). gives_at n (ports k).control.past (Some (just_taken x)) ≤ gives_at n (ports k).control.past None) (sym stands)
             (subst (λ (y : Bool). gives_at Stands y (Some (just_taken x)) ≤ gives_at Stands y None) (sym present) (omega arith)))
 
+    -- no port weighs more
     weights_taken : (q : ℕ) → q < e.ports → weight e taken_words (put k taker ports) now since taken_tally q ≤ weight e words ports now since t q
     weights_taken q low = put_all (λ i (r : Port). i < e.ports → weigh e.ports (slice_index taken_words (at_word i)) now (since i) (credit taken_tally i r.control.owned) (gives_left r.control)
         ≤ weight e words ports now since t i) k taker ports q (λ _ _. taker_weighs)
@@ -219,6 +226,7 @@ module _ (e : Plan) (words : List ℕ) (ports : ℕ → Port) (b : Beside) (k : 
         (subst (λ c. weigh e.ports (slice_index words (at_word q)) now (since q) c (gives_left (ports q).control) ≤ weight e words ports now since t q)
         (sym (credit_same t taken_tally q (put_other k t.arrivals t.taken q ne) refl (ports q).control.owned)) (omega arith))) low
 
+    -- the step counts
     pub counts_take : (now' : Place) → Counts e words taken_words ports (put k taker ports) (place_now b) now' since since t k (Takes x)
     counts_take now' = record {
       there = taken_tally;
@@ -263,6 +271,7 @@ module _ (e : Plan) (words : List ℕ) (ports : ℕ → Port) (b : Beside) (k : 
     given_own : slice_index given_words (own_word e o.arena) ≡ 0
     given_own = get_or-set_same words (own_word e o.arena) 0 0 (own_inside o.arena as_owner.arena)
 
+    -- the tally is kept, however many arenas it counts as freed
     tally_given : (d : ℕ) → KeepsTally e given_words (put k giver ports) (given_tally d)
     tally_given d = record {
       owners = λ y low some.
@@ -296,6 +305,7 @@ module _ (e : Plan) (words : List ℕ) (ports : ℕ → Port) (b : Beside) (k : 
           }) (s.met q low met)) low;
     }
 
+    -- d arenas are counted as freed, and the port weighs less by d
     module _ (d : ℕ) (leaves : t.freed + d ≡ t.freed → IsNamed e given_words o.arena) (less : weight_as e words giver now since t k + d ≤ weight_as e words (ports k) now since t k) (now' : Place) where
       giver_weighs : weight e given_words (put k giver ports) now since (given_tally d) k + d ≤ weight e words ports now since t k
       giver_weighs = subst (λ u. weigh e.ports u now (since k) (credit t k (put k giver ports k).control.owned) (gives_left (put k giver ports k).control) + d ≤ weight e words ports now since t k)
@@ -346,6 +356,7 @@ module _ (e : Plan) (words : List ℕ) (ports : ℕ → Port) (b : Beside) (k : 
             ] in
             subst (λ (y : Bool). ◌≤◌ 2 (if y then 2 else 1)) (sym looked) (omega arith)
 
+    -- the step counts: in the current epoch an arena comes free by credit alone
     pub counts_give : (now' : Place) → Counts e words given_words ports (put k giver ports) (place_now b) now' since since t k (Gives o)
     counts_give now' = elim (eqb_tells here.epoch now) [
       | inl even ↦

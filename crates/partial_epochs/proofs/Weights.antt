@@ -1,5 +1,5 @@
 -- Sums of weights, and how weights change.
-use Rattle.partial_epochs.proofs.{Common.{ℕ, zero, suc, ◌≡◌, ◌≢◌, ◌+◌, ◌*◌, ◌<◌, ◌≤◌, ◌==◌, ◌/◌, ◌⊎◌, nat_lt, Bool, true, false, if◌then◌else◌, Option, Some, None, IfSome, refl, sym, ap, subst, ◌∙◌, inl, inr, arith, eqb_tells, cases_lt, lt-ltb, arena_limit, entering_mark, unpacked, OwnedArena}}
+use Rattle.partial_epochs.proofs.{Common.{ℕ, zero, suc, ◌≡◌, ◌≢◌, ◌+◌, ◌*◌, ◌<◌, ◌≤◌, ◌==◌, ◌/◌, nat_lt, Bool, true, false, if◌then◌else◌, Option, Some, None, refl, sym, ap, subst, ◌∙◌, inl, inr, arith, eqb_tells, lt-ltb, arena_limit, entering_mark, OwnedArena}}
 use Rattle.std.proofs.lemmas.Bool.{le-ltb}
 use Rattle.partial_epochs.specs.FreeArenas.{Tally, credit, sum_below}
 
@@ -34,6 +34,7 @@ sum_more f g (suc n) le =
     let here = le n (omega arith) in
     omega (arith, rest, here)
 
+-- one term is less by d, and each other one greater by 1 at most
 sum_one : (f g : ℕ → ℕ) (n r d : ℕ) → r < n → g r + d ≤ f r → ((q : ℕ) → q < n → q ≢ r → g q ≤ f q + 1) → sum_below g n + d + 1 ≤ sum_below f n + n
 sum_one f g zero r d low less le = absurd (omega (arith, low))
 sum_one f g (suc n) r d low less le = elim (eqb_tells n r) [
@@ -52,12 +53,12 @@ sum_one f g (suc n) r d low less le = elim (eqb_tells n r) [
 pub sum_arrived : (f g : ℕ → ℕ) (n r : ℕ) → r < n → g r + n ≤ f r → ((q : ℕ) → q < n → q ≢ r → g q ≤ f q + 1) → sum_below g n + 1 ≤ sum_below f n
 sum_arrived f g n r low less le = let all = sum_one f g n r n low less le in omega (arith, all)
 
--- the weight of a port with the word w, n ports, and that credit and gives
+-- the weight of a port with the word w, among n ports
 abbrev pub weigh : (n w now since credit gives : ℕ) → ℕ
 weigh n w now since credit gives =
     if nat_lt w entering_mark then (if w / arena_limit == now then credit else (n + 1) + gives) else (if nat_lt since now then 2 * n + 3 else n + 1)
 
--- which of both it is
+-- what holds of both branches holds of the choice between them
 pub pick : (P : ℕ → Type 0) (c : Bool) (x y : ℕ) → (c ≡ true → P x) → (c ≡ false → P y) → P (if c then x else y)
 pick P true x y one other = one refl
 pick P false x y one other = other refl
@@ -73,7 +74,7 @@ weigh_within n w now since c g c' g' d credit gives = by (nat_lt w entering_mark
     by false here true = omega arith
     by false here false = omega arith
 
--- the weight of a port that stands in the current epoch, or in another one
+-- the weight of a port whose word names the current epoch
 pub weigh_here : (n w now since c g : ℕ) → w < entering_mark → w / arena_limit ≡ now → weigh n w now since c g ≡ c
 weigh_here n w now since c g low is = ap (λ (m : Bool). if m then (if w / arena_limit == now then c else (n + 1) + g) else (if nat_lt since now then 2 * n + 3 else n + 1)) (lt-ltb w entering_mark low)
     ∙ elim (eqb_tells (w / arena_limit) now) [
@@ -81,6 +82,7 @@ weigh_here n w now since c g low is = ap (λ (m : Bool). if m then (if w / arena
       | inr ne ↦ absurd (ne.1 is)
     ]
 
+-- the weight of one whose word names another epoch
 pub weigh_away : (n w now since c g : ℕ) → w < entering_mark → w / arena_limit ≢ now → weigh n w now since c g ≡ (n + 1) + g
 weigh_away n w now since c g low other = ap (λ (m : Bool). if m then (if w / arena_limit == now then c else (n + 1) + g) else (if nat_lt since now then 2 * n + 3 else n + 1)) (lt-ltb w entering_mark low)
     ∙ elim (eqb_tells (w / arena_limit) now) [
@@ -88,22 +90,24 @@ weigh_away n w now since c g low other = ap (λ (m : Bool). if m then (if w / ar
       | inr ne ↦ ap (λ (m : Bool). if m then c else (n + 1) + g) ne.0
     ]
 
--- that of a port whose word is marked
+-- the weight of a port whose word is marked
 weigh_mark : (n w now since c g : ℕ) → entering_mark ≤ w → weigh n w now since c g ≡ (if nat_lt since now then 2 * n + 3 else n + 1)
 weigh_mark n w now since c g high = ap (λ (m : Bool). if m then (if w / arena_limit == now then c else (n + 1) + g) else (if nat_lt since now then 2 * n + 3 else n + 1)) (le-ltb w entering_mark high)
 
+-- it is at least one more than there are ports
 pub weigh_marked : (n w now since c g : ℕ) → entering_mark ≤ w → n + 1 ≤ weigh n w now since c g
 weigh_marked n w now since c g high = subst (λ m. n + 1 ≤ m) (sym (weigh_mark n w now since c g high))
     (pick (λ m. n + 1 ≤ m) (nat_lt since now) (2 * n + 3) (n + 1) (λ _. omega arith) (λ _. omega arith))
 
--- before the mark, or not
+-- the mark was stored in an earlier epoch
 pub weigh_since : (n w now since c g : ℕ) → entering_mark ≤ w → since < now → weigh n w now since c g ≡ 2 * n + 3
 weigh_since n w now since c g high less = weigh_mark n w now since c g high ∙ ap (λ (m : Bool). if m then 2 * n + 3 else n + 1) (lt-ltb since now less)
 
+-- the mark was stored in the current epoch
 pub weigh_not_since : (n w now since c g : ℕ) → entering_mark ≤ w → now ≤ since → weigh n w now since c g ≡ n + 1
 weigh_not_since n w now since c g high from = weigh_mark n w now since c g high ∙ ap (λ (m : Bool). if m then 2 * n + 3 else n + 1) (le-ltb since now from)
 
--- the weight of a port whose word is put to a place of its own time, by an arrival: n is taken from it
+-- an arrival, at a place no older than the mark, takes n from the weight of the port that arrives
 pub weigh_arrived : (n w w' epoch now since c g c' g' : ℕ) → entering_mark ≤ w → w' < entering_mark → w' / arena_limit ≡ epoch → since ≤ epoch → epoch ≤ now →
     c' ≤ 1 → g' ≤ 2 → weigh n w' now since c' g' + n ≤ weigh n w now since c g
 weigh_arrived n w w' epoch now since c g c' g' high low is late old few most = elim (eqb_tells (w' / arena_limit) now) [

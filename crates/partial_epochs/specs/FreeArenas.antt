@@ -6,7 +6,7 @@ use Rattle.partial_epochs.specs.Layout.{Plan, Place, arena_limit, at_word, enter
 use Rattle.partial_epochs.specs.Ports.{Control, Entering, OwnedArena, Port}
 use Rattle.partial_epochs.specs.Ports.Entering.{Stands}
 use Rattle.partial_epochs.specs.Epochs.{Beside, LawfulEpochs, place_now}
-use Rattle.partial_epochs.specs.Opening.{OpensAll, first_place, first_ports}
+use Rattle.partial_epochs.specs.Opening.{OpensAll, first_ports}
 use Rattle.partial_epochs.specs.Notes.{LawfulMemory}
 use Rattle.partial_epochs.specs.Time.{KeepsTime}
 use Rattle.partial_epochs.specs.EveryStep.{MayMove, Move, MoveLeads, moved_words, since_behind}
@@ -95,7 +95,7 @@ abbrev pub weight : Plan → List ℕ → (ℕ → Port) → ℕ → (ℕ → �
 weight e words ports now since t k =
     if nat_lt (slice_index words (at_word k)) entering_mark
     then (if (unpacked (slice_index words (at_word k))).epoch == now then credit t k (ports k).control.owned
-        else (e.ports + 1) + gives_left (ports k).control)
+    else (e.ports + 1) + gives_left (ports k).control)
     else (if nat_lt (since k) now then 2 * e.ports + 3 else e.ports + 1)
 
 -- the sum of a function's values below n

@@ -300,8 +300,9 @@ pub fn openings_keep_tally()
     ensures { OpeningsKeepTally }
 {}
 
-/// Every step of every port keeps the tally. While one epoch is the current one, each time that an arena may come free
-/// takes one from the number of times that arenas may come free from then on.
+/// Every step of every port keeps the tally. While the current epoch stays, each arena that may come free lowers the
+/// bound on how often arenas may come free from then on, and no step raises it. An arena that is in use stays in use,
+/// unless the tally counts that one may have come free.
 pub fn every_step_counts()
     ensures { EveryStepCounts }
 {}
