@@ -37,3 +37,8 @@ pub mod EveryStep
 pub mod Sums
 pub mod InUse
 pub mod Refused
+pub mod Weights
+pub mod Tally
+pub mod TallyAsides
+pub mod TallyChanges
+pub mod FreeArenas

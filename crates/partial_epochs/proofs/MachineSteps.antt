@@ -1,4 +1,5 @@
 -- Each due step of a machine in the arena where its port stands keeps the lawful state of all epochs.
+use Rattle.std.proofs.lemmas.Bool.{eq-eqb, ne_eqb}
 use Rattle.partial_epochs.proofs.{Common.{ℕ, ◌≡◌, ◌≢◌, ◌+◌, ◌*◌, ◌%◌, ◌^◌, ◌<◌, ◌≤◌, ◌==◌, ◌⊎◌, ◌++◌, Bool, true, false, if◌then◌else◌, Some, List, [], ◌∷◌, length, slice_index, slice_set, refl, sym, ap, subst, ◌∙◌, inl, inr, arith, ◌&&◌, ◌||◌, nat_lt, AllByRecursion, cases_lt, lt-ltb, eqb_tells, get_or-set_same, get_or-set_other, Applied, Opening, Step, Load, Store, Exchange, Add, Layout, total, pool_counter, slot_counter, greatest_record, answer_of, word_of, words_after, steps_left, CoreState, advance, step_of, Part, PartAmong, IsMachineOf, port_of, IsReady, LeadsOn, added_by, lawful_machines_are_ready, steps_stay_lawful, count, list_of, put, Plan, arena_words, carried_words, component_words, placed_step, opening_behind, Port, Epoch, Beside, IsArena, IsStanding, LawfulEpochs, IsPresent, awaits_slot, claims_no_more, slot_limit, mul-le-mul_left, MachineLeads, MachineStepsStayLawful, MayClaim, MeetsSeal, ends_over, Stands, not_below, value_word}, Apart.{IsApart, due_apart}, Change.{Changes, beside_then, change_kept}, Lists.{Around, around_of, count_more, count_one, count_same, length_of, put_all, put_other, put_same}, Places.below_whole, Present.{by_seal, standing}, Slots.{MayClaimWords, awaits, awaits_same, counted, done, one}, Worded.{Words, worded}}
 use Rattle.partial_core.specs.Lawful as one
 use Rattle.partial_core.specs.Steps.{Tells}
@@ -15,18 +16,6 @@ or_last : (a b c : Bool) → c ≡ true → (a || (b || c)) ≡ true
 or_last true b c e = refl
 or_last false true c e = refl
 or_last false false c e = e
-
-not_equal : (i j : ℕ) → i ≢ j → (i == j) ≡ false
-not_equal i j ne = elim (eqb_tells i j) [
-  | inl same ↦ absurd (ne same.1)
-  | inr other ↦ other.0
-]
-
-equal : (i : ℕ) → (i == i) ≡ true
-equal i = elim (eqb_tells i i) [
-  | inl same ↦ same.0
-  | inr other ↦ absurd (other.1 refl)
-]
 
 -- The reserve: a claim that ends past the limit is its port's last.
 module _ (e : Plan) (words : List ℕ) (over : ℕ → Bool) (k : ℕ) (below : k < e.ports) (there : pool_counter e.sizes < length words)
@@ -79,7 +68,7 @@ module _ (e : Plan) (words : List ℕ) (over : ℕ → Bool) (k : ℕ) (below : 
           let less : (slice_index words w + n) % 2 ^ 64 ≤ slice_index words w + n = omega arith in
           let free = may is in
           let v : Bool = over k || ends_over e words (Add w n) in
-          let apart_from : (w == slot_counter e.sizes) ≡ false = not_equal w (slot_counter e.sizes) (λ (bad : w ≡ slot_counter e.sizes). omega (arith, bad, is)) in
+          let apart_from : (w == slot_counter e.sizes) ≡ false = ne_eqb w (slot_counter e.sizes) (λ (bad : w ≡ slot_counter e.sizes). omega (arith, bad, is)) in
           let v_is : v ≡ nat_lt e.limit (slice_index words w + n) = ap (λ (b : Bool). b || ends_over e words (Add w n)) free
           ∙ ap (λ (b : Bool). (b && nat_lt e.limit (slice_index words w + n)) || ((w == slot_counter e.sizes) && nat_lt (slot_limit e) (slice_index words w + n))) test
           ∙ ap (λ (b : Bool). nat_lt e.limit (slice_index words w + n) || (b && nat_lt (slot_limit e) (slice_index words w + n))) apart_from
@@ -176,7 +165,7 @@ module _ (e : Plan) (words : List ℕ) (ports : ℕ → Port) (b : Beside) (k : 
   passes is past = subst (λ (t : Step). (r.over k || ends_over e bw t) ≡ true) (sym is)
       (or_last (r.over k) ((slot_counter e.sizes == pool_counter e.sizes) && nat_lt e.limit (slice_index bw (slot_counter e.sizes) + 1))
       ((slot_counter e.sizes == slot_counter e.sizes) && nat_lt (slot_limit e) (slice_index bw (slot_counter e.sizes) + 1))
-      (ap (λ (b : Bool). b && nat_lt (slot_limit e) (slice_index bw (slot_counter e.sizes) + 1)) (equal (slot_counter e.sizes)) ∙ past))
+      (ap (λ (b : Bool). b && nat_lt (slot_limit e) (slice_index bw (slot_counter e.sizes) + 1)) (eq-eqb (slot_counter e.sizes) (slot_counter e.sizes) refl) ∙ past))
 
   counts : Counts e.sizes (awaits_slot (r.part k)) (awaits_slot leads.y)
   counts =

@@ -220,12 +220,3 @@ pool_within e words components carried r f plan arena =
     let limit = plan.limit in
     let times : greatest_record e.sizes * count r.over 0 e.ports ≤ greatest_record e.sizes * e.ports = mul-le-mul_left (greatest_record e.sizes) (count_few r.over 0 e.ports) in
     omega (arith, reserve, limit, times)
-
-pub pool_small : (e : Plan) (words components carried : List ℕ) (r : Epoch) (f : Type 0) → IsEpochPlan e → IsArena e words components carried r f → slice_index words (pool_counter e.sizes) < 2 ^ 32
-pool_small e words components carried r f plan arena =
-    let within = pool_within e words components carried r f plan arena in
-    let m = plan.sizes.components.1 in
-    let slots = plan.sizes.slots.1 in
-    let lists = plan.sizes.lists in
-    let pool = plan.sizes.pool.1 in
-    omega (arith, within, m, slots, lists, pool)

@@ -53,7 +53,7 @@ HasSeenArrival t k = t.taken k < t.arrivals
 
 -- a port has met another one in the arena that it owns: it has looked, and a word names the arena yet, or a port has come to another place
 -- since the arena was taken
-pub record HasMet (e : Plan) (words : List ℕ) (c : Control) (t : Tally) (k : ℕ) (o : OwnedArena) : Type 0 where
+pub record HasMetPort (e : Plan) (words : List ℕ) (c : Control) (t : Tally) (k : ℕ) (o : OwnedArena) : Type 0 where
   pub looked : (c.past ≡ true) ⊎ (o.looked ≡ true)
   pub cause : IsNamed e words o.arena ⊎ HasSeenArrival t k
 
@@ -67,7 +67,7 @@ pub record KeepsTally (e : Plan) (words : List ℕ) (ports : ℕ → Port) (t : 
   pub marks : (k : ℕ) → k < e.ports → IfSome (ports k).control.owned (λ o. IfSome o.mark (λ a.
       (slice_index words (at_word o.clean) ≡ marked a) ⊎ HasSeenArrival t k))
   -- a port that has met another one did so for a cause
-  pub met : (k : ℕ) → k < e.ports → t.met k ≡ true → IfSome (ports k).control.owned (HasMet e words (ports k).control t k)
+  pub met : (k : ℕ) → k < e.ports → t.met k ≡ true → IfSome (ports k).control.owned (HasMetPort e words (ports k).control t k)
 
 -- a memory as it opens keeps its tally
 abbrev pub OpeningsKeepTally : Type 0
@@ -170,7 +170,7 @@ abbrev pub OwnPlacesAreInUse : Type 0
 OwnPlacesAreInUse = (e : Plan) (words : List ℕ) (ports : ℕ → Port) (b : Beside) (k : ℕ) → LawfulEpochs e words ports b → k < e.ports →
     (ports k).control.entering ≡ Stands → IsInUse e words k (ports k).control.here.arena
 
--- with two arenas for each port, not all arenas are in use by others than a port that owns none
+-- with two arenas for each port, not all arenas are in use by others than one port
 abbrev pub SomeArenaIsFree : Type 0
 SomeArenaIsFree = (e : Plan) (words : List ℕ) (ports : ℕ → Port) (t : Tally) (k : ℕ) → KeepsTally e words ports t → k < e.ports →
     2 * e.ports ≤ e.arenas → ((x : ℕ) → x < e.arenas → IsInUse e words k x) → ⊥

@@ -11,7 +11,7 @@ ghost use Rattle.partial_epochs.specs.Opening.{OpensOverLawful, EpochsOpenLawful
 ghost use Rattle.partial_epochs.specs.Notes.{EpochsFitOneHistory, NotesStayLawful, SightsStayLawful, GlancesStayLawful, AsidesStayLawful, ArrivalsKeepNotes, PublishesKeepNotes, PublicStampsAreUnique};
 ghost use Rattle.partial_epochs.specs.Time.{OpeningsKeepTime, MarksKeepTime, EntriesKeepTime, ArrivalsKeepTime, LooksKeepTime, LoadedMarksKeepTime, PutsKeepTime, PublishesKeepTime, AsidesKeepTime, StepsKeepPlaces};
 ghost use Rattle.partial_epochs.specs.EveryStep.{EveryStepStaysLawful, MemoriesOpenLawful};
-ghost use Rattle.partial_epochs.specs.FreeArenas.{FewComeFree, OwnedArenasAreInUse, OwnPlacesAreInUse, SomeArenaIsFree};
+ghost use Rattle.partial_epochs.specs.FreeArenas.{EveryStepCounts, FewComeFree, MeetingsKeepTally, OpeningsKeepTally, OwnedArenasAreInUse, OwnPlacesAreInUse, SomeArenaIsFree};
 ghost use Rattle.partial_epochs.specs.Reads.{ReadsTellAllEpochs, LastWordsAreFinal, ComponentsNameRecords, SeenRecordsStay};
 ghost use Rattle.partial_epochs.specs.Collects.{CollectsStandTogether, EpochsAreHistories};
 
@@ -313,4 +313,21 @@ pub fn own_places_are_in_use()
 /// With two arenas for each port, some arena is neither named by a port's word nor owned by another port.
 pub fn some_arena_is_free()
     ensures { SomeArenaIsFree }
+{}
+
+/// A memory as it opens keeps its tally: no port owns an arena, and nothing has come yet.
+pub fn openings_keep_tally()
+    ensures { OpeningsKeepTally }
+{}
+
+/// Every step of every port keeps the tally. While the current epoch stays, each arena that may come free lowers the
+/// bound on how often arenas may come free from then on, and no step raises it. An arena that is in use stays in use,
+/// unless the tally counts that one may have come free.
+pub fn every_step_counts()
+    ensures { EveryStepCounts }
+{}
+
+/// A port that has met another one in the arena that it owns may say so in the tally.
+pub fn meetings_keep_tally()
+    ensures { MeetingsKeepTally }
 {}
