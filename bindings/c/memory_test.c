@@ -395,10 +395,10 @@ static void test_threads(void)
     check(values[0] == TURNS && values[1] == TURNS && values[2] == TURNS, "its values are the last ones set");
 }
 
-/* Each number has a text of its own, and 25 and 26 alone are refusals for the moment. */
+/* Each number has a text of its own, and 25 alone is a refusal for the moment. */
 static void test_texts(void)
 {
-    const uint32_t numbers[] = {0, 1, 2, 3, 4, 5, 6, 7, 8, 9, 13, 17, 18, 19, 20, 21, 22, 23, 24, 25, 26, 27, 30, 31};
+    const uint32_t numbers[] = {0, 1, 2, 3, 4, 5, 6, 7, 8, 9, 13, 17, 18, 19, 20, 21, 22, 23, 24, 25, 27, 30, 31};
     const size_t count = sizeof numbers / sizeof *numbers;
     int alike = 0;
     int transient = 0;
@@ -413,7 +413,7 @@ static void test_texts(void)
     }
     check(alike == 0, "each number has a text of its own");
     check(strcmp(partial_text(10), partial_text(UINT32_MAX)) == 0, "no other number has one");
-    check(transient == 2 && partial_is_transient(25) && partial_is_transient(26), "two refusals are for the moment");
+    check(transient == 1 && partial_is_transient(25), "one refusal is for the moment");
 }
 
 /* The header's two versions are one, and the library's too. */

@@ -47,9 +47,9 @@
  * Numbers of refusals
  * -------------------
  * Each function returns 0 when the call was answered, and otherwise the number of
- * the first refusal that holds. `partial_text` returns what a number says. After 25 and 26
- * the same call may be answered when it is made again (`partial_is_transient`); a program
- * bounds how often it does so.
+ * the first refusal that holds. `partial_text` returns what a number says. After 25, which
+ * only updates return, the same call may be answered when it is made again
+ * (`partial_is_transient`); a program bounds how often it does so.
  */
 #ifndef PARTIAL_H
 #define PARTIAL_H
@@ -112,7 +112,6 @@ enum {
     PARTIAL_NULL = 23,         /* a pointer is null */
     PARTIAL_SHARED = 24,       /* another handle still references the memory */
     PARTIAL_OVERTAKEN = 25,    /* the epoch was changed 16 times during the update */
-    PARTIAL_NO_ARENA = 26,     /* each arena is in use, so the epoch can't be changed */
     PARTIAL_EPOCHS_SPENT = 27, /* the epoch is the last one that a word can name */
     PARTIAL_SAME = 30,         /* two pointers are to one handle */
     PARTIAL_OTHER_VERSION = 31 /* the library is of another version than this header */
@@ -142,7 +141,6 @@ static inline const char *partial_text(uint32_t code)
     case PARTIAL_NULL: return "a pointer is null";
     case PARTIAL_SHARED: return "another handle still references the memory";
     case PARTIAL_OVERTAKEN: return "overtaken by changes of epoch: try again";
-    case PARTIAL_NO_ARENA: return "no arena is free: try again when other threads have gone on";
     case PARTIAL_EPOCHS_SPENT: return "epochs used up";
     case PARTIAL_SAME: return "two pointers are to one handle";
     case PARTIAL_OTHER_VERSION: return "the library is of another version than the header";
@@ -150,11 +148,10 @@ static inline const char *partial_text(uint32_t code)
     }
 }
 
-/* Whether the same call may be answered when it is made again: 1 for 25 and 26, otherwise
- * 0. */
+/* Whether the same call may be answered when it is made again: 1 for 25, otherwise 0. */
 static inline int partial_is_transient(uint32_t code)
 {
-    return code == PARTIAL_OVERTAKEN || code == PARTIAL_NO_ARENA;
+    return code == PARTIAL_OVERTAKEN;
 }
 
 /* The sizes of an arena of a `partial_memory`, which has two arenas for each port. */
@@ -371,9 +368,9 @@ static inline uint32_t partial_memory_free(partial_memory *memory)
  * value, or a later one of this component, sees that. A lost one publishes nothing.
  *
  * 23: a pointer is null. 17: the handle holds no port. 7: `component` isn't below the
- * number of components. 25: the epoch was changed 16 times during the call. 26, 27: the
- * epoch has to be changed, and each arena is in use, or the current epoch is the last one
- * that a word can name. `answer` is as it was, and nothing was applied.
+ * number of components. 25: the epoch was changed 16 times during the call. 27: the epoch
+ * has to be changed, and is the last one that a word can name. `answer` is as it was, and
+ * nothing was applied.
  */
 static inline uint32_t partial_port_update(partial_port *port, uint32_t component,
                                            uint64_t value, partial_update_answer *answer)
@@ -422,8 +419,8 @@ static inline uint32_t partial_port_read(partial_port *port, uint32_t component,
  *
  * 23: a pointer is null. 17: the handle holds no port. 19: `positions` and `room`
  * differ, or there are more positions than components. 7: an index in `which` isn't below
- * the number of components. 26, 27: the epoch has to be changed and can't be. `into` and
- * `answer` are as they were.
+ * the number of components. 27: the epoch has to be changed, and is the last one. `into`
+ * and `answer` are as they were.
  */
 static inline uint32_t partial_port_scan(partial_port *port,
                                          const uint32_t *which, size_t positions,
@@ -447,8 +444,8 @@ static inline uint32_t partial_port_scan(partial_port *port,
  *
  * 23: a pointer is null. 17: the handle holds no port. 19: `positions` and `room`, or
  * `positions` and `count`, differ, or there are more positions than components. 7: an
- * index in `which` isn't below the number of components. 26, 27: the epoch has to be
- * changed and can't be. `into`, `stamps` and `answer` are as they were.
+ * index in `which` isn't below the number of components. 27: the epoch has to be changed,
+ * and is the last one. `into`, `stamps` and `answer` are as they were.
  */
 static inline uint32_t partial_port_scan_stamped(partial_port *port,
                                                  const uint32_t *which, size_t positions,

@@ -28,7 +28,7 @@ typedef struct work {
     uint64_t ties;
 } work;
 
-/* Whether a call is to be made again: it was refused for the moment, and fewer than TRIES
+/* Whether an update is to be made again: it was refused for the moment, and fewer than TRIES
  * times so far. Other threads go on meanwhile. */
 static int again(uint32_t refusal, int *tries)
 {
@@ -65,10 +65,7 @@ static void *watch(void *given)
         const uint32_t which[2] = {first, (first + 1) % PRODUCERS};
         uint64_t lengths[2];
         partial_scan_answer answer;
-        int tries = 0;
-        do {
-            own->refusal = partial_port_scan(&own->port, which, 2, lengths, 2, &answer);
-        } while (again(own->refusal, &tries));
+        own->refusal = partial_port_scan(&own->port, which, 2, lengths, 2, &answer);
         if (own->refusal == 0 && (lengths[0] > DEPTH || lengths[1] > DEPTH)) {
             own->refusal = UINT32_MAX;
         }

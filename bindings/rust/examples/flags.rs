@@ -27,7 +27,7 @@ fn flip(mut port: Port, thread: u32, flips: u64) -> Result<[u64; WORDS as usize]
 /// that the scan saw, by its stamp; otherwise the two are scanned again.
 fn set_first_clear(port: &mut Port, words: [u32; 2]) -> Result<Option<u64>, Refused> {
     loop {
-        let (flags, Some(stamps)) = port.retry(|port| port.scan_stamped(words))? else { continue };
+        let (flags, Some(stamps)) = port.scan_stamped(words)? else { continue };
         let Some(k) = flags.iter().position(|&word| word != u64::MAX) else { return Ok(None) };
         let flag = flags[k].trailing_ones();
         if port.retry(|port| port.update_if(words[k], stamps[k], flags[k] | 1 << flag))?.is_applied() {

@@ -39,7 +39,7 @@ fn monitor(mut port: Port, writing: &AtomicU32) -> Result<(u64, u64), Refused> {
     let mut values = vec![0; 2 * WRITERS as usize];
     let (mut scans, mut moving) = (0, 0);
     while writing.load(Ordering::Acquire) > 0 {
-        port.retry(|port| port.scan_all(&mut values))?;
+        port.scan_all(&mut values)?;
         for pair in values.chunks(2) {
             let sum = pair[0] + pair[1];
             assert!(sum == UNITS || sum == UNITS - 1, "{pair:?} aren't the accounts of one moment");

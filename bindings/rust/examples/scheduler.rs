@@ -55,7 +55,7 @@ fn dispatch(
     for batch in 0..batches {
         let first = (batch % WORKERS as u64) as usize;
         let second = (first + 1 + (batch / 7 % (WORKERS as u64 - 1)) as usize) % WORKERS;
-        let (done, other) = port.retry(|port| port.snapshot((queues[first].done, queues[second].done)))?;
+        let (done, other) = port.snapshot((queues[first].done, queues[second].done))?;
         let chosen = if sent[first] - done > sent[second] - other { second } else { first };
         sent[chosen] += BATCH;
         publish(&mut port, queues[chosen].sent, sent[chosen])?;
@@ -70,7 +70,7 @@ fn watch(mut port: Port, queues: [Queue; WORKERS], is_over: &AtomicBool) -> Resu
     while !is_over.load(Ordering::Acquire) {
         let worker = (looks % WORKERS as u64) as usize;
         let Queue { sent, done } = queues[worker];
-        let (sent, done) = port.retry(|port| port.snapshot((sent, done)))?;
+        let (sent, done) = port.snapshot((sent, done))?;
         assert!(done <= sent, "worker {worker} has done {done} of {sent} jobs");
         looks += 1;
         longest = longest.max(sent - done);

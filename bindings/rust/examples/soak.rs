@@ -31,7 +31,6 @@ struct Counts {
     reads: u64,
     borrowed: u64,
     overtaken: u64,
-    no_arena: u64,
     epochs: u64,
     faults: Vec<String>,
 }
@@ -43,7 +42,6 @@ impl Counts {
         self.reads += other.reads;
         self.borrowed += other.borrowed;
         self.overtaken += other.overtaken;
-        self.no_arena += other.no_arena;
         self.epochs = self.epochs.max(other.epochs);
         self.faults.extend(other.faults);
     }
@@ -92,7 +90,7 @@ impl Thread {
         }
     }
 
-    /// Makes a call, and tries again when it was refused for a change of epoch. Writes it to the history.
+    /// Makes a call, and tries again when it was overtaken by changes of epoch. Writes it to the history.
     fn call<T>(
         &mut self,
         mut made: impl FnMut(&mut Port) -> Result<T, Refused>,
@@ -111,7 +109,6 @@ impl Thread {
                     return Some(answer);
                 }
                 Err(Refused::Overtaken) => self.counts.overtaken += 1,
-                Err(Refused::NoArena) => self.counts.no_arena += 1,
                 Err(cause) => {
                     self.fault(format!("refused: {cause}"));
                     return None;
@@ -280,6 +277,6 @@ fn main() -> Result<(), Box<dyn Error + Send + Sync>> {
         counts.epochs as f64 / took
     );
     let faults = counts.faults.len();
-    println!("{} overtaken, {} without an arena, {faults} faults", counts.overtaken, counts.no_arena);
+    println!("{} overtaken, {faults} faults", counts.overtaken);
     std::process::exit(i32::from(!counts.faults.is_empty()))
 }

@@ -55,10 +55,7 @@ pub enum Refused {
     Length,
     /// The epoch was changed 16 times during the update. The same call may be answered when it is made again.
     Overtaken,
-    /// The epoch has to be changed, and each arena is in use. The same call may be answered when it is made again, after
-    /// other threads have gone on.
-    NoArena,
-    /// The epoch has to be changed, and the current one is the last one that a word can name.
+    /// The epoch has to be changed, and it is the last one that a word can name.
     EpochsSpent,
     /// A stamp is one of another memory.
     Stamp,
@@ -134,29 +131,27 @@ impl Refused {
             7 => Refused::Component,
             19 => Refused::Length,
             25 => Refused::Overtaken,
-            26 => Refused::NoArena,
             27 => Refused::EpochsSpent,
             _ => unreachable!("a port's handle holds a port"),
         }
     }
 
-    /// Whether the same call may be answered when it is made again: for `Overtaken` and `NoArena`. [`Port::retry`] does so.
+    /// Whether the same call may be answered when it is made again: for `Overtaken` alone. [`Port::retry`] does so.
     ///
     /// [`Port::retry`]: crate::Port::retry
     #[must_use]
     pub fn is_transient(self) -> bool {
-        matches!(self, Refused::Overtaken | Refused::NoArena)
+        matches!(self, Refused::Overtaken)
     }
 
-    /// The number of the refusal: 7 for `Component`, 19 for `Length`, 25 for `Overtaken`, 26 for `NoArena`, 27 for
-    /// `EpochsSpent`; and 28 for `Stamp`, 29 for `Key` and 6 for `OutOfMemory`, which this crate finds and not the library.
+    /// The number of the refusal: 7 for `Component`, 19 for `Length`, 25 for `Overtaken`, 27 for `EpochsSpent`; and 28
+    /// for `Stamp`, 29 for `Key` and 6 for `OutOfMemory`, which this crate finds and not the library.
     #[must_use]
     pub fn code(self) -> u32 {
         match self {
             Refused::Component => 7,
             Refused::Length => 19,
             Refused::Overtaken => 25,
-            Refused::NoArena => 26,
             Refused::EpochsSpent => 27,
             Refused::Stamp => 28,
             Refused::Key => 29,
@@ -214,7 +209,6 @@ impl fmt::Display for Refused {
             Refused::Component => "an index isn't below the number of components",
             Refused::Length => "two lengths differ, or one is too large",
             Refused::Overtaken => "overtaken by changes of epoch: try again",
-            Refused::NoArena => "no arena is free: try again when other threads have gone on",
             Refused::EpochsSpent => "epochs used up",
             Refused::Stamp => "a stamp is one of another memory",
             Refused::Key => "a key is one of another memory",

@@ -63,9 +63,8 @@ impl Port {
     ///
     /// # Errors
     /// [`Refused::Component`] when `component` isn't below the number of components. [`Refused::Overtaken`] when
-    /// the epoch was changed 16 times during the call; [`Refused::NoArena`] and [`Refused::EpochsSpent`] when the
-    /// epoch has to be changed and can't be. Nothing was applied. [`Port::retry`] makes the call again after the first two
-    /// of these three.
+    /// the epoch was changed 16 times during the call; [`Port::retry`] makes it again then. [`Refused::EpochsSpent`] when
+    /// the epoch has to be changed and is the last one. Nothing was applied.
     #[inline]
     pub fn update(&mut self, component: u32, value: u64) -> Result<Updated, Refused> {
         let mut answer = raw::UpdateAnswer::default();
@@ -114,8 +113,8 @@ impl Port {
     }
 
     /// Makes a call of this port, and makes it again as long as it's refused for the moment
-    /// ([`is_transient`](Refused::is_transient)): up to 64 times in all ([`TRIES`]). Between two calls the thread lets others
-    /// go on. A last refusal is returned.
+    /// ([`is_transient`](Refused::is_transient)), as only updates are: up to 64 times in all ([`TRIES`]). Between two calls
+    /// the thread lets others go on. A last refusal is returned.
     ///
     /// With the usual sizes of a memory such refusals are very rare, and 64 of them in a row rarer still. Each call is
     /// wait-free, so this is too.
@@ -125,7 +124,7 @@ impl Port {
     ///
     /// let mut port = Memory::new(&[5])?.port()?;
     /// assert!(port.retry(|port| port.update(0, 6))?.is_applied());
-    /// assert_eq!(port.retry(|port| port.scan_array([0]))?, [6]);
+    /// assert_eq!(port.read(0)?.value, 6);
     /// # Ok::<(), Box<dyn std::error::Error + Send + Sync>>(())
     /// ```
     ///
@@ -227,8 +226,8 @@ impl Port {
     ///
     /// # Errors
     /// [`Refused::Length`] when the two lengths differ, or there are more positions than components.
-    /// [`Refused::Component`] when an index isn't below the number of components. [`Refused::NoArena`] and
-    /// [`Refused::EpochsSpent`] when the epoch has to be changed and can't be. `into` is as it was.
+    /// [`Refused::Component`] when an index isn't below the number of components. [`Refused::EpochsSpent`] when the epoch
+    /// has to be changed and is the last one. `into` is as it was.
     #[inline]
     pub fn scan(&mut self, which: &[u32], into: &mut [u64]) -> Result<Scanned, Refused> {
         let answer = scan_by(&mut self.handle, which, into)?;

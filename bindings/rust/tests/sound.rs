@@ -183,8 +183,8 @@ fn a_refusal_for_the_moment_is_tried_again_so_often() {
     };
     assert_eq!(calls_until(Refused::Overtaken, 1), (1, Ok(())));
     assert_eq!(calls_until(Refused::Overtaken, 5), (5, Ok(())));
-    assert_eq!(calls_until(Refused::NoArena, TRIES), (TRIES, Ok(())));
-    assert_eq!(calls_until(Refused::NoArena, TRIES + 1), (TRIES, Err(Refused::NoArena)));
+    assert_eq!(calls_until(Refused::Overtaken, TRIES), (TRIES, Ok(())));
+    assert_eq!(calls_until(Refused::Overtaken, TRIES + 1), (TRIES, Err(Refused::Overtaken)));
     assert_eq!(calls_until(Refused::Overtaken, u32::MAX), (TRIES, Err(Refused::Overtaken)));
     for refused in [Refused::Component, Refused::Length, Refused::Stamp, Refused::Key, Refused::EpochsSpent] {
         assert_eq!(calls_until(refused, 2), (1, Err(refused)));

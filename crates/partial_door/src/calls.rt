@@ -15,8 +15,8 @@ impl Held {
     /// Sets a component.
     ///
     /// Returns 17 when this isn't a port of a long-lived memory, 7 when `component` isn't below the number of
-    /// components, 25 when the port entered a later epoch 16 times during the call, and 26 or 27 when the
-    /// epoch has to be changed and can't be.
+    /// components, 25 when the port entered a later epoch 16 times during the call, and 27 when the epoch has to
+    /// be changed and is the last one.
     pub fn update(&mut self, component: u32, value: u64, answer: &mut UpdateAnswer) -> u32
         ensures { AtPort (answer.new ≡ answer.old) (UpdateEnds component value answer.old answer.new)
             self.old result self.new }
@@ -86,8 +86,8 @@ impl Held {
     /// Scans the components `which` into `into`.
     ///
     /// Returns 17 when this isn't a port of a long-lived memory, 19 when the two lengths differ or exceed the
-    /// number of components, 7 when an index isn't below that number, and 26 or 27 when the epoch has to be
-    /// changed and can't be.
+    /// number of components, 7 when an index isn't below that number, and 27 when the epoch has to be changed and
+    /// is the last one.
     pub fn scan(&mut self, which: &[u32], into: &mut [u64], answer: &mut ScanAnswer) -> u32
         ensures { AtPort ((into.new ≡ into.old) × (answer.new ≡ answer.old))
             (ScanEnds which.now into.old into.new answer.old answer.new) self.old result self.new }
@@ -116,8 +116,8 @@ impl Held {
     /// update, which `answer` says: then `stamps` stays.
     ///
     /// Returns 17 when this isn't a port of a long-lived memory, 19 when two of the three lengths differ or they
-    /// exceed the number of components, 7 when an index isn't below that number, and 26 or 27 when the epoch has to
-    /// be changed and can't be.
+    /// exceed the number of components, 7 when an index isn't below that number, and 27 when the epoch has to be
+    /// changed and is the last one.
     pub fn scan_stamped(
         &mut self,
         which: &[u32],

@@ -17,8 +17,8 @@ use std::alloc::Global;
 /// Sets a component.
 ///
 /// Returns 17 when the handle holds no port of a long-lived memory, 7 when `component` isn't below the number
-/// of components, 25 when the port entered a later epoch 16 times during the call, and 26 or 27 when the epoch
-/// has to be changed and can't be.
+/// of components, 25 when the port entered a later epoch 16 times during the call, and 27 when the epoch has to
+/// be changed and is the last one.
 #[unsafe(no_mangle)]
 pub extern "C" fn partial_door_port_update(
     port: &mut Handle,
@@ -77,8 +77,8 @@ pub extern "C" fn partial_door_port_read(
 /// Scans the components `which` into `into`.
 ///
 /// Returns 17 when the handle holds no port of a long-lived memory, 19 when the two lengths differ or exceed
-/// the number of components, 7 when an index isn't below that number, and 26 or 27 when the epoch has to be
-/// changed and can't be.
+/// the number of components, 7 when an index isn't below that number, and 27 when the epoch has to be changed and
+/// is the last one.
 #[unsafe(no_mangle)]
 pub extern "C" fn partial_door_port_scan(
     port: &mut Handle,
@@ -99,8 +99,8 @@ pub extern "C" fn partial_door_port_scan(
 /// update, which `answer` says: then `stamps` stays.
 ///
 /// Returns 17 when the handle holds no port of a long-lived memory, 19 when two of the three lengths differ or
-/// they exceed the number of components, 7 when an index isn't below that number, and 26 or 27 when the epoch has
-/// to be changed and can't be.
+/// they exceed the number of components, 7 when an index isn't below that number, and 27 when the epoch has to be
+/// changed and is the last one.
 #[unsafe(no_mangle)]
 pub extern "C" fn partial_door_port_scan_stamped(
     port: &mut Handle,

@@ -17,21 +17,10 @@ goes_more p q new w = record { memory = w.memory; number = w.number; seen = begi
 stays : (p q : PortView) → q ≡ p → GoesOnNoting p q []
 stays p q is = subst (λ (x : PortView). GoesOnNoting p x []) (sym is) (record { memory = refl; number = refl; seen = omega arith; notes = sym (append-nil p.notes) })
 
--- calls after some that noted nothing
-then_more : (p x q : PortView) (new : List Noted) → GoesOnNoting p x [] → GoesOnNoting x q new → GoesOnNoting p q new
-then_more p x q new w v =
-    record {
-      memory = v.memory ∙ w.memory;
-      number = v.number ∙ w.number;
-      seen = omega (arith, w.seen, v.seen);
-      notes = v.notes ∙ ap (λ (l : List Noted). l ++ new) (w.notes ∙ append-nil p.notes);
-    }
-
 -- an update that was refused
 pub update_refused : (p q : PortView) (j v : ℕ) (cause : Refused) → IsRefused p (Call.Update j v) cause q → GoesOnNoting p q []
 update_refused p q j v Refused.Component w = stays p q w.1
 update_refused p q j v Refused.Overtaken w = goes_more p q [] w.1
-update_refused p q j v Refused.NoArena w = goes_more p q [] w.1
 update_refused p q j v Refused.EpochsSpent w = goes_more p q [] w.1
 
 -- ---- the notes of a stage
@@ -206,19 +195,6 @@ sees_scan p q (j ∷ js) counts s some each w =
       first = w.1.first;
       behind = w.1.behind;
       each = each;
-    }
-
--- a scan after some that were refused
-pub sees_then : (p x q : PortView) (stages counts : List ℕ) → GoesOnNoting p x [] → Sees x stages counts q → Sees p stages counts q
-sees_then p x q stages counts w s =
-    record {
-      place = s.place;
-      collects = s.collects;
-      borrowed = s.borrowed;
-      goes = then_more p x q _ w s.goes;
-      first = omega (arith, w.seen, s.first);
-      behind = s.behind;
-      each = s.each;
     }
 
 -- ---- meetings

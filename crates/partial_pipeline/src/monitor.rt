@@ -9,7 +9,6 @@ use crate::work::Watch;
 use partial_long_lived::{LongLived, Port, Refused};
 use std::alloc::{AllocError, Global};
 use std::sync::atomic::{AtomicBool, Ordering};
-use std::thread;
 
 /// The monitor, with room for all its scans: it takes no memory while it scans.
 #[derive(Drop)]
@@ -74,8 +73,8 @@ fn space_for(alloc: Global, stages: u32, looks: usize) -> Result<Space, AllocErr
     })
 }
 
-/// Scans the counts of these stages into `room`, and returns it. A scan that finds no free arena is tried again. Returns
-/// `None` when the scan is refused since the memory's epochs are used up.
+/// Scans the counts of these stages into `room`, and returns it. Returns `None` when the scan is refused since the
+/// memory's epochs are used up.
 pub fn scan_into(
     memory: &LongLived,
     port: &mut Port,
@@ -90,16 +89,12 @@ pub fn scan_into(
     ensures some { IfSome result (λ counts. Sees port.old stages.now counts.items port.new) }
     ensures none { result ≡ None → GoesOnNoting port.old port.new [] }
 {
-    for _turn in 0..u64::MAX {
-        match memory.scan(port, stages, room.as_mut_slice()) {
-            Ok(_scanned) => return Some(room),
-            Err(Refused::NoArena) => thread::yield_now(),
-            Err(Refused::EpochsSpent) => break,
-            Err(Refused::Component) => unreachable!(),
-            Err(Refused::Overtaken) => unreachable!(),
-        }
+    match memory.scan(port, stages, room.as_mut_slice()) {
+        Ok(_scanned) => Some(room),
+        Err(Refused::EpochsSpent) => None,
+        Err(Refused::Component) => unreachable!(),
+        Err(Refused::Overtaken) => unreachable!(),
     }
-    None
 }
 
 impl Monitor {

@@ -264,10 +264,9 @@ fn run_on<R: Threads + Wait + Sync, W: Work, V: Watch>(
 ///
 /// There is one end for each stage. No count passes `items`, and the count of a stage that has finished is `items`.
 ///
-/// The memory never wears out. An update that is overtaken by changes of epoch, or finds no free arena, is tried
-/// again, and so is a scan that finds no free arena. Only when the memory's 2^41 epochs are used up a stage's update
-/// is refused, and the stage ends; the stages after it end when they have worked on what was left. All memory, apart
-/// from that of closing, is taken before the first thread starts.
+/// The memory never wears out. An update that is overtaken by changes of epoch is tried again. Only when the memory's
+/// 2^41 epochs are used up a stage's update is refused, and the stage ends; the stages after it end when they have
+/// worked on what was left. All memory, apart from that of closing, is taken before the first thread starts.
 ///
 /// # Errors
 ///

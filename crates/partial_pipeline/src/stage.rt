@@ -156,9 +156,8 @@ impl Stage {
         None
     }
 
-    // Tries to publish the next count, once. An update that is lost, is overtaken by changes of epoch, or finds no free arena
-    // leaves the count as it was: so `count` is always what the component holds. Returns whether the memory's epochs are
-    // used up.
+    // Tries to publish the next count, once. An update that is lost, or overtaken by changes of epoch, leaves the count as it
+    // was: so `count` is always what the component holds. Returns whether the memory's epochs are used up.
     fn set(&mut self, memory: &LongLived, next: u64) -> bool
         requires working { IsWorking memory.now self.old }
         requires next { next ≡ self.old.count + 1 }
@@ -177,7 +176,7 @@ impl Stage {
                 false
             }
             Ok(Updated::Lost { .. }) => false,
-            Err(Refused::Overtaken | Refused::NoArena) => false,
+            Err(Refused::Overtaken) => false,
             Err(Refused::EpochsSpent) => true,
             Err(Refused::Component) => unreachable!(),
         }
