@@ -1,5 +1,5 @@
 -- Steps that change neither histories nor what their port has seen or noted.
-use Rattle.partial_long_lived.proofs.{Common.{ℕ, ◌≡◌, ◌≢◌, ◌≤◌, ◌++◌, Option, Some, None, IfSome, List, [], ◌∷◌, length, refl, sym, ap, subst, ◌∙◌, arith, append-nil, Applied, LegalNotes, Noted, Part, put, history_of, Port, Beside, place_now, Reckons, Reckoning, LawfulMemory, put_other, put_same, About, Began, Found, BeganInTime, IsFinal, IsLast, IsSeat, IsSeen, IsSince, SeatedPort, plan_of, seen_in, IsSeatKnown, becomes, Place, Contention, IsSearching, true}, Kept.{GoesOn, HasGrown, Moved, final_grows, none_grown, not_grown, seen_grows}}
+use Rattle.partial_long_lived.proofs.{Common.{ℕ, ◌≡◌, ◌≤◌, ◌++◌, Option, Some, None, IfSome, List, [], ◌∷◌, length, refl, sym, ap, subst, ◌∙◌, arith, append-nil, Applied, LegalNotes, Noted, Part, put, history_of, Port, Beside, place_now, Reckoning, LawfulMemory, put_other, put_same, About, Began, Found, BeganInTime, IsFinal, IsLast, IsSeat, IsSeen, IsSince, SeatedPort, plan_of, seen_in, IsSeatKnown, becomes, Place, Contention, IsSearching, true}, Kept.{GoesOn, HasGrown, Moved, final_grows, none_grown, not_grown, seen_grows}}
 
 -- a change of a port that leaves its place, its part and the epochs behind it, and passes no fewer components
 pub record IsQuiet (g : Port → Port) : Type 0 where

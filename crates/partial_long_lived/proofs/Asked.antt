@@ -1,5 +1,6 @@
 -- The steps of a change of epoch, as its code asks for them.
-use Rattle.partial_long_lived.proofs.{Common.{ℕ, ◌≡◌, ◌≢◌, ◌+◌, ◌-◌, ◌*◌, ◌%◌, ◌^◌, ◌<◌, ◌≤◌, ◌==◌, Bool, if◌then◌else◌, Option, Some, IfSome, List, [], sym, ap, subst, ◌∙◌, inl, inr, arith, lt-ltb, either, Me, Allows, TableId, first_free, list_base, opening_word, Place, Plan, arena_limit, at_word, base, entering_mark, marked, own_word, packed, seal, set_word, OwnedArena, Port, Stands, next_place, passing_port, below_whole, set_place, About, Stand, IsRuleKept, SeatedPort, one_of, plan_of, bare, shape_plan, SeatGoes, IsOne, tells, IsHeld, port_at, SeatGives, LoadsPort, PassesSealed, SeatPublishes, PutsPort, Seals, Sets, Takes, passed_at, unpacked, IsIdle, IsCarriedStamp, IsRight, IsFixedWord, MayPutPort, OfOwned, Owns, PutsBy, SetsLists, SetsNext, TakesBy, HasSetWords, initial_words, slot_counter, FindsClear, behind_value, behind_values, value_word, initial_record, SetsValue, FoundValue}, Changes.{may_give, may_load_port, may_pass, may_put, may_seal, may_take}, Sets.{may_find_clear, may_set_over_lists, may_set_same, may_set_stamp, may_set_value, value_at}, Publishes.may_publish, Standing.{base_is, place_is}}
+use Rattle.partial_long_lived.proofs.{Common.{ℕ, ◌≡◌, ◌≢◌, ◌+◌, ◌-◌, ◌*◌, ◌%◌, ◌^◌, ◌<◌, ◌≤◌, ◌==◌, Bool, if◌then◌else◌, Option, Some, IfSome, List, [], sym, ap, subst, ◌∙◌, inl, inr, arith, lt-ltb, either, Me, Allows, TableId, first_free, list_base, opening_word, Place, Plan, arena_limit, at_word, base, entering_mark, marked, own_word, packed, seal, set_word, OwnedArena, Port, Stands, next_place, passing_port, below_whole, set_place, About, Stand, IsRuleKept, SeatedPort, one_of, plan_of, bare, shape_plan, SeatGoes, IsOne, tells, IsHeld, port_at, SeatGives, LoadsPort, PassesSealed, SeatPublishes, PutsPort, Seals, Sets, Takes, passed_at, unpacked, IsIdle, IsCarriedStamp, IsRight, IsFixedWord, MayPutPort, OfOwned, Owns, PutsBy, SetsLists, SetsNext, TakesBy, HasSetWords, initial_words, slot_counter, FindsClear, behind_value, behind_values, value_word, initial_record, SetsValue, FoundValue, Searches, GivesBack, HasPassedArenas, BeginsSearch, BeginsPass, None, true, false, ◌⊎◌}, Changes.{may_give, may_load_port, may_pass, may_put, may_seal, may_take}, Sets.{may_find_clear, may_set_over_lists, may_set_same, may_set_stamp, may_set_value, value_at}, Publishes.may_publish, Standing.{base_is, place_is}, Searching.{may_begin_pass, may_begin_search}}
+use Rattle.partial_long_lived.proofs.Control as Control
 
 -- a step by the arena that the port owns
 of_owned : (about : About) (slots id i : ℕ) (f : ℕ → ℕ) (me : Me (Unit {0}) (List SeatedPort)) (R : OwnedArena → SeatedPort → ℕ → SeatedPort → Type 0) (o : OwnedArena) →
@@ -12,6 +13,11 @@ of_owned about slots id i f me R o is asked =
 -- a component that isn't sealed isn't passed
 passed_not : (a : ℕ) (p : Port) → a < seal → passed_at a p ≡ p
 passed_not a p low = ap (λ (c : Bool). if c then p else passing_port p) (lt-ltb a seal low)
+
+-- a port that owns no arena may look
+idle_looks : (about : About) (s : Stand) → IsIdle s → Control.MayLook about (port_at s).port
+idle_looks about s free =
+    (free.stands, subst (λ (t : Option OwnedArena). IfSome t (λ o. (o.mark ≡ None) ⊎ (o.clean < about.ports))) (sym free.free) tt)
 
 module _ (table : TableId) (about : About) (s : Stand) (h : IsHeld table about s) where
   abbrev x : SeatedPort
@@ -60,9 +66,9 @@ module _ (table : TableId) (about : About) (s : Stand) (h : IsHeld table about s
   pub own_there : (y w : ℕ) → y < about.arenas → w ≡ own_word (shape_plan s.shape bare) y → w < table.words
   own_there y w low is = let at = own_is y w is in let words = h.words in omega (arith, low, at, words)
 
-  pub take_asked : (y : ℕ) → IsIdle s → y < about.arenas → s.arena ≢ y → (slots id w v : ℕ) → w ≡ own_word (shape_plan s.shape bare) y → v ≡ 1 + s.number →
+  pub take_asked : (y : ℕ) → IsIdle s → y < about.arenas → s.arena ≢ y → Searches false y s → (slots id w v : ℕ) → w ≡ own_word (shape_plan s.shape bare) y → v ≡ 1 + s.number →
       Allows (IsRuleKept about) slots id s.seat.me w (λ n. either (n == 0) v n) (tells (TakesBy w) s.seat.me)
-  take_asked y free low apart slots id w v word owner =
+  take_asked y free low apart searches slots id w v word owner =
       let at = own_is y w word in
       let ports = ap (λ (a : About). a.ports) h.own in
       let number : v ≡ x.number + 1 = (let is = h.number in omega (arith, owner, is)) in
@@ -70,12 +76,30 @@ module _ (table : TableId) (about : About) (s : Stand) (h : IsHeld table about s
       subst (λ i. Allows (IsRuleKept about) slots id s.seat.me w (λ n. either (n == 0) v n) (tells (Takes i) s.seat.me)) (sym arena)
       (subst (λ v. Allows (IsRuleKept about) slots id s.seat.me w (λ n. either (n == 0) v n) (tells (Takes y) s.seat.me)) (sym number)
       (subst (λ i. Allows (IsRuleKept about) slots id s.seat.me i (λ n. either (n == 0) (x.number + 1) n) (tells (Takes y) s.seat.me)) (sym at)
-      (may_take about slots id s.seat.me h.one h.own h.known y free.stands free.free low (λ same. apart (h.arena ∙ same)))))
+      (may_take about slots id s.seat.me h.one h.own h.known y free.stands free.free low (λ same. apart (h.arena ∙ same)) searches.past searches.met_is searches.passed)))
 
-  pub give_asked : (y : ℕ) → Owns s y → (slots id w : ℕ) → w ≡ own_word (shape_plan s.shape bare) y → Allows (IsRuleKept about) slots id s.seat.me w (λ n. 0) (tells SeatGives s.seat.me)
-  give_asked y owns slots id w word =
-      subst (λ i. Allows (IsRuleKept about) slots id s.seat.me i (λ n. 0) (tells SeatGives s.seat.me)) (ap (own_word e) owns.arena ∙ sym (own_is y w word))
-      (may_give about slots id s.seat.me h.one h.own h.known owns.owned owns.is)
+  pub give_asked : (y : ℕ) → Owns s y → (x.port.control.past ≡ true) ⊎ Searches true y s → (slots id w : ℕ) → w ≡ own_word (shape_plan s.shape bare) y →
+      Allows (IsRuleKept about) slots id s.seat.me w (λ n. 0) (tells GivesBack s.seat.me)
+  give_asked y owns cause slots id w word =
+      let o = owns.owned in
+      of_owned about slots id w (λ n. 0) s.seat.me SeatGives o owns.is
+      (subst (λ i. Allows (IsRuleKept about) slots id s.seat.me i (λ n. 0) (tells (SeatGives o) s.seat.me)) (ap (own_word e) owns.arena ∙ sym (own_is y w word))
+      (may_give about slots id s.seat.me h.one h.own h.known o owns.is
+      (elim cause [
+        | inl past ↦ inl past
+        | inr met ↦ inr (met.past, met.met_is, subst (λ i. HasPassedArenas i x) (sym owns.arena) met.passed)
+      ])))
+
+  -- the looks of a search
+  pub begin_search_asked : IsIdle s → (slots id : ℕ) → Allows (IsRuleKept about) slots id s.seat.me 0 (λ n. n) (tells BeginsSearch s.seat.me)
+  begin_search_asked free slots id = may_begin_search about slots id s.seat.me h.one h.own h.known (idle_looks about s free)
+
+  pub begin_pass_asked : IsIdle s → (slots id : ℕ) → Allows (IsRuleKept about) slots id s.seat.me 0 (λ n. n) (tells BeginsPass s.seat.me)
+  begin_pass_asked free slots id =
+      let twice = (s.shape.sized).twice in
+      let ports = ports_are in
+      let arenas = arenas_are in
+      may_begin_pass about slots id s.seat.me h.one h.own h.known (idle_looks about s free) free.free (omega (arith, twice, ports, arenas))
 
   -- the words of ports
   pub port_there : (q : ℕ) → q < about.ports → 1 + q < table.words

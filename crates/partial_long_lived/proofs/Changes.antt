@@ -1,6 +1,7 @@
 -- The steps of a change of epoch are allowed.
-use Rattle.partial_long_lived.proofs.{Common.{ℕ, control_size, ◌≡◌, ◌≢◌, ◌+◌, ◌-◌, ◌%◌, ◌^◌, ◌<◌, ◌≤◌, ◌==◌, ◌⊎◌, Bool, true, false, if◌then◌else◌, Option, Some, None, List, slice_index, slice_set, refl, sym, ap, subst, ◌∙◌, inl, inr, arith, nat_lt, cases_lt, lt-ltb, eqb_tells, either, Me, Allows, IsPlace, Place, Plan, at_word, base, component_words, control_words, entering_mark, marked, own_word, packed, seal, Entering, OwnedArena, Port, Stands, Marks, Loaded, IsPlaceWord, Beside, LawfulEpochs, place_now, Reckons, Reckoning, passing_port, at_next_port, having_given, having_loaded, just_taken, owning_port, at_of, not_below, About, Began, IsRuleKept, IsSince, SeatedPort, one_of, plan_of, IsSeatKnown, IsOne, tells, SeatGives, LoadsPort, PassesSealed, PutsPort, contention_loading, contention_putting, contention_taking, Seals, Takes, elsewhere, passed_at, port_loaded, port_put, taken_at, unpacked, MayMove, LawfulMemory, Noted, unpacked_is}, Asides.IsQuiet, Control.{Quietly, load_same, quietly, quietly_contending, by_move, by_rest}, Contention.{loading_more, putting_more, taking_more}}
+use Rattle.partial_long_lived.proofs.{Common.{ℕ, control_size, ◌≡◌, ◌≢◌, ◌+◌, ◌-◌, ◌%◌, ◌^◌, ◌<◌, ◌≤◌, ◌==◌, ◌⊎◌, Bool, true, false, if◌then◌else◌, Option, Some, None, List, slice_index, slice_set, refl, sym, ap, subst, ◌∙◌, inl, inr, arith, nat_lt, cases_lt, lt-ltb, eqb_tells, either, Me, Allows, IsPlace, Place, Plan, at_word, base, component_words, control_words, entering_mark, marked, own_word, packed, seal, Entering, OwnedArena, Port, Stands, Marks, Loaded, IsPlaceWord, Beside, LawfulEpochs, place_now, Reckons, Reckoning, passing_port, at_next_port, having_given, having_loaded, just_taken, owning_port, at_of, not_below, About, Began, IsRuleKept, IsSince, SeatedPort, one_of, plan_of, IsSeatKnown, IsOne, tells, SeatGives, LoadsPort, PassesSealed, PutsPort, contention_loading, contention_putting, contention_taking, Seals, Takes, elsewhere, passed_at, port_loaded, port_put, taken_at, unpacked, MayMove, LawfulMemory, Noted, unpacked_is, Contention, IsSearching, HasSeenArrival, IsNamed, IsInUse, MayCount, arena_limit, put_same, HasPassedArenas, contention_there, contention_giving, meeting, passing, owned_arenas_are_in_use, IfSome, controls, numbers}, Asides.IsQuiet, Control.{OwnSearch, QuietlyBy, Still, load_same, quietly, quietly_searching, by_count, by_move, by_rest}, Contention.{giving_seals, loading_seals, putting_seals, taking_seals}, Searching.{leaves_search, meets_another, passes_to}}
 use Rattle.partial_epochs.specs.EveryStep.{Move as move}
+use Rattle.partial_epochs.specs.Control.{IsOwner}
 
 -- an exchange as a table makes it
 pub either_cond : (c : Bool) (x y : ℕ) → (if c then x else y) ≡ either c x y
@@ -81,25 +82,50 @@ module _ (e : Plan) (words : List ℕ) (ports : ℕ → Port) (b : Beside) (w : 
       by Marks at = entering at
       by (Loaded c) at = entering at
 
--- what becomes of an owner that finds the next port's word unmarked
+-- what becomes of an owner that looks for the next port
 module _ (a : About) (words : List ℕ) (ports : ℕ → Port) (notes : ℕ → List Noted) (b : Beside) (reckoned : Reckoning) (w : LawfulMemory (plan_of a) words ports b notes)
     (time : Reckons (plan_of a) words ports (place_now b) reckoned) (k : ℕ) (below : k < a.ports) (g : Began) (old : IsSince g (ports k).control.entering (reckoned.since k)) (o : OwnedArena)
-    (owned : (ports k).control.owned ≡ Some o) (looked : o.looked ≡ true) (none : o.set ≡ 0) (more : o.clean < a.ports) where
+    (owned : (ports k).control.owned ≡ Some o) (looked : o.looked ≡ true) (none : o.set ≡ 0) (more : o.clean < a.ports) (u : Contention)
+    (search : IsSearching (plan_of a) words ports (place_now b) reckoned k u.search) (met : u.search.met ≡ true → reckoned.tally.met k ≡ true) where
+  abbrev Owns : List ℕ → OwnedArena → Contention → Type 0
+  Owns words' p m = OwnSearch a words words' ports notes b reckoned k g (owning_port (ports k) p) m
+
   -- it owns the arena as it did
-  pub owns_still : (words' : List ℕ) → words ≡ words' → Quietly a words' ports notes b reckoned k g (owning_port (ports k) o)
-  owns_still words' same = by_rest a words ports notes b reckoned w time k below g words' same (owning_port (ports k) o) (sym (owning_same (ports k) o owned)) old
+  still_owns : (words' : List ℕ) → words ≡ words' → Still a words words' ports notes b reckoned k g (owning_port (ports k) o)
+  still_owns words' same = by_rest a words ports notes b reckoned w time k below g words' same (owning_port (ports k) o) (sym (owning_same (ports k) o owned)) old
+
+  -- it finds a port there
+  finds_there : (words' : List ℕ) → words ≡ words' → slice_index words (at_word o.clean) % arena_limit ≡ o.arena → Owns words' o (meeting u)
+  finds_there words' same there =
+      meets_another a words words' ports notes b reckoned k below g (owning_port (ports k) o) u search (still_owns words' same).to o refl looked
+      (inl (subst (λ (l : List ℕ). IsNamed (plan_of a) l o.arena) same (record { port = o.clean; inside = more; names = there })))
+
+  -- it finds another word than the mark that it holds
+  pub finds_another : (m : Place) → o.mark ≡ Some m → slice_index words (at_word o.clean) ≢ marked m → (words' : List ℕ) → words ≡ words' → Owns words' o (meeting u)
+  finds_another m mark other words' same =
+      let to = (still_owns words' same).to in
+      let held = (((to.time).reckons).tally).marks k below in
+      let arrived = subst (λ (t : Option Place). IfSome t (λ m. (slice_index words' (at_word o.clean) ≡ marked m) ⊎ HasSeenArrival (to.reckoned').tally k)) mark
+      (subst (λ (t : Option OwnedArena). IfSome t (λ o. IfSome o.mark (λ m. (slice_index words' (at_word o.clean) ≡ marked m) ⊎ HasSeenArrival (to.reckoned').tally k)))
+      (ap (λ (q : Port). q.control.owned) (put_same k (owning_port (ports k) o) ports)) held) in
+      meets_another a words words' ports notes b reckoned k below g (owning_port (ports k) o) u search to o refl looked
+      (inr (elim arrived [
+        | inl same_word ↦ absurd (other (ap (λ (l : List ℕ). slice_index l (at_word o.clean)) same ∙ same_word))
+        | inr seen ↦ seen
+      ]))
 
   pub finds_elsewhere : (words' : List ℕ) → words ≡ words' → slice_index words (at_word o.clean) < entering_mark →
-      Quietly a words' ports notes b reckoned k g (owning_port (ports k) (elsewhere (slice_index words (at_word o.clean)) o))
+      Owns words' (elsewhere (slice_index words (at_word o.clean)) o) (contention_there (slice_index words (at_word o.clean)) o u)
   finds_elsewhere words' same less =
       let n : ℕ = slice_index words (at_word o.clean) in
       let there = unmarked_place (plan_of a) words ports b w.epochs o.clean more less in
-      let P : Bool → Port = λ t. owning_port (ports k) (if t then o else at_next_port o) in
+      let P : Bool → Type 0 = λ t. Owns words' (if t then o else at_next_port o) (if t then meeting u else u) in
       (elim (eqb_tells (unpacked n).arena o.arena) [
-        | inl is ↦ subst (λ (t : Bool). Quietly a words' ports notes b reckoned k g (P t)) (sym is.0) (owns_still words' same)
-        | inr ne ↦ subst (λ (t : Bool). Quietly a words' ports notes b reckoned k g (P t)) (sym ne.0)
-            (by_move a words ports notes b reckoned w time k below g (move.FindsElsewhere o (unpacked n)) (owned, looked, none, more, there.1, there.0, ne.1) (λ p c n is. is) (λ q ne. refl) words' same
-            (owning_port (ports k) (at_next_port o)) refl old)
+        | inl is ↦ subst P (sym is.0) (finds_there words' same is.1)
+        | inr ne ↦ subst P (sym ne.0)
+            (leaves_search a words words' ports notes b reckoned k below g (owning_port (ports k) (at_next_port o)) u search
+            (by_move a words ports notes b reckoned w time k below g (move.FindsElsewhere o (unpacked n)) (owned, looked, none, more, there.1, there.0, ne.1) tt refl (λ p c n is. is) (λ q ne. refl) words' same
+            (owning_port (ports k) (at_next_port o)) refl old) met)
       ])
 
 module _ {S : Type 0} (a : About) (slots id : ℕ) (me : Me S (List SeatedPort)) (one : IsOne me) (own : (one_of me.0).about ≡ a) (known : IsSeatKnown (one_of me.0)) where
@@ -119,7 +145,7 @@ module _ {S : Type 0} (a : About) (slots id : ℕ) (me : Me S (List SeatedPort))
       let n : ℕ = slice_index words i in
       let P : Bool → Port = λ t. (if t then ports k else passing_port (ports k)) in
       (elim (cases_lt n seal) [
-        | inl less ↦ subst (λ (t : Bool). Quietly a (slice_set words i n) ports notes b reckoned k x.began (P t)) (sym (lt-ltb n seal less))
+        | inl less ↦ subst (λ (t : Bool). Still a words (slice_set words i n) ports notes b reckoned k x.began (P t)) (sym (lt-ltb n seal less))
             (by_rest a words ports notes b reckoned w time k below x.began (slice_set words i n) (load_same words i) (ports k) refl old)
         | inr from ↦
             let here = ap (λ (p : Port). p.control.here.arena) is in
@@ -129,8 +155,8 @@ module _ {S : Type 0} (a : About) (slots id : ℕ) (me : Me S (List SeatedPort))
             ∙ ap (λ j. slice_index words (base e (ports k).control.here.arena + j)) (omega (arith, passed)) ∙ ap (λ z. slice_index words (base e z + x.port.passed)) (sym here) in
             let may : MayMove e words ports b notes k move.PassesSealed =
             (ap (λ (p : Port). p.control.entering) (sym is) ∙ stands, omega (arith, more, passed), omega (arith, at, from)) in
-            subst (λ (t : Bool). Quietly a (slice_set words i n) ports notes b reckoned k x.began (P t)) (sym (not_below n seal from))
-            (by_move a words ports notes b reckoned w time k below x.began move.PassesSealed may (λ p c n is. is) (λ q ne. refl) (slice_set words i n) (load_same words i) (passing_port (ports k)) refl old)
+            subst (λ (t : Bool). Still a words (slice_set words i n) ports notes b reckoned k x.began (P t)) (sym (not_below n seal from))
+            (by_move a words ports notes b reckoned w time k below x.began move.PassesSealed may tt refl (λ p c n is. is) (λ q ne. refl) (slice_set words i n) (load_same words i) (passing_port (ports k)) refl old)
       ]))
       (λ words ports b w below is. refl)
 
@@ -144,101 +170,133 @@ module _ {S : Type 0} (a : About) (slots id : ℕ) (me : Me S (List SeatedPort))
       let i : ℕ = base e x.port.control.here.arena + x.port.passed in
       let passed = ap (λ (p : Port). p.passed) is in
       let may : MayMove e words ports b notes k move.Seals = (ap (λ (p : Port). p.control.entering) (sym is) ∙ stands, omega (arith, more, passed)) in
-      by_move a words ports notes b reckoned w time k below x.began move.Seals may (λ p c n is. is) (λ q ne. refl) (slice_set words i ((slice_index words i + seal) % 2 ^ 64))
+      by_move a words ports notes b reckoned w time k below x.began move.Seals may tt refl (λ p c n is. is) (λ q ne. refl) (slice_set words i ((slice_index words i + seal) % 2 ^ 64))
       (ap (λ (p : Port). slice_set words (base e p.control.here.arena + p.passed) ((slice_index words (base e p.control.here.arena + p.passed) + seal) % 2 ^ 64)) (sym is)) (passing_port (ports k)) refl old)
       (λ words ports b w below is. refl)
 
   -- the exchange of the owner word of arena i
-  pub may_take : (i : ℕ) → x.port.control.entering ≡ Stands → x.port.control.owned ≡ None → i < a.arenas → x.port.control.here.arena ≢ i →
-      Allows (IsRuleKept a) slots id me (own_word e i) (λ n. either (n == 0) (x.number + 1) n) (tells (Takes i) me)
-  may_take i stands none inside apart = quietly_contending a slots id me one own known (own_word e i) (λ n. either (n == 0) (x.number + 1) n) (taken_at i) (contention_taking i) (Takes i) (taken_quiet i)
-      (taking_more i)
-      (λ words ports notes b reckoned w time below is old come.
+  pub may_take : (i : ℕ) → x.port.control.entering ≡ Stands → x.port.control.owned ≡ None → i < a.arenas → x.port.control.here.arena ≢ i → x.port.control.past ≡ false → x.contention.search.met ≡ false →
+      HasPassedArenas i x → Allows (IsRuleKept a) slots id me (own_word e i) (λ n. either (n == 0) (x.number + 1) n) (tells (Takes i) me)
+  may_take i stands none inside apart past unmet passed =
+      quietly_searching a slots id me one own known (own_word e i) (λ n. either (n == 0) (x.number + 1) n) (taken_at i) (contention_taking i) (Takes i) (taken_quiet i) (taking_seals i)
+      (λ words ports notes b reckoned w time s.
       let k : ℕ = x.number in
       let n : ℕ = slice_index words (own_word e i) in
       let v : ℕ = either (n == 0) (k + 1) n in
-      let P : Bool → Port = λ t. (if t then owning_port (ports k) (just_taken i) else ports k) in
+      let words' : List ℕ = slice_set words (own_word e i) v in
+      let P : Bool → Type 0 = λ t. OwnSearch a words words' ports notes b reckoned k x.began (if t then owning_port (ports k) (just_taken i) else ports k) (if t then x.contention else passing i x.contention) in
+      let old = subst (λ (p : Port). IsSince x.began p.control.entering (reckoned.since k)) s.port s.entering in
       (elim (eqb_tells n 0) [
         | inl free ↦
             let may : MayMove e words ports b notes k (move.Takes i) = (
-              ap (λ (p : Port). p.control.entering) (sym is) ∙ stands,
-              ap (λ (p : Port). p.control.owned) (sym is) ∙ none,
+              ap (λ (p : Port). p.control.entering) (sym s.port) ∙ stands,
+              ap (λ (p : Port). p.control.owned) (sym s.port) ∙ none,
               inside,
-              (λ same. apart (ap (λ (p : Port). p.control.here.arena) is ∙ same)),
+              (λ same. apart (ap (λ (p : Port). p.control.here.arena) s.port ∙ same)),
               free.1,
             ) in
-            subst (λ (t : Bool). Quietly a (slice_set words (own_word e i) v) ports notes b reckoned k x.began (P t)) (sym free.0)
-            (by_move a words ports notes b reckoned w time k below x.began (move.Takes i) may (λ p c n is. is) (λ q ne. refl) (slice_set words (own_word e i) v)
-            (ap (λ v. slice_set words (own_word e i) v) (either_cond (n == 0) (k + 1) n)) (owning_port (ports k) (just_taken i)) refl old)
+            let by = by_count a words ports notes b reckoned w time k s.number x.began (move.Takes i) may (ap (λ (p : Port). p.control.past) (sym s.port) ∙ past) (λ p c n is. is) (λ q ne. refl) words'
+            (ap (λ v. slice_set words (own_word e i) v) (either_cond (n == 0) (k + 1) n)) (owning_port (ports k) (just_taken i)) refl old in
+            subst P (sym free.0) (record { to = by.to; search = ((by.to).time).searching k x.contention.search s.number s.search; met = λ is. let bad : false ≡ true = sym unmet ∙ is in cc })
         | inr held ↦
-            subst (λ (t : Bool). Quietly a (slice_set words (own_word e i) v) ports notes b reckoned k x.began (P t)) (sym held.0)
-            (by_rest a words ports notes b reckoned w time k below x.began (slice_set words (own_word e i) v)
-            (load_same words (own_word e i) ∙ ap (λ t. slice_set words (own_word e i) (either t (k + 1) n)) (sym held.0)) (ports k) refl old)
+            let still = by_rest a words ports notes b reckoned w time k s.number x.began words'
+            (load_same words (own_word e i) ∙ ap (λ t. slice_set words (own_word e i) (either t (k + 1) n)) (sym held.0)) (ports k) refl old in
+            let same : words ≡ words' = load_same words (own_word e i) ∙ ap (λ t. slice_set words (own_word e i) (either t (k + 1) n)) (sym held.0) in
+            subst P (sym held.0)
+            (passes_to a words words' ports notes b reckoned k s.number x.began (ports k) x.contention s.search still.to (ap (λ (p : Port). p.control.entering) (sym s.port) ∙ stands) i inside
+            (λ y low. subst (λ (p : Port). (y < x.contention.search.below) ⊎ (y ≡ p.control.here.arena)) s.port (passed y low))
+            (λ none_freed. subst (λ (l : List ℕ). IsInUse e l k i) same (owned_arenas_are_in_use e words ports reckoned.tally k i time.tally (ap (λ (p : Port). p.control.owned) (sym s.port) ∙ none) inside held.1)))
       ]))
-      (λ words ports b w below is. refl)
+      (λ n. refl)
 
   -- the store that gives the arena back
-  pub may_give : (o : OwnedArena) → x.port.control.owned ≡ Some o → Allows (IsRuleKept a) slots id me (own_word e o.arena) (λ n. 0) (tells SeatGives me)
-  may_give o owned = quietly a slots id me one own known (own_word e o.arena) (λ n. 0) (λ n. having_given) SeatGives
-      (λ n. record { part = λ p. refl; before = λ p. refl; here = λ p. refl; passed = λ p. omega arith })
-      (λ words ports notes b reckoned w time below is old come.
+  pub may_give : (o : OwnedArena) → x.port.control.owned ≡ Some o → (x.port.control.past ≡ true) ⊎ ((x.port.control.past ≡ false) × (x.contention.search.met ≡ true) × HasPassedArenas o.arena x) →
+      Allows (IsRuleKept a) slots id me (own_word e o.arena) (λ n. 0) (tells (SeatGives o) me)
+  may_give o owned cause = quietly_searching a slots id me one own known (own_word e o.arena) (λ n. 0) (λ n. having_given) (λ n. contention_giving x.port.control.past o) (SeatGives o)
+      (λ n. record { part = λ p. refl; before = λ p. refl; here = λ p. refl; passed = λ p. omega arith }) (λ n. giving_seals x.port.control.past o)
+      (λ words ports notes b reckoned w time s.
       let k : ℕ = x.number in
-      by_move a words ports notes b reckoned w time k below x.began (move.Gives o) (ap (λ (p : Port). p.control.owned) (sym is) ∙ owned) (λ p c n is. is) (λ q ne. refl)
-      (slice_set words (own_word e o.arena) 0) refl (having_given (ports k)) refl old)
-      (λ words ports b w below is. refl)
+      let words' : List ℕ = slice_set words (own_word e o.arena) 0 in
+      let owned' : (ports k).control.owned ≡ Some o = ap (λ (p : Port). p.control.owned) (sym s.port) ∙ owned in
+      let old = subst (λ (p : Port). IsSince x.began p.control.entering (reckoned.since k)) s.port s.entering in
+      let P : Bool → Type 0 = λ t. OwnSearch a words words' ports notes b reckoned k x.began (having_given (ports k)) (if t then x.contention else passing o.arena x.contention) in
+      let given : MayCount (ports k) reckoned.tally k (move.Gives o) → QuietlyBy a words words' ports notes b reckoned k x.began (having_given (ports k)) (move.Gives o) = λ may.
+      by_count a words ports notes b reckoned w time k s.number x.began (move.Gives o) owned' may (λ p c n is. is) (λ q ne. refl) words' refl (having_given (ports k)) refl old in
+      (elim cause [
+        | inl past ↦
+            let by = given (inl (ap (λ (p : Port). p.control.past) (sym s.port) ∙ past)) in
+            subst P (sym past) (leaves_search a words words' ports notes b reckoned k s.number x.began (having_given (ports k)) x.contention s.search (record { to = by.to; met = λ is. by.met ∙ is }) s.met)
+        | inr found ↦
+            let by = given (inr (s.met found.1)) in
+            let owner = subst (λ (t : Option OwnedArena). IfSome t (IsOwner e (control_words e words) (controls ports) (place_now b) (numbers b) k)) owned' (w.epochs.control.owners k s.number) in
+            subst P (sym found.0)
+            (passes_to a words words' ports notes b reckoned k s.number x.began (having_given (ports k)) x.contention s.search by.to owner.stands o.arena owner.arena
+            (λ y low. subst (λ (p : Port). (y < x.contention.search.below) ⊎ (y ≡ p.control.here.arena)) s.port (found.2 y low))
+            (λ none_freed. inl (by.leaves none_freed)))
+      ]))
+      (λ n. refl)
 
   -- the load of the next port's word
   pub may_load_port : (o : OwnedArena) → x.port.control.owned ≡ Some o → o.looked ≡ true → o.set ≡ 0 → o.clean < a.ports →
       Allows (IsRuleKept a) slots id me (at_word o.clean) (λ n. n) (tells (LoadsPort o) me)
-  may_load_port o owned looked none more = quietly_contending a slots id me one own known (at_word o.clean) (λ n. n) (λ n p. owning_port p (port_loaded n o)) (λ n m. contention_loading n o m) (LoadsPort o)
-      (λ n. owned_quiet (λ p. port_loaded n o)) (λ n m. loading_more n o m)
-      (λ words ports notes b reckoned w time below is old come.
+  may_load_port o owned looked none more =
+      quietly_searching a slots id me one own known (at_word o.clean) (λ n. n) (λ n p. owning_port p (port_loaded n o)) (λ n m. contention_loading n o m) (LoadsPort o)
+      (λ n. owned_quiet (λ p. port_loaded n o)) (λ n m. loading_seals n o m)
+      (λ words ports notes b reckoned w time s.
       let k : ℕ = x.number in
       let n : ℕ = slice_index words (at_word o.clean) in
       let words' : List ℕ = slice_set words (at_word o.clean) n in
-      let owned' : (ports k).control.owned ≡ Some o = ap (λ (p : Port). p.control.owned) (sym is) ∙ owned in
-      let P : Bool → Port = λ t. owning_port (ports k) (if t then elsewhere n o else having_loaded o (unpacked (n - entering_mark))) in
+      let owned' : (ports k).control.owned ≡ Some o = ap (λ (p : Port). p.control.owned) (sym s.port) ∙ owned in
+      let old = subst (λ (p : Port). IsSince x.began p.control.entering (reckoned.since k)) s.port s.entering in
+      let P : Bool → Type 0 = λ t. OwnSearch a words words' ports notes b reckoned k x.began (owning_port (ports k) (if t then elsewhere n o else having_loaded o (unpacked (n - entering_mark))))
+      (if t then contention_there n o x.contention else x.contention) in
       (elim (cases_lt n entering_mark) [
-        | inl less ↦ subst (λ (t : Bool). Quietly a words' ports notes b reckoned k x.began (P t)) (sym (lt-ltb n entering_mark less))
-            (finds_elsewhere a words ports notes b reckoned w time k below x.began old o owned' looked none more words' (load_same words (at_word o.clean)) less)
-        | inr from ↦ subst (λ (t : Bool). Quietly a words' ports notes b reckoned k x.began (P t)) (sym (not_below n entering_mark from))
-            (by_move a words ports notes b reckoned w time k below x.began (move.LoadsMark o) (owned', more, from) (λ p c n is. is) (λ q ne. refl) words' (load_same words (at_word o.clean))
-            (owning_port (ports k) (having_loaded o (unpacked (n - entering_mark)))) refl old)
+        | inl less ↦ subst P (sym (lt-ltb n entering_mark less))
+            (finds_elsewhere a words ports notes b reckoned w time k s.number x.began old o owned' looked none more x.contention s.search s.met words' (load_same words (at_word o.clean)) less)
+        | inr from ↦ subst P (sym (not_below n entering_mark from))
+            (leaves_search a words words' ports notes b reckoned k s.number x.began (owning_port (ports k) (having_loaded o (unpacked (n - entering_mark)))) x.contention s.search
+            (by_move a words ports notes b reckoned w time k s.number x.began (move.LoadsMark o) (owned', more, from) tt refl (λ p c n is. is) (λ q ne. refl) words' (load_same words (at_word o.clean))
+            (owning_port (ports k) (having_loaded o (unpacked (n - entering_mark)))) refl old) s.met)
       ]))
-      (λ words ports b w below is. refl)
+      (λ n. refl)
 
   -- the exchange of its mark
   pub may_put : (o : OwnedArena) (m : Place) → x.port.control.owned ≡ Some o → o.looked ≡ true → o.set ≡ 0 → o.clean < a.ports → o.mark ≡ Some m → o.again ≡ true →
       Allows (IsRuleKept a) slots id me (at_word o.clean) (λ n. either (n == marked m) (packed x.port.control.here) n) (tells (PutsPort o m) me)
-  may_put o m owned looked none more mark again = quietly_contending a slots id me one own known (at_word o.clean) (λ n. either (n == marked m) (packed x.port.control.here) n)
+  may_put o m owned looked none more mark again = quietly_searching a slots id me one own known (at_word o.clean) (λ n. either (n == marked m) (packed x.port.control.here) n)
       (λ n p. owning_port p (port_put m n o)) (λ n w. contention_putting m n o w)
       (PutsPort o m)
-      (λ n. owned_quiet (λ p. port_put m n o)) (λ n w. putting_more m n o w)
-      (λ words ports notes b reckoned w time below is old come.
+      (λ n. owned_quiet (λ p. port_put m n o)) (λ n w. putting_seals m n o w)
+      (λ words ports notes b reckoned w time s.
       let k : ℕ = x.number in
       let i : ℕ = at_word o.clean in
       let n : ℕ = slice_index words i in
       let there : ℕ = packed x.port.control.here in
       let v : ℕ = either (n == marked m) there n in
-      let owned' : (ports k).control.owned ≡ Some o = ap (λ (p : Port). p.control.owned) (sym is) ∙ owned in
-      let P : Bool → Port = λ t. owning_port (ports k) (if t then at_next_port o else (if nat_lt n entering_mark then elsewhere n o else o)) in
+      let words' : List ℕ = slice_set words i v in
+      let u : Contention = x.contention in
+      let owned' : (ports k).control.owned ≡ Some o = ap (λ (p : Port). p.control.owned) (sym s.port) ∙ owned in
+      let old = subst (λ (p : Port). IsSince x.began p.control.entering (reckoned.since k)) s.port s.entering in
+      let Q : OwnedArena → Contention → Type 0 = λ p m. OwnSearch a words words' ports notes b reckoned k x.began (owning_port (ports k) p) m in
+      let P : Bool → Type 0 = λ t. Q (if t then at_next_port o else (if nat_lt n entering_mark then elsewhere n o else o)) (if t then u else (if nat_lt n entering_mark then contention_there n o u else meeting u)) in
       (elim (eqb_tells n (marked m)) [
         | inl won ↦
-            let word : (if n == marked m then packed (ports k).control.here else n) ≡ v = ap (λ (p : Port). if n == marked m then packed p.control.here else n) (sym is)
+            let word : (if n == marked m then packed (ports k).control.here else n) ≡ v = ap (λ (p : Port). if n == marked m then packed p.control.here else n) (sym s.port)
             ∙ either_cond (n == marked m) there n in
-            subst (λ (t : Bool). Quietly a (slice_set words i v) ports notes b reckoned k x.began (P t)) (sym won.0)
-            (by_move a words ports notes b reckoned w time k below x.began (move.Puts o m) (owned', looked, more, none, mark, again, won.1) (λ p c n is. is) (λ q ne. refl) (slice_set words i v)
-            (ap (λ v. slice_set words i v) word) (owning_port (ports k) (at_next_port o)) refl old)
+            subst P (sym won.0)
+            (leaves_search a words words' ports notes b reckoned k s.number x.began (owning_port (ports k) (at_next_port o)) u s.search
+            (by_move a words ports notes b reckoned w time k s.number x.began (move.Puts o m) (owned', looked, more, none, mark, again, won.1) tt refl (λ p c n is. is) (λ q ne. refl) words'
+            (ap (λ v. slice_set words i v) word) (owning_port (ports k) (at_next_port o)) refl old) s.met)
         | inr lost ↦
-            let Q : Bool → Port = λ t. owning_port (ports k) (if t then elsewhere n o else o) in
-            let same : words ≡ slice_set words i v = load_same words i ∙ ap (λ t. slice_set words i (either t there n)) (sym lost.0) in
-            let stays : Quietly a (slice_set words i v) ports notes b reckoned k x.began (Q (nat_lt n entering_mark)) =
+            let R : Bool → Type 0 = λ t. Q (if t then elsewhere n o else o) (if t then contention_there n o u else meeting u) in
+            let same : words ≡ words' = load_same words i ∙ ap (λ t. slice_set words i (either t there n)) (sym lost.0) in
+            let stays : R (nat_lt n entering_mark) =
             (elim (cases_lt n entering_mark) [
-              | inl less ↦ subst (λ (t : Bool). Quietly a (slice_set words i v) ports notes b reckoned k x.began (Q t)) (sym (lt-ltb n entering_mark less))
-                  (finds_elsewhere a words ports notes b reckoned w time k below x.began old o owned' looked none more (slice_set words i v) same less)
-              | inr from ↦ subst (λ (t : Bool). Quietly a (slice_set words i v) ports notes b reckoned k x.began (Q t)) (sym (not_below n entering_mark from))
-                  (owns_still a words ports notes b reckoned w time k below x.began old o owned' looked none more (slice_set words i v) same)
+              | inl less ↦ subst R (sym (lt-ltb n entering_mark less))
+                  (finds_elsewhere a words ports notes b reckoned w time k s.number x.began old o owned' looked none more u s.search s.met words' same less)
+              | inr from ↦ subst R (sym (not_below n entering_mark from))
+                  (finds_another a words ports notes b reckoned w time k s.number x.began old o owned' looked none more u s.search s.met m mark lost.1 words' same)
             ]) in
-            subst (λ (t : Bool). Quietly a (slice_set words i v) ports notes b reckoned k x.began (P t)) (sym lost.0) stays
+            subst P (sym lost.0) stays
       ]))
-      (λ words ports b w below is. refl)
+      (λ n. refl)

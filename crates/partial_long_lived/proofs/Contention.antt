@@ -1,5 +1,5 @@
 -- What a port has met never shrinks, and how the search of each port goes on.
-use Rattle.partial_long_lived.proofs.{Common.{ℕ, ◌≡◌, ◌≢◌, ◌+◌, ◌<◌, ◌≤◌, ◌==◌, nat_lt, Bool, true, false, if◌then◌else◌, List, refl, sym, ap, subst, ◌∙◌, arith, seal, entering_mark, OwnedArena, Place, Port, Contention, Search, Reckoning, IsSearching, passing, meeting, contention_giving, contention_taking, contention_there, contention_loading, contention_putting, marked, unpacked, Wish, Glances, Reads, Expects, Finds, contention_by, Plan, Counts, Tally, Refused, Component, Overtaken, EpochsSpent, Stand, IsCause, Move}}
+use Rattle.partial_long_lived.proofs.{Common.{ℕ, ◌≡◌, ◌+◌, ◌<◌, ◌≤◌, ◌==◌, nat_lt, Bool, true, false, if◌then◌else◌, List, refl, arith, seal, entering_mark, OwnedArena, Place, Port, Contention, Search, Reckoning, IsSearching, passing, meeting, contention_giving, contention_taking, contention_there, contention_loading, contention_putting, marked, unpacked, Wish, Glances, Reads, Expects, Finds, contention_by, Plan, Counts, Move}}
 
 either_seals : (c : Bool) (m x y : Contention) → x.seals ≡ m.seals → y.seals ≡ m.seals → (if c then x else y).seals ≡ m.seals
 either_seals true m x y p q = p

@@ -1,12 +1,12 @@
 -- The steps of a change of epoch and of entering one are allowed.
-use Rattle.partial_long_lived.proofs.{Common.{ℕ, ◌≡◌, ◌≢◌, ◌<◌, ◌≤◌, ◌==◌, ◌⊎◌, Bool, true, false, if◌then◌else◌, Option, Some, None, IfSome, List, length, slice_index, slice_set, refl, sym, ap, subst, ◌∙◌, arith, set-get_or, Me, Allows, Applied, Noted, put, IsPlace, Place, Plan, at_word, current_word, marked, packed, Entering, OwnedArena, Port, Stands, Marks, Beside, LawfulEpochs, place_now, having_passed, having_looked, LawfulMemory, put_all, put_same, put_other, option_map_or, Reckons, Reckoning, entries_load, About, Began, IsRuleKept, IsSince, SeatedPort, one_of, plan_of, IsSeatKnown, IsOne, tells, LoadsCurrent, SeatLooks, StoresMark, becomes, loads, looked_at, marks, unpacked, Contention, [], ◌++◌, append-nil, MayMove, Move, MoveLeads, Becomes, port_after, since_behind, moved_words, every_step_stays_lawful, IsAside, noting, IsSeat, BeganInTime, unpacked_is, IsSearching, Tally, Counts, KeepsTally, LeavesInUse, MayCount, met_behind, ◌+◌}, Asides.{IsQuiet, aside}, Contention.searching_on, Kept.{GoesOn, allowed, begun_grows, none_grown, Moved}, Pending.every_step_counts, Begins.{began_by, here_is, seen_few}}
+use Rattle.partial_long_lived.proofs.{Common.{ℕ, ◌≡◌, ◌≢◌, ◌<◌, ◌≤◌, ◌==◌, ◌⊎◌, Bool, true, false, if◌then◌else◌, Option, Some, None, IfSome, List, length, slice_index, slice_set, refl, sym, ap, subst, ◌∙◌, arith, set-get_or, Me, Allows, Applied, Noted, put, IsPlace, Place, Plan, at_word, current_word, marked, packed, Entering, OwnedArena, Port, Stands, Marks, Beside, LawfulEpochs, place_now, having_passed, having_looked, LawfulMemory, put_all, put_same, put_other, option_map_or, Reckons, Reckoning, entries_load, About, Began, IsRuleKept, IsSince, SeatedPort, one_of, plan_of, IsSeatKnown, IsOne, tells, LoadsCurrent, SeatLooks, StoresMark, becomes, loads, looked_at, marks, unpacked, Contention, [], ◌++◌, append-nil, MayMove, Move, MoveLeads, Becomes, port_after, since_behind, moved_words, every_step_stays_lawful, IsAside, noting, IsSeat, BeganInTime, unpacked_is, IsSearching, Tally, Counts, LeavesInUse, MayCount, met_behind, every_step_counts}, Asides.{IsQuiet, aside}, Contention.searching_on, Kept.{GoesOn, allowed, begun_grows, none_grown, Moved}, Begins.{began_by, here_is, seen_few}}
 use Rattle.partial_epochs.specs.EveryStep.{Move as move}
 
 -- a load leaves the words as they are
 pub load_same : (words : List ℕ) (i : ℕ) → words ≡ slice_set words i (slice_index words i)
 load_same words i = sym (set-get_or words i 0)
 
-looked_quiet : (a : ℕ) → IsQuiet (looked_at a)
+pub looked_quiet : (a : ℕ) → IsQuiet (looked_at a)
 looked_quiet a = record {
   part = λ p. by_part p (a == packed p.control.here) p.control.owned;
   before = λ p. by_before p (a == packed p.control.here) p.control.owned;
@@ -41,7 +41,7 @@ looked_quiet a = record {
 abbrev pub MayLook : About → Port → Type 0
 MayLook a p = (p.control.entering ≡ Stands) × IfSome p.control.owned (λ o. (o.mark ≡ None) ⊎ (o.clean < a.ports))
 
-looked_stands : (n : ℕ) (p : Port) → p.control.entering ≡ Stands → (looked_at n p).control.entering ≡ Stands
+pub looked_stands : (n : ℕ) (p : Port) → p.control.entering ≡ Stands → (looked_at n p).control.entering ≡ Stands
 looked_stands n p is = by (n == packed p.control.here) p.control.owned
   where
     by : (c : Bool) (o : Option OwnedArena) → (if c then option_map_or (having_looked p) o p else having_passed p).control.entering ≡ Stands
@@ -142,6 +142,7 @@ module _ (a : About) (words : List ℕ) (ports : ℕ → Port) (notes : ℕ → 
         lawful = l.lawful;
         time = record {
           reckons = record { time = l.time reckoned.since time.time; tally = counts.keeps };
+          freed = counts.grows;
           searching = searching_on e words there ports (put k l.port ports) (place_now b) (place_now l.beside) reckoned (since_behind b k m reckoned.since) k m counts later;
           since = others;
           met = λ q ne. counts.met q ∙ met_others k m reckoned.tally.met q ne;

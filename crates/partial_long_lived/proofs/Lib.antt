@@ -31,7 +31,8 @@ pub mod Meeting
 pub mod Meetings
 pub mod Meets
 pub mod Contention
-pub mod Pending
+pub mod Searching
+pub mod Passing
 pub mod NewPorts
 pub mod Opens
 pub mod PoolCounters

@@ -156,7 +156,7 @@ module _ (a : About) (words : List ℕ) (ports : ℕ → Port) (notes : ℕ → 
       pub others : (q : ℕ) → q ≢ k → notes' q ≡ notes q
       pub lawful : LawfulMemory e words (put k p' ports) beside notes'
       pub reckoned' : Reckoning
-      pub time : GoesOn a words words ports (put k p' ports) b beside reckoned reckoned' k
+      pub keeps : GoesOn a words words ports (put k p' ports) b beside reckoned reckoned' k
       pub met : reckoned'.tally.met k ≡ reckoned.tally.met k
 
     shown_few : seen_by 0 (notes k) ≤ length (history_of (ports k).before) + length log
@@ -179,7 +179,7 @@ module _ (a : About) (words : List ℕ) (ports : ℕ → Port) (notes : ℕ → 
           others = λ q ne. refl;
           lawful = unnoted a words ports notes b reckoned w time k below words (put k p' ports) l.beside led.lawful;
           reckoned' = reckoned_behind b k (move.Sees log) reckoned led.there;
-          time = led.time;
+          keeps = led.time;
           met = led.met k;
         }
 
@@ -197,7 +197,7 @@ module _ (a : About) (words : List ℕ) (ports : ℕ → Port) (notes : ℕ → 
           others = λ q ne. put_other k (notes k ++ n ∷ []) notes q ne;
           lawful = led.lawful;
           reckoned' = reckoned_behind b k (move.Notes n i log) reckoned led.there;
-          time = led.time;
+          keeps = led.time;
           met = led.met k;
         }
 
@@ -219,7 +219,7 @@ module _ (a : About) (words : List ℕ) (ports : ℕ → Port) (notes : ℕ → 
         let lawful' : LawfulMemory e (slice_set words i (slice_index words i)) (put k p' ports) to.beside to.notes' =
         subst (λ (l : List ℕ). LawfulMemory e l (put k p' ports) to.beside to.notes') (load_same words i) to.lawful in
         let time' : GoesOn a words (slice_set words i (slice_index words i)) ports (put k p' ports) b to.beside reckoned to.reckoned' k =
-        subst (λ (l : List ℕ). GoesOn a words l ports (put k p' ports) b to.beside reckoned to.reckoned' k) (load_same words i) to.time in
+        subst (λ (l : List ℕ). GoesOn a words l ports (put k p' ports) b to.beside reckoned to.reckoned' k) (load_same words i) to.keeps in
         record {
           y = record { about = a; number = k; port = p'; notes = notes k ++ added; began = n; found = found; contention = contention };
           ports' = put k p' ports;

@@ -1,5 +1,5 @@
 -- The exchange of the current word is allowed.
-use Rattle.partial_long_lived.proofs.{Common.{ℕ, ◌≡◌, ◌<◌, ◌≤◌, ◌==◌, ◌++◌, if◌then◌else◌, List, [], ◌∷◌, length, slice_index, slice_set, refl, sym, ap, subst, ◌∙◌, inl, inr, arith, append-nil, length-append, either, Me, Allows, Applied, LegalNotes, Noted, put, Plan, current_word, packed, OwnedArena, Port, Beside, place_now, Reckons, Reckoning, IsWholeArena, having_published, next_beside, next_place, LawfulMemory, put_other, put_same, About, IsRuleKept, IsSeat, SeatedPort, one_of, plan_of, seen_in, IsSeatKnown, IsOne, tells, SeatPublishes, becomes, every_step_stays_lawful, IsSince}, Kept.{GoesOn, Grows, HasGrown, HaveGrown, Moved, allowed, begun_grows, final_grows, seen_grows}, Asides.{IsQuiet, final_same}, Changes.either_cond, Control.{LedTo, led_to, moved_quietly, reckoned_behind, unnoted}}
+use Rattle.partial_long_lived.proofs.{Common.{ℕ, ◌≡◌, ◌<◌, ◌≤◌, ◌==◌, ◌++◌, if◌then◌else◌, List, [], ◌∷◌, length, slice_index, slice_set, refl, sym, ap, subst, ◌∙◌, inl, inr, arith, append-nil, length-append, either, Me, Allows, Applied, LegalNotes, Noted, put, Plan, current_word, packed, OwnedArena, Port, Beside, Reckoning, IsWholeArena, having_published, next_beside, next_place, LawfulMemory, put_other, put_same, About, IsRuleKept, IsSeat, SeatedPort, one_of, plan_of, seen_in, IsSeatKnown, IsOne, tells, SeatPublishes, becomes, every_step_stays_lawful, IsSince, true}, Kept.{GoesOn, Grows, HasGrown, HaveGrown, Moved, allowed, begun_grows, final_grows, seen_grows}, Asides.{IsQuiet, final_same}, Changes.either_cond, Control.{LedTo, led_to, moved_quietly, reckoned_behind, unnoted}}
 use Rattle.partial_epochs.specs.EveryStep.{Move as move}
 
 -- once the next epoch is open, the epochs that had come have the histories that they had

@@ -1,6 +1,8 @@
 -- What the owner of an arena has behind its steps.
 use Rattle.std.proofs.Common.{le-ltb}
-use Rattle.partial_long_lived.proofs.{Common.{ℕ, value_word, initial_record, ◌≡◌, ◌≢◌, ◌+◌, ◌-◌, ◌%◌, ◌<◌, ◌≤◌, Bool, true, if◌then◌else◌, Option, Some, None, IfSome, refl, sym, ap, subst, ◌∙◌, inl, inr, arith, nat_lt, lt-ltb, Layout, first_free, Place, arena_limit, entering_mark, marked, OwnedArena, Stands, at_next_port, having_loaded, owning_port, resting_arena, not_below, About, Stand, SeatedPort, port_at, LoadsPort, SeatPublishes, PutsPort, Sets, becomes, elsewhere, port_loaded, port_put, unpacked, HasLoadedPort, IsRight, MayPutPort, OfOwned, Owns, PutsBy, SetsLists, SetsValue, HasControl, Control, behind_value, behind_values, SetsNext, HasSetWords, FindsClear, Contention, IsBusy, Takes, finding_busy, contention_loading, contention_putting, contention_there, times_in, cases_lt, ◌⊎◌, TakesBy}, Sets.{alike, unlike, value_behind}, Contention.busy_once}
+use Rattle.partial_long_lived.specs.declared.claim.Claimed.{Claimed}
+use Rattle.partial_long_lived.specs.declared.claim.Claimed.TheVariants.{Clean, Taken, Ended}
+use Rattle.partial_long_lived.proofs.{Common.{ℕ, value_word, initial_record, ◌≡◌, ◌≢◌, ◌+◌, ◌-◌, ◌%◌, ◌<◌, ◌≤◌, Bool, true, if◌then◌else◌, Option, Some, None, IfSome, refl, sym, ap, subst, ◌∙◌, inl, inr, arith, nat_lt, lt-ltb, Layout, first_free, Place, arena_limit, entering_mark, marked, OwnedArena, Stands, at_next_port, having_loaded, owning_port, resting_arena, not_below, About, Stand, SeatedPort, port_at, LoadsPort, SeatPublishes, PutsPort, Sets, becomes, elsewhere, port_loaded, port_put, unpacked, HasLoadedPort, IsRight, MayPutPort, OfOwned, Owns, PutsBy, SetsLists, SetsValue, HasControl, Control, behind_value, behind_values, SetsNext, HasSetWords, FindsClear, Contention, Takes, contention_loading, contention_putting, contention_there, cases_lt, ◌⊎◌, TakesBy, Searches, SearchesOn, search_at, MeetsPort, HasPassedArenas, passing, meeting, GivesBack, SeatGives, having_given, just_taken, taken_at, contention_taking, Port, false, eqb_tells, ◌&&◌, ◌==◌, MeetsBy}, Sets.{alike, unlike, value_behind}}
 
 -- a step by the arena that the port owns
 own_told : (R : OwnedArena → SeatedPort → ℕ → SeatedPort → Type 0) (x : SeatedPort) (a : ℕ) (y : SeatedPort) (o : OwnedArena) → x.port.control.owned ≡ Some o → OfOwned R x a y → R o x a y
@@ -27,18 +29,81 @@ set_kept s t y q i same w = record {
   set = w.set;
 }
 
--- a port that has found the arena in use
-busy_at : (s t : Stand) (x y : ℕ) → x ≡ y → (port_at t).contention ≡ finding_busy x (port_at s).contention → IsBusy y s t
-busy_at s t x y same is =
-    let once = busy_once x (port_at s).contention in
-    let now = ap (λ (m : Contention). times_in x m.busy) is in
-    subst (λ z. IsBusy z s t) same (omega (arith, once, now))
+-- what a step leaves of a search: the port stands where it stood, and has seen its epoch's end no more than before
+module _ (s t : Stand) (met met' : Bool) (n n' : ℕ) (w : Searches met n s) (p : Port) (m : Contention) (is : port_at t ≡ record (becomes (port_at s) (port_at s).began p) { contention = m })
+    (here : p.control.here ≡ (port_at s).port.control.here) (past : p.control.past ≡ (port_at s).port.control.past) (epoch : m.search.epoch ≡ (search_at s).epoch) (freed : m.search.freed ≡ (search_at s).freed)
+    (most : m.search.most ≡ (search_at s).most) (met_is : m.search.met ≡ met') (passed : (i : ℕ) → i < n' → (i < m.search.below) ⊎ (i ≡ (port_at s).port.control.here.arena)) where
+  pub searches_on : SearchesOn met' n' s t
+  searches_on = record {
+    searches = record {
+      epoch = ap (λ (x : SeatedPort). x.contention.search.epoch) is ∙ epoch ∙ w.epoch ∙ sym (ap (λ (x : SeatedPort). x.port.control.here.epoch) is ∙ ap (λ (d : Place). d.epoch) here);
+      past = ap (λ (x : SeatedPort). x.port.control.past) is ∙ past ∙ w.past;
+      met_is = ap (λ (x : SeatedPort). x.contention.search.met) is ∙ met_is;
+      passed = subst (HasPassedArenas n') (sym is) (λ i low. subst (λ (d : Place). (i < m.search.below) ⊎ (i ≡ d.arena)) (sym here) (passed i low));
+    };
+    same = record { freed = ap (λ (x : SeatedPort). x.contention.search.freed) is ∙ freed; most = ap (λ (x : SeatedPort). x.contention.search.most) is ∙ most };
+  }
 
--- the exchange of the owner word of an arena meets another owner
-pub taken_busy : (s t : Stand) (y w a : ℕ) → w ≡ 1 + (port_at s).about.ports + y → TakesBy w (port_at s) a (port_at t) → a ≢ 0 → IsBusy y s t
-taken_busy s t y w a word says held =
-    let told : Takes y (port_at s) a (port_at t) = subst (λ i. Takes i (port_at s) a (port_at t)) (omega (arith, word)) says in
-    busy_at s t y y refl (ap (λ (x : SeatedPort). x.contention) told ∙ ap (λ (c : Bool). if c then (port_at s).contention else finding_busy y (port_at s).contention) (unlike a 0 held))
+-- one that leaves what the port has met as it was
+pub searches_still : (s t : Stand) (met : Bool) (n : ℕ) → Searches met n s → (p : Port) → port_at t ≡ record (becomes (port_at s) (port_at s).began p) { contention = (port_at s).contention } →
+    p.control.here ≡ (port_at s).port.control.here → p.control.past ≡ (port_at s).port.control.past → SearchesOn met n s t
+searches_still s t met n w p is here past = searches_on s t met met n n w p (port_at s).contention is here past refl refl refl w.met_is w.passed
+
+-- one by which it passes an arena
+pub searches_past : (s t : Stand) (met : Bool) (n i : ℕ) → Searches met n s → (p : Port) → port_at t ≡ record (becomes (port_at s) (port_at s).began p) { contention = passing i (port_at s).contention } →
+    p.control.here ≡ (port_at s).port.control.here → p.control.past ≡ (port_at s).port.control.past → SearchesOn false (i + 1) s t
+searches_past s t met n i w p is here past = searches_on s t met false n (i + 1) w p (passing i (port_at s).contention) is here past refl refl refl refl (λ y low. inl low)
+
+-- one by which it meets another port
+pub searches_met : (s t : Stand) (met : Bool) (n : ℕ) → Searches met n s → (p : Port) → port_at t ≡ record (becomes (port_at s) (port_at s).began p) { contention = meeting (port_at s).contention } →
+    p.control.here ≡ (port_at s).port.control.here → p.control.past ≡ (port_at s).port.control.past → SearchesOn true n s t
+searches_met s t met n w p is here past = searches_on s t met true n n w p (meeting (port_at s).contention) is here past refl refl refl refl w.passed
+
+-- a search that goes on twice
+pub on_then : (s t u : Stand) (met met' : Bool) (n n' : ℕ) → SearchesOn met n s t → SearchesOn met' n' t u → SearchesOn met' n' s u
+on_then s t u met met' n n' a b = record { searches = b.searches; same = record { freed = (b.same).freed ∙ (a.same).freed; most = (b.same).most ∙ (a.same).most } }
+
+-- so does what has come of an arena
+pub meets_then : (r : Claimed) (x : ℕ) (s t u : Stand) → SearchesOn false x s t → MeetsBy r x t u → MeetsBy r x s u
+meets_then (Clean y) x s t u a b = on_then s t u false false x x a b
+meets_then Taken x s t u a b = on_then s t u false true x x a b
+meets_then Ended x s t u a b = tt
+
+-- what the load of the next port's word shows of the search
+pub loaded_there : (s t : Stand) (y a : ℕ) → a < entering_mark → a % arena_limit ≡ y → MeetsPort y a s t → SearchesOn true y s t
+loaded_there s t y a low same = subst (λ (c : Bool). SearchesOn c y s t) (ap (λ (c : Bool). c && (a % arena_limit == y)) (lt-ltb a entering_mark low) ∙ alike (a % arena_limit) y same)
+
+pub loaded_away : (s t : Stand) (y a : ℕ) → a < entering_mark → a % arena_limit ≢ y → MeetsPort y a s t → SearchesOn false y s t
+loaded_away s t y a low ne = subst (λ (c : Bool). SearchesOn c y s t) (ap (λ (c : Bool). c && (a % arena_limit == y)) (lt-ltb a entering_mark low) ∙ unlike (a % arena_limit) y ne)
+
+pub loaded_marked : (s t : Stand) (y a : ℕ) → entering_mark ≤ a → MeetsPort y a s t → SearchesOn false y s t
+loaded_marked s t y a from = subst (λ (c : Bool). SearchesOn c y s t) (ap (λ (c : Bool). c && (a % arena_limit == y)) (not_below a entering_mark from))
+
+-- the exchange of the owner word of an arena
+pub take_passes : (s t : Stand) (y w a : ℕ) → w ≡ 1 + (port_at s).about.ports + y → TakesBy w (port_at s) a (port_at t) → Searches false y s → SearchesOn false (if a == 0 then y else y + 1) s t
+take_passes s t y w a word says searches = by (eqb_tells a 0)
+  where
+    told : port_at t ≡ record (becomes (port_at s) (port_at s).began (taken_at y a (port_at s).port)) { contention = contention_taking y a (port_at s).contention }
+    told = subst (λ i. Takes i (port_at s) a (port_at t)) (omega (arith, word)) says
+
+    x : SeatedPort
+    x = port_at s
+
+    after : Bool → SeatedPort
+    after c = record (becomes x x.began (if c then owning_port x.port (just_taken y) else x.port)) { contention = if c then x.contention else passing y x.contention }
+
+    by : (((a == 0) ≡ true) × (a ≡ 0)) ⊎ (((a == 0) ≡ false) × (a ≢ 0)) → SearchesOn false (if a == 0 then y else y + 1) s t
+    by (inl free) = subst (λ (c : Bool). SearchesOn false (if c then y else y + 1) s t) (sym free.0) (searches_still s t false y searches (owning_port x.port (just_taken y)) (told ∙ ap after free.0) refl refl)
+    by (inr held) = subst (λ (c : Bool). SearchesOn false (if c then y else y + 1) s t) (sym held.0) (searches_past s t false y y searches x.port (told ∙ ap after held.0) refl refl)
+
+-- the store that gives it back
+pub give_passes : (s t : Stand) (y a : ℕ) → (owns : Owns s y) → GivesBack (port_at s) a (port_at t) → Searches true y s → SearchesOn false (y + 1) s t
+give_passes s t y a owns says searches =
+    let x : SeatedPort = port_at s in
+    let o = owns.owned in
+    let told : SeatGives o x a (port_at t) = own_told SeatGives x a (port_at t) o owns.is says in
+    let after : Bool → SeatedPort = λ c. record (becomes x x.began (having_given x.port)) { contention = if c then x.contention else passing o.arena x.contention } in
+    subst (λ i. SearchesOn false (i + 1) s t) owns.arena (searches_past s t true y o.arena searches (having_given x.port) (told ∙ ap after searches.past) refl refl)
 
 -- the port with another state of its arena
 module _ (s t : Stand) (o : OwnedArena) (m : Contention) (is : port_at t ≡ record (becomes (port_at s) (port_at s).began (owning_port (port_at s).port o)) { contention = m }) (stands : (port_at s).port.control.entering ≡ Stands) where
@@ -130,13 +195,31 @@ module _ (s t : Stand) (y q a : ℕ) (w : HasSetWords s y q 0) (told : OfOwned L
         };
   }
 
-  -- a port that stands in the arena is met there
-  pub port_busy : a < entering_mark → a % arena_limit ≡ y → IsBusy y s t
-  port_busy low same =
-      let there : met ≡ finding_busy own.arena (port_at s).contention =
-      ap (λ (c : Bool). if c then contention_there a own (port_at s).contention else (port_at s).contention) (lt-ltb a entering_mark low)
-      ∙ ap (λ (c : Bool). if c then finding_busy own.arena (port_at s).contention else (port_at s).contention) (alike (unpacked a).arena own.arena (same ∙ sym w.arena)) in
-      busy_at s t own.arena y w.arena (ap (λ (x : SeatedPort). x.contention) told_is ∙ there)
+  -- the search goes on, and a port that stands in the arena is met there
+  pub port_meets : Searches false y s → MeetsPort y a s t
+  port_meets searches = by (cases_lt a entering_mark)
+    where
+      x : SeatedPort
+      x = port_at s
+
+      G : Bool → Type 0
+      G c = SearchesOn c y s t
+
+      stays : (m : Contention) → met ≡ m → port_at t ≡ record (becomes x x.began (owning_port x.port (port_loaded a own))) { contention = m }
+      stays m same = told_is ∙ ap (λ (m : Contention). record (becomes x x.began (owning_port x.port (port_loaded a own))) { contention = m }) same
+
+      low_met : a < entering_mark → met ≡ contention_there a own x.contention
+      low_met low = ap (λ (c : Bool). if c then contention_there a own x.contention else x.contention) (lt-ltb a entering_mark low)
+
+      by : (a < entering_mark) ⊎ (entering_mark ≤ a) → MeetsPort y a s t
+      by (inr from) = subst G (sym (ap (λ (c : Bool). c && (a % arena_limit == y)) (not_below a entering_mark from)))
+          (searches_still s t false y searches (owning_port x.port (port_loaded a own)) (stays x.contention (ap (λ (c : Bool). if c then contention_there a own x.contention else x.contention) (not_below a entering_mark from))) refl refl)
+      by (inl low) = (elim (eqb_tells (unpacked a).arena own.arena) [
+        | inl same ↦ subst G (sym (ap (λ (c : Bool). c && (a % arena_limit == y)) (lt-ltb a entering_mark low) ∙ alike (a % arena_limit) y (same.1 ∙ w.arena)))
+            (searches_met s t false y searches (owning_port x.port (port_loaded a own)) (stays (meeting x.contention) (low_met low ∙ ap (λ (c : Bool). if c then meeting x.contention else x.contention) same.0)) refl refl)
+        | inr ne ↦ subst G (sym (ap (λ (c : Bool). c && (a % arena_limit == y)) (lt-ltb a entering_mark low) ∙ unlike (a % arena_limit) y (λ is. ne.1 (is ∙ sym w.arena))))
+            (searches_still s t false y searches (owning_port x.port (port_loaded a own)) (stays x.contention (low_met low ∙ ap (λ (c : Bool). if c then meeting x.contention else x.contention) ne.0)) refl refl)
+      ])
 
 -- the exchange of its mark m
 module _ (s t : Stand) (y q m a : ℕ) (w : MayPutPort s y q m) (from : entering_mark ≤ m) (told : PutsBy m (port_at s) a (port_at t)) where
@@ -169,18 +252,33 @@ module _ (s t : Stand) (y q m a : ℕ) (w : MayPutPort s y q m) (from : entering
   put_away low ne = put_as (ap (λ (c : Bool). if c then at_next_port put else others (nat_lt a entering_mark)) (unlike a (marked mark) (λ same. absurd (omega (arith, same, low))))
       ∙ ap others (lt-ltb a entering_mark low) ∙ ap (λ (c : Bool). if c then put else at_next_port put) (unlike (unpacked a).arena put.arena (λ same. ne (same ∙ w.holds.arena))))
 
-  abbrev busy_if : Bool → Contention
-  busy_if c = if c then contention_there a put (port_at s).contention else finding_busy put.arena (port_at s).contention
+  abbrev x : SeatedPort
+  x = port_at s
+
+  put_stays : (m : Contention) → met_then ≡ m → port_at t ≡ record (becomes x x.began (owning_port x.port (port_put mark a put))) { contention = m }
+  put_stays m same = put_is ∙ ap (λ (m : Contention). record (becomes x x.began (owning_port x.port (port_put mark a put))) { contention = m }) same
+
+  abbrev met_by : Bool → Contention
+  met_by c = if c then contention_there a put x.contention else meeting x.contention
+
+  lost_met : a ≢ m → met_then ≡ met_by (nat_lt a entering_mark)
+  lost_met other = ap (λ (c : Bool). if c then x.contention else met_by (nat_lt a entering_mark)) (unlike a (marked mark) (λ same. other (same ∙ named)))
+
+  -- the search goes on where the port is put, or is in another arena
+  pub put_clean : Searches false y s → (a ≡ m) ⊎ ((a < entering_mark) × (a % arena_limit ≢ y)) → SearchesOn false y s t
+  put_clean searches (inl same) = searches_still s t false y searches (owning_port x.port (port_put mark a put))
+      (put_stays x.contention (ap (λ (c : Bool). if c then x.contention else met_by (nat_lt a entering_mark)) (alike a (marked mark) (same ∙ sym named)))) refl refl
+  put_clean searches (inr away) = searches_still s t false y searches (owning_port x.port (port_put mark a put))
+      (put_stays x.contention (lost_met (λ same. (let low = away.0 in absurd (omega (arith, same, low)))) ∙ ap met_by (lt-ltb a entering_mark away.0)
+      ∙ ap (λ (c : Bool). if c then meeting x.contention else x.contention) (unlike (unpacked a).arena put.arena (λ is. away.1 (is ∙ w.holds.arena))))) refl refl
 
   -- an exchange that finds another word, which isn't the place of another arena, meets a port there
-  pub put_busy : a ≢ m → (a < entering_mark → a % arena_limit ≡ y) → IsBusy y s t
-  put_busy other there = busy_at s t put.arena y w.holds.arena (ap (λ (x : SeatedPort). x.contention) put_is
-      ∙ ap (λ (c : Bool). if c then (port_at s).contention else busy_if (nat_lt a entering_mark)) (unlike a (marked mark) (λ same. other (same ∙ named))) ∙ by (cases_lt a entering_mark))
+  pub put_meets : Searches false y s → a ≢ m → (a < entering_mark → a % arena_limit ≡ y) → SearchesOn true y s t
+  put_meets searches other there = searches_met s t false y searches (owning_port x.port (port_put mark a put)) (put_stays (meeting x.contention) (lost_met other ∙ by (cases_lt a entering_mark))) refl refl
     where
-      by : (a < entering_mark) ⊎ (entering_mark ≤ a) → busy_if (nat_lt a entering_mark) ≡ finding_busy put.arena (port_at s).contention
-      by (inl low) = ap busy_if (lt-ltb a entering_mark low)
-          ∙ ap (λ (c : Bool). if c then finding_busy put.arena (port_at s).contention else (port_at s).contention) (alike (unpacked a).arena put.arena (there low ∙ sym w.holds.arena))
-      by (inr from) = ap busy_if (not_below a entering_mark from)
+      by : (a < entering_mark) ⊎ (entering_mark ≤ a) → met_by (nat_lt a entering_mark) ≡ meeting x.contention
+      by (inl low) = ap met_by (lt-ltb a entering_mark low) ∙ ap (λ (c : Bool). if c then meeting x.contention else x.contention) (alike (unpacked a).arena put.arena (there low ∙ sym w.holds.arena))
+      by (inr from) = ap met_by (not_below a entering_mark from)
 
 -- behind the last value come the carried stamps
 pub behind_last : (z : Layout) (n : ℕ) → z.m ≤ n → behind_values z n ≡ first_free z + 0

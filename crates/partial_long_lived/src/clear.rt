@@ -1,6 +1,6 @@
 //! How the owner of an arena sees that no port stands there or enters it.
 
-ghost use Rattle.std.specs.Prelude.{◌≡◌, ◌+◌, ◌*◌, ◌%◌, ◌<◌, ◌≤◌};
+ghost use Rattle.std.specs.Prelude.{◌≡◌, false, ◌+◌, ◌*◌, ◌<◌, ◌≤◌};
 ghost use Rattle.partial_long_lived.specs.Inner.Held.{IsHeld};
 ghost use Rattle.partial_long_lived.specs.Inner.Changing.{HasCleared, HasLoadedPort, HasTaken, MayPutPort, MeetsBy, MeetsPort, Remains, HasSetWords, Searches};
 

@@ -1,50 +1,51 @@
-use Rattle.std.proofs.Common.{rules, tests}
-use Rattle.partial_long_lived.proofs.{Common.{◌+◌, ◌*◌, ◌≤◌, ap, arith, pass_steps, Plan}, Contention.{busy_again, busy_all, busy_none}, Counts.{round_more, rounds_all, rounds_within}, Staying.{remains_same, remains_then}}
+use Rattle.partial_long_lived.proofs.{Common.{Bool, ◌<◌, subst, sym}, Passing.{SearchedSo, begins_so, ended_within, ends_within, fewer_left, passes_left, passes_on}, Staying.{remains_then}}
 use Rattle.partial_long_lived.proofs.claim.claim.Goals as goal
 
-pub returns-in-Clean-clause-claimed : goal.returns-in-Clean-clause-claimed
-returns-in-Clean-clause-claimed c = search (tests, rules)
+pub pass-requires-clause-searches : goal.pass-requires-clause-searches
+pass-requires-clause-searches c = (subst (λ (b : Bool). SearchedSo b c.args.words.now.key c.args.stand.now c.loop-current.stand) c.loop-current-test.true c.loop-current.invariant.searched).so.0
 
-pub loop-preserved : goal.loop-preserved
-loop-preserved c =
-    let steps : c.claim_one.new.stand.seat.steps ≤ c.args.stand.now.seat.steps + (c.loop.counter + 1) * pass_steps c.args.words.now.key = round_more _ _ _ _ _ c.loop.invariant.steps c.claim_one.ensures.steps in
-    let one = c.claim_one.ensures in
-    record {
-      held = one.held;
-      remains = remains_then _ _ _ c.loop.invariant.remains one.remains;
-      idle = rw c.in-Taken.is at one.claimed;
-      busy = busy_again c.loop.stand c.claim_one.new.stand one.remains c.loop.counter c.args.stand.now c.loop.invariant.busy (rw c.in-Taken.is at one.busy);
-      steps = steps;
+pub loop-current-init : goal.loop-current-init
+loop-current-init c =
+    let begun = c.begin_search-current.ensures in record {
+      held = begun.held;
+      remains = begun.remains;
+      idle = begun.idle;
+      searched = begins_so c.begin_search-current.result c.args.words.now.key c.args.stand.now c.begin_search-current.new.stand begun.begun begun.held.own begun.steps;
     }
 
-pub loop-init : goal.loop-init
-loop-init c = record {
-  held = c.requires.held;
-  remains = remains_same _ _ c.args.stand.now c.requires.held;
-  idle = c.requires.may;
-  busy = busy_none c.args.stand.now;
-  steps = omega arith;
-}
+pub loop-current-preserved : goal.loop-current-preserved
+loop-current-preserved c =
+    let about = c.args.words.now.key in
+    let inv = c.loop-current.invariant in
+    let so = subst (λ (b : Bool). SearchedSo b about c.args.stand.now c.loop-current.stand) c.loop-current-test.true inv.searched in
+    let pass = c.pass.ensures in
+    let next = c.begin_pass-current.ensures in record {
+      held = next.held;
+      remains = remains_then _ _ _ inv.remains (remains_then _ _ _ pass.remains next.remains);
+      idle = next.idle;
+      searched = passes_on about c.args.stand.now c.loop-current.stand c.pass.new.stand c.begin_pass-current.new.stand so (rw c.in-Taken.is at pass.passes) pass.steps next.steps c.begin_pass-current.result next.begun;
+    }
 
-pub returns-clause-busy : goal.returns-clause-busy
-returns-clause-busy c =
-    let ports = ap (λ (e : Plan). e.ports) c.requires.held.shape in
-    let over = c.loop-test.false in
-    busy_all c.loop.counter (3 * c.args.words.now.key.ports) c.args.stand.now c.loop.stand (omega (arith, ports, over)) c.loop.invariant.busy
+pub loop-current-smaller : goal.loop-current-smaller
+loop-current-smaller c =
+    let about = c.args.words.now.key in
+    let so = subst (λ (b : Bool). SearchedSo b about c.args.stand.now c.loop-current.stand) c.loop-current-test.true c.loop-current.invariant.searched in
+    let pass = c.pass.ensures in
+    let next = c.begin_pass-current.ensures in
+    let fewer = fewer_left about c.args.stand.now c.loop-current.stand c.pass.new.stand c.begin_pass-current.new.stand so (rw c.in-Taken.is at pass.passes) pass.steps next.steps c.begin_pass-current.result next.begun in
+    subst (λ (b : Bool). passes_left c.begin_pass-current.result c.begin_pass-current.new.stand < passes_left b c.loop-current.stand) (sym c.loop-current-test.true) fewer
 
 pub returns-in-Clean-clause-steps : goal.returns-in-Clean-clause-steps
 returns-in-Clean-clause-steps c =
-    let ports = ap (λ (e : Plan). e.ports) c.requires.held.shape in
-    let test = c.loop-test.true in
-    rounds_within c.loop.counter (3 * c.args.words.now.key.ports) (pass_steps c.args.words.now.key) _ _ _ (omega (arith, ports, test)) c.loop.invariant.steps c.claim_one.ensures.steps
+    let so = subst (λ (b : Bool). SearchedSo b c.args.words.now.key c.args.stand.now c.loop-current.stand) c.loop-current-test.true c.loop-current.invariant.searched in
+    ends_within c.args.words.now.key c.args.stand.now c.loop-current.stand c.pass.new.stand so c.pass.ensures.steps
 
 pub returns-in-Ended-clause-steps : goal.returns-in-Ended-clause-steps
 returns-in-Ended-clause-steps c =
-    let ports = ap (λ (e : Plan). e.ports) c.requires.held.shape in
-    let test = c.loop-test.true in
-    rounds_within c.loop.counter (3 * c.args.words.now.key.ports) (pass_steps c.args.words.now.key) _ _ _ (omega (arith, ports, test)) c.loop.invariant.steps c.claim_one.ensures.steps
+    let so = subst (λ (b : Bool). SearchedSo b c.args.words.now.key c.args.stand.now c.loop-current.stand) c.loop-current-test.true c.loop-current.invariant.searched in
+    ends_within c.args.words.now.key c.args.stand.now c.loop-current.stand c.pass.new.stand so c.pass.ensures.steps
 
 pub returns-clause-steps : goal.returns-clause-steps
 returns-clause-steps c =
-    let ports = ap (λ (e : Plan). e.ports) c.requires.held.shape in
-    rounds_all c.loop.counter (3 * c.args.words.now.key.ports) (pass_steps c.args.words.now.key) _ _ (let end = c.loop.auto.counter-end in omega (arith, ports, end)) c.loop.invariant.steps
+    ended_within c.args.words.now.key c.args.stand.now c.loop-current.stand
+    (subst (λ (b : Bool). SearchedSo b c.args.words.now.key c.args.stand.now c.loop-current.stand) c.loop-current-test.false c.loop-current.invariant.searched)

@@ -1,4 +1,4 @@
-use Rattle.partial_long_lived.proofs.{Common.{◌≡◌, ◌<◌, false, refl, ap, subst, sym, arith, just_taken, Plan, HasSetWords}, Contention.{busy_at_last}, Counts.{threes_all, threes_more, threes_within}, Staying.{remains_then}, Looking.{away_owns, away_past, looked_remains, taken_works}}
+use Rattle.partial_long_lived.proofs.{Common.{◌≡◌, ◌<◌, false, refl, ap, subst, sym, arith, just_taken, Plan, HasSetWords}, Counts.{threes_all, threes_more, threes_within}, Staying.{remains_then}, Looking.{away_owns, away_past, looked_remains, looked_searching, taken_works}, Working.on_then}
 use Rattle.partial_long_lived.proofs.clear.clear.Goals as goal
 
 pub returns-then-not-look-clause-cleared : goal.returns-then-not-look-clause-cleared
@@ -16,6 +16,7 @@ loop-port-init c =
       held = look.held;
       remains = looked_remains _ _ _ look.kept look.looked;
       works = taken_works _ _ _ _ c.requires.taken look.looked c.if-not-look.false;
+      searches = looked_searching _ _ _ _ _ look.looked c.if-not-look.false c.requires.searches;
       steps = let one = look.steps in omega (arith, one);
     }
 
@@ -26,6 +27,7 @@ loop-port-preserved c =
       held = one.held;
       remains = remains_then _ _ _ so_far.remains one.remains;
       works = c.in-Clean.ensures.cleared.1;
+      searches = on_then _ _ _ _ _ _ _ so_far.searches c.in-Clean.ensures.meets;
       steps = threes_more _ _ _ _ _ so_far.steps one.steps;
     }
 
@@ -36,7 +38,7 @@ returns-in-Taken c =
       held = one.held;
       remains = remains_then _ _ _ so_far.remains one.remains;
       cleared = c.in-Taken.ensures.cleared;
-      busy = busy_at_last c.args.arena c.args.stand.now c.loop-port.stand c.clear_port.new.stand so_far.remains.stays.goes c.in-Taken.ensures.busy;
+      meets = on_then _ _ _ _ _ _ _ so_far.searches c.in-Taken.ensures.meets;
       steps = threes_within _ _ _ _ _ _ (subst (λ (e : Plan). c.loop-port.port < e.ports) (sym c.look.ensures.held.shape) c.loop-port-test.true) so_far.steps one.steps;
     }
 
@@ -47,7 +49,7 @@ returns-in-Ended c =
       held = one.held;
       remains = remains_then _ _ _ so_far.remains one.remains;
       cleared = c.in-Ended.ensures.cleared;
-      busy = tt;
+      meets = tt;
       steps = threes_within _ _ _ _ _ _ (subst (λ (e : Plan). c.loop-port.port < e.ports) (sym c.look.ensures.held.shape) c.loop-port-test.true) so_far.steps one.steps;
     }
 
@@ -61,6 +63,6 @@ returns c =
       held = so_far.held;
       remains = so_far.remains;
       cleared = (refl, subst (λ q. HasSetWords c.loop-port.stand c.args.arena q 0) all so_far.works);
-      busy = tt;
+      meets = so_far.searches;
       steps = threes_all _ _ _ _ _ (omega (arith, all)) so_far.steps;
     }

@@ -1,5 +1,5 @@
 use Rattle.std.proofs.Common.{rules, tests}
-use Rattle.partial_long_lived.proofs.{Common.{false, ◌∙◌, arith}, Looking.{away_owns, away_past, looked_remains, marked_puts}, Staying.{remains_then}}
+use Rattle.partial_long_lived.proofs.{Common.{false, ◌∙◌, arith, sym}, Looking.{away_owns, away_past, looked_remains, looked_searching, marked_puts}, Working.{loaded_away, loaded_marked, loaded_there, meets_then, on_then}, Staying.{remains_then}}
 use Rattle.partial_long_lived.proofs.clear.clear_port.Goals as goal
 
 pub put_port-requires-clause-may : goal.put_port-requires-clause-may
@@ -22,7 +22,7 @@ returns-else-look c =
             (record { stands = holds.stands; owned = holds.owned; is = holds.is; arena = holds.arena }),
         away_past false c.load_port-found.new.stand c.look.new.stand c.look.result look.looked c.if-look.false,
       );
-      busy = tt;
+      meets = tt;
       steps = let one = load.steps in let more = look.steps in omega (arith, one, more);
     }
 
@@ -34,6 +34,21 @@ returns-then-found-from c =
       held = load.held;
       remains = load.remains;
       cleared = record { stands = there.stands; owned = there.owned; is = there.is; arena = there.arena };
-      busy = load.busy c.if-found-lt-MARK.true same;
+      meets = loaded_there _ _ _ _ c.if-found-lt-MARK.true same load.meets;
       steps = let one = load.steps in omega (arith, one);
     }
+
+pub returns-else-found-from-clause-meets : goal.returns-else-found-from-clause-meets
+returns-else-found-from-clause-meets c =
+    loaded_away _ _ _ _ c.if-found-lt-MARK.true (λ same. c.if-found-from.false (same ∙ sym c.from.ensures)) c.load_port-found.ensures.meets
+
+pub put_port-requires-clause-searches : goal.put_port-requires-clause-searches
+put_port-requires-clause-searches c =
+    let load = loaded_marked _ _ _ _ c.if-found-lt-MARK.false c.load_port-found.ensures.meets in
+    (looked_searching _ _ _ _ _ c.look.ensures.looked c.if-look.true load.searches).searches
+
+pub returns-then-look-clause-meets : goal.returns-then-look-clause-meets
+returns-then-look-clause-meets c =
+    let load = loaded_marked _ _ _ _ c.if-found-lt-MARK.false c.load_port-found.ensures.meets in
+    let look = looked_searching _ _ _ _ _ c.look.ensures.looked c.if-look.true load.searches in
+    meets_then c.put_port.result c.args.arena _ _ _ (on_then _ _ _ _ _ _ _ load look) c.put_port.ensures.meets

@@ -1,5 +1,5 @@
 use Rattle.std.proofs.Common.{arith}
-use Rattle.partial_long_lived.proofs.{Asked.{load_port_asked, port_there}, Working.{port_busy, port_load}}
+use Rattle.partial_long_lived.proofs.{Asked.{load_port_asked, port_there}, Working.{port_load, port_meets}}
 use Rattle.partial_long_lived.proofs.clear.load_port.Goals as goal
 
 pub load-requires : goal.load-requires
@@ -11,5 +11,5 @@ returns-clause-loaded c = port_load c.args.stand.now _ c.args.arena c.args.port 
 pub returns-clause-steps : goal.returns-clause-steps
 returns-clause-steps c = let one = c.load.ensures.3 in omega (arith, one)
 
-pub returns-clause-busy : goal.returns-clause-busy
-returns-clause-busy c = λ low same. port_busy c.args.stand.now (record c.args.stand.now { seat = c.load.new.seat }) c.args.arena c.args.port c.load.result c.requires.works c.load.ensures.2.2 low same
+pub returns-clause-meets : goal.returns-clause-meets
+returns-clause-meets c = port_meets c.args.stand.now (record c.args.stand.now { seat = c.load.new.seat }) c.args.arena c.args.port c.load.result c.requires.works c.load.ensures.2.2 c.requires.searches

@@ -1,4 +1,4 @@
-use Rattle.partial_long_lived.proofs.{Common.{rules, refl, sym, ◌∙◌}, Asked.{port_there, put_asked}, Working.{put_away, put_busy, put_won}}
+use Rattle.partial_long_lived.proofs.{Common.{rules, refl, sym, ◌∙◌, inl, inr}, Asked.{port_there, put_asked}, Working.{put_away, put_clean, put_meets, put_won}}
 use Rattle.partial_long_lived.proofs.clear.put_port.Goals as goal
 
 pub compare_exchange-found-requires : goal.compare_exchange-found-requires
@@ -19,7 +19,18 @@ returns-then-found-from-clause-cleared c =
           c.if-found-lt-MARK.true (λ same. c.if-found-from.true (same ∙ sym c.from.ensures)),
     )
 
-pub returns-clause-busy : goal.returns-clause-busy
-returns-clause-busy c =
+pub returns-then-found-mark-clause-meets : goal.returns-then-found-mark-clause-meets
+returns-then-found-mark-clause-meets c =
     let found = c.compare_exchange-found in
-    put_busy c.args.stand.now (record c.args.stand.now { seat = c.compare_exchange-found.new.seat }) c.args.arena c.args.port c.args.mark found.result c.requires.may c.requires.marked found.ensures.2.2 c.if-found-mark.false (search rules)
+    put_clean c.args.stand.now (record c.args.stand.now { seat = found.new.seat }) c.args.arena c.args.port c.args.mark found.result c.requires.may c.requires.marked found.ensures.2.2 c.requires.searches (inl c.if-found-mark.true)
+
+pub returns-then-found-from-clause-meets : goal.returns-then-found-from-clause-meets
+returns-then-found-from-clause-meets c =
+    let found = c.compare_exchange-found in
+    put_clean c.args.stand.now (record c.args.stand.now { seat = found.new.seat }) c.args.arena c.args.port c.args.mark found.result c.requires.may c.requires.marked found.ensures.2.2 c.requires.searches
+    (inr (c.if-found-lt-MARK.true, λ same. c.if-found-from.true (same ∙ sym c.from.ensures)))
+
+pub returns-clause-meets : goal.returns-clause-meets
+returns-clause-meets c =
+    let found = c.compare_exchange-found in
+    put_meets c.args.stand.now (record c.args.stand.now { seat = found.new.seat }) c.args.arena c.args.port c.args.mark found.result c.requires.may c.requires.marked found.ensures.2.2 c.requires.searches c.if-found-mark.false (search rules)
