@@ -1,5 +1,5 @@
 -- A call of a port: how it begins at the seat that was taken out, and what it leaves once the seat is put back.
-use Rattle.partial_long_lived.proofs.{Common.{ℕ, zero, suc, None, append-nil, ◌≡◌, ◌<◌, ◌≤◌, ◌++◌, ◌∷◌, [], Option, Some, IfSome, Bool, true, false, true≢false, List, length, ap, ◌+◌, take, refl, sym, subst, ◌∙◌, inl, inr, arith, nat_lt, slice_index, AllByRecursion, list_all, option_map, take-append_seam, TableId, Applied, IsEntryFor, IsLegal, LegalNotes, Noted, seen_by, AllByRecursion-get, LegalNotes-last, Layout, CoreState, fresh, AreComponentIndices, IsSound, is_sound_at, IsMarkedLike, core_of, is_at_rest, public_stamp, Refused, Component, Overtaken, NoArena, EpochsSpent, About, Stand, Began, SeatedPort, IsOf, MemoryView, PortView, port_view, seen_in, SeatGoes, IsHeld, epoch_at, port_at, HasCome, HasNotedRead, IsIdle, EpochChanged, NotChanged, HasNotedScan, RestsUnmarked, ScanMade, noted_scan, NotScanned, RestsAt, MadeNamed, ScannedNamed, ScannedStamped, Contains, is_some, Call, Answer, Note, IsCause}, Coming.goes_on}
+use Rattle.partial_long_lived.proofs.{Common.{ℕ, zero, suc, None, append-nil, ◌≡◌, ◌<◌, ◌≤◌, ◌++◌, ◌∷◌, [], Option, Some, IfSome, Bool, true, false, true≢false, List, length, ap, ◌+◌, take, refl, sym, subst, ◌∙◌, inl, inr, arith, nat_lt, slice_index, AllByRecursion, list_all, option_map, take-append_seam, TableId, Applied, IsEntryFor, IsLegal, LegalNotes, Noted, seen_by, AllByRecursion-get, LegalNotes-last, Layout, CoreState, fresh, AreComponentIndices, IsSound, is_sound_at, IsMarkedLike, core_of, is_at_rest, public_stamp, Refused, Component, Overtaken, EpochsSpent, About, Stand, Began, SeatedPort, IsOf, MemoryView, PortView, port_view, seen_in, SeatGoes, IsHeld, epoch_at, port_at, HasCome, HasNotedRead, IsIdle, EpochChanged, NotChanged, HasNotedScan, RestsUnmarked, ScanMade, noted_scan, NotScanned, RestsAt, MadeNamed, ScannedNamed, ScannedStamped, Contains, is_some, Call, Answer, Note, IsCause}, Coming.goes_on}
 use Rattle.partial_model.proofs.Decisions.{Decides-list_all, Decides-nat_lt}
 use Rattle.partial_active.specs.GetSet.{fresh_set as unmarked}
 use Rattle.partial_long_lived.specs.Calls as calls
@@ -29,17 +29,16 @@ goes_seen table x y new g notes = record {
   memory = ap (λ (a : About). record { table = table; about = a }) g.about;
   number = g.number;
   epoch = g.epoch;
-  contention = g.contention;
+  seals = g.seals;
   seen = sym (take-append_seam (seen_in x.port) g.seen.0) ∙ ap (λ (l : List Applied). take (length (seen_in x.port)) l) (sym g.seen.1);
   notes = notes;
   knows = g.known.knows;
 }
 
 -- why a change of epoch was refused, as callers see it
-pub cause_seen : (table : TableId) (m n : ℕ) (s t : Stand) (cause : Refused) → epoch_at t ≡ t.epoch → IsCause s t cause → calls.CantEnd (port_view table m (port_at s)) cause (port_view table n (port_at t))
+pub cause_seen : (table : TableId) (m n : ℕ) (s t : Stand) (cause : Refused) → epoch_at t ≡ t.epoch → IsCause t cause → calls.CantEnd (port_view table m (port_at s)) cause (port_view table n (port_at t))
 cause_seen table m n s t Component is why = absurd why
 cause_seen table m n s t Overtaken is why = absurd why
-cause_seen table m n s t NoArena is why = (let low = why.0 in omega (arith, low, is), why.1, why.2)
 cause_seen table m n s t EpochsSpent is why = ap (λ (n : ℕ). n + 1) is ∙ why
 
 -- a read, as callers see it
@@ -302,7 +301,6 @@ pub not_scanned_seen : (table : TableId) (s t : Stand) (which : List ℕ) (cause
     calls.IsRefused (port_view table s.seat.steps (port_at s)) (Call.Scan which) cause (port_view table t.seat.steps (port_at t))
 not_scanned_seen table s t which Component is w inside = absurd w.why
 not_scanned_seen table s t which Overtaken is w inside = absurd w.why
-not_scanned_seen table s t which NoArena is w inside = (inside, goes_seen table (port_at s) (port_at t) [] w.goes (w.notes ∙ sym (append-nil (port_at s).notes)), cause_seen table s.seat.steps t.seat.steps s t NoArena is w.why)
 not_scanned_seen table s t which EpochsSpent is w inside = (inside, goes_seen table (port_at s) (port_at t) [] w.goes (w.notes ∙ sym (append-nil (port_at s).notes)), cause_seen table s.seat.steps t.seat.steps s t EpochsSpent is w.why)
 
 -- the same, as callers see the port

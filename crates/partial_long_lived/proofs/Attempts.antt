@@ -307,7 +307,7 @@ module _ (table : TableId) (about : About) (s : Stand) (h : IsHeld table about s
     -- that is one seal more
     pub met_again : ExchangeDue v d old at found t → seal ≤ found → unsealed found ≡ old → FoundSealed s t
     met_again exchanged sealed same = elim exchanged [
-      | inl met ↦ (let one = ap (λ (x : SeatedPort). x.contention.seals) met.2 in let more = over_call.goes.contention.seals in omega (arith, one, more))
+      | inl met ↦ (let one = ap (λ (x : SeatedPort). x.contention.seals) met.2 in let more = over_call.goes.seals in omega (arith, one, more))
       | inr missed ↦ absurd (elim missed.0 [
         | inl low ↦ omega (arith, low, sealed)
         | inr other ↦ other same

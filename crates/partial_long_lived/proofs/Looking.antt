@@ -111,15 +111,16 @@ module _ (s t : Stand) (a : ℕ) (m : Contention) (is : port_at t ≡ record (be
 -- a search has begun, or the port's epoch has ended
 pub search_begun : (s t : Stand) (a : ℕ) → BeginsSearch (port_at s) a (port_at t) → (b : Bool) → b ≡ (a == packed (port_at s).port.control.here) → SearchBegun b t
 search_begun s t a w true is =
-    let at : a ≡ packed (port_at s).port.control.here = eqb_true a (packed (port_at s).port.control.here) (sym is) in
-    (record {
-      epoch = ap (λ (z : SeatedPort). z.contention.search.epoch) w.is ∙ sym (search_keeps s t a _ w.is (λ (p : Port). p.control.here.epoch) (λ o. refl) refl);
-      past = ap (λ (z : SeatedPort). z.port.control.past) w.is ∙ past_kept a (port_at s).port (sym is) ∙ w.current at;
-      met_is = ap (λ (z : SeatedPort). z.contention.search.met) w.is;
-      passed = λ i low. absurd (omega (arith, low));
-    },
-    ap (λ (z : SeatedPort). z.contention.search.most) w.is ∙ ap (λ n. n + most_freed (port_at s).about.ports) (sym (ap (λ (z : SeatedPort). z.contention.search.freed) w.is))
-    ∙ ap (λ (z : SeatedPort). (search_at t).freed + most_freed z.about.ports) (sym w.is))
+    let at : a ≡ packed (port_at s).port.control.here = eqb_true a (packed (port_at s).port.control.here) (sym is) in (
+      record {
+        epoch = ap (λ (z : SeatedPort). z.contention.search.epoch) w.is ∙ sym (search_keeps s t a _ w.is (λ (p : Port). p.control.here.epoch) (λ o. refl) refl);
+        past = ap (λ (z : SeatedPort). z.port.control.past) w.is ∙ past_kept a (port_at s).port (sym is) ∙ w.current at;
+        met_is = ap (λ (z : SeatedPort). z.contention.search.met) w.is;
+        passed = λ i low. absurd (omega (arith, low));
+      },
+      ap (λ (z : SeatedPort). z.contention.search.most) w.is ∙ ap (λ n. n + most_freed (port_at s).about.ports) (sym (ap (λ (z : SeatedPort). z.contention.search.freed) w.is))
+          ∙ ap (λ (z : SeatedPort). (search_at t).freed + most_freed z.about.ports) (sym w.is),
+    )
 search_begun s t a w false is = ap (λ (z : SeatedPort). z.port.control.past) w.is ∙ past_seen a (port_at s).port (sym is)
 
 -- so has another pass
@@ -130,13 +131,17 @@ pass_begun s t a n w searches all true is =
     let freed = ap (λ (z : SeatedPort). z.contention.search.freed) w.is in
     let most = ap (λ (z : SeatedPort). z.contention.search.most) w.is in
     let low = more.0 in
-    let few = more.1 in
-    (record {
-      epoch = ap (λ (z : SeatedPort). z.contention.search.epoch) w.is ∙ searches.epoch ∙ sym (search_keeps s t a _ w.is (λ (p : Port). p.control.here.epoch) (λ o. refl) refl);
-      past = ap (λ (z : SeatedPort). z.port.control.past) w.is ∙ past_kept a (port_at s).port (sym is) ∙ searches.past;
-      met_is = ap (λ (z : SeatedPort). z.contention.search.met) w.is ∙ searches.met_is;
-      passed = λ i low. absurd (omega (arith, low));
-    }, most, omega (arith, freed, low), omega (arith, freed, most, few))
+    let few = more.1 in (
+      record {
+        epoch = ap (λ (z : SeatedPort). z.contention.search.epoch) w.is ∙ searches.epoch ∙ sym (search_keeps s t a _ w.is (λ (p : Port). p.control.here.epoch) (λ o. refl) refl);
+        past = ap (λ (z : SeatedPort). z.port.control.past) w.is ∙ past_kept a (port_at s).port (sym is) ∙ searches.past;
+        met_is = ap (λ (z : SeatedPort). z.contention.search.met) w.is ∙ searches.met_is;
+        passed = λ i low. absurd (omega (arith, low));
+      },
+      most,
+      omega (arith, freed, low),
+      omega (arith, freed, most, few),
+    )
 pass_begun s t a n w searches all false is = ap (λ (z : SeatedPort). z.port.control.past) w.is ∙ past_seen a (port_at s).port (sym is)
 
 -- a look but the first step of a call

@@ -1,5 +1,5 @@
 -- The steps of the machine of a seat's port are allowed.
-use Rattle.partial_long_lived.proofs.{Common.{ℕ, ◌≡◌, ◌+◌, ◌<◌, ◌≤◌, Bool, false, if◌then◌else◌, List, length, slice_index, slice_set, refl, sym, ap, subst, ◌∙◌, inl, inr, arith, ◌⊎◌, set-get_or, Me, Allows, Step, Load, Store, Exchange, word_of, CoreState, IsSealed, Place, Plan, base, component_words, HaveSlots, MeetsSeal, unsealed_is_present, at_of, eqb_tells, About, IsRuleKept, IsSeat, SeatedPort, one_of, plan_of, IsSeatKnown, IsOne, tells, seal, unsealed, cases_lt, lt-ltb, Glances, Exchanges, FindsZero, IsApart, SeatMakes, MayMake, MissesSeal, unsealed_answer, change_of, finding_seal, makes, Reckoning}, Sights.nothing_moved, Kept.{Moved, allowed, moved_as, moved_says, moved_sealed}, Loads.{moved_see, seat_at, seat_is}, Machine.{moved_come, moved_make, never_met, words_then, made_or_met}}
+use Rattle.partial_long_lived.proofs.{Common.{ℕ, ◌≡◌, ◌+◌, ◌<◌, ◌≤◌, Bool, false, if◌then◌else◌, List, length, slice_index, slice_set, refl, sym, ap, subst, ◌∙◌, inl, inr, arith, ◌⊎◌, set-get_or, Me, Allows, Step, Load, Store, Exchange, word_of, CoreState, IsSealed, Place, Plan, base, component_words, HaveSlots, MeetsSeal, unsealed_is_present, at_of, eqb_tells, About, IsRuleKept, IsSeat, SeatedPort, one_of, plan_of, IsSeatKnown, IsOne, tells, seal, unsealed, cases_lt, lt-ltb, Glances, Exchanges, FindsZero, IsApart, SeatMakes, MayMake, MissesSeal, unsealed_answer, change_of, makes}, Sights.nothing_moved, Kept.{Moved, allowed, moved_as, moved_says, moved_sealed}, Loads.{moved_see, seat_at, seat_is}, Machine.{moved_come, moved_make, never_met, words_then, made_or_met}}
 use Rattle.partial_long_lived.specs.Inner.Machine.{SeatBegins as BeginsUpdate}
 
 -- a word is the record old, sealed, or it isn't

@@ -1,7 +1,6 @@
 -- The rule holds as a memory opens.
 use Rattle.partial_long_lived.proofs.{Common.{ℕ, zero, suc, ◌≡◌, ◌+◌, ◌<◌, ◌≤◌, Bool, if◌then◌else◌, List, [], refl, sym, ap, subst, inl, inr, arith, append-nil, AllByRecursion, eqb_tells, opening, OpensAll, first_beside, first_ports, memories_open_lawful, openings_keep_time, About, IsRuleKept, IsSeat, SeatedPort, newcomer, newcomers, plan_of, seats_of, IsSeatKnown, first_tally, true, false, openings_keep_tally, few_come_free}}
 
-
 -- what is so of the seat of each port is so of all
 newcomers_all : (P : SeatedPort → Type 0) (a : About) (k n : ℕ) → ((i : ℕ) → i < k + n → P (newcomer a i)) → AllByRecursion P (newcomers a k n)
 newcomers_all P a k zero each = tt
@@ -48,7 +47,7 @@ opens a words w = record {
           come = omega arith;
           begun = omega arith;
           within = omega arith;
-          bound = λ is. few_come_free (plan_of a) words (first_ports (plan_of a)) 0 (λ k. 0) first_tally;
+          bound = λ is. let few = few_come_free (plan_of a) words (first_ports (plan_of a)) 0 (λ k. 0) first_tally in omega (arith, few);
           busy = λ is none x low. absurd (omega (arith, low));
         };
         met = λ is. let bad : false ≡ true = is in cc;

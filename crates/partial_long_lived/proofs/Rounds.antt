@@ -1,5 +1,5 @@
 -- The rounds of an update: an attempt, and a change of epoch, and so on.
-use Rattle.partial_long_lived.proofs.{Common.{ℕ, Option, None, Result, Ok, Err, IfOk, IfErr, ◌≡◌, ◌+◌, ◌<◌, ◌≤◌, ◌++◌, Bool, true, false, List, [], ◌∷◌, length, refl, sym, ap, subst, ◌∙◌, arith, TableId, Noted, Change, CoreState, Exchanged, About, Refused, Component, Overtaken, NoArena, EpochsSpent, Stand, IsCause, Began, SeatedPort, seen_in, SeatGoes, BeganBy, IsHeld, epoch_at, port_at, IsIdle, UpdateAttempted, CameBy, IsEntryOf, IsLate, IsOwnMachine, MayCall, NotesNothing, UpdateEnded, noted_change, noted_where, FoundSealed, inl, inr, cases_lt}, Coming.{goes_on, goes_same, seen_more}, Contention.cause_from}
+use Rattle.partial_long_lived.proofs.{Common.{ℕ, Option, None, Result, Ok, Err, IfOk, IfErr, ◌≡◌, ◌+◌, ◌<◌, ◌≤◌, ◌++◌, Bool, true, false, List, [], ◌∷◌, length, refl, sym, ap, subst, ◌∙◌, arith, TableId, Noted, Change, CoreState, Exchanged, About, Refused, Component, Overtaken, EpochsSpent, Stand, IsCause, Began, SeatedPort, seen_in, SeatGoes, BeganBy, IsHeld, epoch_at, port_at, IsIdle, UpdateAttempted, CameBy, IsEntryOf, IsLate, IsOwnMachine, MayCall, NotesNothing, UpdateEnded, noted_change, noted_where, FoundSealed, inl, inr, cases_lt}, Coming.{goes_on, goes_same, seen_more}}
 
 -- whether the call began with its first step here, or as before, where the next step may still be its first one
 abbrev pub BeganSo : Bool → Bool → Stand → Stand → Type 0
@@ -123,26 +123,23 @@ updated_behind first c r s t v came ended = record {
 }
 
 -- an update is refused where a change of epoch is
-pub late_of : (times seals : ℕ) (s t v : Stand) (cause : Refused) → SeatGoes (port_at s) (port_at t) → IsCause t v cause → IsLate times seals s cause v
+pub late_of : (times seals : ℕ) (s t v : Stand) (cause : Refused) → SeatGoes (port_at s) (port_at t) → IsCause v cause → IsLate times seals s cause v
 late_of times seals s t v Component goes is = absurd is
 late_of times seals s t v Overtaken goes is = absurd is
-late_of times seals s t v NoArena goes is = cause_from s t v NoArena goes is
 late_of times seals s t v EpochsSpent goes is = is
 
 -- one that began with a change of epoch has come to one more
 pub late_behind : (times seals : ℕ) (s t v : Stand) (cause : Refused) → SeatGoes (port_at s) (port_at t) → epoch_at s < epoch_at t → IsLate times seals t cause v → IsLate (times + 1) seals s cause v
 late_behind times seals s t v Component goes later is = absurd is
 late_behind times seals s t v Overtaken goes later is =
-    let first = is.0 in let second = is.1 in let more = goes.contention.seals in (omega (arith, later, first), omega (arith, more, second))
-late_behind times seals s t v NoArena goes later is = cause_from s t v NoArena goes is
+    let first = is.0 in let second = is.1 in let more = goes.seals in (omega (arith, later, first), omega (arith, more, second))
 late_behind times seals s t v EpochsSpent goes later is = is
 
 -- and one that began with an attempt to as many
 pub late_from : (times seals : ℕ) (s t v : Stand) (cause : Refused) → SeatGoes (port_at s) (port_at t) → IsLate times seals t cause v → IsLate times seals s cause v
 late_from times seals s t v Component goes is = absurd is
 late_from times seals s t v Overtaken goes is =
-    let first = is.0 in let second = is.1 in let up = goes.epoch in let more = goes.contention.seals in (omega (arith, up, first), omega (arith, more, second))
-late_from times seals s t v NoArena goes is = cause_from s t v NoArena goes is
+    let first = is.0 in let second = is.1 in let up = goes.epoch in let more = goes.seals in (omega (arith, up, first), omega (arith, more, second))
 late_from times seals s t v EpochsSpent goes is = is
 
 -- behind so many later epochs, a round that met a seal and a change of epoch lead to one more
@@ -156,7 +153,7 @@ one_later table about s u t v n h k same so later =
 -- and one seal more
 pub one_seal : (s u t v : Stand) (n : ℕ) → (port_at s).contention.seals + n ≤ (port_at u).contention.seals → FoundSealed u t → SeatGoes (port_at t) (port_at v) →
     (port_at s).contention.seals + (n + 1) ≤ (port_at v).contention.seals
-one_seal s u t v n so met goes = let more = goes.contention.seals in omega (arith, so, met, more)
+one_seal s u t v n so met goes = let more = goes.seals in omega (arith, so, met, more)
 
 -- the same where a round meets a seal unless its port was spent, which it is in the first one at most
 pub seals_more : (s u t v : Stand) (n : ℕ) (spent : Bool) {A : Type 0} → (0 < n → A × (spent ≡ false)) → (port_at s).contention.seals + n ≤ (port_at u).contention.seals + 1 →
@@ -166,13 +163,13 @@ seals_more s u t v n true later so met before goes on =
       | inl some ↦ (let bad : true ≡ false = (later some).1 in cc)
       | inr few ↦ few
     ]) in
-    let first = before.contention.seals in
-    let second = goes.contention.seals in
-    let third = on.contention.seals in
+    let first = before.seals in
+    let second = goes.seals in
+    let third = on.seals in
     omega (arith, none, first, second, third)
 seals_more s u t v n false later so met before goes on =
     let sealed = met refl in
-    let more = on.contention.seals in
+    let more = on.seals in
     omega (arith, so, sealed, more)
 
 -- what holds of an answer may be told in another way

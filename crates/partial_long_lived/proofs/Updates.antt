@@ -1,5 +1,5 @@
 -- An update of a port, as callers see it.
-use Rattle.partial_long_lived.proofs.{Common.{ℕ, ◌≡◌, ◌<◌, Bool, true, false, [], sym, subst, ◌∙◌, arith, append-nil, TableId, Applied, IsLegal, LegalNotes, seen_by, AllByRecursion-get, LegalNotes-last, Change, CoreState, Exchanged, About, UpdatedIf, Asked, Refused, Component, Overtaken, NoArena, EpochsSpent, Stand, IsOf, MemoryView, PortView, port_view, seen_in, IsHeld, epoch_at, port_at, IsIdle, HasUpdatedIf, RestsAt, CameBy, IsLate, IsOwnMachine, MayCall, UpdateEnded, noted_change, public_update, stamp_from, Call}, Answering.{callers_see, goes_seen, rests_unmarked, cause_seen}}
+use Rattle.partial_long_lived.proofs.{Common.{ℕ, ◌≡◌, ◌<◌, Bool, true, false, [], sym, subst, ◌∙◌, arith, append-nil, TableId, Applied, IsLegal, LegalNotes, seen_by, AllByRecursion-get, LegalNotes-last, Change, CoreState, Exchanged, About, UpdatedIf, Asked, Refused, Component, Overtaken, EpochsSpent, Stand, IsOf, MemoryView, PortView, port_view, seen_in, IsHeld, epoch_at, port_at, IsIdle, HasUpdatedIf, RestsAt, CameBy, IsLate, IsOwnMachine, MayCall, UpdateEnded, noted_change, public_update, stamp_from, Call}, Answering.{callers_see, goes_seen, rests_unmarked, cause_seen}}
 use Rattle.partial_lines.specs.declared.exchange.Exchanged.TheVariants.{Applied as IsApplied, Overtaken as IsOvertaken}
 use Rattle.partial_long_lived.specs.Calls as calls
 
@@ -72,7 +72,6 @@ not_updated_seen : (table : TableId) (s t : Stand) (j v : ℕ) (cause : Refused)
     calls.IsRefused (port_view table s.seat.steps (port_at s)) (Call.Update j v) cause (port_view table t.seat.steps (port_at t))
 not_updated_seen table s t j v Component is late w inside = absurd late
 not_updated_seen table s t j v Overtaken is late w inside = ((inside, tt), goes_seen table (port_at s) (port_at t) [] w.goes (w.notes ∙ sym (append-nil (port_at s).notes)), late)
-not_updated_seen table s t j v NoArena is late w inside = ((inside, tt), goes_seen table (port_at s) (port_at t) [] w.goes (w.notes ∙ sym (append-nil (port_at s).notes)), cause_seen table s.seat.steps t.seat.steps s t NoArena is late)
 not_updated_seen table s t j v EpochsSpent is late w inside = ((inside, tt), goes_seen table (port_at s) (port_at t) [] w.goes (w.notes ∙ sym (append-nil (port_at s).notes)), cause_seen table s.seat.steps t.seat.steps s t EpochsSpent is late)
 
 -- a conditional update that ended, as callers see it
@@ -110,7 +109,6 @@ not_updated_if_seen : (table : TableId) (s t : Stand) (j e v : ℕ) (cause : Ref
     calls.IsRefused (port_view table s.seat.steps (port_at s)) (Call.UpdateIf j e v) cause (port_view table t.seat.steps (port_at t))
 not_updated_if_seen table s t j e v Component is late w inside = absurd late
 not_updated_if_seen table s t j e v Overtaken is late w inside = ((inside, tt), goes_seen table (port_at s) (port_at t) [] w.goes (w.notes ∙ sym (append-nil (port_at s).notes)), late)
-not_updated_if_seen table s t j e v NoArena is late w inside = ((inside, tt), goes_seen table (port_at s) (port_at t) [] w.goes (w.notes ∙ sym (append-nil (port_at s).notes)), cause_seen table s.seat.steps t.seat.steps s t NoArena is late)
 not_updated_if_seen table s t j e v EpochsSpent is late w inside = ((inside, tt), goes_seen table (port_at s) (port_at t) [] w.goes (w.notes ∙ sym (append-nil (port_at s).notes)), cause_seen table s.seat.steps t.seat.steps s t EpochsSpent is late)
 
 -- the same, as callers see the port

@@ -54,9 +54,11 @@ HasPassedArenas n x = (i : ℕ) → i < n → (i < x.contention.search.below) �
 -- A look by which a port begins a search for a free arena, in the epoch where it stands.
 pub record BeginsSearch (x : SeatedPort) (a : ℕ) (y : SeatedPort) : Type 0 where
   pub freed : ℕ
-  pub is : y ≡ record (becomes x x.began (looked_at a x.port)) { contention = record x.contention {
-    search = record { epoch = x.port.control.here.epoch; freed = freed; most = freed + most_freed x.about.ports; below = 0; met = false };
-  } }
+  pub is : y ≡ record (becomes x x.began (looked_at a x.port)) {
+    contention = record x.contention {
+      search = record { epoch = x.port.control.here.epoch; freed = freed; most = freed + most_freed x.about.ports; below = 0; met = false };
+    };
+  }
   -- where that epoch is the current one, the port hadn't seen its end before
   pub current : a ≡ packed x.port.control.here → x.port.control.past ≡ false
 
@@ -64,9 +66,11 @@ pub record BeginsSearch (x : SeatedPort) (a : ℕ) (y : SeatedPort) : Type 0 whe
 -- pass before began, and no more have than may.
 pub record BeginsPass (x : SeatedPort) (a : ℕ) (y : SeatedPort) : Type 0 where
   pub freed : ℕ
-  pub is : y ≡ record (becomes x x.began (looked_at a x.port)) { contention = record x.contention {
-    search = record x.contention.search { freed = freed; below = 0 };
-  } }
+  pub is : y ≡ record (becomes x x.began (looked_at a x.port)) {
+    contention = record x.contention {
+      search = record x.contention.search { freed = freed; below = 0 };
+    };
+  }
   pub more : a ≡ packed x.port.control.here → x.contention.search.epoch ≡ x.port.control.here.epoch → HasPassedArenas x.about.arenas x →
       (x.contention.search.freed < freed) × (freed ≤ x.contention.search.most)
 
