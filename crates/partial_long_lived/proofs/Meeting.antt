@@ -127,6 +127,17 @@ observed a words ports notes b reckoned w time k below g f u stands s known y t 
       known = λ begins. knows_beside (history_of (log ∷ (ports k).before)) all_of_x begins;
       known_before = λ begins. knows_of a words ports b notes w k below (seen_in y.port) (begins_all a words ports notes b reckoned w y t)
           (legal_begins a.opening (seen_in x.port) (seen_in y.port) k 0 (notes k) begins known.knows.legal);
+      lawful = record {
+        log = one_history b;
+        notes = notes;
+        state = record { words = words; ports = ports; beside = b; lawful = w; history = refl };
+        first = all_of_x;
+        second = begins_all a words ports notes b reckoned w y t;
+        first_noted = sym (append-nil (notes k));
+        second_noted = sym t.noted;
+        first_began = omega arith;
+        second_began = begun_place b y.began [] b.before b.log t.began refl (t.began.come);
+      };
     })
 
 -- the step is allowed to a seat of two ports, of which the first one stands

@@ -1,5 +1,5 @@
 -- How a meeting of two ports leaves each of them.
-use Rattle.partial_long_lived.proofs.{Common.{◌≡◌, ◌<◌, ◌≤◌, List, [], ◌∷◌, length, take, inl, sym, ap, subst, ◌∙◌, arith, append-nil, take-append_seam, Me, TableId, Applied, core_of, About, Stand, Began, SeatedPort, first_port, one_of, IsOf, MemoryView, PortView, port_view, seen_in, HasCome, IsIdle, StaysAt, EpochSettled, IsHeld, port_at, BeginsWith, IsOne, HasMet, Observes, Knows, inr, ◌⊎◌, AreComparable}, Answering.{callers_see, goes_seen, view_before, view_behind}, Coming.{begins_on, come_on}}
+use Rattle.partial_long_lived.proofs.{Common.{◌≡◌, ◌<◌, ◌≤◌, List, [], ◌∷◌, length, take, inl, sym, ap, subst, ◌∙◌, arith, append-nil, take-append_seam, Me, TableId, Applied, core_of, About, Stand, Began, SeatedPort, first_port, one_of, IsOf, MemoryView, PortView, port_view, seen_in, HasCome, IsIdle, StaysAt, EpochSettled, IsHeld, port_at, BeginsWith, IsOne, HasMet, Observes, Knows, HasLawfulState, WereLawful, inr, ◌⊎◌, AreComparable}, Answering.{callers_see, goes_seen, view_before, view_behind}, Coming.{begins_on, come_on}}
 use Rattle.partial_long_lived.specs.Calls as calls
 
 -- a port that has seen all of its epoch stands where it stood
@@ -20,6 +20,20 @@ beside_come s t idle kept is = record {
   goes = kept.goes;
   idle = record { stands = ap (λ (z : SeatedPort). z.port.control.entering) is ∙ idle.stands; free = ap (λ (z : SeatedPort). z.port.control.owned) is ∙ idle.free };
   machine = inl (kept.epoch, ap (λ (z : SeatedPort). core_of z.port.part) is, ap (λ (z : SeatedPort). z.port.over) is);
+}
+
+-- the two ports may be named in any order
+pub swapped_lawful : {a : About} {x y : SeatedPort} → WereLawful a x y → WereLawful a y x
+swapped_lawful w = record {
+  log = w.log;
+  notes = w.notes;
+  state = w.state;
+  first = w.second;
+  second = w.first;
+  first_noted = w.second_noted;
+  second_noted = w.first_noted;
+  first_began = w.second_began;
+  second_began = w.first_began;
 }
 
 -- the first look of a meeting, of the port at s beside the one at o
@@ -46,6 +60,10 @@ module _ (table : TableId) (about : About) (s o u p : Stand) (h : IsHeld table a
       all = subst (λ (z : SeatedPort). BeginsWith (seen_in (port_at o).port) (seen_in z.port)) (sym same_first) all_now;
       knows = subst (λ (z : SeatedPort). Knows (port_at o).about (port_at o).number (seen_in z.port) (port_at o).notes) (sym same_first) (w.known all_now);
     }
+
+    pub together_lawful : WereLawful about (port_at q) (port_at v)
+    together_lawful = subst (λ (z : SeatedPort). WereLawful about z (port_at v)) (sym same_first)
+        (swapped_lawful (subst (λ (d : About). WereLawful d (port_at v) (port_at u)) (ap (λ (z : SeatedPort). z.about) same ∙ g.own) w'.lawful))
 
     all_then : BeginsWith (seen_in (port_at u).port) (seen_in (port_at v).port)
     all_then = w'.all (let e = epochs in let here = ap (λ (z : SeatedPort). z.port.control.here.epoch) w.is in let there = ap (λ (z : SeatedPort). z.port.control.here.epoch) same in omega (arith, e, here, there))
@@ -83,6 +101,9 @@ module _ (table : TableId) (about : About) (s o u p : Stand) (h : IsHeld table a
 
     pub apart_one : AreComparable t q
     apart_one = inr (subst (λ (z : SeatedPort). BeginsWith (seen_in z.port) (seen_in (port_at t).port)) (sym same_beside) (w'.all come_late))
+
+    pub apart_lawful : WereLawful about (port_at t) (port_at q)
+    apart_lawful = subst (WereLawful about (port_at t)) (sym same_beside) (subst (λ (d : About). WereLawful d (port_at t) (port_at p)) held.own w'.lawful)
 
     all_before : BeginsWith (seen_in (port_at s).port) (seen_in (port_at o).port)
     all_before = w.before (let here = h.epoch in let there = g.epoch in omega (arith, early, here, there))
@@ -143,3 +164,14 @@ comparable_seen s t (inr begins) = inr (begins_seen (seen_in (port_at t).port) (
 pub swapped : {A B : Type 0} → A ⊎ B → B ⊎ A
 swapped (inl first) = inr first
 swapped (inr second) = inl second
+
+-- the rule that held as two ports met, as callers see it
+pub met_lawfully : (m : MemoryView) (u v : Stand) → IsHeld m.table m.about u → WereLawful m.about (port_at u) (port_at v) →
+    calls.MetLawfully (port_view u.seat.table_id u.seat.steps (port_at u)) (port_view v.seat.table_id v.seat.steps (port_at v))
+met_lawfully m u v held w = record {
+  log = w.log;
+  notes = w.notes;
+  state = subst (λ (d : About). HasLawfulState d w.log w.notes) (sym held.own) w.state;
+  first = record { seen = begins_seen (seen_in (port_at u).port) w.log w.first; noted = w.first_noted; began = w.first_began };
+  second = record { seen = begins_seen (seen_in (port_at v).port) w.log w.second; noted = w.second_noted; began = w.second_began };
+}

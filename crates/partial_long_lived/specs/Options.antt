@@ -1,5 +1,5 @@
 -- The sizes of a memory for its options, and why there are none.
-use Rattle.std.specs.Prelude.{ℕ, ◌≡◌, ◌+◌, ◌-◌, ◌*◌, ◌/◌, ◌%◌, ◌<◌, ◌≤◌, ◌⊎◌, min, max}
+use Rattle.std.specs.Prelude.{ℕ, ◌≡◌, ◌+◌, ◌-◌, ◌*◌, ◌/◌, ◌%◌, ◌<◌, ◌≤◌, ◌⊎◌, None, min, max}
 use Rattle.std.specs.Option.{option_map_or}
 use Rattle.partial_words.specs.Layout.{Layout, first_free}
 use Rattle.partial_words.specs.Record.{full_record_size, plain_record_size}
@@ -7,6 +7,10 @@ use Rattle.partial_long_lived.specs.declared.open_error.OpenError.{OpenError}
 use Rattle.partial_long_lived.specs.declared.open_error.OpenError.TheVariants.{Ports, Components, Lists, Pool, OutOfMemory}
 use Rattle.partial_long_lived.specs.declared.options.Options.{Options}
 use Rattle.partial_long_lived.specs.declared.shape.Shape.{Shape}
+
+-- the usual options
+abbrev pub IsUsual : Options → Type 0
+IsUsual o = (o.lists ≡ 1024) × (o.pool ≡ None)
 
 -- the most list words
 abbrev pub most_lists : ℕ
