@@ -38,7 +38,6 @@ PATTERNS = {
 # The places in which a number means something else: the file, what stands there, and why.
 STAMPS = 'stands below partial_words, and speaks of stamps: the initial ones are three apart'
 BOUND = "a bound of steps, as the call's law says it"
-FOUND = 'three passes of the arenas, one for each port, and that each of them was found busy'
 ALLOWED = [
     ('partial_model/specs/History.antt', ['o.first + 3 * j'], STAMPS),
     ('partial_model/specs/Inner/Checks.antt', ['(s - o.first) % 3', '(s - o.first) / 3'], STAMPS),
@@ -53,10 +52,7 @@ ALLOWED = [
     ('partial_active/proofs/Walk.antt', ['(s.m + 2)'], BOUND),
     ('partial_replay/proofs/RunSteps.antt', ['z.m + 3', 'z.m + 2'], BOUND),
     ('partial_long_lived/specs/Bounds.antt', ['3 * r + 1'], BOUND),
-    ('partial_long_lived/specs/Inner/Changing.antt', ['(3 * (port_at t).about.ports)'], FOUND),
-    ('partial_long_lived/proofs/Contention.antt', ['(3 * (port_at v).about.ports)'], FOUND),
     ('partial_long_lived/proofs/Counts.antt', ['3 * i', '3 * (i + 1)', '3 * n', '3 * 0'], BOUND),
-    ('partial_long_lived/proofs/change/open_next/Answers.antt', ['(3 * (port_at c.claim.new.stand).about.ports)'], FOUND),
     ('partial_long_lived/proofs/clear/clear/Invariants.antt', ['1 + 3 * l.port'], BOUND),
     ('partial_long_lived/proofs/fill/fill/Invariants.antt', ['3 * l.component', '3 * l.words.key.sizes.m'], BOUND),
     ('partial_long_lived/proofs/unchanged/unchanged/Invariants.antt', ['4 + 2 * l.k'], BOUND),

@@ -135,8 +135,8 @@ fn ports_in_two_epochs(rt: HostRuntime) -> Result<(), Fail> {
     Ok(())
 }
 
-// Scans that no update disturbs store nothing, so that not even a spent port changes the epoch by them: the stamp of the
-// next update is one of the first epoch.
+// Scans that no update disturbs store nothing, so that not even a spent port changes the epoch by them: the stamp of
+// the next update is one of the first epoch.
 fn scans_alone(rt: &impl Abort, memory: &LongLived, first: &mut Port, last: &mut Port)
     requires first { IsOf memory.now first.old }
     requires last { IsOf memory.now last.old }

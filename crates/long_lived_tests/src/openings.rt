@@ -149,8 +149,8 @@ fn claims(
     Ok(())
 }
 
-// Where the options leave the pool open, an arena has 16,384 words for each port, until all arenas have 262,144 together,
-// and 8,192 at least.
+// When the options leave the pool open, an arena has 16,384 words for each port, until all arenas have 262,144
+// together, and 8,192 at least.
 #[test]
 fn usual_pools(rt: HostRuntime) -> Result<(), Fail> {
     let pools = [

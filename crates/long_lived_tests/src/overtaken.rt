@@ -1,5 +1,5 @@
-//! Updates that other threads overtake. The pool of an arena has one word, so that each update ends an epoch, and another
-//! one may come too late in one epoch after another.
+//! Updates that other threads overtake. The pool of an arena has one word, so that each update ends an epoch, and
+//! another one may come too late in one epoch after another.
 
 ghost use Rattle.std.specs.Prelude.{All, IfOk};
 ghost use Rattle.partial_long_lived.specs.Ports.{IsOf};

@@ -5,7 +5,7 @@ use Rattle.partial_epochs.proofs.{Common.{ℕ, ◌≡◌, ◌≢◌, ◌+◌, �
 none_some : (o : OwnedArena) → None ≡ Some o → ⊥
 none_some o is = cc
 
--- a port that owns no arena, or holds no mark behind which it has looked, puts nobody
+-- a port that owns no arena, or holds no mark after which it has looked, puts nobody
 pub puts_nobody : (c : Control) (j : ℕ) (a : Place) → c.owned ≡ None → MayPut c j a → ⊥
 puts_nobody c j a free may = none_some may.owned (sym free ∙ may.is)
 

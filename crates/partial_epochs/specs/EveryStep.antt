@@ -146,12 +146,12 @@ MayAdd e words p (Makes c step notes) = (¬ MeetsSeal e (component_words e words
     × (is_applied (reply_of (advance c (answer_of (arena_words e words p.control.here.arena) step))) ≡ true)
 MayAdd e words p _ = ⊥
 
--- where the port is behind the move: by the third step of entering it comes to a later epoch, and by all others it stays where it is
+-- where the port is after the move: by the third step of entering it comes to a later epoch, and by all others it stays where it is
 abbrev pub IsPlacedBy : Move → Place → Place → Type 0
 IsPlacedBy (ExchangesMark c) here there = here.epoch < there.epoch
 IsPlacedBy _ here there = there ≡ here
 
--- for each port the number of the epoch that was the current one as it stored its last entering mark, behind the move
+-- for each port the number of the epoch that was the current one as it stored its last entering mark, after the move
 abbrev pub since_behind : Beside → ℕ → Move → (ℕ → ℕ) → ℕ → ℕ
 since_behind b k StoresMark since = put k (length b.before) since
 since_behind b k _ since = since

@@ -12,7 +12,7 @@ use Rattle.partial_epochs.specs.Time.{KeepsTime}
 use Rattle.partial_epochs.specs.EveryStep.{MayMove, Move, MoveLeads, moved_words, since_behind}
 use Rattle.partial_epochs.specs.EveryStep.Move.{Gives, Takes}
 
--- What has come of ports' words and of arenas, counted over all epochs (ghost state).
+-- How often ports' words have come to name other places, and how often arenas may have come free, counted over all epochs (ghost state).
 pub record Tally : Type 0 where
   -- how often the word of a port has come to name another place
   pub arrivals : ℕ
@@ -23,7 +23,7 @@ pub record Tally : Type 0 where
   -- whether each port has met another one in that arena
   pub met : ℕ → Bool
 
--- at opening nothing has come yet
+-- as a memory opens, all counts are 0
 abbrev pub first_tally : Tally
 first_tally = record { arrivals = 0; freed = 0; taken = λ _. 0; met = λ _. false }
 
@@ -51,8 +51,8 @@ pub record IsOwnedBySome (e : Plan) (words : List ℕ) (ports : ℕ → Port) (x
 abbrev pub HasSeenArrival : Tally → ℕ → Type 0
 HasSeenArrival t k = t.taken k < t.arrivals
 
--- a port has met another one in the arena that it owns: it has looked, and a word names the arena yet, or a port has come to another place
--- since the arena was taken
+-- a port has met another one in the arena that it owns: it has looked, and a port's word still names the arena, or a port has come to
+-- another place since the arena was taken
 pub record HasMetPort (e : Plan) (words : List ℕ) (c : Control) (t : Tally) (k : ℕ) (o : OwnedArena) : Type 0 where
   pub looked : (c.past ≡ true) ⊎ (o.looked ≡ true)
   pub cause : IsNamed e words o.arena ⊎ HasSeenArrival t k
@@ -84,13 +84,13 @@ gives_at _ past owned = 1
 abbrev pub gives_left : Control → ℕ
 gives_left c = gives_at c.entering c.past c.owned
 
--- how often a port that stands in the current epoch may give back the arena that it owns, though no word names it
+-- how often a port that stands in the current epoch may give back the arena that it owns when no word names it
 abbrev pub credit : Tally → ℕ → Option OwnedArena → ℕ
 credit t k None = 0
 credit t k (Some o) = if nat_lt (t.taken k) t.arrivals then 1 else 0
 
--- how often arenas may come free by a port, from now on and as long as the epoch of that number is the current one; an arrival counts for
--- itself, and once for each other port, which may give back an arena then
+-- How often arenas may come free by port k, from now on and as long as the epoch of that number is the current one. An arrival counts
+-- for itself, and once for each other port, which may give back an arena then.
 abbrev pub weight : Plan → List ℕ → (ℕ → Port) → ℕ → (ℕ → ℕ) → Tally → ℕ → ℕ
 weight e words ports now since t k =
     if nat_lt (slice_index words (at_word k)) entering_mark
@@ -107,7 +107,7 @@ sum_below f (suc n) = f n + sum_below f n
 abbrev pub may_free : Plan → List ℕ → (ℕ → Port) → ℕ → (ℕ → ℕ) → Tally → ℕ
 may_free e words ports now since t = sum_below (weight e words ports now since t) e.ports
 
--- how often at most
+-- the greatest number of times that this may be
 abbrev pub most_freed : ℕ → ℕ
 most_freed ports = ports * (2 * ports + 3)
 
@@ -115,18 +115,18 @@ abbrev pub FewComeFree : Type 0
 FewComeFree = (e : Plan) (words : List ℕ) (ports : ℕ → Port) (now : ℕ) (since : ℕ → ℕ) (t : Tally) →
     may_free e words ports now since t ≤ most_freed e.ports
 
--- what a port has to know that takes an arena or gives one back: it hasn't seen its epoch's end; it has, or it has met another port
+-- what a port has to know: one that takes an arena hasn't seen its epoch's end; one that gives an arena back has, or has met another port
 abbrev pub MayCount : Port → Tally → ℕ → Move → Type 0
 MayCount p t k (Takes x) = p.control.past ≡ false
 MayCount p t k (Gives o) = (p.control.past ≡ true) ⊎ (t.met k ≡ true)
 MayCount p t k _ = ⊤
 
--- who has met another port then: a port that takes an arena hasn't yet
+-- who has met another port after the move: a port that takes an arena hasn't yet
 abbrev pub met_behind : ℕ → Move → (ℕ → Bool) → ℕ → Bool
 met_behind k (Takes x) met = put k false met
 met_behind k _ met = met
 
--- an arena that is given back is in use yet, unless one may have come free
+-- an arena that is given back is still in use, unless one may have come free
 abbrev pub LeavesInUse : Plan → List ℕ → Tally → Tally → Move → Type 0
 LeavesInUse e words t there (Gives o) = there.freed ≡ t.freed → IsNamed e words o.arena
 LeavesInUse e words t there _ = ⊤
@@ -138,7 +138,7 @@ pub record Counts (e : Plan) (words words' : List ℕ) (ports ports' : ℕ → P
   pub keeps : KeepsTally e words' ports' there
   pub grows : t.freed ≤ there.freed
   pub met : (q : ℕ) → there.met q ≡ met_behind k m t.met q
-  -- while the current epoch stays, what came free may come free no more
+  -- while the current epoch stays, each time that an arena may have come free leaves one less
   pub less : now'.epoch ≡ now.epoch →
       there.freed + may_free e words' ports' now'.epoch since' there ≤ t.freed + may_free e words ports now.epoch since t
   -- each arena that is in use stays so, unless one may have come free
@@ -154,7 +154,7 @@ EveryStepCounts = (e : Plan) (words : List ℕ) (ports : ℕ → Port) (b : Besi
     Counts e words (moved_words e words (ports k) k m) ports (put k l.port ports) (place_now b) (place_now l.beside) since
     (since_behind b k m since) t k m
 
--- an owner that finds its arena named, or that finds another word than the mark that it holds, has met another port
+-- an owner that has looked has met another port when it finds its arena named, or another word than the mark that it holds
 abbrev pub MeetingsKeepTally : Type 0
 MeetingsKeepTally = (e : Plan) (words : List ℕ) (ports : ℕ → Port) (t : Tally) (k : ℕ) (o : OwnedArena) →
     KeepsTally e words ports t → (ports k).control.owned ≡ Some o → o.looked ≡ true →

@@ -315,7 +315,7 @@ pub fn some_arena_is_free()
     ensures { SomeArenaIsFree }
 {}
 
-/// A memory as it opens keeps its tally: no port owns an arena, and nothing has come yet.
+/// A memory as it opens keeps its tally: no port owns an arena, and all counts are 0.
 pub fn openings_keep_tally()
     ensures { OpeningsKeepTally }
 {}

@@ -39,7 +39,7 @@ module _ (first : Bool) (s t : Stand) (b : Bool) (w : LookFound first s b t) whe
     arena = own.arena;
   }
 
--- a port that owns no arena owns none behind a look
+-- a port that owns no arena owns none after a look
 pub look_idle : (first : Bool) (s t : Stand) (b : Bool) → IsIdle s → LookFound first s b t → IsIdle t
 look_idle first s t b idle w = record {
   stands = looked_keeps first s t b w (λ (p : Port). p.control.entering) (λ o. refl) refl ∙ idle.stands;

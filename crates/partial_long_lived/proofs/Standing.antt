@@ -118,7 +118,7 @@ module _ (table : TableId) (about : About) (s : Stand) (h : IsHeld table about s
 pub sees_here : (first : Bool) (wish : Wish) (j : ℕ) (x : SeatedPort) (a : ℕ) (y : SeatedPort) → SeatSees first wish j x a y → y.port.control.here ≡ x.port.control.here
 sees_here first wish j x a y w = ap (λ (z : SeatedPort). z.port.control.here) w.is
 
--- there is a slot for each two words of the pool
+-- there is a slot for each port
 pub room_of : (table : TableId) (about : About) (s : Stand) → IsHeld table about s → HaveSlots (plan_of about)
 room_of table about s h = subst HaveSlots (sym h.shape) s.shape.sized.slots
 

@@ -32,7 +32,7 @@ pub record Began : Type 0 where
 pub record Search : Type 0 where
   -- the epoch in which it searches
   pub epoch : ℕ
-  -- how often an arena may have come free until its pass began, and how often at most while that epoch is the current one
+  -- how often an arena may have come free before its pass began, and how often at most while that epoch is the current one
   pub freed : ℕ
   pub most : ℕ
   -- the arenas below this one were in use in the pass
@@ -40,7 +40,7 @@ pub record Search : Type 0 where
   -- it has met another port in the arena that it owns
   pub met : Bool
 
--- What a port has met in its way: how often it has found a component sealed that it was to update, and what its last search found.
+-- What a port has met in its calls: how often it has found a component sealed that it was to update, and what its last search found.
 pub record Contention : Type 0 where
   pub seals : ℕ
   pub search : Search
@@ -108,8 +108,8 @@ pub record Reckons (e : Plan) (words : List ℕ) (ports : ℕ → Port) (now : P
   pub time : KeepsTime e words ports now r.since
   pub tally : KeepsTally e words ports r.tally
 
--- What is so of a search of port k: while its epoch is the current one, arenas come free no more often than it says; and unless one may
--- have come free in its pass, the arenas that it has passed are in use.
+-- What holds of a search of port k: while its epoch is the current one, arenas come free no more often than it says; and unless one may
+-- have come free since its pass began, the arenas that it has passed are in use.
 pub record IsSearching (e : Plan) (words : List ℕ) (ports : ℕ → Port) (now : Place) (r : Reckoning) (k : ℕ) (s : Search) : Type 0 where
   pub come : s.epoch ≤ now.epoch
   pub begun : s.freed ≤ r.tally.freed
@@ -131,7 +131,8 @@ pub record IsSeat (a : About) (words : List ℕ) (ports : ℕ → Port) (notes :
   pub search : IsSearching (plan_of a) words ports (place_now b) r x.number x.contention.search
   pub met : x.contention.search.met ≡ true → r.tally.met x.number ≡ true
 
--- The rule: the words are lawful over all epochs, with ports that keep time and tally, of which the seats know, and no two seats are of one port.
+-- The rule: the words are lawful over all epochs, with ports that keep time and tally, of which the seats know. No two seats are of one
+-- port.
 pub record IsRuleKept {S : Type 0} (about : About) (s : State S (List SeatedPort)) : Type 0 where
   pub ports : ℕ → Port
   pub notes : ℕ → List Noted

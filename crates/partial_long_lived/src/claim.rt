@@ -16,15 +16,15 @@ use crate::stand::Stand;
 pub enum Claimed {
     /// The port owns this arena, and no port stands in it or enters it.
     Clean(u32),
-    /// A port stands there, or another one owns the arena.
+    /// A port stands there or may come there, or another one owns the arena.
     Taken,
     /// The port's epoch has ended.
     Ended,
 }
 
-/// Passes over the arenas up to one that becomes the port's own, and returns its number, or nothing once the port's epoch
-/// has ended. A pass finds none only where an arena has come free meanwhile, which happens a bounded number of times in an
-/// epoch.
+/// Passes over the arenas until it owns a free one, and returns that one's number, or `None` when the port's epoch has
+/// ended. A pass finds none only if an arena has come free meanwhile, which happens a bounded number of times while the
+/// epoch is the current one.
 pub fn claim(words: &Words, stand: &mut Stand) -> Option<u32>
     requires held { IsHeld words.now.table_id words.now.key stand.old }
     requires may { IsIdle stand.old }
@@ -73,7 +73,7 @@ fn begin_pass(words: &Words, stand: &mut Stand) -> bool
     found == stand.packed()
 }
 
-// Makes one pass over the arenas but the port's own one.
+// Makes one pass over the arenas: it tries each but the one where the port stands.
 fn pass(words: &Words, stand: &mut Stand) -> Claimed
     requires held { IsHeld words.now.table_id words.now.key stand.old }
     requires may { IsIdle stand.old }

@@ -39,7 +39,8 @@ pub fn seal_unless_ended(words: &Words, stand: &mut Stand) -> bool
     false
 }
 
-// Waits for another port that seals the components, for so many looks. Returns whether the epoch has ended.
+// Looks for a while whether another port, which has begun to seal the components, ends the epoch. Returns whether it has
+// ended.
 fn ends_meanwhile(words: &Words, stand: &mut Stand) -> bool
     requires held { IsHeld words.now.table_id words.now.key stand.old }
     requires may { IsIdle stand.old }

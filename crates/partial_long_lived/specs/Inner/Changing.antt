@@ -162,8 +162,8 @@ HasCleared x n Ended s = Owns s x × IsPast s
 abbrev pub search_at : Stand → Search
 search_at s = (port_at s).contention.search
 
--- The port searches for a free arena in the epoch where it stands, whose end it hasn't seen: it has passed the arenas below n, and it has met
--- another port in the arena that it owns, or it hasn't.
+-- The port searches for a free arena in the epoch where it stands, whose end it hasn't seen. It has passed the arenas below n, and `met`
+-- says whether it has met another port in the arena that it owns.
 pub record Searches (met : Bool) (n : ℕ) (s : Stand) : Type 0 where
   pub epoch : (search_at s).epoch ≡ (port_at s).port.control.here.epoch
   pub past : (port_at s).port.control.past ≡ false
@@ -204,7 +204,7 @@ abbrev pub SearchBegun : Bool → Stand → Type 0
 SearchBegun true t = Searches false 0 t × ((search_at t).most ≡ (search_at t).freed + most_freed (port_at t).about.ports)
 SearchBegun false t = IsPast t
 
--- So it is of another pass, before which an arena has come free.
+-- The same of another pass, if an arena has come free since the pass before began.
 abbrev pub PassBegun : Bool → Stand → Stand → Type 0
 PassBegun true s t = Searches false 0 t × ((search_at t).most ≡ (search_at s).most) × ((search_at s).freed < (search_at t).freed)
     × ((search_at t).freed ≤ (search_at t).most)
@@ -231,7 +231,7 @@ IsRight x v i = IsFixedWord x.about.sizes v i ⊎ IsCarriedStamp x.about.sizes x
 abbrev pub HasControl : Stand → Stand → Type 0
 HasControl s t = (port_at t).port.control ≡ (port_at s).port.control
 
--- the port has found the last value and the last stamp of component j, as behind all that it has seen
+-- the port has found the last value and the last stamp of component j, as after all that it has seen
 abbrev pub HasFound : Stand → ℕ → Type 0
 HasFound t j = (port_at t).found ≡ Some (record {
   component = j;
