@@ -96,25 +96,8 @@ pub record Differ (p q : PortView) (js stamps : List ℕ) : Type 0 where
   pub why : (p.memory.about.sizes.m ≤ slice_index js position)
       ⊎ ((n : ℕ) × (q.began ≤ n) × (n ≤ length q.seen) × ¬ HasStampThen q n (slice_index js position) (slice_index stamps position))
 
--- A port as a state with this history and these notes has it: what it has seen begins the history, which is no shorter than when its call
--- began, and its notes are its own.
-pub record IsPortThen (log : List Applied) (notes : ℕ → List Noted) (p : PortView) : Type 0 where
-  pub seen : p.seen ≡ take (length p.seen) log
-  pub noted : notes p.number ≡ p.notes
-  pub began : p.began ≤ length log
-
--- The rule of the table as two ports met: at the last look of the meeting there was a lawful state, of whose one history both have seen a
--- beginning then, and of whose notes theirs are.
-pub record MetLawfully (c d : PortView) : Type 0 where
-  pub log : List Applied
-  pub notes : ℕ → List Noted
-  pub state : HasLawfulState c.memory.about log notes
-  pub first : IsPortThen log notes c
-  pub second : IsPortThen log notes d
-
 -- Two ports that met: each has noted nothing, and has seen all that either had seen before. What the one has seen begins what the other one has
--- seen, and in what each has seen the other one's notes are legal, and its entries are those of its notes. At a step of the meeting the rule
--- of the table held, with one history that begins with all that both have seen.
+-- seen, and in what each has seen the other one's notes are legal, and its entries are those of its notes.
 pub record Meets (a b c d : PortView) : Type 0 where
   pub first : Goes a c []
   pub second : Goes b d []
@@ -123,7 +106,22 @@ pub record Meets (a b c d : PortView) : Type 0 where
   pub first_knows : Knows b.memory.about b.number c.seen b.notes
   pub second_knows : Knows a.memory.about a.number d.seen a.notes
   pub one : (c.seen ≡ take (length c.seen) d.seen) ⊎ (d.seen ≡ take (length d.seen) c.seen)
-  pub lawful : MetLawfully c d
+
+-- A port as a state with this history and these notes has it: what it has seen begins the history, which is no shorter than when its last
+-- call began, and its notes are its own.
+pub record IsPortThen (log : List Applied) (notes : ℕ → List Noted) (p : PortView) : Type 0 where
+  pub seen : p.seen ≡ take (length p.seen) log
+  pub noted : notes p.number ≡ p.notes
+  pub began : p.began ≤ length log
+
+-- The rule of the table as two ports met: at the last look of the meeting there was a lawful state, whose one history begins with all that
+-- each of them has seen now, and which has the notes of both.
+pub record MeetsLawfully (c d : PortView) : Type 0 where
+  pub log : List Applied
+  pub notes : ℕ → List Noted
+  pub state : HasLawfulState c.memory.about log notes
+  pub first : IsPortThen log notes c
+  pub second : IsPortThen log notes d
 
 -- Why a call that changes the epoch can't end: its port has entered 16 later epochs and has found its component sealed in 15 of them at
 -- least (in its first epoch it may have no room left); or its epoch is the last one that a word can name.

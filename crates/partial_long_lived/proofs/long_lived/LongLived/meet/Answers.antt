@@ -63,8 +63,12 @@ returns-clause-met c =
       first_knows = subst (λ (q : PortView). Knows q.memory.about q.number (seen_in (port_at u).port) q.notes) c.second.view_is first.knows;
       second_knows = subst (λ (q : PortView). Knows q.memory.about q.number (seen_in (port_at v).port) q.notes) c.first.view_is second.knows;
       one = comparable_seen u v met.order;
-      lawful = met_lawfully m u v met.first met.lawful;
     }
+
+pub returns-clause-lawful : goal.returns-clause-lawful
+returns-clause-lawful c =
+    let m : MemoryView = record { table = c.self.inside.table.table_id; about = c.self.inside.table.key } in
+    met_lawfully m c.meet-one.result.0 c.meet-one.result.1 c.meet-one.ensures.first c.meet-one.ensures.lawful
 
 pub returns-clause-steps : goal.returns-clause-steps
 returns-clause-steps c =
