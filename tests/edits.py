@@ -58,7 +58,7 @@ from definitions import PARTS, SPENT  # noqa: E402
 TOP = Path(__file__).resolve().parent.parent
 # The crates whose edits weren't all tried yet by the prover's own search where an answer is written for the goal.
 LEFT = {'partial_cmd', 'partial_door', 'partial_long_lived', 'partial_memory', 'partial_pipeline',
-        'partial_replay', 'partial_text', 'partial_workers'}
+        'partial_workers'}
 # The file of a crate with its edits.
 EDITS = 'edits.txt'
 KIT = Path(shutil.which('rt')).resolve().parent.parent

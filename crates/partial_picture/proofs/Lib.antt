@@ -1,2 +1,4 @@
 mod Common
 pub mod Labels
+pub mod Made
+pub mod Seen

@@ -2,6 +2,7 @@ pub mod Arrows
 pub mod Bars
 pub mod Drawn
 pub mod Lengths
+pub mod Made
 pub mod Marks
 pub mod Pins
 pub mod Refusal
