@@ -1,6 +1,6 @@
 -- What calls made, one call after another.
-use Rattle.partial_picture.proofs.Common.{rules, arith, ℕ, ◌≡◌, ◌++◌, ◌∷◌, [], ◌<◌, List, length, take, sym, ap, ◌∙◌}
-use Rattle.std.proofs.Common.{Bool, true, false, ◌+◌, ◌≤◌, ◌==◌, nat_lt, min, filter, get_or, set, drop, refl, inl, inr}
+use Rattle.partial_picture.proofs.Common.{arith, ℕ, ◌≡◌, ◌++◌, ◌∷◌, [], ◌<◌, List, length, take, sym, ap, ◌∙◌}
+use Rattle.std.proofs.Common.{◌+◌, ◌≤◌, ◌==◌, nat_lt, min, filter, get_or, set, drop, refl, inl, inr}
 use Rattle.std.proofs.lemmas.Bool.{cases_eq}
 use Rattle.std.proofs.lemmas.Grind.{common_steps}
 use Rattle.std.proofs.lemmas.List.{append_assoc, append-nil, drop_min, get_or-set_other, get_or-set_same, length-set}

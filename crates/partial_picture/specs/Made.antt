@@ -1,5 +1,5 @@
 -- Which steps of a replay its calls made.
-use Rattle.std.specs.Prelude.{ℕ, ◌+◌, ◌==◌, ◌-◌, nat_lt, min, max, List, [], ◌∷◌, ◌++◌, length, map, filter, take, drop, slice_get, slice_index_or}
+use Rattle.std.specs.Prelude.{ℕ, ◌==◌, ◌-◌, nat_lt, max, List, [], ◌∷◌, ◌++◌, length, map, filter, take, drop, slice_get, slice_index_or}
 use Rattle.std.specs.List.{enumerate_from, range_with_len}
 use Rattle.std.specs.Option.{option_map_or}
 use Rattle.partial_model.specs.declared.call.Called.{Called}

@@ -2,7 +2,7 @@
 
 ghost use Rattle.std.specs.Prelude.{◌≡◌, ◌≢◌, ◌≤◌, ◌-◌, All, map, length, IfOk, IfSome, MatchResult};
 ghost use Rattle.std.specs.List.{filter_map};
-ghost use Rattle.partial_picture.specs.Arrows.{IsArrowWithin};
+ghost use Rattle.partial_picture.specs.Arrows.{IsArrowWithin, arrow_seen, arrows_in};
 ghost use Rattle.partial_picture.specs.Bars.{BarStandsIn, bar_of, bar_seen, bars_in};
 ghost use Rattle.partial_picture.specs.Drawn.{SpanHasRoom, drawn_of};
 ghost use Rattle.partial_picture.specs.Made.{calls_made};
@@ -156,10 +156,15 @@ impl<'a> Picture<'a> {
         ensures bars { IfOk result (λ picture. map bar_seen picture.bars.items
             ≡ bars_in picture.window (length outcome.now.trace.items)
                 (calls_made sizes.m ports outcome.now.trace.items outcome.now.calls.items)) }
+        // One arrow to each call that was overtaken or took a view, when the window has both its ends.
+        ensures arrows { IfOk result (λ picture. map arrow_seen picture.arrows.items
+            ≡ arrows_in sizes.m picture.window outcome.now.trace.items outcome.now.history.items
+                (won_steps sizes.m outcome.now.trace.items)
+                (calls_made sizes.m ports outcome.now.trace.items outcome.now.calls.items)) }
         // Bars and arrows are at marks that exist.
         ensures bars_stand { IfOk result (λ picture.
             All (BarStandsIn (picture.window.behind - picture.window.first)) picture.bars.items) }
-        ensures arrows { IfOk result (λ picture.
+        ensures arrows_stand { IfOk result (λ picture.
             All (IsArrowWithin (picture.window.behind - picture.window.first)) picture.arrows.items) }
         // The words are those that the marks touch, each once, rising.
         ensures words { IfOk result (λ picture. AreTouched picture.marks.items picture.words.items) }
@@ -186,8 +191,12 @@ impl<'a> Picture<'a> {
                 (calls_made sizes.m ports outcome.now.trace.items outcome.now.calls.items)) }
         ensures bars_stand { IfOk result (λ picture.
             All (BarStandsIn (window.behind - window.first)) picture.bars.items) }
-        ensures arrows { IfOk result (λ picture. All (IsArrowWithin (window.behind - window.first))
-            picture.arrows.items) }
+        ensures arrows { IfOk result (λ picture. map arrow_seen picture.arrows.items
+            ≡ arrows_in sizes.m window outcome.now.trace.items outcome.now.history.items
+                (won_steps sizes.m outcome.now.trace.items)
+                (calls_made sizes.m ports outcome.now.trace.items outcome.now.calls.items)) }
+        ensures arrows_stand { IfOk result (λ picture.
+            All (IsArrowWithin (window.behind - window.first)) picture.arrows.items) }
         ensures words { IfOk result (λ picture. AreTouched picture.marks.items picture.words.items) }
     {
         let steps = outcome.trace.len();

@@ -1,10 +1,10 @@
 use Rattle.std.proofs.Common.{Vec, Global}
 use Rattle.std.proofs.lemmas.List.{get_or_default, get_or-map, length-map, map_push, take_more}
-use Rattle.partial_picture.proofs.Common.{arith, ℕ, ◌≡◌, ◌++◌, ◌∷◌, [], List, sym, ap, ◌∙◌, take}
-use Rattle.std.proofs.Common.{map, get_or, subst, ◌+◌, set, min, length}
+use Rattle.partial_picture.proofs.Common.{arith, ℕ, ◌≡◌, ◌++◌, ◌∷◌, [], sym, ap, ◌∙◌, take}
+use Rattle.std.proofs.Common.{map, get_or, ◌+◌}
 use Rattle.partial_model.specs.declared.call.Called.{Called}
-use Rattle.partial_picture.specs.Made.{CallSpan, call_span, made_seen}
-use Rattle.partial_picture.proofs.Made.{IsWalked, walked_on, walked_past}
+use Rattle.partial_picture.specs.Made.{made_seen}
+use Rattle.partial_picture.proofs.Made.{walked_on, walked_past}
 use Rattle.partial_picture.proofs.spans.made_by_calls.Goals as goal
 use Rattle.partial_picture.proofs.spans.made_by_calls.Goals.{then-port-ports+in_ok-push, else-port-ports}
 
