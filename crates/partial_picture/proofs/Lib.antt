@@ -2,3 +2,4 @@ mod Common
 pub mod Labels
 pub mod Made
 pub mod Seen
+pub mod Tiers

@@ -52,10 +52,10 @@ place_after : (ports : List (List ℕ)) (taken : List ℕ) (front : List Called)
     own ≡ get_or ports c.port [] → t ≡ min (steps_by c.port front) (length own) → (q : ℕ) → get_or taken q 0 ≡ min (steps_by q front) (length (get_or ports q [])) →
     get_or (set taken c.port (min (t + c.steps) (length own))) q 0 ≡ min (steps_by q (front ++ c ∷ [])) (length (get_or ports q []))
 place_after ports taken front c below same t own has had q was = elim (cases_eq q c.port) [
-    inl is ↦ rw is (get_or-set_same taken c.port (min (t + c.steps) (length own)) 0 (omega (arith, below, same)) ∙ cut_more t (steps_by c.port front) c.steps (length own) had
-        ∙ ap (λ n. min n (length own)) (sym (steps_by_own c.port front c refl)) ∙ ap (λ (l : List ℕ). min (steps_by c.port (front ++ c ∷ [])) (length l)) has)
+  | inl is ↦ rw is (get_or-set_same taken c.port (min (t + c.steps) (length own)) 0 (omega (arith, below, same)) ∙ cut_more t (steps_by c.port front) c.steps (length own) had
+      ∙ ap (λ n. min n (length own)) (sym (steps_by_own c.port front c refl)) ∙ ap (λ (l : List ℕ). min (steps_by c.port (front ++ c ∷ [])) (length l)) has)
   | inr not ↦ get_or-set_other taken c.port q (min (t + c.steps) (length own)) 0 not ∙ was ∙ ap (λ n. min n (length (get_or ports q []))) (sym (steps_by_other q front c (λ is. not (sym is))))
-  ]
+]
 
 -- a call of one of the ports
 pub walked_on : (ports : List (List ℕ)) (entries taken : List ℕ) (calls : List Called) (made : List CallSpan) (c : Called) → IsWalked ports entries taken calls made →
@@ -66,10 +66,10 @@ walked_on ports entries taken calls made c w below t is own has =
     let kept : of_ports (length ports) (calls ++ c ∷ []) ≡ front ++ c ∷ [] = of_ports_kept (length ports) calls c below in
     let had : t ≡ min (steps_by c.port front) (length own) = is ∙ w.places c.port below ∙ ap (λ (l : List ℕ). min (steps_by c.port front) (length l)) (sym has) in
     let spans : made ++ call_span own t entries c ∷ [] ≡ made_after ports entries [] (front ++ c ∷ []) =
-        ap (λ (l : List CallSpan). l ++ call_span own t entries c ∷ []) w.spans
-        ∙ ap (λ (s : CallSpan). made_after ports entries [] front ++ s ∷ []) (span_same own t (steps_by c.port front) entries c had
-            ∙ ap (λ (l : List ℕ). call_span l (steps_by c.port front) entries c) has)
-        ∙ sym (after_more ports entries [] front c) in
+    ap (λ (l : List CallSpan). l ++ call_span own t entries c ∷ []) w.spans
+    ∙ ap (λ (s : CallSpan). made_after ports entries [] front ++ s ∷ []) (span_same own t (steps_by c.port front) entries c had
+    ∙ ap (λ (l : List ℕ). call_span l (steps_by c.port front) entries c) has)
+    ∙ sym (after_more ports entries [] front c) in
     record {
       same = length-set taken c.port (min (t + c.steps) (length own)) ∙ w.same;
       places = λ q h. rw kept (place_after ports taken front c below (w.same) t own has had q (w.places q h));
@@ -81,4 +81,4 @@ pub walked_past : (ports : List (List ℕ)) (entries taken : List ℕ) (calls : 
     length ports ≤ c.port → IsWalked ports entries taken (calls ++ c ∷ []) made
 walked_past ports entries taken calls made c w past =
     let kept = of_ports_past (length ports) calls c past in
-    record { same = w.same; places = λ q h. rw kept (w.places q h); spans = rw kept w.spans; }
+    record { same = w.same; places = λ q h. rw kept (w.places q h); spans = rw kept w.spans }

@@ -40,8 +40,12 @@ marks_of window s = record { first = max s.first window.first - window.first; be
 
 -- the bar of a call in the window, when it has one
 abbrev pub bar_at : Span → ℕ → CallSpan → Option BarView
-bar_at window steps c = if has_bar window steps c.span then Some (record { called = c.called; marks = marks_of window c.span;
-    begins = nat_le window.first c.span.first; ends = nat_le c.span.behind window.behind }) else None
+bar_at window steps c = if has_bar window steps c.span then Some (record {
+  called = c.called;
+  marks = marks_of window c.span;
+  begins = nat_le window.first c.span.first;
+  ends = nat_le c.span.behind window.behind;
+}) else None
 
 -- the bars of these calls in the window of a replay of so many steps
 abbrev pub bars_in : Span → ℕ → List CallSpan → List BarView

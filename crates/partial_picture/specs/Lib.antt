@@ -1,6 +1,7 @@
 pub mod Arrows
 pub mod Bars
 pub mod Drawn
+pub mod Labels
 pub mod Lengths
 pub mod Made
 pub mod Marks

@@ -46,7 +46,10 @@ span_of (s ∷ steps) between = record { first = s; behind = end_of (s ∷ steps
 -- what a call made, of a port with these steps of which the calls in front have made so many
 abbrev pub call_span : List ℕ → ℕ → List ℕ → Called → CallSpan
 call_span own taken entries c = let steps = take c.steps (drop taken own) in record {
-  called = c; span = span_of steps (between_of own (drop c.steps (drop taken own)) entries c.began); steps = steps }
+  called = c;
+  span = span_of steps (between_of own (drop c.steps (drop taken own)) entries c.began);
+  steps = steps;
+}
 
 -- what these calls made, each after those in front of it
 abbrev pub made_after : List (List ℕ) → List ℕ → List Called → List Called → List CallSpan

@@ -54,7 +54,11 @@ fn shows_at(m: usize, trace: &[Event], step: usize, stamp: u64) -> bool
 fn last_shown(m: usize, trace: &[Event], steps: &[usize], stamp: u64) -> Option<usize>
     ensures { result ≡ last_load m stamp trace.now steps.now }
 {
-    steps.iter().rev().copied().find(|step| shows_at(m, trace, *step, stamp))
+    steps
+        .iter()
+        .rev()
+        .copied()
+        .find(|step| shows_at(m, trace, *step, stamp))
 }
 
 /// What the answer of a call says of an entry that it met, and the stamp of the entry.
@@ -74,13 +78,7 @@ fn met_of(called: &Called) -> Option<(ArrowKind, u64)>
 
 /// The step of a call that met an entry. An update was overtaken at its last step, which met the other stamp,
 /// and a scan took the view of the stamp that it had loaded last.
-fn met_at(
-    kind: ArrowKind,
-    m: usize,
-    trace: &[Event],
-    steps: &[usize],
-    stamp: u64,
-) -> Option<usize>
+fn met_at(kind: ArrowKind, m: usize, trace: &[Event], steps: &[usize], stamp: u64) -> Option<usize>
     ensures { result ≡ met_at kind m stamp trace.now steps.now }
 {
     match kind {

@@ -155,12 +155,12 @@ impl<'a> Picture<'a> {
         // One bar for each call of a port that has a step in the window, or is drawn between two of its steps.
         ensures bars { IfOk result (λ picture. map bar_seen picture.bars.items
             ≡ bars_in picture.window (length outcome.now.trace.items)
-                (calls_made sizes.m ports outcome.now.trace.items outcome.now.calls.items)) }
+            (calls_made sizes.m ports outcome.now.trace.items outcome.now.calls.items)) }
         // One arrow to each call that was overtaken or took a view, when the window has both its ends.
         ensures arrows { IfOk result (λ picture. map arrow_seen picture.arrows.items
             ≡ arrows_in sizes.m picture.window outcome.now.trace.items outcome.now.history.items
-                (won_steps sizes.m outcome.now.trace.items)
-                (calls_made sizes.m ports outcome.now.trace.items outcome.now.calls.items)) }
+            (won_steps sizes.m outcome.now.trace.items)
+            (calls_made sizes.m ports outcome.now.trace.items outcome.now.calls.items)) }
         // Bars and arrows are at marks that exist.
         ensures bars_stand { IfOk result (λ picture.
             All (BarStandsIn (picture.window.behind - picture.window.first)) picture.bars.items) }
@@ -188,13 +188,13 @@ impl<'a> Picture<'a> {
             ≡ pins_at window outcome.now.history.items (won_steps sizes.m outcome.now.trace.items)) }
         ensures bars { IfOk result (λ picture. map bar_seen picture.bars.items
             ≡ bars_in window (length outcome.now.trace.items)
-                (calls_made sizes.m ports outcome.now.trace.items outcome.now.calls.items)) }
+            (calls_made sizes.m ports outcome.now.trace.items outcome.now.calls.items)) }
         ensures bars_stand { IfOk result (λ picture.
             All (BarStandsIn (window.behind - window.first)) picture.bars.items) }
         ensures arrows { IfOk result (λ picture. map arrow_seen picture.arrows.items
             ≡ arrows_in sizes.m window outcome.now.trace.items outcome.now.history.items
-                (won_steps sizes.m outcome.now.trace.items)
-                (calls_made sizes.m ports outcome.now.trace.items outcome.now.calls.items)) }
+            (won_steps sizes.m outcome.now.trace.items)
+            (calls_made sizes.m ports outcome.now.trace.items outcome.now.calls.items)) }
         ensures arrows_stand { IfOk result (λ picture.
             All (IsArrowWithin (window.behind - window.first)) picture.arrows.items) }
         ensures words { IfOk result (λ picture. AreTouched picture.marks.items picture.words.items) }

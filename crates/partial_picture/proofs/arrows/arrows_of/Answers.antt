@@ -18,5 +18,5 @@ returns-clause-items c =
     let known : (stamp : ℕ) → found stamp ≡ steps stamp = search (rules, tests) in
     let same : found ≡ steps = λ i stamp. known stamp i in
     let road : IfOk c.collect.result (λ arrows. arrows.items ≡ filter_map (arrow_of m window trace found) c.args.made.now) =
-        items_from_collect _ c.collect.ensures.ran (YieldsList-from_filter_map _ _ (YieldsList-from_slice c.args.made.now cc) c.filter_map.ensures.closure (λ x r q k. search (rules, tests))) in
+    items_from_collect _ c.collect.ensures.ran (YieldsList-from_filter_map _ _ (YieldsList-from_slice c.args.made.now cc) c.filter_map.ensures.closure (λ x r q k. search (rules, tests))) in
     IfOk-weaker c.collect.result _ _ (λ arrows is. is ∙ ap (λ (e : ℕ → Option ℕ). filter_map (arrow_of m window trace e) c.args.made.now) same) road

@@ -15,22 +15,22 @@ loop-called-preserved c =
     let called = c.called-item.result in
     let ports = map (λ (own : Vec ℕ Global). own.items) c.args.ports.now in
     let next : take (i + 1) calls ≡ take i calls ++ called ∷ [] =
-        take_more calls i called c.loop-called-test.true ∙ ap (λ (d : Called). take i calls ++ d ∷ []) (sym c.called-item.is) in
+    take_more calls i called c.loop-called-test.true ∙ ap (λ (d : Called). take i calls ++ d ∷ []) (sym c.called-item.is) in
     let many = length-map c.args.ports.now (λ (own : Vec ℕ Global). own.items) in
     elim c.if-port-ports.branch [
-      then-port-ports+in_ok-push w ↦
-        let own = w.as_slice-own.result.now in
-        let below = w.if-port-ports.true in
-        let has : own ≡ get_or ports called.port [] = w.as_slice-own.ensures.value ∙ ap (λ (v : Vec ℕ Global). v.items) w.index-ports-port.is
-            ∙ sym (get_or-map (λ (v : Vec ℕ Global). v.items) c.args.ports.now called.port w.index-ports-port.result [] below) in
-        let on = walked_on ports c.args.entries.now c.loop-called.taken.items (take i calls) (map made_seen c.loop-called.made.items) called c.loop-called.invariant
-            (omega (arith, below, many)) w.index-count.result.now (w.index-count.ensures
-            ∙ get_or_default c.loop-called.taken.items called.port w.index-count.result.now 0 (omega (arith, below, many, c.loop-called.invariant.same))) own has in
-        let pushed : map made_seen w.push.new.self.items ≡ map made_seen c.loop-called.made.items ++ made_seen w.made_next.result ∷ [] =
-            ap (map made_seen) w.in_ok-push.ensures.items ∙ map_push made_seen c.loop-called.made.items w.made_next.result in
-        rw next (rw w.taken-is (rw w.made-is (rw pushed (rw w.made_next.ensures (rw w.taken_with.ensures on)))))
-    | else-port-ports w ↦
-        let past = walked_past ports c.args.entries.now c.loop-called.taken.items (take i calls) (map made_seen c.loop-called.made.items) called c.loop-called.invariant
-            (omega (arith, w.if-port-ports.false, many)) in
-        rw next (rw w.taken-is (rw w.made-is past))
+      | then-port-ports+in_ok-push w ↦
+          let own = w.as_slice-own.result.now in
+          let below = w.if-port-ports.true in
+          let has : own ≡ get_or ports called.port [] = w.as_slice-own.ensures.value ∙ ap (λ (v : Vec ℕ Global). v.items) w.index-ports-port.is
+          ∙ sym (get_or-map (λ (v : Vec ℕ Global). v.items) c.args.ports.now called.port w.index-ports-port.result [] below) in
+          let on = walked_on ports c.args.entries.now c.loop-called.taken.items (take i calls) (map made_seen c.loop-called.made.items) called c.loop-called.invariant
+          (omega (arith, below, many)) w.index-count.result.now (w.index-count.ensures
+          ∙ get_or_default c.loop-called.taken.items called.port w.index-count.result.now 0 (omega (arith, below, many, c.loop-called.invariant.same))) own has in
+          let pushed : map made_seen w.push.new.self.items ≡ map made_seen c.loop-called.made.items ++ made_seen w.made_next.result ∷ [] =
+          ap (map made_seen) w.in_ok-push.ensures.items ∙ map_push made_seen c.loop-called.made.items w.made_next.result in
+          rw next (rw w.taken-is (rw w.made-is (rw pushed (rw w.made_next.ensures (rw w.taken_with.ensures on)))))
+      | else-port-ports w ↦
+          let past = walked_past ports c.args.entries.now c.loop-called.taken.items (take i calls) (map made_seen c.loop-called.made.items) called c.loop-called.invariant
+          (omega (arith, w.if-port-ports.false, many)) in
+          rw next (rw w.taken-is (rw w.made-is past))
     ]
