@@ -1,6 +1,6 @@
 -- What calls made, one call after another.
 use Rattle.partial_picture.proofs.Common.{arith, ℕ, ◌≡◌, ◌++◌, ◌∷◌, [], ◌<◌, List, length, take, sym, ap, ◌∙◌}
-use Rattle.std.proofs.Common.{◌+◌, ◌≤◌, ◌==◌, nat_lt, min, filter, get_or, set, drop, refl, inl, inr}
+use Rattle.std.proofs.Common.{◌+◌, ◌≤◌, ◌==◌, nat_lt, min, filter, slice_index_or, slice_set, drop, refl, inl, inr}
 use Rattle.std.proofs.lemmas.Bool.{cases_eq}
 use Rattle.std.proofs.lemmas.Grind.{common_steps}
 use Rattle.std.proofs.lemmas.List.{append_assoc, append-nil, drop_min, get_or-set_other, get_or-set_same, length-set}
@@ -8,15 +8,15 @@ use Rattle.std.proofs.lemmas.List.Elements.{filter-append}
 use Rattle.std.proofs.lemmas.List.Sums.{sum_by-append}
 use Rattle.partial_model.specs.declared.call.Called.{Called}
 use Rattle.partial_replay.specs.Listed.{steps_by}
-use Rattle.partial_picture.specs.Made.{CallSpan, between_of, call_span, made_after, made_in, span_of}
+use Rattle.partial_picture.specs.Made.{CallSpan, between_of, call_span, made_after, made_by_ports, span_of}
 
 -- one call more
 after_more : (ports : List (List ℕ)) (entries : List ℕ) (front calls : List Called) (c : Called) →
-    made_after ports entries front (calls ++ c ∷ []) ≡ made_after ports entries front calls ++ call_span (get_or ports c.port []) (steps_by c.port (front ++ calls)) entries c ∷ []
-after_more ports entries front [] c = ap (λ (l : List Called). call_span (get_or ports c.port []) (steps_by c.port l) entries c ∷ []) (sym (append-nil front))
+    made_after ports entries front (calls ++ c ∷ []) ≡ made_after ports entries front calls ++ call_span (slice_index_or ports c.port []) (steps_by c.port (front ++ calls)) entries c ∷ []
+after_more ports entries front [] c = ap (λ (l : List Called). call_span (slice_index_or ports c.port []) (steps_by c.port l) entries c ∷ []) (sym (append-nil front))
 after_more ports entries front (d ∷ calls) c =
-    ap (λ (l : List CallSpan). call_span (get_or ports d.port []) (steps_by d.port front) entries d ∷ l) (after_more ports entries (front ++ d ∷ []) calls c
-    ∙ ap (λ (l : List Called). made_after ports entries (front ++ d ∷ []) calls ++ call_span (get_or ports c.port []) (steps_by c.port l) entries c ∷ [])
+    ap (λ (l : List CallSpan). call_span (slice_index_or ports d.port []) (steps_by d.port front) entries d ∷ l) (after_more ports entries (front ++ d ∷ []) calls c
+    ∙ ap (λ (l : List Called). made_after ports entries (front ++ d ∷ []) calls ++ call_span (slice_index_or ports c.port []) (steps_by c.port l) entries c ∷ [])
     (append_assoc front (d ∷ []) calls))
 
 -- the calls of so many ports
@@ -38,8 +38,8 @@ steps_by_other q front c other = grind (arith, common_steps, append-nil, filter-
 -- how far the calls have come: how many steps of each port were taken, and what they made
 pub record IsWalked (ports : List (List ℕ)) (entries taken : List ℕ) (calls : List Called) (made : List CallSpan) : Type 0 where
   pub same : length taken ≡ length ports
-  pub places : (q : ℕ) → q < length ports → get_or taken q 0 ≡ min (steps_by q (of_ports (length ports) calls)) (length (get_or ports q []))
-  pub spans : made ≡ made_in ports entries calls
+  pub places : (q : ℕ) → q < length ports → slice_index_or taken q 0 ≡ min (steps_by q (of_ports (length ports) calls)) (length (slice_index_or ports q []))
+  pub spans : made ≡ made_by_ports ports entries calls
 
 -- a call is the same after a number of steps that is cut to those that are there
 span_same : (own : List ℕ) (t s : ℕ) (entries : List ℕ) (c : Called) → t ≡ min s (length own) → call_span own t entries c ≡ call_span own s entries c
@@ -49,18 +49,18 @@ cut_more : (t s k n : ℕ) → t ≡ min s n → min (t + k) n ≡ min (s + k) n
 cut_more t s k n cut = omega arith
 
 place_after : (ports : List (List ℕ)) (taken : List ℕ) (front : List Called) (c : Called) → c.port < length ports → length taken ≡ length ports → (t : ℕ) (own : List ℕ) →
-    own ≡ get_or ports c.port [] → t ≡ min (steps_by c.port front) (length own) → (q : ℕ) → get_or taken q 0 ≡ min (steps_by q front) (length (get_or ports q [])) →
-    get_or (set taken c.port (min (t + c.steps) (length own))) q 0 ≡ min (steps_by q (front ++ c ∷ [])) (length (get_or ports q []))
+    own ≡ slice_index_or ports c.port [] → t ≡ min (steps_by c.port front) (length own) → (q : ℕ) → slice_index_or taken q 0 ≡ min (steps_by q front) (length (slice_index_or ports q [])) →
+    slice_index_or (slice_set taken c.port (min (t + c.steps) (length own))) q 0 ≡ min (steps_by q (front ++ c ∷ [])) (length (slice_index_or ports q []))
 place_after ports taken front c below same t own has had q was = elim (cases_eq q c.port) [
   | inl is ↦ rw is (get_or-set_same taken c.port (min (t + c.steps) (length own)) 0 (omega (arith, below, same)) ∙ cut_more t (steps_by c.port front) c.steps (length own) had
       ∙ ap (λ n. min n (length own)) (sym (steps_by_own c.port front c refl)) ∙ ap (λ (l : List ℕ). min (steps_by c.port (front ++ c ∷ [])) (length l)) has)
-  | inr not ↦ get_or-set_other taken c.port q (min (t + c.steps) (length own)) 0 not ∙ was ∙ ap (λ n. min n (length (get_or ports q []))) (sym (steps_by_other q front c (λ is. not (sym is))))
+  | inr not ↦ get_or-set_other taken c.port q (min (t + c.steps) (length own)) 0 not ∙ was ∙ ap (λ n. min n (length (slice_index_or ports q []))) (sym (steps_by_other q front c (λ is. not (sym is))))
 ]
 
 -- a call of one of the ports
 pub walked_on : (ports : List (List ℕ)) (entries taken : List ℕ) (calls : List Called) (made : List CallSpan) (c : Called) → IsWalked ports entries taken calls made →
-    c.port < length ports → (t : ℕ) → t ≡ get_or taken c.port 0 → (own : List ℕ) → own ≡ get_or ports c.port [] →
-    IsWalked ports entries (set taken c.port (min (t + c.steps) (length own))) (calls ++ c ∷ []) (made ++ call_span own t entries c ∷ [])
+    c.port < length ports → (t : ℕ) → t ≡ slice_index_or taken c.port 0 → (own : List ℕ) → own ≡ slice_index_or ports c.port [] →
+    IsWalked ports entries (slice_set taken c.port (min (t + c.steps) (length own))) (calls ++ c ∷ []) (made ++ call_span own t entries c ∷ [])
 walked_on ports entries taken calls made c w below t is own has =
     let front = of_ports (length ports) calls in
     let kept : of_ports (length ports) (calls ++ c ∷ []) ≡ front ++ c ∷ [] = of_ports_kept (length ports) calls c below in

@@ -7,7 +7,7 @@ use Rattle.partial_model.specs.declared.call.Called.{Called}
 use Rattle.partial_words.specs.declared.step.Event.{Event}
 use Rattle.partial_picture.specs.Arrows.{ArrowView, arrow_at, arrow_of, arrow_seen, arrow_with, met_at, met_of}
 use Rattle.partial_picture.specs.Bars.{BarView, bar_at, bar_of, bar_seen, bar_with, has_bar, is_in, marks_of}
-use Rattle.partial_picture.specs.Made.{calls_made, made_in, made_seen, steps_by_port}
+use Rattle.partial_picture.specs.Made.{calls_made, made_by_ports, made_seen, steps_by_port}
 use Rattle.partial_picture.specs.Pins.{won_steps}
 use Rattle.partial_picture.specs.declared.picture.ArrowKind.{ArrowKind}
 use Rattle.partial_picture.specs.declared.spans.Made.{Made}
@@ -55,7 +55,7 @@ arrows_seen components window trace entry made = map_filter_map (arrow_of compon
 
 -- what the calls of a replay made, by the steps that were found
 pub made_are : (m ports : ℕ) (trace : List Event) (calls : List Called) (own : List (Vec ℕ Global)) (entries : List ℕ) (made : List Made) →
-    map (λ v. v.items) own ≡ steps_by_port ports trace → entries ≡ won_steps m trace → map made_seen made ≡ made_in (map (λ v. v.items) own) entries calls →
+    map (λ v. v.items) own ≡ steps_by_port ports trace → entries ≡ won_steps m trace → map made_seen made ≡ made_by_ports (map (λ v. v.items) own) entries calls →
     map made_seen made ≡ calls_made m ports trace calls
 made_are m ports trace calls own entries made steps won is =
-    is ∙ ap (λ (l : List (List ℕ)). made_in l entries calls) steps ∙ ap (λ (l : List ℕ). made_in (steps_by_port ports trace) l calls) won
+    is ∙ ap (λ (l : List (List ℕ)). made_by_ports l entries calls) steps ∙ ap (λ (l : List ℕ). made_by_ports (steps_by_port ports trace) l calls) won

@@ -35,8 +35,8 @@ abbrev pub arrow_seen : Arrow → ArrowView
 arrow_seen a = record { kind = a.kind; stamp = a.stamp; from = a.from; to = a.to; called = a.called.now }
 
 -- the step of the entry with this stamp, of a history whose entries have these steps
-abbrev pub step_of : List Applied → List ℕ → ℕ → Option ℕ
-step_of history steps stamp = update_all (eq_by_cmp nat_cmp) (λ _. None) (map (λ x. (x.0.stamp, x.1)) (zip history steps)) stamp
+abbrev pub entry_step : List Applied → List ℕ → ℕ → Option ℕ
+entry_step history steps stamp = update_all (eq_by_cmp nat_cmp) (λ _. None) (map (λ x. (x.0.stamp, x.1)) (zip history steps)) stamp
 
 -- an answer says that an entry overtook the call, or that the call took its view
 abbrev pub met_in : Answer → Option (ArrowKind × ℕ)
@@ -79,7 +79,7 @@ arrow_at m window trace entry c = option_and_then (λ met. option_and_then (λ f
 
 -- the arrows to these calls of a replay with this history, whose entries have these steps
 abbrev pub arrows_in : ℕ → Span → List Event → List Applied → List ℕ → List CallSpan → List ArrowView
-arrows_in m window trace history steps calls = filter_map (arrow_at m window trace (step_of history steps)) calls
+arrows_in m window trace history steps calls = filter_map (arrow_at m window trace (entry_step history steps)) calls
 
 -- an arrow of the code, with a reference to its call
 abbrev pub arrow_with : Bor Called → ArrowView → Arrow

@@ -29,19 +29,19 @@ abbrev pub made_seen : Made → CallSpan
 made_seen m = record { called = m.called.now; span = m.span; steps = m.steps.now }
 
 -- the index after the last of these steps, or 0 when there is none
-abbrev pub end_of : List ℕ → ℕ
-end_of steps = option_map_or (λ s. sum_of s 1) (slice_get steps (length steps - 1)) 0
+abbrev pub end_behind : List ℕ → ℕ
+end_behind steps = option_map_or (λ s. sum_of s 1) (slice_get steps (length steps - 1)) 0
 
 -- Where a call without a step is drawn, of a port with these steps, some of which are left: before the next one, or,
 -- when there is none, after the last one and after the entries that the history had when the call began.
 abbrev pub between_of : List ℕ → List ℕ → List ℕ → ℕ → ℕ
-between_of own [] entries began = max (end_of own) (end_of (take began entries))
+between_of own [] entries began = max (end_behind own) (end_behind (take began entries))
 between_of own (s ∷ left) entries began = s
 
 -- from the first of a call's steps to the last one, or between two steps when there is none
 abbrev pub span_of : List ℕ → ℕ → Span
 span_of [] between = record { first = between; behind = between }
-span_of (s ∷ steps) between = record { first = s; behind = end_of (s ∷ steps) }
+span_of (s ∷ steps) between = record { first = s; behind = end_behind (s ∷ steps) }
 
 -- what a call made, of a port with these steps of which the calls in front have made so many
 abbrev pub call_span : List ℕ → ℕ → List ℕ → Called → CallSpan
@@ -58,9 +58,9 @@ made_after ports entries front (c ∷ calls) = call_span (slice_index_or ports c
     ∷ made_after ports entries (front ++ c ∷ []) calls
 
 -- what the calls of ports with these steps made, where the entries of the history have those
-abbrev pub made_in : List (List ℕ) → List ℕ → List Called → List CallSpan
-made_in ports entries calls = made_after ports entries [] (filter (λ c. nat_lt c.port (length ports)) calls)
+abbrev pub made_by_ports : List (List ℕ) → List ℕ → List Called → List CallSpan
+made_by_ports ports entries calls = made_after ports entries [] (filter (λ c. nat_lt c.port (length ports)) calls)
 
 -- what the calls of a replay made, in a memory of m components with so many ports
 abbrev pub calls_made : ℕ → ℕ → List Event → List Called → List CallSpan
-calls_made m ports trace calls = made_in (steps_by_port ports trace) (won_steps m trace) calls
+calls_made m ports trace calls = made_by_ports (steps_by_port ports trace) (won_steps m trace) calls

@@ -4,7 +4,7 @@ ghost use Rattle.std.specs.Prelude.{◌≡◌, ℕ, ◌-◌, All, IfOk, IfSome};
 ghost use Rattle.std.specs.BTreeMap.{get};
 ghost use Rattle.std.specs.List.{filter_map};
 ghost use Rattle.std.specs.Ordering.{nat_cmp};
-ghost use Rattle.partial_picture.specs.Arrows.{IsArrowWithin, arrow_of, last_load, loads_at, loads_stamp, met_at, met_of, step_of};
+ghost use Rattle.partial_picture.specs.Arrows.{IsArrowWithin, arrow_of, last_load, loads_at, loads_stamp, met_at, met_of, entry_step};
 
 use crate::picture::{Arrow, ArrowKind};
 use crate::spans::Made;
@@ -21,7 +21,7 @@ fn steps_by_stamp(
     history: &[Applied],
     steps: &[usize],
 ) -> Result<BTreeMap<u64, usize>, AllocError>
-    ensures { IfOk result (λ found. (stamp : ℕ) → get nat_cmp found stamp ≡ step_of history.now steps.now stamp) }
+    ensures { IfOk result (λ found. (stamp : ℕ) → get nat_cmp found stamp ≡ entry_step history.now steps.now stamp) }
 {
     history
         .iter()
@@ -123,7 +123,7 @@ pub(crate) fn arrows_of<'a>(
     entries: &[usize],
 ) -> Result<Vec<Arrow<'a>>, AllocError>
     ensures items { IfOk result (λ arrows. arrows.items ≡ filter_map (arrow_of m window outcome.now.trace.items
-        (step_of outcome.now.history.items entries.now)) made.now) }
+        (entry_step outcome.now.history.items entries.now)) made.now) }
     ensures within { IfOk result (λ arrows. All (IsArrowWithin (window.behind - window.first)) arrows.items) }
 {
     let by_stamp = steps_by_stamp(alloc, &outcome.history, entries)?;

@@ -2,7 +2,7 @@
 
 ghost use Rattle.std.specs.Prelude.{◌≡◌, ◌≤◌, ◌+◌, min, map, length, take, drop, IfOk};
 ghost use Rattle.partial_replay.specs.Trace.{is_won};
-ghost use Rattle.partial_picture.specs.Made.{between_of, call_span, end_of, made_in, made_seen, port_steps, steps_by_port};
+ghost use Rattle.partial_picture.specs.Made.{between_of, call_span, end_behind, made_by_ports, made_seen, port_steps, steps_by_port};
 ghost use Rattle.partial_picture.specs.Pins.{won_steps};
 
 use crate::window::Span;
@@ -76,7 +76,7 @@ pub(crate) struct Made<'o, 's> {
 
 /// The index after the last of these steps, or 0 when there is none.
 fn end_of(steps: &[usize]) -> usize
-    ensures { result ≡ end_of steps.now }
+    ensures { result ≡ end_behind steps.now }
 {
     match steps.last() {
         Some(last) => last.saturating_add(1),
@@ -143,7 +143,7 @@ pub(crate) fn made_by_calls<'o, 's>(
     entries: &[usize],
 ) -> Result<Vec<Made<'o, 's>>, AllocError>
     ensures { IfOk result (λ made. map made_seen made.items
-        ≡ made_in (map (λ own. own.items) ports.now) entries.now outcome.now.calls.items) }
+        ≡ made_by_ports (map (λ own. own.items) ports.now) entries.now outcome.now.calls.items) }
 {
     let mut taken = vec![in alloc; 0usize; ports.len()]?;
     let mut made = Vec::with_capacity(alloc, outcome.calls.len())?;

@@ -5,7 +5,7 @@ use Rattle.std.proofs.lemmas.Result.{IfOk-weaker}
 use Rattle.std.specs.BTreeMap.{get}
 use Rattle.std.specs.List.{filter_map}
 use Rattle.std.specs.Ordering.{nat_cmp}
-use Rattle.partial_picture.specs.Arrows.{arrow_of, step_of}
+use Rattle.partial_picture.specs.Arrows.{arrow_of, entry_step}
 use Rattle.partial_picture.proofs.arrows.arrows_of.Goals as goal
 
 pub returns-clause-items : goal.returns-clause-items
@@ -13,7 +13,7 @@ returns-clause-items c =
     let m = c.args.m in
     let window = c.args.window in
     let trace = c.args.outcome.now.trace.items in
-    let steps = step_of c.args.outcome.now.history.items c.args.entries.now in
+    let steps = entry_step c.args.outcome.now.history.items c.args.entries.now in
     let found = get nat_cmp c.in_ok-by_stamp.by_stamp in
     let known : (stamp : ℕ) → found stamp ≡ steps stamp = search (rules, tests) in
     let same : found ≡ steps = λ i stamp. known stamp i in

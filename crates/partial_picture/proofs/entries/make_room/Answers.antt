@@ -1,5 +1,5 @@
 use Rattle.partial_picture.proofs.Common.{arith, ◌-◌, ◌<◌, length, ◌∙◌}
-use Rattle.std.proofs.Common.{get_or, map, refl}
+use Rattle.std.proofs.Common.{slice_index_or, map, refl}
 use Rattle.std.proofs.lemmas.List.{length-map, length-set}
 use Rattle.partial_picture.specs.Labels.{label_places}
 use Rattle.partial_picture.specs.declared.entries.Label.{Label}
@@ -26,13 +26,13 @@ bounds-ends-tier-in-loop-at c = tier_below c.loop-at.labels c.args.labels.now (c
 
 pub offset_bounds-ends-tier : goal.offset_bounds-ends-tier
 offset_bounds-ends-tier c =
-    let b : (get_or c.loop-at.labels (c.loop-at.at - 1) (record { tier = 0; room = record { 0 = 0 } })).tier < 3 =
+    let b : (slice_index_or c.loop-at.labels (c.loop-at.at - 1) (record { tier = 0; room = record { 0 = 0 } })).tier < 3 =
     tier_below c.loop-at.labels c.args.labels.now (c.loop-at.at - 1) _ c.loop-at.invariant.same c.requires.tiers (omega (arith, c.loop-at-test.true, c.loop-at.invariant.within)) in
     omega (arith, b)
 
 pub offset_bounds-ends-tier-in-loop-at : goal.offset_bounds-ends-tier-in-loop-at
 offset_bounds-ends-tier-in-loop-at c =
-    let b : (get_or c.loop-at.labels (c.loop-at.at - 1) (record { tier = 0; room = record { 0 = 0 } })).tier < 3 =
+    let b : (slice_index_or c.loop-at.labels (c.loop-at.at - 1) (record { tier = 0; room = record { 0 = 0 } })).tier < 3 =
     tier_below c.loop-at.labels c.args.labels.now (c.loop-at.at - 1) _ c.loop-at.invariant.same c.requires.tiers (omega (arith, c.loop-at-test.true, c.loop-at.invariant.within)) in
     omega (arith, b)
 
@@ -42,12 +42,12 @@ loop-at-preserved c =
     let i = c.loop-at.invariant in
     let d : Label = record { tier = 0; room = record { 0 = 0 } } in
     let e : Pixels = record { 0 = 0 } in
-    let new : Label = record { tier = (get_or c.loop-at.labels at d).tier; room = record { 0 = c.saturating_sub.result } } in
+    let new : Label = record { tier = (slice_index_or c.loop-at.labels at d).tier; room = record { 0 = c.saturating_sub.result } } in
     let less : at < length c.loop-at.labels = omega (arith, c.loop-at-test.true, i.within) in
     let same = tiers_kept c.loop-at.labels at d new less refl ∙ i.same in
     record {
       within = omega (arith, i.within, length-set c.loop-at.labels at new);
-      three = length-set c.loop-at.ends (get_or c.loop-at.labels at d).tier (get_or c.args.places.now at e).0 ∙ i.three;
+      three = length-set c.loop-at.ends (slice_index_or c.loop-at.labels at d).tier (slice_index_or c.args.places.now at e).0 ∙ i.three;
       same = same;
       rooms = label_more c.args.width.0 c.loop-at.labels c.args.labels.now c.args.places.now at c.loop-at.at c.loop-at.ends d new e (omega (arith, c.loop-at-test.true)) less
           c.requires.many i.same c.requires.tiers i.three i.rooms refl c.saturating_sub.ensures;

@@ -1,7 +1,7 @@
 use Rattle.std.proofs.Common.{Vec, Global}
 use Rattle.std.proofs.lemmas.List.{get_or_default, get_or-map, length-map, map_push, take_more}
 use Rattle.partial_picture.proofs.Common.{arith, ℕ, ◌≡◌, ◌++◌, ◌∷◌, [], sym, ap, ◌∙◌, take}
-use Rattle.std.proofs.Common.{map, get_or, ◌+◌}
+use Rattle.std.proofs.Common.{map, slice_index_or, ◌+◌}
 use Rattle.partial_model.specs.declared.call.Called.{Called}
 use Rattle.partial_picture.specs.Made.{made_seen}
 use Rattle.partial_picture.proofs.Made.{walked_on, walked_past}
@@ -21,7 +21,7 @@ loop-called-preserved c =
       | then-port-ports+in_ok-push w ↦
           let own = w.as_slice-own.result.now in
           let below = w.if-port-ports.true in
-          let has : own ≡ get_or ports called.port [] = w.as_slice-own.ensures.value ∙ ap (λ (v : Vec ℕ Global). v.items) w.index-ports-port.is
+          let has : own ≡ slice_index_or ports called.port [] = w.as_slice-own.ensures.value ∙ ap (λ (v : Vec ℕ Global). v.items) w.index-ports-port.is
           ∙ sym (get_or-map (λ (v : Vec ℕ Global). v.items) c.args.ports.now called.port w.index-ports-port.result [] below) in
           let on = walked_on ports c.args.entries.now c.loop-called.taken.items (take i calls) (map made_seen c.loop-called.made.items) called c.loop-called.invariant
           (omega (arith, below, many)) w.index-count.result.now (w.index-count.ensures
