@@ -1,5 +1,5 @@
 -- How a meeting of two ports leaves each of them.
-use Rattle.partial_long_lived.proofs.{Common.{◌≡◌, ◌<◌, ◌≤◌, List, [], ◌∷◌, length, take, inl, sym, ap, subst, ◌∙◌, arith, append-nil, take-append_seam, Me, TableId, Applied, core_of, About, Stand, Began, SeatedPort, first_port, one_of, IsOf, MemoryView, PortView, port_view, seen_in, HasCome, IsIdle, StaysAt, EpochSettled, IsHeld, port_at, BeginsWith, IsOne, HasMet, Observes, Knows, HasLawfulState, WereLawful, inr, ◌⊎◌, AreComparable}, Answering.{callers_see, goes_seen, view_before, view_behind}, Coming.{begins_on, come_on}}
+use Rattle.partial_long_lived.proofs.{Common.{◌≡◌, ◌<◌, ◌≤◌, List, [], ◌∷◌, length, take, inl, sym, ap, subst, ◌∙◌, arith, append-nil, take-append_seam, Me, TableId, Applied, core_of, About, Stand, Began, SeatedPort, first_port, one_of, IsOf, MemoryView, PortView, port_view, seen_in, HasCome, IsIdle, StaysAt, EpochSettled, IsHeld, port_at, BeginsWith, IsOne, HasMet, Observes, Knows, HasLawfulState, WereLawful, inr, ◌⊎◌, AreComparable}, Answering.{callers_see, goes_seen, view_before, view_after}, Coming.{begins_on, come_on}}
 use Rattle.partial_long_lived.specs.Calls as calls
 
 -- a port that has seen all of its epoch stands where it stood
@@ -79,7 +79,7 @@ module _ (table : TableId) (about : About) (s o u p : Stand) (h : IsHeld table a
       knows = subst (λ (z : SeatedPort). Knows z.about z.number (seen_in (port_at v).port) z.notes) w.is (w'.known all_then);
     }
 
-  -- out of an earlier epoch the port comes to the current one, and looks again
+  -- from an earlier epoch the port enters the current one, and looks again
   module _ (r t q : Stand) (early : s.epoch < o.epoch) (settled : EpochSettled u r) (held : IsHeld table about r) (kept_last : StaysAt r t) (kept_beside : StaysAt p q) (same_beside : port_at q ≡ port_at p)
       (w' : Observes (port_at r) (port_at p) (port_at t)) where
     come_late : (port_at p).port.control.here.epoch ≤ (port_at r).port.control.here.epoch
@@ -121,7 +121,7 @@ pub all_seen : (m : MemoryView) (t : Stand) (p : PortView) → port_view t.seat.
     BeginsWith (seen_in (port_at t).port) (seen_in (port_at u).port) → p.seen ≡ take (length p.seen) (port_view u.seat.table_id u.seat.steps (port_at u)).seen
 all_seen m t p view own u held all =
     subst (λ (a : PortView). a.seen ≡ take (length a.seen) (port_view u.seat.table_id u.seat.steps (port_at u)).seen) (view_before m t p view own)
-    (subst (λ (b : PortView). seen_in (port_at t).port ≡ take (length (seen_in (port_at t).port)) b.seen) (view_behind m u held)
+    (subst (λ (b : PortView). seen_in (port_at t).port ≡ take (length (seen_in (port_at t).port)) b.seen) (view_after m u held)
     (sym (take-append_seam (seen_in (port_at t).port) all.0) ∙ ap (λ (l : List Applied). take (length (seen_in (port_at t).port)) l) (sym all.1)))
 
 -- a port that has met another one, as callers see it
