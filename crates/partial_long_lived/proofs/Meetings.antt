@@ -167,7 +167,7 @@ swapped (inr second) = inl second
 
 -- the rule that held as two ports met, as callers see it
 pub met_lawfully : (m : MemoryView) (u v : Stand) → IsHeld m.table m.about u → WereLawful m.about (port_at u) (port_at v) →
-    calls.MeetsLawfully (port_view u.seat.table_id u.seat.steps (port_at u)) (port_view v.seat.table_id v.seat.steps (port_at v))
+    calls.MeetByTheRule (port_view u.seat.table_id u.seat.steps (port_at u)) (port_view v.seat.table_id v.seat.steps (port_at v))
 met_lawfully m u v held w = record {
   log = w.log;
   notes = w.notes;

@@ -116,7 +116,7 @@ pub record IsPortThen (log : List Applied) (notes : ℕ → List Noted) (p : Por
 
 -- The rule of the table as two ports met: at the last look of the meeting there was a lawful state, whose one history begins with all that
 -- each of them has seen now, and which has the notes of both.
-pub record MeetsLawfully (c d : PortView) : Type 0 where
+pub record MeetByTheRule (c d : PortView) : Type 0 where
   pub log : List Applied
   pub notes : ℕ → List Noted
   pub state : HasLawfulState c.memory.about log notes
