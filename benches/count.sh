@@ -1,10 +1,11 @@
 #!/bin/sh
 # count.sh: counts the instructions of one call of a port alone, with callgrind: of an update of a single opening and of the
 # same algorithm in plain Rust, and of each call of an opening and of a memory that never wears out, with its changes of
-# epoch, by indices and by keys; over the static library, and over its bitcode. It wants rt, cargo and valgrind.
+# epoch, by indices and by keys; over the static library, and over its bitcode. Of updates and reads it counts the locked
+# instructions too: each is a step that a processor makes alone. It wants rt, cargo, python3, valgrind, objdump and nm.
 set -eu
 cd "$(dirname "$0")/.."
-. scripts/need.sh && need rt cargo valgrind
+. scripts/need.sh && need rt cargo python3 valgrind objdump nm
 made=$(mktemp -d)
 trap 'rm -rf "$made"' EXIT
 # counted PROGRAM KIND CALLS: the instructions of the program with these words.
@@ -16,6 +17,12 @@ row() {
     few=$(counted "$2" "$3" 10000)
     many=$(counted "$2" "$3" 60000)
     echo "$1: $(((many - few) / 50000))"
+}
+# locked NAME PROGRAM KIND: the same of locked instructions, to the nearest number.
+locked() {
+    few=$(benches/locked.py "$2" "$3" 10000)
+    many=$(benches/locked.py "$2" "$3" 60000)
+    echo "locked instructions, $1: $(((many - few + 25000) / 50000))"
 }
 # rows NAME PROGRAM: each call of an opening, and of a memory that never wears out.
 rows() {
@@ -29,6 +36,9 @@ rows() {
     row "update by a key, $1" "$2" set
     row "read by a key, $1" "$2" get
     row "scan of 4 by keys, $1" "$2" snapshot
+    locked "update of an opening, $1" "$2" proved
+    locked "update, $1" "$2" update
+    locked "read, $1" "$2" read
 }
 bindings/library.sh >"$made/log" 2>&1 || { cat "$made/log"; exit 1; }
 build() {

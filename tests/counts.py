@@ -6,8 +6,8 @@ the edits that the prover has to refuse, and `edits.CRATE`, those of a crate; `w
 in them, one for each function or law that has to refuse it; `plans`, the files plans/*.plan; `believed`, what
 tests/believed.py finds of the calls of a single opening, or `believed.long_lived` of those of the long-lived memory;
 `components.N`, the most components of a long-lived memory with N ports, `pool.N` the pool words of its arenas, and
-`megabytes.N` or `megabytes.N.M` what it takes with 8 or M components, all at the usual sizes; or `version`, that of the
-crate for Rust. The rows of README.md's table of speed are those of docs/benches.md, README.md has at most 150 lines,
+`megabytes.N` or `megabytes.N.M` what it takes with 8 or M components, all at the usual sizes; `steps.SIZE.CALL` a number
+of the law `most_steps_in_numbers`; or `version`, that of the crate for Rust. The rows of README.md's table of speed are those of docs/benches.md, README.md has at most 150 lines,
 and CONTRIBUTING.md and the page on architecture name each crate. With --write the figures are written anew. The last
 line is 'N passed, M failed', one for each figure, row and name.
 """
@@ -64,6 +64,13 @@ def megabytes(ports, m=8):
     return f'{taken:.1f}' if taken < 10 else f'{taken:.0f}'
 
 
+def steps(size, call):
+    """How many steps a call makes at most in a memory of that size, by the law of these numbers; None where it has none."""
+    text = (TOP / 'crates' / 'partial_long_lived' / 'specs' / 'StepNumbers.antt').read_text(encoding='utf-8')
+    found = re.search(rf'^{size}_components = record {{.*\b{call} = (\d+)\b', text, re.M)
+    return f'{int(found[1]):,}' if found else None
+
+
 def figure(name):
     """The figure of this name, or None where there is none of it."""
     kind, _, part = name.partition('.')
@@ -75,6 +82,8 @@ def figure(name):
         return str(believed.most_long_lived())
     if kind in sized and re.fullmatch(r'\d+(\.\d+)?', part):
         return sized[kind](*map(int, part.split('.')))
+    if kind == 'steps' and part.count('.') == 1:
+        return steps(*part.split('.'))
     if kind == 'edits' and (TOP / 'crates' / part).is_dir() and part:
         return str(edits(part))
     return str(plain[name]()) if name in plain else None

@@ -57,8 +57,7 @@ from definitions import PARTS, SPENT  # noqa: E402
 
 TOP = Path(__file__).resolve().parent.parent
 # The crates whose edits weren't all tried yet by the prover's own search where an answer is written for the goal.
-LEFT = {'partial_cmd', 'partial_door', 'partial_long_lived', 'partial_memory', 'partial_pipeline',
-        'partial_replay', 'partial_text', 'partial_workers'}
+LEFT = {'partial_door', 'partial_long_lived', 'partial_pipeline'}
 # The file of a crate with its edits.
 EDITS = 'edits.txt'
 KIT = Path(shutil.which('rt')).resolve().parent.parent
@@ -492,6 +491,11 @@ class Told:
         """Whether an answer names what isn't there, as a goal that the turned function doesn't have."""
         return any(LACKING.search(it) for it in self.misfits.values())
 
+    def is_left_open(self, goal):
+        """Whether the prover's own search leaves the goal. One that covers several clauses is searched for clause by
+        clause, and is left where one of them is."""
+        return any(it == goal or it.startswith(f'{goal}-clause-') for it in self.unproved)
+
     def why_not(self, goal, tried):
         """Why the goal does not refuse an edit, where this is tried at it or else the prover's own search, or nothing
         where it does."""
@@ -499,7 +503,7 @@ class Told:
             return [] if self.has_no_measure else ['its loops have their measures', *self.beside]
         if not tried:
             others = f"the prover's own search leaves others: {', '.join(self.unproved) or 'none'}"
-            return [*([] if goal in self.unproved else [others]), *self.beside]
+            return [*([] if self.is_left_open(goal) else [others]), *self.beside]
         proved = [f'its goal is proved, or is none: {it}' for it in tried if it not in self.misfits]
         lacking = [f'an answer names what is gone: {self.misfits[it]}' for it in tried
                    if LACKING.search(self.misfits.get(it, ''))]

@@ -173,6 +173,10 @@ def cases():
     for said in (own.replace(', `returns`', ''), 'fn low::a::f: no holes', none + NOT_PROVED):
         yield f'and none that it does not leave: {said[:60]}', "the prover's own search leaves others" in '\n'.join(
             faults(said, way=edits.SEARCH))
+    for left, is_left in (('returns-clause-value', True), ('returns-in-Ok-clause-value', False)):
+        yield f'a goal of several clauses is left where one of them is: {left}', judged(
+            own.replace('`returns`', f'`{left}`'), way=edits.SEARCH)[0] == [] if is_left else faults(
+            own.replace('`returns`', f'`{left}`'), way=edits.SEARCH) != []
     yield 'nor one that it leaves without a verdict', 'no verdict' in '\n'.join(
         faults(own + '; antt ran out of the steps that it may take', way=edits.SEARCH))
     gone = './proofs/a/f/Answers.antt:4:20: error: `other`: `goal.other`: module `Rattle.low.proofs.a.f.Goals` has no `other`\n'

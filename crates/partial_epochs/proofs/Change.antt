@@ -1,7 +1,7 @@
 -- What a step in the arena of an epoch leaves of all the others.
-use Rattle.partial_epochs.proofs.{Common.{ℕ, ◌≡◌, ◌≢◌, ◌+◌, ◌<◌, ◌≤◌, ◌==◌, ◌⊎◌, ◌++◌, true, false, Option, Some, None, IfSome, List, [], ◌∷◌, length, refl, sym, ap, subst, ◌∙◌, inl, inr, arith, slice_index, option_map, append-nil, eqb_tells, Applied, some_same, total, put, IsToBeSet, Plan, IsSealed, packed, current_word, base, control_words, control_size, arena_words, component_words, carried_words, set_word, Control, OwnedArena, Port, Epoch, LawfulControl, IsOwner, Beside, IsArena, IsFinished, IsNewPart, IsSetting, IsStanding, LawfulEpochs, controls, next_epoch_word, numbers, place_now, Stands, HasClearRecords, HasClearSlots, slot_counter, slot_word}, ClearRecords.records_same, Lists.{at_of, put_all, put_other, put_same}, Places.{arena_same, carried_same, components_same, control_same, other_arena, packed_arena, set_place}, Present.{standing, numbered}}
+use Rattle.partial_epochs.proofs.{Common.{ℕ, ◌≡◌, ◌≢◌, ◌+◌, ◌<◌, ◌≤◌, ◌==◌, ◌⊎◌, ◌++◌, true, false, Option, Some, None, IfSome, List, [], ◌∷◌, length, refl, sym, ap, subst, ◌∙◌, inl, inr, arith, slice_index, option_map, append-nil, eqb_tells, Applied, some_same, total, put, IsToBeSet, Plan, IsSealed, packed, current_word, base, control_words, control_size, arena_words, component_words, carried_words, set_word, Control, OwnedArena, Port, Epoch, LawfulControl, IsOwner, Beside, IsArena, IsFinished, IsNewPart, IsSetting, IsStanding, LawfulEpochs, controls, next_epoch_word, numbers, site_now, Stands, HasClearRecords, HasClearSlots, slot_counter, slot_word}, ClearRecords.records_same, Lists.{at_of, put_all, put_other, put_same}, Offsets.{arena_same, carried_same, components_same, control_same, other_arena, packed_arena, set_index}, Present.{standing, numbered}}
 
--- The port k, which stands in an epoch that the arena x holds, comes to be p', and the epoch r'. The words of the inner memory in x
+-- The port k, which stands in an epoch that the arena x holds, becomes p', and the epoch becomes r'. The words of the inner memory in x
 -- alone have changed, and the history grows only where a component isn't sealed.
 pub record Changes (e : Plan) (words : List ℕ) (b : Beside) (k x : ℕ) (p : Port) (r : Epoch) (words' : List ℕ) (p' : Port) (r' : Epoch) (entries : List Applied) : Type 0 where
   pub count : length words' ≡ length words
@@ -61,13 +61,13 @@ module _ (e : Plan) (words : List ℕ) (ports : ℕ → Port) (b : Beside) (k : 
       | inr free ↦ absurd (free.2 ((w.arenas x s.epoch s.is).sealed other free.0 free.1))
     ]
 
-    control_then : LawfulControl e (control_words e words') (controls ports') (place_now b') (numbers b')
+    control_then : LawfulControl e (control_words e words') (controls ports') (site_now b') (numbers b')
     control_then =
         let cs : controls ports ≡ controls ports' = λ i q. sym (same_control q) i in
         let ns : numbers b ≡ numbers b' = λ i y. sym (same_number y) i in
-        subst (λ (n : ℕ → Option ℕ). LawfulControl e (control_words e words') (controls ports') (place_now b) n) ns
-        (subst (λ (c : ℕ → Control). LawfulControl e (control_words e words') c (place_now b) (numbers b)) cs
-        (subst (λ (l : List ℕ). LawfulControl e l (controls ports) (place_now b) (numbers b)) (sym (control_same e words words' x h.outside)) w.control))
+        subst (λ (n : ℕ → Option ℕ). LawfulControl e (control_words e words') (controls ports') (site_now b) n) ns
+        (subst (λ (c : ℕ → Control). LawfulControl e (control_words e words') c (site_now b) (numbers b)) cs
+        (subst (λ (l : List ℕ). LawfulControl e l (controls ports) (site_now b) (numbers b)) (sym (control_same e words words' x h.outside)) w.control))
 
     now_then : (r : Epoch) × (b'.holds b.arena ≡ Some r) × (r.log ≡ b.log ++ entries) × (r.before ≡ b.before)
     now_then = elim (eqb_tells b.arena x) [
@@ -163,8 +163,8 @@ module _ (e : Plan) (words : List ℕ) (ports : ℕ → Port) (b : Beside) (k : 
     -- the arena that a port sets isn't x
     sets_other : (q : ℕ) (o : OwnedArena) → q < e.ports → (ports q).control.owned ≡ Some o → 0 < o.set → o.arena ≢ x
     sets_other q o inside is some same =
-        let owner : IsOwner e (control_words e words) (controls ports) (place_now b) (numbers b) q o =
-        subst (λ (t : Option OwnedArena). IfSome t (IsOwner e (control_words e words) (controls ports) (place_now b) (numbers b) q)) is (w.control.owners q inside) in
+        let owner : IsOwner e (control_words e words) (controls ports) (site_now b) (numbers b) q o =
+        subst (λ (t : Option OwnedArena). IfSome t (IsOwner e (control_words e words) (controls ports) (site_now b) (numbers b) q)) is (w.control.owners q inside) in
         let none : Some (length s.epoch.before) ≡ None = sym (ap (option_map (λ (r : Epoch). length r.before)) s.is) ∙ ap (numbers b) (sym same) ∙ owner.none some in
         cc
 
@@ -173,10 +173,10 @@ module _ (e : Plan) (words : List ℕ) (ports : ℕ → Port) (b : Beside) (k : 
         slice_index words current_word ≡ packed (ports q).control.here → (j : ℕ) → j < e.sizes.m → (¬ IsSealed (slice_index (component_words e words x) j)) →
         IsSealed (slice_index (component_words e words x) j)
     settled q o inside is t some at j low free =
-        let owner : IsOwner e (control_words e words) (controls ports) (place_now b) (numbers b) q o =
-        subst (λ (t : Option OwnedArena). IfSome t (IsOwner e (control_words e words) (controls ports) (place_now b) (numbers b) q)) is (w.control.owners q inside) in
-        let now : slice_index words current_word ≡ packed (place_now b) = sym (at_of (slice_index words) 0 (control_size e) 0 (omega arith)) ∙ w.control.current in
-        let same = packed_arena e (place_now b) (ports q).control.here w.plan.arenas w.control.place.arena (w.control.places q inside).arena (sym now ∙ at) in
+        let owner : IsOwner e (control_words e words) (controls ports) (site_now b) (numbers b) q o =
+        subst (λ (t : Option OwnedArena). IfSome t (IsOwner e (control_words e words) (controls ports) (site_now b) (numbers b) q)) is (w.control.owners q inside) in
+        let now : slice_index words current_word ≡ packed (site_now b) = sym (at_of (slice_index words) 0 (control_size e) 0 (omega arith)) ∙ w.control.current in
+        let same = packed_arena e (site_now b) (ports q).control.here w.plan.arenas w.control.site.arena (w.control.sites q inside).arena (sym now ∙ at) in
         let st = w.standing q inside owner.stands in
         let all = t.sealed some in
         by (eqb_tells x b.arena) same.1 st all
@@ -202,11 +202,11 @@ module _ (e : Plan) (words : List ℕ) (ports : ℕ → Port) (b : Beside) (k : 
         first : slice_index words' current_word ≡ slice_index words current_word
         first = h.outside current_word (inl (omega arith))
 
-        place : (i : ℕ) → i < o.set → slice_index words' (set_word e o.arena i) ≡ slice_index words (set_word e o.arena i)
-        place i low =
+        set_same : (i : ℕ) → i < o.set → slice_index words' (set_word e o.arena i) ≡ slice_index words (set_word e o.arena i)
+        set_same i low =
             let pool = w.plan.sizes.pool.0 in
             let few = t.few in
-            let at = set_place e o.arena i pool (omega (arith, low, few)) in
+            let at = set_index e o.arena i pool (omega (arith, low, few)) in
             let other = sets_other q o inside is (omega (arith, low)) in
             ap (slice_index words') at.2 ∙ h.outside (base e o.arena + at.0) (other_arena e x o.arena at.0 other at.1) ∙ ap (slice_index words) (sym at.2)
 
@@ -214,7 +214,7 @@ module _ (e : Plan) (words : List ℕ) (ports : ℕ → Port) (b : Beside) (k : 
         each at i low asked = elim h.grows [
           | inl is ↦
               let log : b.log ≡ b.log ++ entries = sym (append-nil b.log) ∙ ap (λ (l : List Applied). b.log ++ l) (sym is) in
-              place i low ∙ t.each (sym first ∙ at ∙ ap (λ (c : Control). packed c.here) control) i low asked ∙ ap (λ (l : List Applied). next_epoch_word e (record b { log = l }) i) log
+              set_same i low ∙ t.each (sym first ∙ at ∙ ap (λ (c : Control). packed c.here) control) i low asked ∙ ap (λ (l : List Applied). next_epoch_word e (record b { log = l }) i) log
           | inr free ↦ absurd (free.2 (settled q o inside is t (omega (arith, low)) (sym first ∙ at ∙ ap (λ (c : Control). packed c.here) control) free.0 free.1 free.2))
         ]
 

@@ -1,5 +1,5 @@
 -- What initial records have beside their values is 0 in every arena.
-use Rattle.partial_epochs.proofs.{Common.{ℕ, ◌≡◌, ◌≢◌, ◌+◌, ◌-◌, ◌*◌, ◌%◌, ◌/◌, ◌<◌, ◌≤◌, ◌==◌, ◌⊎◌, Bool, true, false, if◌then◌else◌, Option, Some, None, List, [], ◌∷◌, slice_index, slice_set, refl, sym, ap, ◌∙◌, inl, inr, arith, cases_lt, get_or-set_other, Applied, Opening, initial_stamp, Layout, list_base, pool_base, first_free, initial_record, initial_words, plain_record_size, prev_word, value_word, view_word, opening_word, opening_record, initial_prev, initial_view, IsToBeSet, Plan, arena_words, base, Port, Epoch, Beside, HasClearRecords, LawfulEpochs, opening_behind, set_word}, Places.{offset_behind, set_apart, set_low}, Worded.{plain_at, plain_other}}
+use Rattle.partial_epochs.proofs.{Common.{ℕ, ◌≡◌, ◌≢◌, ◌+◌, ◌-◌, ◌*◌, ◌%◌, ◌/◌, ◌<◌, ◌≤◌, ◌==◌, ◌⊎◌, Bool, true, false, if◌then◌else◌, Option, Some, None, List, [], ◌∷◌, slice_index, slice_set, refl, sym, ap, ◌∙◌, inl, inr, arith, cases_lt, get_or-set_other, Applied, Opening, initial_stamp, Layout, list_base, pool_base, first_free, initial_record, initial_words, plain_record_size, prev_word, value_word, view_word, opening_word, opening_record, initial_prev, initial_view, IsToBeSet, Plan, arena_words, base, Port, Epoch, Beside, HasClearRecords, LawfulEpochs, opened_after, set_word}, Offsets.{offset_after, set_apart, set_low}, Worded.{plain_at, plain_other}}
 use Rattle.partial_words.specs.{Record.prev_of, Chain.{IsChain, links_from}}
 use Rattle.partial_words.specs.declared.record.Link.{Link}
 
@@ -16,17 +16,17 @@ chain_ends words at l [] chain ends = absurd chain
 chain_ends words at l (k ∷ []) chain ends = ap (λ (n : Link). prev_of words n.stamp) (sym ends) ∙ ap (prev_of words) chain.0.stamp ∙ chain.1
 chain_ends words at l (k ∷ m ∷ ls) chain ends = chain_ends words (prev_of words at) l (m ∷ ls) chain.1 ends
 
-ends_behind : (l k : Link) (ls : List Link) (b : Bool) → EndsWith l ls → EndsWith l (if b then k ∷ ls else ls)
+still_ends : (l k : Link) (ls : List Link) (b : Bool) → EndsWith l ls → EndsWith l (if b then k ∷ ls else ls)
 unfolding EndsWith
-ends_behind l k [] b ends = absurd ends
-ends_behind l k (m ∷ ls) true ends = ends
-ends_behind l k (m ∷ ls) false ends = ends
+still_ends l k [] b ends = absurd ends
+still_ends l k (m ∷ ls) true ends = ends
+still_ends l k (m ∷ ls) false ends = ends
 
 links_end : (l : Link) (found : List Link) (j : ℕ) (h : List Applied) → EndsWith l found → EndsWith l (links_from found j h)
 unfolding links_from
 links_end l found j [] ends = ends
 links_end l found j (e ∷ h) ends = links_end l (if e.component == j then (record { stamp = e.stamp; value = e.value } ∷ found) else found) j h
-    (ends_behind l (record { stamp = e.stamp; value = e.value }) found (e.component == j) ends)
+    (still_ends l (record { stamp = e.stamp; value = e.value }) found (e.component == j) ends)
 
 -- the initial record of component j
 abbrev first_link : Opening → ℕ → Link
@@ -93,7 +93,7 @@ records_kept e words x i v room to_set clear j low =
   where
     other : (n : ℕ) → pool_base e.sizes ≤ n → n < first_free e.sizes → n ≢ i → slice_index (slice_set words (set_word e x i) v) (base e x + n) ≡ slice_index words (base e x + n)
     other n from less ne =
-        let at : set_word e x n ≡ base e x + n = set_low e x n less ∙ ap (λ m. base e x + m) (offset_behind e.sizes n (omega (arith, from))) in
+        let at : set_word e x n ≡ base e x + n = set_low e x n less ∙ ap (λ m. base e x + m) (offset_after e.sizes n (omega (arith, from))) in
         get_or-set_other words (set_word e x i) (base e x + n) v 0 (λ same. set_apart e x n i room ne (at ∙ same))
 
 -- the initial records of an arena are clear whether it holds an epoch or none
@@ -107,7 +107,7 @@ records_before e words ports b w y inside = by (b.holds y) refl
         let pool = w.plan.sizes.pool.0 in
         let long = m.values in
         let first = m.stamps in
-        let o : Opening = opening_behind e.opening r.before in
+        let o : Opening = opened_after e.opening r.before in
         let bw : List ℕ = arena_words e words y in
         let stamp : initial_stamp o j ≡ initial_record e.sizes j = omega (arith, first) in
         let prev : prev_of bw (initial_stamp o j) ≡ 0 =

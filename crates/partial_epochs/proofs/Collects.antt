@@ -1,5 +1,5 @@
 -- Equal collects of an epoch.
-use Rattle.partial_epochs.proofs.Common.{ℕ, ◌≡◌, List, [], ◌∷◌, length, map, take, refl, ap, subst, ◌∙◌, Applied, IsHistory, stamp_of, value_of, stamps_never_return, opening_behind}
+use Rattle.partial_epochs.proofs.Common.{ℕ, ◌≡◌, List, [], ◌∷◌, length, map, take, refl, ap, subst, ◌∙◌, Applied, IsHistory, stamp_of, value_of, stamps_never_return, opened_after}
 use Rattle.partial_epochs.specs.Collects.{CollectsStandTogether, EpochsAreHistories, collected_stamps}
 
 -- lists with equal heads and tails
@@ -24,5 +24,5 @@ collects_stand_together o h b (j ∷ js) (a ∷ firsts) (c ∷ seconds) history 
 pub epochs_are_histories : EpochsAreHistories
 epochs_are_histories e words ports b k w below stands s =
     let lawful = (w.arenas (ports k).control.here.arena s.epoch s.is).lawful in
-    subst (λ (l : List (List Applied)). IsHistory (opening_behind e.opening l) s.epoch.log × (length (opening_behind e.opening l).values ≡ e.sizes.m)) s.before
+    subst (λ (l : List (List Applied)). IsHistory (opened_after e.opening l) s.epoch.log × (length (opened_after e.opening l).values ≡ e.sizes.m)) s.before
     (lawful.memory.history, lawful.memory.values)

@@ -1,5 +1,5 @@
 -- The history of all epochs goes on where an epoch ends.
-use Rattle.partial_epochs.proofs.{Common.{ℕ, zero, suc, ◌≡◌, ◌+◌, ◌<◌, ◌≤◌, ◌==◌, ◌++◌, Bool, true, false, if◌then◌else◌, Option, Some, None, IfSome, List, [], ◌∷◌, length, take, map, slice_index, refl, sym, ap, subst, ◌∙◌, arith, option_map, option_map_or, AllByRecursion, lt-ltb, length-map, Applied, Opening, last_entry, initial_stamp, stamp_of, value_of, behind_both, some_same, all_weaker, first_free, list_of, Plan, arena_words, carried_word, carried_words, carried_after, carried_behind, history_of, opening_behind, public_entry, public_log, public_stamp, EpochsContinue, Port, Epoch, Stands, IsPlaceWord, Beside, IsStanding, LawfulEpochs, ReadsTellAllEpochs, read_stamp, IsEntry, not_below}, Lists.at_of}
+use Rattle.partial_epochs.proofs.{Common.{ℕ, zero, suc, ◌≡◌, ◌+◌, ◌<◌, ◌≤◌, ◌==◌, ◌++◌, Bool, true, false, if◌then◌else◌, Option, Some, None, IfSome, List, [], ◌∷◌, length, take, map, slice_index, refl, sym, ap, subst, ◌∙◌, arith, option_map, option_map_or, AllByRecursion, lt-ltb, length-map, Applied, Opening, last_entry, initial_stamp, stamp_of, value_of, behind_both, some_same, all_weaker, first_free, list_of, Plan, arena_words, carried_word, carried_words, carried_after, stamp_after, history_of, opened_after, public_entry, public_log, public_stamp, EpochsContinue, Port, Epoch, Stands, IsSiteWord, Beside, IsStanding, LawfulEpochs, ReadsTellAllEpochs, read_stamp, IsEntry, not_below}, Lists.at_of}
 use Rattle.partial_model.specs.History.{last_from}
 use Rattle.partial_core.specs.Lawful as one
 
@@ -24,42 +24,42 @@ stamp_public : (epoch : ℕ) (t : Option Applied) (d : ℕ) → option_map_or (�
 stamp_public epoch None d = refl
 stamp_public epoch (Some e) d = refl
 
-pub many : (o : Opening) (before : List (List Applied)) → length (opening_behind o before).values ≡ length o.values
+pub many : (o : Opening) (before : List (List Applied)) → length (opened_after o before).values ≡ length o.values
 many o [] = refl
-many o (h ∷ before) = long (value_of (opening_behind o before) h) 0 (length (opening_behind o before).values) ∙ many o before
+many o (h ∷ before) = long (value_of (opened_after o before) h) 0 (length (opened_after o before).values) ∙ many o before
   where
     long : (f : ℕ → ℕ) (p n : ℕ) → length (list_of f p n) ≡ n
     long f p zero = refl
     long f p (suc n) = ap suc (long f (p + 1) n)
 
 -- what an epoch opens with
-values_behind : (o : Opening) (before : List (List Applied)) (j : ℕ) → j < length o.values → value_of o (history_of before) j ≡ slice_index (opening_behind o before).values j
+opened_values : (o : Opening) (before : List (List Applied)) (j : ℕ) → j < length o.values → value_of o (history_of before) j ≡ slice_index (opened_after o before).values j
 unfolding last_from
-values_behind o [] j low = refl
-values_behind o (h ∷ before) j low =
+opened_values o [] j low = refl
+opened_values o (h ∷ before) j low =
     behind_both (λ (e : Applied). e.value) (history_of before) (public_log (length before) h) j (slice_index o.values j)
     ∙ ap (λ (t : Option Applied). option_map_or (λ (e : Applied). e.value) t (value_of o (history_of before) j)) (public_last (length before) j None h)
     ∙ value_public (length before) (last_entry j h) (value_of o (history_of before) j)
-    ∙ ap (option_map_or (λ (e : Applied). e.value) (last_entry j h)) (values_behind o before j low)
-    ∙ sym (at_of (value_of (opening_behind o before) h) 0 (length (opening_behind o before).values) j (let long = many o before in omega (arith, long, low))
-    ∙ ap (value_of (opening_behind o before) h) (omega arith))
+    ∙ ap (option_map_or (λ (e : Applied). e.value) (last_entry j h)) (opened_values o before j low)
+    ∙ sym (at_of (value_of (opened_after o before) h) 0 (length (opened_after o before).values) j (let long = many o before in omega (arith, long, low))
+    ∙ ap (value_of (opened_after o before) h) (omega arith))
 
-stamps_behind : (o : Opening) (before : List (List Applied)) (j : ℕ) → stamp_of o (history_of before) j ≡ carried_behind o before j
+carried_stamps : (o : Opening) (before : List (List Applied)) (j : ℕ) → stamp_of o (history_of before) j ≡ stamp_after o before j
 unfolding last_from
-stamps_behind o [] j = refl
-stamps_behind o (h ∷ before) j =
+carried_stamps o [] j = refl
+carried_stamps o (h ∷ before) j =
     behind_both (λ (e : Applied). e.stamp) (history_of before) (public_log (length before) h) j (initial_stamp o j)
     ∙ ap (λ (t : Option Applied). option_map_or (λ (e : Applied). e.stamp) t (stamp_of o (history_of before) j)) (public_last (length before) j None h)
     ∙ stamp_public (length before) (last_entry j h) (stamp_of o (history_of before) j)
-    ∙ ap (option_map_or (λ (e : Applied). public_stamp (length before) e.stamp) (last_entry j h)) (stamps_behind o before j)
+    ∙ ap (option_map_or (λ (e : Applied). public_stamp (length before) e.stamp) (last_entry j h)) (carried_stamps o before j)
 
 pub epochs_continue : EpochsContinue
 epochs_continue o h before j low = record {
   value = behind_both (λ (e : Applied). e.value) (history_of before) (public_log (length before) h) j (slice_index o.values j)
       ∙ ap (λ (t : Option Applied). option_map_or (λ (e : Applied). e.value) t (value_of o (history_of before) j)) (public_last (length before) j None h)
       ∙ value_public (length before) (last_entry j h) (value_of o (history_of before) j)
-      ∙ ap (option_map_or (λ (e : Applied). e.value) (last_entry j h)) (values_behind o before j low);
-  stamp = stamps_behind o (h ∷ before) j;
+      ∙ ap (option_map_or (λ (e : Applied). e.value) (last_entry j h)) (opened_values o before j low);
+  stamp = carried_stamps o (h ∷ before) j;
 }
 
 -- a beginning of the history of all epochs that ends in the last one
@@ -97,18 +97,18 @@ all_taken P (e ∷ h) (suc n) all = (all.0, all_taken P h n all.1)
 
 -- what comes before the epoch where a port stands
 module _ (e : Plan) (words : List ℕ) (ports : ℕ → Port) (b : Beside) (k : ℕ) (w : LawfulEpochs e words ports b) (s : IsStanding b k (ports k)) where
-  pub epoch_behind : k < e.ports → (ports k).control.entering ≡ Stands → length (ports k).before ≡ (ports k).control.here.epoch
-  epoch_behind below stands =
-      let at = subst (IsPlaceWord e _ k (ports k).control.here) stands (w.control.at k below) in
-      let held = w.control.stands k (ports k).control.here below (w.control.places k below) at in
+  pub before_is_epoch : k < e.ports → (ports k).control.entering ≡ Stands → length (ports k).before ≡ (ports k).control.here.epoch
+  before_is_epoch below stands =
+      let at = subst (IsSiteWord e _ k (ports k).control.here) stands (w.control.at k below) in
+      let held = w.control.stands k (ports k).control.here below (w.control.sites k below) at in
       ap (λ (l : List (List Applied)). length l) (sym s.before) ∙ some_same (ap (option_map (λ (r : Epoch). length r.before)) (sym s.is) ∙ held)
 
-  pub carried_there : (j : ℕ) → j < e.sizes.m → slice_index words (carried_word e (ports k).control.here.arena j) ≡ carried_behind e.opening (ports k).before j
+  pub carried_there : (j : ℕ) → j < e.sizes.m → slice_index words (carried_word e (ports k).control.here.arena j) ≡ stamp_after e.opening (ports k).before j
   carried_there j inside =
       let x : ℕ = (ports k).control.here.arena in
       let at : slice_index (carried_words e words x) j ≡ slice_index words (carried_word e x j) = at_of (λ i. slice_index words (carried_word e x i)) 0 e.sizes.m j inside
       ∙ ap (λ i. slice_index words (carried_word e x i)) (omega arith) in
-      sym at ∙ (w.arenas (ports k).control.here.arena s.epoch s.is).stamps j inside ∙ ap (λ (l : List (List Applied)). carried_behind e.opening l j) s.before
+      sym at ∙ (w.arenas (ports k).control.here.arena s.epoch s.is).stamps j inside ∙ ap (λ (l : List (List Applied)). stamp_after e.opening l j) s.before
 
 pub reads_tell_all_epochs : ReadsTellAllEpochs
 reads_tell_all_epochs e words ports b k j n w below stands inside s few =
@@ -126,9 +126,9 @@ reads_tell_all_epochs e words ports b k j n w below stands inside s few =
     )
   where
     og : Opening
-    og = opening_behind e.opening (ports k).before
+    og = opened_after e.opening (ports k).before
 
-    lawful : one.Lawful e.sizes (opening_behind e.opening s.epoch.before) (arena_words e words (ports k).control.here.arena) (list_of s.epoch.part 0 e.ports) s.epoch.log
+    lawful : one.Lawful e.sizes (opened_after e.opening s.epoch.before) (arena_words e words (ports k).control.here.arena) (list_of s.epoch.part 0 e.ports) s.epoch.log
     lawful = (w.arenas (ports k).control.here.arena s.epoch s.is).lawful
 
     entry_above : (t : Option Applied) → last_entry j (take n s.epoch.log) ≡ t → IfSome t (λ (x : Applied). first_free e.sizes ≤ x.stamp)
@@ -137,26 +137,26 @@ reads_tell_all_epochs e words ports b k j n w below stands inside s few =
         (all_taken (λ (x : Applied). first_free e.sizes ≤ x.stamp) s.epoch.log n
         (all_weaker (IsEntry e.sizes (arena_words e words (ports k).control.here.arena)) (λ (x : Applied). first_free e.sizes ≤ x.stamp) (λ x h. h.above) s.epoch.log lawful.memory.entries)))
 
-    initial : initial_stamp (opening_behind e.opening (ports k).before) j < first_free e.sizes
+    initial : initial_stamp (opened_after e.opening (ports k).before) j < first_free e.sizes
     initial =
         let first = lawful.memory.stamps in
-        let same : (opening_behind e.opening s.epoch.before).first ≡ (opening_behind e.opening (ports k).before).first =
-        ap (λ (l : List (List Applied)). (opening_behind e.opening l).first) s.before in
+        let same : (opened_after e.opening s.epoch.before).first ≡ (opened_after e.opening (ports k).before).first =
+        ap (λ (l : List (List Applied)). (opened_after e.opening l).first) s.before in
         omega (arith, first, same, inside)
 
-    stamp_is : (t : Option Applied) → last_entry j (take n s.epoch.log) ≡ t → read_stamp e words (ports k) j (stamp_of (opening_behind e.opening (ports k).before) (take n s.epoch.log) j)
-        ≡ carried_after (length (ports k).before) (carried_behind e.opening (ports k).before) (take n s.epoch.log) j
+    stamp_is : (t : Option Applied) → last_entry j (take n s.epoch.log) ≡ t → read_stamp e words (ports k) j (stamp_of (opened_after e.opening (ports k).before) (take n s.epoch.log) j)
+        ≡ carried_after (length (ports k).before) (stamp_after e.opening (ports k).before) (take n s.epoch.log) j
     stamp_is None is =
-        let o : Opening = opening_behind e.opening (ports k).before in
+        let o : Opening = opened_after e.opening (ports k).before in
         ap (λ (t : Option Applied). read_stamp e words (ports k) j (option_map_or (λ (x : Applied). x.stamp) t (initial_stamp o j))) is
         ∙ ap (λ (c : Bool). if c then slice_index words (carried_word e (ports k).control.here.arena j) else public_stamp (ports k).control.here.epoch (initial_stamp o j))
         (lt-ltb (initial_stamp o j) (first_free e.sizes) initial)
         ∙ carried_there e words ports b k w s j inside
-        ∙ sym (ap (λ (t : Option Applied). option_map_or (λ (x : Applied). public_stamp (length (ports k).before) x.stamp) t (carried_behind e.opening (ports k).before j)) is)
+        ∙ sym (ap (λ (t : Option Applied). option_map_or (λ (x : Applied). public_stamp (length (ports k).before) x.stamp) t (stamp_after e.opening (ports k).before j)) is)
     stamp_is (Some x) is =
-        let o : Opening = opening_behind e.opening (ports k).before in
+        let o : Opening = opened_after e.opening (ports k).before in
         ap (λ (t : Option Applied). read_stamp e words (ports k) j (option_map_or (λ (x : Applied). x.stamp) t (initial_stamp o j))) is
         ∙ ap (λ (c : Bool). if c then slice_index words (carried_word e (ports k).control.here.arena j) else public_stamp (ports k).control.here.epoch x.stamp)
         (not_below x.stamp (first_free e.sizes) (entry_above (Some x) is))
-        ∙ ap (λ r. public_stamp r x.stamp) (sym (epoch_behind e words ports b k w s below stands))
-        ∙ sym (ap (λ (t : Option Applied). option_map_or (λ (x : Applied). public_stamp (length (ports k).before) x.stamp) t (carried_behind e.opening (ports k).before j)) is)
+        ∙ ap (λ r. public_stamp r x.stamp) (sym (before_is_epoch e words ports b k w s below stands))
+        ∙ sym (ap (λ (t : Option Applied). option_map_or (λ (x : Applied). public_stamp (length (ports k).before) x.stamp) t (stamp_after e.opening (ports k).before j)) is)

@@ -1,8 +1,8 @@
 -- A step on the control words alone.
-use Rattle.partial_epochs.proofs.{Common.{ℕ, ◌≡◌, ◌≢◌, ◌+◌, ◌<◌, ◌==◌, ◌⊎◌, true, false, Option, Some, None, IfSome, List, length, slice_index, slice_set, sym, ap, subst, ◌∙◌, inl, inr, arith, eqb_tells, get_or-set_same, get_or-set_other, put, Plan, Place, IsPlace, at_word, control_size, current_word, marked, packed, Control, Entering, OwnedArena, IsPlaceWord, IsEarlier, IsStillMarked, IsOld, IsOut, IsOwner, LawfulControl, MayPut, NotInto, Stands, Marks, Loaded}, Lists.{put_all, put_other, put_same}}
+use Rattle.partial_epochs.proofs.{Common.{ℕ, ◌≡◌, ◌≢◌, ◌+◌, ◌<◌, ◌==◌, ◌⊎◌, true, false, Option, Some, None, IfSome, List, length, slice_index, slice_set, sym, ap, subst, ◌∙◌, inl, inr, arith, eqb_tells, get_or-set_same, get_or-set_other, put, Plan, Site, IsSite, at_word, control_size, current_word, marked, packed, Control, Entering, OwnedArena, IsSiteWord, IsEarlier, IsStillMarked, IsOld, IsOut, IsOwner, LawfulControl, MayPut, NotInto, Stands, Marks, Loaded}, Lists.{put_all, put_other, put_same}}
 
 -- port k, which owns no arena, changes what it does, and its word
-module _ (e : Plan) (words : List ℕ) (cs : ℕ → Control) (now : Place) (holds : ℕ → Option ℕ) (w : LawfulControl e words cs now holds) (k : ℕ) (below : k < e.ports) (c : Control) (v : ℕ)
+module _ (e : Plan) (words : List ℕ) (cs : ℕ → Control) (now : Site) (holds : ℕ → Option ℕ) (w : LawfulControl e words cs now holds) (k : ℕ) (below : k < e.ports) (c : Control) (v : ℕ)
     (free : (cs k).owned ≡ None) (free' : c.owned ≡ None) (long : length words ≡ control_size e) where
   abbrev words' : List ℕ
   words' = slice_set words (at_word k) v
@@ -23,17 +23,17 @@ module _ (e : Plan) (words : List ℕ) (cs : ℕ → Control) (now : Place) (hol
   none_some o e = cc
 
   -- a port that may put another isn't k
-  not_putter : (q j : ℕ) (a : Place) → MayPut (cs q) j a → q ≢ k
+  not_putter : (q j : ℕ) (a : Site) → MayPut (cs q) j a → q ≢ k
   not_putter q j a may same = none_some may.owned (sym free ∙ sym (ap (λ i. (cs i).owned) same) ∙ may.is)
 
-  pub putter : (q j : ℕ) (a : Place) → MayPut (cs' q) j a → MayPut (cs q) j a × (q ≢ k)
+  pub putter : (q j : ℕ) (a : Site) → MayPut (cs' q) j a → MayPut (cs q) j a × (q ≢ k)
   putter q j a = put_all (λ i (d : Control). MayPut d j a → MayPut (cs i) j a × (i ≢ k)) k c cs q
       (λ _ may. absurd (none_some may.owned (sym free' ∙ may.is))) (λ ne may. (may, ne))
 
   -- another port is out as before
   out_other : (x q : ℕ) → q ≢ k → IsOut e words cs x q → IsOut e words' cs' x q
   out_other x q ne h = record {
-    unmarked = λ d place at. h.unmarked d place (sym (other_at q ne) ∙ at);
+    unmarked = λ d site at. h.unmarked d site (sym (other_at q ne) ∙ at);
     loaded = λ at. subst (λ (d : Control). NotInto x d.entering) (sym (put_other k c cs q ne))
         (h.loaded (sym (other_at q ne) ∙ at ∙ ap (λ (d : Control). marked d.here) (put_other k c cs q ne)));
     put = λ p a inside may at.
@@ -43,14 +43,14 @@ module _ (e : Plan) (words : List ℕ) (cs : ℕ → Control) (now : Place) (hol
 
   -- what is asked of k
   pub record Goes : Type 0 where
-    pub place : IsPlace e c.here
-    pub at : IsPlaceWord e words' k c.here c.entering
+    pub site : IsSite e c.here
+    pub at : IsSiteWord e words' k c.here c.entering
     pub old : IsOld e now.epoch c.here c.entering
     pub past : c.past ≡ true → c.here.epoch < now.epoch
-    pub stands : (d : Place) → IsPlace e d → v ≡ packed d → holds d.arena ≡ Some d.epoch
-    pub comes : (d : Place) → c.entering ≡ Loaded d → v ≡ marked c.here → holds d.arena ≡ Some d.epoch
+    pub stands : (d : Site) → IsSite e d → v ≡ packed d → holds d.arena ≡ Some d.epoch
+    pub comes : (d : Site) → c.entering ≡ Loaded d → v ≡ marked c.here → holds d.arena ≡ Some d.epoch
     pub out : (x : ℕ) → now.arena ≢ x → IsOut e words cs x k → IsOut e words' cs' x k
-    pub earlier : (a : Place) → IsEarlier a (cs k).here (cs k).entering → IsEarlier a c.here c.entering
+    pub earlier : (a : Site) → IsEarlier a (cs k).here (cs k).entering → IsEarlier a c.here c.entering
 
   module _ (g : Goes) where
     owner_then : (q : ℕ) (o : OwnedArena) → q < e.ports → q ≢ k → IsOwner e words cs now holds q o → IsOwner e words' cs' now holds q o
@@ -76,9 +76,9 @@ module _ (e : Plan) (words : List ℕ) (cs : ℕ → Control) (now : Place) (hol
             subst (IsOut e words' cs' o.arena) (sym same.1) (g.out o.arena looked (subst (IsOut e words cs o.arena) same.1 h))
         by {p} (inr ne) low within h own = out_other o.arena p ne.1 h
 
-        held : (((o.clean == k) ≡ true) × (o.clean ≡ k)) ⊎ (((o.clean == k) ≡ false) × (o.clean ≢ k)) → (m : Option Place) →
-            IfSome m (λ a. IsPlace e a × IsEarlier a (cs o.clean).here (cs o.clean).entering) →
-            IfSome m (λ a. IsPlace e a × IsEarlier a (cs' o.clean).here (cs' o.clean).entering)
+        held : (((o.clean == k) ≡ true) × (o.clean ≡ k)) ⊎ (((o.clean == k) ≡ false) × (o.clean ≢ k)) → (m : Option Site) →
+            IfSome m (λ a. IsSite e a × IsEarlier a (cs o.clean).here (cs o.clean).entering) →
+            IfSome m (λ a. IsSite e a × IsEarlier a (cs' o.clean).here (cs' o.clean).entering)
         held t None h = tt
         held (inl same) (Some a) h =
             let here : IsEarlier a (cs k).here (cs k).entering = subst (λ i. IsEarlier a (cs i).here (cs i).entering) same.1 h.1 in
@@ -88,16 +88,16 @@ module _ (e : Plan) (words : List ℕ) (cs : ℕ → Control) (now : Place) (hol
     pub control_goes : LawfulControl e words' cs' now holds
     control_goes = record {
       current = other current_word (omega arith) ∙ w.current;
-      place = w.place;
+      site = w.site;
       present = w.present;
       earlier = w.earlier;
       within = w.within;
-      places = λ q inside. put_all (λ i (d : Control). i < e.ports → IsPlace e d.here) k c cs q (λ _ _. g.place) (λ _ inside. w.places q inside) inside;
-      at = λ q inside. put_all (λ i (d : Control). i < e.ports → IsPlaceWord e words' i d.here d.entering) k c cs q (λ _ _. g.at)
+      sites = λ q inside. put_all (λ i (d : Control). i < e.ports → IsSite e d.here) k c cs q (λ _ _. g.site) (λ _ inside. w.sites q inside) inside;
+      at = λ q inside. put_all (λ i (d : Control). i < e.ports → IsSiteWord e words' i d.here d.entering) k c cs q (λ _ _. g.at)
           (λ ne inside. at_other q (cs q).here (cs q).entering ne (w.at q inside)) inside;
       old = λ q inside. put_all (λ i (d : Control). i < e.ports → IsOld e now.epoch d.here d.entering) k c cs q (λ _ _. g.old) (λ _ inside. w.old q inside) inside;
       past = λ q inside. put_all (λ i (d : Control). i < e.ports → d.past ≡ true → d.here.epoch < now.epoch) k c cs q (λ _ _. g.past) (λ _ inside. w.past q inside) inside;
-      stands = λ q d inside place at. stands (eqb_tells q k) d inside place at;
+      stands = λ q d inside site at. stands (eqb_tells q k) d inside site at;
       comes = λ q d inside. put_all (λ i (f : Control). i < e.ports → f.entering ≡ Loaded d → IsStillMarked words' f i → holds d.arena ≡ Some d.epoch) k c cs q
           (λ _ _ is at. g.comes d is (sym own ∙ at)) (λ ne inside is at. w.comes q d inside is (sym (other_at q ne) ∙ at)) inside;
       owners = λ q inside. put_all (λ i (d : Control). i < e.ports → IfSome d.owned (IsOwner e words' cs' now holds i)) k c cs q
@@ -105,17 +105,17 @@ module _ (e : Plan) (words : List ℕ) (cs : ℕ → Control) (now : Place) (hol
           (λ ne inside. owners q (cs q).owned ne inside (w.owners q inside)) inside;
     }
       where
-        at_other : (q : ℕ) (here : Place) (t : Entering) → q ≢ k → IsPlaceWord e words q here t → IsPlaceWord e words' q here t
+        at_other : (q : ℕ) (here : Site) (t : Entering) → q ≢ k → IsSiteWord e words q here t → IsSiteWord e words' q here t
         at_other q here Stands ne h = other_at q ne ∙ h
         at_other q here Marks ne (inl h) = inl (other_at q ne ∙ h)
         at_other q here Marks ne (inr h) = inr (h.0, h.1, other_at q ne ∙ h.2, h.3)
         at_other q here (Loaded d) ne (inl h) = inl (other_at q ne ∙ h)
         at_other q here (Loaded d) ne (inr h) = inr (h.0, h.1, other_at q ne ∙ h.2, h.3)
 
-        stands : {q : ℕ} → (((q == k) ≡ true) × (q ≡ k)) ⊎ (((q == k) ≡ false) × (q ≢ k)) → (d : Place) → q < e.ports → IsPlace e d → slice_index words' (at_word q) ≡ packed d →
+        stands : {q : ℕ} → (((q == k) ≡ true) × (q ≡ k)) ⊎ (((q == k) ≡ false) × (q ≢ k)) → (d : Site) → q < e.ports → IsSite e d → slice_index words' (at_word q) ≡ packed d →
             holds d.arena ≡ Some d.epoch
-        stands (inl same) d inside place at = g.stands d place (sym own ∙ sym (ap (λ i. slice_index words' (at_word i)) same.1) ∙ at)
-        stands {q} (inr ne) d inside place at = w.stands q d inside place (sym (other_at q ne.1) ∙ at)
+        stands (inl same) d inside site at = g.stands d site (sym own ∙ sym (ap (λ i. slice_index words' (at_word i)) same.1) ∙ at)
+        stands {q} (inr ne) d inside site at = w.stands q d inside site (sym (other_at q ne.1) ∙ at)
 
         owners : (q : ℕ) (t : Option OwnedArena) → q ≢ k → q < e.ports → IfSome t (IsOwner e words cs now holds q) → IfSome t (IsOwner e words' cs' now holds q)
         owners q None ne inside h = tt

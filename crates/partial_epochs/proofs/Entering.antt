@@ -1,5 +1,5 @@
--- The steps by which a port comes to the present epoch.
-use Rattle.partial_epochs.proofs.{Common.{ℕ, ◌≡◌, ◌≢◌, ◌+◌, ◌<◌, ◌≤◌, ◌==◌, ◌⊎◌, Bool, true, false, if◌then◌else◌, Option, Some, None, IfSome, List, length, slice_index, slice_set, refl, sym, ap, subst, ◌∙◌, inl, inr, arith, option_map, eqb_tells, get_or-set_same, get_or-set_other, length-set, set-get_or, Applied, some_same, total, slot_counter, slot_word, HasClearRecords, HasClearSlots, put, Plan, Place, IsPlace, at_word, arena_words, base, carried_word, carried_words, component_words, control_size, control_words, current_word, marked, packed, plain, set_word, arena_limit, Control, OwnedArena, Port, Epoch, IsPlaceWord, IsEarlier, IsOld, IsOut, IsOwner, LawfulControl, MayPut, NotInto, Beside, IsArena, IsNewPart, IsSetting, IsStanding, LawfulEpochs, controls, numbers, place_now, IsPresent, Arrives, ArrivalsStayLawful, EntriesLoad, LooksAreTrue, MarksStayLawful, arrived_port, Stands, Marks, Loaded}, ClearRecords.records_same, ControlChange.{Goes, control_goes, own, putter}, Lists.{at_of, length_of, put_all, put_other, put_same, same_of, set_of}, Places.{packed_arena, set_place}, Present.{present, same_place}}
+-- The steps by which a port enters the current epoch.
+use Rattle.partial_epochs.proofs.{Common.{ℕ, ◌≡◌, ◌≢◌, ◌+◌, ◌<◌, ◌≤◌, ◌==◌, ◌⊎◌, Bool, true, false, if◌then◌else◌, Option, Some, None, IfSome, List, length, slice_index, slice_set, refl, sym, ap, subst, ◌∙◌, inl, inr, arith, option_map, eqb_tells, get_or-set_same, get_or-set_other, length-set, set-get_or, Applied, some_same, total, slot_counter, slot_word, HasClearRecords, HasClearSlots, put, Plan, Site, IsSite, at_word, arena_words, base, carried_word, carried_words, component_words, control_size, control_words, current_word, marked, packed, plain, set_word, arena_limit, Control, OwnedArena, Port, Epoch, IsSiteWord, IsEarlier, IsOld, IsOut, IsOwner, LawfulControl, MayPut, NotInto, Beside, IsArena, IsNewPart, IsSetting, IsStanding, LawfulEpochs, controls, numbers, site_now, IsPresent, Arrives, ArrivalsStayLawful, EntriesLoad, LooksAreTrue, MarksStayLawful, arrived_port, Stands, Marks, Loaded}, ClearRecords.records_same, ControlChange.{Goes, control_goes, own, putter}, Lists.{at_of, length_of, put_all, put_other, put_same, same_of, set_of}, Offsets.{packed_arena, set_index}, Present.{present, same_site}}
 
 -- words that differ in control words alone
 module _ (e : Plan) (words words' : List ℕ) (high : (i : ℕ) → control_size e ≤ i → slice_index words' i ≡ slice_index words i) where
@@ -26,10 +26,10 @@ module _ (e : Plan) (words words' : List ℕ) (high : (i : ℕ) → control_size
   pub high_records : (y : ℕ) → HasClearRecords e words y → HasClearRecords e words' y
   high_records y = records_same e words words' y (λ i from low. high (base e y + i) (omega arith))
 
--- port k comes to be p'
+-- port k becomes p'
 module _ (e : Plan) (words words' : List ℕ) (high : (i : ℕ) → control_size e ≤ i → slice_index words' i ≡ slice_index words i) (ports : ℕ → Port) (b : Beside) (k : ℕ) (p' : Port)
     (w : LawfulEpochs e words ports b) (long : length words' ≡ length words) (first : slice_index words' current_word ≡ slice_index words current_word)
-    (settled : IfSome p'.control.owned (IsSetting e words' b p')) (control : LawfulControl e (control_words e words') (put k p'.control (controls ports)) (place_now b) (numbers b))
+    (settled : IfSome p'.control.owned (IsSetting e words' b p')) (control : LawfulControl e (control_words e words') (put k p'.control (controls ports)) (site_now b) (numbers b))
     (stand : p'.control.entering ≡ Stands → IsStanding b k p') (later : (ports k).control.here.epoch ≤ p'.control.here.epoch) (inside : k < e.ports) where
   same_controls : (q : ℕ) → put k p'.control (controls ports) q ≡ controls (put k p' ports) q
   same_controls q = put_all (λ i (p : Port). put k p'.control (controls ports) i ≡ p.control) k p' ports q (λ is. put_same k p'.control (controls ports))
@@ -39,7 +39,7 @@ module _ (e : Plan) (words words' : List ℕ) (high : (i : ℕ) → control_size
   control_lifted = record {
     plan = w.plan;
     count = long ∙ w.count;
-    control = subst (λ (c : ℕ → Control). LawfulControl e (control_words e words') c (place_now b) (numbers b)) (λ i q. same_controls q i) control;
+    control = subst (λ (c : ℕ → Control). LawfulControl e (control_words e words') c (site_now b) (numbers b)) (λ i q. same_controls q i) control;
     now = w.now;
     finished = w.finished;
     arenas = λ x r is. high_arenaed e words words' high x r (x ≢ b.arena) (w.arenas x r is);
@@ -61,8 +61,8 @@ module _ (e : Plan) (words words' : List ℕ) (high : (i : ℕ) → control_size
         each = λ at i less asked.
             let few = h.few in
             let pool = w.plan.sizes.pool.0 in
-            let place = set_place e o.arena i pool (omega (arith, less, few)) in
-            high (set_word e o.arena i) (subst (λ n. control_size e ≤ n) (sym place.2) (omega arith)) ∙ h.each (sym first ∙ at) i less asked;
+            let spot = set_index e o.arena i pool (omega (arith, less, few)) in
+            high (set_word e o.arena i) (subst (λ n. control_size e ≤ n) (sym spot.2) (omega arith)) ∙ h.each (sym first ∙ at) i less asked;
         cleared = λ l less set. high (base e o.arena + slot_word e.sizes l) (omega arith) ∙ h.cleared l less set;
       }
 
@@ -93,19 +93,19 @@ module _ (e : Plan) (words : List ℕ) (ports : ℕ → Port) (b : Beside) (k : 
       ∙ ap (λ u. slice_set cw (at_word k) u) (get_or-set_same words (at_word k) v 0 (omega (arith, inside, long)))
 
   module _ (free : (ports k).control.owned ≡ None) (free' : p'.control.owned ≡ None)
-      (goes : Goes e cw (controls ports) (place_now b) (numbers b) w.control k inside p'.control v free free' (cw_long e words))
+      (goes : Goes e cw (controls ports) (site_now b) (numbers b) w.control k inside p'.control v free free' (cw_long e words))
       (stand : p'.control.entering ≡ Stands → IsStanding b k p') (later : (ports k).control.here.epoch ≤ p'.control.here.epoch) where
     pub at_set : LawfulEpochs e words' (put k p' ports) b
     at_set = control_lifted e words words' (λ i from. get_or-set_other words (at_word k) i v 0 (omega (arith, from, inside))) ports b k p' w (length-set words (at_word k) v)
         (get_or-set_other words (at_word k) current_word v 0 (omega arith)) (subst (λ (o : Option OwnedArena). IfSome o (IsSetting e words' b p')) (sym free') tt)
-        (subst (λ (l : List ℕ). LawfulControl e l (put k p'.control (controls ports)) (place_now b) (numbers b)) (sym set_control)
-        (control_goes e cw (controls ports) (place_now b) (numbers b) w.control k inside p'.control v free free' (cw_long e words) goes))
+        (subst (λ (l : List ℕ). LawfulControl e l (put k p'.control (controls ports)) (site_now b) (numbers b)) (sym set_control)
+        (control_goes e cw (controls ports) (site_now b) (numbers b) w.control k inside p'.control v free free' (cw_long e words) goes))
         stand later inside
 
-pub not_marked : (e : Plan) (p q : Place) → e.arenas ≤ arena_limit → IsPlace e p → packed p ≡ marked q → ⊥
+pub not_marked : (e : Plan) (p q : Site) → e.arenas ≤ arena_limit → IsSite e p → packed p ≡ marked q → ⊥
 not_marked e p q few h same = let r = h.epoch in let b = h.arena in omega (arith, few, r, b, same)
 
-pub marked_epoch : (e : Plan) (p q : Place) → e.arenas ≤ arena_limit → IsPlace e p → IsPlace e q → marked p ≡ marked q → p.epoch ≡ q.epoch
+pub marked_epoch : (e : Plan) (p q : Site) → e.arenas ≤ arena_limit → IsSite e p → IsSite e q → marked p ≡ marked q → p.epoch ≡ q.epoch
 marked_epoch e p q few g h same = let b = g.arena in let c = h.arena in omega (arith, few, b, c, same)
 
 module _ (e : Plan) (words : List ℕ) (ports : ℕ → Port) (b : Beside) (k : ℕ) (w : LawfulEpochs e words ports b) (inside : k < e.ports) where
@@ -118,23 +118,23 @@ module _ (e : Plan) (words : List ℕ) (ports : ℕ → Port) (b : Beside) (k : 
   at_is : at_now ≡ slice_index words (at_word k)
   at_is = cw_at e words ports b k (ports k) 0 w inside (at_word k) (omega (arith, inside))
 
-  pub current_is : slice_index words current_word ≡ packed (place_now b)
+  pub current_is : slice_index words current_word ≡ packed (site_now b)
   current_is = sym (cw_at e words ports b k (ports k) 0 w inside current_word (omega arith)) ∙ w.control.current
 
   abbrev long : length (control_words e words) ≡ control_size e
   long = cw_long e words
 
   -- the mark that another port holds of port k
-  pub held_mark : (p : ℕ) (a : Place) → p < e.ports → MayPut (cs p) k a → IsPlace e a × IsEarlier a (cs k).here (cs k).entering
+  pub held_mark : (p : ℕ) (a : Site) → p < e.ports → MayPut (cs p) k a → IsSite e a × IsEarlier a (cs k).here (cs k).entering
   held_mark p a low may =
-      let own : IsOwner e (control_words e words) cs (place_now b) (numbers b) p may.owned =
-      subst (λ (o : Option OwnedArena). IfSome o (IsOwner e (control_words e words) cs (place_now b) (numbers b) p)) may.is (w.control.owners p low) in
-      let h = subst (λ (m : Option Place). IfSome m (λ a. IsPlace e a × IsEarlier a (cs may.owned.clean).here (cs may.owned.clean).entering)) may.mark own.held in
+      let own : IsOwner e (control_words e words) cs (site_now b) (numbers b) p may.owned =
+      subst (λ (o : Option OwnedArena). IfSome o (IsOwner e (control_words e words) cs (site_now b) (numbers b) p)) may.is (w.control.owners p low) in
+      let h = subst (λ (m : Option Site). IfSome m (λ a. IsSite e a × IsEarlier a (cs may.owned.clean).here (cs may.owned.clean).entering)) may.mark own.held in
       (h.0, subst (λ i. IsEarlier a (cs i).here (cs i).entering) may.port h.1)
 
   -- a change that leaves the words
   module _ (p' : Port) (free : (ports k).control.owned ≡ None) (free' : p'.control.owned ≡ None)
-      (goes : Goes e (control_words e words) cs (place_now b) (numbers b) w.control k inside p'.control (slice_index words (at_word k)) free free' long)
+      (goes : Goes e (control_words e words) cs (site_now b) (numbers b) w.control k inside p'.control (slice_index words (at_word k)) free free' long)
       (stand : p'.control.entering ≡ Stands → IsStanding b k p') (later : (ports k).control.here.epoch ≤ p'.control.here.epoch) where
     at_same : LawfulEpochs e words (put k p' ports) b
     at_same = subst (λ (l : List ℕ). LawfulEpochs e l (put k p' ports) b) (set-get_or words (at_word k) 0)
@@ -142,13 +142,13 @@ module _ (e : Plan) (words : List ℕ) (ports : ℕ → Port) (b : Beside) (k : 
 
   module _ (c : Control) (v : ℕ) (free : (ports k).control.owned ≡ None) (free' : c.owned ≡ None) where
     abbrev Going : Type 0
-    Going = Goes e (control_words e words) cs (place_now b) (numbers b) w.control k inside c v free free' long
+    Going = Goes e (control_words e words) cs (site_now b) (numbers b) w.control k inside c v free free' long
 
     set_at : slice_index (slice_set (control_words e words) (at_word k) v) (at_word k) ≡ v
-    set_at = own e (control_words e words) cs (place_now b) (numbers b) w.control k inside c v free free' long
+    set_at = own e (control_words e words) cs (site_now b) (numbers b) w.control k inside c v free free' long
 
-    was_putter : (q j : ℕ) (a : Place) → MayPut (put k c cs q) j a → MayPut (cs q) j a × (q ≢ k)
-    was_putter = putter e (control_words e words) cs (place_now b) (numbers b) w.control k inside c v free free' long
+    was_putter : (q j : ℕ) (a : Site) → MayPut (put k c cs q) j a → MayPut (cs q) j a × (q ≢ k)
+    was_putter = putter e (control_words e words) cs (site_now b) (numbers b) w.control k inside c v free free' long
 
   -- a look
   pub looks : (ports k).control.entering ≡ Stands → (ports k).control.owned ≡ None →
@@ -156,16 +156,16 @@ module _ (e : Plan) (words : List ℕ) (ports : ℕ → Port) (b : Beside) (k : 
       ⊎ ((slice_index words current_word ≢ packed (ports k).control.here) × LawfulEpochs e words (put k (record (ports k) { control = record (ports k).control { past = true } }) ports) b)
   looks stands free = by (eqb_tells (slice_index words current_word) (packed (ports k).control.here))
     where
-      here : Place
+      here : Site
       here = (ports k).control.here
 
-      placed_at : at_now ≡ packed (ports k).control.here
-      placed_at = subst (IsPlaceWord e (control_words e words) k (ports k).control.here) stands (w.control.at k inside)
+      site_at : at_now ≡ packed (ports k).control.here
+      site_at = subst (IsSiteWord e (control_words e words) k (ports k).control.here) stands (w.control.at k inside)
 
       older : slice_index words current_word ≢ packed (ports k).control.here → (ports k).control.here.epoch < length b.before
-      older ne = elim (w.control.earlier (ports k).control.here.arena (ports k).control.here.epoch (w.control.stands k (ports k).control.here inside (w.control.places k inside) placed_at)) [
+      older ne = elim (w.control.earlier (ports k).control.here.arena (ports k).control.here.epoch (w.control.stands k (ports k).control.here inside (w.control.sites k inside) site_at)) [
         | inl less ↦ less
-        | inr same ↦ absurd (ne (current_is ∙ ap packed (sym (same_place (ports k).control.here (place_now b) same.0 same.1))))
+        | inr same ↦ absurd (ne (current_is ∙ ap packed (sym (same_site (ports k).control.here (site_now b) same.0 same.1))))
       ]
 
       by : (((slice_index words current_word == packed (ports k).control.here) ≡ true) × (slice_index words current_word ≡ packed (ports k).control.here))
@@ -173,7 +173,7 @@ module _ (e : Plan) (words : List ℕ) (ports : ℕ → Port) (b : Beside) (k : 
           ((slice_index words current_word ≡ packed (ports k).control.here) × IsPresent b k (ports k))
           ⊎ ((slice_index words current_word ≢ packed (ports k).control.here) × LawfulEpochs e words (put k (record (ports k) { control = record (ports k).control { past = true } }) ports) b)
       by (inl same) =
-          let both = packed_arena e (ports k).control.here (place_now b) w.plan.arenas (w.control.places k inside).arena w.control.place.arena (sym same.1 ∙ current_is) in
+          let both = packed_arena e (ports k).control.here (site_now b) w.plan.arenas (w.control.sites k inside).arena w.control.site.arena (sym same.1 ∙ current_is) in
           inl (same.1, present e words ports b k w inside stands both.1)
       by (inr ne) =
           let less = older ne.1 in
@@ -184,14 +184,14 @@ module _ (e : Plan) (words : List ℕ) (ports : ℕ → Port) (b : Beside) (k : 
             ne.1,
             at_same (record (ports k) { control = c }) free free
                 (record {
-                  place = w.control.places k inside;
-                  at = subst (IsPlaceWord e (slice_set (control_words e words) (at_word k) v) k (ports k).control.here) (sym stands) (at ∙ placed_at);
+                  site = w.control.sites k inside;
+                  at = subst (IsSiteWord e (slice_set (control_words e words) (at_word k) v) k (ports k).control.here) (sym stands) (at ∙ site_at);
                   old = w.control.old k inside;
                   past = λ _. less;
-                  stands = λ d place is. w.control.stands k d inside place (at_is ∙ is);
+                  stands = λ d site is. w.control.stands k d inside site (at_is ∙ is);
                   comes = λ d is mark. w.control.comes k d inside is (at_is ∙ mark);
                   out = λ x ne h. record {
-                    unmarked = λ d place is. h.unmarked d place (sym at ∙ is);
+                    unmarked = λ d site is. h.unmarked d site (sym at ∙ is);
                     loaded = λ is. subst (λ (f : Control). NotInto x f.entering) (sym (put_same k c cs)) (h.loaded (sym at ∙ is ∙ ap (λ (f : Control). marked f.here) (put_same k c cs)));
                     put = λ p a low may is. let was = was_putter c v free free p k a may in
                         subst (λ (f : Control). f.here.arena ≢ x) (sym (put_other k c cs p was.1)) (h.put p a low was.0 (sym at ∙ is));
@@ -209,47 +209,47 @@ module _ (e : Plan) (words : List ℕ) (ports : ℕ → Port) (b : Beside) (k : 
       let v : ℕ = marked (ports k).control.here in
       let less = w.control.past k inside past in
       let at : slice_index (slice_set (control_words e words) (at_word k) v) (at_word k) ≡ v = set_at c v free free in
-      let none : (d : Place) → IsPlace e d → v ≡ packed d → ⊥ = λ d place is. not_marked e d (ports k).control.here w.plan.arenas place (sym is) in
+      let none : (d : Site) → IsSite e d → v ≡ packed d → ⊥ = λ d site is. not_marked e d (ports k).control.here w.plan.arenas site (sym is) in
       at_set e words ports b k (record (ports k) { control = c }) v w inside free free
       (record {
-        place = w.control.places k inside;
+        site = w.control.sites k inside;
         at = inl at;
         old = less;
         past = λ _. less;
-        stands = λ d place is. absurd (none d place is);
+        stands = λ d site is. absurd (none d site is);
         comes = λ d is mark. absurd cc;
         out = λ x ne h. record {
-          unmarked = λ d place is. absurd (none d place (sym at ∙ is));
+          unmarked = λ d site is. absurd (none d site (sym at ∙ is));
           loaded = λ is. subst (λ (f : Control). NotInto x f.entering) (sym (put_same k c cs)) tt;
           put = λ p a low may is.
               let was = was_putter c v free free p k a may in
               let mark = held_mark p a low was.0 in
               let early : a.epoch < (ports k).control.here.epoch = subst (IsEarlier a (ports k).control.here) stands mark.1 in
-              let same = marked_epoch e a (ports k).control.here w.plan.arenas mark.0 (w.control.places k inside) (sym is ∙ at) in
+              let same = marked_epoch e a (ports k).control.here w.plan.arenas mark.0 (w.control.sites k inside) (sym is ∙ at) in
               absurd (omega (arith, early, same));
         };
         earlier = λ a h. let early : a.epoch < (ports k).control.here.epoch = subst (IsEarlier a (ports k).control.here) stands h in omega (arith, early);
       })
       (λ is. absurd cc) (omega arith)
 
-  -- the current place is loaded
-  pub loads : (ports k).control.entering ≡ Marks → LawfulEpochs e words (put k (record (ports k) { control = record (ports k).control { entering = Loaded (place_now b) } }) ports) b
+  -- the current site is loaded
+  pub loads : (ports k).control.entering ≡ Marks → LawfulEpochs e words (put k (record (ports k) { control = record (ports k).control { entering = Loaded (site_now b) } }) ports) b
   loads entering =
       let free = owns_none (ports k).control.owned refl (w.control.owners k inside) in
-      let c : Control = record (ports k).control { entering = Loaded (place_now b) } in
+      let c : Control = record (ports k).control { entering = Loaded (site_now b) } in
       let v : ℕ = slice_index words (at_word k) in
       let at : slice_index (slice_set (control_words e words) (at_word k) v) (at_word k) ≡ at_now = set_at c v free free ∙ sym at_is in
       let less : (ports k).control.here.epoch < length b.before = subst (IsOld e (length b.before) (ports k).control.here) entering (w.control.old k inside) in
       at_same (record (ports k) { control = c }) free free
       (record {
-        place = w.control.places k inside;
-        at = at_as v (subst (IsPlaceWord e (control_words e words) k (ports k).control.here) entering (w.control.at k inside)) at;
-        old = (less, omega arith, w.control.place);
+        site = w.control.sites k inside;
+        at = at_as v (subst (IsSiteWord e (control_words e words) k (ports k).control.here) entering (w.control.at k inside)) at;
+        old = (less, omega arith, w.control.site);
         past = w.control.past k inside;
-        stands = λ d place is. w.control.stands k d inside place (at_is ∙ is);
-        comes = λ d is mark. let same : place_now b ≡ d = cc in subst (λ (d : Place). numbers b d.arena ≡ Some d.epoch) same w.control.present;
+        stands = λ d site is. w.control.stands k d inside site (at_is ∙ is);
+        comes = λ d is mark. let same : site_now b ≡ d = cc in subst (λ (d : Site). numbers b d.arena ≡ Some d.epoch) same w.control.present;
         out = λ x ne h. record {
-          unmarked = λ d place is. h.unmarked d place (sym at ∙ is);
+          unmarked = λ d site is. h.unmarked d site (sym at ∙ is);
           loaded = λ is. subst (λ (f : Control). NotInto x f.entering) (sym (put_same k c cs)) ne;
           put = λ p a low may is. let was = was_putter c v free free p k a may in
               subst (λ (f : Control). f.here.arena ≢ x) (sym (put_other k c cs p was.1)) (h.put p a low was.0 (sym at ∙ is));
@@ -258,12 +258,12 @@ module _ (e : Plan) (words : List ℕ) (ports : ℕ → Port) (b : Beside) (k : 
       })
       (λ is. absurd cc) (omega arith)
     where
-      owns_none : (t : Option OwnedArena) → (ports k).control.owned ≡ t → IfSome t (IsOwner e (control_words e words) cs (place_now b) (numbers b) k) → (ports k).control.owned ≡ None
+      owns_none : (t : Option OwnedArena) → (ports k).control.owned ≡ t → IfSome t (IsOwner e (control_words e words) cs (site_now b) (numbers b) k) → (ports k).control.owned ≡ None
       owns_none None is h = is
       owns_none (Some o) is h = let stands = h.stands in absurd cc
 
-      at_as : (v : ℕ) → IsPlaceWord e (control_words e words) k (ports k).control.here Marks → slice_index (slice_set (control_words e words) (at_word k) v) (at_word k) ≡ at_now →
-          IsPlaceWord e (slice_set (control_words e words) (at_word k) v) k (ports k).control.here (Loaded (place_now b))
+      at_as : (v : ℕ) → IsSiteWord e (control_words e words) k (ports k).control.here Marks → slice_index (slice_set (control_words e words) (at_word k) v) (at_word k) ≡ at_now →
+          IsSiteWord e (slice_set (control_words e words) (at_word k) v) k (ports k).control.here (Loaded (site_now b))
       at_as v (inl h) at = inl (at ∙ h)
       at_as v (inr h) at = inr (h.0, h.1, at ∙ h.2, h.3)
 
@@ -275,7 +275,7 @@ epoch_at b x g is = by (b.holds x) refl is
     by None e is = absurd cc
     by (Some r) e is = (r, e, some_same is)
 
-module _ (e : Plan) (words : List ℕ) (ports : ℕ → Port) (b : Beside) (k : ℕ) (w : LawfulEpochs e words ports b) (inside : k < e.ports) (c : Place)
+module _ (e : Plan) (words : List ℕ) (ports : ℕ → Port) (b : Beside) (k : ℕ) (w : LawfulEpochs e words ports b) (inside : k < e.ports) (c : Site)
     (entering : (ports k).control.entering ≡ Loaded c) where
   abbrev mark : ℕ
   mark = marked (ports k).control.here
@@ -283,15 +283,15 @@ module _ (e : Plan) (words : List ℕ) (ports : ℕ → Port) (b : Beside) (k : 
   free : (ports k).control.owned ≡ None
   free = by (ports k).control.owned refl (w.control.owners k inside)
     where
-      by : (t : Option OwnedArena) → (ports k).control.owned ≡ t → IfSome t (IsOwner e (control_words e words) (controls ports) (place_now b) (numbers b) k) → (ports k).control.owned ≡ None
+      by : (t : Option OwnedArena) → (ports k).control.owned ≡ t → IfSome t (IsOwner e (control_words e words) (controls ports) (site_now b) (numbers b) k) → (ports k).control.owned ≡ None
       by None is h = is
       by (Some o) is h = let stands = h.stands in absurd cc
 
-  old : ((ports k).control.here.epoch < c.epoch) × (c.epoch ≤ length b.before) × IsPlace e c
+  old : ((ports k).control.here.epoch < c.epoch) × (c.epoch ≤ length b.before) × IsSite e c
   old = subst (IsOld e (length b.before) (ports k).control.here) entering (w.control.old k inside)
 
-  -- the port comes to the place p
-  module _ (p : Place) (v : ℕ) (v_is : v ≡ packed p) (place : IsPlace e p) (later : (ports k).control.here.epoch < p.epoch) (within : p.epoch ≤ length b.before)
+  -- the port enters the site p
+  module _ (p : Site) (v : ℕ) (v_is : v ≡ packed p) (site : IsSite e p) (later : (ports k).control.here.epoch < p.epoch) (within : p.epoch ≤ length b.before)
       (holds : numbers b p.arena ≡ Some p.epoch) (away : (x : ℕ) → IsOut e (control_words e words) (controls ports) x k → p.arena ≢ x) where
     comes_to : (before : List (List Applied)) × (length before ≡ p.epoch) × LawfulEpochs e (slice_set words (at_word k) v) (put k (arrived_port e k p before) ports) b
     comes_to =
@@ -299,24 +299,24 @@ module _ (e : Plan) (words : List ℕ) (ports : ℕ → Port) (b : Beside) (k : 
         let r : Epoch = held.0 in
         let c' : Control = record { here = p; entering = Stands; past = false; owned = None } in
         let at : slice_index (slice_set (control_words e words) (at_word k) v) (at_word k) ≡ v =
-        own e (control_words e words) (controls ports) (place_now b) (numbers b) w.control k inside c' v free refl (cw_long e words) in
-        let is_p : (d : Place) → IsPlace e d → v ≡ packed d → p ≡ d = λ d there is.
-        let both = packed_arena e p d w.plan.arenas place.arena there.arena (sym v_is ∙ is) in same_place p d both.0 both.1 in
+        own e (control_words e words) (controls ports) (site_now b) (numbers b) w.control k inside c' v free refl (cw_long e words) in
+        let is_p : (d : Site) → IsSite e d → v ≡ packed d → p ≡ d = λ d there is.
+        let both = packed_arena e p d w.plan.arenas site.arena there.arena (sym v_is ∙ is) in same_site p d both.0 both.1 in
         let number = held.2 in (
           r.before,
           held.2,
           at_set e words ports b k (arrived_port e k p r.before) v w inside free refl
               (record {
-                place = place;
+                site = site;
                 at = at ∙ v_is;
                 old = within;
                 past = λ is. absurd cc;
-                stands = λ d there is. subst (λ (d : Place). numbers b d.arena ≡ Some d.epoch) (is_p d there is) holds;
+                stands = λ d there is. subst (λ (d : Site). numbers b d.arena ≡ Some d.epoch) (is_p d there is) holds;
                 comes = λ d is mark. absurd cc;
                 out = λ x ne h. record {
-                  unmarked = λ d there is. subst (λ (d : Place). d.arena ≢ x) (is_p d there (sym at ∙ is)) (away x h);
+                  unmarked = λ d there is. subst (λ (d : Site). d.arena ≢ x) (is_p d there (sym at ∙ is)) (away x h);
                   loaded = λ is. subst (λ (f : Control). NotInto x f.entering) (sym (put_same k c' (controls ports))) tt;
-                  put = λ q a low may is. absurd (not_marked e p a w.plan.arenas place (sym v_is ∙ sym at ∙ is));
+                  put = λ q a low may is. absurd (not_marked e p a w.plan.arenas site (sym v_is ∙ sym at ∙ is));
                 };
                 earlier = λ a h. let early : a.epoch ≤ (ports k).control.here.epoch = subst (IsEarlier a (ports k).control.here) entering h in omega (arith, early, later);
               })
@@ -326,9 +326,9 @@ module _ (e : Plan) (words : List ℕ) (ports : ℕ → Port) (b : Beside) (k : 
         )
 
   arrives : Arrives e words ports b k c
-  arrives = by (subst (IsPlaceWord e (control_words e words) k (ports k).control.here) entering (w.control.at k inside)) (at_is e words ports b k w inside)
+  arrives = by (subst (IsSiteWord e (control_words e words) k (ports k).control.here) entering (w.control.at k inside)) (at_is e words ports b k w inside)
     where
-      by : IsPlaceWord e (control_words e words) k (ports k).control.here (Loaded c) → slice_index (control_words e words) (at_word k) ≡ slice_index words (at_word k) → Arrives e words ports b k c
+      by : IsSiteWord e (control_words e words) k (ports k).control.here (Loaded c) → slice_index (control_words e words) (at_word k) ≡ slice_index words (at_word k) → Arrives e words ports b k c
       by (inl is) same =
           let raw : slice_index words (at_word k) ≡ mark = sym same ∙ is in
           let won : (slice_index words (at_word k) == mark) ≡ true = (elim (eqb_tells (slice_index words (at_word k)) mark) [ inl t ↦ t.0 | inr f ↦ absurd (f.1 raw) ]) in
@@ -336,7 +336,7 @@ module _ (e : Plan) (words : List ℕ) (ports : ℕ → Port) (b : Beside) (k : 
           let away : (x : ℕ) → IsOut e (control_words e words) (controls ports) x k → c.arena ≢ x = λ x h. subst (NotInto x) entering (h.loaded is) in
           let g = comes_to c (packed c) refl old.2 old.0 old.1 holds away in
           record {
-            place = c;
+            site = c;
             is = inl (raw, refl);
             before = g.0;
             epoch = g.1;
@@ -344,7 +344,7 @@ module _ (e : Plan) (words : List ℕ) (ports : ℕ → Port) (b : Beside) (k : 
             lawful = subst (λ (t : Bool). LawfulEpochs e (slice_set words (at_word k) (if t then packed c else slice_index words (at_word k))) (put k (arrived_port e k c g.0) ports) b) (sym won) g.2;
           }
       by (inr found) same =
-          let p : Place = found.0 in
+          let p : Site = found.0 in
           let raw : slice_index words (at_word k) ≡ packed p = sym same ∙ found.2 in
           let lost : (slice_index words (at_word k) == mark) ≡ false = (elim (eqb_tells (slice_index words (at_word k)) mark) [
             | inl t ↦ absurd (not_marked e p (ports k).control.here w.plan.arenas found.1 (sym raw ∙ t.1))
@@ -355,7 +355,7 @@ module _ (e : Plan) (words : List ℕ) (ports : ℕ → Port) (b : Beside) (k : 
           let away : (x : ℕ) → IsOut e (control_words e words) (controls ports) x k → p.arena ≢ x = λ x h. h.unmarked p found.1 found.2 in
           let g = comes_to p (slice_index words (at_word k)) raw found.1 found.3 within holds away in
           record {
-            place = p;
+            site = p;
             is = inr raw;
             before = g.0;
             epoch = g.1;

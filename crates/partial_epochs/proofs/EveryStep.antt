@@ -1,11 +1,11 @@
 -- Every step of every port keeps the memory lawful.
-use Rattle.partial_epochs.proofs.{Common.{ℕ, ◌≡◌, ◌+◌, ◌-◌, ◌<◌, ◌≤◌, ◌⊎◌, ◌++◌, List, [], ◌∷◌, length, slice_index, refl, sym, ap, subst, ◌∙◌, inl, inr, arith, append-nil, Applied, eqb_tells, Noted, Step, Add, CoreState, put, Place, Plan, at_word, current_word, packed, seal, Control, Port, history_of, public_log, Marks, Loaded, Beside, LawfulEpochs, place_now, arrived_port, having_passed, MayPut, at_next_port, having_given, having_loaded, having_looked, having_put, just_taken, owning_port, having_published, having_set, next_beside, vacated, EveryStepStaysLawful, IsPlacedBy, MayAdd, MayMove, MemoriesOpenLawful, Move, MoveLeads, moved_words, since_behind, Makes, Seals, PassesSealed, LooksAsOwner, StoresMark, LoadsCurrent, ExchangesMark, Takes, Gives, FindsElsewhere, LoadsMark, Puts, Sets, Notes, Sees, Rests, Becomes, IsBesideAs, IsSight, IsStanding, Bool, if◌then◌else◌, entering_mark, noted_after, unpacked, MachineLeads, IsAside, LawfulMemory, having_seen, noting, one_history, FindsClear, passing_port, KeepsTime}, Entering.{arrivals_stay_lawful, entries_load, looks_are_true, marks_stay_lawful}, Lists.put_all, MachineSteps.machine_steps_stay_lawful, NotesStay.{adds_of, history_is, notes_stay_lawful}, OpensAll.epochs_open_lawful, OwnerLooks.owners_look, Present.unpacked_is, Publishes.publishes_stay_lawful, Puts.puts_stay_lawful, Seals.{sealed_passes_stay_lawful, seals_stay_lawful}, Sets.{clear_slots_count_as_set, sets_stay_lawful}, Sights.{arrivals_keep_notes, asides_stay_lawful, glances_stay_lawful, publishes_keep_notes, sights_stay_lawful}, Taking.{gives_stay_lawful, marks_are_loaded, others_are_elsewhere, owners_look_away, takes_stay_lawful}, Time.{arrivals_keep_time, asides_keep_time, entries_keep_time, loaded_marks_keep_time, looks_keep_time, marks_keep_time, not_again, one_aside, publishes_keep_time, puts_keep_time, puts_nobody, set_puts, steps_keep_places}}
+use Rattle.partial_epochs.proofs.{Common.{ℕ, ◌≡◌, ◌+◌, ◌-◌, ◌<◌, ◌≤◌, ◌⊎◌, ◌++◌, List, [], ◌∷◌, length, slice_index, refl, sym, ap, subst, ◌∙◌, inl, inr, arith, append-nil, Applied, eqb_tells, Noted, Step, Add, CoreState, put, Site, Plan, at_word, current_word, packed, seal, Control, Port, history_of, public_log, Marks, Loaded, Beside, LawfulEpochs, site_now, arrived_port, having_passed, MayPut, at_next_port, having_given, having_loaded, having_looked, having_put, just_taken, owning_port, having_published, having_set, next_beside, vacated, EveryStepStaysLawful, IsSiteAfter, MayAdd, MayMove, MemoriesOpenLawful, Move, MoveLeads, moved_words, since_after, Makes, Seals, PassesSealed, LooksAsOwner, StoresMark, LoadsCurrent, ExchangesMark, Takes, Gives, FindsElsewhere, LoadsMark, Puts, Sets, Notes, Sees, Rests, Becomes, IsBesideAs, IsSight, IsStanding, Bool, if◌then◌else◌, entering_mark, noted_after, unpacked, MachineLeads, IsAside, LawfulMemory, having_seen, noting, one_history, FindsClear, passing_port, KeepsTime}, Entering.{arrivals_stay_lawful, entries_load, looks_are_true, marks_stay_lawful}, Lists.put_all, MachineSteps.machine_steps_stay_lawful, NotesStay.{adds_of, history_is, notes_stay_lawful}, OpensAll.epochs_open_lawful, OwnerLooks.owners_look, Present.unpacked_is, Publishes.publishes_stay_lawful, Puts.puts_stay_lawful, Seals.{sealed_passes_stay_lawful, seals_stay_lawful}, Sets.{clear_slots_count_as_set, sets_stay_lawful}, Sights.{arrivals_keep_notes, asides_stay_lawful, glances_stay_lawful, publishes_keep_notes, sights_stay_lawful}, Taking.{gives_stay_lawful, marks_are_loaded, others_are_elsewhere, owners_look_away, takes_stay_lawful}, Time.{arrivals_keep_time, asides_keep_time, entries_keep_time, loaded_marks_keep_time, looks_keep_time, marks_keep_time, not_again, one_aside, publishes_keep_time, puts_keep_time, puts_nobody, set_puts, steps_keep_sites}}
 use Rattle.partial_epochs.specs.EveryStep.Move.{Looks, Publishes}
 
 module _ (e : Plan) (words : List ℕ) (ports : ℕ → Port) (b : Beside) (notes : ℕ → List Noted) (k : ℕ) (w : LawfulMemory e words ports b notes) (below : k < e.ports) where
   -- where the port is, by a move that isn't the third step of entering
   abbrev Stays : Move → Type 0
-  Stays m = (there : Place) → there ≡ (ports k).control.here → IsPlacedBy m (ports k).control.here there
+  Stays m = (there : Site) → there ≡ (ports k).control.here → IsSiteAfter m (ports k).control.here there
 
   -- the one history stays
   same_history : (c : Beside) → c.log ≡ b.log → c.before ≡ b.before → one_history c ≡ one_history b ++ []
@@ -14,19 +14,19 @@ module _ (e : Plan) (words : List ℕ) (ports : ℕ → Port) (b : Beside) (note
 
   -- time is kept
   abbrev Timed : Move → List ℕ → (ℕ → Port) → Beside → Type 0
-  Timed m words' ports' c = (since : ℕ → ℕ) → KeepsTime e words ports (place_now b) since → KeepsTime e words' ports' (place_now c) (since_behind b k m since)
+  Timed m words' ports' c = (since : ℕ → ℕ) → KeepsTime e words ports (site_now b) since → KeepsTime e words' ports' (site_now c) (since_after b k m since)
 
   abbrev Keeps : List ℕ → (ℕ → Port) → Beside → Type 0
-  Keeps words' ports' c = (since : ℕ → ℕ) → KeepsTime e words ports (place_now b) since → KeepsTime e words' ports' (place_now c) since
+  Keeps words' ports' c = (since : ℕ → ℕ) → KeepsTime e words ports (site_now b) since → KeepsTime e words' ports' (site_now c) since
 
   -- where no port's word changes, and the port stays where it is
   keeps : (words' : List ℕ) (p : Port) (c : Beside) → ((q : ℕ) → q < e.ports → slice_index words' (at_word q) ≡ slice_index words (at_word q)) → p.control.here ≡ (ports k).control.here →
-      p.control.entering ≡ (ports k).control.entering → ((j : ℕ) (a : Place) → MayPut p.control j a → MayPut (ports k).control j a) → length b.before ≤ length c.before → Keeps words' (put k p ports) c
-  keeps words' p c at here entering puts later since t = asides_keep_time e words words' ports (put k p ports) (place_now b) (place_now c) since
-      (one_aside e words words' ports k p (place_now b) (place_now c) at here entering puts later) t
+      p.control.entering ≡ (ports k).control.entering → ((j : ℕ) (a : Site) → MayPut p.control j a → MayPut (ports k).control j a) → length b.before ≤ length c.before → Keeps words' (put k p ports) c
+  keeps words' p c at here entering puts later since t = asides_keep_time e words words' ports (put k p ports) (site_now b) (site_now c) since
+      (one_aside e words words' ports k p (site_now b) (site_now c) at here entering puts later) t
 
   -- where no word changes
-  keeps_words : (p : Port) → p.control.here ≡ (ports k).control.here → p.control.entering ≡ (ports k).control.entering → ((j : ℕ) (a : Place) → MayPut p.control j a → MayPut (ports k).control j a) →
+  keeps_words : (p : Port) → p.control.here ≡ (ports k).control.here → p.control.entering ≡ (ports k).control.entering → ((j : ℕ) (a : Site) → MayPut p.control j a → MayPut (ports k).control j a) →
       Keeps words (put k p ports) b
   keeps_words p here entering puts = keeps words p b (λ q low. refl) here entering puts (omega arith)
 
@@ -37,7 +37,7 @@ module _ (e : Plan) (words : List ℕ) (ports : ℕ → Port) (b : Beside) (note
   keeps_machine : (c : CoreState) (step : Step) (more : Bool) (lead : MachineLeads e words ports b k c step) → Keeps (moved_words e words (ports k) k (Makes c step more)) (put k lead.port ports) lead.beside
   keeps_machine c step more lead =
       let same = ap (λ (l : List (List Applied)). length l) lead.epochs in
-      keeps (moved_words e words (ports k) k (Makes c step more)) lead.port lead.beside (λ q low. (steps_keep_places e words q low).arena (ports k).control.here.arena step)
+      keeps (moved_words e words (ports k) k (Makes c step more)) lead.port lead.beside (λ q low. (steps_keep_sites e words q low).arena (ports k).control.here.arena step)
       (ap (λ (t : Control). t.here) lead.control) (ap (λ (t : Control). t.entering) lead.control)
       (λ j a. subst (λ (t : Control). MayPut t j a → MayPut (ports k).control j a) (sym lead.control) (λ may. may))
       (omega (arith, same))
@@ -58,15 +58,15 @@ module _ (e : Plan) (words : List ℕ) (ports : ℕ → Port) (b : Beside) (note
   same_ports q = put_all (λ i (p : Port). ports i ≡ p) k (ports k) ports q (λ _. refl) (λ _. refl)
 
   -- only port k changes, and notes nothing
-  goes : (m : Move) (words' : List ℕ) (p : Port) (c : Beside) → IsPlacedBy m (ports k).control.here p.control.here → one_history c ≡ one_history b ++ [] →
+  goes : (m : Move) (words' : List ℕ) (p : Port) (c : Beside) → IsSiteAfter m (ports k).control.here p.control.here → one_history c ≡ one_history b ++ [] →
       Timed m words' (put k p ports) c → LawfulMemory e words' (put k p ports) c notes → Becomes e words ports b k m p c [] → MoveLeads e words words' ports b notes k m
-  goes m words' p c place history time there becomes = record {
+  goes m words' p c site history time there becomes = record {
     port = p;
     beside = c;
     added = [];
     lawful = subst (λ (f : ℕ → List Noted). LawfulMemory e words' (put k p ports) c f) (λ i q. nothing_noted q i) there;
     becomes = becomes;
-    place = place;
+    site = site;
     entries = [];
     history = history;
     adds = inl refl;
@@ -88,7 +88,7 @@ module _ (e : Plan) (words : List ℕ) (ports : ℕ → Port) (b : Beside) (note
     added = added;
     lawful = there;
     becomes = becomes;
-    place = stays p.control.here same;
+    site = stays p.control.here same;
     entries = entries;
     history = history;
     adds = adds;
@@ -96,15 +96,15 @@ module _ (e : Plan) (words : List ℕ) (ports : ℕ → Port) (b : Beside) (note
   }
 
   here : (p : Port) → p.part ≡ (ports k).part → p.before ≡ (ports k).before → p.control.here ≡ (ports k).control.here → IsAside b b (ports k) p
-  here p part before place = record { log = refl; epochs = refl; part = part; before = before; here = place }
+  here p part before site = record { log = refl; epochs = refl; part = part; before = before; here = site }
 
   -- nothing changes
-  rests : (m : Move) → Stays m → ((since : ℕ → ℕ) → since_behind b k m since ≡ since) → (IsAside b b (ports k) (ports k) → Becomes e words ports b k m (ports k) b []) → MoveLeads e words words ports b notes k m
+  rests : (m : Move) → Stays m → ((since : ℕ → ℕ) → since_after b k m since ≡ since) → (IsAside b b (ports k) (ports k) → Becomes e words ports b k m (ports k) b []) → MoveLeads e words words ports b notes k m
   rests m stays untimed becomes =
       let itself : LawfulMemory e words (put k (ports k) ports) b notes = subst (λ (f : ℕ → Port). LawfulMemory e words f b notes) (λ i q. same_ports q i) w in
       goes m words (ports k) b (stays (ports k).control.here refl) (sym (append-nil (one_history b)))
-      (λ since t. subst (λ (f : ℕ → ℕ). KeepsTime e words (put k (ports k) ports) (place_now b) f) (sym (untimed since))
-      (subst (λ (f : ℕ → Port). KeepsTime e words f (place_now b) since) (λ i q. same_ports q i) t)) itself (becomes (here (ports k) refl refl refl))
+      (λ since t. subst (λ (f : ℕ → ℕ). KeepsTime e words (put k (ports k) ports) (site_now b) f) (sym (untimed since))
+      (subst (λ (f : ℕ → Port). KeepsTime e words f (site_now b) since) (λ i q. same_ports q i) t)) itself (becomes (here (ports k) refl refl refl))
 
   -- a port that has seen its epoch
   seen : (m : Move) → Stays m → (log : List Applied) (c : Beside) (added : List Noted) → IsBesideAs b c → Timed m words (put k (having_seen (ports k) log) ports) c →
@@ -126,7 +126,7 @@ module _ (e : Plan) (words : List ℕ) (ports : ℕ → Port) (b : Beside) (note
   every_step Seals may =
       let l = seals_stay_lawful e words ports b k w.epochs below may.0 may.1 in
       aside Seals (λ there is. is) (moved_words e words (ports k) k Seals) (passing_port (ports k)) l.beside (record { log = l.same.log; epochs = l.same.before; part = refl; before = refl; here = refl })
-      (keeps_pass (moved_words e words (ports k) k Seals) l.beside (λ q low. (steps_keep_places e words q low).arena (ports k).control.here.arena (Add (ports k).passed seal)) l.same.before)
+      (keeps_pass (moved_words e words (ports k) k Seals) l.beside (λ q low. (steps_keep_sites e words q low).arena (ports k).control.here.arena (Add (ports k).passed seal)) l.same.before)
       (λ a. (refl, a, refl)) l.lawful
   every_step PassesSealed may =
       let l = sealed_passes_stay_lawful e words ports b k w.epochs below may.0 may.1 may.2 in
@@ -155,39 +155,39 @@ module _ (e : Plan) (words : List ℕ) (ports : ℕ → Port) (b : Beside) (note
       aside StoresMark (λ there is. is) (moved_words e words (ports k) k StoresMark) p b (here p refl refl refl)
       (λ since t. marks_keep_time e words ports b k since w.epochs below may.0 may.2 t) (λ a. (refl, a, refl)) (marks_stay_lawful e words ports b k w.epochs below may.0 may.1 may.2)
   every_step LoadsCurrent may =
-      let p : Port = record (ports k) { control = record (ports k).control { entering = Loaded (place_now b) } } in
+      let p : Port = record (ports k) { control = record (ports k).control { entering = Loaded (site_now b) } } in
       let to = entries_load e words ports b k w.epochs below may in
-      let place : unpacked (slice_index words current_word) ≡ place_now b = ap unpacked to.0 ∙ unpacked_is (place_now b) w.epochs.plan.arenas w.epochs.control.place.arena in
+      let site : unpacked (slice_index words current_word) ≡ site_now b = ap unpacked to.0 ∙ unpacked_is (site_now b) w.epochs.plan.arenas w.epochs.control.site.arena in
       aside LoadsCurrent (λ there is. is) words p b (here p refl refl refl) (λ since t. entries_keep_time e words ports b k since below t)
-      (λ a. (ap (λ (c : Place). record (ports k) { control = record (ports k).control { entering = Loaded c } }) (sym place), a, refl)) to.1
+      (λ a. (ap (λ (c : Site). record (ports k) { control = record (ports k).control { entering = Loaded c } }) (sym site), a, refl)) to.1
   every_step (ExchangesMark c) may =
       let a = arrivals_stay_lawful e words ports b k c w.epochs below may in
-      goes (ExchangesMark c) (moved_words e words (ports k) k (ExchangesMark c)) (arrived_port e k a.place a.before) b a.later (sym (append-nil (one_history b)))
+      goes (ExchangesMark c) (moved_words e words (ports k) k (ExchangesMark c)) (arrived_port e k a.site a.before) b a.later (sym (append-nil (one_history b)))
       (λ since t. (arrivals_keep_time e words ports b k c since w.epochs below may t a).1) (arrivals_keep_notes e words ports b notes k c w below a)
       (a, refl, refl, refl, λ since t. (arrivals_keep_time e words ports b k c since w.epochs below may t a).0)
   every_step (Takes x) may =
       let p : Port = owning_port (ports k) (just_taken x) in
       aside (Takes x) (λ there is. is) (moved_words e words (ports k) k (Takes x)) p b (here p refl refl refl)
-      (keeps (moved_words e words (ports k) k (Takes x)) p b (λ q low. (steps_keep_places e words q low).taken x 0 (k + 1)) refl refl
+      (keeps (moved_words e words (ports k) k (Takes x)) p b (λ q low. (steps_keep_sites e words q low).taken x 0 (k + 1)) refl refl
       (λ j a may. absurd (not_again p.control (just_taken x) j a refl refl may)) (omega arith)) (λ a. (refl, a, refl))
       (takes_stay_lawful e words ports b k x w.epochs below may.0 may.1 may.2 may.3 may.4)
   every_step (Gives o) may =
       aside (Gives o) (λ there is. is) (moved_words e words (ports k) k (Gives o)) (having_given (ports k)) b (here (having_given (ports k)) refl refl refl)
-      (keeps (moved_words e words (ports k) k (Gives o)) (having_given (ports k)) b (λ q low. (steps_keep_places e words q low).given o.arena 0) refl refl
+      (keeps (moved_words e words (ports k) k (Gives o)) (having_given (ports k)) b (λ q low. (steps_keep_sites e words q low).given o.arena 0) refl refl
       (λ j a may. absurd (puts_nobody (having_given (ports k)).control j a refl may)) (omega arith)) (λ a. (refl, a, refl)) (gives_stay_lawful e words ports b k o w.epochs below may)
   every_step (FindsElsewhere o d) may =
       aside (FindsElsewhere o d) (λ there is. is) words (having_put (ports k) o) b (here (having_put (ports k) o) refl refl refl)
       (keeps_words (having_put (ports k) o) refl refl (λ j a may. absurd (not_again (having_put (ports k) o).control (at_next_port o) j a refl refl may))) (λ a. (refl, a, refl))
       (others_are_elsewhere e words ports b k o d w.epochs below may.0 may.1 may.2 may.3 may.4 may.5 may.6)
   every_step (LoadsMark o) may =
-      let d : Place = (ports o.clean).control.here in
+      let d : Site = (ports o.clean).control.here in
       let p : Port = owning_port (ports k) (having_loaded o d) in
       let to = marks_are_loaded e words ports b k o w.epochs below may.0 may.1 may.2 in
       let at = to.0 in
-      let place : unpacked (slice_index words (at_word o.clean) - entering_mark) ≡ d =
-      ap unpacked (omega (arith, at)) ∙ unpacked_is d w.epochs.plan.arenas (w.epochs.control.places o.clean may.1).arena in
+      let site : unpacked (slice_index words (at_word o.clean) - entering_mark) ≡ d =
+      ap unpacked (omega (arith, at)) ∙ unpacked_is d w.epochs.plan.arenas (w.epochs.control.sites o.clean may.1).arena in
       aside (LoadsMark o) (λ there is. is) words p b (here p refl refl refl)
-      (λ since t. loaded_marks_keep_time e words ports (place_now b) d k o since below t) (λ a. (ap (λ (c : Place). owning_port (ports k) (having_loaded o c)) (sym place), a, refl)) to.1
+      (λ since t. loaded_marks_keep_time e words ports (site_now b) d k o since below t) (λ a. (ap (λ (c : Site). owning_port (ports k) (having_loaded o c)) (sym site), a, refl)) to.1
   every_step (Puts o a) may =
       aside (Puts o a) (λ there is. is) (moved_words e words (ports k) k (Puts o a)) (having_put (ports k) o) b (here (having_put (ports k) o) refl refl refl)
       (λ since t. puts_keep_time e words ports b k o a since w.epochs below may.0 may.2 may.4 may.5 may.6 t) (λ a. (refl, a, refl))
@@ -195,7 +195,7 @@ module _ (e : Plan) (words : List ℕ) (ports : ℕ → Port) (b : Beside) (note
   every_step (Sets o v next) may =
       aside (Sets o v next) (λ there is. is) (moved_words e words (ports k) k (Sets o v next)) (having_set (ports k) o next) (vacated b o.arena)
       (record { log = refl; epochs = refl; part = refl; before = refl; here = refl })
-      (keeps (moved_words e words (ports k) k (Sets o v next)) (having_set (ports k) o next) (vacated b o.arena) (λ q low. (steps_keep_places e words q low).set o.arena o.set v) refl refl
+      (keeps (moved_words e words (ports k) k (Sets o v next)) (having_set (ports k) o next) (vacated b o.arena) (λ q low. (steps_keep_sites e words q low).set o.arena o.set v) refl refl
       (λ j a may'. set_puts (ports k).control (having_set (ports k) o next).control o next j a may.0 refl may') (omega arith)) (λ a. (refl, a, refl))
       (sets_stay_lawful e words ports b k o v next w.epochs below may.0 may.1 may.2 may.3 may.4 may.5 may.6 may.7)
   every_step (FindsClear o next) may =
@@ -211,9 +211,9 @@ module _ (e : Plan) (words : List ℕ) (ports : ℕ → Port) (b : Beside) (note
             let kept = publishes_keep_notes e words (moved_words e words (ports k) k (Publishes o)) ports b notes k o w below won.2 in
             goes (Publishes o) (moved_words e words (ports k) k (Publishes o)) p (next_beside e b o.arena) refl
             (kept.1 ∙ sym (append-nil (one_history b)))
-            (λ since t. publishes_keep_time e words ports (place_now b) (place_now (next_beside e b o.arena)) k o since below (omega arith) t) kept.0 (refl, refl, inl (won.0, refl))
+            (λ since t. publishes_keep_time e words ports (site_now b) (site_now (next_beside e b o.arena)) k o since below (omega arith) t) kept.0 (refl, refl, inl (won.0, refl))
         | inr lost ↦ aside (Publishes o) (λ there is. is) (moved_words e words (ports k) k (Publishes o)) p b (here p refl refl refl)
-            (λ since t. publishes_keep_time e words ports (place_now b) (place_now b) k o since below (omega arith) t) (λ a. (refl, refl, inr (lost.0, refl))) lost.1
+            (λ since t. publishes_keep_time e words ports (site_now b) (site_now b) k o since below (omega arith) t) (λ a. (refl, refl, inr (lost.0, refl))) lost.1
       ])
   every_step (Sees log) may =
       let s : IsStanding b k (ports k) = may.1.0 in

@@ -1,6 +1,6 @@
 -- Arenas come free a bounded number of times in an epoch, and not all arenas are in use.
-use Rattle.partial_epochs.proofs.{Common.{ℕ, ◌≡◌, ◌≢◌, ◌+◌, ◌*◌, ◌%◌, ◌<◌, ◌≤◌, ◌==◌, ◌⊎◌, Bool, true, false, if◌then◌else◌, nat_lt, Option, Some, None, List, slice_index, refl, sym, ap, subst, ◌∙◌, inl, inr, arith, cases_lt, eqb_tells, some_same, put, Plan, arena_limit, at_word, control_words, entering_mark, packed, unpacked, Entering, OwnedArena, Port, Stands, Marks, Loaded, IsPlaceWord}, Entering.cw_at, Lists.{put_all, put_other, put_same}, Sums.{pigeonhole, sum_few}}
-use Rattle.partial_epochs.specs.FreeArenas.{FewComeFree, IsInUse, KeepsTally, OwnPlacesAreInUse, OwnedArenasAreInUse, SomeArenaIsFree, Tally, credit, gives_at, gives_left, weight}
+use Rattle.partial_epochs.proofs.{Common.{ℕ, ◌≡◌, ◌≢◌, ◌+◌, ◌*◌, ◌%◌, ◌<◌, ◌≤◌, ◌==◌, ◌⊎◌, Bool, true, false, if◌then◌else◌, nat_lt, Option, Some, None, List, slice_index, refl, sym, ap, subst, ◌∙◌, inl, inr, arith, cases_lt, eqb_tells, some_same, put, Plan, arena_limit, at_word, control_words, entering_mark, packed, unpacked, Entering, OwnedArena, Port, Stands, Marks, Loaded, IsSiteWord}, Entering.cw_at, Lists.{put_all, put_other, put_same}, Sums.{pigeonhole, sum_few}}
+use Rattle.partial_epochs.specs.FreeArenas.{FewComeFree, IsInUse, KeepsTally, OwnSitesAreInUse, OwnedArenasAreInUse, SomeArenaIsFree, Tally, credit, gives_at, gives_left, weight}
 
 -- a port that comes from another epoch gives back at most two arenas first
 gives_few : (at : Entering) (past : Bool) (o : Option OwnedArena) → gives_at at past o ≤ 2
@@ -53,15 +53,15 @@ owned_arenas_are_in_use e words ports t k x keeps free low taken =
     )
 
 -- the word of a port that stands names its arena
-pub own_places_are_in_use : OwnPlacesAreInUse
-own_places_are_in_use e words ports b k w low stands = inl (record { port = k; inside = low; names = ap (λ n. n % arena_limit) word ∙ rest })
+pub own_sites_are_in_use : OwnSitesAreInUse
+own_sites_are_in_use e words ports b k w low stands = inl (record { port = k; inside = low; names = ap (λ n. n % arena_limit) word ∙ rest })
   where
     word : slice_index words (at_word k) ≡ packed (ports k).control.here
     word = sym (cw_at e words ports b k (ports k) 0 w low (at_word k) (omega (arith, low)))
-        ∙ subst (IsPlaceWord e (control_words e words) k (ports k).control.here) stands (w.control.at k low)
+        ∙ subst (IsSiteWord e (control_words e words) k (ports k).control.here) stands (w.control.at k low)
 
     rest : packed (ports k).control.here % arena_limit ≡ (ports k).control.here.arena
-    rest = let small = (w.control.places k low).arena in let few = w.plan.arenas in omega (arith, small, few)
+    rest = let small = (w.control.sites k low).arena in let few = w.plan.arenas in omega (arith, small, few)
 
 -- port q owns arena x, and isn't the port k
 record IsOtherOwner (ports : ℕ → Port) (k x q : ℕ) : Type 0 where

@@ -1,5 +1,5 @@
--- What the words of an epoch tell last, and that it stays.
-use Rattle.partial_epochs.proofs.{Common.{ℕ, ◌≡◌, ◌≢◌, ◌+◌, ◌<◌, ◌≤◌, ◌==◌, ◌⊎◌, ◌++◌, Bool, true, false, if◌then◌else◌, Option, Some, None, List, [], ◌∷◌, length, take, slice_index, refl, sym, ap, subst, ◌∙◌, inl, inr, arith, AllByRecursion, option_map_or, eqb_tells, take_all, Applied, Opening, initial_stamp, stamp_of, value_of, stamp_all, total, lawful_records_are_within, list_of, Plan, IsSealed, arena_words, base, component_words, plain, unsealed, history_of, opening_behind, Port, Stands, Beside, IsStanding, LawfulEpochs, ComponentsNameRecords, LastWordsAreFinal, TellTheLast, read_stamp, behind_both, value_word, view_word, records_within, value_behind_stamp}, Continue.{epochs_continue, history_took, reads_tell_all_epochs}, Places.below_whole, Worded.{plain_at, plain_component, plain_other}}
+-- What the words of an epoch hold last, and that it stays.
+use Rattle.partial_epochs.proofs.{Common.{ℕ, ◌≡◌, ◌≢◌, ◌+◌, ◌<◌, ◌≤◌, ◌==◌, ◌⊎◌, ◌++◌, Bool, true, false, if◌then◌else◌, Option, Some, None, List, [], ◌∷◌, length, take, slice_index, refl, sym, ap, subst, ◌∙◌, inl, inr, arith, AllByRecursion, option_map_or, eqb_tells, take_all, Applied, Opening, initial_stamp, stamp_of, value_of, stamp_all, total, lawful_records_are_within, list_of, Plan, IsSealed, arena_words, base, component_words, plain, unsealed, history_of, opened_after, Port, Stands, Beside, IsStanding, LawfulEpochs, ComponentsNameRecords, LastWordsAreFinal, TellTheLast, read_stamp, behind_both, value_word, view_word, records_within, value_behind_stamp}, Continue.{epochs_continue, history_took, reads_tell_all_epochs}, Offsets.below_whole, Worded.{plain_at, plain_component, plain_other}}
 use Rattle.partial_model.specs.History.{last_from}
 use Rattle.partial_core.specs.Lawful as one
 
@@ -35,18 +35,18 @@ module _ (e : Plan) (words : List ℕ) (ports : ℕ → Port) (b : Beside) (k j 
   log = s.epoch.log
 
   abbrev o : Opening
-  o = opening_behind e.opening (ports k).before
+  o = opened_after e.opening (ports k).before
 
   abbrev bw : List ℕ
   bw = arena_words e words x
 
-  lawful : one.Lawful e.sizes (opening_behind e.opening (ports k).before) bw (list_of s.epoch.part 0 e.ports) s.epoch.log
-  lawful = subst (λ (l : List (List Applied)). one.Lawful e.sizes (opening_behind e.opening l) bw (list_of s.epoch.part 0 e.ports) s.epoch.log) s.before (w.arenas x s.epoch s.is).lawful
+  lawful : one.Lawful e.sizes (opened_after e.opening (ports k).before) bw (list_of s.epoch.part 0 e.ports) s.epoch.log
+  lawful = subst (λ (l : List (List Applied)). one.Lawful e.sizes (opened_after e.opening l) bw (list_of s.epoch.part 0 e.ports) s.epoch.log) s.before (w.arenas x s.epoch s.is).lawful
 
-  long : length (opening_behind e.opening (ports k).before).values ≡ e.sizes.m
+  long : length (opened_after e.opening (ports k).before).values ≡ e.sizes.m
   long = lawful.memory.values
 
-  last : slice_index bw j ≡ stamp_of (opening_behind e.opening (ports k).before) s.epoch.log j
+  last : slice_index bw j ≡ stamp_of (opened_after e.opening (ports k).before) s.epoch.log j
   last = (lawful.memory.agrees j (let l = long in omega (arith, l, inside))).0
 
   abbrev raw : ℕ
@@ -58,14 +58,14 @@ module _ (e : Plan) (words : List ℕ) (ports : ℕ → Port) (b : Beside) (k j 
   pub is_raw : slice_index bw j ≡ unsealed raw
   is_raw = plain_at e words x j low ∙ plain_component e words x j raw inside
 
-  named : unsealed raw ≡ stamp_of (opening_behind e.opening (ports k).before) s.epoch.log j
+  named : unsealed raw ≡ stamp_of (opened_after e.opening (ports k).before) s.epoch.log j
   named = sym is_raw ∙ last
 
-  -- the record lies behind the component words, and within the arena
-  above : e.sizes.m ≤ stamp_of (opening_behind e.opening (ports k).before) s.epoch.log j
+  -- the record lies after the component words, and within the arena
+  above : e.sizes.m ≤ stamp_of (opened_after e.opening (ports k).before) s.epoch.log j
   above =
-      let r = lawful_records_are_within e.sizes (opening_behind e.opening (ports k).before) bw (list_of s.epoch.part 0 e.ports) s.epoch.log lawful in
-      stamp_all (λ n. e.sizes.m ≤ n) (opening_behind e.opening (ports k).before) j s.epoch.log
+      let r = lawful_records_are_within e.sizes (opened_after e.opening (ports k).before) bw (list_of s.epoch.part 0 e.ports) s.epoch.log lawful in
+      stamp_all (λ n. e.sizes.m ≤ n) (opened_after e.opening (ports k).before) j s.epoch.log
       (weaker s.epoch.log r.entries) (r.initial j inside).0
     where
       weaker : (h : List Applied) → AllByRecursion (λ (a : Applied). (e.sizes.m ≤ a.stamp) × (view_word a.stamp < length bw)) h → AllByRecursion (λ (a : Applied). e.sizes.m ≤ a.stamp) h
@@ -76,7 +76,7 @@ module _ (e : Plan) (words : List ℕ) (ports : ℕ → Port) (b : Beside) (k j 
   within =
       let l = long in
       let c = lawful.memory.count in
-      let r = (records_within (opening_behind e.opening (ports k).before) bw s.epoch.log lawful.memory.agrees).components j (omega (arith, l, inside)) in
+      let r = (records_within (opened_after e.opening (ports k).before) bw s.epoch.log lawful.memory.agrees).components j (omega (arith, l, inside)) in
       omega (arith, r, c)
 
   value : slice_index words (base e x + value_word (unsealed raw)) ≡ value_of e.opening (history_of (s.epoch.log ∷ (ports k).before)) j
@@ -92,9 +92,9 @@ module _ (e : Plan) (words : List ℕ) (ports : ℕ → Port) (b : Beside) (k j 
       let values = w.plan.values in
       sym (there ∙ plain_other e words x (value_word (unsealed raw)) (slice_index words (base e x + value_word (unsealed raw))) (omega (arith, at, from)))
       ∙ ap (λ n. slice_index bw (value_word n)) named
-      ∙ ap (λ (h : List Applied). slice_index bw (value_word (stamp_of (opening_behind e.opening (ports k).before) h j))) (sym (take_all (length s.epoch.log) s.epoch.log (omega arith)))
-      ∙ value_behind_stamp (opening_behind e.opening (ports k).before) bw s.epoch.log j (length s.epoch.log) lawful.memory.agrees (omega (arith, l, inside))
-      ∙ ap (λ (h : List Applied). value_of (opening_behind e.opening (ports k).before) h j) (take_all (length s.epoch.log) s.epoch.log (omega arith))
+      ∙ ap (λ (h : List Applied). slice_index bw (value_word (stamp_of (opened_after e.opening (ports k).before) h j))) (sym (take_all (length s.epoch.log) s.epoch.log (omega arith)))
+      ∙ value_behind_stamp (opened_after e.opening (ports k).before) bw s.epoch.log j (length s.epoch.log) lawful.memory.agrees (omega (arith, l, inside))
+      ∙ ap (λ (h : List Applied). value_of (opened_after e.opening (ports k).before) h j) (take_all (length s.epoch.log) s.epoch.log (omega arith))
       ∙ sym (epochs_continue e.opening s.epoch.log (ports k).before j (omega (arith, values, inside))).value
 
   public : read_stamp e words (ports k) j (unsealed raw) ≡ stamp_of e.opening (history_of (s.epoch.log ∷ (ports k).before)) j
@@ -103,7 +103,7 @@ module _ (e : Plan) (words : List ℕ) (ports : ℕ → Port) (b : Beside) (k j 
       let all : take (length s.epoch.log) s.epoch.log ≡ s.epoch.log = take_all (length s.epoch.log) s.epoch.log (omega arith) in
       let told = reads_tell_all_epochs e words ports b k j (length s.epoch.log) w below stands inside s (omega arith) in
       ap (read_stamp e words (ports k) j) named
-      ∙ ap (λ (h : List Applied). read_stamp e words (ports k) j (stamp_of (opening_behind e.opening (ports k).before) h j)) (sym all)
+      ∙ ap (λ (h : List Applied). read_stamp e words (ports k) j (stamp_of (opened_after e.opening (ports k).before) h j)) (sym all)
       ∙ told.2
       ∙ ap (λ (h : List Applied). stamp_of e.opening h j) (history_took s.epoch.log (ports k).before (length s.epoch.log))
       ∙ ap (λ (h : List Applied). stamp_of e.opening (history_of (h ∷ (ports k).before)) j) all
@@ -120,7 +120,7 @@ last_words_are_final e words ports b k j w below stands inside s = (
 pub components_name_records : ComponentsNameRecords
 components_name_records e words ports b k j w below stands inside s = record {
   there =
-      let low = below_whole e (ports k).control.here.arena j (w.control.places k below).arena (omega (arith, inside)) in
+      let low = below_whole e (ports k).control.here.arena j (w.control.sites k below).arena (omega (arith, inside)) in
       let all = w.count in
       omega (arith, low, all);
   names = (tell e words ports b k j w below stands inside s).stamp;

@@ -1,6 +1,6 @@
 mod Common
 pub mod Lists
-pub mod Places
+pub mod Offsets
 pub mod Present
 pub mod Change
 pub mod Apart

@@ -15,7 +15,7 @@ at_of f p zero i below = absurd (omega (arith, below))
 at_of f p (suc n) zero below = ap f (omega arith)
 at_of f p (suc n) (suc i) below = at_of f (p + 1) n i (omega (arith, below)) ∙ ap f (omega arith)
 
--- where a function changes at one place
+-- where a function changes at one argument
 pub set_of : (f g : ℕ → ℕ) (p n i : ℕ) → i < n → ((j : ℕ) → j ≢ p + i → g j ≡ f j) → list_of g p n ≡ slice_set (list_of f p n) i (g (p + i))
 set_of f g p zero i below e = absurd (omega (arith, below))
 set_of f g p (suc n) zero below e =

@@ -1,6 +1,6 @@
 -- Each due step of a machine in the arena where its port stands keeps the lawful state of all epochs.
 use Rattle.std.proofs.lemmas.Bool.{eq-eqb, ne_eqb}
-use Rattle.partial_epochs.proofs.{Common.{ℕ, ◌≡◌, ◌≢◌, ◌+◌, ◌*◌, ◌%◌, ◌^◌, ◌<◌, ◌≤◌, ◌==◌, ◌⊎◌, ◌++◌, Bool, true, false, if◌then◌else◌, Some, List, [], ◌∷◌, length, slice_index, slice_set, refl, sym, ap, subst, ◌∙◌, inl, inr, arith, ◌&&◌, ◌||◌, nat_lt, AllByRecursion, cases_lt, lt-ltb, eqb_tells, get_or-set_same, get_or-set_other, Applied, Opening, Step, Load, Store, Exchange, Add, Layout, total, pool_counter, slot_counter, greatest_record, answer_of, word_of, words_after, steps_left, CoreState, advance, step_of, Part, PartAmong, IsMachineOf, port_of, IsReady, LeadsOn, added_by, lawful_machines_are_ready, steps_stay_lawful, count, list_of, put, Plan, arena_words, carried_words, component_words, placed_step, opening_behind, Port, Epoch, Beside, IsArena, IsStanding, LawfulEpochs, IsPresent, awaits_slot, claims_no_more, slot_limit, mul-le-mul_left, MachineLeads, MachineStepsStayLawful, MayClaim, MeetsSeal, ends_over, Stands, not_below, value_word}, Apart.{IsApart, due_apart}, Change.{Changes, beside_then, change_kept}, Lists.{Around, around_of, count_more, count_one, count_same, length_of, put_all, put_other, put_same}, Places.below_whole, Present.{by_seal, standing}, Slots.{MayClaimWords, awaits, awaits_same, counted, done, one}, Worded.{Words, worded}}
+use Rattle.partial_epochs.proofs.{Common.{ℕ, ◌≡◌, ◌≢◌, ◌+◌, ◌*◌, ◌%◌, ◌^◌, ◌<◌, ◌≤◌, ◌==◌, ◌⊎◌, ◌++◌, Bool, true, false, if◌then◌else◌, Some, List, [], ◌∷◌, length, slice_index, slice_set, refl, sym, ap, subst, ◌∙◌, inl, inr, arith, ◌&&◌, ◌||◌, nat_lt, AllByRecursion, cases_lt, lt-ltb, eqb_tells, get_or-set_same, get_or-set_other, Applied, Opening, Step, Load, Store, Exchange, Add, Layout, total, pool_counter, slot_counter, greatest_record, answer_of, word_of, words_after, steps_left, CoreState, advance, step_of, Part, PartAmong, IsMachineOf, port_of, IsReady, LeadsOn, added_by, lawful_machines_are_ready, steps_stay_lawful, count, list_of, put, Plan, arena_words, carried_words, component_words, based_step, opened_after, Port, Epoch, Beside, IsArena, IsStanding, LawfulEpochs, IsPresent, awaits_slot, claims_no_more, slot_limit, mul-le-mul_left, MachineLeads, MachineStepsStayLawful, MayClaim, MeetsSeal, ends_over, Stands, not_below, value_word}, Apart.{IsApart, due_apart}, Change.{Changes, beside_then, change_kept}, Lists.{Around, around_of, count_more, count_one, count_same, length_of, put_all, put_other, put_same}, Offsets.below_whole, Present.{by_seal, standing}, Slots.{MayClaimWords, awaits, awaits_same, counted, done, one}, Worded.{Words, worded}}
 use Rattle.partial_core.specs.Lawful as one
 use Rattle.partial_core.specs.Steps.{Tells}
 
@@ -111,7 +111,7 @@ module _ (e : Plan) (words : List ℕ) (ports : ℕ → Port) (b : Beside) (k : 
   r = s.epoch
 
   abbrev o : Opening
-  o = opening_behind e.opening r.before
+  o = opened_after e.opening r.before
 
   abbrev bw : List ℕ
   bw = arena_words e words x
@@ -201,9 +201,9 @@ module _ (e : Plan) (words : List ℕ) (ports : ℕ → Port) (b : Beside) (k : 
       ]
 
   abbrev words' : List ℕ
-  words' = words_after words (placed_step e x step)
+  words' = words_after words (based_step e x step)
 
-  module _ (h : Words e words x step (words_after words (placed_step e (ports k).control.here.arena step))) where
+  module _ (h : Words e words x step (words_after words (based_step e (ports k).control.here.arena step))) where
     abbrev over' : Bool
     over' = (ports k).over || ends_over e bw step
 
@@ -265,8 +265,8 @@ module _ (e : Plan) (words : List ℕ) (ports : ℕ → Port) (b : Beside) (k : 
       | inr free ↦ inr (by_seal e words ports b k w below stands free.0 free.1 free.2)
     ]
 
-    tells : Tells e.sizes (opening_behind e.opening (ports k).before) r.log entries (ports k).part c (answer_of bw step) leads.y
-    tells = subst (λ (l : List (List Applied)). Tells e.sizes (opening_behind e.opening l) r.log entries (ports k).part c (answer_of bw step) leads.y) s.before
+    tells : Tells e.sizes (opened_after e.opening (ports k).before) r.log entries (ports k).part c (answer_of bw step) leads.y
+    tells = subst (λ (l : List (List Applied)). Tells e.sizes (opened_after e.opening l) r.log entries (ports k).part c (answer_of bw step) leads.y) s.before
         (subst (λ (y : Part). Tells e.sizes o r.log entries y c (answer_of bw step) leads.y) s.part leads.tells)
 
     pub machine_leads : (¬ MeetsSeal e (component_words e words x) step) → MachineLeads e words ports b k c step
@@ -291,11 +291,11 @@ module _ (e : Plan) (words : List ℕ) (ports : ℕ → Port) (b : Beside) (k : 
       lawful = change_kept e words ports b k w below stands words' p' r' entries changes;
     }
       where
-        there : (t : Step) → word_of t < total e.sizes → word_of (placed_step e x t) < length words
-        there (Load v) low = let up = below_whole e x v (w.control.places k below).arena (omega (arith, low)) in let count = w.count in omega (arith, up, count)
-        there (Store v u) low = let up = below_whole e x v (w.control.places k below).arena (omega (arith, low)) in let count = w.count in omega (arith, up, count)
-        there (Exchange v u n) low = let up = below_whole e x v (w.control.places k below).arena (omega (arith, low)) in let count = w.count in omega (arith, up, count)
-        there (Add v u) low = let up = below_whole e x v (w.control.places k below).arena (omega (arith, low)) in let count = w.count in omega (arith, up, count)
+        there : (t : Step) → word_of t < total e.sizes → word_of (based_step e x t) < length words
+        there (Load v) low = let up = below_whole e x v (w.control.sites k below).arena (omega (arith, low)) in let count = w.count in omega (arith, up, count)
+        there (Store v u) low = let up = below_whole e x v (w.control.sites k below).arena (omega (arith, low)) in let count = w.count in omega (arith, up, count)
+        there (Exchange v u n) low = let up = below_whole e x v (w.control.sites k below).arena (omega (arith, low)) in let count = w.count in omega (arith, up, count)
+        there (Add v u) low = let up = below_whole e x v (w.control.sites k below).arena (omega (arith, low)) in let count = w.count in omega (arith, up, count)
 
   -- the machine is sound, with the sizes of the plan
   pub machine_ready : IsReady e.sizes c (r.part k)
@@ -305,9 +305,9 @@ module _ (e : Plan) (words : List ℕ) (ports : ℕ → Port) (b : Beside) (k : 
   pub makes_fewer : steps_left (advance c (answer_of (arena_words e words (ports k).control.here.arena) step)) < steps_left c
   makes_fewer = leads.tells.behind.fewer
 
-  pub machine_kept : (MeetsSeal e (component_words e words (ports k).control.here.arena) step × (words_after words (placed_step e (ports k).control.here.arena step) ≡ words))
+  pub machine_kept : (MeetsSeal e (component_words e words (ports k).control.here.arena) step × (words_after words (based_step e (ports k).control.here.arena step) ≡ words))
       ⊎ MachineLeads e words ports b k c step
-  machine_kept = elim (worded e words x step (w.control.places k below).arena w.count low apart w.plan.sizes.slots.0) [
+  machine_kept = elim (worded e words x step (w.control.sites k below).arena w.count low apart w.plan.sizes.slots.0) [
     | inl met ↦ inl met
     | inr h ↦ inr (machine_leads h.1 h.0)
   ]

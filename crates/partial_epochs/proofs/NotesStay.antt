@@ -1,9 +1,9 @@
 -- Each step of a machine keeps the notes lawful, over all epochs.
-use Rattle.partial_epochs.proofs.{Common.{ℕ, suc, ◌≡◌, ◌≢◌, ◌+◌, ◌<◌, ◌≤◌, ◌==◌, ◌⊎◌, ◌++◌, Bool, true, false, if◌then◌else◌, Option, Some, None, IfSome, List, [], ◌∷◌, length, map, refl, sym, ap, subst, ◌∙◌, inl, inr, arith, length-append, AllByRecursion, option_map, eqb_tells, append-nil, append_cancel_left, map-append, Applied, Opening, Note, Fits, IsLegal, IsTrueOf, LegalNotes, Noted, place_of, seen_by, shown_by, EachOnce, places_by, places_written, wrote, all_take, some_same, Step, Layout, first_free, answer_of, words_after, Reply, CoreState, advance, reply_of, answer_for, Holding, Part, core_of, first_at, port_of, holdings, AreAnswersKept, AreNotesOf, IsNoteOf, kept_with, since_with, list_of, put, Plan, arena_words, placed_step, history_of, opening_behind, public_log, Control, Epoch, Port, Stands, Beside, IsPresent, IsStanding, MachineLeads, MayAdd, is_applied, Makes, ExpectedOne, IsEpochHistory, LawfulMemory, LawfulNotes, MayNote, NotesStayLawful, EpochReached, noting, one_history, public_answer, public_call, public_note, public_noted, seen_of, LegalNotes-grows, LegalNotes-last, LegalNotes-push, IsTrueOf-grows, places_written-append, seen_by-push}, Lists.{put_all, put_other, put_same}, OneHistory.held_history, Public.{public_fits, public_true}, Written.{changed_none, lost_none, no_places, read_none, scanned_none}, Seats.{earlier, fits, history_longer, known, number, reached, reached_grows, seen_begins}}
+use Rattle.partial_epochs.proofs.{Common.{ℕ, suc, ◌≡◌, ◌≢◌, ◌+◌, ◌<◌, ◌≤◌, ◌==◌, ◌⊎◌, ◌++◌, Bool, true, false, if◌then◌else◌, Option, Some, None, IfSome, List, [], ◌∷◌, length, map, refl, sym, ap, subst, ◌∙◌, inl, inr, arith, length-append, AllByRecursion, option_map, eqb_tells, append-nil, append_cancel_left, map-append, Applied, Opening, Note, Fits, IsLegal, IsTrueOf, LegalNotes, Noted, place_of, seen_by, shown_by, EachOnce, places_by, places_written, wrote, all_take, some_same, Step, Layout, first_free, answer_of, words_after, Reply, CoreState, advance, reply_of, answer_for, Holding, Part, core_of, first_at, port_of, holdings, AreAnswersKept, AreNotesOf, IsNoteOf, kept_with, since_with, list_of, put, Plan, arena_words, based_step, history_of, opened_after, public_log, Control, Epoch, Port, Stands, Beside, IsPresent, IsStanding, MachineLeads, MayAdd, is_applied, Makes, ExpectedOne, IsEpochHistory, LawfulMemory, LawfulNotes, MayNote, NotesStayLawful, EpochReached, noting, one_history, public_answer, public_call, public_note, public_noted, seen_of, LegalNotes-grows, LegalNotes-last, LegalNotes-push, IsTrueOf-grows, places_written-append, seen_by-push}, Lists.{put_all, put_other, put_same}, OneHistory.held_history, Public.{public_fits, public_true}, Written.{changed_none, lost_none, no_places, read_none, scanned_none}, Seats.{earlier, fits, history_longer, known, number, reached, reached_grows, seen_begins}}
 use Rattle.partial_state.specs.Loads.{KeptAnswer}
 use Rattle.partial_core.proofs.Parts.{seen_within as no_longer}
 
--- the places of a port's entries in two histories, one behind the other
+-- the places of a port's entries in two histories, one after the other
 pub places_both : (p k : ℕ) (a b : List Applied) → places_by p k (a ++ b) ≡ places_by p k a ++ places_by p (k + length a) b
 places_both p k [] b = let is : k + 0 ≡ k = omega arith in ap (λ n. places_by p n b) (sym is)
 places_both p k (x ∷ a) b =
@@ -15,7 +15,7 @@ places_both p k (x ∷ a) b =
     turn true m l = refl
     turn false m l = refl
 
--- in the one history they are so many places behind
+-- in the one history they are so many places later
 places_public : (p off n g : ℕ) (h : List Applied) → places_by p (off + n) (public_log g h) ≡ map (λ i. off + i) (places_by p n h)
 places_public p off n g [] = refl
 places_public p off n g (x ∷ h) =
@@ -70,11 +70,11 @@ shown_public off (Note.Wrote k) = omega arith
 shown_public off (Note.Lost k) = omega arith
 shown_public off (Note.Saw k) = refl
 
-first_behind : (z : Layout) (o : Opening) (words : List ℕ) (hs : List Holding) (log : List Applied) (low : ℕ) (s : CoreState) (ks : List KeptAnswer) → AreAnswersKept z o words hs log low s ks →
+first_after : (z : Layout) (o : Opening) (words : List ℕ) (hs : List Holding) (log : List Applied) (low : ℕ) (s : CoreState) (ks : List KeptAnswer) → AreAnswersKept z o words hs log low s ks →
     0 < length ks →
     low ≤ first_at ks
-first_behind z o words hs log low s [] w some = absurd (omega (arith, some))
-first_behind z o words hs log low s (k ∷ ks) w some = w.0.behind
+first_after z o words hs log low s [] w some = absurd (omega (arith, some))
+first_after z o words hs log low s (k ∷ ks) w some = w.0.behind
 
 -- a call that is legal in a beginning of the history is legal in the history
 legal_longer : (o : Opening) (h es : List Applied) (p seen : ℕ) (n : Noted) → IsLegal o h p seen n → IsLegal o (h ++ es) p seen n
@@ -88,7 +88,7 @@ module _ (e : Plan) (words : List ℕ) (ports : ℕ → Port) (b : Beside) (note
     (stands : (ports k).control.entering ≡ Stands) (lead : MachineLeads e words ports b k c step) (added : List Noted)
     (may : MayNote e (ports k) (notes k) (since_with c (ports k).part) lead.port.part.seen lead.tells.new added) where
   abbrev words' : List ℕ
-  words' = words_after words (placed_step e (ports k).control.here.arena step)
+  words' = words_after words (based_step e (ports k).control.here.arena step)
 
   abbrev ports' : ℕ → Port
   ports' = put k lead.port ports
@@ -112,7 +112,7 @@ module _ (e : Plan) (words : List ℕ) (ports : ℕ → Port) (b : Beside) (note
   slog = lead.standing.epoch.log
 
   abbrev o : Opening
-  o = opening_behind e.opening (ports k).before
+  o = opened_after e.opening (ports k).before
 
   abbrev new : List Noted
   new = lead.tells.new
@@ -167,7 +167,7 @@ module _ (e : Plan) (words : List ℕ) (ports : ℕ → Port) (b : Beside) (note
       none : places_written lead.tells.new ≡ [] → public_log (length b.before) lead.entries ≡ []
       none is = ap (public_log (length b.before)) (no_places k (length lead.standing.epoch.log) lead.entries lead.own (own_places ∙ is))
 
-      by : (t : Option Reply) → reply_of (advance c (answer_of (arena_words e words (ports k).control.here.arena) step)) ≡ t → AreNotesOf (opening_behind e.opening (ports k).before) lead.port.part t lead.tells.new →
+      by : (t : Option Reply) → reply_of (advance c (answer_of (arena_words e words (ports k).control.here.arena) step)) ≡ t → AreNotesOf (opened_after e.opening (ports k).before) lead.port.part t lead.tells.new →
           (public_log (length b.before) lead.entries ≡ []) ⊎ MayAdd e words (ports k) (Makes c step more)
       by None is h = inl (none (ap places_written h))
       by (Some (Reply.Refused cause)) is h = inl (none (ap places_written h.none))
@@ -239,18 +239,18 @@ module _ (e : Plan) (words : List ℕ) (ports : ℕ → Port) (b : Beside) (note
       let both = length-append (kept_with c (ports k).part) last in
       let one : length last ≡ 1 = refl in
       let low : lead.port.part.since ≤ first_at lead.port.part.kept =
-      first_behind e.sizes (opening_behind e.opening s'.epoch.before) (arena_words e words' lead.port.control.here.arena) (holdings (list_of s'.epoch.part 0 e.ports)) s'.epoch.log
+      first_after e.sizes (opened_after e.opening s'.epoch.before) (arena_words e words' lead.port.control.here.arena) (holdings (list_of s'.epoch.part 0 e.ports)) s'.epoch.log
       lead.port.part.since lead.port.part.begun lead.port.part.kept kn.kept (omega (arith, long, both, one)) in
       let is = since_is in
       omega (arith, low, is)
 
   -- what the port has noted of its epoch is true
-  legal_here : (n : Noted) → lead.tells.new ≡ n ∷ [] → IsLegal (opening_behind e.opening (ports k).before) lead.port.part.seen k (seen_by 0 (ports k).part.notes) n
+  legal_here : (n : Noted) → lead.tells.new ≡ n ∷ [] → IsLegal (opened_after e.opening (ports k).before) lead.port.part.seen k (seen_by 0 (ports k).part.notes) n
   legal_here n is =
-      let all : LegalNotes (opening_behind e.opening (ports k).before) lead.port.part.seen k 0 lead.port.part.notes =
-      subst (λ i. LegalNotes (opening_behind e.opening (ports k).before) lead.port.part.seen i 0 lead.port.part.notes) port_is lead.tells.fits.legal in
-      LegalNotes-last (opening_behind e.opening (ports k).before) lead.port.part.seen k 0 (ports k).part.notes n
-      (subst (LegalNotes (opening_behind e.opening (ports k).before) lead.port.part.seen k 0) (notes_are ∙ ap (λ (l : List Noted). (ports k).part.notes ++ l) is) all)
+      let all : LegalNotes (opened_after e.opening (ports k).before) lead.port.part.seen k 0 lead.port.part.notes =
+      subst (λ i. LegalNotes (opened_after e.opening (ports k).before) lead.port.part.seen i 0 lead.port.part.notes) port_is lead.tells.fits.legal in
+      LegalNotes-last (opened_after e.opening (ports k).before) lead.port.part.seen k 0 (ports k).part.notes n
+      (subst (LegalNotes (opened_after e.opening (ports k).before) lead.port.part.seen k 0) (notes_are ∙ ap (λ (l : List Noted). (ports k).part.notes ++ l) is) all)
 
   above_seen : AllByRecursion (λ (a : Applied). first_free e.sizes ≤ a.stamp) lead.port.part.seen
   above_seen =
@@ -263,12 +263,12 @@ module _ (e : Plan) (words : List ℕ) (ports : ℕ → Port) (b : Beside) (note
 
   -- and is legal in what the port has seen of the one history
   legal_seen : (n : Note) (call_is : Noted) → lead.tells.new ≡ call_is ∷ [] → call_is.note ≡ Some n → seen_by 0 (notes k) ≤ length (history_of (ports k).before) + since_with c (ports k).part →
-      first_at lead.port.part.kept ≤ place_of n → ExpectedOne (opening_behind e.opening (ports k).before) lead.port.part.seen call_is.call call_is.answer →
+      first_at lead.port.part.kept ≤ place_of n → ExpectedOne (opened_after e.opening (ports k).before) lead.port.part.seen call_is.call call_is.answer →
       IsLegal e.opening (history_of (lead.port.part.seen ∷ (ports k).before)) k (seen_by 0 (notes k)) (public_noted e (ports k).before call_is)
   legal_seen n m is noted seen behind expected =
       let l = legal_here m is in
-      let fit = subst (λ (t : Option Note). Fits (length (opening_behind e.opening (ports k).before).values) m.call m.answer t) noted l.0 in
-      let true_here = (subst (λ (t : Option Note). IfSome t (λ (u : Note). IsTrueOf (opening_behind e.opening (ports k).before) lead.port.part.seen k m.call m.answer u
+      let fit = subst (λ (t : Option Note). Fits (length (opened_after e.opening (ports k).before).values) m.call m.answer t) noted l.0 in
+      let true_here = (subst (λ (t : Option Note). IfSome t (λ (u : Note). IsTrueOf (opened_after e.opening (ports k).before) lead.port.part.seen k m.call m.answer u
       × (seen_by 0 (ports k).part.notes ≤ place_of u))) noted l.1).0 in
       let thereafter = public_true e w.epochs.plan (ports k).before lead.port.part.seen above_seen before_is k m.call m.answer n fit expected true_here in
       let low = since_low in
@@ -282,7 +282,7 @@ module _ (e : Plan) (words : List ℕ) (ports : ℕ → Port) (b : Beside) (note
 
   -- so it is legal in the one history
   legal_public : (n : Note) (call_is : Noted) → lead.tells.new ≡ call_is ∷ [] → call_is.note ≡ Some n → seen_by 0 (notes k) ≤ length (history_of (ports k).before) + since_with c (ports k).part →
-      first_at lead.port.part.kept ≤ place_of n → ExpectedOne (opening_behind e.opening (ports k).before) lead.port.part.seen call_is.call call_is.answer →
+      first_at lead.port.part.kept ≤ place_of n → ExpectedOne (opened_after e.opening (ports k).before) lead.port.part.seen call_is.call call_is.answer →
       IsLegal e.opening (one_history lead.beside) k (seen_by 0 (notes k)) (public_noted e (ports k).before call_is)
   legal_public n m is noted seen behind expected =
       let g = seen_begins e words' ports' lead.beside lead.lawful k below lead.port s' in
@@ -313,13 +313,13 @@ module _ (e : Plan) (words : List ℕ) (ports : ℕ → Port) (b : Beside) (note
         shown = subst (λ (l : List Noted). seen_by 0 l ≤ seen_of lead.port) (sym (append-nil (notes k))) (omega (arith, was, up));
       }
 
-  one_more : (r : Reply) (m : IsNoteOf (opening_behind e.opening (ports k).before) lead.port.part r lead.tells.new) → seen_by 0 (notes k) ≤ length (history_of (ports k).before) + since_with c (ports k).part →
-      AllByRecursion (λ (n : Noted). ExpectedOne (opening_behind e.opening (ports k).before) lead.port.part.seen n.call n.answer) lead.tells.new →
+  one_more : (r : Reply) (m : IsNoteOf (opened_after e.opening (ports k).before) lead.port.part r lead.tells.new) → seen_by 0 (notes k) ≤ length (history_of (ports k).before) + since_with c (ports k).part →
+      AllByRecursion (λ (n : Noted). ExpectedOne (opened_after e.opening (ports k).before) lead.port.part.seen n.call n.answer) lead.tells.new →
       Noting (map (public_noted e (ports k).before) lead.tells.new)
   one_more r m seen expected =
       let n : Noted = record { call = m.call; answer = answer_for (core_of lead.port.part) r; note = Some m.note } in
       let is : lead.tells.new ≡ n ∷ [] = m.is in
-      let one = (subst (AllByRecursion (λ (n : Noted). ExpectedOne (opening_behind e.opening (ports k).before) lead.port.part.seen n.call n.answer)) is expected).0 in
+      let one = (subst (AllByRecursion (λ (n : Noted). ExpectedOne (opened_after e.opening (ports k).before) lead.port.part.seen n.call n.answer)) is expected).0 in
       let within = m.within in
       let shown = shown_public (length (history_of (ports k).before)) m.note in
       let same = ap (λ (l : List (List Applied)). length (history_of l)) lead.before in
@@ -334,7 +334,7 @@ module _ (e : Plan) (words : List ℕ) (ports : ℕ → Port) (b : Beside) (note
   noting_here : Noting added
   noting_here = elim may [
     | inl none ↦ subst Noting (sym none.0) quiet
-    | inr all ↦ subst Noting (sym all.0) (elim (one_or_none (opening_behind e.opening (ports k).before) lead.port.part (reply_of (advance c (answer_of (arena_words e words (ports k).control.here.arena) step))) lead.tells.new lead.tells.noted) [
+    | inr all ↦ subst Noting (sym all.0) (elim (one_or_none (opened_after e.opening (ports k).before) lead.port.part (reply_of (advance c (answer_of (arena_words e words (ports k).control.here.arena) step))) lead.tells.new lead.tells.noted) [
       | inl nothing ↦ subst (λ (l : List Noted). Noting (map (public_noted e (ports k).before) l)) (sym nothing) quiet
       | inr m ↦ one_more m.0 m.1 all.1 all.2
     ])
@@ -343,16 +343,16 @@ module _ (e : Plan) (words : List ℕ) (ports : ℕ → Port) (b : Beside) (note
   -- in what the port has seen its notes stay legal
   pub legal_notes_seen : LegalNotes e.opening (history_of (lead.port.part.seen ∷ (ports k).before)) k 0 (notes k) →
       seen_by 0 (notes k) ≤ length (history_of (ports k).before) + since_with c (ports k).part →
-      AllByRecursion (λ (n : Noted). ExpectedOne (opening_behind e.opening (ports k).before) lead.port.part.seen n.call n.answer) lead.tells.new →
+      AllByRecursion (λ (n : Noted). ExpectedOne (opened_after e.opening (ports k).before) lead.port.part.seen n.call n.answer) lead.tells.new →
       LegalNotes e.opening (history_of (lead.port.part.seen ∷ (ports k).before)) k 0 (notes k ++ map (public_noted e (ports k).before) lead.tells.new)
-  legal_notes_seen was seen expected = elim (one_or_none (opening_behind e.opening (ports k).before) lead.port.part (reply_of (advance c (answer_of (arena_words e words (ports k).control.here.arena) step))) lead.tells.new lead.tells.noted) [
+  legal_notes_seen was seen expected = elim (one_or_none (opened_after e.opening (ports k).before) lead.port.part (reply_of (advance c (answer_of (arena_words e words (ports k).control.here.arena) step))) lead.tells.new lead.tells.noted) [
     | inl nothing ↦ subst (λ (l : List Noted). LegalNotes e.opening (history_of (lead.port.part.seen ∷ (ports k).before)) k 0 (notes k ++ map (public_noted e (ports k).before) l)) (sym nothing)
         (subst (LegalNotes e.opening (history_of (lead.port.part.seen ∷ (ports k).before)) k 0) (sym (append-nil (notes k))) was)
     | inr some ↦
         let m = some.1 in
         let n : Noted = record { call = m.call; answer = answer_for (core_of lead.port.part) some.0; note = Some m.note } in
         let is : lead.tells.new ≡ n ∷ [] = m.is in
-        let one = (subst (AllByRecursion (λ (n : Noted). ExpectedOne (opening_behind e.opening (ports k).before) lead.port.part.seen n.call n.answer)) is expected).0 in
+        let one = (subst (AllByRecursion (λ (n : Noted). ExpectedOne (opened_after e.opening (ports k).before) lead.port.part.seen n.call n.answer)) is expected).0 in
         subst (λ (l : List Noted). LegalNotes e.opening (history_of (lead.port.part.seen ∷ (ports k).before)) k 0 (notes k ++ map (public_noted e (ports k).before) l)) (sym is)
         (LegalNotes-push e.opening (history_of (lead.port.part.seen ∷ (ports k).before)) k 0 (notes k) (public_noted e (ports k).before n) was (legal_seen m.note n is refl seen m.behind one))
   ]

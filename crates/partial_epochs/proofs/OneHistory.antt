@@ -1,5 +1,5 @@
--- The histories of all epochs, one behind the other, are one history.
-use Rattle.partial_epochs.proofs.Common.{ℕ, zero, suc, ◌≡◌, ◌≢◌, ◌+◌, ◌*◌, ◌<◌, ◌≤◌, ◌++◌, Some, List, [], ◌∷◌, length, map, slice_get, Contains, slice_index_or, refl, sym, ap, subst, ◌∙◌, inl, inr, arith, length-append, append_assoc, AllByRecursion, mul-le-mul_right, cases_lt, eqb_tells, length-map, Applied, HaveDistinctStamps, IsHistory, initial_stamp, all_append, all_map, all_weaker, distinct_at, first_free, total, IsEntry, Part, port_of, lawful_ports_fit, list_of, Plan, arena_words, epoch_limit, history_of, opening_behind, public_entry, public_log, stamp_limit, Epoch, Port, Beside, IsEpochPlan, LawfulEpochs, EpochsFitOneHistory, IsEpochHistory, PublicStampsAreUnique, EpochReached, one_history, seen_of, plain_record_size}
+-- The histories of all epochs, one after the other, are one history.
+use Rattle.partial_epochs.proofs.Common.{ℕ, zero, suc, ◌≡◌, ◌≢◌, ◌+◌, ◌*◌, ◌<◌, ◌≤◌, ◌++◌, Some, List, [], ◌∷◌, length, map, slice_get, Contains, slice_index_or, refl, sym, ap, subst, ◌∙◌, inl, inr, arith, length-append, append_assoc, AllByRecursion, mul-le-mul_right, cases_lt, eqb_tells, length-map, Applied, HaveDistinctStamps, IsHistory, initial_stamp, all_append, all_map, all_weaker, distinct_at, first_free, total, IsEntry, Part, port_of, lawful_ports_fit, list_of, Plan, arena_words, epoch_limit, history_of, opened_after, public_entry, public_log, stamp_limit, Epoch, Port, Beside, IsEpochPlan, LawfulEpochs, EpochsFitOneHistory, IsEpochHistory, PublicStampsAreUnique, EpochReached, one_history, seen_of, plain_record_size}
 
 -- two histories whose stamps lie apart
 distinct_both : (n : ℕ) (a b : List Applied) → HaveDistinctStamps a → HaveDistinctStamps b → AllByRecursion (λ (x : Applied). x.stamp < n) a → AllByRecursion (λ (x : Applied). n ≤ x.stamp) b →
@@ -73,10 +73,10 @@ contains_of part p n q numbers c = by part p n q q numbers c.0 c.1 c.2
 pub held_history : (e : Plan) (words : List ℕ) (ports : ℕ → Port) (b : Beside) → LawfulEpochs e words ports b → (x : ℕ) (r : Epoch) → b.holds x ≡ Some r → IsEpochHistory e r.log
 held_history e words ports b w x r is =
     let arena = w.arenas x r is in
-    let fit = lawful_ports_fit e.sizes (opening_behind e.opening r.before) (arena_words e words x) (list_of r.part 0 e.ports) r.log arena.lawful in
+    let fit = lawful_ports_fit e.sizes (opened_after e.opening r.before) (arena_words e words x) (list_of r.part 0 e.ports) r.log arena.lawful in
     let memory = arena.lawful.memory in
     record {
-      components = all_weaker (λ (a : Applied). a.component < length (opening_behind e.opening r.before).values) (λ (a : Applied). a.component < e.sizes.m)
+      components = all_weaker (λ (a : Applied). a.component < length (opened_after e.opening r.before).values) (λ (a : Applied). a.component < e.sizes.m)
           (λ a low. let v = memory.values in omega (arith, low, v)) r.log memory.history.components;
       ports = all_weaker (λ (a : Applied). Contains (map port_of (list_of r.part 0 e.ports)) a.port) (λ (a : Applied). a.port < e.ports)
           (λ a c. let got = contains_of r.part 0 e.ports a.port (λ i from to. arena.numbers i (omega (arith, to))) c in omega (arith, got)) r.log fit.others;
@@ -144,7 +144,7 @@ public_stamps_are_unique e words ports b notes w =
   where
     fits : (s : ℕ) → s < length (b.log ∷ b.before) * stamp_limit → s < 18446744073709551616
     fits s low =
-        let epoch : length b.before < epoch_limit = w.epochs.control.place.epoch in
+        let epoch : length b.before < epoch_limit = w.epochs.control.site.epoch in
         let up : length b.before + 1 ≤ epoch_limit = omega (arith, epoch) in
         let most : (length b.before + 1) * stamp_limit ≤ epoch_limit * stamp_limit = mul-le-mul_right stamp_limit up in
         let is : length (b.log ∷ b.before) ≡ length b.before + 1 = omega arith in

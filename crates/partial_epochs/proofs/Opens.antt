@@ -1,4 +1,4 @@
--- An arena that was used before opens lawful again once the words below the first free one are set: what stands behind them doesn't matter.
+-- An arena that was used before opens lawful again once the words below the first free one are set: what stands after them doesn't matter.
 use Rattle.partial_epochs.proofs.Common.{ℕ, ◌≡◌, ◌+◌, ◌*◌, ◌<◌, ◌≤◌, ◌++◌, List, [], ◌∷◌, length, Some, None, IfSome, sym, ap, subst, inl, inr, arith, ◌∙◌, Opening, places_written, Layout, slot_counter, list_head, pool_counter, list_counter, slot_word, list_base, pool_base, total, initial_record, Holding, EachTwo, announcements, unpublished, IsTied, LawfulWords, holdings, fresh_parts, OpensOver, OpensOverLawful, initial_words, first_free, initial_stamp, slice_index, view_word, view_of, prev_word, value_word, plain_record_size, opening_component, opening_record, initial_value, initial_prev, initial_view, idle_length, idle_all, idle_ports, idle_slots, none_unpublished, none_announced, pool_opens, slot_opens, list_opens, lists_open, slots_open, counters_open, none_marked}
 use Rattle.partial_model.specs.History.{last_from}
 use Rattle.partial_words.specs.Chain.{Agrees, links_from}

@@ -1,5 +1,5 @@
 -- A memory opens lawful.
-use Rattle.partial_epochs.proofs.{Common.{ℕ, ◌≡◌, ◌≢◌, ◌+◌, ◌<◌, ◌≤◌, ◌⊎◌, Some, None, List, [], length, slice_index, refl, sym, ap, subst, ◌∙◌, inl, inr, arith, option_map, cases_lt, eqb_tells, some_same, first_free, pool_counter, slot_counter, total, Part, Plan, arena_words, base, carried_word, carried_words, component_words, control_size, control_words, plain, seal, Epoch, LawfulControl, Beside, IsArena, LawfulEpochs, controls, numbers, place_now, EpochsOpenLawful, OpensAll, first_beside, first_place, first_ports, first_epoch, nothing_held, OpensOver, opening_component, pool_opens, slot_opens}, Lists.{at_of, length_of, put_other, put_same}, Opens.opens_over, Places.packed_arena, Publishes.fresh_list, Worded.{component_at, plain_at, plain_component, plain_other}}
+use Rattle.partial_epochs.proofs.{Common.{ℕ, ◌≡◌, ◌≢◌, ◌+◌, ◌<◌, ◌≤◌, ◌⊎◌, Some, None, List, [], length, slice_index, refl, sym, ap, subst, ◌∙◌, inl, inr, arith, option_map, cases_lt, eqb_tells, some_same, first_free, pool_counter, slot_counter, total, Part, Plan, arena_words, base, carried_word, carried_words, component_words, control_size, control_words, plain, seal, Epoch, LawfulControl, Beside, IsArena, LawfulEpochs, controls, numbers, site_now, EpochsOpenLawful, OpensAll, first_beside, first_site, first_ports, first_epoch, nothing_held, OpensOver, opening_component, pool_opens, slot_opens}, Lists.{at_of, length_of, put_other, put_same}, Opens.opens_over, Offsets.packed_arena, Publishes.fresh_list, Worded.{component_at, plain_at, plain_component, plain_other}}
 use Rattle.partial_core.specs.Lawful as one
 
 module _ (e : Plan) (words : List ℕ) (w : OpensAll e words) where
@@ -71,20 +71,20 @@ module _ (e : Plan) (words : List ℕ) (w : OpensAll e words) where
         absurd cc
   ]
 
-  first_control : LawfulControl e (control_words e words) (controls (first_ports e)) (place_now b) (numbers b)
+  first_control : LawfulControl e (control_words e words) (controls (first_ports e)) (site_now b) (numbers b)
   first_control = record {
     current = zero_at 0 (omega arith);
-    place = record { epoch = omega arith; arena = w.some };
+    site = record { epoch = omega arith; arena = w.some };
     present = number_first;
     earlier = λ y g is. number_held (λ y g. (g < 0) ⊎ ((g ≡ 0) × (y ≡ 0))) y g is (inr (refl, refl));
     within = λ y g is. number_held (λ y g. y < e.arenas) y g is w.some;
-    places = λ q low. record { epoch = omega arith; arena = w.some };
+    sites = λ q low. record { epoch = omega arith; arena = w.some };
     at = λ q low. zero_at (1 + q) (omega (arith, low));
     old = λ q low. omega arith;
     past = λ q low is. absurd cc;
-    stands = λ q d low place at.
+    stands = λ q d low site at.
         let zero_word = zero_at (1 + q) (omega (arith, low)) in
-        let both = packed_arena e first_place d w.plan.arenas w.some place.arena (sym zero_word ∙ at) in
+        let both = packed_arena e first_site d w.plan.arenas w.some site.arena (sym zero_word ∙ at) in
         ap (numbers b) (sym both.1) ∙ number_first ∙ ap Some both.0;
     comes = λ q d low is at. absurd cc;
     owners = λ q low. tt;

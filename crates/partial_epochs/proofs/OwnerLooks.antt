@@ -1,7 +1,7 @@
 -- A port that owns an arena looks; and the claims of a port that is within the limit have room.
-use Rattle.partial_epochs.proofs.{Common.{ℕ, zero, suc, ◌≡◌, ◌≢◌, ◌+◌, ◌*◌, ◌<◌, ◌≤◌, ◌==◌, ◌⊎◌, Bool, true, false, if◌then◌else◌, Option, Some, None, IfSome, List, slice_index, refl, sym, ap, subst, ◌∙◌, inl, inr, arith, eqb_tells, mul-le-mul_left, greatest_record, count, put, Plan, Place, IsPlace, at_word, control_words, marked, Control, Entering, OwnedArena, IsPlaceWord, IsEarlier, IsOld, IsOut, IsOwner, LawfulControl, MayPut, NotInto, IsSetting, controls, numbers, place_now, ClaimsHaveRoom, OwnersLook, having_looked, Stands, Marks, Loaded}, Entering.{control_lifted, current_is}, Lists.{put_all, put_other}, Places.packed_arena, Present.present}
+use Rattle.partial_epochs.proofs.{Common.{ℕ, zero, suc, ◌≡◌, ◌≢◌, ◌+◌, ◌*◌, ◌<◌, ◌≤◌, ◌==◌, ◌⊎◌, Bool, true, false, if◌then◌else◌, Option, Some, None, IfSome, List, slice_index, refl, sym, ap, subst, ◌∙◌, inl, inr, arith, eqb_tells, mul-le-mul_left, greatest_record, count, put, Plan, Site, IsSite, at_word, control_words, marked, Control, Entering, OwnedArena, IsSiteWord, IsEarlier, IsOld, IsOut, IsOwner, LawfulControl, MayPut, NotInto, IsSetting, controls, numbers, site_now, ClaimsHaveRoom, OwnersLook, having_looked, Stands, Marks, Loaded}, Entering.{control_lifted, current_is}, Lists.{put_all, put_other}, Offsets.packed_arena, Present.present}
 
-module _ (e : Plan) (words : List ℕ) (cs : ℕ → Control) (now : Place) (holds : ℕ → Option ℕ) (w : LawfulControl e words cs now holds) (k : ℕ) (below : k < e.ports) (o : OwnedArena)
+module _ (e : Plan) (words : List ℕ) (cs : ℕ → Control) (now : Site) (holds : ℕ → Option ℕ) (w : LawfulControl e words cs now holds) (k : ℕ) (below : k < e.ports) (o : OwnedArena)
     (owned : (cs k).owned ≡ Some o) (is_now : (cs k).here ≡ now) (marks : (o.mark ≡ None) ⊎ (o.clean < e.ports)) where
   abbrev c : Control
   c = record (cs k) { owned = Some (record o { looked = true; again = true }) }
@@ -25,23 +25,23 @@ module _ (e : Plan) (words : List ℕ) (cs : ℕ → Control) (now : Place) (hol
     put = λ p a low may at. by p a low may at (eqb_tells p k);
   }
     where
-      by : (p : ℕ) (a : Place) → p < e.ports → MayPut (cs' p) q a → slice_index words (at_word q) ≡ marked a → (((p == k) ≡ true) × (p ≡ k)) ⊎ (((p == k) ≡ false) × (p ≢ k)) → (cs' p).here.arena ≢ x
-      by p a low may at (inl same) = subst (λ (d : Place). d.arena ≢ x) (sym (same_here p ∙ ap (λ i. (cs i).here) same.1 ∙ is_now)) ne
-      by p a low may at (inr other) = subst (λ (d : Place). d.arena ≢ x) (sym (same_here p)) (h.put p a low (subst (λ (d : Control). MayPut d q a) (put_other k c cs p other.1) may) at)
+      by : (p : ℕ) (a : Site) → p < e.ports → MayPut (cs' p) q a → slice_index words (at_word q) ≡ marked a → (((p == k) ≡ true) × (p ≡ k)) ⊎ (((p == k) ≡ false) × (p ≢ k)) → (cs' p).here.arena ≢ x
+      by p a low may at (inl same) = subst (λ (d : Site). d.arena ≢ x) (sym (same_here p ∙ ap (λ i. (cs i).here) same.1 ∙ is_now)) ne
+      by p a low may at (inr other) = subst (λ (d : Site). d.arena ≢ x) (sym (same_here p)) (h.put p a low (subst (λ (d : Control). MayPut d q a) (put_other k c cs p other.1) may) at)
 
   owner_then : (q : ℕ) (t : OwnedArena) → IsOwner e words cs now holds q t → IsOwner e words cs' now holds q t
   owner_then q t h = record {
     stands = same_entering q ∙ h.stands;
     arena = h.arena;
-    apart = subst (λ (d : Place). d.arena ≢ t.arena) (sym (same_here q)) h.apart;
+    apart = subst (λ (d : Site). d.arena ≢ t.arena) (sym (same_here q)) h.apart;
     word = h.word;
     looked = h.looked;
     order = h.order;
     few = h.few;
     out = λ p less low ne. out_then t.arena p (h.looked (h.order (omega (arith, less)))) (h.out p less low ne);
-    older = λ again. subst (λ (d : Place). IfSome t.mark (λ a. a.epoch < d.epoch)) (sym (same_here q)) (h.older again);
-    held = subst (λ (d : Place). IfSome t.mark (λ a. IsPlace e a × IsEarlier a d (cs' t.clean).entering)) (sym (same_here t.clean))
-        (subst (λ (u : Entering). IfSome t.mark (λ a. IsPlace e a × IsEarlier a (cs t.clean).here u)) (sym (same_entering t.clean)) h.held);
+    older = λ again. subst (λ (d : Site). IfSome t.mark (λ a. a.epoch < d.epoch)) (sym (same_here q)) (h.older again);
+    held = subst (λ (d : Site). IfSome t.mark (λ a. IsSite e a × IsEarlier a d (cs' t.clean).entering)) (sym (same_here t.clean))
+        (subst (λ (u : Entering). IfSome t.mark (λ a. IsSite e a × IsEarlier a (cs t.clean).here u)) (sym (same_entering t.clean)) h.held);
     all = h.all;
     none = h.none;
   }
@@ -50,7 +50,7 @@ module _ (e : Plan) (words : List ℕ) (cs : ℕ → Control) (now : Place) (hol
   owner_of q None h = tt
   owner_of q (Some t) h = owner_then q t h
 
-  earlier_now : (a d : Place) (t : Entering) → IsEarlier a d t → IsOld e now.epoch d t → a.epoch < now.epoch
+  earlier_now : (a d : Site) (t : Entering) → IsEarlier a d t → IsOld e now.epoch d t → a.epoch < now.epoch
   earlier_now a d Stands h old = omega (arith, h, old)
   earlier_now a d Marks h old = omega (arith, h, old)
   earlier_now a d (Loaded f) h old = let x = old.0 in let y = old.1 in omega (arith, h, x, y)
@@ -58,12 +58,12 @@ module _ (e : Plan) (words : List ℕ) (cs : ℕ → Control) (now : Place) (hol
   older_now : IfSome o.mark (λ a. a.epoch < (cs k).here.epoch)
   older_now = by o.mark refl own.held marks
     where
-      by : (m : Option Place) → o.mark ≡ m → IfSome m (λ a. IsPlace e a × IsEarlier a (cs o.clean).here (cs o.clean).entering) → (o.mark ≡ None) ⊎ (o.clean < e.ports) →
+      by : (m : Option Site) → o.mark ≡ m → IfSome m (λ a. IsSite e a × IsEarlier a (cs o.clean).here (cs o.clean).entering) → (o.mark ≡ None) ⊎ (o.clean < e.ports) →
           IfSome o.mark (λ a. a.epoch < (cs k).here.epoch)
-      by None is h t = subst (λ (m : Option Place). IfSome m (λ a. a.epoch < (cs k).here.epoch)) (sym is) tt
+      by None is h t = subst (λ (m : Option Site). IfSome m (λ a. a.epoch < (cs k).here.epoch)) (sym is) tt
       by (Some a) is h (inl none) = let bad : Some a ≡ None = sym is ∙ none in absurd cc
-      by (Some a) is h (inr low) = subst (λ (m : Option Place). IfSome m (λ a. a.epoch < (cs k).here.epoch)) (sym is)
-          (subst (λ (d : Place). a.epoch < d.epoch) (sym is_now) (earlier_now a (cs o.clean).here (cs o.clean).entering h.1 (w.old o.clean low)))
+      by (Some a) is h (inr low) = subst (λ (m : Option Site). IfSome m (λ a. a.epoch < (cs k).here.epoch)) (sym is)
+          (subst (λ (d : Site). a.epoch < d.epoch) (sym is_now) (earlier_now a (cs o.clean).here (cs o.clean).entering h.1 (w.old o.clean low)))
 
   own_looked : IsOwner e words cs now holds k (record o { looked = true; again = true })
   own_looked = let h = own in record {
@@ -71,7 +71,7 @@ module _ (e : Plan) (words : List ℕ) (cs : ℕ → Control) (now : Place) (hol
     arena = h.arena;
     apart = h.apart;
     word = h.word;
-    looked = λ _. subst (λ (d : Place). d.arena ≢ o.arena) is_now h.apart;
+    looked = λ _. subst (λ (d : Site). d.arena ≢ o.arena) is_now h.apart;
     order = λ _. refl;
     few = h.few;
     out = h.out;
@@ -84,13 +84,13 @@ module _ (e : Plan) (words : List ℕ) (cs : ℕ → Control) (now : Place) (hol
   pub looked_on : LawfulControl e words cs' now holds
   looked_on = record {
     current = w.current;
-    place = w.place;
+    site = w.site;
     present = w.present;
     earlier = w.earlier;
     within = w.within;
-    places = λ q low. subst (IsPlace e) (sym (same_here q)) (w.places q low);
-    at = λ q low. subst (λ (d : Place). IsPlaceWord e words q d (cs' q).entering) (sym (same_here q)) (subst (IsPlaceWord e words q (cs q).here) (sym (same_entering q)) (w.at q low));
-    old = λ q low. subst (λ (d : Place). IsOld e now.epoch d (cs' q).entering) (sym (same_here q)) (subst (IsOld e now.epoch (cs q).here) (sym (same_entering q)) (w.old q low));
+    sites = λ q low. subst (IsSite e) (sym (same_here q)) (w.sites q low);
+    at = λ q low. subst (λ (d : Site). IsSiteWord e words q d (cs' q).entering) (sym (same_here q)) (subst (IsSiteWord e words q (cs q).here) (sym (same_entering q)) (w.at q low));
+    old = λ q low. subst (λ (d : Site). IsOld e now.epoch d (cs' q).entering) (sym (same_here q)) (subst (IsOld e now.epoch (cs q).here) (sym (same_entering q)) (w.old q low));
     past = λ q low. put_all (λ i (d : Control). i < e.ports → d.past ≡ true → d.here.epoch < now.epoch) k c cs q (λ _ low. w.past k low) (λ _ low. w.past q low) low;
     stands = w.stands;
     comes = λ q d low is at. w.comes q d low (sym (same_entering q) ∙ is) (at ∙ ap marked (same_here q));
@@ -100,14 +100,14 @@ module _ (e : Plan) (words : List ℕ) (cs : ℕ → Control) (now : Place) (hol
 
 pub owners_look : OwnersLook
 owners_look e words ports b k o w below owned marks at =
-    let own_epochs : IsOwner e (control_words e words) (controls ports) (place_now b) (numbers b) k o =
-    subst (λ (t : Option OwnedArena). IfSome t (IsOwner e (control_words e words) (controls ports) (place_now b) (numbers b) k)) owned (w.control.owners k below) in
-    let both = packed_arena e (ports k).control.here (place_now b) w.plan.arenas (w.control.places k below).arena w.control.place.arena (sym at ∙ current_is e words ports b k w below) in
+    let own_epochs : IsOwner e (control_words e words) (controls ports) (site_now b) (numbers b) k o =
+    subst (λ (t : Option OwnedArena). IfSome t (IsOwner e (control_words e words) (controls ports) (site_now b) (numbers b) k)) owned (w.control.owners k below) in
+    let both = packed_arena e (ports k).control.here (site_now b) w.plan.arenas (w.control.sites k below).arena w.control.site.arena (sym at ∙ current_is e words ports b k w below) in
     let is = present e words ports b k w below own_epochs.stands both.1 in
     let h : IsSetting e words b (ports k) o = subst (λ (t : Option OwnedArena). IfSome t (IsSetting e words b (ports k))) owned (w.setting k below) in (
       is,
       control_lifted e words words (λ i from. refl) ports b k (having_looked (ports k) o) w refl refl (record { few = h.few; sealed = h.sealed; each = h.each; cleared = h.cleared })
-          (looked_on e (control_words e words) (controls ports) (place_now b) (numbers b) w.control k below o owned is.here marks)
+          (looked_on e (control_words e words) (controls ports) (site_now b) (numbers b) w.control k below o owned is.here marks)
           (λ _. let s = w.standing k below own_epochs.stands in record { epoch = s.epoch; is = s.is; before = s.before; part = s.part; passed = s.passed; over = s.over })
           (omega arith) below,
     )

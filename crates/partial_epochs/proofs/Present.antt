@@ -1,19 +1,19 @@
 -- An unsealed word is one of the present epoch.
-use Rattle.partial_epochs.proofs.Common.{ℕ, ◌≡◌, ◌<◌, List, length, sym, ap, subst, ◌∙◌, inl, inr, slice_index, option_map, eqb_tells, some_same, Plan, Place, IsSealed, component_words, Port, Epoch, IsPlaceWord, Beside, place_now, IsStanding, LawfulEpochs, IsPresent, UnsealedIsPresent, Stands, arena_limit, packed, unpacked, ◌≤◌, arith}
+use Rattle.partial_epochs.proofs.Common.{ℕ, ◌≡◌, ◌<◌, List, length, sym, ap, subst, ◌∙◌, inl, inr, slice_index, option_map, eqb_tells, some_same, Plan, Site, IsSealed, component_words, Port, Epoch, IsSiteWord, Beside, site_now, IsStanding, LawfulEpochs, IsPresent, UnsealedIsPresent, Stands, arena_limit, packed, unpacked, ◌≤◌, arith}
 
-pub same_place : (p q : Place) → p.epoch ≡ q.epoch → p.arena ≡ q.arena → p ≡ q
-same_place p q r s = ap (λ (n : ℕ). record p { epoch = n }) r ∙ ap (λ (n : ℕ). record q { arena = n }) s
+pub same_site : (p q : Site) → p.epoch ≡ q.epoch → p.arena ≡ q.arena → p ≡ q
+same_site p q r s = ap (λ (n : ℕ). record p { epoch = n }) r ∙ ap (λ (n : ℕ). record q { arena = n }) s
 
--- a place is the one that its word names
-pub unpacked_is : {n : ℕ} (c : Place) → n ≤ arena_limit → c.arena < n → unpacked (packed c) ≡ c
+-- a site is the one that its word names
+pub unpacked_is : {n : ℕ} (c : Site) → n ≤ arena_limit → c.arena < n → unpacked (packed c) ≡ c
 unpacked_is c few low =
     let epoch : (unpacked (packed c)).epoch ≡ c.epoch = omega (arith, few, low) in
     let arena : (unpacked (packed c)).arena ≡ c.arena = omega (arith, few, low) in
-    same_place (unpacked (packed c)) c epoch arena
+    same_site (unpacked (packed c)) c epoch arena
 
 module _ (e : Plan) (words : List ℕ) (ports : ℕ → Port) (b : Beside) (k : ℕ) (w : LawfulEpochs e words ports b) (below : k < e.ports)
     (stands : (ports k).control.entering ≡ Stands) where
-  abbrev here : Place
+  abbrev here : Site
   here = (ports k).control.here
 
   abbrev pub standing : IsStanding b k (ports k)
@@ -22,8 +22,8 @@ module _ (e : Plan) (words : List ℕ) (ports : ℕ → Port) (b : Beside) (k : 
   -- the number of its epoch
   pub numbered : length standing.epoch.before ≡ here.epoch
   numbered =
-      let at = subst (IsPlaceWord e _ k here) stands (w.control.at k below) in
-      let held = w.control.stands k here below (w.control.places k below) at in
+      let at = subst (IsSiteWord e _ k here) stands (w.control.at k below) in
+      let held = w.control.stands k here below (w.control.sites k below) at in
       some_same (ap (option_map (λ (r : Epoch). length r.before)) (sym standing.is) ∙ held)
 
   -- it is the present epoch where the arena is the present one
@@ -34,7 +34,7 @@ module _ (e : Plan) (words : List ℕ) (ports : ℕ → Port) (b : Beside) (k : 
       let before : standing.epoch.before ≡ b.before = ap (λ (r : Epoch). r.before) is ∙ w.now.3 in
       record {
         standing = standing;
-        here = same_place here (place_now b) (sym numbered ∙ ap length before) same;
+        here = same_site here (site_now b) (sym numbered ∙ ap length before) same;
         log = ap (λ (r : Epoch). r.log) is ∙ w.now.2;
         before = sym standing.before ∙ before;
       }

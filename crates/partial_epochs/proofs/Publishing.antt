@@ -1,13 +1,13 @@
 -- The control words as the next epoch is published.
-use Rattle.partial_epochs.proofs.{Common.{ℕ, ◌≡◌, ◌≢◌, ◌+◌, ◌<◌, ◌≤◌, ◌⊎◌, true, false, Option, Some, None, IfSome, List, length, slice_index, slice_set, refl, sym, ap, subst, ◌∙◌, inl, inr, arith, eqb_tells, get_or-set_same, get_or-set_other, some_same, put, Plan, Place, IsPlace, at_word, control_size, current_word, packed, arena_limit, epoch_limit, Control, Entering, OwnedArena, IsPlaceWord, IsStillMarked, IsOld, IsOut, IsOwner, LawfulControl, NotInto, Stands, Marks, Loaded}, Places.packed_arena, Lists.{put_all, put_other, put_same}}
+use Rattle.partial_epochs.proofs.{Common.{ℕ, ◌≡◌, ◌≢◌, ◌+◌, ◌<◌, ◌≤◌, ◌⊎◌, true, false, Option, Some, None, IfSome, List, length, slice_index, slice_set, refl, sym, ap, subst, ◌∙◌, inl, inr, arith, eqb_tells, get_or-set_same, get_or-set_other, some_same, put, Plan, Site, IsSite, at_word, control_size, current_word, packed, arena_limit, epoch_limit, Control, Entering, OwnedArena, IsSiteWord, IsStillMarked, IsOld, IsOut, IsOwner, LawfulControl, NotInto, Stands, Marks, Loaded}, Offsets.packed_arena, Lists.{put_all, put_other, put_same}}
 
 -- the next epoch is published in the arena x, of which all ports but k are out, and in which k isn't
-module _ (e : Plan) (words : List ℕ) (cs : ℕ → Control) (now : Place) (holds : ℕ → Option ℕ) (w : LawfulControl e words cs now holds) (k : ℕ) (below : k < e.ports) (x : ℕ) (inside : x < e.arenas)
+module _ (e : Plan) (words : List ℕ) (cs : ℕ → Control) (now : Site) (holds : ℕ → Option ℕ) (w : LawfulControl e words cs now holds) (k : ℕ) (below : k < e.ports) (x : ℕ) (inside : x < e.arenas)
     (few : e.arenas ≤ arena_limit)
     (stands : (cs k).entering ≡ Stands) (here : (cs k).here ≡ now) (room : now.epoch + 1 < epoch_limit) (apart : now.arena ≢ x)
     (out : (q : ℕ) → q < e.ports → q ≢ k → IsOut e words cs x q) (long : length words ≡ control_size e)
     (owns : (q : ℕ) (o : OwnedArena) → q < e.ports → (cs q).owned ≡ Some o → (o.arena ≢ x) ⊎ ((o.looked ≡ false) × (o.set ≡ 0))) where
-  abbrev next : Place
+  abbrev next : Site
   next = record { epoch = now.epoch + 1; arena = x }
 
   abbrev words' : List ℕ
@@ -19,23 +19,23 @@ module _ (e : Plan) (words : List ℕ) (cs : ℕ → Control) (now : Place) (hol
   other : (i : ℕ) → i ≢ current_word → slice_index words' i ≡ slice_index words i
   other i ne = get_or-set_other words current_word i (packed next) 0 ne
 
-  -- where a port is, or comes to, isn't the arena x
-  not_stood : (q : ℕ) (d : Place) → q < e.ports → IsPlace e d → slice_index words (at_word q) ≡ packed d → d.arena ≢ x
-  not_stood q d low place at = elim (eqb_tells q k) [
+  -- the arena where a port is, or that it enters, isn't the arena x
+  not_stood : (q : ℕ) (d : Site) → q < e.ports → IsSite e d → slice_index words (at_word q) ≡ packed d → d.arena ≢ x
+  not_stood q d low site at = elim (eqb_tells q k) [
     | inl same ↦ own (subst (λ i. slice_index words (at_word i) ≡ packed d) same.1 at)
-    | inr ne ↦ (out q low ne.1).unmarked d place at
+    | inr ne ↦ (out q low ne.1).unmarked d site at
   ]
     where
       own : slice_index words (at_word k) ≡ packed d → d.arena ≢ x
       own at =
-          let mine : slice_index words (at_word k) ≡ packed (cs k).here = subst (IsPlaceWord e words k (cs k).here) stands (w.at k below) in
-          let arena : (cs k).here.arena ≡ now.arena = ap (λ (d : Place). d.arena) here in
-          let same = packed_arena e (cs k).here d few (w.places k below).arena place.arena (sym mine ∙ at) in
+          let mine : slice_index words (at_word k) ≡ packed (cs k).here = subst (IsSiteWord e words k (cs k).here) stands (w.at k below) in
+          let arena : (cs k).here.arena ≡ now.arena = ap (λ (d : Site). d.arena) here in
+          let same = packed_arena e (cs k).here d few (w.sites k below).arena site.arena (sym mine ∙ at) in
           λ is. apart (sym arena ∙ same.1 ∙ is)
 
   out_then : (y q : ℕ) → IsOut e words cs y q → IsOut e words' cs y q
   out_then y q h = record {
-    unmarked = λ d place at. h.unmarked d place (sym (other (at_word q) (omega arith)) ∙ at);
+    unmarked = λ d site at. h.unmarked d site (sym (other (at_word q) (omega arith)) ∙ at);
     loaded = λ at. h.loaded (sym (other (at_word q) (omega arith)) ∙ at);
     put = λ p a low may at. h.put p a low may (sym (other (at_word q) (omega arith)) ∙ at);
   }
@@ -66,20 +66,20 @@ module _ (e : Plan) (words : List ℕ) (cs : ℕ → Control) (now : Place) (hol
   owner_of q None low is h = tt
   owner_of q (Some o) low is h = owner_then q o low is h
 
-  at_then : (q : ℕ) (d : Place) (t : Entering) → IsPlaceWord e words q d t → IsPlaceWord e words' q d t
+  at_then : (q : ℕ) (d : Site) (t : Entering) → IsSiteWord e words q d t → IsSiteWord e words' q d t
   at_then q d Stands h = other (at_word q) (omega arith) ∙ h
   at_then q d Marks (inl h) = inl (other (at_word q) (omega arith) ∙ h)
   at_then q d Marks (inr h) = inr (h.0, h.1, other (at_word q) (omega arith) ∙ h.2, h.3)
   at_then q d (Loaded f) (inl h) = inl (other (at_word q) (omega arith) ∙ h)
   at_then q d (Loaded f) (inr h) = inr (h.0, h.1, other (at_word q) (omega arith) ∙ h.2, h.3)
 
-  old_then : (d : Place) (t : Entering) → IsOld e now.epoch d t → IsOld e (now.epoch + 1) d t
+  old_then : (d : Site) (t : Entering) → IsOld e now.epoch d t → IsOld e (now.epoch + 1) d t
   old_then d Stands h = omega (arith, h)
   old_then d Marks h = omega (arith, h)
   old_then d (Loaded f) h = let less = h.1 in (h.0, omega (arith, less), h.2)
 
   -- where a port is about to come isn't the arena x
-  not_coming : (q : ℕ) (d : Place) → q < e.ports → (cs q).entering ≡ Loaded d → IsStillMarked words (cs q) q → d.arena ≢ x
+  not_coming : (q : ℕ) (d : Site) → q < e.ports → (cs q).entering ≡ Loaded d → IsStillMarked words (cs q) q → d.arena ≢ x
   not_coming q d low is at = elim (eqb_tells q k) [
     | inl same ↦ let bad : Stands ≡ Loaded d = sym stands ∙ sym (ap (λ i. (cs i).entering) same.1) ∙ is in absurd cc
     | inr ne ↦ subst (NotInto x) is ((out q low ne.1).loaded at)
@@ -88,18 +88,18 @@ module _ (e : Plan) (words : List ℕ) (cs : ℕ → Control) (now : Place) (hol
   pub published : LawfulControl e words' cs next holds'
   published = record {
     current = get_or-set_same words current_word (packed next) 0 (omega (arith, long));
-    place = record { epoch = room; arena = inside };
+    site = record { epoch = room; arena = inside };
     present = put_same x (Some (now.epoch + 1)) holds;
     earlier = λ y g. put_all (λ i (t : Option ℕ). t ≡ Some g → (g < now.epoch + 1) ⊎ ((g ≡ now.epoch + 1) × (i ≡ x))) x (Some (now.epoch + 1)) holds y
         (λ _ is. inr (sym (some_same is), refl))
         (λ ne is. elim (w.earlier y g is) [ inl less ↦ inl (omega (arith, less)) | inr same ↦ let even = same.0 in inl (omega (arith, even)) ]);
     within = λ y g. put_all (λ i (t : Option ℕ). t ≡ Some g → i < e.arenas) x (Some (now.epoch + 1)) holds y (λ _ _. inside) (λ ne is. w.within y g is);
-    places = w.places;
+    sites = w.sites;
     at = λ q low. at_then q (cs q).here (cs q).entering (w.at q low);
     old = λ q low. old_then (cs q).here (cs q).entering (w.old q low);
     past = λ q low is. let less = w.past q low is in omega (arith, less);
-    stands = λ q d low place at. let was = sym (other (at_word q) (omega arith)) ∙ at in
-        put_other x (Some (now.epoch + 1)) holds d.arena (not_stood q d low place was) ∙ w.stands q d low place was;
+    stands = λ q d low site at. let was = sym (other (at_word q) (omega arith)) ∙ at in
+        put_other x (Some (now.epoch + 1)) holds d.arena (not_stood q d low site was) ∙ w.stands q d low site was;
     comes = λ q d low is at. let was = sym (other (at_word q) (omega arith)) ∙ at in
         put_other x (Some (now.epoch + 1)) holds d.arena (not_coming q d low is was) ∙ w.comes q d low is was;
     owners = λ q low. owner_of q (cs q).owned low refl (w.owners q low);

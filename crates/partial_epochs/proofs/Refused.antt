@@ -21,7 +21,7 @@ pub resetting_current_is_unlawful : ResettingCurrentIsUnlawful
 resetting_current_is_unlawful e words ports b w = none_some w.now.0 (sym (put_same b.arena None b.holds) ∙ w.now.1)
 
 pub putting_into_reset_is_unlawful : PuttingIntoResetIsUnlawful
-putting_into_reset_is_unlawful e words ports b k c low place none at w =
+putting_into_reset_is_unlawful e words ports b k c low site none at w =
     let there = cw_at e words ports b k (ports k) 0 w low (at_word k) (omega (arith, low)) in
-    let holds = w.control.stands k c low place (there ∙ at) in
+    let holds = w.control.stands k c low site (there ∙ at) in
     none_some c.epoch (sym (ap (option_map (λ (r : Epoch). length r.before)) none) ∙ holds)

@@ -1,5 +1,5 @@
--- No machine is marked for the pool nor for the slots, and none is refused.
-use Rattle.partial_epochs.proofs.{Common.{Option, ℕ, ◌≡◌, ◌≢◌, ◌<◌, Bool, true, false, Some, List, refl, sym, ap, subst, ◌∙◌, inl, inr, arith, ◌||◌, Opening, all_at, Step, answer_of, words_after, Reply, CoreState, advance, reply_of, IsTied, IsMachineOf, Part, PartAmong, core_of, holdings, joined_since, put, Plan, arena_words, carried_words, component_words, placed_step, opening_behind, Control, Epoch, Port, Stands, Beside, IsArena, IsStanding, LawfulEpochs, HaveSlots, MachineLeads, MachinesAreNeverRefused, MarksNeverCome, claims_no_more, holding_in, memory_at, PoolWords, Slots}, Lists.{Around, around_of, count_few, put_same}, Slots.pool_within}
+-- No machine is spent, neither for the pool nor for the slots, and none is refused.
+use Rattle.partial_epochs.proofs.{Common.{Option, ℕ, ◌≡◌, ◌≢◌, ◌<◌, Bool, true, false, Some, List, refl, sym, ap, subst, ◌∙◌, inl, inr, arith, ◌||◌, Opening, all_at, Step, answer_of, words_after, Reply, CoreState, advance, reply_of, IsTied, IsMachineOf, Part, PartAmong, core_of, holdings, joined_since, put, Plan, arena_words, carried_words, component_words, based_step, opened_after, Control, Epoch, Port, Stands, Beside, IsArena, IsStanding, LawfulEpochs, HaveSlots, MachineLeads, MachinesAreNeverRefused, MachinesAreNeverSpent, claims_no_more, holding_in, memory_at, PoolWords, Slots}, Lists.{Around, around_of, count_few, put_same}, Slots.pool_within}
 use Rattle.partial_model.specs.declared.call.Refused.{Refused}
 use Rattle.partial_machine.specs.Behind.{refuses_pool, refuses_slots}
 use Rattle.partial_core.specs.Lawful as one
@@ -23,7 +23,7 @@ module _ (e : Plan) (words : List ℕ) (ports : ℕ → Port) (b : Beside) (k : 
   bw = arena_words e words x
 
   abbrev o : Opening
-  o = opening_behind e.opening r.before
+  o = opened_after e.opening r.before
 
   arena : IsArena e bw (component_words e words x) (carried_words e words x) r (x ≢ b.arena)
   arena = w.arenas x r s.is
@@ -39,8 +39,8 @@ module _ (e : Plan) (words : List ℕ) (ports : ℕ → Port) (b : Beside) (k : 
       all_at (IsTied e.sizes bw) (holdings around.before) (holding_in (core_of (r.part k)) (core_of (r.part k)).stage (joined_since (r.part k))) (holdings around.after) memory.tied
 
   -- neither counter is past its end
-  core_unmarked : ((core_of (r.part k)).pool_spent ≡ false) × ((core_of (r.part k)).slots_spent ≡ false)
-  core_unmarked =
+  core_unspent : ((core_of (r.part k)).pool_spent ≡ false) × ((core_of (r.part k)).slots_spent ≡ false)
+  core_unspent =
       let within = pool_within e bw (component_words e words x) (carried_words e words x) r (x ≢ b.arena) w.plan arena in
       let claimed = arena.slots in
       let few = count_few (λ q. claims_no_more (r.over q) (r.part q)) 0 e.ports in
@@ -49,20 +49,20 @@ module _ (e : Plan) (words : List ℕ) (ports : ℕ → Port) (b : Beside) (k : 
         not_true (core_of (r.part k)).slots_spent (λ on. let past = marked.marked Slots on in omega (arith, past, claimed, few, have)),
       )
 
-  pub unmarked : (c : CoreState) → IsMachineOf c (ports k).part → (c.pool_spent ≡ false) × (c.slots_spent ≡ false)
-  unmarked c machine = by (subst (IsMachineOf c) (sym s.part) machine)
+  pub unspent : (c : CoreState) → IsMachineOf c (ports k).part → (c.pool_spent ≡ false) × (c.slots_spent ≡ false)
+  unspent c machine = by (subst (IsMachineOf c) (sym s.part) machine)
     where
       by : IsMachineOf c (r.part k) → (c.pool_spent ≡ false) × (c.slots_spent ≡ false)
-      by (inl begun) = (begun.like.pool ∙ core_unmarked.0, begun.like.slots ∙ core_unmarked.1)
-      by (inr led) = (ap (λ (c : CoreState). c.pool_spent) led.is ∙ core_unmarked.0, ap (λ (c : CoreState). c.slots_spent) led.is ∙ core_unmarked.1)
+      by (inl begun) = (begun.like.pool ∙ core_unspent.0, begun.like.slots ∙ core_unspent.1)
+      by (inr led) = (ap (λ (c : CoreState). c.pool_spent) led.is ∙ core_unspent.0, ap (λ (c : CoreState). c.slots_spent) led.is ∙ core_unspent.1)
 
-pub marks_never_come : MarksNeverCome
-marks_never_come e words ports b k c w below stands have machine = unmarked e words ports b k w below stands have c machine
+pub machines_are_never_spent : MachinesAreNeverSpent
+machines_are_never_spent e words ports b k c w below stands have machine = unspent e words ports b k w below stands have c machine
 
 module _ (e : Plan) (words : List ℕ) (ports : ℕ → Port) (b : Beside) (k : ℕ) (c : CoreState) (step : Step) (below : k < e.ports) (stands : (ports k).control.entering ≡ Stands)
     (have : HaveSlots e) (lead : MachineLeads e words ports b k c step) where
   abbrev words' : List ℕ
-  words' = words_after words (placed_step e (ports k).control.here.arena step)
+  words' = words_after words (based_step e (ports k).control.here.arena step)
 
   abbrev c' : CoreState
   c' = advance c (answer_of (arena_words e words (ports k).control.here.arena) step)
@@ -70,8 +70,8 @@ module _ (e : Plan) (words : List ℕ) (ports : ℕ → Port) (b : Beside) (k : 
   here : put k lead.port ports k ≡ lead.port
   here = put_same k lead.port ports
 
-  unmarked_then : (c'.pool_spent ≡ false) × (c'.slots_spent ≡ false)
-  unmarked_then = unmarked e words' (put k lead.port ports) lead.beside k lead.lawful below
+  unspent_then : (c'.pool_spent ≡ false) × (c'.slots_spent ≡ false)
+  unspent_then = unspent e words' (put k lead.port ports) lead.beside k lead.lawful below
       (subst (λ (p : Port). p.control.entering ≡ Stands) (sym here) (ap (λ (t : Control). t.entering) lead.control ∙ stands)) have c'
       (subst (λ (p : Port). IsMachineOf c' p.part) (sym here) (inr lead.tells.machine))
 
@@ -79,11 +79,11 @@ module _ (e : Plan) (words : List ℕ) (ports : ℕ → Port) (b : Beside) (k : 
   unrefused Refused.Component is = (lead.tells.behind.refused_by Refused.Component is).0
   unrefused Refused.PoolSpent is =
       let on : c'.pool_spent ≡ true = lead.tells.behind.pool ∙ ap (λ (t : Option Reply). refuses_pool t || c.pool_spent) is in
-      let bad : true ≡ false = sym on ∙ unmarked_then.0 in
+      let bad : true ≡ false = sym on ∙ unspent_then.0 in
       absurd cc
   unrefused Refused.SlotsSpent is =
       let on : c'.slots_spent ≡ true = lead.tells.behind.slots ∙ ap (λ (t : Option Reply). refuses_slots t || c.slots_spent) is in
-      let bad : true ≡ false = sym on ∙ unmarked_then.1 in
+      let bad : true ≡ false = sym on ∙ unspent_then.1 in
       absurd cc
 
 pub machines_are_never_refused : MachinesAreNeverRefused

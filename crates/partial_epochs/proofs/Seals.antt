@@ -1,5 +1,5 @@
 -- A seal, and the load of a component that is sealed already.
-use Rattle.partial_epochs.proofs.{Common.{ℕ, ◌≡◌, ◌≢◌, ◌+◌, ◌/◌, ◌%◌, ◌^◌, ◌<◌, ◌≤◌, ◌⊎◌, true, List, [], length, slice_index, slice_set, refl, sym, ap, subst, ◌∙◌, inl, inr, arith, nat_lt, cases_lt, lt-ltb, eqb_tells, append-nil, get_or-set_same, get_or-set_other, length-set, set-get_or, Add, total, words_after, count, put, Plan, IsSealed, arena_words, base, carried_words, component_words, plain, seal, seals, Port, Epoch, Beside, IsArena, IsStanding, LawfulEpochs, Stands, not_below, PassLeads, SealsStayLawful, SealedPassesStayLawful, passing_port}, Change.{Changes, beside_then, change_kept}, Lists.{count_few, count_more, count_same, put_all, put_other, put_same}, Places.below_whole, Present.standing, Worded.{component_at, plain_at, plain_component, set_arena, set_outside}}
+use Rattle.partial_epochs.proofs.{Common.{ℕ, ◌≡◌, ◌≢◌, ◌+◌, ◌/◌, ◌%◌, ◌^◌, ◌<◌, ◌≤◌, ◌⊎◌, true, List, [], length, slice_index, slice_set, refl, sym, ap, subst, ◌∙◌, inl, inr, arith, nat_lt, cases_lt, lt-ltb, eqb_tells, append-nil, get_or-set_same, get_or-set_other, length-set, set-get_or, Add, total, words_after, count, put, Plan, IsSealed, arena_words, base, carried_words, component_words, plain, seal, seals, Port, Epoch, Beside, IsArena, IsStanding, LawfulEpochs, Stands, not_below, PassLeads, SealsStayLawful, SealedPassesStayLawful, passing_port}, Change.{Changes, beside_then, change_kept}, Lists.{count_few, count_more, count_same, put_all, put_other, put_same}, Offsets.below_whole, Present.standing, Worded.{component_at, plain_at, plain_component, set_arena, set_outside}}
 
 module _ (e : Plan) (words : List ℕ) (ports : ℕ → Port) (b : Beside) (k : ℕ) (w : LawfulEpochs e words ports b) (below : k < e.ports)
     (stands : (ports k).control.entering ≡ Stands) (inside : (ports k).passed < e.sizes.m) where
@@ -25,7 +25,7 @@ module _ (e : Plan) (words : List ℕ) (ports : ℕ → Port) (b : Beside) (k : 
   arena = w.arenas x r s.is
 
   within : base e x + j < length words
-  within = let up = below_whole e x j (w.control.places k below).arena (omega (arith, inside)) in let count = w.count in omega (arith, up, count)
+  within = let up = below_whole e x j (w.control.sites k below).arena (omega (arith, inside)) in let count = w.count in omega (arith, up, count)
 
   test_below : (a c : ℕ) → a < c → nat_lt a c ≡ true
   test_below a c h = lt-ltb a c h

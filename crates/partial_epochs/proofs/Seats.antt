@@ -1,5 +1,5 @@
 -- What is known of a port that stands in an epoch, and what a port has seen of the one history.
-use Rattle.partial_epochs.proofs.{Common.{ℕ, ◌≡◌, ◌≢◌, ◌<◌, ◌≤◌, ◌++◌, List, [], ◌∷◌, length, drop, sym, ap, subst, ◌∙◌, inl, inr, arith, length-append, append_assoc, AllByRecursion, eqb_tells, map-append, take-append-drop, Applied, all_at, all_back, some_same, Part, port_of, holdings, IsKnown, lawful_ports_fit, list_of, Plan, arena_words, carried_words, component_words, history_of, opening_behind, public_entry, public_log, Epoch, Port, Beside, IsArena, IsStanding, LawfulEpochs, IsEpochHistory, EpochReached, one_history, FitsHistory}, Lists.{Around, around_of}, OneHistory.{history_grows, present_history}}
+use Rattle.partial_epochs.proofs.{Common.{ℕ, ◌≡◌, ◌≢◌, ◌<◌, ◌≤◌, ◌++◌, List, [], ◌∷◌, length, drop, sym, ap, subst, ◌∙◌, inl, inr, arith, length-append, append_assoc, AllByRecursion, eqb_tells, map-append, take-append-drop, Applied, all_at, all_back, some_same, Part, port_of, holdings, IsKnown, lawful_ports_fit, list_of, Plan, arena_words, carried_words, component_words, history_of, opened_after, public_entry, public_log, Epoch, Port, Beside, IsArena, IsStanding, LawfulEpochs, IsEpochHistory, EpochReached, one_history, FitsHistory}, Lists.{Around, around_of}, OneHistory.{history_grows, present_history}}
 use Rattle.partial_core.proofs.Parts.{seen_within as no_longer}
 
 -- an epoch with more entries
@@ -22,22 +22,22 @@ module _ (e : Plan) (words : List ℕ) (ports : ℕ → Port) (b : Beside) (w : 
   around = around_of s.epoch.part 0 e.ports k (omega arith) (omega (arith, below))
 
   abbrev P : Part → Type 0
-  P = IsKnown e.sizes (opening_behind e.opening s.epoch.before) (arena_words e words x) (holdings (list_of s.epoch.part 0 e.ports)) s.epoch.log
+  P = IsKnown e.sizes (opened_after e.opening s.epoch.before) (arena_words e words x) (holdings (list_of s.epoch.part 0 e.ports)) s.epoch.log
 
-  pub known : IsKnown e.sizes (opening_behind e.opening s.epoch.before) (arena_words e words p.control.here.arena) (holdings (list_of s.epoch.part 0 e.ports)) s.epoch.log p.part
+  pub known : IsKnown e.sizes (opened_after e.opening s.epoch.before) (arena_words e words p.control.here.arena) (holdings (list_of s.epoch.part 0 e.ports)) s.epoch.log p.part
   known = subst P s.part (all_at P around.before (s.epoch.part k) around.after (subst (AllByRecursion P) around.is arena.lawful.known))
 
   pub number : port_of p.part ≡ k
   number = ap port_of (sym s.part) ∙ arena.numbers k below
 
-  pub fits : FitsHistory (opening_behind e.opening p.before) s.epoch.log p.part
+  pub fits : FitsHistory (opened_after e.opening p.before) s.epoch.log p.part
   fits =
-      let o = opening_behind e.opening s.epoch.before in
-      let f = (lawful_ports_fit e.sizes (opening_behind e.opening s.epoch.before) (arena_words e words x) (list_of s.epoch.part 0 e.ports) s.epoch.log arena.lawful).each in
-      subst (λ (l : List (List Applied)). FitsHistory (opening_behind e.opening l) s.epoch.log p.part) s.before
-      (subst (FitsHistory (opening_behind e.opening s.epoch.before) s.epoch.log) s.part
-      (all_at (FitsHistory (opening_behind e.opening s.epoch.before) s.epoch.log) around.before (s.epoch.part k) around.after
-      (subst (AllByRecursion (FitsHistory (opening_behind e.opening s.epoch.before) s.epoch.log)) around.is f)))
+      let o = opened_after e.opening s.epoch.before in
+      let f = (lawful_ports_fit e.sizes (opened_after e.opening s.epoch.before) (arena_words e words x) (list_of s.epoch.part 0 e.ports) s.epoch.log arena.lawful).each in
+      subst (λ (l : List (List Applied)). FitsHistory (opened_after e.opening l) s.epoch.log p.part) s.before
+      (subst (FitsHistory (opened_after e.opening s.epoch.before) s.epoch.log) s.part
+      (all_at (FitsHistory (opened_after e.opening s.epoch.before) s.epoch.log) around.before (s.epoch.part k) around.after
+      (subst (AllByRecursion (FitsHistory (opened_after e.opening s.epoch.before) s.epoch.log)) around.is f)))
 
   -- its epoch is the current one or a finished one
   pub among : (later : List (List Applied)) × (b.log ∷ b.before ≡ later ++ s.epoch.log ∷ p.before)

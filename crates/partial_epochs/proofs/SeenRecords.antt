@@ -1,5 +1,5 @@
 -- What a port has seen of its epoch it finds in the words of its arena.
-use Rattle.partial_epochs.proofs.{Common.{ℕ, ◌≡◌, ◌+◌, ◌<◌, ◌≤◌, List, length, take, slice_index, sym, ap, subst, ◌∙◌, arith, Applied, Opening, stamp_of, value_of, stamp_all, take_within, total, RecordsAreWithin, lawful_records_are_within, list_of, Plan, arena_words, base, opening_behind, Port, Beside, IsStanding, LawfulEpochs, IsSeenRecord, SeenRecordsStay, value_behind_stamp, value_word, view_word}, Continue.{all_taken, carried_there, epoch_behind}, Places.below_whole, Seats.{known, seen_few}, Worded.{plain_at, plain_other}}
+use Rattle.partial_epochs.proofs.{Common.{ℕ, ◌≡◌, ◌+◌, ◌<◌, ◌≤◌, List, length, take, slice_index, sym, ap, subst, ◌∙◌, arith, Applied, Opening, stamp_of, value_of, stamp_all, take_within, total, RecordsAreWithin, lawful_records_are_within, list_of, Plan, arena_words, base, opened_after, Port, Beside, IsStanding, LawfulEpochs, IsSeenRecord, SeenRecordsStay, value_behind_stamp, value_word, view_word}, Continue.{all_taken, carried_there, before_is_epoch}, Offsets.below_whole, Seats.{known, seen_few}, Worded.{plain_at, plain_other}}
 use Rattle.partial_core.specs.Lawful as one
 
 module _ (e : Plan) (words : List ℕ) (ports : ℕ → Port) (b : Beside) (k j : ℕ) (w : LawfulEpochs e words ports b) (below : k < e.ports) (inside : j < e.sizes.m) (s : IsStanding b k (ports k)) where
@@ -7,7 +7,7 @@ module _ (e : Plan) (words : List ℕ) (ports : ℕ → Port) (b : Beside) (k j 
   x = (ports k).control.here.arena
 
   abbrev o : Opening
-  o = opening_behind e.opening (ports k).before
+  o = opened_after e.opening (ports k).before
 
   abbrev bw : List ℕ
   bw = arena_words e words x
@@ -17,7 +17,7 @@ module _ (e : Plan) (words : List ℕ) (ports : ℕ → Port) (b : Beside) (k j 
 
   facts : RecordsAreWithin e.sizes o bw s.epoch.log
   facts = lawful_records_are_within e.sizes o bw (list_of s.epoch.part 0 e.ports) s.epoch.log
-      (subst (λ (l : List (List Applied)). one.Lawful e.sizes (opening_behind e.opening l) bw (list_of s.epoch.part 0 e.ports) s.epoch.log) s.before (w.arenas x s.epoch s.is).lawful)
+      (subst (λ (l : List (List Applied)). one.Lawful e.sizes (opened_after e.opening l) bw (list_of s.epoch.part 0 e.ports) s.epoch.log) s.before (w.arenas x s.epoch s.is).lawful)
 
   count : length bw ≡ total e.sizes
   count = (w.arenas x s.epoch s.is).lawful.memory.count
@@ -28,7 +28,7 @@ module _ (e : Plan) (words : List ℕ) (ports : ℕ → Port) (b : Beside) (k j 
   -- at each length of what the port has seen
   module _ (n : ℕ) (few : n ≤ length seen) where
     abbrev at : ℕ
-    at = stamp_of (opening_behind e.opening (ports k).before) (take n (ports k).part.seen) j
+    at = stamp_of (opened_after e.opening (ports k).before) (take n (ports k).part.seen) j
 
     taken : take n (ports k).part.seen ≡ take n s.epoch.log
     taken = ap (take n) begins ∙ take_within n (length seen) s.epoch.log few
@@ -39,7 +39,7 @@ module _ (e : Plan) (words : List ℕ) (ports : ℕ → Port) (b : Beside) (k j 
         (all_taken (λ (a : Applied). (e.sizes.m ≤ a.stamp) × (view_word a.stamp < length bw)) s.epoch.log n facts.entries) (facts.initial j inside))
 
     arena_is : x < e.arenas
-    arena_is = (w.control.places k below).arena
+    arena_is = (w.control.sites k below).arena
 
     stands_there : base e x + value_word at < length words
     stands_there =
@@ -83,11 +83,11 @@ pub seen_records_stay : SeenRecordsStay
 seen_records_stay e words ports b k j w below stands inside s = record {
   seen = begins e words ports b k j w below inside s;
   few = seen_few e words ports b w k below (ports k) s;
-  epoch = epoch_behind e words ports b k w s below stands;
+  epoch = before_is_epoch e words ports b k w s below stands;
   values = (facts e words ports b k j w below inside s).values;
   each = is_record e words ports b k j w below inside s;
   there =
-      let low = below_whole e (ports k).control.here.arena (total e.sizes + j) (w.control.places k below).arena (omega (arith, inside)) in
+      let low = below_whole e (ports k).control.here.arena (total e.sizes + j) (w.control.sites k below).arena (omega (arith, inside)) in
       let all = w.count in
       omega (arith, low, all);
   carried = carried_there e words ports b k w s j inside;

@@ -1,8 +1,8 @@
 -- A word of an owned arena is set.
-use Rattle.partial_epochs.proofs.{Common.{ℕ, ◌≡◌, ◌≢◌, ◌+◌, ◌-◌, ◌<◌, ◌≤◌, Bool, if◌then◌else◌, Option, Some, None, IfSome, List, length, slice_index, slice_set, refl, sym, ap, subst, ◌∙◌, inl, inr, arith, option_map, cases_lt, lt-ltb, eqb_tells, get_or-set_other, length-set, first_free, total, put, IsToBeSet, Plan, Place, IsPlace, at_word, arena_words, base, carried_word, carried_words, component_words, control_size, control_words, current_word, packed, plain, span, set_word, Control, OwnedArena, Port, Epoch, IsPlaceWord, IsStillMarked, IsOwner, LawfulControl, MayPut, NotInto, Beside, IsArena, IsNewPart, IsSetting, IsStanding, LawfulEpochs, controls, next_epoch_word, numbers, place_now, SetsStayLawful, having_set, vacated, Stands, Loaded, ClearSlotsCountAsSet, ClearsSlots, HasClearRecords, HasClearSlots, set-get_or, slot_counter, slot_word, ◌∷◌, carried_behind, opening_behind, set_offset, opening_word, slots_open}, ClearRecords.{records_before, records_same}, Lists.{put_all, put_other, put_same, same_of}, Owning.knows_more, Places.{bases_up, counter_number, packed_arena, set_apart, set_place, slot_number, slot_offset, slot_set}, Worded.{plain_at, plain_other}}
+use Rattle.partial_epochs.proofs.{Common.{ℕ, ◌≡◌, ◌≢◌, ◌+◌, ◌-◌, ◌<◌, ◌≤◌, Bool, if◌then◌else◌, Option, Some, None, IfSome, List, length, slice_index, slice_set, refl, sym, ap, subst, ◌∙◌, inl, inr, arith, option_map, cases_lt, lt-ltb, eqb_tells, get_or-set_other, length-set, first_free, total, put, IsToBeSet, Plan, Site, IsSite, at_word, arena_words, base, carried_word, carried_words, component_words, control_size, control_words, current_word, packed, plain, span, set_word, Control, OwnedArena, Port, Epoch, IsSiteWord, IsStillMarked, IsOwner, LawfulControl, MayPut, NotInto, Beside, IsArena, IsNewPart, IsSetting, IsStanding, LawfulEpochs, controls, next_epoch_word, numbers, site_now, SetsStayLawful, having_set, vacated, Stands, Loaded, ClearSlotsCountAsSet, ClearsSlots, HasClearRecords, HasClearSlots, set-get_or, slot_counter, slot_word, ◌∷◌, stamp_after, opened_after, set_offset, opening_word, slots_open}, ClearRecords.{records_before, records_same}, Lists.{put_all, put_other, put_same, same_of}, Owning.knows_more, Offsets.{bases_up, counter_number, packed_arena, set_apart, set_index, slot_number, slot_offset, slot_set}, Worded.{plain_at, plain_other}}
 
 -- an arena that port k owns, of which all ports are out, holds no epoch
-module _ (e : Plan) (words : List ℕ) (cs : ℕ → Control) (now : Place) (holds : ℕ → Option ℕ) (w : LawfulControl e words cs now holds) (k : ℕ) (below : k < e.ports) (o : OwnedArena)
+module _ (e : Plan) (words : List ℕ) (cs : ℕ → Control) (now : Site) (holds : ℕ → Option ℕ) (w : LawfulControl e words cs now holds) (k : ℕ) (below : k < e.ports) (o : OwnedArena)
     (owned : (cs k).owned ≡ Some o) (done : o.clean ≡ e.ports) where
   pub own : IsOwner e words cs now holds k o
   own = subst (λ (t : Option OwnedArena). IfSome t (IsOwner e words cs now holds k)) owned (w.owners k below)
@@ -10,8 +10,8 @@ module _ (e : Plan) (words : List ℕ) (cs : ℕ → Control) (now : Place) (hol
   pub unlike : now.arena ≢ o.arena
   unlike = let h = own in h.looked (h.order (omega (arith, done, below)))
 
-  pub not_stood : (q : ℕ) (d : Place) → q < e.ports → IsPlace e d → slice_index words (at_word q) ≡ packed d → q ≢ k → d.arena ≢ o.arena
-  not_stood q d low place at ne = let h = own in (h.out q (omega (arith, done, low)) low ne).unmarked d place at
+  pub not_stood : (q : ℕ) (d : Site) → q < e.ports → IsSite e d → slice_index words (at_word q) ≡ packed d → q ≢ k → d.arena ≢ o.arena
+  not_stood q d low site at ne = let h = own in (h.out q (omega (arith, done, low)) low ne).unmarked d site at
 
   abbrev holds' : ℕ → Option ℕ
   holds' = put o.arena None holds
@@ -19,15 +19,15 @@ module _ (e : Plan) (words : List ℕ) (cs : ℕ → Control) (now : Place) (hol
   keeps : (x g : ℕ) → holds' x ≡ Some g → holds x ≡ Some g
   keeps x g = put_all (λ i (t : Option ℕ). t ≡ Some g → holds i ≡ Some g) o.arena None holds x (λ _ is. absurd cc) (λ _ is. is)
 
-  -- of the words where ports stand: their places aren't in the arena
-  module _ (own_place : (d : Place) → IsPlace e d → slice_index words (at_word k) ≡ packed d → d.arena ≢ o.arena) where
-    stood : (q : ℕ) (d : Place) → q < e.ports → IsPlace e d → slice_index words (at_word q) ≡ packed d → d.arena ≢ o.arena
-    stood q d low place at = elim (eqb_tells q k) [
-      | inl same ↦ own_place d place (ap (λ i. slice_index words (at_word i)) (sym same.1) ∙ at)
-      | inr ne ↦ not_stood q d low place at ne.1
+  -- of the words where ports stand: their sites aren't in the arena
+  module _ (own_site : (d : Site) → IsSite e d → slice_index words (at_word k) ≡ packed d → d.arena ≢ o.arena) where
+    stood : (q : ℕ) (d : Site) → q < e.ports → IsSite e d → slice_index words (at_word q) ≡ packed d → d.arena ≢ o.arena
+    stood q d low site at = elim (eqb_tells q k) [
+      | inl same ↦ own_site d site (ap (λ i. slice_index words (at_word i)) (sym same.1) ∙ at)
+      | inr ne ↦ not_stood q d low site at ne.1
     ]
 
-    coming : (q : ℕ) (d : Place) → q < e.ports → (cs q).entering ≡ Loaded d → IsStillMarked words (cs q) q → d.arena ≢ o.arena
+    coming : (q : ℕ) (d : Site) → q < e.ports → (cs q).entering ≡ Loaded d → IsStillMarked words (cs q) q → d.arena ≢ o.arena
     coming q d low is at = elim (eqb_tells q k) [
       | inl same ↦ let h = own in let bad : Stands ≡ Loaded d = sym h.stands ∙ sym (ap (λ i. (cs i).entering) same.1) ∙ is in absurd cc
       | inr ne ↦ let h = own in subst (NotInto o.arena) is ((h.out q (omega (arith, done, low)) low ne.1).loaded at)
@@ -56,15 +56,15 @@ module _ (e : Plan) (words : List ℕ) (cs : ℕ → Control) (now : Place) (hol
     emptied : LawfulControl e words cs now holds'
     emptied = record {
       current = w.current;
-      place = w.place;
+      site = w.site;
       present = put_other o.arena None holds now.arena unlike ∙ w.present;
       earlier = λ x g is. w.earlier x g (keeps x g is);
       within = λ x g is. w.within x g (keeps x g is);
-      places = w.places;
+      sites = w.sites;
       at = w.at;
       old = w.old;
       past = w.past;
-      stands = λ q d low place at. put_other o.arena None holds d.arena (stood q d low place at) ∙ w.stands q d low place at;
+      stands = λ q d low site at. put_other o.arena None holds d.arena (stood q d low site at) ∙ w.stands q d low site at;
       comes = λ q d low is at. put_other o.arena None holds d.arena (coming q d low is at) ∙ w.comes q d low is at;
       owners = λ q low. owner_of q (cs q).owned (w.owners q low);
     }
@@ -72,7 +72,7 @@ module _ (e : Plan) (words : List ℕ) (cs : ℕ → Control) (now : Place) (hol
     abbrev c : ℕ → Control
     c next = record (cs k) { owned = Some (record o { set = next }) }
 
-    same_put : (next j : ℕ) (a : Place) → MayPut (c next) j a → MayPut (cs k) j a
+    same_put : (next j : ℕ) (a : Site) → MayPut (c next) j a → MayPut (cs k) j a
     same_put next j a may =
         let same : record o { set = next } ≡ may.owned = cc in
         record {
@@ -128,20 +128,20 @@ module _ (e : Plan) (words : List ℕ) (ports : ℕ → Port) (b : Beside) (k : 
   more : o.set < first_free e.sizes + e.sizes.m
   more = omega (arith, goes, most)
 
-  mine : IsOwner e (control_words e words) (controls ports) (place_now b) (numbers b) k o
-  mine = own e (control_words e words) (controls ports) (place_now b) (numbers b) w.control k below o owned done
+  mine : IsOwner e (control_words e words) (controls ports) (site_now b) (numbers b) k o
+  mine = own e (control_words e words) (controls ports) (site_now b) (numbers b) w.control k below o owned done
 
   abbrev spot : ℕ
   spot = set_word e o.arena o.set
 
-  place : (j : ℕ) × (j < span e) × (set_word e o.arena o.set ≡ base e o.arena + j)
-  place = let pool = w.plan.sizes.pool.0 in set_place e o.arena o.set pool more
+  spot_is : (j : ℕ) × (j < span e) × (set_word e o.arena o.set ≡ base e o.arena + j)
+  spot_is = let pool = w.plan.sizes.pool.0 in set_index e o.arena o.set pool more
 
   abbrev after : List ℕ
   after = slice_set words (set_word e o.arena o.set) v
 
   spot_high : control_size e ≤ set_word e o.arena o.set
-  spot_high = let p = place in let at = p.2 in omega (arith, at)
+  spot_high = let p = spot_is in let at = p.2 in omega (arith, at)
 
   other : (i : ℕ) → i ≢ set_word e o.arena o.set → slice_index after i ≡ slice_index words i
   other i ne = get_or-set_other words (set_word e o.arena o.set) i v 0 ne
@@ -151,7 +151,7 @@ module _ (e : Plan) (words : List ℕ) (ports : ℕ → Port) (b : Beside) (k : 
 
   -- a word of another arena
   away : (y i : ℕ) → y ≢ o.arena → i < span e → base e y + i ≢ set_word e o.arena o.set
-  away y i ne low = let p = place in let at = p.2 in let less = p.1 in (λ same. far y i p.0 ne low less (same ∙ at))
+  away y i ne low = let p = spot_is in let at = p.2 in let less = p.1 in (λ same. far y i p.0 ne low less (same ∙ at))
     where
       far : (y i j : ℕ) → y ≢ o.arena → i < span e → j < span e → base e y + i ≡ base e o.arena + j → ⊥
       far y i j ne low less same = elim (cases_lt y o.arena) [
@@ -185,34 +185,34 @@ module _ (e : Plan) (words : List ℕ) (ports : ℕ → Port) (b : Beside) (k : 
     | inr ne ↦ (ne.1, sym (put_other o.arena None b.holds y ne.1) ∙ is)
   ]
 
-  placed_word : (q : ℕ) → q < e.ports → (ports q).control.entering ≡ Stands → slice_index (control_words e words) (at_word q) ≡ packed (ports q).control.here
-  placed_word q low is = subst (IsPlaceWord e (control_words e words) q (ports q).control.here) is (w.control.at q low)
+  site_word : (q : ℕ) → q < e.ports → (ports q).control.entering ≡ Stands → slice_index (control_words e words) (at_word q) ≡ packed (ports q).control.here
+  site_word q low is = subst (IsSiteWord e (control_words e words) q (ports q).control.here) is (w.control.at q low)
 
-  own_place : (d : Place) → IsPlace e d → slice_index (control_words e words) (at_word k) ≡ packed d → d.arena ≢ o.arena
-  own_place d there at =
+  own_site : (d : Site) → IsSite e d → slice_index (control_words e words) (at_word k) ≡ packed d → d.arena ≢ o.arena
+  own_site d there at =
       let h = mine in
-      let both = packed_arena e (ports k).control.here d w.plan.arenas (w.control.places k below).arena there.arena (sym (placed_word k below h.stands) ∙ at) in
+      let both = packed_arena e (ports k).control.here d w.plan.arenas (w.control.sites k below).arena there.arena (sym (site_word k below h.stands) ∙ at) in
       λ is. h.apart (both.1 ∙ is)
 
   not_here : (q : ℕ) → q < e.ports → (ports q).control.entering ≡ Stands → (ports q).control.here.arena ≢ o.arena
   not_here q low is = elim (eqb_tells q k) [
     | inl same ↦ let h = mine in λ same_arena. h.apart (ap (λ i. (ports i).control.here.arena) (sym same.1) ∙ same_arena)
-    | inr ne ↦ not_stood e (control_words e words) (controls ports) (place_now b) (numbers b) w.control k below o owned done q (ports q).control.here low (w.control.places q low)
-        (placed_word q low is) ne.1
+    | inr ne ↦ not_stood e (control_words e words) (controls ports) (site_now b) (numbers b) w.control k below o owned done q (ports q).control.here low (w.control.sites q low)
+        (site_word q low is) ne.1
   ]
 
-  control_then : LawfulControl e (control_words e after) (controls (put k q' ports)) (place_now b') (numbers b')
+  control_then : LawfulControl e (control_words e after) (controls (put k q' ports)) (site_now b') (numbers b')
   control_then =
       let c : Control = record (ports k).control { owned = Some (record o { set = next }) } in
-      let h = set_control e (control_words e words) (controls ports) (place_now b) (numbers b) w.control k below o owned done own_place next in
+      let h = set_control e (control_words e words) (controls ports) (site_now b) (numbers b) w.control k below o owned done own_site next in
       let cs_is : (q : ℕ) → put k c (controls ports) q ≡ controls (put k q' ports) q = λ q. put_all (λ i (d : Control). d ≡ (put k q' ports i).control) k c (controls ports) q
       (λ _. sym (ap (λ (p : Port). p.control) (put_same k q' ports))) (λ ne. sym (ap (λ (p : Port). p.control) (put_other k q' ports q ne))) in
       let ns_is : (y : ℕ) → put o.arena None (numbers b) y ≡ numbers b' y = λ y. put_all (λ i (t : Option ℕ). t ≡ numbers b' i) o.arena None (numbers b) y
       (λ _. sym (ap (option_map (λ (r : Epoch). length r.before)) (put_same o.arena None b.holds)))
       (λ ne. sym (ap (option_map (λ (r : Epoch). length r.before)) (put_other o.arena None b.holds y ne))) in
-      subst (λ (l : List ℕ). LawfulControl e l (controls (put k q' ports)) (place_now b') (numbers b')) (sym control_is)
-      (subst (λ (f : ℕ → Option ℕ). LawfulControl e (control_words e words) (controls (put k q' ports)) (place_now b) f) (λ i y. ns_is y i)
-      (subst (λ (f : ℕ → Control). LawfulControl e (control_words e words) f (place_now b) (put o.arena None (numbers b))) (λ i q. cs_is q i) h))
+      subst (λ (l : List ℕ). LawfulControl e l (controls (put k q' ports)) (site_now b') (numbers b')) (sym control_is)
+      (subst (λ (f : ℕ → Option ℕ). LawfulControl e (control_words e words) (controls (put k q' ports)) (site_now b) f) (λ i y. ns_is y i)
+      (subst (λ (f : ℕ → Control). LawfulControl e (control_words e words) f (site_now b) (put o.arena None (numbers b))) (λ i q. cs_is q i) h))
 
   stands_on : (q : ℕ) (p : Port) → p.control.here.arena ≢ o.arena → IsStanding b q p → IsStanding b' q p
   stands_on q p ne s = record { epoch = s.epoch; is = put_other o.arena None b.holds p.control.here.arena ne ∙ s.is; before = s.before; part = s.part; passed = s.passed; over = s.over }
@@ -220,8 +220,8 @@ module _ (e : Plan) (words : List ℕ) (ports : ℕ → Port) (b : Beside) (k : 
   -- what another port has set is as it was
   set_other : (q : ℕ) (t : OwnedArena) → q < e.ports → q ≢ k → (ports q).control.owned ≡ Some t → IsSetting e words b (ports q) t → IsSetting e after b' (ports q) t
   set_other q t low ne is h =
-      let theirs : IsOwner e (control_words e words) (controls ports) (place_now b) (numbers b) q t =
-      subst (λ (t : Option OwnedArena). IfSome t (IsOwner e (control_words e words) (controls ports) (place_now b) (numbers b) q)) is (w.control.owners q low) in
+      let theirs : IsOwner e (control_words e words) (controls ports) (site_now b) (numbers b) q t =
+      subst (λ (t : Option OwnedArena). IfSome t (IsOwner e (control_words e words) (controls ports) (site_now b) (numbers b) q)) is (w.control.owners q low) in
       let m = mine in
       let a = theirs.word in
       let c = m.word in
@@ -233,7 +233,7 @@ module _ (e : Plan) (words : List ℕ) (ports : ℕ → Port) (b : Beside) (k : 
         each = λ at i less asked.
             let few = h.few in
             let pool = w.plan.sizes.pool.0 in
-            let p = set_place e t.arena i pool (omega (arith, less, few)) in
+            let p = set_index e t.arena i pool (omega (arith, less, few)) in
             other (set_word e t.arena i) (λ same. away t.arena p.0 apart p.1 (sym p.2 ∙ same)) ∙ h.each (sym (other current_word (omega (arith, up))) ∙ at) i less asked;
         cleared = λ l less set. other (base e t.arena + slot_word e.sizes l) (away t.arena (slot_word e.sizes l) apart (omega (arith, less))) ∙ h.cleared l less set;
       }
@@ -251,7 +251,7 @@ module _ (e : Plan) (words : List ℕ) (ports : ℕ → Port) (b : Beside) (k : 
         other (base e o.arena + slot_word e.sizes l) (λ same. let number = slot_number e o.arena l o.set pool less (sym same) in omega (arith, number, thereafter)) ∙ h.cleared l less thereafter
   ]
 
-  -- the slots that weren't claimed are 0 behind the store too
+  -- the slots that weren't claimed are 0 after the store too
   clear_then : (y : ℕ) → y < e.arenas → HasClearSlots e after y
   clear_then y inside l from less = elim (eqb_tells y o.arena) [
     | inl same ↦ subst (λ z. slice_index after (base e z + slot_word e.sizes l) ≡ 0) (sym same.1) (own_clear l (subst (λ z. slice_index after (base e z + slot_counter e.sizes) ≤ l) same.1 from) less)
@@ -307,7 +307,7 @@ module _ (e : Plan) (words : List ℕ) (ports : ℕ → Port) (b : Beside) (k : 
 
   pub sets_on : LawfulEpochs e after (put k q' ports) b'
   sets_on =
-      let apart = unlike e (control_words e words) (controls ports) (place_now b) (numbers b) w.control k below o owned done in
+      let apart = unlike e (control_words e words) (controls ports) (site_now b) (numbers b) w.control k below o owned done in
       record {
         plan = w.plan;
         count = length-set words (set_word e o.arena o.set) v ∙ w.count;
@@ -339,8 +339,8 @@ clear_slots_count_as_set e words ports b k o next w below owned done goes free p
     (λ l now set. ap (λ (l' : List ℕ). slice_index l' (base e o.arena + slot_word e.sizes l)) same ∙ zero l (omega (arith, now)) (omega (arith, set, free)))
     (subst (λ (l : List ℕ). HasClearRecords e l o.arena) (sym same) (records_before e words ports b w o.arena mine.arena)))
   where
-    mine : IsOwner e (control_words e words) (controls ports) (place_now b) (numbers b) k o
-    mine = own e (control_words e words) (controls ports) (place_now b) (numbers b) w.control k below o owned done
+    mine : IsOwner e (control_words e words) (controls ports) (site_now b) (numbers b) k o
+    mine = own e (control_words e words) (controls ports) (site_now b) (numbers b) w.control k below o owned done
 
     same : slice_set words (set_word e o.arena o.set) (slice_index words (set_word e o.arena o.set)) ≡ words
     same = set-get_or words (set_word e o.arena o.set) 0
@@ -352,7 +352,7 @@ clear_slots_count_as_set e words ports b k o next w below owned done goes free p
 
     slot_next : (i : ℕ) → i < e.sizes.slots → next_epoch_word e b i ≡ 0
     slot_next i less =
-        ap (λ (c : Bool). if c then opening_word e.sizes (opening_behind e.opening (b.log ∷ b.before)).values (set_offset e.sizes i)
-        else carried_behind e.opening (b.log ∷ b.before) (i - first_free e.sizes)) (lt-ltb i (first_free e.sizes) (omega (arith, less)))
-        ∙ ap (opening_word e.sizes (opening_behind e.opening (b.log ∷ b.before)).values) (slot_offset e.sizes i less)
-        ∙ slots_open e.sizes (opening_behind e.opening (b.log ∷ b.before)).values (e.sizes.slots - (i + 1)) (omega (arith, less))
+        ap (λ (c : Bool). if c then opening_word e.sizes (opened_after e.opening (b.log ∷ b.before)).values (set_offset e.sizes i)
+        else stamp_after e.opening (b.log ∷ b.before) (i - first_free e.sizes)) (lt-ltb i (first_free e.sizes) (omega (arith, less)))
+        ∙ ap (opening_word e.sizes (opened_after e.opening (b.log ∷ b.before)).values) (slot_offset e.sizes i less)
+        ∙ slots_open e.sizes (opened_after e.opening (b.log ∷ b.before)).values (e.sizes.slots - (i + 1)) (omega (arith, less))

@@ -1,9 +1,9 @@
 -- The steps that aren't a machine's keep the notes lawful, and a port notes what it has seen by a look.
-use Rattle.partial_epochs.proofs.{Common.{ℕ, ◌≡◌, ◌≢◌, ◌+◌, ◌<◌, ◌≤◌, ◌==◌, ◌⊎◌, ◌++◌, true, false, Option, IfSome, List, [], ◌∷◌, length, refl, sym, ap, subst, ◌∙◌, inl, inr, arith, length-append, AllByRecursion, eqb_tells, append-nil, length-map, Applied, Note, IsLegal, IsTrueOf, LegalNotes, Noted, place_of, seen_after, seen_by, EachOnce, places_by, places_written, wrote, some_same, words_after, Exchange, Part, PartAmong, port_of, with_seen, looks_stay_lawful, count, list_of, put, Place, Plan, arena_words, at_word, carried_words, component_words, marked, packed, history_of, opening_behind, public_entry, public_log, Epoch, Port, Stands, Beside, IsArena, IsStanding, LawfulEpochs, awaits_slot, claims_no_more, arrived_port, having_published, next_beside, ArrivalsKeepNotes, AsidesStayLawful, GlanceLeads, GlancesStayLawful, IsEpochHistory, IsSight, LawfulMemory, LawfulNotes, PublishesKeepNotes, EpochReached, SightLeads, SightsStayLawful, having_seen, noting, one_history, seen_of, IsTrueOf-grows, LegalNotes-push, places_written-append, seen_by-push}, Change.{Changes, beside_then, change_kept}, Lists.{Around, around_of, count_same, put_all, put_other, put_same}, OneHistory.{history_grows, present_history}, Present.standing, Seats.{among, reached, reached_grows, seen_few}, Slots.done}
+use Rattle.partial_epochs.proofs.{Common.{ℕ, ◌≡◌, ◌≢◌, ◌+◌, ◌<◌, ◌≤◌, ◌==◌, ◌⊎◌, ◌++◌, true, false, Option, IfSome, List, [], ◌∷◌, length, refl, sym, ap, subst, ◌∙◌, inl, inr, arith, length-append, AllByRecursion, eqb_tells, append-nil, length-map, Applied, Note, IsLegal, IsTrueOf, LegalNotes, Noted, place_of, seen_after, seen_by, EachOnce, places_by, places_written, wrote, some_same, words_after, Exchange, Part, PartAmong, port_of, with_seen, looks_stay_lawful, count, list_of, put, Site, Plan, arena_words, at_word, carried_words, component_words, marked, packed, history_of, opened_after, public_entry, public_log, Epoch, Port, Stands, Beside, IsArena, IsStanding, LawfulEpochs, awaits_slot, claims_no_more, arrived_port, having_published, next_beside, ArrivalsKeepNotes, AsidesStayLawful, GlanceLeads, GlancesStayLawful, IsEpochHistory, IsSight, LawfulMemory, LawfulNotes, PublishesKeepNotes, EpochReached, SightLeads, SightsStayLawful, having_seen, noting, one_history, seen_of, IsTrueOf-grows, LegalNotes-push, places_written-append, seen_by-push}, Change.{Changes, beside_then, change_kept}, Lists.{Around, around_of, count_same, put_all, put_other, put_same}, OneHistory.{history_grows, present_history}, Present.standing, Seats.{among, reached, reached_grows, seen_few}, Slots.done}
 use Rattle.partial_core.specs.Lawful as one
 use Rattle.partial_core.specs.Ports.{Looks}
 
--- one port comes to have seen more, and the one history is as before
+-- one port sees more, and the one history is as before
 module _ (e : Plan) (ports : ℕ → Port) (b c : Beside) (notes : ℕ → List Noted) (k : ℕ) (p : Port) (w : LawfulNotes e ports b notes) (below : k < e.ports) (same : one_history c ≡ one_history b)
     (finished : AllByRecursion (IsEpochHistory e) c.before) (others : (q : ℕ) → q < e.ports → EpochReached b (ports q) → EpochReached c (ports q)) (own : EpochReached c p)
     (more : seen_of (ports k) ≤ seen_of p) where
@@ -22,7 +22,7 @@ same_reached b c p q log before part earlier here r = record {
   log = r.log;
   is = ap (λ (l : List Applied). l ∷ c.before) log ∙ ap (λ (l : List (List Applied)). b.log ∷ l) before ∙ r.is ∙ ap (λ (l : List (List Applied)). r.later ++ r.log ∷ l) (sym earlier);
   seen = let seen = r.seen in let same = ap (λ (x : Part). length x.seen) part in omega (arith, seen, same);
-  epoch = ap (λ (l : List (List Applied)). length l) earlier ∙ r.epoch ∙ sym (ap (λ (c : Place). c.epoch) here);
+  epoch = ap (λ (l : List (List Applied)). length l) earlier ∙ r.epoch ∙ sym (ap (λ (c : Site). c.epoch) here);
 }
 
 pub asides_stay_lawful : AsidesStayLawful
@@ -47,7 +47,7 @@ ends (x ∷ l) a (y ∷ m) c is low = let rest : l ++ a ≡ m ++ c = cc in ends 
 
 pub arrivals_keep_notes : ArrivalsKeepNotes
 arrivals_keep_notes e words ports b notes k c w below a =
-    let p : Port = arrived_port e k a.place a.before in
+    let p : Port = arrived_port e k a.site a.before in
     let words' = words_after words (Exchange (at_word k) (marked (ports k).control.here) (packed c)) in
     let there : IsStanding b k p = subst (λ (q : Port). q.control.entering ≡ Stands → IsStanding b k q) (put_same k p ports) (a.lawful.standing k below) refl in
     let am = among e words' (put k p ports) b a.lawful k below p there in
@@ -121,16 +121,16 @@ module _ (e : Plan) (words : List ℕ) (ports : ℕ → Port) (b : Beside) (k : 
   abbrev m : PartAmong
   m = record { words = arena_words e words x; before = around.before; part = r.part k; after = around.after; log = r.log }
 
-  looks : Looks e.sizes (opening_behind e.opening r.before) m
-  looks = looks_stay_lawful e.sizes (opening_behind e.opening r.before) m
-      (subst (λ (l : List Part). one.Lawful e.sizes (opening_behind e.opening r.before) (arena_words e words x) l r.log) around.is arena.lawful)
+  looks : Looks e.sizes (opened_after e.opening r.before) m
+  looks = looks_stay_lawful e.sizes (opened_after e.opening r.before) m
+      (subst (λ (l : List Part). one.Lawful e.sizes (opened_after e.opening r.before) (arena_words e words x) l r.log) around.is arena.lawful)
 
   arena_then : IsArena e (arena_words e words x) (component_words e words x) (carried_words e words x) r' (x ≢ b.arena)
   arena_then =
       let list : list_of (put k y r.part) 0 e.ports ≡ around.before ++ y ∷ around.after =
       around.renewed (put k y r.part) (λ i ne. put_other k y r.part i ne) ∙ ap (λ (z : Part). around.before ++ z ∷ around.after) (put_same k y r.part) in
       record {
-        lawful = subst (λ (l : List Part). one.Lawful e.sizes (opening_behind e.opening r.before) (arena_words e words x) l r.log) (sym list) looks.lawful;
+        lawful = subst (λ (l : List Part). one.Lawful e.sizes (opened_after e.opening r.before) (arena_words e words x) l r.log) (sym list) looks.lawful;
         numbers = λ q inside. put_all (λ i (z : Part). i < e.ports → port_of z ≡ i) k y r.part q (λ _ _. arena.numbers k below) (λ _ inside. arena.numbers q inside) inside;
         stamps = arena.stamps;
         few = arena.few;

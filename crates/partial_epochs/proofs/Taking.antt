@@ -1,8 +1,8 @@
 -- A port takes an arena and gives it back, finds the others elsewhere, and loads their marks.
-use Rattle.partial_epochs.proofs.{Common.{ℕ, ◌≡◌, ◌≢◌, ◌+◌, ◌<◌, ◌≤◌, ◌==◌, ◌⊎◌, Bool, true, false, if◌then◌else◌, Option, Some, None, IfSome, List, length, slice_index, slice_set, refl, sym, ap, subst, ◌∙◌, inl, inr, arith, eqb_tells, get_or-set_same, get_or-set_other, length-set, put, Plan, Place, IsPlace, at_word, control_size, control_words, current_word, entering_mark, marked, own_word, packed, arena_limit, Control, Entering, OwnedArena, Port, Stands, Marks, Loaded, IsPlaceWord, IsEarlier, IsOut, IsOwner, LawfulControl, MayPut, Beside, IsSetting, IsStanding, LawfulEpochs, controls, numbers, place_now, GivesStayLawful, MarksAreLoaded, OthersAreElsewhere, OwnersLookAway, TakesStayLawful, at_next_port, having_given, having_loaded, having_put, just_taken, owning_port, having_passed}, Entering.{control_lifted, current_is, cw_at, cw_long, not_marked}, Lists.{put_all, set_of}, Owning.knows_more, Places.packed_arena, Present.same_place}
+use Rattle.partial_epochs.proofs.{Common.{ℕ, ◌≡◌, ◌≢◌, ◌+◌, ◌<◌, ◌≤◌, ◌==◌, ◌⊎◌, Bool, true, false, if◌then◌else◌, Option, Some, None, IfSome, List, length, slice_index, slice_set, refl, sym, ap, subst, ◌∙◌, inl, inr, arith, eqb_tells, get_or-set_same, get_or-set_other, length-set, put, Plan, Site, IsSite, at_word, control_size, control_words, current_word, entering_mark, marked, own_word, packed, arena_limit, Control, Entering, OwnedArena, Port, Stands, Marks, Loaded, IsSiteWord, IsEarlier, IsOut, IsOwner, LawfulControl, MayPut, Beside, IsSetting, IsStanding, LawfulEpochs, controls, numbers, site_now, GivesStayLawful, MarksAreLoaded, OthersAreElsewhere, OwnersLookAway, TakesStayLawful, at_next_port, having_given, having_loaded, having_put, just_taken, owning_port, having_passed}, Entering.{control_lifted, current_is, cw_at, cw_long, not_marked}, Lists.{put_all, set_of}, Owning.knows_more, Offsets.packed_arena, Present.same_site}
 
 -- the owner word of an arena that nobody owns is set
-module _ (e : Plan) (words : List ℕ) (cs : ℕ → Control) (now : Place) (holds : ℕ → Option ℕ) (w : LawfulControl e words cs now holds) (x v : ℕ)
+module _ (e : Plan) (words : List ℕ) (cs : ℕ → Control) (now : Site) (holds : ℕ → Option ℕ) (w : LawfulControl e words cs now holds) (x v : ℕ)
     (nobody : (q : ℕ) (o : OwnedArena) → q < e.ports → (cs q).owned ≡ Some o → o.arena ≢ x) where
   abbrev words' : List ℕ
   words' = slice_set words (own_word e x) v
@@ -15,12 +15,12 @@ module _ (e : Plan) (words : List ℕ) (cs : ℕ → Control) (now : Place) (hol
 
   out_then : (y q : ℕ) → q < e.ports → IsOut e words cs y q → IsOut e words' cs y q
   out_then y q low h = record {
-    unmarked = λ c place at. h.unmarked c place (sym (at_same q low) ∙ at);
+    unmarked = λ c site at. h.unmarked c site (sym (at_same q low) ∙ at);
     loaded = λ at. h.loaded (sym (at_same q low) ∙ at);
     put = λ p a inside may at. h.put p a inside may (sym (at_same q low) ∙ at);
   }
 
-  at_then : (q : ℕ) (d : Place) (t : Entering) → q < e.ports → IsPlaceWord e words q d t → IsPlaceWord e words' q d t
+  at_then : (q : ℕ) (d : Site) (t : Entering) → q < e.ports → IsSiteWord e words q d t → IsSiteWord e words' q d t
   at_then q d Stands low h = at_same q low ∙ h
   at_then q d Marks low (inl h) = inl (at_same q low ∙ h)
   at_then q d Marks low (inr h) = inr (h.0, h.1, at_same q low ∙ h.2, h.3)
@@ -50,21 +50,21 @@ module _ (e : Plan) (words : List ℕ) (cs : ℕ → Control) (now : Place) (hol
   pub own_word_set : LawfulControl e words' cs now holds
   own_word_set = record {
     current = other current_word (omega arith) ∙ w.current;
-    place = w.place;
+    site = w.site;
     present = w.present;
     earlier = w.earlier;
     within = w.within;
-    places = w.places;
+    sites = w.sites;
     at = λ q low. at_then q (cs q).here (cs q).entering low (w.at q low);
     old = w.old;
     past = w.past;
-    stands = λ q d low place at. w.stands q d low place (sym (at_same q low) ∙ at);
+    stands = λ q d low site at. w.stands q d low site (sym (at_same q low) ∙ at);
     comes = λ q d low is at. w.comes q d low is (sym (at_same q low) ∙ at);
     owners = λ q low. owner_of q (cs q).owned low refl (w.owners q low);
   }
 
 -- a port takes an arena
-module _ (e : Plan) (words : List ℕ) (cs : ℕ → Control) (now : Place) (holds : ℕ → Option ℕ) (w : LawfulControl e words cs now holds) (k x : ℕ) (below : k < e.ports)
+module _ (e : Plan) (words : List ℕ) (cs : ℕ → Control) (now : Site) (holds : ℕ → Option ℕ) (w : LawfulControl e words cs now holds) (k x : ℕ) (below : k < e.ports)
     (long : length words ≡ control_size e) (stands : (cs k).entering ≡ Stands) (inside : x < e.arenas) (apart : (cs k).here.arena ≢ x)
     (zero_there : slice_index words (own_word e x) ≡ 0) where
   nobody : (q : ℕ) (o : OwnedArena) → q < e.ports → (cs q).owned ≡ Some o → o.arena ≢ x
@@ -77,7 +77,7 @@ module _ (e : Plan) (words : List ℕ) (cs : ℕ → Control) (now : Place) (hol
   abbrev c : Control
   c = record (cs k) { owned = Some (just_taken x) }
 
-  no_puts : (j : ℕ) (a : Place) → MayPut c j a → ⊥
+  no_puts : (j : ℕ) (a : Site) → MayPut c j a → ⊥
   no_puts j a may =
       let same : just_taken x ≡ may.owned = cc in
       let bad : None ≡ Some a = ap (λ (t : OwnedArena). t.mark) same ∙ may.mark in
@@ -104,7 +104,7 @@ module _ (e : Plan) (words : List ℕ) (cs : ℕ → Control) (now : Place) (hol
       })
 
 -- a port gives its arena back
-module _ (e : Plan) (words : List ℕ) (cs : ℕ → Control) (now : Place) (holds : ℕ → Option ℕ) (w : LawfulControl e words cs now holds) (k : ℕ) (below : k < e.ports) (o : OwnedArena)
+module _ (e : Plan) (words : List ℕ) (cs : ℕ → Control) (now : Site) (holds : ℕ → Option ℕ) (w : LawfulControl e words cs now holds) (k : ℕ) (below : k < e.ports) (o : OwnedArena)
     (owned : (cs k).owned ≡ Some o) where
   abbrev freed : Control
   freed = record (cs k) { owned = None }
@@ -112,7 +112,7 @@ module _ (e : Plan) (words : List ℕ) (cs : ℕ → Control) (now : Place) (hol
   own : IsOwner e words cs now holds k o
   own = subst (λ (t : Option OwnedArena). IfSome t (IsOwner e words cs now holds k)) owned (w.owners k below)
 
-  no_puts_freed : (j : ℕ) (a : Place) → MayPut freed j a → ⊥
+  no_puts_freed : (j : ℕ) (a : Site) → MayPut freed j a → ⊥
   no_puts_freed j a may = let bad : None ≡ Some may.owned = may.is in cc
 
   freed_on : LawfulControl e words (put k freed cs) now holds
@@ -132,29 +132,29 @@ module _ (e : Plan) (words : List ℕ) (cs : ℕ → Control) (now : Place) (hol
   given_on = own_word_set e words (put k freed cs) now holds freed_on o.arena 0 others_own
 
 -- a port that owns an arena finds another one elsewhere, or loads its mark
-module _ (e : Plan) (words : List ℕ) (cs : ℕ → Control) (now : Place) (holds : ℕ → Option ℕ) (w : LawfulControl e words cs now holds) (k : ℕ) (below : k < e.ports) (o : OwnedArena)
+module _ (e : Plan) (words : List ℕ) (cs : ℕ → Control) (now : Site) (holds : ℕ → Option ℕ) (w : LawfulControl e words cs now holds) (k : ℕ) (below : k < e.ports) (o : OwnedArena)
     (few : e.arenas ≤ arena_limit) (owned : (cs k).owned ≡ Some o) (within : o.clean < e.ports) where
   own_here : IsOwner e words cs now holds k o
   own_here = subst (λ (t : Option OwnedArena). IfSome t (IsOwner e words cs now holds k)) owned (w.owners k below)
 
-  module _ (looked : o.looked ≡ true) (none : o.set ≡ 0) (d : Place) (place : IsPlace e d) (there : slice_index words (at_word o.clean) ≡ packed d) (apart : d.arena ≢ o.arena) where
+  module _ (looked : o.looked ≡ true) (none : o.set ≡ 0) (d : Site) (site : IsSite e d) (there : slice_index words (at_word o.clean) ≡ packed d) (apart : d.arena ≢ o.arena) where
     abbrev done : Control
     done = record (cs k) { owned = Some (at_next_port o) }
 
-    no_puts_done : (j : ℕ) (a : Place) → MayPut done j a → ⊥
+    no_puts_done : (j : ℕ) (a : Site) → MayPut done j a → ⊥
     no_puts_done j a may =
         let same : at_next_port o ≡ may.owned = cc in
         let bad : None ≡ Some a = ap (λ (t : OwnedArena). t.mark) same ∙ may.mark in
         cc
 
-    is_d : (c : Place) → IsPlace e c → packed d ≡ packed c → d ≡ c
-    is_d c is same = let both = packed_arena e d c few place.arena is.arena same in same_place d c both.0 both.1
+    is_d : (c : Site) → IsSite e c → packed d ≡ packed c → d ≡ c
+    is_d c is same = let both = packed_arena e d c few site.arena is.arena same in same_site d c both.0 both.1
 
     out_clean : IsOut e words cs o.arena o.clean
     out_clean = record {
-      unmarked = λ c is at. subst (λ (f : Place). f.arena ≢ o.arena) (is_d c is (sym there ∙ at)) apart;
-      loaded = λ at. absurd (not_marked e d (cs o.clean).here few place (sym there ∙ at));
-      put = λ p a low may at. absurd (not_marked e d a few place (sym there ∙ at));
+      unmarked = λ c is at. subst (λ (f : Site). f.arena ≢ o.arena) (is_d c is (sym there ∙ at)) apart;
+      loaded = λ at. absurd (not_marked e d (cs o.clean).here few site (sym there ∙ at));
+      put = λ p a low may at. absurd (not_marked e d a few site (sym there ∙ at));
     }
 
     pub elsewhere_on : LawfulControl e words (put k done cs) now holds
@@ -179,13 +179,13 @@ module _ (e : Plan) (words : List ℕ) (cs : ℕ → Control) (now : Place) (hol
         last p less low ne (inr apart) = let other = apart.1 in own_here.out p (omega (arith, less, other)) low ne
 
   -- a word with the mark is that of a port that is entering
-  mark_is : (t : Entering) → (cs o.clean).entering ≡ t → entering_mark ≤ slice_index words (at_word o.clean) → IsPlaceWord e words o.clean (cs o.clean).here t →
+  mark_is : (t : Entering) → (cs o.clean).entering ≡ t → entering_mark ≤ slice_index words (at_word o.clean) → IsSiteWord e words o.clean (cs o.clean).here t →
       (slice_index words (at_word o.clean) ≡ marked (cs o.clean).here) × IsEarlier (cs o.clean).here (cs o.clean).here t
-  mark_is Stands is high h = let place = w.places o.clean within in let r = place.epoch in let x = place.arena in absurd (omega (arith, high, h, few, r, x))
+  mark_is Stands is high h = let site = w.sites o.clean within in let r = site.epoch in let x = site.arena in absurd (omega (arith, high, h, few, r, x))
   mark_is Marks is high (inl h) = (h, omega arith)
   mark_is (Loaded f) is high (inl h) = (h, omega arith)
-  mark_is Marks is high (inr h) = let place = h.1 in let r = place.epoch in let x = place.arena in let at = h.2 in absurd (omega (arith, high, at, few, r, x))
-  mark_is (Loaded f) is high (inr h) = let place = h.1 in let r = place.epoch in let x = place.arena in let at = h.2 in absurd (omega (arith, high, at, few, r, x))
+  mark_is Marks is high (inr h) = let site = h.1 in let r = site.epoch in let x = site.arena in let at = h.2 in absurd (omega (arith, high, at, few, r, x))
+  mark_is (Loaded f) is high (inr h) = let site = h.1 in let r = site.epoch in let x = site.arena in let at = h.2 in absurd (omega (arith, high, at, few, r, x))
 
   module _ (high : entering_mark ≤ slice_index words (at_word o.clean)) where
     abbrev loaded_owned : OwnedArena
@@ -197,7 +197,7 @@ module _ (e : Plan) (words : List ℕ) (cs : ℕ → Control) (now : Place) (hol
     pub found_mark : slice_index words (at_word o.clean) ≡ marked (cs o.clean).here
     found_mark = (mark_is (cs o.clean).entering refl high (w.at o.clean within)).0
 
-    no_puts_loading : (j : ℕ) (a : Place) → MayPut loading j a → ⊥
+    no_puts_loading : (j : ℕ) (a : Site) → MayPut loading j a → ⊥
     no_puts_loading j a may =
         let same : loaded_owned ≡ may.owned = cc in
         let bad : false ≡ true = ap (λ (t : OwnedArena). t.again) same ∙ may.again in
@@ -215,12 +215,12 @@ module _ (e : Plan) (words : List ℕ) (cs : ℕ → Control) (now : Place) (hol
           few = own_here.few;
           out = own_here.out;
           older = λ is. absurd cc;
-          held = (w.places o.clean within, (mark_is (cs o.clean).entering refl high (w.at o.clean within)).1);
+          held = (w.sites o.clean within, (mark_is (cs o.clean).entering refl high (w.at o.clean within)).1);
           all = own_here.all;
           none = own_here.none;
         })
 
--- a control word is set, and port k comes to be p'
+-- a control word is set, and port k becomes p'
 module _ (e : Plan) (words : List ℕ) (ports : ℕ → Port) (b : Beside) (k i v : ℕ) (p' : Port) (w : LawfulEpochs e words ports b) (below : k < e.ports) (inside : i < control_size e)
     (later : 0 < i) where
   abbrev word_set : List ℕ
@@ -234,12 +234,12 @@ module _ (e : Plan) (words : List ℕ) (ports : ℕ → Port) (b : Beside) (k i 
       ∙ ap (λ j. slice_set (control_words e words) i (slice_index word_set j)) zero_here
       ∙ ap (λ u. slice_set (control_words e words) i u) (get_or-set_same words i v 0 (omega (arith, count, inside)))
 
-  pub word_lifted : LawfulControl e (slice_set (control_words e words) i v) (put k p'.control (controls ports)) (place_now b) (numbers b) → IfSome p'.control.owned (IsSetting e word_set b p') →
+  pub word_lifted : LawfulControl e (slice_set (control_words e words) i v) (put k p'.control (controls ports)) (site_now b) (numbers b) → IfSome p'.control.owned (IsSetting e word_set b p') →
       (p'.control.entering ≡ Stands → IsStanding b k p') → (ports k).control.here.epoch ≤ p'.control.here.epoch → LawfulEpochs e word_set (put k p' ports) b
   word_lifted control settled stand up =
       control_lifted e words word_set (λ j from. get_or-set_other words i j v 0 (omega (arith, from, inside))) ports b k p' w (length-set words i v)
       (get_or-set_other words i current_word v 0 (omega (arith, later))) settled
-      (subst (λ (l : List ℕ). LawfulControl e l (put k p'.control (controls ports)) (place_now b) (numbers b)) (sym set_control) control) stand up below
+      (subst (λ (l : List ℕ). LawfulControl e l (put k p'.control (controls ports)) (site_now b) (numbers b)) (sym set_control) control) stand up below
 
 -- a port that stands goes on standing, with another arena of its own
 still : (b : Beside) (k : ℕ) (p : Port) (t : Option OwnedArena) → IsStanding b k p → IsStanding b k (record p { control = record p.control { owned = t } })
@@ -249,8 +249,8 @@ nothing_set : (e : Plan) (words : List ℕ) (b : Beside) (p : Port) (o : OwnedAr
 nothing_set e words b p o none = record { few = omega (arith, none); sealed = λ some. absurd (omega (arith, some, none)); each = λ at i less _. absurd (omega (arith, less, none)); cleared = λ l less set. absurd (omega (arith, less, set, none)) }
 
 owner_is : (e : Plan) (words : List ℕ) (ports : ℕ → Port) (b : Beside) (k : ℕ) (o : OwnedArena) → LawfulEpochs e words ports b → k < e.ports → (ports k).control.owned ≡ Some o →
-    IsOwner e (control_words e words) (controls ports) (place_now b) (numbers b) k o
-owner_is e words ports b k o w below owned = subst (λ (t : Option OwnedArena). IfSome t (IsOwner e (control_words e words) (controls ports) (place_now b) (numbers b) k)) owned (w.control.owners k below)
+    IsOwner e (control_words e words) (controls ports) (site_now b) (numbers b) k o
+owner_is e words ports b k o w below owned = subst (λ (t : Option OwnedArena). IfSome t (IsOwner e (control_words e words) (controls ports) (site_now b) (numbers b) k)) owned (w.control.owners k below)
 
 setting_is : (e : Plan) (words : List ℕ) (ports : ℕ → Port) (b : Beside) (k : ℕ) (o : OwnedArena) → LawfulEpochs e words ports b → k < e.ports → (ports k).control.owned ≡ Some o →
     IsSetting e words b (ports k) o
@@ -263,28 +263,28 @@ takes_stay_lawful e words ports b k x w below stands free inside apart empty =
     let p' : Port = owning_port (ports k) (just_taken x) in
     subst (λ (t : Bool). LawfulEpochs e (slice_set words (own_word e x) (if t then k + 1 else slice_index words (own_word e x))) (put k p' ports) b) (sym won)
     (word_lifted e words ports b k (own_word e x) (k + 1) p' w below (omega (arith, inside)) (omega arith)
-    (taken_on e (control_words e words) (controls ports) (place_now b) (numbers b) w.control k x below (cw_long e words) stands inside apart (at ∙ empty))
+    (taken_on e (control_words e words) (controls ports) (site_now b) (numbers b) w.control k x below (cw_long e words) stands inside apart (at ∙ empty))
     (nothing_set e (slice_set words (own_word e x) (k + 1)) b p' (just_taken x) refl) (λ _. still b k (ports k) (Some (just_taken x)) (w.standing k below stands)) (omega arith))
 
 pub gives_stay_lawful : GivesStayLawful
 gives_stay_lawful e words ports b k o w below owned =
     let own = owner_is e words ports b k o w below owned in
     word_lifted e words ports b k (own_word e o.arena) 0 (having_given (ports k)) w below (let x = own.arena in omega (arith, x)) (omega arith)
-    (given_on e (control_words e words) (controls ports) (place_now b) (numbers b) w.control k below o owned) tt
+    (given_on e (control_words e words) (controls ports) (site_now b) (numbers b) w.control k below o owned) tt
     (λ _. still b k (ports k) None (w.standing k below own.stands)) (omega arith)
 
 -- the words stay, and port k changes what it knows of its arena
 module _ (e : Plan) (words : List ℕ) (ports : ℕ → Port) (b : Beside) (k : ℕ) (p' : Port) (w : LawfulEpochs e words ports b) (below : k < e.ports) where
-  pub known_lifted : LawfulControl e (control_words e words) (put k p'.control (controls ports)) (place_now b) (numbers b) → IfSome p'.control.owned (IsSetting e words b p') →
+  pub known_lifted : LawfulControl e (control_words e words) (put k p'.control (controls ports)) (site_now b) (numbers b) → IfSome p'.control.owned (IsSetting e words b p') →
       (p'.control.entering ≡ Stands → IsStanding b k p') → (ports k).control.here.epoch ≤ p'.control.here.epoch → LawfulEpochs e words (put k p' ports) b
   known_lifted control settled stand up = control_lifted e words words (λ i from. refl) ports b k p' w refl refl settled control stand up below
 
 pub others_are_elsewhere : OthersAreElsewhere
-others_are_elsewhere e words ports b k o d w below owned looked none within place there apart =
+others_are_elsewhere e words ports b k o d w below owned looked none within site there apart =
     let own = owner_is e words ports b k o w below owned in
     let at = cw_at e words ports b k (ports k) 0 w below (at_word o.clean) (omega (arith, within)) in
     known_lifted e words ports b k (having_put (ports k) o) w below
-    (elsewhere_on e (control_words e words) (controls ports) (place_now b) (numbers b) w.control k below o w.plan.arenas owned within looked none d place (at ∙ there) apart)
+    (elsewhere_on e (control_words e words) (controls ports) (site_now b) (numbers b) w.control k below o w.plan.arenas owned within looked none d site (at ∙ there) apart)
     (nothing_set e words b (having_put (ports k) o) (at_next_port o) none) (λ _. still b k (ports k) (Some (at_next_port o)) (w.standing k below own.stands)) (omega arith)
 
 pub marks_are_loaded : MarksAreLoaded
@@ -294,9 +294,9 @@ marks_are_loaded e words ports b k o w below owned within high =
     let raised : entering_mark ≤ slice_index (control_words e words) (at_word o.clean) = omega (arith, high, at) in
     let s = setting_is e words ports b k o w below owned in
     let n : OwnedArena = having_loaded o (ports o.clean).control.here in (
-      sym at ∙ found_mark e (control_words e words) (controls ports) (place_now b) (numbers b) w.control k below o w.plan.arenas owned within raised,
+      sym at ∙ found_mark e (control_words e words) (controls ports) (site_now b) (numbers b) w.control k below o w.plan.arenas owned within raised,
       known_lifted e words ports b k (owning_port (ports k) n) w below
-          (loading_on e (control_words e words) (controls ports) (place_now b) (numbers b) w.control k below o w.plan.arenas owned within raised)
+          (loading_on e (control_words e words) (controls ports) (site_now b) (numbers b) w.control k below o w.plan.arenas owned within raised)
           (record { few = s.few; sealed = s.sealed; each = s.each; cleared = s.cleared }) (λ _. still b k (ports k) (Some n) (w.standing k below own.stands)) (omega arith),
     )
 
@@ -305,15 +305,15 @@ owners_look_away e words ports b k o w below owned other =
     let own = owner_is e words ports b k o w below owned in
     let s = w.standing k below own.stands in
     let t = w.setting k below in
-    let at : slice_index (control_words e words) (at_word k) ≡ packed (ports k).control.here = subst (IsPlaceWord e (control_words e words) k (ports k).control.here) own.stands (w.control.at k below) in
+    let at : slice_index (control_words e words) (at_word k) ≡ packed (ports k).control.here = subst (IsSiteWord e (control_words e words) k (ports k).control.here) own.stands (w.control.at k below) in
     let c : Control = record (ports k).control { past = true } in
     let earlier : (ports k).control.here.epoch < length b.before = (elim (w.control.earlier (ports k).control.here.arena (ports k).control.here.epoch
-    (w.control.stands k (ports k).control.here below (w.control.places k below) at)) [
+    (w.control.stands k (ports k).control.here below (w.control.sites k below) at)) [
       | inl less ↦ less
-      | inr same ↦ absurd (other (current_is e words ports b k w below ∙ ap packed (sym (same_place (ports k).control.here (place_now b) same.0 same.1))))
+      | inr same ↦ absurd (other (current_is e words ports b k w below ∙ ap packed (sym (same_site (ports k).control.here (site_now b) same.0 same.1))))
     ]) in
     known_lifted e words ports b k (having_passed (ports k)) w below
-    (knows_more e (control_words e words) (controls ports) (place_now b) (numbers b) w.control k below c refl refl (λ _. earlier)
+    (knows_more e (control_words e words) (controls ports) (site_now b) (numbers b) w.control k below c refl refl (λ _. earlier)
     (λ j a may. record { owned = may.owned; is = may.is; port = may.port; mark = may.mark; again = may.again })
     (w.control.owners k below))
     (passed (ports k).control.owned refl t) (λ _. record { epoch = s.epoch; is = s.is; before = s.before; part = s.part; passed = s.passed; over = s.over }) (omega arith)

@@ -1,6 +1,6 @@
 -- What each kind of step makes of the tally of arrivals, and of the arenas that are in use.
-use Rattle.partial_epochs.proofs.{Common.{ℕ, ◌≡◌, ◌≢◌, ◌+◌, ◌<◌, ◌≤◌, ◌/◌, ◌%◌, ◌⊎◌, Bool, true, false, if◌then◌else◌, Option, Some, None, IfSome, List, slice_index, refl, sym, ap, subst, ◌∙◌, inl, inr, arith, eqb_tells, cases_lt, put, IsPlace, Place, Plan, arena_limit, at_word, control_words, entering_mark, marked, own_word, packed, Control, Entering, OwnedArena, Port, Stands, Marks, Loaded, IsOwner, IsPlaceWord, Beside, LawfulEpochs, controls, numbers, place_now, Move}, Entering.cw_at, Lists.{put_all}, Weights.{credit_few, pick, sum_arrived, sum_within, weigh, weigh_arrived, weigh_within}}
-use Rattle.partial_epochs.specs.FreeArenas.{Counts, HasMetPort, HasSeenArrival, IsInUse, IsNamed, IsOwnedBySome, KeepsTally, LeavesInUse, Tally, credit, gives_at, gives_left, may_free, met_behind, weight}
+use Rattle.partial_epochs.proofs.{Common.{ℕ, ◌≡◌, ◌≢◌, ◌+◌, ◌<◌, ◌≤◌, ◌/◌, ◌%◌, ◌⊎◌, Bool, true, false, if◌then◌else◌, Option, Some, None, IfSome, List, slice_index, refl, sym, ap, subst, ◌∙◌, inl, inr, arith, eqb_tells, cases_lt, put, IsSite, Site, Plan, arena_limit, at_word, control_words, entering_mark, marked, own_word, packed, Control, Entering, OwnedArena, Port, Stands, Marks, Loaded, IsOwner, IsSiteWord, Beside, LawfulEpochs, controls, numbers, site_now, Move}, Entering.cw_at, Lists.{put_all}, Weights.{credit_few, pick, sum_arrived, sum_within, weigh, weigh_arrived, weigh_within}}
+use Rattle.partial_epochs.specs.FreeArenas.{Counts, HasMetPort, HasSeenArrival, IsInUse, IsNamed, IsOwnedBySome, KeepsTally, LeavesInUse, Tally, credit, gives_at, gives_left, may_free, met_after, weight}
 
 -- what follows for the value, if there is one
 pub some_to : {A : Type 0} (P Q : A → Type 0) (o : Option A) → ((a : A) → o ≡ Some a → P a → Q a) → IfSome o P → IfSome o Q
@@ -12,7 +12,7 @@ pub some_all : {A : Type 0} (P : A → Type 0) (o : Option A) → ((a : A) → P
 some_all P None f = tt
 some_all P (Some a) f = f a
 
--- a port gives back at most two arenas before it comes to the current epoch
+-- a port gives back at most two arenas before it enters the current epoch
 pub gives_few : (n : Entering) (past : Bool) (o : Option OwnedArena) → gives_at n past o ≤ 2
 gives_few Stands true None = omega arith
 gives_few Stands true (Some o) = omega arith
@@ -43,16 +43,16 @@ gives_owned Stands o o' = omega arith
 gives_owned Marks o o' = omega arith
 gives_owned (Loaded c) o o' = omega arith
 
--- the word of a place is no mark
-pub place_low : (e : Plan) (c : Place) → e.arenas ≤ arena_limit → IsPlace e c → packed c < entering_mark
-place_low e c few h = let r = h.epoch in let a = h.arena in omega (arith, few, r, a)
+-- the word of a site is no mark
+pub site_low : (e : Plan) (c : Site) → e.arenas ≤ arena_limit → IsSite e c → packed c < entering_mark
+site_low e c few h = let r = h.epoch in let a = h.arena in omega (arith, few, r, a)
 
--- and it has the place's epoch
-pub place_epoch : (e : Plan) (c : Place) → e.arenas ≤ arena_limit → IsPlace e c → packed c / arena_limit ≡ c.epoch
-place_epoch e c few h = let a = h.arena in omega (arith, few, a)
+-- and it has the site's epoch
+pub site_epoch : (e : Plan) (c : Site) → e.arenas ≤ arena_limit → IsSite e c → packed c / arena_limit ≡ c.epoch
+site_epoch e c few h = let a = h.arena in omega (arith, few, a)
 
 -- a mark that the owner q holds is its port's word yet, or it has seen an arrival
-abbrev pub IsHeld : Plan → List ℕ → Tally → ℕ → OwnedArena → Place → Type 0
+abbrev pub IsHeld : Plan → List ℕ → Tally → ℕ → OwnedArena → Site → Type 0
 IsHeld e words t q o a = ((o.clean < e.ports) × (slice_index words (at_word o.clean) ≡ marked a)) ⊎ HasSeenArrival t q
 
 -- the weight of port k, were it p
@@ -61,13 +61,13 @@ weight_as e words p now since t k = weigh e.ports (slice_index words (at_word k)
 
 module _ (e : Plan) (words : List ℕ) (ports : ℕ → Port) (b : Beside) (w : LawfulEpochs e words ports b) where
   -- what is so of an owner
-  pub owner_is : (q : ℕ) → q < e.ports → (o : OwnedArena) → (ports q).control.owned ≡ Some o → IsOwner e (control_words e words) (controls ports) (place_now b) (numbers b) q o
-  owner_is q low o is = subst (λ (o : Option OwnedArena). IfSome o (IsOwner e (control_words e words) (controls ports) (place_now b) (numbers b) q)) is (w.control.owners q low)
+  pub owner_is : (q : ℕ) → q < e.ports → (o : OwnedArena) → (ports q).control.owned ≡ Some o → IsOwner e (control_words e words) (controls ports) (site_now b) (numbers b) q o
+  owner_is q low o is = subst (λ (o : Option OwnedArena). IfSome o (IsOwner e (control_words e words) (controls ports) (site_now b) (numbers b) q)) is (w.control.owners q low)
 
   -- the word of a port that stands
   pub stands_at : (q : ℕ) → q < e.ports → (ports q).control.entering ≡ Stands → slice_index words (at_word q) ≡ packed (ports q).control.here
   stands_at q low stands = sym (cw_at e words ports b q (ports q) 0 w low (at_word q) (omega (arith, low)))
-      ∙ subst (IsPlaceWord e (control_words e words) q (ports q).control.here) stands (w.control.at q low)
+      ∙ subst (IsSiteWord e (control_words e words) q (ports q).control.here) stands (w.control.at q low)
 
   module _ (t : Tally) (s : KeepsTally e words ports t) where
     -- an owner word is no mark
@@ -90,7 +90,7 @@ module _ (e : Plan) (words : List ℕ) (ports : ℕ → Port) (b : Beside) (w : 
             | inl inside ↦ inl (inside, at)
             | inr from ↦
                 let few = (owner_is q low o is).few in
-                let some = w.control.place.arena in
+                let some = w.control.site.arena in
                 let own = own_low 0 (omega (arith, some)) in
                 let same : slice_index words (at_word o.clean) ≡ slice_index words (own_word e 0) = ap (slice_index words) (omega (arith, few, from)) in
                 absurd (omega (arith, own, same, at))
@@ -139,7 +139,7 @@ module _ (e : Plan) (words words' : List ℕ) (ports : ℕ → Port) (k : ℕ) (
       (λ _. owned was.owned) (λ _ is. (was.owned, is, refl)) was.is in
       record { owner = was.owner; inside = was.inside; word = own x low ∙ was.word; owned = o.0; is = o.1; arena = o.2 ∙ was.arena }
 
--- A step by which no port's word and no owner word changes, and port k comes to be p: it owns the same arena.
+-- A step by which no port's word and no owner word changes, and port k becomes p: it owns the same arena.
 pub record IsBesideTally (e : Plan) (words words' : List ℕ) (ports : ℕ → Port) (k : ℕ) (p : Port) (t : Tally) : Type 0 where
   pub at : (q : ℕ) → q < e.ports → slice_index words' (at_word q) ≡ slice_index words (at_word q)
   pub own : (x : ℕ) → x < e.arenas → slice_index words' (own_word e x) ≡ slice_index words (own_word e x)
@@ -169,8 +169,8 @@ module _ (e : Plan) (words words' : List ℕ) (ports : ℕ → Port) (b : Beside
         (put_all (λ i (r : Port). i < e.ports → t.met i ≡ true → IfSome r.control.owned (HasMetPort e words r.control t i)) k p ports q (λ _ _. a.met) (λ _ low met. s.met q low met) low met);
   }
 
-  module _ (now now' : Place) (since : ℕ → ℕ) (m : Move) (less : now'.epoch ≡ now.epoch → weight_as e words p now.epoch since t k ≤ weight_as e words (ports k) now.epoch since t k)
-      (met : (q : ℕ) → t.met q ≡ met_behind k m t.met q) (leaves : LeavesInUse e words' t t m) where
+  module _ (now now' : Site) (since : ℕ → ℕ) (m : Move) (less : now'.epoch ≡ now.epoch → weight_as e words p now.epoch since t k ≤ weight_as e words (ports k) now.epoch since t k)
+      (met : (q : ℕ) → t.met q ≡ met_after k m t.met q) (leaves : LeavesInUse e words' t t m) where
     -- no port weighs more
     weights_within : now'.epoch ≡ now.epoch → (q : ℕ) → q < e.ports → weight e words' (put k p ports) now.epoch since t q ≤ weight e words ports now.epoch since t q
     weights_within same q low =
@@ -194,7 +194,7 @@ module _ (e : Plan) (words words' : List ℕ) (ports : ℕ → Port) (b : Beside
 abbrev pub having_arrived : Tally → Tally
 having_arrived t = record t { arrivals = t.arrivals + 1; freed = t.freed + 1 }
 
--- a step by which port r comes to another place, in the epoch of that number, and port k comes to be p: it owns the same arena
+-- a step by which port r moves to another site, in the epoch of that number, and port k becomes p: it owns the same arena
 module _ (e : Plan) (words words' : List ℕ) (ports : ℕ → Port) (k r : ℕ) (p : Port) (t : Tally) (s : KeepsTally e words ports t) (inside : r < e.ports)
     (at : (q : ℕ) → q ≢ r → slice_index words' (at_word q) ≡ slice_index words (at_word q))
     (own : (x : ℕ) → x < e.arenas → slice_index words' (own_word e x) ≡ slice_index words (own_word e x))
@@ -216,9 +216,9 @@ module _ (e : Plan) (words words' : List ℕ) (ports : ℕ → Port) (k r : ℕ)
       seen : (q : ℕ) → q < e.ports → t.taken q < t.arrivals + 1
       seen q low = let few = s.taken q low in omega (arith, few)
 
-  module _ (now now' : Place) (since : ℕ → ℕ) (m : Move) (epoch : ℕ) (high : entering_mark ≤ slice_index words (at_word r)) (low' : slice_index words' (at_word r) < entering_mark)
+  module _ (now now' : Site) (since : ℕ → ℕ) (m : Move) (epoch : ℕ) (high : entering_mark ≤ slice_index words (at_word r)) (low' : slice_index words' (at_word r) < entering_mark)
       (is : slice_index words' (at_word r) / arena_limit ≡ epoch) (late : since r ≤ epoch) (old : epoch ≤ now.epoch) (gives : k ≢ r → gives_left p.control ≤ gives_left (ports k).control)
-      (met' : (q : ℕ) → t.met q ≡ met_behind k m t.met q) (leaves : LeavesInUse e words' t (having_arrived t) m) where
+      (met' : (q : ℕ) → t.met q ≡ met_after k m t.met q) (leaves : LeavesInUse e words' t (having_arrived t) m) where
     -- port r weighs less, by the number of ports
     weight_arrived : weight e words' (put k p ports) now.epoch since (having_arrived t) r + e.ports ≤ weight e words ports now.epoch since t r
     weight_arrived =

@@ -1,13 +1,13 @@
--- What the steps make of the tally that change no owner word, and by which no port comes to another place.
-use Rattle.partial_epochs.proofs.{Common.{ℕ, ◌≡◌, ◌≢◌, ◌+◌, ◌<◌, ◌≤◌, ◌/◌, ◌%◌, ◌^◌, ◌==◌, ◌⊎◌, Bool, true, if◌then◌else◌, Option, Some, IfSome, List, slice_index, slice_set, refl, sym, ap, subst, ◌∙◌, inl, inr, arith, eqb_tells, get_or-set_same, get_or-set_other, some_same, words_after, Step, Load, Store, Exchange, Add, put, IsPlace, Place, Plan, arena_limit, at_word, base, control_size, current_word, entering_mark, marked, own_word, packed, placed_step, set_word, Control, Entering, OwnedArena, Port, Stands, Marks, Loaded, Beside, LawfulEpochs, place_now, having_passed, owning_port, having_published, next_place, resting_arena, Move, StoresMark}, Entering.{not_marked}, Lists.{put_all, put_other, put_same}, Tally.{IsBesideTally, IsHeld, NameAsBefore, counts_beside, gives_looked, gives_owned, gives_passed, held_within, met_stays, place_epoch, place_low, owners_stay, some_to, stands_at, use_stays, weight_as}, Weights.{sum_within, weigh, weigh_away, weigh_here, weigh_not_since, weigh_within}}
-use Rattle.partial_epochs.specs.FreeArenas.{Counts, HasMetPort, HasSeenArrival, IsNamed, KeepsTally, LeavesInUse, Tally, credit, gives_at, gives_left, may_free, met_behind, weight}
+-- What the steps make of the tally that change no owner word, and by which no port moves to another site.
+use Rattle.partial_epochs.proofs.{Common.{ℕ, ◌≡◌, ◌≢◌, ◌+◌, ◌<◌, ◌≤◌, ◌/◌, ◌%◌, ◌^◌, ◌==◌, ◌⊎◌, Bool, true, if◌then◌else◌, Option, Some, IfSome, List, slice_index, slice_set, refl, sym, ap, subst, ◌∙◌, inl, inr, arith, eqb_tells, get_or-set_same, get_or-set_other, some_same, words_after, Step, Load, Store, Exchange, Add, put, IsSite, Site, Plan, arena_limit, at_word, base, control_size, current_word, entering_mark, marked, own_word, packed, based_step, set_word, Control, Entering, OwnedArena, Port, Stands, Marks, Loaded, Beside, LawfulEpochs, site_now, having_passed, owning_port, having_published, next_site, resting_arena, Move, StoresMark}, Entering.{not_marked}, Lists.{put_all, put_other, put_same}, Tally.{IsBesideTally, IsHeld, NameAsBefore, counts_beside, gives_looked, gives_owned, gives_passed, held_within, met_stays, site_epoch, site_low, owners_stay, some_to, stands_at, use_stays, weight_as}, Weights.{sum_within, weigh, weigh_away, weigh_here, weigh_not_since, weigh_within}}
+use Rattle.partial_epochs.specs.FreeArenas.{Counts, HasMetPort, HasSeenArrival, IsNamed, KeepsTally, LeavesInUse, Tally, credit, gives_at, gives_left, may_free, met_after, weight}
 
 -- a control word is another one than each word of an arena
 control_stays : (e : Plan) (words : List ℕ) (j i v : ℕ) → j < control_size e → control_size e ≤ i → slice_index (slice_set words i v) j ≡ slice_index words j
 control_stays e words j i v low from = get_or-set_other words i j v 0 (omega (arith, low, from))
 
 -- an owner word stays by a step in an arena
-pub own_stays : (e : Plan) (words : List ℕ) (y x : ℕ) (step : Step) → y < e.arenas → slice_index (words_after words (placed_step e x step)) (own_word e y) ≡ slice_index words (own_word e y)
+pub own_stays : (e : Plan) (words : List ℕ) (y x : ℕ) (step : Step) → y < e.arenas → slice_index (words_after words (based_step e x step)) (own_word e y) ≡ slice_index words (own_word e y)
 own_stays e words y x (Load w) low = refl
 own_stays e words y x (Store w v) low = control_stays e words (own_word e y) (base e x + w) v (omega (arith, low)) (omega arith)
 own_stays e words y x (Exchange w old new) low =
@@ -23,17 +23,17 @@ own_stays_set e words y x i v low = control_stays e words (own_word e y) (set_wo
 
 module _ (e : Plan) (words : List ℕ) (ports : ℕ → Port) (b : Beside) (k : ℕ) (w : LawfulEpochs e words ports b) (below : k < e.ports) (since : ℕ → ℕ) (t : Tally)
     (s : KeepsTally e words ports t) where
-  abbrev here : Place
+  abbrev here : Site
   here = (ports k).control.here
 
   abbrev now : ℕ
-  now = (place_now b).epoch
+  now = (site_now b).epoch
 
-  -- what the move makes of the tally, as port k comes to be p, with c beside the words
+  -- what the move makes of the tally, as port k becomes p, with c beside the words
   abbrev Goal : Move → List ℕ → Port → Beside → (ℕ → ℕ) → Type 0
-  Goal m words' p c since' = Counts e words words' ports (put k p ports) (place_now b) (place_now c) since since' t k m
+  Goal m words' p c since' = Counts e words words' ports (put k p ports) (site_now b) (site_now c) since since' t k m
 
-  -- no word of a port or owner changes, and port k comes to be p
+  -- no word of a port or owner changes, and port k becomes p
   abbrev Keeps : List ℕ → Port → Type 0
   Keeps words' p = IsBesideTally e words words' ports k p t
 
@@ -41,11 +41,11 @@ module _ (e : Plan) (words : List ℕ) (ports : ℕ → Port) (b : Beside) (k : 
   abbrev WeighsNoMore : Port → Type 0
   WeighsNoMore p = weight_as e words p now since t k ≤ weight_as e words (ports k) now since t k
 
-  place_here : IsPlace e here
-  place_here = w.control.places k below
+  site_here : IsSite e here
+  site_here = w.control.sites k below
 
   low_here : packed here < entering_mark
-  low_here = place_low e here w.plan.arenas place_here
+  low_here = site_low e here w.plan.arenas site_here
 
   -- less credit and fewer gives
   within : (p : Port) → credit t k p.control.owned ≤ credit t k (ports k).control.owned → gives_left p.control ≤ gives_left (ports k).control → WeighsNoMore p
@@ -61,7 +61,7 @@ module _ (e : Plan) (words : List ℕ) (ports : ℕ → Port) (b : Beside) (k : 
   -- the port's control stays as it is
   pub same_control : (m : Move) (words' : List ℕ) (p : Port) (c : Beside) → ((q : ℕ) → q < e.ports → slice_index words' (at_word q) ≡ slice_index words (at_word q)) →
       ((x : ℕ) → x < e.arenas → slice_index words' (own_word e x) ≡ slice_index words (own_word e x)) → p.control ≡ (ports k).control →
-      ((q : ℕ) → t.met q ≡ met_behind k m t.met q) → LeavesInUse e words' t t m → Goal m words' p c since
+      ((q : ℕ) → t.met q ≡ met_after k m t.met q) → LeavesInUse e words' t t m → Goal m words' p c since
   same_control m words' p c at own same met leaves = counts_beside e words words' ports b k p t w s
       (record {
         at = at;
@@ -69,14 +69,14 @@ module _ (e : Plan) (words : List ℕ) (ports : ℕ → Port) (b : Beside) (k : 
         owned = λ o is. (o, ap (λ (d : Control). d.owned) same ∙ is, refl);
         marks = subst (λ (d : Control). IfSome d.owned (λ o. IfSome o.mark (IsHeld e words t k o))) (sym same) (held_within e words ports b w t s k below);
         met = λ is. subst (λ (d : Control). IfSome d.owned (HasMetPort e words d t k)) (sym same) (s.met k below is);
-      }) (place_now b) (place_now c) since m
+      }) (site_now b) (site_now c) since m
       (λ _. subst (λ (d : Control). weigh e.ports (slice_index words (at_word k)) now (since k) (credit t k d.owned) (gives_left d) ≤ weight_as e words (ports k) now since t k) (sym same) (omega arith))
       met leaves
 
   -- no word of a port or owner changes, and the port's control changes without effect
-  pub aside : (m : Move) (words' : List ℕ) (p : Port) (c : Beside) → Keeps words' p → ((place_now c).epoch ≡ now → WeighsNoMore p) → ((q : ℕ) → t.met q ≡ met_behind k m t.met q) →
+  pub aside : (m : Move) (words' : List ℕ) (p : Port) (c : Beside) → Keeps words' p → ((site_now c).epoch ≡ now → WeighsNoMore p) → ((q : ℕ) → t.met q ≡ met_after k m t.met q) →
       LeavesInUse e words' t t m → Goal m words' p c since
-  aside m words' p c a less met leaves = counts_beside e words words' ports b k p t w s a (place_now b) (place_now c) since m less met leaves
+  aside m words' p c a less met leaves = counts_beside e words words' ports b k p t w s a (site_now b) (site_now c) since m less met leaves
 
   -- the port has seen its epoch's end
   pub passed : Keeps words (having_passed (ports k))
@@ -143,14 +143,14 @@ module _ (e : Plan) (words : List ℕ) (ports : ℕ → Port) (b : Beside) (k : 
     owner_here stands even =
         let at = stands_at e words ports b w k below stands in
         let low : slice_index words (at_word k) < entering_mark = subst (λ v. v < entering_mark) (sym at) low_here in
-        let epoch : slice_index words (at_word k) / arena_limit ≡ now = ap (λ v. v / arena_limit) at ∙ place_epoch e here w.plan.arenas place_here ∙ even in
+        let epoch : slice_index words (at_word k) / arena_limit ≡ now = ap (λ v. v / arena_limit) at ∙ site_epoch e here w.plan.arenas site_here ∙ even in
         let before = weigh_here e.ports (slice_index words (at_word k)) now (since k) (credit t k (ports k).control.owned) (gives_left (ports k).control) low epoch in
         let after = weigh_here e.ports (slice_index words (at_word k)) now (since k) (credit t k (Some o')) (gives_left (owning_port (ports k) o').control) low epoch in
         let few = credit_owned o o' is in
         omega (arith, before, after, few)
 
-  -- a port that enters loads the current place
-  module _ (entering : (ports k).control.entering ≡ Marks) (c : Place) where
+  -- a port that enters loads the current site
+  module _ (entering : (ports k).control.entering ≡ Marks) (c : Site) where
     abbrev loaded_port : Port
     loaded_port = record (ports k) { control = record (ports k).control { entering = Loaded c } }
 
@@ -169,7 +169,7 @@ module _ (e : Plan) (words : List ℕ) (ports : ℕ → Port) (b : Beside) (k : 
   -- an owner publishes
   module _ (o : OwnedArena) (is : (ports k).control.owned ≡ Some o) where
     abbrev published_word : ℕ
-    published_word = if slice_index words current_word == packed here then packed (next_place here o.arena) else slice_index words current_word
+    published_word = if slice_index words current_word == packed here then packed (next_site here o.arena) else slice_index words current_word
 
     pub publishes : Keeps (slice_set words current_word published_word) (having_published (ports k) o)
     publishes = record {
@@ -234,7 +234,7 @@ module _ (e : Plan) (words : List ℕ) (ports : ℕ → Port) (b : Beside) (k : 
         held q low = some_to (λ (o : OwnedArena). IfSome o.mark (IsHeld e words t q o)) (λ (o : OwnedArena). IfSome o.mark (λ d. (slice_index marked_words (at_word o.clean) ≡ marked d) ⊎ HasSeenArrival t q))
             (ports q).control.owned (λ o _. some_to (IsHeld e words t q o) (λ d. (slice_index marked_words (at_word o.clean) ≡ marked d) ⊎ HasSeenArrival t q) o.mark (λ d _ h. elim h [
               | inl is ↦ elim (eqb_tells o.clean k) [
-                | inl same ↦ absurd (not_marked e here d w.plan.arenas place_here (sym word_was ∙ ap (λ i. slice_index words (at_word i)) (sym same.1) ∙ is.1))
+                | inl same ↦ absurd (not_marked e here d w.plan.arenas site_here (sym word_was ∙ ap (λ i. slice_index words (at_word i)) (sym same.1) ∙ is.1))
                 | inr ne ↦ inl (mark_other o.clean ne.1 ∙ is.1)
               ]
               | inr has ↦ inr has
@@ -258,7 +258,7 @@ module _ (e : Plan) (words : List ℕ) (ports : ℕ → Port) (b : Beside) (k : 
             let is = mark_same in
             let low = low_here in
             let was = word_was in
-            let epoch = place_epoch e here w.plan.arenas place_here in
+            let epoch = site_epoch e here w.plan.arenas site_here in
             let old = w.control.past k below past in
             let since_now = put_same k now since in
             let after = weigh_not_since e.ports (slice_index marked_words (at_word k)) now (put k now since k) (credit t k c.owned) (gives_left c) (omega (arith, is)) (omega (arith, since_now)) in

@@ -1,5 +1,5 @@
--- What the steps make of the tally by which a port comes to another place, and those on owner words.
-use Rattle.partial_epochs.proofs.{Common.{ℕ, ◌≡◌, ◌≢◌, ◌+◌, ◌<◌, ◌≤◌, ◌/◌, ◌%◌, ◌==◌, ◌⊎◌, nat_lt, Bool, true, false, if◌then◌else◌, Option, Some, None, IfSome, List, length, slice_index, slice_set, refl, sym, ap, subst, ◌∙◌, inl, inr, arith, eqb_tells, get_or-set_same, get_or-set_other, lt-ltb, some_same, put, IsPlace, Place, Plan, arena_limit, at_word, control_words, entering_mark, marked, own_word, packed, Entering, OwnedArena, Port, Stands, Loaded, IsOld, IsOwner, Beside, LawfulEpochs, controls, numbers, place_now, arrived_port, Arrives, at_next_port, having_given, having_put, just_taken, owning_port, Takes, Gives, ExchangesMark, Puts, KeepsTime}, Lists.{put_all, put_other, put_same}, Tally.{IsBesideTally, IsHeld, NameAsBefore, OwnsAsBefore, counts_arrival, counts_beside, gives_looked, held_within, named_stays, owner_is, place_epoch, place_low, some_to, stands_at, use_stays, weight_as}, Weights.{sum_less, sum_within, weigh, weigh_away, weigh_here, weigh_within}}
+-- What the steps make of the tally by which a port moves to another site, and those on owner words.
+use Rattle.partial_epochs.proofs.{Common.{ℕ, ◌≡◌, ◌≢◌, ◌+◌, ◌<◌, ◌≤◌, ◌/◌, ◌%◌, ◌==◌, ◌⊎◌, nat_lt, Bool, true, false, if◌then◌else◌, Option, Some, None, IfSome, List, length, slice_index, slice_set, refl, sym, ap, subst, ◌∙◌, inl, inr, arith, eqb_tells, get_or-set_same, get_or-set_other, lt-ltb, some_same, put, IsSite, Site, Plan, arena_limit, at_word, control_words, entering_mark, marked, own_word, packed, Entering, OwnedArena, Port, Stands, Loaded, IsOld, IsOwner, Beside, LawfulEpochs, controls, numbers, site_now, arrived_port, Arrives, at_next_port, having_given, having_put, just_taken, owning_port, Takes, Gives, ExchangesMark, Puts, KeepsTime}, Lists.{put_all, put_other, put_same}, Tally.{IsBesideTally, IsHeld, NameAsBefore, OwnsAsBefore, counts_arrival, counts_beside, gives_looked, held_within, named_stays, owner_is, site_epoch, site_low, some_to, stands_at, use_stays, weight_as}, Weights.{sum_less, sum_within, weigh, weigh_away, weigh_here, weigh_within}}
 use Rattle.std.proofs.lemmas.Bool.{le-ltb}
 use Rattle.partial_epochs.specs.FreeArenas.{Counts, HasMetPort, HasSeenArrival, IsNamed, IsOwnedBySome, KeepsTally, Tally, credit, gives_at, gives_left, may_free, weight}
 
@@ -10,17 +10,17 @@ credit_same t t' q taken arrivals (Some o) = ap (λ n. if nat_lt n t'.arrivals t
 
 module _ (e : Plan) (words : List ℕ) (ports : ℕ → Port) (b : Beside) (k : ℕ) (w : LawfulEpochs e words ports b) (below : k < e.ports) (since : ℕ → ℕ) (t : Tally)
     (s : KeepsTally e words ports t) where
-  abbrev here : Place
+  abbrev here : Site
   here = (ports k).control.here
 
   abbrev now : ℕ
-  now = (place_now b).epoch
+  now = (site_now b).epoch
 
-  place_here : IsPlace e here
-  place_here = w.control.places k below
+  site_here : IsSite e here
+  site_here = w.control.sites k below
 
   low_here : packed here < entering_mark
-  low_here = place_low e here w.plan.arenas place_here
+  low_here = site_low e here w.plan.arenas site_here
 
   own_inside : (x : ℕ) → x < e.arenas → own_word e x < length words
   own_inside x inside = let count = w.count in omega (arith, count, inside)
@@ -30,9 +30,9 @@ module _ (e : Plan) (words : List ℕ) (ports : ℕ → Port) (b : Beside) (k : 
   was_met o is met = subst (λ (d : Option OwnedArena). IfSome d (HasMetPort e words (ports k).control t k)) is (s.met k below met)
 
   -- the third step of entering
-  module _ (c : Place) (entering : (ports k).control.entering ≡ Loaded c) (a : Arrives e words ports b k c) (late : since k ≤ a.place.epoch) where
+  module _ (c : Site) (entering : (ports k).control.entering ≡ Loaded c) (a : Arrives e words ports b k c) (late : since k ≤ a.site.epoch) where
     abbrev arriving : Port
-    arriving = arrived_port e k a.place a.before
+    arriving = arrived_port e k a.site a.before
 
     abbrev v : ℕ
     v = if slice_index words (at_word k) == marked here then packed c else slice_index words (at_word k)
@@ -47,14 +47,14 @@ module _ (e : Plan) (words : List ℕ) (ports : ℕ → Port) (b : Beside) (k : 
     owned : OwnsAsBefore (ports k).control.owned arriving.control.owned
     owned o is = absurd (owns_none o is)
 
-    place : IsPlace e a.place
-    place = subst (λ (q : Port). IsPlace e q.control.here) (put_same k arriving ports) (a.lawful.control.places k below)
+    site : IsSite e a.site
+    site = subst (λ (q : Port). IsSite e q.control.here) (put_same k arriving ports) (a.lawful.control.sites k below)
 
-    there : slice_index entered_words (at_word k) ≡ packed a.place
+    there : slice_index entered_words (at_word k) ≡ packed a.site
     there = stands_at e entered_words (put k arriving ports) b a.lawful k below (ap (λ (q : Port). q.control.entering) (put_same k arriving ports))
         ∙ ap (λ (q : Port). packed q.control.here) (put_same k arriving ports)
 
-    old : a.place.epoch ≤ now
+    old : a.site.epoch ≤ now
     old = subst (λ (q : Port). IsOld e now q.control.here q.control.entering) (put_same k arriving ports) (a.lawful.control.old k below)
 
     other : (q : ℕ) → q ≢ k → slice_index entered_words (at_word q) ≡ slice_index words (at_word q)
@@ -92,19 +92,19 @@ module _ (e : Plan) (words : List ℕ) (ports : ℕ → Port) (b : Beside) (k : 
         omega (arith, le)
 
     -- the step counts, won or lost
-    pub counts_entry : (now' : Place) → Counts e words entered_words ports (put k arriving ports) (place_now b) now' since since t k (ExchangesMark c)
+    pub counts_entry : (now' : Site) → Counts e words entered_words ports (put k arriving ports) (site_now b) now' since since t k (ExchangesMark c)
     counts_entry now' = elim (eqb_tells (slice_index words (at_word k)) (marked here)) [
       | inl won ↦
           let is = won.1 in
-          counts_arrival e words entered_words ports k k arriving t s below other own owned (λ _. tt) (place_now b) now' since (ExchangesMark c) a.place.epoch (omega (arith, is))
-          (subst (λ u. u < entering_mark) (sym there) (place_low e a.place w.plan.arenas place)) (ap (λ u. u / arena_limit) there ∙ place_epoch e a.place w.plan.arenas place) late old
+          counts_arrival e words entered_words ports k k arriving t s below other own owned (λ _. tt) (site_now b) now' since (ExchangesMark c) a.site.epoch (omega (arith, is))
+          (subst (λ u. u < entering_mark) (sym there) (site_low e a.site w.plan.arenas site)) (ap (λ u. u / arena_limit) there ∙ site_epoch e a.site w.plan.arenas site) late old
           (λ ne. absurd (ne refl)) (λ q. refl) tt
-      | inr lost ↦ counts_beside e words entered_words ports b k arriving t w s (lost_beside lost.1) (place_now b) now' since (ExchangesMark c) (λ _. lost_less) (λ q. refl) tt
+      | inr lost ↦ counts_beside e words entered_words ports b k arriving t w s (lost_beside lost.1) (site_now b) now' since (ExchangesMark c) (λ _. lost_less) (λ q. refl) tt
     ]
 
   -- an owner puts the next port where it stands itself
-  module _ (o : OwnedArena) (a : Place) (is : (ports k).control.owned ≡ Some o) (looked : o.looked ≡ true) (low : o.clean < e.ports) (mark : o.mark ≡ Some a) (again : o.again ≡ true)
-      (at : slice_index words (at_word o.clean) ≡ marked a) (time : KeepsTime e words ports (place_now b) since) where
+  module _ (o : OwnedArena) (a : Site) (is : (ports k).control.owned ≡ Some o) (looked : o.looked ≡ true) (low : o.clean < e.ports) (mark : o.mark ≡ Some a) (again : o.again ≡ true)
+      (at : slice_index words (at_word o.clean) ≡ marked a) (time : KeepsTime e words ports (site_now b) since) where
     abbrev put_word : ℕ
     put_word = if slice_index words (at_word o.clean) == marked a then packed here else slice_index words (at_word o.clean)
 
@@ -121,13 +121,13 @@ module _ (e : Plan) (words : List ℕ) (ports : ℕ → Port) (b : Beside) (k : 
     put_there = (let count = w.count in get_or-set_same words (at_word o.clean) put_word 0 (omega (arith, count, low))) ∙ won
 
     -- the step counts
-    pub counts_put : (now' : Place) → Counts e words put_words ports (put k (having_put (ports k) o) ports) (place_now b) now' since since t k (Puts o a)
+    pub counts_put : (now' : Site) → Counts e words put_words ports (put k (having_put (ports k) o) ports) (site_now b) now' since since t k (Puts o a)
     counts_put now' =
         let stands = (owner_is e words ports b w k below o is).stands in
         counts_arrival e words put_words ports k o.clean (having_put (ports k) o) t s low (λ q ne. get_or-set_other words (at_word o.clean) (at_word q) put_word 0 (omega (arith, ne)))
         (λ x _. get_or-set_other words (at_word o.clean) (own_word e x) put_word 0 (omega (arith, low)))
-        (λ d was. (at_next_port o, refl, ap (λ (f : OwnedArena). f.arena) (some_same (sym is ∙ was)))) (λ _. inr looked) (place_now b) now' since (Puts o a) here.epoch (omega (arith, at))
-        (subst (λ u. u < entering_mark) (sym put_there) low_here) (ap (λ u. u / arena_limit) put_there ∙ place_epoch e here w.plan.arenas place_here)
+        (λ d was. (at_next_port o, refl, ap (λ (f : OwnedArena). f.arena) (some_same (sym is ∙ was)))) (λ _. inr looked) (site_now b) now' since (Puts o a) here.epoch (omega (arith, at))
+        (subst (λ u. u < entering_mark) (sym put_there) low_here) (ap (λ u. u / arena_limit) put_there ∙ site_epoch e here w.plan.arenas site_here)
         (time.may_put k o.clean a below low (record { owned = o; is = is; port = refl; mark = mark; again = again }) at)
         (subst (IsOld e now here) stands (w.control.old k below))
         (λ _. subst (λ (d : Option OwnedArena). gives_at (ports k).control.entering (ports k).control.past (Some (at_next_port o)) ≤ gives_at (ports k).control.entering (ports k).control.past d) (sym is)
@@ -227,7 +227,7 @@ module _ (e : Plan) (words : List ℕ) (ports : ℕ → Port) (b : Beside) (k : 
         (sym (credit_same t taken_tally q (put_other k t.arrivals t.taken q ne) refl (ports q).control.owned)) (omega arith))) low
 
     -- the step counts
-    pub counts_take : (now' : Place) → Counts e words taken_words ports (put k taker ports) (place_now b) now' since since t k (Takes x)
+    pub counts_take : (now' : Site) → Counts e words taken_words ports (put k taker ports) (site_now b) now' since since t k (Takes x)
     counts_take now' = record {
       there = taken_tally;
       keeps = tally_taken;
@@ -256,7 +256,7 @@ module _ (e : Plan) (words : List ℕ) (ports : ℕ → Port) (b : Beside) (k : 
     abbrev given_tally : ℕ → Tally
     given_tally d = record t { freed = t.freed + d }
 
-    as_owner : IsOwner e (control_words e words) (controls ports) (place_now b) (numbers b) k o
+    as_owner : IsOwner e (control_words e words) (controls ports) (site_now b) (numbers b) k o
     as_owner = owner_is e words ports b w k below o is
 
     given_at : (q : ℕ) → q < e.ports → slice_index given_words (at_word q) ≡ slice_index words (at_word q)
@@ -306,7 +306,7 @@ module _ (e : Plan) (words : List ℕ) (ports : ℕ → Port) (b : Beside) (k : 
     }
 
     -- d arenas are counted as freed, and the port weighs less by d
-    module _ (d : ℕ) (leaves : t.freed + d ≡ t.freed → IsNamed e given_words o.arena) (less : weight_as e words giver now since t k + d ≤ weight_as e words (ports k) now since t k) (now' : Place) where
+    module _ (d : ℕ) (leaves : t.freed + d ≡ t.freed → IsNamed e given_words o.arena) (less : weight_as e words giver now since t k + d ≤ weight_as e words (ports k) now since t k) (now' : Site) where
       giver_weighs : weight e given_words (put k giver ports) now since (given_tally d) k + d ≤ weight e words ports now since t k
       giver_weighs = subst (λ u. weigh e.ports u now (since k) (credit t k (put k giver ports k).control.owned) (gives_left (put k giver ports k).control) + d ≤ weight e words ports now since t k)
           (sym (given_at k below)) (subst (λ (r : Port). weight_as e words r now since t k + d ≤ weight e words ports now since t k) (sym (put_same k giver ports)) less)
@@ -315,7 +315,7 @@ module _ (e : Plan) (words : List ℕ) (ports : ℕ → Port) (b : Beside) (k : 
       others_weigh q low ne = subst (λ u. weigh e.ports u now (since q) (credit t q (put k giver ports q).control.owned) (gives_left (put k giver ports q).control) ≤ weight e words ports now since t q)
           (sym (given_at q low)) (subst (λ (r : Port). weight_as e words r now since t q ≤ weight e words ports now since t q) (sym (put_other k giver ports q ne)) (omega arith))
 
-      counts_so : Counts e words given_words ports (put k giver ports) (place_now b) now' since since t k (Gives o)
+      counts_so : Counts e words given_words ports (put k giver ports) (site_now b) now' since since t k (Gives o)
       counts_so = record {
         there = given_tally d;
         keeps = tally_given d;
@@ -337,7 +337,7 @@ module _ (e : Plan) (words : List ℕ) (ports : ℕ → Port) (b : Beside) (k : 
     low_word = subst (λ u. u < entering_mark) (sym word_here) low_here
 
     epoch_word : slice_index words (at_word k) / arena_limit ≡ here.epoch
-    epoch_word = ap (λ u. u / arena_limit) word_here ∙ place_epoch e here w.plan.arenas place_here
+    epoch_word = ap (λ u. u / arena_limit) word_here ∙ site_epoch e here w.plan.arenas site_here
 
     -- a port gives back one arena fewer then
     gives_one : gives_left giver.control + 1 ≤ gives_left (ports k).control
@@ -357,7 +357,7 @@ module _ (e : Plan) (words : List ℕ) (ports : ℕ → Port) (b : Beside) (k : 
             subst (λ (y : Bool). ◌≤◌ 2 (if y then 2 else 1)) (sym looked) (omega arith)
 
     -- the step counts: in the current epoch an arena comes free by credit alone
-    pub counts_give : (now' : Place) → Counts e words given_words ports (put k giver ports) (place_now b) now' since since t k (Gives o)
+    pub counts_give : (now' : Site) → Counts e words given_words ports (put k giver ports) (site_now b) now' since since t k (Gives o)
     counts_give now' = elim (eqb_tells here.epoch now) [
       | inl even ↦
           let epoch : slice_index words (at_word k) / arena_limit ≡ now = epoch_word ∙ even.1 in

@@ -107,7 +107,7 @@ weigh_since n w now since c g high less = weigh_mark n w now since c g high ∙ 
 pub weigh_not_since : (n w now since c g : ℕ) → entering_mark ≤ w → now ≤ since → weigh n w now since c g ≡ n + 1
 weigh_not_since n w now since c g high from = weigh_mark n w now since c g high ∙ ap (λ (m : Bool). if m then 2 * n + 3 else n + 1) (le-ltb since now from)
 
--- an arrival, at a place no older than the mark, takes n from the weight of the port that arrives
+-- an arrival, at a site no older than the mark, takes n from the weight of the port that arrives
 pub weigh_arrived : (n w w' epoch now since c g c' g' : ℕ) → entering_mark ≤ w → w' < entering_mark → w' / arena_limit ≡ epoch → since ≤ epoch → epoch ≤ now →
     c' ≤ 1 → g' ≤ 2 → weigh n w' now since c' g' + n ≤ weigh n w now since c g
 weigh_arrived n w w' epoch now since c g c' g' high low is late old few most = elim (eqb_tells (w' / arena_limit) now) [

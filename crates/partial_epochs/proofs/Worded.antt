@@ -1,5 +1,5 @@
 -- A step of an inner memory that is made in the words of its arena, seen with the seals taken off.
-use Rattle.partial_epochs.proofs.{Common.{ℕ, ◌≡◌, ◌≢◌, ◌+◌, ◌%◌, ◌^◌, ◌<◌, ◌≤◌, ◌==◌, ◌⊎◌, Bool, true, false, if◌then◌else◌, List, [], ◌∷◌, length, slice_index, slice_set, refl, sym, ap, subst, ◌∙◌, inl, inr, arith, nat_lt, AllByRecursion, cases_lt, lt-ltb, eqb_tells, get_or-set_same, get_or-set_other, length-set, set-get_or, Applied, Step, Load, Store, Exchange, Add, total, answer_of, word_of, words_after, added_by, Plan, IsSealed, arena_words, base, component_words, placed_step, plain, seal, seals, unsealed, MeetsSeal, not_below, value_word}, Apart.IsApart, Lists.{at_of, same_of, set_of}, Places.below_whole}
+use Rattle.partial_epochs.proofs.{Common.{ℕ, ◌≡◌, ◌≢◌, ◌+◌, ◌%◌, ◌^◌, ◌<◌, ◌≤◌, ◌==◌, ◌⊎◌, Bool, true, false, if◌then◌else◌, List, [], ◌∷◌, length, slice_index, slice_set, refl, sym, ap, subst, ◌∙◌, inl, inr, arith, nat_lt, AllByRecursion, cases_lt, lt-ltb, eqb_tells, get_or-set_same, get_or-set_other, length-set, set-get_or, Applied, Step, Load, Store, Exchange, Add, total, answer_of, word_of, words_after, added_by, Plan, IsSealed, arena_words, base, component_words, based_step, plain, seal, seals, unsealed, MeetsSeal, not_below, value_word}, Apart.IsApart, Lists.{at_of, same_of, set_of}, Offsets.below_whole}
 
 -- what the step does to the arena
 pub record Words (e : Plan) (words : List ℕ) (x : ℕ) (step : Step) (words' : List ℕ) : Type 0 where
@@ -8,7 +8,7 @@ pub record Words (e : Plan) (words : List ℕ) (x : ℕ) (step : Step) (words' :
   pub arena : arena_words e words' x ≡ words_after (arena_words e words x) step
   pub seals : (j : ℕ) → j < e.sizes.m → (seals (slice_index (component_words e words' x) j) ≡ seals (slice_index (component_words e words x) j))
       × (IsSealed (slice_index (component_words e words x) j) → IsSealed (slice_index (component_words e words' x) j))
-  pub gives : plain e (word_of step) (answer_of words (placed_step e x step)) ≡ answer_of (arena_words e words x) step
+  pub gives : plain e (word_of step) (answer_of words (based_step e x step)) ≡ answer_of (arena_words e words x) step
   pub grows : (p : ℕ) → (added_by e.sizes p (arena_words e words x) step ≡ []) ⊎ ((j : ℕ) × (j < e.sizes.m) × (¬ IsSealed (slice_index (component_words e words x) j)))
   pub free : (p : ℕ) → AllByRecursion (λ (a : Applied). ¬ IsSealed (slice_index (component_words e words x) a.component)) (added_by e.sizes p (arena_words e words x) step)
 
@@ -59,7 +59,7 @@ module _ (e : Plan) (words : List ℕ) (x : ℕ) where
 
   -- a word is set to what it is
   keeps_same : (after_it : List ℕ) (step : Step) → after_it ≡ words → words_after (arena_words e words x) step ≡ arena_words e words x →
-      plain e (word_of step) (answer_of words (placed_step e x step)) ≡ answer_of (arena_words e words x) step → ((p : ℕ) → added_by e.sizes p (arena_words e words x) step ≡ []) →
+      plain e (word_of step) (answer_of words (based_step e x step)) ≡ answer_of (arena_words e words x) step → ((p : ℕ) → added_by e.sizes p (arena_words e words x) step ≡ []) →
       Words e words x step after_it
   keeps_same after_it step same after gives none = subst (Words e words x step) (sym same) (record {
     count = refl;
@@ -74,7 +74,7 @@ module _ (e : Plan) (words : List ℕ) (x : ℕ) where
   -- a step that sets a word which is no component word
   keeps_other : (step : Step) (v : ℕ) (low : word_of step < total e.sizes) (there : base e x + word_of step < length words) → e.sizes.m ≤ word_of step →
       words_after (arena_words e words x) step ≡ slice_set (arena_words e words x) (word_of step) v →
-      plain e (word_of step) (answer_of words (placed_step e x step)) ≡ answer_of (arena_words e words x) step → ((p : ℕ) → added_by e.sizes p (arena_words e words x) step ≡ []) →
+      plain e (word_of step) (answer_of words (based_step e x step)) ≡ answer_of (arena_words e words x) step → ((p : ℕ) → added_by e.sizes p (arena_words e words x) step ≡ []) →
       Words e words x step (slice_set words (base e x + word_of step) v)
   keeps_other step v low there from after gives none = record {
     count = length-set words (base e x + word_of step) v;
@@ -104,14 +104,14 @@ module _ (e : Plan) (words : List ℕ) (x : ℕ) where
       | inr other ↦ ap (λ (b : Bool). slice_set words (base e x + w) (if b then new else raw)) other.0 ∙ set-get_or words (base e x + w) 0
     ]
 
-    sealed_other : IsSealed raw → unsealed raw ≢ old → Words e words x (Exchange w old new) (words_after words (placed_step e x (Exchange w old new)))
+    sealed_other : IsSealed raw → unsealed raw ≢ old → Words e words x (Exchange w old new) (words_after words (based_step e x (Exchange w old new)))
     sealed_other sealed other =
         let found_is = found in
         let plain_lost : (slice_index (arena_words e words x) w == old) ≡ false = (elim (eqb_tells (slice_index (arena_words e words x) w) old) [
           | inl is ↦ let same = is.1 in absurd (other (sym found_is ∙ same))
           | inr apart ↦ apart.0
         ]) in
-        keeps_same (words_after words (placed_step e x (Exchange w old new))) (Exchange w old new) (lost sealed)
+        keeps_same (words_after words (based_step e x (Exchange w old new))) (Exchange w old new) (lost sealed)
         (ap (λ (b : Bool). slice_set (arena_words e words x) w (if b then new else slice_index (arena_words e words x) w)) plain_lost ∙ set-get_or (arena_words e words x) w 0)
         gives_here
         (λ p. ap (λ (b : Bool). if nat_lt w e.sizes.m then (if b then record { port = p; component = w; value = slice_index (arena_words e words x) (value_word new); stamp = new } ∷ [] else [])
@@ -122,7 +122,7 @@ module _ (e : Plan) (words : List ℕ) (x : ℕ) where
         both true none = refl
         both false none = refl
 
-    free : raw < seal → Words e words x (Exchange w old new) (words_after words (placed_step e x (Exchange w old new)))
+    free : raw < seal → Words e words x (Exchange w old new) (words_after words (based_step e x (Exchange w old new)))
     free unsealed_raw =
         let is : unsealed raw ≡ raw = omega (arith, unsealed_raw) in
         let found_is : slice_index (arena_words e words x) w ≡ raw = found ∙ is in
@@ -151,8 +151,8 @@ module _ (e : Plan) (words : List ℕ) (x : ℕ) where
         less false = unsealed_raw
 
         seals_here : (j : ℕ) → j < e.sizes.m → (if raw == old then new else raw) < seal → raw < seal →
-            (seals (slice_index (component_words e (words_after words (placed_step e x (Exchange w old new))) x) j) ≡ seals (slice_index (component_words e words x) j))
-            × (IsSealed (slice_index (component_words e words x) j) → IsSealed (slice_index (component_words e (words_after words (placed_step e x (Exchange w old new))) x) j))
+            (seals (slice_index (component_words e (words_after words (based_step e x (Exchange w old new))) x) j) ≡ seals (slice_index (component_words e words x) j))
+            × (IsSealed (slice_index (component_words e words x) j) → IsSealed (slice_index (component_words e (words_after words (based_step e x (Exchange w old new))) x) j))
         seals_here j low_j v_small raw_small =
             let v : ℕ = (if raw == old then new else raw) in
             let next : List ℕ = slice_set words (base e x + w) v in
@@ -174,8 +174,8 @@ module _ (e : Plan) (words : List ℕ) (x : ℕ) where
 
   -- each step but one that meets a seal
   pub worded : (step : Step) → x < e.arenas → length words ≡ base e e.arenas → word_of step < total e.sizes → IsApart e.sizes step → 1 ≤ e.sizes.slots →
-      (MeetsSeal e (component_words e words x) step × (words_after words (placed_step e x step) ≡ words))
-      ⊎ ((¬ MeetsSeal e (component_words e words x) step) × Words e words x step (words_after words (placed_step e x step)))
+      (MeetsSeal e (component_words e words x) step × (words_after words (based_step e x step) ≡ words))
+      ⊎ ((¬ MeetsSeal e (component_words e words x) step) × Words e words x step (words_after words (based_step e x step)))
   worded (Load w) within count low apart some = inr (λ h. h, keeps_same words (Load w) refl refl (sym (plain_at w low)) (λ p. refl))
   worded (Store w v) within count low apart some =
       let there = below_whole e x w within (omega (arith, low)) in

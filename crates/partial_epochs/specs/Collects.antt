@@ -4,7 +4,7 @@ use Rattle.partial_model.specs.declared.history.Applied.{Applied}
 use Rattle.partial_model.specs.declared.history.Opening.{Opening}
 use Rattle.partial_model.specs.History.{IsHistory, stamp_of, value_of}
 use Rattle.partial_epochs.specs.Layout.{Plan}
-use Rattle.partial_epochs.specs.History.{opening_behind}
+use Rattle.partial_epochs.specs.History.{opened_after}
 use Rattle.partial_epochs.specs.Ports.{Port}
 use Rattle.partial_epochs.specs.Ports.Entering.{Stands}
 use Rattle.partial_epochs.specs.Epochs.{Beside, IsStanding, LawfulEpochs}
@@ -40,5 +40,5 @@ CollectsStandTogether = (o : Opening) (h : List Applied) (b : ℕ) (js firsts se
 abbrev pub EpochsAreHistories : Type 0
 EpochsAreHistories = (e : Plan) (words : List ℕ) (ports : ℕ → Port) (b : Beside) (k : ℕ) → LawfulEpochs e words ports b → k < e.ports →
     (ports k).control.entering ≡ Stands → (s : IsStanding b k (ports k)) →
-    IsHistory (opening_behind e.opening (ports k).before) s.epoch.log
-    × (length (opening_behind e.opening (ports k).before).values ≡ e.sizes.m)
+    IsHistory (opened_after e.opening (ports k).before) s.epoch.log
+    × (length (opened_after e.opening (ports k).before).values ≡ e.sizes.m)

@@ -1,6 +1,6 @@
 -- The control words: which epoch is the current one, where each port stands, and who owns which arena.
 use Rattle.std.specs.Prelude.{ℕ, ◌+◌, ◌<◌, ◌≤◌, List, slice_index, Option, ◌≡◌, ◌≢◌, ◌⊎◌, ⊤, true, Some, None, IfSome}
-use Rattle.partial_epochs.specs.Layout.{Plan, Place, packed, marked, IsPlace, current_word, at_word, own_word}
+use Rattle.partial_epochs.specs.Layout.{Plan, Site, packed, marked, IsSite, current_word, at_word, own_word}
 use Rattle.partial_epochs.specs.Ports.{Entering, OwnedArena, Control}
 use Rattle.partial_epochs.specs.Ports.Entering.{Stands, Marks, Loaded}
 
@@ -8,31 +8,31 @@ use Rattle.partial_epochs.specs.Ports.Entering.{Stands, Marks, Loaded}
 abbrev pub IsStillMarked : List ℕ → Control → ℕ → Type 0
 IsStillMarked words c k = slice_index words (at_word k) ≡ marked c.here
 
--- the word where a port stands: while it is entering it is its mark, or a later place that another port has put
-abbrev pub IsPlaceWord : Plan → List ℕ → ℕ → Place → Entering → Type 0
-IsPlaceWord e words k here Stands = slice_index words (at_word k) ≡ packed here
-IsPlaceWord e words k here _ = (slice_index words (at_word k) ≡ marked here)
-    ⊎ ((c : Place) × IsPlace e c × (slice_index words (at_word k) ≡ packed c) × (here.epoch < c.epoch))
+-- the word where a port stands: while it is entering it is its mark, or a later site that another port has put
+abbrev pub IsSiteWord : Plan → List ℕ → ℕ → Site → Entering → Type 0
+IsSiteWord e words k here Stands = slice_index words (at_word k) ≡ packed here
+IsSiteWord e words k here _ = (slice_index words (at_word k) ≡ marked here)
+    ⊎ ((c : Site) × IsSite e c × (slice_index words (at_word k) ≡ packed c) × (here.epoch < c.epoch))
 
 -- how a port that is entering stands to the current epoch
-abbrev pub IsOld : Plan → ℕ → Place → Entering → Type 0
+abbrev pub IsOld : Plan → ℕ → Site → Entering → Type 0
 IsOld e now here Stands = here.epoch ≤ now
 IsOld e now here Marks = here.epoch < now
-IsOld e now here (Loaded c) = (here.epoch < c.epoch) × (c.epoch ≤ now) × IsPlace e c
+IsOld e now here (Loaded c) = (here.epoch < c.epoch) × (c.epoch ≤ now) × IsSite e c
 
 -- a mark of a port that another port has loaded: it is of an earlier epoch than the one where that port stands, or no later than the
 -- one from which it is entering
-abbrev pub IsEarlier : Place → Place → Entering → Type 0
+abbrev pub IsEarlier : Site → Site → Entering → Type 0
 IsEarlier a here Stands = a.epoch < here.epoch
 IsEarlier a here _ = a.epoch ≤ here.epoch
 
--- what has been loaded as the current place isn't in that arena
+-- what has been loaded as the current site isn't in that arena
 abbrev pub NotInto : ℕ → Entering → Type 0
 NotInto x (Loaded c) = c.arena ≢ x
 NotInto x _ = ⊤
 
 -- port q may put port k, whose mark it has loaded: it has seen since that its own epoch is the current one
-pub record MayPut (q : Control) (k : ℕ) (a : Place) : Type 0 where
+pub record MayPut (q : Control) (k : ℕ) (a : Site) : Type 0 where
   -- it owns an arena
   pub owned : OwnedArena
   pub is : q.owned ≡ Some owned
@@ -45,16 +45,16 @@ pub record MayPut (q : Control) (k : ℕ) (a : Place) : Type 0 where
 
 -- port k is out of the arena x, and doesn't come into it
 pub record IsOut (e : Plan) (words : List ℕ) (cs : ℕ → Control) (x k : ℕ) : Type 0 where
-  -- its word names no place in that arena
-  pub unmarked : (c : Place) → IsPlace e c → slice_index words (at_word k) ≡ packed c → c.arena ≢ x
-  -- it hasn't loaded such a place, or its exchange of the mark will be lost
+  -- its word names no site in that arena
+  pub unmarked : (c : Site) → IsSite e c → slice_index words (at_word k) ≡ packed c → c.arena ≢ x
+  -- it hasn't loaded such a site, or its exchange of the mark will be lost
   pub loaded : IsStillMarked words (cs k) k → NotInto x (cs k).entering
   -- no port that may put it stands in that arena
-  pub put : (q : ℕ) (a : Place) → q < e.ports → MayPut (cs q) k a → slice_index words (at_word k) ≡ marked a →
+  pub put : (q : ℕ) (a : Site) → q < e.ports → MayPut (cs q) k a → slice_index words (at_word k) ≡ marked a →
       (cs q).here.arena ≢ x
 
 -- what is so of an arena that port k owns
-pub record IsOwner (e : Plan) (words : List ℕ) (cs : ℕ → Control) (now : Place) (holds : ℕ → Option ℕ) (k : ℕ) (w : OwnedArena) :
+pub record IsOwner (e : Plan) (words : List ℕ) (cs : ℕ → Control) (now : Site) (holds : ℕ → Option ℕ) (k : ℕ) (w : OwnedArena) :
     Type 0 where
   -- an owner isn't entering
   pub stands : (cs k).entering ≡ Stands
@@ -75,38 +75,38 @@ pub record IsOwner (e : Plan) (words : List ℕ) (cs : ℕ → Control) (now : P
   -- a mark that it holds, and has looked since, is of an epoch before its own
   pub older : w.again ≡ true → IfSome w.mark (λ a. a.epoch < (cs k).here.epoch)
   -- a mark that it holds never comes back, once its port has stored a later one
-  pub held : IfSome w.mark (λ a. IsPlace e a × IsEarlier a (cs w.clean).here (cs w.clean).entering)
+  pub held : IfSome w.mark (λ a. IsSite e a × IsEarlier a (cs w.clean).here (cs w.clean).entering)
   -- it sets words of the arena only once it is done with all ports
   pub all : 0 < w.set → w.clean ≡ e.ports
   -- while it sets words the arena holds no epoch
   pub none : 0 < w.set → holds w.arena ≡ None
 
--- The control words are lawful, with what each port does with them (`cs`), the current place (`now`), and the number of
+-- The control words are lawful, with what each port does with them (`cs`), the current site (`now`), and the number of
 -- the epoch that each arena holds (`holds`).
-pub record LawfulControl (e : Plan) (words : List ℕ) (cs : ℕ → Control) (now : Place) (holds : ℕ → Option ℕ) : Type 0 where
-  -- the current word names the current place
+pub record LawfulControl (e : Plan) (words : List ℕ) (cs : ℕ → Control) (now : Site) (holds : ℕ → Option ℕ) : Type 0 where
+  -- the current word names the current site
   pub current : slice_index words current_word ≡ packed now
-  -- that place fits a word
-  pub place : IsPlace e now
-  -- the arena of that place holds that epoch
+  -- that site fits a word
+  pub site : IsSite e now
+  -- the arena of that site holds that epoch
   pub present : holds now.arena ≡ Some now.epoch
   -- each other arena holds an earlier epoch, or none
   pub earlier : (x g : ℕ) → holds x ≡ Some g → (g < now.epoch) ⊎ ((g ≡ now.epoch) × (x ≡ now.arena))
   -- an arena that holds an epoch is one of those that there are
   pub within : (x g : ℕ) → holds x ≡ Some g → x < e.arenas
   -- where a port stands, or from where it is entering, fits a word
-  pub places : (k : ℕ) → k < e.ports → IsPlace e (cs k).here
-  -- a port's word names where it stands; while it is entering, its mark or a later place where another port put it
-  pub at : (k : ℕ) → k < e.ports → IsPlaceWord e words k (cs k).here (cs k).entering
+  pub sites : (k : ℕ) → k < e.ports → IsSite e (cs k).here
+  -- a port's word names where it stands; while it is entering, its mark or a later site where another port put it
+  pub at : (k : ℕ) → k < e.ports → IsSiteWord e words k (cs k).here (cs k).entering
   -- a port stands in no later epoch than the current one, and enters only from an earlier one
   pub old : (k : ℕ) → k < e.ports → IsOld e now.epoch (cs k).here (cs k).entering
   -- a port that has seen another current epoch stands in an earlier one
   pub past : (k : ℕ) → k < e.ports → (cs k).past ≡ true → (cs k).here.epoch < now.epoch
   -- the arena that a port's word names holds that epoch: nobody resets an arena where a port stands
-  pub stands : (k : ℕ) (c : Place) → k < e.ports → IsPlace e c → slice_index words (at_word k) ≡ packed c →
+  pub stands : (k : ℕ) (c : Site) → k < e.ports → IsSite e c → slice_index words (at_word k) ≡ packed c →
       holds c.arena ≡ Some c.epoch
   -- so does the arena into which an entering port is about to come
-  pub comes : (k : ℕ) (c : Place) → k < e.ports → (cs k).entering ≡ Loaded c → IsStillMarked words (cs k) k →
+  pub comes : (k : ℕ) (c : Site) → k < e.ports → (cs k).entering ≡ Loaded c → IsStillMarked words (cs k) k →
       holds c.arena ≡ Some c.epoch
   -- each port that owns an arena is its owner
   pub owners : (k : ℕ) → k < e.ports → IfSome (cs k).owned (IsOwner e words cs now holds k)

@@ -14,8 +14,8 @@ use Rattle.partial_words.specs.Chain.{opening_word}
 use Rattle.partial_core.specs.Lawful.{Lawful}
 use Rattle.partial_core.specs.Lawful as one
 use Rattle.partial_epochs.specs.Lists.{list_of, count}
-use Rattle.partial_epochs.specs.Layout.{arena_limit, Plan, Place, packed, current_word, control_words, component_words, carried_words, whole, slot_limit, seals, IsSealed, IsToBeSet, arena_words, base, set_offset, set_word}
-use Rattle.partial_epochs.specs.History.{opening_behind, carried_behind}
+use Rattle.partial_epochs.specs.Layout.{arena_limit, Plan, Site, packed, current_word, control_words, component_words, carried_words, whole, slot_limit, seals, IsSealed, IsToBeSet, arena_words, base, set_offset, set_word}
+use Rattle.partial_epochs.specs.History.{opened_after, stamp_after}
 use Rattle.partial_epochs.specs.Ports.{OwnedArena, Control, Port, Epoch}
 use Rattle.partial_epochs.specs.Control.{LawfulControl}
 use Rattle.partial_epochs.specs.Ports.Entering.{Stands}
@@ -27,7 +27,7 @@ pub record IsEpochPlan (e : Plan) : Type 0 where
   -- there are 1 to 64 ports
   pub some : 1 ≤ e.ports
   pub few : e.ports ≤ 64
-  -- a place fits a word
+  -- a site fits a word
   pub arenas : e.arenas ≤ arena_limit
   -- each component has an opening value, and the initial stamps are the initial records
   pub values : length e.opening.values ≡ e.sizes.m
@@ -48,9 +48,9 @@ pub record Beside : Type 0 where
   -- the epoch that each arena holds, or none while it is being set
   pub holds : ℕ → Option Epoch
 
--- the current place
-abbrev pub place_now : Beside → Place
-place_now b = record { epoch = length b.before; arena = b.arena }
+-- the current site
+abbrev pub site_now : Beside → Site
+site_now b = record { epoch = length b.before; arena = b.arena }
 
 -- the number of the epoch that each arena holds
 abbrev pub numbers : Beside → ℕ → Option ℕ
@@ -87,11 +87,11 @@ claims_no_more over x = if awaits_slot x then false else over
 -- carried stamps.
 pub record IsArena (e : Plan) (words components carried : List ℕ) (r : Epoch) (finished : Type 0) : Type 0 where
   -- its words without the seals are lawful, with a part for each port, over what the epochs before have left
-  pub lawful : one.Lawful e.sizes (opening_behind e.opening r.before) words (list_of r.part 0 e.ports) r.log
+  pub lawful : one.Lawful e.sizes (opened_after e.opening r.before) words (list_of r.part 0 e.ports) r.log
   -- part k is that of port k
   pub numbers : (k : ℕ) → k < e.ports → port_of (r.part k) ≡ k
   -- the carried stamps are the public stamps that the components have after the epochs before
-  pub stamps : (j : ℕ) → j < e.sizes.m → slice_index carried j ≡ carried_behind e.opening r.before j
+  pub stamps : (j : ℕ) → j < e.sizes.m → slice_index carried j ≡ stamp_after e.opening r.before j
   -- a component has no more seals than ports have passed it, so that they fit above the reference
   pub few : (j : ℕ) → j < e.sizes.m → seals (slice_index components j) ≤ count (λ k. nat_lt j (r.passed k)) 0 e.ports
   -- a component that a port has passed is sealed
@@ -124,8 +124,8 @@ pub record IsNewPart (e : Plan) (k : ℕ) (r : Epoch) : Type 0 where
 -- the words of the next epoch are those of an opening, with the values and the stamps after all epochs
 abbrev pub next_epoch_word : Plan → Beside → ℕ → ℕ
 next_epoch_word e b i =
-    if nat_lt i (first_free e.sizes) then opening_word e.sizes (opening_behind e.opening (b.log ∷ b.before)).values (set_offset e.sizes i)
-    else carried_behind e.opening (b.log ∷ b.before) (i - first_free e.sizes)
+    if nat_lt i (first_free e.sizes) then opening_word e.sizes (opened_after e.opening (b.log ∷ b.before)).values (set_offset e.sizes i)
+    else stamp_after e.opening (b.log ∷ b.before) (i - first_free e.sizes)
 
 -- what the port p has set in the arena that it owns
 pub record IsSetting (e : Plan) (words : List ℕ) (b : Beside) (p : Port) (w : OwnedArena) : Type 0 where
@@ -156,7 +156,7 @@ pub record LawfulEpochs (e : Plan) (words : List ℕ) (ports : ℕ → Port) (b 
   -- there are so many words
   pub count : length words ≡ whole e
   -- the control words are lawful
-  pub control : LawfulControl e (control_words e words) (controls ports) (place_now b) (numbers b)
+  pub control : LawfulControl e (control_words e words) (controls ports) (site_now b) (numbers b)
   -- the current arena holds the current epoch, with its history
   pub now : (r : Epoch) × (b.holds b.arena ≡ Some r) × (r.log ≡ b.log) × (r.before ≡ b.before)
   -- each other arena that holds an epoch holds a finished one, with its final history
@@ -179,8 +179,8 @@ pub record LawfulEpochs (e : Plan) (words : List ℕ) (ports : ℕ → Port) (b 
 pub record IsPresent (b : Beside) (k : ℕ) (p : Port) : Type 0 where
   -- it stands in the epoch of its arena
   pub standing : IsStanding b k p
-  -- its place is the current one
-  pub here : p.control.here ≡ place_now b
+  -- its site is the current one
+  pub here : p.control.here ≡ site_now b
   -- its epoch has the current history, and the finished epochs before it
   pub log : standing.epoch.log ≡ b.log
   pub before : p.before ≡ b.before

@@ -11,24 +11,24 @@ use Rattle.partial_machine.specs.Machine.{CoreState, advance, reply_of, step_of}
 use Rattle.partial_core.specs.Part.{IsMachineOf}
 use Rattle.partial_core.specs.Steps.{since_with}
 use Rattle.partial_epochs.specs.Lists.{put}
-use Rattle.partial_epochs.specs.Layout.{IsPlace, IsSealed, IsToBeSet, Place, Plan, arena_words, at_word, base, component_words, current_word, entering_mark, marked, own_word, packed, placed_step, seal, set_word, unpacked}
+use Rattle.partial_epochs.specs.Layout.{IsSite, IsSealed, IsToBeSet, Site, Plan, arena_words, at_word, base, component_words, current_word, entering_mark, marked, own_word, packed, based_step, seal, set_word, unpacked}
 use Rattle.partial_epochs.specs.Ports.{OwnedArena, Port}
 use Rattle.partial_epochs.specs.Ports.Entering.{Stands, Marks, Loaded}
 use Rattle.partial_epochs.specs.Entering.{Arrives, arrived_port, having_passed}
 use Rattle.partial_epochs.specs.Owning.{having_given, having_loaded, having_looked, having_put, just_taken, owning_port}
 use Rattle.partial_epochs.specs.Sealing.{IsBesideAs, passing_port}
-use Rattle.partial_epochs.specs.Epochs.{Beside, HasClearRecords, IsStanding, next_epoch_word, place_now}
+use Rattle.partial_epochs.specs.Epochs.{Beside, HasClearRecords, IsStanding, next_epoch_word, site_now}
 use Rattle.partial_epochs.specs.MachineSteps.{MachineLeads, MayClaim, MeetsSeal}
-use Rattle.partial_epochs.specs.Publishing.{ClearsSlots, IsWholeArena, having_published, having_set, next_beside, next_place}
+use Rattle.partial_epochs.specs.Publishing.{ClearsSlots, IsWholeArena, having_published, having_set, next_beside, next_site}
 use Rattle.partial_epochs.specs.Opening.{OpensAll, first_beside, first_ports}
 use Rattle.partial_epochs.specs.Notes.{IsAside, IsSight, LawfulMemory, MayNote, having_seen, noting, one_history, public_noted}
 use Rattle.partial_epochs.specs.Time.{KeepsTime}
 
 -- what a port may do next
 pub data Move : Type 0 where
-  -- nothing: it loads what tells it nothing, or loses an exchange
+  -- nothing: it loads what shows it nothing new, or loses an exchange
   Rests : Move
-  -- the due step of its machine, in the arena where it stands; it notes what its machine then tells it to note, or nothing
+  -- the due step of its machine, in the arena where it stands; it notes what its machine then has it note, or nothing
   Makes : CoreState → Step → Bool → Move
   -- a seal on the next component, and the load of one that is sealed
   Seals : Move
@@ -39,14 +39,14 @@ pub data Move : Type 0 where
   -- the three steps of entering
   StoresMark : Move
   LoadsCurrent : Move
-  ExchangesMark : Place → Move
+  ExchangesMark : Site → Move
   -- the won exchange of an owner word, and the store that gives the arena back
   Takes : ℕ → Move
   Gives : OwnedArena → Move
   -- an owner finds the next port elsewhere, loads its mark, or puts it where it stands itself
-  FindsElsewhere : OwnedArena → Place → Move
+  FindsElsewhere : OwnedArena → Site → Move
   LoadsMark : OwnedArena → Move
-  Puts : OwnedArena → Place → Move
+  Puts : OwnedArena → Site → Move
   -- an owner sets the next word, so that the words below that number count as set
   Sets : OwnedArena → ℕ → ℕ → Move
   -- an owner loads the slot counter of its arena, and the words below that number count as set
@@ -59,7 +59,7 @@ pub data Move : Type 0 where
 
 -- the words after the move
 abbrev pub moved_words : Plan → List ℕ → Port → ℕ → Move → List ℕ
-moved_words e words p k (Makes c step notes) = words_after words (placed_step e p.control.here.arena step)
+moved_words e words p k (Makes c step notes) = words_after words (based_step e p.control.here.arena step)
 moved_words e words p k Seals = words_after words (Add (base e p.control.here.arena + p.passed) seal)
 moved_words e words p k StoresMark = words_after words (Store (at_word k) (marked p.control.here))
 moved_words e words p k (ExchangesMark c) = words_after words (Exchange (at_word k) (marked p.control.here) (packed c))
@@ -68,7 +68,7 @@ moved_words e words p k (Gives o) = words_after words (Store (own_word e o.arena
 moved_words e words p k (Puts o a) = words_after words (Exchange (at_word o.clean) (marked a) (packed p.control.here))
 moved_words e words p k (Sets o v next) = words_after words (Store (set_word e o.arena o.set) v)
 moved_words e words p k (Publishes o) = words_after words
-    (Exchange current_word (packed p.control.here) (packed (next_place p.control.here o.arena)))
+    (Exchange current_word (packed p.control.here) (packed (next_site p.control.here o.arena)))
 moved_words e words p k _ = words
 
 -- the port after a move that isn't a step of its machine, nor the third step of entering
@@ -116,7 +116,7 @@ MayMove e words ports b notes k (Takes x) = ((ports k).control.entering ≡ Stan
     × ((ports k).control.here.arena ≢ x) × (slice_index words (own_word e x) ≡ 0)
 MayMove e words ports b notes k (Gives o) = (ports k).control.owned ≡ Some o
 MayMove e words ports b notes k (FindsElsewhere o d) = ((ports k).control.owned ≡ Some o) × (o.looked ≡ true) × (o.set ≡ 0)
-    × (o.clean < e.ports) × IsPlace e d × (slice_index words (at_word o.clean) ≡ packed d) × (d.arena ≢ o.arena)
+    × (o.clean < e.ports) × IsSite e d × (slice_index words (at_word o.clean) ≡ packed d) × (d.arena ≢ o.arena)
 MayMove e words ports b notes k (LoadsMark o) =
     ((ports k).control.owned ≡ Some o) × (o.clean < e.ports) × (entering_mark ≤ slice_index words (at_word o.clean))
 MayMove e words ports b notes k (Puts o a) = ((ports k).control.owned ≡ Some o) × (o.looked ≡ true) × (o.clean < e.ports) × (o.set ≡ 0)
@@ -140,34 +140,34 @@ abbrev pub is_applied : Option Reply → Bool
 is_applied (Some (Reply.Applied stamp)) = true
 is_applied _ = false
 
--- the move may add an entry to the one history: it is the step by which the machine of an update comes to be applied, and meets no seal
+-- the move may add an entry to the one history: it is the step by which the machine of an update becomes applied, and meets no seal
 abbrev pub MayAdd : Plan → List ℕ → Port → Move → Type 0
 MayAdd e words p (Makes c step notes) = (¬ MeetsSeal e (component_words e words p.control.here.arena) step)
     × (is_applied (reply_of (advance c (answer_of (arena_words e words p.control.here.arena) step))) ≡ true)
 MayAdd e words p _ = ⊥
 
--- where the port is after the move: by the third step of entering it comes to a later epoch, and by all others it stays where it is
-abbrev pub IsPlacedBy : Move → Place → Place → Type 0
-IsPlacedBy (ExchangesMark c) here there = here.epoch < there.epoch
-IsPlacedBy _ here there = there ≡ here
+-- where the port is after the move: the third step of entering brings it to a later epoch, and all others leave it where it is
+abbrev pub IsSiteAfter : Move → Site → Site → Type 0
+IsSiteAfter (ExchangesMark c) here there = here.epoch < there.epoch
+IsSiteAfter _ here there = there ≡ here
 
 -- for each port the number of the epoch that was the current one as it stored its last entering mark, after the move
-abbrev pub since_behind : Beside → ℕ → Move → (ℕ → ℕ) → ℕ → ℕ
-since_behind b k StoresMark since = put k (length b.before) since
-since_behind b k _ since = since
+abbrev pub since_after : Beside → ℕ → Move → (ℕ → ℕ) → ℕ → ℕ
+since_after b k StoresMark since = put k (length b.before) since
+since_after b k _ since = since
 
 -- What becomes of the port that makes the move, and of what stands beside the words, and what the port notes.
 abbrev pub Becomes : Plan → List ℕ → (ℕ → Port) → Beside → ℕ → Move → Port → Beside → List Noted → Type 0
--- the step meets a seal, and tells the machine nothing; or the machine is told what the words give without their seals
+-- the step meets a seal, and the machine gets no answer; or its answer is what the words give without their seals
 Becomes e words ports b k (Makes c step notes) p there added =
     (MeetsSeal e (component_words e words (ports k).control.here.arena) step
     × (moved_words e words (ports k) k (Makes c step notes) ≡ words) × (p ≡ ports k) × (there ≡ b) × (added ≡ []))
     ⊎ ((lead : MachineLeads e words ports b k c step) × (p ≡ lead.port) × (there ≡ lead.beside)
     × (added ≡ noted_after e (ports k) notes lead.tells.new))
--- the port comes to a place that is no older than the epoch that was the current one as it stored its mark, with a new part there
+-- the port enters a site that is no older than the epoch that was the current one as it stored its mark, with a new part there
 Becomes e words ports b k (ExchangesMark c) p there added =
-    (a : Arrives e words ports b k c) × (p ≡ arrived_port e k a.place a.before) × (there ≡ b) × (added ≡ [])
-    × ((since : ℕ → ℕ) → KeepsTime e words ports (place_now b) since → since k ≤ a.place.epoch)
+    (a : Arrives e words ports b k c) × (p ≡ arrived_port e k a.site a.before) × (there ≡ b) × (added ≡ [])
+    × ((since : ℕ → ℕ) → KeepsTime e words ports (site_now b) since → since k ≤ a.site.epoch)
 -- the exchange opens the next epoch, where the port's epoch is the current one
 Becomes e words ports b k (Publishes o) p there added = (p ≡ having_published (ports k) o) × (added ≡ [])
     × (((slice_index words current_word ≡ packed (ports k).control.here) × (there ≡ next_beside e b o.arena))
@@ -187,14 +187,14 @@ pub record MoveLeads (e : Plan) (words words' : List ℕ) (ports : ℕ → Port)
   pub lawful : LawfulMemory e words' (put k port ports) beside (noting k added notes)
   pub becomes : Becomes e words ports b k m port beside added
   -- where the port is then
-  pub place : IsPlacedBy m (ports k).control.here port.control.here
+  pub site : IsSiteAfter m (ports k).control.here port.control.here
   -- what the one history has gained
   pub entries : List Applied
   pub history : one_history beside ≡ one_history b ++ entries
   pub adds : (entries ≡ []) ⊎ MayAdd e words (ports k) m
   -- a memory that kept time keeps it
-  pub time : (since : ℕ → ℕ) → KeepsTime e words ports (place_now b) since →
-      KeepsTime e words' (put k port ports) (place_now beside) (since_behind b k m since)
+  pub time : (since : ℕ → ℕ) → KeepsTime e words ports (site_now b) since →
+      KeepsTime e words' (put k port ports) (site_now beside) (since_after b k m since)
 
 -- every step of every port keeps the memory lawful
 abbrev pub EveryStepStaysLawful : Type 0

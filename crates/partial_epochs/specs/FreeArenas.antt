@@ -2,19 +2,19 @@
 use Rattle.std.specs.Prelude.{⊤, ℕ, zero, suc, ◌≡◌, ◌≢◌, ◌+◌, ◌*◌, ◌%◌, ◌<◌, ◌≤◌, ◌==◌, ◌⊎◌, nat_lt, Bool, true, false, List, slice_index, Option, Some, None, IfSome, if◌then◌else◌}
 use Rattle.partial_model.specs.Notes.{Noted}
 use Rattle.partial_epochs.specs.Lists.{put}
-use Rattle.partial_epochs.specs.Layout.{Plan, Place, arena_limit, at_word, entering_mark, marked, own_word, unpacked}
+use Rattle.partial_epochs.specs.Layout.{Plan, Site, arena_limit, at_word, entering_mark, marked, own_word, unpacked}
 use Rattle.partial_epochs.specs.Ports.{Control, Entering, OwnedArena, Port}
 use Rattle.partial_epochs.specs.Ports.Entering.{Stands}
-use Rattle.partial_epochs.specs.Epochs.{Beside, LawfulEpochs, place_now}
+use Rattle.partial_epochs.specs.Epochs.{Beside, LawfulEpochs, site_now}
 use Rattle.partial_epochs.specs.Opening.{OpensAll, first_ports}
 use Rattle.partial_epochs.specs.Notes.{LawfulMemory}
 use Rattle.partial_epochs.specs.Time.{KeepsTime}
-use Rattle.partial_epochs.specs.EveryStep.{MayMove, Move, MoveLeads, moved_words, since_behind}
+use Rattle.partial_epochs.specs.EveryStep.{MayMove, Move, MoveLeads, moved_words, since_after}
 use Rattle.partial_epochs.specs.EveryStep.Move.{Gives, Takes}
 
--- How often ports' words have come to name other places, and how often arenas may have come free, counted over all epochs (ghost state).
+-- How often ports' words have changed to name other sites, and how often arenas may have come free, counted over all epochs (ghost state).
 pub record Tally : Type 0 where
-  -- how often the word of a port has come to name another place
+  -- how often the word of a port has changed to name another site
   pub arrivals : ℕ
   -- how often an arena may have come free
   pub freed : ℕ
@@ -47,12 +47,12 @@ pub record IsOwnedBySome (e : Plan) (words : List ℕ) (ports : ℕ → Port) (x
   pub is : (ports owner).control.owned ≡ Some owned
   pub arena : owned.arena ≡ x
 
--- since port k took its arena, a port has come to another place
+-- since port k took its arena, a port has moved to another site
 abbrev pub HasSeenArrival : Tally → ℕ → Type 0
 HasSeenArrival t k = t.taken k < t.arrivals
 
--- a port has met another one in the arena that it owns: it has looked, and a port's word still names the arena, or a port has come to
--- another place since the arena was taken
+-- a port has met another one in the arena that it owns: it has looked, and a port's word still names the arena, or a port has moved to
+-- another site since the arena was taken
 pub record HasMetPort (e : Plan) (words : List ℕ) (c : Control) (t : Tally) (k : ℕ) (o : OwnedArena) : Type 0 where
   pub looked : (c.past ≡ true) ⊎ (o.looked ≡ true)
   pub cause : IsNamed e words o.arena ⊎ HasSeenArrival t k
@@ -63,7 +63,7 @@ pub record KeepsTally (e : Plan) (words : List ℕ) (ports : ℕ → Port) (t : 
   pub owners : (x : ℕ) → x < e.arenas → slice_index words (own_word e x) ≢ 0 → IsOwnedBySome e words ports x
   -- no arena was taken after more arrivals than there have been
   pub taken : (k : ℕ) → k < e.ports → t.taken k ≤ t.arrivals
-  -- a mark that an owner holds is still its port's word, unless a port has come to another place since
+  -- a mark that an owner holds is still its port's word, unless a port has moved to another site since
   pub marks : (k : ℕ) → k < e.ports → IfSome (ports k).control.owned (λ o. IfSome o.mark (λ a.
       (slice_index words (at_word o.clean) ≡ marked a) ⊎ HasSeenArrival t k))
   -- a port that has met another one did so for a cause
@@ -73,7 +73,7 @@ pub record KeepsTally (e : Plan) (words : List ℕ) (ports : ℕ → Port) (t : 
 abbrev pub OpeningsKeepTally : Type 0
 OpeningsKeepTally = (e : Plan) (words : List ℕ) → OpensAll e words → KeepsTally e words (first_ports e) first_tally
 
--- how often a port may give back an arena before it comes to the current epoch, from another one: it looks after each take
+-- how often a port may give back an arena before it enters the current epoch, from another one: it looks after each take
 abbrev pub gives_at : Entering → Bool → Option OwnedArena → ℕ
 gives_at Stands true None = 0
 gives_at Stands true (Some o) = 1
@@ -122,9 +122,9 @@ MayCount p t k (Gives o) = (p.control.past ≡ true) ⊎ (t.met k ≡ true)
 MayCount p t k _ = ⊤
 
 -- who has met another port after the move: a port that takes an arena hasn't yet
-abbrev pub met_behind : ℕ → Move → (ℕ → Bool) → ℕ → Bool
-met_behind k (Takes x) met = put k false met
-met_behind k _ met = met
+abbrev pub met_after : ℕ → Move → (ℕ → Bool) → ℕ → Bool
+met_after k (Takes x) met = put k false met
+met_after k _ met = met
 
 -- an arena that is given back is still in use, unless one may have come free
 abbrev pub LeavesInUse : Plan → List ℕ → Tally → Tally → Move → Type 0
@@ -132,12 +132,12 @@ LeavesInUse e words t there (Gives o) = there.freed ≡ t.freed → IsNamed e wo
 LeavesInUse e words t there _ = ⊤
 
 -- What a move of port k makes of the tally.
-pub record Counts (e : Plan) (words words' : List ℕ) (ports ports' : ℕ → Port) (now now' : Place) (since since' : ℕ → ℕ) (t : Tally)
+pub record Counts (e : Plan) (words words' : List ℕ) (ports ports' : ℕ → Port) (now now' : Site) (since since' : ℕ → ℕ) (t : Tally)
     (k : ℕ) (m : Move) : Type 0 where
   pub there : Tally
   pub keeps : KeepsTally e words' ports' there
   pub grows : t.freed ≤ there.freed
-  pub met : (q : ℕ) → there.met q ≡ met_behind k m t.met q
+  pub met : (q : ℕ) → there.met q ≡ met_after k m t.met q
   -- while the current epoch stays, each time that an arena may have come free leaves one less
   pub less : now'.epoch ≡ now.epoch →
       there.freed + may_free e words' ports' now'.epoch since' there ≤ t.freed + may_free e words ports now.epoch since t
@@ -149,10 +149,10 @@ pub record Counts (e : Plan) (words words' : List ℕ) (ports ports' : ℕ → P
 abbrev pub EveryStepCounts : Type 0
 EveryStepCounts = (e : Plan) (words : List ℕ) (ports : ℕ → Port) (b : Beside) (notes : ℕ → List Noted) (k : ℕ) (m : Move)
     (since : ℕ → ℕ) (t : Tally) → LawfulMemory e words ports b notes → k < e.ports → MayMove e words ports b notes k m →
-    MayCount (ports k) t k m → KeepsTime e words ports (place_now b) since → KeepsTally e words ports t →
+    MayCount (ports k) t k m → KeepsTime e words ports (site_now b) since → KeepsTally e words ports t →
     (l : MoveLeads e words (moved_words e words (ports k) k m) ports b notes k m) →
-    Counts e words (moved_words e words (ports k) k m) ports (put k l.port ports) (place_now b) (place_now l.beside) since
-    (since_behind b k m since) t k m
+    Counts e words (moved_words e words (ports k) k m) ports (put k l.port ports) (site_now b) (site_now l.beside) since
+    (since_after b k m since) t k m
 
 -- an owner that has looked has met another port when it finds its arena named, or another word than the mark that it holds
 abbrev pub MeetingsKeepTally : Type 0
@@ -166,8 +166,8 @@ OwnedArenasAreInUse = (e : Plan) (words : List ℕ) (ports : ℕ → Port) (t : 
     (ports k).control.owned ≡ None → x < e.arenas → slice_index words (own_word e x) ≢ 0 → IsInUse e words k x
 
 -- so is the arena where a port stands
-abbrev pub OwnPlacesAreInUse : Type 0
-OwnPlacesAreInUse = (e : Plan) (words : List ℕ) (ports : ℕ → Port) (b : Beside) (k : ℕ) → LawfulEpochs e words ports b → k < e.ports →
+abbrev pub OwnSitesAreInUse : Type 0
+OwnSitesAreInUse = (e : Plan) (words : List ℕ) (ports : ℕ → Port) (b : Beside) (k : ℕ) → LawfulEpochs e words ports b → k < e.ports →
     (ports k).control.entering ≡ Stands → IsInUse e words k (ports k).control.here.arena
 
 -- with two arenas for each port, not all arenas are in use by others than one port

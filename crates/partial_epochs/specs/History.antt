@@ -32,23 +32,23 @@ abbrev pub opening_after : Opening → List Applied → Opening
 opening_after o h = record { values = list_of (value_of o h) 0 (length o.values); first = o.first }
 
 -- with what the epoch after these opens
-abbrev pub opening_behind : Opening → List (List Applied) → Opening
-opening_behind o [] = o
-opening_behind o (h ∷ before) = opening_after (opening_behind o before) h
+abbrev pub opened_after : Opening → List (List Applied) → Opening
+opened_after o [] = o
+opened_after o (h ∷ before) = opening_after (opened_after o before) h
 
 -- the public stamp of component j after an epoch of that number, with that history, in which it was carried at first
 abbrev pub carried_after : ℕ → (ℕ → ℕ) → List Applied → ℕ → ℕ
 carried_after epoch carried h j = option_map_or (λ e. public_stamp epoch e.stamp) (last_entry j h) (carried j)
 
 -- the public stamp that component j has after these epochs
-abbrev pub carried_behind : Opening → List (List Applied) → ℕ → ℕ
-carried_behind o [] = λ j. initial_stamp o j
-carried_behind o (h ∷ before) = carried_after (length before) (carried_behind o before) h
+abbrev pub stamp_after : Opening → List (List Applied) → ℕ → ℕ
+stamp_after o [] = λ j. initial_stamp o j
+stamp_after o (h ∷ before) = carried_after (length before) (stamp_after o before) h
 
 -- the value and the stamp of component j after all epochs are those that the last one has, over what it opened with
 pub record IsContinued (o : Opening) (h : List Applied) (before : List (List Applied)) (j : ℕ) : Type 0 where
-  pub value : value_of o (history_of (h ∷ before)) j ≡ value_of (opening_behind o before) h j
-  pub stamp : stamp_of o (history_of (h ∷ before)) j ≡ carried_after (length before) (carried_behind o before) h j
+  pub value : value_of o (history_of (h ∷ before)) j ≡ value_of (opened_after o before) h j
+  pub stamp : stamp_of o (history_of (h ∷ before)) j ≡ carried_after (length before) (stamp_after o before) h j
 
 -- in the one history each component has the value and the stamp that the last epoch gives it
 abbrev pub EpochsContinue : Type 0

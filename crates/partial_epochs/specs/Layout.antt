@@ -1,4 +1,4 @@
--- The words of a memory whose arenas are used again and again, one place for each offset: control words, and arenas.
+-- The words of a memory whose arenas are used again and again, one definition for each offset: control words, and arenas.
 use Rattle.std.specs.Prelude.{ℕ, ◌≡◌, ◌+◌, ◌*◌, ◌/◌, ◌%◌, ◌<◌, ◌≤◌, ◌⊎◌, nat_lt, List, slice_index, if◌then◌else◌, ◌-◌}
 use Rattle.partial_model.specs.declared.history.Opening.{Opening}
 use Rattle.partial_words.specs.Layout.{Layout, total, first_free, initial_record, list_base, pool_base}
@@ -17,11 +17,11 @@ pub record Plan : Type 0 where
   pub arenas : ℕ
   -- the opening values of the components
   pub opening : Opening
-  -- an update's claim ends at this word of an arena, or it is the port's last one in the epoch
+  -- the pool limit of an arena: a claim of pool words that ends past this word is its port's last one in the epoch
   pub limit : ℕ
 
--- a place: an epoch, and the arena that holds it
-pub record Place : Type 0 where
+-- A site: an epoch, and the arena that holds it. (Elsewhere a place is a position in the one history.)
+pub record Site : Type 0 where
   pub epoch : ℕ
   pub arena : ℕ
 
@@ -29,7 +29,7 @@ pub record Place : Type 0 where
 abbrev pub slot_limit : Plan → ℕ
 slot_limit e = e.sizes.slots - e.ports
 
--- there are at most so many arenas, so that a place is the number of its epoch and of its arena in one word
+-- there are at most so many arenas, so that a site is the number of its epoch and of its arena in one word
 abbrev pub arena_limit : ℕ
 arena_limit = 65536
 
@@ -41,28 +41,28 @@ epoch_limit = 2199023255552
 abbrev pub entering_mark : ℕ
 entering_mark = 9223372036854775808
 
--- the word of a place
-abbrev pub packed : Place → ℕ
+-- the word of a site
+abbrev pub packed : Site → ℕ
 packed p = p.epoch * arena_limit + p.arena
 
--- the place that a word names
-abbrev pub unpacked : ℕ → Place
+-- the site that a word names
+abbrev pub unpacked : ℕ → Site
 unpacked w = record { epoch = w / arena_limit; arena = w % arena_limit }
 
--- the word of a place with the entering mark: its port is entering from there
-abbrev pub marked : Place → ℕ
+-- the word of a site with the entering mark: its port is entering from there
+abbrev pub marked : Site → ℕ
 marked p = entering_mark + packed p
 
--- the place fits a word, beside the mark
-pub record IsPlace (e : Plan) (p : Place) : Type 0 where
+-- the site fits a word, beside the mark
+pub record IsSite (e : Plan) (p : Site) : Type 0 where
   pub epoch : p.epoch < epoch_limit
   pub arena : p.arena < e.arenas
 
--- the current word: it names the current place
+-- the current word: it names the current site
 abbrev pub current_word : ℕ
 current_word = 0
 
--- the word of port k: it names the place where the port stands
+-- the word of port k: it names the site where the port stands
 abbrev pub at_word : ℕ → ℕ
 at_word k = 1 + k
 
@@ -70,7 +70,7 @@ at_word k = 1 + k
 abbrev pub own_word : Plan → ℕ → ℕ
 own_word e x = 1 + e.ports + x
 
--- how many words are spare behind the control words, so that the pool counter of the first arena is two words before a number of 16 words
+-- how many words are spare after the control words, so that the pool counter of the first arena is two words before a number of 16 words
 abbrev pub spare_words : Plan → ℕ
 spare_words e = 15 - (4 + e.ports + e.arenas + e.sizes.m) % 16
 
@@ -135,14 +135,14 @@ abbrev pub arena_words : Plan → List ℕ → ℕ → List ℕ
 arena_words e words x = list_of (plain_word e words x) 0 (total e.sizes)
 
 -- the step of an inner memory, made in the words of arena x
-abbrev pub placed_step : Plan → ℕ → Step → Step
-placed_step e x (Load w) = Load (base e x + w)
-placed_step e x (Store w v) = Store (base e x + w) v
-placed_step e x (Exchange w old new) = Exchange (base e x + w) old new
-placed_step e x (Add w k) = Add (base e x + w) k
+abbrev pub based_step : Plan → ℕ → Step → Step
+based_step e x (Load w) = Load (base e x + w)
+based_step e x (Store w v) = Store (base e x + w) v
+based_step e x (Exchange w old new) = Exchange (base e x + w) old new
+based_step e x (Add w k) = Add (base e x + w) k
 
 -- the word of an opening that an owner sets as number i: those before the list words from the last one down, so that the slots come before
--- the word that counts them, and those behind in their order
+-- the word that counts them, and the later ones in their order
 abbrev pub set_offset : Layout → ℕ → ℕ
 set_offset s i = if nat_lt i (list_base s) then list_base s - (i + 1) else i
 

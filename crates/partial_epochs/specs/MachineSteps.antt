@@ -12,8 +12,8 @@ use Rattle.partial_machine.specs.declared.stage.Reply.{Reply}
 use Rattle.partial_machine.specs.Machine.{CoreState, advance, reply_of, step_of}
 use Rattle.partial_core.specs.Steps.{Tells}
 use Rattle.partial_epochs.specs.Lists.{put}
-use Rattle.partial_epochs.specs.Layout.{Plan, component_words, unsealed, IsSealed, plain, arena_words, placed_step, slot_limit}
-use Rattle.partial_epochs.specs.History.{opening_behind}
+use Rattle.partial_epochs.specs.Layout.{Plan, component_words, unsealed, IsSealed, plain, arena_words, based_step, slot_limit}
+use Rattle.partial_epochs.specs.History.{opened_after}
 use Rattle.partial_epochs.specs.Ports.{Port}
 use Rattle.partial_epochs.specs.Epochs.{Beside, IsStanding, LawfulEpochs, IsPresent}
 use Rattle.partial_epochs.specs.Ports.Entering.{Stands}
@@ -47,8 +47,8 @@ pub record MachineLeads (e : Plan) (words : List ℕ) (ports : ℕ → Port) (b 
   pub standing : IsStanding b k (ports k)
   -- the step meets no seal
   pub unmet : ¬ MeetsSeal e (component_words e words (ports k).control.here.arena) step
-  pub within : word_of (placed_step e (ports k).control.here.arena step) < length words
-  pub gives : plain e (word_of step) (answer_of words (placed_step e (ports k).control.here.arena step))
+  pub within : word_of (based_step e (ports k).control.here.arena step) < length words
+  pub gives : plain e (word_of step) (answer_of words (based_step e (ports k).control.here.arena step))
       ≡ answer_of (arena_words e words (ports k).control.here.arena) step
   pub port : Port
   pub entries : List Applied
@@ -56,7 +56,7 @@ pub record MachineLeads (e : Plan) (words : List ℕ) (ports : ℕ → Port) (b 
   pub before : port.before ≡ (ports k).before
   pub passed : port.passed ≡ (ports k).passed
   pub over : port.over ≡ ((ports k).over || ends_over e (arena_words e words (ports k).control.here.arena) step)
-  pub tells : Tells e.sizes (opening_behind e.opening (ports k).before) standing.epoch.log entries (ports k).part c
+  pub tells : Tells e.sizes (opened_after e.opening (ports k).before) standing.epoch.log entries (ports k).part c
       (answer_of (arena_words e words (ports k).control.here.arena) step) port.part
   -- the history grows in the current epoch alone
   pub present : (entries ≡ []) ⊎ IsPresent b k (ports k)
@@ -67,7 +67,7 @@ pub record MachineLeads (e : Plan) (words : List ℕ) (ports : ℕ → Port) (b 
   pub beside : Beside
   pub log : beside.log ≡ b.log ++ entries
   pub epochs : beside.before ≡ b.before
-  pub lawful : LawfulEpochs e (words_after words (placed_step e (ports k).control.here.arena step)) (put k port ports) beside
+  pub lawful : LawfulEpochs e (words_after words (based_step e (ports k).control.here.arena step)) (put k port ports) beside
 
 -- each due step of a machine keeps the lawful state; where it meets a seal nothing changes
 abbrev pub MachineStepsStayLawful : Type 0
@@ -75,7 +75,7 @@ MachineStepsStayLawful = (e : Plan) (words : List ℕ) (ports : ℕ → Port) (b
     LawfulEpochs e words ports b → k < e.ports → (ports k).control.entering ≡ Stands → IsMachineOf c (ports k).part →
     step_of c ≡ Some step → MayClaim e (ports k).over step →
     (MeetsSeal e (component_words e words (ports k).control.here.arena) step
-    × (words_after words (placed_step e (ports k).control.here.arena step) ≡ words))
+    × (words_after words (based_step e (ports k).control.here.arena step) ≡ words))
     ⊎ MachineLeads e words ports b k c step
 
 -- a port that has made no claim past the limit has room for its next one
@@ -88,9 +88,9 @@ ClaimsHaveRoom = (e : Plan) (words : List ℕ) (ports : ℕ → Port) (b : Besid
 abbrev pub HaveSlots : Plan → Type 0
 HaveSlots e = e.ports ≤ e.sizes.slots
 
--- no machine of a port that stands is marked for the pool, nor for the slots
-abbrev pub MarksNeverCome : Type 0
-MarksNeverCome = (e : Plan) (words : List ℕ) (ports : ℕ → Port) (b : Beside) (k : ℕ) (c : CoreState) → LawfulEpochs e words ports b →
+-- no machine of a port that stands is spent, neither for the pool nor for the slots
+abbrev pub MachinesAreNeverSpent : Type 0
+MachinesAreNeverSpent = (e : Plan) (words : List ℕ) (ports : ℕ → Port) (b : Beside) (k : ℕ) (c : CoreState) → LawfulEpochs e words ports b →
     k < e.ports → (ports k).control.entering ≡ Stands → HaveSlots e → IsMachineOf c (ports k).part →
     (c.pool_spent ≡ false) × (c.slots_spent ≡ false)
 

@@ -18,8 +18,8 @@ use Rattle.partial_machine.specs.Machine.{CoreState}
 use Rattle.partial_core.specs.Part.{with_seen}
 use Rattle.partial_core.specs.Steps.{since_with}
 use Rattle.partial_epochs.specs.Lists.{put}
-use Rattle.partial_epochs.specs.Layout.{Place, Plan, at_word, marked, packed, placed_step}
-use Rattle.partial_epochs.specs.History.{carried_behind, history_of, opening_behind, public_stamp, stamp_limit}
+use Rattle.partial_epochs.specs.Layout.{Site, Plan, at_word, marked, packed, based_step}
+use Rattle.partial_epochs.specs.History.{stamp_after, history_of, opened_after, public_stamp, stamp_limit}
 use Rattle.partial_epochs.specs.Ports.{OwnedArena, Port}
 use Rattle.partial_epochs.specs.Ports.Entering.{Stands}
 use Rattle.partial_epochs.specs.Epochs.{Beside, IsStanding, LawfulEpochs}
@@ -77,7 +77,7 @@ pub record LawfulMemory (e : Plan) (words : List ℕ) (ports : ℕ → Port) (b 
 
 -- the public stamp of the record at s of component j, in the epoch after these: a record of the epoch's own, or the carried stamp
 abbrev pub public_of : Plan → List (List Applied) → ℕ → ℕ → ℕ
-public_of e before j s = if nat_lt s (first_free e.sizes) then carried_behind e.opening before j else public_stamp (length before) s
+public_of e before j s = if nat_lt s (first_free e.sizes) then stamp_after e.opening before j else public_stamp (length before) s
 
 -- a call in an epoch as callers see it: a conditional update expects a public stamp
 abbrev pub public_call : Plan → List (List Applied) → Call → Call
@@ -119,7 +119,7 @@ abbrev pub MayNote : Plan → Port → List Noted → ℕ → List Applied → L
 MayNote e p notes since seen new added =
     ((added ≡ []) × (places_written new ≡ []))
     ⊎ ((added ≡ map (public_noted e p.before) new) × (seen_by 0 notes ≤ length (history_of p.before) + since)
-    × AllByRecursion (λ n. ExpectedOne (opening_behind e.opening p.before) seen n.call n.answer) new)
+    × AllByRecursion (λ n. ExpectedOne (opened_after e.opening p.before) seen n.call n.answer) new)
 
 -- the notes with those of port k after its own
 abbrev pub noting : ℕ → List Noted → (ℕ → List Noted) → ℕ → List Noted
@@ -131,10 +131,10 @@ NotesStayLawful = (e : Plan) (words : List ℕ) (ports : ℕ → Port) (b : Besi
     (step : Step) → LawfulMemory e words ports b notes → k < e.ports → (ports k).control.entering ≡ Stands →
     (lead : MachineLeads e words ports b k c step) → (added : List Noted) →
     MayNote e (ports k) (notes k) (since_with c (ports k).part) lead.port.part.seen lead.tells.new added →
-    LawfulMemory e (words_after words (placed_step e (ports k).control.here.arena step)) (put k lead.port ports) lead.beside
+    LawfulMemory e (words_after words (based_step e (ports k).control.here.arena step)) (put k lead.port ports) lead.beside
     (noting k added notes)
 
--- A step that changes neither histories nor what its port has seen, its place or its notes: a seal, a step of setting up the next epoch,
+-- A step that changes neither histories nor what its port has seen, its site or its notes: a seal, a step of setting up the next epoch,
 -- and the first two steps of entering.
 pub record IsAside (b c : Beside) (p q : Port) : Type 0 where
   pub log : c.log ≡ b.log
@@ -151,10 +151,10 @@ AsidesStayLawful = (e : Plan) (words words' : List ℕ) (ports : ℕ → Port) (
 
 -- so does the exchange by which a port enters a later epoch
 abbrev pub ArrivalsKeepNotes : Type 0
-ArrivalsKeepNotes = (e : Plan) (words : List ℕ) (ports : ℕ → Port) (b : Beside) (notes : ℕ → List Noted) (k : ℕ) (c : Place) →
+ArrivalsKeepNotes = (e : Plan) (words : List ℕ) (ports : ℕ → Port) (b : Beside) (notes : ℕ → List Noted) (k : ℕ) (c : Site) →
     LawfulMemory e words ports b notes → k < e.ports → (a : Arrives e words ports b k c) →
     LawfulMemory e (words_after words (Exchange (at_word k) (marked (ports k).control.here) (packed c)))
-    (put k (arrived_port e k a.place a.before) ports) b notes
+    (put k (arrived_port e k a.site a.before) ports) b notes
 
 -- so does the exchange that opens the next epoch: in the one history nothing changes
 abbrev pub PublishesKeepNotes : Type 0

@@ -7,7 +7,7 @@ use Rattle.partial_core.specs.Part.{fresh_part, fresh_parts}
 use Rattle.partial_words.specs.Chain.{opening_word}
 use Rattle.partial_core.specs.Lawful.{Lawful}
 use Rattle.partial_epochs.specs.Lists.{put}
-use Rattle.partial_epochs.specs.Layout.{IsAsked, Plan, Place, base, carried_word, control_size, whole}
+use Rattle.partial_epochs.specs.Layout.{IsAsked, Plan, Site, base, carried_word, control_size, whole}
 use Rattle.partial_epochs.specs.Ports.{Port, Epoch}
 use Rattle.partial_epochs.specs.Epochs.{IsEpochPlan, Beside, HasClearRecords, LawfulEpochs}
 use Rattle.partial_epochs.specs.Entering.{arrived_port}
@@ -38,9 +38,9 @@ pub record OpensAll (e : Plan) (words : List ℕ) : Type 0 where
   pub clear : (x l : ℕ) → 0 < x → x < e.arenas → l < e.sizes.slots → slice_index words (base e x + slot_word e.sizes l) ≡ 0
   pub records : (x : ℕ) → 0 < x → x < e.arenas → HasClearRecords e words x
 
--- the place of the first epoch: arena 0
-abbrev pub first_place : Place
-first_place = record { epoch = 0; arena = 0 }
+-- the site of the first epoch: arena 0
+abbrev pub first_site : Site
+first_site = record { epoch = 0; arena = 0 }
 
 -- the first epoch at opening: nothing is applied, and no port has made a step
 abbrev pub first_epoch : Plan → Epoch
@@ -56,7 +56,7 @@ first_beside e = record { log = []; before = []; arena = 0; holds = put 0 (Some 
 
 -- each port at opening stands in the first epoch, with nothing before it
 abbrev pub first_ports : Plan → ℕ → Port
-first_ports e k = arrived_port e k first_place []
+first_ports e k = arrived_port e k first_site []
 
 -- such a memory is lawful, with nothing applied
 abbrev pub EpochsOpenLawful : Type 0

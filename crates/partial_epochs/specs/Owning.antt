@@ -3,7 +3,7 @@ use Rattle.std.specs.Prelude.{ℕ, ◌+◌, ◌<◌, ◌≤◌, List, slice_inde
 use Rattle.partial_words.specs.declared.step.Step.TheVariants.{Exchange, Store}
 use Rattle.partial_words.specs.Step.{words_after}
 use Rattle.partial_epochs.specs.Lists.{put}
-use Rattle.partial_epochs.specs.Layout.{Plan, Place, IsPlace, packed, marked, entering_mark, current_word, at_word, own_word}
+use Rattle.partial_epochs.specs.Layout.{Plan, Site, IsSite, packed, marked, entering_mark, current_word, at_word, own_word}
 use Rattle.partial_epochs.specs.Ports.{OwnedArena, Port}
 use Rattle.partial_epochs.specs.Ports.Entering.{Stands}
 use Rattle.partial_epochs.specs.Epochs.{Beside, LawfulEpochs, IsPresent}
@@ -13,7 +13,7 @@ use Rattle.partial_epochs.specs.Entering.{having_passed}
 abbrev pub having_looked : Port → OwnedArena → Port
 having_looked p o = record p { control = record p.control { owned = Some (record o { looked = true; again = true }) } }
 
--- an owner loads its own place as the current one: its arena isn't the current one
+-- an owner loads its own site as the current one: its arena isn't the current one
 abbrev pub OwnersLook : Type 0
 OwnersLook = (e : Plan) (words : List ℕ) (ports : ℕ → Port) (b : Beside) (k : ℕ) (o : OwnedArena) → LawfulEpochs e words ports b →
     k < e.ports → (ports k).control.owned ≡ Some o → (o.mark ≡ None) ⊎ (o.clean < e.ports) →
@@ -31,7 +31,7 @@ having_put p o = record p { control = record p.control { owned = Some (at_next_p
 -- A port that has loaded the mark of another, and has seen since that its own epoch is the current one, puts that port where it stands
 -- itself, and is done with it: where the exchange of the mark is won.
 abbrev pub PutsStayLawful : Type 0
-PutsStayLawful = (e : Plan) (words : List ℕ) (ports : ℕ → Port) (b : Beside) (k : ℕ) (o : OwnedArena) (a : Place) →
+PutsStayLawful = (e : Plan) (words : List ℕ) (ports : ℕ → Port) (b : Beside) (k : ℕ) (o : OwnedArena) (a : Site) →
     LawfulEpochs e words ports b → k < e.ports → (ports k).control.owned ≡ Some o → o.looked ≡ true → o.clean < e.ports → o.set ≡ 0 →
     o.mark ≡ Some a → o.again ≡ true → slice_index words (at_word o.clean) ≡ marked a →
     LawfulEpochs e (words_after words (Exchange (at_word o.clean) (marked a) (packed (ports k).control.here)))
@@ -64,13 +64,13 @@ GivesStayLawful = (e : Plan) (words : List ℕ) (ports : ℕ → Port) (b : Besi
 
 -- an owner that has looked finds the next port, or itself, in another arena, by a load or by an exchange that is lost
 abbrev pub OthersAreElsewhere : Type 0
-OthersAreElsewhere = (e : Plan) (words : List ℕ) (ports : ℕ → Port) (b : Beside) (k : ℕ) (o : OwnedArena) (d : Place) →
+OthersAreElsewhere = (e : Plan) (words : List ℕ) (ports : ℕ → Port) (b : Beside) (k : ℕ) (o : OwnedArena) (d : Site) →
     LawfulEpochs e words ports b → k < e.ports → (ports k).control.owned ≡ Some o → o.looked ≡ true → o.set ≡ 0 →
-    o.clean < e.ports → IsPlace e d → slice_index words (at_word o.clean) ≡ packed d → d.arena ≢ o.arena →
+    o.clean < e.ports → IsSite e d → slice_index words (at_word o.clean) ≡ packed d → d.arena ≢ o.arena →
     LawfulEpochs e words (put k (having_put (ports k) o) ports) b
 
 -- an owner that holds the mark of the next port, and hasn't looked since
-abbrev pub having_loaded : OwnedArena → Place → OwnedArena
+abbrev pub having_loaded : OwnedArena → Site → OwnedArena
 having_loaded o a = record o { mark = Some a; again = false }
 
 -- an owner loads the entering mark of the next port: it is the mark of where that port is entering from

@@ -2,13 +2,13 @@
 use Rattle.std.specs.Prelude.{ℕ, Bool, List, Option}
 use Rattle.partial_model.specs.declared.history.Applied.{Applied}
 use Rattle.partial_core.specs.Part.{Part}
-use Rattle.partial_epochs.specs.Layout.{Place}
+use Rattle.partial_epochs.specs.Layout.{Site}
 
--- whether a port is entering: it stands, it has stored the mark, or it has loaded the current place since
+-- whether a port is entering: it stands, it has stored the mark, or it has loaded the current site since
 pub data Entering : Type 0 where
   Stands : Entering
   Marks : Entering
-  Loaded : Place → Entering
+  Loaded : Site → Entering
 
 -- an arena that a port owns
 pub record OwnedArena : Type 0 where
@@ -18,7 +18,7 @@ pub record OwnedArena : Type 0 where
   -- it is done with the ports below this one
   pub clean : ℕ
   -- the mark of port `clean` that it has loaded, and whether it has seen since that its epoch is the current one
-  pub mark : Option Place
+  pub mark : Option Site
   pub again : Bool
   -- how many words it has set
   pub set : ℕ
@@ -26,7 +26,7 @@ pub record OwnedArena : Type 0 where
 -- what a port does with the control words
 pub record Control : Type 0 where
   -- where it stands, or from where it is entering
-  pub here : Place
+  pub here : Site
   -- whether it is entering
   pub entering : Entering
   -- it has seen that another epoch is the current one

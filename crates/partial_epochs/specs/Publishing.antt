@@ -5,7 +5,7 @@ use Rattle.partial_words.specs.declared.step.Step.TheVariants.{Store, Exchange}
 use Rattle.partial_core.specs.Part.{fresh_part}
 use Rattle.partial_words.specs.Step.{words_after}
 use Rattle.partial_epochs.specs.Lists.{put}
-use Rattle.partial_epochs.specs.Layout.{IsToBeSet, epoch_limit, Plan, Place, base, packed, current_word, set_word}
+use Rattle.partial_epochs.specs.Layout.{IsToBeSet, epoch_limit, Plan, Site, base, packed, current_word, set_word}
 use Rattle.partial_epochs.specs.Ports.{OwnedArena, Port, Epoch}
 use Rattle.partial_epochs.specs.Epochs.{Beside, HasClearRecords, next_epoch_word, LawfulEpochs, IsPresent}
 
@@ -42,7 +42,7 @@ ClearSlotsCountAsSet = (e : Plan) (words : List ℕ) (ports : ℕ → Port) (b :
     slice_index words (base e o.arena + slot_counter e.sizes) + next ≤ e.sizes.slots → e.sizes.m ≤ (ports k).passed →
     LawfulEpochs e words (put k (having_set (ports k) o next) ports) (vacated b o.arena)
 
--- an arena that a port owns, as it was when it came to own it
+-- an arena that a port owns, as it was when the port took it
 abbrev pub resting_arena : OwnedArena → OwnedArena
 resting_arena o = record o { looked = false; clean = 0; mark = None; again = false; set = 0 }
 
@@ -58,9 +58,9 @@ next_epoch e b = record { log = []; before = b.log ∷ b.before; part = fresh_pa
 abbrev pub next_beside : Plan → Beside → ℕ → Beside
 next_beside e b x = record { log = []; before = b.log ∷ b.before; arena = x; holds = put x (Some (next_epoch e b)) b.holds }
 
--- the place of the next epoch, in arena x
-abbrev pub next_place : Place → ℕ → Place
-next_place here x = record { epoch = here.epoch + 1; arena = x }
+-- the site of the next epoch, in arena x
+abbrev pub next_site : Site → ℕ → Site
+next_site here x = record { epoch = here.epoch + 1; arena = x }
 
 -- port k has set all words of the arena that it owns, and its epoch isn't the last one that a word can name
 pub record IsWholeArena (e : Plan) (p : Port) (o : OwnedArena) : Type 0 where
@@ -74,9 +74,9 @@ PublishesStayLawful = (e : Plan) (words : List ℕ) (ports : ℕ → Port) (b : 
     k < e.ports → IsWholeArena e (ports k) o →
     ((slice_index words current_word ≡ packed (ports k).control.here) × IsPresent b k (ports k)
     × LawfulEpochs e (words_after words (Exchange current_word (packed (ports k).control.here)
-    (packed (next_place (ports k).control.here o.arena))))
+    (packed (next_site (ports k).control.here o.arena))))
     (put k (having_published (ports k) o) ports) (next_beside e b o.arena))
     ⊎ ((slice_index words current_word ≢ packed (ports k).control.here)
     × LawfulEpochs e (words_after words (Exchange current_word (packed (ports k).control.here)
-    (packed (next_place (ports k).control.here o.arena))))
+    (packed (next_site (ports k).control.here o.arena))))
     (put k (having_published (ports k) o) ports) b)

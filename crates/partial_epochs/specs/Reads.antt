@@ -12,7 +12,7 @@ use Rattle.partial_model.specs.declared.call.Call.{Call}
 use Rattle.partial_model.specs.declared.call.Answer.{Answer}
 use Rattle.partial_model.specs.declared.call.Note.{Note}
 use Rattle.partial_epochs.specs.Layout.{Plan, IsSealed, base, carried_word, component_words, seal, unsealed}
-use Rattle.partial_epochs.specs.History.{carried_behind, public_stamp, history_of, opening_behind}
+use Rattle.partial_epochs.specs.History.{stamp_after, public_stamp, history_of, opened_after}
 use Rattle.partial_epochs.specs.Ports.{Port}
 use Rattle.partial_epochs.specs.Epochs.{Beside, IsStanding, LawfulEpochs}
 use Rattle.partial_epochs.specs.Ports.Entering.{Stands}
@@ -28,14 +28,14 @@ abbrev pub ReadsTellAllEpochs : Type 0
 ReadsTellAllEpochs = (e : Plan) (words : List ℕ) (ports : ℕ → Port) (b : Beside) (k j n : ℕ) → LawfulEpochs e words ports b → k < e.ports →
     (ports k).control.entering ≡ Stands → j < e.sizes.m → (s : IsStanding b k (ports k)) → n ≤ length s.epoch.log →
     IsTrueOf e.opening (history_of (s.epoch.log ∷ (ports k).before)) k (Call.Read j)
-    (Answer.Read (value_of (opening_behind e.opening (ports k).before) (take n s.epoch.log) j)
-    (read_stamp e words (ports k) j (stamp_of (opening_behind e.opening (ports k).before) (take n s.epoch.log) j)))
+    (Answer.Read (value_of (opened_after e.opening (ports k).before) (take n s.epoch.log) j)
+    (read_stamp e words (ports k) j (stamp_of (opened_after e.opening (ports k).before) (take n s.epoch.log) j)))
     (Note.Saw (length (history_of (ports k).before) + n))
 
 -- what the words of the arena where a port stands say of component j, of an epoch with this history: its record is the last one, with the
 -- value and the public stamp that the component has in the one history
 pub record TellTheLast (e : Plan) (words : List ℕ) (p : Port) (log : List Applied) (j : ℕ) : Type 0 where
-  pub stamp : unsealed (slice_index words (base e p.control.here.arena + j)) ≡ stamp_of (opening_behind e.opening p.before) log j
+  pub stamp : unsealed (slice_index words (base e p.control.here.arena + j)) ≡ stamp_of (opened_after e.opening p.before) log j
   pub value : slice_index words (base e p.control.here.arena + value_word (unsealed (slice_index words (base e p.control.here.arena + j))))
       ≡ value_of e.opening (history_of (log ∷ p.before)) j
   pub public : read_stamp e words p j (unsealed (slice_index words (base e p.control.here.arena + j)))
@@ -53,7 +53,7 @@ LastWordsAreFinal = (e : Plan) (words : List ℕ) (ports : ℕ → Port) (b : Be
 -- the component word of the arena where a port stands names the record that the component has after its epoch's history
 pub record NamesRecord (e : Plan) (words : List ℕ) (p : Port) (log : List Applied) (j : ℕ) : Type 0 where
   pub there : base e p.control.here.arena + j < length words
-  pub names : unsealed (slice_index words (base e p.control.here.arena + j)) ≡ stamp_of (opening_behind e.opening p.before) log j
+  pub names : unsealed (slice_index words (base e p.control.here.arena + j)) ≡ stamp_of (opened_after e.opening p.before) log j
 
 -- so it is for each port that stands, and each component
 abbrev pub ComponentsNameRecords : Type 0
@@ -62,7 +62,7 @@ ComponentsNameRecords = (e : Plan) (words : List ℕ) (ports : ℕ → Port) (b 
 
 -- the stamp of component j after the first n entries that a port has seen of its epoch
 abbrev pub seen_stamp : Plan → Port → ℕ → ℕ → ℕ
-seen_stamp e p j n = stamp_of (opening_behind e.opening p.before) (take n p.part.seen) j
+seen_stamp e p j n = stamp_of (opened_after e.opening p.before) (take n p.part.seen) j
 
 -- The record of component j after the first n entries that a port has seen of its epoch, in the words of its arena: it lies after the
 -- component words, below the seals and within the arena, and holds the value that the component had there.
@@ -72,7 +72,7 @@ pub record IsSeenRecord (e : Plan) (words : List ℕ) (p : Port) (j n : ℕ) : T
   pub within : value_word (seen_stamp e p j n) < total e.sizes
   pub there : base e p.control.here.arena + value_word (seen_stamp e p j n) < length words
   pub value : slice_index words (base e p.control.here.arena + value_word (seen_stamp e p j n))
-      ≡ value_of (opening_behind e.opening p.before) (take n p.part.seen) j
+      ≡ value_of (opened_after e.opening p.before) (take n p.part.seen) j
 
 -- what a port that stands finds of component j in its arena, of an epoch with this history
 pub record AreSeenRecords (e : Plan) (words : List ℕ) (p : Port) (log : List Applied) (j : ℕ) : Type 0 where
@@ -81,12 +81,12 @@ pub record AreSeenRecords (e : Plan) (words : List ℕ) (p : Port) (log : List A
   pub few : length p.part.seen ≤ length log
   -- so many epochs come before, and they have left a value for each component
   pub epoch : length p.before ≡ p.control.here.epoch
-  pub values : length (opening_behind e.opening p.before).values ≡ e.sizes.m
+  pub values : length (opened_after e.opening p.before).values ≡ e.sizes.m
   -- its record at each length of what the port has seen
   pub each : (n : ℕ) → n ≤ length p.part.seen → IsSeenRecord e words p j n
   -- its carried stamp
   pub there : carried_word e p.control.here.arena j < length words
-  pub carried : slice_index words (carried_word e p.control.here.arena j) ≡ carried_behind e.opening p.before j
+  pub carried : slice_index words (carried_word e p.control.here.arena j) ≡ stamp_after e.opening p.before j
 
 -- what a port has seen of its epoch it can read there, whatever other ports have done since
 abbrev pub SeenRecordsStay : Type 0

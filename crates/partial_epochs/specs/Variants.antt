@@ -1,6 +1,6 @@
 -- What a broken variant of the steps leads to is no lawful state, whatever else holds.
 use Rattle.std.specs.Prelude.{ℕ, ◌≡◌, ◌≢◌, ◌<◌, List, slice_index, Some, None}
-use Rattle.partial_epochs.specs.Layout.{IsPlace, IsSealed, Place, Plan, at_word, component_words, packed}
+use Rattle.partial_epochs.specs.Layout.{IsSite, IsSealed, Site, Plan, at_word, component_words, packed}
 use Rattle.partial_epochs.specs.Ports.{Epoch, Port}
 use Rattle.partial_epochs.specs.Ports.Entering.{Stands}
 use Rattle.partial_epochs.specs.Epochs.{Beside, LawfulEpochs}
@@ -28,5 +28,5 @@ ResettingCurrentIsUnlawful = (e : Plan) (words : List ℕ) (ports : ℕ → Port
 
 -- a port is put into an arena that holds no epoch, as by a helper that didn't look again
 abbrev pub PuttingIntoResetIsUnlawful : Type 0
-PuttingIntoResetIsUnlawful = (e : Plan) (words : List ℕ) (ports : ℕ → Port) (b : Beside) (k : ℕ) (c : Place) → k < e.ports → IsPlace e c →
+PuttingIntoResetIsUnlawful = (e : Plan) (words : List ℕ) (ports : ℕ → Port) (b : Beside) (k : ℕ) (c : Site) → k < e.ports → IsSite e c →
     b.holds c.arena ≡ None → slice_index words (at_word k) ≡ packed c → ¬ LawfulEpochs e words ports b

@@ -2,16 +2,16 @@
 //! definitions by which the memory's own contracts are to be stated.
 
 ghost use Rattle.partial_epochs.specs.History.{EpochsContinue};
-ghost use Rattle.partial_epochs.specs.MachineSteps.{UnsealedIsPresent, MachineStepsStayLawful, ClaimsHaveRoom, MarksNeverCome, MachinesAreNeverRefused};
+ghost use Rattle.partial_epochs.specs.MachineSteps.{UnsealedIsPresent, MachineStepsStayLawful, ClaimsHaveRoom, MachinesAreNeverSpent, MachinesAreNeverRefused};
 ghost use Rattle.partial_epochs.specs.Sealing.{SealsStayLawful, SealedPassesStayLawful};
 ghost use Rattle.partial_epochs.specs.Entering.{LooksAreTrue, MarksStayLawful, EntriesLoad, ArrivalsStayLawful};
 ghost use Rattle.partial_epochs.specs.Owning.{TakesStayLawful, GivesStayLawful, OwnersLook, OwnersLookAway, OthersAreElsewhere, MarksAreLoaded, PutsStayLawful};
 ghost use Rattle.partial_epochs.specs.Publishing.{ClearSlotsCountAsSet, SetsStayLawful, PublishesStayLawful};
 ghost use Rattle.partial_epochs.specs.Opening.{OpensOverLawful, EpochsOpenLawful};
 ghost use Rattle.partial_epochs.specs.Notes.{EpochsFitOneHistory, NotesStayLawful, SightsStayLawful, GlancesStayLawful, AsidesStayLawful, ArrivalsKeepNotes, PublishesKeepNotes, PublicStampsAreUnique};
-ghost use Rattle.partial_epochs.specs.Time.{OpeningsKeepTime, MarksKeepTime, EntriesKeepTime, ArrivalsKeepTime, LooksKeepTime, LoadedMarksKeepTime, PutsKeepTime, PublishesKeepTime, AsidesKeepTime, StepsKeepPlaces};
+ghost use Rattle.partial_epochs.specs.Time.{OpeningsKeepTime, MarksKeepTime, EntriesKeepTime, ArrivalsKeepTime, LooksKeepTime, LoadedMarksKeepTime, PutsKeepTime, PublishesKeepTime, AsidesKeepTime, StepsKeepSites};
 ghost use Rattle.partial_epochs.specs.EveryStep.{EveryStepStaysLawful, MemoriesOpenLawful};
-ghost use Rattle.partial_epochs.specs.FreeArenas.{EveryStepCounts, FewComeFree, MeetingsKeepTally, OpeningsKeepTally, OwnedArenasAreInUse, OwnPlacesAreInUse, SomeArenaIsFree};
+ghost use Rattle.partial_epochs.specs.FreeArenas.{EveryStepCounts, FewComeFree, MeetingsKeepTally, OpeningsKeepTally, OwnedArenasAreInUse, OwnSitesAreInUse, SomeArenaIsFree};
 ghost use Rattle.partial_epochs.specs.Reads.{ReadsTellAllEpochs, LastWordsAreFinal, ComponentsNameRecords, SeenRecordsStay};
 ghost use Rattle.partial_epochs.specs.Collects.{CollectsStandTogether, EpochsAreHistories};
 
@@ -37,10 +37,10 @@ pub fn claims_have_room()
     ensures { ClaimsHaveRoom }
 {}
 
-/// In an arena with a slot for each port, no machine of a port is marked for the pool or for the slots, so no call is
-/// refused at once for either.
-pub fn marks_never_come()
-    ensures { MarksNeverCome }
+/// In an arena with a slot for each port, no machine of a port is spent, neither for the pool nor for the slots, so no
+/// call is refused at once for either.
+pub fn machines_are_never_spent()
+    ensures { MachinesAreNeverSpent }
 {}
 
 /// In such an arena no step of a machine ends its call with a refusal: each announcement finds a slot, since one is left
@@ -65,18 +65,18 @@ pub fn looks_are_true()
     ensures { LooksAreTrue }
 {}
 
-/// The first step of entering keeps the memory lawful: a port that knows that its epoch has ended stores its place with
+/// The first step of entering keeps the memory lawful: a port that knows that its epoch has ended stores its site with
 /// the entering mark.
 pub fn marks_stay_lawful()
     ensures { MarksStayLawful }
 {}
 
-/// The second step of entering loads the current place, and keeps the memory lawful.
+/// The second step of entering loads the current site, and keeps the memory lawful.
 pub fn entries_load()
     ensures { EntriesLoad }
 {}
 
-/// The third step of entering exchanges the mark. The port then stands in the place that it loaded, or in a later one
+/// The third step of entering exchanges the mark. The port then stands in the site that it loaded, or in a later one
 /// that another port has put there, and the memory is lawful.
 pub fn arrivals_stay_lawful()
     ensures { ArrivalsStayLawful }
@@ -93,12 +93,12 @@ pub fn gives_stay_lawful()
     ensures { GivesStayLawful }
 {}
 
-/// An owner that loads its own place as the current one keeps the memory lawful: its arena is not the current one.
+/// An owner that loads its own site as the current one keeps the memory lawful: its arena is not the current one.
 pub fn owners_look()
     ensures { OwnersLook }
 {}
 
-/// An owner that loads another current place knows from then on that its epoch has ended. The memory stays lawful.
+/// An owner that loads another current site knows from then on that its epoch has ended. The memory stays lawful.
 pub fn owners_look_away()
     ensures { OwnersLookAway }
 {}
@@ -216,7 +216,7 @@ pub fn glances_stay_lawful()
     ensures { GlancesStayLawful }
 {}
 
-/// A step that changes neither histories nor what its port has seen, its place or its notes keeps the memory lawful with
+/// A step that changes neither histories nor what its port has seen, its site or its notes keeps the memory lawful with
 /// all notes, where it keeps its lawful state of all epochs.
 pub fn asides_stay_lawful()
     ensures { AsidesStayLawful }
@@ -243,18 +243,18 @@ pub fn marks_keep_time()
     ensures { MarksKeepTime }
 {}
 
-/// The second step of entering, the load of the current place, keeps time.
+/// The second step of entering, the load of the current site, keeps time.
 pub fn entries_keep_time()
     ensures { EntriesKeepTime }
 {}
 
 /// The third step of entering keeps time: the port enters an epoch that is no older than the one that was the current
-/// one as it stored its mark, whether it loaded that place itself or another port put it there.
+/// one as it stored its mark, whether it loaded that site itself or another port put it there.
 pub fn arrivals_keep_time()
     ensures { ArrivalsKeepTime }
 {}
 
-/// An owner that loads its own place as the current one keeps time: it may put a port there whose mark it holds.
+/// An owner that loads its own site as the current one keeps time: it may put a port there whose mark it holds.
 pub fn looks_keep_time()
     ensures { LooksKeepTime }
 {}
@@ -274,14 +274,14 @@ pub fn publishes_keep_time()
     ensures { PublishesKeepTime }
 {}
 
-/// A step that changes no port's word and place, and by which no port becomes one that may put another, keeps time.
+/// A step that changes no port's word and site, and by which no port becomes one that may put another, keeps time.
 pub fn asides_keep_time()
     ensures { AsidesKeepTime }
 {}
 
 /// A step made in an arena, the store of a word that an owner sets, and a step on an owner word change no port's word.
-pub fn steps_keep_places()
-    ensures { StepsKeepPlaces }
+pub fn steps_keep_sites()
+    ensures { StepsKeepSites }
 {}
 
 /// A memory as it opens is lawful, and nobody has noted anything.
@@ -306,8 +306,8 @@ pub fn owned_arenas_are_in_use()
 {}
 
 /// The arena where a port stands is in use.
-pub fn own_places_are_in_use()
-    ensures { OwnPlacesAreInUse }
+pub fn own_sites_are_in_use()
+    ensures { OwnSitesAreInUse }
 {}
 
 /// With two arenas for each port, some arena is neither named by a port's word nor owned by another port.

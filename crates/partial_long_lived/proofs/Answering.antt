@@ -10,9 +10,9 @@ view_before m t p view own =
     let table : t.seat.table_id ≡ m.table = ap (λ (q : PortView). q.memory.table) view ∙ ap (λ (v : MemoryView). v.table) own in
     ap (λ (i : TableId). port_view i t.seat.steps (port_at t)) (sym table) ∙ view
 
--- and as they see it behind the call
-pub view_behind : (m : MemoryView) (t : Stand) → IsHeld m.table m.about t → port_view m.table t.seat.steps (port_at t) ≡ port_view t.seat.table_id t.seat.steps (port_at t)
-view_behind m t h = ap (λ (i : TableId). port_view i t.seat.steps (port_at t)) (sym h.fits)
+-- and as they see it after the call
+pub view_after : (m : MemoryView) (t : Stand) → IsHeld m.table m.about t → port_view m.table t.seat.steps (port_at t) ≡ port_view t.seat.table_id t.seat.steps (port_at t)
+view_after m t h = ap (λ (i : TableId). port_view i t.seat.steps (port_at t)) (sym h.fits)
 
 -- how many steps a call has made, as callers see it
 pub few_seen : (t u : Stand) (p : PortView) (n : ℕ) → port_view t.seat.table_id t.seat.steps (port_at t) ≡ p → u.seat.steps ≤ t.seat.steps + n → u.seat.steps ≤ p.steps + n
@@ -61,14 +61,14 @@ has_read_seen table s t j value stamp w inside =
 module _ (m : MemoryView) (t u : Stand) (p : PortView) (view : port_view t.seat.table_id t.seat.steps (port_at t) ≡ p) (own : IsOf m p) (held : IsHeld m.table m.about u) where
   pub callers_see : (P : PortView → PortView → Type 0) → P (port_view m.table t.seat.steps (port_at t)) (port_view m.table u.seat.steps (port_at u)) → P p (port_view u.seat.table_id u.seat.steps (port_at u))
   callers_see P is = subst (λ (a : PortView). P a (port_view u.seat.table_id u.seat.steps (port_at u))) (view_before m t p view own)
-      (subst (λ (a : PortView). P (port_view m.table t.seat.steps (port_at t)) a) (view_behind m u held) is)
+      (subst (λ (a : PortView). P (port_view m.table t.seat.steps (port_at t)) a) (view_after m u held) is)
 
   pub read_seen : (j value stamp : ℕ) → HasNotedRead t u j value stamp → j < m.about.sizes.m → calls.Reads p j value stamp (port_view u.seat.table_id u.seat.steps (port_at u))
   read_seen j value stamp w inside =
       let about : (port_at t).about ≡ m.about = sym w.come.goes.about ∙ held.own in
       callers_see (λ (a b : PortView). calls.Reads a j value stamp b) (has_read_seen m.table t u j value stamp w (subst (λ (a : About). j < a.sizes.m) (sym about) inside))
 
--- a port that has come to no later epoch rests with the machine that it had
+-- a port that has entered no later epoch rests with the machine that it had
 pub rests_here : (s t : Stand) (core : CoreState) (spent : Bool) → HasCome s t → RestsAt s core spent → t.epoch ≡ s.epoch → RestsAt t core spent
 rests_here s t core spent come w here = record {
   free = come.idle;
@@ -94,7 +94,7 @@ rests_here s t core spent come w here = record {
   ];
 }
 
--- one that has come to a later epoch rests with a machine whose marks are cleared
+-- one that has entered a later epoch rests with a machine that is unspent again
 module _ (s t : Stand) (core : CoreState) (spent : Bool) (own : s.number ≡ (port_at s).number) (come : HasCome s t) (w : RestsAt s core spent) (away : t.epoch ≡ s.epoch → ⊥) where
   abbrev last : CoreState
   last = record core { pool_spent = false; slots_spent = false; get_set = unmarked core.sizes false }
@@ -146,7 +146,7 @@ rests_unmarked table about s core spent h w spare =
     let b = w.between spare in
     (record { between = b.0; sizes = w.sizes; port = w.port ∙ h.number; pool = b.2; slots = b.3 }, b.1)
 
--- and rests behind the scan, spent if it has claimed past the limit
+-- and rests after the scan, spent if it has claimed past the limit
 pub unmarked_rests : (table : TableId) (about : About) (t : Stand) (core : CoreState) (spent : Bool) →
     IsHeld table about t → IsIdle t → RestsUnmarked (port_at t) core → (port_at t).port.over ≡ spent →
     RestsAt t core spent
@@ -276,7 +276,7 @@ has_scanned_seen table s t (j ∷ js) values collects borrowed public w is some 
       },
     )
 
--- a scan that told stamps, as callers see it
+-- a scan that returned stamps, as callers see it
 pub has_stamped_seen : (table : TableId) (s t : Stand) (which values : List ℕ) (collects : ℕ) (borrowed public : Option ℕ) (stamps : List ℕ) →
     ScannedStamped s t which values collects borrowed stamps → public ≡ option_map (public_stamp t.epoch) borrowed → 0 < length which →
     AllByRecursion (λ j. j < (port_at s).about.sizes.m) which →

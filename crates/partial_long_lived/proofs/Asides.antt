@@ -1,7 +1,7 @@
 -- Steps that change neither histories nor what their port has seen or noted.
-use Rattle.partial_long_lived.proofs.{Common.{ℕ, ◌≡◌, ◌≤◌, ◌++◌, Option, Some, None, IfSome, List, [], ◌∷◌, length, refl, sym, ap, subst, ◌∙◌, arith, append-nil, Applied, LegalNotes, Noted, Part, put, history_of, Port, Beside, place_now, Reckoning, LawfulMemory, put_other, put_same, About, Began, Found, BeganInTime, IsFinal, IsLast, IsSeat, IsSeen, IsSince, SeatedPort, plan_of, seen_in, IsSeatKnown, becomes, Place, Contention, IsSearching, true}, Kept.{GoesOn, HasGrown, Moved, final_grows, none_grown, not_grown, seen_grows}}
+use Rattle.partial_long_lived.proofs.{Common.{ℕ, ◌≡◌, ◌≤◌, ◌++◌, Option, Some, None, IfSome, List, [], ◌∷◌, length, refl, sym, ap, subst, ◌∙◌, arith, append-nil, Applied, LegalNotes, Noted, Part, put, history_of, Port, Beside, site_now, Reckoning, LawfulMemory, put_other, put_same, About, Began, Found, BeganInTime, IsFinal, IsLast, IsSeat, IsSeen, IsSince, SeatedPort, plan_of, seen_in, IsSeatKnown, becomes, Site, Contention, IsSearching, true}, Kept.{GoesOn, HasGrown, Moved, final_grows, none_grown, not_grown, seen_grows}}
 
--- a change of a port that leaves its place, its part and the epochs behind it, and passes no fewer components
+-- a change of a port that leaves its site, its part and the epochs before its own, and passes no fewer components
 pub record IsQuiet (g : Port → Port) : Type 0 where
   pub part : (p : Port) → (g p).part ≡ p.part
   pub before : (p : Port) → (g p).before ≡ p.before
@@ -29,7 +29,7 @@ pub aside : (a : About) (words words' : List ℕ) (ports : ℕ → Port) (notes 
     IsSeat a words ports notes b reckoned x → IsSeatKnown x → (g : Port → Port) → IsQuiet g → (n : Began) → IsSince n (g x.port).control.entering (reckoned'.since x.number) → BeganInTime c n →
     GoesOn a words words' ports (put x.number (g (ports x.number)) ports) b c reckoned reckoned' x.number → c.log ≡ b.log → c.before ≡ b.before →
     LawfulMemory (plan_of a) words' (put x.number (g (ports x.number)) ports) c notes → (m : Contention) → m.seals ≡ x.contention.seals →
-    IsSearching (plan_of a) words' (put x.number (g (ports x.number)) ports) (place_now c) reckoned' x.number m.search → (m.search.met ≡ true → reckoned'.tally.met x.number ≡ true) →
+    IsSearching (plan_of a) words' (put x.number (g (ports x.number)) ports) (site_now c) reckoned' x.number m.search → (m.search.met ≡ true → reckoned'.tally.met x.number ≡ true) →
     (P : SeatedPort → Type 0) → P (record (becomes x n (g x.port)) { contention = m }) → Moved a words words' ports notes b reckoned x P
 aside a words words' ports notes b c reckoned reckoned' x w s known g q n marked began time log before then m seals search met P says =
     let k : ℕ = x.number in
@@ -49,7 +49,7 @@ aside a words words' ports notes b c reckoned reckoned' x w s known g q n marked
       lawful = then;
       others = λ i ne. (put_other k (g p) ports i ne, refl);
       number = refl;
-      epoch = (let same = ap (λ (d : Place). d.epoch) (q.here x.port) in omega (arith, same));
+      epoch = (let same = ap (λ (d : Site). d.epoch) (q.here x.port) in omega (arith, same));
       seals = omega (arith, seals);
       seat = record {
         about = s.about;

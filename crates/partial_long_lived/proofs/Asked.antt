@@ -1,5 +1,5 @@
 -- The steps of a change of epoch, as its code asks for them.
-use Rattle.partial_long_lived.proofs.{Common.{ℕ, ◌≡◌, ◌≢◌, ◌+◌, ◌-◌, ◌*◌, ◌%◌, ◌^◌, ◌<◌, ◌≤◌, ◌==◌, Bool, if◌then◌else◌, Option, Some, IfSome, List, [], sym, ap, subst, ◌∙◌, inl, inr, arith, lt-ltb, either, Me, Allows, TableId, first_free, list_base, opening_word, Place, Plan, arena_limit, at_word, base, entering_mark, marked, own_word, packed, seal, set_word, OwnedArena, Port, Stands, next_place, passing_port, below_whole, set_place, About, Stand, IsRuleKept, SeatedPort, one_of, plan_of, bare, shape_plan, SeatGoes, IsOne, tells, IsHeld, port_at, SeatGives, LoadsPort, PassesSealed, SeatPublishes, PutsPort, Seals, Sets, Takes, passed_at, unpacked, IsIdle, IsCarriedStamp, IsRight, IsFixedWord, MayPutPort, OfOwned, Owns, PutsBy, SetsLists, SetsNext, TakesBy, HasSetWords, initial_words, slot_counter, FindsClear, behind_value, behind_values, value_word, initial_record, SetsValue, FoundValue, Searches, GivesBack, HasPassedArenas, BeginsSearch, BeginsPass, None, true, false, ◌⊎◌}, Changes.{may_give, may_load_port, may_pass, may_put, may_seal, may_take}, Sets.{may_find_clear, may_set_over_lists, may_set_same, may_set_stamp, may_set_value, value_at}, Publishes.may_publish, Standing.{base_is, place_is}, Searching.{may_begin_pass, may_begin_search}}
+use Rattle.partial_long_lived.proofs.{Common.{ℕ, ◌≡◌, ◌≢◌, ◌+◌, ◌-◌, ◌*◌, ◌%◌, ◌^◌, ◌<◌, ◌≤◌, ◌==◌, Bool, if◌then◌else◌, Option, Some, IfSome, List, [], sym, ap, subst, ◌∙◌, inl, inr, arith, lt-ltb, either, Me, Allows, TableId, first_free, list_base, opening_word, Site, Plan, arena_limit, at_word, base, entering_mark, marked, own_word, packed, seal, set_word, OwnedArena, Port, Stands, next_site, passing_port, below_whole, set_index, About, Stand, IsRuleKept, SeatedPort, one_of, plan_of, bare, shape_plan, SeatGoes, IsOne, tells, IsHeld, port_at, SeatGives, LoadsPort, PassesSealed, SeatPublishes, PutsPort, Seals, Sets, Takes, passed_at, unpacked, IsIdle, IsCarriedStamp, IsRight, IsFixedWord, MayPutPort, OfOwned, Owns, PutsBy, SetsLists, SetsNext, TakesBy, HasSetWords, initial_words, slot_counter, FindsClear, after_value, after_values, value_word, initial_record, SetsValue, FoundValue, Searches, GivesBack, HasPassedArenas, BeginsSearch, BeginsPass, None, true, false, ◌⊎◌}, Changes.{may_give, may_load_port, may_pass, may_put, may_seal, may_take}, Sets.{may_find_clear, may_set_over_lists, may_set_same, may_set_stamp, may_set_value, value_at}, Publishes.may_publish, Standing.{base_is, site_is}, Searching.{may_begin_pass, may_begin_search}}
 use Rattle.partial_long_lived.proofs.Control as Control
 
 -- a step by the arena that the port owns
@@ -117,13 +117,13 @@ module _ (table : TableId) (about : About) (s : Stand) (h : IsHeld table about s
   put_asked y q a may from low slots id v here =
       let holds = may.holds in
       let o = holds.owned in
-      let m : Place = unpacked (a - entering_mark) in
+      let m : Site = unpacked (a - entering_mark) in
       let named : marked m ≡ a = omega (arith, from) in
       let put : ℕ → OwnedArena → SeatedPort → ℕ → SeatedPort → Type 0 = λ w o. PutsPort o (unpacked (w - entering_mark)) in
       of_owned about slots id (1 + q) (λ n. either (n == a) v n) s.seat.me (λ o. PutsPort o m) o holds.is
       (subst (λ i. Allows (IsRuleKept about) slots id s.seat.me i (λ n. either (n == a) v n) (tells (PutsPort o m) s.seat.me)) (ap at_word holds.clean)
       (subst (λ t. Allows (IsRuleKept about) slots id s.seat.me (at_word o.clean) (λ n. either (n == t) v n) (tells (PutsPort o m) s.seat.me)) named
-      (subst (λ v. Allows (IsRuleKept about) slots id s.seat.me (at_word o.clean) (λ n. either (n == marked m) v n) (tells (PutsPort o m) s.seat.me)) (sym (here ∙ place_is table about s h))
+      (subst (λ v. Allows (IsRuleKept about) slots id s.seat.me (at_word o.clean) (λ n. either (n == marked m) v n) (tells (PutsPort o m) s.seat.me)) (sym (here ∙ site_is table about s h))
       (may_put about slots id s.seat.me h.one h.own h.known o m holds.is holds.looked holds.set (subst (λ n. n < about.ports) (sym holds.clean) low) holds.mark may.again))))
 
   -- the words of the owned arena
@@ -137,9 +137,9 @@ module _ (table : TableId) (about : About) (s : Stand) (h : IsHeld table about s
   set_there y i w low inside is =
       let at = set_is y i w is in
       let plan = subst (λ (a : About). initial_words a.sizes ≤ a.sizes.pool) h.own (let pool = h.known.plan.sizes.pool.0 in omega (arith, pool)) in
-      let place = set_place e y i (omega (arith, plan)) inside in
-      let there = place.2 in
-      let up = below_whole e y place.0 low place.1 in
+      let spot = set_index e y i (omega (arith, plan)) inside in
+      let there = spot.2 in
+      let up = below_whole e y spot.0 low spot.1 in
       let words = h.words in
       omega (arith, at, there, up, words)
 
@@ -169,23 +169,23 @@ module _ (table : TableId) (about : About) (s : Stand) (h : IsHeld table about s
       w ≡ set_word (shape_plan s.shape bare) y i → Allows (IsRuleKept about) slots id s.seat.me w (λ n. v) (tells SetsLists s.seat.me)
   set_lists_asked y i works passed last v right slots id w word =
       let o = works.owned in
-      of_owned about slots id w (λ n. v) s.seat.me (λ o. Sets o (behind_values x.about.sizes 0)) o works.is
-      (subst (λ i. Allows (IsRuleKept about) slots id s.seat.me i (λ n. v) (tells (Sets o (behind_values x.about.sizes 0)) s.seat.me))
+      of_owned about slots id w (λ n. v) s.seat.me (λ o. Sets o (after_values x.about.sizes 0)) o works.is
+      (subst (λ i. Allows (IsRuleKept about) slots id s.seat.me i (λ n. v) (tells (Sets o (after_values x.about.sizes 0)) s.seat.me))
       (ap (λ y. set_word e y o.set) works.arena ∙ ap (set_word e y) works.set ∙ sym (set_is y i w word))
-      (subst (λ (a : About). Allows (IsRuleKept about) slots id s.seat.me (set_word e o.arena o.set) (λ n. v) (tells (Sets o (behind_values a.sizes 0)) s.seat.me)) (sym h.own)
+      (subst (λ (a : About). Allows (IsRuleKept about) slots id s.seat.me (set_word e o.arena o.set) (λ n. v) (tells (Sets o (after_values a.sizes 0)) s.seat.me)) (sym h.own)
       (may_set_over_lists about slots id s.seat.me h.one h.own h.known o v works.is works.clean passed (ap (λ n. n + 1) works.set ∙ last) right)))
 
-  pub set_value_asked : (y j v : ℕ) → HasSetWords s y about.ports (behind_values about.sizes j) → about.sizes.m ≤ x.port.passed → j < about.sizes.m → FoundValue s j v → (slots id w : ℕ) →
+  pub set_value_asked : (y j v : ℕ) → HasSetWords s y about.ports (after_values about.sizes j) → about.sizes.m ≤ x.port.passed → j < about.sizes.m → FoundValue s j v → (slots id w : ℕ) →
       w ≡ set_word (shape_plan s.shape bare) y (value_word (initial_record about.sizes j)) → Allows (IsRuleKept about) slots id s.seat.me w (λ n. v) (tells SetsValue s.seat.me)
   set_value_asked y j v works passed low found slots id w word =
       let o = works.owned in
       let at : o.set ≡ value_word (initial_record about.sizes j) = works.set ∙ value_at about.sizes j low in
       let component = found.component in
-      of_owned about slots id w (λ n. v) s.seat.me (λ o. Sets o (behind_value x.about.sizes o.set)) o works.is
-      (subst (λ i. Allows (IsRuleKept about) slots id s.seat.me i (λ n. v) (tells (Sets o (behind_value x.about.sizes o.set)) s.seat.me))
+      of_owned about slots id w (λ n. v) s.seat.me (λ o. Sets o (after_value x.about.sizes o.set)) o works.is
+      (subst (λ i. Allows (IsRuleKept about) slots id s.seat.me i (λ n. v) (tells (Sets o (after_value x.about.sizes o.set)) s.seat.me))
       (ap (λ y. set_word e y o.set) works.arena ∙ ap (set_word e y) at ∙ sym (set_is y (value_word (initial_record about.sizes j)) w word))
-      (subst (λ (a : About). Allows (IsRuleKept about) slots id s.seat.me (set_word e o.arena o.set) (λ n. v) (tells (Sets o (behind_value a.sizes o.set)) s.seat.me)) (sym h.own)
-      (subst (λ v. Allows (IsRuleKept about) slots id s.seat.me (set_word e o.arena o.set) (λ n. v) (tells (Sets o (behind_value about.sizes o.set)) s.seat.me)) (sym found.value)
+      (subst (λ (a : About). Allows (IsRuleKept about) slots id s.seat.me (set_word e o.arena o.set) (λ n. v) (tells (Sets o (after_value a.sizes o.set)) s.seat.me)) (sym h.own)
+      (subst (λ v. Allows (IsRuleKept about) slots id s.seat.me (set_word e o.arena o.set) (λ n. v) (tells (Sets o (after_value about.sizes o.set)) s.seat.me)) (sym found.value)
       (may_set_value about slots id s.seat.me h.one h.own h.known o found.found works.is works.clean passed found.is
       (at ∙ ap (λ j. value_word (initial_record about.sizes j)) (sym component)) (omega (arith, component, low))))))
 
@@ -214,8 +214,8 @@ module _ (table : TableId) (about : About) (s : Stand) (h : IsHeld table about s
       let o = works.owned in
       let epoch = h.epoch in
       let arena = works.arena in
-      let word : next ≡ packed (next_place x.port.control.here o.arena) = omega (arith, next_is, epoch, arena) in
+      let word : next ≡ packed (next_site x.port.control.here o.arena) = omega (arith, next_is, epoch, arena) in
       of_owned about slots id 0 (λ n. either (n == here) next n) s.seat.me SeatPublishes o works.is
-      (subst (λ t. Allows (IsRuleKept about) slots id s.seat.me 0 (λ n. either (n == t) next n) (tells (SeatPublishes o) s.seat.me)) (sym (here_is ∙ place_is table about s h))
+      (subst (λ t. Allows (IsRuleKept about) slots id s.seat.me 0 (λ n. either (n == t) next n) (tells (SeatPublishes o) s.seat.me)) (sym (here_is ∙ site_is table about s h))
       (subst (λ v. Allows (IsRuleKept about) slots id s.seat.me 0 (λ n. either (n == packed x.port.control.here) v n) (tells (SeatPublishes o) s.seat.me)) (sym word)
       (may_publish about slots id s.seat.me h.one h.own h.known o (record { owned = works.is; set = works.set; room = subst (λ n. n + 1 < 2199023255552) epoch room }))))

@@ -89,7 +89,7 @@ module _ (x : SeatedPort) (d : Change) where
   noted_as (Some at) c (Overtaken by) (Note.Wrote k) seen placed = absurd placed
   noted_as (Some at) c (Overtaken by) (Note.Lost k) seen placed = absurd placed
 
--- the entry lies in the one history behind the epochs before
+-- the entry lies in the one history after the epochs before
 entry_in : (e : Option ℕ) (r : Exchanged) (n k seen all : ℕ) → IsEntryOf e r k seen → all ≡ n + seen → IsEntryOf e r (n + k) all
 entry_in None (IsApplied stamp) n k seen all is same = omega (arith, is, same)
 entry_in (Some at) (IsApplied stamp) n k seen all is same = omega (arith, is, same)
@@ -119,9 +119,9 @@ module _ (table : TableId) (about : About) (s : Stand) (h : IsHeld table about s
   made = subst (λ (c : CoreState). CallMade b (port_at s) c (port_at u)) makes.0.told.machine.is
       (first_made b (port_at s) begins first (Load d.component) refl old (port_at u) kept.goes makes.0)
 
-  -- behind its first step the seat has fewer steps left than an update may make
-  steps_behind : seat_steps_left (machine_at u) + 1 ≤ most_of_update about.sizes
-  steps_behind =
+  -- after its first step the seat has fewer steps left than an update may make
+  steps_after : seat_steps_left (machine_at u) + 1 ≤ most_of_update about.sizes
+  steps_after =
       let fewer = seat_fewer b old begins.layout (answers_lead_on b old begins.layout begins.sound makes.0.told.possible).fewer in
       let machine = ap seat_steps_left makes.0.told.machine.is in
       let left : seat_steps_left b ≡ most_of_update b.sizes = omega arith in
@@ -266,7 +266,7 @@ module _ (table : TableId) (about : About) (s : Stand) (h : IsHeld table about s
     pub attempt_steps : u.seat.steps ≤ s.seat.steps + 1 → t.seat.steps ≤ v.seat.steps + 1 → t.seat.steps ≤ s.seat.steps + most_of_update about.sizes
     attempt_steps one last =
         let later = leads.steps in
-        let few = steps_behind in
+        let few = steps_after in
         let left : seat_steps_left (machine_at v) ≡ 1 = ap (seat_left_at (machine_at v)) stage in
         omega (arith, one, last, later, few, left)
 

@@ -1,5 +1,5 @@
 -- When a call begins, and where a port that looks stands.
-use Rattle.partial_long_lived.proofs.{Common.{ℕ, ◌≡◌, ◌<◌, ◌≤◌, ◌++◌, Bool, true, false, List, [], ◌∷◌, length, slice_index, refl, sym, ap, ◌∙◌, arith, length-append, Applied, Noted, current_word, packed, history_of, Port, Beside, LawfulEpochs, place_now, LawfulMemory, one_history, current_is, packed_arena, About, Began, BeganInTime, IsSeat, SeatedPort, plan_of, seen_in, BeganBy, same_place, Reckoning}, Seen.seen_begins}
+use Rattle.partial_long_lived.proofs.{Common.{ℕ, ◌≡◌, ◌<◌, ◌≤◌, ◌++◌, Bool, true, false, List, [], ◌∷◌, length, slice_index, refl, sym, ap, ◌∙◌, arith, length-append, Applied, Noted, current_word, packed, history_of, Port, Beside, LawfulEpochs, site_now, LawfulMemory, one_history, current_is, packed_arena, About, Began, BeganInTime, IsSeat, SeatedPort, plan_of, seen_in, BeganBy, same_site, Reckoning}, Seen.seen_begins}
 
 -- what a port has seen is no more than there is
 pub seen_few : (a : About) (words : List ℕ) (ports : ℕ → Port) (notes : ℕ → List Noted) (b : Beside) (reckoned : Reckoning) (x : SeatedPort) → LawfulMemory (plan_of a) words ports b notes →
@@ -30,9 +30,9 @@ pub began_by : (first : Bool) (x : SeatedPort) (b : Beside) → length (seen_in 
 began_by true x b few w = (now b, few, now_has_begun b)
 began_by false x b few w = (x.began, refl, w)
 
--- a port that finds its own place as the current one stands there
+-- a port that finds its own site as the current one stands there
 pub here_is : (a : About) (words : List ℕ) (ports : ℕ → Port) (b : Beside) → LawfulEpochs (plan_of a) words ports b → (k : ℕ) → k < a.ports →
-    slice_index words current_word ≡ packed (ports k).control.here → (ports k).control.here ≡ place_now b
+    slice_index words current_word ≡ packed (ports k).control.here → (ports k).control.here ≡ site_now b
 here_is a words ports b w k below at =
-    let both = packed_arena (plan_of a) (ports k).control.here (place_now b) w.plan.arenas (w.control.places k below).arena w.control.place.arena (sym at ∙ current_is (plan_of a) words ports b k w below) in
-    same_place (ports k).control.here (place_now b) both.0 both.1
+    let both = packed_arena (plan_of a) (ports k).control.here (site_now b) w.plan.arenas (w.control.sites k below).arena w.control.site.arena (sym at ∙ current_is (plan_of a) words ports b k w below) in
+    same_site (ports k).control.here (site_now b) both.0 both.1

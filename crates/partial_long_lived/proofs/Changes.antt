@@ -1,5 +1,5 @@
 -- The steps of a change of epoch are allowed.
-use Rattle.partial_long_lived.proofs.{Common.{ℕ, control_size, ◌≡◌, ◌≢◌, ◌+◌, ◌-◌, ◌%◌, ◌^◌, ◌<◌, ◌≤◌, ◌==◌, ◌⊎◌, Bool, true, false, if◌then◌else◌, Option, Some, None, List, slice_index, slice_set, refl, sym, ap, subst, ◌∙◌, inl, inr, arith, nat_lt, cases_lt, lt-ltb, eqb_tells, either, Me, Allows, IsPlace, Place, Plan, at_word, base, component_words, control_words, entering_mark, marked, own_word, packed, seal, Entering, OwnedArena, Port, Stands, Marks, Loaded, IsPlaceWord, Beside, LawfulEpochs, place_now, Reckons, Reckoning, passing_port, at_next_port, having_given, having_loaded, just_taken, owning_port, at_of, not_below, About, Began, IsRuleKept, IsSince, SeatedPort, one_of, plan_of, IsSeatKnown, IsOne, tells, SeatGives, LoadsPort, PassesSealed, PutsPort, contention_loading, contention_putting, contention_taking, Seals, Takes, elsewhere, passed_at, port_loaded, port_put, taken_at, unpacked, MayMove, LawfulMemory, Noted, unpacked_is, Contention, IsSearching, HasSeenArrival, IsNamed, IsInUse, MayCount, arena_limit, put_same, HasPassedArenas, contention_there, contention_giving, meeting, passing, owned_arenas_are_in_use, IfSome, controls, numbers}, Asides.IsQuiet, Control.{OwnSearch, QuietlyBy, Still, load_same, quietly, quietly_searching, by_count, by_move, by_rest}, Contention.{giving_seals, loading_seals, putting_seals, taking_seals}, Searching.{leaves_search, meets_another, passes_to}}
+use Rattle.partial_long_lived.proofs.{Common.{ℕ, control_size, ◌≡◌, ◌≢◌, ◌+◌, ◌-◌, ◌%◌, ◌^◌, ◌<◌, ◌≤◌, ◌==◌, ◌⊎◌, Bool, true, false, if◌then◌else◌, Option, Some, None, List, slice_index, slice_set, refl, sym, ap, subst, ◌∙◌, inl, inr, arith, nat_lt, cases_lt, lt-ltb, eqb_tells, either, Me, Allows, IsSite, Site, Plan, at_word, base, component_words, control_words, entering_mark, marked, own_word, packed, seal, Entering, OwnedArena, Port, Stands, Marks, Loaded, IsSiteWord, Beside, LawfulEpochs, site_now, Reckons, Reckoning, passing_port, at_next_port, having_given, having_loaded, just_taken, owning_port, at_of, not_below, About, Began, IsRuleKept, IsSince, SeatedPort, one_of, plan_of, IsSeatKnown, IsOne, tells, SeatGives, LoadsPort, PassesSealed, PutsPort, contention_loading, contention_putting, contention_taking, Seals, Takes, elsewhere, passed_at, port_loaded, port_put, taken_at, unpacked, MayMove, LawfulMemory, Noted, unpacked_is, Contention, IsSearching, HasSeenArrival, IsNamed, IsInUse, MayCount, arena_limit, put_same, HasPassedArenas, contention_there, contention_giving, meeting, passing, owned_arenas_are_in_use, IfSome, controls, numbers}, Asides.IsQuiet, Control.{OwnSearch, QuietlyBy, Still, load_same, quietly, quietly_searching, by_count, by_move, by_rest}, Contention.{giving_seals, loading_seals, putting_seals, taking_seals}, Searching.{leaves_search, meets_another, passes_to}}
 use Rattle.partial_epochs.specs.EveryStep.{Move as move}
 use Rattle.partial_epochs.specs.Control.{IsOwner}
 
@@ -56,37 +56,37 @@ taken_quiet i n = record { part = λ p. by_part p (n == 0); before = λ p. by_be
     by_passed p true = omega arith
     by_passed p false = omega arith
 
--- the unmarked word of a port names a place
+-- the unmarked word of a port names a site
 module _ (e : Plan) (words : List ℕ) (ports : ℕ → Port) (b : Beside) (w : LawfulEpochs e words ports b) (q : ℕ) (low : q < e.ports) where
   word_is : slice_index (control_words e words) (at_word q) ≡ slice_index words (at_word q)
   word_is = at_of (λ i. slice_index words i) 0 (control_size e) (at_word q) (omega (arith, low)) ∙ ap (λ i. slice_index words i) (omega arith)
 
-  pub unmarked_place : slice_index words (at_word q) < entering_mark → (slice_index words (at_word q) ≡ packed (unpacked (slice_index words (at_word q)))) × IsPlace e (unpacked (slice_index words (at_word q)))
-  unmarked_place less = by (ports q).control.entering (w.control.at q low)
+  pub unmarked_site : slice_index words (at_word q) < entering_mark → (slice_index words (at_word q) ≡ packed (unpacked (slice_index words (at_word q)))) × IsSite e (unpacked (slice_index words (at_word q)))
+  unmarked_site less = by (ports q).control.entering (w.control.at q low)
     where
-      named : (c : Place) → IsPlace e c → slice_index words (at_word q) ≡ packed c →
-          (slice_index words (at_word q) ≡ packed (unpacked (slice_index words (at_word q)))) × IsPlace e (unpacked (slice_index words (at_word q)))
-      named c place at =
-          let same : unpacked (slice_index words (at_word q)) ≡ c = ap unpacked at ∙ unpacked_is c w.plan.arenas place.arena in
-          (at ∙ ap packed (sym same), subst (IsPlace e) (sym same) place)
+      named : (c : Site) → IsSite e c → slice_index words (at_word q) ≡ packed c →
+          (slice_index words (at_word q) ≡ packed (unpacked (slice_index words (at_word q)))) × IsSite e (unpacked (slice_index words (at_word q)))
+      named c site at =
+          let same : unpacked (slice_index words (at_word q)) ≡ c = ap unpacked at ∙ unpacked_is c w.plan.arenas site.arena in
+          (at ∙ ap packed (sym same), subst (IsSite e) (sym same) site)
 
       entering : (slice_index (control_words e words) (at_word q) ≡ marked (ports q).control.here) ⊎
-          ((c : Place) × IsPlace e c × (slice_index (control_words e words) (at_word q) ≡ packed c) × ((ports q).control.here.epoch < c.epoch)) →
-          (slice_index words (at_word q) ≡ packed (unpacked (slice_index words (at_word q)))) × IsPlace e (unpacked (slice_index words (at_word q)))
+          ((c : Site) × IsSite e c × (slice_index (control_words e words) (at_word q) ≡ packed c) × ((ports q).control.here.epoch < c.epoch)) →
+          (slice_index words (at_word q) ≡ packed (unpacked (slice_index words (at_word q)))) × IsSite e (unpacked (slice_index words (at_word q)))
       entering (inl at) = let is = word_is in absurd (omega (arith, at, is, less))
       entering (inr c) = named c.0 c.1 (sym word_is ∙ c.2)
 
-      by : (t : Entering) → IsPlaceWord e (control_words e words) q (ports q).control.here t →
-          (slice_index words (at_word q) ≡ packed (unpacked (slice_index words (at_word q)))) × IsPlace e (unpacked (slice_index words (at_word q)))
-      by Stands at = named (ports q).control.here (w.control.places q low) (sym word_is ∙ at)
+      by : (t : Entering) → IsSiteWord e (control_words e words) q (ports q).control.here t →
+          (slice_index words (at_word q) ≡ packed (unpacked (slice_index words (at_word q)))) × IsSite e (unpacked (slice_index words (at_word q)))
+      by Stands at = named (ports q).control.here (w.control.sites q low) (sym word_is ∙ at)
       by Marks at = entering at
       by (Loaded c) at = entering at
 
 -- what becomes of an owner that looks for the next port
 module _ (a : About) (words : List ℕ) (ports : ℕ → Port) (notes : ℕ → List Noted) (b : Beside) (reckoned : Reckoning) (w : LawfulMemory (plan_of a) words ports b notes)
-    (time : Reckons (plan_of a) words ports (place_now b) reckoned) (k : ℕ) (below : k < a.ports) (g : Began) (old : IsSince g (ports k).control.entering (reckoned.since k)) (o : OwnedArena)
+    (time : Reckons (plan_of a) words ports (site_now b) reckoned) (k : ℕ) (below : k < a.ports) (g : Began) (old : IsSince g (ports k).control.entering (reckoned.since k)) (o : OwnedArena)
     (owned : (ports k).control.owned ≡ Some o) (looked : o.looked ≡ true) (none : o.set ≡ 0) (more : o.clean < a.ports) (u : Contention)
-    (search : IsSearching (plan_of a) words ports (place_now b) reckoned k u.search) (met : u.search.met ≡ true → reckoned.tally.met k ≡ true) where
+    (search : IsSearching (plan_of a) words ports (site_now b) reckoned k u.search) (met : u.search.met ≡ true → reckoned.tally.met k ≡ true) where
   abbrev Owns : List ℕ → OwnedArena → Contention → Type 0
   Owns words' p m = OwnSearch a words words' ports notes b reckoned k g (owning_port (ports k) p) m
 
@@ -101,11 +101,11 @@ module _ (a : About) (words : List ℕ) (ports : ℕ → Port) (notes : ℕ → 
       (inl (subst (λ (l : List ℕ). IsNamed (plan_of a) l o.arena) same (record { port = o.clean; inside = more; names = there })))
 
   -- it finds another word than the mark that it holds
-  pub finds_another : (m : Place) → o.mark ≡ Some m → slice_index words (at_word o.clean) ≢ marked m → (words' : List ℕ) → words ≡ words' → Owns words' o (meeting u)
+  pub finds_another : (m : Site) → o.mark ≡ Some m → slice_index words (at_word o.clean) ≢ marked m → (words' : List ℕ) → words ≡ words' → Owns words' o (meeting u)
   finds_another m mark other words' same =
       let to = (still_owns words' same).to in
       let held = (((to.time).reckons).tally).marks k below in
-      let arrived = subst (λ (t : Option Place). IfSome t (λ m. (slice_index words' (at_word o.clean) ≡ marked m) ⊎ HasSeenArrival (to.reckoned').tally k)) mark
+      let arrived = subst (λ (t : Option Site). IfSome t (λ m. (slice_index words' (at_word o.clean) ≡ marked m) ⊎ HasSeenArrival (to.reckoned').tally k)) mark
       (subst (λ (t : Option OwnedArena). IfSome t (λ o. IfSome o.mark (λ m. (slice_index words' (at_word o.clean) ≡ marked m) ⊎ HasSeenArrival (to.reckoned').tally k)))
       (ap (λ (q : Port). q.control.owned) (put_same k (owning_port (ports k) o) ports)) held) in
       meets_another a words words' ports notes b reckoned k below g (owning_port (ports k) o) u search to o refl looked
@@ -118,7 +118,7 @@ module _ (a : About) (words : List ℕ) (ports : ℕ → Port) (notes : ℕ → 
       Owns words' (elsewhere (slice_index words (at_word o.clean)) o) (contention_there (slice_index words (at_word o.clean)) o u)
   finds_elsewhere words' same less =
       let n : ℕ = slice_index words (at_word o.clean) in
-      let there = unmarked_place (plan_of a) words ports b w.epochs o.clean more less in
+      let there = unmarked_site (plan_of a) words ports b w.epochs o.clean more less in
       let P : Bool → Type 0 = λ t. Owns words' (if t then o else at_next_port o) (if t then meeting u else u) in
       (elim (eqb_tells (unpacked n).arena o.arena) [
         | inl is ↦ subst P (sym is.0) (finds_there words' same is.1)
@@ -228,7 +228,7 @@ module _ {S : Type 0} (a : About) (slots id : ℕ) (me : Me S (List SeatedPort))
             subst P (sym past) (leaves_search a words words' ports notes b reckoned k s.number x.began (having_given (ports k)) x.contention s.search (record { to = by.to; met = λ is. by.met ∙ is }) s.met)
         | inr found ↦
             let by = given (inr (s.met found.1)) in
-            let owner = subst (λ (t : Option OwnedArena). IfSome t (IsOwner e (control_words e words) (controls ports) (place_now b) (numbers b) k)) owned' (w.epochs.control.owners k s.number) in
+            let owner = subst (λ (t : Option OwnedArena). IfSome t (IsOwner e (control_words e words) (controls ports) (site_now b) (numbers b) k)) owned' (w.epochs.control.owners k s.number) in
             subst P (sym found.0)
             (passes_to a words words' ports notes b reckoned k s.number x.began (having_given (ports k)) x.contention s.search by.to owner.stands o.arena owner.arena
             (λ y low. subst (λ (p : Port). (y < x.contention.search.below) ⊎ (y ≡ p.control.here.arena)) s.port (found.2 y low))
@@ -261,7 +261,7 @@ module _ {S : Type 0} (a : About) (slots id : ℕ) (me : Me S (List SeatedPort))
       (λ n. refl)
 
   -- the exchange of its mark
-  pub may_put : (o : OwnedArena) (m : Place) → x.port.control.owned ≡ Some o → o.looked ≡ true → o.set ≡ 0 → o.clean < a.ports → o.mark ≡ Some m → o.again ≡ true →
+  pub may_put : (o : OwnedArena) (m : Site) → x.port.control.owned ≡ Some o → o.looked ≡ true → o.set ≡ 0 → o.clean < a.ports → o.mark ≡ Some m → o.again ≡ true →
       Allows (IsRuleKept a) slots id me (at_word o.clean) (λ n. either (n == marked m) (packed x.port.control.here) n) (tells (PutsPort o m) me)
   may_put o m owned looked none more mark again = quietly_searching a slots id me one own known (at_word o.clean) (λ n. either (n == marked m) (packed x.port.control.here) n)
       (λ n p. owning_port p (port_put m n o)) (λ n w. contention_putting m n o w)

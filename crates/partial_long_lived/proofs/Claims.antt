@@ -54,7 +54,7 @@ unclaimed_before s x = by s.stage refl
     by Leaving is h = h
     by (Finished r) is h = sym (ap before_claim is) ∙ h
 
--- a machine that has no slot to claim, behind its claim of the pool, has none to claim then
+-- a machine that has no slot to claim, after its claim of the pool, has none to claim then
 pub unawaited : (s : CoreState) (x : ℕ) → before_claim s.stage ≡ false → awaits s ≡ false → awaits (advance s x) ≡ false
 unawaited s x = by s.stage refl
   where
@@ -196,10 +196,10 @@ join_claims y at (Storing slot) w n is = cc
 join_claims y at (Joined slot) w n is = cc
 join_claims y at Spent w n is = cc
 
--- a claim of pool words is that of a record or of an announcement, and behind it the machine has claimed
+-- a claim of pool words is that of a record or of an announcement, and after it the machine has claimed
 pub record Claims (c : CoreState) : Type 0 where
   pub now : before_claim c.stage ≡ true
-  pub behind_claim : (a : ℕ) → before_claim (advance c a).stage ≡ false
+  pub after_claim : (a : ℕ) → before_claim (advance c a).stage ≡ false
 
 pub pool_claims : (c : CoreState) (z : Layout) → IsSound c → c.sizes ≡ z → (w n : ℕ) → step_of c ≡ Some (Add w n) → w ≡ pool_counter z → Claims c
 pool_claims c z sound sizes w n due pool = by c.stage refl sound.stage due
@@ -223,14 +223,14 @@ pool_claims c z sound sizes w n due pool = by c.stage refl sound.stage due
     by (Viewing d old) at ok is = scan_never c.embedded.sizes c.found.indices c.rows.last c.embedded.stage w n (Claims c) is
     by (ClaimingRecord d old) at ok is = record {
       now = ap before_claim at;
-      behind_claim = λ a. subst (λ (t : Stage). before_claim (advance_at c t a).stage ≡ false) (sym at)
+      after_claim = λ a. subst (λ (t : Stage). before_claim (advance_at c t a).stage ≡ false) (sym at)
           (two_of (fits_pool c.sizes (record_size c) a) (at_stage c (StoringRecord d old a 0)) (pool_refused c) refl refl);
     }
     by (StoringRecord d old at' k) at ok is = let bad : Store _ _ ≡ Add w n = some_same is in cc
     by (Exchanging d old at') at ok is = let bad : Exchange _ _ _ ≡ Add w n = some_same is in cc
     by ScanBegun at ok is = record {
       now = ap before_claim at;
-      behind_claim = λ a. subst (λ (t : Stage). before_claim (advance_at c t a).stage ≡ false) (sym at)
+      after_claim = λ a. subst (λ (t : Stage). before_claim (advance_at c t a).stage ≡ false) (sym at)
           (two_of (fits_pool c.sizes (announcement_size (length c.asked)) a) (at_stage c (StoringAnnouncement a 0)) (pool_refused c) refl refl);
     }
     by (StoringAnnouncement at' k) at ok is = let bad : Store _ _ ≡ Add w n = some_same is in cc
@@ -278,7 +278,7 @@ join_exchanges y at (Storing slot) w old new R is = cc
 join_exchanges y at (Joined slot) w old new R is = cc
 join_exchanges y at Spent w old new R is = cc
 
--- a step that exchanges no component word or adds to a word stands behind the component words
+-- a step that exchanges no component word or adds to a word stands after the component words
 pub inner_word : (c : CoreState) (z : Layout) → IsSound c → c.sizes ≡ z → IsQuiet c.stage → (s : Step) → step_of c ≡ Some s → LeavesComponents z s
 inner_word c z sound sizes quiet (Load w) due = tt
 inner_word c z sound sizes quiet (Store w v) due = tt

@@ -1,4 +1,4 @@
--- The loads of a collect: what they leave of a port, and what they tell it.
+-- The loads of a collect: what they leave of a port, and what they show it.
 use Rattle.partial_long_lived.proofs.{Common.{ℕ, ◌≡◌, ◌+◌, ◌<◌, ◌≤◌, ◌++◌, Bool, false, List, [], length, take, slice_set, refl, sym, ap, subst, ◌∙◌, inl, inr, arith, append-nil, length-append, slice_index, eqb_tells, get_or-set_other, get_or-set_same, take-append-le, take_all, TableId, Applied, stamp_of, Noted, total, core_of, having_seen, About, Stand, Began, SeatedPort, BeginsWith, IsHeld, port_at, HasCome, IsIdle, StaysAt, SeatSees, opening_of, Glances, AreCollected, HasGlanced, HasStayed, WasThere}, Coming.{begins_on, come_on, goes_same, kept_on}}
 
 kept_same : (table : TableId) (about : About) (s : Stand) → IsHeld table about s → StaysAt s s
@@ -73,7 +73,7 @@ glanced_there s t w low high high' js ws n few more all k less =
     subst (λ (x : SeatedPort). WasThere x low high' (slice_index js k) (slice_index ws k)) (sym w.is)
     (there_on (port_at s) w.log low high high' (slice_index js k) (slice_index ws k) w.begins few more (all k less))
 
--- the word that a load has found names the record behind all that the port has seen
+-- the word that a load has found names the record after all that the port has seen
 pub there_now : (first : Bool) (x y : SeatedPort) (low j a : ℕ) → SeatSees first Glances j x a y → low ≤ length y.port.part.seen → WasThere y low (length y.port.part.seen) j a
 there_now first x y low j a w few =
     let seen : y.port.part.seen ≡ w.log = ap (λ (z : SeatedPort). z.port.part.seen) w.is in record {

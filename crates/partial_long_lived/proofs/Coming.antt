@@ -1,4 +1,4 @@
--- A port between the parts of a call: it stands where it stood, or has come to a later epoch.
+-- A port between the parts of a call: it stands where it stood, or has entered a later epoch.
 use Rattle.std.proofs.Common.{le_refl, le_trans}
 use Rattle.partial_long_lived.proofs.{Common.{ℕ, ◌≡◌, ◌<◌, ◌≤◌, ◌&&◌, ◌++◌, not, Bool, true, false, if◌then◌else◌, Some, List, [], ◌∷◌, length, refl, sym, ap, subst, ◌∙◌, inl, inr, arith, lt-ltb, append-nil, append_assoc, length-append, nat_lt, TableId, Applied, value_of, Noted, fresh, core_of, seal, unsealed, not_below, public_of, About, Stand, Began, SeatedPort, plan_of, seen_in, BeginsWith, SeatGoes, IsHeld, port_at, SeatSees, Wish, noted_by, opening_of, place_seen, stamp_seen, value_seen, Reads, HasCome, HasNotedRead, HasValue, IsIdle, StaysAt, EpochSettled, Call, Answer, Note, IsSeatKnown}}
 
@@ -71,7 +71,7 @@ come_same s u v come kept is = record {
   ];
 }
 
--- a port that has come to another stand
+-- a port that has moved to another stand
 pub come_on : (s u v : Stand) → HasCome s u → HasCome u v → HasCome s v
 come_on s u v a c = record {
   shape = c.shape ∙ a.shape;

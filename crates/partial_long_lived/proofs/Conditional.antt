@@ -13,7 +13,7 @@ record_small table about s at h within =
     let pool = plan.sizes.pool.1 in
     omega (arith, within, m, slots, lists, pool)
 
--- The load of a component's word by which its stamp is compared, and the stand behind the comparison.
+-- The load of a component's word by which its stamp is compared, and the stand after the comparison.
 module _ (table : TableId) (about : About) (s u t : Stand) (h : IsHeld table about u) (idle : IsIdle s) (first : Bool) (asked : Asked) (a : ℕ) (kept : StaysAt s u)
     (w : SeatSees first (Expects asked.expected asked.value) asked.component (port_at s) a (port_at u)) (kept' : StaysAt u t) (same : port_at t ≡ port_at u) where
   abbrev x : SeatedPort
@@ -113,7 +113,7 @@ module _ (table : TableId) (about : About) (s u t : Stand) (h : IsHeld table abo
             let epochs = ap (λ (g : Began). g.epoch) same_began in
             omega (arith, old, n, epochs, here)
 
--- a machine that may begin a call may do so behind the comparison
+-- a machine that may begin a call may do so after the comparison
 pub looked_may : (first : Bool) (s t : Stand) (core : CoreState) → HasLooked first s t → MayCall (port_at s) core → MayCall (port_at t) core
 looked_may first s t core w may =
     let rests = may.rests in
@@ -163,7 +163,7 @@ expects_one asked at t w = (length (port_at t).port.part.seen, omega arith, w.la
     take_all [] = refl
     take_all (a ∷ l) = ap (λ (m : List Applied). a ∷ m) (take_all l)
 
--- an attempt behind the comparison
+-- an attempt after the comparison
 module _ (first : Bool) (s u v : Stand) (looked : HasLooked first s u) (same : (port_at u).notes ≡ (port_at s).notes) where
   stayed_on : PortStayed false u v → PortStayed first s v
   stayed_on w = record {
@@ -172,8 +172,8 @@ module _ (first : Bool) (s u v : Stand) (looked : HasLooked first s u) (same : (
     began = subst (BeganBy first (port_at s)) (sym w.began) looked.stayed.began;
   }
 
-  pub nothing_behind : NotesNothing false u v → NotesNothing first s v
-  nothing_behind w = record { stayed = stayed_on w.stayed; notes = w.notes ∙ same }
+  pub nothing_after : NotesNothing false u v → NotesNothing first s v
+  nothing_after w = record { stayed = stayed_on w.stayed; notes = w.notes ∙ same }
 
   -- what it has noted, with public stamps
   module _ (asked : Asked) (at : ℕ) (r : Exchanged) (expected : IsExpected asked at u) (w : UpdateAttempted false (record { component = asked.component; expected = Some at; value = asked.value }) r u v) where
@@ -192,8 +192,8 @@ module _ (first : Bool) (s u v : Stand) (looked : HasLooked first s u) (same : (
     placed (IsApplied stamp) k n is = is
     placed (Overtaken by) k n is = is
 
-    pub ended_behind : (t : Stand) → StaysAt v t → port_at t ≡ port_at v → (o : UpdatedIf) → o ≡ outcome_of (port_at v) asked.component r → EndedIf first asked o s t
-    ended_behind t kept is o outcome = record {
+    pub ended_after : (t : Stand) → StaysAt v t → port_at t ≡ port_at v → (o : UpdatedIf) → o ≡ outcome_of (port_at v) asked.component r → EndedIf first asked o s t
+    ended_after t kept is o outcome = record {
       stayed = record {
         kept = kept_on s v t (stayed_on w.stayed).kept kept;
         idle = record { stands = ap (λ (y : SeatedPort). y.port.control.entering) is ∙ w.stayed.idle.stands; free = ap (λ (y : SeatedPort). y.port.control.owned) is ∙ w.stayed.idle.free };

@@ -1,7 +1,7 @@
 -- The rounds of a conditional update: a comparison, perhaps an attempt, and a change of epoch, and so on.
 use Rattle.partial_long_lived.proofs.{Common.{◌≡◌, ◌≤◌, ◌++◌, Bool, true, false, ◌∷◌, [], List, refl, ap, subst, ◌∙◌, TableId, Noted, CoreState, About, UpdatedIf, Asked, Stand, SeatGoes, IsHeld, port_at, IsIdle, EndedIf, HasUpdatedIf, noted_if, RestsAt, CameBy, IsOwnMachine, MayCall, NotesNothing}, Coming.goes_on, Rounds.{BeganSo, began_on, goes_nowhere, may_own}, Updates.{rests_may, rests_own}}
 
--- A part of a call, behind which the call goes on. `next` says that its next step is its first one, else the port's epoch was the current one
+-- A part of a call, after which the call goes on. `next` says that its next step is its first one, else the port's epoch was the current one
 -- during the call; `spent` says that the port may make no claim there.
 pub record ComparesOn (table : TableId) (about : About) (next spent : Bool) (s t : Stand) (core : CoreState) : Type 0 where
   pub held : IsHeld table about t

@@ -1,5 +1,5 @@
 -- What a port has met never shrinks, and how the search of each port goes on.
-use Rattle.partial_long_lived.proofs.{Common.{ℕ, ◌≡◌, ◌+◌, ◌<◌, ◌≤◌, ◌==◌, nat_lt, Bool, true, false, if◌then◌else◌, List, refl, arith, seal, entering_mark, OwnedArena, Place, Port, Contention, Search, Reckoning, IsSearching, passing, meeting, contention_giving, contention_taking, contention_there, contention_loading, contention_putting, marked, unpacked, Wish, Glances, Reads, Expects, Finds, contention_by, Plan, Counts, Move}}
+use Rattle.partial_long_lived.proofs.{Common.{ℕ, ◌≡◌, ◌+◌, ◌<◌, ◌≤◌, ◌==◌, nat_lt, Bool, true, false, if◌then◌else◌, List, refl, arith, seal, entering_mark, OwnedArena, Site, Port, Contention, Search, Reckoning, IsSearching, passing, meeting, contention_giving, contention_taking, contention_there, contention_loading, contention_putting, marked, unpacked, Wish, Glances, Reads, Expects, Finds, contention_by, Plan, Counts, Move}}
 
 either_seals : (c : Bool) (m x y : Contention) → x.seals ≡ m.seals → y.seals ≡ m.seals → (if c then x else y).seals ≡ m.seals
 either_seals true m x y p q = p
@@ -18,7 +18,7 @@ there_seals a o m = either_seals ((unpacked a).arena == o.arena) m (meeting m) m
 pub loading_seals : (a : ℕ) (o : OwnedArena) (m : Contention) → (contention_loading a o m).seals ≡ m.seals
 loading_seals a o m = either_seals (nat_lt a entering_mark) m (contention_there a o m) m (there_seals a o m) refl
 
-pub putting_seals : (d : Place) (a : ℕ) (o : OwnedArena) (m : Contention) → (contention_putting d a o m).seals ≡ m.seals
+pub putting_seals : (d : Site) (a : ℕ) (o : OwnedArena) (m : Contention) → (contention_putting d a o m).seals ≡ m.seals
 putting_seals d a o m = either_seals (a == marked d) m m (if nat_lt a entering_mark then contention_there a o m else meeting m) refl
     (either_seals (nat_lt a entering_mark) m (contention_there a o m) (meeting m) (there_seals a o m) refl)
 
@@ -44,7 +44,7 @@ by_search (Expects expected v) a m = by (nat_lt a seal)
     by false = refl
 
 -- the search of each port goes on by each step
-pub searching_on : (e : Plan) (words words' : List ℕ) (ports ports' : ℕ → Port) (now now' : Place) (r : Reckoning) (since' : ℕ → ℕ) (k : ℕ) (m : Move) (c : Counts e words words' ports ports' now now' r.since since' r.tally k m) →
+pub searching_on : (e : Plan) (words words' : List ℕ) (ports ports' : ℕ → Port) (now now' : Site) (r : Reckoning) (since' : ℕ → ℕ) (k : ℕ) (m : Move) (c : Counts e words words' ports ports' now now' r.since since' r.tally k m) →
     now.epoch ≤ now'.epoch → (q : ℕ) (s : Search) → q < e.ports → IsSearching e words ports now r q s → IsSearching e words' ports' now' (record { since = since'; tally = c.there }) q s
 searching_on e words words' ports ports' now now' r since' k m c later q s low w = record {
   come = let come = w.come in omega (arith, come, later);

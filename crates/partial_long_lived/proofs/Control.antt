@@ -1,5 +1,5 @@
 -- The steps of a change of epoch and of entering one are allowed.
-use Rattle.partial_long_lived.proofs.{Common.{ℕ, ◌≡◌, ◌≢◌, ◌<◌, ◌≤◌, ◌==◌, ◌⊎◌, Bool, true, false, if◌then◌else◌, Option, Some, None, IfSome, List, length, slice_index, slice_set, refl, sym, ap, subst, ◌∙◌, arith, set-get_or, Me, Allows, Applied, Noted, put, IsPlace, Place, Plan, at_word, current_word, marked, packed, Entering, OwnedArena, Port, Stands, Marks, Beside, LawfulEpochs, place_now, having_passed, having_looked, LawfulMemory, put_all, put_same, put_other, option_map_or, Reckons, Reckoning, entries_load, About, Began, IsRuleKept, IsSince, SeatedPort, one_of, plan_of, IsSeatKnown, IsOne, tells, LoadsCurrent, SeatLooks, StoresMark, becomes, loads, looked_at, marks, unpacked, Contention, [], ◌++◌, append-nil, MayMove, Move, MoveLeads, Becomes, port_after, since_behind, moved_words, every_step_stays_lawful, IsAside, noting, IsSeat, BeganInTime, unpacked_is, IsSearching, Tally, Counts, LeavesInUse, MayCount, met_behind, every_step_counts}, Asides.{IsQuiet, aside}, Contention.searching_on, Kept.{GoesOn, allowed, begun_grows, none_grown, Moved}, Begins.{began_by, here_is, seen_few}}
+use Rattle.partial_long_lived.proofs.{Common.{ℕ, ◌≡◌, ◌≢◌, ◌<◌, ◌≤◌, ◌==◌, ◌⊎◌, Bool, true, false, if◌then◌else◌, Option, Some, None, IfSome, List, length, slice_index, slice_set, refl, sym, ap, subst, ◌∙◌, arith, set-get_or, Me, Allows, Applied, Noted, put, IsSite, Site, Plan, at_word, current_word, marked, packed, Entering, OwnedArena, Port, Stands, Marks, Beside, LawfulEpochs, site_now, having_passed, having_looked, LawfulMemory, put_all, put_same, put_other, option_map_or, Reckons, Reckoning, entries_load, About, Began, IsRuleKept, IsSince, SeatedPort, one_of, plan_of, IsSeatKnown, IsOne, tells, LoadsCurrent, SeatLooks, StoresMark, becomes, loads, looked_at, marks, unpacked, Contention, [], ◌++◌, append-nil, MayMove, Move, MoveLeads, Becomes, port_after, since_after, moved_words, every_step_stays_lawful, IsAside, noting, IsSeat, BeganInTime, unpacked_is, IsSearching, Tally, Counts, LeavesInUse, MayCount, met_after, every_step_counts}, Asides.{IsQuiet, aside}, Contention.searching_on, Kept.{GoesOn, allowed, begun_grows, none_grown, Moved}, Begins.{began_by, here_is, seen_few}}
 use Rattle.partial_epochs.specs.EveryStep.{Move as move}
 
 -- a load leaves the words as they are
@@ -54,7 +54,7 @@ pub stands_since : (g : Began) (t : Entering) (n : ℕ) → t ≡ Stands → IsS
 stands_since g t n is = subst (λ (t : Entering). IsSince g t n) (sym is) tt
 
 -- whether ports but the mover have met others stays
-met_others : (k : ℕ) (m : Move) (met : ℕ → Bool) (q : ℕ) → q ≢ k → met_behind k m met q ≡ met q
+met_others : (k : ℕ) (m : Move) (met : ℕ → Bool) (q : ℕ) → q ≢ k → met_after k m met q ≡ met q
 met_others k (move.Takes x) met q ne = put_other k false met q ne
 met_others k move.Rests met q ne = refl
 met_others k (move.Makes c step notes) met q ne = refl
@@ -76,15 +76,15 @@ met_others k (move.Sees log) met q ne = refl
 met_others k (move.Notes n i log) met q ne = refl
 
 -- what is counted beside the words after a move of port k, with that tally
-abbrev pub reckoned_behind : Beside → ℕ → Move → Reckoning → Tally → Reckoning
-reckoned_behind b k m r there = record { since = since_behind b k m r.since; tally = there }
+abbrev pub reckoned_after : Beside → ℕ → Move → Reckoning → Tally → Reckoning
+reckoned_after b k m r there = record { since = since_after b k m r.since; tally = there }
 
 -- What a move of port k leads to, once it is known what the words, the port, the histories and what is noted are then.
 pub record LedTo (a : About) (words : List ℕ) (ports : ℕ → Port) (notes : ℕ → List Noted) (b : Beside) (r : Reckoning) (k : ℕ) (m : Move) (words' : List ℕ) (p : Port) (c : Beside) (added : List Noted) : Type 0 where
   pub there : Tally
   pub lawful : LawfulMemory (plan_of a) words' (put k p ports) c (noting k added notes)
-  pub time : GoesOn a words words' ports (put k p ports) b c r (reckoned_behind b k m r there) k
-  pub met : (q : ℕ) → there.met q ≡ met_behind k m r.tally.met q
+  pub time : GoesOn a words words' ports (put k p ports) b c r (reckoned_after b k m r there) k
+  pub met : (q : ℕ) → there.met q ≡ met_after k m r.tally.met q
   pub leaves : LeavesInUse (plan_of a) words' r.tally there m
 
 -- What a quiet step of a port leads to.
@@ -105,13 +105,13 @@ pub record Still (a : About) (words words' : List ℕ) (ports : ℕ → Port) (n
 -- One that is that move.
 pub record QuietlyBy (a : About) (words words' : List ℕ) (ports : ℕ → Port) (notes : ℕ → List Noted) (b : Beside) (reckoned : Reckoning) (k : ℕ) (g : Began) (p : Port) (m : Move) : Type 0 where
   pub to : Quietly a words words' ports notes b reckoned k g p
-  pub met : (to.reckoned').tally.met k ≡ met_behind k m reckoned.tally.met k
+  pub met : (to.reckoned').tally.met k ≡ met_after k m reckoned.tally.met k
   pub leaves : LeavesInUse (plan_of a) words' reckoned.tally (to.reckoned').tally m
 
 -- One after which the search of the port is that of what the port has met.
 pub record OwnSearch (a : About) (words words' : List ℕ) (ports : ℕ → Port) (notes : ℕ → List Noted) (b : Beside) (reckoned : Reckoning) (k : ℕ) (g : Began) (p : Port) (m : Contention) : Type 0 where
   pub to : Quietly a words words' ports notes b reckoned k g p
-  pub search : IsSearching (plan_of a) words' (put k p ports) (place_now to.beside) to.reckoned' k m.search
+  pub search : IsSearching (plan_of a) words' (put k p ports) (site_now to.beside) to.reckoned' k m.search
   pub met : m.search.met ≡ true → (to.reckoned').tally.met k ≡ true
 
 -- a search that the port leaves as it is
@@ -125,12 +125,12 @@ own_search a words words' ports notes b reckoned x s g p still = record {
 
 -- what a move of a port leads to, by the laws of all moves
 module _ (a : About) (words : List ℕ) (ports : ℕ → Port) (notes : ℕ → List Noted) (b : Beside) (reckoned : Reckoning) (w : LawfulMemory (plan_of a) words ports b notes)
-    (time : Reckons (plan_of a) words ports (place_now b) reckoned) (k : ℕ) (below : k < a.ports) where
+    (time : Reckons (plan_of a) words ports (site_now b) reckoned) (k : ℕ) (below : k < a.ports) where
   abbrev e : Plan
   e = plan_of a
 
   -- once it is known what it leads to
-  pub led_to : (m : Move) → MayMove e words ports b notes k m → MayCount (ports k) reckoned.tally k m → ((q : ℕ) → q ≢ k → since_behind b k m reckoned.since q ≡ reckoned.since q) →
+  pub led_to : (m : Move) → MayMove e words ports b notes k m → MayCount (ports k) reckoned.tally k m → ((q : ℕ) → q ≢ k → since_after b k m reckoned.since q ≡ reckoned.since q) →
       (l : MoveLeads e words (moved_words e words (ports k) k m) ports b notes k m) → length b.before ≤ length (l.beside).before → (words' : List ℕ) → moved_words e words (ports k) k m ≡ words' → (p : Port) → l.port ≡ p →
       (c : Beside) → l.beside ≡ c → (added : List Noted) → l.added ≡ added → LedTo a words ports notes b reckoned k m words' p c added
   led_to m may may_count others l later words' to p is c beside added noted =
@@ -143,7 +143,7 @@ module _ (a : About) (words : List ℕ) (ports : ℕ → Port) (notes : ℕ → 
         time = record {
           reckons = record { time = l.time reckoned.since time.time; tally = counts.keeps };
           freed = counts.grows;
-          searching = searching_on e words there ports (put k l.port ports) (place_now b) (place_now l.beside) reckoned (since_behind b k m reckoned.since) k m counts later;
+          searching = searching_on e words there ports (put k l.port ports) (site_now b) (site_now l.beside) reckoned (since_after b k m reckoned.since) k m counts later;
           since = others;
           met = λ q ne. counts.met q ∙ met_others k m reckoned.tally.met q ne;
         };
@@ -154,7 +154,7 @@ module _ (a : About) (words : List ℕ) (ports : ℕ → Port) (notes : ℕ → 
       there : List ℕ
       there = moved_words e words (ports k) k m
 
-      counts : Counts e words there ports (put k l.port ports) (place_now b) (place_now l.beside) reckoned.since (since_behind b k m reckoned.since) reckoned.tally k m
+      counts : Counts e words there ports (put k l.port ports) (site_now b) (site_now l.beside) reckoned.since (since_after b k m reckoned.since) reckoned.tally k m
       counts = every_step_counts e words ports b notes k m reckoned.since reckoned.tally w below may may_count time.time time.tally l
 
   nothing_noted : (q : ℕ) → noting k [] notes q ≡ notes q
@@ -170,8 +170,8 @@ module _ (a : About) (words : List ℕ) (ports : ℕ → Port) (notes : ℕ → 
     IsQuietMove m = (p : Port) (c : Beside) (added : List Noted) → Becomes e words ports b k m p c added → (p ≡ port_after words (ports k) m) × IsAside b c (ports k) p × (added ≡ [])
 
     -- to these words and that port
-    pub by_count : (m : Move) → MayMove e words ports b notes k m → MayCount (ports k) reckoned.tally k m → IsQuietMove m → ((q : ℕ) → q ≢ k → since_behind b k m reckoned.since q ≡ reckoned.since q) → (words' : List ℕ) →
-        moved_words e words (ports k) k m ≡ words' → (p : Port) → port_after words (ports k) m ≡ p → IsSince g p.control.entering (since_behind b k m reckoned.since k) → QuietlyBy a words words' ports notes b reckoned k g p m
+    pub by_count : (m : Move) → MayMove e words ports b notes k m → MayCount (ports k) reckoned.tally k m → IsQuietMove m → ((q : ℕ) → q ≢ k → since_after b k m reckoned.since q ≡ reckoned.since q) → (words' : List ℕ) →
+        moved_words e words (ports k) k m ≡ words' → (p : Port) → port_after words (ports k) m ≡ p → IsSince g p.control.entering (since_after b k m reckoned.since k) → QuietlyBy a words words' ports notes b reckoned k g p m
     by_count m may may_count quiet others words' to p there entering =
         let l = every_step_stays_lawful e words ports b notes k m w below may in
         let q = quiet l.port l.beside l.added l.becomes in
@@ -179,7 +179,7 @@ module _ (a : About) (words : List ℕ) (ports : ℕ → Port) (notes : ℕ → 
         let led = led_to m may may_count others l (omega (arith, same)) words' to p (q.0 ∙ there) l.beside refl [] q.2 in
         record {
           to = record {
-            reckoned' = reckoned_behind b k m reckoned led.there;
+            reckoned' = reckoned_after b k m reckoned led.there;
             beside = l.beside;
             log = q.1.log;
             before = q.1.epochs;
@@ -192,9 +192,9 @@ module _ (a : About) (words : List ℕ) (ports : ℕ → Port) (notes : ℕ → 
         }
 
     -- where whether the port has met another one stays
-    pub by_move : (m : Move) → MayMove e words ports b notes k m → MayCount (ports k) reckoned.tally k m → met_behind k m reckoned.tally.met k ≡ reckoned.tally.met k → IsQuietMove m →
-        ((q : ℕ) → q ≢ k → since_behind b k m reckoned.since q ≡ reckoned.since q) → (words' : List ℕ) → moved_words e words (ports k) k m ≡ words' →
-        (p : Port) → port_after words (ports k) m ≡ p → IsSince g p.control.entering (since_behind b k m reckoned.since k) → Still a words words' ports notes b reckoned k g p
+    pub by_move : (m : Move) → MayMove e words ports b notes k m → MayCount (ports k) reckoned.tally k m → met_after k m reckoned.tally.met k ≡ reckoned.tally.met k → IsQuietMove m →
+        ((q : ℕ) → q ≢ k → since_after b k m reckoned.since q ≡ reckoned.since q) → (words' : List ℕ) → moved_words e words (ports k) k m ≡ words' →
+        (p : Port) → port_after words (ports k) m ≡ p → IsSince g p.control.entering (since_after b k m reckoned.since k) → Still a words words' ports notes b reckoned k g p
     by_move m may may_count still quiet others words' to p there entering =
         let by = by_count m may may_count quiet others words' to p there entering in
         record { to = by.to; met = λ is. by.met ∙ still ∙ is }
@@ -245,13 +245,13 @@ module _ {S : Type 0} (a : About) (slots id : ℕ) (me : Me S (List SeatedPort))
 
   abbrev Leads : (List ℕ → List ℕ) → (List ℕ → Port → Port) → Type 0
   Leads f g = (words : List ℕ) (ports : ℕ → Port) (notes : ℕ → List Noted) (b : Beside) (reckoned : Reckoning) → LawfulMemory (plan_of a) words ports b notes →
-      Reckons (plan_of a) words ports (place_now b) reckoned →
+      Reckons (plan_of a) words ports (site_now b) reckoned →
       x.number < a.ports → x.port ≡ ports x.number → IsSince x.began (ports x.number).control.entering (reckoned.since x.number) → x.began.epoch ≤ length b.before →
       Still a words (f words) ports notes b reckoned x.number x.began (g words (ports x.number))
 
   abbrev Searching : (List ℕ → List ℕ) → (List ℕ → Port → Port) → (List ℕ → Contention) → Type 0
   Searching f g h = (words : List ℕ) (ports : ℕ → Port) (notes : ℕ → List Noted) (b : Beside) (reckoned : Reckoning) → LawfulMemory (plan_of a) words ports b notes →
-      Reckons (plan_of a) words ports (place_now b) reckoned → IsSeat a words ports notes b reckoned x →
+      Reckons (plan_of a) words ports (site_now b) reckoned → IsSeat a words ports notes b reckoned x →
       OwnSearch a words (f words) ports notes b reckoned x.number x.began (g words (ports x.number)) (h words)
 
   -- one by which its search goes on
@@ -299,9 +299,9 @@ module _ {S : Type 0} (a : About) (slots id : ℕ) (me : Me S (List SeatedPort))
       (loads (unpacked n) (ports k)) refl (subst (λ (t : Entering). IsSince x.began t (reckoned.since k)) marks' entering))
       (λ words ports b w below is.
       let to = entries_load (plan_of a) words ports b x.number w below (ap (λ (p : Port). p.control.entering) (sym is) ∙ marks_it) in
-      let place : unpacked (slice_index words current_word) ≡ place_now b = ap unpacked to.0 ∙ unpacked_is (place_now b) w.plan.arenas w.control.place.arena in (
-        to.0 ∙ ap packed (sym place),
-        subst (λ (z : About). IsPlace (plan_of z) (unpacked (slice_index words current_word))) (sym own) (subst (IsPlace (plan_of a)) (sym place) w.control.place),
+      let site : unpacked (slice_index words current_word) ≡ site_now b = ap unpacked to.0 ∙ unpacked_is (site_now b) w.plan.arenas w.control.site.arena in (
+        to.0 ∙ ap packed (sym site),
+        subst (λ (z : About). IsSite (plan_of z) (unpacked (slice_index words current_word))) (sym own) (subst (IsSite (plan_of a)) (sym site) w.control.site),
         refl,
       ))
 
@@ -321,6 +321,6 @@ module _ {S : Type 0} (a : About) (slots id : ℕ) (me : Me S (List SeatedPort))
             let here = here_is a words ports b w.epochs k s.number (at ∙ ap (λ (p : Port). packed p.control.here) s.port) in
             let come = (g.2).come in
             let same = ap (λ (p : Port). p.control.here.epoch) s.port in
-            let epoch = ap (λ (d : Place). d.epoch) here in
+            let epoch = ap (λ (d : Site). d.epoch) here in
             omega (arith, come, same, epoch),
       ))

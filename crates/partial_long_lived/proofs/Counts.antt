@@ -21,7 +21,7 @@ rounds_within i n p a b c low so_far one =
 pub rounds_all : (i n p a b : ℕ) → i ≤ n → b ≤ a + i * p → b ≤ a + n * p
 rounds_all i n p a b few so_far = let all : i * p ≤ n * p = mul-le-mul_right p few in omega (arith, so_far, all)
 
--- So where each round makes three steps, behind so many.
+-- So where each round makes three steps, after so many.
 pub threes_more : (k i a b c : ℕ) → b ≤ a + (k + 3 * i) → c ≤ b + 3 → c ≤ a + (k + 3 * (i + 1))
 threes_more k i a b c so_far one = omega (arith, so_far, one)
 
@@ -48,7 +48,7 @@ sealed_only s k f a b c sealed claimed = omega (arith, sealed, claimed)
 pub all_opened : (s k f a b c d e g : ℕ) → b ≤ a + s → c ≤ b + k → d ≤ c + f → e ≤ d + 1 → g ≤ e + 1 → g ≤ a + (s + k + f + 2)
 all_opened s k f a b c d e g sealed claimed filled published given = omega (arith, sealed, claimed, filled, published, given)
 
--- Words that are set from one on, behind one step.
+-- Words that are set from one on, after one step.
 pub steps_past : (k a b : ℕ) → b ≤ a + 1 → b + k ≤ a + (1 + k)
 steps_past k a b one = omega (arith, one)
 
@@ -69,5 +69,5 @@ values_set k i n a b few so_far = omega (arith, few, so_far)
 pub stamps_set : (k i n a b : ℕ) → i ≤ n → b ≤ a + (k + 3 * n + 3 * i) → b ≤ a + (k + 6 * n)
 stamps_set k i n a b few so_far = omega (arith, few, so_far)
 
-pub one_behind : (a b : ℕ) → a + b + 1 ≡ a + (b + 1)
-one_behind a b = omega arith
+pub one_after : (a b : ℕ) → a + b + 1 ≡ a + (b + 1)
+one_after a b = omega arith

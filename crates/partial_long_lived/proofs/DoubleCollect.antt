@@ -55,7 +55,7 @@ module _ (table : TableId) (about : About) (s u t : Stand) (h : IsHeld table abo
   pub fresh_unsealed : a < seal → (port_at u).began.epoch ≤ (port_at s).port.control.here.epoch
   fresh_unsealed less = let young = w.present less in let same = ap (λ (g : Began). g.epoch) began_is in omega (arith, young, same)
 
-  -- and a look that finds the port's own place says that its epoch is the current one
+  -- and a look that finds the port's own site says that its epoch is the current one
   module _ (b : Bool) (looked : LookFound false u b t) where
     pub look_same : b ≡ true → port_at t ≡ port_at u
     look_same here =
@@ -71,12 +71,12 @@ module _ (table : TableId) (about : About) (s u t : Stand) (h : IsHeld table abo
       | inl found ↦
           let young = looked.looks.3 found.1 in
           let same = ap (λ (g : Began). g.epoch) looked.looks.1 in
-          let place = ap (λ (x : SeatedPort). x.port.control.here.epoch) w.is in
-          omega (arith, young, same, place)
+          let site = ap (λ (x : SeatedPort). x.port.control.here.epoch) w.is in
+          omega (arith, young, same, site)
       | inr other ↦ let bad : true ≡ false = sym here ∙ looked.is ∙ other.0 in cc
     ]
 
-    -- one that finds another place leaves the port where it stands
+    -- one that finds another site leaves the port where it stands
     pub look_stayed : b ≡ false → HasStayed s t
     look_stayed away =
         let port = looked_away false u t b looked away in
@@ -267,7 +267,7 @@ module _ (table : TableId) (about : About) (s u v : Stand) (h : IsHeld table abo
         ));
       }
 
--- a scan behind a double collect which was not one, and what the port has come to since
+-- a scan after a double collect that failed, and where the port is since
 module _ (s u t : Stand) (come : HasCome s u) (notes : (port_at u).notes ≡ (port_at s).notes) where
   come_later : s.epoch ≤ u.epoch
   come_later = elim come.machine [

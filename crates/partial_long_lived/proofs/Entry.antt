@@ -1,10 +1,10 @@
 -- How a port enters an epoch, step by step.
-use Rattle.partial_long_lived.proofs.{Common.{ℕ, ◌≡◌, ◌+◌, ◌==◌, List, sym, ap, subst, ◌∙◌, arith, either, Me, Allows, TableId, at_word, marked, packed, About, Stand, IsRuleKept, SeatedPort, one_of, tells, IsHeld, port_at, SeatArrives, LoadsCurrent, StoresMark, unpacked, MayEnter}, Control.{may_load, may_mark}, Enters.may_arrive, Standing.place_is}
+use Rattle.partial_long_lived.proofs.{Common.{ℕ, ◌≡◌, ◌+◌, ◌==◌, List, sym, ap, subst, ◌∙◌, arith, either, Me, Allows, TableId, at_word, marked, packed, About, Stand, IsRuleKept, SeatedPort, one_of, tells, IsHeld, port_at, SeatArrives, LoadsCurrent, StoresMark, unpacked, MayEnter}, Control.{may_load, may_mark}, Enters.may_arrive, Standing.site_is}
 
 module _ (table : TableId) (about : About) (s : Stand) (h : IsHeld table about s) where
   -- the mark that is stored
   mark_is : (mark : ℕ) → mark ≡ packed (record { epoch = s.epoch; arena = s.arena }) → 9223372036854775808 + mark ≡ marked (port_at s).port.control.here
-  mark_is mark is = let place = place_is table about s h in omega (arith, is, place)
+  mark_is mark is = let site = site_is table about s h in omega (arith, is, site)
 
   word_is : 1 + s.number ≡ at_word (port_at s).number
   word_is = ap (λ n. 1 + n) h.number
@@ -16,12 +16,12 @@ module _ (table : TableId) (about : About) (s : Stand) (h : IsHeld table about s
       (subst (λ v. Allows (IsRuleKept about) slots id s.seat.me (at_word (port_at s).number) (λ n. v) (tells StoresMark s.seat.me)) (sym (mark_is mark is))
       (may_mark about slots id s.seat.me h.one h.own h.known may.stands may.past may.free))
 
-  -- the port behind the first step
+  -- the port after the first step
   module _ (me : Me (Unit {0}) (List SeatedPort)) (a : ℕ) (told : tells StoresMark s.seat.me a me) where
     pub load_asked : (slots id : ℕ) → Allows (IsRuleKept about) slots id me 0 (λ n. n) (tells LoadsCurrent me)
     load_asked slots id = may_load about slots id me told.0 (told.1.about ∙ h.own) told.1.known (ap (λ (x : SeatedPort). x.port.control.entering) told.2)
 
-    -- and behind the second
+    -- and after the second
     module _ (me' : Me (Unit {0}) (List SeatedPort)) (current : ℕ) (told' : tells LoadsCurrent me current me') where
       number_is : (one_of me'.0).number ≡ (port_at s).number
       number_is = told'.1.number ∙ told.1.number

@@ -1,8 +1,8 @@
 -- A step of one seat keeps the rule.
-use Rattle.partial_long_lived.proofs.{Common.{ℕ, ◌≡◌, ◌≢◌, ◌+◌, ◌<◌, ◌≤◌, ◌==◌, ◌++◌, if◌then◌else◌, Option, Some, None, IfSome, List, [], ◌∷◌, length, slice_index, slice_set, refl, sym, ap, subst, ◌∙◌, arith, append-nil, length-append, AllByRecursion, some, get_elem?, Me, Allows, keeps, Applied, LegalNotes, Noted, all_at, all_join, all_before, all_after, all_weaker, Port, Beside, IsEpochPlan, place_now, Reckons, Reckoning, history_longer, LawfulMemory, option_map_or, behind_both, IsPlace, carried_after, carried_behind, history_of, opening_behind, public_log, public_stamp, value_of, About, Began, Found, BeganInTime, IsFinal, IsRuleKept, IsSeat, IsSeen, IsSince, SeatedPort, one_of, plan_of, seats_of, Knows, seen_in, BeginsWith, SeatGoes, IsSeatKnown, IsOne, tells, HasRecordStamps, Search, IsSearching}, Seen.{fits_of, knows_of, own_of, seen_begins}, Views.{around, others_all, seat_own, seats_both}}
+use Rattle.partial_long_lived.proofs.{Common.{ℕ, ◌≡◌, ◌≢◌, ◌+◌, ◌<◌, ◌≤◌, ◌==◌, ◌++◌, if◌then◌else◌, Option, Some, None, IfSome, List, [], ◌∷◌, length, slice_index, slice_set, refl, sym, ap, subst, ◌∙◌, arith, append-nil, length-append, AllByRecursion, some, get_elem?, Me, Allows, keeps, Applied, LegalNotes, Noted, all_at, all_join, all_before, all_after, all_weaker, Port, Beside, IsEpochPlan, site_now, Reckons, Reckoning, history_longer, LawfulMemory, option_map_or, behind_both, IsSite, carried_after, stamp_after, history_of, opened_after, public_log, public_stamp, value_of, About, Began, Found, BeganInTime, IsFinal, IsRuleKept, IsSeat, IsSeen, IsSince, SeatedPort, one_of, plan_of, seats_of, Knows, seen_in, BeginsWith, SeatGoes, IsSeatKnown, IsOne, tells, HasRecordStamps, Search, IsSearching}, Seen.{fits_of, knows_of, own_of, seen_begins}, Views.{around, others_all, seat_own, seats_both}}
 use Rattle.partial_epochs.proofs.Last.{none_here, stays}
 
--- The histories of all epochs have grown: that of the epoch behind these has at most gained entries, for components of which that is so.
+-- The histories of all epochs have grown: that of the epoch after these has at most gained entries, for components of which that is so.
 pub record Grows (P : ℕ → Type 0) (before : List (List Applied)) (b c : Beside) (later : List (List Applied)) (log : List Applied) : Type 0 where
   pub later' : List (List Applied)
   pub log' : List Applied
@@ -78,21 +78,21 @@ final_grows a z b c grown (Some f) w = record {
   last = λ later log is.
       let g = grown later log is in
       let was = w.last g.later' g.log' g.was in
-      let o = opening_behind (plan_of a).opening z.before in
+      let o = opened_after (plan_of a).opening z.before in
       let kept = stays o g.log' g.entries f.component (g.free f.component w.passed) in
       record {
         value = ap (λ (l : List Applied). value_of o l f.component) g.is ∙ kept.0 ∙ was.value;
-        stamp = ap (λ (l : List Applied). carried_after (length z.before) (carried_behind (plan_of a).opening z.before) l f.component) g.is
-            ∙ carried_stays (length z.before) (carried_behind (plan_of a).opening z.before) g.log' g.entries f.component (g.free f.component w.passed) ∙ was.stamp;
+        stamp = ap (λ (l : List Applied). carried_after (length z.before) (stamp_after (plan_of a).opening z.before) l f.component) g.is
+            ∙ carried_stays (length z.before) (stamp_after (plan_of a).opening z.before) g.log' g.entries f.component (g.free f.component w.passed) ∙ was.stamp;
       };
 }
 
 -- What a step of port k makes of what is counted beside the words: ports keep time and tally, the search of each port goes on, and what is
 -- counted of other ports stays.
 pub record GoesOn (a : About) (words words' : List ℕ) (ports ports' : ℕ → Port) (b c : Beside) (r r' : Reckoning) (k : ℕ) : Type 0 where
-  pub reckons : Reckons (plan_of a) words' ports' (place_now c) r'
+  pub reckons : Reckons (plan_of a) words' ports' (site_now c) r'
   pub freed : r.tally.freed ≤ r'.tally.freed
-  pub searching : (q : ℕ) (s : Search) → q < a.ports → IsSearching (plan_of a) words ports (place_now b) r q s → IsSearching (plan_of a) words' ports' (place_now c) r' q s
+  pub searching : (q : ℕ) (s : Search) → q < a.ports → IsSearching (plan_of a) words ports (site_now b) r q s → IsSearching (plan_of a) words' ports' (site_now c) r' q s
   pub since : (q : ℕ) → q ≢ k → r'.since q ≡ r.since q
   pub met : (q : ℕ) → q ≢ k → r'.tally.met q ≡ r.tally.met q
 
@@ -118,7 +118,7 @@ pub record Moved (a : About) (words words' : List ℕ) (ports : ℕ → Port) (n
   pub legal : LegalNotes a.opening (seen_in y.port) y.number 0 y.notes
   pub says : P y
 
--- what a step tells may be told in another way
+-- what a step shows may be stated in another way
 pub moved_says : {a : About} {words words' : List ℕ} {ports : ℕ → Port} {notes : ℕ → List Noted} {b : Beside} {reckoned : Reckoning} {x : SeatedPort} {P R : SeatedPort → Type 0} →
     (m : Moved a words words' ports notes b reckoned x P) → R m.y → Moved a words words' ports notes b reckoned x R
 moved_says m says = record {
@@ -226,8 +226,8 @@ module _ {S : Type 0} (a : About) (me : Me S (List SeatedPort)) (one : IsOne me)
       record {
         plan = subst (λ (z : About). IsEpochPlan (plan_of z)) (sym about) m.lawful.epochs.plan;
         number = subst (λ (z : About). m.y.number < z.ports) (sym about) s.number;
-        place = subst (λ (z : About). IsPlace (plan_of z) m.y.port.control.here) (sym about)
-            (subst (λ (p : Port). IsPlace (plan_of a) p.control.here) (sym s.port) (m.lawful.epochs.control.places m.y.number s.number));
+        site = subst (λ (z : About). IsSite (plan_of z) m.y.port.control.here) (sym about)
+            (subst (λ (p : Port). IsSite (plan_of a) p.control.here) (sym s.port) (m.lawful.epochs.control.sites m.y.number s.number));
         epoch = subst (λ (p : Port). length p.before ≡ p.control.here.epoch) (sym s.port) (m.lawful.noted.reached m.y.number s.number).epoch;
         knows = subst (λ (z : About). Knows z m.y.number (seen_in m.y.port) m.y.notes) (sym about)
             (subst (λ (ns : List Noted). Knows a m.y.number (seen_in m.y.port) ns) (sym noted) knows);
@@ -240,7 +240,7 @@ module _ {S : Type 0} (a : About) (me : Me S (List SeatedPort)) (one : IsOne me)
 
 -- a step is allowed where it leads on from each lawful memory
 pub allowed : {S : Type 0} (a : About) (slots id : ℕ) (me : Me S (List SeatedPort)) (i : ℕ) (f : ℕ → ℕ) (R : SeatedPort → ℕ → SeatedPort → Type 0) → IsOne me → (one_of me.0).about ≡ a →
-    ((words : List ℕ) (ports : ℕ → Port) (notes : ℕ → List Noted) (b : Beside) (reckoned : Reckoning) → LawfulMemory (plan_of a) words ports b notes → Reckons (plan_of a) words ports (place_now b) reckoned →
+    ((words : List ℕ) (ports : ℕ → Port) (notes : ℕ → List Noted) (b : Beside) (reckoned : Reckoning) → LawfulMemory (plan_of a) words ports b notes → Reckons (plan_of a) words ports (site_now b) reckoned →
     IsSeat a words ports notes b reckoned (one_of me.0) →
     slice_index words i < 18446744073709551616 → Moved a words (slice_set words i (f (slice_index words i))) ports notes b reckoned (one_of me.0) (R (one_of me.0) (slice_index words i))) →
     Allows (IsRuleKept a) slots id me i f (tells R me)

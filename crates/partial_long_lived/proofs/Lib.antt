@@ -45,6 +45,7 @@ pub mod Seen
 pub mod Sets
 pub mod Sights
 pub mod Stamps
+pub mod StepNumbers
 pub mod Standing
 pub mod Staying
 pub mod StillStanding

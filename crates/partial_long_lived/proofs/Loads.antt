@@ -1,5 +1,5 @@
--- Loads of component words are allowed, and what they tell.
-use Rattle.partial_long_lived.proofs.{Common.{ℕ, ◌≡◌, ◌≢◌, ◌+◌, ◌<◌, ◌≤◌, ◌==◌, ◌⊎◌, ◌&&◌, ◌++◌, not, Bool, true, false, if◌then◌else◌, Option, Some, None, IfSome, List, [], ◌∷◌, length, map, take, slice_index, slice_set, refl, sym, ap, subst, ◌∙◌, inl, inr, arith, append-nil, append_assoc, length-append, ⊤, nat_lt, AllByRecursion, eqb_tells, length-map, take-append-le, take_all, Applied, Opening, Note, stamp_of, value_of, Fits, IsTrueOf, LegalNotes, Noted, place_of, seen_by, AreCollects, LegalNotes-push, first_free, put, Place, Plan, base, component_words, seal, unsealed, carried_after, carried_behind, history_of, opening_behind, public_entry, public_log, Port, Stands, Beside, IsStanding, place_now, LawfulMemory, having_seen, noting, public_of, IsBesideAs, Reckons, Reckoning, components_name_records, epochs_are_histories, seen_records_stay, unsealed_is_present, history_took, at_of, put_other, put_same, held_history, history_grows, among, history_longer, About, Began, Found, BeganInTime, IsFinal, IsSeat, SeatedPort, plan_of, seen_in, BeginsWith, IsSeatKnown, Recalls, SeatSees, Wish, found_by, noted_by, place_seen, stamp_seen, MayNoteScan, NotesScan, noted_together, Expects, Finds, Glances, Reads, epochs_continue, stamp_public, value_public, Call, Answer, Contention, contention_by, every_step_stays_lawful, IsSight, Search, IsSearching}, Begins.{began_by, seen_few}, Control.{load_same, stands_since, led_to, reckoned_behind, unnoted}, Kept.{GoesOn, Moved, begun_grows, final_grows, none_grown, not_grown}, Lists.{cut, same_before}, Seen.legal_begins, Contention.{by_more, by_search}}
+-- Loads of component words are allowed, and what they show.
+use Rattle.partial_long_lived.proofs.{Common.{ℕ, ◌≡◌, ◌≢◌, ◌+◌, ◌<◌, ◌≤◌, ◌==◌, ◌⊎◌, ◌&&◌, ◌++◌, not, Bool, true, false, if◌then◌else◌, Option, Some, None, IfSome, List, [], ◌∷◌, length, map, take, slice_index, slice_set, refl, sym, ap, subst, ◌∙◌, inl, inr, arith, append-nil, append_assoc, length-append, ⊤, nat_lt, AllByRecursion, eqb_tells, length-map, take-append-le, take_all, Applied, Opening, Note, stamp_of, value_of, Fits, IsTrueOf, LegalNotes, Noted, place_of, seen_by, AreCollects, LegalNotes-push, first_free, put, Site, Plan, base, component_words, seal, unsealed, carried_after, stamp_after, history_of, opened_after, public_entry, public_log, Port, Stands, Beside, IsStanding, site_now, LawfulMemory, having_seen, noting, public_of, IsBesideAs, Reckons, Reckoning, components_name_records, epochs_are_histories, seen_records_stay, unsealed_is_present, history_took, at_of, put_other, put_same, held_history, history_grows, among, history_longer, About, Began, Found, BeganInTime, IsFinal, IsSeat, SeatedPort, plan_of, seen_in, BeginsWith, IsSeatKnown, Recalls, SeatSees, Wish, found_by, noted_by, place_seen, stamp_seen, MayNoteScan, NotesScan, noted_together, Expects, Finds, Glances, Reads, epochs_continue, stamp_public, value_public, Call, Answer, Contention, contention_by, every_step_stays_lawful, IsSight, Search, IsSearching}, Begins.{began_by, seen_few}, Control.{load_same, stands_since, led_to, reckoned_after, unnoted}, Kept.{GoesOn, Moved, begun_grows, final_grows, none_grown, not_grown}, Lists.{cut, same_before}, Seen.legal_begins, Contention.{by_more, by_search}}
 use Rattle.partial_epochs.specs.EveryStep.{Move as move}
 use Rattle.partial_epochs.proofs.Last.{is_raw, within as arena_within}
 
@@ -42,7 +42,7 @@ seat_is a ports notes b reckoned x s =
     ∙ ap (λ (l : List Noted). record { about = a; number = x.number; port = ports x.number; notes = l; began = x.began; found = x.found; contention = x.contention }) s.noted
 
 module _ (a : About) (words : List ℕ) (ports : ℕ → Port) (notes : ℕ → List Noted) (b : Beside) (reckoned : Reckoning) (w : LawfulMemory (plan_of a) words ports b notes)
-    (time : Reckons (plan_of a) words ports (place_now b) reckoned) (k : ℕ) (below : k < a.ports) (g : Began) (f : Option Found) (u : Contention) (stands : (ports k).control.entering ≡ Stands) where
+    (time : Reckons (plan_of a) words ports (site_now b) reckoned) (k : ℕ) (below : k < a.ports) (g : Began) (f : Option Found) (u : Contention) (stands : (ports k).control.entering ≡ Stands) where
   abbrev e : Plan
   e = plan_of a
 
@@ -59,7 +59,7 @@ module _ (a : About) (words : List ℕ) (ports : ℕ → Port) (notes : ℕ → 
   log = standing.epoch.log
 
   abbrev o : Opening
-  o = opening_behind a.opening (ports k).before
+  o = opened_after a.opening (ports k).before
 
   all_taken : take (length log) log ≡ log
   all_taken = take_all (length log) log (omega arith)
@@ -73,7 +73,7 @@ module _ (a : About) (words : List ℕ) (ports : ℕ → Port) (notes : ℕ → 
   long : length (history_of (log ∷ (ports k).before)) ≡ length (history_of (ports k).before) + length log
   long = length-append (history_of (ports k).before) (public_log (length (ports k).before) log) ∙ ap (λ n. length (history_of (ports k).before) + n) (length-map log (public_entry (length (ports k).before)))
 
-  -- a note that is true behind the first i entries of the epoch's history, and behind all of them
+  -- a note that is true after the first i entries of the epoch's history, and after all of them
   abbrev IsTrueAt : ℕ → Noted → Type 0
   IsTrueAt i n = (n.note ≡ Some (Note.Saw (length (history_of (ports k).before) + i))) × Fits (length a.opening.values) n.call n.answer n.note
       × IsTrueOf a.opening (history_of (log ∷ (ports k).before)) k n.call n.answer (Note.Saw (length (history_of (ports k).before) + i))
@@ -104,7 +104,7 @@ module _ (a : About) (words : List ℕ) (ports : ℕ → Port) (notes : ℕ → 
         sym (stamp_is ∙ ap (λ (l : List Applied). stamp_of a.opening l j)
         (take_all (length (history_of (ports k).before) + length log) (history_of (log ∷ (ports k).before)) (omega (arith, long))))
 
-    carried_is : public_of e (ports k).before j (stamp_of o log j) ≡ carried_after (length (ports k).before) (carried_behind a.opening (ports k).before) log j
+    carried_is : public_of e (ports k).before j (stamp_of o log j) ≡ carried_after (length (ports k).before) (stamp_after a.opening (ports k).before) log j
     carried_is =
         let values = w.epochs.plan.values in
         stamp_is ∙ ap (λ (l : List Applied). stamp_of a.opening l j) (history_took log (ports k).before (length log)) ∙ ap (λ (l : List Applied). stamp_of a.opening (history_of (l ∷ (ports k).before)) j) all_taken
@@ -178,7 +178,7 @@ module _ (a : About) (words : List ℕ) (ports : ℕ → Port) (notes : ℕ → 
           own = sym (append-nil (notes k));
           others = λ q ne. refl;
           lawful = unnoted a words ports notes b reckoned w time k below words (put k p' ports) l.beside led.lawful;
-          reckoned' = reckoned_behind b k (move.Sees log) reckoned led.there;
+          reckoned' = reckoned_after b k (move.Sees log) reckoned led.there;
           keeps = led.time;
           met = led.met k;
         }
@@ -196,7 +196,7 @@ module _ (a : About) (words : List ℕ) (ports : ℕ → Port) (notes : ℕ → 
           own = put_same k (notes k ++ n ∷ []) notes;
           others = λ q ne. put_other k (notes k ++ n ∷ []) notes q ne;
           lawful = led.lawful;
-          reckoned' = reckoned_behind b k (move.Notes n i log) reckoned led.there;
+          reckoned' = reckoned_after b k (move.Notes n i log) reckoned led.there;
           keeps = led.time;
           met = led.met k;
         }
@@ -244,7 +244,7 @@ module _ (a : About) (words : List ℕ) (ports : ℕ → Port) (notes : ℕ → 
             began = begun_grows b to.beside n (let longer = ap (λ (l : List (List Applied)). length l) same_before_is in omega (arith, longer)) (none_grown b to.beside same_log same_before_is) has;
             entering = stands_since n (ports k).control.entering ((to.reckoned').since k) stands;
             found = final to.beside same_log same_before_is;
-            search = subst (IsSearching e (slice_set words i (slice_index words i)) (put k p' ports) (place_now to.beside) to.reckoned' k) (sym same_search) (time'.searching k u.search below s.search);
+            search = subst (IsSearching e (slice_set words i (slice_index words i)) (put k p' ports) (site_now to.beside) to.reckoned' k) (sym same_search) (time'.searching k u.search below s.search);
             met = λ is. to.met ∙ s.met (ap (λ (t : Search). t.met) (sym same_search) ∙ is);
           };
           grown = λ q low ne. not_grown (ports q) b to.beside same_log same_before_is;
@@ -322,7 +322,7 @@ module _ (a : About) (words : List ℕ) (ports : ℕ → Port) (notes : ℕ → 
           let at : slice_index (component_words e words (ports k).control.here.arena) j ≡ n =
           at_of (λ i. slice_index words (base e (ports k).control.here.arena + i)) 0 a.sizes.m j inside ∙ ap (λ i. slice_index words (base e (ports k).control.here.arena + i)) (omega arith) in
           let here = (unsealed_is_present e words ports b k j w.epochs below stands inside (λ sealed. omega (arith, at, less, sealed))).here in
-          sym (ap (λ (d : Place). d.epoch) here)
+          sym (ap (λ (d : Site). d.epoch) here)
 
       found_final : (wish : Wish) → (IsFinding wish → j < (ports k).passed) → (c : Beside) → c.log ≡ b.log → c.before ≡ b.before → IfSome (found_by wish X log j) (IsFinal e c p')
       found_final Finds passed c same before = record {
@@ -333,7 +333,7 @@ module _ (a : About) (words : List ℕ) (ports : ℕ → Port) (notes : ℕ → 
             let one = same_before where_is.0 later log l (ports k).before (sym where_is.1 ∙ all) in
             record {
               value = ap (λ (t : List Applied). value_of o t j) (sym one);
-              stamp = ap (λ (t : List Applied). carried_after (length (ports k).before) (carried_behind a.opening (ports k).before) t j) (sym one) ∙ sym (carried_is j inside);
+              stamp = ap (λ (t : List Applied). carried_after (length (ports k).before) (stamp_after a.opening (ports k).before) t j) (sym one) ∙ sym (carried_is j inside);
             };
       }
       found_final Glances passed c same before = final_grows a p' b c (not_grown p' b c same before) f (final_seen f s.found)

@@ -19,7 +19,7 @@ module _ (first : Bool) (s t : Stand) (b : Bool) (w : LookFound first s b t) whe
       f (port_at t).port ≡ f (port_at s).port
   looked_keeps f here away = ap f port_is ∙ looked_same f w.found (port_at s).port here away
 
-  -- it has found the port's own place, or another one
+  -- it has found the port's own site, or another one
   pub looked_own : b ≡ true → (o : OwnedArena) → (port_at s).port.control.owned ≡ Some o → (port_at t).port ≡ having_looked (port_at s).port o
   looked_own here o is =
       port_is ∙ ap (λ (c : Bool). if c then having_found (port_at s).port else having_passed (port_at s).port) (sym w.is ∙ here)
@@ -52,7 +52,7 @@ look_idle first s t b idle w = record {
     by true = refl
     by false = refl
 
--- whether the port has seen its epoch's end, after a look that finds its own place the current one, or another
+-- whether the port has seen its epoch's end, after a look that finds its own site the current one, or another
 pub past_kept : (n : ℕ) (p : Port) → (n == packed p.control.here) ≡ true → (looked_at n p).control.past ≡ p.control.past
 past_kept n p here = ap (λ (c : Bool). (if c then having_found p else having_passed p).control.past) here ∙ by p.control.owned
   where

@@ -1,15 +1,15 @@
 -- The steps of a port's machine are allowed.
-use Rattle.partial_long_lived.proofs.{Common.{ℕ, ◌≡◌, ◌≢◌, ◌+◌, ◌<◌, ◌≤◌, ◌||◌, ◌++◌, Bool, true, false, if◌then◌else◌, Option, Some, None, IfSome, List, [], ◌∷◌, length, map, take, drop, slice_index, slice_set, refl, sym, ap, subst, ◌∙◌, inl, inr, arith, append-nil, append_assoc, length-append, AllByRecursion, length-map, take-append-drop, take-append-le, set-get_or, Applied, Call, Answer, stamp_of, LegalNotes, Noted, seen_by, Step, Load, Store, Exchange, Add, answer_of, word_of, words_after, CoreState, advance, reply_of, answer_for, call_of, is_begun, Part, core_of, begun_with, since_with, put, IsSealed, Place, Plan, arena_words, base, component_words, plain, placed_step, history_of, opening_behind, public_entry, public_log, among, history_longer, known, Control, Entering, Epoch, Port, Stands, Marks, Loaded, IsOld, option_map, present_history, all_back, Beside, IsStanding, LawfulEpochs, numbers, place_now, HaveSlots, MachineLeads, MeetsSeal, ends_over, ExpectedOne, LawfulMemory, EpochReached, noting, public_noted, Reckons, Reckoning, machines_are_never_refused, put_other, put_same, About, Began, Found, IsFinal, IsLast, IsSeat, SeatedPort, plan_of, seen_in, BeginsWith, IsSeatKnown, IsApart, SeatMakes, MayMake, unsealed_answer, change_of, over_by, told_of, legal_notes_seen, one_or_none, Contention, every_step_stays_lawful, MayNote, ◌⊎◌, MayMove}, Begins.{began_by, seen_few}, Control.{stands_since, led_to, reckoned_behind}, Kept.{GoesOn, Grows, HasGrown, HaveGrown, Moved, begun_grows, final_grows, moved_says}, Lists.same_before, Seen.legal_begins, Loads.{begun_place, seat_at}}
+use Rattle.partial_long_lived.proofs.{Common.{ℕ, ◌≡◌, ◌≢◌, ◌+◌, ◌<◌, ◌≤◌, ◌||◌, ◌++◌, Bool, true, false, if◌then◌else◌, Option, Some, None, IfSome, List, [], ◌∷◌, length, map, take, drop, slice_index, slice_set, refl, sym, ap, subst, ◌∙◌, inl, inr, arith, append-nil, append_assoc, length-append, AllByRecursion, length-map, take-append-drop, take-append-le, set-get_or, Applied, Call, Answer, stamp_of, LegalNotes, Noted, seen_by, Step, Load, Store, Exchange, Add, answer_of, word_of, words_after, CoreState, advance, reply_of, answer_for, call_of, is_begun, Part, core_of, begun_with, since_with, put, IsSealed, Site, Plan, arena_words, base, component_words, plain, based_step, history_of, opened_after, public_entry, public_log, among, history_longer, known, Control, Entering, Epoch, Port, Stands, Marks, Loaded, IsOld, option_map, present_history, all_back, Beside, IsStanding, LawfulEpochs, numbers, site_now, HaveSlots, MachineLeads, MeetsSeal, ends_over, ExpectedOne, LawfulMemory, EpochReached, noting, public_noted, Reckons, Reckoning, machines_are_never_refused, put_other, put_same, About, Began, Found, IsFinal, IsLast, IsSeat, SeatedPort, plan_of, seen_in, BeginsWith, IsSeatKnown, IsApart, SeatMakes, MayMake, unsealed_answer, change_of, over_by, told_of, legal_notes_seen, one_or_none, Contention, every_step_stays_lawful, MayNote, ◌⊎◌, MayMove}, Begins.{began_by, seen_few}, Control.{stands_since, led_to, reckoned_after}, Kept.{GoesOn, Grows, HasGrown, HaveGrown, Moved, begun_grows, final_grows, moved_says}, Lists.same_before, Seen.legal_begins, Loads.{begun_place, seat_at}}
 use Rattle.partial_epochs.specs.EveryStep.{Move as move}
 
 -- a step does the same to plain words as to those of a table
-pub words_then : (words : List ℕ) (e : Plan) (x : ℕ) (s : Step) → words_after words (placed_step e x s) ≡ slice_set words (base e x + word_of s) (change_of s (slice_index words (base e x + word_of s)))
+pub words_then : (words : List ℕ) (e : Plan) (x : ℕ) (s : Step) → words_after words (based_step e x s) ≡ slice_set words (base e x + word_of s) (change_of s (slice_index words (base e x + word_of s)))
 words_then words e x (Load w) = sym (set-get_or words (base e x + w) 0)
 words_then words e x (Store w v) = refl
 words_then words e x (Exchange w old new) = refl
 words_then words e x (Add w k) = refl
 
-told_then : (words : List ℕ) (e : Plan) (x : ℕ) (s : Step) → answer_of words (placed_step e x s) ≡ told_of s (slice_index words (base e x + word_of s))
+told_then : (words : List ℕ) (e : Plan) (x : ℕ) (s : Step) → answer_of words (based_step e x s) ≡ told_of s (slice_index words (base e x + word_of s))
 told_then words e x (Load w) = refl
 told_then words e x (Store w v) = refl
 told_then words e x (Exchange w old new) = refl
@@ -29,7 +29,7 @@ never_met e components (Add w k) apart meets = meets
 
 -- how the histories grow by a machine's step
 module _ (e : Plan) (words : List ℕ) (ports : ℕ → Port) (b : Beside) (w : LawfulEpochs e words ports b) (k : ℕ) (c : CoreState) (step : Step) (lead : MachineLeads e words ports b k c step) where
-  -- a port that has come to the current epoch stands there
+  -- a port that has entered the current epoch stands there
   stands_now : (q : ℕ) → q < e.ports → length (ports q).before ≡ (ports q).control.here.epoch → (ports q).before ≡ b.before → (ports q).control.entering ≡ Stands
   stands_now q low epoch same = by (ports q).control.entering refl (w.control.old q low)
     where
@@ -56,7 +56,7 @@ module _ (e : Plan) (words : List ℕ) (ports : ℕ → Port) (b : Beside) (w : 
           | inl less ↦ absurd (omega (arith, less, long))
           | inr now ↦ now.1
         ]) in
-        let mine : (ports k).control.here.arena ≡ b.arena = ap (λ (d : Place). d.arena) here.here in
+        let mine : (ports k).control.here.arena ≡ b.arena = ap (λ (d : Site). d.arena) here.here in
         let sealed : (a : Applied) → a.component < e.sizes.m → a.component ≡ j → IsSealed (slice_index (component_words e words (ports k).control.here.arena) a.component) = λ a inside is.
         subst (λ z. IsSealed (slice_index (component_words e words z) a.component)) (arena ∙ sym mine)
         ((w.arenas (ports q).control.here.arena s.epoch s.is).passed q a.component low (let count = s.passed in omega (arith, count, passed, is)) inside) in
@@ -65,7 +65,7 @@ module _ (e : Plan) (words : List ℕ) (ports : ℕ → Port) (b : Beside) (w : 
     where
       inside_all : AllByRecursion (λ (a : Applied). a.component < e.sizes.m) lead.entries
       inside_all = all_back (λ (a : Applied). a.component < e.sizes.m) b.log lead.entries
-          (subst (AllByRecursion (λ (a : Applied). a.component < e.sizes.m)) lead.log (present_history e (words_after words (placed_step e (ports k).control.here.arena step)) (put k lead.port ports) lead.beside lead.lawful).components)
+          (subst (AllByRecursion (λ (a : Applied). a.component < e.sizes.m)) lead.log (present_history e (words_after words (based_step e (ports k).control.here.arena step)) (put k lead.port ports) lead.beside lead.lawful).components)
 
       all_free : ((a : Applied) → a.component < e.sizes.m → a.component ≡ j → IsSealed (slice_index (component_words e words (ports k).control.here.arena) a.component)) → (h : List Applied) →
           AllByRecursion (λ (a : Applied). a.component < e.sizes.m) h → AllByRecursion (λ (a : Applied). ¬ IsSealed (slice_index (component_words e words (ports k).control.here.arena) a.component)) h →
@@ -106,7 +106,7 @@ module _ (e : Plan) (words : List ℕ) (ports : ℕ → Port) (b : Beside) (w : 
   all_grown before later log few is = grown_by (λ j. ⊥) before (λ same j no. absurd no) later log is
 
 module _ (a : About) (words : List ℕ) (ports : ℕ → Port) (notes : ℕ → List Noted) (b : Beside) (reckoned : Reckoning) (w : LawfulMemory (plan_of a) words ports b notes)
-    (time : Reckons (plan_of a) words ports (place_now b) reckoned) (k : ℕ) (below : k < a.ports) (g : Began) (f : Option Found) (u : Contention) (s : IsSeat a words ports notes b reckoned (seat_at a ports notes k g f u))
+    (time : Reckons (plan_of a) words ports (site_now b) reckoned) (k : ℕ) (below : k < a.ports) (g : Began) (f : Option Found) (u : Contention) (s : IsSeat a words ports notes b reckoned (seat_at a ports notes k g f u))
     (of_port : IsSeatKnown (seat_at a ports notes k g f u)) (slots : HaveSlots (plan_of a)) (first : Bool) (c : CoreState) (step : Step) (may : MayMake (seat_at a ports notes k g f u) c step)
     (lead : MachineLeads (plan_of a) words ports b k c step) where
   abbrev e : Plan
@@ -127,7 +127,7 @@ module _ (a : About) (words : List ℕ) (ports : ℕ → Port) (notes : ℕ → 
   answer_is : unsealed_answer e step n ≡ A
   answer_is = ap (plain e (word_of step)) (sym (told_then words e (ports k).control.here.arena step)) ∙ lead.gives
 
-  -- the port behind the step
+  -- the port after the step
   port_is : lead.port ≡ record (ports k) { part = lead.port.part; over = (ports k).over || over_by e step A }
   port_is =
       let over : lead.port.over ≡ ((ports k).over || over_by e step A) = lead.over ∙ ap (λ t. (ports k).over || t) (over_then e (arena_words e words (ports k).control.here.arena) step) in
@@ -176,23 +176,23 @@ module _ (a : About) (words : List ℕ) (ports : ℕ → Port) (notes : ℕ → 
               omega (arith, same, low)
 
   -- a conditional update that found another stamp expected one of the epoch's
-  expected_one : (l : List Noted) → lead.tells.new ≡ l → AllByRecursion (λ (m : Noted). ExpectedOne (opening_behind a.opening (ports k).before) lead.port.part.seen m.call m.answer) l
-  expected_one l is = elim (one_or_none (opening_behind a.opening (ports k).before) lead.port.part (reply_of (advance c A)) lead.tells.new lead.tells.noted) [
-    | inl none ↦ subst (AllByRecursion (λ (m : Noted). ExpectedOne (opening_behind a.opening (ports k).before) lead.port.part.seen m.call m.answer)) (sym none ∙ is) tt
+  expected_one : (l : List Noted) → lead.tells.new ≡ l → AllByRecursion (λ (m : Noted). ExpectedOne (opened_after a.opening (ports k).before) lead.port.part.seen m.call m.answer) l
+  expected_one l is = elim (one_or_none (opened_after a.opening (ports k).before) lead.port.part (reply_of (advance c A)) lead.tells.new lead.tells.noted) [
+    | inl none ↦ subst (AllByRecursion (λ (m : Noted). ExpectedOne (opened_after a.opening (ports k).before) lead.port.part.seen m.call m.answer)) (sym none ∙ is) tt
     | inr some ↦
         let m = some.1 in
-        subst (AllByRecursion (λ (m : Noted). ExpectedOne (opening_behind a.opening (ports k).before) lead.port.part.seen m.call m.answer)) (sym m.is ∙ is)
+        subst (AllByRecursion (λ (m : Noted). ExpectedOne (opened_after a.opening (ports k).before) lead.port.part.seen m.call m.answer)) (sym m.is ∙ is)
         (by m.call (answer_for (core_of lead.port.part) some.0) (ap call_of (sym (ap (λ (t : Part). t.begun) lead.tells.part)) ∙ m.made), tt)
   ]
     where
-      by : (d : Call) (r : Answer) → call_of (begun_with c (ports k).part) ≡ Some d → ExpectedOne (opening_behind a.opening (ports k).before) lead.port.part.seen d r
+      by : (d : Call) (r : Answer) → call_of (begun_with c (ports k).part) ≡ Some d → ExpectedOne (opened_after a.opening (ports k).before) lead.port.part.seen d r
       by (Call.UpdateIf j x v) (Answer.Changed t) made =
           let had = may.expects j x v made in
           let r = seen_rest in
           let long = ap (λ (l : List Applied). length l) r.1 in
           let both = length-append (ports k).part.seen r.0 in
           let few = had.1 in
-          (had.0, omega (arith, long, both, few), had.2 ∙ ap (λ (l : List Applied). stamp_of (opening_behind a.opening (ports k).before) l j) (sym (take-append-le had.0 (ports k).part.seen r.0 few) ∙ ap (take had.0) (sym r.1)))
+          (had.0, omega (arith, long, both, few), had.2 ∙ ap (λ (l : List Applied). stamp_of (opened_after a.opening (ports k).before) l j) (sym (take-append-le had.0 (ports k).part.seen r.0 few) ∙ ap (take had.0) (sym r.1)))
       by (Call.UpdateIf j x v) (Answer.Applied t) made = tt
       by (Call.UpdateIf j x v) (Answer.Lost t) made = tt
       by (Call.UpdateIf j x v) (Answer.Scanned vs n b) made = tt
@@ -203,7 +203,7 @@ module _ (a : About) (words : List ℕ) (ports : ℕ → Port) (notes : ℕ → 
       by (Call.Read j) r made = tt
 
   abbrev words' : List ℕ
-  words' = words_after words (placed_step e (ports k).control.here.arena step)
+  words' = words_after words (based_step e (ports k).control.here.arena step)
 
   abbrev ports' : ℕ → Port
   ports' = put k lead.port ports
@@ -234,7 +234,7 @@ module _ (a : About) (words : List ℕ) (ports : ℕ → Port) (notes : ℕ → 
       subst (λ (l : List Applied). LegalNotes a.opening l k 0 (notes k ++ map (public_noted e (ports k).before) lead.tells.new)) (sym is)
       (legal_notes_seen e words ports b notes k c step w below may.stands lead (map (public_noted e (ports k).before) lead.tells.new) (inr (refl, shown_then, expected)) was shown_then expected)
 
-  -- what the port may note, whatever its machine is told
+  -- what the port may note, whatever answer its machine gets
   pub may_note_all : MayNote e (ports k) (notes k) (since_with c (ports k).part) lead.port.part.seen lead.tells.new (map (public_noted e (ports k).before) lead.tells.new)
   may_note_all = inr (refl, shown_then, expected_one lead.tells.new refl)
 
@@ -317,24 +317,24 @@ module _ (a : About) (words : List ℕ) (ports : ℕ → Port) (notes : ℕ → 
   unfolding moved_make
   moved_come whole reckoned' met in_time = moved_says (moved_make whole reckoned' met in_time) ((moved_make whole reckoned' met in_time).says, (began_by first X b (seen_few a words ports notes b reckoned X w s) s.began).2.come)
 
--- What the machine's step leads to: the machine is told what the law says, and what is counted beside the words goes on.
+-- What the machine's step leads to: the machine gets the answer that the law says, and what is counted beside the words goes on.
 pub record Made (a : About) (words : List ℕ) (ports : ℕ → Port) (notes : ℕ → List Noted) (b : Beside) (reckoned : Reckoning) (k : ℕ) (c : CoreState) (step : Step) : Type 0 where
   pub lead : MachineLeads (plan_of a) words ports b k c step
-  pub lawful : LawfulMemory (plan_of a) (words_after words (placed_step (plan_of a) (ports k).control.here.arena step)) (put k lead.port ports) lead.beside
+  pub lawful : LawfulMemory (plan_of a) (words_after words (based_step (plan_of a) (ports k).control.here.arena step)) (put k lead.port ports) lead.beside
       (noting k (map (public_noted (plan_of a) (ports k).before) lead.tells.new) notes)
   pub reckoned' : Reckoning
   pub met : reckoned.tally.met k ≡ true → reckoned'.tally.met k ≡ true
-  pub time : GoesOn a words (words_after words (placed_step (plan_of a) (ports k).control.here.arena step)) ports (put k lead.port ports) b lead.beside reckoned reckoned' k
+  pub time : GoesOn a words (words_after words (based_step (plan_of a) (ports k).control.here.arena step)) ports (put k lead.port ports) b lead.beside reckoned reckoned' k
 
--- What a due step of a port's machine leads to, by the one law of all moves: it meets a seal, or the machine is told what the law says.
+-- What a due step of a port's machine leads to, by the one law of all moves: it meets a seal, or the machine gets the answer that the law says.
 pub made_or_met : (a : About) (words : List ℕ) (ports : ℕ → Port) (notes : ℕ → List Noted) (b : Beside) (reckoned : Reckoning) (w : LawfulMemory (plan_of a) words ports b notes) →
-    Reckons (plan_of a) words ports (place_now b) reckoned → (k : ℕ) → k < a.ports → (g : Began) (f : Option Found) (u : Contention) → IsSeat a words ports notes b reckoned (seat_at a ports notes k g f u) →
+    Reckons (plan_of a) words ports (site_now b) reckoned → (k : ℕ) → k < a.ports → (g : Began) (f : Option Found) (u : Contention) → IsSeat a words ports notes b reckoned (seat_at a ports notes k g f u) →
     IsSeatKnown (seat_at a ports notes k g f u) → HaveSlots (plan_of a) → (c : CoreState) (step : Step) → MayMake (seat_at a ports notes k g f u) c step →
-    (MeetsSeal (plan_of a) (component_words (plan_of a) words (ports k).control.here.arena) step × (words_after words (placed_step (plan_of a) (ports k).control.here.arena step) ≡ words))
+    (MeetsSeal (plan_of a) (component_words (plan_of a) words (ports k).control.here.arena) step × (words_after words (based_step (plan_of a) (ports k).control.here.arena step) ≡ words))
     ⊎ Made a words ports notes b reckoned k c step
 made_or_met a words ports notes b reckoned w time k below g f u s known slots c step may =
     let e : Plan = plan_of a in
-    let words' : List ℕ = words_after words (placed_step e (ports k).control.here.arena step) in
+    let words' : List ℕ = words_after words (based_step e (ports k).control.here.arena step) in
     let may_move : MayMove e words ports b notes k (move.Makes c step true) =
     (may.stands, may.machine, may.due, may.claim, λ lead. may_note_all a words ports notes b reckoned w time k below g f u s known slots true c step may lead) in
     let l = every_step_stays_lawful e words ports b notes k (move.Makes c step true) w below may_move in
@@ -348,7 +348,7 @@ made_or_met a words ports notes b reckoned w time k below g f u s known slots c 
           inr (record {
             lead = made.0;
             lawful = led.lawful;
-            reckoned' = reckoned_behind b k (move.Makes c step true) reckoned led.there;
+            reckoned' = reckoned_after b k (move.Makes c step true) reckoned led.there;
             met = λ is. led.met k ∙ is;
             time = led.time;
           })

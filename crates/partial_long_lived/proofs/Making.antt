@@ -1,5 +1,5 @@
 -- The steps of the machine of a seat's port are allowed.
-use Rattle.partial_long_lived.proofs.{Common.{ℕ, ◌≡◌, ◌+◌, ◌<◌, ◌≤◌, Bool, false, if◌then◌else◌, List, length, slice_index, slice_set, refl, sym, ap, subst, ◌∙◌, inl, inr, arith, ◌⊎◌, set-get_or, Me, Allows, Step, Load, Store, Exchange, word_of, CoreState, IsSealed, Place, Plan, base, component_words, HaveSlots, MeetsSeal, unsealed_is_present, at_of, eqb_tells, About, IsRuleKept, IsSeat, SeatedPort, one_of, plan_of, IsSeatKnown, IsOne, tells, seal, unsealed, cases_lt, lt-ltb, Glances, Exchanges, FindsZero, IsApart, SeatMakes, MayMake, MissesSeal, unsealed_answer, change_of, makes}, Sights.nothing_moved, Kept.{Moved, allowed, moved_as, moved_says, moved_sealed}, Loads.{moved_see, seat_at, seat_is}, Machine.{moved_come, moved_make, never_met, words_then, made_or_met}}
+use Rattle.partial_long_lived.proofs.{Common.{ℕ, ◌≡◌, ◌+◌, ◌<◌, ◌≤◌, Bool, false, if◌then◌else◌, List, length, slice_index, slice_set, refl, sym, ap, subst, ◌∙◌, inl, inr, arith, ◌⊎◌, set-get_or, Me, Allows, Step, Load, Store, Exchange, word_of, CoreState, IsSealed, Site, Plan, base, component_words, HaveSlots, MeetsSeal, unsealed_is_present, at_of, eqb_tells, About, IsRuleKept, IsSeat, SeatedPort, one_of, plan_of, IsSeatKnown, IsOne, tells, seal, unsealed, cases_lt, lt-ltb, Glances, Exchanges, FindsZero, IsApart, SeatMakes, MayMake, MissesSeal, unsealed_answer, change_of, makes}, Sights.nothing_moved, Kept.{Moved, allowed, moved_as, moved_says, moved_sealed}, Loads.{moved_see, seat_at, seat_is}, Machine.{moved_come, moved_make, never_met, words_then, made_or_met}}
 use Rattle.partial_long_lived.specs.Inner.Machine.{SeatBegins as BeginsUpdate}
 
 -- a word is the record old, sealed, or it isn't
@@ -123,7 +123,7 @@ module _ {S : Type 0} (a : About) (slots id : ℕ) (me : Me S (List SeatedPort))
             ]) in
             let plain_is : unsealed_answer e (Load j) n ≡ n = ap (λ (t : Bool). if t then unsealed n else n) (lt-ltb j a.sizes.m inside) ∙ omega (arith, less) in
             let at : slice_index (component_words e words (ports k).control.here.arena) j ≡ n = at_of (λ i. slice_index words (base e (ports k).control.here.arena + i)) 0 a.sizes.m j inside ∙ ap (λ i. slice_index words (base e (ports k).control.here.arena + i)) (omega arith) in
-            let here = ap (λ (d : Place). d.epoch) (unsealed_is_present e words ports b k j w.epochs s.number may'.stands inside (λ sealed. omega (arith, at, less, sealed))).here in
+            let here = ap (λ (d : Site). d.epoch) (unsealed_is_present e words ports b k j w.epochs s.number may'.stands inside (λ sealed. omega (arith, at, less, sealed))).here in
             let come = m.says.1 in
             moved_says m (inr (less, subst (λ t. SeatMakes first c (Load j) X t m.y) plain_is m.says.0, omega (arith, come, here)))
         | inr from ↦

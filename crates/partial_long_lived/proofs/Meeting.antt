@@ -1,5 +1,5 @@
 -- The step by which one port of a seat of two sees all of its epoch.
-use Rattle.partial_long_lived.proofs.{Common.{ℕ, ◌≡◌, ◌<◌, ◌≤◌, ◌++◌, List, [], ◌∷◌, length, slice_index, slice_set, refl, sym, ap, subst, ◌∙◌, arith, Option, append-nil, append_assoc, length-append, AllByRecursion, Me, Allows, keeps, Applied, Noted, all_at, all_after, history_of, public_log, Port, Stands, Beside, place_now, LawfulMemory, having_seen, one_history, Reckons, Reckoning, history_grows, history_longer, About, Began, Found, BeganInTime, IsRuleKept, IsSeat, SeatedPort, one_of, plan_of, seats_of, seen_in, BeginsWith, IsSeatKnown, IsOne, Observes, observes, Contention, Knows, LegalNotes}, Begins.{now, now_has_begun, seen_few}, Kept.{Moved, goes_then, once_then, seats_then}, Loads.{begun_place, moved_glance, seat_at, seat_is, standing, where_is}, Seen.seen_begins, Views.around, Seen.{knows_of, legal_begins}}
+use Rattle.partial_long_lived.proofs.{Common.{ℕ, ◌≡◌, ◌<◌, ◌≤◌, ◌++◌, List, [], ◌∷◌, length, slice_index, slice_set, refl, sym, ap, subst, ◌∙◌, arith, Option, append-nil, append_assoc, length-append, AllByRecursion, Me, Allows, keeps, Applied, Noted, all_at, all_after, history_of, public_log, Port, Stands, Beside, site_now, LawfulMemory, having_seen, one_history, Reckons, Reckoning, history_grows, history_longer, About, Began, Found, BeganInTime, IsRuleKept, IsSeat, SeatedPort, one_of, plan_of, seats_of, seen_in, BeginsWith, IsSeatKnown, IsOne, Observes, observes, Contention, Knows, LegalNotes}, Begins.{now, now_has_begun, seen_few}, Kept.{Moved, goes_then, once_then, seats_then}, Loads.{begun_place, moved_glance, seat_at, seat_is, standing, where_is}, Seen.seen_begins, Views.around, Seen.{knows_of, legal_begins}}
 
 -- of two beginnings of a history the longer one begins with the other
 begins_within : (h l m : List Applied) → BeginsWith h m → BeginsWith l m → length h ≤ length l → BeginsWith h l
@@ -96,7 +96,7 @@ seen_before a words ports notes b reckoned w x s y t early = by y.port.before re
 
 -- a port that stands sees all of its epoch, beside another one
 observed : (a : About) (words : List ℕ) (ports : ℕ → Port) (notes : ℕ → List Noted) (b : Beside) (reckoned : Reckoning) (w : LawfulMemory (plan_of a) words ports b notes) →
-    Reckons (plan_of a) words ports (place_now b) reckoned → (k : ℕ) → k < a.ports → (g : Began) → (f : Option Found) → (u : Contention) → (ports k).control.entering ≡ Stands →
+    Reckons (plan_of a) words ports (site_now b) reckoned → (k : ℕ) → k < a.ports → (g : Began) → (f : Option Found) → (u : Contention) → (ports k).control.entering ≡ Stands →
     IsSeat a words ports notes b reckoned (seat_at a ports notes k g f u) → IsSeatKnown (seat_at a ports notes k g f u) → (y : SeatedPort) → IsSeat a words ports notes b reckoned y → IsSeatKnown y → (i : ℕ) →
     Moved a words (slice_set words i (slice_index words i)) ports notes b reckoned (seat_at a ports notes k g f u) (Observes (seat_at a ports notes k g f u) y)
 observed a words ports notes b reckoned w time k below g f u stands s known y t other i =
@@ -127,6 +127,17 @@ observed a words ports notes b reckoned w time k below g f u stands s known y t 
       known = λ begins. knows_beside (history_of (log ∷ (ports k).before)) all_of_x begins;
       known_before = λ begins. knows_of a words ports b notes w k below (seen_in y.port) (begins_all a words ports notes b reckoned w y t)
           (legal_begins a.opening (seen_in x.port) (seen_in y.port) k 0 (notes k) begins known.knows.legal);
+      lawful = record {
+        log = one_history b;
+        notes = notes;
+        state = record { words = words; ports = ports; beside = b; lawful = w; history = refl };
+        first = all_of_x;
+        second = begins_all a words ports notes b reckoned w y t;
+        first_noted = sym (append-nil (notes k));
+        second_noted = sym t.noted;
+        first_began = omega arith;
+        second_began = begun_place b y.began [] b.before b.log t.began refl (t.began.come);
+      };
     })
 
 -- the step is allowed to a seat of two ports, of which the first one stands

@@ -1,5 +1,5 @@
 -- How a meeting of two ports leaves each of them.
-use Rattle.partial_long_lived.proofs.{Common.{◌≡◌, ◌<◌, ◌≤◌, List, [], ◌∷◌, length, take, inl, sym, ap, subst, ◌∙◌, arith, append-nil, take-append_seam, Me, TableId, Applied, core_of, About, Stand, Began, SeatedPort, first_port, one_of, IsOf, MemoryView, PortView, port_view, seen_in, HasCome, IsIdle, StaysAt, EpochSettled, IsHeld, port_at, BeginsWith, IsOne, HasMet, Observes, Knows, inr, ◌⊎◌, AreComparable}, Answering.{callers_see, goes_seen, view_before, view_behind}, Coming.{begins_on, come_on}}
+use Rattle.partial_long_lived.proofs.{Common.{◌≡◌, ◌<◌, ◌≤◌, List, [], ◌∷◌, length, take, inl, sym, ap, subst, ◌∙◌, arith, append-nil, take-append_seam, Me, TableId, Applied, core_of, About, Stand, Began, SeatedPort, first_port, one_of, IsOf, MemoryView, PortView, port_view, seen_in, HasCome, IsIdle, StaysAt, EpochSettled, IsHeld, port_at, BeginsWith, IsOne, HasMet, Observes, Knows, HasLawfulState, WereLawful, inr, ◌⊎◌, AreComparable}, Answering.{callers_see, goes_seen, view_before, view_after}, Coming.{begins_on, come_on}}
 use Rattle.partial_long_lived.specs.Calls as calls
 
 -- a port that has seen all of its epoch stands where it stood
@@ -20,6 +20,20 @@ beside_come s t idle kept is = record {
   goes = kept.goes;
   idle = record { stands = ap (λ (z : SeatedPort). z.port.control.entering) is ∙ idle.stands; free = ap (λ (z : SeatedPort). z.port.control.owned) is ∙ idle.free };
   machine = inl (kept.epoch, ap (λ (z : SeatedPort). core_of z.port.part) is, ap (λ (z : SeatedPort). z.port.over) is);
+}
+
+-- the two ports may be named in any order
+pub swapped_lawful : {a : About} {x y : SeatedPort} → WereLawful a x y → WereLawful a y x
+swapped_lawful w = record {
+  log = w.log;
+  notes = w.notes;
+  state = w.state;
+  first = w.second;
+  second = w.first;
+  first_noted = w.second_noted;
+  second_noted = w.first_noted;
+  first_began = w.second_began;
+  second_began = w.first_began;
 }
 
 -- the first look of a meeting, of the port at s beside the one at o
@@ -47,6 +61,10 @@ module _ (table : TableId) (about : About) (s o u p : Stand) (h : IsHeld table a
       knows = subst (λ (z : SeatedPort). Knows (port_at o).about (port_at o).number (seen_in z.port) (port_at o).notes) (sym same_first) (w.known all_now);
     }
 
+    pub together_lawful : WereLawful about (port_at q) (port_at v)
+    together_lawful = subst (λ (z : SeatedPort). WereLawful about z (port_at v)) (sym same_first)
+        (swapped_lawful (subst (λ (d : About). WereLawful d (port_at v) (port_at u)) (ap (λ (z : SeatedPort). z.about) same ∙ g.own) w'.lawful))
+
     all_then : BeginsWith (seen_in (port_at u).port) (seen_in (port_at v).port)
     all_then = w'.all (let e = epochs in let here = ap (λ (z : SeatedPort). z.port.control.here.epoch) w.is in let there = ap (λ (z : SeatedPort). z.port.control.here.epoch) same in omega (arith, e, here, there))
 
@@ -61,7 +79,7 @@ module _ (table : TableId) (about : About) (s o u p : Stand) (h : IsHeld table a
       knows = subst (λ (z : SeatedPort). Knows z.about z.number (seen_in (port_at v).port) z.notes) w.is (w'.known all_then);
     }
 
-  -- out of an earlier epoch the port comes to the current one, and looks again
+  -- from an earlier epoch the port enters the current one, and looks again
   module _ (r t q : Stand) (early : s.epoch < o.epoch) (settled : EpochSettled u r) (held : IsHeld table about r) (kept_last : StaysAt r t) (kept_beside : StaysAt p q) (same_beside : port_at q ≡ port_at p)
       (w' : Observes (port_at r) (port_at p) (port_at t)) where
     come_late : (port_at p).port.control.here.epoch ≤ (port_at r).port.control.here.epoch
@@ -84,6 +102,9 @@ module _ (table : TableId) (about : About) (s o u p : Stand) (h : IsHeld table a
     pub apart_one : AreComparable t q
     apart_one = inr (subst (λ (z : SeatedPort). BeginsWith (seen_in z.port) (seen_in (port_at t).port)) (sym same_beside) (w'.all come_late))
 
+    pub apart_lawful : WereLawful about (port_at t) (port_at q)
+    apart_lawful = subst (WereLawful about (port_at t)) (sym same_beside) (subst (λ (d : About). WereLawful d (port_at t) (port_at p)) held.own w'.lawful)
+
     all_before : BeginsWith (seen_in (port_at s).port) (seen_in (port_at o).port)
     all_before = w.before (let here = h.epoch in let there = g.epoch in omega (arith, early, here, there))
 
@@ -100,7 +121,7 @@ pub all_seen : (m : MemoryView) (t : Stand) (p : PortView) → port_view t.seat.
     BeginsWith (seen_in (port_at t).port) (seen_in (port_at u).port) → p.seen ≡ take (length p.seen) (port_view u.seat.table_id u.seat.steps (port_at u)).seen
 all_seen m t p view own u held all =
     subst (λ (a : PortView). a.seen ≡ take (length a.seen) (port_view u.seat.table_id u.seat.steps (port_at u)).seen) (view_before m t p view own)
-    (subst (λ (b : PortView). seen_in (port_at t).port ≡ take (length (seen_in (port_at t).port)) b.seen) (view_behind m u held)
+    (subst (λ (b : PortView). seen_in (port_at t).port ≡ take (length (seen_in (port_at t).port)) b.seen) (view_after m u held)
     (sym (take-append_seam (seen_in (port_at t).port) all.0) ∙ ap (λ (l : List Applied). take (length (seen_in (port_at t).port)) l) (sym all.1)))
 
 -- a port that has met another one, as callers see it
@@ -143,3 +164,14 @@ comparable_seen s t (inr begins) = inr (begins_seen (seen_in (port_at t).port) (
 pub swapped : {A B : Type 0} → A ⊎ B → B ⊎ A
 swapped (inl first) = inr first
 swapped (inr second) = inl second
+
+-- the rule that held as two ports met, as callers see it
+pub met_lawfully : (m : MemoryView) (u v : Stand) → IsHeld m.table m.about u → WereLawful m.about (port_at u) (port_at v) →
+    calls.MeetByTheRule (port_view u.seat.table_id u.seat.steps (port_at u)) (port_view v.seat.table_id v.seat.steps (port_at v))
+met_lawfully m u v held w = record {
+  log = w.log;
+  notes = w.notes;
+  state = subst (λ (d : About). HasLawfulState d w.log w.notes) (sym held.own) w.state;
+  first = record { seen = begins_seen (seen_in (port_at u).port) w.log w.first; noted = w.first_noted; began = w.first_began };
+  second = record { seen = begins_seen (seen_in (port_at v).port) w.log w.second; noted = w.second_noted; began = w.second_began };
+}

@@ -60,7 +60,7 @@ pub newcomer_known : (a : About) (words : List ℕ) → OpensAll (plan_of a) wor
 newcomer_known a words w k low = record {
   plan = w.plan;
   number = low;
-  place = let some = w.some in record { epoch = omega arith; arena = omega (arith, some) };
+  site = let some = w.some in record { epoch = omega arith; arena = omega (arith, some) };
   epoch = refl;
   knows = record { history = record { components = tt; distinct = tt; not_initial = tt }; legal = tt; once = refl; others = tt };
   fits = record { each = tt };

@@ -1,5 +1,5 @@
 -- The exchange of the current word is allowed.
-use Rattle.partial_long_lived.proofs.{Common.{ℕ, ◌≡◌, ◌<◌, ◌≤◌, ◌==◌, ◌++◌, if◌then◌else◌, List, [], ◌∷◌, length, slice_index, slice_set, refl, sym, ap, subst, ◌∙◌, inl, inr, arith, append-nil, length-append, either, Me, Allows, Applied, LegalNotes, Noted, put, Plan, current_word, packed, OwnedArena, Port, Beside, Reckoning, IsWholeArena, having_published, next_beside, next_place, LawfulMemory, put_other, put_same, About, IsRuleKept, IsSeat, SeatedPort, one_of, plan_of, seen_in, IsSeatKnown, IsOne, tells, SeatPublishes, becomes, every_step_stays_lawful, IsSince, true}, Kept.{GoesOn, Grows, HasGrown, HaveGrown, Moved, allowed, begun_grows, final_grows, seen_grows}, Asides.{IsQuiet, final_same}, Changes.either_cond, Control.{LedTo, led_to, moved_quietly, reckoned_behind, unnoted}}
+use Rattle.partial_long_lived.proofs.{Common.{ℕ, ◌≡◌, ◌<◌, ◌≤◌, ◌==◌, ◌++◌, if◌then◌else◌, List, [], ◌∷◌, length, slice_index, slice_set, refl, sym, ap, subst, ◌∙◌, inl, inr, arith, append-nil, length-append, either, Me, Allows, Applied, LegalNotes, Noted, put, Plan, current_word, packed, OwnedArena, Port, Beside, Reckoning, IsWholeArena, having_published, next_beside, next_site, LawfulMemory, put_other, put_same, About, IsRuleKept, IsSeat, SeatedPort, one_of, plan_of, seen_in, IsSeatKnown, IsOne, tells, SeatPublishes, becomes, every_step_stays_lawful, IsSince, true}, Kept.{GoesOn, Grows, HasGrown, HaveGrown, Moved, allowed, begun_grows, final_grows, seen_grows}, Asides.{IsQuiet, final_same}, Changes.either_cond, Control.{LedTo, led_to, moved_quietly, reckoned_after, unnoted}}
 use Rattle.partial_epochs.specs.EveryStep.{Move as move}
 
 -- once the next epoch is open, the epochs that had come have the histories that they had
@@ -84,17 +84,17 @@ module _ {S : Type 0} (a : About) (slots id : ℕ) (me : Me S (List SeatedPort))
   x = one_of me.0
 
   pub may_publish : (o : OwnedArena) → IsWholeArena (plan_of a) x.port o →
-      Allows (IsRuleKept a) slots id me current_word (λ n. either (n == packed x.port.control.here) (packed (next_place x.port.control.here o.arena)) n) (tells (SeatPublishes o) me)
-  may_publish o whole = allowed a slots id me current_word (λ n. either (n == packed x.port.control.here) (packed (next_place x.port.control.here o.arena)) n) (SeatPublishes o) one own
+      Allows (IsRuleKept a) slots id me current_word (λ n. either (n == packed x.port.control.here) (packed (next_site x.port.control.here o.arena)) n) (tells (SeatPublishes o) me)
+  may_publish o whole = allowed a slots id me current_word (λ n. either (n == packed x.port.control.here) (packed (next_site x.port.control.here o.arena)) n) (SeatPublishes o) one own
       (λ words ports notes b reckoned w time s small.
       let e : Plan = plan_of a in
       let k : ℕ = x.number in
       let n : ℕ = slice_index words current_word in
       let p : Port = having_published (ports k) o in
-      let v : ℕ = either (n == packed x.port.control.here) (packed (next_place x.port.control.here o.arena)) n in
-      let word : (if n == packed (ports k).control.here then packed (next_place (ports k).control.here o.arena) else n) ≡ v =
-      ap (λ (q : Port). if n == packed q.control.here then packed (next_place q.control.here o.arena) else n) (sym s.port)
-      ∙ either_cond (n == packed x.port.control.here) (packed (next_place x.port.control.here o.arena)) n in
+      let v : ℕ = either (n == packed x.port.control.here) (packed (next_site x.port.control.here o.arena)) n in
+      let word : (if n == packed (ports k).control.here then packed (next_site (ports k).control.here o.arena) else n) ≡ v =
+      ap (λ (q : Port). if n == packed q.control.here then packed (next_site q.control.here o.arena) else n) (sym s.port)
+      ∙ either_cond (n == packed x.port.control.here) (packed (next_site x.port.control.here o.arena)) n in
       let words' : List ℕ = slice_set words current_word v in
       let whole' : IsWholeArena e (ports k) o = subst (λ (q : Port). IsWholeArena e q o) s.port whole in
       let l = every_step_stays_lawful e words ports b notes k (move.Publishes o) w s.number whole' in
@@ -105,13 +105,13 @@ module _ {S : Type 0} (a : About) (slots id : ℕ) (me : Me S (List SeatedPort))
         | inl opened ↦
             let c : Beside = next_beside e b o.arena in
             let led = to c opened.1 (omega arith) in
-            won a words words' ports notes b reckoned x w s known o (unnoted a words ports notes b reckoned w time k s.number words' (put k p ports) c led.lawful) (reckoned_behind b k (move.Publishes o) reckoned led.there) (λ q. refl)
+            won a words words' ports notes b reckoned x w s known o (unnoted a words ports notes b reckoned w time k s.number words' (put k p ports) c led.lawful) (reckoned_after b k (move.Publishes o) reckoned led.there) (λ q. refl)
             (λ is. led.met k ∙ is) led.time (SeatPublishes o x n) refl
         | inr lost ↦
             let led = to b lost.1 (omega arith) in
             moved_quietly a words words' ports notes b reckoned x w s known (λ q. having_published q o) (published_quiet o) x.began s.began (record {
               to = record {
-                reckoned' = reckoned_behind b k (move.Publishes o) reckoned led.there;
+                reckoned' = reckoned_after b k (move.Publishes o) reckoned led.there;
                 beside = b;
                 log = refl;
                 before = refl;

@@ -1,4 +1,4 @@
--- A port between two calls: what holds of its seat in a call, and behind it.
+-- A port between two calls: what holds of its seat in a call, and after it.
 use Rattle.partial_long_lived.proofs.Common.{ℕ, ◌≡◌, Bool, sym, ap, subst, ◌∙◌, CoreState, TableId, Plan, About, Stand, IsOf, MemoryView, port_view, IsResting, IsHeld, RestsAt, port_at}
 
 -- the seat of a port that rests is held in a call

@@ -6,7 +6,7 @@ abbrev pub BeganSo : Bool → Bool → Stand → Stand → Type 0
 BeganSo first true s t = first ≡ true
 BeganSo first false s t = BeganBy first (port_at s) (port_at t).began
 
--- a part of a call, behind which the call goes on
+-- a part of a call, after which the call goes on
 pub record RoundsOn (table : TableId) (about : About) (first next : Bool) (s t : Stand) (core : CoreState) : Type 0 where
   pub held : IsHeld table about t
   pub idle : IsIdle t
@@ -109,9 +109,9 @@ rounds_came table about first next s t core on later = record {
   began = subst (λ (n : Bool). BeganSo first n s t) later on.began;
 }
 
--- an update that ended behind a part of its call
-pub updated_behind : (first : Bool) (c : Change) (r : Exchanged) (s t v : Stand) → CameBy first s t → UpdateEnded false c r t v → UpdateEnded first c r s v
-updated_behind first c r s t v came ended = record {
+-- an update that ended after a part of its call
+pub updated_after : (first : Bool) (c : Change) (r : Exchanged) (s t v : Stand) → CameBy first s t → UpdateEnded false c r t v → UpdateEnded first c r s v
+updated_after first c r s t v came ended = record {
   shape = ended.shape ∙ came.shape;
   number = ended.number ∙ came.number;
   goes = goes_on (port_at s) (port_at t) (port_at v) came.goes ended.goes;
@@ -128,12 +128,12 @@ late_of times seals s t v Component goes is = absurd is
 late_of times seals s t v Overtaken goes is = absurd is
 late_of times seals s t v EpochsSpent goes is = is
 
--- one that began with a change of epoch has come to one more
-pub late_behind : (times seals : ℕ) (s t v : Stand) (cause : Refused) → SeatGoes (port_at s) (port_at t) → epoch_at s < epoch_at t → IsLate times seals t cause v → IsLate (times + 1) seals s cause v
-late_behind times seals s t v Component goes later is = absurd is
-late_behind times seals s t v Overtaken goes later is =
+-- one that began with a change of epoch has entered one more
+pub late_after : (times seals : ℕ) (s t v : Stand) (cause : Refused) → SeatGoes (port_at s) (port_at t) → epoch_at s < epoch_at t → IsLate times seals t cause v → IsLate (times + 1) seals s cause v
+late_after times seals s t v Component goes later is = absurd is
+late_after times seals s t v Overtaken goes later is =
     let first = is.0 in let second = is.1 in let more = goes.seals in (omega (arith, later, first), omega (arith, more, second))
-late_behind times seals s t v EpochsSpent goes later is = is
+late_after times seals s t v EpochsSpent goes later is = is
 
 -- and one that began with an attempt to as many
 pub late_from : (times seals : ℕ) (s t v : Stand) (cause : Refused) → SeatGoes (port_at s) (port_at t) → IsLate times seals t cause v → IsLate times seals s cause v
@@ -142,7 +142,7 @@ late_from times seals s t v Overtaken goes is =
     let first = is.0 in let second = is.1 in let up = goes.epoch in let more = goes.seals in (omega (arith, up, first), omega (arith, more, second))
 late_from times seals s t v EpochsSpent goes is = is
 
--- behind so many later epochs, a round that met a seal and a change of epoch lead to one more
+-- after so many later epochs, a round that met a seal and a change of epoch lead to one more
 pub one_later : (table : TableId) (about : About) (s u t v : Stand) (n : ℕ) → IsHeld table about u → IsHeld table about t → t.epoch ≡ u.epoch → epoch_at s + n ≤ epoch_at u →
     epoch_at t < epoch_at v → epoch_at s + (n + 1) ≤ epoch_at v
 one_later table about s u t v n h k same so later =
@@ -172,7 +172,7 @@ seals_more s u t v n false later so met before goes on =
     let more = on.seals in
     omega (arith, so, sealed, more)
 
--- what holds of an answer may be told in another way
+-- what holds of an answer may be stated in another way
 pub ok_as : (A E : Type 0) (r : Result A E) (P Q : A → Type 0) → ((a : A) → P a → Q a) → IfOk r P → IfOk r Q
 ok_as A E (Ok a) P Q f w = f a w
 ok_as A E (Err e) P Q f w = tt

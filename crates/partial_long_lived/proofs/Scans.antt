@@ -1,5 +1,5 @@
 -- A scan where a port stands: its first step is allowed, and what it leaves of its port.
-use Rattle.partial_long_lived.proofs.{Common.{None, true, nat_lt, ◌==◌, ◌&&◌, StoringAnnouncement, at_stage, slot_limit, IsEpochPlan, awaits, before_claim, has_claimed, answers_lead_on, most_of_scan, seat_steps_left, ℕ, ◌≡◌, ◌+◌, ◌-◌, ◌%◌, ◌^◌, ◌<◌, ◌≤◌, ◌||◌, ◌++◌, Bool, false, if◌then◌else◌, Option, Some, List, [], ◌∷◌, length, map, refl, sym, ap, subst, ◌∙◌, inl, inr, arith, length-append, is_some, slice_index, length-map, Allows, TableId, Applied, Call, Note, Noted, place_of, Add, Layout, IsLayout, pool_counter, total, Reply, call_of, CoreState, advance, reply_of, scanned_values, step_of, AreComponentIndices, IsSound, AreNotesOf, IsNoteOf, IsPlacedAt, Plan, base, plain, unsealed, history_of, public_entry, public_log, public_noted, Control, not_below, RestsLike, About, Stand, Began, IsRuleKept, SeatedPort, plan_of, SeatGoes, IsOne, IsHeld, port_at, IsIdle, component_at, SeatMakes, unsealed_answer, makes, over_by, word_at, HasNotedScan, RestsUnmarked, ScanMade, SettledFirst, noted_scan, CallMade, IsGoing, ComesTo, MayBegin, machine_at, take, Opening, stamp_of, CollectsStamps, opening_behind, stamp_limit, public_of, stamp_public, opening_of, MadeNamed, NameStamps, ScannedNamed, stamp_at, announcement_size, scan_asked, Answer}, RecordStamps.{stamp_small, unsealed_same}, Coming.goes_on, Making.may_make, Standing.{arena_there, held_then, room_of}, Under.{first_made, first_may}, Unmarked.marks_stay, Zeros.seat_fewer}
+use Rattle.partial_long_lived.proofs.{Common.{None, true, nat_lt, ◌==◌, ◌&&◌, StoringAnnouncement, at_stage, slot_limit, IsEpochPlan, awaits, before_claim, has_claimed, answers_lead_on, most_of_scan, seat_steps_left, ℕ, ◌≡◌, ◌+◌, ◌-◌, ◌%◌, ◌^◌, ◌<◌, ◌≤◌, ◌||◌, ◌++◌, Bool, false, if◌then◌else◌, Option, Some, List, [], ◌∷◌, length, map, refl, sym, ap, subst, ◌∙◌, inl, inr, arith, length-append, is_some, slice_index, length-map, Allows, TableId, Applied, Call, Note, Noted, place_of, Add, Layout, IsLayout, pool_counter, total, Reply, call_of, CoreState, advance, reply_of, scanned_values, step_of, AreComponentIndices, IsSound, AreNotesOf, IsNoteOf, IsPlacedAt, Plan, base, plain, unsealed, history_of, public_entry, public_log, public_noted, Control, not_below, RestsLike, About, Stand, Began, IsRuleKept, SeatedPort, plan_of, SeatGoes, IsOne, IsHeld, port_at, IsIdle, component_at, SeatMakes, unsealed_answer, makes, over_by, word_at, HasNotedScan, RestsUnmarked, ScanMade, SettledFirst, noted_scan, CallMade, IsGoing, ComesTo, MayBegin, machine_at, take, Opening, stamp_of, CollectsStamps, opened_after, stamp_limit, public_of, stamp_public, opening_of, MadeNamed, NameStamps, ScannedNamed, stamp_at, announcement_size, scan_asked, Answer}, RecordStamps.{stamp_small, unsealed_same}, Coming.goes_on, Making.may_make, Standing.{arena_there, held_then, room_of}, Under.{first_made, first_may}, Unmarked.marks_stay, Zeros.seat_fewer}
 use Rattle.std.proofs.lemmas.Bool.{eq-eqb, ltb-true, ne_eqb}
 use Rattle.partial_model.specs.declared.call.Refused.{Refused}
 use Rattle.partial_active.specs.declared.join.JoinStage.TheVariants.{Storing, Spent}
@@ -67,7 +67,7 @@ module _ (table : TableId) (about : About) (s : Stand) (h : IsHeld table about s
       (subst (λ i. Allows (IsRuleKept about) slots id s.seat.me (i + w) (λ v. (v + n) % 2 ^ 64) (makes false b (Add w n) s.seat.me)) (sym base_is)
       (may_make about slots id s.seat.me h.one h.own h.known (room_of table about s h) b (Add w n) (first_may b (port_at s) begins (Add w n) due) false tt))
 
-  -- the claim behind the component words is answered as it is
+  -- the claim after the component words is answered as it is
   module _ (t : Stand) (id : t.seat.table_id ≡ s.seat.table_id) (one : IsOne t.seat.me) (goes : SeatGoes (port_at s) (port_at t)) (a : ℕ)
       (told : SeatMakes false b (Add (word_at s.seat.me (s.base + w)) n) (port_at s) (unsealed_answer (plan_of (port_at s).about) (Add (word_at s.seat.me (s.base + w)) n) a) (port_at t))
       (shape : t.shape ≡ s.shape) (number : t.number ≡ s.number) (epoch : t.epoch ≡ s.epoch) (arena : t.arena ≡ s.arena) (base_same : t.base ≡ s.base) (passed : t.passed ≡ s.passed) where
@@ -167,11 +167,11 @@ scan_over table about s u v w t core which at slot h begun stored first joining 
 
 -- a scan is noted at a place that it has seen
 saw_at : (collects : ℕ) (borrowed : Option ℕ) (n : Note) (seen : ℕ) → IsPlacedAt (Reply.Scanned collects borrowed) n seen → (k : ℕ) × (n ≡ Note.Saw k) × (k ≤ seen)
-saw_at collects borrowed (Note.Saw k) seen placed_step = (k, refl, placed_step)
-saw_at collects borrowed (Note.Wrote k) seen placed_step = absurd placed_step
-saw_at collects borrowed (Note.Lost k) seen placed_step = absurd placed_step
+saw_at collects borrowed (Note.Saw k) seen based_step = (k, refl, based_step)
+saw_at collects borrowed (Note.Wrote k) seen based_step = absurd based_step
+saw_at collects borrowed (Note.Lost k) seen based_step = absurd based_step
 
--- The scan that the machine b began at the stand s, whose first step led to the stand u, has come to its reply at the stand t.
+-- The scan that the machine b began at the stand s, whose first step led to the stand u, has its reply at the stand t.
 module _ (table : TableId) (about : About) (s u t : Stand) (h : IsHeld table about s) (idle : IsIdle s) (core : CoreState) (which : List ℕ) (begins : MayBegin (scan_asked core which) (port_at s))
     (a : ℕ) (begun : ScanBegun (scan_asked core which) (length which) s a u) (leads : ComesTo u t) (collects : ℕ) (borrowed : Option ℕ)
     (replies : reply_of (machine_at t) ≡ Some (Reply.Scanned collects borrowed)) where
@@ -265,7 +265,7 @@ module _ (table : TableId) (about : About) (s u t : Stand) (h : IsHeld table abo
     scan_named young = record { made = scan_made young; stamps = λ none. names none }
       where
         opening_same : opening_of x ≡ opening_of y
-        opening_same = ap (λ (a : About). opening_behind a.opening x.port.before) (sym call_over.goes.about) ∙ ap (opening_behind y.about.opening) (sym before_same)
+        opening_same = ap (λ (a : About). opened_after a.opening x.port.before) (sym call_over.goes.about) ∙ ap (opened_after y.about.opening) (sym before_same)
 
         collected : borrowed ≡ None → (k : ℕ) → k < length which → slice_index rows.last k ≡ stamp_of (opening_of y) (take saw.0 y.port.part.seen) (slice_index which k)
         collected none k low =

@@ -1,5 +1,5 @@
 -- The search of a port for a free arena goes on.
-use Rattle.partial_long_lived.proofs.{Common.{ℕ, ◌≡◌, ◌≢◌, ◌+◌, ◌*◌, ◌<◌, ◌≤◌, ◌==◌, ◌⊎◌, nat_lt, Bool, true, false, if◌then◌else◌, Option, Some, None, List, slice_index, slice_set, refl, sym, ap, subst, ◌∙◌, inl, inr, arith, eqb_tells, Me, Allows, Noted, put, Place, Plan, at_word, current_word, packed, OwnedArena, Port, Stands, Beside, LawfulEpochs, place_now, put_same, put_other, About, Began, Contention, Search, Reckoning, IsRuleKept, IsSearching, SeatedPort, one_of, plan_of, IsSeatKnown, IsOne, tells, looked_at, passing, meeting, BeginsPass, BeginsSearch, Tally, HasSeenArrival, IsInUse, IsNamed, may_free, most_freed, few_come_free, meetings_keep_tally, own_places_are_in_use, some_arena_is_free, entering_mark, unpacked, length, Applied, IsOld}, Kept.{GoesOn, allowed}, Control.{MayLook, OwnSearch, Quietly, Still, by_look, load_same, looked_quiet, looked_stands, moved_searching}, Begins.here_is}
+use Rattle.partial_long_lived.proofs.{Common.{ℕ, ◌≡◌, ◌≢◌, ◌+◌, ◌*◌, ◌<◌, ◌≤◌, ◌==◌, ◌⊎◌, nat_lt, Bool, true, false, if◌then◌else◌, Option, Some, None, List, slice_index, slice_set, refl, sym, ap, subst, ◌∙◌, inl, inr, arith, eqb_tells, Me, Allows, Noted, put, Site, Plan, at_word, current_word, packed, OwnedArena, Port, Stands, Beside, LawfulEpochs, site_now, put_same, put_other, About, Began, Contention, Search, Reckoning, IsRuleKept, IsSearching, SeatedPort, one_of, plan_of, IsSeatKnown, IsOne, tells, looked_at, passing, meeting, BeginsPass, BeginsSearch, Tally, HasSeenArrival, IsInUse, IsNamed, may_free, most_freed, few_come_free, meetings_keep_tally, own_sites_are_in_use, some_arena_is_free, entering_mark, unpacked, length, Applied, IsOld}, Kept.{GoesOn, allowed}, Control.{MayLook, OwnSearch, Quietly, Still, by_look, load_same, looked_quiet, looked_stands, moved_searching}, Begins.here_is}
 use Rattle.partial_epochs.specs.FreeArenas.{credit, gives_left, sum_below, weight}
 
 -- how often arenas may come free has nothing to do with who has met another port
@@ -16,7 +16,7 @@ may_free_same e words ports now since t met = ap (λ (f : ℕ → ℕ). sum_belo
 
 -- after a step of port k
 module _ (a : About) (words words' : List ℕ) (ports : ℕ → Port) (notes : ℕ → List Noted) (b : Beside) (reckoned : Reckoning) (k : ℕ) (below : k < a.ports) (g : Began) (p : Port) (u : Contention)
-    (search : IsSearching (plan_of a) words ports (place_now b) reckoned k u.search) where
+    (search : IsSearching (plan_of a) words ports (site_now b) reckoned k u.search) where
   abbrev e : Plan
   e = plan_of a
 
@@ -43,7 +43,7 @@ module _ (a : About) (words words' : List ℕ) (ports : ℕ → Port) (notes : �
                 (elim (passed y (omega (arith, low, other))) [
                   | inl few ↦ on.busy is none y few
                   | inr own ↦ subst (IsInUse e words' k) (ap (λ (q : Port). q.control.here.arena) (put_same k p ports) ∙ sym own)
-                      (own_places_are_in_use e words' (put k p ports) to.beside k (to.lawful).epochs below (ap (λ (q : Port). q.control.entering) (put_same k p ports) ∙ stands))
+                      (own_sites_are_in_use e words' (put k p ports) to.beside k (to.lawful).epochs below (ap (λ (q : Port). q.control.entering) (put_same k p ports) ∙ stands))
                 ])
           ];
         };
@@ -62,13 +62,13 @@ module _ (a : About) (words words' : List ℕ) (ports : ℕ → Port) (notes : �
       r : Reckoning
       r = record { since = (to.reckoned').since; tally = record (to.reckoned').tally { met = put k true (to.reckoned').tally.met } }
 
-      there : (q : ℕ) (s : Search) → IsSearching e words' (put k p ports) (place_now to.beside) to.reckoned' q s → IsSearching e words' (put k p ports) (place_now to.beside) r q s
+      there : (q : ℕ) (s : Search) → IsSearching e words' (put k p ports) (site_now to.beside) to.reckoned' q s → IsSearching e words' (put k p ports) (site_now to.beside) r q s
       there q s on = record {
         come = on.come;
         begun = on.begun;
         within = on.within;
         bound = λ is.
-            let same = may_free_same e words' (put k p ports) (place_now to.beside).epoch (to.reckoned').since (to.reckoned').tally (put k true (to.reckoned').tally.met) in
+            let same = may_free_same e words' (put k p ports) (site_now to.beside).epoch (to.reckoned').since (to.reckoned').tally (put k true (to.reckoned').tally.met) in
             let was = on.bound is in
             omega (arith, same, was);
         busy = on.busy;
@@ -88,13 +88,13 @@ module _ (a : About) (words words' : List ℕ) (ports : ℕ → Port) (notes : �
 
 -- a look leaves a port in its arena
 looked_arena : (n : ℕ) (p : Port) → (looked_at n p).control.here.arena ≡ p.control.here.arena
-looked_arena n p = ap (λ (d : Place). d.arena) ((looked_quiet n).here p)
+looked_arena n p = ap (λ (d : Site). d.arena) ((looked_quiet n).here p)
 
 module _ {S : Type 0} (a : About) (slots id : ℕ) (me : Me S (List SeatedPort)) (one : IsOne me) (own : (one_of me.0).about ≡ a) (known : IsSeatKnown (one_of me.0)) where
   abbrev x : SeatedPort
   x = one_of me.0
 
-  -- a port that finds its own place the current one hasn't seen another
+  -- a port that finds its own site the current one hasn't seen another
   not_past : (words : List ℕ) (ports : ℕ → Port) (b : Beside) → LawfulEpochs (plan_of a) words ports b → x.number < a.ports → x.port ≡ ports x.number →
       slice_index words current_word ≡ packed x.port.control.here → x.port.control.past ≡ false
   not_past words ports b w below is at = by x.port.control.past refl
@@ -104,14 +104,14 @@ module _ {S : Type 0} (a : About) (slots id : ℕ) (me : Me S (List SeatedPort))
       by true seen =
           let here = here_is a words ports b w x.number below (at ∙ ap (λ (p : Port). packed p.control.here) is) in
           let past = w.control.past x.number below (ap (λ (p : Port). p.control.past) (sym is) ∙ seen) in
-          let same = ap (λ (d : Place). d.epoch) here in
+          let same = ap (λ (d : Site). d.epoch) here in
           absurd (omega (arith, past, same))
 
   -- a port stands in no later epoch than the current one
-  come_here : (words : List ℕ) (ports : ℕ → Port) (b : Beside) → LawfulEpochs (plan_of a) words ports b → x.number < a.ports → x.port ≡ ports x.number → x.port.control.entering ≡ Stands → x.port.control.here.epoch ≤ (place_now b).epoch
+  come_here : (words : List ℕ) (ports : ℕ → Port) (b : Beside) → LawfulEpochs (plan_of a) words ports b → x.number < a.ports → x.port ≡ ports x.number → x.port.control.entering ≡ Stands → x.port.control.here.epoch ≤ (site_now b).epoch
   come_here words ports b w below is stands =
-      subst (λ (p : Port). p.control.here.epoch ≤ (place_now b).epoch) (sym is)
-      (subst (IsOld (plan_of a) (place_now b).epoch (ports x.number).control.here) (ap (λ (p : Port). p.control.entering) (sym is) ∙ stands) (w.control.old x.number below))
+      subst (λ (p : Port). p.control.here.epoch ≤ (site_now b).epoch) (sym is)
+      (subst (IsOld (plan_of a) (site_now b).epoch (ports x.number).control.here) (ap (λ (p : Port). p.control.entering) (sym is) ∙ stands) (w.control.old x.number below))
 
   -- the look by which a search begins
   pub may_begin_search : MayLook a x.port → Allows (IsRuleKept a) slots id me current_word (λ n. n) (tells BeginsSearch me)
@@ -125,7 +125,7 @@ module _ {S : Type 0} (a : About) (slots id : ℕ) (me : Me S (List SeatedPort))
       let to = still.to in
       let freed : ℕ = (to.reckoned').tally.freed in
       let m : Contention = record x.contention { search = record { epoch = x.port.control.here.epoch; freed = freed; most = freed + most_freed x.about.ports; below = 0; met = false } } in
-      let few = few_come_free e words' (put k (looked_at n (ports k)) ports) (place_now to.beside).epoch (to.reckoned').since (to.reckoned').tally in
+      let few = few_come_free e words' (put k (looked_at n (ports k)) ports) (site_now to.beside).epoch (to.reckoned').since (to.reckoned').tally in
       let ports_are = ap (λ (a : About). most_freed a.ports) own in
       moved_searching a words words' ports notes b reckoned x w s known (looked_at n) (looked_quiet n) x.began s.began m refl (record {
         to = to;
@@ -160,7 +160,7 @@ module _ {S : Type 0} (a : About) (slots id : ℕ) (me : Me S (List SeatedPort))
         freed = freed;
         is = refl;
         more = λ at epoch passed.
-            let here = ap (λ (d : Place). d.epoch) (here_is a words ports b w.epochs k s.number (at ∙ ap (λ (p : Port). packed p.control.here) s.port)) in
+            let here = ap (λ (d : Site). d.epoch) (here_is a words ports b w.epochs k s.number (at ∙ ap (λ (p : Port). packed p.control.here) s.port)) in
             let stood = ap (λ (p : Port). p.control.here.epoch) s.port in
             let same = ap (λ (l : List (List Applied)). length l) to.before in
             let bound = on.bound (omega (arith, here, stood, same, epoch)) in
@@ -169,7 +169,7 @@ module _ {S : Type 0} (a : About) (slots id : ℕ) (me : Me S (List SeatedPort))
             (λ y low. elim (passed y (subst (λ (a : About). y < a.arenas) (sym own) low)) [
               | inl few ↦ on.busy (omega (arith, here, stood, same, epoch)) none y few
               | inr there ↦ subst (IsInUse e words' k) (ap (λ (p : Port). p.control.here.arena) (put_same k (looked_at n (ports k)) ports) ∙ looked_arena n (ports k) ∙ ap (λ (p : Port). p.control.here.arena) (sym s.port) ∙ sym there)
-                  (own_places_are_in_use e words' (put k (looked_at n (ports k)) ports) to.beside k (to.lawful).epochs s.number
+                  (own_sites_are_in_use e words' (put k (looked_at n (ports k)) ports) to.beside k (to.lawful).epochs s.number
                   (ap (λ (p : Port). p.control.entering) (put_same k (looked_at n (ports k)) ports) ∙ looked_stands n (ports k) (ap (λ (p : Port). p.control.entering) (sym s.port) ∙ may.0)))
             ]) in
             let ne : freed ≢ x.contention.search.freed = one_more in

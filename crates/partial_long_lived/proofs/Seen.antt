@@ -32,7 +32,7 @@ written_within o h p seen (n ∷ ns) w = all_append (λ k. k < length h) (wrote 
     by None legal = tt
     by (Some m) legal = written_true o h p n.call n.answer m legal.0
 
--- the last of a front and a place behind it is one of the places
+-- the last of a front and a place after it is one of the places
 last_of : (n : ℕ) (front rest : List ℕ) (x : ℕ) (ps : List ℕ) → front ++ x ∷ rest ≡ ps → AllByRecursion (λ i. i < n) ps → x < n
 last_of n [] rest x [] is all = let bad : x ∷ rest ≡ [] = is in absurd cc
 last_of n [] rest x (y ∷ ps) is all = let same : x ≡ y = cc in let low = all.0 in omega (arith, same, low)

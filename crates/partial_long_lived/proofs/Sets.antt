@@ -1,5 +1,5 @@
 -- The stores of an owner are allowed.
-use Rattle.partial_long_lived.proofs.{Common.{ℕ, ◌≡◌, ◌≢◌, ◌+◌, ◌-◌, ◌/◌, ◌%◌, ◌<◌, ◌≤◌, ◌==◌, ◌⊎◌, ◌++◌, true, false, if◌then◌else◌, Option, Some, IfSome, List, [], ◌∷◌, length, slice_index, slice_set, refl, sym, ap, subst, ◌∙◌, inl, inr, arith, length-append, nat_lt, lt-ltb, eqb_tells, get_or-set_same, Me, Allows, Applied, Opening, value_of, Noted, Layout, first_free, initial_record, list_base, list_counter, pool_base, pool_counter, initial_record_word, opening_word, list_of, IsToBeSet, behind_value, behind_values, Place, Plan, control_words, current_word, packed, set_word, carried_behind, opening_behind, OwnedArena, Port, Beside, controls, next_epoch_word, numbers, place_now, having_set, LawfulMemory, many, at_of, below_whole, not_below, set_place, About, Found, IsFinal, IsRuleKept, IsLast, IsSeat, SeatedPort, one_of, plan_of, IsSeatKnown, IsOne, tells, Sets, FindsClear, becomes, cases_lt, offset_behind, offset_front, slot_offset, slot_set, base, set_offset, slot_counter, slot_word, value_word, plain_record_size, MayMove, IsSince, Reckoning}, Asides.IsQuiet, Begins.here_is, Changes.owning_same, Control.{load_same, quietly, by_move, by_rest, moved_quietly}, Kept.allowed}
+use Rattle.partial_long_lived.proofs.{Common.{ℕ, ◌≡◌, ◌≢◌, ◌+◌, ◌-◌, ◌/◌, ◌%◌, ◌<◌, ◌≤◌, ◌==◌, ◌⊎◌, ◌++◌, true, false, if◌then◌else◌, Option, Some, IfSome, List, [], ◌∷◌, length, slice_index, slice_set, refl, sym, ap, subst, ◌∙◌, inl, inr, arith, length-append, nat_lt, lt-ltb, eqb_tells, get_or-set_same, Me, Allows, Applied, Opening, value_of, Noted, Layout, first_free, initial_record, list_base, list_counter, pool_base, pool_counter, initial_record_word, opening_word, list_of, IsToBeSet, after_value, after_values, Site, Plan, control_words, current_word, packed, set_word, stamp_after, opened_after, OwnedArena, Port, Beside, controls, next_epoch_word, numbers, site_now, having_set, LawfulMemory, many, at_of, below_whole, not_below, set_index, About, Found, IsFinal, IsRuleKept, IsLast, IsSeat, SeatedPort, one_of, plan_of, IsSeatKnown, IsOne, tells, Sets, FindsClear, becomes, cases_lt, offset_after, offset_front, slot_offset, slot_set, base, set_offset, slot_counter, slot_word, value_word, plain_record_size, MayMove, IsSince, Reckoning}, Asides.IsQuiet, Begins.here_is, Changes.owning_same, Control.{load_same, quietly, by_move, by_rest, moved_quietly}, Kept.allowed}
 use Rattle.partial_epochs.specs.EveryStep.{Move as move}
 use Rattle.partial_epochs.proofs.ClearRecords.{records_before, records_kept}
 use Rattle.partial_epochs.proofs.Sets as law
@@ -21,64 +21,64 @@ same_set : (s : Layout) (l : List ℕ) (i : ℕ) → i < list_base s → opening
 same_set s l i front = let at = offset_front s i front in same_word s l (set_offset s i) (omega (arith, at, front))
 
 -- where the next value is set, or the first carried stamp
-pub behind_values_is : (z : Layout) (n : ℕ) → ((n < z.m) × (behind_values z n ≡ value_word (initial_record z n))) ⊎ ((z.m ≤ n) × (behind_values z n ≡ first_free z))
-behind_values_is z n = elim (cases_lt n z.m) [
+pub after_values_is : (z : Layout) (n : ℕ) → ((n < z.m) × (after_values z n ≡ value_word (initial_record z n))) ⊎ ((z.m ≤ n) × (after_values z n ≡ first_free z))
+after_values_is z n = elim (cases_lt n z.m) [
   | inl low ↦ inl (low, ap (λ c. if c then value_word (initial_record z n) else first_free z) (lt-ltb n z.m low))
   | inr from ↦ inr (from, ap (λ c. if c then value_word (initial_record z n) else first_free z) (not_below n z.m from))
 ]
 
-behind_value_is : (z : Layout) (i : ℕ) → ((i + plain_record_size < first_free z) × (behind_value z i ≡ i + plain_record_size)) ⊎ ((first_free z ≤ i + plain_record_size) × (behind_value z i ≡ first_free z))
-behind_value_is z i = elim (cases_lt (i + plain_record_size) (first_free z)) [
+after_value_is : (z : Layout) (i : ℕ) → ((i + plain_record_size < first_free z) × (after_value z i ≡ i + plain_record_size)) ⊎ ((first_free z ≤ i + plain_record_size) × (after_value z i ≡ first_free z))
+after_value_is z i = elim (cases_lt (i + plain_record_size) (first_free z)) [
   | inl low ↦ inl (low, ap (λ c. if c then i + plain_record_size else first_free z) (lt-ltb (i + plain_record_size) (first_free z) low))
   | inr from ↦ inr (from, ap (λ c. if c then i + plain_record_size else first_free z) (not_below (i + plain_record_size) (first_free z) from))
 ]
 
-pub value_at : (z : Layout) (j : ℕ) → j < z.m → behind_values z j ≡ value_word (initial_record z j)
-value_at z j low = elim (behind_values_is z j) [ inl here ↦ here.1 | inr all ↦ let from = all.0 in absurd (omega (arith, from, low)) ]
+pub value_at : (z : Layout) (j : ℕ) → j < z.m → after_values z j ≡ value_word (initial_record z j)
+value_at z j low = elim (after_values_is z j) [ inl here ↦ here.1 | inr all ↦ let from = all.0 in absurd (omega (arith, from, low)) ]
 
-pub value_behind : (z : Layout) (j : ℕ) → j < z.m → behind_value z (behind_values z j) ≡ behind_values z (j + 1)
-value_behind z j low = by (behind_value_is z (behind_values z j)) (behind_values_is z (j + 1))
+pub value_behind : (z : Layout) (j : ℕ) → j < z.m → after_value z (after_values z j) ≡ after_values z (j + 1)
+value_behind z j low = by (after_value_is z (after_values z j)) (after_values_is z (j + 1))
   where
-    at : behind_values z j ≡ value_word (initial_record z j)
+    at : after_values z j ≡ value_word (initial_record z j)
     at = value_at z j low
 
-    by : ((behind_values z j + plain_record_size < first_free z) × (behind_value z (behind_values z j) ≡ behind_values z j + plain_record_size))
-        ⊎ ((first_free z ≤ behind_values z j + plain_record_size) × (behind_value z (behind_values z j) ≡ first_free z)) →
-        ((j + 1 < z.m) × (behind_values z (j + 1) ≡ value_word (initial_record z (j + 1)))) ⊎ ((z.m ≤ j + 1) × (behind_values z (j + 1) ≡ first_free z)) →
-        behind_value z (behind_values z j) ≡ behind_values z (j + 1)
+    by : ((after_values z j + plain_record_size < first_free z) × (after_value z (after_values z j) ≡ after_values z j + plain_record_size))
+        ⊎ ((first_free z ≤ after_values z j + plain_record_size) × (after_value z (after_values z j) ≡ first_free z)) →
+        ((j + 1 < z.m) × (after_values z (j + 1) ≡ value_word (initial_record z (j + 1)))) ⊎ ((z.m ≤ j + 1) × (after_values z (j + 1) ≡ first_free z)) →
+        after_value z (after_values z j) ≡ after_values z (j + 1)
     by (inl (a, is)) (inl (c, next)) = let here = at in omega (arith, here, is, next)
     by (inl (a, is)) (inr (c, next)) = let here = at in absurd (omega (arith, here, a, c))
     by (inr (a, is)) (inl (c, next)) = let here = at in absurd (omega (arith, here, a, c))
     by (inr (a, is)) (inr (c, next)) = is ∙ sym next
 
 -- nothing has to be set between the words before the list words and the first value
-lists_before : (z : Layout) → (list_base z ≤ behind_values z 0) × (behind_values z 0 ≤ first_free z)
-lists_before z = elim (behind_values_is z 0) [
+lists_before : (z : Layout) → (list_base z ≤ after_values z 0) × (after_values z 0 ≤ first_free z)
+lists_before z = elim (after_values_is z 0) [
   | inl here ↦ let some = here.0 in let is = here.1 in (omega (arith, is), omega (arith, is, some))
   | inr none ↦ let is = none.1 in (omega (arith, is), omega (arith, is))
 ]
 
-none_over_lists : (z : Layout) (i : ℕ) → list_base z ≤ i → i < behind_values z 0 → ¬ IsToBeSet z i
-none_over_lists z i from up to_set = by (behind_values_is z 0) to_set
+none_over_lists : (z : Layout) (i : ℕ) → list_base z ≤ i → i < after_values z 0 → ¬ IsToBeSet z i
+none_over_lists z i from up to_set = by (after_values_is z 0) to_set
   where
-    by : ((0 < z.m) × (behind_values z 0 ≡ value_word (initial_record z 0))) ⊎ ((z.m ≤ 0) × (behind_values z 0 ≡ first_free z)) → IsToBeSet z i → ⊥
+    by : ((0 < z.m) × (after_values z 0 ≡ value_word (initial_record z 0))) ⊎ ((z.m ≤ 0) × (after_values z 0 ≡ first_free z)) → IsToBeSet z i → ⊥
     by all (inl front) = omega (arith, from, front)
     by (inl (some, is)) (inr (inl high)) = omega (arith, some, is, high, up)
     by (inl (some, is)) (inr (inr (j, less, at))) = omega (arith, is, at, up)
     by (inr (none, is)) (inr (inl high)) = omega (arith, is, high, up)
     by (inr (none, is)) (inr (inr (j, less, at))) = omega (arith, none, less)
 
--- nor between two values, or behind the last one
-values_before : (z : Layout) (j i : ℕ) → j < z.m → i ≡ value_word (initial_record z j) → (i < behind_value z i) × (behind_value z i ≤ first_free z)
-values_before z j i low at = elim (behind_value_is z i) [
+-- nor between two values, or after the last one
+values_before : (z : Layout) (j i : ℕ) → j < z.m → i ≡ value_word (initial_record z j) → (i < after_value z i) × (after_value z i ≤ first_free z)
+values_before z j i low at = elim (after_value_is z i) [
   | inl here ↦ let less = here.0 in let is = here.1 in (omega (arith, is), omega (arith, is, less))
   | inr last ↦ let is = last.1 in (omega (arith, is, at, low), omega (arith, is))
 ]
 
-none_over_value : (z : Layout) (j i n : ℕ) → i ≡ value_word (initial_record z j) → i < n → n < behind_value z i → ¬ IsToBeSet z n
-none_over_value z j i n at from up to_set = by (behind_value_is z i) to_set
+none_over_value : (z : Layout) (j i n : ℕ) → i ≡ value_word (initial_record z j) → i < n → n < after_value z i → ¬ IsToBeSet z n
+none_over_value z j i n at from up to_set = by (after_value_is z i) to_set
   where
-    by : ((i + plain_record_size < first_free z) × (behind_value z i ≡ i + plain_record_size)) ⊎ ((first_free z ≤ i + plain_record_size) × (behind_value z i ≡ first_free z)) → IsToBeSet z n → ⊥
+    by : ((i + plain_record_size < first_free z) × (after_value z i ≡ i + plain_record_size)) ⊎ ((first_free z ≤ i + plain_record_size) × (after_value z i ≡ first_free z)) → IsToBeSet z n → ⊥
     by all (inl front) = omega (arith, at, from, front)
     by (inl (less, is)) (inr (inl high)) = omega (arith, less, is, high, up)
     by (inl (less, is)) (inr (inr (k, inside, at'))) = omega (arith, is, at, at', from, up)
@@ -116,30 +116,30 @@ value_opens s l j i low is =
 
 -- the word of a value, and that of a carried stamp, in the next epoch
 module _ (e : Plan) (b : Beside) (i j : ℕ) where
-  next_below : i < first_free e.sizes → next_epoch_word e b i ≡ opening_word e.sizes (opening_behind e.opening (b.log ∷ b.before)).values (set_offset e.sizes i)
-  next_below low = ap (λ c. if c then opening_word e.sizes (opening_behind e.opening (b.log ∷ b.before)).values (set_offset e.sizes i)
-      else carried_behind e.opening (b.log ∷ b.before) (i - first_free e.sizes))
+  next_below : i < first_free e.sizes → next_epoch_word e b i ≡ opening_word e.sizes (opened_after e.opening (b.log ∷ b.before)).values (set_offset e.sizes i)
+  next_below low = ap (λ c. if c then opening_word e.sizes (opened_after e.opening (b.log ∷ b.before)).values (set_offset e.sizes i)
+      else stamp_after e.opening (b.log ∷ b.before) (i - first_free e.sizes))
       (lt-ltb i (first_free e.sizes) low)
 
-  next_value : length e.opening.values ≡ e.sizes.m → j < e.sizes.m → i ≡ value_word (initial_record e.sizes j) → next_epoch_word e b i ≡ value_of (opening_behind e.opening b.before) b.log j
+  next_value : length e.opening.values ≡ e.sizes.m → j < e.sizes.m → i ≡ value_word (initial_record e.sizes j) → next_epoch_word e b i ≡ value_of (opened_after e.opening b.before) b.log j
   next_value long low is =
-      let o : Opening = opening_behind e.opening b.before in
+      let o : Opening = opened_after e.opening b.before in
       let n = many e.opening b.before in
-      next_below (omega (arith, low, is)) ∙ ap (opening_word e.sizes (list_of (value_of o b.log) 0 (length o.values))) (offset_behind e.sizes i (omega (arith, is)))
+      next_below (omega (arith, low, is)) ∙ ap (opening_word e.sizes (list_of (value_of o b.log) 0 (length o.values))) (offset_after e.sizes i (omega (arith, is)))
       ∙ value_opens e.sizes (list_of (value_of o b.log) 0 (length o.values)) j i low is
       ∙ at_of (value_of o b.log) 0 (length o.values) j (omega (arith, low, n, long)) ∙ ap (value_of o b.log) (omega arith)
 
-  next_stamp : i ≡ first_free e.sizes + j → next_epoch_word e b i ≡ carried_behind e.opening (b.log ∷ b.before) j
-  next_stamp is = ap (λ c. if c then opening_word e.sizes (opening_behind e.opening (b.log ∷ b.before)).values (set_offset e.sizes i)
-      else carried_behind e.opening (b.log ∷ b.before) (i - first_free e.sizes))
-      (not_below i (first_free e.sizes) (omega (arith, is))) ∙ ap (carried_behind e.opening (b.log ∷ b.before)) (omega (arith, is))
+  next_stamp : i ≡ first_free e.sizes + j → next_epoch_word e b i ≡ stamp_after e.opening (b.log ∷ b.before) j
+  next_stamp is = ap (λ c. if c then opening_word e.sizes (opened_after e.opening (b.log ∷ b.before)).values (set_offset e.sizes i)
+      else stamp_after e.opening (b.log ∷ b.before) (i - first_free e.sizes))
+      (not_below i (first_free e.sizes) (omega (arith, is))) ∙ ap (stamp_after e.opening (b.log ∷ b.before)) (omega (arith, is))
 
--- a port whose epoch is the current one has all finished epochs behind it
+-- a port whose epoch is the current one comes after all finished epochs
 before_is : (a : About) (words : List ℕ) (ports : ℕ → Port) (notes : ℕ → List Noted) (b : Beside) (k : ℕ) → LawfulMemory (plan_of a) words ports b notes → k < a.ports →
     slice_index words current_word ≡ packed (ports k).control.here → (ports k).before ≡ b.before
 before_is a words ports notes b k w below at =
     let r = w.noted.reached k below in
-    by r.later r.log (ports k).before r.is (r.epoch ∙ ap (λ (d : Place). d.epoch) (here_is a words ports b w.epochs k below at))
+    by r.later r.log (ports k).before r.is (r.epoch ∙ ap (λ (d : Site). d.epoch) (here_is a words ports b w.epochs k below at))
   where
     by : (later : List (List Applied)) (log : List Applied) (before : List (List Applied)) → b.log ∷ b.before ≡ later ++ log ∷ before → length before ≡ length b.before → before ≡ b.before
     by [] log before is same = let rest : b.before ≡ before = cc in sym rest
@@ -165,7 +165,7 @@ module _ {S : Type 0} (a : About) (slots id : ℕ) (me : Me S (List SeatedPort))
   abbrev e : Plan
   e = plan_of a
 
-  -- the words that count as set behind the store are those of the next epoch, while the port's epoch is the current one
+  -- the words that count as set after the store are those of the next epoch, while the port's epoch is the current one
   abbrev Right : OwnedArena → ℕ → ℕ → Type 0
   Right o v next = (words : List ℕ) (ports : ℕ → Port) (notes : ℕ → List Noted) (b : Beside) (reckoned : Reckoning) → LawfulMemory (plan_of a) words ports b notes → IsSeat a words ports notes b reckoned x →
       slice_index words current_word ≡ packed (ports x.number).control.here → (i : ℕ) → o.set ≤ i → i < next → IsToBeSet a.sizes i →
@@ -187,7 +187,7 @@ module _ {S : Type 0} (a : About) (slots id : ℕ) (me : Me S (List SeatedPort))
         subst (λ (p : Port). a.sizes.m ≤ p.passed) s.port passed,
         (λ current i from up asked. right words ports notes b reckoned w s current i from up asked),
         (λ l now set. let both = zero (omega (arith, now)) in let only = both.1 in clears words ports notes b w l owned' s.number now (omega (arith, now, set, only)) both.0),
-        (let mine = law.own e (control_words e words) (controls ports) (place_now b) (numbers b) w.epochs.control k s.number o owned' clean in
+        (let mine = law.own e (control_words e words) (controls ports) (site_now b) (numbers b) w.epochs.control k s.number o owned' clean in
             records_kept e words o.arena o.set v pool to_set (records_before e words ports b w.epochs o.arena mine.arena)),
       ) in
       moved_quietly a words (slice_set words i v) ports notes b reckoned x w s known (λ p. having_set p o next) (set_quiet o next) x.began s.began
@@ -197,14 +197,14 @@ module _ {S : Type 0} (a : About) (slots id : ℕ) (me : Me S (List SeatedPort))
       clears : (words : List ℕ) (ports : ℕ → Port) (notes : ℕ → List Noted) (b : Beside) → LawfulMemory (plan_of a) words ports b notes → (l : ℕ) → (ports x.number).control.owned ≡ Some o →
           x.number < a.ports → l + o.set < a.sizes.slots → l + o.set + 1 ≡ a.sizes.slots → v ≡ 0 → slice_index (slice_set words (set_word e o.arena o.set) v) (base e o.arena + slot_word a.sizes l) ≡ 0
       clears words ports notes b w l owned' number now only zero =
-          let mine = law.own e (control_words e words) (controls ports) (place_now b) (numbers b) w.epochs.control x.number number o owned' clean in
+          let mine = law.own e (control_words e words) (controls ports) (site_now b) (numbers b) w.epochs.control x.number number o owned' clean in
           let at = slot_set e o.arena o.set (omega (arith, now)) in
           let inside = below_whole e o.arena (slot_word a.sizes l) mine.arena (omega (arith, now)) in
           let count = w.epochs.count in
           ap (λ i. slice_index (slice_set words (set_word e o.arena o.set) v) i) (omega (arith, at, only))
           ∙ get_or-set_same words (set_word e o.arena o.set) v 0 (omega (arith, at, only, inside, count)) ∙ zero
 
-  -- where the store is that of a word of the next epoch, and none of the words behind it that count as set has to be set
+  -- where the store is that of a word of the next epoch, and none of the words after it that count as set has to be set
   may_set_word : (o : OwnedArena) (v next : ℕ) → x.port.control.owned ≡ Some o → o.clean ≡ a.ports → o.set < next → next ≤ first_free a.sizes + a.sizes.m → a.sizes.m ≤ x.port.passed →
       ((i : ℕ) → o.set < i → i < next → ¬ IsToBeSet a.sizes i) →
       ((b : Beside) → length a.opening.values ≡ a.sizes.m → IfSome x.found (IsFinal (plan_of a) b x.port) → x.port.before ≡ b.before → v ≡ next_epoch_word e b o.set) →
@@ -215,11 +215,11 @@ module _ {S : Type 0} (a : About) (slots id : ℕ) (me : Me S (List SeatedPort))
       (elim (eqb_tells i o.set) [
         | inl same ↦
             let owned' : (ports k).control.owned ≡ Some o = ap (λ (p : Port). p.control.owned) (sym s.port) ∙ owned in
-            let mine = law.own e (control_words e words) (controls ports) (place_now b) (numbers b) w.epochs.control k s.number o owned' clean in
+            let mine = law.own e (control_words e words) (controls ports) (site_now b) (numbers b) w.epochs.control k s.number o owned' clean in
             let pool = w.epochs.plan.sizes.pool.0 in
-            let place = set_place e o.arena o.set pool (omega (arith, less, most)) in
-            let at = place.2 in
-            let inside = below_whole e o.arena place.0 mine.arena place.1 in
+            let spot = set_index e o.arena o.set pool (omega (arith, less, most)) in
+            let at = spot.2 in
+            let inside = below_whole e o.arena spot.0 mine.arena spot.1 in
             let count = w.epochs.count in
             ap (λ j. slice_index (slice_set words (set_word e o.arena o.set) v) (set_word e o.arena j)) same.1 ∙ get_or-set_same words (set_word e o.arena o.set) v 0 (omega (arith, at, inside, count))
             ∙ value b w.epochs.plan.values s.found (ap (λ (p : Port). p.before) s.port ∙ before_is a words ports notes b k w s.number current) ∙ ap (next_epoch_word e b) (sym same.1)
@@ -230,32 +230,32 @@ module _ {S : Type 0} (a : About) (slots id : ℕ) (me : Me S (List SeatedPort))
   pub may_set_same : (o : OwnedArena) (v : ℕ) → x.port.control.owned ≡ Some o → o.clean ≡ a.ports → a.sizes.m ≤ x.port.passed → o.set < list_base a.sizes →
       v ≡ opening_word a.sizes [] (set_offset a.sizes o.set) → Allows (IsRuleKept a) slots id me (set_word e o.arena o.set) (λ n. v) (tells (Sets o (o.set + 1)) me)
   may_set_same o v owned clean passed low is = may_set_word o v (o.set + 1) owned clean (omega arith) (omega (arith, low)) passed (λ i from up. absurd (omega (arith, from, up)))
-      (λ b long found before. is ∙ sym (same_set a.sizes (opening_behind a.opening (b.log ∷ b.before)).values o.set low) ∙ sym (next_below e b o.set 0 (omega (arith, low))))
+      (λ b long found before. is ∙ sym (same_set a.sizes (opened_after a.opening (b.log ∷ b.before)).values o.set low) ∙ sym (next_below e b o.set 0 (omega (arith, low))))
       (λ slot. (is ∙ ap (opening_word a.sizes []) (slot_offset a.sizes o.set slot) ∙ slots_open a.sizes [] (a.sizes.slots - (o.set + 1)) (omega (arith, slot)), refl)) (inl low)
 
   -- the last one of them
   pub may_set_over_lists : (o : OwnedArena) (v : ℕ) → x.port.control.owned ≡ Some o → o.clean ≡ a.ports → a.sizes.m ≤ x.port.passed → o.set + 1 ≡ list_base a.sizes → v ≡ opening_word a.sizes [] 0 →
-      Allows (IsRuleKept a) slots id me (set_word e o.arena o.set) (λ n. v) (tells (Sets o (behind_values a.sizes 0)) me)
+      Allows (IsRuleKept a) slots id me (set_word e o.arena o.set) (λ n. v) (tells (Sets o (after_values a.sizes 0)) me)
   may_set_over_lists o v owned clean passed last is =
       let around = lists_before a.sizes in
       let low = around.0 in
       let high = around.1 in
-      may_set_word o v (behind_values a.sizes 0) owned clean (omega (arith, last, low)) (omega (arith, high)) passed
+      may_set_word o v (after_values a.sizes 0) owned clean (omega (arith, last, low)) (omega (arith, high)) passed
       (λ i from up. none_over_lists a.sizes i (omega (arith, from, last)) up)
       (λ b long found before.
       let first = offset_front a.sizes o.set (omega (arith, last)) in
       let at : set_offset a.sizes o.set ≡ 0 = omega (arith, first, last) in
-      is ∙ ap (opening_word a.sizes []) (sym at) ∙ sym (same_set a.sizes (opening_behind a.opening (b.log ∷ b.before)).values o.set (omega (arith, last)))
+      is ∙ ap (opening_word a.sizes []) (sym at) ∙ sym (same_set a.sizes (opened_after a.opening (b.log ∷ b.before)).values o.set (omega (arith, last)))
       ∙ sym (next_below e b o.set 0 (omega (arith, last)))) (λ slot. absurd (omega (arith, slot, last))) (inl (omega (arith, last)))
 
   -- the value that the port has found last of component j, in its initial record
   pub may_set_value : (o : OwnedArena) (f : Found) → x.port.control.owned ≡ Some o → o.clean ≡ a.ports → a.sizes.m ≤ x.port.passed → x.found ≡ Some f →
       o.set ≡ value_word (initial_record a.sizes f.component) → f.component < a.sizes.m →
-      Allows (IsRuleKept a) slots id me (set_word e o.arena o.set) (λ n. f.value) (tells (Sets o (behind_value a.sizes o.set)) me)
+      Allows (IsRuleKept a) slots id me (set_word e o.arena o.set) (λ n. f.value) (tells (Sets o (after_value a.sizes o.set)) me)
   may_set_value o f owned clean passed found at inside =
       let around = values_before a.sizes f.component o.set inside at in
       let high = around.1 in
-      may_set_word o f.value (behind_value a.sizes o.set) owned clean around.0 (omega (arith, high)) passed
+      may_set_word o f.value (after_value a.sizes o.set) owned clean around.0 (omega (arith, high)) passed
       (λ i from up. none_over_value a.sizes f.component o.set i at from up)
       (λ b long final before.
       let last = found_last a b x.port x.found f found final before in

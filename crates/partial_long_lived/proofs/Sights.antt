@@ -1,9 +1,9 @@
 -- The loads of a call are allowed.
-use Rattle.partial_long_lived.proofs.{Common.{ℕ, ◌≡◌, ◌+◌, ◌<◌, Bool, List, slice_index, slice_set, refl, sym, ap, subst, ◌∙◌, arith, Me, Allows, Noted, Plan, base, Port, Stands, Beside, place_now, LawfulMemory, Reckons, Reckoning, About, IsRuleKept, IsSeat, SeatedPort, one_of, plan_of, IsSeatKnown, IsOne, tells, Recalls, SeatSees, Wish, MayNoteScan, NotesScan, notes_scan, IsSince}, Control.{by_rest, load_same, moved_quietly}, Kept.{Moved, allowed}, Loads.{IsFinding, moved_note, moved_see, recalled, seat_is}}
+use Rattle.partial_long_lived.proofs.{Common.{ℕ, ◌≡◌, ◌+◌, ◌<◌, Bool, List, slice_index, slice_set, refl, sym, ap, subst, ◌∙◌, arith, Me, Allows, Noted, Plan, base, Port, Stands, Beside, site_now, LawfulMemory, Reckons, Reckoning, About, IsRuleKept, IsSeat, SeatedPort, one_of, plan_of, IsSeatKnown, IsOne, tells, Recalls, SeatSees, Wish, MayNoteScan, NotesScan, notes_scan, IsSince}, Control.{by_rest, load_same, moved_quietly}, Kept.{Moved, allowed}, Loads.{IsFinding, moved_note, moved_see, recalled, seat_is}}
 
 -- nothing has changed
 pub nothing_moved : (a : About) (words words' : List ℕ) (ports : ℕ → Port) (notes : ℕ → List Noted) (b : Beside) (reckoned : Reckoning) (w : LawfulMemory (plan_of a) words ports b notes) →
-    Reckons (plan_of a) words ports (place_now b) reckoned → (x : SeatedPort) → IsSeat a words ports notes b reckoned x → x.about ≡ a → IsSeatKnown x → (ports x.number).control.entering ≡ Stands →
+    Reckons (plan_of a) words ports (site_now b) reckoned → (x : SeatedPort) → IsSeat a words ports notes b reckoned x → x.about ≡ a → IsSeatKnown x → (ports x.number).control.entering ≡ Stands →
     words' ≡ words →
     (P : SeatedPort → Type 0) → P x → Moved a words words' ports notes b reckoned x P
 nothing_moved a words words' ports notes b reckoned w time x s own known stands same P says =

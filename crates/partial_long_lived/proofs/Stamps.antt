@@ -22,9 +22,9 @@ module _ (s t u : Stand) (which values : List ℕ) (collects : ℕ) (borrowed : 
     within = let within = w.within in let seen = ap (λ (z : SeatedPort). length (seen_in z.port)) same in omega (arith, within, seen);
   }
 
-  pub stamped_behind : ScannedStamped s u which values collects borrowed stamps
+  pub stamped_after : ScannedStamped s u which values collects borrowed stamps
   unfolding scanned_on
-  stamped_behind = record {
+  stamped_after = record {
     scanned = scanned_on;
     stamps_are = λ _.
         let there : ℕ → ℕ = λ j. stamp_at (port_at t) named.scanned.place j in
@@ -36,7 +36,7 @@ module _ (s t u : Stand) (which values : List ℕ) (collects : ℕ) (borrowed : 
         ∙ ap (λ (z : SeatedPort). map (λ j. stamp_at z named.scanned.place j) which) (sym same);
   }
 
--- a scan that took a view tells none
+-- a scan that took a view returns none
 pub stamped_none : (s t : Stand) (which values : List ℕ) (collects : ℕ) (borrowed : Option ℕ) (ws stamps : List ℕ) → is_some borrowed ≡ true →
     ScannedNamed s t which values collects borrowed ws → ScannedStamped s t which values collects borrowed stamps
 stamped_none s t which values collects borrowed ws stamps some named = record {

@@ -1,5 +1,5 @@
 -- The seat of a port in a call, from step to step.
-use Rattle.partial_long_lived.proofs.{Common.{ℕ, ◌≡◌, ◌+◌, ◌-◌, ◌*◌, ◌<◌, ◌≤◌, ◌==◌, ◌⊎◌, Bool, true, false, if◌then◌else◌, Option, Some, None, IfSome, List, refl, sym, ap, subst, ◌∙◌, arith, option_map_or, TableId, Me, Allows, Place, base, packed, span, whole, IsEpochPlan, below_whole, SeatSees, Wish, component_at, sees, HaveSlots, OwnedArena, Port, Stands, having_passed, having_looked, About, Shape, Stand, IsRuleKept, SeatedPort, one_of, plan_of, SeatGoes, IsOne, tells, IsHeld, port_at, SeatLooks, looked_at, IsShapeOf}, Loads.IsFinding, Sights.may_see}
+use Rattle.partial_long_lived.proofs.{Common.{ℕ, ◌≡◌, ◌+◌, ◌-◌, ◌*◌, ◌<◌, ◌≤◌, ◌==◌, ◌⊎◌, Bool, true, false, if◌then◌else◌, Option, Some, None, IfSome, List, refl, sym, ap, subst, ◌∙◌, arith, option_map_or, TableId, Me, Allows, Site, base, packed, span, whole, IsEpochPlan, below_whole, SeatSees, Wish, component_at, sees, HaveSlots, OwnedArena, Port, Stands, having_passed, having_looked, About, Shape, Stand, IsRuleKept, SeatedPort, one_of, plan_of, SeatGoes, IsOne, tells, IsHeld, port_at, SeatLooks, looked_at, IsShapeOf}, Loads.IsFinding, Sights.may_see}
 use Rattle.std.proofs.Math.Nat.{mul-le-mul_right}
 use Rattle.partial_long_lived.specs.Inner.Calls as Calls
 use Rattle.partial_long_lived.proofs.Control as Control
@@ -16,8 +16,8 @@ held_then table about s t h id one goes here shape number epoch arena base_is pa
   own = goes.about ∙ h.own;
   known = goes.known;
   number = number ∙ h.number ∙ sym goes.number;
-  epoch = epoch ∙ h.epoch ∙ sym (ap (λ (d : Place). d.epoch) here);
-  arena = arena ∙ h.arena ∙ sym (ap (λ (d : Place). d.arena) here);
+  epoch = epoch ∙ h.epoch ∙ sym (ap (λ (d : Site). d.epoch) here);
+  arena = arena ∙ h.arena ∙ sym (ap (λ (d : Site). d.arena) here);
   base = base_is ∙ h.base ∙ ap (base (plan_of about)) (sym arena);
   passed = passed;
 }
@@ -35,18 +35,18 @@ port_word table about s h =
     let ports = ap (λ (a : About). a.ports) h.own in
     omega (arith, is, low, same, ports)
 
--- the place where the port stands
-pub place_is : (table : TableId) (about : About) (s : Stand) → IsHeld table about s → packed (record { epoch = s.epoch; arena = s.arena }) ≡ packed (port_at s).port.control.here
-place_is table about s h = let epoch = h.epoch in let arena = h.arena in omega (arith, epoch, arena)
+-- the site where the port stands
+pub site_is : (table : TableId) (about : About) (s : Stand) → IsHeld table about s → packed (record { epoch = s.epoch; arena = s.arena }) ≡ packed (port_at s).port.control.here
+site_is table about s h = let epoch = h.epoch in let arena = h.arena in omega (arith, epoch, arena)
 
--- the parts of a place are small
-pub place_small : (table : TableId) (about : About) (s : Stand) → IsHeld table about s → (s.epoch < 2199023255552) × (s.arena < 65536)
-place_small table about s h =
+-- the parts of a site are small
+pub site_small : (table : TableId) (about : About) (s : Stand) → IsHeld table about s → (s.epoch < 2199023255552) × (s.arena < 65536)
+site_small table about s h =
     let epoch = h.epoch in
     let arena = h.arena in
-    let place = h.known.place in
-    let low = place.epoch in
-    let few = place.arena in
+    let site = h.known.site in
+    let low = site.epoch in
+    let few = site.arena in
     let most = h.known.plan.arenas in
     (omega (arith, epoch, low), omega (arith, arena, few, most))
 
@@ -87,8 +87,8 @@ module _ (table : TableId) (about : About) (s : Stand) (h : IsHeld table about s
   pub arena_word : (i : ℕ) → i < span (plan_of about) → s.base + i < whole (plan_of about)
   arena_word i low =
       let is = base_is in
-      let place = subst (λ (a : About). (port_at s).port.control.here.arena < a.arenas) h.own h.known.place.arena in
-      let up = below_whole (plan_of about) (port_at s).port.control.here.arena i place low in
+      let site = subst (λ (a : About). (port_at s).port.control.here.arena < a.arenas) h.own h.known.site.arena in
+      let up = below_whole (plan_of about) (port_at s).port.control.here.arena i site low in
       omega (arith, is, up)
 
   pub arena_there : (i : ℕ) → i < span (plan_of about) → s.base + i < table.words
@@ -126,7 +126,7 @@ room_of table about s h = subst HaveSlots (sym h.shape) s.shape.sized.slots
 pub base_small : (table : TableId) (about : About) (s : Stand) → IsHeld table about s → s.base < 1099511627776
 base_small table about s h =
     let is = h.base in
-    let small = (place_small table about s h).1 in
+    let small = (site_small table about s h).1 in
     let up : s.arena * span (plan_of about) ≤ 65535 * span (plan_of about) = mul-le-mul_right (span (plan_of about)) (omega (arith, small)) in
     let plan = subst (λ (a : About). IsEpochPlan (plan_of a)) h.own h.known.plan in
     let ports = plan.few in

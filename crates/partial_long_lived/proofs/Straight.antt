@@ -3,7 +3,7 @@ use Rattle.partial_long_lived.proofs.{Common.{ℕ, ◌≡◌, ◌+◌, ◌-◌, 
 use Rattle.partial_machine.specs.Possible.{IsPossible}
 use Rattle.partial_long_lived.specs.Inner.Under.{IsUnderWay}
 
--- a word behind the component words is another
+-- a word after the component words is another
 apart_of : (a : About) (s : Step) → LeavesComponents a.sizes s → IsApart a.sizes s
 apart_of a (Load v) h = tt
 apart_of a (Store v x) h = tt
@@ -37,12 +37,12 @@ module _ (table : TableId) (about : About) (s : Stand) (w : IsGoing table about 
   pub sound_there : IsSound (machine_at s) × (machine_at s).sizes ≡ about.sizes
   sound_there = let m = had in (m.made.sound, m.made.sizes ∙ ap (λ (a : About). a.sizes) (sym m.goes.about ∙ w.held.own))
 
-  pub quiet_behind : IsQuiet (machine_at s).stage → LeavesComponents (port_at s).about.sizes step
-  quiet_behind quiet = let m = had in inner_word (machine_at s) (port_at s).about.sizes m.made.sound (m.made.sizes ∙ ap (λ (a : About). a.sizes) (sym m.goes.about)) quiet step due
+  pub quiet_leaves : IsQuiet (machine_at s).stage → LeavesComponents (port_at s).about.sizes step
+  quiet_leaves quiet = let m = had in inner_word (machine_at s) (port_at s).about.sizes m.made.sound (m.made.sizes ∙ ap (λ (a : About). a.sizes) (sym m.goes.about)) quiet step due
 
-  -- a word behind the component words is answered as it is
-  pub plain_behind : (v n : ℕ) → (port_at s).about.sizes.m ≤ v → plain (plan_of (port_at s).about) v n ≡ n
-  plain_behind v n from = ap (λ (c : Bool). if c then unsealed n else n) (not_below v (port_at s).about.sizes.m from)
+  -- a word after the component words is answered as it is
+  pub plain_after : (v n : ℕ) → (port_at s).about.sizes.m ≤ v → plain (plan_of (port_at s).about) v n ≡ n
+  plain_after v n from = ap (λ (c : Bool). if c then unsealed n else n) (not_below v (port_at s).about.sizes.m from)
 
   pub quiet_apart : IsQuiet (machine_at s).stage → IsApart about.sizes step
   quiet_apart quiet = let m = sound_there in apart_of about step (inner_word (machine_at s) about.sizes m.0 m.1 quiet step due)
@@ -105,7 +105,7 @@ module _ (table : TableId) (about : About) (s : Stand) (w : IsGoing table about 
     pub over_there : (port_at t).port.over ≡ ((port_at s).port.over || over_by (plan_of about) step a)
     over_there = ap (λ (x : SeatedPort). x.port.over) m.is ∙ ap (λ (o : About). (port_at s).port.over || over_by (plan_of o) step a) w.held.own
 
--- behind the store of the view word of a record without a view a seat has two steps fewer left
+-- after the store of the view word of a record without a view a seat has two steps fewer left
 view_stored : (table : TableId) (about : About) (s : Stand) (w : IsGoing table about s) → (v : StoresNoView (machine_at s)) → (d : CoreState) → d ≡ advance (machine_at s) 0 → IsPossible (machine_at s) 0 →
     seat_steps_left d + 2 ≤ seat_steps_left (machine_at s)
 view_stored table about s w v d is possible =
@@ -182,9 +182,9 @@ module _ (table : TableId) (about : About) (s : Stand) (w : IsGoing table about 
     machine_same = ap (λ (x : SeatedPort). core_of x.port.part) same
 
     -- and the store after it leads on as the load and the store together
-    pub leads_behind : u.seat.steps ≡ s.seat.steps + 1 → StoresNoView (machine_at s) → (t : Stand) → ComesTo u t → machine_at t ≡ advance (machine_at u) 0 → IsPossible (machine_at u) 0 →
+    pub leads_after : u.seat.steps ≡ s.seat.steps + 1 → StoresNoView (machine_at s) → (t : Stand) → ComesTo u t → machine_at t ≡ advance (machine_at u) 0 → IsPossible (machine_at u) 0 →
         t.seat.steps ≡ u.seat.steps + 1 → ComesTo s t
-    leads_behind loaded unviewed t leads machine possible stored = record {
+    leads_after loaded unviewed t leads machine possible stored = record {
       shape = leads.shape ∙ shape;
       number = leads.number ∙ number;
       epoch = leads.epoch ∙ epoch;
@@ -217,8 +217,8 @@ module _ (table : TableId) (about : About) (s : Stand) (w : IsGoing table about 
         SeatMakes false (machine_at s) (Exchange v old new) (port_at s) n y
     exchange_told v old new due n y m =
         let told = subst (λ u. SeatMakes false (machine_at s) (Exchange u old new) (port_at s) (unsealed_answer (plan_of (port_at s).about) (Exchange u old new) n) y) (word_same table about s w (Exchange v old new) due) m in
-        let behind = quiet_behind table about s w (Exchange v old new) due quiet in
-        subst (λ a. SeatMakes false (machine_at s) (Exchange v old new) (port_at s) a y) (plain_behind table about s w (Exchange v old new) due v n behind) told
+        let behind = quiet_leaves table about s w (Exchange v old new) due quiet in
+        subst (λ a. SeatMakes false (machine_at s) (Exchange v old new) (port_at s) a y) (plain_after table about s w (Exchange v old new) due v n behind) told
 
     pub add_asked : (v k : ℕ) → step_of (machine_at s) ≡ Some (Add v k) → (slots id : ℕ) →
         Allows (IsRuleKept about) slots id s.seat.me (s.base + v) (λ n. (n + k) % 2 ^ 64) (goes_on (Add (word_at s.seat.me (s.base + v)) k) s.seat.me)
@@ -230,5 +230,5 @@ module _ (table : TableId) (about : About) (s : Stand) (w : IsGoing table about 
         SeatMakes false (machine_at s) (Add v k) (port_at s) n y
     add_told v k due n y m =
         let told = subst (λ u. SeatMakes false (machine_at s) (Add u k) (port_at s) (unsealed_answer (plan_of (port_at s).about) (Add u k) n) y) (word_same table about s w (Add v k) due) m in
-        let behind = quiet_behind table about s w (Add v k) due quiet in
-        subst (λ a. SeatMakes false (machine_at s) (Add v k) (port_at s) a y) (plain_behind table about s w (Add v k) due v n behind) told
+        let behind = quiet_leaves table about s w (Add v k) due quiet in
+        subst (λ a. SeatMakes false (machine_at s) (Add v k) (port_at s) a y) (plain_after table about s w (Add v k) due v n behind) told

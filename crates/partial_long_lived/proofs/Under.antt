@@ -1,5 +1,5 @@
 -- The steps of a call of a port's machine, one after the other.
-use Rattle.partial_long_lived.proofs.{Common.{ℕ, ◌≡◌, ◌≢◌, ◌+◌, ◌<◌, ◌≤◌, ◌==◌, ◌&&◌, ◌||◌, ◌++◌, Bool, true, false, if◌then◌else◌, Option, Some, None, List, [], ◌∷◌, length, map, take, refl, sym, ap, subst, ◌∙◌, inl, inr, arith, append-nil, nat_lt, eqb_tells, append_cancel_left, Applied, Opening, stamp_of, Noted, seen_by, Step, Load, Store, Exchange, Add, Layout, IsLayout, pool_counter, slot_counter, total, word_of, Reply, Change, Stage, Idle, ReadBegun, LoadingValue, UpdateBegun, GettingSet, Viewing, ClaimingRecord, StoringRecord, Exchanging, ScanBegun, StoringAnnouncement, Joining, Scanning, Leaving, Finished, some_same, CoreState, advance, advance_at, at_stage, fits_pool, pool_refused, record_size, reply_of, step_at, step_of, call_of, is_begun, IsSound, Part, first_at, AreNotesOf, Tells, begun_with, moved_part, take_within, first_steps_make_calls, further_steps_make_calls, history_of, opening_behind, Control, MayClaim, public_noted, About, Began, SeatedPort, plan_of, SeatGoes, opening_of, SeatMakes, MayMake, over_by, slot_limit, CallMade, MayBegin, awaits, before_claim, has_claimed, neither, record_claim, IsBehind, refuses_pool, refuses_slots, due_is_unreplied, due_words_are_there, KeptAnswer, Call}, Claims.{ClaimsSlot, claimed_from, pool_claims, slot_claims, unawaited, unclaimed_before}, Coming.goes_on}
+use Rattle.partial_long_lived.proofs.{Common.{ℕ, ◌≡◌, ◌≢◌, ◌+◌, ◌<◌, ◌≤◌, ◌==◌, ◌&&◌, ◌||◌, ◌++◌, Bool, true, false, if◌then◌else◌, Option, Some, None, List, [], ◌∷◌, length, map, take, refl, sym, ap, subst, ◌∙◌, inl, inr, arith, append-nil, nat_lt, eqb_tells, append_cancel_left, Applied, Opening, stamp_of, Noted, seen_by, Step, Load, Store, Exchange, Add, Layout, IsLayout, pool_counter, slot_counter, total, word_of, Reply, Change, Stage, Idle, ReadBegun, LoadingValue, UpdateBegun, GettingSet, Viewing, ClaimingRecord, StoringRecord, Exchanging, ScanBegun, StoringAnnouncement, Joining, Scanning, Leaving, Finished, some_same, CoreState, advance, advance_at, at_stage, fits_pool, pool_refused, record_size, reply_of, step_at, step_of, call_of, is_begun, IsSound, Part, first_at, AreNotesOf, Tells, begun_with, moved_part, take_within, first_steps_make_calls, further_steps_make_calls, history_of, opened_after, Control, MayClaim, public_noted, About, Began, SeatedPort, plan_of, SeatGoes, opening_of, SeatMakes, MayMake, over_by, slot_limit, CallMade, MayBegin, awaits, before_claim, has_claimed, neither, record_claim, IsBehind, refuses_pool, refuses_slots, due_is_unreplied, due_words_are_there, KeptAnswer, Call}, Claims.{ClaimsSlot, claimed_from, pool_claims, slot_claims, unawaited, unclaimed_before}, Coming.goes_on}
 use Rattle.std.proofs.lemmas.Bool.{eq-eqb, ne_eqb}
 use Rattle.partial_model.specs.declared.call.Refused.{Refused}
 use Rattle.partial_core.specs.Calls.{Made}
@@ -19,7 +19,7 @@ spare_step a c (Exchange w old new) x sound sizes due yet = refl
 spare_step a c (Add w k) x sound sizes due yet = elim (eqb_tells w (pool_counter a.sizes)) [
   | inl same ↦
       let claims = pool_claims c a.sizes sound sizes w k due same.1 in
-      let bad : true ≡ false = sym yet ∙ claims.behind_claim x in
+      let bad : true ≡ false = sym yet ∙ claims.after_claim x in
       cc
   | inr other ↦ not_over a w k x other.1 (λ is.
       let claims = slot_claims c a.sizes sound sizes w k due is in
@@ -82,14 +82,14 @@ awaited c x behind on = by (awaits c) refl
     by false is = let bad : true ≡ false = sym on ∙ unawaited c x behind is in absurd cc
 
 -- what stays unclaimed was unclaimed
-behind_stays : (c : CoreState) (x : ℕ) → before_claim c.stage ≡ false → before_claim (advance c x).stage ≡ false
-behind_stays c x behind = by (before_claim (advance c x).stage) refl
+past_stays : (c : CoreState) (x : ℕ) → before_claim c.stage ≡ false → before_claim (advance c x).stage ≡ false
+past_stays c x behind = by (before_claim (advance c x).stage) refl
   where
     by : (b : Bool) → before_claim (advance c x).stage ≡ b → before_claim (advance c x).stage ≡ false
     by true is = let bad : true ≡ false = sym (unclaimed_before c x is) ∙ behind in cc
     by false is = is
 
--- a machine that isn't refused comes to no marks
+-- a machine that isn't refused doesn't become spent
 stays_unmarked : (c : CoreState) (x : ℕ) → IsBehind c x → ((cause : Refused) → reply_of (advance c x) ≢ Some (Reply.Refused cause)) → (c.pool_spent ≡ false) × (c.slots_spent ≡ false) →
     ((advance c x).pool_spent ≡ false) × ((advance c x).slots_spent ≡ false)
 stays_unmarked c x b none was = (
@@ -259,7 +259,7 @@ module _ (b : CoreState) (x : SeatedPort) (begins : MayBegin b x) (c : CoreState
   sizes_same = had.made.sizes ∙ sym (ap (λ (a : About). a.sizes) about_same)
 
   opening_same : opening_of y ≡ opening_of x
-  opening_same = ap (λ (a : About). opening_behind a.opening y.port.before) about_same ∙ ap (opening_behind x.about.opening) had.before
+  opening_same = ap (λ (a : About). opened_after a.opening y.port.before) about_same ∙ ap (opened_after x.about.opening) had.before
 
   pub next_within : word_of s < total x.about.sizes
   next_within = subst (λ (z : Layout). word_of s < total z) had.made.sizes (due_words_are_there c s (subst IsLayout (begins.sizes ∙ sym had.made.sizes) begins.layout) had.made.sound due)
@@ -356,7 +356,7 @@ module _ (b : CoreState) (x : SeatedPort) (begins : MayBegin b x) (c : CoreState
     pub next_over : has_claimed c ≡ true → (has_claimed (advance c a) ≡ true) × (z.port.over ≡ y.port.over)
     next_over claimed =
         let is = neither_is (before_claim c.stage) (awaits c) claimed in (
-          neither_so (before_claim (advance c a).stage) (awaits (advance c a)) (behind_stays c a is.0) (unawaited c a is.0 is.1),
+          neither_so (before_claim (advance c a).stage) (awaits (advance c a)) (past_stays c a is.0) (unawaited c a is.0 is.1),
           over_same is.0 (λ claims. let bad : true ≡ false = sym claims.now ∙ is.1 in cc),
         )
 
@@ -364,6 +364,6 @@ module _ (b : CoreState) (x : SeatedPort) (begins : MayBegin b x) (c : CoreState
     pub next_waits : before_claim c.stage ≡ false → (before_claim (advance c a).stage ≡ false)
         × (awaits (advance c a) ≡ true → (awaits c ≡ true) × (z.port.over ≡ y.port.over))
     next_waits behind = (
-      behind_stays c a behind,
+      past_stays c a behind,
       λ on. (awaited c a behind on, over_same behind (λ claims. let bad : true ≡ false = sym on ∙ claims.last a in cc)),
     )

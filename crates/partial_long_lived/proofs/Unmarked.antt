@@ -1,4 +1,4 @@
--- A call that is not refused leaves its machine without marks.
+-- A call that is not refused leaves its machine unspent.
 use Rattle.partial_long_lived.proofs.Common.{ℕ, ◌≡◌, ◌≢◌, ◌||◌, false, Option, Some, None, List, [], ◌∷◌, refl, sym, ap, subst, ◌∙◌, IsLayout, Reply, Stage, Finished, CoreState, advance, reply_at, reply_of, IsSound, refuses_pool, refuses_slots, IsPossibleAt, answers_lead_on}
 use Rattle.partial_model.specs.declared.call.Refused.{Refused}
 use Rattle.partial_machine.specs.Steps.{Run}
@@ -29,7 +29,7 @@ met_none : (s t : CoreState) (xs : List ℕ) → Run s xs t → IsUnrefused (rep
 met_none s t [] is h = subst (λ (c : CoreState). IsUnrefused (reply_of c)) is h
 met_none s t (x ∷ xs) run h = going_on s s.stage x run.0
 
--- and leaves the marks as they were
+-- and leaves what is spent as it was
 pub marks_stay : (s t : CoreState) (xs : List ℕ) → IsLayout s.sizes → IsSound s → Run s xs t → IsUnrefused (reply_of t) → (t.pool_spent ≡ s.pool_spent) × (t.slots_spent ≡ s.slots_spent)
 marks_stay s t [] layout sound is h = (ap (λ (c : CoreState). c.pool_spent) is, ap (λ (c : CoreState). c.slots_spent) is)
 marks_stay s t (x ∷ xs) layout sound run h =

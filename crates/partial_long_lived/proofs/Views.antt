@@ -1,7 +1,7 @@
 -- The seats of all views: around one view, and how many are of one port.
 use Rattle.partial_long_lived.proofs.Common.{◌≡◌, ◌≢◌, ℕ, zero, suc, ◌+◌, ◌==◌, ◌⊎◌, Bool, true, false, if◌then◌else◌, List, [], ◌∷◌, ◌++◌, slice_set, refl, ap, sym, ◌∙◌, inl, inr, arith, append_assoc, AllByRecursion, eqb_tells, some, some-injective, some-ne-none, get_elem?, SeatedPort, flatten, seats_of}
 
--- the seats before and behind those of the view at a place, whatever that view becomes
+-- the seats before and after those of one view, whatever that view becomes
 pub record Around (views : List (List SeatedPort)) (id : ℕ) (v : List SeatedPort) : Type 0 where
   pub before : List SeatedPort
   pub behind : List SeatedPort

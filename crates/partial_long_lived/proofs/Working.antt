@@ -1,8 +1,8 @@
--- What the owner of an arena has behind its steps.
+-- What the owner of an arena has after its steps.
 use Rattle.std.proofs.Common.{le-ltb}
 use Rattle.partial_long_lived.specs.declared.claim.Claimed.{Claimed}
 use Rattle.partial_long_lived.specs.declared.claim.Claimed.TheVariants.{Clean, Taken, Ended}
-use Rattle.partial_long_lived.proofs.{Common.{ℕ, value_word, initial_record, ◌≡◌, ◌≢◌, ◌+◌, ◌-◌, ◌%◌, ◌<◌, ◌≤◌, Bool, true, if◌then◌else◌, Option, Some, None, IfSome, refl, sym, ap, subst, ◌∙◌, inl, inr, arith, nat_lt, lt-ltb, Layout, first_free, Place, arena_limit, entering_mark, marked, OwnedArena, Stands, at_next_port, having_loaded, owning_port, resting_arena, not_below, About, Stand, SeatedPort, port_at, LoadsPort, SeatPublishes, PutsPort, Sets, becomes, elsewhere, port_loaded, port_put, unpacked, HasLoadedPort, IsRight, MayPutPort, OfOwned, Owns, PutsBy, SetsLists, SetsValue, HasControl, Control, behind_value, behind_values, SetsNext, HasSetWords, FindsClear, Contention, Takes, contention_loading, contention_putting, contention_there, cases_lt, ◌⊎◌, TakesBy, Searches, SearchesOn, search_at, MeetsPort, HasPassedArenas, passing, meeting, GivesBack, SeatGives, having_given, just_taken, taken_at, contention_taking, Port, false, eqb_tells, ◌&&◌, ◌==◌, MeetsBy}, Sets.{alike, unlike, value_behind}}
+use Rattle.partial_long_lived.proofs.{Common.{ℕ, value_word, initial_record, ◌≡◌, ◌≢◌, ◌+◌, ◌-◌, ◌%◌, ◌<◌, ◌≤◌, Bool, true, if◌then◌else◌, Option, Some, None, IfSome, refl, sym, ap, subst, ◌∙◌, inl, inr, arith, nat_lt, lt-ltb, Layout, first_free, Site, arena_limit, entering_mark, marked, OwnedArena, Stands, at_next_port, having_loaded, owning_port, resting_arena, not_below, About, Stand, SeatedPort, port_at, LoadsPort, SeatPublishes, PutsPort, Sets, becomes, elsewhere, port_loaded, port_put, unpacked, HasLoadedPort, IsRight, MayPutPort, OfOwned, Owns, PutsBy, SetsLists, SetsValue, HasControl, Control, after_value, after_values, SetsNext, HasSetWords, FindsClear, Contention, Takes, contention_loading, contention_putting, contention_there, cases_lt, ◌⊎◌, TakesBy, Searches, SearchesOn, search_at, MeetsPort, HasPassedArenas, passing, meeting, GivesBack, SeatGives, having_given, just_taken, taken_at, contention_taking, Port, false, eqb_tells, ◌&&◌, ◌==◌, MeetsBy}, Sets.{alike, unlike, value_behind}}
 
 -- a step by the arena that the port owns
 own_told : (R : OwnedArena → SeatedPort → ℕ → SeatedPort → Type 0) (x : SeatedPort) (a : ℕ) (y : SeatedPort) (o : OwnedArena) → x.port.control.owned ≡ Some o → OfOwned R x a y → R o x a y
@@ -36,10 +36,10 @@ module _ (s t : Stand) (met met' : Bool) (n n' : ℕ) (w : Searches met n s) (p 
   pub searches_on : SearchesOn met' n' s t
   searches_on = record {
     searches = record {
-      epoch = ap (λ (x : SeatedPort). x.contention.search.epoch) is ∙ epoch ∙ w.epoch ∙ sym (ap (λ (x : SeatedPort). x.port.control.here.epoch) is ∙ ap (λ (d : Place). d.epoch) here);
+      epoch = ap (λ (x : SeatedPort). x.contention.search.epoch) is ∙ epoch ∙ w.epoch ∙ sym (ap (λ (x : SeatedPort). x.port.control.here.epoch) is ∙ ap (λ (d : Site). d.epoch) here);
       past = ap (λ (x : SeatedPort). x.port.control.past) is ∙ past ∙ w.past;
       met_is = ap (λ (x : SeatedPort). x.contention.search.met) is ∙ met_is;
-      passed = subst (HasPassedArenas n') (sym is) (λ i low. subst (λ (d : Place). (i < m.search.below) ⊎ (i ≡ d.arena)) (sym here) (passed i low));
+      passed = subst (HasPassedArenas n') (sym is) (λ i low. subst (λ (d : Site). (i < m.search.below) ⊎ (i ≡ d.arena)) (sym here) (passed i low));
     };
     same = record { freed = ap (λ (x : SeatedPort). x.contention.search.freed) is ∙ freed; most = ap (λ (x : SeatedPort). x.contention.search.most) is ∙ most };
   }
@@ -125,18 +125,18 @@ module _ (s t : Stand) (y q i a : ℕ) (w : HasSetWords s y q i) where
       let r : Sets o (o.set + 1) (port_at s) a (port_at t) = own_told (λ o. Sets o (o.set + 1)) (port_at s) a (port_at t) o w.is told in
       works_then s t (record o { set = o.set + 1 }) (port_at s).contention r w.stands y q (i + 1) w.arena w.looked w.clean w.mark (ap (λ n. n + 1) w.set)
 
-  pub set_lists_works : (z : Layout) → (port_at s).about.sizes ≡ z → SetsLists (port_at s) a (port_at t) → HasSetWords t y q (behind_values z 0)
+  pub set_lists_works : (z : Layout) → (port_at s).about.sizes ≡ z → SetsLists (port_at s) a (port_at t) → HasSetWords t y q (after_values z 0)
   set_lists_works z same told =
-      let n : Layout → ℕ = λ z. behind_values z 0 in
+      let n : Layout → ℕ = λ z. after_values z 0 in
       let r : Sets o (n (port_at s).about.sizes) (port_at s) a (port_at t) = own_told (λ o. Sets o (n (port_at s).about.sizes)) (port_at s) a (port_at t) o w.is told in
       works_then s t (record o { set = n (port_at s).about.sizes }) (port_at s).contention r w.stands y q (n z) w.arena w.looked w.clean w.mark (ap n same)
 
-  pub set_value_works : (z : Layout) → (port_at s).about.sizes ≡ z → (j : ℕ) → j < z.m → i ≡ behind_values z j → SetsValue (port_at s) a (port_at t) → HasSetWords t y q (behind_values z (j + 1))
+  pub set_value_works : (z : Layout) → (port_at s).about.sizes ≡ z → (j : ℕ) → j < z.m → i ≡ after_values z j → SetsValue (port_at s) a (port_at t) → HasSetWords t y q (after_values z (j + 1))
   set_value_works z same j low at told =
-      let n : OwnedArena → ℕ = λ o. behind_value (port_at s).about.sizes o.set in
+      let n : OwnedArena → ℕ = λ o. after_value (port_at s).about.sizes o.set in
       let r : Sets o (n o) (port_at s) a (port_at t) = own_told (λ o. Sets o (n o)) (port_at s) a (port_at t) o w.is told in
-      works_then s t (record o { set = n o }) (port_at s).contention r w.stands y q (behind_values z (j + 1)) w.arena w.looked w.clean w.mark
-      (ap (λ (z : Layout). behind_value z o.set) same ∙ ap (behind_value z) (w.set ∙ at) ∙ value_behind z j low)
+      works_then s t (record o { set = n o }) (port_at s).contention r w.stands y q (after_values z (j + 1)) w.arena w.looked w.clean w.mark
+      (ap (λ (z : Layout). after_value z o.set) same ∙ ap (after_value z) (w.set ∙ at) ∙ value_behind z j low)
 
   pub find_clear_works : (z : Layout) → (port_at s).about.sizes ≡ z → (n : ℕ) → n ≡ z.slots - a → OfOwned FindsClear (port_at s) a (port_at t) → HasSetWords t y q n
   find_clear_works z same n is told =
@@ -226,7 +226,7 @@ module _ (s t : Stand) (y q m a : ℕ) (w : MayPutPort s y q m) (from : entering
   abbrev put : OwnedArena
   put = w.holds.owned
 
-  abbrev mark : Place
+  abbrev mark : Site
   mark = unpacked (m - entering_mark)
 
   abbrev met_then : Contention
@@ -272,7 +272,7 @@ module _ (s t : Stand) (y q m a : ℕ) (w : MayPutPort s y q m) (from : entering
       (put_stays x.contention (lost_met (λ same. (let low = away.0 in absurd (omega (arith, same, low)))) ∙ ap met_by (lt-ltb a entering_mark away.0)
       ∙ ap (λ (c : Bool). if c then meeting x.contention else x.contention) (unlike (unpacked a).arena put.arena (λ is. away.1 (is ∙ w.holds.arena))))) refl refl
 
-  -- an exchange that finds another word, which isn't the place of another arena, meets a port there
+  -- an exchange that finds another word, which isn't the site of another arena, meets a port there
   pub put_meets : Searches false y s → a ≢ m → (a < entering_mark → a % arena_limit ≡ y) → SearchesOn true y s t
   put_meets searches other there = searches_met s t false y searches (owning_port x.port (port_put mark a put)) (put_stays (meeting x.contention) (lost_met other ∙ by (cases_lt a entering_mark))) refl refl
     where
@@ -280,8 +280,8 @@ module _ (s t : Stand) (y q m a : ℕ) (w : MayPutPort s y q m) (from : entering
       by (inl low) = ap met_by (lt-ltb a entering_mark low) ∙ ap (λ (c : Bool). if c then meeting x.contention else x.contention) (alike (unpacked a).arena put.arena (there low ∙ sym w.holds.arena))
       by (inr from) = ap met_by (not_below a entering_mark from)
 
--- behind the last value come the carried stamps
-pub behind_last : (z : Layout) (n : ℕ) → z.m ≤ n → behind_values z n ≡ first_free z + 0
-behind_last z n all =
-    let here : behind_values z n ≡ first_free z = ap (λ (b : Bool). if b then value_word (initial_record z n) else first_free z) (le-ltb n z.m all) in
+-- after the last value come the carried stamps
+pub after_last : (z : Layout) (n : ℕ) → z.m ≤ n → after_values z n ≡ first_free z + 0
+after_last z n all =
+    let here : after_values z n ≡ first_free z = ap (λ (b : Bool). if b then value_word (initial_record z n) else first_free z) (le-ltb n z.m all) in
     omega (arith, here)

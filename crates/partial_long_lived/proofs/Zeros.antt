@@ -13,7 +13,7 @@ on n m true false f less = let bad : false ≡ true = f refl in cc
 on n m false true f less = omega (arith, less)
 on n m false false f less = omega (arith, less)
 
--- what is stored behind a word lies behind it
+-- what is stored after a word lies after it
 and_before : (a b e : Bool) → (a ≡ true → b ≡ true) → (a && e) ≡ true → (b && e) ≡ true
 and_before true b e f h = ap (λ t. t && e) (f refl) ∙ h
 and_before false b e f h = cc

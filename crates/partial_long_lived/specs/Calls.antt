@@ -3,6 +3,7 @@ use Rattle.std.specs.Prelude.{ℕ, ◌≡◌, ◌+◌, ◌<◌, ◌≤◌, ◌�
 use Rattle.partial_model.specs.declared.call.Call.{Call}
 use Rattle.partial_model.specs.declared.call.Answer.{Answer}
 use Rattle.partial_model.specs.declared.call.Note.{Note}
+use Rattle.partial_model.specs.declared.history.Applied.{Applied}
 use Rattle.partial_model.specs.History.{stamp_of}
 use Rattle.partial_model.specs.Notes.{NamesComponents, Noted, place_of, shown_by}
 pub use Rattle.partial_lines.specs.declared.whole_scan.Scanned.{Scanned}
@@ -12,7 +13,7 @@ use Rattle.partial_long_lived.specs.declared.answers.Updated.TheVariants.{Applie
 use Rattle.partial_long_lived.specs.declared.answers.UpdatedIf.{UpdatedIf}
 use Rattle.partial_long_lived.specs.declared.error.Refused.{Refused}
 use Rattle.partial_long_lived.specs.declared.error.Refused.TheVariants.{Component, EpochsSpent, Overtaken}
-use Rattle.partial_long_lived.specs.Ports.{Knows, PortView}
+use Rattle.partial_long_lived.specs.Ports.{HasLawfulState, Knows, PortView}
 
 -- what every call does to its port: it stands in no earlier epoch, the history that it has observed grows, it has met no less, and it has noted
 -- these calls more
@@ -105,6 +106,22 @@ pub record Meets (a b c d : PortView) : Type 0 where
   pub first_knows : Knows b.memory.about b.number c.seen b.notes
   pub second_knows : Knows a.memory.about a.number d.seen a.notes
   pub one : (c.seen ≡ take (length c.seen) d.seen) ⊎ (d.seen ≡ take (length d.seen) c.seen)
+
+-- A port as a state with this history and these notes has it: what it has seen begins the history, which is no shorter than when its last
+-- call began, and its notes are its own.
+pub record IsPortThen (log : List Applied) (notes : ℕ → List Noted) (p : PortView) : Type 0 where
+  pub seen : p.seen ≡ take (length p.seen) log
+  pub noted : notes p.number ≡ p.notes
+  pub began : p.began ≤ length log
+
+-- The rule of the table as two ports met: at the last look of the meeting there was a lawful state, whose one history begins with all that
+-- each of them has seen now, and which has the notes of both.
+pub record MeetByTheRule (c d : PortView) : Type 0 where
+  pub log : List Applied
+  pub notes : ℕ → List Noted
+  pub state : HasLawfulState c.memory.about log notes
+  pub first : IsPortThen log notes c
+  pub second : IsPortThen log notes d
 
 -- Why a call that changes the epoch can't end: its port has entered 16 later epochs and has found its component sealed in 15 of them at
 -- least (in its first epoch it may have no room left); or its epoch is the last one that a word can name.

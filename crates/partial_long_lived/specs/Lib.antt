@@ -11,3 +11,4 @@ pub mod Resting
 pub mod Rule
 pub mod Shape
 pub mod Sized
+pub mod StepNumbers

@@ -1,5 +1,5 @@
 -- The sizes of a memory for its options, and why there are none.
-use Rattle.std.specs.Prelude.{ℕ, ◌≡◌, ◌+◌, ◌-◌, ◌*◌, ◌/◌, ◌%◌, ◌<◌, ◌≤◌, ◌⊎◌, min, max}
+use Rattle.std.specs.Prelude.{ℕ, ◌≡◌, ◌+◌, ◌-◌, ◌*◌, ◌/◌, ◌%◌, ◌<◌, ◌≤◌, ◌⊎◌, None, min, max}
 use Rattle.std.specs.Option.{option_map_or}
 use Rattle.partial_words.specs.Layout.{Layout, first_free}
 use Rattle.partial_words.specs.Record.{full_record_size, plain_record_size}
@@ -7,6 +7,10 @@ use Rattle.partial_long_lived.specs.declared.open_error.OpenError.{OpenError}
 use Rattle.partial_long_lived.specs.declared.open_error.OpenError.TheVariants.{Ports, Components, Lists, Pool, OutOfMemory}
 use Rattle.partial_long_lived.specs.declared.options.Options.{Options}
 use Rattle.partial_long_lived.specs.declared.shape.Shape.{Shape}
+
+-- the usual options
+abbrev pub IsUsual : Options → Type 0
+IsUsual o = (o.lists ≡ 1024) × (o.pool ≡ None)
 
 -- the most list words
 abbrev pub most_lists : ℕ
@@ -46,8 +50,8 @@ abbrev pub claimed_pool : ℕ → ℕ → Options → ℕ
 claimed_pool count ports o = option_map_or (λ words. words) o.pool (usual_pool count ports)
 
 -- how many words the pool has after the initial records: those that are claimed, and room for the greatest record of each port
-abbrev pub pool_words_behind : ℕ → ℕ → Options → ℕ
-pool_words_behind count ports o = claimed_pool count ports o + full_record_size count * ports
+abbrev pub pool_words_after : ℕ → ℕ → Options → ℕ
+pool_words_after count ports o = claimed_pool count ports o + full_record_size count * ports
 
 -- the fewest slots that an arena has: one for each 8 pool words that are claimed in an epoch, and one for each port
 abbrev pub least_slots : ℕ → ℕ → Options → ℕ
@@ -55,7 +59,7 @@ least_slots count ports o = claimed_pool count ports o / 8 + ports
 
 -- how many words the pool has
 abbrev pub pool_words : ℕ → ℕ → Options → ℕ
-pool_words count ports o = plain_record_size * count + pool_words_behind count ports o
+pool_words count ports o = plain_record_size * count + pool_words_after count ports o
 
 -- how many slots there are beside those, so that an arena has a multiple of 16 words
 abbrev pub spare_slots : ℕ → ℕ → Options → ℕ

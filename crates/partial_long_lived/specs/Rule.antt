@@ -5,12 +5,12 @@ use Rattle.partial_table.specs.Table.{State}
 use Rattle.partial_model.specs.declared.history.Applied.{Applied}
 use Rattle.partial_model.specs.History.{value_of}
 use Rattle.partial_model.specs.Notes.{Noted}
-use Rattle.partial_epochs.specs.Layout.{Place, Plan}
-use Rattle.partial_epochs.specs.History.{carried_after, carried_behind, history_of, opening_behind}
+use Rattle.partial_epochs.specs.Layout.{Site, Plan}
+use Rattle.partial_epochs.specs.History.{carried_after, stamp_after, history_of, opened_after}
 use Rattle.partial_epochs.specs.Ports.{Entering, Port}
 use Rattle.partial_epochs.specs.Ports.Entering.{Stands}
-use Rattle.partial_epochs.specs.Epochs.{Beside, place_now}
-use Rattle.partial_epochs.specs.Opening.{first_place}
+use Rattle.partial_epochs.specs.Epochs.{Beside, site_now}
+use Rattle.partial_epochs.specs.Opening.{first_site}
 use Rattle.partial_epochs.specs.Entering.{arrived_port}
 use Rattle.partial_epochs.specs.Notes.{LawfulMemory}
 use Rattle.partial_epochs.specs.Time.{KeepsTime}
@@ -72,8 +72,8 @@ seats_of k (x ∷ xs) = (if x.number == k then 1 else 0) + seats_of k xs
 
 -- the component has that value and that public stamp after an epoch with this history, and after the epochs before it
 pub record IsLast (e : Plan) (before : List (List Applied)) (log : List Applied) (f : Found) : Type 0 where
-  pub value : value_of (opening_behind e.opening before) log f.component ≡ f.value
-  pub stamp : carried_after (length before) (carried_behind e.opening before) log f.component ≡ f.stamp
+  pub value : value_of (opened_after e.opening before) log f.component ≡ f.value
+  pub stamp : carried_after (length before) (stamp_after e.opening before) log f.component ≡ f.stamp
 
 -- what the port has found is the last of a component that is sealed, and so it stays
 pub record IsFinal (e : Plan) (b : Beside) (x : Port) (f : Found) : Type 0 where
@@ -98,19 +98,19 @@ IsSince g Stands since = ⊤
 IsSince g _ since = g.epoch ≤ since
 
 -- What is counted beside the words: the number of the epoch that was the current one as each port stored its last entering mark, and how
--- often ports have come to places and arenas have come free.
+-- often ports have changed their sites and arenas have become free.
 pub record Reckoning : Type 0 where
   pub since : ℕ → ℕ
   pub tally : Tally
 
 -- the ports keep time and tally
-pub record Reckons (e : Plan) (words : List ℕ) (ports : ℕ → Port) (now : Place) (r : Reckoning) : Type 0 where
+pub record Reckons (e : Plan) (words : List ℕ) (ports : ℕ → Port) (now : Site) (r : Reckoning) : Type 0 where
   pub time : KeepsTime e words ports now r.since
   pub tally : KeepsTally e words ports r.tally
 
 -- What holds of a search of port k: while its epoch is the current one, arenas come free no more often than it says; and unless one may
 -- have come free since its pass began, the arenas that it has passed are in use.
-pub record IsSearching (e : Plan) (words : List ℕ) (ports : ℕ → Port) (now : Place) (r : Reckoning) (k : ℕ) (s : Search) : Type 0 where
+pub record IsSearching (e : Plan) (words : List ℕ) (ports : ℕ → Port) (now : Site) (r : Reckoning) (k : ℕ) (s : Search) : Type 0 where
   pub come : s.epoch ≤ now.epoch
   pub begun : s.freed ≤ r.tally.freed
   pub within : s.below ≤ e.arenas
@@ -128,7 +128,7 @@ pub record IsSeat (a : About) (words : List ℕ) (ports : ℕ → Port) (notes :
   pub began : BeganInTime b x.began
   pub entering : IsSince x.began x.port.control.entering (r.since x.number)
   pub found : IfSome x.found (IsFinal (plan_of a) b x.port)
-  pub search : IsSearching (plan_of a) words ports (place_now b) r x.number x.contention.search
+  pub search : IsSearching (plan_of a) words ports (site_now b) r x.number x.contention.search
   pub met : x.contention.search.met ≡ true → r.tally.met x.number ≡ true
 
 -- The rule: the words are lawful over all epochs, with ports that keep time and tally, of which the seats know. No two seats are of one
@@ -139,7 +139,7 @@ pub record IsRuleKept {S : Type 0} (about : About) (s : State S (List SeatedPort
   pub beside : Beside
   pub reckoned : Reckoning
   pub lawful : LawfulMemory (plan_of about) s.words ports beside notes
-  pub reckons : Reckons (plan_of about) s.words ports (place_now beside) reckoned
+  pub reckons : Reckons (plan_of about) s.words ports (site_now beside) reckoned
   pub seats : AllByRecursion (IsSeat about s.words ports notes beside reckoned) (flatten s.views)
   pub once : (k : ℕ) → seats_of k (flatten s.views) ≤ 1
 
@@ -152,7 +152,7 @@ abbrev pub newcomer : About → ℕ → SeatedPort
 newcomer about k = record {
   about = about;
   number = k;
-  port = arrived_port (plan_of about) k first_place [];
+  port = arrived_port (plan_of about) k first_site [];
   notes = [];
   began = record { epoch = 0; length = 0 };
   found = None;

@@ -14,6 +14,6 @@ pub record IsSized (sizes : Layout) (ports arenas limit : ℕ) : Type 0 where
   pub slots : ports ≤ sizes.slots
 
 -- where an epoch's own records begin in an arena, and where the carried stamps do
-pub record IsPlaced (sizes : Layout) (records stamps : ℕ) : Type 0 where
+pub record HasOffsets (sizes : Layout) (records stamps : ℕ) : Type 0 where
   pub own : records ≡ first_free sizes
   pub carried : stamps ≡ total sizes

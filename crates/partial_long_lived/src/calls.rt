@@ -4,7 +4,7 @@ ghost use Rattle.std.specs.Prelude.{◌≡◌, ◌+◌, ◌*◌, ◌≤◌, true
 ghost use Rattle.std.specs.List.{list_all};
 ghost use Rattle.partial_model.specs.declared.call.Call.TheVariants as call;
 ghost use Rattle.partial_long_lived.specs.Bounds.{most_of_scans, round_if_steps, round_steps};
-ghost use Rattle.partial_long_lived.specs.Calls.{Differ, IsRefused, Meets, Reads, Scans, ScansStamped, StillStand, Updates, UpdatesIf};
+ghost use Rattle.partial_long_lived.specs.Calls.{Differ, IsRefused, Meets, MeetByTheRule, Reads, Scans, ScansStamped, StillStand, Updates, UpdatesIf};
 ghost use Rattle.partial_long_lived.specs.Ports.{IsOf};
 
 use crate::answers::{Updated, UpdatedIf};
@@ -239,6 +239,7 @@ impl LongLived {
         requires { IsOf self.now first.old × IsOf self.now second.old }
         ensures same { IsOf self.now first.new × IsOf self.now second.new }
         ensures met { Meets first.old second.old first.new second.new }
+        ensures lawful { MeetByTheRule first.new second.new }
         ensures steps { first.new.steps + second.new.steps ≤ first.old.steps + second.old.steps + 12 }
     {
         let words = &self.table;

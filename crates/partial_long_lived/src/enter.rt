@@ -9,14 +9,14 @@ use crate::plays::{Arrive, FirstLook, LoadCurrent, Look, Mark};
 use crate::rule::Words;
 use crate::stand::Stand;
 
-/// The highest bit of a word: the port is entering from the place that the word names.
+/// The highest bit of a word: the port is entering from the site that the word names.
 pub const MARK: u64 = 1 << 63;
 
 /// One and the greatest number of an arena.
 pub const ARENAS: u64 = 1 << 16;
 
 impl Stand {
-    /// The word of the place where the port stands.
+    /// The word of the site where the port stands.
     #[inline(always)]
     pub fn packed(&self) -> u64
         requires { (self.now.epoch < 2199023255552) × (self.now.arena < 65536) }
@@ -66,9 +66,9 @@ pub fn enter(words: &Words, stand: &mut Stand)
     words.store::<Mark>(&mut stand.seat, at, mark);
     let current = words.load::<LoadCurrent>(&mut stand.seat, 0);
     let found = words.compare_exchange::<Arrive>(&mut stand.seat, at, mark, current);
-    let place = if found == mark { current } else { found };
-    stand.epoch = place / ARENAS;
-    stand.arena = (place % ARENAS) as u32;
+    let site = if found == mark { current } else { found };
+    stand.epoch = site / ARENAS;
+    stand.arena = (site % ARENAS) as u32;
     stand.base = stand.shape.base(stand.arena);
     stand.passed = 0;
 }

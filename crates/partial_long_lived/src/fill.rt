@@ -7,7 +7,7 @@ ghost use Rattle.partial_words.specs.Layout.{first_free, list_base};
 ghost use Rattle.partial_words.specs.Chain.{opening_word};
 ghost use Rattle.partial_long_lived.specs.Rule.{plan_of};
 ghost use Rattle.partial_long_lived.specs.Inner.Held.{IsHeld, port_at};
-ghost use Rattle.partial_long_lived.specs.Inner.Changing.{HasPassed, IsRight, Stays, HasSetWords, behind_values};
+ghost use Rattle.partial_long_lived.specs.Inner.Changing.{HasPassed, IsRight, Stays, HasSetWords, after_values};
 
 use crate::change_plays::{FindClear, SetLists, SetValue, SetWord};
 use crate::find::{find_stamp, find_value};
@@ -93,7 +93,7 @@ fn fill_front(words: &Words, stand: &mut Stand, arena: u32, first: u64)
     ensures held { IsHeld words.now.table_id words.now.key stand.new }
     ensures stays { Stays stand.old stand.new }
     ensures passed { HasPassed stand.old stand.new }
-    ensures works { HasSetWords stand.new arena words.now.key.ports (behind_values words.now.key.sizes 0) }
+    ensures works { HasSetWords stand.new arena words.now.key.ports (after_values words.now.key.sizes 0) }
     ensures steps { stand.new.seat.steps + words.now.key.sizes.slots ≤ stand.old.seat.steps + list_base words.now.key.sizes }
 {
     let sizes = stand.shape.sizes;
@@ -124,7 +124,7 @@ fn front_word(sizes: &Sizes, word: u32) -> u64
 // Sets the value in the initial record of a component. The other words of that record are 0 in any arena.
 fn fill_record(words: &Words, stand: &mut Stand, arena: u32, first: u64, component: u32)
     requires held { IsHeld words.now.table_id words.now.key stand.old }
-    requires works { HasSetWords stand.old arena words.now.key.ports (behind_values words.now.key.sizes component) }
+    requires works { HasSetWords stand.old arena words.now.key.ports (after_values words.now.key.sizes component) }
     requires inside { arena < words.now.key.arenas }
     requires first { first ≡ base (plan_of words.now.key) arena }
     requires within { component < words.now.key.sizes.m }
@@ -133,7 +133,7 @@ fn fill_record(words: &Words, stand: &mut Stand, arena: u32, first: u64, compone
     ensures stays { Stays stand.old stand.new }
     ensures passed { HasPassed stand.old stand.new }
     ensures works { HasSetWords stand.new arena words.now.key.ports
-        (behind_values words.now.key.sizes (component + 1)) }
+        (after_values words.now.key.sizes (component + 1)) }
     ensures steps { stand.new.seat.steps ≤ stand.old.seat.steps + 3 }
 {
     let value = find_value(words, stand, component);
@@ -194,7 +194,7 @@ fn set_lists(words: &Words, stand: &mut Stand, arena: u32, first: u64, number: u
     ensures held { IsHeld words.now.table_id words.now.key stand.new }
     ensures stays { Stays stand.old stand.new }
     ensures passed { HasPassed stand.old stand.new }
-    ensures works { HasSetWords stand.new arena words.now.key.ports (behind_values words.now.key.sizes 0) }
+    ensures works { HasSetWords stand.new arena words.now.key.ports (after_values words.now.key.sizes 0) }
     ensures steps { stand.new.seat.steps ≤ stand.old.seat.steps + 1 }
 {
     let at = stand.shape.set_word(first, arena, number) as usize;

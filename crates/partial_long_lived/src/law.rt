@@ -3,6 +3,7 @@
 
 ghost use Rattle.partial_long_lived.specs.AllPorts.{ClosedWithAllPorts, OpenedPortsAreAll};
 ghost use Rattle.partial_long_lived.specs.PoolCounters.{PoolCountersLieApart};
+ghost use Rattle.partial_long_lived.specs.StepNumbers.{MostStepsInNumbers};
 
 /// The ports with which a memory opens are all of its ports: one for each number.
 pub fn opened_ports_are_all()
@@ -20,4 +21,11 @@ pub fn closed_with_all_ports()
 /// an arena has 65,536 slots.
 pub fn pool_counters_lie_apart()
     ensures { PoolCountersLieApart }
+{}
+
+/// With the usual options a memory of 3 components and 2 ports makes at most 4,892 steps in a change of epoch, 489,408 in
+/// an update, 489,456 in a conditional one, and 4,933 in a scan of all components. With 64 components and 4 ports these are
+/// 14,238, 4,719,888, 4,719,936 and 18,854.
+pub fn most_steps_in_numbers()
+    ensures { MostStepsInNumbers }
 {}

@@ -23,9 +23,9 @@ mod lines;
 mod long_lived;
 mod machine_plays;
 mod meet;
+mod offsets;
 mod open_error;
 mod options;
-mod places;
 mod plays;
 mod port;
 mod read;
@@ -41,7 +41,9 @@ mod update_if;
 
 pub use answers::{Updated, UpdatedIf};
 pub use error::Refused;
-pub use law::{closed_with_all_ports, opened_ports_are_all, pool_counters_lie_apart};
+pub use law::{
+    closed_with_all_ports, most_steps_in_numbers, opened_ports_are_all, pool_counters_lie_apart,
+};
 pub use long_lived::{LongLived, Unclosed};
 pub use open_error::OpenError;
 pub use options::Options;

@@ -5,7 +5,7 @@ ghost use Rattle.partial_epochs.specs.Ports.Entering.{Stands};
 ghost use Rattle.partial_long_lived.specs.Rule.{one_of};
 ghost use Rattle.partial_long_lived.specs.Inner.Held.{IsHeld, port_at};
 ghost use Rattle.partial_long_lived.specs.Inner.Calls.{IsIdle, StaysAt};
-ghost use Rattle.partial_long_lived.specs.Inner.Meeting.{AreComparable, HasMet, Observes};
+ghost use Rattle.partial_long_lived.specs.Inner.Meeting.{AreComparable, HasMet, Observes, WereLawful};
 ghost use Rattle.partial_long_lived.specs.Inner.Steps.{SeatGoes, IsSeatKnown, IsOne};
 
 use crate::plays::Observe;
@@ -23,6 +23,7 @@ pub fn meet(words: &Words, first: Stand, second: Stand) -> (Stand, Stand)
     ensures second { IsHeld words.now.table_id words.now.key result.1 }
     ensures met { HasMet first second result.0 × HasMet second first result.1 }
     ensures order { AreComparable result.0 result.1 }
+    ensures lawful { WereLawful words.now.key (port_at result.0) (port_at result.1) }
     ensures steps { result.0.seat.steps + result.1.seat.steps ≤ first.seat.steps + second.seat.steps + 10 }
 {
     if first.epoch <= second.epoch {
@@ -61,6 +62,7 @@ fn meet_later(words: &Words, earlier: Stand, later: Stand) -> (Stand, Stand)
     ensures later { IsHeld words.now.table_id words.now.key result.1 }
     ensures met { HasMet earlier later result.0 × HasMet later earlier result.1 }
     ensures order { AreComparable result.0 result.1 }
+    ensures lawful { WereLawful words.now.key (port_at result.0) (port_at result.1) }
     ensures steps { result.0.seat.steps + result.1.seat.steps ≤ earlier.seat.steps + later.seat.steps + 10 }
 {
     let is_one = earlier.epoch == later.epoch;

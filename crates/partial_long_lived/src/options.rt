@@ -42,9 +42,9 @@ pub struct Options {
 }
 
 impl Default for Options {
-    ghost use Rattle.std.specs.Prelude.{◌≡◌, None};
+    ghost use Rattle.partial_long_lived.specs.Options.{IsUsual};
 
-    ghost is_default = { λ o. (o.lists ≡ 1024) × (o.pool ≡ None) };
+    ghost is_default = { IsUsual };
 
     /// 1,024 list words, and as many pool words as suit the number of ports and of components.
     fn default() -> Options {

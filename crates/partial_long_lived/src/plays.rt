@@ -1,4 +1,4 @@
-//! What the atomic steps of calls tell their ports.
+//! What the atomic steps of calls show their ports.
 
 use crate::rule::View;
 use partial_table::Play;
@@ -36,7 +36,7 @@ impl Play<(), View> for Mark {
     ghost then = { λ _. tells StoresMark };
 }
 
-/// The load of the current place into which a port enters.
+/// The load of the current site into which a port enters.
 pub struct LoadCurrent;
 
 impl Play<(), View> for LoadCurrent {
@@ -46,7 +46,7 @@ impl Play<(), View> for LoadCurrent {
     ghost then = { λ _. tells LoadsCurrent };
 }
 
-/// The exchange of the entering mark, whose operand is the word of the place that was loaded.
+/// The exchange of the entering mark, whose operand is the word of the site that was loaded.
 pub struct Arrive;
 
 impl Play<(), View> for Arrive {

@@ -88,8 +88,7 @@ fn load_record(
 }
 
 /// Reads component `component`, which the first load of the read has found sealed, in an epoch that was the current one
-/// during the read: its value and its public stamp. Clears the marks of the port's machine when it enters a later
-/// epoch.
+/// during the read: its value and its public stamp. When the port enters a later epoch, its machine is unspent again.
 ///
 /// It isn't put in line, so that a read that finds no seal pays nothing for it.
 #[cold]

@@ -1,10 +1,10 @@
 //! The sizes of a long-lived memory.
 
-ghost use Rattle.partial_long_lived.specs.Sized.{IsPlaced, IsSized};
+ghost use Rattle.partial_long_lived.specs.Sized.{HasOffsets, IsSized};
 
 use partial_words::Sizes;
 
-/// The sizes of an arena, how many ports and arenas there are, and where an update's claim ends.
+/// The sizes of an arena, how many ports and arenas there are, and its pool limit.
 #[derive(Clone, Copy, Debug)]
 pub struct Shape {
     /// The sizes of an arena.
@@ -13,12 +13,12 @@ pub struct Shape {
     pub ports: u32,
     /// How many arenas there are.
     pub arenas: u32,
-    /// The word of an arena's pool at which the claim of an update ends, or it is its port's last one in the epoch.
+    /// Pool limit: a claim that ends past this word of the arena is the port's last in the epoch.
     pub limit: u64,
     /// The word of an arena after the initial records, where those of an epoch's own begin.
     pub own: u64,
     /// The word of an arena where the carried stamps begin.
     pub carried: u64,
     pub ghost sized: { IsSized sizes ports arenas limit },
-    pub ghost placed: { IsPlaced sizes own carried },
+    pub ghost offsets: { HasOffsets sizes own carried },
 }

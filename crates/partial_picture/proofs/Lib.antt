@@ -1,2 +1,5 @@
 mod Common
 pub mod Labels
+pub mod Made
+pub mod Seen
+pub mod Tiers

@@ -1,7 +1,9 @@
 pub mod Arrows
 pub mod Bars
 pub mod Drawn
+pub mod Labels
 pub mod Lengths
+pub mod Made
 pub mod Marks
 pub mod Pins
 pub mod Refusal

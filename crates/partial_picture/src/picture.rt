@@ -1,9 +1,11 @@
 //! What a picture shows of a replay.
 
 ghost use Rattle.std.specs.Prelude.{◌≡◌, ◌≢◌, ◌≤◌, ◌-◌, All, map, length, IfOk, IfSome, MatchResult};
-ghost use Rattle.partial_picture.specs.Arrows.{IsArrowWithin};
-ghost use Rattle.partial_picture.specs.Bars.{BarStandsIn};
+ghost use Rattle.std.specs.List.{filter_map};
+ghost use Rattle.partial_picture.specs.Arrows.{IsArrowWithin, arrow_seen, arrows_in};
+ghost use Rattle.partial_picture.specs.Bars.{BarStandsIn, bar_of, bar_seen, bars_in};
 ghost use Rattle.partial_picture.specs.Drawn.{SpanHasRoom, drawn_of};
+ghost use Rattle.partial_picture.specs.Made.{calls_made};
 ghost use Rattle.partial_picture.specs.Marks.{AreTouched, mark_of, marks_in};
 ghost use Rattle.partial_picture.specs.Pins.{pin_at, pins_at, won_steps};
 
@@ -150,10 +152,19 @@ impl<'a> Picture<'a> {
         // One pin for each entry of the history whose exchange is in the window, in order and at its mark.
         ensures pins { IfOk result (λ picture. picture.pins.items
             ≡ pins_at picture.window outcome.now.history.items (won_steps sizes.m outcome.now.trace.items)) }
+        // One bar for each call of a port that has a step in the window, or is drawn between two of its steps.
+        ensures bars { IfOk result (λ picture. map bar_seen picture.bars.items
+            ≡ bars_in picture.window (length outcome.now.trace.items)
+            (calls_made sizes.m ports outcome.now.trace.items outcome.now.calls.items)) }
+        // One arrow to each call that was overtaken or took a view, when the window has both its ends.
+        ensures arrows { IfOk result (λ picture. map arrow_seen picture.arrows.items
+            ≡ arrows_in sizes.m picture.window outcome.now.trace.items outcome.now.history.items
+            (won_steps sizes.m outcome.now.trace.items)
+            (calls_made sizes.m ports outcome.now.trace.items outcome.now.calls.items)) }
         // Bars and arrows are at marks that exist.
-        ensures bars { IfOk result (λ picture.
+        ensures bars_stand { IfOk result (λ picture.
             All (BarStandsIn (picture.window.behind - picture.window.first)) picture.bars.items) }
-        ensures arrows { IfOk result (λ picture.
+        ensures arrows_stand { IfOk result (λ picture.
             All (IsArrowWithin (picture.window.behind - picture.window.first)) picture.arrows.items) }
         // The words are those that the marks touch, each once, rising.
         ensures words { IfOk result (λ picture. AreTouched picture.marks.items picture.words.items) }
@@ -175,9 +186,17 @@ impl<'a> Picture<'a> {
         ensures marks { IfOk result (λ picture. picture.marks.items ≡ marks_in window outcome.now.trace.items) }
         ensures pins { IfOk result (λ picture. picture.pins.items
             ≡ pins_at window outcome.now.history.items (won_steps sizes.m outcome.now.trace.items)) }
-        ensures bars { IfOk result (λ picture. All (BarStandsIn (window.behind - window.first)) picture.bars.items) }
-        ensures arrows { IfOk result (λ picture. All (IsArrowWithin (window.behind - window.first))
-            picture.arrows.items) }
+        ensures bars { IfOk result (λ picture. map bar_seen picture.bars.items
+            ≡ bars_in window (length outcome.now.trace.items)
+            (calls_made sizes.m ports outcome.now.trace.items outcome.now.calls.items)) }
+        ensures bars_stand { IfOk result (λ picture.
+            All (BarStandsIn (window.behind - window.first)) picture.bars.items) }
+        ensures arrows { IfOk result (λ picture. map arrow_seen picture.arrows.items
+            ≡ arrows_in sizes.m window outcome.now.trace.items outcome.now.history.items
+            (won_steps sizes.m outcome.now.trace.items)
+            (calls_made sizes.m ports outcome.now.trace.items outcome.now.calls.items)) }
+        ensures arrows_stand { IfOk result (λ picture.
+            All (IsArrowWithin (window.behind - window.first)) picture.arrows.items) }
         ensures words { IfOk result (λ picture. AreTouched picture.marks.items picture.words.items) }
     {
         let steps = outcome.trace.len();
@@ -211,7 +230,8 @@ fn marks_of(alloc: Global, events: &[Event]) -> Result<Vec<Mark>, AllocError>
 /// with the replay also has the calls after the last step.
 fn bar_in<'a>(window: Span, steps: usize, made: &Made<'a, '_>) -> Option<Bar<'a>>
     requires { window.first ≤ window.behind }
-    ensures { IfSome result (BarStandsIn (window.behind - window.first)) }
+    ensures value { result ≡ bar_of window steps made.now }
+    ensures stands { IfSome result (BarStandsIn (window.behind - window.first)) }
 {
     let Span { first, behind } = made.span;
     let stands = match made.span.is_empty() {
@@ -237,7 +257,8 @@ fn bars_of<'a>(
     made: &[Made<'a, '_>],
 ) -> Result<Vec<Bar<'a>>, AllocError>
     requires { window.first ≤ window.behind }
-    ensures { IfOk result (λ bars. All (BarStandsIn (window.behind - window.first)) bars.items) }
+    ensures items { IfOk result (λ bars. bars.items ≡ filter_map (bar_of window steps) made.now) }
+    ensures stand { IfOk result (λ bars. All (BarStandsIn (window.behind - window.first)) bars.items) }
 {
     made.iter()
         .filter_map(|call| bar_in(window, steps, call))

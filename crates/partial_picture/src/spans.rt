@@ -1,7 +1,8 @@
 //! Which steps of the replay each call made.
 
-ghost use Rattle.std.specs.Prelude.{◌≡◌, IfOk};
+ghost use Rattle.std.specs.Prelude.{◌≡◌, ◌≤◌, ◌+◌, min, map, length, take, drop, IfOk};
 ghost use Rattle.partial_replay.specs.Trace.{is_won};
+ghost use Rattle.partial_picture.specs.Made.{between_of, call_span, end_behind, made_by_ports, made_seen, port_steps, steps_by_port};
 ghost use Rattle.partial_picture.specs.Pins.{won_steps};
 
 use crate::window::Span;
@@ -36,53 +37,31 @@ pub(crate) fn entry_steps(
         .collect(alloc)
 }
 
+/// The steps of a port, in order.
+fn steps_of(alloc: Global, port: usize, trace: &[Event]) -> Result<Vec<usize>, AllocError>
+    ensures { IfOk result (λ steps. steps.items ≡ port_steps port trace.now) }
+{
+    trace
+        .iter()
+        .enumerate()
+        .filter(|(_, event)| event.port as usize == port)
+        .map(|(step, _)| step)
+        .collect(alloc)
+}
+
 /// The steps of each of so many ports, in order.
 pub(crate) fn port_steps(
     alloc: Global,
     ports: usize,
     trace: &[Event],
-) -> Result<Vec<Vec<usize>>, AllocError> {
+) -> Result<Vec<Vec<usize>>, AllocError>
+    ensures { IfOk result (λ steps. map (λ own. own.items) steps.items ≡ steps_by_port ports trace.now) }
+{
     let mut steps = Vec::with_capacity(alloc, ports)?;
-    for _port in 0..ports {
-        steps.push(Vec::new(alloc))?;
-    }
-    for (step, event) in trace.iter().enumerate() {
-        if let Some(own) = steps.get_mut(event.port as usize) {
-            own.push(step)?;
-        }
+    for port in 0..ports {
+        steps.push(steps_of(alloc, port, trace)?)?;
     }
     Ok(steps)
-}
-
-/// A port whose calls are visited in order.
-#[derive(Clone, Copy)]
-struct Walker<'s> {
-    /// The port's steps that belong to no call yet.
-    left: &'s [usize],
-    /// The index after the last step of the port's calls so far.
-    behind: usize,
-}
-
-impl<'s> Walker<'s> {
-    /// Takes the steps of the port's next call.
-    fn take(&mut self, called: &Called) -> &'s [usize] {
-        let count = self.left.len().min(called.steps as usize);
-        let (own, left) = self.left.split_at(count);
-        self.left = left;
-        own
-    }
-
-    /// Where a call without a step is drawn: before the port's next step. When there is none, after the
-    /// port's last call and after the entries that the history had when the call began.
-    fn between(&self, called: &Called, entries: &[usize]) -> usize {
-        if let Some(next) = self.left.first() {
-            return *next;
-        }
-        match entries.get(called.began.saturating_sub(1)) {
-            Some(entry) if called.began > 0 => self.behind.max(entry.saturating_add(1)),
-            _ => self.behind,
-        }
-    }
 }
 
 /// The steps that a call made.
@@ -95,39 +74,42 @@ pub(crate) struct Made<'o, 's> {
     pub(crate) steps: &'s [usize],
 }
 
-/// What each call made, given the steps of each port and of each entry.
-pub(crate) fn made_by_calls<'o, 's>(
-    alloc: Global,
-    outcome: &'o Outcome,
-    ports: &'s [Vec<usize>],
-    entries: &[usize],
-) -> Result<Vec<Made<'o, 's>>, AllocError> {
-    let mut walkers = Vec::with_capacity(alloc, ports.len())?;
-    for own in ports {
-        walkers.push(Walker {
-            left: own.as_slice(),
-            behind: 0,
-        })?;
+/// The index after the last of these steps, or 0 when there is none.
+fn end_of(steps: &[usize]) -> usize
+    ensures { result ≡ end_behind steps.now }
+{
+    match steps.last() {
+        Some(last) => last.saturating_add(1),
+        None => 0,
     }
-    let mut made = Vec::with_capacity(alloc, outcome.calls.len())?;
-    for called in &outcome.calls {
-        if let Some(walker) = walkers.get_mut(called.port as usize) {
-            made.push(made_next(walker, called, entries))?;
-        }
-    }
-    Ok(made)
 }
 
-/// What the port's next call made.
+/// Where a call without a step is drawn: before its port's next step. When there is none, after the port's
+/// last step and after the entries that the history had when the call began.
+fn between(own: &[usize], left: &[usize], entries: &[usize], began: usize) -> usize
+    ensures { result ≡ between_of own.now left.now entries.now began }
+{
+    match left {
+        [next, ..] => *next,
+        [] => end_of(own).max(end_of(&entries[..began.min(entries.len())])),
+    }
+}
+
+/// What the next call of a port made, whose calls so far have made so many of its steps.
 fn made_next<'o, 's>(
-    walker: &mut Walker<'s>,
-    called: &'o Called,
+    own: &'s [usize],
+    taken: usize,
     entries: &[usize],
-) -> Made<'o, 's> {
-    let steps = walker.take(called);
+    called: &'o Called,
+) -> Made<'o, 's>
+    requires { taken ≤ length own.now }
+    ensures { made_seen result ≡ call_span own.now taken entries.now called.now }
+{
+    let rest = &own[taken..];
+    let (steps, left) = rest.split_at((called.steps as usize).min(rest.len()));
     let span = match steps {
         [] => {
-            let between = walker.between(called, entries);
+            let between = between(own, left, entries, called.began);
             Span {
                 first: between,
                 behind: between,
@@ -135,13 +117,44 @@ fn made_next<'o, 's>(
         }
         [first, ..] => Span {
             first: *first,
-            behind: steps.last().unwrap_or(first).saturating_add(1),
+            behind: end_of(steps),
         },
     };
-    walker.behind = span.behind;
     Made {
         called,
         span,
         steps,
     }
+}
+
+/// How many of a port's steps its calls have made with the next one.
+fn taken_with(own: &[usize], taken: usize, called: &Called) -> usize
+    requires { taken ≤ length own.now }
+    ensures { result ≡ min (taken + called.now.steps) (length own.now) }
+{
+    taken.saturating_add(called.steps as usize).min(own.len())
+}
+
+/// What each call made, given the steps of each port and of each entry.
+pub(crate) fn made_by_calls<'o, 's>(
+    alloc: Global,
+    outcome: &'o Outcome,
+    ports: &'s [Vec<usize>],
+    entries: &[usize],
+) -> Result<Vec<Made<'o, 's>>, AllocError>
+    ensures { IfOk result (λ made. map made_seen made.items
+        ≡ made_by_ports (map (λ own. own.items) ports.now) entries.now outcome.now.calls.items) }
+{
+    let mut taken = vec![in alloc; 0usize; ports.len()]?;
+    let mut made = Vec::with_capacity(alloc, outcome.calls.len())?;
+    for called in &outcome.calls {
+        let port = called.port as usize;
+        if port < ports.len() {
+            let own = ports[port].as_slice();
+            let count = taken[port];
+            made.push(made_next(own, count, entries, called))?;
+            taken[port] = taken_with(own, count, called);
+        }
+    }
+    Ok(made)
 }

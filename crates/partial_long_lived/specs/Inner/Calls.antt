@@ -35,7 +35,7 @@ pub record MayLook (s : Stand) : Type 0 where
   pub stands : (port_at s).port.control.entering ≡ Stands
   pub marks : IfSome (port_at s).port.control.owned (λ o. (o.mark ≡ None) ⊎ (o.clean < (port_at s).about.ports))
 
--- the look has found the port's own place the current one, or not
+-- the look has found the port's own site the current one, or not
 pub record LookFound (first : Bool) (s : Stand) (here : Bool) (t : Stand) : Type 0 where
   pub found : ℕ
   pub looks : SeatLooks first (port_at s) found (port_at t)

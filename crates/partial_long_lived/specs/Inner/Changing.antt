@@ -38,13 +38,13 @@ GivesBack x a y = OfOwned SeatGives x a y
 abbrev pub PutsBy : ℕ → SeatedPort → ℕ → SeatedPort → Type 0
 PutsBy w x a y = OfOwned (λ o. PutsPort o (unpacked (w - entering_mark))) x a y
 
--- the number of the word that has to be set next behind the values of the first n components: the next value, or the first carried stamp
-abbrev pub behind_values : Layout → ℕ → ℕ
-behind_values z n = if nat_lt n z.m then value_word (initial_record z n) else first_free z
+-- the number of the word that has to be set next after the values of the first n components: the next value, or the first carried stamp
+abbrev pub after_values : Layout → ℕ → ℕ
+after_values z n = if nat_lt n z.m then value_word (initial_record z n) else first_free z
 
--- and of the one behind the value that is set as number i
-abbrev pub behind_value : Layout → ℕ → ℕ
-behind_value z i = if nat_lt (i + plain_record_size) (first_free z) then i + plain_record_size else first_free z
+-- and of the one after the value that is set as number i
+abbrev pub after_value : Layout → ℕ → ℕ
+after_value z i = if nat_lt (i + plain_record_size) (first_free z) then i + plain_record_size else first_free z
 
 -- the store of the next word of the owned arena
 abbrev pub SetsNext : SeatedPort → ℕ → SeatedPort → Type 0
@@ -52,11 +52,11 @@ SetsNext x a y = OfOwned (λ o. Sets o (o.set + 1)) x a y
 
 -- that of the last one before the list words: what lies before the first value counts as set then
 abbrev pub SetsLists : SeatedPort → ℕ → SeatedPort → Type 0
-SetsLists x a y = OfOwned (λ o. Sets o (behind_values x.about.sizes 0)) x a y
+SetsLists x a y = OfOwned (λ o. Sets o (after_values x.about.sizes 0)) x a y
 
 -- and that of a value: what lies before the next one counts as set then, or before the carried stamps
 abbrev pub SetsValue : SeatedPort → ℕ → SeatedPort → Type 0
-SetsValue x a y = OfOwned (λ o. Sets o (behind_value x.about.sizes o.set)) x a y
+SetsValue x a y = OfOwned (λ o. Sets o (after_value x.about.sizes o.set)) x a y
 
 -- The port stands where it stood, in the same call, with the same notes; what it has seen, passed, found and owns may be another.
 pub record Stays (s t : Stand) : Type 0 where
@@ -199,7 +199,7 @@ shows_met x a = nat_lt a entering_mark && (a % arena_limit == x)
 abbrev pub MeetsPort : ℕ → ℕ → Stand → Stand → Type 0
 MeetsPort x a s t = SearchesOn (shows_met x a) x s t
 
--- A look has found the port's own place the current one, and a search has begun there; or its epoch has ended.
+-- A look has found the port's own site the current one, and a search has begun there; or its epoch has ended.
 abbrev pub SearchBegun : Bool → Stand → Type 0
 SearchBegun true t = Searches false 0 t × ((search_at t).most ≡ (search_at t).freed + most_freed (port_at t).about.ports)
 SearchBegun false t = IsPast t
@@ -252,7 +252,7 @@ pub record FoundStamp (t : Stand) (j v : ℕ) : Type 0 where
   pub component : found.component ≡ j
   pub stamp : v ≡ found.stamp
 
--- The port has come to a later epoch, no older than the one that was the current one as its call began, with a new part there.
+-- The port has entered a later epoch, no older than the one that was the current one as its call began, with a new part there.
 pub record EpochChanged (first : Bool) (s t : Stand) : Type 0 where
   pub shape : t.shape ≡ s.shape
   pub number : t.number ≡ s.number

@@ -11,7 +11,7 @@ use Rattle.partial_model.specs.Notes.{Noted}
 use Rattle.partial_words.specs.Layout.{total}
 use Rattle.partial_words.specs.Record.{value_word}
 use Rattle.partial_epochs.specs.Layout.{base, carried_word, seal, unsealed}
-use Rattle.partial_epochs.specs.History.{carried_behind, history_of, opening_behind}
+use Rattle.partial_epochs.specs.History.{stamp_after, history_of, opened_after}
 use Rattle.partial_epochs.specs.Notes.{having_seen, public_of}
 use Rattle.partial_long_lived.specs.Rule.{Began, Found, Contention, SeatedPort, one_of, plan_of}
 use Rattle.partial_long_lived.specs.Inner.Steps.{BeginsWith, tells}
@@ -27,7 +27,7 @@ pub data Wish : Type 0 where
 
 -- the opening of the port's epoch
 abbrev pub opening_of : SeatedPort → Opening
-opening_of x = opening_behind x.about.opening x.port.before
+opening_of x = opened_after x.about.opening x.port.before
 
 -- the value of component j after that history of the port's epoch
 abbrev pub value_seen : SeatedPort → List Applied → ℕ → ℕ
@@ -100,7 +100,7 @@ pub record Recalls (i : ℕ) (x : SeatedPort) (a : ℕ) (y : SeatedPort) : Type 
       i ≡ base (plan_of x.about) x.port.control.here.arena + value_word (stamp_of (opening_of x) (take n x.port.part.seen) j) →
       a ≡ value_of (opening_of x) (take n x.port.part.seen) j
   pub carried : (j : ℕ) → j < x.about.sizes.m → i ≡ carried_word (plan_of x.about) x.port.control.here.arena j →
-      a ≡ carried_behind x.about.opening x.port.before j
+      a ≡ stamp_after x.about.opening x.port.before j
 
 -- the component of that word of the table, where the seat's port stands
 abbrev pub component_at : SeatedPort → ℕ → ℕ

@@ -2,13 +2,28 @@
 use Rattle.std.specs.Prelude.{ℕ, ◌≡◌, ◌<◌, ◌≤◌, ◌⊎◌, List, [], ◌∷◌, length}
 use Rattle.partial_table.specs.Table.{Me}
 use Rattle.partial_model.specs.declared.history.Applied.{Applied}
+use Rattle.partial_model.specs.Notes.{Noted}
 use Rattle.partial_epochs.specs.Notes.{having_seen}
+use Rattle.partial_long_lived.specs.declared.rule.About.{About}
 use Rattle.partial_long_lived.specs.Rule.{Began, SeatedPort, one_of, further_ports}
-use Rattle.partial_long_lived.specs.Ports.{Knows, seen_in}
+use Rattle.partial_long_lived.specs.Ports.{HasLawfulState, Knows, seen_in}
 use Rattle.partial_long_lived.specs.declared.stand.Stand.{Stand}
 use Rattle.partial_long_lived.specs.Inner.Calls.{HasCome}
 use Rattle.partial_long_lived.specs.Inner.Held.{port_at}
 use Rattle.partial_long_lived.specs.Inner.Steps.{BeginsWith, SeatGoes}
+
+-- At a step the rule of the table held with one history, which begins with all that each of two ports has seen then and is no shorter than
+-- when their calls began, and with notes of which each port has its own.
+pub record WereLawful (about : About) (x y : SeatedPort) : Type 0 where
+  pub log : List Applied
+  pub notes : ℕ → List Noted
+  pub state : HasLawfulState about log notes
+  pub first : BeginsWith (seen_in x.port) log
+  pub second : BeginsWith (seen_in y.port) log
+  pub first_noted : notes x.number ≡ x.notes
+  pub second_noted : notes y.number ≡ y.notes
+  pub first_began : x.began.length ≤ length log
+  pub second_began : y.began.length ≤ length log
 
 -- The port x sees all of its epoch by the first step of a call, beside the port y, and is z then.
 pub record Observes (x y z : SeatedPort) : Type 0 where
@@ -25,6 +40,7 @@ pub record Observes (x y z : SeatedPort) : Type 0 where
   -- what the one knows of its own calls it knows in what the other one has seen, where that is no less
   pub known : BeginsWith (seen_in y.port) (seen_in z.port) → Knows y.about y.number (seen_in z.port) y.notes
   pub known_before : BeginsWith (seen_in x.port) (seen_in y.port) → Knows x.about x.number (seen_in y.port) x.notes
+  pub lawful : WereLawful x.about z y
 
 -- the second port of a view
 abbrev pub second_of : List SeatedPort → SeatedPort

@@ -2,7 +2,7 @@
 use Rattle.std.specs.Prelude.{ℕ, ◌≡◌, ◌+◌, ◌-◌, ◌<◌, ◌≤◌, ◌==◌, ◌⊎◌, nat_lt, Bool, true, false, List, length, None, if◌then◌else◌}
 use Rattle.std.specs.Option.{option_map_or}
 use Rattle.partial_model.specs.declared.history.Applied.{Applied}
-use Rattle.partial_epochs.specs.Layout.{Place, IsPlace, entering_mark, marked, packed, seal, unpacked}
+use Rattle.partial_epochs.specs.Layout.{Site, IsSite, entering_mark, marked, packed, seal, unpacked}
 use Rattle.partial_epochs.specs.Ports.{OwnedArena, Port}
 use Rattle.partial_epochs.specs.Ports.Entering.{Marks, Loaded}
 use Rattle.partial_epochs.specs.Entering.{arrived_port, having_passed}
@@ -34,7 +34,7 @@ abbrev pub BeganBy : Bool → SeatedPort → Began → Type 0
 BeganBy true x n = length (seen_in x.port) ≤ n.length
 BeganBy false x n = n ≡ x.began
 
--- a port that has found its own place as the current one
+-- a port that has found its own site as the current one
 abbrev pub having_found : Port → Port
 having_found p = option_map_or (having_looked p) p.control.owned p
 
@@ -42,7 +42,7 @@ having_found p = option_map_or (having_looked p) p.control.owned p
 abbrev pub looked_at : ℕ → Port → Port
 looked_at a p = if a == packed p.control.here then having_found p else having_passed p
 
--- a look, perhaps as the first step of a call: where the port's own place is the current one, the call began in no later epoch
+-- a look, perhaps as the first step of a call: where the port's own site is the current one, the call began in no later epoch
 abbrev pub SeatLooks : Bool → SeatedPort → ℕ → SeatedPort → Type 0
 SeatLooks first x a y = (n : Began) × BeganBy first x n × (y ≡ becomes x n (looked_at a x.port))
     × (a ≡ packed x.port.control.here → n.epoch ≤ x.port.control.here.epoch)
@@ -82,24 +82,24 @@ marks p = record p { control = record p.control { entering = Marks } }
 abbrev pub StoresMark : SeatedPort → ℕ → SeatedPort → Type 0
 StoresMark x a y = y ≡ becomes x x.began (marks x.port)
 
--- a port that has loaded the place c as the current one
-abbrev pub loads : Place → Port → Port
+-- a port that has loaded the site c as the current one
+abbrev pub loads : Site → Port → Port
 loads c p = record p { control = record p.control { entering = Loaded c } }
 
--- the second: the load of the current word, which names a place
+-- the second: the load of the current word, which names a site
 abbrev pub LoadsCurrent : SeatedPort → ℕ → SeatedPort → Type 0
-LoadsCurrent x a y = (a ≡ packed (unpacked a)) × IsPlace (plan_of x.about) (unpacked a)
+LoadsCurrent x a y = (a ≡ packed (unpacked a)) × IsSite (plan_of x.about) (unpacked a)
     × (y ≡ becomes x x.began (loads (unpacked a) x.port))
 
--- the place to which the exchange of the mark brings a port that has loaded c, where it finds a
-abbrev pub place_found : Port → Place → ℕ → Place
-place_found p c a = if a == marked p.control.here then c else unpacked a
+-- the site that a port enters which has loaded c, when the exchange of its mark finds a
+abbrev pub site_found : Port → Site → ℕ → Site
+site_found p c a = if a == marked p.control.here then c else unpacked a
 
--- the third: the port comes to a later epoch, with a new part there
-abbrev pub SeatArrives : Place → SeatedPort → ℕ → SeatedPort → Type 0
-SeatArrives c x a y = (before : List (List Applied)) × (x.port.control.here.epoch < (place_found x.port c a).epoch)
-    × (x.began.epoch ≤ (place_found x.port c a).epoch)
-    × (y ≡ record x { port = arrived_port (plan_of x.about) x.number (place_found x.port c a) before; found = None })
+-- the third: the port enters a later epoch, with a new part there
+abbrev pub SeatArrives : Site → SeatedPort → ℕ → SeatedPort → Type 0
+SeatArrives c x a y = (before : List (List Applied)) × (x.port.control.here.epoch < (site_found x.port c a).epoch)
+    × (x.began.epoch ≤ (site_found x.port c a).epoch)
+    × (y ≡ record x { port = arrived_port (plan_of x.about) x.number (site_found x.port c a) before; found = None })
 
 -- a port in a change of epoch that has loaded a component word, which is a: it passes the component if that is sealed
 abbrev pub passed_at : ℕ → Port → Port
@@ -153,16 +153,16 @@ contention_loading a o m = if nat_lt a entering_mark then contention_there a o m
 abbrev pub LoadsPort : OwnedArena → SeatedPort → ℕ → SeatedPort → Type 0
 LoadsPort o x a y = y ≡ record (becomes x x.began (owning_port x.port (port_loaded a o))) { contention = contention_loading a o x.contention }
 
--- an owner that has exchanged the mark m of that port for its own place, and found a
-abbrev pub port_put : Place → ℕ → OwnedArena → OwnedArena
+-- an owner that has exchanged the mark m of that port for its own site, and found a
+abbrev pub port_put : Site → ℕ → OwnedArena → OwnedArena
 port_put m a o = if a == marked m then at_next_port o else (if nat_lt a entering_mark then elsewhere a o else o)
 
--- what it has met then: a port that may come to the arena, unless it was put or is in another one
-abbrev pub contention_putting : Place → ℕ → OwnedArena → Contention → Contention
+-- what it has met then: a port that may enter the arena, unless it was put or is in another one
+abbrev pub contention_putting : Site → ℕ → OwnedArena → Contention → Contention
 contention_putting m a o w = if a == marked m then w else (if nat_lt a entering_mark then contention_there a o w else meeting w)
 
 -- that exchange, by the owner o
-abbrev pub PutsPort : OwnedArena → Place → SeatedPort → ℕ → SeatedPort → Type 0
+abbrev pub PutsPort : OwnedArena → Site → SeatedPort → ℕ → SeatedPort → Type 0
 PutsPort o m x a y = y ≡ record (becomes x x.began (owning_port x.port (port_put m a o))) { contention = contention_putting m a o x.contention }
 
 -- a store by which the words of the owned arena below that number count as set

@@ -21,7 +21,7 @@ use Rattle.partial_long_lived.specs.Inner.Calls.{HasCome, IsIdle, StaysAt}
 use Rattle.partial_long_lived.specs.Inner.Machine.{over_by}
 use Rattle.partial_long_lived.specs.Inner.Under.{CallMade, machine_at}
 
--- Between calls the port's machine is at rest, and has no mark for the pool or the slots.
+-- Between calls the port's machine is at rest, and is not spent, neither for the pool nor for the slots.
 pub record RestsUnmarked (x : SeatedPort) (core : CoreState) : Type 0 where
   pub between : IsBetween x.port.part core
   pub sizes : core.sizes ≡ x.about.sizes

@@ -4,7 +4,7 @@ use Rattle.std.specs.List.{AllByRecursion}
 use Rattle.partial_table.specs.Table.{Me}
 use Rattle.partial_model.specs.declared.history.Applied.{Applied}
 use Rattle.partial_words.specs.Layout.{Layout, first_free}
-use Rattle.partial_epochs.specs.Layout.{IsPlace}
+use Rattle.partial_epochs.specs.Layout.{IsSite}
 use Rattle.partial_epochs.specs.History.{stamp_limit}
 use Rattle.partial_epochs.specs.Epochs.{IsEpochPlan}
 use Rattle.partial_long_lived.specs.Rule.{SeatedPort, one_of, plan_of}
@@ -23,7 +23,7 @@ pub record HasRecordStamps (z : Layout) (h : List Applied) : Type 0 where
 pub record IsSeatKnown (x : SeatedPort) : Type 0 where
   pub plan : IsEpochPlan (plan_of x.about)
   pub number : x.number < x.about.ports
-  pub place : IsPlace (plan_of x.about) x.port.control.here
+  pub site : IsSite (plan_of x.about) x.port.control.here
   pub epoch : length x.port.before ≡ x.port.control.here.epoch
   pub knows : Knows x.about x.number (seen_in x.port) x.notes
   pub fits : HasStampsInWords (seen_in x.port)

@@ -91,7 +91,7 @@ pub record CallMade (b : CoreState) (x : SeatedPort) (c : CoreState) (y : Seated
   pub spare : before_claim c.stage ≡ true → y.port.over ≡ false
   -- it is over exactly where its record's claim ends past the limit
   pub claimed : (at : ℕ) → record_claim c.stage ≡ Some at → y.port.over ≡ nat_lt x.about.limit (at + record_size c)
-  -- the machine has no marks
+  -- the machine isn't spent, neither for the pool nor for the slots
   pub unmarked : (c.pool_spent ≡ false) × (c.slots_spent ≡ false)
   -- it isn't refused
   pub unrefused : (cause : Refused) → reply_of c ≢ Some (Reply.Refused cause)

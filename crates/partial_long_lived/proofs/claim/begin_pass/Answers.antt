@@ -1,5 +1,5 @@
 use Rattle.std.proofs.Common.{arith}
-use Rattle.partial_long_lived.proofs.{Common.{About, ap, sym, ◌∙◌, ◌==◌}, Asked.begin_pass_asked, Looking.pass_begun, Standing.{place_is, some_word}}
+use Rattle.partial_long_lived.proofs.{Common.{About, ap, sym, ◌∙◌, ◌==◌}, Asked.begin_pass_asked, Looking.pass_begun, Standing.{site_is, some_word}}
 use Rattle.partial_long_lived.proofs.claim.begin_pass.Goals as goal
 
 pub load-found-requires : goal.load-found-requires
@@ -12,4 +12,4 @@ pub returns-clause-begun : goal.returns-clause-begun
 returns-clause-begun c =
     let h = c.requires.held in
     pass_begun c.args.stand.now (record c.args.stand.now { seat = c.load-found.new.seat }) c.load-found.result c.args.words.now.key.arenas c.load-found.ensures.2.2 c.requires.passed (ap (λ (a : About). a.arenas) (sym h.own)) _
-    (ap (λ n. c.load-found.result == n) (c.packed.ensures ∙ place_is _ _ _ h))
+    (ap (λ n. c.load-found.result == n) (c.packed.ensures ∙ site_is _ _ _ h))

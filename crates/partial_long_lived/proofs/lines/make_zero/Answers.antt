@@ -1,4 +1,4 @@
-use Rattle.partial_long_lived.proofs.{Common.{refl, Store}, Straight.{going_on, leads_behind, leads_there, other_told, step_there, still_going, zero_asked, zero_told}}
+use Rattle.partial_long_lived.proofs.{Common.{refl, Store}, Straight.{going_on, leads_after, leads_there, other_told, step_there, still_going, zero_asked, zero_told}}
 use Rattle.partial_long_lived.proofs.lines.make_zero.Goals as goal
 
 pub load-found-requires : goal.load-found-requires
@@ -28,5 +28,5 @@ pub returns-clause-leads : goal.returns-clause-leads
 returns-clause-leads c =
     let w = c.requires.going in
     let told = rw c.from.ensures at c.load-found.ensures.2 in
-    leads_behind _ _ _ w _ c.load-found.ensures.0 told.0 told.1 (other_told _ _ _ w _ _ _ told.2 c.if-found-eq0.false) refl refl refl refl refl refl
+    leads_after _ _ _ w _ c.load-found.ensures.0 told.0 told.1 (other_told _ _ _ w _ _ _ told.2 c.if-found-eq0.false) refl refl refl refl refl refl
     c.load-found.ensures.3 c.requires.unviewed _ c.make_store.ensures.leads c.make_store.ensures.machine c.make_store.ensures.possible c.make_store.ensures.steps

@@ -1,4 +1,4 @@
-use Rattle.partial_long_lived.proofs.{Common.{◌∙◌, not, refl, sym, ap, subst, IfErr, slice_index, length, ◌<◌, stamp_limit, unsealed, port_at, NotScanned, ArePublic}, DoubleCollect.{come_named, come_refused}, Stamps.{stamped_behind, stamped_none}}
+use Rattle.partial_long_lived.proofs.{Common.{◌∙◌, not, refl, sym, ap, subst, IfErr, slice_index, length, ◌<◌, stamp_limit, unsealed, port_at, NotScanned, ArePublic}, DoubleCollect.{come_named, come_refused}, Stamps.{stamped_after, stamped_none}}
 use Rattle.std.proofs.lemmas.Result.{err_from_is_err_and}
 use Rattle.partial_model.proofs.IndexLaws.{none_of}
 use Rattle.partial_long_lived.proofs.stamped.scan_stamped.Goals as goal
@@ -6,7 +6,7 @@ use Rattle.partial_long_lived.proofs.stamped.scan_stamped.Goals as goal
 pub returns-then-double_collect-clause-scanned : goal.returns-then-double_collect-clause-scanned
 returns-then-double_collect-clause-scanned c =
     let told = c.load_stamps.ensures in
-    stamped_behind _ _ _ _ _ _ _ _ _ (c.double_collect.ensures.scanned c.if-double_collect.true) refl told.kept told.same (told.lengths ∙ c.requires.stamps) told.stamps
+    stamped_after _ _ _ _ _ _ _ _ _ (c.double_collect.ensures.scanned c.if-double_collect.true) refl told.kept told.same (told.lengths ∙ c.requires.stamps) told.stamps
 
 pub returns-in_err-scanned-clause-refused : goal.returns-in_err-scanned-clause-refused
 returns-in_err-scanned-clause-refused c =
@@ -26,7 +26,7 @@ returns-then-is_none-clause-scanned c =
     let none = none_of _ (c.is_none.ensures ∙ ap not c.if-is_none.true) in
     let named = come_named _ _ _ d.stayed.come (d.notes c.if-double_collect.false) _ _ _ _ _ c.in_ok-scanned.ensures.scanned in
     let told = c.load_stamps-then-is_none.ensures in
-    stamped_behind _ _ _ _ _ _ _ _ _ named none told.kept told.same (told.lengths ∙ c.requires.stamps)
+    stamped_after _ _ _ _ _ _ _ _ _ named none told.kept told.same (told.lengths ∙ c.requires.stamps)
     (subst (λ l. ArePublic (port_at c.scan_announced.new.stand) c.args.which.now l c.load_stamps-then-is_none.new.stamps (length c.args.which.now)) c.last_loaded.ensures told.stamps)
 
 pub returns-else-is_none-clause-scanned : goal.returns-else-is_none-clause-scanned

@@ -1,4 +1,4 @@
-use Rattle.partial_long_lived.proofs.{Common.{rules, subst, sym, IfOk, true, false, Exchanged, Refused, CameBy, IsLate, NotesNothing, UpdateAttempted, UpdateEnded, asked_change, ended_as, None, refl, Change}, Rounds.{came_on, err_as, late_from, ok_as, round_ended, round_met, rounds_begin, updated_behind}, Updates.{rests_may, rests_own}}
+use Rattle.partial_long_lived.proofs.{Common.{rules, subst, sym, IfOk, true, false, Exchanged, Refused, CameBy, IsLate, NotesNothing, UpdateAttempted, UpdateEnded, asked_change, ended_as, None, refl, Change}, Rounds.{came_on, err_as, late_from, ok_as, round_ended, round_met, rounds_begin, updated_after}, Updates.{rests_may, rests_own}}
 use Rattle.partial_long_lived.proofs.update.update_apart.Goals as goal
 
 pub update_late-requires-clause-rests : goal.update_late-requires-clause-rests
@@ -24,7 +24,7 @@ returns-clause-updated c =
     let change : Change = asked_change c.args.component None c.args.value in
     ok_as Exchanged Refused (ended_as c.update_late-2.result) (λ r. UpdateEnded false change r c.attempt_as-attempted.new.stand c.update_late-2.new.stand)
     (λ r. UpdateEnded true change r c.args.stand.now c.update_late-2.new.stand)
-    (λ r w. updated_behind true change r c.args.stand.now c.attempt_as-attempted.new.stand c.update_late-2.new.stand came w) c.update_late-2.ensures.updated
+    (λ r w. updated_after true change r c.args.stand.now c.attempt_as-attempted.new.stand c.update_late-2.new.stand came w) c.update_late-2.ensures.updated
 
 pub returns-clause-refused : goal.returns-clause-refused
 returns-clause-refused c =

@@ -1,5 +1,5 @@
 use Rattle.std.proofs.Common.{rules, tests}
-use Rattle.partial_long_lived.proofs.{Common.{ap, arith, length, sym, take_all, ◌∙◌, Applied, List, opening_of, port_at}, Conditional.{ended_behind, nothing_behind}}
+use Rattle.partial_long_lived.proofs.{Common.{ap, arith, length, sym, take_all, ◌∙◌, Applied, List, opening_of, port_at}, Conditional.{ended_after, nothing_after}}
 use Rattle.partial_model.specs.History.{stamp_of}
 use Rattle.partial_long_lived.proofs.update_if.round.Goals as goal
 
@@ -13,13 +13,13 @@ attempt-attempted-requires-clause-expects c =
 pub returns-in_default-clause-none : goal.returns-in_default-clause-none
 returns-in_default-clause-none c =
     let found = rw c.in-Same.is at c.compare.ensures.found in
-    nothing_behind c.args.first c.args.stand.now c.compare.new.stand c.attempt-attempted.new.stand c.compare.ensures.looked found.0 (rw (sym c.exchanged.ensures ∙ c.in_default.is) at c.attempt-attempted.ensures.sealed)
+    nothing_after c.args.first c.args.stand.now c.compare.new.stand c.attempt-attempted.new.stand c.compare.ensures.looked found.0 (rw (sym c.exchanged.ensures ∙ c.in_default.is) at c.attempt-attempted.ensures.sealed)
 
 pub returns-clause-ended : goal.returns-clause-ended
 returns-clause-ended c =
     let found = rw c.in-Same.is at c.compare.ensures.found in
     let outcome = c.public_outcome-updated.ensures in
-    ended_behind c.args.first c.args.stand.now c.compare.new.stand c.attempt-attempted.new.stand c.compare.ensures.looked found.0 c.args.asked c.in-Same.at c.in-Some.exchanged found.1
+    ended_after c.args.first c.args.stand.now c.compare.new.stand c.attempt-attempted.new.stand c.compare.ensures.looked found.0 c.args.asked c.in-Same.at c.in-Some.exchanged found.1
     (rw (sym c.exchanged.ensures ∙ c.in-Some.is) at c.attempt-attempted.ensures.attempted) c.public_outcome-updated.new.stand outcome.kept outcome.same c.public_outcome-updated.result outcome.public
 
 pub returns-in-Other-clause-spare : goal.returns-in-Other-clause-spare

@@ -1,4 +1,4 @@
-use Rattle.partial_long_lived.proofs.{Common.{◌≡◌, arith, sym, ap, ◌∙◌, subst, vec_len, MemoryView, PortView, IsResting, Knows, seen_in, port_at}, Answering.{rests_anew, rests_here}, Meetings.{all_seen, comparable_seen, goes_met, met_out}, Resting.rests_on}
+use Rattle.partial_long_lived.proofs.{Common.{◌≡◌, arith, sym, ap, ◌∙◌, subst, vec_len, MemoryView, PortView, IsResting, Knows, seen_in, port_at}, Answering.{rests_anew, rests_here}, Meetings.{all_seen, comparable_seen, goes_met, met_lawfully, met_out}, Resting.rests_on}
 use Rattle.partial_long_lived.proofs.long_lived.LongLived.meet.Goals.{then-one-first_epoch, else-one-first_epoch, then-other-second_epoch, else-other-second_epoch}
 use Rattle.partial_long_lived.specs.declared.port.Port.TheInside.{Inside}
 use Rattle.partial_long_lived.proofs.long_lived.LongLived.meet.Goals as goal
@@ -64,6 +64,11 @@ returns-clause-met c =
       second_knows = subst (λ (q : PortView). Knows q.memory.about q.number (seen_in (port_at v).port) q.notes) c.first.view_is second.knows;
       one = comparable_seen u v met.order;
     }
+
+pub returns-clause-lawful : goal.returns-clause-lawful
+returns-clause-lawful c =
+    let m : MemoryView = record { table = c.self.inside.table.table_id; about = c.self.inside.table.key } in
+    met_lawfully m c.meet-one.result.0 c.meet-one.result.1 c.meet-one.ensures.first c.meet-one.ensures.lawful
 
 pub returns-clause-steps : goal.returns-clause-steps
 returns-clause-steps c =

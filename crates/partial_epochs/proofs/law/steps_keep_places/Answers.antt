@@ -1,5 +1,0 @@
-use Rattle.partial_epochs.proofs.Time.{steps_keep_places}
-use Rattle.partial_epochs.proofs.law.steps_keep_places.Goals as goal
-
-pub returns : goal.returns
-returns c = steps_keep_places
