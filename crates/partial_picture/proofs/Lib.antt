@@ -1,5 +1,6 @@
 mod Common
 pub mod Labels
+pub mod Dealt
 pub mod Made
 pub mod Seen
 pub mod Tiers

@@ -1,8 +1,8 @@
 //! Which steps of the replay each call made.
 
-ghost use Rattle.std.specs.Prelude.{◌≡◌, ◌≤◌, ◌+◌, min, map, length, take, drop, IfOk};
+ghost use Rattle.std.specs.Prelude.{◌≡◌, ◌≤◌, ◌+◌, [], min, map, length, take, drop, IfOk};
 ghost use Rattle.partial_replay.specs.Trace.{is_won};
-ghost use Rattle.partial_picture.specs.Made.{between_of, call_span, end_behind, made_by_ports, made_seen, port_steps, steps_by_port};
+ghost use Rattle.partial_picture.specs.Made.{between_of, call_span, end_behind, made_by_ports, made_seen, steps_by_port};
 ghost use Rattle.partial_picture.specs.Pins.{won_steps};
 
 use crate::window::Span;
@@ -37,16 +37,15 @@ pub(crate) fn entry_steps(
         .collect(alloc)
 }
 
-/// The steps of a port, in order.
-fn steps_of(alloc: Global, port: usize, trace: &[Event]) -> Result<Vec<usize>, AllocError>
-    ensures { IfOk result (λ steps. steps.items ≡ port_steps port trace.now) }
+/// Room for the steps of so many ports, and no step yet.
+fn no_steps(alloc: Global, ports: usize) -> Result<Vec<Vec<usize>>, AllocError>
+    ensures { IfOk result (λ steps. map (λ own. own.items) steps.items ≡ steps_by_port ports []) }
 {
-    trace
-        .iter()
-        .enumerate()
-        .filter(|(_, event)| event.port as usize == port)
-        .map(|(step, _)| step)
-        .collect(alloc)
+    let mut steps = Vec::with_capacity(alloc, ports)?;
+    for _port in 0..ports {
+        steps.push(Vec::new(alloc))?;
+    }
+    Ok(steps)
 }
 
 /// The steps of each of so many ports, in order.
@@ -57,9 +56,12 @@ pub(crate) fn port_steps(
 ) -> Result<Vec<Vec<usize>>, AllocError>
     ensures { IfOk result (λ steps. map (λ own. own.items) steps.items ≡ steps_by_port ports trace.now) }
 {
-    let mut steps = Vec::with_capacity(alloc, ports)?;
-    for port in 0..ports {
-        steps.push(steps_of(alloc, port, trace)?)?;
+    let mut steps = no_steps(alloc, ports)?;
+    for step in 0..trace.len() {
+        let port = trace[step].port as usize;
+        if port < ports {
+            steps[port].push(step)?;
+        }
     }
     Ok(steps)
 }
