@@ -1,5 +1,5 @@
 -- Arenas come free a bounded number of times in an epoch, and not all arenas are in use.
-use Rattle.partial_epochs.proofs.{Common.{ℕ, ◌≡◌, ◌≢◌, ◌+◌, ◌*◌, ◌%◌, ◌<◌, ◌≤◌, ◌==◌, ◌⊎◌, Bool, true, false, if◌then◌else◌, nat_lt, Option, Some, None, List, slice_index, refl, sym, ap, subst, ◌∙◌, inl, inr, arith, cases_lt, eqb_tells, some_same, put, Plan, arena_limit, at_word, control_words, entering_mark, packed, unpacked, Entering, OwnedArena, Port, Stands, Marks, Loaded, IsSiteWord}, Entering.cw_at, Lists.{put_all, put_other, put_same}, Sums.{pigeonhole, sum_few}}
+use Rattle.partial_epochs.proofs.{Common.{ℕ, ◌≡◌, ◌≢◌, ◌+◌, ◌*◌, ◌%◌, ◌<◌, ◌≤◌, ◌==◌, ◌⊎◌, Bool, true, false, if◌then◌else◌, nat_lt, Option, Some, None, List, slice_index, refl, sym, ap, subst, ◌∙◌, inl, inr, arith, cases_lt, eqb_tells, some_same, put, Plan, arena_limit, at_word, control_words, entering_mark, packed, unpacked, Entering, OwnedArena, Port, Stands, Marks, Loaded, IsSiteWord}, Entering.cw_at, Lists.{put_all, put_other, put_same}, Sums.{pigeonhole, sum_few}, Weights.credit_few}
 use Rattle.partial_epochs.specs.FreeArenas.{FewComeFree, IsInUse, KeepsTally, OwnSitesAreInUse, OwnedArenasAreInUse, SomeArenaIsFree, Tally, credit, gives_at, gives_left, weight}
 
 -- a port that comes from another epoch gives back at most two arenas first
@@ -14,15 +14,6 @@ gives_few Stands false (Some o) = by o.looked
     by false = omega arith
 gives_few Marks past o = omega arith
 gives_few (Loaded c) past o = omega arith
-
--- a port that stands in the current epoch gives back at most the arena that it owns
-credit_few : (t : Tally) (k : ℕ) (o : Option OwnedArena) → credit t k o ≤ 1
-credit_few t k None = omega arith
-credit_few t k (Some o) = by (nat_lt (t.taken k) t.arrivals)
-  where
-    by : (c : Bool) → (if c then 1 else 0) ≤ 1
-    by true = omega arith
-    by false = omega arith
 
 -- by one port arenas come free at most so often
 weight_few : (e : Plan) (words : List ℕ) (ports : ℕ → Port) (now : ℕ) (since : ℕ → ℕ) (t : Tally) (k : ℕ) → weight e words ports now since t k ≤ 2 * e.ports + 3

@@ -1,12 +1,8 @@
 -- The exchange of the current word opens the next epoch.
-use Rattle.partial_epochs.proofs.{Common.{ℕ, zero, suc, ◌≡◌, ◌≢◌, ◌+◌, ◌-◌, ◌<◌, ◌≤◌, ◌==◌, ◌⊎◌, Bool, true, false, if◌then◌else◌, Option, Some, None, IfSome, List, [], ◌∷◌, length, slice_index, slice_set, refl, sym, ap, subst, ◌∙◌, inl, inr, arith, option_map, cases_lt, lt-ltb, eqb_tells, get_or-set_same, get_or-set_other, length-set, set-get_or, Applied, Opening, value_of, some_same, Layout, total, first_free, pool_counter, slot_counter, slot_word, set_offset, HasClearRecords, HasClearSlots, Part, fresh_part, fresh_parts, list_of, put, IsToBeSet, Plan, Site, IsSealed, at_word, arena_words, base, carried_word, carried_words, component_words, control_size, control_words, current_word, packed, plain, seal, stamp_after, opened_after, Control, OwnedArena, Port, Epoch, IsSiteWord, IsOut, IsOwner, LawfulControl, MayPut, Beside, IsArena, IsFinished, IsNewPart, IsSetting, IsStanding, LawfulEpochs, controls, numbers, site_now, IsPresent, IsWholeArena, PublishesStayLawful, having_published, next_beside, next_site, next_epoch, resting_arena, OpensOver, Stands, not_below, opening_word, opening_component, pool_opens, slot_opens}, ClearRecords.{opens_by_set, records_before}, Entering.{control_lifted, current_is, cw_long, high_arenaed, high_clear, high_records}, Lists.{at_of, length_of, put_all, put_other, put_same, set_of}, Opens.opens_over, Owning.{knows_more, out_then}, Offsets.{offset_back, offset_low, offset_to_be_set, packed_arena, set_high, set_low}, Present.{present, same_site}, Publishing.published, Worded.{component_at, plain_at, plain_component, plain_other}}
+use Rattle.partial_epochs.proofs.{Common.{ℕ, zero, suc, ◌≡◌, ◌≢◌, ◌+◌, ◌-◌, ◌<◌, ◌≤◌, ◌==◌, ◌⊎◌, Bool, true, false, if◌then◌else◌, Option, Some, None, IfSome, List, [], ◌∷◌, length, slice_index, slice_set, refl, sym, ap, subst, ◌∙◌, inl, inr, arith, option_map, cases_lt, lt-ltb, eqb_tells, get_or-set_same, get_or-set_other, length-set, set-get_or, Applied, Opening, some_same, Layout, total, first_free, pool_counter, slot_counter, slot_word, set_offset, HasClearRecords, HasClearSlots, Part, fresh_part, fresh_parts, list_of, put, IsToBeSet, Plan, Site, IsSealed, at_word, arena_words, base, carried_word, carried_words, component_words, control_size, control_words, current_word, packed, plain, seal, stamp_after, opened_after, Control, OwnedArena, Port, Epoch, IsSiteWord, IsOut, IsOwner, LawfulControl, MayPut, Beside, IsArena, IsFinished, IsNewPart, IsSetting, IsStanding, LawfulEpochs, controls, numbers, site_now, IsPresent, IsWholeArena, PublishesStayLawful, having_published, next_beside, next_site, next_epoch, resting_arena, OpensOver, Stands, not_below, opening_word, opening_component, pool_opens, slot_opens}, Continue.many, ClearRecords.{opens_by_set, records_before}, Entering.{control_lifted, current_is, cw_long, high_arenaed, high_clear, high_records}, Lists.{at_of, length_of, put_all, put_other, put_same, set_of}, Opens.opens_over, Owning.{knows_more, out_then}, Offsets.{offset_back, offset_low, offset_to_be_set, packed_arena, set_high, set_low}, Present.{present, same_site}, Publishing.published, Worded.{component_at, plain_at, plain_component, plain_other}}
 use Rattle.partial_core.specs.Lawful as one
 
--- what an epoch opens with has a value for each component, and the same first stamp
-values_long : (o : Opening) (before : List (List Applied)) → length (opened_after o before).values ≡ length o.values
-values_long o [] = refl
-values_long o (h ∷ before) = length_of (value_of (opened_after o before) h) 0 (length (opened_after o before).values) ∙ values_long o before
-
+-- what an epoch opens with has the same first stamp
 first_same : (o : Opening) (before : List (List Applied)) → (opened_after o before).first ≡ o.first
 first_same o [] = refl
 first_same o (h ∷ before) = first_same o before
@@ -215,7 +211,7 @@ module _ (e : Plan) (words : List ℕ) (ports : ℕ → Port) (b : Beside) (k : 
     opens : OpensOver e.sizes (opened_after e.opening (b.log ∷ b.before)) (arena_words e words o.arena)
     opens = record {
       sizes = w.plan.sizes;
-      values = values_long e.opening (b.log ∷ b.before) ∙ w.plan.values;
+      values = many e.opening (b.log ∷ b.before) ∙ w.plan.values;
       stamps = first_same e.opening (b.log ∷ b.before) ∙ w.plan.first;
       count = length_of (λ i. plain e i (slice_index words (base e o.arena + i))) 0 (total e.sizes);
       each = λ i low asked. let pool = w.plan.sizes.pool.0 in plain_at e words o.arena i (omega (arith, low, pool)) ∙ as_is i low (cases_lt i e.sizes.m)
