@@ -1,16 +1,16 @@
 -- What each kind of step does to lawful words, and that it keeps them lawful and what was loaded true.
-use Rattle.std.specs.Prelude.{ℕ, zero, suc, ◌≡◌, ◌+◌, ◌<◌, ◌≤◌, false, List, [], ◌∷◌, ◌++◌, length, slice_index, Some, None}
+use Rattle.std.specs.Prelude.{ℕ, zero, suc, ◌≡◌, ◌+◌, ◌-◌, ◌<◌, ◌≤◌, false, List, [], ◌∷◌, ◌++◌, length, slice_index, Some, None}
 use Rattle.partial_intervals.specs.Intervals.{Ranges, Holds, IsNormal}
 use Rattle.partial_model.specs.declared.history.Applied.{Applied}
 use Rattle.partial_model.specs.declared.history.Opening.{Opening}
 use Rattle.partial_words.specs.declared.step.Step.TheVariants.{Store, Exchange, Add}
-use Rattle.partial_words.specs.Layout.{Layout, component_word, slot_counter, list_head, slot_word, list_base, total}
+use Rattle.partial_words.specs.Layout.{Layout, component_word, slot_counter, list_head, slot_word, list_base, first_free, total}
 use Rattle.partial_words.specs.Announcement.{announcement_block, announcement_size}
 use Rattle.partial_words.specs.VacatedList.{list_block}
 use Rattle.partial_words.specs.Chain.{OpensWith}
 use Rattle.partial_words.specs.Step.{words_after}
-use Rattle.partial_state.specs.Views.{JoinedAnnouncement}
-use Rattle.partial_state.specs.Holdings.{Counted, Own, Due, Holding, Space, counter, counter_of, end_of, is_marked, marked_for, other_holdings, unpublished}
+use Rattle.partial_state.specs.Views.{Block, JoinedAnnouncement}
+use Rattle.partial_state.specs.Holdings.{Counted, Own, Due, Holding, Space, counter, counter_of, end_of, block_of, is_marked, marked_for, without_block, unpublished}
 use Rattle.partial_state.specs.Holdings.Space.{Pool, Lists}
 use Rattle.partial_state.specs.LawfulWords.{LawfulWords, IsDue}
 use Rattle.partial_state.specs.Loads.{KeptAnswer, IsLoaded, IsPublished}
@@ -49,6 +49,26 @@ ClaimsAreKept =
     IsKept z o words before h after log (words_after words (Add (counter_of z space) (length block)))
     (record h { own = Some (record { space = space; at = slice_index words (counter_of z space); words = block; stored = 0 }) }) log
 
+-- a block of the pool that the port writes comes to be its spare words, in place of those that it had
+abbrev pub SparesAreKept : Type 0
+SparesAreKept =
+    (z : Layout) (o : Opening) (words : List ℕ) (before : List Holding) (h : Holding) (after : List Holding) (log : List Applied)
+    (b : Own) →
+    LawfulWords z o words (before ++ h ∷ after) log → h.own ≡ Some b → b.space ≡ Pool →
+    IsKept z o words before h after log words (record h { own = None; due = None; spare = block_of b }) log
+
+-- a block is taken from the beginning of the spare words
+abbrev pub TakesAreKept : Type 0
+TakesAreKept =
+    (z : Layout) (o : Opening) (words : List ℕ) (before : List Holding) (h : Holding) (after : List Holding) (log : List Applied)
+    (block : List ℕ) →
+    LawfulWords z o words (before ++ h ∷ after) log → h.own ≡ None → h.due ≡ None → length block ≤ h.spare.size →
+    IsKept z o words before h after log words
+    (record h {
+      own = Some (record { space = Pool; at = h.spare.at; words = block; stored = 0 });
+      spare = record { at = h.spare.at + length block; size = h.spare.size - length block };
+    }) log
+
 -- a claim past the end of what is counted, by a port that isn't marked for it yet: the port is marked
 abbrev pub RefusalsAreKept : Type 0
 RefusalsAreKept =
@@ -72,7 +92,7 @@ abbrev pub DuesAreKept : Type 0
 DuesAreKept =
     (z : Layout) (o : Opening) (words : List ℕ) (before : List Holding) (h : Holding) (after : List Holding) (log : List Applied)
     (d : Due) →
-    LawfulWords z o words (before ++ h ∷ after) log → IsDue z o words h (other_holdings h.port (before ++ h ∷ after)) log d →
+    LawfulWords z o words (before ++ h ∷ after) log → IsDue z o words h (without_block h.port (before ++ h ∷ after)) log d →
     IsKept z o words before h after log words (record h { due = Some d }) log
 
 -- a block of one's own is given up: its exchange was lost, or the call is refused
@@ -136,14 +156,29 @@ LoadsAreTrue = (z : Layout) (o : Opening) (words : List ℕ) (hs : List Holding)
     LawfulWords z o words hs log → w < total z → (list_base z ≤ w → IsPublished z words (unpublished hs) w) →
     IsLoaded z o words hs log w (record { answer = slice_index words w; at = length log })
 
+-- no spare words
+abbrev pub no_spare : Layout → Block
+no_spare z = record { at = first_free z; size = 0 }
+
+-- what a port holds that has claimed nothing
+abbrev pub idle_holding : Layout → ℕ → Holding
+idle_holding z port = record {
+  port = port;
+  claimed = None;
+  own = None;
+  due = None;
+  spare = no_spare z;
+  pool_spent = false;
+  slots_spent = false;
+  lists_spent = false;
+}
+
 -- ports that hold nothing, from that port on
-abbrev pub idle_holdings : ℕ → ℕ → List Holding
-idle_holdings port zero = []
-idle_holdings port (suc n) =
-    record { port = port; claimed = None; own = None; due = None; pool_spent = false; slots_spent = false; lists_spent = false } ∷
-    idle_holdings (port + 1) n
+abbrev pub idle_holdings : Layout → ℕ → ℕ → List Holding
+idle_holdings z port zero = []
+idle_holdings z port (suc n) = idle_holding z port ∷ idle_holdings z (port + 1) n
 
 -- words as they open, with at most 64 ports that hold nothing, are lawful
 abbrev pub OpeningIsLawful : Type 0
 OpeningIsLawful =
-    (z : Layout) (o : Opening) (words : List ℕ) (n : ℕ) → OpensWith z o words → n ≤ 64 → LawfulWords z o words (idle_holdings 0 n) []
+    (z : Layout) (o : Opening) (words : List ℕ) (n : ℕ) → OpensWith z o words → n ≤ 64 → LawfulWords z o words (idle_holdings z 0 n) []

@@ -1,9 +1,9 @@
--- What a port holds in the words: a slot, a block that it writes, an exchange that is due, and its marks.
+-- What a port holds in the words: a slot, a block that it writes, an exchange that is due, spare words, and its marks.
 use Rattle.std.specs.Prelude.{ℕ, ◌≢◌, ◌+◌, ◌==◌, ⊤, Bool, true, List, [], ◌∷◌, ◌++◌, length, map, filter_map, Option, Some, None, IfSome, if◌then◌else◌}
 use Rattle.std.specs.List.{AllByRecursion}
 use Rattle.std.specs.Option.{option_map}
 use Rattle.partial_model.specs.declared.history.Applied.{Applied}
-use Rattle.partial_words.specs.Layout.{Layout, slot_counter, pool_counter, list_counter, list_base, list_end, pool_base, pool_end, initial_words, first_free, greatest_record, greatest_list}
+use Rattle.partial_words.specs.Layout.{Layout, slot_counter, pool_counter, list_counter, list_base, list_end, pool_base, pool_end, initial_words, first_free, greatest_claim, greatest_list}
 use Rattle.partial_words.specs.Record.{plain_record_size, full_record_size, own_view, view_of, view_len}
 use Rattle.partial_words.specs.Announcement.{announcement_size}
 use Rattle.partial_state.specs.Views.{Block, JoinedAnnouncement}
@@ -51,19 +51,29 @@ pub record Due : Type 0 where
   pub value : ℕ
   pub at : ℕ
 
--- what a port holds
+-- What a port holds: its slot, the block that it writes, the exchange that is due, the pool words that it has claimed and
+-- keeps for later records, and its marks.
 pub record Holding : Type 0 where
   pub port : ℕ
   pub claimed : Option ClaimedSlot
   pub own : Option Own
   pub due : Option Due
+  pub spare : Block
   pub pool_spent : Bool
   pub slots_spent : Bool
   pub lists_spent : Bool
 
+-- the blocks that ports write
+abbrev pub written : List Holding → List Block
+written hs = filter_map (λ h. option_map block_of h.own) hs
+
+-- the words that they keep for later records
+abbrev pub spares : List Holding → List Block
+spares hs = map (λ h. h.spare) hs
+
 -- the blocks that aren't published yet
 abbrev pub unpublished : List Holding → List Block
-unpublished hs = filter_map (λ h. option_map block_of h.own) hs
+unpublished hs = written hs ++ spares hs
 
 -- the announcement of a joined port, with its slot
 abbrev pub IfJoined : Holding → (ℕ → JoinedAnnouncement → Type 0) → Type 0
@@ -106,10 +116,10 @@ HaveOtherPorts a b = a.port ≢ b.port
 abbrev pub HaveOtherSlots : Holding → Holding → Type 0
 HaveOtherSlots a b = IfSome a.claimed (λ c. IfSome b.claimed (λ d. c.slot ≢ d.slot))
 
--- the holdings of the other ports
-abbrev pub other_holdings : ℕ → List Holding → List Holding
-other_holdings p [] = []
-other_holdings p (h ∷ hs) = if h.port == p then other_holdings p hs else h ∷ other_holdings p hs
+-- the holdings, without the block that this port writes
+abbrev pub without_block : ℕ → List Holding → List Holding
+without_block p [] = []
+without_block p (h ∷ hs) = (if h.port == p then record h { own = None } else h) ∷ without_block p hs
 
 -- what ports claim by a counter: pool words, slots, and list words
 pub data Counted : Type 0 where
@@ -126,7 +136,7 @@ pub record Counter : Type 0 where
 
 -- the three counters
 abbrev pub counter : Layout → Counted → Counter
-counter z PoolWords = record { word = pool_counter z; begin = first_free z; end = pool_end z; greatest = greatest_record z }
+counter z PoolWords = record { word = pool_counter z; begin = first_free z; end = pool_end z; greatest = greatest_claim z }
 counter z Slots = record { word = slot_counter z; begin = 0; end = z.slots; greatest = 1 }
 counter z ListWords = record { word = list_counter z; begin = list_base z; end = list_end z; greatest = greatest_list z }
 

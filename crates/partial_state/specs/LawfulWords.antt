@@ -7,9 +7,9 @@ use Rattle.partial_model.specs.History.{IsHistory}
 use Rattle.partial_words.specs.Layout.{Layout, IsLayout, slot_counter, list_head, pool_counter, slot_word, pool_base, pool_end, total, initial_record, first_free}
 use Rattle.partial_words.specs.Record.{plain_record_size, prev_of, record_value, view_of}
 use Rattle.partial_words.specs.Chain.{Agrees}
-use Rattle.partial_state.specs.Views.{AreApart, HasFreshView, Covers, IsWithin, IsAnnounced, IsHead}
+use Rattle.partial_state.specs.Views.{Block, AreApart, HasFreshView, Covers, IsWithin, IsAnnounced, IsHead}
 use Rattle.partial_state.specs.Holdings.Space.{Pool}
-use Rattle.partial_state.specs.Holdings.{ClaimedSlot, Counted, Own, Due, Holding, space_begin, end_of, counter_of, block_of, block_at, unpublished, blocks_in, other_holdings, IfJoined, joined_in, EachTwo, HaveOtherPorts, HaveOtherSlots, counter, is_marked, marked_ports}
+use Rattle.partial_state.specs.Holdings.{ClaimedSlot, Counted, Own, Due, Holding, space_begin, end_of, counter_of, block_of, block_at, unpublished, blocks_in, without_block, IfJoined, joined_in, EachTwo, HaveOtherPorts, HaveOtherSlots, counter, is_marked, marked_ports}
 
 -- a block of a port's own lies in its space and below the counter, and holds what is stored
 pub record IsOwn (z : Layout) (words : List ℕ) (b : Own) : Type 0 where
@@ -19,9 +19,16 @@ pub record IsOwn (z : Layout) (words : List ℕ) (b : Own) : Type 0 where
   pub few : b.stored ≤ length b.words
   pub stands : (i : ℕ) → i < b.stored → slice_index words (b.at + i) ≡ slice_index b.words i
 
--- what ties a port to the words: its own block, and that it is marked for a counter only when that is past its end
+-- spare words lie in the pool, after the initial records and below the counter
+pub record IsSpare (z : Layout) (words : List ℕ) (b : Block) : Type 0 where
+  pub above : first_free z ≤ b.at
+  pub within : b.at + b.size ≤ pool_end z
+  pub below : b.at + b.size ≤ slice_index words (pool_counter z)
+
+-- what ties a port to the words: its own block, its spare words, and that it is marked for a counter only when that is past its end
 pub record IsTied (z : Layout) (words : List ℕ) (h : Holding) : Type 0 where
   pub own : IfSome h.own (IsOwn z words)
+  pub spare : IsSpare z words h.spare
   pub marked : (c : Counted) → is_marked c h ≡ true → (counter z c).end < slice_index words (counter z c).word
 
 -- some port has claimed the slot
@@ -41,8 +48,8 @@ abbrev pub CoversAll : Layout → List ℕ → List Holding → List Applied →
 CoversAll z words hs log stamp = AllByRecursion (λ h. IfJoined h (λ l j. Covers z words (unpublished hs) log stamp j)) hs
 
 -- The exchange is due: the port's own block is that record and stands whole, the record before it is one of the
--- history, the port isn't joined, and if the exchange won, its view would be fresh and covering; it is then no block of
--- the port's own any more.
+-- history, the port isn't joined, and if the exchange won, its view would be fresh and covering. It is then no block of
+-- the port's own any more: `others` are the holdings without it.
 pub record IsDue (z : Layout) (o : Opening) (words : List ℕ) (h : Holding) (others : List Holding) (log : List Applied) (d : Due) :
     Type 0 where
   pub component : d.component < z.m
@@ -96,7 +103,7 @@ pub record LawfulWords (z : Layout) (o : Opening) (words : List ℕ) (hs : List 
   -- each entry covers the announcement of each joined port
   pub covering : AllByRecursion (λ e. CoversAll z words hs log e.stamp) log
   -- a record whose exchange is due would have a fresh view and cover them, if that exchange won
-  pub due : AllByRecursion (λ h. IfSome h.due (IsDue z o words h (other_holdings h.port hs) log)) hs
+  pub due : AllByRecursion (λ h. IfSome h.due (IsDue z o words h (without_block h.port hs) log)) hs
   -- a slot from the counter on is EMPTY
   pub unclaimed : (l : ℕ) → slice_index words (slot_counter z) ≤ l → l < z.slots → slice_index words (slot_word z l) ≡ 0
   -- a slot below the counter is VACATED or claimed

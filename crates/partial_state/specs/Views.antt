@@ -5,16 +5,12 @@ use Rattle.partial_intervals.specs.Intervals.{Ranges}
 use Rattle.partial_model.specs.declared.history.Applied.{Applied}
 use Rattle.partial_model.specs.declared.history.Opening.{Opening}
 use Rattle.partial_model.specs.History.{initial_stamp, value_of}
+pub use Rattle.partial_words.specs.declared.block.Block.{Block}
 use Rattle.partial_words.specs.Layout.{Layout, pool_counter, list_counter, pool_end, first_free}
 use Rattle.partial_words.specs.Record.{StandsAt, view_block, own_view, prev_of, view_of}
 use Rattle.partial_words.specs.Announcement.{announcement_size}
 use Rattle.partial_words.specs.VacatedList.{list_block}
 use Rattle.partial_active.specs.Orderly.{IsAnnouncement, IsVacatedList}
-
--- a run of words: its first one, and how many there are
-pub record Block : Type 0 where
-  pub at : ℕ
-  pub size : ℕ
 
 -- no word belongs to both blocks
 abbrev pub AreApart : Block → Block → Type 0

@@ -1,7 +1,7 @@
 //! The laws of the kinds of step: each says what a step of its kind keeps. The functions have no code:
 //! their contracts hold of the definitions by which lawful words are stated.
 
-ghost use Rattle.partial_state.specs.Effects.{OpeningIsLawful, ClaimsAreKept, RefusalsAreKept, StoresAreKept, DuesAreKept, DropsAreKept, WinsAreKept, SlotClaimsAreKept, JoinsAreKept, LeavesAreKept, PublishingsAreKept, LoadsAreTrue};
+ghost use Rattle.partial_state.specs.Effects.{OpeningIsLawful, ClaimsAreKept, RefusalsAreKept, StoresAreKept, DuesAreKept, DropsAreKept, SparesAreKept, TakesAreKept, WinsAreKept, SlotClaimsAreKept, JoinsAreKept, LeavesAreKept, PublishingsAreKept, LoadsAreTrue};
 
 /// Words at opening, with at most 64 ports that hold nothing, are lawful.
 pub fn opening_is_lawful()
@@ -12,6 +12,16 @@ pub fn opening_is_lawful()
 /// every other block.
 pub fn claims_are_kept()
     ensures { ClaimsAreKept }
+{}
+
+/// A block of the pool that a port writes comes to be its spare words.
+pub fn spares_are_kept()
+    ensures { SparesAreKept }
+{}
+
+/// A port takes a block from the beginning of its spare words, without a step: it claimed them earlier.
+pub fn takes_are_kept()
+    ensures { TakesAreKept }
 {}
 
 /// A claim past the end of the pool, of the slots or of the list words: the port is marked, and the counter is past the

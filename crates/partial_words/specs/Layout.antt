@@ -91,6 +91,14 @@ first_free s = pool_base s + 3 * s.m
 abbrev pub greatest_record : Layout → ℕ
 greatest_record s = 4 + 2 * s.m
 
+-- how many words a port claims at most beyond those of the record that it is about to write: those of 31 records without a view
+abbrev pub most_ahead : ℕ
+most_ahead = 93
+
+-- how many words a claim takes at most
+abbrev pub greatest_claim : Layout → ℕ
+greatest_claim s = greatest_record s + most_ahead
+
 -- how many words a list takes at most: one in which every second slot stands
 abbrev pub greatest_list : Layout → ℕ
 greatest_list s = s.slots + 2

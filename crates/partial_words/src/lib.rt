@@ -3,6 +3,7 @@
 #![tactic(auto)]
 
 pub mod announcement;
+pub mod block;
 pub mod law;
 pub mod list;
 pub mod plain;
@@ -15,6 +16,7 @@ pub use announcement::{
     announced, announced_len, announcement_block_word, announcement_size, indices_word,
     least_announcement,
 };
+pub use block::Block;
 pub use law::{
     announcements_read_back, last_entries_head_chains, lists_read_back, opening_words_agree,
     records_lie_within, records_read_back, regions_are_apart,

@@ -1,0 +1,10 @@
+//! A run of words.
+
+/// A run of words that lie one behind the other.
+#[derive(Clone, Copy, Debug, PartialEq, Eq)]
+pub struct Block {
+    /// The number of its first word.
+    pub at: u64,
+    /// How many words it has.
+    pub size: u64,
+}
