@@ -4,12 +4,12 @@ use Rattle.partial_intervals.specs.Intervals.{Ranges, Holds, IsNormal}
 use Rattle.partial_model.specs.declared.history.Applied.{Applied}
 use Rattle.partial_model.specs.declared.history.Opening.{Opening}
 use Rattle.partial_words.specs.declared.step.Step.TheVariants.{Store, Exchange, Add}
-use Rattle.partial_words.specs.Layout.{Layout, component_word, slot_counter, list_head, slot_word, list_base, first_free, total}
+use Rattle.partial_words.specs.Layout.{Layout, component_word, slot_counter, list_head, slot_word, list_base, no_spare, total}
 use Rattle.partial_words.specs.Announcement.{announcement_block, announcement_size}
 use Rattle.partial_words.specs.VacatedList.{list_block}
 use Rattle.partial_words.specs.Chain.{OpensWith}
 use Rattle.partial_words.specs.Step.{words_after}
-use Rattle.partial_state.specs.Views.{Block, JoinedAnnouncement}
+use Rattle.partial_state.specs.Views.{JoinedAnnouncement}
 use Rattle.partial_state.specs.Holdings.{Counted, Own, Due, Holding, Space, counter, counter_of, end_of, block_of, is_marked, marked_for, without_block, unpublished}
 use Rattle.partial_state.specs.Holdings.Space.{Pool, Lists}
 use Rattle.partial_state.specs.LawfulWords.{LawfulWords, IsDue}
@@ -155,10 +155,6 @@ abbrev pub LoadsAreTrue : Type 0
 LoadsAreTrue = (z : Layout) (o : Opening) (words : List ℕ) (hs : List Holding) (log : List Applied) (w : ℕ) →
     LawfulWords z o words hs log → w < total z → (list_base z ≤ w → IsPublished z words (unpublished hs) w) →
     IsLoaded z o words hs log w (record { answer = slice_index words w; at = length log })
-
--- no spare words
-abbrev pub no_spare : Layout → Block
-no_spare z = record { at = first_free z; size = 0 }
 
 -- what a port holds that has claimed nothing
 abbrev pub idle_holding : Layout → ℕ → Holding

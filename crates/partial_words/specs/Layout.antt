@@ -1,5 +1,6 @@
 -- The four sizes of a memory, and the regions of its words in rising order.
 use Rattle.std.specs.Prelude.{ℕ, ◌≡◌, ◌+◌, ◌*◌, ◌<◌, ◌≤◌}
+use Rattle.partial_words.specs.declared.block.Block.{Block}
 
 -- m components, and how many slots, list words and pool words there are
 pub record Layout : Type 0 where
@@ -98,6 +99,10 @@ most_ahead = 93
 -- how many words a claim takes at most
 abbrev pub greatest_claim : Layout → ℕ
 greatest_claim s = greatest_record s + most_ahead
+
+-- no words that a port has claimed and keeps for later records
+abbrev pub no_spare : Layout → Block
+no_spare s = record { at = first_free s; size = 0 }
 
 -- how many words a list takes at most: one in which every second slot stands
 abbrev pub greatest_list : Layout → ℕ
