@@ -16,7 +16,7 @@ some_position (j ∷ js) e = omega arith
 
 -- the machine with a call begun is sound
 sound_with : (s : CoreState) (js : List ℕ) (t : Stage) → AreComponentIndices s.sizes js → is_sound_at (record s { asked = js; stage = t }) t → IsSound s → IsSound (record s { asked = js; stage = t })
-sound_with s js t asked stage w = record { asked = asked; found = w.found; indices = w.indices; distinct = w.distinct; rows = w.rows; stage = stage }
+sound_with s js t asked stage w = record { asked = asked; found = w.found; indices = w.indices; distinct = w.distinct; rows = w.rows; ahead = w.ahead; spare = w.spare; stage = stage }
 
 -- what is known of an update that is begun, of a read, and of a scan
 begins_update : (s : CoreState) (j : ℕ) (a b : Bool) → nat_lt j s.sizes.m ≡ a → s.pool_spent ≡ b → (if a then (if b then Some Refused.PoolSpent else None) else Some Refused.Component) ≡ None →
@@ -114,7 +114,7 @@ calls_begin s (Call.UpdateIf j x v) asked served is = begins_change s j v (Some 
 
 pub rests_are_sound : RestsAreSound
 rests_are_sound = record {
-  fresh = λ z port.
+  fresh = λ z port layout.
       let none = no_index z.m in
       record {
         asked = record { few = omega arith; each = none.each };
@@ -122,9 +122,11 @@ rests_are_sound = record {
         indices = record { few = omega arith; each = none.each };
         distinct = none.distinct;
         rows = record { last = length-replicate z.m 0; changed = length-replicate z.m false; values = length-replicate z.m 0 };
+        ahead = omega arith;
+        spare = let pool = layout.pool.0 in (omega arith, omega (arith, pool));
         stage = tt;
       };
-  idle = λ s w. record { asked = w.asked; found = w.found; indices = w.indices; distinct = w.distinct; rows = w.rows; stage = tt };
+  idle = λ s w. record { asked = w.asked; found = w.found; indices = w.indices; distinct = w.distinct; rows = w.rows; ahead = w.ahead; spare = w.spare; stage = tt };
 }
 
 -- a cause with what is said of it

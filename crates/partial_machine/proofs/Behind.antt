@@ -1,5 +1,5 @@
 -- What is known of a machine behind a possible answer.
-use Rattle.partial_machine.proofs.{Common.{ℕ, ◌≡◌, ◌+◌, ◌-◌, ◌<◌, ◌≤◌, ◌==◌, ◌⊎◌, Bool, true, false, if◌then◌else◌, not, ◌||◌, min, Option, Some, None, IsSome, List, [], ◌∷◌, length, refl, sym, ap, subst, ◌∙◌, inl, inr, arith, is_some, nat_lt, option_map_or, false≢true, cond_both, ltb-true, ltb-false, Refused, Step, Store, Add, Layout, IsLayout, slot_counter, slot_word, pool_counter, list_counter, list_end, pool_end, greatest_record, announcement_size, indices_word, next_word, with_index, begins_at, join_step, join_after, advance_join, JoinStage, Claiming, Storing, Joined, Spent, Change, Reply, Stage, is_begun, is_at_rest, IsSound, is_sound_at, IsPossibleAt, Run, ClaimsPastLists, IsRefusedBy, IsMarkedFor, refuses_pool, refuses_slots, AnswersLeadOn, DueIsUnreplied}, Sound.{kept, size_few}}
+use Rattle.partial_machine.proofs.{Common.{ℕ, ◌≡◌, ◌+◌, ◌-◌, ◌<◌, ◌≤◌, ◌==◌, ◌⊎◌, Bool, true, false, if◌then◌else◌, not, ◌||◌, min, Option, Some, None, IsSome, List, [], ◌∷◌, length, refl, sym, ap, subst, ◌∙◌, inl, inr, arith, is_some, nat_lt, option_map_or, false≢true, cond_both, ltb-true, ltb-false, Refused, Step, Store, Add, Layout, IsLayout, slot_counter, slot_word, pool_counter, list_counter, list_end, pool_end, greatest_record, announcement_size, indices_word, next_word, with_index, begins_at, join_step, join_after, advance_join, JoinStage, Claiming, Storing, Joined, Spent, Change, Reply, Stage, is_begun, is_at_rest, IsSound, is_sound_at, IsPossibleAt, Run, ClaimsPastLists, IsRefusedBy, IsMarkedFor, refuses_pool, refuses_slots, AnswersLeadOn, DueIsUnreplied, claim_size, into_spare, into_claim}, Sound.{kept, size_few, record_cases}}
 use Rattle.partial_intervals.specs.Intervals.{highest}
 use Rattle.partial_active.specs.declared.get_set.Stage.{Stage as SetStage}
 use Rattle.partial_active.specs.declared.get_set.Stage.TheVariants as set
@@ -107,7 +107,7 @@ module _ (s : CoreState) (x : ℕ) (w : IsSound s) where
   here t e = subst (is_sound_at s) e w.stage
 
   -- a claim of pool words that went past the end
-  pool_after : (t : Stage) (size : ℕ) → s.stage ≡ t → step_at s t ≡ Some (Add (pool_counter s.sizes) size) → size ≤ greatest_record s.sizes → s.pool_spent ≡ false → fits_pool s.sizes size x ≡ false →
+  pool_after : (t : Stage) (size : ℕ) → s.stage ≡ t → step_at s t ≡ Some (Add (pool_counter s.sizes) size) → size ≤ greatest_record s.sizes + s.ahead → s.pool_spent ≡ false → fits_pool s.sizes size x ≡ false →
       After s x (pool_refused s)
   pool_after t size e due few unmarked past = record {
     ahead = refl;
@@ -166,11 +166,10 @@ module _ (s : CoreState) (x : ℕ) (w : IsSound s) where
       let q = with_scanning s (viewing.advance_view s.found.indices (scanning s) x) in
       either (viewing.view_step_due s.found.indices (scanning q)) q (at_stage q (ClaimingRecord c old)) (After s x) (plain s x q (Viewing c old) e refl refl refl refl)
       (plain s x (at_stage q (ClaimingRecord c old)) (ClaimingRecord c old) refl refl refl refl refl)
-  after_at (ClaimingRecord c old) e p = by (fits_pool s.sizes (record_size s) x) refl
-    where
-      by : (b : Bool) → fits_pool s.sizes (record_size s) x ≡ b → After s x (if b then at_stage s (StoringRecord c old x 0) else pool_refused s)
-      by true fits = plain s x (at_stage s (StoringRecord c old x 0)) (StoringRecord c old x 0) refl refl refl refl refl
-      by false past = pool_after (ClaimingRecord c old) (record_size s) e refl (size_few s w.indices.few).1 (here (ClaimingRecord c old) e).2 past
+  after_at (ClaimingRecord c old) e p = record_cases s c old x (After s x) (λ some. plain s x (into_spare s c old) (StoringRecord c old s.spare.at 1) refl refl refl refl refl)
+      (λ none fits. plain s x (into_claim s c old x) (StoringRecord c old x 0) refl refl refl refl refl)
+      (λ none past. let few = (size_few s w.indices.few).1 in pool_after (ClaimingRecord c old) (claim_size s) e
+      (ap (λ (b : Bool). Some (if b then Store s.spare.at old else Add (pool_counter s.sizes) (claim_size s))) none) (omega (arith, few)) (here (ClaimingRecord c old) e).2 past)
   after_at (StoringRecord c old at k) e p = cond_both (k + 1 == record_size s) (Exchanging c old at) (StoringRecord c old at (k + 1)) (λ (u : Stage). After s x (at_stage s u))
       (λ _. plain s x (at_stage s (Exchanging c old at)) (Exchanging c old at) refl refl refl refl refl)
       (λ _. plain s x (at_stage s (StoringRecord c old at (k + 1))) (StoringRecord c old at (k + 1)) refl refl refl refl refl)
@@ -279,8 +278,8 @@ module _ (s : CoreState) (x : ℕ) (layout : IsLayout s.sizes) (w : IsSound s) w
       let q = with_scanning s (viewing.advance_view s.found.indices (scanning s) x) in
       either (viewing.view_step_due s.found.indices (scanning q)) q (at_stage q (ClaimingRecord c old)) (KeepsLists s x) (same_lists s x q refl)
       (same_lists s x (at_stage q (ClaimingRecord c old)) refl)
-  lists_at (ClaimingRecord c old) e = cond_both (fits_pool s.sizes (record_size s) x) (at_stage s (StoringRecord c old x 0)) (pool_refused s) (KeepsLists s x)
-      (λ _. same_lists s x (at_stage s (StoringRecord c old x 0)) refl) (λ _. same_lists s x (pool_refused s) refl)
+  lists_at (ClaimingRecord c old) e = record_cases s c old x (KeepsLists s x) (λ _. same_lists s x (into_spare s c old) refl)
+      (λ _ _. same_lists s x (into_claim s c old x) refl) (λ _ _. same_lists s x (pool_refused s) refl)
   lists_at (StoringRecord c old at k) e = same_lists s x (advance_at s (StoringRecord c old at k) x) refl
   lists_at (Exchanging c old at) e = same_lists s x (advance_at s (Exchanging c old at) x) refl
   lists_at ScanBegun e = cond_both (fits_pool s.sizes (announcement_size (length s.asked)) x) (at_stage s (StoringAnnouncement x 0)) (pool_refused s) (KeepsLists s x)
@@ -315,6 +314,7 @@ answers_lead_on s x layout w possible =
       sizes = k.sizes;
       port = k.port;
       asked = k.positions;
+      ahead = k.ahead;
       begun = not_begun t.stage a.ahead;
       rests = rests;
       due = due_at t t.stage k.sound.stage ∙ ap not rests;

@@ -1,5 +1,5 @@
 -- A call makes one claim of pool words at most, and one of a slot.
-use Rattle.partial_machine.proofs.{Common.{ℕ, ◌≡◌, ◌+◌, ◌≤◌, ◌==◌, Bool, true, false, if◌then◌else◌, Some, None, List, [], ◌∷◌, length, refl, sym, ap, subst, ◌∙◌, arith, nat_lt, cond_both, ne_eqb, Store, Layout, IsLayout, slot_word, slot_counter, pool_counter, list_counter, announcement_size, join_step, join_after, advance_join, JoinStage, Claiming, Storing, Joined, Spent, Change, Stage, CoreState, at_stage, getting, scanning, with_getting, with_scanning, record_size, expects, fits_pool, pool_refused, begin_getting, begin_joining, after_joining, advance_at, advance, step_at, IsSound, is_sound_at, IsPossibleAt, Run, Reply}, Sound.kept, Behind.either}
+use Rattle.partial_machine.proofs.{Common.{ℕ, ◌≡◌, ◌+◌, ◌≤◌, ◌==◌, Bool, true, false, if◌then◌else◌, Some, None, List, [], ◌∷◌, length, refl, sym, ap, subst, ◌∙◌, arith, nat_lt, cond_both, ne_eqb, Store, Layout, IsLayout, slot_word, slot_counter, pool_counter, list_counter, announcement_size, join_step, join_after, advance_join, JoinStage, Claiming, Storing, Joined, Spent, Change, Stage, CoreState, at_stage, getting, scanning, with_getting, with_scanning, record_size, expects, fits_pool, pool_refused, begin_getting, begin_joining, after_joining, advance_at, advance, step_at, IsSound, is_sound_at, IsPossibleAt, Run, Reply}, Sound.{kept, record_cases, record_step_cases}, Behind.either}
 use Rattle.partial_active.specs.declared.get_set.Stage.{Stage as SetStage}
 use Rattle.partial_active.specs.declared.get_set.Stage.TheVariants as set
 use Rattle.partial_active.specs.GetSet as finding
@@ -118,8 +118,7 @@ module _ (s : CoreState) (x : ℕ) (w : IsSound s) where
       (left_is pool_left q (Viewing c old) 1 e (omega arith)) (omega arith))
   pool_at (ClaimingRecord c old) e p =
       let one = few (claims (pool_counter s.sizes) (step_at s (ClaimingRecord c old))) in
-      cond_both (fits_pool s.sizes (record_size s) x) (at_stage s (StoringRecord c old x 0)) (pool_refused s)
-      (λ (q : CoreState). count (claims (pool_counter s.sizes) (step_at s (ClaimingRecord c old))) + pool_left q q.stage ≤ 1) (λ _. omega (arith, one)) (λ _. omega (arith, one))
+      record_cases s c old x (λ (q : CoreState). count (claims (pool_counter s.sizes) (step_at s (ClaimingRecord c old))) + pool_left q q.stage ≤ 1) (λ _. omega (arith, one)) (λ _ _. omega (arith, one)) (λ _ _. omega (arith, one))
   pool_at (StoringRecord c old at k) e p = quiet false _ 0 refl (cond_both (k + 1 == record_size s) (Exchanging c old at) (StoringRecord c old at (k + 1))
       (λ (u : Stage). pool_left (at_stage s u) u ≤ 0) (λ _. omega arith) (λ _. omega arith))
   pool_at (Exchanging c old at) e p = quiet false 0 0 refl (omega arith)
@@ -178,8 +177,9 @@ module _ (s : CoreState) (x : ℕ) (w : IsSound s) where
       (either (viewing.view_step_due s.found.indices (scanning q)) q (at_stage q (ClaimingRecord c old)) (λ (v : CoreState). slots_left v v.stage ≤ 0)
       (left_is slots_left q (Viewing c old) 0 e (omega arith)) (omega arith))
   slots_at (ClaimingRecord c old) e p =
-      quiet (pool_counter s.sizes == slot_counter s.sizes) _ 0 (ne_eqb (pool_counter s.sizes) (slot_counter s.sizes) (λ same. omega (arith, same)))
-      (cond_both (fits_pool s.sizes (record_size s) x) (at_stage s (StoringRecord c old x 0)) (pool_refused s) (λ (q : CoreState). slots_left q q.stage ≤ 0) (λ _. omega arith) (λ _. omega arith))
+      quiet (claims (slot_counter s.sizes) (step_at s (ClaimingRecord c old))) _ 0
+      (record_step_cases s old (λ t. claims (slot_counter s.sizes) (Some t) ≡ false) (λ _. refl) (λ _. ne_eqb (pool_counter s.sizes) (slot_counter s.sizes) (λ same. omega (arith, same))))
+      (record_cases s c old x (λ (q : CoreState). slots_left q q.stage ≤ 0) (λ _. omega arith) (λ _ _. omega arith) (λ _ _. omega arith))
   slots_at (StoringRecord c old at k) e p = quiet false _ 0 refl (cond_both (k + 1 == record_size s) (Exchanging c old at) (StoringRecord c old at (k + 1))
       (λ (u : Stage). slots_left (at_stage s u) u ≤ 0) (λ _. omega arith) (λ _. omega arith))
   slots_at (Exchanging c old at) e p = quiet false 0 0 refl (omega arith)

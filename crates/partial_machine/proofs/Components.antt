@@ -1,5 +1,5 @@
 -- Which component words a call loads, and how its embedded scan ends, over every run.
-use Rattle.partial_machine.proofs.{Common.{ℕ, ◌≡◌, ◌+◌, ◌-◌, ◌<◌, ◌≤◌, ◌⊎◌, inl, inr, ◌==◌, ◌&&◌, ◌++◌, Bool, true, false, if◌then◌else◌, min, not, Option, Some, None, List, [], ◌∷◌, length, refl, sym, ap, subst, ◌∙◌, arith, append_assoc, append-nil, nat_lt, ⊤, option_map_or, eqb-true, eqb-false, Call, Step, Load, Store, Layout, IsLayout, slot_word, next_word, indices_word, advance_join, join_step, JoinStage, Claiming, Storing, Joined, Spent, begins_at, with_index, Change, Stage, CoreState, at_stage, getting, scanning, with_getting, with_scanning, begin_joining, after_joining, record_size, expects, fits_pool, pool_refused, begin_getting, advance_at, advance, step_at, step_of, call_at, update_call, IsSound, is_sound_at, IsPossible, IsPossibleAt, Run, Reply}, Sound.{Keeps, kept}, StepCounts.stays_sound}
+use Rattle.partial_machine.proofs.{Common.{ℕ, ◌≡◌, ◌+◌, ◌-◌, ◌<◌, ◌≤◌, ◌⊎◌, inl, inr, ◌==◌, ◌&&◌, ◌++◌, Bool, true, false, if◌then◌else◌, min, not, Option, Some, None, List, [], ◌∷◌, length, refl, sym, ap, subst, ◌∙◌, arith, append_assoc, append-nil, nat_lt, ⊤, option_map_or, eqb-true, eqb-false, Call, Step, Load, Store, Layout, IsLayout, slot_word, next_word, indices_word, advance_join, join_step, JoinStage, Claiming, Storing, Joined, Spent, begins_at, with_index, Change, Stage, CoreState, at_stage, getting, scanning, with_getting, with_scanning, begin_joining, after_joining, record_size, expects, fits_pool, pool_refused, begin_getting, advance_at, advance, step_at, step_of, call_at, update_call, IsSound, is_sound_at, IsPossible, IsPossibleAt, Run, Reply}, Sound.{Keeps, kept, record_cases, record_step_cases}, StepCounts.stays_sound}
 use Rattle.partial_words.specs.VacatedList.{intervals_word}
 use Rattle.partial_active.specs.declared.get_set.Stage.{Stage as SetStage}
 use Rattle.partial_active.specs.declared.get_set.Stage.TheVariants as set
@@ -213,10 +213,6 @@ module _ (s : CoreState) (layout : IsLayout s.sizes) (w : IsSound s) (answers : 
       either (Some step) sound = subst (scanned_at (answers ++ x ∷ []) on) (sym e) more
       either None sound = over (length p.1.indices == 0) refl sound
 
-  claimed : (b : Bool) (at size : ℕ) (c : Change) (old : ℕ) → Then (if b then at_stage s (StoringRecord c old x 0) else pool_refused s)
-  claimed true at size c old = tt
-  claimed false at size c old = tt
-
   announced : (b : Bool) → Then (if b then at_stage s (StoringAnnouncement x 0) else pool_refused s)
   announced true = tt
   announced false = tt
@@ -240,7 +236,7 @@ module _ (s : CoreState) (layout : IsLayout s.sizes) (w : IsSound s) (answers : 
   scans_on (UpdateBegun c) e possible h sound = expected (expects c x) c
   scans_on (GettingSet c old) e possible h sound = got c old e possible h sound
   scans_on (Viewing c old) e possible h sound = viewed c old e possible h
-  scans_on (ClaimingRecord c old) e possible h sound = claimed (fits_pool s.sizes (record_size s) x) x (record_size s) c old
+  scans_on (ClaimingRecord c old) e possible h sound = record_cases s c old x Then (λ _. tt) (λ _ _. tt) (λ _ _. tt)
   scans_on (StoringRecord c old at k) e possible h sound = stored (k + 1 == record_size s) c old at (k + 1)
   scans_on (Exchanging c old at) e possible h sound = tt
   scans_on ScanBegun e possible h sound = announced (fits_pool s.sizes _ x)
@@ -359,7 +355,7 @@ module _ (s : CoreState) (x : ℕ) where
   update_on j (Viewing c old) e possible h =
       let q = viewing.advance_view s.found.indices (scanning s) x in
       set_on j c old (with_scanning s q) (at_stage (with_scanning s q) (ClaimingRecord c old)) (viewing.view_step_due s.found.indices q) (subst (of_update j) (sym e) tt) tt
-  update_on j (ClaimingRecord c old) e possible h = choice_on j (fits_pool s.sizes (record_size s) x) (at_stage s (StoringRecord c old x 0)) (pool_refused s) tt tt
+  update_on j (ClaimingRecord c old) e possible h = record_cases s c old x (λ (q : CoreState). of_update j q.stage) (λ _. tt) (λ _ _. tt) (λ _ _. tt)
   update_on j (StoringRecord c old at k) e possible h = stored_on j c old at (k + 1) (k + 1 == record_size s)
   update_on j (Exchanging c old at) e possible h = tt
   update_on j (Finished r) e possible h = absurd possible
@@ -470,7 +466,7 @@ module _ (t : CoreState) (w : IsSound t) (xs : List ℕ) (v : ℕ) (below : v < 
       subst (λ (y : Layout). IsBehind t.sizes (finding.set_step_at y t.get_set.head t.get_set.stage)) (sym sizes) (set_loads t.sizes t.get_set.head t.get_set.stage k) in
       behind_load t.sizes (step_at t (GettingSet c old)) v behind is below
   update_loads j (Viewing c old) e h k is = inr (positioned true t.found.indices k is)
-  update_loads j (ClaimingRecord c old) e h k is = cc
+  update_loads j (ClaimingRecord c old) e h k is = record_step_cases t old (λ (u : Step). Some u ≡ Some (Load v) → (v ≡ j) ⊎ runs.IsOfPosition t.found.indices v) (λ _ bad. cc) (λ _ bad. cc) is
   update_loads j (StoringRecord c old at n) e h k is = cc
   update_loads j (Exchanging c old at) e h k is = cc
   update_loads j (Finished r) e h k is = cc

@@ -1,5 +1,6 @@
 -- The word of a step that is due is one of the words.
-use Rattle.partial_machine.proofs.Common.{ℕ, ◌≡◌, ◌<◌, Bool, true, false, if◌then◌else◌, Option, Some, None, List, slice_index, sym, ap, subst, arith, IfSome, IsTrue, ltb-true, Step, Store, Layout, IsLayout, slot_word, total, word_of, fits_join, join_step, JoinStage, Claiming, Storing, Joined, Spent, Stage, CoreState, getting, scanning, step_at, IsSound, is_sound_at, DueWordsAreThere}
+use Rattle.partial_machine.proofs.Sound.{size_few, record_step_cases}
+use Rattle.partial_machine.proofs.Common.{◌+◌, ℕ, ◌≡◌, ◌<◌, Bool, true, false, if◌then◌else◌, Option, Some, None, List, slice_index, sym, ap, subst, arith, IfSome, IsTrue, ltb-true, Step, Store, Layout, IsLayout, slot_word, total, word_of, fits_join, join_step, JoinStage, Claiming, Storing, Joined, Spent, Stage, CoreState, getting, scanning, step_at, IsSound, is_sound_at, DueWordsAreThere, record_size}
 use Rattle.partial_active.specs.declared.get_set.Stage.{Stage as SetStage}
 use Rattle.partial_active.specs.declared.get_set.Stage.TheVariants as set
 use Rattle.partial_active.specs.GetSet as finding
@@ -78,7 +79,7 @@ due_there s (GettingSet c old) layout w h =
 due_there s (Viewing c old) layout w h =
     subst (λ (y : Layout). IsThere s.sizes (viewing.view_step_at y s.found.indices s.rows.last s.embedded.stage)) (sym h.2)
     (view_there s.sizes s.found.indices s.embedded.stage (scanning s) h.2 h.1.positions h.1.stage)
-due_there s (ClaimingRecord c old) layout w h = omega arith
+due_there s (ClaimingRecord c old) layout w h = record_step_cases s old (λ t. word_of t < total s.sizes) (λ some. let room = ltb-true (record_size s) (s.spare.size + 1) some in let size = (size_few s w.indices.few).0 in let to = w.spare.1 in omega (arith, room, size, to)) (λ none. omega arith)
 due_there s (StoringRecord c old at k) layout w h = let last = h.1.1 in let less = h.2 in omega (arith, last, less)
 due_there s (Exchanging c old at) layout w h = let below = h.0.0 in omega (arith, below)
 due_there s ScanBegun layout w h = omega arith

@@ -17,6 +17,8 @@ found_idle s room z f w idle same buffers indices =
         indices = record { few = few_indices s.sizes.m f.indices named; each = named.each };
         distinct = named.distinct;
         rows = w.sound.rows;
+        ahead = w.sound.ahead;
+        spare = w.sound.spare;
         stage = subst (is_sound_at (record s { found = f })) (sym idle) tt;
       };
       enough = w.enough;
@@ -32,6 +34,8 @@ set_idle s g room w idle = record {
     indices = w.sound.indices;
     distinct = w.sound.distinct;
     rows = w.sound.rows;
+    ahead = w.sound.ahead;
+    spare = w.sound.spare;
     stage = subst (is_sound_at (with_set s g)) (sym idle) tt;
   };
   enough = w.enough;
@@ -47,6 +51,8 @@ kept_idle s e room w idle = record {
     indices = w.sound.indices;
     distinct = w.sound.distinct;
     rows = w.sound.rows;
+    ahead = w.sound.ahead;
+    spare = w.sound.spare;
     stage = subst (is_sound_at (with_embedded s e)) (sym idle) tt;
   };
   enough = w.enough;

@@ -1,5 +1,5 @@
 -- A possible answer leaves a sound machine, with fewer steps to make.
-use Rattle.partial_machine.proofs.Common.{ℕ, ◌≡◌, ◌+◌, ◌<◌, ◌≤◌, ◌==◌, Bool, true, false, if◌then◌else◌, length, Option, Some, None, IsSome, refl, sym, ◌∙◌, ap, subst, arith, false≢true, eqb-true, eqb-false, ltb-true, IsTrue, nat_lt, option_map_or, Step, Layout, IsLayout, pool_end, greatest_record, plain_record_size, full_record_size, announcement_size, fits_join, join_step, join_after, join_left, step_of_join, advance_join, JoinStage, Claiming, Storing, Joined, Spent, Change, Stage, CoreState, at_stage, getting, scanning, with_getting, with_scanning, record_size, expects, overtaken_reply, fits_pool, pool_refused, slots_refused, begin_getting, begin_joining, after_joining, scanned_reply, advance_at, advance, AreComponentIndices, IsRecord, IsInPool, IsSound, is_sound_at, IsMachine, IsPoolCount, IsPossible, IsPossibleAt, left_at, steps_left, AreIndices, few_indices, found_kept, Refused, Reply}
+use Rattle.partial_machine.proofs.Common.{ℕ, ◌≡◌, ◌+◌, ◌<◌, ◌≤◌, ◌==◌, Bool, true, false, if◌then◌else◌, length, Option, Some, None, IsSome, refl, sym, ◌∙◌, ap, subst, arith, false≢true, eqb-true, eqb-false, ltb-true, IsTrue, nat_lt, option_map_or, Step, Layout, IsLayout, pool_end, greatest_record, plain_record_size, full_record_size, announcement_size, fits_join, join_step, join_after, join_left, step_of_join, advance_join, JoinStage, Claiming, Storing, Joined, Spent, Change, Stage, CoreState, at_stage, getting, scanning, with_getting, with_scanning, record_size, expects, overtaken_reply, fits_pool, pool_refused, slots_refused, begin_getting, begin_joining, after_joining, scanned_reply, advance_at, advance, AreComponentIndices, IsRecord, IsInPool, IsSound, is_sound_at, IsMachine, IsPoolCount, IsPossible, IsPossibleAt, IsRecordAnswer, left_at, steps_left, AreIndices, few_indices, found_kept, Refused, Reply, Store, Add, pool_counter, cond_both, most_ahead, has_spare, claim_size, record_step, into_spare, into_claim}
 use Rattle.std.proofs.Math.Nat.{mul-le-mul}
 use Rattle.partial_active.specs.Found.{AreFoundFor as AreBuffersFor}
 use Rattle.partial_active.specs.GetSet as finding
@@ -17,6 +17,7 @@ pub record Keeps (s q : CoreState) : Type 0 where
   pub sizes : q.sizes ≡ s.sizes
   pub port : q.port ≡ s.port
   pub positions : q.asked ≡ s.asked
+  pub ahead : q.ahead ≡ s.ahead
 
 -- a record has 3 words, or those of its pairs
 size_by : (o : Option ℕ) (b : Bool) (n m : ℕ) → n ≤ m → let z = option_map_or (λ _. plain_record_size) o (if b then plain_record_size else full_record_size n) in (plain_record_size ≤ z)
@@ -32,6 +33,17 @@ size_few s few = size_by s.embedded.borrowed (length s.found.indices == 0) (leng
 most_mono : (z : Layout) (r n : ℕ) → r ≤ n → viewing.most_view_steps z r ≤ viewing.most_view_steps z n
 most_mono z r n few = let more : r + 2 ≤ n + 2 = omega (arith, few) in let times = mul-le-mul few more in omega (arith, times)
 
+-- what holds of a machine whose record goes into spare words, of one whose claim went in, and of one whose claim went past the end
+pub record_cases : (s : CoreState) (c : Change) (old x : ℕ) (P : CoreState → Type 0) → (has_spare s ≡ true → P (into_spare s c old)) →
+    (has_spare s ≡ false → fits_pool s.sizes (claim_size s) x ≡ true → P (into_claim s c old x)) →
+    (has_spare s ≡ false → fits_pool s.sizes (claim_size s) x ≡ false → P (pool_refused s)) → P (advance_at s (ClaimingRecord c old) x)
+record_cases s c old x P taken claimed refused = cond_both (has_spare s) (into_spare s c old) (if fits_pool s.sizes (claim_size s) x then into_claim s c old x else pool_refused s) P taken
+    (λ none. cond_both (fits_pool s.sizes (claim_size s) x) (into_claim s c old x) (pool_refused s) P (claimed none) (refused none))
+
+-- the step that is due for the record
+pub record_step_cases : (s : CoreState) (old : ℕ) (P : Step → Type 0) → (has_spare s ≡ true → P (Store s.spare.at old)) → (has_spare s ≡ false → P (Add (pool_counter s.sizes) (claim_size s))) → P (record_step s old)
+record_step_cases s old P = cond_both (has_spare s) (Store s.spare.at old) (Add (pool_counter s.sizes) (claim_size s)) P
+
 -- a claim within the pool
 in_pool : (z : Layout) (size at : ℕ) → IsPoolCount z at → fits_pool z size at ≡ true → IsInPool z at size
 in_pool z size at possible e = let room = ltb-true (at + size) (pool_end z + 1) e in (possible.0, omega (arith, room))
@@ -44,9 +56,9 @@ module _ (s : CoreState) (layout : IsLayout s.sizes) (w : IsSound s) where
   few = w.indices.few
 
   -- the machine at another stage, of which something is known
-  kept_as : (q : CoreState) (t u : Stage) → s.stage ≡ t → q.stage ≡ u → q.sizes ≡ s.sizes → q.port ≡ s.port → q.asked ≡ s.asked → AreComponentIndices q.sizes q.asked → AreBuffersFor q.sizes q.found →
+  kept_as : (q : CoreState) (t u : Stage) → s.stage ≡ t → q.stage ≡ u → q.sizes ≡ s.sizes → q.port ≡ s.port → q.asked ≡ s.asked → q.ahead ≡ s.ahead → IsInPool q.sizes q.spare.at q.spare.size → AreComponentIndices q.sizes q.asked → AreBuffersFor q.sizes q.found →
       AreIndices q.sizes.m q.found.indices → viewing.AreRowsFor q.sizes q.rows → is_sound_at q u → left_at q u < left_at s t → Keeps s q
-  kept_as q t u e f sizes port positions asked found indices rows stage fewer =
+  kept_as q t u e f sizes port positions ahead spare asked found indices rows stage fewer =
       let before : steps_left s ≡ left_at s t = ap (left_at s) e in
       let after : steps_left q ≡ left_at q u = ap (left_at q) f in
       record {
@@ -56,28 +68,31 @@ module _ (s : CoreState) (layout : IsLayout s.sizes) (w : IsSound s) where
           indices = record { few = few_indices q.sizes.m q.found.indices indices; each = indices.each };
           distinct = indices.distinct;
           rows = rows;
+          ahead = subst (λ n. n ≤ most_ahead) (sym ahead) w.ahead;
+          spare = spare;
           stage = subst (is_sound_at q) (sym f) stage;
         };
         fewer = omega (arith, before, after, fewer);
         sizes = sizes;
         port = port;
         positions = positions;
+        ahead = ahead;
       }
 
   same_indices : AreIndices s.sizes.m s.found.indices
   same_indices = record { each = w.indices.each; distinct = w.distinct }
 
   staying : (t u : Stage) → s.stage ≡ t → is_sound_at (at_stage s u) u → left_at (at_stage s u) u < left_at s t → Keeps s (at_stage s u)
-  staying t u e stage fewer = kept_as (at_stage s u) t u e refl refl refl refl w.asked w.found same_indices w.rows stage fewer
+  staying t u e stage fewer = kept_as (at_stage s u) t u e refl refl refl refl refl w.spare w.asked w.found same_indices w.rows stage fewer
 
   refused_pool : (t : Stage) → s.stage ≡ t → 0 < left_at s t → Keeps s (pool_refused s)
-  refused_pool t e fewer = kept_as (pool_refused s) t (Finished (Reply.Refused Refused.PoolSpent)) e refl refl refl refl w.asked w.found same_indices w.rows tt fewer
+  refused_pool t e fewer = kept_as (pool_refused s) t (Finished (Reply.Refused Refused.PoolSpent)) e refl refl refl refl refl w.spare w.asked w.found same_indices w.rows tt fewer
 
   begun_kept : (c : Change) (x : ℕ) → s.stage ≡ UpdateBegun c → IsRecord s.sizes x → (b : Bool) → Keeps s (if b then begin_getting s c x else at_stage s (Finished (Reply.Changed x)))
   begun_kept c x e rec true =
       let h = here (UpdateBegun c) e in
       let fresh = finding.fresh_set s.sizes s.get_set.lists_spent in
-      kept_as (begin_getting s c x) (UpdateBegun c) (GettingSet c x) e refl refl refl refl w.asked w.found same_indices w.rows
+      kept_as (begin_getting s c x) (UpdateBegun c) (GettingSet c x) e refl refl refl refl refl w.spare w.asked w.found same_indices w.rows
       ((h.0, rec, h.1), record { sizes = w.found; stage = tt }, refl, refl) (omega arith)
   begun_kept c x e rec false = staying (UpdateBegun c) (Finished (Reply.Changed x)) e tt (omega arith)
 
@@ -117,7 +132,7 @@ module _ (s : CoreState) (layout : IsLayout s.sizes) (w : IsSound s) where
       found_some : (b : Bool) → (length q.1.indices == 0) ≡ b → Keeps s (next (if b then ClaimingRecord c old else Viewing c old))
       found_some true none =
           let size = (size_few (next (ClaimingRecord c old)) (few_indices s.sizes.m q.1.indices named)).1 in
-          kept_as (next (ClaimingRecord c old)) (GettingSet c old) (ClaimingRecord c old) e refl refl refl refl w.asked buffers named w.rows h.0 (omega (arith, size, k.fewer))
+          kept_as (next (ClaimingRecord c old)) (GettingSet c old) (ClaimingRecord c old) e refl refl refl refl refl w.spare w.asked buffers named w.rows h.0 (omega (arith, size, k.fewer))
       found_some false some =
           let at_least : 0 < length q.1.indices = let not_none = eqb-false (length q.1.indices) 0 some in omega (arith, not_none) in
           let at_most = few_indices s.sizes.m q.1.indices named in
@@ -125,10 +140,10 @@ module _ (s : CoreState) (layout : IsLayout s.sizes) (w : IsSound s) where
           let together = viewed.fresh_together s.sizes true q.1.indices s.rows positions w.rows in
           let left = viewed.fresh_left s.sizes true q.1.indices s.rows in
           let most = most_mono s.sizes (length q.1.indices) s.sizes.m at_most in
-          kept_as (next (Viewing c old)) (GettingSet c old) (Viewing c old) e refl refl refl refl w.asked buffers named w.rows (h.0, together, refl, refl) (omega (arith, left, most, k.fewer))
+          kept_as (next (Viewing c old)) (GettingSet c old) (Viewing c old) e refl refl refl refl refl w.spare w.asked buffers named w.rows (h.0, together, refl, refl) (omega (arith, left, most, k.fewer))
 
       either : (o : Option Step) → finding.set_step_due q.0 ≡ o → Keeps s (option_map_or (λ _. on) o (next (if length q.1.indices == 0 then ClaimingRecord c old else Viewing c old)))
-      either (Some step) due = kept_as on (GettingSet c old) (GettingSet c old) e e refl refl refl w.asked buffers named w.rows (h.0, k.together, same, subst IsSome (sym due) refl)
+      either (Some step) due = kept_as on (GettingSet c old) (GettingSet c old) e e refl refl refl refl w.spare w.asked buffers named w.rows (h.0, k.together, same, subst IsSome (sym due) refl)
           (omega (arith, k.fewer))
       either None done = found_some (length q.1.indices == 0) refl
 
@@ -154,11 +169,11 @@ module _ (s : CoreState) (layout : IsLayout s.sizes) (w : IsSound s) where
       on = with_scanning s q
 
       either : (o : Option Step) → viewing.view_step_due s.found.indices q ≡ o → Keeps s (option_map_or (λ _. on) o (at_stage on (ClaimingRecord c old)))
-      either (Some step) due = kept_as on (Viewing c old) (Viewing c old) e e refl refl refl w.asked w.found same_indices rows (h.0, k.together, same, subst IsSome (sym due) refl)
+      either (Some step) due = kept_as on (Viewing c old) (Viewing c old) e e refl refl refl refl w.spare w.asked w.found same_indices rows (h.0, k.together, same, subst IsSome (sym due) refl)
           (omega (arith, k.fewer))
       either None done =
           let size = (size_few (at_stage on (ClaimingRecord c old)) few).1 in
-          kept_as (at_stage on (ClaimingRecord c old)) (Viewing c old) (ClaimingRecord c old) e refl refl refl refl w.asked w.found same_indices rows h.0 (omega (arith, size, k.fewer))
+          kept_as (at_stage on (ClaimingRecord c old)) (Viewing c old) (ClaimingRecord c old) e refl refl refl refl refl w.spare w.asked w.found same_indices rows h.0 (omega (arith, size, k.fewer))
 
   scanning_kept : (x : ℕ) → s.stage ≡ Scanning → viewing.IsPossibleInView (scanning s) x → Keeps s (advance_at s Scanning x)
   scanning_kept x e possible = either (viewing.view_step_due s.asked q) refl
@@ -182,16 +197,35 @@ module _ (s : CoreState) (layout : IsLayout s.sizes) (w : IsSound s) where
       on = with_scanning s q
 
       either : (o : Option Step) → viewing.view_step_due s.asked q ≡ o → Keeps s (option_map_or (λ _. on) o (at_stage on Leaving))
-      either (Some step) due = kept_as on Scanning Scanning e e refl refl refl w.asked w.found same_indices rows (k.together, same, subst IsSome (sym due) refl, h.3) (omega (arith, k.fewer))
-      either None done = kept_as (at_stage on Leaving) Scanning Leaving e refl refl refl refl w.asked w.found same_indices rows h.3 (omega (arith, k.fewer))
+      either (Some step) due = kept_as on Scanning Scanning e e refl refl refl refl w.spare w.asked w.found same_indices rows (k.together, same, subst IsSome (sym due) refl, h.3) (omega (arith, k.fewer))
+      either None done = kept_as (at_stage on Leaving) Scanning Leaving e refl refl refl refl refl w.spare w.asked w.found same_indices rows h.3 (omega (arith, k.fewer))
 
-  record_claimed : (c : Change) (old x : ℕ) → s.stage ≡ ClaimingRecord c old → IsPoolCount s.sizes x → (b : Bool) → fits_pool s.sizes (record_size s) x ≡ b →
-      Keeps s (if b then at_stage s (StoringRecord c old x 0) else pool_refused s)
-  record_claimed c old x e possible true fits =
-      let h = here (ClaimingRecord c old) e in
-      let size = (size_few s few).0 in
-      staying (ClaimingRecord c old) (StoringRecord c old x 0) e (h, in_pool s.sizes (record_size s) x possible fits, omega (arith, size)) (omega arith)
-  record_claimed c old x e possible false past = refused_pool (ClaimingRecord c old) e (omega arith)
+  -- the record goes into spare words, or into words that are claimed for it and for those ahead
+  record_placed : (c : Change) (old x : ℕ) → s.stage ≡ ClaimingRecord c old → IsPossibleAt s (ClaimingRecord c old) x → Keeps s (advance_at s (ClaimingRecord c old) x)
+  record_placed c old x e possible = record_cases s c old x (Keeps s) taken claimed (λ none past. refused_pool (ClaimingRecord c old) e (omega arith))
+    where
+      h : is_sound_at s (ClaimingRecord c old)
+      h = here (ClaimingRecord c old) e
+
+      size : plain_record_size ≤ record_size s
+      size = (size_few s few).0
+
+      taken : has_spare s ≡ true → Keeps s (into_spare s c old)
+      taken some =
+          let room = ltb-true (record_size s) (s.spare.size + 1) some in
+          let from = w.spare.0 in
+          let to = w.spare.1 in
+          kept_as (into_spare s c old) (ClaimingRecord c old) (StoringRecord c old s.spare.at 1) e refl refl refl refl refl (omega (arith, from), omega (arith, room, to)) w.asked w.found same_indices w.rows
+          (h, (from, omega (arith, room, to)), omega (arith, size)) (omega (arith, size))
+
+      claimed : has_spare s ≡ false → fits_pool s.sizes (claim_size s) x ≡ true → Keeps s (into_claim s c old x)
+      claimed none fits =
+          let count : IsPoolCount s.sizes x = subst (λ (b : Bool). IsRecordAnswer b s.sizes x) none possible in
+          let room = in_pool s.sizes (claim_size s) x count fits in
+          let from = room.0 in
+          let to = room.1 in
+          kept_as (into_claim s c old x) (ClaimingRecord c old) (StoringRecord c old x 0) e refl refl refl refl refl (omega (arith, from), omega (arith, to)) w.asked w.found same_indices w.rows
+          (h, (from, omega (arith, to)), omega (arith, size)) (omega arith)
 
   record_stored : (c : Change) (old at k : ℕ) → s.stage ≡ StoringRecord c old at k → (b : Bool) → (k + 1 == record_size s) ≡ b →
       Keeps s (at_stage s (if b then Exchanging c old at else StoringRecord c old at (k + 1)))
@@ -214,7 +248,7 @@ module _ (s : CoreState) (layout : IsLayout s.sizes) (w : IsSound s) where
   announcement_stored at k e true last =
       let h = here (StoringAnnouncement at k) e in
       let whole = eqb-true k (length s.asked) last in
-      kept_as (begin_joining s at) (StoringAnnouncement at k) Joining e refl refl refl refl w.asked w.found same_indices w.rows (h.0, h.1, refl, h.2, refl, refl) (omega (arith, whole))
+      kept_as (begin_joining s at) (StoringAnnouncement at k) Joining e refl refl refl refl refl w.spare w.asked w.found same_indices w.rows (h.0, h.1, refl, h.2, refl, refl) (omega (arith, whole))
   announcement_stored at k e false more =
       let h = here (StoringAnnouncement at k) e in
       let within = h.3 in
@@ -238,8 +272,8 @@ module _ (s : CoreState) (layout : IsLayout s.sizes) (w : IsSound s) where
           let after : join_left q.join.stage ≡ 1 = ap join_left is in
           let due : IsSome (step_of_join q.join) = subst (λ t. IsSome (join_step s.join.sizes s.join.announcement t)) (sym is) refl in
           let fits : IsTrue (fits_join s.join.sizes q.join.stage) = subst (λ t. IsTrue (fits_join s.join.sizes t)) (sym is) within in
-          kept_as q Joining Joining e e refl refl refl w.asked w.found same_indices w.rows (h.0, h.1, h.2, h.3, due, fits) (omega (arith, before, after))
-      claimed j false past = kept_as (slots_refused q) Joining (Finished (Reply.Refused Refused.SlotsSpent)) e refl refl refl refl w.asked w.found same_indices w.rows tt (omega arith)
+          kept_as q Joining Joining e e refl refl refl refl w.spare w.asked w.found same_indices w.rows (h.0, h.1, h.2, h.3, due, fits) (omega (arith, before, after))
+      claimed j false past = kept_as (slots_refused q) Joining (Finished (Reply.Refused Refused.SlotsSpent)) e refl refl refl refl refl w.spare w.asked w.found same_indices w.rows tt (omega arith)
 
       -- the store
       stored : (slot : ℕ) → s.join.stage ≡ Storing slot → Keeps s (after_joining q (Joined slot))
@@ -251,7 +285,7 @@ module _ (s : CoreState) (layout : IsLayout s.sizes) (w : IsSound s) where
           let positions : viewing.ArePositions s.sizes s.asked = record { some = h.0; few = w.asked.few; components = w.asked.each } in
           let together = viewed.fresh_together s.sizes false s.asked s.rows positions w.rows in
           let left = viewed.fresh_left s.sizes false s.asked s.rows in
-          kept_as (after_joining q (Joined slot)) Joining Scanning e refl refl refl refl w.asked w.found same_indices w.rows (together, refl, refl, (refl, omega (arith, below, slots), refl))
+          kept_as (after_joining q (Joined slot)) Joining Scanning e refl refl refl refl refl w.spare w.asked w.found same_indices w.rows (together, refl, refl, (refl, omega (arith, below, slots), refl))
           (omega (arith, before, left))
 
       by : (j : JoinStage) → s.join.stage ≡ j → Keeps s (after_joining q (join_after s.join.sizes j x))
@@ -267,14 +301,14 @@ module _ (s : CoreState) (layout : IsLayout s.sizes) (w : IsSound s) where
   kept_at (UpdateBegun c) x e possible = begun_kept c x e possible (expects c x)
   kept_at (GettingSet c old) x e possible = getting_kept c old x e possible
   kept_at (Viewing c old) x e possible = viewing_kept c old x e possible
-  kept_at (ClaimingRecord c old) x e possible = record_claimed c old x e possible (fits_pool s.sizes (record_size s) x) refl
+  kept_at (ClaimingRecord c old) x e possible = record_placed c old x e possible
   kept_at (StoringRecord c old at k) x e possible = record_stored c old at k e (k + 1 == record_size s) refl
   kept_at (Exchanging c old at) x e possible = staying (Exchanging c old at) (Finished (if x == old then Reply.Applied at else overtaken_reply c x)) e tt (omega arith)
   kept_at ScanBegun x e possible = announcement_claimed x e possible (fits_pool s.sizes (announcement_size (length s.asked)) x) refl
   kept_at (StoringAnnouncement at k) x e possible = announcement_stored at k e (k == length s.asked) refl
   kept_at Joining x e possible = joining_kept x e
   kept_at Scanning x e possible = scanning_kept x e possible
-  kept_at Leaving x e possible = kept_as (advance_at s Leaving x) Leaving (Finished (scanned_reply s)) e refl refl refl refl w.asked w.found same_indices w.rows tt (omega arith)
+  kept_at Leaving x e possible = kept_as (advance_at s Leaving x) Leaving (Finished (scanned_reply s)) e refl refl refl refl refl w.spare w.asked w.found same_indices w.rows tt (omega arith)
   kept_at (Finished r) x e possible = absurd possible
 
 pub kept : (s : CoreState) (x : ℕ) → IsLayout s.sizes → IsSound s → IsPossible s x → Keeps s (advance s x)

@@ -15,11 +15,11 @@ use Rattle.partial_machine.specs.Sound.{AreComponentIndices, IsSound, is_sound_a
 use Rattle.partial_machine.specs.Possible.{IsPossible}
 use Rattle.partial_machine.specs.Bounds.{most_steps, steps_left}
 
--- the step is a claim of pool words, no more than the greatest one, and this answer puts it past the end of the pool
+-- the step is a claim of pool words, no more than those of the greatest record and those ahead, and this answer puts it past the end of the pool
 pub record ClaimsPastPool (s : CoreState) (x : ℕ) : Type 0 where
   pub size : ℕ
   pub step : step_of s ≡ Some (Add (pool_counter s.sizes) size)
-  pub few : size ≤ greatest_record s.sizes
+  pub few : size ≤ greatest_record s.sizes + s.ahead
   pub past : pool_end s.sizes < x + size
 
 -- the step is the claim of a slot, and this answer puts it past the last one
@@ -58,11 +58,12 @@ refuses_slots _ = false
 
 -- what is known of the machine after a possible answer
 pub record IsBehind (s : CoreState) (x : ℕ) : Type 0 where
-  -- it is sound, with the same sizes, port and positions
+  -- it is sound, with the same sizes, port and positions, and as many words ahead
   pub sound : IsSound (advance s x)
   pub sizes : (advance s x).sizes ≡ s.sizes
   pub port : (advance s x).port ≡ s.port
   pub asked : (advance s x).asked ≡ s.asked
+  pub ahead : (advance s x).ahead ≡ s.ahead
   -- its call has made a step; it rests exactly with a reply, and else a step is due; there are fewer steps left
   pub begun : is_begun (advance s x).stage ≡ false
   pub rests : is_at_rest (advance s x).stage ≡ is_some (reply_of (advance s x))
@@ -108,7 +109,7 @@ CallsBegin = (s : CoreState) (c : Call) → AreComponentIndices s.sizes s.asked 
 
 -- a machine that has made no call is sound, and so is one whose reply was taken
 pub record RestsAreSound : Type 0 where
-  pub fresh : (z : Layout) (port : ℕ) → IsSound (fresh z port)
+  pub fresh : (z : Layout) (port : ℕ) → IsLayout z → IsSound (fresh z port)
   pub idle : (s : CoreState) → IsSound s → IsSound (at_stage s Idle)
 
 -- the mark for which a call is refused at once; an index needs none

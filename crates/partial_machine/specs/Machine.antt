@@ -1,10 +1,11 @@
 -- A port's machine: the step that is due, what an answer makes of it, and the reply.
-use Rattle.std.specs.Prelude.{ℕ, ◌+◌, ◌/◌, ◌==◌, Bool, true, false, List, [], length, map, slice_index, nat_lt, Option, Some, None, replicate, if◌then◌else◌}
+use Rattle.std.specs.Prelude.{ℕ, ◌+◌, ◌-◌, ◌/◌, ◌==◌, Bool, true, false, List, [], length, map, slice_index, nat_lt, Option, Some, None, replicate, if◌then◌else◌}
 use Rattle.std.specs.Option.{option_map_or}
 use Rattle.partial_model.specs.declared.call.Refused.{Refused}
+use Rattle.partial_words.specs.declared.block.Block.{Block}
 use Rattle.partial_words.specs.declared.step.Step.{Step}
 use Rattle.partial_words.specs.declared.step.Step.TheVariants.{Load, Store, Exchange, Add}
-use Rattle.partial_words.specs.Layout.{Layout, component_word, pool_counter, pool_end}
+use Rattle.partial_words.specs.Layout.{Layout, component_word, pool_counter, pool_end, no_spare}
 use Rattle.partial_words.specs.Record.{record_block, plain_record_size, full_record_size, value_word, own_view}
 use Rattle.partial_words.specs.Announcement.{announcement_block, announcement_size}
 use Rattle.partial_active.specs.Found.{Buffers}
@@ -19,14 +20,16 @@ use Rattle.partial_machine.specs.declared.stage.Reply.{Reply}
 use Rattle.partial_machine.specs.declared.stage.Stage.{Stage}
 use Rattle.partial_machine.specs.declared.stage.Stage.TheVariants.{Idle, ReadBegun, LoadingValue, UpdateBegun, GettingSet, Viewing, ClaimingRecord, StoringRecord, Exchanging, ScanBegun, StoringAnnouncement, Joining, Scanning, Leaving, Finished}
 
--- A port's machine: its marks for the pool and the slots (that for the list words is its getSet's), the
--- positions of its scan, the machines of the active set and of an embedded scan with their buffers, and
--- where it is in its call.
+-- A port's machine: its marks for the pool and the slots (that for the list words is its getSet's), how many words more
+-- than those of its record an update claims, the spare words that earlier claims left, the positions of its scan, the
+-- machines of the active set and of an embedded scan with their buffers, and where it is in its call.
 pub record CoreState : Type 0 where
   pub sizes : Layout
   pub port : ℕ
   pub pool_spent : Bool
   pub slots_spent : Bool
+  pub ahead : ℕ
+  pub spare : Block
   pub asked : List ℕ
   pub join : JoinState
   pub leave : LeaveState
@@ -55,6 +58,8 @@ fresh z port = record {
   port = port;
   pool_spent = false;
   slots_spent = false;
+  ahead = 0;
+  spare = no_spare z;
   asked = [];
   join = record { sizes = z; announcement = 0; stage = Claiming };
   leave = record { sizes = z; slot = 0; left = false };
@@ -103,6 +108,18 @@ abbrev pub record_size : CoreState → ℕ
 record_size s = option_map_or (λ _. plain_record_size) s.embedded.borrowed
     (if length s.found.indices == 0 then plain_record_size else full_record_size (length s.found.indices))
 
+-- whether the spare words have room for the record
+abbrev pub has_spare : CoreState → Bool
+has_spare s = nat_lt (record_size s) (s.spare.size + 1)
+
+-- how many words a claim for the record takes: its own, and those ahead
+abbrev pub claim_size : CoreState → ℕ
+claim_size s = record_size s + s.ahead
+
+-- The step that is due where the record needs words: the first store in spare words that have room for it, and else a claim.
+abbrev pub record_step : CoreState → ℕ → Step
+record_step s old = if has_spare s then Store s.spare.at old else Add (pool_counter s.sizes) (claim_size s)
+
 -- the step that is due at a stage
 abbrev pub step_at : CoreState → Stage → Option Step
 step_at s Idle = None
@@ -111,7 +128,7 @@ step_at s (LoadingValue stamp) = Some (Load (value_word stamp))
 step_at s (UpdateBegun c) = Some (Load (component_word s.sizes c.component))
 step_at s (GettingSet c old) = finding.set_step_due s.get_set
 step_at s (Viewing c old) = viewing.view_step_due s.found.indices (scanning s)
-step_at s (ClaimingRecord c old) = Some (Add (pool_counter s.sizes) (record_size s))
+step_at s (ClaimingRecord c old) = Some (record_step s old)
 step_at s (StoringRecord c old at k) = Some (Store (at + k) (slice_index (record_words s c old at) k))
 step_at s (Exchanging c old at) = Some (Exchange (component_word s.sizes c.component) old at)
 step_at s ScanBegun = Some (Add (pool_counter s.sizes) (announcement_size (length s.asked)))
@@ -144,6 +161,19 @@ pool_refused s = record s { pool_spent = true; stage = Finished (Reply.Refused R
 -- the port is marked for the slots, and the scan is refused
 abbrev pub slots_refused : CoreState → CoreState
 slots_refused s = record s { slots_spent = true; stage = Finished (Reply.Refused Refused.SlotsSpent) }
+
+-- the machine with these spare words
+abbrev pub with_spare : CoreState → ℕ → ℕ → CoreState
+with_spare s at size = record s { spare = record { at = at; size = size } }
+
+-- the first word of the record is stored in the spare words, which are shorter by the record then
+abbrev pub into_spare : CoreState → Change → ℕ → CoreState
+into_spare s c old =
+    at_stage (with_spare s (s.spare.at + record_size s) (s.spare.size - record_size s)) (StoringRecord c old s.spare.at 1)
+
+-- the words at x are claimed: the record stands first in them, and the others are the spare words
+abbrev pub into_claim : CoreState → Change → ℕ → ℕ → CoreState
+into_claim s c old x = at_stage (with_spare s (x + record_size s) s.ahead) (StoringRecord c old x 0)
 
 -- a getSet begins
 abbrev pub begin_getting : CoreState → Change → ℕ → CoreState
@@ -189,7 +219,8 @@ advance_at s (UpdateBegun c) x = if expects c x then begin_getting s c x else at
 advance_at s (GettingSet c old) x = after_getting (with_getting s (finding.advance_set (getting s) x)) c old
 advance_at s (Viewing c old) x = after_scanning (with_scanning s (viewing.advance_view s.found.indices (scanning s) x))
     s.found.indices (ClaimingRecord c old)
-advance_at s (ClaimingRecord c old) x = if fits_pool s.sizes (record_size s) x then at_stage s (StoringRecord c old x 0) else pool_refused s
+advance_at s (ClaimingRecord c old) x = if has_spare s then into_spare s c old
+    else (if fits_pool s.sizes (claim_size s) x then into_claim s c old x else pool_refused s)
 advance_at s (StoringRecord c old at k) x = at_stage s
     (if k + 1 == record_size s then Exchanging c old at else StoringRecord c old at (k + 1))
 advance_at s (Exchanging c old at) x = at_stage s (Finished (if x == old then Reply.Applied at else overtaken_reply c x))

@@ -1,7 +1,7 @@
 -- What is known of every port's machine, whatever was answered.
 use Rattle.std.specs.Prelude.{ℕ, ◌≡◌, ◌+◌, ◌<◌, ◌≤◌, ⊤, false, List, length, slice_index, IsSome, IsTrue, nat_eq}
 use Rattle.std.specs.List.{IsDistinct}
-use Rattle.partial_words.specs.Layout.{Layout, IsLayout, pool_base, pool_end}
+use Rattle.partial_words.specs.Layout.{Layout, IsLayout, pool_base, pool_end, most_ahead}
 use Rattle.partial_words.specs.Record.{own_view}
 use Rattle.partial_words.specs.Announcement.{announcement_size}
 use Rattle.partial_active.specs.Found.{AreFoundFor as AreBuffersFor}
@@ -65,6 +65,8 @@ pub record IsSound (s : CoreState) : Type 0 where
   pub indices : AreComponentIndices s.sizes s.found.indices
   pub distinct : IsDistinct nat_eq s.found.indices
   pub rows : viewing.AreRowsFor s.sizes s.rows
+  pub ahead : s.ahead ≤ most_ahead
+  pub spare : IsInPool s.sizes s.spare.at s.spare.size
   pub stage : is_sound_at s s.stage
 
 -- what holds of every port's machine, whose room for positions is given

@@ -1,8 +1,9 @@
 //! The state machine of one port.
 
-ghost use Rattle.std.specs.Prelude.{◌≡◌, ◌≢◌, ◌<◌, ◌≤◌, ◌+◌, ◌==◌, ◌↔◌, ◌∷◌, map, length, slice_index, nat_lt, if◌then◌else◌, IsTrue, IfOk, OnOk, IfErr, MatchOption, None};
+ghost use Rattle.std.specs.Prelude.{◌≡◌, ◌≢◌, ◌<◌, ◌≤◌, ◌+◌, ◌-◌, ◌==◌, ◌↔◌, ◌∷◌, map, length, slice_index, nat_lt, if◌then◌else◌, IsTrue, IfOk, OnOk, IfErr, MatchOption, None, true};
 ghost use Rattle.std.specs.List.{flat_map, list_all};
 ghost use Rattle.std.specs.Vec.{vec_capacity};
+ghost use Rattle.partial_words.specs.Layout.{no_spare};
 ghost use Rattle.partial_words.specs.Record.{pair_words, pairs_size, plain_record_size};
 ghost use Rattle.partial_machine.specs.declared.stage.Stage.TheVariants.{Idle, ReadBegun, UpdateBegun, GettingSet, Viewing, ClaimingRecord, StoringRecord, Exchanging, ScanBegun, StoringAnnouncement, Joining, Scanning, Leaving, Finished};
 ghost use Rattle.partial_machine.specs.declared.stage.Reply.TheVariants as reply;
@@ -17,7 +18,7 @@ use partial_active::{Found, GetSet, Join, Leave};
 use partial_embedded::{Embedded, Rows};
 use partial_model::{Answer, Call, Refused, Sequence};
 use partial_words::{
-    Sizes, Step, announcement_block_word, announcement_size, full_record_size, own_view,
+    Block, Sizes, Step, announcement_block_word, announcement_size, full_record_size, own_view,
     pairs_word, plain_record_size, prev_word, value_word, view_word,
 };
 use std::alloc::{AllocError, Global};
@@ -32,6 +33,8 @@ pub struct Core {
     port: u32,
     pool_spent: bool,
     slots_spent: bool,
+    ahead: u32,
+    spare: Block,
     asked: Vec<u32>,
     join: Join,
     leave: Leave,
@@ -54,6 +57,8 @@ impl Model for Core {
       port = c.port;
       pool_spent = c.pool_spent;
       slots_spent = c.slots_spent;
+      ahead = c.ahead;
+      spare = c.spare;
       asked = c.asked.items;
       join = c.join;
       leave = c.leave;
@@ -69,6 +74,8 @@ impl Model for Core {
       port = c.port;
       pool_spent = c.pool_spent;
       slots_spent = c.slots_spent;
+      ahead = c.ahead;
+      spare = c.spare;
       asked = c.asked.items;
       join = c.join;
       leave = c.leave;
@@ -81,7 +88,7 @@ impl Model for Core {
 }
 
 impl Core {
-    ghost use Rattle.partial_machine.specs.Machine.{fresh, lists_spent, at_stage, step_of, advance, advance_at, reply_of, scanned_values, record_size, record_words, view_at, pool_refused};
+    ghost use Rattle.partial_machine.specs.Machine.{fresh, lists_spent, at_stage, step_of, advance, advance_at, reply_of, scanned_values, record_size, has_spare, claim_size, record_step, with_spare, record_words, view_at, pool_refused};
     ghost use Rattle.partial_machine.specs.Calls.{begin_scan, core_read_refusal, core_update_refusal, core_scan_refusal, refusal_of, begun_of, answer_for, IsServed};
     ghost use Rattle.partial_machine.specs.Possible.{IsPossible, IsPossibleAt};
     ghost use Rattle.partial_machine.specs.Sound.{IsInPool};
@@ -98,6 +105,8 @@ impl Core {
             port,
             pool_spent: false,
             slots_spent: false,
+            ahead: 0,
+            spare: no_spare(sizes),
             asked: Vec::with_capacity(alloc, room)?,
             join: Join::new(sizes, 0),
             leave: Leave::new(sizes, 0),
@@ -267,9 +276,7 @@ impl Core {
             }
             Stage::GettingSet { .. } => self.get_set.step(),
             Stage::Viewing { .. } => self.embedded.step(&self.rows, self.found.indices()),
-            Stage::ClaimingRecord { .. } => {
-                Some(Step::Add(sizes.pool_counter(), self.record_size()))
-            }
+            Stage::ClaimingRecord { old, .. } => Some(self.record_step(old)),
             Stage::StoringRecord { change, old, at, k } => Some(Step::Store(
                 (at + k) as u32,
                 self.record_word(change, old, at, k),
@@ -303,6 +310,34 @@ impl Core {
             Some(_) => plain_record_size(),
             None if pairs == 0 => plain_record_size(),
             None => full_record_size(pairs),
+        }
+    }
+
+    /// Returns whether the spare words have room for the record of an update.
+    #[inline(always)]
+    pub fn has_spare(&self) -> bool
+        ensures { result ≡ has_spare self.now }
+    {
+        self.record_size() <= self.spare.size
+    }
+
+    /// Returns the number of words that an update claims for its record: its own, and those ahead.
+    #[inline(always)]
+    pub fn claim_size(&self) -> u64
+        ensures { result ≡ claim_size self.now }
+    {
+        self.record_size() + u64::from(self.ahead)
+    }
+
+    // The step by which an update begins its record: the first store in its spare words, or a claim.
+    #[inline(always)]
+    fn record_step(&self, old: u64) -> Step
+        ensures { result ≡ record_step self.now old }
+    {
+        if self.has_spare() {
+            Step::Store(self.spare.at as u32, old)
+        } else {
+            Step::Add(self.sizes.pool_counter(), self.claim_size())
         }
     }
 
@@ -375,7 +410,7 @@ impl Core {
             Stage::UpdateBegun { change } => self.after_component(change, answer),
             Stage::GettingSet { change, old } => self.after_set(change, old, answer),
             Stage::Viewing { change, old } => self.after_view(change, old, answer),
-            Stage::ClaimingRecord { change, old } => self.after_record_claim(change, old, answer),
+            Stage::ClaimingRecord { change, old } => self.after_record_begin(change, old, answer),
             Stage::StoringRecord { change, old, at, k } => self.after_record_store(
                 change, old, at, k,
             ),
@@ -443,24 +478,61 @@ impl Core {
         }
     }
 
-    // An update has claimed the words of its record.
+    // An update has stored the first word of its record in its spare words, or has claimed words for it.
     #[inline(always)]
-    fn after_record_claim(&mut self, change: Change, old: u64, at: u64)
+    fn after_record_begin(&mut self, change: Change, old: u64, x: u64)
         requires stage { self.old.stage ≡ ClaimingRecord change old }
-        requires possible { IsPossibleAt self.old (ClaimingRecord change old) at }
-        ensures { self.new ≡ advance_at self.old (ClaimingRecord change old) at }
+        requires possible { IsPossibleAt self.old (ClaimingRecord change old) x }
+        ensures { self.new ≡ advance_at self.old (ClaimingRecord change old) x }
     {
-        let size = self.record_size();
-        if at + size <= u64::from(self.sizes.pool_end()) {
+        if self.has_spare() {
+            let at = self.take_spare();
             self.stage = Stage::StoringRecord {
                 change,
                 old,
                 at,
+                k: 1,
+            };
+        } else if x + self.claim_size() <= u64::from(self.sizes.pool_end()) {
+            self.keep_claim(x);
+            self.stage = Stage::StoringRecord {
+                change,
+                old,
+                at: x,
                 k: 0,
             };
         } else {
             self.refuse_for_pool();
         }
+    }
+
+    // Takes the words of the record from the spare words, and returns the first of them.
+    #[inline(always)]
+    fn take_spare(&mut self) -> u64
+        requires { has_spare self.old ≡ true }
+        ensures at { result ≡ self.old.spare.at }
+        ensures machine { self.new ≡ with_spare self.old (self.old.spare.at + record_size self.old)
+            (self.old.spare.size - record_size self.old) }
+    {
+        let Block { at, size } = self.spare;
+        let record = self.record_size();
+        self.spare = Block {
+            at: at + record,
+            size: size - record,
+        };
+        at
+    }
+
+    // Keeps the words after the record of those that were claimed at `at`, in place of the spare words.
+    #[inline(always)]
+    fn keep_claim(&mut self, at: u64)
+        requires { IsInPool self.old.sizes at (claim_size self.old) }
+        ensures { self.new ≡ with_spare self.old (at + record_size self.old) self.old.ahead }
+    {
+        self.spare = Block {
+            at: at + self.record_size(),
+            size: u64::from(self.ahead),
+        };
     }
 
     // An update has stored word k of its record.
@@ -624,6 +696,16 @@ impl Core {
             Reply::Refused(cause) => Answer::Refused { cause },
             Reply::Changed { by } => Answer::Changed { by },
         })
+    }
+}
+
+// No words that a port has claimed and keeps.
+fn no_spare(sizes: Sizes) -> Block
+    ensures { result ≡ no_spare sizes }
+{
+    Block {
+        at: u64::from(sizes.first_free()),
+        size: 0,
     }
 }
 

@@ -69,7 +69,7 @@ pub enum Stage {
         change: Change,
         old: u64,
     },
-    /// Claim the words of the record from the pool.
+    /// Claim words for the record from the pool, or store its first word where the port has spare words for it.
     ClaimingRecord {
         change: Change,
         old: u64,

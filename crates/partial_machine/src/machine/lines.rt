@@ -3,7 +3,8 @@
 //! with its slot, and the machines of a getSet and of an embedded scan. The port's machine stays
 //! idle. It keeps the marks, what was found and the rows.
 
-ghost use Rattle.std.specs.Prelude.{◌≡◌, ◌==◌, length, map, slice_index, Some, None, true, false, IfOk, OnOk, IfErr};
+ghost use Rattle.std.specs.Prelude.{◌≡◌, ◌≤◌, ◌==◌, length, map, slice_index, Some, None, true, false, IfOk, OnOk, IfErr};
+ghost use Rattle.partial_words.specs.Layout.{most_ahead, no_spare};
 ghost use Rattle.partial_active.specs.GetSet.{fresh_set as unmarked, set_step_due};
 ghost use Rattle.partial_embedded.specs.Embedded.{ViewGoesTogether, fresh_view};
 ghost use Rattle.partial_embedded.specs.declared.embedded.Stage.TheVariants.{Done};
@@ -11,13 +12,13 @@ ghost use Rattle.partial_machine.specs.declared.stage.Stage.TheVariants.{Idle};
 ghost use Rattle.partial_machine.specs.Calls.{core_scan_refusal, core_update_refusal};
 ghost use Rattle.partial_machine.specs.Lines.{set_begun, with_embedded, with_set};
 ghost use Rattle.partial_machine.specs.Machine.{getting};
-ghost use Rattle.partial_machine.specs.Sound.{AreComponentIndices};
+ghost use Rattle.partial_machine.specs.Sound.{AreComponentIndices, IsInPool};
 
-use super::{Core, all_below};
+use super::{Core, all_below, no_spare};
 use partial_active::{GetSet, Steps};
 use partial_embedded::{Embedded, Loads};
 use partial_model::Refused;
-use partial_words::Sizes;
+use partial_words::{Block, Sizes};
 
 impl Core {
     /// Returns the sizes of the memory.
@@ -201,6 +202,47 @@ impl Core {
         self.rows.last()
     }
 
+    /// From now on an update claims this many words more than those of its record, and the port keeps them for later
+    /// records.
+    #[inline(always)]
+    pub fn claim_ahead(&mut self, words: u32)
+        requires idle { self.old.stage ≡ Idle }
+        requires few { words ≤ most_ahead }
+        ensures { self.new ≡ record self.old { ahead = words } }
+    {
+        self.ahead = words;
+    }
+
+    /// Returns how many words more than those of its record an update claims.
+    #[inline(always)]
+    pub fn ahead(&self) -> u32
+        ensures value { result ≡ self.now.ahead }
+        ensures few { result ≤ most_ahead }
+    {
+        let Core { ahead, .. } = self;
+        *ahead
+    }
+
+    /// Returns the spare words of the port: those that it has claimed and keeps for later records.
+    #[inline(always)]
+    pub fn spare(&self) -> Block
+        ensures value { result ≡ self.now.spare }
+        ensures within { IsInPool self.now.sizes result.at result.size }
+    {
+        let Core { spare, .. } = self;
+        *spare
+    }
+
+    /// Stores these words as the port's spare words, in place of those that it had.
+    #[inline(always)]
+    pub fn keep_spare(&mut self, spare: Block)
+        requires idle { self.old.stage ≡ Idle }
+        requires within { IsInPool self.old.sizes spare.at spare.size }
+        ensures { self.new ≡ record self.old { spare = spare } }
+    {
+        self.spare = spare;
+    }
+
     /// Marks the port for the slots.
     #[inline(always)]
     pub fn mark_slots(&mut self)
@@ -219,13 +261,19 @@ impl Core {
         self.pool_spent = true;
     }
 
-    /// Takes all marks off the port. It has entered words where it has made no claim.
+    /// Takes all marks and spare words off the port. It has entered words where it has made no claim.
     pub fn clear_marks(&mut self)
         requires { self.old.stage ≡ Idle }
-        ensures { self.new ≡ record self.old { pool_spent = false; slots_spent = false; get_set = unmarked self.old.sizes false } }
+        ensures { self.new ≡ record self.old {
+          pool_spent = false;
+          slots_spent = false;
+          spare = no_spare self.old.sizes;
+          get_set = unmarked self.old.sizes false;
+        } }
     {
         self.pool_spent = false;
         self.slots_spent = false;
+        self.spare = no_spare(self.sizes);
         self.get_set = GetSet::new(self.sizes, false);
     }
 }

@@ -14,6 +14,8 @@ invariant_of-result c =
         indices = rw c.in_ok-new.ensures.indices (record { few = omega arith; each = none.each });
         distinct = rw c.in_ok-new.ensures.indices none.distinct;
         rows = c.in_ok-new-2.ensures.sizes;
+        ahead = omega arith;
+        spare = rw (c.no_spare.ensures) (let pool = c.m-room.ensures.sizes.pool.0 in (omega arith, omega (arith, pool)));
         stage = tt;
       };
       enough = omega (arith, c.in_ok-with_capacity.ensures.capacity, c.m-room.ensures.value);
