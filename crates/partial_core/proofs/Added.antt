@@ -1,5 +1,5 @@
 -- The entry that a step adds to the history: by the stage of the machine that makes it, and by the step and the words.
-use Rattle.partial_core.proofs.{Common.{ℕ, ◌≡◌, ◌<◌, ◌≤◌, ◌==◌, Bool, true, false, Some, None, List, [], ◌∷◌, length, slice_index, refl, sym, ap, subst, ◌∙◌, arith, ⊤, nat_lt, is_some, if◌then◌else◌, lt-ltb, Applied, Step, Load, Store, Exchange, Add, Layout, slot_word, record_value, view_word, answer_of, join_step, JoinStage, Claiming, Storing, Joined, Spent, Change, Stage, CoreState, step_at, is_sound_at, added_by, PublishesWithin}, MidCalls.view_loads}
+use Rattle.partial_core.proofs.{Common.{ℕ, ◌≡◌, ◌<◌, ◌≤◌, ◌==◌, Bool, true, false, Some, None, List, [], ◌∷◌, length, slice_index, refl, sym, ap, subst, ◌∙◌, arith, ⊤, nat_lt, is_some, if◌then◌else◌, lt-ltb, Applied, Step, Load, Store, Exchange, Add, Layout, slot_word, record_value, view_word, answer_of, join_step, JoinStage, Claiming, Storing, Joined, Spent, Change, Stage, CoreState, step_at, is_sound_at, added_by, PublishesWithin, record_step_cases}, MidCalls.view_loads}
 use Rattle.partial_model.proofs.ListLemmas.{some_same}
 use Rattle.partial_active.specs.declared.get_set.Stage.{Stage as SetStage}
 use Rattle.partial_active.specs.declared.get_set.Stage.TheVariants as set
@@ -91,7 +91,7 @@ step_adds z port s words (GettingSet c old) step sizes sound e f = adds_quiet z 
     (subst (λ (y : Layout). IsQuiet y step) (sound.2 ∙ sizes) (getting_at s.get_set.sizes s.get_set.head s.get_set.stage step e)) (λ a. refl)
 step_adds z port s words (Viewing c old) step sizes sound e f = adds_quiet z port (Viewing c old) words step
     (viewing_at z s.embedded.sizes s.found.indices s.rows.last s.embedded.stage step e) (λ a. refl)
-step_adds z port s words (ClaimingRecord c old) step sizes sound e f = adds_quiet z port (ClaimingRecord c old) words step (subst (IsQuiet z) (some_same e) tt) (λ a. refl)
+step_adds z port s words (ClaimingRecord c old) step sizes sound e f = adds_quiet z port (ClaimingRecord c old) words step (subst (IsQuiet z) (some_same e) (record_step_cases s old (IsQuiet z) (λ _. tt) (λ _. tt))) (λ a. refl)
 step_adds z port s words (StoringRecord c old at k) step sizes sound e f = adds_quiet z port (StoringRecord c old at k) words step (subst (IsQuiet z) (some_same e) tt) (λ a. refl)
 step_adds z port s words (Exchanging c old at) step sizes sound e f = subst (StepAdds z port (Exchanging c old at) words) (some_same e) (exchange_adds z port words c old at (f c old at refl))
 step_adds z port s words ScanBegun step sizes sound e f = adds_quiet z port ScanBegun words step (subst (IsQuiet z) (some_same e) tt) (λ a. refl)

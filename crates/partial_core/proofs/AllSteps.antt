@@ -1,5 +1,5 @@
 -- The one law of steps, over all stages, and how a call begins.
-use Rattle.partial_core.proofs.{Common.{ℕ, ◌≡◌, ◌<◌, ◌≤◌, ◌++◌, ◌⊎◌, Bool, true, false, if◌then◌else◌, Some, None, List, [], ◌∷◌, length, take, slice_index, refl, sym, ap, subst, ◌∙◌, inl, inr, arith, IfSome, false≢true, append-nil, take_all, Applied, Opening, LegalNotes, seen_by, places_by, Step, Add, Layout, IsLayout, pool_counter, list_base, pool_end, total, announcement_size, answer_of, words_after, Change, Stage, CoreState, lists_spent, record_size, advance, step_at, step_of, reply_of, is_begun, is_at_rest, IsPossible, IsBehind, size_few, answers_lead_on, Holding, unpublished, other_holdings, IsDue, IsLoaded, IsPublished, loads_are_true, Part, core_of, port_of, HasBegun, IsLedTo, IsMarkedLike, has_no_step, holding_of, holdings, joined_since, IsKnown, begun_with, kept_with, since_with, past_with, added_by, AreNotesOf, LeadsOn, StepsStayLawful, PartAmong, LawfulAmong, memory_after}, Added.{added_at, IsExchange, StepAdds, step_adds}, Parts.{IsKeptAmong, changed, gone, gone_core, all_at, holdings_split, once_same}, Ports.fits_here, Steps.{LeadsAt, holding_in, known_here, sizes_here, sound_here, sound_at, port_here, memory_here, memory_at}, Reading.{read_begun, value_loaded, update_begun, viewing_leads, scanning_leads}, GetSetSteps.getting_leads, Claims.{record_claimed, announcement_claimed, announcement_stored}, Joins.{same_step, joining_leads}, Leaves.{leave_due, leaves}, Exchange.record_exchanged, Stored.record_stored}
+use Rattle.partial_core.proofs.{Common.{ℕ, ◌≡◌, ◌<◌, ◌≤◌, ◌++◌, ◌⊎◌, Bool, true, false, if◌then◌else◌, Some, None, List, [], ◌∷◌, length, take, slice_index, refl, sym, ap, subst, ◌∙◌, inl, inr, arith, IfSome, false≢true, append-nil, take_all, Applied, Opening, LegalNotes, seen_by, places_by, Step, Add, Layout, IsLayout, pool_counter, list_base, pool_end, total, announcement_size, answer_of, words_after, Change, Stage, CoreState, lists_spent, record_size, advance, step_at, step_of, reply_of, is_begun, is_at_rest, IsPossible, IsBehind, size_few, answers_lead_on, Holding, unpublished, without_block, IsDue, IsLoaded, IsPublished, loads_are_true, Part, core_of, port_of, HasBegun, IsLedTo, IsMarkedLike, has_no_step, holding_of, holdings, joined_since, IsKnown, begun_with, kept_with, since_with, past_with, added_by, AreNotesOf, LeadsOn, StepsStayLawful, PartAmong, LawfulAmong, memory_after, record_step}, Added.{added_at, IsExchange, StepAdds, step_adds}, Parts.{IsKeptAmong, changed, gone, gone_core, all_at, holdings_split, once_same}, Ports.fits_here, Steps.{LeadsAt, holding_in, known_here, sizes_here, sound_here, sound_at, port_here, memory_here, memory_at}, Reading.{read_begun, value_loaded, update_begun, viewing_leads, scanning_leads}, GetSetSteps.getting_leads, Claims.{record_begun, announcement_claimed, announcement_stored}, Joins.{same_step, joining_leads}, Leaves.{leave_due, leaves}, Exchange.record_exchanged, Stored.record_stored}
 use Rattle.partial_machine.specs.declared.stage.Stage.TheVariants.{Idle, ReadBegun, LoadingValue, UpdateBegun, GettingSet, Viewing, ClaimingRecord, StoringRecord, Exchanging, ScanBegun, StoringAnnouncement, Joining, Scanning, Leaving, Finished}
 
 -- the part with its call begun
@@ -32,7 +32,7 @@ started_same c x begun = ap (λ (b : Bool). record {
 
 -- what a machine holds that has no call under way, or one that has made no step
 abbrev bare : CoreState → Holding
-bare s = record { port = s.port; claimed = None; own = None; due = None; pool_spent = s.pool_spent; slots_spent = s.slots_spent; lists_spent = lists_spent s }
+bare s = record { port = s.port; claimed = None; own = None; due = None; spare = s.spare; pool_spent = s.pool_spent; slots_spent = s.slots_spent; lists_spent = lists_spent s }
 
 -- the same of a machine with the same marks
 like_holds : (s c : CoreState) → IsMarkedLike s c → bare c ≡ bare s
@@ -41,6 +41,7 @@ like_holds s c like =
     ∙ ap (λ f. record (bare c) { port = s.port; pool_spent = f }) like.pool
     ∙ ap (λ f. record (bare c) { port = s.port; pool_spent = s.pool_spent; slots_spent = f }) like.slots
     ∙ ap (λ f. record (bare c) { port = s.port; pool_spent = s.pool_spent; slots_spent = s.slots_spent; lists_spent = f }) like.lists
+    ∙ ap (λ b. record (bare s) { spare = b }) like.spare
 
 begun_holds : (s : CoreState) (t : Stage) (n : ℕ) → is_begun t ≡ true → holding_in s t n ≡ bare s
 begun_holds s (ReadBegun j) n is = refl
@@ -109,9 +110,7 @@ module _ (z : Layout) (o : Opening) (m : PartAmong) (w : LawfulAmong z o m) wher
   leads_stage (UpdateBegun c) step e due = subst (LeadsAt z o m (UpdateBegun c)) (same_step due) (update_begun z o m w c e)
   leads_stage (GettingSet c old) step e due = getting_leads z o m w c old step e due
   leads_stage (Viewing c old) step e due = viewing_leads z o m w c old step e due
-  leads_stage (ClaimingRecord c old) step e due = subst (LeadsAt z o m (ClaimingRecord c old))
-      (same_step (ap (λ (y : Layout). Some (Add (pool_counter y) (record_size (core_of x)))) (sym (sizes_here z o m w)) ∙ due))
-      (record_claimed z o m w c old e)
+  leads_stage (ClaimingRecord c old) step e due = subst (LeadsAt z o m (ClaimingRecord c old)) (same_step due) (record_begun z o m w c old e)
   leads_stage (StoringRecord c old at k) step e due = subst (LeadsAt z o m (StoringRecord c old at k)) (same_step due)
       (record_stored z o m w c old at k e)
   leads_stage (Exchanging c old at) step e due = subst (LeadsAt z o m (Exchanging c old at)) (same_step due)
@@ -167,7 +166,7 @@ module _ (z : Layout) (o : Opening) (m : PartAmong) (c : CoreState) (step : Step
       let memory = memory_at z o begun w (Exchanging d old at) e in
       let held = holding_in (core_of (started c x)) (Exchanging d old at) (joined_since (started c x)) in
       let all = holdings before ++ held ∷ holdings after in
-      let here = all_at (λ (h : Holding). IfSome h.due (IsDue z o words h (other_holdings h.port all) log)) (holdings before) held (holdings after) memory.due in
+      let here = all_at (λ (h : Holding). IfSome h.due (IsDue z o words h (without_block h.port all) log)) (holdings before) held (holdings after) memory.due in
       let sound = sound_at z o begun w (Exchanging d old at) e in
       let whole = sound_here z o begun w in
       let size = (size_few (core_of (started c x)) whole.indices.few).0 in

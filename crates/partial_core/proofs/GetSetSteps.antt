@@ -18,6 +18,7 @@ in_set s own spent = record {
   claimed = None;
   own = own;
   due = None;
+  spare = s.spare;
   pool_spent = s.pool_spent;
   slots_spent = s.slots_spent;
   lists_spent = spent;

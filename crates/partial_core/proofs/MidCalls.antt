@@ -1,5 +1,5 @@
 -- What a machine in the middle of a call knows by the answers that it has kept, in lawful words.
-use Rattle.partial_core.proofs.Common.{nat_lt, slice_index, option_map_or, false≢true, cond_both, eqb-true, Applied, Opening, stamp_of, Step, Load, Store, Exchange, Add, Layout, value_word, view_word, join_after, join_step, JoinStage, Claiming, Storing, Spent, Change, CoreState, at_stage, getting, scanning, with_getting, with_scanning, record_size, expects, fits_pool, pool_refused, begin_joining, after_getting, after_scanning, after_joining, advance_at, step_at, IsSound, is_sound_at, IsPossibleAt, Holding, LawfulWords, KeptAnswer, getsets_know, embedded_scans_know, is_storing, joins_at, IsTrueYet}
+use Rattle.partial_core.proofs.Common.{nat_lt, slice_index, option_map_or, false≢true, cond_both, eqb-true, Applied, Opening, stamp_of, Step, Load, Store, Exchange, Add, Layout, value_word, view_word, join_after, join_step, JoinStage, Claiming, Storing, Spent, Change, CoreState, at_stage, getting, scanning, with_getting, with_scanning, record_size, expects, fits_pool, pool_refused, begin_joining, after_getting, after_scanning, after_joining, advance_at, step_at, IsSound, is_sound_at, IsPossibleAt, Holding, LawfulWords, KeptAnswer, getsets_know, embedded_scans_know, is_storing, joins_at, IsTrueYet, record_cases, into_spare, into_claim}
 use Rattle.std.proofs.Common.{ℕ, ◌≡◌, ◌+◌, ◌≤◌, ◌==◌, ◌⊎◌, ◌&&◌, ◌||◌, Bool, true, false, if◌then◌else◌, Option, Some, None, IsSome, List, length, take, inl, inr, refl, sym, subst, ◌∙◌, arith}
 use Rattle.partial_active.specs.declared.join.JoinStage.TheVariants.{Joined as JoinedIn}
 use Rattle.partial_active.specs.GetSet as finding
@@ -268,8 +268,8 @@ module _ (z : Layout) (o : Opening) (words : List ℕ) (hs : List Holding) (log 
   on_at (UpdateBegun c) e knows possible yet = absurd knows
   on_at (GettingSet c old) e knows possible yet = getting_on c old e knows possible yet
   on_at (Viewing c old) e knows possible yet = viewing_on c old e knows yet
-  on_at (ClaimingRecord c old) e knows possible yet = cond_both (fits_pool s.sizes (record_size s) k.answer) (at_stage s (StoringRecord c old k.answer 0)) (pool_refused s)
-      (λ (t : CoreState). Knows z o words hs log begun first since k.at t) (λ fits. knows) (λ refused. tt)
+  on_at (ClaimingRecord c old) e knows possible yet = record_cases s c old k.answer (λ (t : CoreState). Knows z o words hs log begun first since k.at t) (λ some. knows) (λ none fits. knows)
+      (λ none refused. tt)
   on_at (StoringRecord c old at n) e knows possible yet = cond_both (n + 1 == record_size s) (Exchanging c old at) (StoringRecord c old at (n + 1))
       (λ (u : Stage). Knows z o words hs log begun first since k.at (at_stage s u)) (λ last. knows) (λ more. knows)
   on_at (Exchanging c old at) e knows possible yet = tt

@@ -1,5 +1,5 @@
 -- Lawful words are orderly, and the due step of a port moves a slot only as it may.
-use Rattle.partial_core.proofs.{Common.{ℕ, ◌≡◌, ◌≢◌, ◌+◌, ◌<◌, ◌≤◌, ◌==◌, ◌⊎◌, ◌++◌, if◌then◌else◌, Option, Some, None, IfSome, IsSome, List, ◌∷◌, length, inl, inr, refl, sym, ap, subst, ◌∙◌, arith, get_or-set_other, get_or-set_same, length-set, IsTrue, nat_lt, slice_index, ltb-true, eqb_tells, Applied, Opening, Step, Load, Store, Exchange, Add, Layout, slot_counter, list_head, pool_counter, list_counter, slot_word, list_base, word_of, words_after, announcement_block, announcement_size, list_block, length-pairs, value_word, Orderly, IsSlotMove, IsSlotOf, IsHeadOf, slot_at, JoinedAnnouncement, IsHead, Pool, Lists, Holding, ClaimedSlot, Own, Space, space_begin, unpublished, LawfulWords, IsOwn, IsTied, IsClaim, IsSlotAnswer, loads_are_true, if_some_at, join_step, fits_join, JoinStage, Claiming, Storing, Spent, Stage, CoreState, getting, record_size, record_words, step_at, step_of, is_sound_at, HasBegun, IsLedTo, IsMachineOf, core_of, holding_of, holdings, joined_since, own_list, own_at, slot_claimed, LawfulIsOrderly, PartAmong, LawfulAmong, ListWords, counter_bound}, MidCalls.view_loads, Steps.{holding_in, sizes_here, sound_at, memory_here, memory_at}, StoredFacts.length_record, Leaves.leave_due, AllSteps.{fresh_call, begin_lawful}, Parts.all_at}
+use Rattle.partial_core.proofs.{Common.{ℕ, ◌≡◌, ◌≢◌, ◌+◌, ◌<◌, ◌≤◌, ◌==◌, ◌⊎◌, ◌++◌, if◌then◌else◌, Option, Some, None, IfSome, IsSome, List, ◌∷◌, length, inl, inr, refl, sym, ap, subst, ◌∙◌, arith, get_or-set_other, get_or-set_same, length-set, IsTrue, nat_lt, slice_index, ltb-true, eqb_tells, Applied, Opening, Step, Load, Store, Exchange, Add, Layout, slot_counter, list_head, pool_counter, list_counter, slot_word, list_base, word_of, words_after, announcement_block, announcement_size, list_block, length-pairs, value_word, Orderly, IsSlotMove, IsSlotOf, IsHeadOf, slot_at, JoinedAnnouncement, IsHead, Pool, Lists, Holding, ClaimedSlot, Own, Space, space_begin, unpublished, LawfulWords, IsOwn, IsTied, IsClaim, IsSlotAnswer, loads_are_true, if_some_at, join_step, fits_join, JoinStage, Claiming, Storing, Spent, Stage, CoreState, getting, record_size, record_words, step_at, step_of, is_sound_at, HasBegun, IsLedTo, IsMachineOf, core_of, holding_of, holdings, joined_since, own_list, own_at, slot_claimed, LawfulIsOrderly, PartAmong, LawfulAmong, ListWords, counter_bound, record_step, record_step_cases, has_spare}, MidCalls.view_loads, Steps.{holding_in, sizes_here, sound_at, memory_here, memory_at}, StoredFacts.length_record, Leaves.leave_due, AllSteps.{fresh_call, begin_lawful}, Parts.all_at}
 use Rattle.partial_active.specs.declared.join.JoinStage.TheVariants.{Joined as JoinedIn}
 use Rattle.partial_active.specs.GetSet as finding
 use Rattle.partial_active.specs.GetSetAnswers.{set_goes_at}
@@ -33,14 +33,15 @@ module _ (z : Layout) (o : Opening) (words : List ℕ) (hs : List Holding) (log 
 pub lawful_is_orderly : LawfulIsOrderly
 lawful_is_orderly z o words parts log w = orderly_words z o words (holdings parts) log w.memory
 
--- What a step touches: nothing, a word before the slots, the next word of a block of its port's own, or a slot
--- that is EMPTY and takes a reference, or that holds one and becomes VACATED.
+-- What a step touches: nothing, a word before the slots, the next word of a block of its port's own, a slot that is EMPTY
+-- and takes a reference, or that holds one and becomes VACATED, or a word of the lists or the pool.
 abbrev pub Touches : Layout → List ℕ → Option Own → Step → Type 0
 Touches z words own step =
     ((n : ℕ) × (step ≡ Load n))
     ⊎ (word_of step < slot_word z 0)
     ⊎ ((b : Own) × (v : ℕ) × (own ≡ Some b) × (b.stored < length b.words) × (step ≡ Store (b.at + b.stored) v))
     ⊎ ((l v : ℕ) × (l < z.slots) × (step ≡ Store (slot_word z l) v) × (((slice_index words (slot_word z l) ≡ 0) × (1 < v)) ⊎ ((v ≡ 1) × (1 < slice_index words (slot_word z l)))))
+    ⊎ (list_base z ≤ word_of step)
 
 -- a word that a step isn't about stays
 elsewhere : (words : List ℕ) (step : Step) (n : ℕ) → n ≢ word_of step → slice_index (words_after words step) n ≡ slice_index words n
@@ -82,7 +83,8 @@ module _ (z : Layout) (o : Opening) (words : List ℕ) (before : List Holding) (
       let from = own_far own.0 own.2 in
       let is : word_of step ≡ own.0.at + own.0.stored = ap word_of own.4 in
       inl (elsewhere words step (slot_word z l) (λ same. omega (arith, from, is, below, same)))
-  slot_moves step later (inr (inr (inr slot))) l below =
+  slot_moves step later (inr (inr (inr (inr far)))) l below = inl (elsewhere words step (slot_word z l) (λ same. omega (arith, far, below, same)))
+  slot_moves step later (inr (inr (inr (inl slot)))) l below =
       let n = slot.0 in
       let v = slot.1 in
       let inside = slot.2 in
@@ -168,7 +170,7 @@ module _ (z : Layout) (o : Opening) (m : PartAmong) (w : LawfulAmong z o m) wher
           let is' : Store (slot_word s.join.sizes slot) s.join.announcement ≡ Store (slot_word z slot) s.join.announcement
           = ap (λ (y : Layout). Store (slot_word y slot) s.join.announcement) join_sizes in
           touches_same z words (own_at s Joining) (Store (slot_word s.join.sizes slot) s.join.announcement) step due'
-          (inr (inr (inr (slot, s.join.announcement, below, is', inl (mine.holds, omega (arith, far))))))
+          (inr (inr (inr (inl (slot, s.join.announcement, below, is', inl (mine.holds, omega (arith, far)))))))
       by_stage (JoinedIn slot) is = let bad : None ≡ Some step = sym (ap (λ (j : JoinStage). join_step s.join.sizes s.join.announcement j) is) ∙ due in absurd cc
       by_stage Spent is = let bad : None ≡ Some step = sym (ap (λ (j : JoinStage). join_step s.join.sizes s.join.announcement j) is) ∙ due in absurd cc
 
@@ -181,8 +183,10 @@ module _ (z : Layout) (o : Opening) (m : PartAmong) (w : LawfulAmong z o m) wher
       (getting s) step (sound.2 ∙ sizes) sound.1.stage due
   touches_at (Viewing c old) step e due = let load = view_loads s.embedded.sizes s.found.indices s.rows.last s.embedded.stage (subst (λ (f : Option Step). IsSome f) (sym due) refl) in touches_same z
       words None (Load load.0) step (sym load.1 ∙ due) (inl (load.0, refl))
-  touches_at (ClaimingRecord c old) step e due = touches_same z words None (Add (pool_counter s.sizes) (record_size s)) step due
-      (inr (inl (let m = ap (λ (l : Layout). l.m) sizes in omega (arith, m))))
+  touches_at (ClaimingRecord c old) step e due = touches_same z words None (record_step s old) step due
+      (record_step_cases s old (Touches z words None)
+      (λ some. inr (inr (inr (inr (let from = (sound_here z o m w).spare.0 in of_size (λ (y : Layout). list_base y ≤ (core_of x).spare.at) (omega (arith, from)))))))
+      (λ none. inr (inl (let m = ap (λ (l : Layout). l.m) sizes in omega (arith, m)))))
   touches_at (StoringRecord c old at k) step e due =
       let sound = sound_at z o m w (StoringRecord c old at k) e in
       let less = sound.2 in
@@ -217,7 +221,7 @@ module _ (z : Layout) (o : Opening) (m : PartAmong) (w : LawfulAmong z o m) wher
       let same = stands.0 in
       let from = stands.2.whole.from in
       touches_same z words None (Store (slot_word z s.leave.slot) 1) step (sym (leave_due z o m w e) ∙ due)
-      (inr (inr (inr (s.leave.slot, 1, below, refl, inr (refl, omega (arith, same, from))))))
+      (inr (inr (inr (inl (s.leave.slot, 1, below, refl, inr (refl, omega (arith, same, from)))))))
   touches_at (Finished r) step e due = let bad : None ≡ Some step = due in absurd cc
 
   core_moves : (step : Step) → step_of s ≡ Some step → Orderly z (words_after words step) → (l : ℕ) → l < z.slots → IsSlotMove z words (words_after words step) l

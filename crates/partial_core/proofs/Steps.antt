@@ -33,6 +33,7 @@ holding_in s stage since = record {
   claimed = claimed_at s stage since;
   own = own_at s stage;
   due = due_at stage;
+  spare = s.spare;
   pool_spent = s.pool_spent;
   slots_spent = s.slots_spent;
   lists_spent = lists_spent s;

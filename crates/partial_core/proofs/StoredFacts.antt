@@ -1,5 +1,5 @@
 -- The record that an update writes: how many words it has, and what its view shows once all of them stand.
-use Rattle.partial_core.proofs.Common.{ℕ, ◌≡◌, ◌≢◌, ◌+◌, ◌<◌, ◌≤◌, ◌==◌, ◌++◌, ◌⊎◌, Bool, true, false, if◌then◌else◌, suc, zero, Option, Some, None, List, [], ◌∷◌, length, slice_index, slice_get, take, map, inl, inr, refl, sym, ap, subst, ◌∙◌, arith, Contains, nat_eq, AllByRecursion, IsDistinct, option_map_or, option_map, ne_eqb, eq-eqb, eqb-true, eqb-false, or_cases, false≢true, length-map, Applied, Opening, stamp_of, value_of, place_below, Layout, record_block, view_block, StandsAt, ReadsBackRecord, prev_of, view_of, own_view, plain_record_size, full_record_size, length-record_block, reads_back, has_index, Change, CoreState, record_words, record_size, own_pairs, view_at, scanning, AreComponentIndices, IsViewOf, Block, JoinedAnnouncement, HasPairs, IsView, HasFreshView, IsWithin, IsBegunSince, Covers, ViewNames, AreApart, IsApartFrom, Own, Holding, EachTwo, IfJoined, HaveOtherPorts, block_of, block_at, joined_in, other_holdings, unpublished, Pool, LawfulWords, IsTied, IsOwn, IsDue, CoversAll, all_weaker, all_at, all_before, all_after, all_append, all_front, all_back, all_map, two_before, two_after, if_some_at, joined_weaker, found_some, filter_append, others_gone, others_all, ports_turn, three_words, own_freed, entry_free, unpublished_two, Frame, parts_apart, within_more, pairs_move, own_in_pool, HasAll, HasValues, IsThird, stamp_within, begun_within, AllByRecursion-get}
+use Rattle.partial_core.proofs.Common.{ℕ, ◌≡◌, ◌≢◌, ◌+◌, ◌<◌, ◌≤◌, ◌==◌, ◌++◌, ◌⊎◌, Bool, true, false, if◌then◌else◌, suc, zero, Option, Some, None, List, [], ◌∷◌, length, slice_index, slice_get, take, map, inl, inr, refl, sym, ap, subst, ◌∙◌, arith, Contains, nat_eq, AllByRecursion, IsDistinct, option_map_or, option_map, ne_eqb, eqb-true, eqb-false, or_cases, false≢true, length-map, Applied, Opening, stamp_of, value_of, place_below, Layout, record_block, view_block, StandsAt, ReadsBackRecord, prev_of, view_of, own_view, plain_record_size, full_record_size, length-record_block, reads_back, has_index, Change, CoreState, record_words, record_size, own_pairs, view_at, scanning, AreComponentIndices, IsViewOf, Block, JoinedAnnouncement, HasPairs, IsView, HasFreshView, IsWithin, IsBegunSince, Covers, ViewNames, AreApart, IsApartFrom, Own, Holding, EachTwo, IfJoined, block_of, block_at, joined_in, without_block, without_this, unpublished, Pool, LawfulWords, IsTied, IsOwn, IsDue, CoversAll, all_weaker, all_at, all_before, all_after, all_append, all_front, all_back, all_map, if_some_at, joined_weaker, found_some, three_words, own_freed, entry_free, unpublished_two, Frame, parts_apart, within_more, pairs_move, own_in_pool, HasAll, HasValues, IsThird, stamp_within, begun_within, AllByRecursion-get, own_added, unjoined_if, all_join}
 use Rattle.partial_state.proofs.Blocks.{unpublished_is}
 
 length_by : (f : Option ℕ) (js : List ℕ) (value : ℕ → ℕ) (old v view : ℕ) → length (record_block old v view (option_map_or (λ _. []) f (map (λ j. (j, value j)) js)))
@@ -81,7 +81,7 @@ module _ (z : Layout) (o : Opening) (words : List ℕ) (before : List Holding) (
 
   -- the blocks of the others
   abbrev us : List Block
-  us = unpublished (before ++ after)
+  us = unpublished (before ++ record h { own = None } ∷ after)
 
   abbrev block : Own
   block = record { space = Pool; at = at; words = record_words s c old at; stored = length (record_words s c old at) }
@@ -89,10 +89,8 @@ module _ (z : Layout) (o : Opening) (words : List ℕ) (before : List Holding) (
   abbrev gone : Holding
   gone = record h { own = None }
 
-  others_are : other_holdings h.port hs ≡ before ++ after
-  others_are = others_gone h.port before h after (eq-eqb h.port h.port refl) ∙ ap (λ (l : List Holding). l ++ other_holdings h.port after)
-      (others_all h before (two_before HaveOtherPorts ports_turn before h after w.ports)) ∙ ap (λ (l : List Holding). before ++ l)
-      (others_all h after (two_after HaveOtherPorts ports_turn before h after w.ports))
+  others_are : without_block h.port hs ≡ before ++ gone ∷ after
+  others_are = without_this before h after w.ports
 
   is_own : IsOwn z words block
   is_own = let tied = all_at (IsTied z words) before h after w.tied in if_some_at (IsOwn z words) h.own block own tied.own
@@ -100,11 +98,8 @@ module _ (z : Layout) (o : Opening) (words : List ℕ) (before : List Holding) (
   stands : StandsAt words at (record_words s c old at)
   stands = λ k lt. let within = is_own.within in let count = w.count in (omega (arith, within, count, lt), is_own.stands k lt)
 
-  split_us : us ≡ unpublished before ++ unpublished after
-  split_us = filter_append (λ (v : Holding). option_map block_of v.own) before after
-
   apart_own : IsApartFrom us (block_of block)
-  apart_own = subst (λ (l : List Block). IsApartFrom l (block_of block)) (unpublished_is before gone after None refl ∙ sym split_us) (own_freed before h gone after block own refl (two_here))
+  apart_own = own_freed before h gone after block own refl refl two_here
     where
       two_here : EachTwo AreApart (unpublished hs)
       two_here = unpublished_two z o words hs log w
@@ -112,11 +107,11 @@ module _ (z : Layout) (o : Opening) (words : List ℕ) (before : List Holding) (
   -- what is apart from all blocks is apart from those of the others and from the port's own
   apart_less : (b : Block) → IsApartFrom (unpublished hs) b → IsApartFrom us b × AreApart b (block_of block)
   apart_less b apart =
-      let all : AllByRecursion (AreApart b) (unpublished before ++ (block_of block ∷ unpublished after)) = subst (AllByRecursion (AreApart b)) (unpublished_is before h after (Some block) own) apart in
-      let back = all_back (AreApart b) (unpublished before) (block_of block ∷ unpublished after) all in (
-        subst (AllByRecursion (AreApart b)) (sym split_us) (all_append (AreApart b) (unpublished before) (unpublished after)
-            (all_front (AreApart b) (unpublished before) (block_of block ∷ unpublished after) all) back.1),
-        back.0,
+      let added = own_added before h gone after block refl own refl in
+      let all = subst (AllByRecursion (AreApart b)) added.3 apart in (
+        subst (AllByRecursion (AreApart b)) (sym added.2)
+            (all_append (AreApart b) added.0 added.1 (all_before (AreApart b) added.0 (block_of block) added.1 all) (all_after (AreApart b) added.0 (block_of block) added.1 all)),
+        all_at (AreApart b) added.0 (block_of block) added.1 all,
       )
 
   frame : Frame z words words (unpublished hs) us
@@ -144,15 +139,15 @@ module _ (z : Layout) (o : Opening) (words : List ℕ) (before : List Holding) (
     fresh : HasFreshView z o words us log (length log) at
     covers : AllByRecursion (λ v. IfJoined v (λ l j. Covers z words us log at j)) (before ++ after)
 
-  due_of : joined_in h.claimed ≡ None → Shows → IsDue z o words h (other_holdings h.port hs) log (record { component = c.component; old = old; value = c.value; at = at })
-  due_of free shows = subst (λ (l : List Holding). IsDue z o words h l log (record { component = c.component; old = old; value = c.value; at = at })) (sym others_are) (record {
+  due_of : joined_in h.claimed ≡ None → Shows → IsDue z o words h (without_block h.port hs) log (record { component = c.component; old = old; value = c.value; at = at })
+  due_of free shows = let P : Holding → Type 0 = λ v. IfJoined v (λ l j. Covers z words us log at j) in subst (λ (l : List Holding). IsDue z o words h l log (record { component = c.component; old = old; value = c.value; at = at })) (sym others_are) (record {
     component = below;
     own = found_some (λ (b : Own). (b.space ≡ Pool) × (block_of b ≡ block_at words at) × (b.stored ≡ length b.words)) h.own block own (refl, ap (λ n. record { at = at; size = n }) shows.size, refl);
     prev = prev_is;
     value = let r = reads in r.value;
     before = within_more o log first (length log) old inside old_within;
     unjoined = free;
-    would = λ now. (shows.fresh, shows.covers);
+    would = λ now. (shows.fresh, all_join P before gone after (all_front P before after shows.covers) (unjoined_if (λ l j. Covers z words us log at j) h.claimed free) (all_back P before after shows.covers));
   })
 
   -- nothing is borrowed: the view is the record's own, with the values after one prefix
@@ -323,7 +318,7 @@ module _ (z : Layout) (o : Opening) (words : List ℕ) (before : List Holding) (
 
   -- the record's exchange may be due
   pub record_due : joined_in h.claimed ≡ None → HasViewed o words log first s → AreComponentIndices z s.found.indices → IsDistinct nat_eq s.found.indices →
-      IsDue z o words h (other_holdings h.port hs) log
+      IsDue z o words h (without_block h.port hs) log
       (record { component = c.component; old = old; value = c.value; at = at })
   record_due free viewed indices distinct = due_of free (by_borrowed s.embedded.borrowed refl)
     where

@@ -140,10 +140,10 @@ made_calls_make_their_steps z o b x c y layout m =
 
 -- a machine that has begun a call has the marks of the one between calls
 begun_from : (s d : CoreState) (c : Call) → IsMarkedLike d s → IsMarkedLike d (begun_of s c)
-begun_from s d (Call.Update j v) like = record { sizes = like.sizes; port = like.port; pool = like.pool; slots = like.slots; lists = like.lists }
-begun_from s d (Call.Scan js) like = record { sizes = like.sizes; port = like.port; pool = like.pool; slots = like.slots; lists = like.lists }
-begun_from s d (Call.Read j) like = record { sizes = like.sizes; port = like.port; pool = like.pool; slots = like.slots; lists = like.lists }
-begun_from s d (Call.UpdateIf j x v) like = record { sizes = like.sizes; port = like.port; pool = like.pool; slots = like.slots; lists = like.lists }
+begun_from s d (Call.Update j v) like = record { sizes = like.sizes; port = like.port; pool = like.pool; slots = like.slots; lists = like.lists; spare = like.spare }
+begun_from s d (Call.Scan js) like = record { sizes = like.sizes; port = like.port; pool = like.pool; slots = like.slots; lists = like.lists; spare = like.spare }
+begun_from s d (Call.Read j) like = record { sizes = like.sizes; port = like.port; pool = like.pool; slots = like.slots; lists = like.lists; spare = like.spare }
+begun_from s d (Call.UpdateIf j x v) like = record { sizes = like.sizes; port = like.port; pool = like.pool; slots = like.slots; lists = like.lists; spare = like.spare }
 
 pub calls_begin_between : CallsBeginBetween
 calls_begin_between x core between = record {
@@ -160,7 +160,7 @@ calls_begin_between x core between = record {
       let like = between.like in
       record {
         rest = between.rest;
-        like = record { sizes = like.sizes; port = like.port; pool = like.pool; slots = like.slots; lists = like.lists };
+        like = record { sizes = like.sizes; port = like.port; pool = like.pool; slots = like.slots; lists = like.lists; spare = like.spare };
         idle = refl;
         sound = rests_are_sound.idle (begin_scan core []) (b.sound between.sound);
       };
@@ -168,15 +168,15 @@ calls_begin_between x core between = record {
 
 pub ports_come_between : PortsComeBetween
 ports_come_between = (
-  (λ z port. record {
+  (λ z port layout. record {
     rest = refl;
-    like = record { sizes = refl; port = refl; pool = refl; slots = refl; lists = refl };
+    like = record { sizes = refl; port = refl; pool = refl; slots = refl; lists = refl; spare = refl };
     idle = refl;
-    sound = rests_are_sound.fresh z port;
+    sound = rests_are_sound.fresh z port layout;
   }),
   (λ z o b x c y m replied. record {
     rest = ap (λ (d : CoreState). is_at_rest d.stage) (sym m.machine.is) ∙ m.rests ∙ replied;
-    like = subst (λ (d : CoreState). IsMarkedLike d (at_stage c Idle)) m.machine.is (record { sizes = refl; port = refl; pool = refl; slots = refl; lists = refl });
+    like = subst (λ (d : CoreState). IsMarkedLike d (at_stage c Idle)) m.machine.is (record { sizes = refl; port = refl; pool = refl; slots = refl; lists = refl; spare = refl });
     idle = refl;
     sound = rests_are_sound.idle c m.sound;
   }),

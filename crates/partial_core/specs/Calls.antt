@@ -94,6 +94,6 @@ CallsBeginBetween = (x : Part) (core : CoreState) → IsBetween x core → Begin
 -- a port is between calls when it is made, and when a call has ended and its reply was taken
 abbrev pub PortsComeBetween : Type 0
 PortsComeBetween =
-    ((z : Layout) (port : ℕ) → IsBetween (fresh_part z port) (fresh z port))
+    ((z : Layout) (port : ℕ) → IsLayout z → IsBetween (fresh_part z port) (fresh z port))
     × ((z : Layout) (o : Opening) (b : CoreState) (x : Part) (c : CoreState) (y : Part) → Made z o b x c y → is_some (reply_of c) ≡ true →
     IsBetween y (at_stage c Idle))

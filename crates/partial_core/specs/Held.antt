@@ -90,6 +90,7 @@ holding_at s since = record {
   claimed = claimed_at s s.stage since;
   own = own_at s s.stage;
   due = due_at s.stage;
+  spare = s.spare;
   pool_spent = s.pool_spent;
   slots_spent = s.slots_spent;
   lists_spent = lists_spent s;

@@ -65,7 +65,7 @@ abbrev pub first_at : List KeptAnswer → ℕ
 first_at [] = 0
 first_at (k ∷ ks) = k.at
 
--- The machine c has the sizes, the number and the marks of the machine s. Nothing else of a machine at rest is asked for again: each call
+-- The machine c has the sizes, the number, the marks and the spare words of the machine s. Nothing else of a machine at rest is asked for again: each call
 -- sets anew what it uses.
 pub record IsMarkedLike (s c : CoreState) : Type 0 where
   pub sizes : c.sizes ≡ s.sizes
@@ -73,6 +73,7 @@ pub record IsMarkedLike (s c : CoreState) : Type 0 where
   pub pool : c.pool_spent ≡ s.pool_spent
   pub slots : c.slots_spent ≡ s.slots_spent
   pub lists : lists_spent c ≡ lists_spent s
+  pub spare : c.spare ≡ s.spare
 
 -- the machine c has begun a call on the port's machine, which was at rest
 pub record HasBegun (c : CoreState) (x : Part) : Type 0 where
@@ -90,7 +91,7 @@ pub record IsLedTo (c : CoreState) (x : Part) : Type 0 where
 abbrev pub IsMachineOf : CoreState → Part → Type 0
 IsMachineOf c x = HasBegun c x ⊎ IsLedTo c x
 
--- Between calls the machine is idle, with the marks of the part's.
+-- Between calls the machine is idle, with the marks and the spare words of the part's.
 pub record IsBetween (x : Part) (core : CoreState) : Type 0 where
   pub rest : is_at_rest (core_of x).stage ≡ true
   pub like : IsMarkedLike (core_of x) core

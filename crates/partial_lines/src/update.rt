@@ -1,14 +1,13 @@
 //! An update in straight lines, from its getSet up to the exchange of its component. Its getSet and its
 //! embedded scan are made by their own machines, in loops.
 
-ghost use Rattle.std.specs.Prelude.{◌≡◌, ◌+◌, ◌^◌, ◌<◌, true, [], Some, None, IfOk, IfSome, IfNone, OnOk};
+ghost use Rattle.std.specs.Prelude.{◌≡◌, ◌+◌, ◌^◌, ◌<◌, true, [], Some, None, IfOk, IfErr, IfSome, IfNone, OnOk};
 ghost use Rattle.partial_model.specs.declared.call.Refused.TheVariants as refused;
 ghost use Rattle.partial_machine.specs.declared.stage.Reply.TheVariants as reply;
 ghost use Rattle.partial_machine.specs.declared.stage.Stage.TheVariants.{Idle, ClaimingRecord, StoringRecord, Exchanging};
-ghost use Rattle.partial_words.specs.Record.{plain_record_size};
 ghost use Rattle.partial_machine.specs.Lines.{set_begun};
 ghost use Rattle.partial_machine.specs.Machine.{at_stage, pool_refused, record_size, reply_of};
-ghost use Rattle.partial_machine.specs.Sound.{IsSound};
+ghost use Rattle.partial_machine.specs.Sound.{IsInPool, IsSound};
 ghost use Rattle.partial_core.specs.Part.{IsMarkedLike};
 ghost use Rattle.partial_lines.specs.Lines.{IsViewDue, set_made, writing_stage, written_in};
 ghost use Rattle.partial_lines.specs.Replies.{RestsLike};
@@ -17,7 +16,7 @@ use crate::embedded::scan_found;
 use crate::get_set::SetSteps;
 use crate::makes::Makes;
 use partial_core::{Change, Core};
-use partial_words::{Step, plain_record_size, prev_word, value_word, view_word};
+use partial_words::{Block, Step, plain_record_size, value_word, view_word};
 
 /// What an update has done by its getSet, and by the claim and the stores that follow where it finds no announced
 /// index.
@@ -102,8 +101,6 @@ pub fn begin_put<M: Makes>(
     ensures refused { IfOk result (λ put. IfSome (written_in put) (λ written.
         IfNone written (reply_of (M.machine lines.new) ≡ Some (reply.Refused refused.PoolSpent)))) }
     ensures rests { IfOk result (λ put. IfSome (written_in put) (λ _. RestsLike (M.machine lines.new) core.new)) }
-    ensures size { IfOk result (λ put. IfSome (written_in put) (λ written.
-        IfSome written (λ _. record_size (M.machine lines.new) ≡ plain_record_size))) }
     ensures found { IfOk result (λ put. IfNone (written_in put) (IsViewDue (M.machine lines.new) core.new change old)) }
 {
     let mut steps = SetSteps { lines };
@@ -137,14 +134,13 @@ pub fn put_found<M: Makes>(
     ensures refused { IfOk result (λ put.
         IfNone put (reply_of (M.machine lines.new) ≡ Some (reply.Refused refused.PoolSpent))) }
     ensures rests { OnOk result (RestsLike (M.machine lines.new) core.new) }
-    ensures size { IfOk result (λ put. IfSome put (λ _. record_size (M.machine lines.new) ≡ record_size core.new)) }
 {
     scan_found(lines, core)?;
     write_record(lines, core, change, old)
 }
 
-// Claims and writes the record of an update that found no announced index. The record has no view. Returns its
-// reference, or `None` when the claim is refused.
+// Writes the record of an update that found no announced index. The record has no view. Returns its reference, or `None` when
+// its claim is refused.
 #[inline(always)]
 fn write_plain<M: Makes>(
     lines: &mut M,
@@ -158,47 +154,26 @@ fn write_plain<M: Makes>(
     requires none { (M.machine lines.old).found.indices ≡ [] }
     requires borrowed { (M.machine lines.old).embedded.borrowed ≡ None }
     requires like { IsMarkedLike (M.machine lines.old) core.old }
+    requires ahead { (M.machine lines.old).ahead ≡ core.old.ahead }
     ensures goes { M.goes lines.new }
     ensures leads { M.leads lines.old lines.new }
-    ensures due { IfOk result (λ put. IfSome put (λ at.
-        M.machine lines.new ≡ at_stage (M.machine lines.old) (Exchanging change old at))) }
+    ensures due { IfOk result (λ put. IfSome put (λ at. M.machine lines.new ≡
+        at_stage (record (M.machine lines.old) { spare = core.new.spare }) (Exchanging change old at))) }
     ensures refused { IfOk result (λ put.
         IfNone put (M.machine lines.new ≡ pool_refused (M.machine lines.old))) }
-    ensures size { IfOk result (λ put. IfSome put (λ _. record_size (M.machine lines.new) ≡ plain_record_size)) }
     ensures like { OnOk result (IsMarkedLike (M.machine lines.new) core.new) }
-    ensures core { core.new ≡ record core.old { pool_spent = core.new.pool_spent } }
+    ensures within { IsInPool core.new.sizes core.new.spare.at core.new.spare.size }
+    ensures core { core.new ≡ record core.old { pool_spent = core.new.pool_spent; spare = core.new.spare } }
 {
-    let sizes = core.sizes();
-    let size = plain_record_size();
-    let at = lines.make(Step::Add(sizes.pool_counter(), size))?;
-    if at + size > u64::from(sizes.pool_end()) {
-        core.mark_pool();
+    let Some(at) = begin_record(lines, core, change, old, plain_record_size())? else {
         return Ok(None);
-    }
-    fill_plain(lines, change, old, at)?;
+    };
+    lines.make(Step::Store(value_word(at) as u32, change.value))?;
+    lines.store_zero(view_word(at) as u32)?;
     Ok(Some(at))
 }
 
-// Stores the three words of a record without a view, at its place in the pool.
-#[inline(always)]
-fn fill_plain<M: Makes>(lines: &mut M, change: Change, old: u64, at: u64) -> Result<(), M::Break>
-    requires goes { M.goes lines.old }
-    requires stage { (M.machine lines.old).stage ≡ StoringRecord change old at 0 }
-    requires none { (M.machine lines.old).found.indices ≡ [] }
-    requires borrowed { (M.machine lines.old).embedded.borrowed ≡ None }
-    requires fits { at + plain_record_size < 2 ^ 32 }
-    ensures goes { M.goes lines.new }
-    ensures leads { M.leads lines.old lines.new }
-    ensures machine { OnOk result (M.machine lines.new ≡ at_stage (M.machine lines.old) (Exchanging change old at)) }
-{
-    lines.make(Step::Store(prev_word(at) as u32, old))?;
-    lines.make(Step::Store(value_word(at) as u32, change.value))?;
-    lines.store_zero(view_word(at) as u32)?;
-    Ok(())
-}
-
-// Claims and writes the record of an update that made an embedded scan. Returns its reference, or `None` when
-// the claim is refused.
+// Writes the record of an update that made an embedded scan. Returns its reference, or `None` when its claim is refused.
 fn write_record<M: Makes>(
     lines: &mut M,
     core: &mut Core,
@@ -214,20 +189,69 @@ fn write_record<M: Makes>(
         M.machine lines.new ≡ at_stage core.new (Exchanging change old at))) }
     ensures refused { IfOk result (λ put.
         IfNone put ((M.machine lines.new ≡ pool_refused core.old) × (core.new.pool_spent ≡ true))) }
-    ensures core { core.new ≡ record core.old { pool_spent = core.new.pool_spent } }
+    ensures core { core.new ≡ record core.old { pool_spent = core.new.pool_spent; spare = core.new.spare } }
 {
-    let sizes = core.sizes();
     let size = core.record_size();
-    let at = lines.make(Step::Add(sizes.pool_counter(), size))?;
-    if at + size > u64::from(sizes.pool_end()) {
-        core.mark_pool();
+    let Some(at) = begin_record(lines, core, change, old, size)? else {
         return Ok(None);
-    }
+    };
     fill_record(lines, core, change, old, at)?;
     Ok(Some(at))
 }
 
-// Stores the words of the record at its place in the pool: the three that each record has, and its view.
+// Begins the record of an update, of so many words: takes them from the spare words, or claims them and those ahead, and
+// stores the first one. Returns its reference, or `None` when the claim is refused.
+#[inline(always)]
+fn begin_record<M: Makes>(
+    lines: &mut M,
+    core: &mut Core,
+    change: Change,
+    old: u64,
+    size: u64,
+) -> Result<Option<u64>, M::Break>
+    requires goes { M.goes lines.old }
+    requires idle { core.old.stage ≡ Idle }
+    requires stage { (M.machine lines.old).stage ≡ ClaimingRecord change old }
+    requires size { size ≡ record_size (M.machine lines.old) }
+    requires sizes { (M.machine lines.old).sizes ≡ core.old.sizes }
+    requires spare { (M.machine lines.old).spare ≡ core.old.spare }
+    requires ahead { (M.machine lines.old).ahead ≡ core.old.ahead }
+    ensures goes { M.goes lines.new }
+    ensures leads { M.leads lines.old lines.new }
+    ensures begun { IfOk result (λ begun. IfSome begun (λ at. M.machine lines.new ≡
+        at_stage (record (M.machine lines.old) { spare = core.new.spare }) (StoringRecord change old at 1))) }
+    ensures fits { IfOk result (λ begun. IfSome begun (λ at. at + size < 2 ^ 32)) }
+    ensures refused { IfOk result (λ begun. IfNone begun ((M.machine lines.new ≡ pool_refused (M.machine lines.old)) ×
+        (core.new ≡ record core.old { pool_spent = true }))) }
+    ensures core { IfOk result (λ begun. IfSome begun (λ _. core.new ≡ record core.old { spare = core.new.spare })) }
+    ensures same { IfErr result (λ _. core.new ≡ core.old) }
+    ensures within { IsInPool core.new.sizes core.new.spare.at core.new.spare.size }
+{
+    let Block { at, size: room } = core.spare();
+    if size <= room {
+        lines.make(Step::Store(at as u32, old))?;
+        core.keep_spare(Block {
+            at: at + size,
+            size: room - size,
+        });
+        return Ok(Some(at));
+    }
+    let ahead = u64::from(core.ahead());
+    let sizes = core.sizes();
+    let at = lines.make(Step::Add(sizes.pool_counter(), size + ahead))?;
+    if at + size + ahead > u64::from(sizes.pool_end()) {
+        core.mark_pool();
+        return Ok(None);
+    }
+    lines.make(Step::Store(at as u32, old))?;
+    core.keep_spare(Block {
+        at: at + size,
+        size: ahead,
+    });
+    Ok(Some(at))
+}
+
+// Stores the words of the record that follow its first one: the two that each record has, and its view.
 #[inline(always)]
 fn fill_record<M: Makes>(
     lines: &mut M,
@@ -237,13 +261,12 @@ fn fill_record<M: Makes>(
     at: u64,
 ) -> Result<(), M::Break>
     requires goes { M.goes lines.old }
-    requires machine { M.machine lines.old ≡ at_stage core.now (writing_stage core.now change old at 0) }
+    requires machine { M.machine lines.old ≡ at_stage core.now (writing_stage core.now change old at 1) }
     requires fits { at + record_size core.now < 2 ^ 32 }
     ensures goes { M.goes lines.new }
     ensures leads { M.leads lines.old lines.new }
     ensures machine { OnOk result (M.machine lines.new ≡ at_stage core.now (Exchanging change old at)) }
 {
-    store_word(lines, core, change, old, at, 0)?;
     store_word(lines, core, change, old, at, 1)?;
     store_word(lines, core, change, old, at, 2)?;
     for k in plain_record_size()..core.record_size() {
