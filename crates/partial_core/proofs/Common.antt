@@ -20,7 +20,7 @@ pub use Rattle.partial_machine.specs.{Behind.{IsBehind, IsMarkedFor, refuses_poo
 pub use Rattle.partial_machine.proofs.{Begins.{rests_are_sound, calls_begin}, Behind.{answers_lead_on, due_at, either}, Sound.{size_few, record_cases, record_step_cases}, StepCounts.{makes_few_steps, reads_in_two}}
 pub use Rattle.partial_state.specs.{Effects.{IsKept, Keeps, State, idle_holdings, idle_holding}, Holdings.{Holding, unpublished, Own, IfJoined, ClaimedSlot, Due, HaveOtherPorts, without_block, EachTwo, Space, block_at, block_of, joined_in, space_begin}, LawfulWords.{LawfulWords, CoversAll, IsDue, IsEntry, IsOwn, IsTied, IsClaim}, Loads.{KeptAnswer, IsLoaded, IsPublished, IsSlotAnswer}, Views.{JoinedAnnouncement, Covers, HasPairs, IsBegunSince, IsHead, IsWithin, ViewNames, AreApart, Block, HasFreshView, IsAnnounced, IsApartFrom, IsPublishedList, IsView, IsViewOf}}
 pub use Rattle.partial_state.specs.Holdings.{Counted.{PoolWords, Slots, ListWords}, Space.{Pool, Lists}}
-pub use Rattle.partial_state.proofs.{Blocks.own_added, BlockLaws.{stores_are_kept, claims_are_kept, own_freed, publishings_are_kept}, Claimed.{entry_free, entry_published, unpublished_two}, Frames.{Frame, announcement_claimed, block_published, list_claimed, pairs_move, parts_apart, within_more}, HoldingLemmas.{if_some_at, three_words, found_some, if_all, joined_weaker, unjoined_if, without_this}, ListLemmas.{all_weaker, all_after, all_before, all_append, two_after, two_before, all_at, all_back, all_front, all_join, all_map, all_unmap}, LoadLaw.loads_are_true, MarkLaws.{drops_are_kept, dues_are_kept, refusals_are_kept}, NoNewEntry.counter_bound, SpareLaws.{spares_are_kept, takes_are_kept}, SlotLaws.{joins_are_kept, leaves_are_kept, slot_claims_are_kept}, WinLaw.{own_in_pool, wins_are_kept}}
+pub use Rattle.partial_state.proofs.{Blocks.own_added, BlockLaws.{stores_are_kept, claims_are_kept, own_freed, publishings_are_kept}, Claimed.{entry_free, entry_published, unpublished_two}, Frames.{Frame, announcement_claimed, block_published, list_claimed, pairs_move, parts_apart, within_more}, HoldingLemmas.{own_in_pool, if_some_at, three_words, found_some, if_all, joined_weaker, unjoined_if, without_this}, ListLemmas.{all_weaker, all_after, all_before, all_append, two_after, two_before, all_at, all_back, all_front, all_join, all_map, all_unmap}, LoadLaw.loads_are_true, MarkLaws.{drops_are_kept, dues_are_kept, refusals_are_kept}, NoNewEntry.counter_bound, SpareLaws.{spares_are_kept, takes_are_kept}, SlotLaws.{joins_are_kept, leaves_are_kept, slot_claims_are_kept}, WinLaw.wins_are_kept}
 pub use Rattle.partial_knowledge.specs.{Scans.{IsThird, AreStamps, HasValues}, Sets.{IsReadable, HasAll}}
 pub use Rattle.partial_knowledge.proofs.{Chains.{stamp_within, begun_within, standing, standing_word}, Scans.{embedded_scans_know, got}, Sets.getsets_know}
 pub use Rattle.partial_core.specs.{Held.{holdings, holding_of, joined_since, holding_at, joins_at, is_storing, joined_from, own_at, own_list, slot_claimed}, Known.{IsKnown, IsTrueYet, AreAnswersKept, notes_by}, Lawful.{Lawful, LawfulAmong, OpensLawful}, Orderly.{LawfulIsOrderly, StepsAreOrderly}, Part.{Part, PartAmong, all_parts, core_of, first_at, port_of, HasBegun, led_by, IsLedTo, has_no_step, IsMachineOf, IsMarkedLike, answers_of, with_seen, fresh_parts}, Ports.{HasFewSteps, IsReady, LawfulCallsAreBounded, LawfulMachinesAreReady, LawfulPortsFit, LawfulRecordsAreWithin, LooksStayLawful}, Steps.{AreNotesOf, LeadsOn, memory_after, added_by, FitsHistory, PublishesWithin, StepsStayLawful, Tells, begun_with, kept_with, past_with, since_with}}
