@@ -1,5 +1,5 @@
 -- The steps by which a block is claimed and written, and by which a list is published.
-use Rattle.partial_state.proofs.{Common.{ℕ, ◌≡◌, ◌≢◌, ◌+◌, ◌*◌, ◌<◌, ◌≤◌, ◌==◌, ◌++◌, ◌^◌, ◌%◌, Bool, true, false, if◌then◌else◌, List, ◌∷◌, length, slice_index, slice_set, Some, None, refl, sym, ◌∙◌, ap, subst, inl, inr, arith, get_or-set_other, get_or-set_same, length-set, cases_lt, Applied, Opening, Layout, slot_counter, list_head, pool_counter, list_counter, slot_word, list_base, pool_end, total, length-pairs, Block, AreApart, IsApartFrom, IsPublishedList, IsHead, Own, Holding, Space, space_begin, end_of, counter_of, block_of, unpublished, blocks_in, other_holdings, EachTwo, Pool, Lists, LawfulWords, IsOwn, IsTied, IsDue, IsKept, ClaimsAreKept, StoresAreKept, PublishingsAreKept, list_block, Counted, ListWords, PoolWords, Slots, counter, marked_ports}, ListLemmas.{all_at, all_weaker, two_take, two_put}, Frames.{IsClaimedBlock, word_at, apart_turns, head_moves}, Claimed.{unpublished_two, all_claimed}, HoldingLemmas.{own_far, if_some_at, none_here, marks_kept}, Blocks.{unpublished_is, announced_same, own_added, blocks_same, own_block_added}, Rebuild.{Moves, frame_of}, NoNewEntry.{calm, fits_word, head_stays, high_stays, marked_stays, counters_stay, counters_same}, MarkLaws.block_given_up}
+use Rattle.partial_state.proofs.{Common.{ℕ, ◌≡◌, ◌≢◌, ◌+◌, ◌*◌, ◌<◌, ◌≤◌, ◌==◌, ◌++◌, ◌^◌, ◌%◌, Bool, true, false, if◌then◌else◌, option_map, List, ◌∷◌, length, slice_index, slice_set, Option, Some, None, refl, sym, ◌∙◌, ap, subst, inl, inr, arith, get_or-set_other, get_or-set_same, length-set, cases_lt, Applied, Opening, Layout, slot_counter, list_head, pool_counter, list_counter, slot_word, list_base, pool_end, total, length-pairs, Block, AreApart, IsApartFrom, IsPublishedList, IsHead, Own, Holding, Space, space_begin, end_of, counter_of, block_of, unpublished, blocks_in, without_block, EachTwo, Pool, Lists, LawfulWords, IsOwn, IsTied, IsDue, IsKept, ClaimsAreKept, StoresAreKept, PublishingsAreKept, list_block, Counted, ListWords, PoolWords, Slots, counter, marked_ports}, ListLemmas.{all_at, all_weaker, two_take, two_put}, Frames.{IsClaimedBlock, word_at, apart_turns, head_moves}, Claimed.{unpublished_two, all_claimed}, HoldingLemmas.{own_far, if_some_at, none_here, marks_kept}, Blocks.{unpublished_like, announced_same, own_added, blocks_same, own_block_added}, Rebuild.{Moves, spare_moves, frame_of}, NoNewEntry.{calm, fits_word, head_stays, high_stays, marked_stays, counters_stay, counters_same}, MarkLaws.block_given_up}
 
 module _ (z : Layout) (o : Opening) (words : List ℕ) (before : List Holding) (h : Holding) (after : List Holding) (log : List Applied) (w : LawfulWords z o words (before ++ h ∷ after) log) where
   -- a block from the counter on is apart from each that is claimed
@@ -71,12 +71,12 @@ module _ (z : Layout) (o : Opening) (words : List ℕ) (before : List Holding) (
           count = length-set words (counter_of z space) ((slice_index words (counter_of z space) + length block) % 2 ^ 64);
           rises = λ c. (counter_now c space now other room).0;
           same = λ k above free. far k above;
-          apart = λ x taken free. fresh_apart space (length block) room x taken;
+          apart = λ x taken free. (fresh_apart space (length block) room x taken, free.1);
           slot = λ l inside free. slot_words l inside;
           vacated = λ l inside one. slot_words l inside ∙ one;
         } in
         let tied = all_at (IsTied z words) before h after w.tied in
-        let added = own_block_added z words (before ++ h' ∷ after) (before ++ h ∷ after) log (block_of b) (announced_same before h' h after refl) (own_added before h' h after b unowned refl) in
+        let added = own_block_added z words (before ++ h' ∷ after) (before ++ h ∷ after) log (block_of b) (announced_same before h' h after refl) (own_added before h' h after b unowned refl refl) in
         let free = all_weaker (IsClaimedBlock z words) (AreApart (block_of b)) (λ x taken. apart_turns x (block_of b) (fresh_apart space (length block) room x taken))
         (blocks_in z words (before ++ h ∷ after) log) (all_claimed z o words (before ++ h ∷ after) log w) in
         calm z o words claimed before h h' after log w (record {
@@ -84,10 +84,11 @@ module _ (z : Layout) (o : Opening) (words : List ℕ) (before : List Holding) (
           components = λ j below. other j (λ e. omega (arith, below, e, least));
           tied = record {
             own = record { above = start_low space; within = room; below = omega (arith, now); few = omega arith; stands = λ i stored. absurd (omega (arith, stored)) };
+            spare = spare_moves z words claimed h h' m h.spare tied.spare;
             marked = marked_stays z words claimed before h h' after (marks_kept h h' refl refl refl) m.rises tied.marked;
           };
           apart = two_put AreApart apart_turns (block_of b) (blocks_in z words (before ++ h ∷ after) log) (blocks_in z words (before ++ h' ∷ after) log) added w.apart free;
-          due = none_here (IsDue z o claimed h' (other_holdings h'.port (before ++ h' ∷ after)) log) h.due idle;
+          due = none_here (IsDue z o claimed h' (without_block h'.port (before ++ h' ∷ after)) log) h.due idle;
           claimed = refl;
           slot_words = slot_words;
           counts = λ l below inside. omega (arith, below, slots);
@@ -140,7 +141,7 @@ stores_are_kept z o words before h after log b w is idle more =
       count = length-set words n v;
       rises = λ c. let now = counts c in omega (arith, now);
       same = λ k far free. other k (not_inside k b.at b.stored (length b.words) more (if_some_at (λ c. AreApart (word_at k) (block_of c)) h.own b is free));
-      apart = λ x claimed free. if_some_at (λ c. AreApart x (block_of c)) h.own b is free;
+      apart = λ x claimed free. (if_some_at (λ c. AreApart x (block_of c)) h.own b is free.0, free.1);
       slot = λ l room free. slot_words l room;
       vacated = λ l room one. slot_words l room ∙ one;
     } in
@@ -161,11 +162,12 @@ stores_are_kept z o words before h after log b w is idle more =
                 ap (λ t. slice_index b.words t) (sym last)
           ];
         };
+        spare = spare_moves z words words' h h' m h.spare tied.spare;
         marked = marked_stays z words words' before h h' after (marks_kept h h' refl refl refl) m.rises tied.marked;
       };
       apart = subst (EachTwo AreApart) (sym (blocks_same z words (before ++ h ∷ after) (before ++ h' ∷ after) log (announced_same before h h' after refl)
-          (unpublished_is before h' after (Some b') refl ∙ sym (unpublished_is before h after (Some b) is)))) w.apart;
-      due = none_here (IsDue z o words' h' (other_holdings h'.port (before ++ h' ∷ after)) log) h.due idle;
+          (unpublished_like before h h' after (ap (λ (f : Option Own). option_map block_of f) (sym is)) refl))) w.apart;
+      due = none_here (IsDue z o words' h' (without_block h'.port (before ++ h' ∷ after)) log) h.due idle;
       claimed = refl;
       slot_words = slot_words;
       counts = λ l inside room. omega (arith, inside, slots);
@@ -174,10 +176,10 @@ stores_are_kept z o words before h after log b w is idle more =
     })
 
 -- a block that is published is apart from all that aren't
-pub own_freed : (before : List Holding) (h h' : Holding) (after : List Holding) (b : Own) → h.own ≡ Some b → h'.own ≡ None → EachTwo AreApart (unpublished (before ++ h ∷ after)) →
+pub own_freed : (before : List Holding) (h h' : Holding) (after : List Holding) (b : Own) → h.own ≡ Some b → h'.own ≡ None → h'.spare ≡ h.spare → EachTwo AreApart (unpublished (before ++ h ∷ after)) →
     IsApartFrom (unpublished (before ++ h' ∷ after)) (block_of b)
-own_freed before h h' after b is none two = (two_take AreApart apart_turns (block_of b) (unpublished (before ++ h' ∷ after)) (unpublished (before ++ h ∷ after))
-    (own_added before h h' after b none is) two).1
+own_freed before h h' after b is none spare two = (two_take AreApart apart_turns (block_of b) (unpublished (before ++ h' ∷ after)) (unpublished (before ++ h ∷ after))
+    (own_added before h h' after b none is spare) two).1
 
 pub publishings_are_kept : PublishingsAreKept
 publishings_are_kept z o words before h after log old at list w idle is normal holds =
@@ -203,7 +205,7 @@ publishings_are_kept z o words before h after log old at list w idle is normal h
       count = length-set words n v;
       rises = λ c. let now = counts c in omega (arith, now);
       same = λ k above free. far k above;
-      apart = λ x claimed free. tt;
+      apart = λ x claimed free. (tt, free.1);
       slot = λ l room free. slot_words l room;
       vacated = λ l room one. slot_words l room ∙ one;
     } in
@@ -222,7 +224,7 @@ publishings_are_kept z o words before h after log old at list w idle is normal h
         vacated = λ x held. slot_words x (holds x held).0 ∙ (holds x held).1;
       };
       below = omega (arith, below, lists);
-      apart = own_freed before h h' after b is refl (unpublished_two z o words (before ++ h ∷ after) log w);
+      apart = own_freed before h h' after b is refl refl (unpublished_two z o words (before ++ h ∷ after) log w);
     } in
     let head : IsHead z words' (unpublished (before ++ h' ∷ after)) (slice_index words (list_head z)) = head_moves z words words' (unpublished (before ++ h ∷ after)) (unpublished (before ++ h' ∷ after))
     frame (slice_index words (list_head z)) w.head in
@@ -231,10 +233,11 @@ publishings_are_kept z o words before h after log old at list w idle is normal h
       components = λ j inside. other j (λ e. omega (arith, inside, e));
       tied = record {
         own = tt;
+        spare = spare_moves z words words' h h' m h.spare tied.spare;
         marked = marked_stays z words words' before h h' after (marks_kept h h' refl refl refl) m.rises tied.marked;
       };
-      apart = block_given_up z words before h h' after log h.own refl refl refl w.apart;
-      due = none_here (IsDue z o words' h' (other_holdings h'.port (before ++ h' ∷ after)) log) h.due idle;
+      apart = block_given_up z words before h h' after log h.own refl refl refl refl w.apart;
+      due = none_here (IsDue z o words' h' (without_block h'.port (before ++ h' ∷ after)) log) h.due idle;
       claimed = refl;
       slot_words = slot_words;
       counts = λ l inside room. omega (arith, inside, slots);

@@ -1,5 +1,5 @@
 -- The blocks of lawful words: all their words are claimed, and those that are published are apart from the others.
-use Rattle.partial_state.proofs.{Common.{ℕ, ◌≡◌, ◌+◌, ◌<◌, ◌≤◌, ◌==◌, ◌++◌, Bool, true, false, if◌then◌else◌, List, [], ◌∷◌, length, map, slice_index, Option, Some, None, IfSome, MatchOption, slice_get, refl, ◌∙◌, ap, subst, inl, inr, arith, AllByRecursion, cons_option, option_map, eqb-true, Applied, Opening, Layout, pool_counter, slot_word, pool_base, view_of, view_len, length-pairs, Block, AreApart, JoinedAnnouncement, HasPairs, IsAnnounced, IsApartFrom, ClaimedSlot, Holding, Space, space_begin, end_of, counter_of, block_of, block_at, announcements, unpublished, blocks_in, joined_in, EachTwo, Pool, Lists, LawfulWords, IsOwn, IsTied, IsClaim, IsEntry, IsPublished, AllByRecursion-get, all_where, own_view, plain_record_size, full_record_size, initial_words, PoolWords}, ListLemmas.{all_append, all_back, all_map, all_unmap, all_weaker, two_back, two_across}, Frames.{IsClaimedBlock, announcement_claimed, block_published}, HoldingLemmas.{if_some, if_all, all_unpublished}, Blocks.announcement_of}
+use Rattle.partial_state.proofs.{Common.{ℕ, ◌≡◌, ◌+◌, ◌<◌, ◌≤◌, ◌==◌, ◌++◌, Bool, true, false, if◌then◌else◌, List, [], ◌∷◌, length, map, slice_index, Option, Some, None, IfSome, MatchOption, slice_get, refl, ◌∙◌, ap, subst, inl, inr, arith, AllByRecursion, cons_option, option_map, eqb-true, Applied, Opening, Layout, pool_counter, slot_word, pool_base, view_of, view_len, length-pairs, Block, AreApart, JoinedAnnouncement, HasPairs, IsAnnounced, IsApartFrom, ClaimedSlot, Holding, Space, space_begin, end_of, counter_of, block_of, block_at, announcements, unpublished, blocks_in, joined_in, EachTwo, Pool, Lists, LawfulWords, IsOwn, IsSpare, IsTied, IsClaim, IsEntry, IsPublished, AllByRecursion-get, all_where, own_view, plain_record_size, full_record_size, initial_words, PoolWords}, ListLemmas.{all_append, all_back, all_map, all_unmap, all_weaker, two_back, two_across}, Frames.{IsClaimedBlock, announcement_claimed, block_published}, HoldingLemmas.{if_some, if_all, all_unpublished}, Blocks.announcement_of}
 
 -- what holds of the value that stands there
 pub match_some : {A : Type 0} (P : Type 0) (Q : A → Type 0) (f : Option A) (a : A) → f ≡ Some a → MatchOption f P Q → Q a
@@ -46,6 +46,9 @@ own_claimed : (z : Layout) (words : List ℕ) (s : Space) (at n : ℕ) → space
 own_claimed z words Pool at n above within below = inr (omega (arith, above), below)
 own_claimed z words Lists at n above within below = inl (within, below)
 
+pub spare_claimed : (z : Layout) (words : List ℕ) (b : Block) → IsSpare z words b → IsClaimedBlock z words b
+spare_claimed z words b w = let above = w.above in inr (omega (arith, above), w.below)
+
 module _ (z : Layout) (o : Opening) (words : List ℕ) (hs : List Holding) (log : List Applied) (w : LawfulWords z o words hs log) where
   -- no two blocks that aren't published share a word
   pub unpublished_two : EachTwo AreApart (unpublished hs)
@@ -82,9 +85,12 @@ module _ (z : Layout) (o : Opening) (words : List ℕ) (hs : List Holding) (log 
 
   unpublished_claimed : AllByRecursion (IsClaimedBlock z words) (unpublished hs)
   unpublished_claimed =
-      all_unpublished (IsClaimedBlock z words) hs (all_weaker (IsTied z words) (λ h. IfSome h.own (λ b. IsClaimedBlock z words (block_of b)))
-      (λ h t. if_some (IsOwn z words) (λ b. IsClaimedBlock z words (block_of b)) h.own
-      (λ b e own. own_claimed z words b.space b.at (length b.words) own.above own.within own.below) t.own) hs w.tied)
+      all_unpublished (IsClaimedBlock z words) hs (all_weaker (IsTied z words) (λ h. IfSome h.own (λ b. IsClaimedBlock z words (block_of b)) × IsClaimedBlock z words h.spare)
+      (λ h t. (
+        if_some (IsOwn z words) (λ b. IsClaimedBlock z words (block_of b)) h.own
+            (λ b e own. own_claimed z words b.space b.at (length b.words) own.above own.within own.below) t.own,
+        spare_claimed z words h.spare t.spare,
+      )) hs w.tied)
 
   pub all_claimed : AllByRecursion (IsClaimedBlock z words) (blocks_in z words hs log)
   all_claimed = (

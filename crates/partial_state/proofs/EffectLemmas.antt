@@ -1,5 +1,5 @@
 -- What a step changes, and that lawful words stay lawful by it and what was loaded true.
-use Rattle.partial_state.proofs.{Common.{ℕ, ◌≡◌, ◌≢◌, ◌+◌, ◌*◌, ◌<◌, ◌≤◌, ◌⊎◌, ◌++◌, List, [], ◌∷◌, length, slice_index, Option, Some, None, IfSome, IsSomeAnd, MatchOption, slice_get, refl, sym, ◌∙◌, ap, subst, inl, inr, arith, AllByRecursion, ne_eqb, cases_lt, Applied, Opening, IsHistory, stamp_of, place_below, Layout, slot_counter, list_head, slot_word, initial_record, view_word, prev_of, record_value, view_of, Agrees, Block, AreApart, JoinedAnnouncement, HasFreshView, IsWithin, Covers, IsAnnounced, IsHead, ClaimedSlot, Own, Due, Holding, block_of, block_at, unpublished, blocks_in, other_holdings, IfJoined, joined_in, EachTwo, HaveOtherPorts, HaveOtherSlots, Pool, LawfulWords, IsOwn, IsTied, IsClaimedIn, IsClaim, CoversAll, IsDue, IsEntry, KeptAnswer, IsLoaded, IsKept, AllByRecursion-get, all_where, prev_word, value_word, Counted, PoolWords, Slots, counter, marked_ports}, ListLemmas.{all_at, all_before, all_after, all_join, all_weaker, two_before, two_after, two_join, length_same}, Frames.{Frame, Grows, within_more, within_grows, published_moves, announced_moves, head_moves, slot_moves, fresh_moves, covers_moves, covers_newer}, HoldingLemmas.{own_far, if_some, if_some_at, some_found, found_some, joined_weaker, HaveOtherBlocks, blocks_turn, ports_turn, slots_turn, others_split, block_stays, three_words}, Rebuild.{Moves, frame_of, tied_moves, other_word, initial_word, entry_three, entry_prev, own_before, own_after}}
+use Rattle.partial_state.proofs.{Common.{ℕ, ◌≡◌, ◌≢◌, ◌+◌, ◌*◌, ◌<◌, ◌≤◌, ◌⊎◌, ◌++◌, List, [], ◌∷◌, length, slice_index, Option, Some, None, IfSome, IsSomeAnd, MatchOption, slice_get, refl, sym, ◌∙◌, ap, subst, inl, inr, arith, AllByRecursion, ne_eqb, cases_lt, Applied, Opening, IsHistory, stamp_of, place_below, Layout, slot_counter, list_head, slot_word, initial_record, view_word, prev_of, record_value, view_of, Agrees, Block, AreApart, JoinedAnnouncement, HasFreshView, IsWithin, Covers, IsAnnounced, IsHead, ClaimedSlot, Own, Due, Holding, block_of, block_at, unpublished, blocks_in, without_block, IfJoined, joined_in, EachTwo, HaveOtherPorts, HaveOtherSlots, Pool, LawfulWords, IsOwn, IsTied, IsClaimedIn, IsClaim, CoversAll, IsDue, IsEntry, KeptAnswer, IsLoaded, IsKept, AllByRecursion-get, all_where, prev_word, value_word, Counted, PoolWords, Slots, counter, marked_ports}, ListLemmas.{all_at, all_before, all_after, all_join, all_weaker, two_before, two_after, two_join, length_same}, Frames.{Frame, Grows, within_more, within_grows, published_moves, announced_moves, head_moves, slot_moves, fresh_moves, covers_moves, covers_newer}, HoldingLemmas.{own_far, if_some, if_some_at, some_found, found_some, joined_weaker, HaveOtherBlocks, blocks_turn, ports_turn, slots_turn, without_other, block_stays, three_words}, Rebuild.{Moves, frame_of, tied_moves, other_word, initial_word, entry_three, entry_prev, own_before, own_after}}
 
 -- an entry of the new history that the old one hadn't
 pub record IsNew (z : Layout) (o : Opening) (words : List ℕ) (hs : List Holding) (log : List Applied) (k : ℕ) (e : Applied) : Type 0 where
@@ -18,7 +18,7 @@ pub record Changes (z : Layout) (o : Opening) (words words' : List ℕ) (before 
   pub newest : (k : ℕ) (e : Applied) → slice_get log' k ≡ Some e → length log ≤ k → IsNew z o words' (before ++ h' ∷ after) log' k e
   pub tied : IsTied z words' h'
   pub apart : EachTwo AreApart (blocks_in z words' (before ++ h' ∷ after) log')
-  pub due : IfSome h'.due (IsDue z o words' h' (other_holdings h'.port (before ++ h' ∷ after)) log')
+  pub due : IfSome h'.due (IsDue z o words' h' (without_block h'.port (before ++ h' ∷ after)) log')
   pub taken : (l : ℕ) → l < slice_index words' (slot_counter z) → l < z.slots → IsSomeAnd h.claimed (λ c. c.slot ≡ l) ⊎ (slice_index words (slot_counter z) ≤ l) → (slice_index words' (slot_word z l) ≡ 1) ⊎
       IsSomeAnd h'.claimed (λ c. c.slot ≡ l)
   pub claim : IfSome h'.claimed (IsClaim z words' (before ++ h' ∷ after) log')
@@ -103,13 +103,13 @@ module _ (z : Layout) (o : Opening) (words words' : List ℕ) (before : List Hol
   here = frame_of z words words' h h' c.moves before after
 
   -- what is due of another port
-  other_due : (v : Holding) → h.port ≢ v.port → HaveOtherBlocks v h → IsTied z words v → (d : Due) → IsDue z o words v (other_holdings v.port (before ++ h ∷ after)) log d →
-      IsDue z o words' v (other_holdings v.port (before ++ h' ∷ after)) log' d
+  other_due : (v : Holding) → h.port ≢ v.port → HaveOtherBlocks v h → IsTied z words v → (d : Due) → IsDue z o words v (without_block v.port (before ++ h ∷ after)) log d →
+      IsDue z o words' v (without_block v.port (before ++ h' ∷ after)) log' d
   other_due v port apart tied d due =
-      let front = other_holdings v.port before in
-      let back = other_holdings v.port after in
-      let is = others_split v.port before h after (ne_eqb h.port v.port port) in
-      let is' = others_split v.port before h' after (ne_eqb h'.port v.port (λ e. port (sym c.moves.port ∙ e))) in
+      let front = without_block v.port before in
+      let back = without_block v.port after in
+      let is = without_other v.port before h after (ne_eqb h.port v.port port) in
+      let is' = without_other v.port before h' after (ne_eqb h'.port v.port (λ e. port (sym c.moves.port ∙ e))) in
       let due' : IsDue z o words v (front ++ h ∷ back) log d = subst (λ (l : List Holding). IsDue z o words v l log d) is due in
       let found = some_found (λ (b : Own). (b.space ≡ Pool) × (block_of b ≡ block_at words d.at) × (b.stored ≡ length b.words)) v.own due'.own in
       let b = found.0 in
@@ -205,11 +205,11 @@ module _ (z : Layout) (o : Opening) (words words' : List ℕ) (before : List Hol
 
   -- what is to be shown of each other holding, from what is known of it
   abbrev IsOther : Holding → Type 0
-  IsOther v = HaveOtherPorts h v × HaveOtherSlots h v × HaveOtherBlocks h v × IsTied z words v × IfSome v.due (IsDue z o words v (other_holdings v.port (before ++ h ∷ after)) log) ×
+  IsOther v = HaveOtherPorts h v × HaveOtherSlots h v × HaveOtherBlocks h v × IsTied z words v × IfSome v.due (IsDue z o words v (without_block v.port (before ++ h ∷ after)) log) ×
       IfSome v.claimed (IsClaim z words (before ++ h ∷ after) log)
 
   five : (vs : List Holding) → AllByRecursion (HaveOtherPorts h) vs → AllByRecursion (HaveOtherSlots h) vs → AllByRecursion (HaveOtherBlocks h) vs → AllByRecursion (IsTied z words) vs →
-      AllByRecursion (λ v. IfSome v.due (IsDue z o words v (other_holdings v.port (before ++ h ∷ after)) log)) vs →
+      AllByRecursion (λ v. IfSome v.due (IsDue z o words v (without_block v.port (before ++ h ∷ after)) log)) vs →
       AllByRecursion (λ v. IfSome v.claimed (IsClaim z words (before ++ h ∷ after) log)) vs →
       AllByRecursion IsOther vs
   five [] p s b t d k = tt
@@ -217,12 +217,12 @@ module _ (z : Layout) (o : Opening) (words words' : List ℕ) (before : List Hol
 
   others_before : AllByRecursion IsOther before
   others_before = five before port_b slot_b apart_b (all_before (IsTied z words) before h after w.tied)
-      (all_before (λ v. IfSome v.due (IsDue z o words v (other_holdings v.port (before ++ h ∷ after)) log)) before h after w.due)
+      (all_before (λ v. IfSome v.due (IsDue z o words v (without_block v.port (before ++ h ∷ after)) log)) before h after w.due)
       (all_before (λ v. IfSome v.claimed (IsClaim z words (before ++ h ∷ after) log)) before h after w.claims)
 
   others_after : AllByRecursion IsOther after
   others_after = five after port_a slot_a apart_a (all_after (IsTied z words) before h after w.tied)
-      (all_after (λ v. IfSome v.due (IsDue z o words v (other_holdings v.port (before ++ h ∷ after)) log)) before h after w.due)
+      (all_after (λ v. IfSome v.due (IsDue z o words v (without_block v.port (before ++ h ∷ after)) log)) before h after w.due)
       (all_after (λ v. IfSome v.claimed (IsClaim z words (before ++ h ∷ after) log)) before h after w.claims)
 
   -- each other holding, and the port's new one
@@ -248,8 +248,8 @@ module _ (z : Layout) (o : Opening) (words words' : List ℕ) (before : List Hol
         apart = c.apart;
         fresh = λ k e s. (each_entry k e s).fresh;
         covering = all_where (λ (e : Applied). CoversAll z words' (before ++ h' ∷ after) log' e.stamp) log' (λ k e s. (each_entry k e s).covering);
-        due = each (λ v. IfSome v.due (IsDue z o words' v (other_holdings v.port (before ++ h' ∷ after)) log'))
-            (λ v t. if_some (IsDue z o words v (other_holdings v.port (before ++ h ∷ after)) log) (IsDue z o words' v (other_holdings v.port (before ++ h' ∷ after)) log') v.due
+        due = each (λ v. IfSome v.due (IsDue z o words' v (without_block v.port (before ++ h' ∷ after)) log'))
+            (λ v t. if_some (IsDue z o words v (without_block v.port (before ++ h ∷ after)) log) (IsDue z o words' v (without_block v.port (before ++ h' ∷ after)) log') v.due
             (λ d e due. other_due v t.0 (blocks_turn h v t.2) t.3 d due) t.4) c.due;
         unclaimed = unclaimed_now;
         taken = taken_all;

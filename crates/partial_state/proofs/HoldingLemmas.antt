@@ -1,5 +1,5 @@
--- Holdings with one in the place of another: their blocks, the other ports' ones, and how many are marked.
-use Rattle.partial_state.proofs.Common.{ℕ, suc, ◌≡◌, ◌≢◌, ◌+◌, ◌<◌, ◌≤◌, ◌==◌, ◌++◌, Bool, true, false, if◌then◌else◌, List, [], ◌∷◌, length, filter_map, slice_index, Option, Some, None, IfSome, IsSomeAnd, refl, sym, ◌∙◌, ap, subst, inl, inr, arith, AllByRecursion, cons_option, option_map, ne_eqb, view_of, view_len, Layout, list_base, IsOwn, Pool, Lists, Block, AreApart, JoinedAnnouncement, Own, Holding, Space, space_begin, EachTwo, IfJoined, block_of, block_at, unpublished, other_holdings, HaveOtherPorts, HaveOtherSlots, own_view, plain_record_size, full_record_size, view_word, Counted, ListWords, PoolWords, Slots, is_marked, marked_ports}
+-- Holdings with one in the place of another: their blocks, those without a port's own one, and how many are marked.
+use Rattle.partial_state.proofs.{Common.{joined_in, ClaimedSlot, ℕ, suc, ◌≡◌, ◌≢◌, ◌+◌, ◌<◌, ◌≤◌, ◌==◌, ◌++◌, Bool, true, false, if◌then◌else◌, List, [], ◌∷◌, length, filter_map, map, slice_index, Option, Some, None, IfSome, IsSomeAnd, refl, sym, ◌∙◌, ap, subst, inl, inr, arith, AllByRecursion, cons_option, option_map, ne_eqb, eq-eqb, view_of, view_len, Layout, list_base, IsOwn, Pool, Lists, Block, AreApart, JoinedAnnouncement, Own, Holding, Space, space_begin, EachTwo, IfJoined, block_of, block_at, unpublished, written, spares, without_block, HaveOtherPorts, HaveOtherSlots, own_view, plain_record_size, full_record_size, view_word, Counted, ListWords, PoolWords, Slots, is_marked, marked_ports, end_of, counter_of, first_free, pool_end, pool_counter}, ListLemmas.{all_append, all_front, all_back, all_map, all_unmap, all_weaker, two_front, two_before, two_after}}
 
 -- what holds of the value in an option
 pub if_some : {A : Type 0} (P Q : A → Type 0) (found : Option A) → ((a : A) → found ≡ Some a → P a → Q a) → IfSome found P → IfSome found Q
@@ -35,28 +35,47 @@ pub filter_split : {A B : Type 0} (f : A → Option B) (before : List A) (x : A)
 filter_split f [] x after = refl
 filter_split f (b ∷ before) x after = ap (λ (l : List _). cons_option (f b) l) (filter_split f before x after) ∙ cons_append (f b) (filter_map f before) (cons_option (f x) (filter_map f after))
 
-pub filter_append : {A B : Type 0} (f : A → Option B) (xs ys : List A) → filter_map f (xs ++ ys) ≡ filter_map f xs ++ filter_map f ys
-filter_append f [] ys = refl
-filter_append f (x ∷ xs) ys = ap (λ (l : List _). cons_option (f x) l) (filter_append f xs ys) ∙ cons_append (f x) (filter_map f xs) (filter_map f ys)
+pub map_split : {A B : Type 0} (f : A → B) (before : List A) (x : A) (after : List A) → map f (before ++ x ∷ after) ≡ map f before ++ f x ∷ map f after
+map_split f [] x after = refl
+map_split f (b ∷ before) x after = ap (λ (l : List _). f b ∷ l) (map_split f before x after)
+
+-- the block is apart from the port's own one, and from its spare words
+abbrev pub IsFreeOf : Holding → Block → Type 0
+IsFreeOf h x = IfSome h.own (λ b. AreApart x (block_of b)) × AreApart x h.spare
 
 -- what holds of each block that isn't published holds of each port's, and the other way
 found_more : (P : Block → Type 0) (f : Option Own) (rest : List Block) → IfSome f (λ b. P (block_of b)) → AllByRecursion P rest → AllByRecursion P (cons_option (option_map block_of f) rest)
 found_more P None rest w v = v
 found_more P (Some b) rest w v = (w, v)
 
-pub all_unpublished : (P : Block → Type 0) (hs : List Holding) → AllByRecursion (λ h. IfSome h.own (λ b. P (block_of b))) hs → AllByRecursion P (unpublished hs)
-all_unpublished P [] w = tt
-all_unpublished P (h ∷ hs) w = found_more P h.own (unpublished hs) w.0 (all_unpublished P hs w.1)
+all_written : (P : Block → Type 0) (hs : List Holding) → AllByRecursion (λ h. IfSome h.own (λ b. P (block_of b))) hs → AllByRecursion P (written hs)
+all_written P [] w = tt
+all_written P (h ∷ hs) w = found_more P h.own (written hs) w.0 (all_written P hs w.1)
+
+pub all_unpublished : (P : Block → Type 0) (hs : List Holding) → AllByRecursion (λ h. IfSome h.own (λ b. P (block_of b)) × P h.spare) hs → AllByRecursion P (unpublished hs)
+all_unpublished P hs w =
+    let O : Holding → Type 0 = λ h. IfSome h.own (λ b. P (block_of b)) in
+    let S : Holding → Type 0 = λ h. P h.spare in
+    let B : Holding → Type 0 = λ h. IfSome h.own (λ b. P (block_of b)) × P h.spare in
+    all_append P (written hs) (spares hs) (all_written P hs (all_weaker B O (λ h k. k.0) hs w)) (all_map P (λ (h : Holding). h.spare) hs (all_weaker B S (λ h k. k.1) hs w))
 
 found_less : (P : Block → Type 0) (f : Option Own) (rest : List Block) → AllByRecursion P (cons_option (option_map block_of f) rest) → IfSome f (λ b. P (block_of b)) × AllByRecursion P rest
 found_less P None rest w = (tt, w)
 found_less P (Some b) rest w = (w.0, w.1)
 
-pub unpublished_all : (P : Block → Type 0) (hs : List Holding) → AllByRecursion P (unpublished hs) → AllByRecursion (λ h. IfSome h.own (λ b. P (block_of b))) hs
-unpublished_all P [] w = tt
-unpublished_all P (h ∷ hs) w = let both = found_less P h.own (unpublished hs) w in (both.0, unpublished_all P hs both.1)
+written_all : (P : Block → Type 0) (hs : List Holding) → AllByRecursion P (written hs) → AllByRecursion (λ h. IfSome h.own (λ b. P (block_of b))) hs
+written_all P [] w = tt
+written_all P (h ∷ hs) w = let both = found_less P h.own (written hs) w in (both.0, written_all P hs both.1)
 
--- the ports' blocks that aren't published are apart
+all_both : {A : Type 0} (P Q : A → Type 0) (xs : List A) → AllByRecursion P xs → AllByRecursion Q xs → AllByRecursion (λ x. P x × Q x) xs
+all_both P Q [] p q = tt
+all_both P Q (x ∷ xs) p q = ((p.0, q.0), all_both P Q xs p.1 q.1)
+
+pub unpublished_all : (P : Block → Type 0) (hs : List Holding) → AllByRecursion P (unpublished hs) → AllByRecursion (λ h. IfSome h.own (λ b. P (block_of b)) × P h.spare) hs
+unpublished_all P hs w = all_both (λ (h : Holding). IfSome h.own (λ b. P (block_of b))) (λ (h : Holding). P h.spare) hs
+    (written_all P hs (all_front P (written hs) (spares hs) w)) (all_unmap P (λ (h : Holding). h.spare) hs (all_back P (written hs) (spares hs) w))
+
+-- the blocks that the ports write are apart
 abbrev pub HaveOtherBlocks : Holding → Holding → Type 0
 HaveOtherBlocks a b = IfSome a.own (λ x. IfSome b.own (λ y. AreApart (block_of x) (block_of y)))
 
@@ -64,18 +83,21 @@ one_less : (f : Option Own) (rest : List Block) → EachTwo AreApart (cons_optio
 one_less None rest w = (tt, w)
 one_less (Some a) rest w = (w.0, w.1)
 
-uncross : (f : Option Own) (hs : List Holding) → IfSome f (λ a. AllByRecursion (AreApart (block_of a)) (unpublished hs)) →
+uncross : (f : Option Own) (hs : List Holding) → IfSome f (λ a. AllByRecursion (AreApart (block_of a)) (written hs)) →
     AllByRecursion (λ h. IfSome f (λ a. IfSome h.own (λ b. AreApart (block_of a) (block_of b)))) hs
 uncross None hs w = nothing hs
   where
     nothing : (ys : List Holding) → AllByRecursion (λ y. Unit {0}) ys
     nothing [] = tt
     nothing (y ∷ ys) = (tt, nothing ys)
-uncross (Some a) hs w = unpublished_all (AreApart (block_of a)) hs w
+uncross (Some a) hs w = written_all (AreApart (block_of a)) hs w
+
+written_others : (hs : List Holding) → EachTwo AreApart (written hs) → EachTwo HaveOtherBlocks hs
+written_others [] w = tt
+written_others (h ∷ hs) w = let both = one_less h.own (written hs) w in (uncross h.own hs both.0, written_others hs both.1)
 
 pub apart_others : (hs : List Holding) → EachTwo AreApart (unpublished hs) → EachTwo HaveOtherBlocks hs
-apart_others [] w = tt
-apart_others (h ∷ hs) w = let both = one_less h.own (unpublished hs) w in (uncross h.own hs both.0, apart_others hs both.1)
+apart_others hs w = written_others hs (two_front AreApart (written hs) (spares hs) w)
 
 owns_turn : (a b : Option Own) → IfSome a (λ x. IfSome b (λ y. AreApart (block_of x) (block_of y))) → IfSome b (λ x. IfSome a (λ y. AreApart (block_of x) (block_of y)))
 owns_turn None None w = w
@@ -94,27 +116,33 @@ slots_turn x y w = if_all (λ c. IfSome x.claimed (λ d. c.slot ≢ d.slot)) y.c
     (λ c e. if_all (λ d. c.slot ≢ d.slot) x.claimed (λ d e' same. if_some_at (λ c. d.slot ≢ c.slot) y.claimed c e
     (if_some_at (λ d. IfSome y.claimed (λ c. d.slot ≢ c.slot)) x.claimed d e' w) (sym same)))
 
--- the other ports' holdings, with one holding apart
-cond_append : {A : Type 0} (t : Bool) (b : A) (xs ys zs : List A) → xs ≡ ys ++ zs → (if t then xs else b ∷ xs) ≡ (if t then ys else b ∷ ys) ++ zs
-cond_append true b xs ys zs e = e
-cond_append false b xs ys zs e = ap (λ (l : List _). b ∷ l) e
+-- the holdings without the block of one port, with one holding apart
+without_append : (p : ℕ) (before after : List Holding) → without_block p (before ++ after) ≡ without_block p before ++ without_block p after
+without_append p [] after = refl
+without_append p (b ∷ before) after = ap (λ (l : List Holding). (if b.port == p then record b { own = None } else b) ∷ l) (without_append p before after)
 
-pub others_append : (p : ℕ) (before after : List Holding) → other_holdings p (before ++ after) ≡ other_holdings p before ++ other_holdings p after
-others_append p [] after = refl
-others_append p (b ∷ before) after = cond_append (b.port == p) b (other_holdings p (before ++ after)) (other_holdings p before) (other_holdings p after) (others_append p before after)
+pub without_other : (p : ℕ) (before : List Holding) (h : Holding) (after : List Holding) → (h.port == p) ≡ false →
+    without_block p (before ++ h ∷ after) ≡ without_block p before ++ h ∷ without_block p after
+without_other p before h after e =
+    without_append p before (h ∷ after) ∙ ap (λ (t : Bool). without_block p before ++ (if t then record h { own = None } else h) ∷ without_block p after) e
 
-pub others_split : (p : ℕ) (before : List Holding) (h : Holding) (after : List Holding) → (h.port == p) ≡ false →
-    other_holdings p (before ++ h ∷ after) ≡ other_holdings p before ++ h ∷ other_holdings p after
-others_split p before h after e = others_append p before (h ∷ after) ∙ ap (λ (t : Bool). other_holdings p before ++ (if t then other_holdings p after else h ∷ other_holdings p after)) e
+pub without_own : (p : ℕ) (before : List Holding) (h : Holding) (after : List Holding) → (h.port == p) ≡ true →
+    without_block p (before ++ h ∷ after) ≡ without_block p before ++ record h { own = None } ∷ without_block p after
+without_own p before h after e =
+    without_append p before (h ∷ after) ∙ ap (λ (t : Bool). without_block p before ++ (if t then record h { own = None } else h) ∷ without_block p after) e
 
-pub others_gone : (p : ℕ) (before : List Holding) (h : Holding) (after : List Holding) → (h.port == p) ≡ true →
-    other_holdings p (before ++ h ∷ after) ≡ other_holdings p before ++ other_holdings p after
-others_gone p before h after e = others_append p before (h ∷ after) ∙ ap (λ (t : Bool). other_holdings p before ++ (if t then other_holdings p after else h ∷ other_holdings p after)) e
+without_none : (h : Holding) (hs : List Holding) → AllByRecursion (HaveOtherPorts h) hs → without_block h.port hs ≡ hs
+without_none h [] w = refl
+without_none h (x ∷ hs) w = ap (λ (t : Bool). (if t then record x { own = None } else x) ∷ without_block h.port hs) (ne_eqb x.port h.port (λ e. w.0 (sym e))) ∙
+    ap (λ (l : List Holding). x ∷ l) (without_none h hs w.1)
 
-pub others_all : (h : Holding) (hs : List Holding) → AllByRecursion (HaveOtherPorts h) hs → other_holdings h.port hs ≡ hs
-others_all h [] w = refl
-others_all h (x ∷ hs) w = ap (λ (t : Bool). if t then other_holdings h.port hs else x ∷ other_holdings h.port hs) (ne_eqb x.port h.port (λ e. w.0 (sym e))) ∙
-    ap (λ (l : List Holding). x ∷ l) (others_all h hs w.1)
+-- no other port loses its block: each has a holding of its own
+pub without_this : (before : List Holding) (h : Holding) (after : List Holding) → EachTwo HaveOtherPorts (before ++ h ∷ after) →
+    without_block h.port (before ++ h ∷ after) ≡ before ++ record h { own = None } ∷ after
+without_this before h after two =
+    without_own h.port before h after (eq-eqb h.port h.port refl)
+    ∙ ap (λ (l : List Holding). l ++ record h { own = None } ∷ without_block h.port after) (without_none h before (two_before HaveOtherPorts ports_turn before h after two))
+    ∙ ap (λ (l : List Holding). before ++ record h { own = None } ∷ l) (without_none h after (two_after HaveOtherPorts ports_turn before h after two))
 
 pub marks_same : (c : Counted) (before : List Holding) (h h' : Holding) (after : List Holding) → is_marked c h' ≡ is_marked c h → marked_ports c (before ++ h' ∷ after) ≡ marked_ports c (before ++ h ∷ after)
 marks_same c [] h h' after e = ap (λ b. (if b then 1 else 0) + marked_ports c after) e
@@ -184,3 +212,17 @@ own_far z words b w = far b.space b.at w.above
     far : (s : Space) (at : ℕ) → space_begin z s ≤ at → list_base z ≤ at
     far Pool at above = omega (arith, above)
     far Lists at above = above
+
+-- where a block of a port's own lies in the pool
+pub own_in_pool : (z : Layout) (words : List ℕ) (b : Own) → b.space ≡ Pool → IsOwn z words b → (first_free z ≤ b.at) × (b.at + length b.words ≤ pool_end z) ×
+    (b.at + length b.words ≤ slice_index words (pool_counter z))
+own_in_pool z words b e w = (
+  subst (λ (s : Space). space_begin z s ≤ b.at) e w.above,
+  subst (λ (s : Space). b.at + length b.words ≤ end_of z s) e w.within,
+  subst (λ (s : Space). b.at + length b.words ≤ slice_index words (counter_of z s)) e w.below,
+)
+
+-- who isn't joined has no announcement to cover
+pub unjoined_if : (P : ℕ → JoinedAnnouncement → Type 0) (f : Option ClaimedSlot) → joined_in f ≡ None → IfSome f (λ c. IfSome c.joined (P c.slot))
+unjoined_if P None e = tt
+unjoined_if P (Some c) e = subst (λ (j : Option JoinedAnnouncement). IfSome j (P c.slot)) (sym e) tt

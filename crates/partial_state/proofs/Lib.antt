@@ -10,6 +10,7 @@ pub mod NoNewEntry
 pub mod LoadLaw
 pub mod MarkLaws
 pub mod BlockLaws
+pub mod SpareLaws
 pub mod SlotLaws
 pub mod WinLaw
 pub mod OpeningLaw

@@ -24,6 +24,10 @@ pub two_back : {A : Type 0} (R : A → A → Type 0) (xs ys : List A) → EachTw
 two_back R [] ys w = w
 two_back R (x ∷ xs) ys w = two_back R xs ys w.1
 
+pub two_front : {A : Type 0} (R : A → A → Type 0) (xs ys : List A) → EachTwo R (xs ++ ys) → EachTwo R xs
+two_front R [] ys w = tt
+two_front R (x ∷ xs) ys w = (all_front (R x) xs ys w.0, two_front R xs ys w.1)
+
 pub two_across : {A : Type 0} (R : A → A → Type 0) (xs ys : List A) → EachTwo R (xs ++ ys) → AllByRecursion (λ x. AllByRecursion (R x) ys) xs
 two_across R [] ys w = tt
 two_across R (x ∷ xs) ys w = (all_back (R x) xs ys w.0, two_across R xs ys w.1)
@@ -41,6 +45,17 @@ adds_behind x zs ys xs w = (zs ++ w.0, w.1, ap (λ (l : List _). zs ++ l) w.2 �
 
 pub adds_before : {A : Type 0} (x : A) (zs ys xs : List A) → Adds x ys xs → Adds x (ys ++ zs) (xs ++ zs)
 adds_before x zs ys xs w = (w.0, w.1 ++ zs, ap (λ (l : List _). l ++ zs) w.2 ∙ append_assoc w.0 w.1 zs, ap (λ (l : List _). l ++ zs) w.3 ∙ append_assoc w.0 (x ∷ w.1) zs)
+
+-- what holds of all holds of all where one is taken away, and where one is added
+pub all_less : {A : Type 0} (P : A → Type 0) (x : A) (ys xs : List A) → Adds x ys xs → AllByRecursion P xs → AllByRecursion P ys
+all_less P x ys xs w all =
+    let t = subst (AllByRecursion P) w.3 all in
+    subst (AllByRecursion P) (sym w.2) (all_append P w.0 w.1 (all_before P w.0 x w.1 t) (all_after P w.0 x w.1 t))
+
+pub all_more : {A : Type 0} (P : A → Type 0) (x : A) (ys xs : List A) → Adds x ys xs → P x → AllByRecursion P ys → AllByRecursion P xs
+all_more P x ys xs w p all =
+    let t = subst (AllByRecursion P) w.2 all in
+    subst (AllByRecursion P) (sym w.3) (all_join P w.0 x w.1 (all_front P w.0 w.1 t) p (all_back P w.0 w.1 t))
 
 -- R holds of each two where one is taken away, and where one is added
 pub two_take : {A : Type 0} (R : A → A → Type 0) → ((x y : A) → R x y → R y x) → (x : A) (ys xs : List A) → Adds x ys xs → EachTwo R xs → EachTwo R ys × AllByRecursion (R x) ys

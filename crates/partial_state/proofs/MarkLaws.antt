@@ -1,8 +1,8 @@
 -- The steps that change no block and no slot: an exchange comes to be due, a block is given up, and claims that are refused.
-use Rattle.partial_state.proofs.{Common.{ℕ, ◌≡◌, ◌≢◌, ◌+◌, ◌<◌, ◌≤◌, ◌++◌, ◌^◌, ◌%◌, true, List, ◌∷◌, slice_index, slice_set, Option, Some, None, IfSome, refl, sym, ◌∙◌, ap, subst, arith, get_or-set_other, get_or-set_same, length-set, eq-eqb, Applied, Layout, slot_counter, list_head, slot_word, list_base, pool_end, Block, AreApart, Own, Holding, block_of, blocks_in, other_holdings, joined_in, EachTwo, IsTied, IsDue, DuesAreKept, DropsAreKept, greatest_record, greatest_list, Counted, ListWords, PoolWords, RefusalsAreKept, Slots, counter, is_marked, marked_for, marked_ports, ◌*◌, ◌⊎◌, Opening, inl, inr, false, IsOwn, LawfulWords, IsKept}, ListLemmas.{all_at, two_take}, Frames.apart_turns, HoldingLemmas.{others_gone, marks_kept}, Blocks.{unpublished_same, announced_same, own_added, blocks_same, own_block_added}, Rebuild.{Moves, own_stays}, NoNewEntry.{calm, fits_word, head_stays, due_stays, high_stays, high_rises, marked_stays, counter_bound}}
+use Rattle.partial_state.proofs.{Common.{ℕ, ◌≡◌, ◌≢◌, ◌+◌, ◌<◌, ◌≤◌, ◌++◌, ◌^◌, ◌%◌, true, List, ◌∷◌, slice_index, slice_set, Option, Some, None, IfSome, refl, sym, ◌∙◌, ap, subst, arith, get_or-set_other, get_or-set_same, length-set, Applied, Layout, slot_counter, list_head, slot_word, list_base, pool_end, Block, AreApart, Own, Holding, block_of, blocks_in, joined_in, EachTwo, IsSpare, IsTied, DuesAreKept, DropsAreKept, greatest_claim, greatest_list, Counted, ListWords, PoolWords, RefusalsAreKept, Slots, counter, is_marked, marked_for, marked_ports, ◌*◌, ◌⊎◌, Opening, inl, inr, false, IsOwn, LawfulWords, IsKept}, ListLemmas.{all_at, two_take}, Frames.apart_turns, HoldingLemmas.{IsFreeOf, marks_kept}, Blocks.{unpublished_same, announced_same, own_added, blocks_same, own_block_added}, Rebuild.{Moves, own_stays, spare_moves}, NoNewEntry.{calm, fits_word, head_stays, due_here, due_stays, high_stays, high_rises, marked_stays, counter_bound}}
 
 -- the words stay
-pub still_moves : (z : Layout) (words : List ℕ) (h h' : Holding) → h'.port ≡ h.port → ((b : Block) → IfSome h.own (λ c. AreApart b (block_of c)) → IfSome h'.own (λ c. AreApart b (block_of c))) →
+pub still_moves : (z : Layout) (words : List ℕ) (h h' : Holding) → h'.port ≡ h.port → ((b : Block) → IsFreeOf h b → IsFreeOf h' b) →
     Moves z words words h h'
 still_moves z words h h' port apart = record {
   port = port;
@@ -16,24 +16,24 @@ still_moves z words h h' port apart = record {
 
 -- a block fewer
 pub block_given_up : (z : Layout) (words : List ℕ) (before : List Holding) (h h' : Holding) (after : List Holding) (log : List Applied) (f : Option Own) → h.own ≡ f → h'.own ≡ None →
-    h'.claimed ≡ h.claimed → EachTwo AreApart (blocks_in z words (before ++ h ∷ after) log) → EachTwo AreApart (blocks_in z words (before ++ h' ∷ after) log)
-block_given_up z words before h h' after log None e none claimed two =
+    h'.spare ≡ h.spare → h'.claimed ≡ h.claimed → EachTwo AreApart (blocks_in z words (before ++ h ∷ after) log) → EachTwo AreApart (blocks_in z words (before ++ h' ∷ after) log)
+block_given_up z words before h h' after log None e none spare claimed two =
     subst (EachTwo AreApart) (sym (blocks_same z words (before ++ h ∷ after) (before ++ h' ∷ after) log (announced_same before h h' after (ap joined_in claimed))
-    (unpublished_same before h h' after (none ∙ sym e)))) two
-block_given_up z words before h h' after log (Some b) e none claimed two =
+    (unpublished_same before h h' after (none ∙ sym e) spare))) two
+block_given_up z words before h h' after log (Some b) e none spare claimed two =
     (two_take AreApart apart_turns (block_of b) (blocks_in z words (before ++ h' ∷ after) log) (blocks_in z words (before ++ h ∷ after) log)
-    (own_block_added z words (before ++ h ∷ after) (before ++ h' ∷ after) log (block_of b) (announced_same before h h' after (ap joined_in claimed)) (own_added before h h' after b none e)) two).0
+    (own_block_added z words (before ++ h ∷ after) (before ++ h' ∷ after) log (block_of b) (announced_same before h h' after (ap joined_in claimed)) (own_added before h h' after b none e spare)) two).0
 
 pub drops_are_kept : DropsAreKept
 drops_are_kept z o words before h after log w =
     let h' : Holding = record h { own = None; due = None } in
-    let m = still_moves z words h h' refl (λ b free. tt) in
+    let m = still_moves z words h h' refl (λ b free. (tt, free.1)) in
     let tied = all_at (IsTied z words) before h after w.tied in
     calm z o words words before h h' after log w (record {
       moves = m;
       components = λ j below. refl;
-      tied = record { own = tt; marked = marked_stays z words words before h h' after (marks_kept h h' refl refl refl) m.rises tied.marked };
-      apart = block_given_up z words before h h' after log h.own refl refl refl w.apart;
+      tied = record { own = tt; spare = tied.spare; marked = marked_stays z words words before h h' after (marks_kept h h' refl refl refl) m.rises tied.marked };
+      apart = block_given_up z words before h h' after log h.own refl refl refl refl w.apart;
       due = tt;
       claimed = refl;
       slot_words = λ l room. refl;
@@ -43,25 +43,22 @@ drops_are_kept z o words before h after log w =
     })
 
 -- where neither blocks nor announcements change
-pub blocks_kept : (z : Layout) (words : List ℕ) (before : List Holding) (h h' : Holding) (after : List Holding) (log : List Applied) → h'.own ≡ h.own → joined_in h'.claimed ≡ joined_in h.claimed →
-    EachTwo AreApart (blocks_in z words (before ++ h ∷ after) log) → EachTwo AreApart (blocks_in z words (before ++ h' ∷ after) log)
-blocks_kept z words before h h' after log own joined two =
-    subst (EachTwo AreApart) (sym (blocks_same z words (before ++ h ∷ after) (before ++ h' ∷ after) log (announced_same before h h' after joined) (unpublished_same before h h' after own))) two
+pub blocks_kept : (z : Layout) (words : List ℕ) (before : List Holding) (h h' : Holding) (after : List Holding) (log : List Applied) → h'.own ≡ h.own → h'.spare ≡ h.spare →
+    joined_in h'.claimed ≡ joined_in h.claimed → EachTwo AreApart (blocks_in z words (before ++ h ∷ after) log) → EachTwo AreApart (blocks_in z words (before ++ h' ∷ after) log)
+blocks_kept z words before h h' after log own spare joined two =
+    subst (EachTwo AreApart) (sym (blocks_same z words (before ++ h ∷ after) (before ++ h' ∷ after) log (announced_same before h h' after joined) (unpublished_same before h h' after own spare))) two
 
 pub dues_are_kept : DuesAreKept
 dues_are_kept z o words before h after log d w due =
     let h' : Holding = record h { due = Some d } in
     let m = still_moves z words h h' refl (λ b free. free) in
     let tied = all_at (IsTied z words) before h after w.tied in
-    let same : other_holdings h.port (before ++ h ∷ after) ≡ other_holdings h.port (before ++ h' ∷ after) =
-    others_gone h.port before h after (eq-eqb h.port h.port refl) ∙ sym (others_gone h.port before h' after (eq-eqb h.port h.port refl)) in
-    let now : IsDue z o words h (other_holdings h.port (before ++ h' ∷ after)) log d = subst (λ (l : List Holding). IsDue z o words h l log d) same due in
     calm z o words words before h h' after log w (record {
       moves = m;
       components = λ j below. refl;
-      tied = record { own = tied.own; marked = marked_stays z words words before h h' after (marks_kept h h' refl refl refl) m.rises tied.marked };
-      apart = blocks_kept z words before h h' after log refl refl w.apart;
-      due = record { component = now.component; own = now.own; prev = now.prev; value = now.value; before = now.before; unjoined = now.unjoined; would = now.would };
+      tied = record { own = tied.own; spare = tied.spare; marked = marked_stays z words words before h h' after (marks_kept h h' refl refl refl) m.rises tied.marked };
+      apart = blocks_kept z words before h h' after log refl refl refl w.apart;
+      due = due_here z o words words before h h' after log w m refl refl (λ e. e) (λ n above. refl) (λ j below. refl) d due;
       claimed = refl;
       slot_words = λ l room. refl;
       counts = λ l below room. below;
@@ -75,7 +72,7 @@ word_of_counter z PoolWords = (omega arith, omega arith, (λ e. omega (arith, e)
 word_of_counter z Slots = (omega arith, omega arith, (λ e. omega (arith, e)), (λ l e. omega (arith, e)))
 word_of_counter z ListWords = (omega arith, omega arith, (λ e. omega (arith, e)), (λ l e. omega (arith, e)))
 
-end_of_counter : (z : Layout) (c : Counted) → (counter z c).end + 65 * (counter z c).greatest ≤ pool_end z + 65 * greatest_record z + 65 * greatest_list z
+end_of_counter : (z : Layout) (c : Counted) → (counter z c).end + 65 * (counter z c).greatest ≤ pool_end z + 65 * greatest_claim z + 65 * greatest_list z
 end_of_counter z PoolWords = omega arith
 end_of_counter z Slots = omega arith
 end_of_counter z ListWords = omega arith
@@ -95,7 +92,7 @@ other_marks z ListWords h ListWords = inl refl
 -- the holding h' is h, marked for the counter
 module _ (z : Layout) (o : Opening) (words : List ℕ) (before : List Holding) (h h' : Holding) (after : List Holding) (log : List Applied) (c : Counted) (size : ℕ)
     (w : LawfulWords z o words (before ++ h ∷ after) log) (unmarked : is_marked c h ≡ false) (small : size ≤ (counter z c).greatest)
-    (past : (counter z c).end < slice_index words (counter z c).word + size) (port : h'.port ≡ h.port) (own : h'.own ≡ h.own) (claimed : h'.claimed ≡ h.claimed) (due : h'.due ≡ h.due)
+    (past : (counter z c).end < slice_index words (counter z c).word + size) (port : h'.port ≡ h.port) (own : h'.own ≡ h.own) (spare : h'.spare ≡ h.spare) (claimed : h'.claimed ≡ h.claimed) (due : h'.due ≡ h.due)
     (on : is_marked c h' ≡ true) (others : (d : Counted) → (d ≡ c) ⊎ (((counter z d).word ≢ (counter z c).word) × (is_marked d h' ≡ is_marked d h))) where
   abbrev n : ℕ
   n = (counter z c).word
@@ -135,7 +132,7 @@ module _ (z : Layout) (o : Opening) (words : List ℕ) (before : List Holding) (
       | inr apart ↦ let is = other (counter z d).word apart.0 in omega (arith, is)
     ];
     same = λ k above free. far k above;
-    apart = λ b taken free. subst (λ (f : Option Own). IfSome f (λ a. AreApart b (block_of a))) (sym own) free;
+    apart = λ b taken free. (subst (λ (f : Option Own). IfSome f (λ a. AreApart b (block_of a))) (sym own) free.0, subst (AreApart b) (sym spare) free.1);
     slot = λ l room free. slot_words l room;
     vacated = λ l room one. slot_words l room ∙ one;
   }
@@ -148,13 +145,14 @@ module _ (z : Layout) (o : Opening) (words : List ℕ) (before : List Holding) (
         components = components;
         tied = record {
           own = subst (λ (f : Option Own). IfSome f (IsOwn z words')) (sym own) (own_stays z words words' h h' moves far h.own tied.own);
+          spare = subst (IsSpare z words') (sym spare) (spare_moves z words words' h h' moves h.spare tied.spare);
           marked = λ d is. elim (others d) [
             | inl same ↦ subst (λ d. (counter z d).end < slice_index words' (counter z d).word) (sym same) (let is' = now in omega (arith, is', past))
             | inr apart ↦ let old = tied.marked d (sym apart.1 ∙ is) in let is' = other (counter z d).word apart.0 in omega (arith, old, is')
           ];
         };
-        apart = blocks_kept z words before h h' after log own (ap joined_in claimed) w.apart;
-        due = due_stays z o words words' before h h' after log w moves own due (λ e. ap joined_in claimed ∙ e) far components;
+        apart = blocks_kept z words before h h' after log own spare (ap joined_in claimed) w.apart;
+        due = due_stays z o words words' before h h' after log w moves own spare due (λ e. ap joined_in claimed ∙ e) far components;
         claimed = claimed;
         slot_words = slot_words;
         counts = λ l below room. elim (others Slots) [
@@ -174,8 +172,8 @@ module _ (z : Layout) (o : Opening) (words : List ℕ) (before : List Holding) (
 
 pub refusals_are_kept : RefusalsAreKept
 refusals_are_kept z o words before h after log PoolWords size w unmarked small past =
-    refused z o words before h (marked_for PoolWords h) after log PoolWords size w unmarked small past refl refl refl refl refl (other_marks z PoolWords h)
+    refused z o words before h (marked_for PoolWords h) after log PoolWords size w unmarked small past refl refl refl refl refl refl (other_marks z PoolWords h)
 refusals_are_kept z o words before h after log Slots size w unmarked small past =
-    refused z o words before h (marked_for Slots h) after log Slots size w unmarked small past refl refl refl refl refl (other_marks z Slots h)
+    refused z o words before h (marked_for Slots h) after log Slots size w unmarked small past refl refl refl refl refl refl (other_marks z Slots h)
 refusals_are_kept z o words before h after log ListWords size w unmarked small past =
-    refused z o words before h (marked_for ListWords h) after log ListWords size w unmarked small past refl refl refl refl refl (other_marks z ListWords h)
+    refused z o words before h (marked_for ListWords h) after log ListWords size w unmarked small past refl refl refl refl refl refl (other_marks z ListWords h)

@@ -1,5 +1,5 @@
 -- The steps that add nothing to the history, and what most steps leave as it was.
-use Rattle.partial_state.proofs.{Common.{ℕ, ◌≡◌, ◌≢◌, ◌+◌, ◌*◌, ◌<◌, ◌≤◌, ◌⊎◌, ◌++◌, ◌^◌, ◌%◌, true, false, List, ◌∷◌, length, slice_index, Option, None, IfSome, IsSomeAnd, refl, sym, ◌∙◌, ap, subst, inl, inr, arith, eq-eqb, Applied, Opening, place_below, Layout, IsLayout, slot_counter, list_head, pool_counter, list_counter, slot_word, list_base, pool_end, Block, AreApart, Covers, IsHead, ClaimedSlot, Own, Due, Holding, block_of, block_at, unpublished, blocks_in, other_holdings, IfJoined, joined_in, EachTwo, HaveOtherSlots, Pool, LawfulWords, IsOwn, IsTied, IsClaim, IsDue, IsKept, greatest_record, greatest_list, Counted, IsCounted, ListWords, PoolWords, Slots, counter, is_marked, marked_ports}, ListLemmas.{all_at, all_weaker}, Frames.{Frame, stays, head_moves, covers_moves}, HoldingLemmas.{own_far, if_some, if_some_at, some_found, joined_weaker, others_gone, marks_same, marks_more, marks_few}, Rebuild.{Moves, frame_of, agrees_stay, blocks_stay}, EffectLemmas.{due_moves, claim_moves, keeps}}
+use Rattle.partial_state.proofs.{Common.{ℕ, ◌≡◌, ◌≢◌, ◌+◌, ◌*◌, ◌<◌, ◌≤◌, ◌⊎◌, ◌++◌, ◌^◌, ◌%◌, true, false, List, ◌∷◌, length, slice_index, Option, None, IfSome, IsSomeAnd, refl, sym, ◌∙◌, ap, subst, inl, inr, arith, eq-eqb, Applied, Opening, place_below, Layout, IsLayout, slot_counter, list_head, pool_counter, list_counter, slot_word, list_base, pool_end, Block, AreApart, IsApartFrom, Covers, IsHead, ClaimedSlot, Own, Due, Holding, block_of, block_at, unpublished, blocks_in, without_block, IfJoined, joined_in, EachTwo, HaveOtherSlots, Pool, LawfulWords, IsOwn, IsTied, IsClaim, IsDue, IsKept, greatest_claim, greatest_list, Counted, IsCounted, ListWords, PoolWords, Slots, counter, is_marked, marked_ports}, ListLemmas.{all_at, all_before, all_after, all_join, all_weaker}, Frames.{Frame, stays, head_moves, covers_moves}, Blocks.unpublished_same, HoldingLemmas.{own_far, if_some, if_some_at, some_found, joined_weaker, unjoined_if, without_own, marks_same, marks_more, marks_few}, Rebuild.{Moves, frame_of, agrees_stay, blocks_stay}, EffectLemmas.{due_moves, claim_moves, keeps}}
 use Rattle.std.proofs.Math.Nat.{mul-le-mul_left}
 
 -- what a step changes that adds nothing to the history
@@ -8,7 +8,7 @@ pub record Quiet (z : Layout) (o : Opening) (words words' : List ℕ) (before : 
   pub components : (j : ℕ) → j < z.m → slice_index words' j ≡ slice_index words j
   pub tied : IsTied z words' h'
   pub apart : EachTwo AreApart (blocks_in z words (before ++ h' ∷ after) log)
-  pub due : IfSome h'.due (IsDue z o words' h' (other_holdings h'.port (before ++ h' ∷ after)) log)
+  pub due : IfSome h'.due (IsDue z o words' h' (without_block h'.port (before ++ h' ∷ after)) log)
   pub taken : (l : ℕ) → l < slice_index words' (slot_counter z) → l < z.slots → IsSomeAnd h.claimed (λ c. c.slot ≡ l) ⊎ (slice_index words (slot_counter z) ≤ l) → (slice_index words' (slot_word z l) ≡ 1) ⊎
       IsSomeAnd h'.claimed (λ c. c.slot ≡ l)
   pub claim : IfSome h'.claimed (IsClaim z words' (before ++ h' ∷ after) log)
@@ -88,7 +88,7 @@ counter_bound z o words hs log w c =
     let bound : (counter z c).greatest * marked_ports c hs ≤ (counter z c).greatest * 64 = mul-le-mul_left (counter z c).greatest (omega (arith, few, all)) in
     omega (arith, bound, high)
 
-pub fits_word : (z : Layout) (n : ℕ) → IsLayout z → n ≤ pool_end z + 65 * greatest_record z + 65 * greatest_list z → n % 2 ^ 64 ≡ n
+pub fits_word : (z : Layout) (n : ℕ) → IsLayout z → n ≤ pool_end z + 65 * greatest_claim z + 65 * greatest_list z → n % 2 ^ 64 ≡ n
 fits_word z n s most = let m = s.components.1 in let l = s.slots.1 in let t = s.lists in let p = s.pool.1 in omega arith
 
 -- what stays where the port's claim does
@@ -119,33 +119,51 @@ module _ (z : Layout) (o : Opening) (words words' : List ℕ) (before : List Hol
       (head_moves z words words' (unpublished (before ++ h ∷ after)) (unpublished (before ++ h' ∷ after)) frame (slice_index words (list_head z)) w.head)
 
   -- the port's own exchange that is due, where no word of a block changes
-  pub due_stays : h'.own ≡ h.own → h'.due ≡ h.due → (joined_in h.claimed ≡ None → joined_in h'.claimed ≡ None) → ((n : ℕ) → list_base z ≤ n → slice_index words' n ≡ slice_index words n) →
-      ((j : ℕ) → j < z.m → slice_index words' j ≡ slice_index words j) → IfSome h'.due (IsDue z o words' h' (other_holdings h'.port (before ++ h' ∷ after)) log)
-  due_stays own due unjoined far components =
-      subst (λ (d : Option Due). IfSome d (IsDue z o words' h' (other_holdings h'.port (before ++ h' ∷ after)) log)) (sym due)
-      (if_some (IsDue z o words h (other_holdings h.port (before ++ h ∷ after)) log) (IsDue z o words' h' (other_holdings h'.port (before ++ h' ∷ after)) log) h.due
-      (λ d e k. subst (λ (l : List Holding). IsDue z o words' h' l log d) same (one d k))
-      (all_at (λ v. IfSome v.due (IsDue z o words v (other_holdings v.port (before ++ h ∷ after)) log)) before h after w.due))
-    where
-      same : other_holdings h.port (before ++ h ∷ after) ≡ other_holdings h'.port (before ++ h' ∷ after)
-      same = others_gone h.port before h after (eq-eqb h.port h.port refl) ∙ sym (others_gone h.port before h' after (eq-eqb h'.port h.port m.port)) ∙
-          ap (λ p. other_holdings p (before ++ h' ∷ after)) (sym m.port)
+  pub due_here : h'.own ≡ h.own → h'.spare ≡ h.spare → (joined_in h.claimed ≡ None → joined_in h'.claimed ≡ None) → ((n : ℕ) → list_base z ≤ n → slice_index words' n ≡ slice_index words n) →
+      ((j : ℕ) → j < z.m → slice_index words' j ≡ slice_index words j) → (d : Due) → IsDue z o words h (without_block h.port (before ++ h ∷ after)) log d →
+      IsDue z o words' h' (without_block h'.port (before ++ h' ∷ after)) log d
+  due_here own spare unjoined far components d due =
+      let front = without_block h.port before in
+      let back = without_block h.port after in
+      let g : Holding = record h { own = None } in
+      let g' : Holding = record h' { own = None } in
+      let us = unpublished (front ++ g ∷ back) in
+      let us' = unpublished (front ++ g' ∷ back) in
+      let is : without_block h.port (before ++ h ∷ after) ≡ front ++ g ∷ back = without_own h.port before h after (eq-eqb h.port h.port refl) in
+      let is' : without_block h'.port (before ++ h' ∷ after) ≡ front ++ g' ∷ back =
+      ap (λ p. without_block p (before ++ h' ∷ after)) m.port ∙ without_own h.port before h' after (eq-eqb h'.port h.port m.port) in
+      let k : IsDue z o words h (front ++ g ∷ back) log d = subst (λ (l : List Holding). IsDue z o words h l log d) is due in
+      let same : us' ≡ us = unpublished_same front g g' back refl spare in
+      let f : Frame z words words' us us' = record {
+        count = m.count;
+        rises = m.rises;
+        same = λ n above p. far n above;
+        apart = λ b c a. subst (λ (us : List Block). IsApartFrom us b) (sym same) a;
+        vacated = m.vacated;
+      } in
+      let found = some_found (λ (b : Own). (b.space ≡ Pool) × (block_of b ≡ block_at words d.at) × (b.stored ≡ length b.words)) h.own k.own in
+      let b = found.0 in
+      let tied = all_at (IsTied z words) before h after w.tied in
+      let at : b.at ≡ d.at = ap (λ (x : Block). x.at) found.2.1 in
+      let above = own_far z words b (if_some_at (IsOwn z words) h.own b found.1 tied.own) in
+      let P : Holding → Type 0 = λ v. IfJoined v (λ l j. Covers z words us log d.at j) in
+      let Q : Holding → Type 0 = λ v. IfJoined v (λ l j. Covers z words' us' log d.at j) in
+      let moved : IsDue z o words' h' (front ++ g' ∷ back) log d = due_moves z o words words' h h' (front ++ g ∷ back) (front ++ g' ∷ back) log log d f (stays o log) own (unjoined k.unjoined)
+      (λ j old below within is. sym (components j below) ∙ is) (λ n below. far (d.at + n) (omega (arith, above, at)))
+      (λ prev view within all.
+      let each : (v : Holding) → P v → Q v = λ v. joined_weaker v (λ l j. Covers z words us log d.at j) (λ l j. Covers z words' us' log d.at j)
+      (λ l j. covers_moves z words words' us us' f o log log (stays o log) d.at prev view (length log) j within) in
+      all_join Q front g' back (all_weaker P Q each front (all_before P front g back all)) (unjoined_if (λ l j. Covers z words' us' log d.at j) h'.claimed (unjoined k.unjoined))
+      (all_weaker P Q each back (all_after P front g back all))) k in
+      subst (λ (l : List Holding). IsDue z o words' h' l log d) (sym is') moved
 
-      one : (d : Due) → IsDue z o words h (other_holdings h.port (before ++ h ∷ after)) log d → IsDue z o words' h' (other_holdings h.port (before ++ h ∷ after)) log d
-      one d k =
-          let others = other_holdings h.port (before ++ h ∷ after) in
-          let us = unpublished others in
-          let f : Frame z words words' us us = record { count = m.count; rises = m.rises; same = λ n above p. far n above; apart = λ b c a. a; vacated = m.vacated } in
-          let found = some_found (λ (b : Own). (b.space ≡ Pool) × (block_of b ≡ block_at words d.at) × (b.stored ≡ length b.words)) h.own k.own in
-          let b = found.0 in
-          let tied = all_at (IsTied z words) before h after w.tied in
-          let at : b.at ≡ d.at = ap (λ (x : Block). x.at) found.2.1 in
-          let above = own_far z words b (if_some_at (IsOwn z words) h.own b found.1 tied.own) in
-          due_moves z o words words' h h' others others log log d f (stays o log) own (unjoined k.unjoined) (λ j old below within is. sym (components j below) ∙ is)
-          (λ n below. far (d.at + n) (omega (arith, above, at)))
-          (λ prev view within all. all_weaker (λ v. IfJoined v (λ l j. Covers z words us log d.at j)) (λ v. IfJoined v (λ l j. Covers z words' us log d.at j))
-          (λ v. joined_weaker v (λ l j. Covers z words us log d.at j) (λ l j. Covers z words' us log d.at j)
-          (λ l j. covers_moves z words words' us us f o log log (stays o log) d.at prev view (length log) j within)) others all) k
+  pub due_stays : h'.own ≡ h.own → h'.spare ≡ h.spare → h'.due ≡ h.due → (joined_in h.claimed ≡ None → joined_in h'.claimed ≡ None) → ((n : ℕ) → list_base z ≤ n → slice_index words' n ≡ slice_index words n) →
+      ((j : ℕ) → j < z.m → slice_index words' j ≡ slice_index words j) → IfSome h'.due (IsDue z o words' h' (without_block h'.port (before ++ h' ∷ after)) log)
+  due_stays own spare due unjoined far components =
+      subst (λ (d : Option Due). IfSome d (IsDue z o words' h' (without_block h'.port (before ++ h' ∷ after)) log)) (sym due)
+      (if_some (IsDue z o words h (without_block h.port (before ++ h ∷ after)) log) (IsDue z o words' h' (without_block h'.port (before ++ h' ∷ after)) log) h.due
+      (λ d e k. due_here own spare unjoined far components d k)
+      (all_at (λ v. IfSome v.due (IsDue z o words v (without_block v.port (before ++ h ∷ after)) log)) before h after w.due))
 
 -- what a step changes that leaves the slots and the port's claim as they were
 pub record Calm (z : Layout) (o : Opening) (words words' : List ℕ) (before : List Holding) (h h' : Holding) (after : List Holding) (log : List Applied) : Type 0 where
@@ -153,7 +171,7 @@ pub record Calm (z : Layout) (o : Opening) (words words' : List ℕ) (before : L
   pub components : (j : ℕ) → j < z.m → slice_index words' j ≡ slice_index words j
   pub tied : IsTied z words' h'
   pub apart : EachTwo AreApart (blocks_in z words (before ++ h' ∷ after) log)
-  pub due : IfSome h'.due (IsDue z o words' h' (other_holdings h'.port (before ++ h' ∷ after)) log)
+  pub due : IfSome h'.due (IsDue z o words' h' (without_block h'.port (before ++ h' ∷ after)) log)
   pub claimed : h'.claimed ≡ h.claimed
   pub slot_words : (l : ℕ) → l < z.slots → slice_index words' (slot_word z l) ≡ slice_index words (slot_word z l)
   pub counts : (l : ℕ) → l < slice_index words' (slot_counter z) → l < z.slots → l < slice_index words (slot_counter z)

@@ -1,5 +1,5 @@
 -- Lawful words with one port's holding in the place of another, and with other words.
-use Rattle.partial_state.proofs.{Common.{ℕ, ◌≡◌, ◌≢◌, ◌+◌, ◌<◌, ◌≤◌, ◌++◌, List, [], ◌∷◌, length, map, slice_index, Option, Some, IfSome, slice_get, sym, ◌∙◌, ap, subst, arith, AllByRecursion, Applied, Opening, initial_stamp, Layout, slot_word, list_base, pool_base, prev_of, Agrees, IsLink, IsChain, chain_of, Block, AreApart, Own, Holding, Space, counter_of, block_of, block_at, announcements, unpublished, blocks_in, EachTwo, Pool, Lists, LawfulWords, IsOwn, IsTied, IsEntry, AllByRecursion-get, all_where, initial_words, first_free, value_word, record_value, prev_word, plain_record_size, chain_all, Counted, ListWords, PoolWords, counter}, ListLemmas.{all_at, all_before, all_after, all_join, two_before, two_after, map_same}, Frames.{Frame, IsClaimedBlock, word_at, part_apart}, Claimed.{unpublished_two, entry_free, initial_free}, HoldingLemmas.{own_far, if_some, if_some_at, all_unpublished, unpublished_all, HaveOtherBlocks, apart_others, blocks_turn, three_words, block_stays}}
+use Rattle.partial_state.proofs.{Common.{ℕ, ◌≡◌, ◌≢◌, ◌+◌, ◌<◌, ◌≤◌, ◌++◌, List, [], ◌∷◌, length, map, slice_index, Option, Some, IfSome, slice_get, sym, ◌∙◌, ap, subst, arith, AllByRecursion, Applied, Opening, initial_stamp, Layout, slot_word, list_base, pool_base, prev_of, Agrees, IsLink, IsChain, chain_of, Block, AreApart, Own, Holding, Space, counter_of, block_of, block_at, announcements, unpublished, blocks_in, EachTwo, Pool, Lists, LawfulWords, IsOwn, IsSpare, IsTied, IsEntry, AllByRecursion-get, all_where, initial_words, first_free, value_word, record_value, prev_word, plain_record_size, chain_all, Counted, ListWords, PoolWords, counter}, ListLemmas.{all_at, all_before, all_after, all_join, two_before, two_after, map_same}, Frames.{Frame, IsClaimedBlock, word_at, part_apart}, Claimed.{unpublished_two, entry_free, initial_free}, HoldingLemmas.{IsFreeOf, own_far, if_some, if_some_at, all_unpublished, unpublished_all, HaveOtherBlocks, apart_others, blocks_turn, three_words, block_stays}}
 use Rattle.partial_words.specs.declared.record.Link.{Link}
 
 -- What a step does to the words of others, where its port holds h before and h' behind it.
@@ -9,7 +9,7 @@ pub record Moves (z : Layout) (words words' : List ℕ) (h h' : Holding) : Type 
   pub rises : (c : Counted) → slice_index words (counter z c).word ≤ slice_index words' (counter z c).word
   -- of the words of blocks none changes but those of its own block
   pub same : (w : ℕ) → list_base z ≤ w → IfSome h.own (λ b. AreApart (word_at w) (block_of b)) → slice_index words' w ≡ slice_index words w
-  pub apart : (b : Block) → IsClaimedBlock z words b → IfSome h.own (λ c. AreApart b (block_of c)) → IfSome h'.own (λ c. AreApart b (block_of c))
+  pub apart : (b : Block) → IsClaimedBlock z words b → IsFreeOf h b → IsFreeOf h' b
   -- of the slots none changes but its own
   pub slot : (l : ℕ) → l < z.slots → IfSome h.claimed (λ c. c.slot ≢ l) → slice_index words' (slot_word z l) ≡ slice_index words (slot_word z l)
   pub vacated : (l : ℕ) → l < z.slots → slice_index words (slot_word z l) ≡ 1 → slice_index words' (slot_word z l) ≡ 1
@@ -21,9 +21,9 @@ module _ (z : Layout) (words words' : List ℕ) (h h' : Holding) (m : Moves z wo
       record {
         count = m.count;
         rises = m.rises;
-        same = λ w far p. m.same w far (all_at (λ v. IfSome v.own (λ b. AreApart (word_at w) (block_of b))) before h after (unpublished_all (AreApart (word_at w)) (before ++ h ∷ after) p.apart));
+        same = λ w far p. m.same w far (all_at (λ v. IsFreeOf v (word_at w)) before h after (unpublished_all (AreApart (word_at w)) (before ++ h ∷ after) p.apart)).0;
         apart = λ b claimed apart.
-            let P : Holding → Type 0 = λ v. IfSome v.own (λ c. AreApart b (block_of c)) in
+            let P : Holding → Type 0 = λ v. IsFreeOf v b in
             let all = unpublished_all (AreApart b) (before ++ h ∷ after) apart in
             all_unpublished (AreApart b) (before ++ h' ∷ after) (all_join P before h' after (all_before P before h after all) (m.apart b claimed (all_at P before h after all))
             (all_after P before h after all));
@@ -68,10 +68,15 @@ module _ (z : Layout) (words words' : List ℕ) (h h' : Holding) (m : Moves z wo
         stands = λ i stored. far (b.at + i) (omega (arith, above)) ∙ own.stands i stored;
       }) w
 
+  -- spare words stay below the counter
+  pub spare_moves : (b : Block) → IsSpare z words b → IsSpare z words' b
+  spare_moves b w = let below = w.below in let more = m.rises PoolWords in record { above = w.above; within = w.within; below = omega (arith, below, more) }
+
   pub marked_moves : (v : Holding) → IfSome v.own (IsOwn z words') → IsTied z words v → IsTied z words' v
   marked_moves v own w =
       record {
         own = own;
+        spare = spare_moves v.spare w.spare;
         marked = λ c on. let past = w.marked c on in let up = m.rises c in omega (arith, past, up);
       }
 
@@ -100,7 +105,7 @@ module _ (z : Layout) (o : Opening) (words words' : List ℕ) (before : List Hol
     (m : Moves z words words' h h') where
   -- what is apart from each block that isn't published is apart from the port's own
   from_own : (b : Block) → AllByRecursion (AreApart b) (unpublished (before ++ h ∷ after)) → IfSome h.own (λ c. AreApart b (block_of c))
-  from_own b all = all_at (λ v. IfSome v.own (λ c. AreApart b (block_of c))) before h after (unpublished_all (AreApart b) (before ++ h ∷ after) all)
+  from_own b all = (all_at (λ v. IsFreeOf v b) before h after (unpublished_all (AreApart b) (before ++ h ∷ after) all)).0
 
   -- the words of records of the history stay
   pub entry_word : (k : ℕ) (e : Applied) (n : ℕ) → slice_get log k ≡ Some e → n < (block_at words e.stamp).size → slice_index words' (e.stamp + n) ≡ slice_index words (e.stamp + n)

@@ -1,5 +1,5 @@
 -- The steps on slots: a claim, a join and a leave.
-use Rattle.partial_state.proofs.{Common.{ℕ, ◌≡◌, ◌≢◌, ◌+◌, ◌<◌, ◌≤◌, ◌++◌, ◌^◌, ◌%◌, ◌∷◌, length, slice_index, slice_set, Option, Some, None, IfSome, IsSomeAnd, refl, sym, ◌∙◌, ap, subst, inl, inr, arith, get_or-set_other, get_or-set_same, length-set, AllByRecursion, eqb_tells, slot_counter, list_head, pool_counter, list_counter, slot_word, list_base, Block, AreApart, JoinedAnnouncement, IsAnnounced, IsApartFrom, ClaimedSlot, Own, Holding, block_of, unpublished, blocks_in, other_holdings, joined_in, Pool, IsOwn, IsTied, IsClaim, IsDue, SlotClaimsAreKept, JoinsAreKept, LeavesAreKept, announcement_block, announcement_size, ListWords, PoolWords, Slots, ◌*◌, counter, marked_ports}, ListLemmas.{all_at, two_take, two_put}, Frames.apart_turns, Claimed.unpublished_two, HoldingLemmas.{if_some, if_some_at, none_here, marks_kept}, Blocks.{announcement_of, unpublished_same, announced_same, own_added, announcement_added, own_block_added, announced_block_added}, Rebuild.{Moves, own_stays}, NoNewEntry.{quiet, fits_word, head_stays, due_stays, high_stays, marked_stays, counters_stay, counters_same, counters_rise}, MarkLaws.blocks_kept, BlockLaws.own_freed}
+use Rattle.partial_state.proofs.{Common.{ℕ, ◌≡◌, ◌≢◌, ◌+◌, ◌<◌, ◌≤◌, ◌++◌, ◌^◌, ◌%◌, ◌∷◌, length, slice_index, slice_set, Option, Some, None, IfSome, IsSomeAnd, refl, sym, ◌∙◌, ap, subst, inl, inr, arith, get_or-set_other, get_or-set_same, length-set, AllByRecursion, eqb_tells, slot_counter, list_head, pool_counter, list_counter, slot_word, list_base, Block, AreApart, JoinedAnnouncement, IsAnnounced, IsApartFrom, ClaimedSlot, Own, Holding, block_of, unpublished, blocks_in, without_block, joined_in, Pool, IsOwn, IsTied, IsClaim, IsDue, SlotClaimsAreKept, JoinsAreKept, LeavesAreKept, announcement_block, announcement_size, ListWords, PoolWords, Slots, ◌*◌, counter, marked_ports}, ListLemmas.{all_at, two_take, two_put}, Frames.apart_turns, Claimed.unpublished_two, HoldingLemmas.{if_some, if_some_at, none_here, marks_kept}, Blocks.{announcement_of, unpublished_same, announced_same, own_added, announcement_added, own_block_added, announced_block_added}, Rebuild.{Moves, own_stays, spare_moves}, NoNewEntry.{quiet, fits_word, head_stays, due_stays, high_stays, marked_stays, counters_stay, counters_same, counters_rise}, MarkLaws.blocks_kept, BlockLaws.own_freed}
 
 -- no slot is claimed where there is no claim, and where there is one it is its own
 none_claimed : (P : ClaimedSlot → Type 0) (f : Option ClaimedSlot) → f ≡ None → IsSomeAnd f P → ⊥
@@ -41,10 +41,11 @@ slot_claims_are_kept z o words before h after log w unclaimed room =
       components = components;
       tied = record {
         own = own_stays z words words' h h' m far h.own tied.own;
+        spare = spare_moves z words words' h h' m h.spare tied.spare;
         marked = marked_stays z words words' before h h' after (marks_kept h h' refl refl refl) m.rises tied.marked;
       };
-      apart = blocks_kept z words before h h' after log refl (sym (ap joined_in unclaimed)) w.apart;
-      due = due_stays z o words words' before h h' after log w m refl refl (λ e. refl) far components;
+      apart = blocks_kept z words before h h' after log refl refl (sym (ap joined_in unclaimed)) w.apart;
+      due = due_stays z o words words' before h h' after log w m refl refl refl (λ e. refl) far components;
       taken = λ l below inside k. elim k [
         | inl t ↦ absurd (none_claimed (λ c. c.slot ≡ l) h.claimed unclaimed t)
         | inr from ↦ let is : slice_index words (slot_counter z) ≡ l =
@@ -96,12 +97,13 @@ leaves_are_kept z o words before h after log slot j w is =
       components = components;
       tied = record {
         own = own_stays z words words' h h' m far h.own tied.own;
+        spare = spare_moves z words words' h h' m h.spare tied.spare;
         marked = marked_stays z words words' before h h' after (marks_kept h h' refl refl refl) m.rises tied.marked;
       };
       apart = (two_take AreApart apart_turns (announcement_of j) (blocks_in z words (before ++ h' ∷ after) log) (blocks_in z words (before ++ h ∷ after) log)
-          (announced_block_added z words (before ++ h ∷ after) (before ++ h' ∷ after) log (announcement_of j) (unpublished_same before h h' after refl)
+          (announced_block_added z words (before ++ h ∷ after) (before ++ h' ∷ after) log (announcement_of j) (unpublished_same before h h' after refl refl)
           (announcement_added before h h' after j refl (ap joined_in is))) w.apart).0;
-      due = due_stays z o words words' before h h' after log w m refl refl (λ e. refl) far components;
+      due = due_stays z o words words' before h h' after log w m refl refl refl (λ e. refl) far components;
       taken = λ l below inside k. elim k [ inl t ↦ inl (left l (one_claimed (λ c. c.slot ≡ l) h.claimed c is t)) | inr from ↦ absurd (omega (arith, from, below, slots)) ];
       claim = tt;
       owners = λ v k other. tt;
@@ -136,7 +138,7 @@ joins_are_kept z o words before h after log slot at indices w is idle owned few 
       count = length-set words n at;
       rises = λ c. let now = counts c in omega (arith, now);
       same = λ k above free. far k above;
-      apart = λ b claimed free. tt;
+      apart = λ b claimed free. (tt, free.1);
       slot = λ l inside free. let differs = if_some_at (λ c. c.slot ≢ l) h.claimed c is free in other (slot_word z l) (λ e. differs (omega (arith, e)));
       vacated = λ l inside one. elim (eqb_tells slot l) [
         | inl t ↦ let none : slice_index words (slot_word z l) ≡ 0 = ap (λ t. slice_index words (slot_word z t)) (sym t.1) ∙ empty in absurd
@@ -153,10 +155,10 @@ joins_are_kept z o words before h after log slot at indices w is idle owned few 
     let same : block_of b ≡ announcement_of j = ap (λ n. record { at = at; size = n }) size in
     let taken = two_take AreApart apart_turns (block_of b) (blocks_in z words (before ++ between ∷ after) log) (blocks_in z words (before ++ h ∷ after) log)
     (own_block_added z words (before ++ h ∷ after) (before ++ between ∷ after) log (block_of b) (announced_same before h between after refl)
-    (own_added before h between after b refl owned)) w.apart in
+    (own_added before h between after b refl owned refl)) w.apart in
     let free : AllByRecursion (AreApart (announcement_of j)) (blocks_in z words (before ++ between ∷ after) log) =
     subst (λ (x : Block). AllByRecursion (AreApart x) (blocks_in z words (before ++ between ∷ after) log)) same taken.1 in
-    let added = announced_block_added z words (before ++ h' ∷ after) (before ++ between ∷ after) log (announcement_of j) (unpublished_same before h' between after refl)
+    let added = announced_block_added z words (before ++ h' ∷ after) (before ++ between ∷ after) log (announcement_of j) (unpublished_same before h' between after refl refl)
     (announcement_added before h' between after j (ap joined_in is) refl) in
     let announced : IsAnnounced z words' (unpublished (before ++ h' ∷ after)) at indices = record {
       whole = record {
@@ -168,7 +170,7 @@ joins_are_kept z o words before h after log slot at indices w is idle owned few 
       };
       above = own.above;
       below = omega (arith, below, size, pool);
-      apart = subst (IsApartFrom (unpublished (before ++ h' ∷ after))) same (own_freed before h h' after b owned refl (unpublished_two z o words (before ++ h ∷ after) log w));
+      apart = subst (IsApartFrom (unpublished (before ++ h' ∷ after))) same (own_freed before h h' after b owned refl refl (unpublished_two z o words (before ++ h ∷ after) log w));
     } in
     let inside = claim.below in
     quiet z o words words' before h h' after log w (record {
@@ -176,10 +178,11 @@ joins_are_kept z o words before h after log slot at indices w is idle owned few 
       components = λ i below. other i (λ e. omega (arith, below, e));
       tied = record {
         own = tt;
+        spare = spare_moves z words words' h h' m h.spare tied.spare;
         marked = marked_stays z words words' before h h' after (marks_kept h h' refl refl refl) m.rises tied.marked;
       };
       apart = two_put AreApart apart_turns (announcement_of j) (blocks_in z words (before ++ between ∷ after) log) (blocks_in z words (before ++ h' ∷ after) log) added taken.0 free;
-      due = none_here (IsDue z o words' h' (other_holdings h'.port (before ++ h' ∷ after)) log) h.due idle;
+      due = none_here (IsDue z o words' h' (without_block h'.port (before ++ h' ∷ after)) log) h.due idle;
       taken = λ l below room k. elim k [ inl t ↦ let e : slot ≡ l = one_claimed (λ c. c.slot ≡ l) h.claimed c is t in inr e | inr from ↦ absurd (omega (arith, from, below, slots)) ];
       claim = record { slot = room; below = omega (arith, inside, slots); holds = (now, omega arith, announced) };
       owners = λ v k other. if_some_at (λ c. IfSome v.claimed (λ d. c.slot ≢ d.slot)) h.claimed c is other;

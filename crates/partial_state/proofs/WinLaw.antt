@@ -1,5 +1,5 @@
 -- A won exchange of a component: its record is published, and the history gains its entry.
-use Rattle.partial_state.proofs.{Common.{ℕ, ◌≡◌, ◌≢◌, ◌+◌, ◌<◌, ◌≤◌, ◌==◌, ◌++◌, Bool, true, false, if◌then◌else◌, List, [], ◌∷◌, length, map, slice_index, slice_set, Option, Some, None, IfSome, slice_get, refl, sym, ◌∙◌, ap, subst, inl, inr, arith, append_assoc, get_or-set_other, get_or-set_same, length-set, AllByRecursion, option_map, eq-eqb, eqb-true, eqb-false, eqb_tells, length_push, take-append-le, Applied, Opening, IsHistory, initial_stamp, stamp_of, stamp_of-push, distinct_push, slice_get_grows, AllByRecursion-push, AllByRecursion-get, Layout, slot_counter, list_head, pool_counter, list_counter, slot_word, pool_base, pool_end, prev_word, prev_of, view_of, IsLink, IsChain, chain_of, Block, AreApart, JoinedAnnouncement, HasFreshView, Covers, IsWithin, ClaimedSlot, Own, Due, Holding, Space, space_begin, end_of, counter_of, block_of, block_at, announcements, unpublished, blocks_in, other_holdings, IfJoined, joined_in, EachTwo, HaveOtherPorts, Pool, LawfulWords, IsOwn, IsTied, IsDue, IsKept, WinsAreKept, all_where, initial_words, first_free, view_word, value_word, plain_record_size, record_value, chain_cons, links_from-push, Counted, counter}, ListLemmas.{all_at, all_front, all_back, all_join, all_weaker, all_unmap, two_before, two_after, two_take, two_put, Adds, adds_behind, found_before, found_last}, Frames.{Frame, Grows, apart_turns, fresh_moves, covers_moves}, HoldingLemmas.{if_some_at, some_found, joined_weaker, ports_turn, others_gone, others_all, filter_append, three_words, block_stays, marks_kept}, Blocks.{unpublished_is, announced_same, own_added, own_block_added}, Rebuild.{Moves, chain_moves, entries_stay}, EffectLemmas.{IsNew, keeps}, NoNewEntry.{taken_stays, claim_stays, head_stays, marked_stays, counters_stay, counters_same}}
+use Rattle.partial_state.proofs.{Common.{ℕ, ◌≡◌, ◌≢◌, ◌+◌, ◌<◌, ◌≤◌, ◌==◌, ◌++◌, Bool, true, false, if◌then◌else◌, List, [], ◌∷◌, length, map, slice_index, slice_set, Some, None, IfSome, slice_get, refl, sym, ◌∙◌, ap, subst, inl, inr, arith, append_assoc, get_or-set_other, get_or-set_same, length-set, AllByRecursion, eq-eqb, eqb-true, eqb-false, eqb_tells, length_push, take-append-le, Applied, Opening, IsHistory, initial_stamp, stamp_of, stamp_of-push, distinct_push, slice_get_grows, AllByRecursion-push, AllByRecursion-get, Layout, slot_counter, list_head, pool_counter, list_counter, slot_word, pool_base, pool_end, prev_word, prev_of, view_of, IsLink, IsChain, chain_of, Block, AreApart, HasFreshView, Covers, IsWithin, Own, Due, Holding, block_of, block_at, announcements, unpublished, blocks_in, without_block, IfJoined, EachTwo, Pool, LawfulWords, IsOwn, IsTied, IsDue, IsKept, WinsAreKept, all_where, initial_words, first_free, view_word, value_word, plain_record_size, record_value, chain_cons, links_from-push, Counted, counter}, ListLemmas.{all_at, all_before, all_after, all_front, all_join, all_weaker, all_unmap, two_take, two_put, Adds, adds_behind, found_before, found_last}, Frames.{Frame, Grows, apart_turns, fresh_moves, covers_moves}, HoldingLemmas.{if_some_at, some_found, joined_weaker, unjoined_if, own_in_pool, without_this, three_words, block_stays, marks_kept}, Blocks.{unpublished_same, announced_same, own_added, own_block_added}, Rebuild.{Moves, spare_moves, chain_moves, entries_stay}, EffectLemmas.{IsNew, keeps}, NoNewEntry.{taken_stays, claim_stays, head_stays, marked_stays, counters_stay, counters_same}}
 
 map_push : {A B : Type 0} (f : A → B) (xs : List A) (y : A) → map f (xs ++ y ∷ []) ≡ map f xs ++ f y ∷ []
 map_push f [] y = refl
@@ -9,20 +9,6 @@ map_push f (x ∷ xs) y = ap (λ (l : List _). f x ∷ l) (map_push f xs y)
 other_stamps : (words : List ℕ) (s t : ℕ) → AreApart (block_at words s) (block_at words t) → t ≢ s
 other_stamps words s t (inl h) = let size = three_words words s in λ e. omega (arith, h, size, e)
 other_stamps words s t (inr h) = let size = three_words words t in λ e. omega (arith, h, size, e)
-
--- who isn't joined has no announcement to cover
-unjoined_if : (P : ℕ → JoinedAnnouncement → Type 0) (f : Option ClaimedSlot) → joined_in f ≡ None → IfSome f (λ c. IfSome c.joined (P c.slot))
-unjoined_if P None e = tt
-unjoined_if P (Some c) e = subst (λ (j : Option JoinedAnnouncement). IfSome j (P c.slot)) (sym e) tt
-
--- where a block of a port's own lies in the pool
-pub own_in_pool : (z : Layout) (words : List ℕ) (b : Own) → b.space ≡ Pool → IsOwn z words b → (first_free z ≤ b.at) × (b.at + length b.words ≤ pool_end z) ×
-    (b.at + length b.words ≤ slice_index words (pool_counter z))
-own_in_pool z words b e w = (
-  subst (λ (s : Space). space_begin z s ≤ b.at) e w.above,
-  subst (λ (s : Space). b.at + length b.words ≤ end_of z s) e w.within,
-  subst (λ (s : Space). b.at + length b.words ≤ slice_index words (counter_of z s)) e w.below,
-)
 
 module _ (z : Layout) (o : Opening) (words : List ℕ) (before : List Holding) (h : Holding) (after : List Holding) (log : List Applied) (d : Due) (w : LawfulWords z o words (before ++ h ∷ after) log)
     (is : h.due ≡ Some d) (won : slice_index words d.component ≡ d.old) where
@@ -41,9 +27,9 @@ module _ (z : Layout) (o : Opening) (words : List ℕ) (before : List Holding) (
   abbrev exchanged : List ℕ
   exchanged = slice_set words d.component (if slice_index words d.component == d.old then d.at else slice_index words d.component)
 
-  due : IsDue z o words h (other_holdings h.port (before ++ h ∷ after)) log d
-  due = if_some_at (IsDue z o words h (other_holdings h.port (before ++ h ∷ after)) log) h.due d is
-      (all_at (λ v. IfSome v.due (IsDue z o words v (other_holdings v.port (before ++ h ∷ after)) log)) before h after w.due)
+  due : IsDue z o words h (without_block h.port (before ++ h ∷ after)) log d
+  due = if_some_at (IsDue z o words h (without_block h.port (before ++ h ∷ after)) log) h.due d is
+      (all_at (λ v. IfSome v.due (IsDue z o words v (without_block v.port (before ++ h ∷ after)) log)) before h after w.due)
 
   tied : IsTied z words h
   tied = all_at (IsTied z words) before h after w.tied
@@ -97,7 +83,7 @@ module _ (z : Layout) (o : Opening) (words : List ℕ) (before : List Holding) (
         count = length-set words d.component (if slice_index words d.component == d.old then d.at else slice_index words d.component);
         rises = λ c. let now = counts c in omega (arith, now);
         same = λ k far free. higher k (omega (arith, far));
-        apart = λ b claimed free. tt;
+        apart = λ b claimed free. (tt, free.1);
         slot = λ l room free. higher (slot_word z l) (omega arith);
         vacated = λ l room one. higher (slot_word z l) (omega arith) ∙ one;
       }
@@ -107,7 +93,7 @@ module _ (z : Layout) (o : Opening) (words : List ℕ) (before : List Holding) (
   freed =
       let b = published.own in
       let both = two_take AreApart apart_turns (block_of b) (blocks_in z words holdings_after log) (blocks_in z words (before ++ h ∷ after) log)
-      (own_block_added z words (before ++ h ∷ after) holdings_after log (block_of b) (announced_same before h behind after refl) (own_added before h behind after b refl published.here)) w.apart in
+      (own_block_added z words (before ++ h ∷ after) holdings_after log (block_of b) (announced_same before h behind after refl) (own_added before h behind after b refl published.here refl)) w.apart in
       (both.0, subst (λ (x : Block). AllByRecursion (AreApart x) (blocks_in z words holdings_after log)) published.block both.1)
 
   differs : (k : ℕ) (e : Applied) → slice_get log k ≡ Some e → e.stamp ≢ d.at
@@ -189,26 +175,22 @@ module _ (z : Layout) (o : Opening) (words : List ℕ) (before : List Holding) (
     | inr t ↦ sym (other j (λ e. t.1 (sym e))) ∙ same
   ]
 
-  -- the other ports' holdings are those beside
-  others_are : other_holdings h.port (before ++ h ∷ after) ≡ before ++ after
-  others_are =
-      others_gone h.port before h after (eq-eqb h.port h.port refl)
-      ∙ ap (λ (l : List Holding). l ++ other_holdings h.port after) (others_all h before (two_before HaveOtherPorts ports_turn before h after w.ports))
-      ∙ ap (λ (l : List Holding). before ++ l) (others_all h after (two_after HaveOtherPorts ports_turn before h after w.ports))
+  others_are : without_block h.port (before ++ h ∷ after) ≡ before ++ record h { own = None } ∷ after
+  others_are = without_this before h after w.ports
 
-  unpublished_now : unpublished (other_holdings h.port (before ++ h ∷ after)) ≡ unpublished holdings_after
-  unpublished_now =
-      ap unpublished others_are ∙ filter_append (λ (v : Holding). option_map block_of v.own) before after ∙ sym (unpublished_is before behind after None refl)
+  unpublished_now : unpublished (without_block h.port (before ++ h ∷ after)) ≡ unpublished holdings_after
+  unpublished_now = ap unpublished others_are ∙ unpublished_same before behind (record h { own = None }) after refl refl
 
   here : Frame z words exchanged (unpublished holdings_after) (unpublished holdings_after)
   here =
       let m = moves in
       record { count = m.count; rises = m.rises; same = λ k far p. higher k (omega (arith, far)); apart = λ b claimed apart. apart; vacated = m.vacated }
 
-  would : HasFreshView z o words (unpublished holdings_after) log (length log) d.at × AllByRecursion (λ v. IfJoined v (λ l j. Covers z words (unpublished holdings_after) log d.at j)) (before ++ after)
+  would : HasFreshView z o words (unpublished holdings_after) log (length log) d.at ×
+      AllByRecursion (λ v. IfJoined v (λ l j. Covers z words (unpublished holdings_after) log d.at j)) (before ++ record h { own = None } ∷ after)
   would =
       let both = due.would won in
-      let U : List Block → Type 0 = λ us. AllByRecursion (λ v. IfJoined v (λ l j. Covers z words us log d.at j)) (other_holdings h.port (before ++ h ∷ after)) in (
+      let U : List Block → Type 0 = λ us. AllByRecursion (λ v. IfJoined v (λ l j. Covers z words us log d.at j)) (without_block h.port (before ++ h ∷ after)) in (
         subst (λ (us : List Block). HasFreshView z o words us log (length log) d.at) unpublished_now both.0,
         subst (AllByRecursion (λ v. IfJoined v (λ l j. Covers z words (unpublished holdings_after) log d.at j))) others_are (subst U unpublished_now both.1),
       )
@@ -236,8 +218,9 @@ module _ (z : Layout) (o : Opening) (words : List ℕ) (before : List Holding) (
       record {
         entry = record { above = far; within = omega (arith, within, size); below = omega (arith, below, size, pool) };
         fresh = fresh_moves z words exchanged us us here o log longer grows d.at prev_now view_now (length log) (length log) (omega arith) (omega arith) would.0;
-        covering = all_join Q before behind after (all_weaker P Q each before (all_front P before after would.1)) (unjoined_if (λ l j. Covers z exchanged us longer d.at j) h.claimed due.unjoined)
-            (all_weaker P Q each after (all_back P before after would.1));
+        covering = all_join Q before behind after (all_weaker P Q each before (all_before P before (record h { own = None }) after would.1))
+            (unjoined_if (λ l j. Covers z exchanged us longer d.at j) h.claimed due.unjoined)
+            (all_weaker P Q each after (all_after P before (record h { own = None }) after would.1));
       }
 
   blocks_now : EachTwo AreApart (blocks_in z exchanged holdings_after longer)
@@ -271,6 +254,7 @@ module _ (z : Layout) (o : Opening) (words : List ℕ) (before : List Holding) (
         newest = λ k e s from. found_last (λ k (e : Applied). IsNew z o exchanged holdings_after longer k e) log entry k e new s from;
         tied = record {
           own = tt;
+          spare = spare_moves z words exchanged h behind moves h.spare t.spare;
           marked = marked_stays z words exchanged before h behind after (marks_kept h behind refl refl refl) moves.rises t.marked;
         };
         apart = blocks_now;
