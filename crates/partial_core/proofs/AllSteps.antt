@@ -1,5 +1,5 @@
 -- The one law of steps, over all stages, and how a call begins.
-use Rattle.partial_core.proofs.{Common.{ℕ, ◌≡◌, ◌<◌, ◌≤◌, ◌++◌, ◌⊎◌, Bool, true, false, if◌then◌else◌, Some, None, List, [], ◌∷◌, length, take, slice_index, refl, sym, ap, subst, ◌∙◌, inl, inr, arith, IfSome, false≢true, append-nil, take_all, Applied, Opening, LegalNotes, seen_by, places_by, Step, Add, Layout, IsLayout, pool_counter, list_base, pool_end, total, announcement_size, answer_of, words_after, Change, Stage, CoreState, lists_spent, record_size, advance, step_at, step_of, reply_of, is_begun, is_at_rest, IsPossible, IsBehind, size_few, answers_lead_on, Holding, unpublished, without_block, IsDue, IsLoaded, IsPublished, loads_are_true, Part, core_of, port_of, HasBegun, IsLedTo, IsMarkedLike, has_no_step, holding_of, holdings, joined_since, IsKnown, begun_with, kept_with, since_with, past_with, added_by, AreNotesOf, LeadsOn, StepsStayLawful, PartAmong, LawfulAmong, memory_after, record_step}, Added.{added_at, IsExchange, StepAdds, step_adds}, Parts.{IsKeptAmong, changed, gone, gone_core, all_at, holdings_split, once_same}, Ports.fits_here, Steps.{LeadsAt, holding_in, known_here, sizes_here, sound_here, sound_at, port_here, memory_here, memory_at}, Reading.{read_begun, value_loaded, update_begun, viewing_leads, scanning_leads}, GetSetSteps.getting_leads, Claims.{record_begun, announcement_claimed, announcement_stored}, Joins.{same_step, joining_leads}, Leaves.{leave_due, leaves}, Exchange.record_exchanged, Stored.record_stored}
+use Rattle.partial_core.proofs.{Common.{ℕ, ◌≡◌, ◌<◌, ◌≤◌, ◌++◌, ◌⊎◌, Bool, true, false, if◌then◌else◌, Some, None, List, [], ◌∷◌, length, take, slice_index, refl, sym, ap, subst, ◌∙◌, inl, inr, arith, IfSome, false≢true, append-nil, take_all, Applied, Opening, LegalNotes, seen_by, places_by, Step, Add, Layout, IsLayout, pool_counter, list_base, pool_end, total, announcement_size, answer_of, words_after, Change, Stage, CoreState, lists_spent, advance, step_at, step_of, reply_of, is_begun, is_at_rest, IsPossible, IsBehind, size_few, answers_lead_on, Holding, unpublished, without_block, IsDue, IsLoaded, IsPublished, loads_are_true, Part, core_of, port_of, HasBegun, IsLedTo, IsMarkedLike, has_no_step, holding_of, holdings, joined_since, IsKnown, begun_with, kept_with, since_with, past_with, added_by, AreNotesOf, LeadsOn, StepsStayLawful, PartAmong, LawfulAmong, memory_after}, Added.{added_at, IsExchange, StepAdds, step_adds}, Parts.{IsKeptAmong, changed, gone, gone_core, all_at, holdings_split, once_same}, Ports.fits_here, Steps.{LeadsAt, holding_in, known_here, sizes_here, sound_here, sound_at, port_here, memory_here, memory_at}, Reading.{read_begun, value_loaded, update_begun, viewing_leads, scanning_leads}, GetSetSteps.getting_leads, Claims.{record_begun, announcement_claimed, announcement_stored}, Joins.{same_step, joining_leads}, Leaves.{leave_due, leaves}, Exchange.record_exchanged, Stored.record_stored}
 use Rattle.partial_machine.specs.declared.stage.Stage.TheVariants.{Idle, ReadBegun, LoadingValue, UpdateBegun, GettingSet, Viewing, ClaimingRecord, StoringRecord, Exchanging, ScanBegun, StoringAnnouncement, Joining, Scanning, Leaving, Finished}
 
 -- the part with its call begun

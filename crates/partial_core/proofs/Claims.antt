@@ -1,5 +1,5 @@
 -- The claims of pool words, and the stores of an announcement.
-use Rattle.partial_core.proofs.{Common.{ℕ, suc, ◌≡◌, ◌+◌, ◌<◌, ◌≤◌, ◌==◌, ◌++◌, Bool, true, false, if◌then◌else◌, Option, Some, None, List, [], ◌∷◌, length, map, refl, sym, ap, subst, ◌∙◌, arith, slice_index, ne_eqb, ltb-true, ltb-false, eqb-true, Opening, MayBeRefused, Store, Add, Layout, pool_counter, pool_end, greatest_record, greatest_claim, words_after, announcement_block, announcement_size, record_block, plain_record_size, full_record_size, length-record_block, Change, Stage, ClaimingRecord, StoringRecord, ScanBegun, StoringAnnouncement, CoreState, at_stage, step_at, record_size, record_words, fits_pool, pool_refused, begin_joining, IsPoolCount, size_few, Holding, Own, Pool, claims_are_kept, stores_are_kept, is_sound_at, core_of, holding_of, holding_at, holdings, joined_since, call_at, update_call, PartAmong, LawfulAmong, PoolWords, counter_bound, refusals_are_kept, replicate, length-replicate, ◌-◌, has_spare, claim_size, record_step, into_spare, into_claim, IsRecordAnswer, IsPossibleAt, advance_at, view_at, own_pairs, spares_are_kept, takes_are_kept, Block, block_of, LawfulWords, IsKept, Step}, Leaves.names_all, Parts.{LawfulWith, IsKeptAmong}, Steps.{LeadsAt, holding_in, known_here, sizes_here, sound_here, sound_at, memory_at, going, quiet}, Reading.begun_here, StoredFacts.length_record, Joins.keeps_then}
+use Rattle.partial_core.proofs.{Common.{ℕ, ◌≡◌, ◌+◌, ◌<◌, ◌≤◌, ◌==◌, ◌++◌, Bool, true, false, if◌then◌else◌, Option, Some, None, List, [], ◌∷◌, length, refl, sym, ap, subst, ◌∙◌, arith, slice_index, ltb-true, ltb-false, eqb-true, Opening, MayBeRefused, Store, Add, Layout, pool_counter, pool_end, greatest_record, greatest_claim, words_after, announcement_block, announcement_size, record_block, Change, Stage, ClaimingRecord, ScanBegun, StoringAnnouncement, CoreState, at_stage, step_at, record_size, record_words, fits_pool, pool_refused, begin_joining, IsPoolCount, size_few, Holding, Own, Pool, claims_are_kept, stores_are_kept, is_sound_at, core_of, holding_of, holding_at, holdings, joined_since, call_at, update_call, PartAmong, LawfulAmong, PoolWords, counter_bound, refusals_are_kept, replicate, length-replicate, ◌-◌, has_spare, claim_size, record_step, into_spare, into_claim, IsRecordAnswer, IsPossibleAt, advance_at, view_at, own_pairs, spares_are_kept, takes_are_kept, Block, block_of, LawfulWords, IsKept}, Leaves.names_all, Parts.{LawfulWith, IsKeptAmong}, Steps.{LeadsAt, holding_in, known_here, sizes_here, sound_here, sound_at, memory_at, going, quiet}, Reading.begun_here, StoredFacts.length_record, Joins.keeps_then}
 use Rattle.partial_model.specs.declared.call.{Call.Call, Refused.Refused}
 
 -- the first word of a record is the record before it
@@ -57,11 +57,8 @@ module _ (z : Layout) (o : Opening) (m : PartAmong) (w : LawfulAmong z o m) wher
     held = holding_in (core_of x) (ClaimingRecord c old) (joined_since x)
 
     -- the machine behind the step, by what its tests say
-    on : Bool → Bool → CoreState
+    abbrev on : Bool → Bool → CoreState
     on some fits = if some then into_spare s c old else (if fits then into_claim s c old a else pool_refused s)
-
-    long : length (record_words s c old a) ≡ record_size s
-    long = length_record s c old a
 
     -- the record's words are taken from spare words that have room for them
     takes : (ws : List ℕ) (h : Holding) (at size rest : ℕ) → LawfulWords z o ws (holdings before ++ h ∷ holdings after) log → h.own ≡ None → h.due ≡ None → h.spare ≡ record { at = at; size = size } →
@@ -100,13 +97,15 @@ module _ (z : Layout) (o : Opening) (m : PartAmong) (w : LawfulAmong z o m) wher
         let take = takes words held at s.spare.size (s.spare.size - record_size s) (memory_at z o m w (ClaimingRecord c old) e) refl refl refl (omega (arith, room)) in
         let word : slice_index (record_words s c old at) 0 ≡ old = first_word old c.value (view_at s at) (own_pairs s) in
         let store : IsKept z o words (holdings before) first (holdings after) log (words_after words (Store at old)) last log =
+        let here : at + 0 ≡ at = omega arith in
         subst (λ n. IsKept z o words (holdings before) first (holdings after) log (words_after words (Store at n)) last log) word
-        (stores_are_kept z o words (holdings before) first (holdings after) log (own 0) take.lawful refl refl (omega (arith, words_are, size))) in
+        (subst (λ n. IsKept z o words (holdings before) first (holdings after) log (words_after words (Store n (slice_index (record_words s c old at) 0))) last log) here
+        (stores_are_kept z o words (holdings before) first (holdings after) log (own 0) take.lawful refl refl (omega (arith, words_are, size)))) in
         let keeps : IsKeptAmong z o m held (words_after words (Store at old)) last log =
         keeps_then z o (record { words = words; holdings = holdings before ++ held ∷ holdings after; log = log }) (record { words = words; holdings = holdings before ++ first ∷ holdings after; log = log })
         (record { words = words_after words (Store at old); holdings = holdings before ++ last ∷ holdings after; log = log }) take store in
         quiet z o m w (ClaimingRecord c old) (Store at old) (into_spare s c old) last e
-        (ap (λ b. Some (if b then Store s.spare.at old else Add (pool_counter s.sizes) (claim_size s))) some) (ap (λ b. on b (fits_pool s.sizes (claim_size s) 0)) some) refl
+        (ap (λ b. Some (if b then Store s.spare.at old else Add (pool_counter s.sizes) (claim_size s))) some) (ap (λ b. if b then into_spare s c old else (if fits_pool s.sizes (claim_size s) 0 then into_claim s c old 0 else pool_refused s)) some) refl
         (omega (arith, room, to, end, count, size)) (subst (λ b. IsRecordAnswer b s.sizes 0) (sym some) refl) refl
         (kept_here (ClaimingRecord c old) e (words_after words (Store at old)) last keeps) (λ ks is. tt) refl refl
 

@@ -1,5 +1,5 @@
 -- What a machine in the middle of a call knows by the answers that it has kept, in lawful words.
-use Rattle.partial_core.proofs.Common.{nat_lt, slice_index, option_map_or, false≢true, cond_both, eqb-true, Applied, Opening, stamp_of, Step, Load, Store, Exchange, Add, Layout, value_word, view_word, join_after, join_step, JoinStage, Claiming, Storing, Spent, Change, CoreState, at_stage, getting, scanning, with_getting, with_scanning, record_size, expects, fits_pool, pool_refused, begin_joining, after_getting, after_scanning, after_joining, advance_at, step_at, IsSound, is_sound_at, IsPossibleAt, Holding, LawfulWords, KeptAnswer, getsets_know, embedded_scans_know, is_storing, joins_at, IsTrueYet, record_cases, into_spare, into_claim}
+use Rattle.partial_core.proofs.Common.{nat_lt, slice_index, option_map_or, false≢true, cond_both, eqb-true, Applied, Opening, stamp_of, Step, Load, Store, Exchange, Add, Layout, value_word, view_word, join_after, join_step, JoinStage, Claiming, Storing, Spent, Change, CoreState, at_stage, getting, scanning, with_getting, with_scanning, record_size, expects, begin_joining, after_getting, after_scanning, after_joining, advance_at, step_at, IsSound, is_sound_at, IsPossibleAt, Holding, LawfulWords, KeptAnswer, getsets_know, embedded_scans_know, is_storing, joins_at, IsTrueYet, record_cases}
 use Rattle.std.proofs.Common.{ℕ, ◌≡◌, ◌+◌, ◌≤◌, ◌==◌, ◌⊎◌, ◌&&◌, ◌||◌, Bool, true, false, if◌then◌else◌, Option, Some, None, IsSome, List, length, take, inl, inr, refl, sym, subst, ◌∙◌, arith}
 use Rattle.partial_active.specs.declared.join.JoinStage.TheVariants.{Joined as JoinedIn}
 use Rattle.partial_active.specs.GetSet as finding

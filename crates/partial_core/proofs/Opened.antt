@@ -1,5 +1,5 @@
 -- A memory as it opens is lawful.
-use Rattle.partial_core.proofs.Common.{ℕ, zero, suc, ◌≡◌, ◌+◌, ◌≤◌, ◌==◌, ◌++◌, Bool, true, false, if◌then◌else◌, None, List, [], ◌∷◌, refl, sym, ◌∙◌, ap, subst, arith, AllByRecursion, Opening, Noted, places_written, Layout, rests_are_sound, Holding, LawfulWords, idle_holdings, IsKnown, notes_by, holdings, fresh_parts, OpensLawful, idle_holding, IsLayout}
+use Rattle.partial_core.proofs.Common.{ℕ, zero, suc, ◌≡◌, ◌+◌, ◌≤◌, ◌==◌, ◌++◌, Bool, true, false, if◌then◌else◌, List, [], ◌∷◌, refl, sym, ◌∙◌, ap, subst, arith, AllByRecursion, Opening, Noted, places_written, Layout, rests_are_sound, Holding, LawfulWords, idle_holdings, IsKnown, notes_by, holdings, fresh_parts, OpensLawful, idle_holding, IsLayout}
 use Rattle.partial_state.proofs.OpeningLaw.{opening_is_lawful}
 
 -- a port that has made no call holds nothing

@@ -1,5 +1,5 @@
 -- The record that an update writes: how many words it has, and what its view shows once all of them stand.
-use Rattle.partial_core.proofs.Common.{ℕ, ◌≡◌, ◌≢◌, ◌+◌, ◌<◌, ◌≤◌, ◌==◌, ◌++◌, ◌⊎◌, Bool, true, false, if◌then◌else◌, suc, zero, Option, Some, None, List, [], ◌∷◌, length, slice_index, slice_get, take, map, inl, inr, refl, sym, ap, subst, ◌∙◌, arith, Contains, nat_eq, AllByRecursion, IsDistinct, option_map_or, option_map, ne_eqb, eqb-true, eqb-false, or_cases, false≢true, length-map, Applied, Opening, stamp_of, value_of, place_below, Layout, record_block, view_block, StandsAt, ReadsBackRecord, prev_of, view_of, own_view, plain_record_size, full_record_size, length-record_block, reads_back, has_index, Change, CoreState, record_words, record_size, own_pairs, view_at, scanning, AreComponentIndices, IsViewOf, Block, JoinedAnnouncement, HasPairs, IsView, HasFreshView, IsWithin, IsBegunSince, Covers, ViewNames, AreApart, IsApartFrom, Own, Holding, EachTwo, IfJoined, block_of, block_at, joined_in, without_block, without_this, unpublished, Pool, LawfulWords, IsTied, IsOwn, IsDue, CoversAll, all_weaker, all_at, all_before, all_after, all_append, all_front, all_back, all_map, if_some_at, joined_weaker, found_some, three_words, own_freed, entry_free, unpublished_two, Frame, parts_apart, within_more, pairs_move, own_in_pool, HasAll, HasValues, IsThird, stamp_within, begun_within, AllByRecursion-get, own_added, unjoined_if, all_join}
+use Rattle.partial_core.proofs.Common.{ℕ, ◌≡◌, ◌≢◌, ◌+◌, ◌<◌, ◌≤◌, ◌==◌, ◌++◌, ◌⊎◌, Bool, true, false, if◌then◌else◌, suc, zero, Option, Some, None, List, [], ◌∷◌, length, slice_index, slice_get, take, map, inl, inr, refl, sym, ap, subst, ◌∙◌, arith, Contains, nat_eq, AllByRecursion, IsDistinct, option_map_or, ne_eqb, eq-eqb, eqb-true, eqb-false, or_cases, false≢true, length-map, Applied, Opening, stamp_of, value_of, place_below, Layout, record_block, view_block, StandsAt, ReadsBackRecord, prev_of, view_of, own_view, plain_record_size, full_record_size, length-record_block, reads_back, has_index, Change, CoreState, record_words, record_size, own_pairs, view_at, scanning, AreComponentIndices, IsViewOf, Block, JoinedAnnouncement, HasPairs, IsView, HasFreshView, IsWithin, IsBegunSince, Covers, ViewNames, AreApart, IsApartFrom, Own, Holding, EachTwo, IfJoined, block_of, block_at, joined_in, without_block, without_this, unpublished, Pool, LawfulWords, IsTied, IsOwn, IsDue, CoversAll, all_weaker, all_at, all_before, all_after, all_append, all_front, all_back, all_map, if_some_at, joined_weaker, found_some, three_words, own_freed, entry_free, unpublished_two, Frame, parts_apart, within_more, pairs_move, own_in_pool, HasAll, HasValues, IsThird, stamp_within, begun_within, AllByRecursion-get, own_added, unjoined_if, all_join}
 
 length_by : (f : Option ℕ) (js : List ℕ) (value : ℕ → ℕ) (old v view : ℕ) → length (record_block old v view (option_map_or (λ _. []) f (map (λ j. (j, value j)) js)))
     ≡ option_map_or (λ _. plain_record_size) f
