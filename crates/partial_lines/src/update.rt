@@ -188,7 +188,7 @@ fn write_record<M: Makes>(
     ensures due { IfOk result (λ put. IfSome put (λ at.
         M.machine lines.new ≡ at_stage core.new (Exchanging change old at))) }
     ensures refused { IfOk result (λ put.
-        IfNone put ((M.machine lines.new ≡ pool_refused core.old) × (core.new.pool_spent ≡ true))) }
+        IfNone put ((M.machine lines.new ≡ pool_refused core.old) × (core.new ≡ record core.old { pool_spent = true }))) }
     ensures core { core.new ≡ record core.old { pool_spent = core.new.pool_spent; spare = core.new.spare } }
 {
     let size = core.record_size();
@@ -227,6 +227,8 @@ fn begin_record<M: Makes>(
     ensures same { IfErr result (λ _. core.new ≡ core.old) }
     ensures within { IsInPool core.new.sizes core.new.spare.at core.new.spare.size }
 {
+    let sizes = core.sizes();
+    let end = u64::from(sizes.pool_end());
     let Block { at, size: room } = core.spare();
     if size <= room {
         lines.make(Step::Store(at as u32, old))?;
@@ -237,9 +239,8 @@ fn begin_record<M: Makes>(
         return Ok(Some(at));
     }
     let ahead = u64::from(core.ahead());
-    let sizes = core.sizes();
     let at = lines.make(Step::Add(sizes.pool_counter(), size + ahead))?;
-    if at + size + ahead > u64::from(sizes.pool_end()) {
+    if at + size + ahead > end {
         core.mark_pool();
         return Ok(None);
     }

@@ -26,21 +26,30 @@ write_plain-requires-clause-like g c =
     c.in_ok-set.ensures.follows.1 c.in_ok-set.ensures.set c.in_ok-set.ensures.done in
     let core = c.keep_list_mark.ensures ∙ ap (λ (t : CoreState). with_set t (record t.get_set { lists_spent = set.0.lists_spent })) c.in_ok-set.ensures.core in
     subst (λ (t : CoreState). IsMarkedLike t c.keep_list_mark.new.self) (sym got)
-    (subst (IsMarkedLike (at_stage (scan_begun (with_getting c.args.core.now set) true) _)) (sym core) (record { sizes = refl; port = refl; pool = refl; slots = refl; lists = refl }))
+    (subst (IsMarkedLike (at_stage (scan_begun (with_getting c.args.core.now set) true) _)) (sym core) (record { sizes = refl; port = refl; pool = refl; slots = refl; lists = refl; spare = refl }))
+
+pub write_plain-requires-clause-ahead : goal.write_plain-requires-clause-ahead
+write_plain-requires-clause-ahead g c =
+    let set : finding.SetPair = (c.in_ok-set.set, c.make_set.new.self.found) in
+    let got = set_ended c.args.core.now c.args.change c.args.old (g.M.Makes.machine c.args.lines.now) (g.M.Makes.machine c.make_set.new.steps.lines.now) set c.requires.machine
+    c.in_ok-set.ensures.follows.1 c.in_ok-set.ensures.set c.in_ok-set.ensures.done in
+    let core = c.keep_list_mark.ensures ∙ ap (λ (t : CoreState). with_set t (record t.get_set { lists_spent = set.0.lists_spent })) c.in_ok-set.ensures.core in
+    ap (λ (t : CoreState). t.ahead) got ∙ sym (ap (λ (t : CoreState). t.ahead) core)
 
 pub returns-then-found_none-clause-rests : goal.returns-then-found_none-clause-rests
 returns-then-found_none-clause-rests g c =
     let pool = c.write_plain.new.core.pool_spent in
+    let spare = c.write_plain.new.core.spare in
     let set : finding.SetPair = (c.in_ok-set.set, c.make_set.new.self.found) in
     let got = set_ended c.args.core.now c.args.change c.args.old (g.M.Makes.machine c.args.lines.now) (g.M.Makes.machine c.make_set.new.steps.lines.now) set c.requires.machine
     c.in_ok-set.ensures.follows.1 c.in_ok-set.ensures.set c.in_ok-set.ensures.done in
     let core =
-    c.write_plain.ensures.core ∙ ap (λ (t : CoreState). record t { pool_spent = pool })
+    c.write_plain.ensures.core ∙ ap (λ (t : CoreState). record t { pool_spent = pool; spare = spare })
     (c.keep_list_mark.ensures ∙ ap (λ (t : CoreState). with_set t (record t.get_set { lists_spent = set.0.lists_spent })) c.in_ok-set.ensures.core) in
     let rests : RestsLike (g.M.Makes.machine c.write_plain.new.lines) c.write_plain.new.core =
-    update_rests c.args.core.now (g.M.Makes.machine c.make_set.new.steps.lines.now) _ _ pool _ set.1 c.requires.sound c.requires.idle
+    update_rests c.args.core.now (g.M.Makes.machine c.make_set.new.steps.lines.now) _ _ pool _ set.1 spare c.requires.sound c.requires.idle
     (g.met.M.Makes.sound _ c.in_ok-set.ensures.goes.0)
-    (ap (λ (t : CoreState). t.sizes) got) (ap (λ (t : CoreState). t.found) got) c.in_ok-written.ensures.like core in
+    (ap (λ (t : CoreState). t.sizes) got) (ap (λ (t : CoreState). t.found) got) c.in_ok-written.ensures.like c.write_plain.ensures.within core in
     search rules
 
 pub returns-clause-found : goal.returns-clause-found

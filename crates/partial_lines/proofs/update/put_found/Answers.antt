@@ -1,4 +1,4 @@
-use Rattle.partial_lines.proofs.{Common.{ℕ, ◌≡◌, rules, true, Result, Ok, Err, IfOk, OnOk, Bool, IfSome, IfNone, Option, Some, None, ap, sym, ◌∙◌, Exchanging, Idle, CoreState, at_stage, pool_refused, IsSound, RestsLike}, Resting.{rests_there}}
+use Rattle.partial_lines.proofs.{Common.{ℕ, ◌≡◌, rules, true, Result, Ok, Err, IfOk, OnOk, IfSome, IfNone, Option, Some, None, ap, sym, ◌∙◌, Exchanging, Idle, CoreState, at_stage, pool_refused, IsSound, RestsLike}, Resting.{rests_there}}
 use Rattle.partial_lines.proofs.update.put_found.Goals as goal
 
 pub returns-clause-rests : goal.returns-clause-rests
@@ -18,12 +18,11 @@ returns-clause-rests g c =
 
     by : (r : Result (Option ℕ) g.row.M-Break.Denot) →
         IfOk r (λ put. IfSome put (λ at. g.M.Makes.machine c.write_record.new.lines ≡ at_stage c.write_record.new.core (Exchanging c.args.change c.args.old at))) →
-        IfOk r (λ put. IfNone put ((g.M.Makes.machine c.write_record.new.lines ≡ pool_refused behind) × (c.write_record.new.core.pool_spent ≡ true))) →
+        IfOk r (λ put. IfNone put ((g.M.Makes.machine c.write_record.new.lines ≡ pool_refused behind) × (c.write_record.new.core ≡ record behind { pool_spent = true }))) →
         OnOk r (RestsLike (g.M.Makes.machine c.write_record.new.lines) c.write_record.new.core)
     by (Ok (Some at)) due refused =
         let rest = ap (λ (t : CoreState). t.stage) c.write_record.ensures.core ∙ idle in
         rests_there _ c.write_record.new.core known (sym (ap (λ (t : CoreState). at_stage t Idle) due ∙ ap (at_stage c.write_record.new.core) (sym rest)))
     by (Ok None) due refused =
-        let spent : c.write_record.new.core ≡ record behind { pool_spent = true } = c.write_record.ensures.core ∙ ap (λ (b : Bool). record behind { pool_spent = b }) refused.1 in
-        rests_there _ c.write_record.new.core known (spent ∙ ap (at_stage (record behind { pool_spent = true })) idle ∙ sym (ap (λ (t : CoreState). at_stage t Idle) refused.0))
+        rests_there _ c.write_record.new.core known (refused.1 ∙ ap (at_stage (record behind { pool_spent = true })) idle ∙ sym (ap (λ (t : CoreState). at_stage t Idle) refused.0))
     by (Err _) due refused = tt
