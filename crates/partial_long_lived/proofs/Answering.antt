@@ -1,5 +1,5 @@
 -- A call of a port: how it begins at the seat that was taken out, and what it leaves once the seat is put back.
-use Rattle.partial_long_lived.proofs.{Common.{ℕ, zero, suc, None, append-nil, ◌≡◌, ◌<◌, ◌≤◌, ◌++◌, ◌∷◌, [], Option, Some, IfSome, Bool, true, false, true≢false, List, length, ap, ◌+◌, take, refl, sym, subst, ◌∙◌, inl, inr, arith, nat_lt, slice_index, AllByRecursion, list_all, option_map, take-append_seam, TableId, Applied, IsEntryFor, IsLegal, LegalNotes, Noted, seen_by, AllByRecursion-get, LegalNotes-last, Layout, CoreState, fresh, AreComponentIndices, IsSound, is_sound_at, IsMarkedLike, core_of, is_at_rest, public_stamp, Refused, Component, Overtaken, EpochsSpent, About, Stand, Began, SeatedPort, IsOf, MemoryView, PortView, port_view, seen_in, SeatGoes, IsHeld, epoch_at, port_at, HasCome, HasNotedRead, IsIdle, EpochChanged, NotChanged, HasNotedScan, RestsUnmarked, ScanMade, noted_scan, NotScanned, RestsAt, MadeNamed, ScannedNamed, ScannedStamped, Contains, is_some, Call, Answer, Note, IsCause}, Coming.goes_on}
+use Rattle.partial_long_lived.proofs.{Common.{ℕ, zero, suc, None, append-nil, ◌≡◌, ◌<◌, ◌≤◌, ◌++◌, ◌∷◌, [], Option, Some, IfSome, Bool, true, false, true≢false, List, length, ap, ◌+◌, take, refl, sym, subst, ◌∙◌, inl, inr, arith, nat_lt, slice_index, AllByRecursion, list_all, option_map, take-append_seam, TableId, Applied, IsEntryFor, IsLegal, LegalNotes, Noted, seen_by, AllByRecursion-get, LegalNotes-last, Layout, CoreState, fresh, AreComponentIndices, IsSound, is_sound_at, IsMarkedLike, core_of, is_at_rest, public_stamp, Refused, Component, Overtaken, EpochsSpent, About, Stand, Began, SeatedPort, IsOf, MemoryView, PortView, port_view, seen_in, SeatGoes, IsHeld, epoch_at, port_at, HasCome, HasNotedRead, IsIdle, EpochChanged, NotChanged, HasNotedScan, RestsUnmarked, ScanMade, noted_scan, NotScanned, RestsAt, MadeNamed, ScannedNamed, ScannedStamped, Contains, is_some, Call, Answer, Note, IsCause, no_spare, IsInPool, first_free, IsEpochPlan, plan_of, IsLayout}, Coming.goes_on}
 use Rattle.partial_model.proofs.Decisions.{Decides-list_all, Decides-nat_lt}
 use Rattle.partial_active.specs.GetSet.{fresh_set as unmarked}
 use Rattle.partial_long_lived.specs.Calls as calls
@@ -95,9 +95,9 @@ rests_here s t core spent come w here = record {
 }
 
 -- one that has entered a later epoch rests with a machine that is unspent again
-module _ (s t : Stand) (core : CoreState) (spent : Bool) (own : s.number ≡ (port_at s).number) (come : HasCome s t) (w : RestsAt s core spent) (away : t.epoch ≡ s.epoch → ⊥) where
+module _ (s t : Stand) (core : CoreState) (spent : Bool) (own : s.number ≡ (port_at s).number) (plan : IsEpochPlan (plan_of (port_at s).about)) (come : HasCome s t) (w : RestsAt s core spent) (away : t.epoch ≡ s.epoch → ⊥) where
   abbrev last : CoreState
-  last = record core { pool_spent = false; slots_spent = false; get_set = unmarked core.sizes false }
+  last = record core { pool_spent = false; slots_spent = false; spare = no_spare core.sizes; get_set = unmarked core.sizes false }
 
   last_sound : IsSound last
   last_sound = record {
@@ -106,11 +106,13 @@ module _ (s t : Stand) (core : CoreState) (spent : Bool) (own : s.number ≡ (po
     indices = w.sound.indices;
     distinct = w.sound.distinct;
     rows = w.sound.rows;
+    ahead = w.sound.ahead;
+    spare = subst (λ (z : Layout). IsInPool z (first_free z) 0) (sym w.sizes) (let pool = plan.sizes.pool.0 in (omega arith, omega (arith, pool)));
     stage = subst (is_sound_at last) (sym w.idle) tt;
   }
 
   last_like : IsMarkedLike (fresh (port_at s).about.sizes (port_at s).number) last
-  last_like = record { sizes = w.sizes; port = w.port ∙ own; pool = refl; slots = refl; lists = refl }
+  last_like = record { sizes = w.sizes; port = w.port ∙ own; pool = refl; slots = refl; lists = refl; spare = ap no_spare w.sizes }
 
   last_rests : RestsAt t last false
   last_rests = record {
@@ -132,6 +134,7 @@ module _ (s t : Stand) (core : CoreState) (spent : Bool) (own : s.number ≡ (po
             later.2,
             refl,
             refl,
+            (let opens = plan.opens in let limit = ap (λ (a : About). a.limit) come.goes.about in let free = ap first_free w.sizes in omega (arith, opens, limit, free)),
           )
     ];
   }
@@ -144,7 +147,7 @@ pub rests_unmarked : (table : TableId) (about : About) (s : Stand) (core : CoreS
     spent ≡ false → RestsUnmarked (port_at s) core × ((port_at s).port.over ≡ false)
 rests_unmarked table about s core spent h w spare =
     let b = w.between spare in
-    (record { between = b.0; sizes = w.sizes; port = w.port ∙ h.number; pool = b.2; slots = b.3 }, b.1)
+    (record { between = b.0; sizes = w.sizes; port = w.port ∙ h.number; pool = b.2; slots = b.3; kept = λ free. b.4 }, b.1)
 
 -- and rests after the scan, spent if it has claimed past the limit
 pub unmarked_rests : (table : TableId) (about : About) (t : Stand) (core : CoreState) (spent : Bool) →
@@ -156,7 +159,7 @@ unmarked_rests table about t core spent h idle w over = record {
   sound = w.between.sound;
   sizes = w.sizes;
   port = w.port ∙ sym h.number;
-  between = λ no. (w.between, over ∙ no, w.pool, w.slots);
+  between = λ no. (w.between, over ∙ no, w.pool, w.slots, w.kept (over ∙ no));
 }
 
 -- the first steps of a call have changed the epoch
@@ -182,12 +185,12 @@ module _ (table : TableId) (about : About) (s u : Stand) (core : CoreState) (spe
     machine = inr (let up = changed.later in let epoch = h.epoch in omega (arith, up, epoch), ap (λ (x : SeatedPort). core_of x.port.part) changed.is, changed_over);
   }
 
-  pub changed_unmarked : (held : IsHeld table about u) (c : CoreState) → c ≡ record core { pool_spent = false; slots_spent = false; get_set = unmarked core.sizes false } → RestsUnmarked (port_at u) c
+  pub changed_unmarked : (held : IsHeld table about u) (c : CoreState) → c ≡ record core { pool_spent = false; slots_spent = false; spare = no_spare core.sizes; get_set = unmarked core.sizes false } → RestsUnmarked (port_at u) c
   changed_unmarked held c is =
       let up = changed.later in
       let epoch = h.epoch in
       let own : s.number ≡ (port_at s).number = h.number in
-      (rests_unmarked table about u c false held (rests_anew s u core spent own changed_come w (λ same. omega (arith, up, epoch, same)) c is) refl).0
+      (rests_unmarked table about u c false held (rests_anew s u core spent own h.known.plan changed_come w (λ same. omega (arith, up, epoch, same)) c is) refl).0
 
   changed_scanned : (t : Stand) (which values : List ℕ) (collects : ℕ) (borrowed : Option ℕ) → ScanMade u t which values collects borrowed → HasNotedScan s t which values collects borrowed
   changed_scanned t which values collects borrowed made = record {

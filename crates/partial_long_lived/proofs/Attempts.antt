@@ -1,5 +1,5 @@
 -- An attempt of an update in the epoch where a port stands.
-use Rattle.partial_long_lived.proofs.{Common.{Opening, ℕ, ◌≡◌, ◌≢◌, ◌+◌, ◌<◌, ◌≤◌, ◌==◌, ◌++◌, Bool, true, false, if◌then◌else◌, Option, None, Some, Ok, List, [], ◌∷◌, length, map, refl, sym, ap, subst, ◌∙◌, inl, inr, arith, option_map_or, nat_lt, is_some, lt-ltb, eqb_tells, length-map, TableId, Applied, Call, Answer, Note, stamp_of, Noted, place_of, Load, Exchange, IsLayout, Layout, pool_end, Change, Reply, Stage, Exchanging, Finished, UpdateBegun, CoreState, advance_at, answers_lead_on, at_stage, begin_getting, seat_left_at, record_size, most_of_update, seat_steps_left, lists_spent, overtaken_reply, reply_of, step_at, step_of, answer_for, call_of, update_call, IsRecord, IsSound, is_sound_at, Part, AreNotesOf, IsNoteOf, IsPlacedAt, Exchanged, RestsLike, update_reply, Plan, seal, unsealed, history_of, public_entry, public_log, stamp_limit, public_noted, Control, About, Shape, Stand, Began, SeatedPort, plan_of, seen_in, SeatGoes, BeganBy, IsHeld, port_at, IsIdle, StaysAt, opening_of, SeatMakes, MissesSeal, unsealed_answer, RestsUnmarked, CallMade, record_claim, IsGoing, ComesTo, MayBegin, machine_at, UpdateAttempted, ExchangeDue, ExpectsOne, IsEntryOf, IsOwnMachine, NotesNothing, PortStayed, noted_where, word_from, ◌||◌, IfSome, take, length-append, IsPossibleAt, SeatBegins, FoundSealed}, Coming.goes_on, Under.{first_made, next_made, notes_same}, Zeros.seat_fewer}
+use Rattle.partial_long_lived.proofs.{Common.{Opening, ℕ, ◌≡◌, ◌≢◌, ◌+◌, ◌<◌, ◌≤◌, ◌==◌, ◌++◌, Bool, true, false, if◌then◌else◌, Option, None, Some, Ok, List, [], ◌∷◌, length, map, refl, sym, ap, subst, ◌∙◌, inl, inr, arith, option_map_or, nat_lt, is_some, lt-ltb, eqb_tells, length-map, TableId, Applied, Call, Answer, Note, stamp_of, Noted, place_of, Load, Exchange, IsLayout, Layout, pool_end, Change, Reply, Stage, Exchanging, Finished, UpdateBegun, CoreState, advance_at, answers_lead_on, at_stage, begin_getting, seat_left_at, record_size, most_of_update, seat_steps_left, lists_spent, overtaken_reply, reply_of, step_at, step_of, answer_for, call_of, update_call, IsRecord, IsSound, is_sound_at, Part, AreNotesOf, IsNoteOf, IsPlacedAt, Exchanged, RestsLike, update_reply, Plan, seal, unsealed, history_of, public_entry, public_log, stamp_limit, public_noted, Control, About, Shape, Stand, Began, SeatedPort, plan_of, seen_in, SeatGoes, BeganBy, IsHeld, port_at, IsIdle, StaysAt, opening_of, SeatMakes, MissesSeal, unsealed_answer, RestsUnmarked, CallMade, record_claim, IsGoing, ComesTo, MayBegin, machine_at, UpdateAttempted, ExchangeDue, ExpectsOne, IsEntryOf, IsOwnMachine, NotesNothing, PortStayed, noted_where, word_from, ◌||◌, IfSome, take, length-append, IsPossibleAt, SeatBegins, FoundSealed, Block, claimed_end}, Coming.goes_on, Under.{first_made, next_made, notes_same}, Zeros.seat_fewer}
 use Rattle.std.proofs.Math.Bool.{or-false}
 use Rattle.partial_lines.specs.declared.exchange.Exchanged.TheVariants.{Applied as IsApplied, Overtaken}
 
@@ -17,15 +17,18 @@ update_begins table about s core d h idle rests spare inside one =
       indices = old.indices;
       distinct = old.distinct;
       rows = old.rows;
+      ahead = old.ahead;
+      spare = old.spare;
       stage = (subst (λ (z : Layout). d.component < z.m) (sym sizes) inside, rests.pool);
     } in
     record {
       stands = idle.stands;
-      begun = record { begun = refl; rest = between.rest; like = record { sizes = like.sizes; port = like.port; pool = like.pool; slots = like.slots; lists = like.lists }; sound = sound };
+      begun = record { begun = refl; rest = between.rest; like = record { sizes = like.sizes; port = like.port; pool = like.pool; slots = like.slots; lists = like.lists; spare = like.spare }; sound = sound };
       sound = sound;
       layout = subst IsLayout (sym rests.sizes) h.known.plan.sizes;
       sizes = rests.sizes;
       spare = spare;
+      kept = rests.kept spare;
       unmarked = (rests.pool, rests.slots);
       expects = λ j t v is. by d.expected j t v one is;
     }
@@ -214,6 +217,11 @@ module _ (table : TableId) (about : About) (s : Stand) (h : IsHeld table about s
             port = like.port ∙ over.made.number ∙ ap (λ (c : CoreState). c.port) over.made.begun ∙ rests.port ∙ sym over.goes.number;
             pool = like.pool ∙ over.unmarked.0;
             slots = like.slots ∙ over.unmarked.1;
+            kept = λ free.
+                let low = over.kept free in
+                let same = ap (λ (b : Block). b.at + b.size) like.spare in
+                let limit = ap (λ (o : About). o.limit) over.goes.about in
+                omega (arith, low, same, limit);
           }
 
   -- The update has found another record than the one that it expects, and has ended with its first step.
@@ -251,6 +259,7 @@ module _ (table : TableId) (about : About) (s : Stand) (h : IsHeld table about s
             pool = sym (ap (λ (c : CoreState). c.pool_spent) machine_first);
             slots = sym (ap (λ (c : CoreState). c.slots_spent) machine_first);
             lists = sym (ap (λ (c : CoreState). lists_spent c) machine_first);
+            spare = sym (ap (λ (c : CoreState). c.spare) machine_first);
           };
           idle = rests.between.idle;
           sound = rests.between.sound;
@@ -376,17 +385,18 @@ module _ (table : TableId) (about : About) (s : Stand) (h : IsHeld table about s
               pool = like.pool ∙ sym (ap (λ (c : CoreState). c.pool_spent) machine_end);
               slots = like.slots ∙ sym (ap (λ (c : CoreState). c.slots_spent) machine_end);
               lists = like.lists ∙ sym (ap (λ (c : CoreState). lists_spent c) machine_end);
+              spare = like.spare ∙ sym (ap (λ (c : CoreState). c.spare) machine_end);
             };
             idle = end.idle;
             sound = end.sound;
           })
 
-      -- the port is over exactly where its record's claim ends past the limit
-      pub attempt_over : (limit end : ℕ) → limit ≡ t.shape.limit → end ≡ at + record_size (machine_at v) → nat_lt limit end ≡ (port_at t).port.over
+      -- the port is over exactly where what it has claimed for its records ends past the limit
+      pub attempt_over : (limit end : ℕ) → limit ≡ t.shape.limit → end ≡ claimed_end (machine_at v) → nat_lt limit end ≡ (port_at t).port.over
       attempt_over limit end limit_is end_is =
           let same : (port_at s).about.limit ≡ limit = ap (λ (a : About). a.limit) h.own ∙ ap (λ (e : Plan). e.limit) h.shape ∙ sym (ap (λ (z : Shape). z.limit) (kept_all call_end.goes).shape) ∙ sym limit_is in
           let kept_over : (port_at t).port.over ≡ (port_at v).port.over = ap (λ (z : SeatedPort). z.port.over) makes_last.is ∙ or-false (port_at v).port.over in
-          sym (kept_over ∙ over_call.claimed at (ap record_claim stage) ∙ ap (λ n. nat_lt n (at + record_size (machine_at v))) same ∙ ap (nat_lt limit) (sym end_is))
+          sym (kept_over ∙ over_call.claimed at (ap record_claim stage) ∙ ap (λ n. nat_lt n (claimed_end (machine_at v))) same ∙ ap (nat_lt limit) (sym end_is))
 
     -- the machine that is kept is the port's
     pub attempt_rests : (last : CoreState) → RestsUnmarked (port_at s) core → RestsLike (machine_at v) last → IsOwnMachine (port_at t) last

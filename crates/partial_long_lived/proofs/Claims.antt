@@ -1,5 +1,5 @@
 -- A machine claims words of the pool once in a call.
-use Rattle.partial_long_lived.proofs.Common.{ℕ, ◌≡◌, ◌+◌, ◌≤◌, ◌==◌, ◌⊎◌, Bool, true, false, if◌then◌else◌, Option, Some, None, List, length, refl, sym, ap, subst, ◌∙◌, inl, inr, arith, option_map_or, some_same, Step, Load, Store, Exchange, Add, Layout, list_counter, list_head, pool_counter, slot_counter, slot_word, Change, Stage, Idle, ReadBegun, LoadingValue, UpdateBegun, GettingSet, Viewing, ClaimingRecord, StoringRecord, Exchanging, ScanBegun, StoringAnnouncement, Joining, Scanning, Leaving, Finished, CoreState, advance, advance_at, after_joining, at_stage, begin_getting, begin_joining, expects, fits_pool, getting, pool_refused, record_size, step_at, step_of, with_getting, IsSound, is_sound_at, LeavesComponents, awaits, awaits_at, is_claiming, nat_lt, word_of, before_claim, record_claim, announcement_size, IsQuiet, Reply}
+use Rattle.partial_long_lived.proofs.Common.{ℕ, ◌≡◌, ◌+◌, ◌≤◌, ◌==◌, ◌⊎◌, Bool, true, false, if◌then◌else◌, Option, Some, None, List, length, refl, sym, ap, subst, ◌∙◌, inl, inr, arith, option_map_or, some_same, Step, Load, Store, Exchange, Add, Layout, list_counter, list_head, pool_counter, slot_counter, slot_word, Change, Stage, Idle, ReadBegun, LoadingValue, UpdateBegun, GettingSet, Viewing, ClaimingRecord, StoringRecord, Exchanging, ScanBegun, StoringAnnouncement, Joining, Scanning, Leaving, Finished, CoreState, advance, advance_at, after_joining, at_stage, begin_getting, begin_joining, expects, fits_pool, getting, pool_refused, record_size, step_at, step_of, with_getting, IsSound, is_sound_at, LeavesComponents, awaits, awaits_at, is_claiming, nat_lt, word_of, before_claim, record_claim, announcement_size, IsQuiet, Reply, record_cases, record_step_cases, Block, claimed_end, claim_size, has_spare, into_spare, into_claim, record_step, ltb-true}
 use Rattle.partial_machine.specs.Machine.{scanning, with_scanning}
 use Rattle.partial_active.specs.declared.join.JoinStage.{JoinStage}
 use Rattle.partial_active.specs.declared.join.JoinStage.TheVariants.{Claiming, Storing, Joined, Spent}
@@ -97,14 +97,14 @@ unawaited s x = by s.stage refl
     by Leaving is b h = refl
     by (Finished r) is b h = ap (awaits_at s) is
 
--- where a record lies that is claimed: it has just been claimed there, or was before
-pub claimed_from : (s : CoreState) (x at : ℕ) → record_claim (advance s x).stage ≡ Some at → ((c : Change) × (old : ℕ) × (s.stage ≡ ClaimingRecord c old) × (at ≡ x)) ⊎ (record_claim s.stage ≡ Some at)
+-- where a record lies that has words: it has just come to have them, or had them before
+pub claimed_from : (s : CoreState) (x at : ℕ) → record_claim (advance s x).stage ≡ Some at → ((c : Change) × (old : ℕ) × (s.stage ≡ ClaimingRecord c old)) ⊎ (record_claim s.stage ≡ Some at)
 claimed_from s x at = by s.stage refl
   where
     R : Stage → Type 0
-    R t = ((c : Change) × (old : ℕ) × (t ≡ ClaimingRecord c old) × (at ≡ x)) ⊎ (record_claim t ≡ Some at)
+    R t = ((c : Change) × (old : ℕ) × (t ≡ ClaimingRecord c old)) ⊎ (record_claim t ≡ Some at)
 
-    none : (t : Stage) (o : Option ℕ) → o ≡ None → o ≡ Some at → ((c : Change) × (old : ℕ) × (t ≡ ClaimingRecord c old) × (at ≡ x)) ⊎ (record_claim t ≡ Some at)
+    none : (t : Stage) (o : Option ℕ) → o ≡ None → o ≡ Some at → ((c : Change) × (old : ℕ) × (t ≡ ClaimingRecord c old)) ⊎ (record_claim t ≡ Some at)
     none t o is h = let bad : None ≡ Some at = sym is ∙ h in cc
 
     two : (c : Bool) (a b : CoreState) → record_claim a.stage ≡ None → record_claim b.stage ≡ None → record_claim (if c then a else b).stage ≡ None
@@ -131,7 +131,7 @@ claimed_from s x at = by s.stage refl
     joins s (Joined slot) is = refl
     joins s Spent is = refl
 
-    by : (t : Stage) → s.stage ≡ t → record_claim (advance_at s t x).stage ≡ Some at → ((c : Change) × (old : ℕ) × (t ≡ ClaimingRecord c old) × (at ≡ x)) ⊎ (record_claim t ≡ Some at)
+    by : (t : Stage) → s.stage ≡ t → record_claim (advance_at s t x).stage ≡ Some at → ((c : Change) × (old : ℕ) × (t ≡ ClaimingRecord c old)) ⊎ (record_claim t ≡ Some at)
     by Idle is h = inr (sym (ap record_claim is) ∙ h)
     by (ReadBegun j) is h = none (ReadBegun j) _ refl h
     by (LoadingValue stamp) is h = none (LoadingValue stamp) _ refl h
@@ -140,16 +140,11 @@ claimed_from s x at = by s.stage refl
         let p : CoreState = with_getting s (finding.advance_set (getting s) x) in
         none (GettingSet c old) (record_claim (advance_at s (GettingSet c old) x).stage) (gets p (finding.set_step_due p.get_set) c old is) h
     by (Viewing c old) is h = none (Viewing c old) _ (scans _ _ (Viewing c old) (ClaimingRecord c old) is refl refl) h
-    by (ClaimingRecord c old) is h = claims (fits_pool s.sizes (record_size s) x) h
-      where
-        claims : (b : Bool) → record_claim (if b then at_stage s (StoringRecord c old x 0) else pool_refused s).stage ≡ Some at →
-            ((d : Change) × (o : ℕ) × (ClaimingRecord c old ≡ ClaimingRecord d o) × (at ≡ x)) ⊎ (record_claim (ClaimingRecord c old) ≡ Some at)
-        claims true h = inl (c, old, refl, sym (some_same h))
-        claims false h = let bad : None ≡ Some at = h in cc
+    by (ClaimingRecord c old) is h = inl (c, old, refl)
     by (StoringRecord c old at' k) is h = stores (k + 1 == record_size s) h
       where
         stores : (b : Bool) → record_claim (if b then Exchanging c old at' else StoringRecord c old at' (k + 1)) ≡ Some at →
-            ((d : Change) × (o : ℕ) × (StoringRecord c old at' k ≡ ClaimingRecord d o) × (at ≡ x)) ⊎ (Some at' ≡ Some at)
+            ((d : Change) × (o : ℕ) × (StoringRecord c old at' k ≡ ClaimingRecord d o)) ⊎ (Some at' ≡ Some at)
         stores true h = inr h
         stores false h = inr h
     by (Exchanging c old at') is h = none (Exchanging c old at') _ refl h
@@ -159,6 +154,79 @@ claimed_from s x at = by s.stage refl
     by Scanning is h = none Scanning _ (scans _ _ Scanning Leaving is refl refl) h
     by Leaving is h = none Leaving _ refl h
     by (Finished r) is h = inr (sym (ap record_claim is) ∙ h)
+
+-- a step that begins no record leaves the spare words
+spare_stays : (s : CoreState) (x : ℕ) (t : Stage) → ((c : Change) (old : ℕ) → t ≡ ClaimingRecord c old → ⊥) → (advance_at s t x).spare ≡ s.spare
+spare_stays s x t other = by t other
+  where
+    two : (c : Bool) (a b : CoreState) → a.spare ≡ s.spare → b.spare ≡ s.spare → (if c then a else b).spare ≡ s.spare
+    two true a b p q = p
+    two false a b p q = q
+
+    some : (o : Option Step) (a b : CoreState) → a.spare ≡ s.spare → b.spare ≡ s.spare → (option_map_or (λ _. a) o b).spare ≡ s.spare
+    some None a b p q = q
+    some (Some u) a b p q = p
+
+    joins : (q : CoreState) (j : JoinStage) → q.spare ≡ s.spare → (after_joining q j).spare ≡ s.spare
+    joins q Claiming is = is
+    joins q (Storing slot) is = is
+    joins q (Joined slot) is = is
+    joins q Spent is = is
+
+    by : (t : Stage) → ((c : Change) (old : ℕ) → t ≡ ClaimingRecord c old → ⊥) → (advance_at s t x).spare ≡ s.spare
+    by Idle other = refl
+    by (ReadBegun j) other = refl
+    by (LoadingValue stamp) other = refl
+    by (UpdateBegun c) other = two (expects c x) (begin_getting s c x) (at_stage s (Finished (Reply.Changed x))) refl refl
+    by (GettingSet c old) other =
+        let p : CoreState = with_getting s (finding.advance_set (getting s) x) in
+        some (finding.set_step_due p.get_set) p (record p { embedded = viewing.fresh_view p.sizes true; stage = (if length p.found.indices == 0 then ClaimingRecord c old else Viewing c old) }) refl refl
+    by (Viewing c old) other =
+        let p : CoreState = with_scanning s (viewing.advance_view s.found.indices (scanning s) x) in
+        some (viewing.view_step_due s.found.indices (scanning p)) p (at_stage p (ClaimingRecord c old)) refl refl
+    by (ClaimingRecord c old) other = absurd (other c old refl)
+    by (StoringRecord c old at k) other = refl
+    by (Exchanging c old at) other = refl
+    by ScanBegun other = two (fits_pool s.sizes (announcement_size (length s.asked)) x) (at_stage s (StoringAnnouncement x 0)) (pool_refused s) refl refl
+    by (StoringAnnouncement at k) other = two (k == length s.asked) (begin_joining s at) (at_stage s (StoringAnnouncement at (k + 1))) refl refl
+    by Joining other = joins (record s { join = advance_join s.join x }) (advance_join s.join x).stage refl
+    by Scanning other =
+        let p : CoreState = with_scanning s (viewing.advance_view s.asked (scanning s) x) in
+        some (viewing.view_step_due s.asked (scanning p)) p (at_stage p Leaving) refl refl
+    by Leaving other = refl
+    by (Finished r) other = refl
+
+-- what is claimed for records ends where it did, or with the claim that the step was
+pub claims_on : (s : CoreState) (x : ℕ) → (claimed_end (advance s x) ≡ claimed_end s) ⊎ ((n : ℕ) × (step_of s ≡ Some (Add (pool_counter s.sizes) n)) × (claimed_end (advance s x) ≡ x + n))
+claims_on s x = by s.stage refl
+  where
+    Ends : CoreState → Type 0
+    Ends q = (claimed_end q ≡ claimed_end s) ⊎ ((n : ℕ) × (step_of s ≡ Some (Add (pool_counter s.sizes) n)) × (claimed_end q ≡ x + n))
+
+    stays : (t : Stage) → ((c : Change) (old : ℕ) → t ≡ ClaimingRecord c old → ⊥) → Ends (advance_at s t x)
+    unfolding Ends
+    stays t other = inl (ap (λ (b : Block). b.at + b.size) (spare_stays s x t other))
+
+    by : (t : Stage) → s.stage ≡ t → Ends (advance_at s t x)
+    unfolding Ends
+    by (ClaimingRecord c old) is = record_cases s c old x Ends
+        (λ some. let room = ltb-true (record_size s) (s.spare.size + 1) some in inl (omega (arith, room)))
+        (λ none fits. inr (claim_size s, ap (step_at s) is ∙ ap (λ (b : Bool). Some (if b then Store s.spare.at old else Add (pool_counter s.sizes) (claim_size s))) none, omega arith))
+        (λ none past. inl refl)
+    by Idle is = stays Idle (λ c o same. cc)
+    by (ReadBegun j) is = stays (ReadBegun j) (λ c o same. cc)
+    by (LoadingValue stamp) is = stays (LoadingValue stamp) (λ c o same. cc)
+    by (UpdateBegun d) is = stays (UpdateBegun d) (λ c o same. cc)
+    by (GettingSet d old) is = stays (GettingSet d old) (λ c o same. cc)
+    by (Viewing d old) is = stays (Viewing d old) (λ c o same. cc)
+    by (StoringRecord d old at k) is = stays (StoringRecord d old at k) (λ c o same. cc)
+    by (Exchanging d old at) is = stays (Exchanging d old at) (λ c o same. cc)
+    by ScanBegun is = stays ScanBegun (λ c o same. cc)
+    by (StoringAnnouncement at k) is = stays (StoringAnnouncement at k) (λ c o same. cc)
+    by Joining is = stays Joining (λ c o same. cc)
+    by Scanning is = stays Scanning (λ c o same. cc)
+    by Leaving is = stays Leaving (λ c o same. cc)
+    by (Finished r) is = stays (Finished r) (λ c o same. cc)
 
 -- a step of an embedded scan is no claim
 scan_never : (z : Layout) (indices last : List ℕ) (t : ScanStage) (w n : ℕ) (R : Type 0) → viewing.view_step_at z indices last t ≡ Some (Add w n) → R
@@ -224,7 +292,7 @@ pool_claims c z sound sizes w n due pool = by c.stage refl sound.stage due
     by (ClaimingRecord d old) at ok is = record {
       now = ap before_claim at;
       after_claim = λ a. subst (λ (t : Stage). before_claim (advance_at c t a).stage ≡ false) (sym at)
-          (two_of (fits_pool c.sizes (record_size c) a) (at_stage c (StoringRecord d old a 0)) (pool_refused c) refl refl);
+          (record_cases c d old a (λ (q : CoreState). before_claim q.stage ≡ false) (λ _. refl) (λ _ _. refl) (λ _ _. refl));
     }
     by (StoringRecord d old at' k) at ok is = let bad : Store _ _ ≡ Add w n = some_same is in cc
     by (Exchanging d old at') at ok is = let bad : Exchange _ _ _ ≡ Add w n = some_same is in cc
@@ -294,7 +362,7 @@ inner_word c z sound sizes quiet (Exchange w old new) due = by c.stage refl soun
     by (UpdateBegun d) at ok q is = let bad : Load _ ≡ Exchange w old new = some_same is in cc
     by (GettingSet d o) at ok q is = let same = m_same c.get_set.sizes ok.2 in let list = set_exchanges c.get_set.sizes c.get_set.head c.get_set.stage w old new is in omega (arith, same, list)
     by (Viewing d o) at ok q is = scan_exchanges c.embedded.sizes c.found.indices c.rows.last c.embedded.stage w old new (z.m ≤ w) is
-    by (ClaimingRecord d o) at ok q is = let bad : Add _ _ ≡ Exchange w old new = some_same is in cc
+    by (ClaimingRecord d o) at ok q is = record_step_cases c o (λ (t : Step). Some t ≡ Some (Exchange w old new) → z.m ≤ w) (λ _ bad. cc) (λ _ bad. cc) is
     by (StoringRecord d o at' k) at ok q is = let bad : Store _ _ ≡ Exchange w old new = some_same is in cc
     by (Exchanging d o at') at ok q is = absurd q
     by ScanBegun at ok q is = let bad : Add _ _ ≡ Exchange w old new = some_same is in cc
@@ -322,7 +390,7 @@ inner_word c z sound sizes quiet (Add w k) due = by c.stage refl sound.stage due
     by (UpdateBegun d) at ok is = let bad : Load _ ≡ Add w k = some_same is in cc
     by (GettingSet d o) at ok is = let same = m_same c.get_set.sizes ok.2 in let list = set_claims c.get_set.sizes c.get_set.head c.get_set.stage w k is in omega (arith, same, list)
     by (Viewing d o) at ok is = scan_never c.embedded.sizes c.found.indices c.rows.last c.embedded.stage w k (z.m ≤ w) is
-    by (ClaimingRecord d o) at ok is = pool (record_size c) (some_same is)
+    by (ClaimingRecord d o) at ok is = record_step_cases c o (λ (t : Step). Some t ≡ Some (Add w k) → z.m ≤ w) (λ _ bad. cc) (λ _ is. pool (claim_size c) (some_same is)) is
     by (StoringRecord d o at' i) at ok is = let bad : Store _ _ ≡ Add w k = some_same is in cc
     by (Exchanging d o at') at ok is = let bad : Exchange _ _ _ ≡ Add w k = some_same is in cc
     by ScanBegun at ok is = pool (announcement_size (length c.asked)) (some_same is)
@@ -374,10 +442,8 @@ slot_claims c z sound sizes w n due slot = by c.stage refl sound.stage due
         let list = set_claims c.get_set.sizes c.get_set.head c.get_set.stage w n is in
         absurd (omega (arith, same, list, slot))
     by (Viewing d old) at ok is = scan_never c.embedded.sizes c.found.indices c.rows.last c.embedded.stage w n (ClaimsSlot c) is
-    by (ClaimingRecord d old) at ok is =
-        let same = m_same c.sizes refl in
-        let pool : pool_counter c.sizes ≡ w = added_word (some_same is) in
-        absurd (omega (arith, same, pool, slot))
+    by (ClaimingRecord d old) at ok is = record_step_cases c old (λ (t : Step). Some t ≡ Some (Add w n) → ClaimsSlot c) (λ _ bad. cc)
+        (λ _ is. let same = m_same c.sizes refl in let pool : pool_counter c.sizes ≡ w = added_word (some_same is) in absurd (omega (arith, same, pool, slot))) is
     by (StoringRecord d old at' k) at ok is = let bad : Store _ _ ≡ Add w n = some_same is in cc
     by (Exchanging d old at') at ok is = let bad : Exchange _ _ _ ≡ Add w n = some_same is in cc
     by ScanBegun at ok is =

@@ -1,5 +1,5 @@
 -- A memory as it opens, and its ports.
-use Rattle.partial_long_lived.proofs.{Common.{AllByRecursion, ℕ, zero, suc, ◌≡◌, ◌+◌, ◌-◌, ◌<◌, ◌++◌, false, List, [], ◌∷◌, length, refl, sym, ap, subst, ◌∙◌, arith, append_assoc, Me, TableId, Opening, Layout, pool_base, CoreState, fresh, IsBetween, ports_come_between, base, whole, OpensAll, About, Shape, Stand, SeatedPort, first_port, newcomer, newcomers, one_of, further_ports, plan_of, IsShapeOf, shape_plan, IsOf, PortView, new_ports, port_view, IsResting, IsSeatKnown, port_at, OpensShape}, Opens.newcomer_known}
+use Rattle.partial_long_lived.proofs.{Common.{AllByRecursion, ℕ, zero, suc, ◌≡◌, ◌+◌, ◌-◌, ◌<◌, ◌++◌, false, List, [], ◌∷◌, length, refl, sym, ap, subst, ◌∙◌, arith, append_assoc, Me, TableId, Opening, Layout, pool_base, CoreState, fresh, IsBetween, ports_come_between, base, whole, OpensAll, About, Shape, Stand, SeatedPort, first_port, newcomer, newcomers, one_of, further_ports, plan_of, IsShapeOf, shape_plan, IsOf, PortView, new_ports, port_view, IsResting, IsSeatKnown, port_at, OpensShape, most_ahead, IsLayout, fresh_part, claimed_end}, Opens.newcomer_known}
 use Rattle.partial_long_lived.specs.Inner.Opening.{IsLaidOut}
 
 -- the opening words are those of an opening with the same values and the same stamp
@@ -30,13 +30,25 @@ new_own t a k (suc n) = (refl, new_own t a (k + 1) n)
 next_new : (a : About) (i n : ℕ) → i < n → newcomers a i (n - i) ≡ newcomer a i ∷ newcomers a (i + 1) (n - (i + 1))
 next_new a i n l = let e : n - i ≡ suc (n - (i + 1)) = omega arith in ap (newcomers a i) e
 
+-- so many words ahead make no other machine
+ahead_between : (z : Layout) (i n : ℕ) → IsLayout z → n ≤ most_ahead → IsBetween (fresh_part z i) (record (fresh z i) { ahead = n })
+ahead_between z i n layout few =
+    let b = ports_come_between.0 z i layout in
+    let w = b.sound in
+    record {
+      rest = b.rest;
+      like = record { sizes = refl; port = refl; pool = refl; slots = refl; lists = refl; spare = refl };
+      idle = refl;
+      sound = record { asked = w.asked; found = w.found; indices = w.indices; distinct = w.distinct; rows = w.rows; ahead = few; spare = w.spare; stage = w.stage };
+    }
+
 -- a port that has made no call rests
 newcomer_rests : (a : About) (words : List ℕ) → OpensAll (plan_of a) words → (i : ℕ) → i < a.ports → (s : Stand) (core : CoreState) → s.seat.table_id.words ≡ length words → s.seat.me ≡ (newcomer a i ∷ [], []) →
-    IsShapeOf s.shape a → s.number ≡ i → s.epoch ≡ 0 → s.arena ≡ 0 → s.base ≡ base (plan_of a) 0 → s.passed ≡ 0 → core ≡ fresh a.sizes i → IsResting s core false
-newcomer_rests a words w i low s core count me shape number epoch arena base_is passed machine =
+    IsShapeOf s.shape a → s.number ≡ i → s.epoch ≡ 0 → s.arena ≡ 0 → s.base ≡ base (plan_of a) 0 → s.passed ≡ 0 → (n : ℕ) → n ≤ most_ahead → core ≡ record (fresh a.sizes i) { ahead = n } → IsResting s core false
+newcomer_rests a words w i low s core count me shape number epoch arena base_is passed n few machine =
     let is : port_at s ≡ newcomer a i = ap (λ (m : Me (Unit {0}) (List SeatedPort)). one_of m.0) me in
     let own : (port_at s).about ≡ a = ap (λ (x : SeatedPort). x.about) is in
-    let between : IsBetween (newcomer a i).port.part core = subst (IsBetween (newcomer a i).port.part) (sym machine) (ports_come_between.0 a.sizes i) in
+    let between : IsBetween (newcomer a i).port.part core = subst (IsBetween (newcomer a i).port.part) (sym machine) (ahead_between a.sizes i n w.plan.sizes few) in
     record {
       held = record {
         fits = refl;
@@ -62,6 +74,7 @@ newcomer_rests a words w i low s core count me shape number epoch arena base_is 
           ap (λ (x : SeatedPort). x.port.over) is,
           ap (λ (c : CoreState). c.pool_spent) machine,
           ap (λ (c : CoreState). c.slots_spent) machine,
+          (let opens = w.plan.opens in let limit = ap (λ (b : About). b.limit) own in let spare = ap claimed_end machine in omega (arith, opens, limit, spare)),
         );
       };
     }
@@ -71,9 +84,9 @@ module _ (a : About) (i n : ℕ) (inside : i < n) (v : List SeatedPort) (left : 
   newcomer_next = ap first_port (left ∙ next_new a i n inside)
 
   pub rests_new : (words : List ℕ) → OpensAll (plan_of a) words → i < a.ports → (s : Stand) (core : CoreState) (z : Layout) → s.seat.table_id.words ≡ length words → s.seat.me ≡ (first_port v, []) →
-      IsShapeOf s.shape a → s.number ≡ i → s.epoch ≡ 0 → s.arena ≡ 0 → s.base ≡ base (plan_of a) 0 → s.passed ≡ 0 → core ≡ fresh z i → a.sizes ≡ z → IsResting s core false
-  rests_new words w low s core z count me shape number epoch arena base_is passed machine sizes =
-      newcomer_rests a words w i low s core count (me ∙ ap (λ (u : List SeatedPort). (u, [])) newcomer_next) shape number epoch arena base_is passed (machine ∙ ap (λ (y : Layout). fresh y i) (sym sizes))
+      IsShapeOf s.shape a → s.number ≡ i → s.epoch ≡ 0 → s.arena ≡ 0 → s.base ≡ base (plan_of a) 0 → s.passed ≡ 0 → (n : ℕ) → n ≤ most_ahead → core ≡ record (fresh z i) { ahead = n } → a.sizes ≡ z → IsResting s core false
+  rests_new words w low s core z count me shape number epoch arena base_is passed n few machine sizes =
+      newcomer_rests a words w i low s core count (me ∙ ap (λ (u : List SeatedPort). (u, [])) newcomer_next) shape number epoch arena base_is passed n few (machine ∙ ap (λ (y : Layout). record (fresh y i) { ahead = n }) (sym sizes))
 
   pub deals_next : {S : Type 0} (me : Me S (List SeatedPort)) (at : List (ℕ × S)) → me ≡ (further_ports v, at) → at ≡ [] → (me.0 ≡ newcomers a (i + 1) (n - (i + 1))) × (me.1 ≡ [])
   deals_next {S} me at is none = (ap (λ (m : Me S (List SeatedPort)). m.0) is ∙ ap further_ports (left ∙ next_new a i n inside), ap (λ (m : Me S (List SeatedPort)). m.1) is ∙ none)

@@ -1,6 +1,6 @@
 -- The steps of a call of a port's machine, one after the other.
-use Rattle.partial_long_lived.proofs.{Common.{ℕ, ◌≡◌, ◌≢◌, ◌+◌, ◌<◌, ◌≤◌, ◌==◌, ◌&&◌, ◌||◌, ◌++◌, Bool, true, false, if◌then◌else◌, Option, Some, None, List, [], ◌∷◌, length, map, take, refl, sym, ap, subst, ◌∙◌, inl, inr, arith, append-nil, nat_lt, eqb_tells, append_cancel_left, Applied, Opening, stamp_of, Noted, seen_by, Step, Load, Store, Exchange, Add, Layout, IsLayout, pool_counter, slot_counter, total, word_of, Reply, Change, Stage, Idle, ReadBegun, LoadingValue, UpdateBegun, GettingSet, Viewing, ClaimingRecord, StoringRecord, Exchanging, ScanBegun, StoringAnnouncement, Joining, Scanning, Leaving, Finished, some_same, CoreState, advance, advance_at, at_stage, fits_pool, pool_refused, record_size, reply_of, step_at, step_of, call_of, is_begun, IsSound, Part, first_at, AreNotesOf, Tells, begun_with, moved_part, take_within, first_steps_make_calls, further_steps_make_calls, history_of, opened_after, Control, MayClaim, public_noted, About, Began, SeatedPort, plan_of, SeatGoes, opening_of, SeatMakes, MayMake, over_by, slot_limit, CallMade, MayBegin, awaits, before_claim, has_claimed, neither, record_claim, IsBehind, refuses_pool, refuses_slots, due_is_unreplied, due_words_are_there, KeptAnswer, Call}, Claims.{ClaimsSlot, claimed_from, pool_claims, slot_claims, unawaited, unclaimed_before}, Coming.goes_on}
-use Rattle.std.proofs.lemmas.Bool.{eq-eqb, ne_eqb}
+use Rattle.partial_long_lived.proofs.{Common.{ℕ, ◌≡◌, ◌≢◌, ◌+◌, ◌<◌, ◌≤◌, ◌==◌, ◌&&◌, ◌||◌, ◌++◌, Bool, true, false, if◌then◌else◌, Option, Some, None, List, [], ◌∷◌, length, map, take, refl, sym, ap, subst, ◌∙◌, inl, inr, arith, append-nil, nat_lt, eqb_tells, append_cancel_left, Applied, Opening, stamp_of, Noted, seen_by, Step, Load, Store, Exchange, Add, Layout, IsLayout, pool_counter, slot_counter, total, word_of, Reply, Change, Stage, Idle, ReadBegun, LoadingValue, UpdateBegun, GettingSet, Viewing, ClaimingRecord, StoringRecord, Exchanging, ScanBegun, StoringAnnouncement, Joining, Scanning, Leaving, Finished, some_same, CoreState, advance, advance_at, at_stage, fits_pool, pool_refused, record_size, reply_of, step_at, step_of, call_of, is_begun, IsSound, Part, first_at, AreNotesOf, Tells, begun_with, moved_part, take_within, first_steps_make_calls, further_steps_make_calls, history_of, opened_after, Control, MayClaim, public_noted, About, Began, SeatedPort, plan_of, SeatGoes, opening_of, SeatMakes, MayMake, over_by, slot_limit, CallMade, MayBegin, awaits, before_claim, has_claimed, neither, record_claim, IsBehind, refuses_pool, refuses_slots, due_is_unreplied, due_words_are_there, KeptAnswer, Call, record_cases, Block, claimed_end, claim_size, has_spare, into_spare, into_claim, record_step, ltb-true, ltb-false, le-ltb}, Claims.{ClaimsSlot, claimed_from, pool_claims, slot_claims, unawaited, unclaimed_before}, Coming.goes_on}
+use Rattle.std.proofs.lemmas.Bool.{eq-eqb, ne_eqb, le-ltb, ltb-true, ltb-false}
 use Rattle.partial_model.specs.declared.call.Refused.{Refused}
 use Rattle.partial_core.specs.Calls.{Made}
 use Rattle.partial_core.proofs.{Parts.seen_within as no_longer, WholeCalls.first_push}
@@ -115,32 +115,6 @@ stays_unmarked c x b none was = (
     no_slots (Some (Reply.Read v s)) none = refl
     no_slots (Some (Reply.Scanned n b)) none = refl
 
--- an update that has claimed its record keeps its size
-claimed_size : (c : CoreState) (x : ℕ) (t : Stage) (at : ℕ) → record_claim t ≡ Some at → record_size (advance_at c t x) ≡ record_size c
-claimed_size c x Idle at is = cc
-claimed_size c x (ReadBegun j) at is = cc
-claimed_size c x (LoadingValue stamp) at is = cc
-claimed_size c x (UpdateBegun d) at is = cc
-claimed_size c x (GettingSet d old) at is = cc
-claimed_size c x (Viewing d old) at is = cc
-claimed_size c x (ClaimingRecord d old) at is = cc
-claimed_size c x (StoringRecord d old at' k) at is = refl
-claimed_size c x (Exchanging d old at') at is = refl
-claimed_size c x ScanBegun at is = cc
-claimed_size c x (StoringAnnouncement at' k) at is = cc
-claimed_size c x Joining at is = cc
-claimed_size c x Scanning at is = cc
-claimed_size c x Leaving at is = cc
-claimed_size c x (Finished r) at is = cc
-
--- and so does the claim
-claiming_size : (c : CoreState) (x : ℕ) (d : Change) (old : ℕ) → c.stage ≡ ClaimingRecord d old → record_size (advance c x) ≡ record_size c
-claiming_size c x d old stage = subst (λ (t : Stage). record_size (advance_at c t x) ≡ record_size c) (sym stage) (by (fits_pool c.sizes (record_size c) x))
-  where
-    by : (b : Bool) → record_size (if b then at_stage c (StoringRecord d old x 0) else pool_refused c) ≡ record_size c
-    by true = refl
-    by false = refl
-
 -- a call that has only begun has claimed nothing
 begun_unclaimed : (t : Stage) (at : ℕ) → is_begun t ≡ true → record_claim t ≡ Some at → ⊥
 begun_unclaimed Idle at begun is = cc
@@ -159,33 +133,73 @@ begun_unclaimed Scanning at begun is = cc
 begun_unclaimed Leaving at begun is = cc
 begun_unclaimed (Finished r) at begun is = cc
 
--- a port is over exactly where the claim of its record ends past the limit
-claim_step : (a : About) (c : CoreState) (s : Step) (x : ℕ) (over : Bool) → c.sizes ≡ a.sizes → step_of c ≡ Some s → (before_claim c.stage ≡ true → over ≡ false) →
-    ((at : ℕ) → record_claim c.stage ≡ Some at → over ≡ nat_lt a.limit (at + record_size c)) → (at : ℕ) → record_claim (advance c x).stage ≡ Some at →
-    (over || over_by (plan_of a) s x) ≡ nat_lt a.limit (at + record_size (advance c x))
-claim_step a c s x over sizes due spare was at is = elim (claimed_from c x at is) [
-  | inl new ↦
-      let stage = new.2 in
-      let step : Add (pool_counter c.sizes) (record_size c) ≡ s = some_same (sym (ap (step_at c) stage) ∙ due) in
-      let size = claiming_size c x new.0 new.1 stage in
-      let same = new.3 in
-      let sum : x + record_size c ≡ at + record_size (advance c x) = omega (arith, size, same) in
+or_none : (b : Bool) → (b || false) ≡ b
+or_none true = refl
+or_none false = refl
+
+neither_of : (b d : Bool) → (b || d) ≡ false → (b ≡ false) × (d ≡ false)
+neither_of false d h = (refl, h)
+neither_of true d h = absurd cc
+
+-- what a claim of pool words says of being over
+module _ (a : About) (c : CoreState) (x n : ℕ) (sizes : c.sizes ≡ a.sizes) where
+  pub over_claim : over_by (plan_of a) (Add (pool_counter c.sizes) n) x ≡ nat_lt a.limit (x + n)
+  over_claim =
       let apart_from : (pool_counter c.sizes == slot_counter a.sizes) ≡ false =
       ap (λ (z : Layout). pool_counter z == slot_counter a.sizes) sizes ∙ ne_eqb (pool_counter a.sizes) (slot_counter a.sizes) (λ bad. omega (arith, bad)) in
       let counter : (pool_counter c.sizes == pool_counter a.sizes) ≡ true = ap (λ (z : Layout). pool_counter z == pool_counter a.sizes) sizes ∙ eq-eqb (pool_counter a.sizes) (pool_counter a.sizes) refl in
-      subst (λ (t : Step). (over || over_by (plan_of a) t x) ≡ nat_lt a.limit (at + record_size (advance c x))) step
-      (ap (λ t. t || over_by (plan_of a) (Add (pool_counter c.sizes) (record_size c)) x) (spare (ap before_claim stage))
-      ∙ ap (λ t. (t && nat_lt a.limit (x + record_size c)) || ((pool_counter c.sizes == slot_counter a.sizes) && nat_lt (slot_limit (plan_of a)) (x + record_size c))) counter
-      ∙ ap (λ t. nat_lt a.limit (x + record_size c) || (t && nat_lt (slot_limit (plan_of a)) (x + record_size c))) apart_from
-      ∙ or_none (nat_lt a.limit (x + record_size c)) ∙ ap (nat_lt a.limit) sum)
+      ap (λ t. (t && nat_lt a.limit (x + n)) || ((pool_counter c.sizes == slot_counter a.sizes) && nat_lt (slot_limit (plan_of a)) (x + n))) counter
+      ∙ ap (λ t. nat_lt a.limit (x + n) || (t && nat_lt (slot_limit (plan_of a)) (x + n))) apart_from ∙ or_none (nat_lt a.limit (x + n))
+
+-- where a port isn't over, what it has claimed for its records ends no later than the limit
+kept_step : (a : About) (c : CoreState) (s : Step) (x : ℕ) (over : Bool) → c.sizes ≡ a.sizes → step_of c ≡ Some s → (over ≡ false → claimed_end c ≤ a.limit) →
+    (over || over_by (plan_of a) s x) ≡ false → claimed_end (advance c x) ≤ a.limit
+kept_step a c s x over sizes due was none =
+    let both = neither_of over (over_by (plan_of a) s x) none in
+    elim (claims_on c x) [
+      | inl same ↦ let low = was both.0 in omega (arith, same, low)
+      | inr claims ↦
+          let n = claims.0 in
+          let step : Add (pool_counter c.sizes) n ≡ s = some_same (sym claims.1 ∙ due) in
+          let fits : nat_lt a.limit (x + n) ≡ false = sym (over_claim a c x n sizes) ∙ ap (λ (t : Step). over_by (plan_of a) t x) step ∙ both.1 in
+          let low = ltb-false a.limit (x + n) fits in
+          let end = claims.2 in
+          omega (arith, low, end)
+    ]
+
+-- once its record has words, a port is over exactly where those that it has claimed end past the limit
+claim_step : (a : About) (c : CoreState) (s : Step) (x : ℕ) (over : Bool) → c.sizes ≡ a.sizes → step_of c ≡ Some s → (before_claim c.stage ≡ true → over ≡ false) → (over ≡ false → claimed_end c ≤ a.limit) →
+    ((at : ℕ) → record_claim c.stage ≡ Some at → over ≡ nat_lt a.limit (claimed_end c)) → (at : ℕ) → record_claim (advance c x).stage ≡ Some at →
+    (over || over_by (plan_of a) s x) ≡ nat_lt a.limit (claimed_end (advance c x))
+claim_step a c s x over sizes due spare kept was at is = elim (claimed_from c x at is) [
+  | inl new ↦ subst (λ (t : Stage). Ends (advance_at c t x)) (sym new.2) (placed new.0 new.1 new.2) is
   | inr before ↦
-      let size : record_size (advance c x) ≡ record_size c = claimed_size c x c.stage at before in
-      ap (λ t. over || t) (no_over a c s x c.stage at before due) ∙ or_none over ∙ was at before ∙ ap (λ n. nat_lt a.limit (at + n)) (sym size)
+      let end : claimed_end (advance c x) ≡ claimed_end c = ap (λ (b : Block). b.at + b.size) (spare_stays c x c.stage (λ d old same. unlike d old c.stage same before)) in
+      ap (λ t. over || t) (no_over a c s x c.stage at before due) ∙ or_none over ∙ was at before ∙ ap (nat_lt a.limit) (sym end)
 ]
   where
-    or_none : (b : Bool) → (b || false) ≡ b
-    or_none true = refl
-    or_none false = refl
+    unlike : (d : Change) (old : ℕ) (t : Stage) → t ≡ ClaimingRecord d old → record_claim t ≡ Some at → ⊥
+    unlike d old t same before = let bad : None ≡ Some at = sym (ap record_claim same) ∙ before in cc
+
+    abbrev Ends : CoreState → Type 0
+    Ends q = record_claim q.stage ≡ Some at → (over || over_by (plan_of a) s x) ≡ nat_lt a.limit (claimed_end q)
+
+    placed : (d : Change) (old : ℕ) → c.stage ≡ ClaimingRecord d old → Ends (advance_at c (ClaimingRecord d old) x)
+    placed d old stage =
+        let free : over ≡ false = spare (ap before_claim stage) in
+        let due_here : Some (record_step c old) ≡ Some s = sym (ap (step_at c) stage) ∙ due in
+        let by : Bool → Option Step = λ b. Some (if b then Store c.spare.at old else Add (pool_counter c.sizes) (claim_size c)) in
+        record_cases c d old x Ends
+        (λ some there.
+        let step : Store c.spare.at old ≡ s = some_same (sym (ap by some) ∙ due_here) in
+        let room = ltb-true (record_size c) (c.spare.size + 1) some in
+        let low = kept free in
+        ap (λ t. t || over_by (plan_of a) s x) free ∙ ap (λ (t : Step). over_by (plan_of a) t x) (sym step) ∙ sym (le-ltb a.limit (claimed_end (into_spare c d old)) (omega (arith, room, low))))
+        (λ none fits there.
+        let step : Add (pool_counter c.sizes) (claim_size c) ≡ s = some_same (sym (ap by none) ∙ due_here) in
+        let end : x + claim_size c ≡ claimed_end (into_claim c d old x) = omega arith in
+        ap (λ t. t || over_by (plan_of a) s x) free ∙ ap (λ (t : Step). over_by (plan_of a) t x) (sym step) ∙ over_claim a c x (claim_size c) sizes ∙ ap (nat_lt a.limit) end)
+        (λ none past there. let bad : None ≡ Some at = there in cc)
 
 -- the first step of a call is allowed
 pub first_may : (b : CoreState) (x : SeatedPort) → MayBegin b x → (s : Step) → step_of b ≡ Some s → MayMake x b s
@@ -219,7 +233,8 @@ module _ (b : CoreState) (x : SeatedPort) (begins : MayBegin b x) (first : Bool)
     made = first_call;
     spare = λ yet. ap (λ (z : SeatedPort). z.port.over) m.is ∙ ap (λ t. t || over_by (plan_of x.about) s a) begins.spare ∙ spare_step x.about b s a begins.sound begins.sizes due yet;
     claimed = λ at is. ap (λ (z : SeatedPort). z.port.over) m.is
-        ∙ claim_step x.about b s a x.port.over begins.sizes due (λ _. begins.spare) (λ i is. absurd (begun_unclaimed b.stage i begun_is is)) at is;
+        ∙ claim_step x.about b s a x.port.over begins.sizes due (λ _. begins.spare) (λ _. begins.kept) (λ i is. absurd (begun_unclaimed b.stage i begun_is is)) at is;
+    kept = λ free. kept_step x.about b s a x.port.over begins.sizes due (λ _. begins.kept) (sym (ap (λ (z : SeatedPort). z.port.over) m.is) ∙ free);
     unmarked = stays_unmarked b a m.told.behind m.unrefused begins.unmarked;
     unrefused = m.unrefused;
     notes = ap (λ (z : SeatedPort). z.notes) m.is ∙ ap (λ (l : List Noted). x.notes ++ map (public_noted (plan_of x.about) x.port.before) l)
@@ -315,8 +330,10 @@ module _ (b : CoreState) (x : SeatedPort) (begins : MayBegin b x) (c : CoreState
       spare = λ yet. ap (λ (t : SeatedPort). t.port.over) m.is ∙ ap (λ t. t || over_by (plan_of y.about) s a) (had.spare (unclaimed_before c a yet))
           ∙ spare_step y.about c s a had.made.sound sizes_same due yet;
       claimed = λ at is. ap (λ (t : SeatedPort). t.port.over) m.is
-          ∙ subst (λ (d : About). (y.port.over || over_by (plan_of d) s a) ≡ nat_lt x.about.limit (at + record_size (advance c a))) (sym about_same)
-          (claim_step x.about c s a y.port.over had.made.sizes due had.spare had.claimed at is);
+          ∙ subst (λ (d : About). (y.port.over || over_by (plan_of d) s a) ≡ nat_lt x.about.limit (claimed_end (advance c a))) (sym about_same)
+          (claim_step x.about c s a y.port.over had.made.sizes due had.spare had.kept had.claimed at is);
+      kept = λ free. kept_step x.about c s a y.port.over had.made.sizes due had.kept
+          (subst (λ (d : About). (y.port.over || over_by (plan_of d) s a) ≡ false) about_same (sym (ap (λ (t : SeatedPort). t.port.over) m.is) ∙ free));
       unmarked = stays_unmarked c a m.told.behind m.unrefused had.unmarked;
       unrefused = m.unrefused;
       notes = ap (λ (t : SeatedPort). t.notes) m.is ∙ ap (λ (l : List Noted). l ++ map (public_noted (plan_of y.about) y.port.before) m.told.new) notes_same

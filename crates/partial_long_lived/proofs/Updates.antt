@@ -18,7 +18,7 @@ own_rests table about s core spent h free own may = record {
   sound = own.sound;
   sizes = own.sizes;
   port = own.port ∙ sym h.number;
-  between = λ no. let m = may no in (m.rests.between, m.over, m.rests.pool, m.rests.slots);
+  between = λ no. let m = may no in (m.rests.between, m.over, m.rests.pool, m.rests.slots, m.rests.kept m.over);
 }
 
 -- the public stamp of the entry that an update names fits a word

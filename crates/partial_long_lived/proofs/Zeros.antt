@@ -1,5 +1,5 @@
 -- The steps that a seat makes for those of its machine: the view word of a record without a view may be loaded before it is stored.
-use Rattle.partial_long_lived.proofs.Common.{ℕ, ◌≡◌, ◌+◌, ◌<◌, ◌≤◌, ◌==◌, List, StoresNoView, ◌&&◌, Bool, true, false, if◌then◌else◌, Option, Some, None, length, refl, sym, ap, ◌∙◌, inl, inr, arith, nat_lt, cases_lt, lt-ltb, not_below, option_map_or, Step, IsLayout, plain_record_size, Change, Stage, Idle, ReadBegun, LoadingValue, UpdateBegun, GettingSet, Viewing, ClaimingRecord, StoringRecord, Exchanging, ScanBegun, StoringAnnouncement, Joining, Scanning, Leaving, Finished, CoreState, advance, advance_at, after_joining, at_stage, begin_getting, begin_joining, expects, fits_pool, getting, pool_refused, record_size, with_getting, announcement_size, left_at, steps_left, before_no_view, seat_left_at, seat_steps_left, Reply}
+use Rattle.partial_long_lived.proofs.Common.{ℕ, ◌≡◌, ◌+◌, ◌<◌, ◌≤◌, ◌==◌, List, StoresNoView, ◌&&◌, Bool, true, false, if◌then◌else◌, Option, Some, None, length, refl, sym, ap, ◌∙◌, inl, inr, arith, nat_lt, cases_lt, lt-ltb, not_below, option_map_or, Step, IsLayout, plain_record_size, Change, Stage, Idle, ReadBegun, LoadingValue, UpdateBegun, GettingSet, Viewing, ClaimingRecord, StoringRecord, Exchanging, ScanBegun, StoringAnnouncement, Joining, Scanning, Leaving, Finished, CoreState, advance, advance_at, after_joining, at_stage, begin_getting, begin_joining, expects, fits_pool, getting, pool_refused, record_size, with_getting, announcement_size, left_at, steps_left, before_no_view, seat_left_at, seat_steps_left, Reply, record_cases, into_spare, into_claim}
 use Rattle.partial_active.specs.declared.join.JoinStage.{JoinStage}
 use Rattle.partial_active.specs.declared.join.JoinStage.TheVariants.{Claiming, Storing, Joined, Spent}
 use Rattle.partial_words.specs.Record.{full_record_size}
@@ -79,8 +79,8 @@ module _ (c : CoreState) (x : ℕ) (layout : IsLayout c.sizes) where
       (adds_none (begin_getting c d x) (UpdateBegun d) refl) (adds_none (at_stage c (Finished (Reply.Changed x))) (UpdateBegun d) refl)
   by (GettingSet d old) is = gets (with_getting c (finding.advance_set (getting c) x)) (finding.set_step_due (finding.advance_set (getting c) x).0) d old is
   by (Viewing d old) is = views _ _ d old is refl
-  by (ClaimingRecord d old) is = two (fits_pool c.sizes (record_size c) x) (at_stage c (StoringRecord d old x 0)) (pool_refused c) (ClaimingRecord d old)
-      (follows (at_stage c (StoringRecord d old x 0)) (ClaimingRecord d old) (λ e. e)) (adds_none (pool_refused c) (ClaimingRecord d old) refl)
+  by (ClaimingRecord d old) is = record_cases c d old x (λ q. Falls q (ClaimingRecord d old)) (λ _. follows (into_spare c d old) (ClaimingRecord d old) (λ e. e))
+      (λ _ _. follows (into_claim c d old x) (ClaimingRecord d old) (λ e. e)) (λ _ _. adds_none (pool_refused c) (ClaimingRecord d old) refl)
   by (StoringRecord d old at k) is = stores (k + 1 == record_size c)
     where
       stores : (b : Bool) → Falls (at_stage c (if b then Exchanging d old at else StoringRecord d old at (k + 1))) (StoringRecord d old at k)

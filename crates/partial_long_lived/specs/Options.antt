@@ -1,7 +1,7 @@
 -- The sizes of a memory for its options, and why there are none.
 use Rattle.std.specs.Prelude.{ℕ, ◌≡◌, ◌+◌, ◌-◌, ◌*◌, ◌/◌, ◌%◌, ◌<◌, ◌≤◌, ◌⊎◌, None, min, max}
 use Rattle.std.specs.Option.{option_map_or}
-use Rattle.partial_words.specs.Layout.{Layout, first_free}
+use Rattle.partial_words.specs.Layout.{Layout, first_free, most_ahead}
 use Rattle.partial_words.specs.Record.{full_record_size, plain_record_size}
 use Rattle.partial_long_lived.specs.declared.open_error.OpenError.{OpenError}
 use Rattle.partial_long_lived.specs.declared.open_error.OpenError.TheVariants.{Ports, Components, Lists, Pool, OutOfMemory}
@@ -40,18 +40,26 @@ pool_of_all = 131072
 abbrev pub pool_of_component : ℕ
 pool_of_component = 16
 
+-- how many pool words beside those are room for the greatest claim of each port
+abbrev pub claim_room : ℕ → ℕ → ℕ
+claim_room count ports = (full_record_size count + most_ahead) * ports
+
+-- how many words more than those of its record an update claims, where so many are claimed in an epoch
+abbrev pub ahead_for : ℕ → ℕ → ℕ
+ahead_for claimed ports = min (claimed / 8 / ports) most_ahead
+
 -- how many pool words are claimed in an epoch then
 abbrev pub usual_pool : ℕ → ℕ → ℕ
 usual_pool count ports = max (min (max (min (pool_of_port * ports) (pool_of_all / ports)) (pool_of_component * count))
-    (most_pool - (plain_record_size * count + full_record_size count * ports))) fewest_pool
+    (most_pool - (plain_record_size * count + claim_room count ports))) fewest_pool
 
 -- how many pool words are claimed in an epoch
 abbrev pub claimed_pool : ℕ → ℕ → Options → ℕ
 claimed_pool count ports o = option_map_or (λ words. words) o.pool (usual_pool count ports)
 
--- how many words the pool has after the initial records: those that are claimed, and room for the greatest record of each port
+-- how many words the pool has after the initial records: those that are claimed, and room for the greatest claim of each port
 abbrev pub pool_words_after : ℕ → ℕ → Options → ℕ
-pool_words_after count ports o = claimed_pool count ports o + full_record_size count * ports
+pool_words_after count ports o = claimed_pool count ports o + claim_room count ports
 
 -- the fewest slots that an arena has: one for each 8 pool words that are claimed in an epoch, and one for each port
 abbrev pub least_slots : ℕ → ℕ → Options → ℕ

@@ -1,6 +1,6 @@
 -- Sizes that a long-lived memory may have.
 use Rattle.std.specs.Prelude.{ℕ, ◌≡◌, ◌+◌, ◌*◌, ◌≤◌}
-use Rattle.partial_words.specs.Layout.{Layout, IsLayout, first_free, greatest_record, pool_end, total}
+use Rattle.partial_words.specs.Layout.{Layout, IsLayout, first_free, greatest_claim, pool_end, total}
 
 -- The sizes of an arena are in range, there are 1 to 64 ports and twice as many arenas, above the limit there is room for the greatest claim of
 -- each port, and there is a slot for each port.
@@ -10,7 +10,7 @@ pub record IsSized (sizes : Layout) (ports arenas limit : ℕ) : Type 0 where
   pub few : ports ≤ 64
   pub twice : arenas ≡ 2 * ports
   pub opens : first_free sizes ≤ limit
-  pub room : limit + greatest_record sizes * ports ≤ pool_end sizes
+  pub room : limit + greatest_claim sizes * ports ≤ pool_end sizes
   pub slots : ports ≤ sizes.slots
 
 -- where an epoch's own records begin in an arena, and where the carried stamps do

@@ -4,15 +4,14 @@ ghost use Rattle.std.specs.Prelude.{◌≡◌, ◌≢◌, ◌+◌, ◌<◌, ◌�
 ghost use Rattle.partial_machine.specs.Bounds.{most_of_update};
 ghost use Rattle.partial_machine.specs.declared.stage.Stage.TheVariants.{Idle, UpdateBegun, Exchanging};
 ghost use Rattle.partial_machine.specs.Lines.{set_begun};
-ghost use Rattle.partial_machine.specs.Machine.{at_stage, record_size};
-ghost use Rattle.partial_words.specs.Record.{plain_record_size};
+ghost use Rattle.partial_machine.specs.Machine.{at_stage};
 ghost use Rattle.partial_machine.specs.Sound.{IsSound};
 ghost use Rattle.partial_lines.specs.Lines.{IsViewDue, set_made, written_in};
 ghost use Rattle.partial_lines.specs.Replies.{RestsLike};
 ghost use Rattle.partial_long_lived.specs.Inner.Held.{IsHeld, port_at};
 ghost use Rattle.partial_long_lived.specs.Inner.Calls.{IsIdle, StaysAt};
 ghost use Rattle.partial_long_lived.specs.Inner.Machine.{SeatBegins};
-ghost use Rattle.partial_long_lived.specs.Inner.Under.{IsGoing, ComesTo, MayBegin, machine_at};
+ghost use Rattle.partial_long_lived.specs.Inner.Under.{IsGoing, ComesTo, MayBegin, claimed_end, machine_at};
 ghost use Rattle.partial_long_lived.specs.Inner.Updates.{UpdateAttempted, ExchangeDue, ExpectsOne, FoundSealed, IsOwnMachine, MayCall, NotesNothing, asked_change, exchanged_in};
 
 use crate::arena::SEAL;
@@ -22,7 +21,7 @@ use crate::rule::Words;
 use crate::stand::Stand;
 use partial_core::{Change, Core};
 use partial_lines::{Exchanged, PutBegun, begin_put, put_found};
-use partial_words::plain_record_size;
+use partial_words::Block;
 use std::marker::{Brand, PhantomData};
 
 /// How an attempt of an update ended.
@@ -176,7 +175,8 @@ fn begin<G: Moment>(
     }
 }
 
-// A record that an update has written, whose exchange is due: its reference, and the word number at which its claim ends.
+// A record that an update has written, whose exchange is due: its reference, and the word after those that the port has
+// claimed for its records.
 #[derive(Clone, Copy)]
 struct Written {
     at: u64,
@@ -193,13 +193,13 @@ fn write<C>(words: &Words, stand: &mut Stand, core: &mut Core, change: Change, o
     ensures going { IsGoing words.now.table_id words.now.key stand.new }
     ensures leads { ComesTo stand.old stand.new }
     ensures due { (machine_at stand.new).stage ≡ Exchanging change old result.at }
-    ensures size { result.end ≡ result.at + record_size (machine_at stand.new) }
+    ensures end { result.end ≡ claimed_end (machine_at stand.new) }
     ensures rests { RestsLike (machine_at stand.new) core.new }
 {
     match begin_write::<C>(words, stand, core, change, old) {
         PutBegun::Written { at } => Written {
             at,
-            end: at + plain_record_size(),
+            end: claimed_end(core),
         },
         PutBegun::Found => write_found::<C>(
             words,
@@ -233,7 +233,6 @@ fn begin_write<C>(
         IfSome written (λ at. (machine_at stand.new).stage ≡ Exchanging change old at)) }
     ensures fits { written_in result ≢ Some None }
     ensures rests { IfSome (written_in result) (λ _. RestsLike (machine_at stand.new) core.new) }
-    ensures size { IfSome (written_in result) (λ _. record_size (machine_at stand.new) ≡ plain_record_size) }
     ensures found { IfNone (written_in result) (IsViewDue (machine_at stand.new) core.new change old) }
 {
     let mut lines = ArenaLines::<C> {
@@ -262,7 +261,7 @@ fn write_found<C>(
     ensures going { IsGoing words.now.table_id words.now.key stand.new }
     ensures leads { ComesTo stand.old stand.new }
     ensures due { (machine_at stand.new).stage ≡ Exchanging (asked_change component expected value) old result.at }
-    ensures size { result.end ≡ result.at + record_size (machine_at stand.new) }
+    ensures end { result.end ≡ claimed_end (machine_at stand.new) }
     ensures rests { RestsLike (machine_at stand.new) core.new }
 {
     let change = Change {
@@ -280,8 +279,17 @@ fn write_found<C>(
     };
     Written {
         at,
-        end: at + core.record_size(),
+        end: claimed_end(core),
     }
+}
+
+// The word after those that a port has claimed for its records.
+#[inline(always)]
+fn claimed_end(core: &Core) -> u64
+    ensures { result ≡ claimed_end core.now }
+{
+    let Block { at, size } = core.spare();
+    at + size
 }
 
 // Exchanges the component of an update whose record lies at `at`, and returns the word that was found.

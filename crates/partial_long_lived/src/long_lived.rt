@@ -114,7 +114,8 @@ fn deal(
     let base = shape.base(0);
     let mut all = Vec::with_capacity(alloc, ports as usize)?;
     for number in 0..ports {
-        let core = Core::new(alloc, shape.sizes, number)?;
+        let mut core = Core::new(alloc, shape.sizes, number)?;
+        core.claim_ahead(shape.ahead());
         let collected = vec![in alloc; 0; shape.sizes.m() as usize]?;
         let token = words.split_seat::<Deals>(&mut seat);
         all.push_reserved(Port {

@@ -1,10 +1,10 @@
 //! How much an arena of a long-lived memory holds.
 
 ghost use Rattle.std.specs.Prelude.{◌≡◌, ◌≤◌, IfOk, IfErr};
-ghost use Rattle.partial_long_lived.specs.Options.{IsShapeFor, IsShapeError, MayOpen, claimed_pool};
+ghost use Rattle.partial_long_lived.specs.Options.{IsShapeFor, IsShapeError, MayOpen, claim_room, claimed_pool};
 
 use crate::open_error::OpenError;
-use crate::shape::Shape;
+use crate::shape::{MOST_AHEAD, Shape};
 use partial_words::{Sizes, full_record_size, plain_record_size};
 
 /// The most slots.
@@ -32,9 +32,10 @@ const POOL_OF_COMPONENT: u64 = 16;
 pub struct Options {
     /// How many list words an arena has: at most 65,536. Scans use them to list the slots that are no longer in use.
     pub lists: u32,
-    /// How many pool words of an arena are claimed before its ports change the epoch. An update claims 3 of them, or
-    /// 4 and 2 more for each component of a view that it stores; a scan claims 1, and 1 more for each position. The pool
-    /// has, beside these, the initial records and room for the greatest record of each port.
+    /// How many pool words of an arena are claimed before its ports change the epoch. An update takes 3 of them, or
+    /// 4 and 2 more for each component of a view that it stores; a scan claims 1, and 1 more for each position. A port
+    /// claims the words of up to 31 records at once, and keeps them for later updates. The pool has, beside these, the
+    /// initial records and room for the greatest claim of each port.
     ///
     /// `None` is 16,384 for each port, but no more than 131,072 divided by the number of ports, or 16 for each component
     /// if that is more; no more than an arena has room for, and always 8,192 at least.
@@ -76,7 +77,7 @@ pub fn shape(count: usize, ports: u32, options: Options) -> Result<Shape, OpenEr
         return Err(OpenError::Lists);
     }
     let m = count as u32;
-    let room = full_record_size(u64::from(m)) * u64::from(ports);
+    let room = claim_room(u64::from(m), u64::from(ports));
     let claimed = pool_of(options, u64::from(m), u64::from(ports));
     let pool_words = plain_record_size() * u64::from(m) + claimed + room;
     if pool_words > MOST_POOL {
@@ -100,6 +101,15 @@ pub fn shape(count: usize, ports: u32, options: Options) -> Result<Shape, OpenEr
     })
 }
 
+// How many pool words of an arena of `m` components are room for the greatest claim of each port.
+fn claim_room(m: u64, ports: u64) -> u64
+    requires components { m ≤ 65536 }
+    requires ports { ports ≤ 64 }
+    ensures { result ≡ claim_room m ports }
+{
+    (full_record_size(m) + MOST_AHEAD) * ports
+}
+
 // How many pool words of an arena of `m` components are claimed in an epoch.
 fn pool_of(options: Options, m: u64, ports: u64) -> u64
     requires components { m ≤ 65536 }
@@ -109,7 +119,7 @@ fn pool_of(options: Options, m: u64, ports: u64) -> u64
     match options.pool {
         Some(words) => u64::from(words),
         None => {
-            let others = plain_record_size() * m + full_record_size(m) * ports;
+            let others = plain_record_size() * m + claim_room(m, ports);
             let words = (POOL_OF_PORT * ports)
                 .min(POOL_OF_ALL / ports)
                 .max(POOL_OF_COMPONENT * m);

@@ -1,5 +1,8 @@
 //! The sizes of a long-lived memory.
 
+ghost use Rattle.std.specs.Prelude.{◌≡◌, ◌-◌, ◌≤◌};
+ghost use Rattle.partial_words.specs.Layout.{most_ahead};
+ghost use Rattle.partial_long_lived.specs.Options.{ahead_for};
 ghost use Rattle.partial_long_lived.specs.Sized.{HasOffsets, IsSized};
 
 use partial_words::Sizes;
@@ -21,4 +24,19 @@ pub struct Shape {
     pub carried: u64,
     pub ghost sized: { IsSized sizes ports arenas limit },
     pub ghost offsets: { HasOffsets sizes own carried },
+}
+
+/// The most words that a port claims beyond those of its record.
+pub const MOST_AHEAD: u64 = 93;
+
+impl Shape {
+    /// How many words more than those of its record an update claims: those of 31 records without a view, or fewer, so that
+    /// the words that all ports keep are an eighth of those that an epoch has at most.
+    pub fn ahead(&self) -> u32
+        ensures value { result ≡ ahead_for (self.now.limit - self.now.own) self.now.ports }
+        ensures few { result ≤ most_ahead }
+    {
+        let claimed = self.limit - self.own;
+        (claimed / 8 / u64::from(self.ports)).min(MOST_AHEAD) as u32
+    }
 }

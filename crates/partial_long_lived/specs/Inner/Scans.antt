@@ -19,15 +19,17 @@ use Rattle.partial_long_lived.specs.Inner.Steps.{SeatGoes}
 use Rattle.partial_long_lived.specs.Inner.Held.{port_at}
 use Rattle.partial_long_lived.specs.Inner.Calls.{HasCome, IsIdle, StaysAt}
 use Rattle.partial_long_lived.specs.Inner.Machine.{over_by}
-use Rattle.partial_long_lived.specs.Inner.Under.{CallMade, machine_at}
+use Rattle.partial_long_lived.specs.Inner.Under.{CallMade, claimed_end, machine_at}
 
--- Between calls the port's machine is at rest, and is not spent, neither for the pool nor for the slots.
+-- Between calls the port's machine is at rest, and is not spent, neither for the pool nor for the slots. Where the port isn't
+-- over, the words that it has claimed for its records end no later than the limit.
 pub record RestsUnmarked (x : SeatedPort) (core : CoreState) : Type 0 where
   pub between : IsBetween x.port.part core
   pub sizes : core.sizes ≡ x.about.sizes
   pub port : core.port ≡ x.number
   pub pool : core.pool_spent ≡ false
   pub slots : core.slots_spent ≡ false
+  pub kept : x.port.over ≡ false → claimed_end core ≤ x.about.limit
 
 -- By the first steps of a call the port has entered an epoch that was the current one during the call, and has noted nothing.
 pub record SettledFirst (s t : Stand) : Type 0 where

@@ -10,7 +10,7 @@ use Rattle.partial_machine.specs.declared.stage.Stage.{Stage}
 use Rattle.partial_machine.specs.declared.stage.Stage.TheVariants.{UpdateBegun, GettingSet, Viewing, ClaimingRecord, StoringRecord, Exchanging, ScanBegun}
 use Rattle.partial_machine.specs.declared.stage.Reply.{Reply}
 use Rattle.partial_machine.specs.Bounds.{left_at}
-use Rattle.partial_machine.specs.Machine.{CoreState, record_size, reply_of}
+use Rattle.partial_machine.specs.Machine.{CoreState, reply_of}
 use Rattle.partial_machine.specs.Sound.{IsSound}
 use Rattle.partial_core.specs.Part.{HasBegun, core_of, first_at}
 use Rattle.partial_core.specs.Calls.{Made}
@@ -63,11 +63,15 @@ seat_left_at c t = left_at c t + (if before_no_view c t then 1 else 0)
 abbrev pub seat_steps_left : CoreState → ℕ
 seat_steps_left c = seat_left_at c c.stage
 
--- where the record of an update lies that has been claimed
+-- where the record of an update lies that has words of the pool
 abbrev pub record_claim : Stage → Option ℕ
 record_claim (StoringRecord c old at k) = Some at
 record_claim (Exchanging c old at) = Some at
 record_claim _ = None
+
+-- the word after those that the port has claimed for its records
+abbrev pub claimed_end : CoreState → ℕ
+claimed_end c = c.spare.at + c.spare.size
 
 -- the machine b may begin a call at the port x, which has made no claim past the limit
 pub record MayBegin (b : CoreState) (x : SeatedPort) : Type 0 where
@@ -77,6 +81,7 @@ pub record MayBegin (b : CoreState) (x : SeatedPort) : Type 0 where
   pub layout : IsLayout b.sizes
   pub sizes : b.sizes ≡ x.about.sizes
   pub spare : x.port.over ≡ false
+  pub kept : claimed_end b ≤ x.about.limit
   pub unmarked : (b.pool_spent ≡ false) × (b.slots_spent ≡ false)
   pub expects : ExpectsSeen x b
 
@@ -89,8 +94,10 @@ pub record CallMade (b : CoreState) (x : SeatedPort) (c : CoreState) (y : Seated
   pub made : Made x.about.sizes (opening_of x) b x.port.part c y.port.part
   -- it has made no claim past the limit before its claim
   pub spare : before_claim c.stage ≡ true → y.port.over ≡ false
-  -- it is over exactly where its record's claim ends past the limit
-  pub claimed : (at : ℕ) → record_claim c.stage ≡ Some at → y.port.over ≡ nat_lt x.about.limit (at + record_size c)
+  -- once its record has words it is over exactly where those that it has claimed end past the limit
+  pub claimed : (at : ℕ) → record_claim c.stage ≡ Some at → y.port.over ≡ nat_lt x.about.limit (claimed_end c)
+  -- and where it isn't over, they end no later
+  pub kept : y.port.over ≡ false → claimed_end c ≤ x.about.limit
   -- the machine isn't spent, neither for the pool nor for the slots
   pub unmarked : (c.pool_spent ≡ false) × (c.slots_spent ≡ false)
   -- it isn't refused

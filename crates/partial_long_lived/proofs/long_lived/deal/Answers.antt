@@ -1,4 +1,4 @@
-use Rattle.partial_long_lived.proofs.{Common.{rules, ◌≡◌, ◌+◌, ◌<◌, ℕ, refl, ap, sym, ◌∙◌, subst, List, Me, TableId, base, Plan, SeatedPort, one_of, port_view}, NewPorts.{deals_next, made_next, rests_new}, Meets.deals}
+use Rattle.partial_long_lived.proofs.{Common.{CoreState, rules, ◌≡◌, ◌+◌, ◌<◌, ℕ, refl, ap, sym, ◌∙◌, subst, List, Me, TableId, base, Plan, SeatedPort, one_of, port_view}, NewPorts.{deals_next, made_next, rests_new}, Meets.deals}
 use Rattle.partial_long_lived.proofs.long_lived.deal.Goals as goal
 
 pub split_seat-token-requires : goal.split_seat-token-requires
@@ -12,7 +12,7 @@ invariant_of-push_reserved c =
     let low = subst (λ (n : ℕ). c.loop-number.number < n) (sym (ap (λ (e : Plan). e.ports) shape)) c.loop-number-test.true in
     let first = c.base-base.ensures ∙ ap (λ e. base e 0) (sym shape) in
     let count = ap (λ (t : TableId). t.words) (c.split_seat-token.ensures.3 ∙ inv.table) ∙ opened.count in (
-      rests_new _ _ _ c.loop-number-test.true _ inv.parts _ opened.opens low _ _ _ count c.split_seat-token.ensures.4 shape refl refl refl first refl c.in_ok-core.ensures
+      rests_new _ _ _ c.loop-number-test.true _ inv.parts _ opened.opens low _ _ _ count c.split_seat-token.ensures.4 shape refl refl refl first refl _ c.ahead.ensures.few (c.claim_ahead.ensures ∙ ap (λ (s : CoreState). record s { ahead = c.ahead.result }) c.in_ok-core.ensures)
           (ap (λ (e : Plan). e.sizes) shape),
       search rules,
     )

@@ -8,7 +8,7 @@ returns-then-stand-epoch-clause-rests c =
     let again = c.read_again-at.ensures in
     let record_is = c.load_record-value.ensures in
     let come : HasCome t v = come_same t _ v (come_seen t _ _ _ _ _ _ c.settle.ensures.settled.come again.kept again.sees) record_is.kept record_is.same in
-    rests_anew t v _ _ c.requires.held.number come c.requires.rests c.if-stand-epoch.true _ c.clear_marks.ensures
+    rests_anew t v _ _ c.requires.held.number c.requires.held.known.plan come c.requires.rests c.if-stand-epoch.true _ c.clear_marks.ensures
 
 pub returns-else-stand-epoch-clause-rests : goal.returns-else-stand-epoch-clause-rests
 returns-else-stand-epoch-clause-rests c =

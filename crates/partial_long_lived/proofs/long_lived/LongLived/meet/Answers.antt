@@ -17,7 +17,7 @@ invariant_of-first c =
     elim c.if-one-first_epoch.branch [
       | then-one-first_epoch w ↦ subst (λ (x : Inside). IsResting u x.core x.spent × (vec_len x.collected ≡ u.shape.sizes.m)) (sym w.first-inside-is)
           (rests_on m s u _ _ _ _ _ c.first.invariant.0 own c.first.invariant.1 c.meet-one.ensures.first
-          (rests_anew s u _ _ number come rests (λ same. w.if-one-first_epoch.true (same ∙ sym out.kept.epoch)) _ w.clear_marks.ensures))
+          (rests_anew s u _ _ number c.first.invariant.0.held.known.plan come rests (λ same. w.if-one-first_epoch.true (same ∙ sym out.kept.epoch)) _ w.clear_marks.ensures))
       | else-one-first_epoch w ↦ subst (λ (x : Inside). IsResting u x.core x.spent × (vec_len x.collected ≡ u.shape.sizes.m)) (sym w.first-inside-is)
           (rests_on m s u _ _ _ _ _ c.first.invariant.0 own c.first.invariant.1 c.meet-one.ensures.first (rests_here s u _ _ come rests (w.if-one-first_epoch.false ∙ out.kept.epoch)))
     ]
@@ -36,7 +36,7 @@ invariant_of-second c =
     elim c.if-other-second_epoch.branch [
       | then-other-second_epoch w ↦ subst (λ (x : Inside). IsResting u x.core x.spent × (vec_len x.collected ≡ u.shape.sizes.m)) (sym w.second-inside-is)
           (rests_on m s u _ _ _ _ _ c.second.invariant.0 own c.second.invariant.1 c.meet-one.ensures.second
-          (rests_anew s u _ _ number come rests (λ same. w.if-other-second_epoch.true (same ∙ sym out.kept.epoch)) _ w.clear_marks-then-other-second_epoch.ensures))
+          (rests_anew s u _ _ number c.second.invariant.0.held.known.plan come rests (λ same. w.if-other-second_epoch.true (same ∙ sym out.kept.epoch)) _ w.clear_marks-then-other-second_epoch.ensures))
       | else-other-second_epoch w ↦ subst (λ (x : Inside). IsResting u x.core x.spent × (vec_len x.collected ≡ u.shape.sizes.m)) (sym w.second-inside-is)
           (rests_on m s u _ _ _ _ _ c.second.invariant.0 own c.second.invariant.1 c.meet-one.ensures.second (rests_here s u _ _ come rests (w.if-other-second_epoch.false ∙ out.kept.epoch)))
     ]
