@@ -44,10 +44,6 @@ pool_of_component = 16
 abbrev pub claim_room : ℕ → ℕ → ℕ
 claim_room count ports = (full_record_size count + most_ahead) * ports
 
--- how many words more than those of its record an update claims, where so many are claimed in an epoch
-abbrev pub ahead_for : ℕ → ℕ → ℕ
-ahead_for claimed ports = min (claimed / 8 / ports) most_ahead
-
 -- how many pool words are claimed in an epoch then
 abbrev pub usual_pool : ℕ → ℕ → ℕ
 usual_pool count ports = max (min (max (min (pool_of_port * ports) (pool_of_all / ports)) (pool_of_component * count))

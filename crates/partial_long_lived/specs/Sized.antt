@@ -1,6 +1,6 @@
 -- Sizes that a long-lived memory may have.
-use Rattle.std.specs.Prelude.{ℕ, ◌≡◌, ◌+◌, ◌*◌, ◌≤◌}
-use Rattle.partial_words.specs.Layout.{Layout, IsLayout, first_free, greatest_claim, pool_end, total}
+use Rattle.std.specs.Prelude.{ℕ, ◌≡◌, ◌+◌, ◌*◌, ◌/◌, ◌≤◌, min}
+use Rattle.partial_words.specs.Layout.{Layout, IsLayout, first_free, greatest_claim, most_ahead, pool_end, total}
 
 -- The sizes of an arena are in range, there are 1 to 64 ports and twice as many arenas, above the limit there is room for the greatest claim of
 -- each port, and there is a slot for each port.
@@ -12,6 +12,10 @@ pub record IsSized (sizes : Layout) (ports arenas limit : ℕ) : Type 0 where
   pub opens : first_free sizes ≤ limit
   pub room : limit + greatest_claim sizes * ports ≤ pool_end sizes
   pub slots : ports ≤ sizes.slots
+
+-- how many words more than those of its record an update claims, where so many are claimed in an epoch
+abbrev pub ahead_for : ℕ → ℕ → ℕ
+ahead_for claimed ports = min (claimed / 8 / ports) most_ahead
 
 -- where an epoch's own records begin in an arena, and where the carried stamps do
 pub record HasOffsets (sizes : Layout) (records stamps : ℕ) : Type 0 where

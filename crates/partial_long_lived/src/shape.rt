@@ -2,8 +2,7 @@
 
 ghost use Rattle.std.specs.Prelude.{◌≡◌, ◌-◌, ◌≤◌};
 ghost use Rattle.partial_words.specs.Layout.{most_ahead};
-ghost use Rattle.partial_long_lived.specs.Options.{ahead_for};
-ghost use Rattle.partial_long_lived.specs.Sized.{HasOffsets, IsSized};
+ghost use Rattle.partial_long_lived.specs.Sized.{HasOffsets, IsSized, ahead_for};
 
 use partial_words::Sizes;
 
