@@ -1,5 +1,5 @@
 -- No due step stores or adds to a component word, and an exchange of one is of two references; the pool's counter grows by claims alone.
-use Rattle.partial_epochs.proofs.Common.{ℕ, ◌≡◌, ◌<◌, ◌≤◌, ◌⊎◌, Bool, true, false, if◌then◌else◌, Some, None, IfSome, List, [], length, refl, sym, ap, subst, ◌∙◌, inl, inr, arith, ⊤, is_some, Opening, all_at, some_same, Step, Load, Store, Exchange, Add, Layout, IsLayout, slot_counter, slot_word, list_base, list_head, list_counter, pool_counter, greatest_record, CoreState, record_size, step_at, step_of, is_begun, IsSound, is_sound_at, Holding, IsOwn, IsTied, IsMachineOf, core_of, PartAmong, holdings, joined_since, own_list, lawful_machines_are_ready, seal, announcement_size, join_step, JoinStage, Claiming, Storing, Joined, Spent, Change, Stage, Idle, ReadBegun, LoadingValue, UpdateBegun, GettingSet, Viewing, ClaimingRecord, StoringRecord, Exchanging, ScanBegun, StoringAnnouncement, Joining, Scanning, Leaving, Finished, size_few, view_loads, holding_in, memory_at, sizes_here, sound_at, sound_here}
+use Rattle.partial_epochs.proofs.Common.{ℕ, ◌≡◌, ◌<◌, ◌≤◌, ◌⊎◌, Bool, true, false, if◌then◌else◌, Some, None, IfSome, List, [], length, refl, sym, ap, subst, ◌∙◌, inl, inr, arith, ⊤, is_some, Opening, all_at, some_same, Step, Load, Store, Exchange, Add, Layout, IsLayout, slot_counter, slot_word, list_base, list_head, list_counter, pool_counter, greatest_claim, CoreState, record_step, step_at, step_of, is_begun, IsSound, is_sound_at, Holding, IsOwn, IsTied, IsMachineOf, core_of, PartAmong, holdings, joined_since, own_list, lawful_machines_are_ready, seal, announcement_size, join_step, JoinStage, Claiming, Storing, Joined, Spent, Change, Stage, Idle, ReadBegun, LoadingValue, UpdateBegun, GettingSet, Viewing, ClaimingRecord, StoringRecord, Exchanging, ScanBegun, StoringAnnouncement, Joining, Scanning, Leaving, Finished, record_step_cases, size_few, view_loads, holding_in, memory_at, sizes_here, sound_at, sound_here}
 use Rattle.partial_active.specs.declared.get_set.Stage.{Stage as SetStage}
 use Rattle.partial_active.specs.declared.get_set.Stage.TheVariants as set
 use Rattle.partial_active.specs.GetSet as finding
@@ -11,7 +11,7 @@ abbrev pub IsApart : Layout → Step → Type 0
 IsApart z (Load w) = ⊤
 IsApart z (Store w v) = slot_word z 0 ≤ w
 IsApart z (Exchange w old new) = ((w < z.m) × (old < seal) × (new < seal)) ⊎ (w ≡ list_head z)
-IsApart z (Add w n) = (w ≡ slot_counter z) ⊎ (w ≡ list_counter z) ⊎ ((w ≡ pool_counter z) × (n ≤ greatest_record z))
+IsApart z (Add w n) = (w ≡ slot_counter z) ⊎ (w ≡ list_counter z) ⊎ ((w ≡ pool_counter z) × (n ≤ greatest_claim z))
 
 -- a call that begins
 begun_apart : (s : CoreState) (t : Stage) (step : Step) → is_begun t ≡ true → IsSound s → step_at s t ≡ Some step → IsApart s.sizes step
@@ -94,7 +94,10 @@ module _ (z : Layout) (o : Opening) (m : PartAmong) (w : LawfulAmong z o m) wher
       by (Viewing c old) is here sizes sound e = viewing_apart z (core_of x).embedded.sizes (core_of x).found.indices (core_of x).rows.last (core_of x).embedded.stage step e
       by (ClaimingRecord c old) is here sizes sound e =
           let few = (size_few (core_of x) sound.indices.few).1 in
-          to (core_of x).sizes sizes (Add (pool_counter (core_of x).sizes) (record_size (core_of x))) e (inr (inr (refl, few)))
+          let ahead = sound.ahead in
+          let from = sound.spare.0 in
+          to (core_of x).sizes sizes (record_step (core_of x) old) e
+          (record_step_cases (core_of x) old (IsApart (core_of x).sizes) (λ some. omega (arith, from)) (λ none. inr (inr (refl, omega (arith, few, ahead)))))
       by (StoringRecord c old at k) is here sizes sound e =
           let low = here.1.0 in
           let s : List ℕ = [] in

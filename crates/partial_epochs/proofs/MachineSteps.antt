@@ -1,6 +1,6 @@
 -- Each due step of a machine in the arena where its port stands keeps the lawful state of all epochs.
 use Rattle.std.proofs.lemmas.Bool.{eq-eqb, ne_eqb}
-use Rattle.partial_epochs.proofs.{Common.{ℕ, ◌≡◌, ◌≢◌, ◌+◌, ◌*◌, ◌%◌, ◌^◌, ◌<◌, ◌≤◌, ◌==◌, ◌⊎◌, ◌++◌, Bool, true, false, if◌then◌else◌, Some, List, [], ◌∷◌, length, slice_index, slice_set, refl, sym, ap, subst, ◌∙◌, inl, inr, arith, ◌&&◌, ◌||◌, nat_lt, AllByRecursion, cases_lt, lt-ltb, eqb_tells, get_or-set_same, get_or-set_other, Applied, Opening, Step, Load, Store, Exchange, Add, Layout, total, pool_counter, slot_counter, greatest_record, answer_of, word_of, words_after, steps_left, CoreState, advance, step_of, Part, PartAmong, IsMachineOf, port_of, IsReady, LeadsOn, added_by, lawful_machines_are_ready, steps_stay_lawful, count, list_of, put, Plan, arena_words, carried_words, component_words, based_step, opened_after, Port, Epoch, Beside, IsArena, IsStanding, LawfulEpochs, IsPresent, awaits_slot, claims_no_more, slot_limit, mul-le-mul_left, MachineLeads, MachineStepsStayLawful, MayClaim, MeetsSeal, ends_over, Stands, not_below, value_word}, Apart.{IsApart, due_apart}, Change.{Changes, beside_then, change_kept}, Lists.{Around, around_of, count_more, count_one, count_same, length_of, put_all, put_other, put_same}, Offsets.below_whole, Present.{by_seal, standing}, Slots.{MayClaimWords, awaits, awaits_same, counted, done, one}, Worded.{Words, worded}}
+use Rattle.partial_epochs.proofs.{Common.{ℕ, ◌≡◌, ◌≢◌, ◌+◌, ◌*◌, ◌%◌, ◌^◌, ◌<◌, ◌≤◌, ◌==◌, ◌⊎◌, ◌++◌, Bool, true, false, if◌then◌else◌, Some, List, [], ◌∷◌, length, slice_index, slice_set, refl, sym, ap, subst, ◌∙◌, inl, inr, arith, ◌&&◌, ◌||◌, nat_lt, AllByRecursion, cases_lt, lt-ltb, eqb_tells, get_or-set_same, get_or-set_other, Applied, Opening, Step, Load, Store, Exchange, Add, Layout, total, pool_counter, slot_counter, greatest_claim, answer_of, word_of, words_after, steps_left, CoreState, advance, step_of, Part, PartAmong, IsMachineOf, port_of, IsReady, LeadsOn, added_by, lawful_machines_are_ready, steps_stay_lawful, count, list_of, put, Plan, arena_words, carried_words, component_words, based_step, opened_after, Port, Epoch, Beside, IsArena, IsStanding, LawfulEpochs, IsPresent, awaits_slot, claims_no_more, slot_limit, mul-le-mul_left, MachineLeads, MachineStepsStayLawful, MayClaim, MeetsSeal, ends_over, Stands, not_below, value_word}, Apart.{IsApart, due_apart}, Change.{Changes, beside_then, change_kept}, Lists.{Around, around_of, count_more, count_one, count_same, length_of, put_all, put_other, put_same}, Offsets.below_whole, Present.{by_seal, standing}, Slots.{MayClaimWords, awaits, awaits_same, counted, done, one}, Worded.{Words, worded}}
 use Rattle.partial_core.specs.Lawful as one
 use Rattle.partial_core.specs.Steps.{Tells}
 
@@ -19,9 +19,9 @@ or_last false false c e = e
 
 -- The reserve: a claim that ends past the limit is its port's last.
 module _ (e : Plan) (words : List ℕ) (over : ℕ → Bool) (k : ℕ) (below : k < e.ports) (there : pool_counter e.sizes < length words)
-    (reserve : slice_index words (pool_counter e.sizes) ≤ e.limit + greatest_record e.sizes * count over 0 e.ports) where
+    (reserve : slice_index words (pool_counter e.sizes) ≤ e.limit + greatest_claim e.sizes * count over 0 e.ports) where
   abbrev Reserved : Bool → List ℕ → Type 0
-  Reserved v words' = slice_index words' (pool_counter e.sizes) ≤ e.limit + greatest_record e.sizes * count (put k v over) 0 e.ports
+  Reserved v words' = slice_index words' (pool_counter e.sizes) ≤ e.limit + greatest_claim e.sizes * count (put k v over) 0 e.ports
 
   unchanged : (v : Bool) → v ≡ over k → count (put k v over) 0 e.ports ≡ count over 0 e.ports
   unchanged v is = count_same (put k v over) over 0 e.ports (λ i low high. put_all (λ j u. u ≡ over j) k v over i (λ _. is) (λ _. refl))
@@ -41,7 +41,7 @@ module _ (e : Plan) (words : List ℕ) (over : ℕ → Bool) (k : ℕ) (below : 
 
   reserved_same : (v : Bool) (words' : List ℕ) → (over k ≡ true → v ≡ true) → slice_index words' (pool_counter e.sizes) ≡ slice_index words (pool_counter e.sizes) → Reserved v words'
   reserved_same v words' up same =
-      let times : greatest_record e.sizes * count over 0 e.ports ≤ greatest_record e.sizes * count (put k v over) 0 e.ports = mul-le-mul_left (greatest_record e.sizes) (rises v up) in
+      let times : greatest_claim e.sizes * count over 0 e.ports ≤ greatest_claim e.sizes * count (put k v over) 0 e.ports = mul-le-mul_left (greatest_claim e.sizes) (rises v up) in
       omega (arith, times, same, reserve)
 
   reserved_by : (step : Step) → IsApart e.sizes step → MayClaim e (over k) step → Reserved (over k || ends_over e words step) (words_after words step)
@@ -62,7 +62,7 @@ module _ (e : Plan) (words : List ℕ) (over : ℕ → Bool) (k : ℕ) (below : 
       claimed : (w == pool_counter e.sizes) ≡ true → w ≡ pool_counter e.sizes → Reserved (over k || ends_over e words (Add w n)) (words_after words (Add w n))
       claimed test is =
           let at : slice_index words w ≡ slice_index words (pool_counter e.sizes) = ap (λ i. slice_index words i) is in
-          let few : n ≤ greatest_record e.sizes = omega (arith, apart, is) in
+          let few : n ≤ greatest_claim e.sizes = omega (arith, apart, is) in
           let found : slice_index (words_after words (Add w n)) (pool_counter e.sizes) ≡ (slice_index words w + n) % 2 ^ 64 =
           ap (λ i. slice_index (words_after words (Add w n)) i) (sym is) ∙ get_or-set_same words w ((slice_index words w + n) % 2 ^ 64) 0 (subst (λ i. i < length words) (sym is) there) in
           let less : (slice_index words w + n) % 2 ^ 64 ≤ slice_index words w + n = omega arith in
@@ -78,11 +78,11 @@ module _ (e : Plan) (words : List ℕ) (over : ℕ → Bool) (k : ℕ) (below : 
                 let on : put k v over k ≡ true = put_same k v over ∙ v_is ∙ lt-ltb e.limit (slice_index words w + n) past in
                 let more : count (put k v over) 0 e.ports ≡ count over 0 e.ports + 1 =
                 count_more over (put k v over) 0 e.ports k (omega arith) (omega (arith, below)) free on (λ i ne. put_other k v over i ne) in
-                let times : greatest_record e.sizes * count (put k v over) 0 e.ports ≡ greatest_record e.sizes * (count over 0 e.ports + 1) = ap (λ q. greatest_record e.sizes * q) more in
+                let times : greatest_claim e.sizes * count (put k v over) 0 e.ports ≡ greatest_claim e.sizes * (count over 0 e.ports + 1) = ap (λ q. greatest_claim e.sizes * q) more in
                 omega (arith, found, less, reserve, at, few, times)
             | inr within ↦
                 let off : v ≡ over k = v_is ∙ not_below e.limit (slice_index words w + n) within ∙ sym free in
-                let times : greatest_record e.sizes * count (put k v over) 0 e.ports ≡ greatest_record e.sizes * count over 0 e.ports = ap (λ q. greatest_record e.sizes * q) (unchanged v off) in
+                let times : greatest_claim e.sizes * count (put k v over) 0 e.ports ≡ greatest_claim e.sizes * count over 0 e.ports = ap (λ q. greatest_claim e.sizes * q) (unchanged v off) in
                 omega (arith, found, less, within, times)
           ]
 
@@ -231,8 +231,8 @@ module _ (e : Plan) (words : List ℕ) (ports : ℕ → Port) (b : Beside) (k : 
           few = λ j inside. let same = (h.seals j inside).0 in let few = arena.few j inside in omega (arith, same, few);
           passed = λ q j in_ports in_passed inside. (h.seals j inside).1 (arena.passed q j in_ports in_passed inside);
           sealed = λ finished j inside. (h.seals j inside).1 (arena.sealed finished j inside);
-          reserve = subst (λ (l : List ℕ). slice_index l (pool_counter e.sizes) ≤ e.limit + greatest_record e.sizes * count (put k over' r.over) 0 e.ports) (sym h.arena)
-              (subst (λ (v : Bool). slice_index (words_after bw step) (pool_counter e.sizes) ≤ e.limit + greatest_record e.sizes * count (put k v r.over) 0 e.ports) (sym same_over)
+          reserve = subst (λ (l : List ℕ). slice_index l (pool_counter e.sizes) ≤ e.limit + greatest_claim e.sizes * count (put k over' r.over) 0 e.ports) (sym h.arena)
+              (subst (λ (v : Bool). slice_index (words_after bw step) (pool_counter e.sizes) ≤ e.limit + greatest_claim e.sizes * count (put k v r.over) 0 e.ports) (sym same_over)
               (reserved_by e bw r.over k below there arena.reserve step apart claim));
           slots = subst (λ (l : List ℕ). slice_index l (slot_counter e.sizes)
               ≤ slot_limit e + count (λ q. claims_no_more (put k over' r.over q) (put k leads.y r.part q)) 0 e.ports) (sym h.arena)

@@ -1,5 +1,5 @@
 -- An arena that was used before opens lawful again once the words below the first free one are set: what stands after them doesn't matter.
-use Rattle.partial_epochs.proofs.Common.{ℕ, ◌≡◌, ◌+◌, ◌*◌, ◌<◌, ◌≤◌, ◌++◌, List, [], ◌∷◌, length, Some, None, IfSome, sym, ap, subst, inl, inr, arith, ◌∙◌, Opening, places_written, Layout, slot_counter, list_head, pool_counter, list_counter, slot_word, list_base, pool_base, total, initial_record, Holding, EachTwo, announcements, unpublished, IsTied, LawfulWords, holdings, fresh_parts, OpensOver, OpensOverLawful, initial_words, first_free, initial_stamp, slice_index, view_word, view_of, prev_word, value_word, plain_record_size, opening_component, opening_record, initial_value, initial_prev, initial_view, idle_length, idle_all, idle_ports, idle_slots, none_unpublished, none_announced, pool_opens, slot_opens, list_opens, lists_open, slots_open, counters_open, none_marked}
+use Rattle.partial_epochs.proofs.Common.{ℕ, ◌≡◌, ◌+◌, ◌*◌, ◌<◌, ◌≤◌, ◌++◌, List, [], ◌∷◌, length, Some, None, IfSome, sym, ap, subst, inl, inr, arith, ◌∙◌, Opening, places_written, Layout, slot_counter, list_head, pool_counter, list_counter, slot_word, list_base, pool_base, total, initial_record, Holding, EachTwo, announcements, spares, unpublished, IsTied, LawfulWords, holdings, fresh_parts, OpensOver, OpensOverLawful, initial_words, first_free, initial_stamp, slice_index, view_word, view_of, prev_word, value_word, plain_record_size, opening_component, opening_record, initial_value, initial_prev, initial_view, idle_length, idle_all, idle_ports, idle_slots, none_announced, none_spared, none_written, spares_open, pool_opens, slot_opens, list_opens, lists_open, slots_open, counters_open, none_marked}
 use Rattle.partial_model.specs.History.{last_from}
 use Rattle.partial_words.specs.Chain.{Agrees, links_from}
 use Rattle.partial_state.specs.{Views.{Block, AreApart}, Effects.idle_holdings}
@@ -35,7 +35,7 @@ opening_agrees s o words opens j below =
     let count : length words ≡ total s = opens.count in
     (named ∙ sym stamp, (record { stamp = stamp ∙ sym named; within = omega (arith, named, count, pool, in'); value = ap (slice_index words) next ∙ value }, ap (slice_index words) before ∙ prev))
 
-opening_is_lawful : (z : Layout) (o : Opening) (words : List ℕ) (n : ℕ) → OpensOver z o words → n ≤ 64 → LawfulWords z o words (idle_holdings 0 n) []
+opening_is_lawful : (z : Layout) (o : Opening) (words : List ℕ) (n : ℕ) → OpensOver z o words → n ≤ 64 → LawfulWords z o words (idle_holdings z 0 n) []
 opening_is_lawful z o words n opens few =
     let some = opens.sizes.slots.0 in
     let pool : slice_index words (pool_counter z) ≡ first_free z = opens.each (pool_counter z) (omega (arith, some)) (inl (omega (arith, some))) ∙ pool_opens z o.values in
@@ -43,36 +43,41 @@ opening_is_lawful z o words n opens few =
     let head : slice_index words (list_head z) ≡ 0 = opens.each (list_head z) (omega (arith, some)) (inl (omega (arith, some))) ∙ list_opens z o.values some in
     let lists : slice_index words (list_counter z) ≡ list_base z = opens.each (list_counter z) (omega (arith, some)) (inl (omega (arith, some))) ∙ lists_open z o.values some in
     let room = opens.sizes.pool.0 in
-    let count = idle_length 0 n in
-    let blocks : announcements (idle_holdings 0 n) ++ unpublished (idle_holdings 0 n) ≡ [] = ap (λ (l : List Block). l ++ unpublished (idle_holdings 0 n))
-    (none_announced 0 n) ∙ none_unpublished 0 n in
+    let count = idle_length z 0 n in
+    let blocks : announcements (idle_holdings z 0 n) ++ unpublished (idle_holdings z 0 n) ≡ spares (idle_holdings z 0 n) = ap (λ (l : List Block). l ++ unpublished (idle_holdings z 0 n))
+    (none_announced z 0 n) ∙ ap (λ (l : List Block). l ++ spares (idle_holdings z 0 n)) (none_written z 0 n) in
     record {
       sizes = opens.sizes;
       values = opens.values;
       stamps = opens.stamps;
       count = opens.count;
       few = omega (arith, count, few);
-      ports = idle_ports 0 n;
+      ports = idle_ports z 0 n;
       history = record { components = tt; distinct = tt; not_initial = tt };
       agrees = opening_agrees z o words opens;
       initial = λ j below. view_opens z o words j opens below;
       entries = tt;
-      tied = idle_all (IsTied z words) (λ p. record { own = tt; marked = λ c m. absurd (none_marked p c m) }) 0 n;
-      apart = subst (λ (l : List Block). EachTwo AreApart (record { at = pool_base z; size = initial_words z } ∷ l)) (sym blocks) (tt, tt);
+      tied = idle_all z (IsTied z words) (λ p. record {
+        own = tt;
+        spare = record { above = omega arith; within = omega (arith, room); below = omega (arith, pool) };
+        marked = λ c m. absurd (none_marked z p c m);
+      }) 0 n;
+      apart = subst (λ (l : List Block). EachTwo AreApart (record { at = pool_base z; size = initial_words z } ∷ l)) (sym blocks)
+          (none_spared z (record { at = pool_base z; size = initial_words z }) (inl (omega arith)) 0 n, spares_open z 0 n);
       fresh = λ k e s. let bad : None ≡ Some e = s in cc;
       covering = tt;
-      due = idle_all (λ h. IfSome h.due _) (λ p. tt) 0 n;
+      due = idle_all z (λ h. IfSome h.due _) (λ p. tt) 0 n;
       unclaimed = λ l from below. opens.each (slot_word z l) (omega (arith, below)) (inl (omega (arith, below))) ∙ slots_open z o.values l below;
       taken = λ l below inside. absurd (omega (arith, slots, below));
-      claims = idle_all (λ h. IfSome h.claimed _) (λ p. tt) 0 n;
-      owners = idle_slots 0 n;
+      claims = idle_all z (λ h. IfSome h.claimed _) (λ p. tt) 0 n;
+      owners = idle_slots z 0 n;
       head = inl head;
-      counters = counters_open z words (idle_holdings 0 n) pool slots lists room;
+      counters = counters_open z words (idle_holdings z 0 n) pool slots lists room;
     }
 
 pub opens_over : OpensOverLawful
 opens_over z o words n opens few = record {
   memory = subst (λ (hs : List Holding). LawfulWords z o words hs []) (sym (hold_nothing z 0 n)) (opening_is_lawful z o words n opens few);
   once = λ p. ap places_written (sym (fresh_notes z p 0 n));
-  known = fresh_known z o words (holdings (fresh_parts z 0 n)) 0 n (omega (arith, few));
+  known = fresh_known z o words (holdings (fresh_parts z 0 n)) 0 n opens.sizes (omega (arith, few));
 }

@@ -1,5 +1,5 @@
 -- Slots past the slot limit are claimed by ports that claim no more.
-use Rattle.partial_epochs.proofs.{Common.{ℕ, ◌≡◌, ◌+◌, ◌*◌, ◌%◌, ◌^◌, ◌<◌, ◌≤◌, ◌==◌, ◌⊎◌, Bool, true, false, if◌then◌else◌, Option, Some, None, List, length, slice_index, refl, sym, ap, subst, ◌∙◌, inl, inr, arith, ⊤, nat_lt, is_some, option_map_or, cases_lt, lt-ltb, get_or-set_same, get_or-set_other, mul-le-mul_left, some_same, Step, Load, Store, Exchange, Add, Layout, list_counter, pool_counter, pool_end, slot_counter, slot_word, greatest_record, words_after, CoreState, advance, advance_at, after_joining, at_stage, begin_getting, expects, getting, record_size, scanning, step_at, step_of, with_getting, with_scanning, is_at_rest, is_begun, IsSound, is_sound_at, IsMachineOf, Part, core_of, Plan, count, Epoch, IsArena, IsEpochPlan, awaits_at, awaits_slot, is_claiming, announcement_size, join_after, join_step, JoinStage, Claiming, Storing, Joined, Spent, Change, Stage, Idle, ReadBegun, LoadingValue, UpdateBegun, GettingSet, Viewing, ClaimingRecord, StoringRecord, Exchanging, ScanBegun, StoringAnnouncement, Joining, Scanning, Leaving, Finished, view_loads, Reply}, Apart.IsApart, Lists.count_few}
+use Rattle.partial_epochs.proofs.{Common.{ℕ, ◌≡◌, ◌+◌, ◌*◌, ◌%◌, ◌^◌, ◌<◌, ◌≤◌, ◌==◌, ◌⊎◌, Bool, true, false, if◌then◌else◌, Option, Some, None, List, length, slice_index, refl, sym, ap, subst, ◌∙◌, inl, inr, arith, ⊤, nat_lt, is_some, option_map_or, cases_lt, lt-ltb, get_or-set_same, get_or-set_other, mul-le-mul_left, some_same, Step, Load, Store, Exchange, Add, Layout, list_counter, pool_counter, pool_end, slot_counter, slot_word, greatest_claim, words_after, CoreState, advance, advance_at, after_joining, at_stage, begin_getting, expects, claim_size, getting, record_size, scanning, step_at, step_of, with_getting, with_scanning, is_at_rest, is_begun, IsSound, is_sound_at, IsMachineOf, Part, core_of, Plan, count, Epoch, IsArena, IsEpochPlan, awaits_at, awaits_slot, is_claiming, announcement_size, join_after, join_step, JoinStage, Claiming, Storing, Joined, Spent, Change, Stage, Idle, ReadBegun, LoadingValue, UpdateBegun, GettingSet, Viewing, ClaimingRecord, StoringRecord, Exchanging, ScanBegun, StoringAnnouncement, Joining, Scanning, Leaving, Finished, record_cases, record_step_cases, view_loads, Reply}, Apart.IsApart, Lists.count_few}
 use Rattle.partial_active.specs.declared.get_set.Stage.{Stage as SetStage}
 use Rattle.partial_active.specs.declared.get_set.Stage.TheVariants as set_stage
 use Rattle.partial_active.specs.GetSet as finding
@@ -193,7 +193,9 @@ module _ (s : CoreState) (sound : IsSound s) (words : List ℕ) (slots_there : s
       silent (Viewing c old) step false (goes_on (viewing.view_step_due s.found.indices (scanning t)) t (at_stage t (ClaimingRecord c old)) (ap (awaits_at t) is) refl) apart
       (viewing_quiet s.sizes s.embedded.sizes s.found.indices s.rows.last s.embedded.stage step due)
   counted_at (ClaimingRecord c old) is here step due apart may past =
-      claims_pool (ClaimingRecord c old) (record_size s) step (some_same due) may
+      let none : awaits (advance_at s (ClaimingRecord c old) x) ≡ false = record_cases s c old x (λ t. awaits t ≡ false) (λ some. refl) (λ small fits. refl) (λ small fails. refl) in
+      record_step_cases s old (λ (t : Step). t ≡ step → C false (awaits (advance_at s (ClaimingRecord c old) x)) (words_after words step))
+      (λ some is. silent (ClaimingRecord c old) step false none apart (subst (IsQuiet s.sizes) is tt)) (λ small is. claims_pool (ClaimingRecord c old) (claim_size s) step is may) (some_same due)
   counted_at (StoringRecord c old at k) is here step due apart may past = silent (StoringRecord c old at k) step false
       (stage_none (k + 1 == record_size s) s (Exchanging c old at) (StoringRecord c old at (k + 1)) refl refl) apart (subst (IsQuiet s.sizes) (some_same due) tt)
   counted_at (Exchanging c old at) is here step due apart may past = silent (Exchanging c old at) step false refl apart (subst (IsQuiet s.sizes) (some_same due) tt)
@@ -218,5 +220,5 @@ pub pool_within : (e : Plan) (words components carried : List ℕ) (r : Epoch) (
 pool_within e words components carried r f plan arena =
     let reserve = arena.reserve in
     let limit = plan.limit in
-    let times : greatest_record e.sizes * count r.over 0 e.ports ≤ greatest_record e.sizes * e.ports = mul-le-mul_left (greatest_record e.sizes) (count_few r.over 0 e.ports) in
+    let times : greatest_claim e.sizes * count r.over 0 e.ports ≤ greatest_claim e.sizes * e.ports = mul-le-mul_left (greatest_claim e.sizes) (count_few r.over 0 e.ports) in
     omega (arith, reserve, limit, times)

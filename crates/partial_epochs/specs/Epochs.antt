@@ -1,6 +1,6 @@
 -- The lawful state of a memory over all epochs.
 use Rattle.std.specs.Prelude.{ℕ, ◌+◌, ◌*◌, ◌<◌, ◌≤◌, nat_lt, Bool, true, List, ◌∷◌, slice_index, if◌then◌else◌, ◌++◌, length, Option, ◌≡◌, ◌≢◌, None, Some, IfSome, ◌-◌, false}
-use Rattle.partial_words.specs.Layout.{IsLayout, pool_base, pool_counter, pool_end, first_free, greatest_record, initial_record, slot_counter, slot_word}
+use Rattle.partial_words.specs.Layout.{IsLayout, pool_base, pool_counter, pool_end, first_free, greatest_claim, initial_record, slot_counter, slot_word}
 use Rattle.partial_words.specs.Record.{prev_word, view_word}
 use Rattle.std.specs.Option.{option_map}
 use Rattle.partial_model.specs.declared.history.Applied.{Applied}
@@ -20,7 +20,7 @@ use Rattle.partial_epochs.specs.Ports.{OwnedArena, Control, Port, Epoch}
 use Rattle.partial_epochs.specs.Control.{LawfulControl}
 use Rattle.partial_epochs.specs.Ports.Entering.{Stands}
 
--- the sizes of a plan: above each port's greatest claim there is room after the limit
+-- the sizes of a plan: after the limit there is room for the greatest claim of each port
 pub record IsEpochPlan (e : Plan) : Type 0 where
   -- an arena has the sizes of one memory
   pub sizes : IsLayout e.sizes
@@ -35,7 +35,7 @@ pub record IsEpochPlan (e : Plan) : Type 0 where
   -- the limit lies after the initial records
   pub opens : first_free e.sizes ≤ e.limit
   -- after the limit there is room for the greatest claim of each port
-  pub limit : e.limit + greatest_record e.sizes * e.ports ≤ pool_end e.sizes
+  pub limit : e.limit + greatest_claim e.sizes * e.ports ≤ pool_end e.sizes
 
 -- What stands beside words and ports (ghost state).
 pub record Beside : Type 0 where
@@ -99,7 +99,7 @@ pub record IsArena (e : Plan) (words components carried : List ℕ) (r : Epoch) 
   -- each component of a finished epoch is sealed
   pub sealed : finished → (j : ℕ) → j < e.sizes.m → IsSealed (slice_index components j)
   -- claims that end past the limit are those of ports that make no more
-  pub reserve : slice_index words (pool_counter e.sizes) ≤ e.limit + greatest_record e.sizes * count r.over 0 e.ports
+  pub reserve : slice_index words (pool_counter e.sizes) ≤ e.limit + greatest_claim e.sizes * count r.over 0 e.ports
   -- slots past the slot limit are those of ports that claim no more
   pub slots : slice_index words (slot_counter e.sizes) ≤ slot_limit e + count (λ k. claims_no_more (r.over k) (r.part k)) 0 e.ports
 

@@ -1,6 +1,6 @@
 -- The steps of a port's machine, made in the arena where the port stands.
 use Rattle.std.specs.Prelude.{ℕ, ◌+◌, ◌<◌, ◌≤◌, ◌==◌, nat_lt, Bool, List, [], slice_index, ◌++◌, length, ◌≡◌, ◌≢◌, ◌⊎◌, ⊤, Some, false, ◌&&◌, ◌||◌}
-use Rattle.partial_words.specs.Layout.{pool_counter, pool_end, greatest_record, slot_counter}
+use Rattle.partial_words.specs.Layout.{pool_counter, pool_end, greatest_claim, slot_counter}
 use Rattle.partial_words.specs.declared.step.Step.{Step}
 use Rattle.partial_words.specs.declared.step.Step.TheVariants.{Exchange, Add}
 use Rattle.std.specs.List.{AllByRecursion}
@@ -82,7 +82,7 @@ MachineStepsStayLawful = (e : Plan) (words : List ℕ) (ports : ℕ → Port) (b
 abbrev pub ClaimsHaveRoom : Type 0
 ClaimsHaveRoom = (e : Plan) (words : List ℕ) (ports : ℕ → Port) (b : Beside) (k : ℕ) → LawfulEpochs e words ports b → k < e.ports →
     (ports k).control.entering ≡ Stands → (ports k).over ≡ false →
-    slice_index (arena_words e words (ports k).control.here.arena) (pool_counter e.sizes) + greatest_record e.sizes ≤ pool_end e.sizes
+    slice_index (arena_words e words (ports k).control.here.arena) (pool_counter e.sizes) + greatest_claim e.sizes ≤ pool_end e.sizes
 
 -- there is a slot for each port, so that one is left for each after the slot limit
 abbrev pub HaveSlots : Plan → Type 0

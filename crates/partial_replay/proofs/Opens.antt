@@ -9,9 +9,9 @@ fresh_push z p [] port w number core finished none =
     (is, core ∙ ap (fresh z) is, finished, none, tt)
 fresh_push z p (x ∷ ports) port w number core finished none = (w.0, w.1, w.2, w.3, fresh_push z (p + 1) ports port w.4 (omega (arith, number)) core finished none)
 
-fresh_fits : (z : Layout) (o : Opening) (calls : List Call) (p : ℕ) (port : Port) → z.m ≡ length o.values → port.number ≡ p → port.core ≡ fresh z p → port.finished.items ≡ [] →
+fresh_fits : (z : Layout) (o : Opening) (calls : List Call) (p : ℕ) (port : Port) → IsLayout z → z.m ≡ length o.values → port.number ≡ p → port.core ≡ fresh z p → port.finished.items ≡ [] →
     port.under_way ≡ None → PortFits o [] calls p (record { seen = []; notes = []; begun = fresh z p; kept = []; since = 0; past = 0 }) port
-fresh_fits z o calls p port m number core finished none =
+fresh_fits z o calls p port layout m number core finished none =
     let x : Part = record { seen = []; notes = []; begun = fresh z p; kept = []; since = 0; past = 0 } in
     record {
       number = number;
@@ -27,18 +27,18 @@ fresh_fits z o calls p port m number core finished none =
       least = subst (AllByRecursion (HasLeastPlace o [])) (sym finished) tt;
       way = subst (λ (f : Option UnderWay). MatchOption f (IsBetween x port.core) (IsCallUnderWay 0 calls x port.core port.finished.items)) (sym none) (record {
         rest = refl;
-        like = subst (λ (s : CoreState). IsMarkedLike (fresh z p) s) (sym core) (record { sizes = refl; port = refl; pool = refl; slots = refl; lists = refl });
+        like = subst (λ (s : CoreState). IsMarkedLike (fresh z p) s) (sym core) (record { sizes = refl; port = refl; pool = refl; slots = refl; lists = refl; spare = refl });
         idle = ap (λ (s : CoreState). s.stage) core;
-        sound = subst IsSound (sym core) (rests_are_sound.fresh z p);
+        sound = subst IsSound (sym core) (rests_are_sound.fresh z p layout);
       });
     }
 
-fresh_ports_fit : (z : Layout) (o : Opening) (p : ℕ) (plans : List (List Call)) (ports : List Port) → z.m ≡ length o.values → FreshFrom z p ports → length ports ≡ length plans →
+fresh_ports_fit : (z : Layout) (o : Opening) (p : ℕ) (plans : List (List Call)) (ports : List Port) → IsLayout z → z.m ≡ length o.values → FreshFrom z p ports → length ports ≡ length plans →
     PortsFit o [] p plans (fresh_parts z p (length plans)) ports
-fresh_ports_fit z o p [] [] m w n = no_ports
-fresh_ports_fit z o p [] (t ∷ ports) m w n = absurd (omega (arith, n))
-fresh_ports_fit z o p (c ∷ plans) [] m w n = absurd (omega (arith, n))
-fresh_ports_fit z o p (c ∷ plans) (t ∷ ports) m w n = first_port (fresh_fits z o c p t m w.0 w.1 w.2 w.3) (fresh_ports_fit z o (p + 1) plans ports m w.4 (omega (arith, n)))
+fresh_ports_fit z o p [] [] layout m w n = no_ports
+fresh_ports_fit z o p [] (t ∷ ports) layout m w n = absurd (omega (arith, n))
+fresh_ports_fit z o p (c ∷ plans) [] layout m w n = absurd (omega (arith, n))
+fresh_ports_fit z o p (c ∷ plans) (t ∷ ports) layout m w n = first_port (fresh_fits z o c p t layout m w.0 w.1 w.2 w.3) (fresh_ports_fit z o (p + 1) plans ports layout m w.4 (omega (arith, n)))
 
 fresh_at : (z : Layout) (p i : ℕ) (ports : List Port) (port : Port) → FreshFrom z p ports → slice_get ports i ≡ Some port → (port.core ≡ fresh z (p + i)) × (port.finished.items ≡ []) ×
     (port.under_way ≡ None)
@@ -100,7 +100,7 @@ opens_run plans s sizes values first opening empty none few fresh =
       opens = opening;
       lawful = subst (λ (h : List Applied). Lawful s.sizes s.opening words parts h) (sym empty)
           (opens_lawful s.sizes s.opening words (length plans) (record { sizes = sizes; values = values; stamps = first; words = opening }) few);
-      fit = subst (λ (h : List Applied). PortsFit s.opening h 0 plans parts s.ports) (sym empty) (fresh_ports_fit s.sizes s.opening 0 plans s.ports (sym values) fresh.1 fresh.0);
+      fit = subst (λ (h : List Applied). PortsFit s.opening h 0 plans parts s.ports) (sym empty) (fresh_ports_fit s.sizes s.opening 0 plans s.ports sizes (sym values) fresh.1 fresh.0);
       leads = subst (λ (es : List Event). Leads words es words) (sym none) refl;
       entries = ap (filter_map (event_entry s.sizes.m (λ _. 0))) none ∙ sym (ap (map unvalued) empty);
       senders = subst (AllByRecursion (λ (e : Event). e.port < length plans)) (sym none) tt;

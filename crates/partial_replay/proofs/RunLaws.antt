@@ -170,7 +170,7 @@ module _ {plans : List (List Call)} {s : ReplayState} {p : ℕ} {calls : List Ca
         let sound : IsSound (core_of y) = subst IsSound (sym core_y) b.sound in
         record {
           rest = ap (λ (s : CoreState). is_at_rest s.stage) core_y ∙ b.rests ∙ ap is_some replied;
-          like = subst (λ (s : CoreState). IsMarkedLike (core_of y) s) (sym is) (record { sizes = refl; port = refl; pool = refl; slots = refl; lists = refl });
+          like = subst (λ (s : CoreState). IsMarkedLike (core_of y) s) (sym is) (record { sizes = refl; port = refl; pool = refl; slots = refl; lists = refl; spare = refl });
           idle = ap (λ (s : CoreState). s.stage) is;
           sound = subst IsSound (sym is) (rests_are_sound.idle (core_of y) sound);
         }

@@ -49,6 +49,8 @@ call_sound z s t c [] layout sizes w served h = elim h [
         indices = w.indices;
         distinct = w.distinct;
         rows = w.rows;
+        ahead = w.ahead;
+        spare = w.spare;
         stage = tt;
       } in
       (subst IsSound (sym is) sound, ap (λ (v : CoreState). v.sizes) is ∙ sizes)
@@ -142,5 +144,5 @@ answered_scans_make_their_steps p outcome plan w q front c behind is =
     (all_take (IsServed z.m) (length cs) (slice_index_or p.ports q []) (plan_served p q plan)) in
     let served = served_front z.m front c behind (subst (λ (l : List Called). AllByRecursion (IsServed z.m) (map (λ (d : Called). d.call) l)) is calls) in
     let cut = steps_cut first (events.0) front c behind xs (subst (λ (l : List Called). AreStepsOf first l xs (events.0)) is events.1) in
-    let sound = calls_sound z first cut.at front (events_in_front front xs) plan.sizes refl (rests_are_sound.fresh z q) served.0 cut.led in
+    let sound = calls_sound z first cut.at front (events_in_front front xs) plan.sizes refl (rests_are_sound.fresh z q plan.sizes) served.0 cut.led in
     scan_of z first front c behind xs (events.0) cut (own_events front c xs) refl plan.sizes sound.1 sound.0 served.1 cut.call'
