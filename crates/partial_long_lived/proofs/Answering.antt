@@ -89,6 +89,7 @@ rests_here s t core spent come w here = record {
           same.2 ∙ old.1,
           old.2,
           old.3,
+          (let low = old.4 in let limit = ap (λ (a : About). a.limit) come.goes.about in omega (arith, low, limit)),
         )
     | inr later ↦ let up = later.0 in absurd (omega (arith, up, here))
   ];

@@ -1,12 +1,13 @@
 -- A machine claims words of the pool once in a call.
-use Rattle.partial_long_lived.proofs.Common.{ℕ, ◌≡◌, ◌+◌, ◌≤◌, ◌==◌, ◌⊎◌, Bool, true, false, if◌then◌else◌, Option, Some, None, List, length, refl, sym, ap, subst, ◌∙◌, inl, inr, arith, option_map_or, some_same, Step, Load, Store, Exchange, Add, Layout, list_counter, list_head, pool_counter, slot_counter, slot_word, Change, Stage, Idle, ReadBegun, LoadingValue, UpdateBegun, GettingSet, Viewing, ClaimingRecord, StoringRecord, Exchanging, ScanBegun, StoringAnnouncement, Joining, Scanning, Leaving, Finished, CoreState, advance, advance_at, after_joining, at_stage, begin_getting, begin_joining, expects, fits_pool, getting, pool_refused, record_size, step_at, step_of, with_getting, IsSound, is_sound_at, LeavesComponents, awaits, awaits_at, is_claiming, nat_lt, word_of, before_claim, record_claim, announcement_size, IsQuiet, Reply, record_cases, record_step_cases, Block, claimed_end, claim_size, has_spare, into_spare, into_claim, record_step, ltb-true}
+use Rattle.partial_long_lived.proofs.Common.{ℕ, ◌≡◌, ◌+◌, ◌≤◌, ◌==◌, ◌⊎◌, Bool, true, false, if◌then◌else◌, Option, Some, None, List, length, refl, sym, ap, subst, ◌∙◌, inl, inr, arith, option_map_or, some_same, Step, Load, Store, Exchange, Add, Layout, list_counter, list_head, pool_counter, slot_counter, slot_word, Change, Stage, Idle, ReadBegun, LoadingValue, UpdateBegun, GettingSet, Viewing, ClaimingRecord, StoringRecord, Exchanging, ScanBegun, StoringAnnouncement, Joining, Scanning, Leaving, Finished, CoreState, advance, advance_at, after_joining, at_stage, begin_getting, begin_joining, expects, fits_pool, getting, pool_refused, record_size, step_at, step_of, with_getting, IsSound, is_sound_at, LeavesComponents, awaits, awaits_at, is_claiming, nat_lt, word_of, before_claim, record_claim, announcement_size, IsQuiet, Reply, record_cases, record_step_cases, Block, claimed_end, claim_size, has_spare, into_spare, into_claim, record_step}
+use Rattle.std.proofs.lemmas.Bool.{ltb-true}
 use Rattle.partial_machine.specs.Machine.{scanning, with_scanning}
 use Rattle.partial_active.specs.declared.join.JoinStage.{JoinStage}
 use Rattle.partial_active.specs.declared.join.JoinStage.TheVariants.{Claiming, Storing, Joined, Spent}
 use Rattle.partial_active.specs.declared.get_set.Stage.{Stage as SetStage}
 use Rattle.partial_active.specs.declared.get_set.Stage.TheVariants as set
 use Rattle.partial_active.specs.GetSet as finding
-use Rattle.partial_active.specs.Join.{join_after, join_step}
+use Rattle.partial_active.specs.Join.{advance_join, join_after, join_step}
 use Rattle.partial_embedded.specs.Embedded as viewing
 use Rattle.partial_embedded.specs.declared.embedded.Stage.{Stage as ScanStage}
 use Rattle.partial_embedded.specs.declared.embedded.Stage.TheVariants as scan
@@ -156,7 +157,7 @@ claimed_from s x at = by s.stage refl
     by (Finished r) is h = inr (sym (ap record_claim is) ∙ h)
 
 -- a step that begins no record leaves the spare words
-spare_stays : (s : CoreState) (x : ℕ) (t : Stage) → ((c : Change) (old : ℕ) → t ≡ ClaimingRecord c old → ⊥) → (advance_at s t x).spare ≡ s.spare
+pub spare_stays : (s : CoreState) (x : ℕ) (t : Stage) → ((c : Change) (old : ℕ) → t ≡ ClaimingRecord c old → ⊥) → (advance_at s t x).spare ≡ s.spare
 spare_stays s x t other = by t other
   where
     two : (c : Bool) (a b : CoreState) → a.spare ≡ s.spare → b.spare ≡ s.spare → (if c then a else b).spare ≡ s.spare
@@ -197,19 +198,17 @@ spare_stays s x t other = by t other
     by (Finished r) other = refl
 
 -- what is claimed for records ends where it did, or with the claim that the step was
-pub claims_on : (s : CoreState) (x : ℕ) → (claimed_end (advance s x) ≡ claimed_end s) ⊎ ((n : ℕ) × (step_of s ≡ Some (Add (pool_counter s.sizes) n)) × (claimed_end (advance s x) ≡ x + n))
+abbrev pub EndsOn : CoreState → ℕ → CoreState → Type 0
+EndsOn s x q = (claimed_end q ≡ claimed_end s) ⊎ ((n : ℕ) × (step_of s ≡ Some (Add (pool_counter s.sizes) n)) × (claimed_end q ≡ x + n))
+
+pub claims_on : (s : CoreState) (x : ℕ) → EndsOn s x (advance s x)
 claims_on s x = by s.stage refl
   where
-    Ends : CoreState → Type 0
-    Ends q = (claimed_end q ≡ claimed_end s) ⊎ ((n : ℕ) × (step_of s ≡ Some (Add (pool_counter s.sizes) n)) × (claimed_end q ≡ x + n))
-
-    stays : (t : Stage) → ((c : Change) (old : ℕ) → t ≡ ClaimingRecord c old → ⊥) → Ends (advance_at s t x)
-    unfolding Ends
+    stays : (t : Stage) → ((c : Change) (old : ℕ) → t ≡ ClaimingRecord c old → ⊥) → EndsOn s x (advance_at s t x)
     stays t other = inl (ap (λ (b : Block). b.at + b.size) (spare_stays s x t other))
 
-    by : (t : Stage) → s.stage ≡ t → Ends (advance_at s t x)
-    unfolding Ends
-    by (ClaimingRecord c old) is = record_cases s c old x Ends
+    by : (t : Stage) → s.stage ≡ t → EndsOn s x (advance_at s t x)
+    by (ClaimingRecord c old) is = record_cases s c old x (EndsOn s x)
         (λ some. let room = ltb-true (record_size s) (s.spare.size + 1) some in inl (omega (arith, room)))
         (λ none fits. inr (claim_size s, ap (step_at s) is ∙ ap (λ (b : Bool). Some (if b then Store s.spare.at old else Add (pool_counter s.sizes) (claim_size s))) none, omega arith))
         (λ none past. inl refl)

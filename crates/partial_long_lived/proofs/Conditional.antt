@@ -129,6 +129,10 @@ looked_may first s t core w may =
         port = rests.port ∙ sym w.stayed.kept.goes.number;
         pool = rests.pool;
         slots = rests.slots;
+        kept = λ free.
+            let low = rests.kept may.over in
+            let limit = ap (λ (a : About). a.limit) w.stayed.kept.goes.about in
+            omega (arith, low, limit);
       };
       over = w.over ∙ may.over;
     }

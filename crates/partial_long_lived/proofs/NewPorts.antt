@@ -1,5 +1,5 @@
 -- A memory as it opens, and its ports.
-use Rattle.partial_long_lived.proofs.{Common.{AllByRecursion, ℕ, zero, suc, ◌≡◌, ◌+◌, ◌-◌, ◌<◌, ◌++◌, false, List, [], ◌∷◌, length, refl, sym, ap, subst, ◌∙◌, arith, append_assoc, Me, TableId, Opening, Layout, pool_base, CoreState, fresh, IsBetween, ports_come_between, base, whole, OpensAll, About, Shape, Stand, SeatedPort, first_port, newcomer, newcomers, one_of, further_ports, plan_of, IsShapeOf, shape_plan, IsOf, PortView, new_ports, port_view, IsResting, IsSeatKnown, port_at, OpensShape, most_ahead, IsLayout, fresh_part, claimed_end}, Opens.newcomer_known}
+use Rattle.partial_long_lived.proofs.{Common.{AllByRecursion, ℕ, zero, suc, ◌≡◌, ◌+◌, ◌-◌, ◌<◌, ◌++◌, false, List, [], ◌∷◌, length, refl, sym, ap, subst, ◌∙◌, arith, append_assoc, Me, TableId, Opening, Layout, pool_base, CoreState, fresh, IsBetween, ports_come_between, base, whole, OpensAll, About, Shape, Stand, SeatedPort, first_port, newcomer, newcomers, one_of, further_ports, plan_of, IsShapeOf, shape_plan, IsOf, PortView, new_ports, port_view, IsResting, IsSeatKnown, port_at, OpensShape, most_ahead, IsLayout, fresh_part, claimed_end, ◌≤◌}, Opens.newcomer_known}
 use Rattle.partial_long_lived.specs.Inner.Opening.{IsLaidOut}
 
 -- the opening words are those of an opening with the same values and the same stamp

@@ -1,5 +1,5 @@
 -- The steps of a call of a port's machine, one after the other.
-use Rattle.partial_long_lived.proofs.{Common.{ℕ, ◌≡◌, ◌≢◌, ◌+◌, ◌<◌, ◌≤◌, ◌==◌, ◌&&◌, ◌||◌, ◌++◌, Bool, true, false, if◌then◌else◌, Option, Some, None, List, [], ◌∷◌, length, map, take, refl, sym, ap, subst, ◌∙◌, inl, inr, arith, append-nil, nat_lt, eqb_tells, append_cancel_left, Applied, Opening, stamp_of, Noted, seen_by, Step, Load, Store, Exchange, Add, Layout, IsLayout, pool_counter, slot_counter, total, word_of, Reply, Change, Stage, Idle, ReadBegun, LoadingValue, UpdateBegun, GettingSet, Viewing, ClaimingRecord, StoringRecord, Exchanging, ScanBegun, StoringAnnouncement, Joining, Scanning, Leaving, Finished, some_same, CoreState, advance, advance_at, at_stage, fits_pool, pool_refused, record_size, reply_of, step_at, step_of, call_of, is_begun, IsSound, Part, first_at, AreNotesOf, Tells, begun_with, moved_part, take_within, first_steps_make_calls, further_steps_make_calls, history_of, opened_after, Control, MayClaim, public_noted, About, Began, SeatedPort, plan_of, SeatGoes, opening_of, SeatMakes, MayMake, over_by, slot_limit, CallMade, MayBegin, awaits, before_claim, has_claimed, neither, record_claim, IsBehind, refuses_pool, refuses_slots, due_is_unreplied, due_words_are_there, KeptAnswer, Call, record_cases, Block, claimed_end, claim_size, has_spare, into_spare, into_claim, record_step, ltb-true, ltb-false, le-ltb}, Claims.{ClaimsSlot, claimed_from, pool_claims, slot_claims, unawaited, unclaimed_before}, Coming.goes_on}
+use Rattle.partial_long_lived.proofs.{Common.{ℕ, ◌≡◌, ◌≢◌, ◌+◌, ◌<◌, ◌≤◌, ◌==◌, ◌&&◌, ◌||◌, ◌++◌, Bool, true, false, if◌then◌else◌, Option, Some, None, List, [], ◌∷◌, length, map, take, refl, sym, ap, subst, ◌∙◌, inl, inr, arith, append-nil, nat_lt, eqb_tells, append_cancel_left, Applied, Opening, stamp_of, Noted, seen_by, Step, Load, Store, Exchange, Add, Layout, IsLayout, pool_counter, slot_counter, total, word_of, Reply, Change, Stage, Idle, ReadBegun, LoadingValue, UpdateBegun, GettingSet, Viewing, ClaimingRecord, StoringRecord, Exchanging, ScanBegun, StoringAnnouncement, Joining, Scanning, Leaving, Finished, some_same, CoreState, advance, advance_at, at_stage, fits_pool, pool_refused, record_size, reply_of, step_at, step_of, call_of, is_begun, IsSound, Part, first_at, AreNotesOf, Tells, begun_with, moved_part, take_within, first_steps_make_calls, further_steps_make_calls, history_of, opened_after, Control, MayClaim, public_noted, About, Began, SeatedPort, plan_of, SeatGoes, opening_of, SeatMakes, MayMake, over_by, slot_limit, CallMade, MayBegin, awaits, before_claim, has_claimed, neither, record_claim, IsBehind, refuses_pool, refuses_slots, due_is_unreplied, due_words_are_there, KeptAnswer, Call, record_cases, Block, claimed_end, claim_size, has_spare, into_spare, into_claim, record_step}, Claims.{ClaimsSlot, claimed_from, pool_claims, slot_claims, unawaited, unclaimed_before, claims_on, spare_stays}, Coming.goes_on}
 use Rattle.std.proofs.lemmas.Bool.{eq-eqb, ne_eqb, le-ltb, ltb-true, ltb-false}
 use Rattle.partial_model.specs.declared.call.Refused.{Refused}
 use Rattle.partial_core.specs.Calls.{Made}
@@ -167,12 +167,16 @@ kept_step a c s x over sizes due was none =
           omega (arith, low, end)
     ]
 
--- once its record has words, a port is over exactly where those that it has claimed end past the limit
+-- a machine whose record has words at that place is of a port that is over exactly where those that it has claimed end past the limit
+abbrev ClaimEnds : About → ℕ → Bool → CoreState → Type 0
+ClaimEnds a at over q = record_claim q.stage ≡ Some at → over ≡ nat_lt a.limit (claimed_end q)
+
+-- it is so after each step
 claim_step : (a : About) (c : CoreState) (s : Step) (x : ℕ) (over : Bool) → c.sizes ≡ a.sizes → step_of c ≡ Some s → (before_claim c.stage ≡ true → over ≡ false) → (over ≡ false → claimed_end c ≤ a.limit) →
     ((at : ℕ) → record_claim c.stage ≡ Some at → over ≡ nat_lt a.limit (claimed_end c)) → (at : ℕ) → record_claim (advance c x).stage ≡ Some at →
     (over || over_by (plan_of a) s x) ≡ nat_lt a.limit (claimed_end (advance c x))
 claim_step a c s x over sizes due spare kept was at is = elim (claimed_from c x at is) [
-  | inl new ↦ subst (λ (t : Stage). Ends (advance_at c t x)) (sym new.2) (placed new.0 new.1 new.2) is
+  | inl new ↦ subst (λ (t : Stage). ClaimEnds a at (over || over_by (plan_of a) s x) (advance_at c t x)) (sym new.2) (placed new.0 new.1 new.2) is
   | inr before ↦
       let end : claimed_end (advance c x) ≡ claimed_end c = ap (λ (b : Block). b.at + b.size) (spare_stays c x c.stage (λ d old same. unlike d old c.stage same before)) in
       ap (λ t. over || t) (no_over a c s x c.stage at before due) ∙ or_none over ∙ was at before ∙ ap (nat_lt a.limit) (sym end)
@@ -181,15 +185,12 @@ claim_step a c s x over sizes due spare kept was at is = elim (claimed_from c x 
     unlike : (d : Change) (old : ℕ) (t : Stage) → t ≡ ClaimingRecord d old → record_claim t ≡ Some at → ⊥
     unlike d old t same before = let bad : None ≡ Some at = sym (ap record_claim same) ∙ before in cc
 
-    abbrev Ends : CoreState → Type 0
-    Ends q = record_claim q.stage ≡ Some at → (over || over_by (plan_of a) s x) ≡ nat_lt a.limit (claimed_end q)
-
-    placed : (d : Change) (old : ℕ) → c.stage ≡ ClaimingRecord d old → Ends (advance_at c (ClaimingRecord d old) x)
+    placed : (d : Change) (old : ℕ) → c.stage ≡ ClaimingRecord d old → ClaimEnds a at (over || over_by (plan_of a) s x) (advance_at c (ClaimingRecord d old) x)
     placed d old stage =
         let free : over ≡ false = spare (ap before_claim stage) in
         let due_here : Some (record_step c old) ≡ Some s = sym (ap (step_at c) stage) ∙ due in
         let by : Bool → Option Step = λ b. Some (if b then Store c.spare.at old else Add (pool_counter c.sizes) (claim_size c)) in
-        record_cases c d old x Ends
+        record_cases c d old x (ClaimEnds a at (over || over_by (plan_of a) s x))
         (λ some there.
         let step : Store c.spare.at old ≡ s = some_same (sym (ap by some) ∙ due_here) in
         let room = ltb-true (record_size c) (c.spare.size + 1) some in

@@ -34,11 +34,11 @@ MakesAtMost count ports n = (o : Options) (a : About) → IsUsual o → IsOpened
 
 -- the numbers of 3 components and 2 ports
 abbrev pub few_components : MostSteps
-few_components = record { change = 4892; update = 489408; update_if = 489456; whole_scan = 4933; scan = 4906 }
+few_components = record { change = 4898; update = 490080; update_if = 490128; whole_scan = 4939; scan = 4912 }
 
 -- the numbers of 64 components and 4 ports
 abbrev pub more_components : MostSteps
-more_components = record { change = 14238; update = 4719888; update_if = 4719936; whole_scan = 18854; scan = 14374 }
+more_components = record { change = 14234; update = 4715536; update_if = 4715584; whole_scan = 18850; scan = 14370 }
 
 abbrev pub MostStepsInNumbers : Type 0
 MostStepsInNumbers = MakesAtMost 3 2 few_components × MakesAtMost 64 4 more_components

@@ -1,6 +1,6 @@
 //! One attempt of an update, in one epoch.
 
-ghost use Rattle.std.specs.Prelude.{◌≡◌, ◌≢◌, ◌+◌, ◌<◌, ◌≤◌, IfSome, IfNone, None, Some, false};
+ghost use Rattle.std.specs.Prelude.{◌≡◌, ◌≢◌, ◌+◌, ◌^◌, ◌<◌, ◌≤◌, IfSome, IfNone, None, Some, false};
 ghost use Rattle.partial_machine.specs.Bounds.{most_of_update};
 ghost use Rattle.partial_machine.specs.declared.stage.Stage.TheVariants.{Idle, UpdateBegun, Exchanging};
 ghost use Rattle.partial_machine.specs.Lines.{set_begun};
@@ -201,15 +201,21 @@ fn write<C>(words: &Words, stand: &mut Stand, core: &mut Core, change: Change, o
             at,
             end: claimed_end(core),
         },
-        PutBegun::Found => write_found::<C>(
-            words,
-            stand,
-            core,
-            change.component,
-            change.expected,
-            change.value,
-            old,
-        ),
+        PutBegun::Found => {
+            let written = write_found::<C>(
+                words,
+                stand,
+                core,
+                change.component,
+                change.expected,
+                change.value,
+                old,
+            );
+            Written {
+                at: written.unwrap(),
+                end: claimed_end(core),
+            }
+        }
         PutBegun::Refused => unreachable!(),
     }
 }
@@ -244,8 +250,8 @@ fn begin_write<C>(
     begun
 }
 
-// Makes it from its embedded scan on. It isn't put in line, and takes the change in parts, so that an update that finds no
-// announced index stores none of what this one wants in memory.
+// Makes it from its embedded scan on, and returns the reference of its record: the claim is not refused. It isn't put in line,
+// and takes the change in parts, so that an update that finds no announced index stores none of what this one wants in memory.
 #[inline(never)]
 fn write_found<C>(
     words: &Words,
@@ -255,13 +261,13 @@ fn write_found<C>(
     expected: Option<u64>,
     value: u64,
     old: u64,
-) -> Written
+) -> Option<u64>
     requires going { IsGoing words.now.table_id words.now.key stand.old }
     requires due { IsViewDue (machine_at stand.old) core.old (asked_change component expected value) old }
     ensures going { IsGoing words.now.table_id words.now.key stand.new }
     ensures leads { ComesTo stand.old stand.new }
-    ensures due { (machine_at stand.new).stage ≡ Exchanging (asked_change component expected value) old result.at }
-    ensures end { result.end ≡ claimed_end (machine_at stand.new) }
+    ensures due { IfSome result (λ at. (machine_at stand.new).stage ≡ Exchanging (asked_change component expected value) old at) }
+    ensures fits { result ≢ None }
     ensures rests { RestsLike (machine_at stand.new) core.new }
 {
     let change = Change {
@@ -274,18 +280,14 @@ fn write_found<C>(
         stand,
         kind: PhantomData,
     };
-    let Ok(Some(at)) = put_found(&mut lines, core, change, old) else {
-        unreachable!()
-    };
-    Written {
-        at,
-        end: claimed_end(core),
-    }
+    let Ok(written) = put_found(&mut lines, core, change, old);
+    written
 }
 
 // The word after those that a port has claimed for its records.
 #[inline(always)]
 fn claimed_end(core: &Core) -> u64
+    requires { claimed_end core.now < 2 ^ 64 }
     ensures { result ≡ claimed_end core.now }
 {
     let Block { at, size } = core.spare();

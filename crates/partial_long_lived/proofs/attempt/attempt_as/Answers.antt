@@ -77,7 +77,7 @@ returns-clause-spare g c =
       rests = attempt_between _ _ _ r.held r.idle c.args.core.now (asked_change c.args.component c.args.expected c.args.value) begins c.args.first _ c.begin-old.ensures.held c.begin-old.ensures.kept _ c.begin-old.ensures.begun (omega (arith, low))
           _ c.write-written.ensures.leads c.write-written.result.at c.exchange-found.result (search rules) _ c.exchange-found.ensures.kept c.exchange-found.ensures.exchanged misses _ c.of.ensures _ r.may.rests c.write-written.ensures.rests;
       over = sym (attempt_over _ _ _ r.held r.idle c.args.core.now (asked_change c.args.component c.args.expected c.args.value) begins c.args.first _ c.begin-old.ensures.held c.begin-old.ensures.kept _ c.begin-old.ensures.begun (omega (arith, low))
-          _ c.write-written.ensures.leads c.write-written.result.at c.exchange-found.result (search rules) _ c.exchange-found.ensures.kept c.exchange-found.ensures.exchanged misses _ c.of.ensures _ _ refl c.write-written.ensures.size) ∙ room;
+          _ c.write-written.ensures.leads c.write-written.result.at c.exchange-found.result (search rules) _ c.exchange-found.ensures.kept c.exchange-found.ensures.exchanged misses _ c.of.ensures _ _ refl c.write-written.ensures.end) ∙ room;
     })
 
 pub returns-clause-over : goal.returns-clause-over
@@ -91,7 +91,7 @@ returns-clause-over g c =
     ]) in
     subst (λ q. IfSome q (λ _. nat_lt c.exchange-found.new.stand.shape.limit c.write-written.result.end ≡ (port_at c.exchange-found.new.stand).port.over)) (sym c.ended.ensures)
     (attempt_over _ _ _ r.held r.idle c.args.core.now (asked_change c.args.component c.args.expected c.args.value) begins c.args.first _ c.begin-old.ensures.held c.begin-old.ensures.kept _ c.begin-old.ensures.begun (omega (arith, low))
-    _ c.write-written.ensures.leads c.write-written.result.at c.exchange-found.result (search rules) _ c.exchange-found.ensures.kept c.exchange-found.ensures.exchanged misses _ c.of.ensures _ _ refl c.write-written.ensures.size)
+    _ c.write-written.ensures.leads c.write-written.result.at c.exchange-found.result (search rules) _ c.exchange-found.ensures.kept c.exchange-found.ensures.exchanged misses _ c.of.ensures _ _ refl c.write-written.ensures.end)
 
 pub returns-then-expected-old-clause-attempted : goal.returns-then-expected-old-clause-attempted
 returns-then-expected-old-clause-attempted g c =
