@@ -10,15 +10,17 @@ use Rattle.partial_machine.proofs.Laws.{rests_are_sound}
 pub rests_there : (c core : CoreState) → IsSound c → core ≡ at_stage c Idle → RestsLike c core
 rests_there c core known is = record {
   like = subst (IsMarkedLike c) (sym is) (record { sizes = refl; port = refl; pool = refl; slots = refl; lists = refl; spare = refl });
+  ahead = ap (λ (d : CoreState). d.ahead) is;
   idle = ap (λ (d : CoreState). d.stage) is;
   sound = subst IsSound (sym is) (rests_are_sound.idle c known);
 }
 
 -- it goes on with the machine before an update, but for the marks and what the machine m behind the getSet had found
-pub update_rests : (s m c core : CoreState) (p : Bool) (g : GetSetState) (f : Buffers) (b : Block) → IsSound s → s.stage ≡ Idle → IsSound m → m.sizes ≡ s.sizes → m.found ≡ f → IsMarkedLike c core →
+pub update_rests : (s m c core : CoreState) (p : Bool) (g : GetSetState) (f : Buffers) (b : Block) → IsSound s → s.stage ≡ Idle → IsSound m → m.sizes ≡ s.sizes → m.found ≡ f → IsMarkedLike c core → core.ahead ≡ c.ahead →
     IsInPool core.sizes core.spare.at core.spare.size → core ≡ record s { pool_spent = p; get_set = g; found = f; spare = b } → RestsLike c core
-update_rests s m c core p g f b sound idle known sizes found like within is = record {
+update_rests s m c core p g f b sound idle known sizes found like ahead within is = record {
   like = like;
+  ahead = ahead;
   idle = ap (λ (d : CoreState). d.stage) is ∙ idle;
   sound =
       let buffers : AreBuffersFor s.sizes m.found = subst (λ (z : Layout). AreBuffersFor z m.found) sizes known.found in

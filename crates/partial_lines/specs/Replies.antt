@@ -22,8 +22,10 @@ abbrev pub scan_reply : Result Scanned Refused → Reply
 scan_reply (Ok s) = Reply.Scanned s.collects s.borrowed
 scan_reply (Err cause) = Reply.Refused cause
 
--- the machine that a port keeps between calls goes on from the machine of a call: idle, sound and with its marks
+-- the machine that a port keeps between calls goes on from the machine of a call: idle, sound and with its marks, spare words and words
+-- ahead
 pub record RestsLike (machine core : CoreState) : Type 0 where
   pub like : IsMarkedLike machine core
+  pub ahead : core.ahead ≡ machine.ahead
   pub idle : core.stage ≡ Idle
   pub sound : IsSound core

@@ -162,6 +162,7 @@ fn write_plain<M: Makes>(
     ensures refused { IfOk result (λ put.
         IfNone put (M.machine lines.new ≡ pool_refused (M.machine lines.old))) }
     ensures like { OnOk result (IsMarkedLike (M.machine lines.new) core.new) }
+    ensures ahead { OnOk result (core.new.ahead ≡ (M.machine lines.new).ahead) }
     ensures within { IsInPool core.new.sizes core.new.spare.at core.new.spare.size }
     ensures core { core.new ≡ record core.old { pool_spent = core.new.pool_spent; spare = core.new.spare } }
 {

@@ -3,6 +3,7 @@ mod Shuffles
 mod Views
 mod Steps
 mod Calls
+mod Ahead
 mod Resting
 mod Replies
 mod Straight

@@ -13,6 +13,7 @@ rests_met views after core number log w fit is =
     let rest : IsResting ((y ∷ []) ∷ []) core number = record {
       one = refl;
       between = record { rest = w.between.rest; like = w.between.like; idle = w.between.idle; sound = w.between.sound };
+      ahead = w.ahead;
       layout = w.layout;
       sizes = w.sizes;
       number = w.number;

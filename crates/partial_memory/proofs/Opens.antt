@@ -25,7 +25,8 @@ next_new about i n l = let e : n - i ≡ suc (n - (i + 1)) = omega arith in ap (
 newcomer_rests : (about : About) (i : ℕ) → IsLayout about.sizes → IsResting ((newcomer about i ∷ []) ∷ []) (fresh about.sizes i) i
 newcomer_rests about i layout = record {
   one = refl;
-  between = ports_come_between.0 about.sizes i;
+  between = ports_come_between.0 about.sizes i layout;
+  ahead = refl;
   layout = layout;
   sizes = refl;
   number = refl;

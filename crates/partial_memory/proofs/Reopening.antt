@@ -1,5 +1,5 @@
 -- A memory that opens with the values of a closed one goes on where its history ended.
-use Rattle.partial_memory.proofs.Common.{ℕ, zero, suc, ◌≡◌, ◌-◌, ◌<◌, ◌≤◌, ◌++◌, Bool, if◌then◌else◌, List, [], ◌∷◌, length, replicate, take, slice_index, refl, sym, ◌∙◌, ap, inl, inr, Option, Some, None, arith, AllByRecursion, ne_eqb, cases_lt, get_or_past, take_all, Applied, Opening, AreValues, ClosedMemoriesContinue, extended_values, with_zeros}
+use Rattle.partial_memory.proofs.Common.{ℕ, ◌≡◌, ◌-◌, ◌<◌, ◌≤◌, ◌++◌, Bool, if◌then◌else◌, List, [], ◌∷◌, length, replicate, take, slice_index, refl, sym, ◌∙◌, ap, inl, inr, Option, Some, None, arith, AllByRecursion, ne_eqb, cases_lt, get_or_past, take_all, Applied, Opening, AreValues, ClosedMemoriesContinue, extended_values, with_zeros}
 use Rattle.std.specs.Option.{option_map_or}
 use Rattle.partial_model.proofs.HistoryLemmas.{behind_both}
 use Rattle.partial_model.specs.History.{IsHistory, last_from, last_entry, value_of}

@@ -1,5 +1,5 @@
 -- What a call that has ended leaves of its port, by its reply.
-use Rattle.partial_memory.proofs.{Common.{ℕ, ◌≡◌, ◌≤◌, ◌<◌, ◌+◌, ◌++◌, ◌||◌, false, if◌then◌else◌, Option, Some, None, List, [], ◌∷◌, length, map, slice_index, refl, sym, ap, subst, ◌∙◌, arith, inr, Result, Err, IfOk, IfErr, ne_eqb, TableId, Call, Refused, Finished, ReadBegun, ScanBegun, CoreState, at_stage, reply_of, scanned_values, answer_for, begin_scan, begun_of, call_of, core_scan_refusal, core_update_refusal, IsRefusedBy, refuses_pool, refuses_slots, KeptAnswer, answers_of, core_of, AreNotesOf, IsNoteOf, IsPlacedAt, IsRefusal, made_calls_make_their_steps, Layout, IsLayout, greatest_record, pool_end, About, scan_reply, SeatedPort, one_in, CallMade, CallEnded, PortView, port_view, refusal, IsResting, Knows, Goes, CountsSteps, Answered, IsPastEnd, RefusedLate, IsRefused, is_pool, is_slots, Updates, UpdatesIf, Reads, Scans, Ok, Note, LegalNotes-last, Noted, LegalNotes, Reply, run_sizes, BeganAs, IsLed, IsLedToAnswer, IsLedToRefusal, IsLedWhereLate, ScanIsLed, ScansLed}, Resting.{CallBegins, call_begins, read_begins, scan_begins}}
+use Rattle.partial_memory.proofs.{Common.{ℕ, ◌≡◌, ◌≤◌, ◌<◌, ◌+◌, ◌++◌, ◌||◌, false, if◌then◌else◌, Option, Some, None, List, [], ◌∷◌, length, map, slice_index, refl, sym, ap, subst, ◌∙◌, arith, inr, Result, Err, IfOk, IfErr, ne_eqb, TableId, Call, Refused, Finished, ReadBegun, ScanBegun, CoreState, at_stage, reply_of, scanned_values, answer_for, begin_scan, begun_of, call_of, core_scan_refusal, core_update_refusal, IsRefusedBy, refuses_pool, refuses_slots, KeptAnswer, answers_of, core_of, AreNotesOf, IsNoteOf, IsPlacedAt, IsRefusal, made_calls_make_their_steps, Layout, IsLayout, greatest_record, pool_end, About, scan_reply, SeatedPort, one_in, CallMade, CallEnded, PortView, port_view, refusal, IsResting, Knows, Goes, CountsSteps, Answered, IsPastEnd, RefusedLate, IsRefused, is_pool, is_slots, Updates, UpdatesIf, Reads, Scans, Ok, Note, LegalNotes-last, Noted, LegalNotes, Reply, run_sizes, BeganAs, IsLed, IsLedToAnswer, IsLedToRefusal, IsLedWhereLate, ScanIsLed, ScansLed}, Ahead.{run_ahead, few_claimed}, Resting.{CallBegins, call_begins, read_begins, scan_begins}}
 use Rattle.partial_model.specs.declared.call.Answer.{Answer}
 use Rattle.partial_model.specs.Notes.{Fits as NoteFits, MayBeRefused}
 use Rattle.partial_embedded.specs.Embedded.{RowsState}
@@ -81,6 +81,7 @@ module _ (t : TableId) (b : CoreState) (x : SeatedPort) (c : CoreState) (y : Sea
     number = ap (λ (s : CoreState). s.port) (sym m.made.begun) ∙ m.made.port;
     pool = pool_before;
     slots = slots_before;
+    ahead = w.begins.ahead;
     sound = w.begins.sound;
     call = w.call;
   }
@@ -98,7 +99,8 @@ module _ (t : TableId) (b : CoreState) (x : SeatedPort) (c : CoreState) (y : Sea
       by Refused.SlotsSpent h = let here : claims.sizes ≡ x.about.sizes = run_sizes b claims front w.begins.layout w.begins.sound run ∙ w.begins.sizes in
           subst (λ (z : Layout). z.slots ≤ last) here h.past
       by Refused.PoolSpent h = let here : claims.sizes ≡ x.about.sizes = run_sizes b claims front w.begins.layout w.begins.sound run ∙ w.begins.sizes in
-          subst (λ (z : Layout). (size : ℕ) × (size ≤ greatest_record z) × (pool_end z < last + size)) here (h.size, h.few, h.past)
+          subst (λ (z : Layout). (size : ℕ) × (size ≤ greatest_record z) × (pool_end z < last + size)) here
+          (h.size, few_claimed claims last h (run_ahead b claims front w.begins.layout w.begins.sound run ∙ w.begins.ahead), h.past)
 
   pool_behind : (r : Reply) → reply_of c ≡ Some r → q.pool_spent ≡ (refuses_pool (Some r) || p.pool_spent)
   pool_behind r is = ap (λ (s : CoreState). s.pool_spent) (sym m.made.machine.is) ∙ m.pool ∙ ap (λ o. refuses_pool o || b.pool_spent) is ∙ ap (λ s. refuses_pool (Some r) || s) pool_before

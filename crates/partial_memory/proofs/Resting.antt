@@ -1,5 +1,5 @@
 -- A port between two calls: how it begins one, and that it is between two again once that has ended.
-use Rattle.partial_memory.proofs.Common.{ℕ, ◌≡◌, ◌≤◌, ◌<◌, ◌==◌, true, false, if◌then◌else◌, Some, None, List, [], ◌∷◌, length, refl, sym, ap, subst, ◌∙◌, is_some, ne_eqb, lt-ltb, TableId, Call, Layout, IsLayout, Finished, ReadBegun, ScanBegun, CoreState, at_stage, IsServed, begin_scan, begun_of, call_of, makes_steps, refusal_of, core_scan_refusal, calls_begin, IsMarkedLike, core_of, port_of, FitsHistory, calls_begin_between, ports_come_between, About, SeatedPort, IsBadgeOfOne, AreByOpened, one_in, Begins, CallEnded, IsOf, IsResting, MemoryView, PortView, port_view, refusal, Reply, asking_machine, scan_asked, Refused}
+use Rattle.partial_memory.proofs.{Common.{ℕ, ◌≡◌, ◌≤◌, ◌<◌, ◌==◌, true, false, if◌then◌else◌, Some, None, List, [], ◌∷◌, length, refl, sym, ap, subst, ◌∙◌, is_some, ne_eqb, lt-ltb, TableId, Call, Layout, IsLayout, Finished, ReadBegun, ScanBegun, CoreState, at_stage, IsServed, begin_scan, begun_of, call_of, makes_steps, refusal_of, core_scan_refusal, calls_begin, IsMarkedLike, core_of, port_of, FitsHistory, calls_begin_between, ports_come_between, About, SeatedPort, IsBadgeOfOne, AreByOpened, one_in, Begins, CallEnded, IsOf, IsResting, MemoryView, PortView, port_view, refusal, Reply, asking_machine, scan_asked, Refused, answers_of}, Ahead.run_ahead}
 use Rattle.partial_model.specs.Refusals.{refusal_at_once}
 
 -- a call that a port begins
@@ -27,6 +27,7 @@ module _ (views : List (List SeatedPort)) (core : CoreState) (number : ℕ) (w :
       let between = calls_begin_between x.part core w.between in
       let begins : Begins (begun_of core c) x = record {
         begun = between.begins c served none some;
+        ahead = ap (λ (s : CoreState). s.ahead) from.like ∙ w.ahead;
         sound = from.sound w.between.sound;
         layout = subst IsLayout (sym (ap (λ (s : CoreState). s.sizes) from.like)) w.layout;
         sizes = ap (λ (s : CoreState). s.sizes) from.like ∙ w.sizes;
@@ -73,6 +74,7 @@ rests views b x r core number one begins e named =
     record {
       one = one;
       between = record { rest = between.rest; like = subst (λ (d : CoreState). IsMarkedLike d core) is e.like; idle = e.idle; sound = e.sound };
+      ahead = e.ahead ∙ run_ahead b c (answers_of y.part.kept) begins.layout begins.sound m.made.run ∙ begins.ahead;
       layout = subst IsLayout (begins.sizes ∙ sym sizes) begins.layout;
       sizes = sizes ∙ ap (λ (o : About). o.sizes) (sym m.about);
       number = named ∙ sym m.made.port;

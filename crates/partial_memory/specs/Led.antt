@@ -17,13 +17,15 @@ use Rattle.partial_core.specs.Calls.{IsRefusedLast}
 use Rattle.partial_lines.specs.declared.whole_scan.Scanned.{Scanned}
 use Rattle.partial_memory.specs.Ports.{PortView, refusal}
 
--- The machine with which the port p began a call: of the port's memory, with its number and its marks, sound, and with that call.
+-- The machine with which the port p began a call: of the port's memory, with its number and its marks, sound, and with that call. It
+-- claims no words ahead.
 pub record BeganAs (p : PortView) (c : Call) (begun : CoreState) : Type 0 where
   pub sizes : begun.sizes ≡ p.memory.about.sizes
   pub layout : IsLayout begun.sizes
   pub number : begun.port ≡ p.number
   pub pool : begun.pool_spent ≡ p.pool_spent
   pub slots : begun.slots_spent ≡ p.slots_spent
+  pub ahead : begun.ahead ≡ 0
   pub sound : IsSound begun
   pub call : call_of begun ≡ Some c
 

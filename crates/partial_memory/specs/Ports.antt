@@ -66,10 +66,11 @@ pub record Knows (p : PortView) : Type 0 where
   pub once : EachOnce p.seen p.number p.notes
   pub others : AreByOpened p.memory.about p.seen
 
--- a port between two calls, with its machine
+-- a port between two calls, with its machine, which claims no words ahead
 pub record IsResting (views : List (List SeatedPort)) (core : CoreState) (named : ℕ) : Type 0 where
   pub one : IsBadgeOfOne views
   pub between : IsBetween (one_in views).part core
+  pub ahead : core.ahead ≡ 0
   pub layout : IsLayout core.sizes
   pub sizes : core.sizes ≡ (one_in views).about.sizes
   pub number : named ≡ port_of (one_in views).part

@@ -21,9 +21,10 @@ pub record IsAtRest (table : TableId) (about : About) (here : TableId) (x : Seat
   pub idle : core.stage ≡ Idle
   pub sound : IsSound core
 
--- the machine b has begun a call at the port x
+-- the machine b, which claims no words ahead, has begun a call at the port x
 pub record Begins (b : CoreState) (x : SeatedPort) : Type 0 where
   pub begun : HasBegun b x.part
+  pub ahead : b.ahead ≡ 0
   pub sound : IsSound b
   pub layout : IsLayout b.sizes
   pub sizes : b.sizes ≡ x.about.sizes
@@ -38,12 +39,14 @@ pub record CallMade (b : CoreState) (x : SeatedPort) (c : CoreState) (y : Seated
   pub pool : c.pool_spent ≡ (refuses_pool (reply_of c) || b.pool_spent)
   pub slots : c.slots_spent ≡ (refuses_slots (reply_of c) || b.slots_spent)
 
--- The call has ended with that reply. The port goes on with an idle machine that has the marks of the call's.
+-- The call has ended with that reply. The port goes on with an idle machine that has the marks of the call's, and claims as many words
+-- ahead.
 pub record CallEnded (b : CoreState) (x : SeatedPort) (r : Reply) (core : CoreState) (y : SeatedPort) : Type 0 where
   pub machine : CoreState
   pub made : CallMade b x machine y
   pub replies : reply_of machine ≡ Some r
   pub like : IsMarkedLike machine core
+  pub ahead : core.ahead ≡ machine.ahead
   pub idle : core.stage ≡ Idle
   pub sound : IsSound core
 

@@ -49,7 +49,7 @@ returns-then-found_none-clause-rests g c =
     let rests : RestsLike (g.M.Makes.machine c.write_plain.new.lines) c.write_plain.new.core =
     update_rests c.args.core.now (g.M.Makes.machine c.make_set.new.steps.lines.now) _ _ pool _ set.1 spare c.requires.sound c.requires.idle
     (g.met.M.Makes.sound _ c.in_ok-set.ensures.goes.0)
-    (ap (λ (t : CoreState). t.sizes) got) (ap (λ (t : CoreState). t.found) got) c.in_ok-written.ensures.like c.write_plain.ensures.within core in
+    (ap (λ (t : CoreState). t.sizes) got) (ap (λ (t : CoreState). t.found) got) c.in_ok-written.ensures.like c.in_ok-written.ensures.ahead c.write_plain.ensures.within core in
     search rules
 
 pub returns-clause-found : goal.returns-clause-found

@@ -9,7 +9,7 @@ returns-clause-ended c =
     let made = subst (λ (x : SeatedPort). CallMade (at_stage core (ReadBegun c.args.component)) x (machine_of seat.me) (one_of seat.me.0)) seated c.begin_read-stamp.ensures.made in
     let begun : RestsLike (machine_of seat.me) core =
     subst (λ (d : CoreState). RestsLike d core) (sym c.begin_read-stamp.ensures.machine)
-    (record { like = record { sizes = refl; port = refl; pool = refl; slots = refl; lists = refl }; idle = c.requires.rest.idle; sound = c.requires.rest.sound }) in
+    (record { like = record { sizes = refl; port = refl; pool = refl; slots = refl; lists = refl; spare = refl }; ahead = refl; idle = c.requires.rest.idle; sound = c.requires.rest.sound }) in
     let rests = c.in-Ok.ensures.rests core begun in
     let me = c.read.new.lines.seat.me in
     let ended : CallEnded (at_stage core (ReadBegun c.args.component)) (one_in c.args.badge.now.views) (Reply.Read c.in-Ok.value c.begin_read-stamp.result) core (one_of me.0) = record {
@@ -17,6 +17,7 @@ returns-clause-ended c =
       made = c.in-Ok.ensures.leads.1 _ _ c.requires.begins made;
       replies = c.in-Ok.ensures.replies;
       like = rests.like;
+      ahead = rests.ahead;
       idle = rests.idle;
       sound = rests.sound;
     } in

@@ -10,6 +10,7 @@ returns-clause-ended c =
         made = behind.leads.1 _ _ c.requires.begins c.begin_scan-at.ensures.made;
         replies = behind.replies;
         like = behind.rests.like;
+        ahead = behind.rests.ahead;
         idle = behind.rests.idle;
         sound = behind.rests.sound;
       };

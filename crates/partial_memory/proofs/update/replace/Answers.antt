@@ -11,6 +11,7 @@ returns-in_default-clause-ended c b x begins made =
       made = c.in-Ok.ensures.leads.1 b x begins made;
       replies = replies;
       like = rests.like;
+      ahead = rests.ahead;
       idle = rests.idle;
       sound = rests.sound;
     }
@@ -30,7 +31,8 @@ returns-clause-ended c b x begins made =
       made = c.make-found.ensures.leads b x begins (c.in-Ok.ensures.leads.1 b x begins made);
       replies = replies;
       like = subst (λ (t : CoreState). IsMarkedLike t c.put.new.core) (sym is)
-          (record { sizes = rests.like.sizes; port = rests.like.port; pool = rests.like.pool; slots = rests.like.slots; lists = rests.like.lists });
+          (record { sizes = rests.like.sizes; port = rests.like.port; pool = rests.like.pool; slots = rests.like.slots; lists = rests.like.lists; spare = rests.like.spare });
+      ahead = rests.ahead ∙ sym (ap (λ (t : CoreState). t.ahead) is);
       idle = rests.idle;
       sound = rests.sound;
     }
