@@ -1,5 +1,5 @@
 -- A call of a port: how it begins at the seat that was taken out, and what it leaves once the seat is put back.
-use Rattle.partial_long_lived.proofs.{Common.{ℕ, zero, suc, None, append-nil, ◌≡◌, ◌<◌, ◌≤◌, ◌++◌, ◌∷◌, [], Option, Some, IfSome, Bool, true, false, true≢false, List, length, ap, ◌+◌, take, refl, sym, subst, ◌∙◌, inl, inr, arith, nat_lt, slice_index, AllByRecursion, list_all, option_map, take-append_seam, TableId, Applied, IsEntryFor, IsLegal, LegalNotes, Noted, seen_by, AllByRecursion-get, LegalNotes-last, Layout, CoreState, fresh, AreComponentIndices, IsSound, is_sound_at, IsMarkedLike, core_of, is_at_rest, public_stamp, Refused, Component, Overtaken, EpochsSpent, About, Stand, Began, SeatedPort, IsOf, MemoryView, PortView, port_view, seen_in, SeatGoes, IsHeld, epoch_at, port_at, HasCome, HasNotedRead, IsIdle, EpochChanged, NotChanged, HasNotedScan, RestsUnmarked, ScanMade, noted_scan, NotScanned, RestsAt, MadeNamed, ScannedNamed, ScannedStamped, Contains, is_some, Call, Answer, Note, IsCause, no_spare, IsInPool, first_free, IsEpochPlan, plan_of, IsLayout}, Coming.goes_on}
+use Rattle.partial_long_lived.proofs.{Common.{ℕ, zero, suc, None, append-nil, ◌≡◌, ◌<◌, ◌≤◌, ◌++◌, ◌∷◌, [], Option, Some, IfSome, Bool, true, false, true≢false, List, length, ap, ◌+◌, take, refl, sym, subst, ◌∙◌, inl, inr, arith, nat_lt, slice_index, AllByRecursion, list_all, option_map, take-append_seam, TableId, Applied, IsEntryFor, IsLegal, LegalNotes, Noted, seen_by, AllByRecursion-get, LegalNotes-last, Layout, CoreState, fresh, AreComponentIndices, IsSound, is_sound_at, IsMarkedLike, core_of, is_at_rest, public_stamp, Refused, Component, Overtaken, EpochsSpent, About, Stand, Began, SeatedPort, IsOf, MemoryView, PortView, port_view, seen_in, SeatGoes, IsHeld, epoch_at, port_at, HasCome, HasNotedRead, IsIdle, EpochChanged, NotChanged, HasNotedScan, RestsUnmarked, ScanMade, noted_scan, NotScanned, RestsAt, MadeNamed, ScannedNamed, ScannedStamped, Contains, is_some, Call, Answer, Note, IsCause, no_spare, IsInPool, first_free, IsEpochPlan, plan_of}, Coming.goes_on}
 use Rattle.partial_model.proofs.Decisions.{Decides-list_all, Decides-nat_lt}
 use Rattle.partial_active.specs.GetSet.{fresh_set as unmarked}
 use Rattle.partial_long_lived.specs.Calls as calls

@@ -1,5 +1,5 @@
 -- A machine claims words of the pool once in a call.
-use Rattle.partial_long_lived.proofs.Common.{ℕ, ◌≡◌, ◌+◌, ◌≤◌, ◌==◌, ◌⊎◌, Bool, true, false, if◌then◌else◌, Option, Some, None, List, length, refl, sym, ap, subst, ◌∙◌, inl, inr, arith, option_map_or, some_same, Step, Load, Store, Exchange, Add, Layout, list_counter, list_head, pool_counter, slot_counter, slot_word, Change, Stage, Idle, ReadBegun, LoadingValue, UpdateBegun, GettingSet, Viewing, ClaimingRecord, StoringRecord, Exchanging, ScanBegun, StoringAnnouncement, Joining, Scanning, Leaving, Finished, CoreState, advance, advance_at, after_joining, at_stage, begin_getting, begin_joining, expects, fits_pool, getting, pool_refused, record_size, step_at, step_of, with_getting, IsSound, is_sound_at, LeavesComponents, awaits, awaits_at, is_claiming, nat_lt, word_of, before_claim, record_claim, announcement_size, IsQuiet, Reply, record_cases, record_step_cases, Block, claimed_end, claim_size, has_spare, into_spare, into_claim, record_step}
+use Rattle.partial_long_lived.proofs.Common.{ℕ, ◌≡◌, ◌+◌, ◌≤◌, ◌==◌, ◌⊎◌, Bool, true, false, if◌then◌else◌, Option, Some, None, List, length, refl, sym, ap, subst, ◌∙◌, inl, inr, arith, option_map_or, some_same, Step, Load, Store, Exchange, Add, Layout, list_counter, list_head, pool_counter, slot_counter, slot_word, Change, Stage, Idle, ReadBegun, LoadingValue, UpdateBegun, GettingSet, Viewing, ClaimingRecord, StoringRecord, Exchanging, ScanBegun, StoringAnnouncement, Joining, Scanning, Leaving, Finished, CoreState, advance, advance_at, after_joining, at_stage, begin_getting, begin_joining, expects, fits_pool, getting, pool_refused, record_size, step_at, step_of, with_getting, IsSound, is_sound_at, LeavesComponents, awaits, awaits_at, is_claiming, nat_lt, word_of, before_claim, record_claim, announcement_size, IsQuiet, Reply, record_cases, record_step_cases, Block, claimed_end, claim_size}
 use Rattle.std.proofs.lemmas.Bool.{ltb-true}
 use Rattle.partial_machine.specs.Machine.{scanning, with_scanning}
 use Rattle.partial_active.specs.declared.join.JoinStage.{JoinStage}

@@ -1,5 +1,5 @@
 -- A scan where a port stands: its first step is allowed, and what it leaves of its port.
-use Rattle.partial_long_lived.proofs.{Common.{None, true, nat_lt, ◌==◌, ◌&&◌, StoringAnnouncement, at_stage, slot_limit, IsEpochPlan, awaits, before_claim, has_claimed, answers_lead_on, most_of_scan, seat_steps_left, ℕ, ◌≡◌, ◌+◌, ◌-◌, ◌%◌, ◌^◌, ◌<◌, ◌≤◌, ◌||◌, ◌++◌, Bool, false, if◌then◌else◌, Option, Some, List, [], ◌∷◌, length, map, refl, sym, ap, subst, ◌∙◌, inl, inr, arith, length-append, is_some, slice_index, length-map, Allows, TableId, Applied, Call, Note, Noted, place_of, Add, Layout, IsLayout, pool_counter, total, Reply, call_of, CoreState, advance, reply_of, scanned_values, step_of, AreComponentIndices, IsSound, AreNotesOf, IsNoteOf, IsPlacedAt, Plan, base, plain, unsealed, history_of, public_entry, public_log, public_noted, Control, not_below, RestsLike, About, Stand, Began, IsRuleKept, SeatedPort, plan_of, SeatGoes, IsOne, IsHeld, port_at, IsIdle, component_at, SeatMakes, unsealed_answer, makes, over_by, word_at, HasNotedScan, RestsUnmarked, ScanMade, SettledFirst, noted_scan, CallMade, IsGoing, ComesTo, MayBegin, machine_at, take, Opening, stamp_of, CollectsStamps, opened_after, stamp_limit, public_of, stamp_public, opening_of, MadeNamed, NameStamps, ScannedNamed, stamp_at, announcement_size, scan_asked, Answer, Block, claimed_end}, RecordStamps.{stamp_small, unsealed_same}, Coming.goes_on, Making.may_make, Standing.{arena_there, held_then, room_of}, Under.{first_made, first_may}, Unmarked.marks_stay, Zeros.seat_fewer}
+use Rattle.partial_long_lived.proofs.{Common.{None, true, nat_lt, ◌==◌, ◌&&◌, StoringAnnouncement, at_stage, slot_limit, IsEpochPlan, awaits, before_claim, has_claimed, answers_lead_on, most_of_scan, seat_steps_left, ℕ, ◌≡◌, ◌+◌, ◌-◌, ◌%◌, ◌^◌, ◌<◌, ◌≤◌, ◌||◌, ◌++◌, Bool, false, if◌then◌else◌, Option, Some, List, [], ◌∷◌, length, map, refl, sym, ap, subst, ◌∙◌, inl, inr, arith, length-append, is_some, slice_index, length-map, Allows, TableId, Applied, Call, Note, Noted, place_of, Add, Layout, IsLayout, pool_counter, total, Reply, call_of, CoreState, advance, reply_of, scanned_values, step_of, AreComponentIndices, IsSound, AreNotesOf, IsNoteOf, IsPlacedAt, Plan, base, plain, unsealed, history_of, public_entry, public_log, public_noted, Control, not_below, RestsLike, About, Stand, Began, IsRuleKept, SeatedPort, plan_of, SeatGoes, IsOne, IsHeld, port_at, IsIdle, component_at, SeatMakes, unsealed_answer, makes, over_by, word_at, HasNotedScan, RestsUnmarked, ScanMade, SettledFirst, noted_scan, CallMade, IsGoing, ComesTo, MayBegin, machine_at, take, Opening, stamp_of, CollectsStamps, opened_after, stamp_limit, public_of, stamp_public, opening_of, MadeNamed, NameStamps, ScannedNamed, stamp_at, announcement_size, scan_asked, Answer, Block}, RecordStamps.{stamp_small, unsealed_same}, Coming.goes_on, Making.may_make, Standing.{arena_there, held_then, room_of}, Under.{first_made, first_may}, Unmarked.marks_stay, Zeros.seat_fewer}
 use Rattle.std.proofs.lemmas.Bool.{eq-eqb, ltb-true, ne_eqb}
 use Rattle.partial_model.specs.declared.call.Refused.{Refused}
 use Rattle.partial_active.specs.declared.join.JoinStage.TheVariants.{Storing, Spent}

@@ -1,5 +1,5 @@
 -- The steps of a call of a port's machine, one after the other.
-use Rattle.partial_long_lived.proofs.{Common.{ℕ, ◌≡◌, ◌≢◌, ◌+◌, ◌<◌, ◌≤◌, ◌==◌, ◌&&◌, ◌||◌, ◌++◌, Bool, true, false, if◌then◌else◌, Option, Some, None, List, [], ◌∷◌, length, map, take, refl, sym, ap, subst, ◌∙◌, inl, inr, arith, append-nil, nat_lt, eqb_tells, append_cancel_left, Applied, Opening, stamp_of, Noted, seen_by, Step, Load, Store, Exchange, Add, Layout, IsLayout, pool_counter, slot_counter, total, word_of, Reply, Change, Stage, Idle, ReadBegun, LoadingValue, UpdateBegun, GettingSet, Viewing, ClaimingRecord, StoringRecord, Exchanging, ScanBegun, StoringAnnouncement, Joining, Scanning, Leaving, Finished, some_same, CoreState, advance, advance_at, at_stage, fits_pool, pool_refused, record_size, reply_of, step_at, step_of, call_of, is_begun, IsSound, Part, first_at, AreNotesOf, Tells, begun_with, moved_part, take_within, first_steps_make_calls, further_steps_make_calls, history_of, opened_after, Control, MayClaim, public_noted, About, Began, SeatedPort, plan_of, SeatGoes, opening_of, SeatMakes, MayMake, over_by, slot_limit, CallMade, MayBegin, awaits, before_claim, has_claimed, neither, record_claim, IsBehind, refuses_pool, refuses_slots, due_is_unreplied, due_words_are_there, KeptAnswer, Call, record_cases, Block, claimed_end, claim_size, has_spare, into_spare, into_claim, record_step}, Claims.{ClaimsSlot, claimed_from, pool_claims, slot_claims, unawaited, unclaimed_before, claims_on, spare_stays}, Coming.goes_on}
+use Rattle.partial_long_lived.proofs.{Common.{ℕ, ◌≡◌, ◌≢◌, ◌+◌, ◌<◌, ◌≤◌, ◌==◌, ◌&&◌, ◌||◌, ◌++◌, Bool, true, false, if◌then◌else◌, Option, Some, None, List, [], ◌∷◌, length, map, take, refl, sym, ap, subst, ◌∙◌, inl, inr, arith, append-nil, nat_lt, eqb_tells, append_cancel_left, Applied, Opening, stamp_of, Noted, seen_by, Step, Load, Store, Exchange, Add, Layout, IsLayout, pool_counter, slot_counter, total, word_of, Reply, Change, Stage, Idle, ReadBegun, LoadingValue, UpdateBegun, GettingSet, Viewing, ClaimingRecord, StoringRecord, Exchanging, ScanBegun, StoringAnnouncement, Joining, Scanning, Leaving, Finished, some_same, CoreState, advance, advance_at, record_size, reply_of, step_at, step_of, call_of, is_begun, IsSound, Part, first_at, AreNotesOf, Tells, begun_with, moved_part, take_within, first_steps_make_calls, further_steps_make_calls, history_of, opened_after, Control, MayClaim, public_noted, About, Began, SeatedPort, plan_of, SeatGoes, opening_of, SeatMakes, MayMake, over_by, slot_limit, CallMade, MayBegin, awaits, before_claim, has_claimed, neither, record_claim, IsBehind, refuses_pool, refuses_slots, due_is_unreplied, due_words_are_there, KeptAnswer, Call, record_cases, Block, claimed_end, claim_size, into_spare, into_claim, record_step}, Claims.{ClaimsSlot, claimed_from, pool_claims, slot_claims, unawaited, unclaimed_before, claims_on, spare_stays}, Coming.goes_on}
 use Rattle.std.proofs.lemmas.Bool.{eq-eqb, ne_eqb, le-ltb, ltb-true, ltb-false}
 use Rattle.partial_model.specs.declared.call.Refused.{Refused}
 use Rattle.partial_core.specs.Calls.{Made}
