@@ -97,7 +97,7 @@ enum {
     PARTIAL_SLOTS = 2,         /* there are not 1 to 65536 slots */
     PARTIAL_LIST_WORDS = 3,    /* there are more than 65536 list words */
     PARTIAL_POOL_WORDS = 4,    /* not 3 pool words a component to 4194304 */
-    PARTIAL_PORT_COUNT = 5,    /* there are not 1 to 64 ports */
+    PARTIAL_PORT_COUNT = 5,    /* not 1 to 255 ports, or 1 to 64 of an opening */
     PARTIAL_OUT_OF_MEMORY = 6, /* an allocation was refused */
     PARTIAL_COMPONENT = 7,     /* an index isn't below the number of components */
     PARTIAL_SLOTS_SPENT = 8,   /* the slots are used up for this port */
@@ -256,11 +256,11 @@ static inline uint64_t partial_next_number(void)
 
 /*
  * Makes a memory that never wears out, in the empty handle `memory`. It has a component
- * for each value in `initial`, and holds `ports` ports, 1 to 64. `arena` says how large
+ * for each value in `initial`, and holds `ports` ports, 1 to 255. `arena` says how large
  * its arenas are.
  *
  * 23: a pointer is null. 31: the library is of another version than this header. 18: the
- * handle holds something. 5: there are not 1 to 64 ports. 1: there are not 1 to 65536
+ * handle holds something. 5: there are not 1 to 255 ports. 1: there are not 1 to 65536
  * values. 3: there are more than 65536 list words. 4: the pool words, with 4 for each
  * port, 2 for each port and component, and 3 for each component, are more than 4194304.
  * 6: an allocation was refused. The handle is as it was.

@@ -33,7 +33,7 @@ impl Default for Builder {
 }
 
 impl Builder {
-    /// How many ports there are: 1 to 64. Fewer ports take less memory, and allow more components.
+    /// How many ports there are: 1 to 255. Fewer ports take less memory, and allow more components.
     ///
     /// ```
     /// use partial_door::{Memory, PortError};
@@ -87,7 +87,7 @@ impl Builder {
     ///
     /// assert_eq!(Memory::builder().max_components(), 65_536);
     /// assert_eq!(Memory::builder().ports(64).max_components(), 31_953);
-    /// assert_eq!(Memory::builder().ports(65).max_components(), 0);
+    /// assert_eq!(Memory::builder().ports(256).max_components(), 0);
     /// ```
     #[must_use]
     pub fn max_components(&self) -> usize {
@@ -97,7 +97,7 @@ impl Builder {
     /// Makes a memory whose components hold these values.
     ///
     /// # Errors
-    /// The first that holds: [`OpenError::Ports`] when there are not 1 to 64 ports; [`OpenError::Components`] when
+    /// The first that holds: [`OpenError::Ports`] when there are not 1 to 255 ports; [`OpenError::Components`] when
     /// there are not 1 to 65,536 values; [`OpenError::ListWords`] or [`OpenError::PoolWords`] when an arena would
     /// have too many of them; [`OpenError::OutOfMemory`] when an allocation was refused. Nothing is left of the attempt.
     pub fn open(self, initial: &[u64]) -> Result<Memory, OpenError> {

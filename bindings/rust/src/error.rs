@@ -8,7 +8,7 @@ use std::fmt;
 #[derive(Clone, Copy, Debug, PartialEq, Eq)]
 #[non_exhaustive]
 pub enum OpenError {
-    /// There are not 1 to 64 ports.
+    /// There are not 1 to 255 ports.
     Ports,
     /// There are not 1 to 65,536 components.
     Components,

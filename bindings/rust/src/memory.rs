@@ -74,7 +74,7 @@ impl Memory {
     ///
     /// # Errors
     /// As those of [`Builder::open`], but that no size is out of its range when there are 1 to 65,536 values. A [`Builder`]
-    /// makes a memory with more ports, up to 64, and one with fewer, which takes less memory ([`Memory::bytes`]).
+    /// makes a memory with more ports, up to 255, and one with fewer, which takes less memory ([`Memory::bytes`]).
     pub fn new(initial: &[u64]) -> Result<Memory, OpenError> {
         Builder::default().open(initial)
     }

@@ -6,7 +6,7 @@
 //! and openings wear out here too.
 
 use crate::counted::Counted;
-use crate::sizes::{max_components, pool_of};
+use crate::sizes::{max_components, pool_of, MOST_PORTS};
 use std::mem::take;
 use std::slice::{from_raw_parts, from_raw_parts_mut};
 use std::sync::{Mutex, MutexGuard, PoisonError};
@@ -202,7 +202,7 @@ pub unsafe fn partial_door_memory_new(
     let initial = unsafe { from_raw_parts(initial, components) };
     number(match () {
         _ if !memory.is_empty() => Err(HOLDS_ONE),
-        _ if !(1..=64).contains(&ports) => Err(5),
+        _ if !(1..=MOST_PORTS).contains(&ports) => Err(5),
         _ if !(1..=65_536).contains(&components) => Err(1),
         _ if arena.list_words > 65_536 => Err(3),
         _ if components > max_components(ports, *arena) => Err(4),

@@ -3,6 +3,8 @@
 
 use crate::parts::Arena;
 
+/// The most ports.
+pub(crate) const MOST_PORTS: u32 = 255;
 /// The most pool words of an arena.
 const MOST_POOL: u64 = 4_194_304;
 /// The most slots of an arena.
@@ -24,7 +26,7 @@ fn kept(components: u64, ports: u64) -> u64 {
 
 /// How many components a memory may have: 0 when it isn't made with any.
 pub(crate) fn max_components(ports: u32, arena: Arena) -> usize {
-    if !(1..=64).contains(&ports) || arena.list_words > 65_536 {
+    if !(1..=MOST_PORTS).contains(&ports) || arena.list_words > 65_536 {
         return 0;
     }
     let pool = match arena.pool_words {

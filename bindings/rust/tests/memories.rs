@@ -3,7 +3,7 @@
 use partial_door::{
     CloseError, Engine, Memory, OpenError, Port, PortError, Refused, Stamp, TwoMemories, Updated, UpdatedIf, ENGINE,
 };
-use std::collections::HashSet;
+use std::collections::{HashMap, HashSet};
 use std::error::Error;
 
 /// A memory whose epoch changes every few calls.
@@ -50,11 +50,90 @@ fn each_of_64_threads_has_a_port_and_no_more() {
     assert!(memory.close().expect("all ports are free")[0] < 64);
 }
 
+/// What a thread has seen: the component and the stamp of each of its applied updates with the value that it set, the
+/// component and the stamp of each update that overwrote one of its own, and the values of its scans.
+#[derive(Default)]
+struct Seen {
+    applied: Vec<((u32, Stamp), u64)>,
+    overwriting: Vec<(u32, Stamp)>,
+    scans: Vec<([u64; 3], Option<[Stamp; 3]>)>,
+}
+
+/// Adds one to components 0 and 1 in turn, sets component 2 to numbers that no other thread takes, and scans all three.
+fn update_and_scan(port: &mut Port, turns: u64) -> Seen {
+    let mut seen = Seen::default();
+    for turn in 0..turns {
+        let component = (turn % 2) as u32;
+        let change = port.modify(component, |value| Some(value + 1)).expect("it isn't refused so often");
+        let after = change.expect("the closure gives a value").after;
+        seen.applied.push(((component, after.stamp), after.value));
+        let (values, stamps) = port.scan_stamped([0, 1, 2]).expect("it isn't refused");
+        assert!(after.value <= values[component as usize]);
+        seen.scans.push((values, stamps));
+        let own = 1 + turn + turns * u64::from(port.number());
+        match set(port, 2, own) {
+            Updated::Applied { stamp } => seen.applied.push(((2, stamp), own)),
+            Updated::Lost { by } => seen.overwriting.push((2, by)),
+        }
+    }
+    seen
+}
+
+#[test]
+fn what_200_threads_see_of_one_memory_is_consistent() {
+    const TURNS: u64 = 60;
+    let memory = Memory::builder().ports(200).list_words(64).pool_words(1024).open(&[0; 3]).expect("a memory is made");
+    let ports: Vec<Port> = (0..200).map(|_| memory.port().expect("a port is free")).collect();
+    assert_eq!(memory.port().err(), Some(PortError::NoneFree));
+    let seen: Vec<Seen> = std::thread::scope(|scope| {
+        let started: Vec<_> =
+            ports.into_iter().map(|mut port| scope.spawn(move || update_and_scan(&mut port, TURNS))).collect();
+        started.into_iter().map(|thread| thread.join().expect("no thread panics")).collect()
+    });
+    // No two applied updates have one stamp, and one that overwrote another was applied.
+    let applied: HashMap<(u32, Stamp), u64> = seen.iter().flat_map(|seen| seen.applied.iter().copied()).collect();
+    assert_eq!(applied.len(), seen.iter().map(|seen| seen.applied.len()).sum());
+    assert!(seen.iter().flat_map(|seen| &seen.overwriting).all(|by| applied.contains_key(by)));
+    // No increment is lost: each number is set once.
+    for component in 0..2 {
+        let mut set: Vec<u64> =
+            applied.iter().filter(|((of, _), _)| *of == component).map(|(_, &value)| value).collect();
+        set.sort_unstable();
+        assert_eq!(set, (1..=200 * TURNS / 2).collect::<Vec<u64>>());
+    }
+    // A value that a scan shows is the one that the update with its stamp set, or the one that the memory opened with.
+    for (values, stamps) in seen.iter().flat_map(|seen| &seen.scans) {
+        for (component, stamp) in (0..).zip(stamps.iter().flatten()) {
+            let value = values[component as usize];
+            assert_eq!(value, applied.get(&(component, *stamp)).copied().unwrap_or(0));
+        }
+    }
+    // No scan of a thread goes back, and of any two scans neither shows an earlier moment of one counter and a later one of
+    // the other.
+    let counters = |(values, _): &([u64; 3], Option<[Stamp; 3]>)| [values[0], values[1]];
+    for seen in &seen {
+        assert!(seen.scans.windows(2).all(|two| are_in_order(counters(&two[0]), counters(&two[1]))));
+    }
+    let mut all: Vec<[u64; 2]> = seen.iter().flat_map(|seen| seen.scans.iter().map(counters)).collect();
+    all.sort_unstable();
+    assert!(all.windows(2).all(|two| are_in_order(two[0], two[1])));
+    let mut port = memory.port().expect("a port is free again");
+    let last = port.read(2).expect("it is there");
+    assert!(last.stamp.epoch() > 10 && applied.get(&(2, last.stamp)) == Some(&last.value));
+    drop(port);
+    assert_eq!(memory.close().expect("all ports are free"), [200 * TURNS / 2, 200 * TURNS / 2, last.value]);
+}
+
+/// Whether neither counter falls from the first moment to the second.
+fn are_in_order(first: [u64; 2], second: [u64; 2]) -> bool {
+    first[0] <= second[0] && first[1] <= second[1]
+}
+
 #[test]
 fn a_memory_is_refused_with_the_first_cause() {
     let opened = |ports, count| Memory::builder().ports(ports).list_words(65_537).open(&vec![0; count]).err();
     assert_eq!(opened(0, 0), Some(OpenError::Ports));
-    assert_eq!(opened(65, 0), Some(OpenError::Ports));
+    assert_eq!(opened(256, 0), Some(OpenError::Ports));
     assert_eq!(opened(1, 0), Some(OpenError::Components));
     assert_eq!(opened(1, 65_537), Some(OpenError::Components));
     assert_eq!(opened(1, 1), Some(OpenError::ListWords));

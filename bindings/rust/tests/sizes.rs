@@ -9,7 +9,7 @@ fn opens(ports: u32, pool_words: u32, list_words: u32, components: usize) -> Res
 
 #[test]
 fn the_greatest_number_of_components_is_where_the_library_refuses_more() {
-    for ports in [1, 2, 3, 7, 33, 64] {
+    for ports in [1, 2, 3, 7, 33, 64, 255] {
         for pool_words in [0, 1, 16_384, 130_001, 4_000_000] {
             let builder = Memory::builder().ports(ports).pool_words(pool_words).list_words(7);
             let most = builder.max_components();
@@ -35,7 +35,7 @@ fn refusal(most: usize) -> OpenError {
 fn no_component_fits_where_no_memory_is_made() {
     for builder in [
         Memory::builder().ports(0),
-        Memory::builder().ports(65),
+        Memory::builder().ports(256),
         Memory::builder().list_words(65_537),
         Memory::builder().pool_words(4_194_305),
         Memory::builder().pool_words(4_194_304).ports(1),

@@ -104,7 +104,7 @@ fn refused_openings(rt: HostRuntime) -> Result<(), Fail> {
         ..most
     };
     refused(&rt, alloc, &[], 0, lists, OpenError::Ports);
-    refused(&rt, alloc, &[], 65, lists, OpenError::Ports);
+    refused(&rt, alloc, &[], 256, lists, OpenError::Ports);
     refused(&rt, alloc, &[], 1, lists, OpenError::Components);
     refused(&rt, alloc, &[1], 1, lists, OpenError::Lists);
     refused(&rt, alloc, &[1], 1, pool, OpenError::Pool);

@@ -3,7 +3,7 @@ use Rattle.std.specs.Prelude.{ℕ, ◌≡◌, ◌+◌, ◌*◌, ◌<◌, ◌≤�
 use Rattle.partial_intervals.specs.Intervals.{Ranges, lowest, highest, IsNormal}
 use Rattle.partial_words.specs.declared.step.Step.{Step}
 use Rattle.partial_words.specs.Step.{answer_of, word_of}
-use Rattle.partial_words.specs.Layout.{Layout, list_base, list_end, pool_base, pool_end, greatest_list}
+use Rattle.partial_words.specs.Layout.{Layout, list_base, list_end, pool_base, pool_end, greatest_list, most_ports}
 use Rattle.partial_words.specs.Announcement.{announcement_size}
 use Rattle.partial_words.specs.VacatedList.{list_block, list_size}
 use Rattle.partial_words.specs.Record.{pairs_size}
@@ -36,9 +36,9 @@ IsNextLow s read x = (x < s.slots) × ((k : ℕ) → k < length read → highest
 abbrev pub IsAnnouncedLen : Layout → ℕ → ℕ → Type 0
 IsAnnouncedLen s at x = (at + announcement_size x ≤ pool_end s) × (x ≤ s.m)
 
--- a claim of list words: the counter is not below them, and does not wrap
+-- a claim of list words: the counter is not below them, and past their end by the lists of most_ports ports at most, so that it does not wrap
 abbrev pub IsListClaim : Layout → ℕ → Type 0
-IsListClaim s x = (list_base s ≤ x) × (x ≤ list_end s + 64 * greatest_list s)
+IsListClaim s x = (list_base s ≤ x) × (x ≤ list_end s + most_ports * greatest_list s)
 
 -- an answer that orderly words may give to the due step at a stage
 abbrev pub is_possible_at : Stage → SetPair → ℕ → Type 0

@@ -1,7 +1,7 @@
 -- Orderly words of an active set, the blocks that they publish, and how a slot may move.
 use Rattle.std.specs.Prelude.{ℕ, ◌≡◌, ◌+◌, ◌*◌, ◌<◌, ◌≤◌, ◌⊎◌, List, length, slice_index}
 use Rattle.partial_intervals.specs.Intervals.{Ranges, Holds, IsNormal}
-use Rattle.partial_words.specs.Layout.{Layout, slot_counter, list_head, list_counter, slot_word, list_base, list_end, pool_base, pool_end, greatest_list}
+use Rattle.partial_words.specs.Layout.{Layout, slot_counter, list_head, list_counter, slot_word, list_base, list_end, pool_base, pool_end, greatest_list, most_ports}
 use Rattle.partial_words.specs.Record.{StandsAt}
 use Rattle.partial_words.specs.Announcement.{announcement_block, announcement_size}
 use Rattle.partial_words.specs.VacatedList.{list_block, list_size}
@@ -45,7 +45,7 @@ pub record Orderly (s : Layout) (words : List ℕ) : Type 0 where
   pub unclaimed : (slot : ℕ) → slice_index words (slot_counter s) ≤ slot → slot < s.slots → slot_at s words slot ≡ 0
   pub head : IsHeadOf s words (head_at s words)
   pub lists_from : list_base s ≤ slice_index words (list_counter s)
-  pub lists_to : slice_index words (list_counter s) ≤ list_end s + 64 * greatest_list s
+  pub lists_to : slice_index words (list_counter s) ≤ list_end s + most_ports * greatest_list s
 
 -- the block is one that these words publish: the announcement that a slot refers to, or the list at the list head
 abbrev pub Publishes : Layout → ℕ → List ℕ → List ℕ → Type 0

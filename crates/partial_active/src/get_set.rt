@@ -14,6 +14,9 @@ use partial_words::{
 };
 use std::marker::Model;
 
+/// How many ports a memory has at most.
+const MOST_PORTS: u64 = 255;
+
 /// The stage of a getSet: the step that is due, and what it needs. `at` is the number of the word.
 #[derive(Clone, Copy, Debug, PartialEq, Eq)]
 pub enum Stage {
@@ -462,7 +465,7 @@ impl GetSet {
             Stage::Claim { .. } => {
                 u64::from(self.sizes.list_base()) <= x
                     && x <= u64::from(self.sizes.list_end())
-                        + 64 * u64::from(self.sizes.greatest_list())
+                        + MOST_PORTS * u64::from(self.sizes.greatest_list())
             }
             Stage::Write { .. } | Stage::Publish { .. } | Stage::Done => true,
         }

@@ -9,7 +9,7 @@ pub use Rattle.partial_model.proofs.{HistoryLemmas.{place_below, overtaken_at}, 
 pub use Rattle.partial_intervals.specs.Intervals.{Ranges, highest}
 pub use Rattle.partial_words.specs.declared.step.Step.{Step}
 pub use Rattle.partial_words.specs.declared.step.Step.TheVariants.{Store, Add, Load, Exchange}
-pub use Rattle.partial_words.specs.{Announcement.{announcement_size, announcement_block, indices_word}, Layout.{Layout, IsLayout, slot_word, list_base, pool_counter, pool_end, list_counter, list_head, slot_counter, total, greatest_list, greatest_record, greatest_claim, list_end}, Record.{view_word, plain_record_size, StandsAt, full_record_size, prev_of, record_block, value_word, view_of, ReadsBackRecord, next_word, own_view, prev_word, record_value, view_block}, Step.{words_after, answer_of, word_of, Answers}, VacatedList.{list_block, intervals_word, list_size}}
+pub use Rattle.partial_words.specs.{Announcement.{announcement_size, announcement_block, indices_word}, Layout.{Layout, IsLayout, slot_word, list_base, pool_counter, pool_end, list_counter, list_head, slot_counter, total, greatest_list, greatest_record, greatest_claim, most_ports, list_end}, Record.{view_word, plain_record_size, StandsAt, full_record_size, prev_of, record_block, value_word, view_of, ReadsBackRecord, next_word, own_view, prev_word, record_value, view_block}, Step.{words_after, answer_of, word_of, Answers}, VacatedList.{list_block, intervals_word, list_size}}
 pub use Rattle.partial_words.proofs.{BlockLemmas.list_reads_back, RecordLemmas.{length-pairs, length-record_block, reads_back}}
 pub use Rattle.partial_active.specs.declared.join.JoinStage.{JoinStage}
 pub use Rattle.partial_active.specs.declared.join.JoinStage.TheVariants.{Claiming, Spent, Storing, Joined}

@@ -1,5 +1,5 @@
 -- The steps of a join: the claim of a slot, and the store of the announcement in it.
-use Rattle.partial_core.proofs.{Common.{ℕ, ◌≡◌, ◌+◌, ◌<◌, ◌≤◌, ◌++◌, Bool, true, false, if◌then◌else◌, Some, None, List, [], ◌∷◌, length, slice_index, refl, sym, ap, subst, ◌∙◌, arith, nat_lt, IsTrue, ltb-true, ltb-false, Applied, Opening, MayBeRefused, Step, Store, Add, Layout, slot_word, slot_counter, words_after, join_step, join_after, fits_join, JoinStage, Claiming, Storing, Spent, Stage, ScanBegun, Joining, CoreState, advance_at, step_at, after_joining, slots_refused, reply_at, IsSound, is_sound_at, Holding, State, Keeps, drops_are_kept, slot_claims_are_kept, joins_are_kept, core_of, holding_of, holding_at, holdings, joined_since, is_storing, joins_at, call_at, AreNotesOf, PartAmong, LawfulAmong, Slots, counter_bound, refusals_are_kept}, Parts.{LawfulWith, IsKeptAmong, gone}, Leaves.names_all, Steps.{LeadsAt, holding_in, known_here, sizes_here, sound_here, sound_at, memory_at, going, quiet}}
+use Rattle.partial_core.proofs.{Common.{ℕ, ◌≡◌, ◌+◌, ◌<◌, ◌≤◌, ◌++◌, Bool, true, false, if◌then◌else◌, Some, None, List, [], ◌∷◌, length, slice_index, refl, sym, ap, subst, ◌∙◌, arith, nat_lt, IsTrue, ltb-true, ltb-false, Applied, Opening, MayBeRefused, Step, Store, Add, Layout, slot_word, slot_counter, words_after, join_step, join_after, fits_join, JoinStage, Claiming, Storing, Spent, Stage, ScanBegun, Joining, CoreState, advance_at, step_at, after_joining, slots_refused, reply_at, IsSound, is_sound_at, Holding, State, Keeps, drops_are_kept, slot_claims_are_kept, joins_are_kept, core_of, holding_of, holding_at, holdings, joined_since, is_storing, joins_at, call_at, AreNotesOf, PartAmong, LawfulAmong, Slots, counter_bound, most_ports, refusals_are_kept}, Parts.{LawfulWith, IsKeptAmong, gone}, Leaves.names_all, Steps.{LeadsAt, holding_in, known_here, sizes_here, sound_here, sound_at, memory_at, going, quiet}}
 use Rattle.partial_model.specs.declared.call.{Call.Call, Refused.Refused}
 use Rattle.partial_active.specs.declared.join.JoinStage.TheVariants.{Joined as JoinedIn}
 
@@ -49,8 +49,8 @@ module _ (z : Layout) (o : Opening) (m : PartAmong) (w : LawfulAmong z o m)
     not_storing : joins_at s Joining ≡ false
     not_storing = ap is_storing at
 
-    possible : slice_index words (slot_counter z) ≤ s.sizes.slots + 64
-    possible = subst (λ (y : Layout). slice_index words (slot_counter z) ≤ y.slots + 64) (sym (sizes_here z o m w))
+    possible : slice_index words (slot_counter z) ≤ s.sizes.slots + most_ports
+    possible = subst (λ (y : Layout). slice_index words (slot_counter z) ≤ y.slots + most_ports) (sym (sizes_here z o m w))
         (counter_bound z o words (holdings (before ++ x ∷ after)) log w.memory Slots)
 
     inside : slot_counter z < length words

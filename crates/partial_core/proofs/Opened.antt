@@ -1,5 +1,5 @@
 -- A memory as it opens is lawful.
-use Rattle.partial_core.proofs.Common.{ℕ, zero, suc, ◌≡◌, ◌+◌, ◌≤◌, ◌==◌, ◌++◌, Bool, true, false, if◌then◌else◌, List, [], ◌∷◌, refl, sym, ◌∙◌, ap, subst, arith, AllByRecursion, Opening, Noted, places_written, Layout, rests_are_sound, Holding, LawfulWords, idle_holdings, IsKnown, notes_by, holdings, fresh_parts, OpensLawful, idle_holding, IsLayout}
+use Rattle.partial_core.proofs.Common.{ℕ, zero, suc, ◌≡◌, ◌+◌, ◌≤◌, ◌==◌, ◌++◌, Bool, true, false, if◌then◌else◌, List, [], ◌∷◌, refl, sym, ◌∙◌, ap, subst, arith, AllByRecursion, Opening, Noted, places_written, Layout, rests_are_sound, Holding, LawfulWords, idle_holdings, IsKnown, notes_by, holdings, fresh_parts, OpensLawful, idle_holding, most_ports, IsLayout}
 use Rattle.partial_state.proofs.OpeningLaw.{opening_is_lawful}
 
 -- a port that has made no call holds nothing
@@ -8,7 +8,7 @@ hold_nothing z p zero = refl
 hold_nothing z p (suc n) = ap (λ (hs : List Holding). idle_holding z p ∷ hs)
     (hold_nothing z (p + 1) n)
 
-pub fresh_known : (z : Layout) (o : Opening) (words : List ℕ) (hs : List Holding) (p n : ℕ) → IsLayout z → p + n ≤ 64 → AllByRecursion (IsKnown z o words hs []) (fresh_parts z p n)
+pub fresh_known : (z : Layout) (o : Opening) (words : List ℕ) (hs : List Holding) (p n : ℕ) → IsLayout z → p + n ≤ most_ports → AllByRecursion (IsKnown z o words hs []) (fresh_parts z p n)
 fresh_known z o words hs p zero layout few = tt
 fresh_known z o words hs p (suc n) layout few = (
   record {

@@ -5,7 +5,7 @@ use Rattle.partial_model.specs.declared.history.Opening.{Opening}
 use Rattle.partial_model.specs.Notes.{Noted, LegalNotes, seen_by}
 use Rattle.partial_words.specs.declared.step.Step.{Step}
 use Rattle.partial_words.specs.declared.step.Step.TheVariants.{Load}
-use Rattle.partial_words.specs.Layout.{Layout}
+use Rattle.partial_words.specs.Layout.{Layout, most_ports}
 use Rattle.partial_machine.specs.Machine.{CoreState, advance, step_of}
 use Rattle.partial_machine.specs.Calls.{is_at_rest}
 use Rattle.partial_machine.specs.Sound.{IsSound}
@@ -35,7 +35,7 @@ AreAnswersKept z o words hs log low s (k ∷ ks) = IsAnswerKept z o words hs log
 
 -- what a port knows
 pub record IsKnown (z : Layout) (o : Opening) (words : List ℕ) (hs : List Holding) (log : List Applied) (x : Part) : Type 0 where
-  pub port : port_of x < 64
+  pub port : port_of x < most_ports
   pub sizes : x.begun.sizes ≡ z
   -- it has seen the beginning of the history
   pub seen : x.seen ≡ take (length x.seen) log

@@ -4,14 +4,14 @@ use Rattle.std.specs.List.{AllByRecursion}
 use Rattle.partial_model.specs.declared.history.Applied.{Applied}
 use Rattle.partial_model.specs.declared.history.Opening.{Opening}
 use Rattle.partial_model.specs.Outcome.{places_by, places_written}
-use Rattle.partial_words.specs.Layout.{Layout}
+use Rattle.partial_words.specs.Layout.{Layout, most_ports}
 use Rattle.partial_words.specs.Chain.{OpensWith}
 use Rattle.partial_state.specs.LawfulWords.{LawfulWords}
 use Rattle.partial_core.specs.Part.{Part, PartAmong, all_parts, fresh_parts}
 use Rattle.partial_core.specs.Held.{holdings}
 use Rattle.partial_core.specs.Known.{IsKnown, notes_by}
 
--- The lawful state: words, at most 64 ports with one part each, and the history of all that was applied.
+-- The lawful state: words, at most most_ports ports with one part each, and the history of all that was applied.
 pub record Lawful (z : Layout) (o : Opening) (words : List ℕ) (parts : List Part) (log : List Applied) : Type 0 where
   -- the words are lawful with what the ports hold in them
   pub memory : LawfulWords z o words (holdings parts) log
@@ -24,6 +24,6 @@ pub record Lawful (z : Layout) (o : Opening) (words : List ℕ) (parts : List Pa
 abbrev pub LawfulAmong : Layout → Opening → PartAmong → Type 0
 LawfulAmong z o m = Lawful z o m.words (all_parts m) m.log
 
--- an opened memory of at most 64 ports is lawful, with nothing applied
+-- an opened memory of at most most_ports ports is lawful, with nothing applied
 abbrev pub OpensLawful : Type 0
-OpensLawful = (z : Layout) (o : Opening) (words : List ℕ) (n : ℕ) → OpensWith z o words → n ≤ 64 → Lawful z o words (fresh_parts z 0 n) []
+OpensLawful = (z : Layout) (o : Opening) (words : List ℕ) (n : ℕ) → OpensWith z o words → n ≤ most_ports → Lawful z o words (fresh_parts z 0 n) []

@@ -171,7 +171,7 @@ pub extern "C" fn partial_door_port_number(port: &mut Handle, answer: &mut u32) 
 
 /// Opens a long-lived memory into an empty handle. The memory holds all its ports.
 ///
-/// Returns 18 when the handle holds something, 5 when there are not 1 to 64 ports, 1 when there are not 1 to
+/// Returns 18 when the handle holds something, 5 when there are not 1 to 255 ports, 1 when there are not 1 to
 /// 65,536 values, 3 or 4 when a size of an arena is out of its range, and 6 when an allocation was refused.
 #[unsafe(no_mangle)]
 pub extern "C" fn partial_door_memory_new(

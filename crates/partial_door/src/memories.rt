@@ -61,7 +61,7 @@ pub fn options_for(arena: &ArenaSizes) -> Options
 /// Opens a long-lived memory that holds all its ports.
 ///
 /// # Errors
-/// 5 when there are not 1 to 64 ports, 1 when there are not 1 to 65,536 values, 3 or 4 when a size of an arena
+/// 5 when there are not 1 to 255 ports, 1 when there are not 1 to 65,536 values, 3 or 4 when a size of an arena
 /// is out of its range, and 6 when an allocation was refused. Nothing is left of the attempt.
 pub fn open(
     alloc: Global,

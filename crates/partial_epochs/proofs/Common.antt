@@ -10,7 +10,7 @@ pub use Rattle.partial_model.specs.{History.{IsHistory, stamp_of, value_of, last
 pub use Rattle.partial_model.proofs.{AllLemmas.{all_at, all_weaker, all_take, all_append, all_map, all_back}, HistoryLemmas.{behind_both, stamp_all}, ListLemmas.some_same, NotesLemmas.{IsTrueOf-grows, LegalNotes-push, places_written-append, seen_by-push, LegalNotes-grows, LegalNotes-last}, StampsStay.{stamps_never_return, distinct_at, take_within}}
 pub use Rattle.partial_words.specs.declared.step.Step.{Step}
 pub use Rattle.partial_words.specs.declared.step.Step.TheVariants.{Load, Store, Exchange, Add}
-pub use Rattle.partial_words.specs.{Announcement.{announcement_size, least_announcement}, Chain.opening_word, Layout.{Layout, IsLayout, slot_counter, slot_word, list_base, list_head, list_counter, pool_counter, greatest_claim, first_free, total, pool_base, initial_record, pool_end, initial_words}, Record.{value_word, view_word, plain_record_size, view_of, prev_word}, Step.{answer_of, word_of, words_after}}
+pub use Rattle.partial_words.specs.{Announcement.{announcement_size, least_announcement}, Chain.opening_word, Layout.{Layout, IsLayout, slot_counter, slot_word, list_base, list_head, list_counter, pool_counter, greatest_claim, first_free, total, pool_base, initial_record, pool_end, initial_words, most_ports}, Record.{value_word, view_word, plain_record_size, view_of, prev_word}, Step.{answer_of, word_of, words_after}}
 pub use Rattle.partial_words.proofs.{ChainLemmas.{value_behind_stamp, records_within}, LayoutLemmas.{opening_component, initial_prev, initial_value, initial_view, opening_record}}
 pub use Rattle.partial_active.specs.declared.join.JoinStage.{JoinStage}
 pub use Rattle.partial_active.specs.declared.join.JoinStage.TheVariants.{Claiming, Joined, Spent, Storing}

@@ -1,5 +1,5 @@
 -- An arena that was used before opens lawful again once the words below the first free one are set: what stands after them doesn't matter.
-use Rattle.partial_epochs.proofs.Common.{ℕ, ◌≡◌, ◌+◌, ◌*◌, ◌<◌, ◌≤◌, ◌++◌, List, [], ◌∷◌, length, Some, None, IfSome, sym, ap, subst, inl, inr, arith, ◌∙◌, Opening, places_written, Layout, slot_counter, list_head, pool_counter, list_counter, slot_word, list_base, pool_base, total, initial_record, Holding, EachTwo, announcements, spares, unpublished, IsTied, LawfulWords, holdings, fresh_parts, OpensOver, OpensOverLawful, initial_words, first_free, initial_stamp, slice_index, view_word, view_of, prev_word, value_word, plain_record_size, opening_component, opening_record, initial_value, initial_prev, initial_view, idle_length, idle_all, idle_ports, idle_slots, none_announced, none_spared, none_written, spares_open, pool_opens, slot_opens, list_opens, lists_open, slots_open, counters_open, none_marked}
+use Rattle.partial_epochs.proofs.Common.{ℕ, ◌≡◌, ◌+◌, ◌*◌, ◌<◌, ◌≤◌, ◌++◌, List, [], ◌∷◌, length, Some, None, IfSome, sym, ap, subst, inl, inr, arith, ◌∙◌, Opening, places_written, Layout, slot_counter, list_head, pool_counter, list_counter, slot_word, list_base, pool_base, total, initial_record, Holding, EachTwo, announcements, spares, unpublished, IsTied, LawfulWords, holdings, fresh_parts, OpensOver, OpensOverLawful, initial_words, most_ports, first_free, initial_stamp, slice_index, view_word, view_of, prev_word, value_word, plain_record_size, opening_component, opening_record, initial_value, initial_prev, initial_view, idle_length, idle_all, idle_ports, idle_slots, none_announced, none_spared, none_written, spares_open, pool_opens, slot_opens, list_opens, lists_open, slots_open, counters_open, none_marked}
 use Rattle.partial_model.specs.History.{last_from}
 use Rattle.partial_words.specs.Chain.{Agrees, links_from}
 use Rattle.partial_state.specs.{Views.{Block, AreApart}, Effects.idle_holdings}
@@ -35,7 +35,7 @@ opening_agrees s o words opens j below =
     let count : length words ≡ total s = opens.count in
     (named ∙ sym stamp, (record { stamp = stamp ∙ sym named; within = omega (arith, named, count, pool, in'); value = ap (slice_index words) next ∙ value }, ap (slice_index words) before ∙ prev))
 
-opening_is_lawful : (z : Layout) (o : Opening) (words : List ℕ) (n : ℕ) → OpensOver z o words → n ≤ 64 → LawfulWords z o words (idle_holdings z 0 n) []
+opening_is_lawful : (z : Layout) (o : Opening) (words : List ℕ) (n : ℕ) → OpensOver z o words → n ≤ most_ports → LawfulWords z o words (idle_holdings z 0 n) []
 opening_is_lawful z o words n opens few =
     let some = opens.sizes.slots.0 in
     let pool : slice_index words (pool_counter z) ≡ first_free z = opens.each (pool_counter z) (omega (arith, some)) (inl (omega (arith, some))) ∙ pool_opens z o.values in

@@ -1,5 +1,5 @@
 -- A seal, and the load of a component that is sealed already.
-use Rattle.partial_epochs.proofs.{Common.{ℕ, ◌≡◌, ◌≢◌, ◌+◌, ◌/◌, ◌%◌, ◌^◌, ◌<◌, ◌≤◌, ◌⊎◌, true, List, [], length, slice_index, slice_set, refl, sym, ap, subst, ◌∙◌, inl, inr, arith, nat_lt, cases_lt, lt-ltb, eqb_tells, append-nil, get_or-set_same, get_or-set_other, length-set, set-get_or, Add, total, words_after, count, put, Plan, IsSealed, arena_words, base, carried_words, component_words, plain, seal, seals, Port, Epoch, Beside, IsArena, IsStanding, LawfulEpochs, Stands, not_below, PassLeads, SealsStayLawful, SealedPassesStayLawful, passing_port}, Change.{Changes, beside_then, change_kept}, Lists.{count_few, count_more, count_same, put_all, put_other, put_same}, Offsets.below_whole, Present.standing, Worded.{component_at, plain_at, plain_component, set_arena, set_outside}}
+use Rattle.partial_epochs.proofs.{Common.{ℕ, ◌≡◌, ◌≢◌, ◌+◌, ◌/◌, ◌%◌, ◌^◌, ◌<◌, ◌≤◌, ◌⊎◌, true, List, [], length, slice_index, slice_set, refl, sym, ap, subst, ◌∙◌, inl, inr, arith, nat_lt, cases_lt, lt-ltb, eqb_tells, append-nil, get_or-set_same, get_or-set_other, length-set, set-get_or, Add, total, most_ports, words_after, count, put, Plan, IsSealed, arena_words, base, carried_words, component_words, plain, seal, seals, Port, Epoch, Beside, IsArena, IsStanding, LawfulEpochs, Stands, not_below, PassLeads, SealsStayLawful, SealedPassesStayLawful, passing_port}, Change.{Changes, beside_then, change_kept}, Lists.{count_few, count_more, count_same, put_all, put_other, put_same}, Offsets.below_whole, Present.standing, Worded.{component_at, plain_at, plain_component, set_arena, set_outside}}
 
 module _ (e : Plan) (words : List ℕ) (ports : ℕ → Port) (b : Beside) (k : ℕ) (w : LawfulEpochs e words ports b) (below : k < e.ports)
     (stands : (ports k).control.entering ≡ Stands) (inside : (ports k).passed < e.sizes.m) where
@@ -131,15 +131,15 @@ module _ (e : Plan) (words : List ℕ) (ports : ℕ → Port) (b : Beside) (k : 
       let low : j < total e.sizes = omega (arith, inside) in
       let at = component_at e words x j inside in
       let old = arena.few j inside in
-      let most = count_few (λ q. nat_lt j (r.passed q)) 0 e.ports in
+      let more = passed_more in
+      let most = count_few (λ q. nat_lt j (passed' q)) 0 e.ports in
       let few = w.plan.few in
-      let small : raw / seal ≤ 64 = omega (arith, at, old, most, few) in
+      let small : raw / seal < most_ports = omega (arith, at, old, more, most, few) in
       let is : next ≡ raw + seal = omega (arith, small) in
       let words' : List ℕ = slice_set words (base e x + j) next in
       let at' = component_at e words' x j inside in
       let now : slice_index words' (base e x + j) ≡ next = get_or-set_same words (base e x + j) next 0 within in
       let found : slice_index (component_words e words' x) j ≡ raw + seal = at' ∙ now ∙ is in
-      let more = passed_more in
       let plain_is : plain e j next ≡ slice_index (arena_words e words x) j =
       plain_component e words x j next inside ∙ omega (arith, is) ∙ sym (plain_component e words x j raw inside) ∙ sym (plain_at e words x j low) in
       pass_leads words' (length-set words (base e x + j) next) (set_outside e words x j next low within)

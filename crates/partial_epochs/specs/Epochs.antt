@@ -1,6 +1,6 @@
 -- The lawful state of a memory over all epochs.
 use Rattle.std.specs.Prelude.{ℕ, ◌+◌, ◌*◌, ◌<◌, ◌≤◌, nat_lt, Bool, true, List, ◌∷◌, slice_index, if◌then◌else◌, ◌++◌, length, Option, ◌≡◌, ◌≢◌, None, Some, IfSome, ◌-◌, false}
-use Rattle.partial_words.specs.Layout.{IsLayout, pool_base, pool_counter, pool_end, first_free, greatest_claim, initial_record, slot_counter, slot_word}
+use Rattle.partial_words.specs.Layout.{IsLayout, pool_base, pool_counter, pool_end, first_free, greatest_claim, initial_record, most_ports, slot_counter, slot_word}
 use Rattle.partial_words.specs.Record.{prev_word, view_word}
 use Rattle.std.specs.Option.{option_map}
 use Rattle.partial_model.specs.declared.history.Applied.{Applied}
@@ -24,9 +24,9 @@ use Rattle.partial_epochs.specs.Ports.Entering.{Stands}
 pub record IsEpochPlan (e : Plan) : Type 0 where
   -- an arena has the sizes of one memory
   pub sizes : IsLayout e.sizes
-  -- there are 1 to 64 ports
+  -- there are 1 to most_ports ports
   pub some : 1 ≤ e.ports
-  pub few : e.ports ≤ 64
+  pub few : e.ports ≤ most_ports
   -- a site fits a word
   pub arenas : e.arenas ≤ arena_limit
   -- each component has an opening value, and the initial stamps are the initial records

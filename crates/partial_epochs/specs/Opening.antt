@@ -1,7 +1,7 @@
 -- A memory as it opens, and an arena that opens again.
 use Rattle.std.specs.Prelude.{ℕ, ◌+◌, ◌<◌, ◌≤◌, List, [], slice_index, length, Option, ◌≡◌, Some, None, false}
 use Rattle.partial_model.specs.declared.history.Opening.{Opening}
-use Rattle.partial_words.specs.Layout.{Layout, total, IsLayout, pool_base, first_free, slot_word}
+use Rattle.partial_words.specs.Layout.{Layout, total, IsLayout, pool_base, first_free, most_ports, slot_word}
 use Rattle.partial_model.specs.History.{initial_stamp}
 use Rattle.partial_core.specs.Part.{fresh_part, fresh_parts}
 use Rattle.partial_words.specs.Chain.{opening_word}
@@ -22,7 +22,7 @@ pub record OpensOver (s : Layout) (o : Opening) (words : List ℕ) : Type 0 wher
 
 -- such words are lawful, with nothing applied
 abbrev pub OpensOverLawful : Type 0
-OpensOverLawful = (z : Layout) (o : Opening) (words : List ℕ) (n : ℕ) → OpensOver z o words → n ≤ 64 →
+OpensOverLawful = (z : Layout) (o : Opening) (words : List ℕ) (n : ℕ) → OpensOver z o words → n ≤ most_ports →
     Lawful z o words (fresh_parts z 0 n) []
 
 -- the words at opening: no arena is owned, each port stands in epoch 0, and arena 0 is set; the slots of the other arenas are 0, and so is what

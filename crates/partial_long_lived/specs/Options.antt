@@ -1,7 +1,7 @@
 -- The sizes of a memory for its options, and why there are none.
 use Rattle.std.specs.Prelude.{ℕ, ◌≡◌, ◌+◌, ◌-◌, ◌*◌, ◌/◌, ◌%◌, ◌<◌, ◌≤◌, ◌⊎◌, None, min, max}
 use Rattle.std.specs.Option.{option_map_or}
-use Rattle.partial_words.specs.Layout.{Layout, first_free, most_ahead}
+use Rattle.partial_words.specs.Layout.{Layout, first_free, most_ahead, most_ports}
 use Rattle.partial_words.specs.Record.{full_record_size, plain_record_size}
 use Rattle.partial_long_lived.specs.declared.open_error.OpenError.{OpenError}
 use Rattle.partial_long_lived.specs.declared.open_error.OpenError.TheVariants.{Ports, Components, Lists, Pool, OutOfMemory}
@@ -87,7 +87,7 @@ pub record IsShapeFor (count n : ℕ) (o : Options) (s : Shape) : Type 0 where
 
 -- the number of ports is in its range
 abbrev pub ArePorts : ℕ → Type 0
-ArePorts ports = (1 ≤ ports) × (ports ≤ 64)
+ArePorts ports = (1 ≤ ports) × (ports ≤ most_ports)
 
 -- the number of components is in its range
 abbrev pub IsComponentCount : ℕ → Type 0
@@ -95,7 +95,7 @@ IsComponentCount count = (1 ≤ count) × (count ≤ 65536)
 
 -- Why there are no such sizes: the first of these that is out of its range.
 abbrev pub IsShapeError : ℕ → ℕ → Options → OpenError → Type 0
-IsShapeError count ports o Ports = (ports ≡ 0) ⊎ (64 < ports)
+IsShapeError count ports o Ports = (ports ≡ 0) ⊎ (most_ports < ports)
 IsShapeError count ports o Components = ArePorts ports × ((count ≡ 0) ⊎ (65536 < count))
 IsShapeError count ports o Lists = ArePorts ports × IsComponentCount count × (most_lists < o.lists)
 IsShapeError count ports o Pool = ArePorts ports × IsComponentCount count × (o.lists ≤ most_lists) ×

@@ -1,13 +1,13 @@
 -- Sizes that a long-lived memory may have.
 use Rattle.std.specs.Prelude.{ℕ, ◌≡◌, ◌+◌, ◌*◌, ◌/◌, ◌≤◌, min}
-use Rattle.partial_words.specs.Layout.{Layout, IsLayout, first_free, greatest_claim, most_ahead, pool_end, total}
+use Rattle.partial_words.specs.Layout.{Layout, IsLayout, first_free, greatest_claim, most_ahead, most_ports, pool_end, total}
 
--- The sizes of an arena are in range, there are 1 to 64 ports and twice as many arenas, above the limit there is room for the greatest claim of
--- each port, and there is a slot for each port.
+-- The sizes of an arena are in range, there are 1 to most_ports ports and twice as many arenas, above the limit there is room for the greatest
+-- claim of each port, and there is a slot for each port.
 pub record IsSized (sizes : Layout) (ports arenas limit : ℕ) : Type 0 where
   pub layout : IsLayout sizes
   pub some : 1 ≤ ports
-  pub few : ports ≤ 64
+  pub few : ports ≤ most_ports
   pub twice : arenas ≡ 2 * ports
   pub opens : first_free sizes ≤ limit
   pub room : limit + greatest_claim sizes * ports ≤ pool_end sizes

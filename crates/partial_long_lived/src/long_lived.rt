@@ -141,7 +141,7 @@ impl LongLived {
     /// Opens a memory whose components hold these values, and its ports, numbered from 0 in their order.
     ///
     /// # Errors
-    /// [`OpenError::Ports`] exactly when there are not 1 to 64 ports; otherwise [`OpenError::Components`] exactly when there
+    /// [`OpenError::Ports`] exactly when there are not 1 to 255 ports; otherwise [`OpenError::Components`] exactly when there
     /// are not 1 to 65,536 values; otherwise [`OpenError::Lists`] exactly when the options ask for more than 65,536 list
     /// words; otherwise [`OpenError::Pool`] exactly when the pool would have more than 4,194,304 words; otherwise
     /// [`OpenError::OutOfMemory`] when an allocation was refused. Nothing was made then.

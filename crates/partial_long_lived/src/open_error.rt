@@ -8,7 +8,7 @@ use thiserror::Error;
 /// Why a memory was not opened. Nothing is left of the attempt.
 #[derive(Clone, Copy, Debug, PartialEq, Eq, Error)]
 pub enum OpenError {
-    /// There are not 1 to 64 ports.
+    /// There are not 1 to 255 ports.
     #[error("ports out of range")]
     Ports,
     /// There are not 1 to 65,536 initial values.

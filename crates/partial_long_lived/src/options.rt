@@ -1,11 +1,15 @@
 //! How much an arena of a long-lived memory holds.
 
 ghost use Rattle.std.specs.Prelude.{◌≡◌, ◌≤◌, IfOk, IfErr};
+ghost use Rattle.partial_words.specs.Layout.{most_ports};
 ghost use Rattle.partial_long_lived.specs.Options.{IsShapeFor, IsShapeError, MayOpen, claim_room, claimed_pool};
 
 use crate::open_error::OpenError;
 use crate::shape::{MOST_AHEAD, Shape};
 use partial_words::{Sizes, full_record_size, plain_record_size};
+
+/// The most ports.
+const MOST_PORTS: u32 = 255;
 
 /// The most slots.
 const MOST_SLOTS: u32 = 65_536;
@@ -59,7 +63,7 @@ impl Default for Options {
 /// The sizes of a memory of `count` components.
 ///
 /// # Errors
-/// [`OpenError::Ports`] exactly when there are not 1 to 64 ports; otherwise [`OpenError::Components`] exactly when there
+/// [`OpenError::Ports`] exactly when there are not 1 to 255 ports; otherwise [`OpenError::Components`] exactly when there
 /// are not 1 to 65,536 components; otherwise [`OpenError::Lists`] exactly when the options ask for more than 65,536 list
 /// words; otherwise [`OpenError::Pool`] exactly when the pool would have more than 4,194,304 words.
 pub fn shape(count: usize, ports: u32, options: Options) -> Result<Shape, OpenError>
@@ -67,7 +71,7 @@ pub fn shape(count: usize, ports: u32, options: Options) -> Result<Shape, OpenEr
     ensures fits { IfOk result (λ _. MayOpen count ports options) }
     ensures err { IfErr result (IsShapeError count ports options) }
 {
-    if ports < 1 || ports > 64 {
+    if ports < 1 || ports > MOST_PORTS {
         return Err(OpenError::Ports);
     }
     if count < 1 || count > 65_536 {
@@ -104,7 +108,7 @@ pub fn shape(count: usize, ports: u32, options: Options) -> Result<Shape, OpenEr
 // How many pool words of an arena of `m` components are room for the greatest claim of each port.
 fn claim_room(m: u64, ports: u64) -> u64
     requires components { m ≤ 65536 }
-    requires ports { ports ≤ 64 }
+    requires ports { ports ≤ most_ports }
     ensures { result ≡ claim_room m ports }
 {
     (full_record_size(m) + MOST_AHEAD) * ports
@@ -113,7 +117,7 @@ fn claim_room(m: u64, ports: u64) -> u64
 // How many pool words of an arena of `m` components are claimed in an epoch.
 fn pool_of(options: Options, m: u64, ports: u64) -> u64
     requires components { m ≤ 65536 }
-    requires ports { (1 ≤ ports) × (ports ≤ 64) }
+    requires ports { (1 ≤ ports) × (ports ≤ most_ports) }
     ensures { result ≡ claimed_pool m ports options }
 {
     match options.pool {

@@ -12,7 +12,7 @@ pub struct About {
     pub sizes: Sizes,
     /// The initial values, and the stamp of component 0.
     pub opening: Opening,
-    /// How many ports it has: 1 to 64.
+    /// How many ports it has: 1 to 255.
     pub ports: u32,
     /// How many arenas it has: twice as many.
     pub arenas: u32,

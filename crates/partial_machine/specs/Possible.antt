@@ -2,7 +2,7 @@
 use Rattle.std.specs.Prelude.{ℕ, ◌≡◌, ◌+◌, ◌*◌, ◌<◌, ◌≤◌, ⊤, Bool, true, false, List, length, Some}
 use Rattle.partial_words.specs.declared.step.Step.{Step}
 use Rattle.partial_words.specs.Step.{answer_of, word_of}
-use Rattle.partial_words.specs.Layout.{Layout, pool_base, pool_end, greatest_claim}
+use Rattle.partial_words.specs.Layout.{Layout, pool_base, pool_end, greatest_claim, most_ports}
 use Rattle.partial_active.specs.GetSetAnswers as finding_answers
 use Rattle.partial_embedded.specs.Embedded as viewing
 use Rattle.partial_machine.specs.declared.stage.Stage.{Stage}
@@ -10,9 +10,9 @@ use Rattle.partial_machine.specs.declared.stage.Stage.TheVariants.{Idle, ReadBeg
 use Rattle.partial_machine.specs.Machine.{CoreState, getting, scanning, has_spare, step_of}
 use Rattle.partial_machine.specs.Sound.{IsRecord}
 
--- a counter of the pool is at its first word or after it, and past its end by the claims of 64 ports at most
+-- a counter of the pool is at its first word or after it, and past its end by the claims of most_ports ports at most
 abbrev pub IsPoolCount : Layout → ℕ → Type 0
-IsPoolCount z x = (pool_base z ≤ x) × (x ≤ pool_end z + 64 * greatest_claim z)
+IsPoolCount z x = (pool_base z ≤ x) × (x ≤ pool_end z + most_ports * greatest_claim z)
 
 -- what answers the step by which an update begins its record: a store in its spare words, or a claim
 abbrev pub IsRecordAnswer : Bool → Layout → ℕ → Type 0
@@ -32,7 +32,7 @@ IsPossibleAt s (StoringRecord c old at k) x = x ≡ 0
 IsPossibleAt s (Exchanging c old at) x = IsRecord s.sizes x
 IsPossibleAt s ScanBegun x = IsPoolCount s.sizes x
 IsPossibleAt s (StoringAnnouncement at k) x = x ≡ 0
-IsPossibleAt s Joining x = x ≤ s.sizes.slots + 64
+IsPossibleAt s Joining x = x ≤ s.sizes.slots + most_ports
 IsPossibleAt s Scanning x = viewing.IsPossibleInView (scanning s) x
 IsPossibleAt s Leaving x = x ≡ 0
 IsPossibleAt s (Finished r) x = ⊥

@@ -1,7 +1,7 @@
 -- What is known of every port's machine, whatever was answered.
 use Rattle.std.specs.Prelude.{ℕ, ◌≡◌, ◌+◌, ◌<◌, ◌≤◌, ⊤, false, List, length, slice_index, IsSome, IsTrue, nat_eq}
 use Rattle.std.specs.List.{IsDistinct}
-use Rattle.partial_words.specs.Layout.{Layout, IsLayout, pool_base, pool_end, most_ahead}
+use Rattle.partial_words.specs.Layout.{Layout, IsLayout, pool_base, pool_end, most_ahead, most_ports}
 use Rattle.partial_words.specs.Record.{own_view}
 use Rattle.partial_words.specs.Announcement.{announcement_size}
 use Rattle.partial_active.specs.Found.{AreFoundFor as AreBuffersFor}
@@ -72,6 +72,6 @@ pub record IsSound (s : CoreState) : Type 0 where
 -- what holds of every port's machine, whose room for positions is given
 pub record IsMachine (s : CoreState) (room : ℕ) : Type 0 where
   pub sizes : IsLayout s.sizes
-  pub port : s.port < 64
+  pub port : s.port < most_ports
   pub sound : IsSound s
   pub enough : s.sizes.m ≤ room

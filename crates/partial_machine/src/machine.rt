@@ -3,7 +3,7 @@
 ghost use Rattle.std.specs.Prelude.{◌≡◌, ◌≢◌, ◌<◌, ◌≤◌, ◌+◌, ◌-◌, ◌==◌, ◌↔◌, ◌∷◌, map, length, slice_index, nat_lt, if◌then◌else◌, IsTrue, IfOk, OnOk, IfErr, MatchOption, None, true};
 ghost use Rattle.std.specs.List.{flat_map, list_all};
 ghost use Rattle.std.specs.Vec.{vec_capacity};
-ghost use Rattle.partial_words.specs.Layout.{no_spare};
+ghost use Rattle.partial_words.specs.Layout.{most_ports, no_spare};
 ghost use Rattle.partial_words.specs.Record.{pair_words, pairs_size, plain_record_size};
 ghost use Rattle.partial_machine.specs.declared.stage.Stage.TheVariants.{Idle, ReadBegun, UpdateBegun, GettingSet, Viewing, ClaimingRecord, StoringRecord, Exchanging, ScanBegun, StoringAnnouncement, Joining, Scanning, Leaving, Finished};
 ghost use Rattle.partial_machine.specs.declared.stage.Reply.TheVariants as reply;
@@ -96,7 +96,7 @@ impl Core {
 
     /// Makes the machine of a port that has made no call. Fails only when memory is refused.
     pub fn new(alloc: Global, sizes: Sizes, port: u32) -> Result<Core, AllocError>
-        requires { port < 64 }
+        requires { port < most_ports }
         ensures { IfOk result (λ core. core ≡ fresh sizes port) }
     {
         let room = sizes.m() as usize;

@@ -72,7 +72,7 @@ word_of_counter z PoolWords = (omega arith, omega arith, (λ e. omega (arith, e)
 word_of_counter z Slots = (omega arith, omega arith, (λ e. omega (arith, e)), (λ l e. omega (arith, e)))
 word_of_counter z ListWords = (omega arith, omega arith, (λ e. omega (arith, e)), (λ l e. omega (arith, e)))
 
-end_of_counter : (z : Layout) (c : Counted) → (counter z c).end + 65 * (counter z c).greatest ≤ pool_end z + 65 * greatest_claim z + 65 * greatest_list z
+end_of_counter : (z : Layout) (c : Counted) → (counter z c).end + 256 * (counter z c).greatest ≤ pool_end z + 256 * greatest_claim z + 256 * greatest_list z
 end_of_counter z PoolWords = omega arith
 end_of_counter z Slots = omega arith
 end_of_counter z ListWords = omega arith

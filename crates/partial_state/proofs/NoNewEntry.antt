@@ -1,5 +1,5 @@
 -- The steps that add nothing to the history, and what most steps leave as it was.
-use Rattle.partial_state.proofs.{Common.{ℕ, ◌≡◌, ◌≢◌, ◌+◌, ◌*◌, ◌<◌, ◌≤◌, ◌⊎◌, ◌++◌, ◌^◌, ◌%◌, true, false, List, ◌∷◌, length, slice_index, Option, None, IfSome, IsSomeAnd, refl, sym, ◌∙◌, ap, subst, inl, inr, arith, eq-eqb, Applied, Opening, place_below, Layout, IsLayout, slot_counter, list_head, pool_counter, list_counter, slot_word, list_base, pool_end, Block, AreApart, IsApartFrom, Covers, IsHead, ClaimedSlot, Own, Due, Holding, block_of, block_at, unpublished, blocks_in, without_block, IfJoined, joined_in, EachTwo, HaveOtherSlots, Pool, LawfulWords, IsOwn, IsTied, IsClaim, IsDue, IsKept, greatest_claim, greatest_list, Counted, IsCounted, ListWords, PoolWords, Slots, counter, is_marked, marked_ports}, ListLemmas.{all_at, all_before, all_after, all_join, all_weaker}, Frames.{Frame, stays, head_moves, covers_moves}, Blocks.unpublished_same, HoldingLemmas.{own_far, if_some, if_some_at, some_found, joined_weaker, unjoined_if, without_own, marks_same, marks_more, marks_few}, Rebuild.{Moves, frame_of, agrees_stay, blocks_stay}, EffectLemmas.{due_moves, claim_moves, keeps}}
+use Rattle.partial_state.proofs.{Common.{ℕ, ◌≡◌, ◌≢◌, ◌+◌, ◌*◌, ◌<◌, ◌≤◌, ◌⊎◌, ◌++◌, ◌^◌, ◌%◌, true, false, List, ◌∷◌, length, slice_index, Option, None, IfSome, IsSomeAnd, refl, sym, ◌∙◌, ap, subst, inl, inr, arith, eq-eqb, Applied, Opening, place_below, Layout, IsLayout, slot_counter, list_head, pool_counter, list_counter, slot_word, list_base, pool_end, Block, AreApart, IsApartFrom, Covers, IsHead, ClaimedSlot, Own, Due, Holding, block_of, block_at, unpublished, blocks_in, without_block, IfJoined, joined_in, EachTwo, HaveOtherSlots, Pool, LawfulWords, IsOwn, IsTied, IsClaim, IsDue, IsKept, greatest_claim, greatest_list, most_ports, Counted, IsCounted, ListWords, PoolWords, Slots, counter, is_marked, marked_ports}, ListLemmas.{all_at, all_before, all_after, all_join, all_weaker}, Frames.{Frame, stays, head_moves, covers_moves}, Blocks.unpublished_same, HoldingLemmas.{own_far, if_some, if_some_at, some_found, joined_weaker, unjoined_if, without_own, marks_same, marks_more, marks_few}, Rebuild.{Moves, frame_of, agrees_stay, blocks_stay}, EffectLemmas.{due_moves, claim_moves, keeps}}
 use Rattle.std.proofs.Math.Nat.{mul-le-mul_left}
 
 -- what a step changes that adds nothing to the history
@@ -80,15 +80,15 @@ counters_rise z words words' pool slots lists ListWords = lists
 
 -- the counters stay far below 2 ^ 64
 pub counter_bound : (z : Layout) (o : Opening) (words : List ℕ) (hs : List Holding) (log : List Applied) → LawfulWords z o words hs log → (c : Counted) →
-    slice_index words (counter z c).word ≤ (counter z c).end + 64 * (counter z c).greatest
+    slice_index words (counter z c).word ≤ (counter z c).end + most_ports * (counter z c).greatest
 counter_bound z o words hs log w c =
     let few = marks_few c hs in
     let all = w.few in
     let high = (w.counters c).high in
-    let bound : (counter z c).greatest * marked_ports c hs ≤ (counter z c).greatest * 64 = mul-le-mul_left (counter z c).greatest (omega (arith, few, all)) in
+    let bound : (counter z c).greatest * marked_ports c hs ≤ (counter z c).greatest * most_ports = mul-le-mul_left (counter z c).greatest (omega (arith, few, all)) in
     omega (arith, bound, high)
 
-pub fits_word : (z : Layout) (n : ℕ) → IsLayout z → n ≤ pool_end z + 65 * greatest_claim z + 65 * greatest_list z → n % 2 ^ 64 ≡ n
+pub fits_word : (z : Layout) (n : ℕ) → IsLayout z → n ≤ pool_end z + 256 * greatest_claim z + 256 * greatest_list z → n % 2 ^ 64 ≡ n
 fits_word z n s most = let m = s.components.1 in let l = s.slots.1 in let t = s.lists in let p = s.pool.1 in omega arith
 
 -- what stays where the port's claim does

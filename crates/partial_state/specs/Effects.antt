@@ -4,7 +4,7 @@ use Rattle.partial_intervals.specs.Intervals.{Ranges, Holds, IsNormal}
 use Rattle.partial_model.specs.declared.history.Applied.{Applied}
 use Rattle.partial_model.specs.declared.history.Opening.{Opening}
 use Rattle.partial_words.specs.declared.step.Step.TheVariants.{Store, Exchange, Add}
-use Rattle.partial_words.specs.Layout.{Layout, component_word, slot_counter, list_head, slot_word, list_base, no_spare, total}
+use Rattle.partial_words.specs.Layout.{Layout, component_word, slot_counter, list_head, slot_word, list_base, most_ports, no_spare, total}
 use Rattle.partial_words.specs.Announcement.{announcement_block, announcement_size}
 use Rattle.partial_words.specs.VacatedList.{list_block}
 use Rattle.partial_words.specs.Chain.{OpensWith}
@@ -174,7 +174,7 @@ abbrev pub idle_holdings : Layout → ℕ → ℕ → List Holding
 idle_holdings z port zero = []
 idle_holdings z port (suc n) = idle_holding z port ∷ idle_holdings z (port + 1) n
 
--- words as they open, with at most 64 ports that hold nothing, are lawful
+-- words as they open, with at most most_ports ports that hold nothing, are lawful
 abbrev pub OpeningIsLawful : Type 0
 OpeningIsLawful =
-    (z : Layout) (o : Opening) (words : List ℕ) (n : ℕ) → OpensWith z o words → n ≤ 64 → LawfulWords z o words (idle_holdings z 0 n) []
+    (z : Layout) (o : Opening) (words : List ℕ) (n : ℕ) → OpensWith z o words → n ≤ most_ports → LawfulWords z o words (idle_holdings z 0 n) []

@@ -4,7 +4,7 @@ use Rattle.std.specs.List.{AllByRecursion}
 use Rattle.partial_model.specs.declared.history.Applied.{Applied}
 use Rattle.partial_model.specs.declared.history.Opening.{Opening}
 use Rattle.partial_model.specs.History.{IsHistory}
-use Rattle.partial_words.specs.Layout.{Layout, IsLayout, slot_counter, list_head, pool_counter, slot_word, pool_base, pool_end, total, initial_record, first_free}
+use Rattle.partial_words.specs.Layout.{Layout, IsLayout, slot_counter, list_head, pool_counter, slot_word, pool_base, pool_end, total, initial_record, first_free, most_ports}
 use Rattle.partial_words.specs.Record.{plain_record_size, prev_of, record_value, view_of}
 use Rattle.partial_words.specs.Chain.{Agrees}
 use Rattle.partial_state.specs.Views.{Block, AreApart, HasFreshView, Covers, IsWithin, IsAnnounced, IsHead}
@@ -72,7 +72,7 @@ pub record IsCounted (z : Layout) (words : List ℕ) (hs : List Holding) (c : Co
   pub low : (counter z c).begin ≤ slice_index words (counter z c).word
   pub high : slice_index words (counter z c).word ≤ (counter z c).end + (counter z c).greatest * marked_ports c hs
 
--- Lawful words: of at most 64 ports with what each holds in them, and of the history of all that was applied.
+-- Lawful words: of at most most_ports ports with what each holds in them, and of the history of all that was applied.
 pub record LawfulWords (z : Layout) (o : Opening) (words : List ℕ) (hs : List Holding) (log : List Applied) : Type 0 where
   -- the sizes are in range
   pub sizes : IsLayout z
@@ -82,8 +82,8 @@ pub record LawfulWords (z : Layout) (o : Opening) (words : List ℕ) (hs : List 
   pub stamps : o.first ≡ pool_base z
   -- there are as many words as the sizes say
   pub count : length words ≡ total z
-  -- there are at most 64 ports
-  pub few : length hs ≤ 64
+  -- there are at most most_ports ports
+  pub few : length hs ≤ most_ports
   -- each port has one holding
   pub ports : EachTwo HaveOtherPorts hs
   -- each entry is for a component, and each stamp is of one entry and is no initial one

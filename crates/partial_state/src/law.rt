@@ -3,7 +3,7 @@
 
 ghost use Rattle.partial_state.specs.Effects.{OpeningIsLawful, ClaimsAreKept, RefusalsAreKept, StoresAreKept, DuesAreKept, DropsAreKept, SparesAreKept, TakesAreKept, WinsAreKept, SlotClaimsAreKept, JoinsAreKept, LeavesAreKept, PublishingsAreKept, LoadsAreTrue};
 
-/// Words at opening, with at most 64 ports that hold nothing, are lawful.
+/// Words at opening, with at most `most_ports` ports that hold nothing, are lawful.
 pub fn opening_is_lawful()
     ensures { OpeningIsLawful }
 {}

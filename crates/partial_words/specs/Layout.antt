@@ -25,6 +25,10 @@ AreLists s = s.lists ≤ 65536
 abbrev pub ArePool : Layout → Type 0
 ArePool s = (3 * s.m ≤ s.pool) × (s.pool ≤ 4194304)
 
+-- how many ports a memory has at most: so many seals fit above a reference
+abbrev pub most_ports : ℕ
+most_ports = 255
+
 -- the four sizes are in range
 pub record IsLayout (s : Layout) : Type 0 where
   pub components : AreComponents s
