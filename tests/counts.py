@@ -38,26 +38,30 @@ def edits(crate='*', word='edit'):
                for path in (TOP / 'crates').glob(f'{crate}/edits.txt'))
 
 
-def option(name):
+def option(name, file='partial_long_lived/specs/Options.antt'):
     """A limit on the arenas of a long-lived memory."""
-    text = (TOP / 'crates' / 'partial_long_lived' / 'specs' / 'Options.antt').read_text(encoding='utf-8')
-    return int(re.search(rf'^{name} = (\d+)$', text, re.M)[1])
+    return int(re.search(rf'^{name} = (\d+)$', (TOP / 'crates' / file).read_text(encoding='utf-8'), re.M)[1])
+
+
+def room(ports, m):
+    """The pool words of an arena for the greatest claim of each port (`claim_room`): a record, and the words ahead."""
+    return (4 + 2 * m + option('most_ahead', 'partial_words/specs/Layout.antt')) * ports
 
 
 def components(ports):
-    """The most components with so many ports: each has room for a greatest record, 4 + 2 m words, beside the pool."""
-    return min((option('most_pool') - option('fewest_pool') - 4 * ports) // (3 + 2 * ports), MOST_COMPONENTS)
+    """The most components with so many ports: an arena has room for initial records and claims beside the pool."""
+    return min((option('most_pool') - option('fewest_pool') - room(ports, 0)) // (3 + 2 * ports), MOST_COMPONENTS)
 
 
 def pool(ports, m=8):
     """The usual pool of an arena (`usual_pool`)."""
     most = max(min(option('pool_of_port') * ports, option('pool_of_all') // ports), option('pool_of_component') * m)
-    return max(min(most, option('most_pool') - 3 * m - (4 + 2 * m) * ports), option('fewest_pool'))
+    return max(min(most, option('most_pool') - 3 * m - room(ports, m)), option('fewest_pool'))
 
 
 def megabytes(ports, m=8):
     """What a memory of the usual sizes takes, in MB: the words of its epochs, ports and arenas."""
-    rest, slots = 5 * m + 4 + LIST_WORDS + pool(ports, m) + (4 + 2 * m) * ports, pool(ports, m) // 8 + ports
+    rest, slots = 5 * m + 4 + LIST_WORDS + pool(ports, m) + room(ports, m), pool(ports, m) // 8 + ports
     slots = min(slots + 15 - (rest + slots - 1) % 16, option('most_slots'))
     control = 1 + 3 * ports
     taken = 8 * (control + 15 - (control + 3 + m) % 16 + 2 * ports * (rest + slots)) / 10 ** 6

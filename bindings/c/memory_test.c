@@ -141,7 +141,11 @@ static void test_refused_openings(void)
     partial_memory_free(&memory);
 }
 
-/* One component and 2 ports: 32768 pool words, of which an update claims 3. The last one ends after them. */
+/*
+ * One component and 2 ports: 32768 pool words. An update claims 3 of them for its record and 93 ahead, and the next 31
+ * updates claim none. So 341 claims end within the pool, each for 32 updates. The next one ends past the pool, so it is
+ * for one update: the update after that changes the epoch.
+ */
 static void test_usual_pool(void)
 {
     const uint64_t initial[1] = {10};
@@ -154,7 +158,7 @@ static void test_usual_pool(void)
         applied++;
     }
     check(set.stamp >> 23 == 1, "the epoch changes when the pool is used up");
-    check(applied == 32768 / 3 + 1, "an arena has 16384 pool words for each of two ports");
+    check(applied == 32 * (32768 / 96) + 1, "an arena has 16384 pool words for each of two ports");
     partial_port_free(&port);
     partial_memory_free(&memory);
 }

@@ -157,9 +157,11 @@ static inline int partial_is_transient(uint32_t code)
 /* The sizes of an arena of a `partial_memory`, which has two arenas for each port. */
 typedef struct partial_arena {
     uint32_t list_words; /* for the lists of vacated slots: at most 65536 */
-    uint32_t pool_words; /* claimed before the epoch changes: at most 4194304, less 4 for
+    uint32_t pool_words; /* claimed before the epoch changes: at most 4194304, less 97 for
                             each port, 2 for each port and component, and 3 for each
-                            component; 0 for as many as suit the number of ports (below) */
+                            component; 0 for as many as suit the number of ports (below).
+                            An update takes 3 of them when nobody scans. A claim has up to
+                            93 more, which later updates of the same port take */
 } partial_arena;
 
 /* The sizes of an opening, apart from the number of its components. */
@@ -261,7 +263,7 @@ static inline uint64_t partial_next_number(void)
  *
  * 23: a pointer is null. 31: the library is of another version than this header. 18: the
  * handle holds something. 5: there are not 1 to 255 ports. 1: there are not 1 to 65536
- * values. 3: there are more than 65536 list words. 4: the pool words, with 4 for each
+ * values. 3: there are more than 65536 list words. 4: the pool words, with 97 for each
  * port, 2 for each port and component, and 3 for each component, are more than 4194304.
  * 6: an allocation was refused. The handle is as it was.
  */

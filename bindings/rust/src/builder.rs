@@ -6,9 +6,9 @@ use crate::sizes;
 use crate::OpenError;
 
 /// How many ports a memory has, and how large its arenas are. There are two arenas for each port. An arena of `m`
-/// components and `p` ports has `5 m + 4 + list_words + pool_words + (4 + 2 m) p` words of 8 bytes and its slots: one for
-/// each 8 pool words, and one for each port. They are rounded up to a multiple of 16, unless there are 65,536 slots, the
-/// most. While a memory opens, its words are there twice.
+/// components and `p` ports has `5 m + 4 + list_words + pool_words + (97 + 2 m) p` words of 8 bytes and its slots: one
+/// for each 8 pool words, and one for each port. They are rounded up to a multiple of 16, unless there are 65,536 slots,
+/// the most. While a memory opens, its words are there twice.
 ///
 /// ```
 /// use partial_door::Memory;
@@ -26,7 +26,7 @@ pub struct Builder {
 
 impl Default for Builder {
     /// 16 ports, 1,024 list words, and as many pool words as suit the numbers of ports and components. A memory with more
-    /// ports takes more than its share: each has two arenas, and room for a record in all of them.
+    /// ports takes more than its share: each has two arenas, and room for a claim in all of them.
     fn default() -> Builder {
         Builder { ports: 16, arena: raw::Arena { list_words: 1024, pool_words: 0 } }
     }
@@ -60,9 +60,11 @@ impl Builder {
         self
     }
 
-    /// How many pool words of an arena are claimed before the epoch changes. An update claims 3 of them, or 4 and 2
-    /// more for each component of a view that it stores; a scan claims 1, and 1 more for each position. The words
-    /// and the room of `4 + 2 m` words for each port, for `m` components, and `3 m` more, are at most 4,194,304 together.
+    /// How many pool words of an arena are claimed before the epoch changes. An update takes 3 of them, or 4 and 2
+    /// more for each component of a view that it stores; a scan claims 1, and 1 more for each position. With the words
+    /// of its record an update claims up to 93 more, which its port keeps for later updates of the epoch: all ports
+    /// keep an eighth of the pool words at most. The words and the room of `97 + 2 m` words for each port, for `m`
+    /// components, and `3 m` more, are at most 4,194,304 together.
     ///
     /// 0 is the number that a memory has by default: 16,384 for each port, but no more than 131,072 divided by the number
     /// of ports, or 16 for each component if that is more; no more than there is room for, and always 8,192 at least.
@@ -86,7 +88,7 @@ impl Builder {
     /// use partial_door::Memory;
     ///
     /// assert_eq!(Memory::builder().max_components(), 65_536);
-    /// assert_eq!(Memory::builder().ports(64).max_components(), 31_953);
+    /// assert_eq!(Memory::builder().ports(64).max_components(), 31_907);
     /// assert_eq!(Memory::builder().ports(256).max_components(), 0);
     /// ```
     #[must_use]

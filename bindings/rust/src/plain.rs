@@ -2,12 +2,13 @@
 //! numbers and the answers of the library's, so the rest of the crate is the same over both.
 //!
 //! Each memory is a table behind a lock, which each call holds. So no call is helped or overtaken, no update is lost, and a
-//! call waits for the others. Updates claim as many pool words as those of the library that store no view, so epochs change
-//! and openings wear out here too.
+//! call waits for the others. Updates claim pool words as those of the library that store no view do, so epochs change and
+//! openings wear out here too.
 
 use crate::counted::Counted;
-use crate::sizes::{max_components, pool_of, MOST_PORTS};
+use crate::sizes::{ahead_of, max_components, pool_of, MOST_PORTS};
 use std::mem::take;
+use std::ops::Range;
 use std::slice::{from_raw_parts, from_raw_parts_mut};
 use std::sync::{Mutex, MutexGuard, PoisonError};
 
@@ -54,11 +55,14 @@ enum Held {
     Closed(Vec<u64>),
 }
 
-/// A port's number and marks.
+/// A port's number and marks. In a memory that never wears out it also has the epoch of its last claim, and of the words of
+/// that claim those that it keeps for later records.
 struct Seat {
     number: u32,
     pool_spent: bool,
     slots_spent: bool,
+    epoch: u64,
+    spare: Range<u64>,
 }
 
 /// What the ports of a memory share.
@@ -69,8 +73,8 @@ struct Table {
 
 #[derive(Clone, Copy)]
 enum Kind {
-    /// A memory that never wears out, whose epochs have so many pool words.
-    Lasting { pool: u64 },
+    /// A memory that never wears out, whose epochs have so many pool words, and whose updates claim so many ahead.
+    Lasting { pool: u64, ahead: u64 },
     /// A single opening, with so many pool words and slots.
     Opening { pool: u64, slots: u32 },
 }
@@ -107,31 +111,24 @@ impl Table {
         self.cells.lock().unwrap_or_else(PoisonError::into_inner)
     }
 
-    /// Claims the words of an update's record, and returns its stamp.
-    fn claim(&self, cells: &mut Cells, seat: &mut Seat) -> Result<u64, u32> {
+    /// Takes the words of an update's record, and returns its stamp.
+    fn take_record(&self, cells: &mut Cells, seat: &mut Seat) -> Result<u64, u32> {
         let initial = RECORD * cells.values.len() as u64;
-        match self.kind {
-            Kind::Lasting { pool } => {
-                if cells.claimed > pool {
-                    cells.epoch += 1;
-                    cells.claimed = 0;
-                }
-            }
+        let at = match self.kind {
+            Kind::Lasting { pool, ahead } => cells.take_record(seat, pool, ahead),
             Kind::Opening { pool, .. } => self.claim_words(cells, seat, pool, RECORD)?,
-        }
-        let stamp = cells.epoch << EPOCH_BITS | (initial + cells.claimed);
-        cells.claimed += RECORD;
-        Ok(stamp)
+        };
+        Ok(cells.epoch << EPOCH_BITS | (initial + at))
     }
 
-    /// Marks the port when the opening has no room for so many words.
-    fn claim_words(&self, cells: &Cells, seat: &mut Seat, pool: u64, words: u64) -> Ended {
+    /// Claims so many words, or marks the port when the opening has no room for them.
+    fn claim_words(&self, cells: &mut Cells, seat: &mut Seat, pool: u64, words: u64) -> Result<u64, u32> {
         let used = RECORD * cells.values.len() as u64 + cells.claimed;
         seat.pool_spent |= used + words > pool;
         if seat.pool_spent {
             Err(POOL_SPENT)
         } else {
-            Ok(())
+            Ok(cells.claim(words))
         }
     }
 
@@ -146,10 +143,36 @@ impl Table {
             return Err(SLOTS_SPENT);
         }
         cells.slots += 1;
-        let words = 1 + positions as u64;
-        self.claim_words(cells, seat, pool, words)?;
-        cells.claimed += words;
+        self.claim_words(cells, seat, pool, 1 + positions as u64)?;
         Ok(())
+    }
+}
+
+impl Cells {
+    /// Claims so many words, and returns the first of them.
+    fn claim(&mut self, words: u64) -> u64 {
+        let at = self.claimed;
+        self.claimed += words;
+        at
+    }
+
+    /// Takes the words of a record from those that the port keeps, or claims them with those ahead. A port whose claim ended
+    /// past the pool changes the epoch first, and in a later epoch it keeps none. Returns the first word.
+    fn take_record(&mut self, seat: &mut Seat, pool: u64, ahead: u64) -> u64 {
+        if seat.epoch == self.epoch && seat.spare.end > pool {
+            self.epoch += 1;
+            self.claimed = 0;
+        }
+        if seat.epoch != self.epoch {
+            seat.epoch = self.epoch;
+            seat.spare = 0..0;
+        }
+        if seat.spare.end - seat.spare.start < RECORD {
+            let at = self.claim(RECORD + ahead);
+            seat.spare = at..self.claimed;
+        }
+        seat.spare.start += RECORD;
+        seat.spare.start - RECORD
     }
 }
 
@@ -175,7 +198,13 @@ fn make(kind: Kind, values: Vec<u64>, count: u32) -> Result<Held, u32> {
     }
     let mut seats = Vec::new();
     seats.try_reserve_exact(count as usize).map_err(|_| OUT_OF_MEMORY)?;
-    seats.extend((0..count).map(|number| Seat { number, pool_spent: false, slots_spent: false }));
+    seats.extend((0..count).map(|number| Seat {
+        number,
+        pool_spent: false,
+        slots_spent: false,
+        epoch: 0,
+        spare: 0..0,
+    }));
     let cells = Mutex::new(Cells { values, stamps, claimed: 0, epoch: 0, slots: 0 });
     let table = Counted::new(Table { kind, cells }).ok_or(OUT_OF_MEMORY)?;
     Ok(Held::Memory { table, seats, count })
@@ -207,9 +236,13 @@ pub unsafe fn partial_door_memory_new(
         _ if arena.list_words > 65_536 => Err(3),
         _ if components > max_components(ports, *arena) => Err(4),
         _ => listed(initial, components)
-            .and_then(|values| make(Kind::Lasting { pool: pool_of(components, ports, arena) }, values, ports))
+            .and_then(|values| make(lasting(pool_of(components, ports, arena), ports), values, ports))
             .map(|held| memory.held = held),
     })
+}
+
+fn lasting(pool: u64, ports: u32) -> Kind {
+    Kind::Lasting { pool, ahead: ahead_of(pool, ports) }
 }
 
 /// The first size of an opening that is out of its range.
@@ -368,7 +401,7 @@ fn update(port: &mut Handle, component: u32, expected: Option<u64>, value: u64, 
         *answer = UpdateAnswer { stamp, applied: 0 };
         return Ok(());
     }
-    let stamp = table.claim(&mut cells, seat)?;
+    let stamp = table.take_record(&mut cells, seat)?;
     cells.values[component] = value;
     cells.stamps[component] = stamp;
     *answer = UpdateAnswer { stamp, applied: 1 };

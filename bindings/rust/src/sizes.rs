@@ -18,10 +18,18 @@ const FEWEST_POOL: u64 = 8_192;
 const POOL_OF_ALL: u64 = 131_072;
 /// How many pool words an arena has for each component then, at least, where it has room for them.
 const POOL_OF_COMPONENT: u64 = 16;
+/// The most words that an update claims ahead.
+const MOST_AHEAD: u64 = 93;
 
-/// The pool words that are not claimed in an epoch: the initial records, and room for the greatest record of each port.
+/// The pool words that are not claimed in an epoch: the initial records, and room for the greatest claim of each port.
 fn kept(components: u64, ports: u64) -> u64 {
-    3 * components + (4 + 2 * components) * ports
+    3 * components + (4 + 2 * components + MOST_AHEAD) * ports
+}
+
+/// How many words more than those of its record an update claims, of so many pool words. There is a port at least.
+#[cfg(feature = "plain")]
+pub(crate) fn ahead_of(pool: u64, ports: u32) -> u64 {
+    (pool / 8 / u64::from(ports)).min(MOST_AHEAD)
 }
 
 /// How many components a memory may have: 0 when it isn't made with any.
@@ -34,7 +42,7 @@ pub(crate) fn max_components(ports: u32, arena: Arena) -> usize {
         words => u64::from(words),
     };
     let ports = u64::from(ports);
-    (MOST_POOL.saturating_sub(pool + 4 * ports) / (3 + 2 * ports)).min(65_536) as usize
+    (MOST_POOL.saturating_sub(pool + kept(0, ports)) / (3 + 2 * ports)).min(65_536) as usize
 }
 
 /// How many pool words of an arena are claimed before the epoch changes. There is a port at least.

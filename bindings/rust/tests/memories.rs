@@ -1,7 +1,8 @@
 //! Memories that never wear out: their ports in threads of their own, and what is refused.
 
 use partial_door::{
-    CloseError, Engine, Memory, OpenError, Port, PortError, Refused, Stamp, TwoMemories, Updated, UpdatedIf, ENGINE,
+    Builder, CloseError, Engine, Memory, OpenError, Port, PortError, Refused, Stamp, TwoMemories, Updated, UpdatedIf,
+    ENGINE,
 };
 use std::collections::{HashMap, HashSet};
 use std::error::Error;
@@ -142,20 +143,43 @@ fn a_memory_is_refused_with_the_first_cause() {
     assert_eq!(Memory::builder().ports(1).open(&[0; 65_537]).err(), Some(OpenError::Components));
     assert!(Memory::builder().ports(4).open(&[0; 65_536]).is_ok());
     assert!(Memory::builder().ports(64).open(&[0; 1_000]).is_ok());
-    assert_eq!(Memory::builder().ports(64).open(&[0; 31_954]).err(), Some(OpenError::PoolWords));
+    assert_eq!(Memory::builder().ports(64).open(&[0; 31_908]).err(), Some(OpenError::PoolWords));
+}
+
+/// How many updates each of the first epochs has, when so many ports of such a memory update component 0 in turns.
+fn updates_of_epochs<const N: usize>(builder: Builder, ports: usize) -> [u32; N] {
+    let memory = builder.open(&[0]).expect("a memory is made");
+    let mut ports: Vec<Port> = (0..ports).map(|_| memory.port().expect("a port is free")).collect();
+    let mut counts = [0; N];
+    for turn in 0.. {
+        let port = turn % ports.len();
+        let Updated::Applied { stamp } = set(&mut ports[port], 0, turn as u64) else { panic!("no other one is made") };
+        match counts.get_mut(stamp.epoch() as usize) {
+            Some(count) => *count += 1,
+            None => break,
+        }
+    }
+    counts
 }
 
 #[test]
 fn a_memory_has_pool_words_for_each_of_four_ports() {
-    let memory = Memory::builder().ports(4).open(&[0]).expect("a memory is made");
-    let mut port = memory.port().expect("a port is free");
-    let mut applied = 0;
-    while port.read(0).expect("it is there").stamp.epoch() == 0 {
-        assert!(matches!(set(&mut port, 0, applied), Updated::Applied { .. }));
-        applied += 1;
-    }
-    // An update claims 3 words, the last one of an epoch past the pool; the one that changed the epoch is of the next one.
-    assert_eq!(applied - 1, 32_768 / 3 + 1);
+    // An epoch has 32,768 pool words. An update claims 3 for its record and 93 ahead, and the next 31 updates claim none.
+    // So 341 claims end within the pool, each for 32 updates. The next one ends past the pool, so it is for one update:
+    // the update after that changes the epoch.
+    assert_eq!(updates_of_epochs(Memory::builder().ports(4), 1), [32 * (32_768 / 96) + 1]);
+}
+
+#[test]
+fn two_ports_claim_an_eighth_of_their_pool_ahead() {
+    let builder = Memory::builder().ports(2).pool_words(800);
+    // An update claims 3 words and 800 / 8 / 2 = 50 ahead, in which there are 16 records and 2 words that are left over.
+    // So 15 claims of 53 words end within the pool, each for 17 updates, and the next one is for one update.
+    assert_eq!(updates_of_epochs(builder, 1), [17 * 15 + 1]);
+    // The ports claim in turns, so the second one makes the 16th claim, which ends past the pool, for its 120th update:
+    // the one after 7 times 17. The first port makes its 121st, and the next update is of a new epoch. There no port uses
+    // what it has claimed before, and the ports have changed places.
+    assert_eq!(updates_of_epochs(builder, 2), [241; 3]);
 }
 
 #[test]

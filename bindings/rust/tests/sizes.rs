@@ -44,7 +44,8 @@ fn no_component_fits_where_no_memory_is_made() {
         assert_eq!(builder.max_components(), 0);
         assert!(builder.open(&[0]).is_err());
     }
-    let least = Memory::builder().pool_words(4_194_304 - 9).ports(1);
+    // One component and one port want 3 words for the initial record, and 6 + 93 for the greatest claim.
+    let least = Memory::builder().pool_words(4_194_304 - 102).ports(1);
     assert_eq!(least.max_components(), 1);
     assert!(least.open(&[0]).is_ok());
 }

@@ -211,7 +211,7 @@ fn keys_of_one_component_are_equal_and_no_others() {
 fn a_layout_is_refused_as_its_values_are() {
     assert_eq!(Layout::new().open().err(), Some(OpenError::Components));
     let mut layout = Layout::new();
-    for value in 0..31_954_u32 {
+    for value in 0..31_908_u32 {
         let key = layout.add(value);
         assert_eq!(key.component(), value);
     }
