@@ -70,13 +70,13 @@ at_word k = 1 + k
 abbrev pub own_word : Plan → ℕ → ℕ
 own_word e x = 1 + e.ports + x
 
--- how many words are spare after the control words, so that the pool counter of the first arena is two words before a number of 16 words
-abbrev pub spare_words : Plan → ℕ
-spare_words e = 15 - (4 + e.ports + e.arenas + e.sizes.m) % 16
+-- how many words pad the control words, so that the first arena begins two words before a number of 16 words
+abbrev pub padding : Plan → ℕ
+padding e = 15 - (2 + e.ports + e.arenas) % 16
 
--- how many words there are before the arenas: the control words, and the spare ones
+-- how many words there are before the arenas: the control words, and the padding
 abbrev pub control_size : Plan → ℕ
-control_size e = 1 + e.ports + e.arenas + spare_words e
+control_size e = 1 + e.ports + e.arenas + padding e
 
 -- how many words an arena has: those of one memory, and a carried stamp for each component
 abbrev pub span : Plan → ℕ

@@ -35,7 +35,7 @@ pub mod Searching
 pub mod Passing
 pub mod NewPorts
 pub mod Opens
-pub mod PoolCounters
+pub mod ArenaLines
 pub mod Publishes
 pub mod RecordStamps
 pub mod Resting

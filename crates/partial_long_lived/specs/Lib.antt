@@ -4,7 +4,7 @@ pub mod Calls
 pub mod Closing
 pub mod Inner
 pub mod Options
-pub mod PoolCounters
+pub mod ArenaLines
 pub mod Ports
 pub mod Refusals
 pub mod Resting

@@ -2,7 +2,7 @@
 //! of the calls are stated.
 
 ghost use Rattle.partial_long_lived.specs.AllPorts.{ClosedWithAllPorts, OpenedPortsAreAll};
-ghost use Rattle.partial_long_lived.specs.PoolCounters.{PoolCountersLieApart};
+ghost use Rattle.partial_long_lived.specs.ArenaLines.{ArenasBeginLines};
 ghost use Rattle.partial_long_lived.specs.StepNumbers.{MostStepsInNumbers};
 
 /// The ports with which a memory opens are all of its ports: one for each number.
@@ -17,15 +17,15 @@ pub fn closed_with_all_ports()
     ensures { ClosedWithAllPorts }
 {}
 
-/// The pool counter of each arena lies two words before a multiple of 16, counted from the first word of the table, unless
-/// an arena has 65,536 slots.
-pub fn pool_counters_lie_apart()
-    ensures { PoolCountersLieApart }
+/// Each arena begins two words before a multiple of 16, counted from the first word of the table, unless an arena has 65,536
+/// slots.
+pub fn arenas_begin_lines()
+    ensures { ArenasBeginLines }
 {}
 
-/// With the usual options a memory of 3 components and 2 ports makes at most 4,892 steps in a change of epoch, 489,408 in
-/// an update, 489,456 in a conditional one, and 4,933 in a scan of all components. With 64 components and 4 ports these are
-/// 14,238, 4,719,888, 4,719,936 and 18,854.
+/// With the usual options a memory of 3 components and 2 ports makes at most 4,898 steps in a change of epoch, 490,080 in
+/// an update, 490,128 in a conditional one, and 4,939 in a scan of all components. With 64 components and 4 ports these are
+/// 14,234, 4,715,536, 4,715,584 and 18,850.
 pub fn most_steps_in_numbers()
     ensures { MostStepsInNumbers }
 {}

@@ -8,14 +8,13 @@ ghost use Rattle.partial_long_lived.specs.Shape.{bare, shape_plan};
 use crate::shape::Shape;
 
 impl Shape {
-    // The word where the arenas begin. Some are spare before it, so that the pool counter of the first arena lies two words
-    // before a multiple of 16.
+    // The word where the arenas begin. The words before it are padded so that it lies two words before a multiple of 16.
     #[inline(always)]
     fn first(&self) -> u64
         ensures { result ≡ control_size (shape_plan self.now bare) }
     {
         let control = 1 + u64::from(self.ports) + u64::from(self.arenas);
-        control + 15 - (control + 3 + u64::from(self.sizes.m())) % 16
+        control + 15 - (control + 1) % 16
     }
 
     // How many words an arena has.

@@ -1,9 +1,9 @@
--- The pool counters of the arenas lie two words before numbers of 16 words.
+-- The arenas begin two words before numbers of 16 words.
 use Rattle.std.proofs.lemmas.Nat.{mul-mod}
 use native.Mathlib.Nat.{mul-zero}
 use Rattle.partial_long_lived.proofs.Common.{ℕ, ◌≡◌, ◌*◌, ◌%◌, ◌<◌, ap, ◌∙◌, arith, span, bare, shape_plan, Layout}
 use Rattle.partial_long_lived.specs.Options.{IsShapeFor, most_slots}
-use Rattle.partial_long_lived.specs.PoolCounters.{PoolCountersLieApart}
+use Rattle.partial_long_lived.specs.ArenaLines.{ArenasBeginLines}
 use Rattle.partial_long_lived.specs.declared.options.Options.{Options}
 use Rattle.partial_long_lived.specs.declared.shape.Shape.{Shape}
 
@@ -20,7 +20,7 @@ span_is_whole count ports o s is few =
 spans_are_whole : (x w : ℕ) → w % 16 ≡ 0 → x * w % 16 ≡ 0
 spans_are_whole x w whole = mul-mod x w 16 ∙ ap (λ r. x % 16 * r % 16) whole ∙ ap (λ r. r % 16) (mul-zero (x % 16))
 
-pub pool_counters_lie_apart : PoolCountersLieApart
-pool_counters_lie_apart count ports o s is few x =
+pub arenas_begin_lines : ArenasBeginLines
+arenas_begin_lines count ports o s is few x =
     let arenas = spans_are_whole x (span (shape_plan s bare)) (span_is_whole count ports o s is few) in
     omega (arith, arenas)
