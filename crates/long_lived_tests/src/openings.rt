@@ -128,8 +128,9 @@ fn updates_of_first_epoch(rt: &impl Abort, memory: &LongLived, port: &mut Port) 
     panic!(rt; "the epoch isn't changed");
 }
 
-// A memory of these components that is opened for so many ports claims so many pool words in an epoch. An update claims
-// three, and spends its port when its claim ends after the last of these words.
+// A memory of these components that is opened for so many ports claims so many pool words in an epoch. A claim is of three
+// words and of those ahead: 93, or an eighth of the port's part if that is fewer. It has room for one update and one more
+// for each three words ahead; one that ends after the last of the epoch's words spends its port with its first update.
 fn claims(
     rt: &impl Abort,
     alloc: Global,
@@ -141,9 +142,10 @@ fn claims(
 {
     let (memory, all) = LongLived::open(alloc, values, ports, Options::default())?;
     let (memory, mut port) = with_last(memory, all)?;
+    let ahead = (words / 8 / u64::from(ports)).min(93);
     assert_eq!(rt;
         updates_of_first_epoch(rt, &memory, &mut port),
-        words / 3 + 1
+        words / (3 + ahead) * (1 + ahead / 3) + 1
     );
     drop((memory, port));
     Ok(())

@@ -1,6 +1,7 @@
 mod Common
 pub mod AllPorts
 pub mod Answering
+pub mod ArenaLines
 pub mod Asides
 pub mod Asked
 pub mod Attempts
@@ -35,7 +36,6 @@ pub mod Searching
 pub mod Passing
 pub mod NewPorts
 pub mod Opens
-pub mod ArenaLines
 pub mod Publishes
 pub mod RecordStamps
 pub mod Resting

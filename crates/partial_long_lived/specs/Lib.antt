@@ -1,10 +1,10 @@
 pub mod AllPorts
+pub mod ArenaLines
 pub mod Bounds
 pub mod Calls
 pub mod Closing
 pub mod Inner
 pub mod Options
-pub mod ArenaLines
 pub mod Ports
 pub mod Refusals
 pub mod Resting
