@@ -36,7 +36,7 @@ IsNextLow s read x = (x < s.slots) × ((k : ℕ) → k < length read → highest
 abbrev pub IsAnnouncedLen : Layout → ℕ → ℕ → Type 0
 IsAnnouncedLen s at x = (at + announcement_size x ≤ pool_end s) × (x ≤ s.m)
 
--- a claim of list words: the counter is not below them, and past their end by the lists of most_ports ports at most, so that it does not wrap
+-- a claim of list words: the counter is not below them, and past their end by a list of each of the most ports at most, so that it does not wrap
 abbrev pub IsListClaim : Layout → ℕ → Type 0
 IsListClaim s x = (list_base s ≤ x) × (x ≤ list_end s + most_ports * greatest_list s)
 

@@ -11,7 +11,7 @@ use Rattle.partial_core.specs.Part.{Part, PartAmong, all_parts, fresh_parts}
 use Rattle.partial_core.specs.Held.{holdings}
 use Rattle.partial_core.specs.Known.{IsKnown, notes_by}
 
--- The lawful state: words, at most most_ports ports with one part each, and the history of all that was applied.
+-- The lawful state: words, no more ports than there may be, with one part each, and the history of all that was applied.
 pub record Lawful (z : Layout) (o : Opening) (words : List ℕ) (parts : List Part) (log : List Applied) : Type 0 where
   -- the words are lawful with what the ports hold in them
   pub memory : LawfulWords z o words (holdings parts) log
@@ -24,6 +24,6 @@ pub record Lawful (z : Layout) (o : Opening) (words : List ℕ) (parts : List Pa
 abbrev pub LawfulAmong : Layout → Opening → PartAmong → Type 0
 LawfulAmong z o m = Lawful z o m.words (all_parts m) m.log
 
--- an opened memory of at most most_ports ports is lawful, with nothing applied
+-- an opened memory of no more ports than there may be is lawful, with nothing applied
 abbrev pub OpensLawful : Type 0
 OpensLawful = (z : Layout) (o : Opening) (words : List ℕ) (n : ℕ) → OpensWith z o words → n ≤ most_ports → Lawful z o words (fresh_parts z 0 n) []

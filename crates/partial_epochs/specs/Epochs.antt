@@ -24,7 +24,7 @@ use Rattle.partial_epochs.specs.Ports.Entering.{Stands}
 pub record IsEpochPlan (e : Plan) : Type 0 where
   -- an arena has the sizes of one memory
   pub sizes : IsLayout e.sizes
-  -- there are 1 to most_ports ports
+  -- there is a port, and no more than there may be
   pub some : 1 ≤ e.ports
   pub few : e.ports ≤ most_ports
   -- a site fits a word

@@ -2,7 +2,7 @@
 use Rattle.std.specs.Prelude.{ℕ, ◌≡◌, ◌+◌, ◌*◌, ◌/◌, ◌≤◌, min}
 use Rattle.partial_words.specs.Layout.{Layout, IsLayout, first_free, greatest_claim, most_ahead, most_ports, pool_end, total}
 
--- The sizes of an arena are in range, there are 1 to most_ports ports and twice as many arenas, above the limit there is room for the greatest
+-- The sizes of an arena are in range, there is a port, no more than there may be, and twice as many arenas, above the limit there is room for the greatest
 -- claim of each port, and there is a slot for each port.
 pub record IsSized (sizes : Layout) (ports arenas limit : ℕ) : Type 0 where
   pub layout : IsLayout sizes

@@ -42,7 +42,7 @@ mod update_if;
 pub use answers::{Updated, UpdatedIf};
 pub use error::Refused;
 pub use law::{
-    closed_with_all_ports, most_steps_in_numbers, opened_ports_are_all, arenas_begin_lines,
+    arenas_begin_lines, closed_with_all_ports, most_steps_in_numbers, opened_ports_are_all,
 };
 pub use long_lived::{LongLived, Unclosed};
 pub use open_error::OpenError;

@@ -10,7 +10,7 @@ use Rattle.partial_machine.specs.declared.stage.Stage.TheVariants.{Idle, ReadBeg
 use Rattle.partial_machine.specs.Machine.{CoreState, getting, scanning, has_spare, step_of}
 use Rattle.partial_machine.specs.Sound.{IsRecord}
 
--- a counter of the pool is at its first word or after it, and past its end by the claims of most_ports ports at most
+-- a counter of the pool is at its first word or after it, and past its end by a claim of each of the most ports at most
 abbrev pub IsPoolCount : Layout → ℕ → Type 0
 IsPoolCount z x = (pool_base z ≤ x) × (x ≤ pool_end z + most_ports * greatest_claim z)
 

@@ -174,7 +174,7 @@ abbrev pub idle_holdings : Layout → ℕ → ℕ → List Holding
 idle_holdings z port zero = []
 idle_holdings z port (suc n) = idle_holding z port ∷ idle_holdings z (port + 1) n
 
--- words as they open, with at most most_ports ports that hold nothing, are lawful
+-- words as they open, with no more ports than there may be, which hold nothing, are lawful
 abbrev pub OpeningIsLawful : Type 0
 OpeningIsLawful =
     (z : Layout) (o : Opening) (words : List ℕ) (n : ℕ) → OpensWith z o words → n ≤ most_ports → LawfulWords z o words (idle_holdings z 0 n) []

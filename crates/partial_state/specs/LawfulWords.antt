@@ -72,7 +72,7 @@ pub record IsCounted (z : Layout) (words : List ℕ) (hs : List Holding) (c : Co
   pub low : (counter z c).begin ≤ slice_index words (counter z c).word
   pub high : slice_index words (counter z c).word ≤ (counter z c).end + (counter z c).greatest * marked_ports c hs
 
--- Lawful words: of at most most_ports ports with what each holds in them, and of the history of all that was applied.
+-- Lawful words: of no more ports than there may be, with what each holds in them, and of the history of all that was applied.
 pub record LawfulWords (z : Layout) (o : Opening) (words : List ℕ) (hs : List Holding) (log : List Applied) : Type 0 where
   -- the sizes are in range
   pub sizes : IsLayout z
@@ -82,7 +82,7 @@ pub record LawfulWords (z : Layout) (o : Opening) (words : List ℕ) (hs : List 
   pub stamps : o.first ≡ pool_base z
   -- there are as many words as the sizes say
   pub count : length words ≡ total z
-  -- there are at most most_ports ports
+  -- there are no more ports than there may be
   pub few : length hs ≤ most_ports
   -- each port has one holding
   pub ports : EachTwo HaveOtherPorts hs

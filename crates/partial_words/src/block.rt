@@ -1,6 +1,6 @@
 //! A run of words.
 
-/// A run of words that lie one behind the other.
+/// A run of words that lie side by side.
 #[derive(Clone, Copy, Debug, PartialEq, Eq)]
 pub struct Block {
     /// The number of its first word.
