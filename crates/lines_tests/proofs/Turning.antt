@@ -34,7 +34,7 @@ module _ (n : Layout) (o : Opening) (m : PartAmong) (lawful : LawfulAmong n o m)
   rested (inl b) rest = absurd (begun_moves c.stage b.begun rest)
   rested (inr l) rest = record {
     rest = subst (λ (d : CoreState). is_at_rest d.stage ≡ true) l.is rest;
-    like = subst (λ (d : CoreState). IsMarkedLike d (at_stage c Idle)) l.is (record { sizes = refl; port = refl; pool = refl; slots = refl; lists = refl });
+    like = subst (λ (d : CoreState). IsMarkedLike d (at_stage c Idle)) l.is (record { sizes = refl; port = refl; pool = refl; slots = refl; lists = refl; spare = refl });
     idle = refl;
     sound = rests_are_sound.idle c (lawful_machines_are_ready n o m c lawful (inr l)).sound;
   }
@@ -120,7 +120,7 @@ pub opens : (sizes : Layout) (initial words : List ℕ) (beside left right : Cor
 opens sizes initial words beside left right layout values all b second third =
     let o : Opening = record { values = initial; first = pool_base sizes } in
     let lawful = opens_lawful sizes o words 3 (record { sizes = layout; values = values; stamps = refl; words = all }) (omega arith) in
-    let between = ports_come_between.0 sizes in
+    let between = λ (port : ℕ). ports_come_between.0 sizes port layout in
     let begun = (calls_begin_between (fresh_part sizes 0) (fresh sizes 0) (between 0)).begins b.call b.served b.allowed b.steps in
     let m : PartAmong = record { words = words; before = []; part = fresh_part sizes 0; after = fresh_part sizes 1 ∷ fresh_part sizes 2 ∷ []; log = [] } in
     let first : IsMachineOf beside (fresh_part sizes 0) = inl (subst (λ (d : CoreState). HasBegun d (fresh_part sizes 0)) (sym b.is) begun) in
