@@ -15,7 +15,7 @@ opens about words opened few = record {
   log = [];
   all = newcomers about 0 about.ports;
   shuffle = subst (λ l. IsShuffle l (newcomers about 0 about.ports)) (sym (append-nil (newcomers about 0 about.ports))) (same_order (newcomers about 0 about.ports));
-  lawful = subst (λ l. Lawful about.sizes about.opening words l []) (sym (newcomers_parts about 0 about.ports)) (opens_lawful about.sizes about.opening words about.ports opened few);
+  lawful = subst (λ l. Lawful about.sizes about.opening words l []) (sym (newcomers_parts about 0 about.ports)) (opens_lawful about.sizes about.opening words about.ports opened (omega (arith, few)));
   opened = newcomers_below about 0 about.ports about.ports (omega arith);
 }
 

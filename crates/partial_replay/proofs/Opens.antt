@@ -99,7 +99,7 @@ opens_run plans s sizes values first opening empty none few fresh =
       opened = words;
       opens = opening;
       lawful = subst (λ (h : List Applied). Lawful s.sizes s.opening words parts h) (sym empty)
-          (opens_lawful s.sizes s.opening words (length plans) (record { sizes = sizes; values = values; stamps = first; words = opening }) few);
+          (opens_lawful s.sizes s.opening words (length plans) (record { sizes = sizes; values = values; stamps = first; words = opening }) (omega (arith, few)));
       fit = subst (λ (h : List Applied). PortsFit s.opening h 0 plans parts s.ports) (sym empty) (fresh_ports_fit s.sizes s.opening 0 plans s.ports sizes (sym values) fresh.1 fresh.0);
       leads = subst (λ (es : List Event). Leads words es words) (sym none) refl;
       entries = ap (filter_map (event_entry s.sizes.m (λ _. 0))) none ∙ sym (ap (map unvalued) empty);
