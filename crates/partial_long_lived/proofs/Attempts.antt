@@ -274,6 +274,7 @@ module _ (table : TableId) (about : About) (s : Stand) (h : IsHeld table about s
             lists = sym (ap (λ (c : CoreState). lists_spent c) machine_first);
             spare = sym (ap (λ (c : CoreState). c.spare) machine_first);
           };
+          ahead = sym (ap (λ (c : CoreState). c.ahead) machine_first);
           idle = rests.between.idle;
           sound = rests.between.sound;
         })
@@ -400,6 +401,7 @@ module _ (table : TableId) (about : About) (s : Stand) (h : IsHeld table about s
               lists = like.lists ∙ sym (ap (λ (c : CoreState). lists_spent c) machine_end);
               spare = like.spare ∙ sym (ap (λ (c : CoreState). c.spare) machine_end);
             };
+            ahead = end.ahead ∙ sym (ap (λ (c : CoreState). c.ahead) machine_end);
             idle = end.idle;
             sound = end.sound;
           })
