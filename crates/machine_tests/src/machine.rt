@@ -1,7 +1,9 @@
-//! A machine that has made no call, and one that reads. The replay makes all others.
+//! A machine that has made no call, one that reads, and ones that claim words ahead. The replay makes all others.
 
 ghost use Rattle.std.specs.Prelude.{◌≡◌, ◌<◌, IfOk};
 ghost use Rattle.partial_machine.specs.declared.stage.Stage.TheVariants.{Idle};
+
+mod ahead;
 
 use partial_machine::{Core, Reply};
 use partial_model::Refused;
